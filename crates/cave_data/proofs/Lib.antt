@@ -1,0 +1,17 @@
+pub mod LineLemmas
+pub mod NumberLemmas
+pub mod FieldLemmas
+pub mod Fronts
+pub mod SlotChanges
+pub mod TableLemmas
+pub mod FoldLemmas
+pub mod TextLemmas
+pub mod RowLemmas
+pub mod PartLemmas
+pub mod StepLemmas
+pub mod DatabaseLemmas
+pub mod NameLemmas
+pub mod BindingLemmas
+pub mod CaveLemmas
+pub mod LetterLemmas
+pub mod ReadLemmas

@@ -1,0 +1,210 @@
+-- A cave that was made of tables and bindings is the one that the inputs describe, and no other is.
+use Rattle.std.proofs.Common.{◌≡◌, inl, inr, ℕ, suc, true, false, cond, ltb, List, [], ◌∷◌, ◌++◌, length, map, Option, Some, None, Result, Ok, Err, option_map, unwrap_or, refl, sym, ap, subst, ◌∙◌}
+use Rattle.std.specs.Option.{option_or}
+use Rattle.std.specs.Result.{IfOk, IfErr, MatchResult}
+use Rattle.std.specs.Str.Lines.{lines}
+use Rattle.std.specs.Ordering.{nat_cmp}
+use Rattle.std.specs.Cmp.{nat_cmp_total}
+use Rattle.std.specs.FinMap as fin
+use Rattle.std.proofs.lemmas.Bool.{ltb-false, le-ltb}
+use Rattle.std.proofs.lemmas.List.{append_assoc, append-nil}
+use Rattle.cave_data.specs.declared.error.Cause.{Cause}
+use Rattle.cave_data.specs.declared.error.Cause.TheVariants.{NoEnd}
+use Rattle.cave_data.specs.declared.error.Spot.TheVariants as spot
+use Rattle.cave_data.specs.declared.error.CaveError.{CaveError}
+use Rattle.cave_data.specs.declared.reader.Place.{Place}
+use Rattle.cave_data.specs.declared.reader.Place.TheVariants.{Outside, Inside, After}
+use Rattle.cave_data.specs.declared.reader.Tables.{Tables}
+use Rattle.cave_data.specs.declared.bindings.Bindings.{Bindings}
+use Rattle.cave_data.specs.CaveView.{CaveView}
+use Rattle.cave_data.specs.Shown.{shown_class}
+use Rattle.cave_data.specs.Rows.{Entry, TextLine}
+use Rattle.cave_data.specs.Grammar.{spot_of, stands, entries, line_cause, fault_behind, is_after, end_fault, first_told, first_fault}
+use Rattle.cave_data.specs.Reads.{class_of_line, IsDatabase, Holds}
+use Rattle.cave_data.specs.Bindings.{bindings_of, binding_cause, binding_fault, first_binding_fault, default_place}
+use Rattle.cave_data.specs.BindingSteps.{bound}
+use Rattle.cave_data.specs.Steps.{tables_of, class_entry_of}
+use Rattle.cave_data.specs.Faults.{FaultIs, no_memory}
+use Rattle.cave_data.specs.Finished.{Finished}
+use Rattle.cave_data.specs.Reading.{AreBindings, Reads, fault, too_large}
+use Rattle.cave_data.proofs.PartLemmas.{long_behind, short_behind, messages_behind, objects_behind, travel_behind, words_behind, classes_behind, placements_behind, defaults_behind, conditions_behind, hints_behind}
+use Rattle.cave_data.proofs.BindingLemmas.{roles_bound, places_bound, letters_bound}
+use Rattle.cave_data.proofs.CaveLemmas.{get-with_defaults}
+
+-- Lines of which none is at fault.
+
+none_parts : (o : Option Cause) (tell : Cause → CaveError) (rest : Option CaveError) → option_or (option_map tell o) rest ≡ None → (o ≡ None) × (rest ≡ None)
+none_parts None tell rest e = (refl, e)
+none_parts (Some cause) tell rest e = cc
+
+module _ (cause : List (List ℕ) → List ℕ → Option Cause) (tell : List (List ℕ) → Cause → CaveError) (ending : List (List ℕ) → Option CaveError) where
+  abbrev Right : List (List ℕ) → List (List ℕ) → Type 0
+  Right before ls = (mid : List (List ℕ)) (line : List ℕ) (later : List (List ℕ)) → ls ≡ mid ++ line ∷ later → cause (before ++ mid) line ≡ None
+
+  right_each : (before ls : List (List ℕ)) → first_told cause tell ending before ls ≡ None → Right before ls
+  right_each before [] e [] line later same = cc
+  right_each before [] e (x ∷ mid) line later same = cc
+  right_each before (l ∷ ls) e [] line later same =
+      let this : l ≡ line = cc in
+      ap (λ b. cause b line) (append-nil before) ∙ ap (cause before) (sym this) ∙ (none_parts (cause before l) (tell before) _ e).0
+  right_each before (l ∷ ls) e (x ∷ mid) line later same =
+      let this : l ≡ x = cc in
+      let others : ls ≡ mid ++ line ∷ later = cc in
+      ap (λ b. cause b line) (ap (λ k. before ++ k ∷ mid) (sym this) ∙ sym (append_assoc before (l ∷ []) mid))
+      ∙ right_each (before ++ l ∷ []) ls (none_parts (cause before l) (tell before) _ e).1 mid line later others
+
+  right_end : (before ls : List (List ℕ)) → first_told cause tell ending before ls ≡ None → ending (before ++ ls) ≡ None
+  right_end before [] e = ap ending (append-nil before) ∙ e
+  right_end before (l ∷ ls) e = ap ending (sym (append_assoc before (l ∷ []) ls)) ∙ right_end (before ++ l ∷ []) ls (none_parts (cause before l) (tell before) _ e).1
+
+  none_told : (before ls : List (List ℕ)) → Right before ls → ending (before ++ ls) ≡ None → first_told cause tell ending before ls ≡ None
+  none_told before [] right e = ap ending (sym (append-nil before)) ∙ e
+  none_told before (l ∷ ls) right e =
+      let here : cause before l ≡ None = ap (λ b. cause b l) (sym (append-nil before)) ∙ right [] l ls refl in
+      ap (λ o. option_or (option_map (tell before) o) (first_told cause tell ending (before ++ l ∷ []) ls)) here
+      ∙ none_told (before ++ l ∷ []) ls (λ mid line later same. ap (λ b. cause b line) (append_assoc before (l ∷ []) mid) ∙ right (l ∷ mid) line later (ap (λ k. l ∷ k) same))
+      (ap ending (append_assoc before (l ∷ []) ls) ∙ e)
+
+at_after : (p : Place) (x : CaveError) → cond (is_after p) None (Some x) ≡ None → p ≡ After
+at_after Outside x e = cc
+at_after (Inside s) x e = cc
+at_after After x e = refl
+
+pub database_right : (ls : List (List ℕ)) → first_fault [] ls ≡ None → IsDatabase ls
+database_right ls e = record {
+  each = λ before line later same. right_each line_cause fault_behind end_fault [] ls e before line later same;
+  ended = at_after (stands ls) _ (right_end line_cause fault_behind end_fault [] ls e);
+}
+
+database_faultless : (ls : List (List ℕ)) → IsDatabase ls → first_fault [] ls ≡ None
+database_faultless ls is = none_told line_cause fault_behind end_fault [] ls is.each (ap (λ p. cond (is_after p) None (Some (record { cause = NoEnd; line = suc (length ls); spot = spot_of p }))) is.ended)
+
+pub bindings_right : (ls : List (List ℕ)) → first_binding_fault [] ls ≡ None → AreBindings ls
+bindings_right ls e = record { each = λ before line later same. right_each binding_cause binding_fault (λ before. None) [] ls e before line later same }
+
+bindings_faultless : (ls : List (List ℕ)) → AreBindings ls → first_binding_fault [] ls ≡ None
+bindings_faultless ls are = none_told binding_cause binding_fault (λ before. None) [] ls are.each refl
+
+-- The cave that was made.
+
+classes_shown : (ls : List TextLine) → map shown_class (map class_entry_of ls) ≡ map class_of_line ls
+classes_shown [] = refl
+classes_shown (line ∷ ls) = ap (λ cs. class_of_line line ∷ cs) (classes_shown ls)
+
+holds : (rows : List Entry) (b : Bindings) (c : CaveView) → Finished (tables_of rows) b c → Holds rows c
+holds rows b c made = record {
+  long = λ n. made.long n ∙ long_behind rows n;
+  short = λ n. made.short n ∙ short_behind rows n;
+  travel = λ n. made.travel n ∙ travel_behind rows n;
+  words = made.words ∙ words_behind rows;
+  objects = λ n. made.objects n ∙ objects_behind rows n;
+  messages = λ n. made.messages n ∙ messages_behind rows n;
+  placements = λ n. ap (λ m. fin.get m n) made.placements ∙ placements_behind rows n;
+  defaults = λ n. ap (λ m. fin.get m n) made.defaults ∙ defaults_behind rows n;
+  conditions = λ n. ap (λ m. fin.get m n) made.conditions ∙ conditions_behind rows n;
+  classes = made.classes ∙ ap (map shown_class) (classes_behind rows) ∙ classes_shown _;
+  hints = λ n. ap (λ m. fin.get m n) made.hints ∙ hints_behind rows n;
+}
+
+pub made_reads : (database bindings : List ℕ) (t : Tables) (b : Bindings) (c : CaveView) → ltb 1048576 (length database) ≡ false → ltb 1048576 (length bindings) ≡ false
+    → first_fault [] (lines database) ≡ None → t ≡ tables_of (entries (lines database)) → first_binding_fault [] (lines bindings) ≡ None → b ≡ bound (bindings_of (lines bindings)) → Finished t b c → Reads database bindings c
+made_reads database bindings t b c small bindings_small right tables bindings_are_right are made =
+    let made_of = subst (λ t'. Finished t' b c) tables made in
+    record {
+      small = ltb-false _ _ small;
+      bindings_small = ltb-false _ _ bindings_small;
+      is_database = database_right (lines database) right;
+      holds = holds (entries (lines database)) b c made_of;
+      are_bindings = bindings_right (lines bindings) bindings_are_right;
+      roles = λ n. ap (λ m. fin.get m n) (made.roles ∙ ap (λ x. x.roles) are) ∙ roles_bound (bindings_of (lines bindings)) n;
+      places = λ n. ap (λ m. fin.get m n) made.places ∙ get-with_defaults b.places n ∙ ap (λ m. option_or (fin.get m n) (default_place n)) (ap (λ x. x.places) are)
+          ∙ ap (λ o. option_or o (default_place n)) (places_bound (bindings_of (lines bindings)) n);
+      letters = made.letters ∙ ap (λ o. unwrap_or o 5) (ap (λ x. x.letters) are ∙ letters_bound (bindings_of (lines bindings)));
+    }
+
+-- One cave at most is described.
+
+same : {X : Type 0} (m n : fin.FinMap nat_cmp X) → ((q : ℕ) → fin.get m q ≡ fin.get n q) → m ≡ n
+same m n alike = fin.same_map nat_cmp_total fin.nat_cmp-IsAntisymmetric m n alike
+
+pub same_cave : (database bindings : List ℕ) (c d : CaveView) → Reads database bindings c → Reads database bindings d → d ≡ c
+same_cave database bindings c d rc rd =
+    let long = same d.long c.long (λ n. rd.holds.long n ∙ sym (rc.holds.long n)) in
+    let short = same d.short c.short (λ n. rd.holds.short n ∙ sym (rc.holds.short n)) in
+    let travel = same d.travel c.travel (λ n. rd.holds.travel n ∙ sym (rc.holds.travel n)) in
+    let words = rd.holds.words ∙ sym rc.holds.words in
+    let objects = same d.objects c.objects (λ n. rd.holds.objects n ∙ sym (rc.holds.objects n)) in
+    let messages = same d.messages c.messages (λ n. rd.holds.messages n ∙ sym (rc.holds.messages n)) in
+    let placements = same d.placements c.placements (λ n. rd.holds.placements n ∙ sym (rc.holds.placements n)) in
+    let defaults = same d.defaults c.defaults (λ n. rd.holds.defaults n ∙ sym (rc.holds.defaults n)) in
+    let conditions = same d.conditions c.conditions (λ n. rd.holds.conditions n ∙ sym (rc.holds.conditions n)) in
+    let classes = rd.holds.classes ∙ sym rc.holds.classes in
+    let hints = same d.hints c.hints (λ n. rd.holds.hints n ∙ sym (rc.holds.hints n)) in
+    let roles = same d.roles c.roles (λ n. rd.roles n ∙ sym (rc.roles n)) in
+    let places = same d.places c.places (λ n. rd.places n ∙ sym (rc.places n)) in
+    let letters = rd.letters ∙ sym rc.letters in
+    λ i. record {
+      long = long i;
+      short = short i;
+      travel = travel i;
+      words = words i;
+      objects = objects i;
+      messages = messages i;
+      placements = placements i;
+      defaults = defaults i;
+      conditions = conditions i;
+      classes = classes i;
+      hints = hints i;
+      roles = roles i;
+      places = places i;
+      letters = letters i;
+    }
+
+-- Faults.
+
+pub fault_database_large : (database bindings : List ℕ) → ltb 1048576 (length database) ≡ true → fault database bindings ≡ Some (too_large spot.Database)
+unfolding fault
+fault_database_large database bindings e =
+    ap (λ b. cond b (Some (too_large spot.Database)) (cond (ltb 1048576 (length bindings)) (Some (too_large spot.Bindings)) (option_or (first_fault [] (lines database)) (first_binding_fault [] (lines bindings))))) e
+
+small_fault : (database bindings : List ℕ) → ltb 1048576 (length database) ≡ false
+    → fault database bindings ≡ cond (ltb 1048576 (length bindings)) (Some (too_large spot.Bindings)) (option_or (first_fault [] (lines database)) (first_binding_fault [] (lines bindings)))
+unfolding fault
+small_fault database bindings e =
+    ap (λ b. cond b (Some (too_large spot.Database)) (cond (ltb 1048576 (length bindings)) (Some (too_large spot.Bindings)) (option_or (first_fault [] (lines database)) (first_binding_fault [] (lines bindings))))) e
+
+pub fault_bindings_large : (database bindings : List ℕ) → ltb 1048576 (length database) ≡ false → ltb 1048576 (length bindings) ≡ true → fault database bindings ≡ Some (too_large spot.Bindings)
+fault_bindings_large database bindings e b =
+    small_fault database bindings e ∙ ap (λ v. cond v (Some (too_large spot.Bindings)) (option_or (first_fault [] (lines database)) (first_binding_fault [] (lines bindings)))) b
+
+both_small : (database bindings : List ℕ) → ltb 1048576 (length database) ≡ false → ltb 1048576 (length bindings) ≡ false
+    → fault database bindings ≡ option_or (first_fault [] (lines database)) (first_binding_fault [] (lines bindings))
+both_small database bindings e b =
+    small_fault database bindings e ∙ ap (λ v. cond v (Some (too_large spot.Bindings)) (option_or (first_fault [] (lines database)) (first_binding_fault [] (lines bindings)))) b
+
+pub fault_in_database : (database bindings : List ℕ) (e : CaveError) → ltb 1048576 (length database) ≡ false → ltb 1048576 (length bindings) ≡ false
+    → FaultIs e (first_fault [] (lines database)) → FaultIs e (fault database bindings)
+fault_in_database database bindings e s b (inl h) = inl h
+fault_in_database database bindings e s b (inr h) = inr (both_small database bindings s b ∙ ap (λ o. option_or o (first_binding_fault [] (lines bindings))) h)
+
+pub fault_in_bindings : (database bindings : List ℕ) (e : CaveError) → ltb 1048576 (length database) ≡ false → ltb 1048576 (length bindings) ≡ false → first_fault [] (lines database) ≡ None
+    → FaultIs e (first_binding_fault [] (lines bindings)) → FaultIs e (fault database bindings)
+fault_in_bindings database bindings e s b right (inl h) = inl h
+fault_in_bindings database bindings e s b right (inr h) =
+    inr (both_small database bindings s b ∙ ap (λ o. option_or o (first_binding_fault [] (lines bindings))) right ∙ h)
+
+pub faultless : (database bindings : List ℕ) (c : CaveView) → Reads database bindings c → fault database bindings ≡ None
+faultless database bindings c reads =
+    both_small database bindings (le-ltb _ _ reads.small) (le-ltb _ _ reads.bindings_small)
+    ∙ ap (λ o. option_or o (first_binding_fault [] (lines bindings))) (database_faultless (lines database) reads.is_database) ∙ bindings_faultless (lines bindings) reads.are_bindings
+
+-- where a cave is described, only memory can be wanting
+pub only_memory : (database bindings : List ℕ) (c : CaveView) (e : CaveError) → Reads database bindings c → FaultIs e (fault database bindings) → e ≡ no_memory
+only_memory database bindings c e reads (inl h) = h
+only_memory database bindings c e reads (inr h) = let none = faultless database bindings c reads in cc
+
+-- what reading tells is what the relation asks
+pub read_decides : (database bindings : List ℕ) (r : Result CaveView CaveError) (c : CaveView) → IfOk r (λ d. Reads database bindings d) → IfErr r (λ e. FaultIs e (fault database bindings)) → Reads database bindings c
+    → MatchResult r (λ d. d ≡ c) (λ e. e ≡ no_memory)
+read_decides database bindings (Ok d) c found told reads = same_cave database bindings c d reads found
+read_decides database bindings (Err e) c found told reads = only_memory database bindings c e reads told

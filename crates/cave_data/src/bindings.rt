@@ -1,0 +1,101 @@
+//! Reading whole bindings.
+ghost use Rattle.std.specs.Prelude.{◌≡◌, [], None, IfOk, IfErr};
+ghost use Rattle.std.specs.Str.Lines.{lines};
+ghost use Rattle.cave_data.specs.Bindings.{bindings_of, first_binding_fault};
+ghost use Rattle.cave_data.specs.BindingSteps.{bound_to, bind_new, bind_line, no_bindings, bound};
+ghost use Rattle.cave_data.specs.Faults.{FaultIs};
+ghost use Rattle.cave_data.specs.Gives.{Leaves};
+
+use crate::binding::{Binding, Key, binding_row, is_skipped};
+use crate::database::told;
+use crate::error::{Cause, CaveError, Spot};
+use crate::lines::split_line;
+use crate::tables::Table;
+use std::alloc::Global;
+
+/// What bindings say.
+#[derive(Drop)]
+pub struct Bindings {
+    pub roles: Table<u16>,
+    pub places: Table<u16>,
+    pub letters: Option<u16>,
+}
+
+impl Bindings {
+    /// No bindings.
+    pub fn new(alloc: Global) -> Self
+        ensures { result ≡ no_bindings }
+    {
+        Self {
+            roles: Table::new(alloc),
+            places: Table::new(alloc),
+            letters: None,
+        }
+    }
+
+    /// The value of the key.
+    fn bound_to(&self, key: Key) -> Option<u16>
+        ensures { result ≡ bound_to self.now key }
+    {
+        match key {
+            Key::RoleKey(number) => self.roles.get(number),
+            Key::PlaceKey(number) => self.places.get(number),
+            Key::LettersKey => self.letters,
+        }
+    }
+
+    /// Adds a binding, unless its key has a value.
+    fn bind_new(&mut self, binding: Binding) -> Result<(), Cause>
+        ensures { Leaves result self.new (bind_new self.old binding) }
+    {
+        if self.bound_to(binding.key).is_some() {
+            return Err(Cause::BadBinding);
+        }
+        match binding.key {
+            Key::RoleKey(number) => {
+                self.roles.put(number, binding.value)?;
+                Ok(())
+            }
+            Key::PlaceKey(number) => {
+                self.places.put(number, binding.value)?;
+                Ok(())
+            }
+            Key::LettersKey => {
+                self.letters = Some(binding.value);
+                Ok(())
+            }
+        }
+    }
+
+    /// Takes the next line.
+    #[tactic(auto, unfolding(crate::specs::BindingSteps::bind_line))]
+    fn take_line(&mut self, line: &[u8]) -> Result<(), Cause>
+        ensures { Leaves result self.new (bind_line self.old line.now) }
+    {
+        if is_skipped(line) {
+            return Ok(());
+        }
+        let binding = binding_row(line)?;
+        self.bind_new(binding)
+    }
+}
+
+/// What bindings say.
+pub fn read_bindings(alloc: Global, text: &[u8]) -> Result<Bindings, CaveError>
+    ensures right { IfOk result (λ _. first_binding_fault [] (lines text.now) ≡ None) }
+    ensures found { IfOk result (λ bindings. bindings ≡ bound (bindings_of (lines text.now))) }
+    ensures fault { IfErr result (λ e. FaultIs e (first_binding_fault [] (lines text.now))) }
+{
+    let mut bindings = Bindings::new(alloc);
+    let mut rest = text;
+    let mut count = 0usize;
+    while let Some((line, after)) = split_line(rest) {
+        match bindings.take_line(line) {
+            Ok(()) => {}
+            Err(cause) => return Err(told(cause, count + 1, Spot::Bindings)),
+        }
+        count += 1;
+        rest = after;
+    }
+    Ok(bindings)
+}

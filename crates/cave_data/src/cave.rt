@@ -1,0 +1,326 @@
+//! A cave: the tables of a database and what its bindings say.
+ghost use Rattle.std.specs.Prelude.{◌≡◌, ◌≤◌, All, option_map, map, length, nat_lt, IfOk, IfErr, IfSome, MatchResult, unwrap_or};
+ghost use Rattle.std.specs.FinMap.{get};
+ghost use Rattle.cave_data.specs.CaveView.{name_of, look_of, ways_from, conditions_of, placement_of, default_message, CaveView, class_of};
+ghost use Rattle.cave_data.specs.Bindings.{default_place};
+ghost use Rattle.cave_data.specs.Faults.{FaultIs, no_memory};
+ghost use Rattle.cave_data.specs.Finished.{Finished};
+ghost use Rattle.cave_data.specs.Reading.{Reads, fault};
+ghost use Rattle.cave_data.specs.RowViews.{rating};
+ghost use Rattle.cave_data.specs.Shown.{going, word_entry};
+ghost use Rattle.cave_data.specs.Role.{role_number};
+ghost use Rattle.cave_data.specs.PlaceRole.{place_number};
+
+use crate::bindings::{Bindings, read_bindings};
+use crate::database::read_database;
+use crate::error::{Cause, CaveError, Spot};
+use crate::place_role::PlaceRole;
+use crate::reader::Tables;
+use crate::role::Role;
+use crate::rows::{ClassRow, Hint, Placement, Rating, Row, WordRow};
+use crate::slots::{Slots, printed, text_at};
+use crate::tables::Table;
+use std::alloc::Global;
+use std::marker::Model;
+
+/// The greatest size of an input.
+const MAX_SIZE: usize = 1_048_576;
+/// The last object that may have texts.
+const LAST_NAMED: u16 = 99;
+/// The last prop that may have a text.
+const LAST_PROP: u16 = 99;
+
+/// A cave that was read from a database and its bindings.
+#[derive(Drop)]
+pub struct Cave {
+    long: Slots<Vec<u8>>,
+    short: Slots<Vec<u8>>,
+    travel: Slots<Vec<Row>>,
+    words: Vec<WordRow>,
+    objects: Slots<Vec<u8>>,
+    messages: Slots<Vec<u8>>,
+    placements: Table<Placement>,
+    defaults: Table<u16>,
+    conditions: Table<u32>,
+    classes: Vec<ClassRow>,
+    hints: Table<Hint>,
+    roles: Table<u16>,
+    places: Table<u16>,
+    letters: u8,
+}
+
+/// The place that has the role where bindings say nothing.
+fn default_place(place: PlaceRole) -> Option<u16>
+    ensures { result ≡ default_place (place_number place) }
+{
+    match place {
+        PlaceRole::Start => Some(1),
+        PlaceRole::Building => Some(3),
+        PlaceRole::Outside => Some(8),
+        PlaceRole::Deep => Some(15),
+        _ => None,
+    }
+}
+
+impl Model for Cave {
+    ghost use Rattle.std.specs.Prelude.{map, ◌≤◌};
+    ghost use Rattle.cave_data.specs.CaveView.{CaveView, cave_code};
+    ghost use Rattle.cave_data.specs.Slots.{by_number};
+    ghost use Rattle.cave_data.specs.Shown.{RowsAtPlaces, shown_text, goings, word_entry, class_entry};
+    ghost use Rattle.cave_data.specs.DefaultPlaces.{with_defaults};
+
+    ghost Value = { CaveView };
+
+    ghost coded = { cave_code };
+
+    ghost view = { λ c. record {
+      long = by_number shown_text c.long.items.items;
+      short = by_number shown_text c.short.items.items;
+      travel = by_number goings c.travel.items.items;
+      words = map word_entry c.words.items;
+      objects = by_number shown_text c.objects.items.items;
+      messages = by_number shown_text c.messages.items.items;
+      placements = c.placements;
+      defaults = c.defaults;
+      conditions = c.conditions;
+      classes = map class_entry c.classes.items;
+      hints = c.hints;
+      roles = c.roles;
+      places = with_defaults c.places;
+      letters = c.letters;
+    } };
+
+    ghost invariant = { λ c. (5 ≤ c.letters) × (c.letters ≤ 8) × RowsAtPlaces c.travel.items.items };
+}
+
+/// Whether an input is too large.
+fn is_too_large(input: &[u8]) -> bool
+    ensures { result ≡ nat_lt 1048576 (length input.now) }
+{
+    input.len() > MAX_SIZE
+}
+
+/// How many letters count.
+fn letters_of(bound: Option<u16>) -> u8
+    requires { IfSome bound (λ n. (5 ≤ n) × (n ≤ 8)) }
+    ensures value { result ≡ unwrap_or bound 5 }
+    ensures range { (5 ≤ result) × (result ≤ 8) }
+{
+    match bound {
+        Some(letters) => letters as u8,
+        None => 5,
+    }
+}
+
+/// The cave of tables and bindings.
+fn finish(tables: Tables, bindings: Bindings) -> Cave
+    requires { IfSome bindings.letters (λ n. (5 ≤ n) × (n ≤ 8)) }
+    ensures { Finished tables bindings result }
+{
+    let Tables {
+        long,
+        short,
+        ways,
+        words,
+        objects,
+        object: _,
+        messages,
+        placements,
+        defaults,
+        conditions,
+        classes,
+        hints,
+    } = tables;
+    let Bindings {
+        roles,
+        places,
+        letters,
+    } = bindings;
+    let letters = letters_of(letters);
+    Cave {
+        long: long.into_slots(),
+        short: short.into_slots(),
+        travel: ways.into_slots(),
+        words: words.into_rows(),
+        objects: objects.into_slots(),
+        messages: messages.into_slots(),
+        placements,
+        defaults,
+        conditions,
+        classes: classes.into_rows(),
+        hints,
+        roles,
+        places,
+        letters,
+    }
+}
+
+/// The cave, or the first fault.
+fn read_cave(alloc: Global, database: &[u8], bindings: &[u8]) -> Result<Cave, CaveError>
+    ensures found { IfOk result (λ c. Reads database.now bindings.now c) }
+    ensures fault { IfErr result (λ e. FaultIs e (fault database.now bindings.now)) }
+{
+    if is_too_large(database) {
+        return Err(CaveError {
+            cause: Cause::TooLarge,
+            line: 0,
+            spot: Spot::Database,
+        });
+    }
+    if is_too_large(bindings) {
+        return Err(CaveError {
+            cause: Cause::TooLarge,
+            line: 0,
+            spot: Spot::Bindings,
+        });
+    }
+    let tables = read_database(alloc, database)?;
+    let bindings = read_bindings(alloc, bindings)?;
+    Ok(finish(tables, bindings))
+}
+
+#[tactic(auto, using(crate::proofs::CaveLemmas::gets))]
+impl Cave {
+    /// Reads a cave from its database and its bindings, or tells the first fault: a size over
+    /// 1,048,576 bytes, then the first faulty line, the database's before the bindings'.
+    pub fn read(alloc: Global, database: &[u8], bindings: &[u8]) -> Result<Cave, CaveError>
+        ensures found { IfOk result (λ c. Reads database.now bindings.now c) }
+        ensures fault { IfErr result (λ e. FaultIs e (fault database.now bindings.now)) }
+        // Where a cave is described, it is read, unless memory is wanting.
+        ensures only { (c : CaveView) → Reads database.now bindings.now c
+            → MatchResult result (λ d. d ≡ c) (λ e. e ≡ no_memory) }
+    {
+        read_cave(alloc, database, bindings)
+    }
+
+    /// The long text of the place, each of its lines with its line feed.
+    pub fn long(&self, place: u16) -> Option<&[u8]>
+        ensures { option_map (λ x. x.now) result ≡ get self.now.long place }
+    {
+        text_at(&self.long, place)
+    }
+
+    /// The short text of the place.
+    pub fn short(&self, place: u16) -> Option<&[u8]>
+        ensures { option_map (λ x. x.now) result ≡ get self.now.short place }
+    {
+        text_at(&self.short, place)
+    }
+
+    /// The message of the number.
+    pub fn message(&self, number: u16) -> Option<&[u8]>
+        ensures { option_map (λ x. x.now) result ≡ get self.now.messages number }
+    {
+        text_at(&self.messages, number)
+    }
+
+    /// The inventory text of the object.
+    pub fn name(&self, object: u16) -> Option<&[u8]>
+        ensures { option_map (λ x. x.now) result ≡ name_of self.now object }
+    {
+        if object > LAST_NAMED {
+            return None;
+        }
+        text_at(&self.objects, object)
+    }
+
+    /// The text of the object as it lies there with that prop.
+    pub fn look(&self, object: u16, prop: u16) -> Option<&[u8]>
+        ensures { option_map (λ x. x.now) result ≡ look_of self.now object prop }
+    {
+        if object == 0 || object > LAST_NAMED || prop > LAST_PROP {
+            return None;
+        }
+        text_at(&self.objects, 100 * object + prop)
+    }
+
+    /// The ways out of the place, in the order of the file.
+    pub fn travel(&self, place: u16) -> &[Row]
+        ensures value { map going result.now ≡ ways_from self.now place }
+        ensures place { All (λ row. row.place ≡ place) result.now }
+    {
+        match self.travel.get(place) {
+            Some(rows) => rows.as_slice(),
+            None => &[],
+        }
+    }
+
+    /// The bits that are set for the place, as the bits of a number.
+    pub fn cond(&self, place: u16) -> u32
+        ensures { result ≡ conditions_of self.now place }
+    {
+        self.conditions.get(place).unwrap_or(0)
+    }
+
+    /// Where the object stands first, its first place and its second, and (0, 0) where no row says so.
+    pub fn placement(&self, object: u16) -> (u16, i16)
+        ensures first { result.0 ≡ (placement_of self.now object).first }
+        ensures second { result.1 ≡ (placement_of self.now object).second }
+    {
+        match self.placements.get(object) {
+            Some(placement) => (placement.first, placement.second),
+            None => (0, 0),
+        }
+    }
+
+    /// The message that the action prints where no rule says more, or 0.
+    pub fn default_of(&self, action: u16) -> u16
+        ensures { result ≡ default_message self.now action }
+    {
+        self.defaults.get(action).unwrap_or(0)
+    }
+
+    /// The hint of the number.
+    pub fn hint(&self, number: u16) -> Option<Hint>
+        ensures { result ≡ get self.now.hints number }
+    {
+        self.hints.get(number)
+    }
+
+    /// The message that bindings give the role.
+    pub fn role(&self, role: Role) -> Option<u16>
+        ensures { result ≡ get self.now.roles (role_number role) }
+    {
+        self.roles.get(role.number())
+    }
+
+    /// The place that has the role, by bindings or where they say nothing.
+    pub fn place(&self, place: PlaceRole) -> Option<u16>
+        ensures { result ≡ get self.now.places (place_number place) }
+    {
+        self.places.get(place.number()).or(default_place(place))
+    }
+
+    /// The words in the order of the file.
+    pub fn words(&self) -> &[WordRow]
+        ensures { map word_entry result.now ≡ self.now.words }
+    {
+        self.words.as_slice()
+    }
+
+    /// The class of the score: the first row whose bound is not below it.
+    pub fn class_of(&self, score: u32) -> Option<Rating<'_>>
+        ensures { option_map rating result ≡ class_of self.now score }
+    {
+        let count = self.classes.len();
+        for (number, class) in self.classes.iter().enumerate() {
+            if score <= u32::from(class.bound) {
+                return Some(Rating {
+                    row: number + 1,
+                    bound: class.bound,
+                    text: printed(class.text.as_slice()),
+                    is_followed: number + 1 < count,
+                });
+            }
+        }
+        None
+    }
+
+    /// How many letters of a word count.
+    pub fn letters(&self) -> u8
+        ensures value { result ≡ self.now.letters }
+        ensures range { (5 ≤ result) × (result ≤ 8) }
+    {
+        self.letters
+    }
+}

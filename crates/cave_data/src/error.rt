@@ -1,0 +1,83 @@
+//! What is wrong with a database or with bindings, and where.
+ghost use Rattle.std.specs.Prelude.{◌≡◌};
+
+use crate::explain::{At, Expected};
+use std::alloc::{AllocError, AllocFailed};
+use thiserror::Error;
+
+/// Why a database or its bindings are refused. On one line the first cause that fits is told.
+#[derive(Clone, Copy, Debug, PartialEq, Eq, Error)]
+pub enum Cause {
+    #[error("an input is too large")]
+    TooLarge,
+    #[error("a section's number was expected")]
+    BadSection,
+    #[error("a number or a word is missing")]
+    BadNumber,
+    #[error("a number or a text is out of its range")]
+    OutOfRange,
+    #[error("the database has no end")]
+    NoEnd,
+    #[error("there are too many rows")]
+    TooManyRows,
+    #[error("a binding was expected")]
+    BadBinding,
+    #[error("the name is not known")]
+    UnknownRole,
+    #[error("there is not enough memory")]
+    Memory,
+}
+
+/// A section of a database, in the order of their numbers from 1.
+#[derive(Clone, Copy, Debug, PartialEq, Eq)]
+pub enum Section {
+    LongTexts,
+    ShortTexts,
+    Travel,
+    Words,
+    Objects,
+    Messages,
+    Placements,
+    Defaults,
+    Conditions,
+    Classes,
+    Hints,
+    Magic,
+}
+
+/// Where in the inputs a fault is.
+#[derive(Clone, Copy, Debug, PartialEq, Eq)]
+pub enum Spot {
+    Database,
+    Section(Section),
+    Bindings,
+}
+
+/// A fault: its cause, its line from 1, or 0 where no line is at fault, and where that line stands.
+#[derive(Clone, Copy, Debug, PartialEq, Eq, Error)]
+#[error("{}{}", At {line: *.line, spot: *.spot}, Expected {cause: *.cause, spot: *.spot})]
+pub struct CaveError {
+    pub cause: Cause,
+    pub line: usize,
+    pub spot: Spot,
+}
+
+impl From<AllocError> for Cause {
+    ghost use Rattle.cave_data.specs.declared.error.Cause.TheVariants.{Memory};
+
+    ghost from_gives = { λ _ cause. cause ≡ Memory };
+
+    fn from(_refused: AllocError) -> Cause {
+        Cause::Memory
+    }
+}
+
+impl<T: Drop> From<AllocFailed<T>> for Cause {
+    ghost use Rattle.cave_data.specs.declared.error.Cause.TheVariants.{Memory};
+
+    ghost from_gives = { λ _ cause. cause ≡ Memory };
+
+    fn from(_refused: AllocFailed<T>) -> Cause {
+        Cause::Memory
+    }
+}

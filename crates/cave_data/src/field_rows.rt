@@ -1,0 +1,315 @@
+//! Rows of a section, read from the fields of a line.
+ghost use Rattle.std.specs.Prelude.{◌≡◌, ◌≤◌, ◌<◌, [], ◌∷◌, length, MatchOption, IfOk, IfSome, IsTrue};
+ghost use Rattle.cave_data.specs.Fields.{fields};
+ghost use Rattle.cave_data.specs.Gives.{Gives};
+ghost use Rattle.cave_data.specs.RowViews.{text_shown};
+ghost use Rattle.cave_data.specs.Rows.{number_in, within, is_zero, list_in, all_within, text_in, text_line, object_or_prop, object_line, way_row, is_word_number, word_number, word_in, word_row, number_or_zero, some_of, few_of, second_place, placement_row, default_row, condition_row, hint_row};
+ghost use Rattle.cave_data.specs.Shown.{going, word_entry};
+
+use crate::error::Cause;
+use crate::number::{Number, after_blanks, number_at, number_of, split_field};
+use crate::rows::{Hint, Placement, Row, WordRow};
+use std::alloc::Global;
+
+/// The greatest length of a line of a text.
+const MAX_TEXT: usize = 255;
+/// The most motions or places in a row.
+const MAX_LIST: usize = 40;
+
+/// The first field and what follows it.
+#[tactic(auto, using(crate::proofs::FieldLemmas::fields_of_first))]
+pub fn next_field(bytes: &[u8]) -> Option<(&[u8], &[u8])>
+    ensures value { MatchOption result (fields bytes.now ≡ []) (λ found. fields bytes.now ≡ found.0.now ∷ fields found.1.now) }
+    ensures shorter { IfSome result (λ found. length found.1.now < length bytes.now) }
+{
+    let bytes = after_blanks(bytes);
+    if bytes.is_empty() {
+        None
+    } else {
+        Some(split_field(bytes))
+    }
+}
+
+/// The number in the first field and what follows it.
+fn number_in(bytes: &[u8]) -> Result<(Number, &[u8]), Cause>
+    ensures { Gives (λ found. (found.0, found.1.now)) result (number_in bytes.now) }
+{
+    number_at(bytes).ok_or(Cause::BadNumber)
+}
+
+/// The number, if it is in the range.
+fn wide_within(number: Number, low: u32, high: u32) -> Result<u32, Cause>
+    ensures { result ≡ within low high number }
+{
+    match number {
+        Number::Natural(n) if low <= n && n <= high => Ok(n),
+        _ => Err(Cause::OutOfRange),
+    }
+}
+
+/// The number, if it is in the range.
+fn within(number: Number, low: u16, high: u16) -> Result<u16, Cause>
+    ensures value { result ≡ within low high number }
+    ensures range { IfOk result (λ n. n ≤ high) }
+{
+    match number {
+        Number::Natural(n) if u32::from(low) <= n && n <= u32::from(high) => Ok(n as u16),
+        _ => Err(Cause::OutOfRange),
+    }
+}
+
+/// Whether the number ends a list.
+fn is_zero(number: Number) -> bool
+    ensures { result ≡ is_zero number }
+{
+    matches!(number, Number::Natural(0))
+}
+
+/// The numbers up to a 0 or to the end of the line.
+fn list_in(alloc: Global, bytes: &[u8]) -> Result<Vec<Number>, Cause>
+    ensures { Gives (λ ns. ns.items) result (list_in bytes.now) }
+{
+    let mut numbers = Vec::new(alloc);
+    let mut rest = bytes;
+    while let Some((field, after)) = next_field(rest) {
+        let Some(number) = number_of(field) else {
+            return Err(Cause::BadNumber);
+        };
+        if is_zero(number) {
+            return Ok(numbers);
+        }
+        numbers.push(number)?;
+        rest = after;
+    }
+    Ok(numbers)
+}
+
+/// The numbers, if each is in the range.
+fn all_within(alloc: Global, numbers: &[Number], low: u16, high: u16) -> Result<Vec<u16>, Cause>
+    ensures { Gives (λ ns. ns.items) result (all_within low high numbers.now) }
+{
+    let mut all = Vec::new(alloc);
+    for number in numbers {
+        all.push(within(*number, low, high)?)?;
+    }
+    Ok(all)
+}
+
+/// The text behind a number: what follows one blank.
+fn text_in(bytes: &[u8]) -> Result<&[u8], Cause>
+    ensures { Gives (λ text. text.now) result (text_in bytes.now) }
+{
+    let text = match bytes {
+        [_, text @ ..] => text,
+        [] => bytes,
+    };
+    if text.len() <= MAX_TEXT {
+        Ok(text)
+    } else {
+        Err(Cause::OutOfRange)
+    }
+}
+
+/// A line of a text under a number in the range.
+#[tactic(auto, unfolding(crate::specs::Rows::text_line))]
+pub fn text_line(line: &[u8], low: u16, high: u16) -> Result<(u16, &[u8]), Cause>
+    ensures { Gives text_shown result (text_line low high line.now) }
+{
+    let (number, rest) = number_in(line)?;
+    let number = within(number, low, high)?;
+    let text = text_in(rest)?;
+    Ok((number, text))
+}
+
+/// An object, or a hundred times a prop of the object before.
+fn object_or_prop(number: Number) -> Result<u16, Cause>
+    ensures value { result ≡ object_or_prop number }
+    ensures range { IfOk result (λ n. n ≤ 9900) }
+{
+    match number {
+        Number::Natural(n) if n <= 99 || (n <= 9900 && n % 100 == 0) => Ok(n as u16),
+        _ => Err(Cause::OutOfRange),
+    }
+}
+
+/// A line of a text of an object.
+#[tactic(auto, unfolding(crate::specs::Rows::object_line))]
+pub fn object_line(line: &[u8]) -> Result<(u16, &[u8]), Cause>
+    ensures value { Gives text_shown result (object_line line.now) }
+    ensures range { IfOk result (λ row. row.0 ≤ 9900) }
+{
+    let (number, rest) = number_in(line)?;
+    let number = object_or_prop(number)?;
+    let text = text_in(rest)?;
+    Ok((number, text))
+}
+
+/// The numbers, if there are not too many.
+fn few_of(numbers: Vec<u16>) -> Result<Vec<u16>, Cause>
+    ensures { Gives (λ ns. ns.items) result (few_of numbers.items) }
+{
+    if numbers.len() <= MAX_LIST {
+        Ok(numbers)
+    } else {
+        Err(Cause::TooManyRows)
+    }
+}
+
+/// The numbers, if there are any.
+fn some_of(numbers: Vec<Number>) -> Result<Vec<Number>, Cause>
+    ensures { Gives (λ ns. ns.items) result (some_of numbers.items) }
+{
+    if numbers.is_empty() {
+        Err(Cause::BadNumber)
+    } else {
+        Ok(numbers)
+    }
+}
+
+/// A row of the ways out of places.
+#[tactic(auto, unfolding(crate::specs::Rows::way_row))]
+pub fn way_row(alloc: Global, line: &[u8]) -> Result<Row, Cause>
+    ensures { Gives (λ row. (row.place, going row)) result (way_row line.now) }
+{
+    let (place, rest) = number_in(line)?;
+    let (target, rest) = number_in(rest)?;
+    let list = list_in(alloc, rest)?;
+    let motions = some_of(list)?;
+    let place = within(place, 1, 300)?;
+    let target = wide_within(target, 0, 999_999)?;
+    let motions = all_within(alloc, motions.as_slice(), 1, 999)?;
+    let motions = few_of(motions)?;
+    Ok(Row {
+        place,
+        target,
+        motions,
+    })
+}
+
+/// Whether the number is one of a class of words.
+fn is_word_number(n: u32) -> bool
+    ensures value { result ≡ is_word_number n }
+    ensures range { IsTrue result → n ≤ 3499 }
+{
+    n % 1000 >= 1
+        && (n <= 999
+            || (1000 <= n && n <= 1100)
+            || (2000 <= n && n <= 2099)
+            || (3000 <= n && n <= 3499))
+}
+
+/// The number, if it is one of a class of words.
+fn word_number(number: Number) -> Result<u16, Cause>
+    ensures { result ≡ word_number number }
+{
+    match number {
+        Number::Natural(n) if is_word_number(n) => Ok(n as u16),
+        _ => Err(Cause::OutOfRange),
+    }
+}
+
+/// The first field that is left.
+fn word_in(bytes: &[u8]) -> Result<&[u8], Cause>
+    ensures { Gives (λ word. word.now) result (word_in bytes.now) }
+{
+    let (word, _) = split_field(after_blanks(bytes));
+    if word.is_empty() {
+        Err(Cause::BadNumber)
+    } else {
+        Ok(word)
+    }
+}
+
+/// A row of the words.
+#[tactic(auto, unfolding(crate::specs::Rows::word_row))]
+pub fn word_row(alloc: Global, line: &[u8]) -> Result<WordRow, Cause>
+    ensures { Gives word_entry result (word_row line.now) }
+{
+    let (number, rest) = number_in(line)?;
+    let word = word_in(rest)?;
+    let number = word_number(number)?;
+    let word = word.to_vec(alloc)?;
+    Ok(WordRow { number, word })
+}
+
+/// The next number, where 0 stands for one that is left out.
+fn number_or_zero(bytes: &[u8]) -> Result<(Number, &[u8]), Cause>
+    ensures { Gives (λ found. (found.0, found.1.now)) result (number_or_zero bytes.now) }
+{
+    if after_blanks(bytes).is_empty() {
+        Ok((Number::Natural(0), &[]))
+    } else {
+        number_in(bytes)
+    }
+}
+
+/// A second place, or 0 or -1.
+fn second_place(number: Number) -> Result<i16, Cause>
+    ensures { result ≡ second_place number }
+{
+    match number {
+        Number::Natural(n) if n <= 300 => Ok(n as i16),
+        Number::Negative(1) => Ok(-1),
+        _ => Err(Cause::OutOfRange),
+    }
+}
+
+/// A row of the objects' places.
+#[tactic(auto, unfolding(crate::specs::Rows::placement_row))]
+pub fn placement_row(line: &[u8]) -> Result<(u16, Placement), Cause>
+    ensures { Gives (λ row. row) result (placement_row line.now) }
+{
+    let (object, rest) = number_in(line)?;
+    let (first, rest) = number_or_zero(rest)?;
+    let (second, _) = number_or_zero(rest)?;
+    let object = within(object, 1, 100)?;
+    let first = within(first, 0, 300)?;
+    let second = second_place(second)?;
+    Ok((object, Placement { first, second }))
+}
+
+/// A row of the actions' messages.
+#[tactic(auto, unfolding(crate::specs::Rows::default_row))]
+pub fn default_row(line: &[u8]) -> Result<(u16, u16), Cause>
+    ensures { Gives (λ row. row) result (default_row line.now) }
+{
+    let (action, rest) = number_in(line)?;
+    let (message, _) = number_in(rest)?;
+    let action = within(action, 1, 99)?;
+    let message = within(message, 0, 499)?;
+    Ok((action, message))
+}
+
+/// A row of the places' bits.
+#[tactic(auto, unfolding(crate::specs::Rows::condition_row))]
+pub fn condition_row(alloc: Global, line: &[u8]) -> Result<(u16, Vec<u16>), Cause>
+    ensures value { Gives (λ row. (row.0, row.1.items)) result (condition_row line.now) }
+    ensures range { IfOk result (λ row. row.0 ≤ 20) }
+{
+    let (bit, rest) = number_in(line)?;
+    let places = list_in(alloc, rest)?;
+    let bit = within(bit, 0, 20)?;
+    let places = all_within(alloc, places.as_slice(), 1, 300)?;
+    let places = few_of(places)?;
+    Ok((bit, places))
+}
+
+/// A row of the hints.
+#[tactic(auto, unfolding(crate::specs::Rows::hint_row))]
+pub fn hint_row(line: &[u8]) -> Result<(u16, Hint), Cause>
+    ensures { Gives (λ row. row) result (hint_row line.now) }
+{
+    let (hint, rest) = number_in(line)?;
+    let (turns, rest) = number_in(rest)?;
+    let (points, rest) = number_in(rest)?;
+    let (question, rest) = number_in(rest)?;
+    let (text, _) = number_in(rest)?;
+    let hint = within(hint, 1, 20)?;
+    let row = Hint {
+        turns: within(turns, 0, 9999)?,
+        points: within(points, 0, 100)?,
+        question: within(question, 0, 499)?,
+        text: within(text, 0, 499)?,
+    };
+    Ok((hint, row))
+}

@@ -1,0 +1,27 @@
+//! Databases of caves, with their bindings, as tables that a game looks things up in.
+#![tactic(auto)]
+
+mod binding;
+mod bindings;
+pub mod cave;
+mod database;
+pub mod error;
+mod explain;
+mod field_rows;
+pub mod lines;
+mod number;
+pub mod place_role;
+mod reader;
+pub mod role;
+pub mod rows;
+mod slots;
+mod tables;
+#[cfg(test)]
+mod tests;
+
+pub use cave::Cave;
+pub use error::{Cause, CaveError, Section, Spot};
+pub use lines::split_line;
+pub use place_role::PlaceRole;
+pub use role::Role;
+pub use rows::{Hint, Rating, Row, WordRow};

@@ -1,0 +1,294 @@
+//! Reading a database line by line.
+ghost use Rattle.std.specs.Prelude.{◌≡◌, ◌&&◌, nat_lt, nat_le};
+ghost use Rattle.cave_data.specs.Gives.{Leaves};
+ghost use Rattle.cave_data.specs.Grammar.{section_of, headed, closes};
+ghost use Rattle.cave_data.specs.Steps.{row_step, advance, no_tables};
+
+use crate::error::{Cause, Section};
+use crate::field_rows::{
+    condition_row, default_row, hint_row, object_line, placement_row, text_line, way_row, word_row,
+};
+use crate::number::{Number, is_blank_line, number_at};
+use crate::rows::{Hint, Placement};
+use crate::tables::{Classes, Table, Texts, Ways, Words, mark};
+use std::alloc::Global;
+
+/// The most ways out of places.
+const MAX_WAYS: usize = 2000;
+/// The most words.
+const MAX_WORDS: usize = 1000;
+/// The most classes.
+const MAX_CLASSES: usize = 50;
+/// The last object that may have texts.
+const LAST_NAMED: u16 = 99;
+
+/// Where a line stands.
+#[derive(Clone, Copy, Debug, PartialEq, Eq)]
+pub enum Place {
+    Outside,
+    Inside(Section),
+    After,
+}
+
+/// The tables of the rows so far, and the object whose texts come, or 0.
+#[derive(Drop)]
+pub struct Tables {
+    pub long: Texts,
+    pub short: Texts,
+    pub ways: Ways,
+    pub words: Words,
+    pub objects: Texts,
+    pub object: u8,
+    pub messages: Texts,
+    pub placements: Table<Placement>,
+    pub defaults: Table<u16>,
+    pub conditions: Table<u32>,
+    pub classes: Classes,
+    pub hints: Table<Hint>,
+}
+
+/// Where the next line stands, and the tables of the rows so far.
+#[derive(Drop)]
+pub struct Reader {
+    pub place: Place,
+    pub tables: Tables,
+}
+
+/// The section of the number.
+fn section_of(number: u32) -> Option<Section>
+    ensures { result ≡ section_of number }
+{
+    match number {
+        1 => Some(Section::LongTexts),
+        2 => Some(Section::ShortTexts),
+        3 => Some(Section::Travel),
+        4 => Some(Section::Words),
+        5 => Some(Section::Objects),
+        6 => Some(Section::Messages),
+        7 => Some(Section::Placements),
+        8 => Some(Section::Defaults),
+        9 => Some(Section::Conditions),
+        10 => Some(Section::Classes),
+        11 => Some(Section::Hints),
+        12 => Some(Section::Magic),
+        _ => None,
+    }
+}
+
+/// What a line outside every section opens.
+#[tactic(auto, unfolding(crate::specs::Grammar::headed))]
+fn headed(line: &[u8]) -> Option<Place>
+    ensures { result ≡ headed line.now }
+{
+    match number_at(line) {
+        Some((Number::Natural(0), _)) => Some(Place::After),
+        Some((Number::Natural(n), _)) => section_of(n).map(Place::Inside),
+        _ => None,
+    }
+}
+
+/// Whether the line ends a section.
+#[tactic(auto, unfolding(crate::specs::Grammar::closes))]
+fn closes(line: &[u8]) -> bool
+    ensures { result ≡ closes line.now }
+{
+    matches!(number_at(line), Some((Number::Negative(1), _)))
+}
+
+/// Whether a line of this number is of an object's inventory text.
+fn names_object(number: u16) -> bool
+    ensures { result ≡ (nat_lt 0 number && nat_le number 99) }
+{
+    0 < number && number <= LAST_NAMED
+}
+
+#[tactic(auto, unfolding(crate::specs::Steps::row_step))]
+impl Tables {
+    /// No rows.
+    pub fn new(alloc: Global) -> Self
+        ensures { result ≡ no_tables }
+    {
+        Self {
+            long: Texts::new(alloc),
+            short: Texts::new(alloc),
+            ways: Ways::new(alloc),
+            words: Words::new(alloc),
+            objects: Texts::new(alloc),
+            object: 0,
+            messages: Texts::new(alloc),
+            placements: Table::new(alloc),
+            defaults: Table::new(alloc),
+            conditions: Table::new(alloc),
+            classes: Classes::new(alloc),
+            hints: Table::new(alloc),
+        }
+    }
+
+    fn add_long_line(&mut self, alloc: Global, line: &[u8]) -> Result<(), Cause>
+        ensures { Leaves result self.new (row_step self.old Section.LongTexts line.now) }
+    {
+        let (place, text) = text_line(line, 1, 300)?;
+        self.long.add_line(alloc, place, text)?;
+        Ok(())
+    }
+
+    fn add_short_line(&mut self, alloc: Global, line: &[u8]) -> Result<(), Cause>
+        ensures { Leaves result self.new (row_step self.old Section.ShortTexts line.now) }
+    {
+        let (place, text) = text_line(line, 1, 300)?;
+        self.short.add_line(alloc, place, text)?;
+        Ok(())
+    }
+
+    fn add_way(&mut self, alloc: Global, line: &[u8]) -> Result<(), Cause>
+        ensures { Leaves result self.new (row_step self.old Section.Travel line.now) }
+    {
+        let row = way_row(alloc, line)?;
+        if self.ways.count() >= MAX_WAYS {
+            return Err(Cause::TooManyRows);
+        }
+        self.ways.push(alloc, row)?;
+        Ok(())
+    }
+
+    fn add_word(&mut self, alloc: Global, line: &[u8]) -> Result<(), Cause>
+        ensures { Leaves result self.new (row_step self.old Section.Words line.now) }
+    {
+        let row = word_row(alloc, line)?;
+        if self.words.len() >= MAX_WORDS {
+            return Err(Cause::TooManyRows);
+        }
+        self.words.push(row)?;
+        Ok(())
+    }
+
+    fn add_object_line(&mut self, alloc: Global, line: &[u8]) -> Result<(), Cause>
+        ensures { Leaves result self.new (row_step self.old Section.Objects line.now) }
+    {
+        let (number, text) = object_line(line)?;
+        if names_object(number) {
+            self.objects.add_line(alloc, number, text)?;
+            self.object = number as u8;
+        } else if self.object == 0 {
+            return Err(Cause::OutOfRange);
+        } else {
+            let key = 100 * u16::from(self.object) + number / 100;
+            self.objects.add_line(alloc, key, text)?;
+        }
+        Ok(())
+    }
+
+    fn add_message_line(&mut self, alloc: Global, line: &[u8]) -> Result<(), Cause>
+        ensures { Leaves result self.new (row_step self.old Section.Messages line.now) }
+    {
+        let (number, text) = text_line(line, 1, 499)?;
+        self.messages.add_line(alloc, number, text)?;
+        Ok(())
+    }
+
+    fn add_placement(&mut self, line: &[u8]) -> Result<(), Cause>
+        ensures { Leaves result self.new (row_step self.old Section.Placements line.now) }
+    {
+        let (object, placement) = placement_row(line)?;
+        self.placements.put(object, placement)?;
+        Ok(())
+    }
+
+    fn add_default(&mut self, line: &[u8]) -> Result<(), Cause>
+        ensures { Leaves result self.new (row_step self.old Section.Defaults line.now) }
+    {
+        let (action, message) = default_row(line)?;
+        self.defaults.put(action, message)?;
+        Ok(())
+    }
+
+    fn add_condition(&mut self, alloc: Global, line: &[u8]) -> Result<(), Cause>
+        ensures { Leaves result self.new (row_step self.old Section.Conditions line.now) }
+    {
+        let (bit, places) = condition_row(alloc, line)?;
+        mark(&mut self.conditions, bit, places.as_slice())?;
+        Ok(())
+    }
+
+    fn add_class_line(&mut self, alloc: Global, line: &[u8]) -> Result<(), Cause>
+        ensures { Leaves result self.new (row_step self.old Section.Classes line.now) }
+    {
+        let (bound, text) = text_line(line, 0, 9999)?;
+        if self.classes.len() >= MAX_CLASSES {
+            return Err(Cause::TooManyRows);
+        }
+        self.classes.push(alloc, bound, text)?;
+        Ok(())
+    }
+
+    fn add_hint(&mut self, line: &[u8]) -> Result<(), Cause>
+        ensures { Leaves result self.new (row_step self.old Section.Hints line.now) }
+    {
+        let (number, hint) = hint_row(line)?;
+        self.hints.put(number, hint)?;
+        Ok(())
+    }
+
+    fn pass_magic_line(&mut self, line: &[u8]) -> Result<(), Cause>
+        ensures { Leaves result self.new (row_step self.old Section.Magic line.now) }
+    {
+        text_line(line, 1, 499)?;
+        Ok(())
+    }
+}
+
+impl Tables {
+    /// Adds a row of the section.
+    fn add_row(&mut self, alloc: Global, section: Section, line: &[u8]) -> Result<(), Cause>
+        ensures { Leaves result self.new (row_step self.old section line.now) }
+    {
+        match section {
+            Section::LongTexts => self.add_long_line(alloc, line),
+            Section::ShortTexts => self.add_short_line(alloc, line),
+            Section::Travel => self.add_way(alloc, line),
+            Section::Words => self.add_word(alloc, line),
+            Section::Objects => self.add_object_line(alloc, line),
+            Section::Messages => self.add_message_line(alloc, line),
+            Section::Placements => self.add_placement(line),
+            Section::Defaults => self.add_default(line),
+            Section::Conditions => self.add_condition(alloc, line),
+            Section::Classes => self.add_class_line(alloc, line),
+            Section::Hints => self.add_hint(line),
+            Section::Magic => self.pass_magic_line(line),
+        }
+    }
+}
+
+impl Reader {
+    /// Before the first line.
+    pub fn new(alloc: Global) -> Self
+        ensures { result ≡ record { place = Place.Outside; tables = no_tables } }
+    {
+        Self {
+            place: Place::Outside,
+            tables: Tables::new(alloc),
+        }
+    }
+
+    /// Takes the next line.
+    #[tactic(auto, unfolding(crate::specs::Steps::advance))]
+    pub fn take_line(&mut self, alloc: Global, line: &[u8]) -> Result<(), Cause>
+        ensures { Leaves result self.new (advance self.old line.now) }
+    {
+        if is_blank_line(line) {
+            return Ok(());
+        }
+        match self.place {
+            Place::Outside => {
+                self.place = headed(line).ok_or(Cause::BadSection)?;
+                Ok(())
+            }
+            Place::Inside(_) if closes(line) => {
+                self.place = Place::Outside;
+                Ok(())
+            }
+            Place::Inside(section) => self.tables.add_row(alloc, section, line),
+            Place::After => Ok(()),
+        }
+    }
+}

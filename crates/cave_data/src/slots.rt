@@ -1,0 +1,86 @@
+//! A table with a slot for each number, in which looking up takes one step.
+ghost use Rattle.std.specs.Prelude.{◌≡◌, ◌<◌, [], None, Some, option_map, OnOk, OnErr, vec_len};
+ghost use Rattle.cave_data.specs.Slots.{slot, SameSlots, ChangesSlot};
+ghost use Rattle.cave_data.specs.Shown.{shown, shown_text};
+
+use std::alloc::{AllocError, Global};
+
+/// Values by number.
+#[derive(Drop)]
+pub struct Slots<T> {
+    pub items: Vec<Option<T>>,
+}
+
+impl<T: Drop> Slots<T> {
+    /// A table with nothing in it.
+    pub fn new(alloc: Global) -> Self
+        ensures { result.items.items ≡ [] }
+    {
+        Self {
+            items: Vec::new(alloc),
+        }
+    }
+
+    /// What stands at the number.
+    pub fn get(&self, number: u16) -> Option<&T>
+        ensures { option_map (λ x. x.now) result ≡ slot self.now.items.items number }
+    {
+        match self.items.get(number as usize) {
+            Some(slot) => slot.as_ref(),
+            None => None,
+        }
+    }
+
+    /// Makes a slot for the number.
+    fn reach(&mut self, number: u16) -> Result<(), AllocError>
+        ensures same { SameSlots self.old.items.items self.new.items.items }
+        ensures room { OnOk result (number < vec_len self.new.items) }
+    {
+        while self.items.len() <= number as usize {
+            self.items.push(None)?;
+        }
+        Ok(())
+    }
+
+    /// Takes out what stands at the number.
+    pub fn take(&mut self, number: u16) -> Option<T>
+        ensures value { result ≡ slot self.old.items.items number }
+        ensures change { ChangesSlot self.old.items.items self.new.items.items number None }
+    {
+        if number as usize >= self.items.len() {
+            return None;
+        }
+        self.items[number as usize].take()
+    }
+
+    /// Puts the value in place of what stands at the number.
+    pub fn put(&mut self, number: u16, value: T) -> Result<(), AllocError>
+        ensures ok { OnOk result (ChangesSlot self.old.items.items self.new.items.items number (Some value)) }
+        ensures err { OnErr result (SameSlots self.old.items.items self.new.items.items) }
+    {
+        self.reach(number)?;
+        self.items[number as usize] = Some(value);
+        Ok(())
+    }
+}
+
+/// A text as it is printed.
+#[tactic(auto, unfolding(crate::specs::Shown::shown))]
+pub fn printed(text: &[u8]) -> &[u8]
+    ensures { result.now ≡ shown text.now }
+{
+    if text == NOTHING { &[] } else { text }
+}
+
+/// The text that stands for printing nothing.
+const NOTHING: &[u8] = b">$<\n";
+
+/// The text at the number, as it is printed.
+pub fn text_at(texts: &Slots<Vec<u8>>, number: u16) -> Option<&[u8]>
+    ensures { option_map (λ x. x.now) result ≡ option_map shown_text (slot texts.now.items.items number) }
+{
+    match texts.get(number) {
+        Some(text) => Some(printed(text.as_slice())),
+        None => None,
+    }
+}

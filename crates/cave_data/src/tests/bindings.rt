@@ -1,0 +1,60 @@
+use super::*;
+use std::test::Fail;
+
+#[test]
+fn binds(rt: HostRuntime) -> Result<(), Fail> {
+    let cave = Cave::read(
+        rt.alloc(),
+        CAVE_B,
+        b"# the cave\n\n  msg.ok\t1 \nplace.building 9\nplace.sw 300\nmsg.no-word-3 499\nnum.letters 8\n",
+    )?;
+    assert_eq!(rt; cave.role(Role::Ok), Some(1));
+    assert_eq!(rt; cave.role(Role::NoWord3), Some(499));
+    assert_eq!(rt; cave.role(Role::NoWord), None);
+    assert_eq!(rt; cave.place(PlaceRole::Start), Some(1));
+    assert_eq!(rt; cave.place(PlaceRole::Building), Some(9));
+    assert_eq!(rt; cave.place(PlaceRole::Outside), Some(8));
+    assert_eq!(rt; cave.place(PlaceRole::Deep), Some(15));
+    assert_eq!(rt; cave.place(PlaceRole::Sw), Some(300));
+    assert_eq!(rt; cave.letters(), 8);
+    Ok(())
+}
+
+/// Bindings, why they are refused and at which line.
+const FAULTS: [(&[u8], Cause, usize); 19] = [
+    (b"msg.ok 1\nmsg.ok 2", Cause::BadBinding, 2),
+    (b"msg.okay 1", Cause::UnknownRole, 1),
+    (b"msg.okay 500", Cause::BadBinding, 1),
+    (b"msg.ok 0", Cause::BadBinding, 1),
+    (b"msg.ok", Cause::BadBinding, 1),
+    (b"msg.ok 1 2", Cause::BadBinding, 1),
+    (b"msg.ok x", Cause::BadBinding, 1),
+    (b"msg.ok 0000000001", Cause::BadBinding, 1),
+    (b"place.y2 301", Cause::BadBinding, 1),
+    (b"place.y3 300", Cause::UnknownRole, 1),
+    (b"num.letters 4", Cause::BadBinding, 1),
+    (b"num.letters 9", Cause::BadBinding, 1),
+    (b"num.letters 5\nnum.letters 5", Cause::BadBinding, 2),
+    (b"num.other 99", Cause::UnknownRole, 1),
+    (b"foo 1", Cause::UnknownRole, 1),
+    (b"foo -1", Cause::BadBinding, 1),
+    (b"foo", Cause::BadBinding, 1),
+    (b" # no comment", Cause::BadBinding, 1),
+    (b"MSG.ok 1", Cause::UnknownRole, 1),
+];
+
+#[test]
+fn refuses_other_bindings(rt: HostRuntime) {
+    for (bindings, cause, line) in &FAULTS {
+        let refused = refusal(rt.alloc(), CAVE_A, bindings);
+        assert_eq!(rt; refused, Some((*cause, *line)), "at {bindings:?}");
+    }
+}
+
+#[test]
+fn tells_the_faults_of_the_database_first(rt: HostRuntime) {
+    assert_eq!(rt;
+        refusal(rt.alloc(), b"13", b"foo"),
+        Some((Cause::BadSection, 1))
+    );
+}

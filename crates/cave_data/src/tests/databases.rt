@@ -1,0 +1,217 @@
+use super::*;
+use std::test::Fail;
+
+/// Texts of the small cave, asked for by the getter's name.
+fn texts_agree(cave: &Cave) -> bool {
+    cave.long(1) == Some(b"You stand on a road.\n".as_slice())
+        && cave.short(3) == Some(b"Hut.\n".as_slice())
+        && cave.short(9).is_none()
+        && cave.name(2) == Some(b"Lamp\n".as_slice())
+        && cave.look(2, 1) == Some(b"A lit lamp is here.\n".as_slice())
+        && cave.look(2, 2).is_none()
+}
+
+/// Numbers of the small cave.
+fn numbers_agree(cave: &Cave) -> bool {
+    cave.words().len() == 8
+        && cave.placement(2) == (3, 0)
+        && cave.cond(3) == 1
+        && cave.cond(9) == 0
+        && cave.letters() == 5
+        && cave.place(PlaceRole::Start) == Some(1)
+        && cave.place(PlaceRole::Alcove).is_none()
+        && cave.role(Role::Ok).is_none()
+}
+
+#[test]
+fn reads_the_small_cave(rt: HostRuntime) -> Result<(), Fail> {
+    let cave = Cave::read(rt.alloc(), CAVE_A, b"")?;
+    assert!(rt; texts_agree(&cave));
+    assert!(rt; numbers_agree(&cave));
+    match cave.travel(9) {
+        [way] => assert!(rt; way.target == 3 && way.motions.as_slice() == [29].as_slice()),
+        _ => panic!(rt; "one way out of the cellar"),
+    }
+    Ok(())
+}
+
+#[test]
+fn wants_the_end(rt: HostRuntime) {
+    let mut line = 1usize;
+    for (i, byte) in CAVE_A.iter().enumerate() {
+        if *byte == b'\n' && line < 37 {
+            line = line.saturating_add(1);
+            assert_eq!(rt;
+                refusal(rt.alloc(), &CAVE_A[..i + 1], b""),
+                Some((Cause::NoEnd, line))
+            );
+        }
+    }
+    assert_eq!(rt; line, 37);
+    assert_eq!(rt; refusal(rt.alloc(), b"", b""), Some((Cause::NoEnd, 1)));
+}
+
+#[test]
+fn takes_any_cut(rt: HostRuntime) {
+    for cave in [CAVE_A, CAVE_B] {
+        for i in 0..cave.len() {
+            let refused = refusal(rt.alloc(), &cave[..i], b"");
+            assert!(rt; !matches!(refused, Some((Cause::Memory | Cause::TooLarge, _))));
+        }
+    }
+}
+
+/// Another line in place of one of the small cave, and why it is refused.
+const FAULTS: [(usize, &[u8], Cause); 27] = [
+    (11, b"1 3", Cause::BadNumber),
+    (11, b"301 3 19", Cause::OutOfRange),
+    (11, b"301 3 x", Cause::BadNumber),
+    (11, b"1 3 19 1000 x", Cause::BadNumber),
+    (11, b"1 1000000 19", Cause::OutOfRange),
+    (11, b"1 301", Cause::BadNumber),
+    (11, b"1 3 0 19", Cause::BadNumber),
+    (11, b"1 -3 19", Cause::OutOfRange),
+    (11, b"1 3 1234567890", Cause::BadNumber),
+    (6, b"13", Cause::BadSection),
+    (6, b"x", Cause::BadSection),
+    (6, b"-1", Cause::BadSection),
+    (2, b"You stand on a road.", Cause::BadNumber),
+    (2, b"0 You stand on a road.", Cause::OutOfRange),
+    (17, b"19", Cause::BadNumber),
+    (17, b"1000 IN", Cause::OutOfRange),
+    (17, b"1101 IN", Cause::OutOfRange),
+    (17, b"3500 IN", Cause::OutOfRange),
+    (27, b"100 Lamp", Cause::OutOfRange),
+    (27, b"150 Lamp", Cause::OutOfRange),
+    (32, b"2 3 x", Cause::BadNumber),
+    (32, b"101 3", Cause::OutOfRange),
+    (32, b"2 301", Cause::OutOfRange),
+    (32, b"2 3 -2", Cause::OutOfRange),
+    (35, b"21 1", Cause::OutOfRange),
+    (35, b"0 301", Cause::OutOfRange),
+    (35, b"0 x", Cause::BadNumber),
+];
+
+#[test]
+fn tells_the_lowest_cause_of_a_line(rt: HostRuntime) -> Result<(), Fail> {
+    for (number, line, cause) in &FAULTS {
+        let database = edited(rt.alloc(), CAVE_A, *number, line)?;
+        let refused = refusal(rt.alloc(), database.as_slice(), b"");
+        assert_eq!(rt; refused, Some((*cause, *number)), "at {line:?}");
+    }
+    Ok(())
+}
+
+/// Another line in place of one of the small cave, which is read.
+const READABLE: [(usize, &[u8]); 14] = [
+    (11, b"1 3 19 0 and what it likes"),
+    (11, b"\t1\t3\t19\t"),
+    (11, b"  "),
+    (15, b"-01 the end of the section"),
+    (17, b"19 in"),
+    (27, b"2 Lamp\r"),
+    (32, b"2"),
+    (32, b"2 3"),
+    (32, b"2 3 -1"),
+    (32, b"2 3 9 x"),
+    (32, b"2 0 9"),
+    (35, b"0"),
+    (37, b"-0 and what it likes"),
+    (37, b"000"),
+];
+
+#[test]
+fn reads_what_may_stand(rt: HostRuntime) -> Result<(), Fail> {
+    for (number, line) in &READABLE {
+        let database = edited(rt.alloc(), CAVE_A, *number, line)?;
+        let refused = refusal(rt.alloc(), database.as_slice(), b"");
+        assert_eq!(rt; refused, None, "at {line:?}");
+    }
+    let database = edited(rt.alloc(), CAVE_A, 32, b"2")?;
+    let cave = Cave::read(rt.alloc(), database.as_slice(), b"")?;
+    assert_eq!(rt; cave.placement(2), (0, 0));
+    Ok(())
+}
+
+#[test]
+fn reads_lines_that_end_in_a_return(rt: HostRuntime) -> Result<(), Fail> {
+    let mut database = Vec::new(rt.alloc());
+    for byte in CAVE_A {
+        if *byte == b'\n' {
+            database.push(b'\r')?;
+        }
+        database.push(*byte)?;
+    }
+    let cave = Cave::read(rt.alloc(), database.as_slice(), b"")?;
+    assert!(rt; cave.short(1) == Some(b"Road.\n".as_slice()));
+    assert_eq!(rt;
+        refusal(rt.alloc(), b"0\r", b""),
+        Some((Cause::BadSection, 1))
+    );
+    Ok(())
+}
+
+#[test]
+fn the_last_run_of_a_text_stands(rt: HostRuntime) -> Result<(), Fail> {
+    let cave = Cave::read(
+        rt.alloc(),
+        b"6\n1 one\n1 two\n2 >$<\n-1\n5\n7 Key\n0 here\n100 >$<\n7 Keys\n0 there\n-1\n6\n\n2\n1 new\n3\n-1\n5\n200 bent\n-1\n6\n3  more\n4 >$<\n-1\n0\n",
+        b"",
+    )?;
+    assert!(rt; cave.message(1) == Some(b"new\n".as_slice()));
+    assert!(rt; cave.message(2) == Some(b">$<\n\n".as_slice()));
+    assert!(rt; cave.message(3) == Some(b"\n more\n".as_slice()));
+    assert!(rt; cave.message(4) == Some(b"".as_slice()));
+    assert!(rt; cave.message(5).is_none());
+    assert!(rt; cave.name(7) == Some(b"Keys\n".as_slice()));
+    assert!(rt; cave.look(7, 0) == Some(b"there\n".as_slice()));
+    assert!(rt; cave.look(7, 1) == Some(b"".as_slice()));
+    assert!(rt; cave.look(7, 2) == Some(b"bent\n".as_slice()));
+    Ok(())
+}
+
+#[test]
+fn tells_what_a_row_expects(rt: HostRuntime) -> Result<(), Fail> {
+    let database = edited(rt.alloc(), CAVE_A, 11, b"301 3 19")?;
+    let text = told(rt.alloc(), database.as_slice(), b"")?;
+    assert_eq!(rt;
+        text.as_str(),
+        "line 11 of the database: a place is from 1 to 300, a target from 0 to 999999, and a motion from 1 to 999"
+    );
+    Ok(())
+}
+
+#[test]
+fn tells_what_a_binding_expects(rt: HostRuntime) -> Result<(), Fail> {
+    let text = told(rt.alloc(), CAVE_A, b"msg.okay 1")?;
+    assert_eq!(rt;
+        text.as_str(),
+        "line 1 of the bindings: no message or place has this name: expected `msg.`, `place.` or `num.letters` with a name that the game knows"
+    );
+    Ok(())
+}
+
+#[test]
+fn tells_what_the_end_expects(rt: HostRuntime) -> Result<(), Fail> {
+    let text = told(rt.alloc(), b"1\n-1\n", b"")?;
+    assert_eq!(rt;
+        text.as_str(),
+        "line 3 of the database: the database ends here, but its last line has to be 0"
+    );
+    Ok(())
+}
+
+#[test]
+fn wants_nothing_but_memory(rt: HostRuntime) {
+    match Cave::read(rt.alloc(), CAVE_B, b"msg.ok 1\nplace.y2 3\n") {
+        Ok(cave) => assert_eq!(rt; cave.role(Role::Ok), Some(1)),
+        Err(fault) => assert_eq!(rt;
+            fault,
+            CaveError {
+                cause: Cause::Memory,
+                line: 0,
+                spot: Spot::Database
+            }
+        ),
+    }
+}
