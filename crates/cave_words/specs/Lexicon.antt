@@ -1,0 +1,27 @@
+use Rattle.std.specs.Prelude.{◌≡◌, ℕ, List, Option, option_map, option_and_then}
+use Rattle.cave_data.specs.CaveView.{CaveView}
+use Rattle.cave_words.specs.Index.{LexiconView, looked_up}
+use Rattle.cave_words.specs.Meaning.{meaning, meaning_in, first_meaning, is_word_in}
+use Rattle.cave_words.specs.Meanings.{meaning_in_class}
+use Rattle.cave_words.specs.declared.meaning.Class.{Class}
+use Rattle.cave_words.specs.declared.meaning.Class.TheVariants.{Object}
+use Rattle.cave_words.specs.declared.meaning.Meaning.{Meaning}
+
+-- what a lexicon says that a word means
+unfoldable pub found : LexiconView → List ℕ → Option Meaning
+found lexicon word = option_map (λ meanings. meanings.first) (looked_up lexicon.words word)
+
+-- what a lexicon says that a word means in a class
+unfoldable pub found_in : LexiconView → List ℕ → Class → Option Meaning
+found_in lexicon word class = option_and_then (meaning_in_class class) (looked_up lexicon.words word)
+
+-- the object that a lexicon has for a name of five letters
+unfoldable pub found_object : LexiconView → List ℕ → Option Meaning
+found_object lexicon name = option_and_then (meaning_in_class Object) (looked_up lexicon.names name)
+
+-- the lexicon says what the rows of the cave say
+pub record IsLexiconOf (cave : CaveView) (lexicon : LexiconView) : Type 0 where
+  pub letters : lexicon.letters ≡ cave.letters
+  pub finds : (word : List ℕ) → found lexicon word ≡ meaning cave word
+  pub finds_in : (word : List ℕ) (class : Class) → found_in lexicon word class ≡ meaning_in cave word class
+  pub finds_objects : (name : List ℕ) → found_object lexicon name ≡ first_meaning (is_word_in 5 name Object) cave.words

@@ -1,0 +1,11 @@
+pub mod Bytes
+pub mod Index
+pub mod Lexicon
+pub mod Line
+pub mod LogLine
+pub mod Meaning
+pub mod Meanings
+pub mod Named
+pub mod Stream
+pub mod Word
+pub mod Words

@@ -1,0 +1,59 @@
+use Rattle.std.specs.Prelude.{ℕ, Bool, false, ◌≡◌, ◌≤◌, ◌==◌, ◌&&◌, ◌++◌, ◌∷◌, nat_lt, nat_le, bytes_eq, List, [], Option, Some, None, length, take, drop, codes, if◌then◌else◌, IsTrue}
+use Rattle.std.specs.List.{list_all}
+use Rattle.cave_words.specs.Bytes.{is_blank, is_digit, in_front, behind, number_of}
+use Rattle.cave_words.specs.declared.log_line.LogLine.{LogLine}
+use Rattle.cave_words.specs.declared.log_line.LogLine.TheVariants.{Comment, Blank, Seed, Input}
+use Rattle.cave_words.specs.declared.log_line.TheConstants.{COMMENT_MARK, LARGEST_SEED, SEED_DIGITS}
+
+-- the line begins with the mark of a comment
+abbrev pub is_comment : List ℕ → Bool
+is_comment [] = false
+is_comment (byte ∷ bytes) = byte == COMMENT_MARK
+
+-- the line has blanks alone
+abbrev pub is_blank_line : List ℕ → Bool
+is_blank_line line = list_all is_blank line
+
+-- blanks, the word `seed`, one space, 1 to 10 digits that write the seed, and blanks
+pub record IsSeedLine (line : List ℕ) (seed : ℕ) : Type 0 where
+  pub before : List ℕ
+  pub digits : List ℕ
+  pub after : List ℕ
+  pub parts : line ≡ before ++ (codes "seed " ++ (digits ++ after))
+  pub blank_before : IsTrue (list_all is_blank before)
+  pub all_digits : IsTrue (list_all is_digit digits)
+  pub blank_after : IsTrue (list_all is_blank after)
+  pub some_digits : 1 ≤ length digits
+  pub few_digits : length digits ≤ SEED_DIGITS
+  pub value : number_of digits ≡ seed
+  pub in_range : seed ≤ LARGEST_SEED
+
+-- the line is of this kind
+abbrev pub IsLogLine : List ℕ → LogLine → Type 0
+IsLogLine line Comment = IsTrue (is_comment line)
+IsLogLine line Blank = IsTrue (is_blank_line line)
+IsLogLine line (Seed seed) = IsSeedLine line seed
+IsLogLine line Input = (¬ IsTrue (is_comment line)) × (¬ IsTrue (is_blank_line line)) × ((seed : ℕ) → ¬ IsSeedLine line seed)
+
+-- the seed that digits and the blanks behind them name
+unfoldable pub seed_in : List ℕ → List ℕ → Option ℕ
+seed_in digits after =
+    if nat_lt 0 (length digits) && nat_le (length digits) SEED_DIGITS && list_all is_blank after && nat_le (number_of digits) LARGEST_SEED
+    then Some (number_of digits) else None
+
+-- the seed that the line names, if it is a seed line
+unfoldable pub seed_of : List ℕ → Option ℕ
+seed_of line =
+    let rest = behind is_blank line in
+    if bytes_eq (take 5 rest) (codes "seed ") then seed_in (in_front is_digit (drop 5 rest)) (behind is_digit (drop 5 rest)) else None
+
+-- a line that is no comment and not blank names a seed or is input
+abbrev pub seed_or_input : Option ℕ → LogLine
+seed_or_input (Some seed) = Seed seed
+seed_or_input None = Input
+
+-- what the line is
+unfoldable pub log_line : List ℕ → LogLine
+log_line line =
+    if is_comment line then Comment
+    else (if is_blank_line line then Blank else seed_or_input (seed_of line))

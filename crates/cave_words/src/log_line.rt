@@ -1,0 +1,88 @@
+ghost use Rattle.std.specs.Prelude.{◌≡◌, IsTrue};
+ghost use Rattle.std.specs.List.{list_all};
+ghost use Rattle.cave_words.specs.Bytes.{is_digit};
+ghost use Rattle.cave_words.specs.LogLine.{log_line, is_comment, seed_of, seed_in, IsLogLine};
+
+use crate::bytes::{behind_blanks, is_all_blank, number_of, split_digits};
+
+/// The byte that begins a comment.
+pub const COMMENT_MARK: u8 = b'#';
+
+/// The largest seed that a seed line may name.
+pub const LARGEST_SEED: u64 = 2_147_483_647;
+
+/// The most digits of a seed.
+pub const SEED_DIGITS: usize = 10;
+
+/// What a line of a log is.
+#[derive(Clone, Copy, Debug, PartialEq, Eq)]
+pub enum LogLine {
+    /// A line that begins with `#`.
+    Comment,
+    /// A line of blanks alone, or of nothing.
+    Blank,
+    /// A line `seed N`.
+    Seed(u32),
+    /// Any other line.
+    Input,
+}
+
+impl LogLine {
+    /// Tells what a line is.
+    #[tactic(auto, using(crate::proofs::LogLines::kinds))]
+    pub fn of(line: &[u8]) -> LogLine
+        ensures value { result ≡ log_line line.now }
+        ensures kind { IsLogLine line.now result }
+        ensures only { (kind : LogLine) → IsLogLine line.now kind → kind ≡ result }
+    {
+        kind_of(line)
+    }
+}
+
+#[tactic(auto, unfolding(crate::specs::LogLine::log_line))]
+fn kind_of(line: &[u8]) -> LogLine
+    ensures { result ≡ log_line line.now }
+{
+    if is_comment(line) {
+        return LogLine::Comment;
+    }
+    if is_all_blank(line) {
+        return LogLine::Blank;
+    }
+    match seed_of(line) {
+        Some(seed) => LogLine::Seed(seed),
+        None => LogLine::Input,
+    }
+}
+
+fn is_comment(line: &[u8]) -> bool
+    ensures { result ≡ is_comment line.now }
+{
+    line.first() == Some(&COMMENT_MARK)
+}
+
+/// The seed that a line names, or `None` where it is no seed line.
+#[tactic(auto, unfolding(crate::specs::LogLine::seed_of))]
+fn seed_of(line: &[u8]) -> Option<u32>
+    ensures { result ≡ seed_of line.now }
+{
+    let rest = behind_blanks(line).strip_prefix(b"seed ")?;
+    let (digits, after) = split_digits(rest);
+    seed_in(digits, after)
+}
+
+/// The seed that digits write, where blanks alone stand behind them.
+#[tactic(auto, unfolding(crate::specs::LogLine::seed_in))]
+fn seed_in(digits: &[u8], after: &[u8]) -> Option<u32>
+    requires { IsTrue (list_all is_digit digits.now) }
+    ensures { result ≡ seed_in digits.now after.now }
+{
+    if digits.is_empty() || digits.len() > SEED_DIGITS || !is_all_blank(after) {
+        return None;
+    }
+    let number = number_of(digits);
+    if number > LARGEST_SEED {
+        return None;
+    }
+    Some(number as u32)
+}

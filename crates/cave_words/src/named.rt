@@ -1,0 +1,86 @@
+//! The objects that rules of play name by a word.
+ghost use Rattle.std.specs.Prelude.{◌≡◌};
+ghost use Rattle.cave_words.specs.Named.{name_of, is_second};
+
+/// An object that rules of play name by a word of the cave.
+#[derive(Clone, Copy, Debug, PartialEq, Eq)]
+pub enum Named {
+    Keys,
+    Lamp,
+    Grate,
+    Cage,
+    Rod,
+    Steps,
+    Bird,
+    Door,
+    Pillow,
+    Snake,
+    Fissure,
+    Tablet,
+    Clam,
+    Oyster,
+    Magazine,
+    Dwarf,
+    Knife,
+    Food,
+    Bottle,
+    Water,
+    Oil,
+    Plant,
+    Axe,
+    Mirror,
+    Dragon,
+    Chasm,
+    Troll,
+    Bear,
+    Message,
+    Vending,
+    Batteries,
+    Gold,
+    Coins,
+    Chest,
+    Eggs,
+    Trident,
+    Vase,
+    Emerald,
+    Pyramid,
+    Pearl,
+    Rug,
+    Spices,
+    Chain,
+    /// The object after the rod.
+    SecondRod,
+    /// The object after the plant.
+    SecondPlant,
+    /// The object after the troll.
+    SecondTroll,
+}
+
+/// The words that name them, in the order of `Named`.
+pub const NAMES: [&[u8]; 46] = [
+    b"KEYS", b"LAMP", b"GRATE", b"CAGE", b"ROD", b"STEPS", b"BIRD", b"DOOR", b"PILLO", b"SNAKE",
+    b"FISSU", b"TABLE", b"CLAM", b"OYSTE", b"MAGAZ", b"DWARF", b"KNIFE", b"FOOD", b"BOTTL",
+    b"WATER", b"OIL", b"PLANT", b"AXE", b"MIRRO", b"DRAGO", b"CHASM", b"TROLL", b"BEAR", b"MESSA",
+    b"VENDI", b"BATTE", b"GOLD", b"COINS", b"CHEST", b"EGGS", b"TRIDE", b"VASE", b"EMERA",
+    b"PYRAM", b"PEARL", b"RUG", b"SPICE", b"CHAIN", b"ROD", b"PLANT", b"TROLL",
+];
+
+impl Named {
+    /// The word that names it, or that names the object before a second one.
+    #[tactic(auto, unfolding(crate::specs::Named::name_of))]
+    pub fn word(self) -> &'static [u8]
+        ensures { result.now ≡ name_of self }
+    {
+        NAMES[self as usize]
+    }
+
+    /// Whether it is the object after the one that the word names.
+    pub fn is_second(self) -> bool
+        ensures { result ≡ is_second self }
+    {
+        matches!(
+            self,
+            Named::SecondRod | Named::SecondPlant | Named::SecondTroll
+        )
+    }
+}

@@ -1,0 +1,59 @@
+//! The random stream of a play.
+ghost use Rattle.std.specs.Prelude.{◌≡◌, ◌<◌, ◌≤◌};
+ghost use Rattle.cave_words.specs.Stream.{seeded, drawn, next, is_within_percent};
+
+use std::marker::Model;
+
+/// How many numbers the stream goes through.
+pub const STREAM_SIZE: u32 = 1_048_576;
+
+/// Where a random stream stands.
+#[derive(Clone, Copy, Debug, PartialEq, Eq)]
+pub struct Stream {
+    x: u32,
+}
+
+impl Model for Stream {
+    ghost use Rattle.std.specs.Prelude.{ℕ, ◌<◌};
+    ghost use Rattle.cave_words.specs.declared.stream.TheConstants.{STREAM_SIZE};
+
+    ghost Value = { ℕ };
+
+    ghost view = { λ s. s.x };
+
+    ghost invariant = { λ s. s.x < STREAM_SIZE };
+
+    ghost inverse = { λ x. record { x = x } };
+}
+
+impl Stream {
+    /// The stream that a seed begins.
+    pub fn seeded(seed: u32) -> Stream
+        ensures { result ≡ seeded seed }
+    {
+        Stream {
+            x: seed % STREAM_SIZE,
+        }
+    }
+
+    /// Draws a number below `n`, and moves on.
+    pub fn draw(&mut self, n: u32) -> u32
+        requires low { 1 ≤ n }
+        requires high { n ≤ 4095 }
+        ensures value { result ≡ drawn n self.old }
+        ensures below { result < n }
+        ensures moves_on { self.new ≡ next self.old }
+    {
+        let value = n * self.x / STREAM_SIZE;
+        self.x = (1093 * self.x + 221_587) % STREAM_SIZE;
+        value
+    }
+
+    /// Draws whether something happens that happens in `p` of 100 cases, and moves on.
+    pub fn pct(&mut self, p: u32) -> bool
+        ensures value { result ≡ is_within_percent p self.old }
+        ensures moves_on { self.new ≡ next self.old }
+    {
+        self.draw(100) < p
+    }
+}

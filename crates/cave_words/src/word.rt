@@ -1,0 +1,72 @@
+ghost use Rattle.std.specs.Prelude.{◌≡◌, ◌≤◌, IsTrue};
+ghost use Rattle.std.specs.List.{list_all};
+ghost use Rattle.cave_words.specs.Bytes.{in_front, is_nonblank};
+ghost use Rattle.cave_words.specs.Word.{cut, word_of, is_written};
+
+use crate::bytes::split_word;
+use std::marker::Model;
+
+/// The most letters of a word that count.
+pub const MOST_LETTERS: usize = 8;
+
+/// The letters by which the rules know the words that they write out.
+pub const RULE_LETTERS: usize = 5;
+
+/// A word as it is compared: in upper case, cut to the letters that count, and filled up with spaces.
+#[derive(Clone, Copy, Debug, PartialEq, Eq, Hash)]
+pub struct Word {
+    bytes: [u8; MOST_LETTERS],
+}
+
+impl Model for Word {
+    ghost use Rattle.std.specs.Prelude.{ℕ, List};
+
+    ghost Value = { List ℕ };
+
+    ghost view = { λ w. w.bytes };
+
+    ghost inverse = { λ bytes. record { bytes = bytes } };
+}
+
+impl Word {
+    /// The word that a run of nonblanks makes, of which `letters` letters count.
+    #[tactic(auto, using(crate::proofs::Padding::padding))]
+    pub fn of(bytes: &[u8], letters: u8) -> Word
+        requires { letters ≤ 8 }
+        ensures word { result ≡ word_of letters bytes.now }
+
+        // So words are equal exactly where what counts of them is.
+        ensures letters { IsTrue (list_all is_nonblank bytes.now) → in_front is_nonblank result ≡ cut letters bytes.now }
+    {
+        Word::filled(bytes, letters)
+    }
+
+    #[tactic(auto, unfolding(crate::specs::Word::word_of))]
+    fn filled(bytes: &[u8], letters: u8) -> Word
+        requires { letters ≤ 8 }
+        ensures { result ≡ word_of letters bytes.now }
+    {
+        let cut = &bytes[..bytes.len().min(usize::from(letters))];
+        let mut word = [b' '; MOST_LETTERS];
+        for (i, byte) in cut.iter().enumerate() {
+            word[i] = byte.to_ascii_uppercase();
+        }
+        Word { bytes: word }
+    }
+
+    /// The word's letters, without the spaces behind them.
+    pub fn letters(&self) -> &[u8]
+        ensures { result.now ≡ in_front is_nonblank self.now }
+    {
+        let (letters, _) = split_word(&self.bytes);
+        letters
+    }
+
+    /// Whether the first five letters are those of a word that a rule writes out.
+    #[tactic(auto, unfolding(crate::specs::Word::is_written))]
+    pub fn is(self, written: &[u8]) -> bool
+        ensures { result ≡ is_written written.now self }
+    {
+        self.bytes[..RULE_LETTERS] == Word::of(written, 5).bytes[..RULE_LETTERS]
+    }
+}

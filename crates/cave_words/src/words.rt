@@ -1,0 +1,41 @@
+ghost use Rattle.std.specs.Prelude.{◌≡◌, ◌≤◌, option_map};
+ghost use Rattle.cave_words.specs.Word.{word_of};
+ghost use Rattle.cave_words.specs.Words.{first_run, behind_first_run, words_of};
+
+use crate::bytes::{behind_blanks, split_word};
+use crate::word::Word;
+
+/// The words of a line: at most two, the rest is ignored.
+#[derive(Clone, Copy, Debug, PartialEq, Eq)]
+pub struct Words {
+    pub first: Option<Word>,
+    pub second: Option<Word>,
+}
+
+impl Words {
+    /// The words of a line, in each of which `letters` letters count.
+    #[tactic(auto, unfolding(crate::specs::Words::words_of))]
+    pub fn of(line: &[u8], letters: u8) -> Words
+        requires fewest { 5 ≤ letters }
+        requires most { letters ≤ 8 }
+        ensures { result ≡ words_of letters line.now }
+    {
+        let (first, rest) = next_word(line, letters);
+        let (second, _) = next_word(rest, letters);
+        Words { first, second }
+    }
+}
+
+/// The first word of a line, and what stands behind it.
+#[tactic(auto, unfolding(crate::specs::Words::first_run, crate::specs::Words::behind_first_run))]
+fn next_word(line: &[u8], letters: u8) -> (Option<Word>, &[u8])
+    requires { letters ≤ 8 }
+    ensures word { result.0 ≡ option_map (word_of letters) (first_run line.now) }
+    ensures rest { result.1.now ≡ behind_first_run line.now }
+{
+    let (run, rest) = split_word(behind_blanks(line));
+    if run.is_empty() {
+        return (None, rest);
+    }
+    (Some(Word::of(run, letters)), rest)
+}
