@@ -1,0 +1,47 @@
+-- A list in four parts, and what rotating its middle makes of it.
+use Rattle.std.proofs.Common.{◌≡◌, ℕ, ◌+◌, ◌-◌, ◌≤◌, List, [], ◌++◌, length, take, drop, arith, sym, refl, ◌∙◌, ap, append_assoc, length-append}
+use Rattle.std.proofs.lemmas.List.{take_at, drop_at, append-nil, length-take-le, length-drop}
+use Rattle.std.proofs.lemmas.List.Edits.{split_between, length-between}
+use Rattle.std.specs.Prelude.{slice_range}
+use Rattle.std.specs.List.{splice}
+use borrow.Rule.Slice.PartMut.{put_mid, mid_of}
+
+-- the middle two parts as `items[from..to]` shows them
+pub middle_of : {X : Type 0} (a m d : List X) (from k : ℕ) → length a ≡ from → length m ≡ k → mid_of from k (a ++ (m ++ d)) ≡ m
+middle_of a m d from k p q = ap (take k) (drop_at a (m ++ d) from p) ∙ take_at m d k q
+
+pub put_middle : {X : Type 0} (a m d ys : List X) (from k : ℕ) → length a ≡ from → length m ≡ k → put_mid from k (a ++ (m ++ d)) ys ≡ a ++ (ys ++ d)
+put_middle a m d ys from k p q =
+    let front : take from (a ++ (m ++ d)) ≡ a = take_at a (m ++ d) from p in
+    let back : drop k (drop from (a ++ (m ++ d))) ≡ d = ap (drop k) (drop_at a (m ++ d) from p) ∙ drop_at m d k q in
+    rw (front, back) refl
+
+-- after `items[from..to].rotate_left(count)`
+pub turned : {X : Type 0} (xs ys a b c d : List X) (from to count : ℕ) → xs ≡ a ++ (b ++ (c ++ d)) → length a ≡ from → length b ≡ count → from + count + length c ≡ to → ys ≡ drop count (mid_of from (to - from) xs) ++ take count (mid_of from (to - from) xs) → put_mid from (to - from) xs ys ≡ a ++ (c ++ (b ++ d))
+turned xs ys a b c d from to count whole p q r e =
+    let regroup : xs ≡ a ++ ((b ++ c) ++ d) = whole ∙ ap (λ t. a ++ t) (sym (append_assoc b c d)) in
+    let len : length (b ++ c) ≡ to - from = omega (arith, length-append b c) in
+    let mid : mid_of from (to - from) xs ≡ b ++ c = ap (mid_of from (to - from)) regroup ∙ middle_of a (b ++ c) d from (to - from) p len in
+    let parts : ys ≡ c ++ b = e ∙ ap (λ t. drop count t ++ take count t) mid ∙ ap (λ t. t ++ take count (b ++ c)) (drop_at b c count q) ∙ ap (λ t. c ++ t) (take_at b c count q) in
+    ap (λ t. put_mid from (to - from) t ys) regroup ∙ put_middle a (b ++ c) d ys from (to - from) p len ∙ ap (λ t. a ++ (t ++ d)) parts ∙ ap (λ t. a ++ t) (append_assoc c b d)
+
+-- after two turns: `d`, which stood at the end, takes the place of `b`
+pub brought : {X : Type 0} (xs ys zs a b c d : List X) (from to end : ℕ) → ((a b c d : List X) → xs ≡ a ++ (b ++ (c ++ d)) → length a ≡ from → length b ≡ to - from → from + (to - from) + length c ≡ length xs → ys ≡ a ++ (c ++ (b ++ d))) → ((a b c d : List X) → ys ≡ a ++ (b ++ (c ++ d)) → length a ≡ from → length b ≡ end - to → from + (end - to) + length c ≡ length xs - (to - from) → zs ≡ a ++ (c ++ (b ++ d))) → xs ≡ a ++ (b ++ (c ++ d)) → length a ≡ from → from + length b ≡ to → to + length c ≡ end → zs ≡ a ++ (d ++ (c ++ b))
+brought xs ys zs a b c d from to end first second whole p q r =
+    let parts : length xs ≡ length a + (length b + (length c + length d)) = ap length whole ∙ simp length-append in
+    let first_whole : xs ≡ a ++ (b ++ ((c ++ d) ++ [])) = whole ∙ ap (λ t. a ++ (b ++ t)) (sym (append-nil (c ++ d))) in
+    let after_first : ys ≡ a ++ ((c ++ d) ++ (b ++ [])) = first a b (c ++ d) [] first_whole p (omega arith) (omega (arith, length-append c d)) in
+    let second_whole : ys ≡ a ++ (c ++ (d ++ b)) = after_first ∙ ap (λ t. a ++ ((c ++ d) ++ t)) (append-nil b) ∙ ap (λ t. a ++ t) (append_assoc c d b) in
+    second a c d b second_whole p (omega arith) (omega arith)
+
+-- what `splice` and the stretch behind it come to
+pub moved_in : {X : Type 0} (xs ms ys : List X) (from to : ℕ) → from ≤ to → to ≤ length xs → ((a b c d : List X) → xs ++ ms ≡ a ++ (b ++ (c ++ d)) → length a ≡ from → from + length b ≡ to → to + length c ≡ length xs → ys ≡ a ++ (d ++ (c ++ b))) → ys ≡ splice xs from to ms ++ slice_range xs from to
+moved_in xs ms ys from to ordered within turn =
+    let whole : xs ≡ take from xs ++ (slice_range xs from to ++ drop to xs) = split_between xs from to ordered in
+    let joined : xs ++ ms ≡ take from xs ++ (slice_range xs from to ++ (drop to xs ++ ms)) = ap (λ t. t ++ ms) whole ∙ append_assoc (take from xs) (slice_range xs from to ++ drop to xs) ms ∙ ap (λ t. take from xs ++ t) (append_assoc (slice_range xs from to) (drop to xs) ms) in
+    let result : ys ≡ take from xs ++ (ms ++ (drop to xs ++ slice_range xs from to)) = turn (take from xs) (slice_range xs from to) (drop to xs) ms joined (length-take-le from xs (omega arith)) (omega (arith, length-between xs from to within)) (omega (arith, length-drop to xs)) in
+    result ∙ ap (λ t. take from xs ++ t) (sym (append_assoc ms (drop to xs) (slice_range xs from to))) ∙ sym (append_assoc (take from xs) (ms ++ drop to xs) (slice_range xs from to))
+
+-- the items of a Vec that was lent as a slice of its length
+pub lent_items : {X : Type 0} (n : ℕ) (ys zs : List X) → length ys ≡ n → take n (ys ++ zs) ≡ ys
+lent_items n ys zs e = take_at ys zs n e

@@ -1,0 +1,10 @@
+use Rattle.std.proofs.Common.{◌≤◌, length, subst, arith}
+use Rattle.cave_marks.specs.Spacing.{most_spaced}
+use Rattle.cave_marks.specs.Marks.{Spaced}
+use Rattle.cave_marks.proofs.Counts.{count_from}
+use Rattle.cave_marks.proofs.checkpoints.Checkpoints.places.Goals as goal
+
+pub returns-clause-few : goal.returns-clause-few
+returns-clause-few g c =
+    let inside = c.self.inside in
+    subst (λ (v : Spaced g.row.S.Denot). length v.places ≤ most_spaced v.every v.lines) c.self.view_is (count_from 0 inside.every inside.kept.places inside.lines inside.lines c.self.invariant.spaced (omega arith))

@@ -1,0 +1,5 @@
+pub mod Marks
+pub mod Placed
+pub mod Spacing
+pub mod Thinning
+pub mod Ticks

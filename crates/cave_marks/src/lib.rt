@@ -1,0 +1,48 @@
+//! What an edit of a log changes beside the lines: checkpoints, stretches of lists, and ticks.
+//!
+//! A log is played line by line, and the states at some of its places are kept as checkpoints. An
+//! edit plays the log again from the last checkpoint before it, and stops where the new play agrees
+//! with the old one at an old checkpoint behind the edit. This crate knows neither plays nor states:
+//! a state is any `Copy` type, and a line any type at all.
+//!
+//! - [`Checkpoints`] are spaced, always: 0 is one, none is past the end, neighbours and the last
+//!   one and the end are at most `every` apart, and two gaps that follow one another together exceed
+//!   `every`. So there are at most [`most_places`] of them.
+//! - [`Marks`] are the new checkpoints of a play that goes on: each place is offered, each at most
+//!   `every` behind the one before it, and the place offered last is kept only where the next one
+//!   lies more than `every` past the last one kept.
+//! - [`Checkpoints::meet`] and [`Checkpoints::replace_from`] take marks over. The checkpoints before
+//!   stay where they are, and those behind move with the one that was met.
+//! - [`splice`] and [`exchange`] put a stretch into a list in the place of another.
+//! - [`Ticks`] keep one truth value for each line, and how many of the first lines are true.
+//!
+//! What an edit costs here, beside one offer for each place that is played:
+//!
+//! | Step | Cost |
+//! |---|---|
+//! | `last_to`, `first_from` | a binary search |
+//! | `Checkpoints::marks` | two states copied, and room taken for those to come |
+//! | `meet`, `replace_from` | a block move of the checkpoints behind the edit; a pass over their places where the length changed |
+//! | `splice`, `exchange` | the stretch item by item where it keeps its length, else a block move of the items behind it |
+//! | `Ticks::splice` | those block moves; a pass over the counts behind where the number of ticks changed |
+//!
+//! None of these takes memory but `Checkpoints::marks`, `reserve`, and what makes or copies a list.
+#![tactic(auto)]
+
+mod checkpoints;
+mod marks;
+mod placed;
+mod search;
+mod shift;
+mod spacing;
+mod stretch;
+#[cfg(test)]
+mod tests;
+mod ticks;
+
+pub use checkpoints::Checkpoints;
+pub use marks::Marks;
+pub use search::{first_from, last_to};
+pub use spacing::most_places;
+pub use stretch::{exchange, splice};
+pub use ticks::Ticks;

@@ -1,0 +1,151 @@
+ghost use Rattle.std.specs.Prelude.{◌≡◌, ◌+◌, ◌-◌, ℕ, ◌<◌, ◌≤◌, ◌^◌, [], ◌∷◌, ◌++◌, if◌then◌else◌, length, take, slice_index, slice_get, Some, IfOk, OnOk, OnErr};
+ghost use Rattle.std.specs.List.{splice};
+ghost use Rattle.cave_marks.specs.Marks.{is_far};
+ghost use Rattle.cave_marks.specs.Thinning.{moved};
+
+use crate::shift::shift_from;
+use crate::stretch::splice;
+use std::alloc::{AllocError, Global};
+use std::marker::Model;
+
+/// Places, and the state at each of them.
+#[derive(Drop)]
+pub struct PlacedStates<S: Copy> {
+    places: Vec<u32>,
+    states: Vec<S>,
+}
+
+impl<S: Copy> Model for PlacedStates<S> {
+    ghost use Rattle.std.specs.Prelude.{◌≡◌, length, min, vec_capacity};
+    ghost use Rattle.cave_marks.specs.Placed.{Placed};
+
+    ghost Value = { Placed S };
+
+    ghost view = { λ p. record {
+      places = p.places.items;
+      states = p.states.items;
+      room = min (vec_capacity p.places) (vec_capacity p.states);
+    } };
+
+    ghost invariant = { λ p. length p.places.items ≡ length p.states.items };
+}
+
+impl<S: Copy> PlacedStates<S> {
+    /// None yet, with room for so many that no `push` into it can be refused.
+    pub fn with_room(alloc: Global, room: usize) -> Result<Self, AllocError>
+        ensures places { IfOk result (λ made. made.places ≡ []) }
+        ensures states { IfOk result (λ made. made.states ≡ []) }
+        ensures room { IfOk result (λ made. room ≤ made.room) }
+    {
+        Ok(PlacedStates {
+            places: Vec::with_capacity(alloc, room)?,
+            states: Vec::with_capacity(alloc, room)?,
+        })
+    }
+
+    pub fn len(&self) -> usize
+        ensures len { result ≡ length self.now.places }
+        ensures even { length self.now.states ≡ length self.now.places }
+        ensures few { result < 2 ^ 62 }
+    {
+        self.places.as_slice().len()
+    }
+
+    pub fn places(&self) -> &[u32]
+        ensures { result.now ≡ self.now.places }
+    {
+        self.places.as_slice()
+    }
+
+    pub fn place(&self, index: usize) -> u32
+        requires { index < length self.now.places }
+        ensures { result ≡ slice_index self.now.places index }
+    {
+        self.places[index]
+    }
+
+    pub fn state(&self, index: usize) -> S
+        requires { index < length self.now.places }
+        ensures { slice_get self.now.states index ≡ Some result }
+    {
+        self.states[index]
+    }
+
+    /// Takes room for so many more.
+    pub fn reserve(&mut self, additional: usize) -> Result<(), AllocError>
+        ensures places { self.new.places ≡ self.old.places }
+        ensures states { self.new.states ≡ self.old.states }
+        ensures room { OnOk result (length self.new.places + additional ≤ self.new.room) }
+    {
+        self.places.reserve(additional)?;
+        self.states.reserve(additional)?;
+        Ok(())
+    }
+
+    pub fn push(&mut self, place: u32, state: S)
+        requires { length self.old.places < self.old.room }
+        ensures places { self.new.places ≡ self.old.places ++ place ∷ [] }
+        ensures states { self.new.states ≡ self.old.states ++ state ∷ [] }
+        ensures room { self.new.room ≡ self.old.room }
+    {
+        self.places.push_reserved(place);
+        self.states.push_reserved(state);
+    }
+
+    /// Adds this place if `following` lies more than `every` past the last one here.
+    pub fn push_before(&mut self, place: u32, state: S, every: u32, following: u32)
+        requires some { 0 < length self.old.places }
+        requires ordered { slice_index self.old.places (length self.old.places - 1) ≤ following }
+        requires room { slice_index self.old.places (length self.old.places - 1) + every < following
+            → length self.old.places < self.old.room }
+        ensures places { self.new.places ≡ (if is_far every self.old.places following
+            then self.old.places ++ place ∷ [] else self.old.places) }
+        ensures states { self.new.states ≡ (if is_far every self.old.places following
+            then self.old.states ++ state ∷ [] else self.old.states) }
+        ensures room { self.new.room ≡ self.old.room }
+    {
+        let last = self.place(self.len() - 1);
+        if following - last > every {
+            self.push(place, state);
+        }
+    }
+
+    /// Puts `middle` in the place of those from the index `from` up to `to`.
+    pub fn splice(&mut self, from: usize, to: usize, mut middle: PlacedStates<S>)
+        requires ordered { from ≤ to }
+        requires within { to ≤ length self.old.places }
+        requires room { length self.old.places + length middle.places ≤ self.old.room }
+        ensures places { self.new.places ≡ splice self.old.places from to middle.places }
+        ensures states { self.new.states ≡ splice self.old.states from to middle.states }
+        ensures room { self.old.room ≤ self.new.room }
+    {
+        splice(&mut self.places, from, to, &mut middle.places);
+        splice(&mut self.states, from, to, &mut middle.states);
+    }
+
+    /// Moves the places from the index `from` on as `old` moves to `new`.
+    pub fn shift(&mut self, from: usize, old: u32, new: u32)
+        requires within { from ≤ length self.old.places }
+        requires behind { (i : ℕ) → from ≤ i → i < length self.old.places
+            → old ≤ slice_index self.old.places i }
+        requires fits { (i : ℕ) → from ≤ i → i < length self.old.places
+            → slice_index self.old.places i - old + new < 2 ^ 32 }
+        ensures places { self.new.places ≡ take from self.old.places
+            ++ moved self.old.places from old new }
+        ensures states { self.new.states ≡ self.old.states }
+        ensures even { length self.new.states ≡ length self.new.places }
+        ensures room { self.new.room ≡ self.old.room }
+    {
+        shift_from(&mut self.places, from, old, new);
+    }
+
+    pub fn copy(&self, alloc: Global) -> Result<Self, AllocError>
+        ensures places { IfOk result (λ copied. copied.places ≡ self.now.places) }
+        ensures states { IfOk result (λ copied. copied.states ≡ self.now.states) }
+    {
+        Ok(PlacedStates {
+            places: Vec::from_slice(alloc, self.places.as_slice())?,
+            states: Vec::from_slice(alloc, self.states.as_slice())?,
+        })
+    }
+}

@@ -1,0 +1,96 @@
+use crate::{Ticks, exchange, first_from, last_to, most_places, splice};
+use std::alloc::{AllocError, Global};
+use std::test::Fail;
+
+fn words(alloc: Global, texts: &[&str]) -> Result<Vec<String>, AllocError> {
+    let mut made = Vec::new(alloc);
+    for text in texts {
+        made.push(String::from_str(alloc, text)?)?;
+    }
+    Ok(made)
+}
+
+#[test]
+fn splices(rt: HostRuntime) -> Result<(), Fail> {
+    for (from, to, middle, want) in [
+        (1, 3, ["x"].as_slice(), "a x d"),
+        (1, 2, ["x"].as_slice(), "a x c d"),
+        (2, 2, ["x", "y"].as_slice(), "a b x y c d"),
+        (0, 4, [].as_slice(), ""),
+        (4, 4, ["x"].as_slice(), "a b c d x"),
+    ] {
+        let mut items = words(rt.alloc(), &["a", "b", "c", "d"])?;
+        let mut put = words(rt.alloc(), middle)?;
+        items.reserve(put.len())?;
+        assert!(rt; from <= to && to <= items.len());
+        splice(&mut items, from, to, &mut put);
+        assert_eq!(rt; items.join(rt.alloc(), " ")?.as_str(), want);
+        assert!(rt; put.is_empty());
+    }
+    Ok(())
+}
+
+#[test]
+fn exchanges(rt: HostRuntime) -> Result<(), Fail> {
+    for (from, to, middle, want, back) in [
+        (1, 3, ["x"].as_slice(), "a x d", "b c"),
+        (1, 2, ["x"].as_slice(), "a x c d", "b"),
+        (3, 3, ["x", "y"].as_slice(), "a b c x y d", ""),
+    ] {
+        let mut items = words(rt.alloc(), &["a", "b", "c", "d"])?;
+        let mut put = words(rt.alloc(), middle)?;
+        items.reserve(put.len())?;
+        put.reserve(items.len())?;
+        assert!(rt; from <= to && to <= items.len());
+        exchange(&mut items, from, to, &mut put);
+        assert_eq!(rt; items.join(rt.alloc(), " ")?.as_str(), want);
+        assert_eq!(rt; put.join(rt.alloc(), " ")?.as_str(), back);
+    }
+    Ok(())
+}
+
+#[test]
+fn searches(rt: HostRuntime) {
+    let places = [0, 4, 9];
+    for (place, first, last) in [
+        (0, 0, 0),
+        (3, 1, 0),
+        (4, 1, 1),
+        (5, 2, 1),
+        (9, 2, 2),
+        (10, 3, 2),
+    ] {
+        assert_eq!(rt; first_from(&places, place), first, "from {place}");
+        assert_eq!(rt; last_to(&places, place), last, "to {place}");
+    }
+}
+
+#[test]
+fn counts_places(rt: HostRuntime) {
+    assert_eq!(rt; most_places(4, 40), 18);
+    assert_eq!(rt; most_places(1, 0), 2);
+    assert_eq!(rt; most_places(u32::MAX, u32::MAX), 2);
+}
+
+#[test]
+fn ticks(rt: HostRuntime) -> Result<(), Fail> {
+    let mut ticks = Ticks::new(rt.alloc());
+    for ticked in [true, false, true, true] {
+        assert!(rt; ticks.len() < 4);
+        ticks.push(ticked)?;
+    }
+    let mut middle = Ticks::with_room(rt.alloc(), 2)?;
+    middle.push_reserved(false);
+    middle.push_reserved(true);
+    ticks.reserve(2)?;
+    assert_eq!(rt; ticks.len(), 4);
+    ticks.splice(1, 3, middle);
+    let copied = ticks.copy(rt.alloc())?;
+    for (index, ticked, before) in [(0, true, 0), (1, false, 1), (2, true, 1), (3, true, 2)] {
+        assert!(rt; index < copied.len());
+        assert_eq!(rt; copied.ticked(index), ticked, "line {index}");
+        assert_eq!(rt; copied.ticks(index), before, "before {index}");
+    }
+    assert_eq!(rt; ticks.ticks(ticks.len()), 3);
+    Ok(())
+}
