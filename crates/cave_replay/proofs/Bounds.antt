@@ -1,0 +1,96 @@
+-- How far a replay goes past the first agreement, and before the first change.
+use Rattle.std.proofs.Common.{◌≡◌, ℕ, ◌+◌, ◌-◌, ◌<◌, ◌≤◌, ◌⊎◌, inl, inr, List, length, slice_index, Contains, ◌∙◌, arith, suc, zero}
+use Rattle.std.proofs.lemmas.Bool.{cases_lt}
+use Rattle.std.proofs.lemmas.List.{get_or_default}
+use Rattle.cave_marks.specs.Spacing.{IsSpaced}
+use Rattle.cave_marks.proofs.Counts.{place_within}
+use Rattle.cave_replay.specs.Rules.{Rules}
+use Rattle.cave_replay.specs.Play.{Game}
+use Rattle.cave_replay.specs.Agreement.{IsAgreement, NoneMeetsBefore, IsBounded}
+use Rattle.cave_replay.specs.Replay.{IsShift, IsUnderway}
+use Rattle.cave_replay.proofs.Shifts.{agrees_later}
+
+-- a checkpoint that isn't before a place, and less than K past it; or else the log's end is so near
+abbrev IsNearAfter : ℕ → List ℕ → ℕ → ℕ → Type 0
+IsNearAfter K C n i = ((k : ℕ) × (k < length C) × (i ≤ slice_index C k) × (slice_index C k < i + K)) ⊎ (n < i + K)
+
+walk : (K : ℕ) (C : List ℕ) (n : ℕ) → IsSpaced K C n → (i : ℕ) → (more k : ℕ) → k + more + 1 ≡ length C → slice_index C k < i → IsNearAfter K C n i
+walk K C n spaced i zero k last before =
+    let end = spaced.end k (omega arith) in
+    inr (omega arith)
+walk K C n spaced i (suc more) k last before =
+    let close = spaced.close k (omega arith) in
+    elim (cases_lt (slice_index C (k + 1)) i) [
+      | inl still ↦ walk K C n spaced i more (k + 1) (omega arith) still
+      | inr found ↦ inl (k + 1, omega arith, found, omega arith)
+    ]
+
+pub near_after : (K : ℕ) (C : List ℕ) (n : ℕ) → IsSpaced K C n → 0 < K → (i : ℕ) → IsNearAfter K C n i
+near_after K C n spaced positive i =
+    let some = spaced.some in
+    let first = spaced.first in
+    elim (cases_lt 0 i) [
+      | inl later ↦ walk K C n spaced i (length C - 1) 0 (omega arith) (omega arith)
+      | inr start ↦ inl (0, some, omega arith, omega arith)
+    ]
+
+pub contains_at : (C : List ℕ) (k : ℕ) → k < length C → Contains C (slice_index C k)
+contains_at C k below = (k, below, get_or_default C k (slice_index C k) 0 below)
+
+-- what is before every checkpoint that agrees is at most K past the first agreement
+pub near_agreement : {S T : Type 0} (rules : Rules S T) (old new : Game) (head tail : ℕ) → IsShift old new head tail → (K : ℕ) (C : List ℕ) → IsSpaced K C (length old.log) → 0 < K
+    → (limit : ℕ) → limit ≤ length new.log → NoneMeetsBefore rules old new tail C limit
+    → (agreement : ℕ) → IsAgreement rules old new tail agreement → limit ≤ agreement + K
+near_agreement rules old new head tail shift K C spaced positive limit within none agreement agrees =
+    elim (cases_lt agreement (length new.log)) [
+      | inr past ↦ omega arith
+      | inl short ↦
+          let found = agrees.agrees short in
+          let place = found.0 in
+          let here = found.1 in
+          let late = here.late in
+          let inside = shift.within_old in
+          let inside_new = shift.within_new in
+          let is_image = found.2 in
+          elim (near_after K C (length old.log) spaced positive place) [
+            | inr far ↦ omega arith
+            | inl near ↦
+                let k = near.0 in
+                let within_log : slice_index C k ≤ length old.log = place_within 0 K C (length old.log) spaced k near.1 in
+                let later = agrees_later rules old new head tail shift place (slice_index C k) here near.2 within_log in
+                let before = none (slice_index C k) (contains_at C k near.1) later in
+                let close = near.3 in
+                omega arith
+          ]
+    ]
+
+-- the last checkpoint that isn't after a place is at most K before it
+pub near_last : (K : ℕ) (C : List ℕ) (n : ℕ) → IsSpaced K C n → (at p : ℕ) → at < length C → ((k : ℕ) → at < k → k < length C → p < slice_index C k) → p ≤ n → p ≤ slice_index C at + K
+near_last K C n spaced at p among after within =
+    elim (cases_lt (at + 1) (length C)) [
+      | inl more ↦
+          let close = spaced.close at more in
+          let behind = after (at + 1) (omega arith) more in
+          omega arith
+      | inr last ↦
+          let end = spaced.end at (omega arith) in
+          omega arith
+    ]
+
+-- steps up to a place that no agreeing checkpoint stands before are within the bound
+pub bounded_to : {S T : Type 0} (rules : Rules S T) (old new : Game) (head tail : ℕ) → IsShift old new head tail → (K : ℕ) (C : List ℕ) → IsSpaced K C (length old.log) → 0 < K
+    → (from : ℕ) → head ≤ from + K → (limit : ℕ) → limit ≤ length new.log → NoneMeetsBefore rules old new tail C limit
+    → (steps : ℕ) → steps + from ≤ limit → IsBounded rules old new head tail K steps
+bounded_to rules old new head tail shift K C spaced positive from near limit within none steps few agreement agrees =
+    let end = near_agreement rules old new head tail shift K C spaced positive limit within none agreement agrees in
+    omega arith
+
+-- underway, no checkpoint that agrees is passed
+pub underway_none : {S T : Type 0} (rules : Rules S T) (old new : Game) (tail : ℕ) (C : List ℕ) (index place : ℕ) → IsUnderway rules old new tail C index place → NoneMeetsBefore rules old new tail C place
+underway_none rules old new tail C index place underway at (k, below, read) agrees =
+    let read' : slice_index C k ≡ at = get_or_default C k 0 at below ∙ read in
+    let agrees' = rw (← read') at agrees in
+    elim (cases_lt k index) [
+      | inl before ↦ absurd (underway.passed k before below agrees')
+      | inr behind ↦ rw (← read') (underway.ahead k behind below).1
+    ]

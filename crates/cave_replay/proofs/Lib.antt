@@ -1,0 +1,16 @@
+pub mod Between
+pub mod Bounds
+pub mod Edited
+pub mod Groups
+pub mod Inverses
+pub mod Joins
+pub mod Lines
+pub mod LogLines
+pub mod Marking
+pub mod Openings
+pub mod Plays
+pub mod Prepared
+pub mod Shifts
+pub mod Spans
+pub mod Taken
+pub mod Underways

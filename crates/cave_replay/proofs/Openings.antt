@@ -1,0 +1,50 @@
+-- What a session may be opened with.
+use Rattle.std.proofs.Common.{◌≡◌, ℕ, ◌+◌, List, [], ◌∷◌, length, refl, arith, Option, Some, None, Bool, true, false, cond, All, IsTrue, eqb, ltb, ◌||◌}
+use Rattle.std.proofs.lemmas.List.Elements.{All-nil, All-cons}
+use Rattle.std.proofs.lemmas.Bool.{eqb-false, ltb-false}
+use Rattle.cave_words.specs.Line.{is_line}
+use Rattle.cave_replay.specs.declared.fault.OpenFault.{OpenFault}
+use Rattle.cave_replay.specs.declared.fault.OpenFault.TheVariants.{BadEvery, LogFull, BadSeed}
+use Rattle.cave_replay.specs.declared.fault.TheConstants.{MOST_LINES, GREATEST_SEED, MOST_EVERY}
+use Rattle.cave_replay.specs.Play.{game_of}
+use Rattle.cave_replay.specs.Opening.{first_bad_line, size_fault, or_size_fault, open_fault}
+use Rattle.cave_replay.specs.Held.{IsGame, IsEvery}
+
+free_choice : (b : Bool) (fault : OpenFault) (rest : Option OpenFault) → cond b (Some fault) rest ≡ None → (b ≡ false) × (rest ≡ None)
+free_choice true fault rest free = cc
+free_choice false fault rest free = (refl, free)
+
+neither : (a b : Bool) → (a || b) ≡ false → (a ≡ false) × (b ≡ false)
+neither true b h = cc
+neither false b h = (refl, h)
+
+line_choice : (b : Bool) (number : ℕ) (rest : Option ℕ) → cond b rest (Some number) ≡ None → (b ≡ true) × (rest ≡ None)
+line_choice true number rest free = (refl, free)
+line_choice false number rest free = cc
+
+good_lines : (log : List (List ℕ)) (number : ℕ) → first_bad_line log number ≡ None → All (λ line. IsTrue (is_line line)) log
+good_lines [] number free = let P : List ℕ → Type 0 = λ l. IsTrue (is_line l) in All-nil P
+good_lines (line ∷ lines) number free =
+    let P : List ℕ → Type 0 = λ l. IsTrue (is_line l) in
+    let both = line_choice (is_line line) number (first_bad_line lines (number + 1)) free in
+    All-cons P line lines both.0 (good_lines lines (number + 1) both.1)
+
+no_bad_line : (bad : Option ℕ) (log : List (List ℕ)) (seed : ℕ) → or_size_fault bad log seed ≡ None → (bad ≡ None) × (size_fault log seed ≡ None)
+no_bad_line None log seed free = (refl, free)
+no_bad_line (Some number) log seed free = cc
+
+-- where no fault is met, the distance and the game are good
+pub IsEvery-from_no_fault : (every : ℕ) (log : List (List ℕ)) (seed : ℕ) → open_fault every log seed ≡ None → IsEvery every
+IsEvery-from_no_fault every log seed free =
+    let first = free_choice (eqb every 0 || ltb MOST_EVERY every) BadEvery (or_size_fault (first_bad_line log 1) log seed) free in
+    let both = neither (eqb every 0) (ltb MOST_EVERY every) first.0 in
+    let some = eqb-false every 0 both.0 in
+    record { some = omega arith; few = ltb-false MOST_EVERY every both.1 }
+
+pub IsGame-from_no_fault : (every : ℕ) (log : List (List ℕ)) (seed : ℕ) → open_fault every log seed ≡ None → IsGame (game_of seed log)
+IsGame-from_no_fault every log seed free =
+    let first = free_choice (eqb every 0 || ltb MOST_EVERY every) BadEvery (or_size_fault (first_bad_line log 1) log seed) free in
+    let second = no_bad_line (first_bad_line log 1) log seed first.1 in
+    let third = free_choice (ltb MOST_LINES (length log)) LogFull _ second.1 in
+    let fourth = free_choice (ltb GREATEST_SEED seed) BadSeed None third.1 in
+    record { lines = good_lines log 1 second.0; few = ltb-false MOST_LINES (length log) third.0; seed_fits = ltb-false GREATEST_SEED seed fourth.0 }

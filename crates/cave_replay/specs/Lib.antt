@@ -1,0 +1,14 @@
+pub mod Rules
+pub mod Play
+pub mod Change
+pub mod Faults
+pub mod Opening
+pub mod Held
+pub mod Report
+pub mod Log
+pub mod Span
+pub mod Agreement
+pub mod Replay
+pub mod Changed
+pub mod Taken
+pub mod Counting

@@ -1,0 +1,22 @@
+-- What is left when a replay is taken over.
+use Rattle.std.specs.Prelude.{ℕ, ◌-◌, List, ◌++◌, take, slice_index, Option, Some, None}
+use Rattle.cave_marks.specs.Marks.{Thinned, Spaced, places_met, states_met}
+
+-- the old place up to which what was played comes in: the checkpoint that was met, or the end
+abbrev pub end_of_stretch : {S : Type 0} → Spaced S → Option ℕ → ℕ
+end_of_stretch checkpoints None = checkpoints.lines
+end_of_stretch checkpoints (Some index) = slice_index checkpoints.places index
+
+-- the checkpoints after a replay from the one of the index `at`, and their states
+abbrev pub new_places : {S : Type 0} → Spaced S → Thinned S → ℕ → Option ℕ → List ℕ
+new_places checkpoints marks at None = take (at - 1) checkpoints.places ++ marks.places
+new_places checkpoints marks at (Some index) = places_met checkpoints marks at index
+
+abbrev pub new_states : {S : Type 0} → Spaced S → Thinned S → ℕ → Option ℕ → List S
+new_states checkpoints marks at None = take (at - 1) checkpoints.states ++ marks.states
+new_states checkpoints marks at (Some index) = states_met checkpoints marks at index
+
+-- the last state: that of the marks, or the old one if the plays met
+abbrev pub new_state : {S : Type 0} → S → Thinned S → Option ℕ → S
+new_state state marks None = marks.state
+new_state state marks (Some index) = state

@@ -1,0 +1,157 @@
+ghost use Rattle.std.specs.Prelude.{◌≡◌, ◌+◌, ◌-◌, ◌^◌, ◌<◌, ◌≤◌, length, take, slice_index, vec_len, vec_capacity, MatchOption, OnOk};
+ghost use Rattle.std.specs.Option.{ForSome};
+ghost use Rattle.std.specs.List.{splice};
+ghost use Rattle.cave_marks.specs.Marks.{IsBegunAt, places_met, states_met};
+ghost use Rattle.cave_replay.specs.Log.{log_of};
+ghost use Rattle.cave_replay.specs.Changed.{edited};
+ghost use Rattle.cave_replay.specs.Taken.{end_of_stretch, new_places, new_states, new_state};
+
+use crate::change::Changed;
+use crate::edit::Edit;
+use crate::machine::Machine;
+use crate::played::Played;
+use cave_marks::{Checkpoints, Marks, Ticks, splice};
+use std::alloc::AllocError;
+
+/// What a session keeps: a game and its play, and the states at its checkpoints.
+#[derive(Drop)]
+pub(crate) struct Kept<M: Machine> {
+    pub(crate) seed: u32,
+    pub(crate) log: Vec<Vec<u8>>,
+    pub(crate) opening: M::Piece,
+    pub(crate) pieces: Vec<M::Piece>,
+    pub(crate) ticked: Ticks,
+    pub(crate) checkpoints: Checkpoints<M::State>,
+    pub(crate) state: M::State,
+}
+
+/// Takes room for what is to be taken over. What is kept stays as it is.
+pub(crate) fn make_room<M: Machine>(
+    kept: &mut Kept<M>,
+    changed: &Changed,
+    played: &Played<M>,
+) -> Result<(), AllocError>
+    ensures seed { kept.new.seed ≡ kept.old.seed }
+    ensures log { kept.new.log.items ≡ kept.old.log.items }
+    ensures opening { kept.new.opening ≡ kept.old.opening }
+    ensures pieces { kept.new.pieces.items ≡ kept.old.pieces.items }
+    ensures ticked { kept.new.ticked.ticked ≡ kept.old.ticked.ticked }
+    ensures settings { (kept.new.checkpoints.every ≡ kept.old.checkpoints.every) × (kept.new.checkpoints.lines ≡ kept.old.checkpoints.lines) }
+    ensures places { kept.new.checkpoints.places ≡ kept.old.checkpoints.places }
+    ensures states { kept.new.checkpoints.states ≡ kept.old.checkpoints.states }
+    ensures state { kept.new.state ≡ kept.old.state }
+    ensures room_log { OnOk result (vec_len kept.new.log + vec_len changed.now.middle ≤ vec_capacity kept.new.log) }
+    ensures room_pieces { OnOk result (vec_len kept.new.pieces + vec_len played.now.pieces ≤ vec_capacity kept.new.pieces) }
+    ensures room_ticked { OnOk result (length kept.new.ticked.ticked + length played.now.ticked.ticked ≤ kept.new.ticked.room) }
+    ensures room_marks { OnOk result (length kept.new.checkpoints.places + length played.now.marks.places < kept.new.checkpoints.room) }
+{
+    kept.log.reserve(changed.middle.len())?;
+    kept.pieces.reserve(played.pieces.len())?;
+    kept.ticked.reserve(played.ticked.len())?;
+    kept.checkpoints.reserve(played.marks.len() + 1)?;
+    Ok(())
+}
+
+/// The old place up to which what was played comes in: the checkpoint that was met, or the end.
+fn end_of_stretch<S: Copy>(checkpoints: &Checkpoints<S>, met: Option<usize>) -> usize
+    requires { ForSome met (λ index. index < length checkpoints.now.places) }
+    ensures place { result ≡ end_of_stretch checkpoints.now met }
+    ensures within { result ≤ checkpoints.now.lines }
+{
+    match met {
+        Some(index) => checkpoints.places()[index] as usize,
+        None => checkpoints.lines() as usize,
+    }
+}
+
+fn replace_piece<P: Drop>(piece: &mut P, new: Option<P>)
+    ensures { MatchOption new (piece.new ≡ piece.old) (λ taken. piece.new ≡ taken) }
+{
+    match new {
+        Some(new) => *piece = new,
+        None => {}
+    }
+}
+
+/// Takes over the marks of a replay from the checkpoint of the index `at`; without a meeting the last state is theirs.
+fn take_marks<S: Copy>(
+    checkpoints: &mut Checkpoints<S>,
+    state: &mut S,
+    marks: Marks<S>,
+    at: usize,
+    met: Option<usize>,
+)
+    requires begun { IsBegunAt checkpoints.old at marks }
+    requires end { MatchOption met (marks.next ≡ marks.end) (λ index. (at ≤ index) × (index < length checkpoints.old.places) × (checkpoints.old.lines - slice_index checkpoints.old.places index + marks.next ≡ marks.end)) }
+    requires room { length checkpoints.old.places + length marks.places < checkpoints.old.room }
+    ensures settings { (checkpoints.new.every ≡ checkpoints.old.every) × (checkpoints.new.lines ≡ marks.end) }
+    ensures places { checkpoints.new.places ≡ new_places checkpoints.old marks at met }
+    ensures states { checkpoints.new.states ≡ new_states checkpoints.old marks at met }
+    ensures state { state.new ≡ new_state state.old marks met }
+{
+    match met {
+        Some(index) => checkpoints.meet(marks, at, index),
+        None => {
+            *state = *marks.state();
+            checkpoints.replace_from(marks, at);
+        }
+    }
+}
+
+/// Puts the changed lines and what was played in the place of the old ones, without memory, and gives what takes
+/// the change back. The play began at the
+/// checkpoint of the index `at`.
+pub(crate) fn take_over<M: Machine>(
+    kept: &mut Kept<M>,
+    changed: Changed,
+    opening: Option<M::Piece>,
+    played: Played<M>,
+    at: usize,
+) -> Vec<Edit>
+    requires ordered { changed.head ≤ changed.behind }
+    requires within { changed.behind ≤ vec_len kept.old.log }
+    requires pieces { vec_len kept.old.pieces ≡ vec_len kept.old.log }
+    requires ticked { length kept.old.ticked.ticked ≡ vec_len kept.old.log }
+    requires few { length kept.old.ticked.ticked + length played.ticked.ticked < 2 ^ 32 }
+    requires lines { kept.old.checkpoints.lines ≡ vec_len kept.old.log }
+    requires begun { IsBegunAt kept.old.checkpoints at played.marks }
+    requires met { MatchOption played.met (played.marks.next ≡ played.marks.end) (λ index. (at ≤ index) × (index < length kept.old.checkpoints.places) × (kept.old.checkpoints.lines - slice_index kept.old.checkpoints.places index + played.marks.next ≡ played.marks.end)) }
+    requires stretch { slice_index kept.old.checkpoints.places at ≤ end_of_stretch kept.old.checkpoints played.met }
+    requires room_log { vec_len kept.old.log + vec_len changed.middle ≤ vec_capacity kept.old.log }
+    requires room_pieces { vec_len kept.old.pieces + vec_len played.pieces ≤ vec_capacity kept.old.pieces }
+    requires room_ticked { length kept.old.ticked.ticked + length played.ticked.ticked ≤ kept.old.ticked.room }
+    requires room_marks { length kept.old.checkpoints.places + length played.marks.places < kept.old.checkpoints.room }
+    ensures seed { kept.new.seed ≡ changed.seed }
+    ensures log { log_of kept.new.log.items ≡ edited changed (log_of kept.old.log.items) }
+    ensures opening { MatchOption opening (kept.new.opening ≡ kept.old.opening) (λ piece. kept.new.opening ≡ piece) }
+    ensures pieces { kept.new.pieces.items ≡ splice kept.old.pieces.items (slice_index kept.old.checkpoints.places at) (end_of_stretch kept.old.checkpoints played.met) played.pieces.items }
+    ensures ticked { kept.new.ticked.ticked ≡ splice kept.old.ticked.ticked (slice_index kept.old.checkpoints.places at) (end_of_stretch kept.old.checkpoints played.met) played.ticked.ticked }
+    ensures settings { (kept.new.checkpoints.every ≡ kept.old.checkpoints.every) × (kept.new.checkpoints.lines ≡ played.marks.end) }
+    ensures places { kept.new.checkpoints.places ≡ new_places kept.old.checkpoints played.marks at played.met }
+    ensures states { kept.new.checkpoints.states ≡ new_states kept.old.checkpoints played.marks at played.met }
+    ensures inverse { result.items ≡ changed.inverse.items }
+    ensures state { kept.new.state ≡ new_state kept.old.state played.marks played.met }
+{
+    let Changed {
+        seed,
+        head,
+        behind,
+        mut middle,
+        inverse,
+    } = changed;
+    let Played {
+        mut pieces,
+        ticked,
+        marks,
+        met,
+    } = played;
+    let from = kept.checkpoints.places()[at] as usize;
+    let to = end_of_stretch(&kept.checkpoints, met);
+    splice(&mut kept.log, head, behind, &mut middle);
+    splice(&mut kept.pieces, from, to, &mut pieces);
+    kept.ticked.splice(from, to, ticked);
+    kept.seed = seed;
+    replace_piece(&mut kept.opening, opening);
+    take_marks(&mut kept.checkpoints, &mut kept.state, marks, at, met);
+    inverse
+}

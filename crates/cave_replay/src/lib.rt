@@ -1,0 +1,26 @@
+//! Sessions over any machine: a log of lines that is played, edited and played again.
+#![tactic(auto)]
+
+mod change;
+mod copies;
+pub mod edit;
+pub mod fault;
+mod kept;
+pub mod log;
+pub mod machine;
+mod play;
+mod played;
+mod replay;
+pub mod report;
+pub mod session;
+mod span;
+#[cfg(test)]
+mod tests;
+
+pub use edit::Edit;
+pub use fault::{EditFault, GREATEST_SEED, GroupFault, MOST_EVERY, MOST_LINES, OpenFault};
+pub use log::split_line;
+pub use machine::{Machine, Started, Stepped};
+pub use report::{GroupReport, Report};
+pub use session::Session;
+pub use span::Span;

@@ -1,0 +1,78 @@
+ghost use Rattle.std.specs.Prelude.{◌≡◌, ℕ, ◌+◌, ◌^◌, ◌<◌, ◌↔◌, IfOk, IsTrue};
+ghost use Rattle.cave_words.specs.Line.{is_line};
+ghost use Rattle.cave_replay.specs.Rules.{Rules};
+
+use cave_words::Steps;
+use std::alloc::{AllocError, Global};
+
+/// What a machine begins with: its first state, and the piece that greets.
+#[derive(Drop)]
+pub struct Started<S, P> {
+    pub state: S,
+    pub piece: P,
+}
+
+/// What a machine makes of one line: the state after it, the piece that it says, and whether the line ticked.
+#[derive(Drop)]
+pub struct Stepped<S, P> {
+    pub state: S,
+    pub piece: P,
+    pub ticked: bool,
+}
+
+/// What plays a log line by line. Its answers are functions of the seed, of the state and of the line.
+pub trait Machine: Drop {
+    type State: Copy + Eq;
+
+    type Piece: Drop;
+
+    type Meter: Steps;
+
+    /// What a state means, and what a piece says.
+    ghost Meaning: { Type 0 };
+
+    ghost Text: { Type 0 };
+
+    ghost meaning: { Self.State → Meaning };
+
+    ghost text: { Self.Piece → Text };
+
+    ghost rules: { Self → Rules Meaning Text };
+
+    /// Holds of the states that the machine makes.
+    ghost is_state: { Self.State → Type 0 } = { λ _. Unit {0} };
+
+    /// The state at the start, and the greeting.
+    fn start(
+        &self,
+        alloc: Global,
+        seed: u32,
+    ) -> Result<Started<Self::State, Self::Piece>, AllocError>
+        ensures made { IfOk result (λ made. is_state made.state) }
+        ensures state { IfOk result (λ made. meaning made.state ≡ (rules self.now).begun seed) }
+        ensures piece { IfOk result (λ made. text made.piece ≡ (rules self.now).greeting seed) };
+
+    /// One line played. The meter counts it, also where memory is refused.
+    fn step(
+        &self,
+        alloc: Global,
+        state: &Self::State,
+        line: &[u8],
+        meter: &mut Self::Meter,
+    ) -> Result<Stepped<Self::State, Self::Piece>, AllocError>
+        requires known { is_state state.now }
+        requires line { IsTrue (is_line line.now) }
+        requires room { Self.Meter.count meter.old + 1 < 2 ^ 64 }
+        ensures counted { Self.Meter.count meter.new ≡ Self.Meter.count meter.old + 1 }
+        ensures made { IfOk result (λ made. is_state made.state) }
+        ensures state { IfOk result (λ made. meaning made.state ≡ (rules self.now).after (meaning state.now) line.now) }
+        ensures piece { IfOk result (λ made. text made.piece ≡ (rules self.now).said (meaning state.now) line.now) }
+        ensures ticked { IfOk result (λ made. made.ticked ≡ (rules self.now).ticked (meaning state.now) line.now) };
+
+    /// A piece that says the same.
+    fn copy_piece(&self, alloc: Global, piece: &Self::Piece) -> Result<Self::Piece, AllocError>
+        ensures { IfOk result (λ copy. text copy ≡ text piece.now) };
+
+    /// States are equal exactly when their meanings are.
+    ghost exact: { (a b : Self.State) → is_state a → is_state b → IsTrue (Self.State.eq a b) ↔ (meaning a ≡ meaning b) };
+}

@@ -1,0 +1,163 @@
+ghost use Rattle.std.specs.Prelude.{◌≡◌, ℕ, ◌+◌, ◌-◌, ◌^◌, ◌<◌, ◌≤◌, ◌∷◌, [], ◌++◌, ◌↔◌, length, map, take, slice_index, IfOk, OnOk, OnErr, IsTrue, MatchOption, None, Some, All};
+ghost use Rattle.std.specs.List.Sorted.{IsStrictlyIncreasing};
+ghost use Rattle.cave_marks.specs.Marks.{IsBegunAt};
+ghost use Rattle.cave_words.specs.Line.{is_line};
+ghost use Rattle.cave_replay.specs.Log.{log_of};
+ghost use Rattle.cave_replay.specs.Play.{game_of};
+ghost use Rattle.cave_replay.specs.Changed.{edited, new_game};
+ghost use Rattle.cave_replay.specs.Held.{IsGame};
+ghost use Rattle.cave_replay.specs.Agreement.{state_at, image, AgreesAt, NoneMeetsBefore, IsMeet, IsBounded};
+ghost use Rattle.cave_replay.specs.Replay.{IsShift, texts_at, ticks_at, AreStates, IsMarking, StandsAndAgrees, Passes};
+ghost use Rattle.cave_replay.specs.declared.fault.TheConstants.{MOST_LINES};
+
+use crate::change::Changed;
+use crate::machine::Machine;
+use cave_marks::{Checkpoints, Marks, Ticks, first_from};
+use std::alloc::{AllocError, Global};
+
+/// Lines that were played from a checkpoint on: what was said, which ticked, and the places passed.
+///
+/// `met` is the index of the old checkpoint at which the play met the old one.
+#[derive(Drop)]
+pub(crate) struct Played<M: Machine> {
+    pub(crate) pieces: Vec<M::Piece>,
+    pub(crate) ticked: Ticks,
+    pub(crate) marks: Marks<M::State>,
+    pub(crate) met: Option<usize>,
+}
+
+/// Plays one line more.
+pub(crate) fn play_line<M: Machine>(
+    alloc: Global,
+    machine: &M,
+    line: &[u8],
+    played: &mut Played<M>,
+    meter: &mut M::Meter,
+) -> Result<(), AllocError>
+    requires made { M.is_state played.old.marks.state }
+    requires line { IsTrue (is_line line.now) }
+    requires room { M.Meter.count meter.old + 1 < 2 ^ 64 }
+    requires inside { played.old.marks.next < played.old.marks.end }
+    requires few { played.old.marks.end ≤ MOST_LINES }
+    requires apart { 0 < played.old.marks.every }
+    requires short { length played.old.ticked.ticked ≤ played.old.marks.next }
+    ensures counted { M.Meter.count meter.new ≡ M.Meter.count meter.old + 1 }
+    ensures pieces { OnOk result (map M.text played.new.pieces.items ≡ map M.text played.old.pieces.items ++ (M.rules machine.now).said (M.meaning played.old.marks.state) line.now ∷ []) }
+    ensures ticked { OnOk result (played.new.ticked.ticked ≡ played.old.ticked.ticked ++ (M.rules machine.now).ticked (M.meaning played.old.marks.state) line.now ∷ []) }
+    ensures next { OnOk result (played.new.marks.next ≡ played.old.marks.next + 1) }
+    ensures marking { OnOk result ((at : ℕ → M.Meaning) → IsMarking M.meaning M.is_state at played.old.marks → at (played.old.marks.next + 1) ≡ (M.rules machine.now).after (M.meaning played.old.marks.state) line.now → IsMarking M.meaning M.is_state at played.new.marks) }
+    ensures settings { OnOk result ((played.new.marks.every ≡ played.old.marks.every) × (played.new.marks.end ≡ played.old.marks.end) × (played.new.marks.from ≡ played.old.marks.from)) }
+    ensures start { OnOk result (slice_index played.new.marks.places 0 ≡ slice_index played.old.marks.places 0) }
+    ensures met { OnOk result (played.new.met ≡ played.old.met) }
+{
+    let stepped = machine.step(alloc, played.marks.state(), line, meter)?;
+    played.pieces.push(stepped.piece)?;
+    played.ticked.push(stepped.ticked)?;
+    let place = played.marks.next() + 1;
+    played.marks.offer(place, stepped.state);
+    Ok(())
+}
+
+/// Whether the old checkpoint of this index stands at the new place, where the old place `old` stands at `new`.
+fn stands_at(places: &[u32], index: usize, old: usize, new: usize, place: usize) -> bool
+    requires behind { index < length places.now → old ≤ slice_index places.now index }
+    requires few { new ≤ MOST_LINES }
+    ensures { IsTrue result ↔ ((index < length places.now) × (slice_index places.now index - old + new ≡ place)) }
+{
+    index < places.len() && places[index] as usize - old + new == place
+}
+
+/// Whether the state at the old checkpoint of this index is the one at the open place of the marks.
+fn agrees<M: Machine>(
+    checkpoints: &Checkpoints<M::State>,
+    index: usize,
+    marks: &Marks<M::State>,
+) -> bool
+    requires { index < length checkpoints.now.places }
+    ensures { (old new : ℕ → M.Meaning) → AreStates M.meaning M.is_state old checkpoints.now.places checkpoints.now.states → IsMarking M.meaning M.is_state new marks.now → (IsTrue result ↔ (new marks.now.next ≡ old (slice_index checkpoints.now.places index))) }
+{
+    checkpoints.state(index) == *marks.state()
+}
+
+/// The index of the checkpoint to look at once the open place of the marks is passed, where `index` is the first that
+/// isn't before that place; none where the plays agree there. The old place `old` stands at `new`.
+fn pass<M: Machine>(
+    checkpoints: &Checkpoints<M::State>,
+    index: usize,
+    old: usize,
+    new: usize,
+    marks: &Marks<M::State>,
+) -> Option<usize>
+    requires behind { index < length checkpoints.now.places → old ≤ slice_index checkpoints.now.places index }
+    requires few { new ≤ MOST_LINES }
+    ensures { (was is : ℕ → M.Meaning) → AreStates M.meaning M.is_state was checkpoints.now.places checkpoints.now.states → IsMarking M.meaning M.is_state is marks.now → MatchOption result (StandsAndAgrees was is checkpoints.now.places index old new marks.now.next) (Passes was is checkpoints.now.places index old new marks.now.next) }
+{
+    let place = marks.next() as usize;
+    if !stands_at(checkpoints.places(), index, old, new, place) {
+        return Some(index);
+    }
+    if agrees::<M>(checkpoints, index, marks) {
+        return None;
+    }
+    Some(index + 1)
+}
+
+/// Plays a changed game from the open place of the marks on, until the play meets the old one at a checkpoint, or
+/// to the end.
+pub(crate) fn play_changed<M: Machine>(
+    alloc: Global,
+    machine: &M,
+    seed: u32,
+    log: &[Vec<u8>],
+    changed: &Changed,
+    checkpoints: &Checkpoints<M::State>,
+    marks: Marks<M::State>,
+    meter: &mut M::Meter,
+) -> Result<Played<M>, AllocError>
+    requires ordered { changed.now.head ≤ changed.now.behind }
+    requires within { changed.now.behind ≤ length log.now }
+    requires few { length log.now ≤ MOST_LINES }
+    requires shift { IsShift (game_of seed (log_of log.now)) (new_game changed.now (log_of log.now)) changed.now.head (length log.now - changed.now.behind) }
+    requires game { IsGame (new_game changed.now (log_of log.now)) }
+    requires old_lines { checkpoints.now.lines ≡ length log.now }
+    requires old_states { AreStates M.meaning M.is_state (state_at (M.rules machine.now) (game_of seed (log_of log.now))) checkpoints.now.places checkpoints.now.states }
+    requires marking { IsMarking M.meaning M.is_state (state_at (M.rules machine.now) (new_game changed.now (log_of log.now))) marks }
+    requires end { marks.end ≡ length (edited changed.now (log_of log.now)) }
+    requires every { marks.every ≡ checkpoints.now.every }
+    requires apart { 0 < marks.every }
+    requires from { marks.next ≤ changed.now.head }
+    requires near { changed.now.head ≤ marks.next + marks.every }
+    requires room { M.Meter.count meter.old + length (edited changed.now (log_of log.now)) < 2 ^ 64 }
+    ensures texts { IfOk result (λ played. texts_at (M.rules machine.now) (new_game changed.now (log_of log.now)) marks.next ++ map M.text played.pieces.items ≡ texts_at (M.rules machine.now) (new_game changed.now (log_of log.now)) played.marks.next) }
+    ensures ticks { IfOk result (λ played. ticks_at (M.rules machine.now) (new_game changed.now (log_of log.now)) marks.next ++ played.ticked.ticked ≡ ticks_at (M.rules machine.now) (new_game changed.now (log_of log.now)) played.marks.next) }
+    ensures marking { IfOk result (λ played. IsMarking M.meaning M.is_state (state_at (M.rules machine.now) (new_game changed.now (log_of log.now))) played.marks) }
+    ensures settings { IfOk result (λ played. (played.marks.every ≡ marks.every) × (played.marks.end ≡ marks.end) × (played.marks.from ≡ marks.from) × (slice_index played.marks.places 0 ≡ slice_index marks.places 0)) }
+    ensures forward { IfOk result (λ played. (marks.next ≤ played.marks.next) × (played.marks.next ≤ marks.end)) }
+    ensures met { IfOk result (λ played. MatchOption played.met ((played.marks.next ≡ marks.end) × IsMeet (M.rules machine.now) (game_of seed (log_of log.now)) (new_game changed.now (log_of log.now)) (length log.now - changed.now.behind) checkpoints.now.places None) (λ index. (index < length checkpoints.now.places) × AgreesAt (M.rules machine.now) (game_of seed (log_of log.now)) (new_game changed.now (log_of log.now)) (length log.now - changed.now.behind) (slice_index checkpoints.now.places index) × (played.marks.next ≡ image (game_of seed (log_of log.now)) (new_game changed.now (log_of log.now)) (slice_index checkpoints.now.places index)))) }
+    ensures none { IfOk result (λ played. NoneMeetsBefore (M.rules machine.now) (game_of seed (log_of log.now)) (new_game changed.now (log_of log.now)) (length log.now - changed.now.behind) checkpoints.now.places played.marks.next) }
+    ensures steps { IfOk result (λ played. M.Meter.count meter.new + marks.next ≡ M.Meter.count meter.old + played.marks.next) }
+    ensures counted { M.Meter.count meter.old ≤ M.Meter.count meter.new }
+    ensures bounded { IsBounded (M.rules machine.now) (game_of seed (log_of log.now)) (new_game changed.now (log_of log.now)) changed.now.head (length log.now - changed.now.behind) marks.every (M.Meter.count meter.new - M.Meter.count meter.old) }
+{
+    let end = changed.lines(log);
+    let new = changed.head + changed.middle.len();
+    let mut index = first_from(checkpoints.places(), changed.behind as u32);
+    let mut played = Played {
+        pieces: Vec::new(alloc),
+        ticked: Ticks::new(alloc),
+        marks,
+        met: None,
+    };
+    'lines: loop {
+        let Some(further) = pass::<M>(checkpoints, index, changed.behind, new, &played.marks) else {
+            played.met = Some(index);
+            return Ok(played);
+        };
+        index = further;
+        let place = played.marks.next() as usize;
+        if place == end {
+            return Ok(played);
+        }
+        play_line(alloc, machine, changed.line(log, place), &mut played, meter)?;
+    }
+}

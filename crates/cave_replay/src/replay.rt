@@ -1,0 +1,232 @@
+ghost use Rattle.std.specs.Prelude.{◌≡◌, ◌≢◌, ℕ, ◌+◌, ◌-◌, ◌^◌, ◌<◌, ◌≤◌, length, map, take, slice_index, IfOk, IfErr, OnOk, OnErr, MatchOption, None, Option};
+ghost use Rattle.std.specs.Option.{option_map};
+ghost use Rattle.cave_marks.specs.Marks.{IsBegunAt};
+ghost use Rattle.cave_replay.specs.Log.{log_of};
+ghost use Rattle.cave_replay.specs.Play.{game_of};
+ghost use Rattle.cave_replay.specs.Change.{changes_of, apply_all, inverses_of};
+ghost use Rattle.cave_replay.specs.Changed.{edited, new_game};
+ghost use Rattle.cave_replay.specs.Faults.{fault_of_all, group_fault};
+ghost use Rattle.cave_replay.specs.Span.{span_of};
+ghost use Rattle.cave_replay.specs.Held.{IsGame, IsKept};
+ghost use Rattle.cave_replay.specs.Agreement.{IsBounded, IsLastTo, IsMeet};
+ghost use Rattle.cave_replay.specs.Replay.{AreStates, IsMarking, IsShift, IsReplayed};
+ghost use Rattle.cave_replay.specs.Report.{IsWithin, IsReport, AreStepsBounded};
+
+use crate::change::{Changed, change, plan_group};
+use crate::edit::Edit;
+use crate::fault::{EditFault, GroupFault};
+use crate::kept::{Kept, make_room, take_over};
+use crate::machine::Machine;
+use crate::played::{Played, play_changed};
+use crate::report::GroupReport;
+use cave_marks::{Checkpoints, Marks, last_to};
+use cave_words::Steps;
+use std::alloc::{AllocError, Global};
+
+/// Where a replay begins: what the machine says if the game starts anew, and the marks at the first place.
+#[derive(Drop)]
+pub(crate) struct Beginning<M: Machine> {
+    pub(crate) opening: Option<M::Piece>,
+    pub(crate) marks: Marks<M::State>,
+}
+
+/// Begins the replay of a game of `end` lines at the checkpoint of the index `at`, or with another seed at the start.
+pub(crate) fn begin<M: Machine>(
+    alloc: Global,
+    machine: &M,
+    old_seed: u32,
+    seed: u32,
+    checkpoints: &Checkpoints<M::State>,
+    at: usize,
+    end: u32,
+) -> Result<Beginning<M>, AllocError>
+    requires among { at < length checkpoints.now.places }
+    requires first { slice_index checkpoints.now.places 0 ≡ 0 }
+    requires within { slice_index checkpoints.now.places at ≤ end }
+    requires fresh { seed ≢ old_seed → at ≡ 0 }
+    ensures begun { IfOk result (λ beginning. IsBegunAt checkpoints.now at beginning.marks) }
+    ensures end { IfOk result (λ beginning. beginning.marks.end ≡ end) }
+    ensures every { IfOk result (λ beginning. beginning.marks.every ≡ checkpoints.now.every) }
+    ensures next { IfOk result (λ beginning. beginning.marks.next ≡ slice_index checkpoints.now.places at) }
+    ensures marking { IfOk result (λ beginning. (state : ℕ → M.Meaning) → state 0 ≡ (M.rules machine.now).begun seed → (seed ≡ old_seed → AreStates M.meaning M.is_state state (take (at + 1) checkpoints.now.places) (take (at + 1) checkpoints.now.states)) → IsMarking M.meaning M.is_state state beginning.marks) }
+    ensures opening { IfOk result (λ beginning. MatchOption beginning.opening (seed ≡ old_seed) (λ piece. M.text piece ≡ (M.rules machine.now).greeting seed)) }
+{
+    if seed == old_seed {
+        let marks = checkpoints.marks(alloc, at, end)?;
+        return Ok(Beginning {
+            opening: None,
+            marks,
+        });
+    }
+    let started = machine.start(alloc, seed)?;
+    let marks = Marks::open(alloc, checkpoints.every(), end, started.state)?;
+    Ok(Beginning {
+        opening: Some(started.piece),
+        marks,
+    })
+}
+
+/// What a group of edits makes of a game, or why it is refused. The meter has `left` steps left.
+fn prepare(
+    alloc: Global,
+    seed: u32,
+    log: &[Vec<u8>],
+    edits: &[Edit],
+    left: u64,
+) -> Result<Changed, GroupFault>
+    requires few { length edits.now < 2 ^ 32 }
+    requires game { IsGame (game_of seed (log_of log.now)) }
+    ensures accepted { OnOk result (fault_of_all (changes_of edits.now) (log_of log.now) 0 ≡ None) }
+    ensures none { OnOk result (group_fault (changes_of edits.now) (log_of log.now) left ≡ None) }
+    ensures game { IfOk result (λ changed. new_game changed (log_of log.now) ≡ apply_all (changes_of edits.now) (game_of seed (log_of log.now))) }
+    ensures inverse { IfOk result (λ changed. changes_of changed.inverse.items ≡ inverses_of (changes_of edits.now) (game_of seed (log_of log.now))) }
+    ensures ordered { IfOk result (λ changed. changed.head ≤ changed.behind) }
+    ensures head { IfOk result (λ changed. changed.head ≡ (span_of (changes_of edits.now) (log_of log.now)).head) }
+    ensures tail { IfOk result (λ changed. changed.behind + (span_of (changes_of edits.now) (log_of log.now)).tail ≡ length log.now) }
+    ensures shift { IfOk result (λ changed. IsShift (game_of seed (log_of log.now)) (new_game changed (log_of log.now)) changed.head (length log.now - changed.behind)) }
+    ensures good { IfOk result (λ changed. IsGame (new_game changed (log_of log.now))) }
+    ensures room { IfOk result (λ changed. length (edited changed (log_of log.now)) ≤ left) }
+    ensures faults { MatchOption (group_fault (changes_of edits.now) (log_of log.now) left) (IfErr result (λ fault. fault ≡ record { cause = EditFault.Memory; at = 0 })) (λ fault. result ≡ Err fault) }
+{
+    let plan = match plan_group(edits, log.len(), left) {
+        Ok(plan) => plan,
+        Err(fault) => return Err(fault),
+    };
+    let Ok(changed) = change(alloc, edits, log, seed, plan.span) else {
+        return Err(GroupFault::MEMORY);
+    };
+    Ok(changed)
+}
+
+/// A changed game, replayed from the checkpoint of the index `at` on.
+#[derive(Drop)]
+pub(crate) struct Replayed<M: Machine> {
+    pub(crate) changed: Changed,
+    pub(crate) opening: Option<M::Piece>,
+    pub(crate) played: Played<M>,
+    pub(crate) at: usize,
+}
+
+/// Replays what is kept with the edits made in it, beside what is kept.
+fn replay<M: Machine>(
+    alloc: Global,
+    machine: &M,
+    kept: &Kept<M>,
+    edits: &[Edit],
+    meter: &mut M::Meter,
+) -> Result<Replayed<M>, GroupFault>
+    requires few { length edits.now < 2 ^ 32 }
+    requires kept { IsKept M.meaning M.is_state (M.rules machine.now) (game_of kept.now.seed (log_of kept.now.log.items)) (M.text kept.now.opening) (map M.text kept.now.pieces.items) kept.now.ticked.ticked kept.now.state kept.now.checkpoints }
+    ensures accepted { OnOk result (fault_of_all (changes_of edits.now) (log_of kept.now.log.items) 0 ≡ None) }
+    ensures game { IfOk result (λ replayed. new_game replayed.changed (log_of kept.now.log.items) ≡ apply_all (changes_of edits.now) (game_of kept.now.seed (log_of kept.now.log.items))) }
+    ensures inverse { IfOk result (λ replayed. changes_of replayed.changed.inverse.items ≡ inverses_of (changes_of edits.now) (game_of kept.now.seed (log_of kept.now.log.items))) }
+    ensures ordered { IfOk result (λ replayed. replayed.changed.head ≤ replayed.changed.behind) }
+    ensures head { IfOk result (λ replayed. replayed.changed.head ≡ (span_of (changes_of edits.now) (log_of kept.now.log.items)).head) }
+    ensures tail { IfOk result (λ replayed. replayed.changed.behind + (span_of (changes_of edits.now) (log_of kept.now.log.items)).tail ≡ length kept.now.log.items) }
+    ensures replayed { IfOk result (λ replayed. IsReplayed M.meaning M.is_state (M.rules machine.now) (game_of kept.now.seed (log_of kept.now.log.items)) (new_game replayed.changed (log_of kept.now.log.items)) (span_of (changes_of edits.now) (log_of kept.now.log.items)).head (span_of (changes_of edits.now) (log_of kept.now.log.items)).tail kept.now.checkpoints replayed.at (option_map M.text replayed.opening) (map M.text replayed.played.pieces.items) replayed.played.ticked.ticked replayed.played.marks replayed.played.met) }
+    ensures faults { MatchOption (group_fault (changes_of edits.now) (log_of kept.now.log.items) (2 ^ 64 - 1 - M.Meter.count meter.old)) (IfErr result (λ fault. fault ≡ record { cause = EditFault.Memory; at = 0 })) (λ fault. result ≡ Err fault) }
+    ensures steps { IfOk result (λ replayed. M.Meter.count meter.new + slice_index kept.now.checkpoints.places replayed.at ≡ M.Meter.count meter.old + replayed.played.marks.next) }
+    ensures bounded { AreStepsBounded (M.rules machine.now) (changes_of edits.now) (game_of kept.now.seed (log_of kept.now.log.items)) kept.now.checkpoints.every (group_fault (changes_of edits.now) (log_of kept.now.log.items) (2 ^ 64 - 1 - M.Meter.count meter.old)) (M.Meter.count meter.old) (M.Meter.count meter.new) }
+{
+    let left = meter.left();
+    let changed = match prepare(alloc, kept.seed, &kept.log, edits, left) {
+        Ok(changed) => changed,
+        Err(fault) => return Err(fault),
+    };
+    let at = last_to(kept.checkpoints.places(), changed.head as u32);
+    let end = changed.lines(&kept.log) as u32;
+    let Ok(beginning) = begin(
+        alloc,
+        machine,
+        kept.seed,
+        changed.seed,
+        &kept.checkpoints,
+        at,
+        end,
+    ) else {
+        return Err(GroupFault::MEMORY);
+    };
+    let Beginning { opening, marks } = beginning;
+    let Ok(played) = play_changed(
+        alloc,
+        machine,
+        kept.seed,
+        &kept.log,
+        &changed,
+        &kept.checkpoints,
+        marks,
+        meter,
+    ) else {
+        return Err(GroupFault::MEMORY);
+    };
+    Ok(Replayed {
+        changed,
+        opening,
+        played,
+        at,
+    })
+}
+
+/// The place at which the plays met, if they did.
+fn met_place(met: Option<usize>, place: u32) -> Option<u32>
+    ensures { result ≡ option_map (λ _. place) met }
+{
+    match met {
+        Some(_) => Some(place),
+        None => None,
+    }
+}
+
+/// Makes the edits in what is kept, and replays it once. All of them are made, or none.
+pub(crate) fn edit_kept<M: Machine>(
+    alloc: Global,
+    machine: &M,
+    kept: &mut Kept<M>,
+    edits: &[Edit],
+    meter: &mut M::Meter,
+) -> Result<GroupReport, GroupFault>
+    requires few { length edits.now < 2 ^ 32 }
+    requires kept { IsKept M.meaning M.is_state (M.rules machine.now) (game_of kept.old.seed (log_of kept.old.log.items)) (M.text kept.old.opening) (map M.text kept.old.pieces.items) kept.old.ticked.ticked kept.old.state kept.old.checkpoints }
+    ensures kept { IsKept M.meaning M.is_state (M.rules machine.now) (game_of kept.new.seed (log_of kept.new.log.items)) (M.text kept.new.opening) (map M.text kept.new.pieces.items) kept.new.ticked.ticked kept.new.state kept.new.checkpoints }
+    ensures game { OnOk result (game_of kept.new.seed (log_of kept.new.log.items) ≡ apply_all (changes_of edits.now) (game_of kept.old.seed (log_of kept.old.log.items))) }
+    ensures every { kept.new.checkpoints.every ≡ kept.old.checkpoints.every }
+    ensures inverse { IfOk result (λ report. changes_of report.inverse.items ≡ inverses_of (changes_of edits.now) (game_of kept.old.seed (log_of kept.old.log.items))) }
+    ensures back { IfOk result (λ report. apply_all (changes_of report.inverse.items) (game_of kept.new.seed (log_of kept.new.log.items)) ≡ game_of kept.old.seed (log_of kept.old.log.items)) }
+    ensures back_accepted { IfOk result (λ report. fault_of_all (changes_of report.inverse.items) (log_of kept.new.log.items) 0 ≡ None) }
+
+    ensures same_game { OnErr result (game_of kept.new.seed (log_of kept.new.log.items) ≡ game_of kept.old.seed (log_of kept.old.log.items)) }
+    ensures same_opening { OnErr result (kept.new.opening ≡ kept.old.opening) }
+    ensures same_pieces { OnErr result (kept.new.pieces.items ≡ kept.old.pieces.items) }
+    ensures same_ticks { OnErr result (kept.new.ticked.ticked ≡ kept.old.ticked.ticked) }
+    ensures same_state { OnErr result (kept.new.state ≡ kept.old.state) }
+    ensures same_places { OnErr result (kept.new.checkpoints.places ≡ kept.old.checkpoints.places) }
+
+    ensures faults { MatchOption (group_fault (changes_of edits.now) (log_of kept.old.log.items) (2 ^ 64 - 1 - M.Meter.count meter.old)) (IfErr result (λ fault. fault ≡ record { cause = EditFault.Memory; at = 0 })) (λ fault. result ≡ Err fault) }
+    ensures report { IfOk result (λ report. IsReport (M.rules machine.now) (changes_of edits.now) (game_of kept.old.seed (log_of kept.old.log.items)) kept.old.checkpoints.every kept.old.checkpoints.places report.from report.met report.played) }
+    ensures steps { IfOk result (λ report. M.Meter.count meter.new ≡ M.Meter.count meter.old + report.played) }
+    ensures bounded { AreStepsBounded (M.rules machine.now) (changes_of edits.now) (game_of kept.old.seed (log_of kept.old.log.items)) kept.old.checkpoints.every (group_fault (changes_of edits.now) (log_of kept.old.log.items) (2 ^ 64 - 1 - M.Meter.count meter.old)) (M.Meter.count meter.old) (M.Meter.count meter.new) }
+{
+    let replayed = match replay(alloc, machine, kept, edits, meter) {
+        Ok(replayed) => replayed,
+        Err(fault) => return Err(fault),
+    };
+    let Replayed {
+        changed,
+        opening,
+        played,
+        at,
+    } = replayed;
+    if make_room(kept, &changed, &played).is_err() {
+        return Err(GroupFault::MEMORY);
+    }
+    let from = kept.checkpoints.places()[at];
+    let end = played.marks.next();
+    let met = met_place(played.met, end);
+    let inverse = take_over(kept, changed, opening, played, at);
+    Ok(GroupReport {
+        from,
+        met,
+        played: end - from,
+        inverse,
+    })
+}

@@ -1,0 +1,244 @@
+ghost use Rattle.std.specs.Prelude.{◌≡◌, ℕ, ◌+◌, ◌-◌, ◌^◌, ◌<◌, ◌≤◌, ◌↔◌, ◌∷◌, [], List, Bool, true, length, map, take, slice_get, count_by, IsTrue, IfOk, IfErr, OnOk, OnErr, MatchOption, Option, None, Some};
+ghost use Rattle.std.specs.Str.Lines.{lines};
+ghost use Rattle.cave_marks.specs.Spacing.{IsSpaced, most_spaced};
+ghost use Rattle.cave_words.specs.Line.{is_line};
+ghost use Rattle.cave_replay.specs.Log.{log_of};
+ghost use Rattle.cave_replay.specs.Play.{Game, game_of, IsPlay};
+ghost use Rattle.cave_replay.specs.Change.{change_of, changes_of, log_after, apply, apply_all, inverse_of, inverses_of, line_at};
+ghost use Rattle.cave_replay.specs.Faults.{fault_of, fault_of_all, log_after_all, edit_fault, group_fault};
+ghost use Rattle.cave_replay.specs.Opening.{open_fault};
+ghost use Rattle.cave_replay.specs.Held.{IsGame, HoldsPlay};
+ghost use Rattle.cave_replay.specs.Report.{IsWithin, IsReport, AreStepsBounded};
+ghost use Rattle.cave_replay.specs.declared.fault.TheConstants.{MOST_LINES};
+
+use crate::copies::copy_kept;
+use crate::edit::Edit;
+use crate::fault::{EditFault, GroupFault, OpenFault};
+use crate::kept::Kept;
+use crate::log::{check_game, copy_lines};
+use crate::machine::Machine;
+use crate::play::play_game;
+use crate::replay::edit_kept;
+use crate::report::{GroupReport, Report};
+use cave_words::Steps;
+use std::alloc::{AllocError, Global};
+use std::marker::Model;
+use std::slice;
+
+/// A game that is held together with its play.
+///
+/// The states at its checkpoints and the last state are kept, and what was said at each line.
+#[derive(Drop)]
+pub struct Session<M: Machine> {
+    alloc: Global,
+    machine: M,
+    kept: Kept<M>,
+}
+
+impl<M: Machine> Model for Session<M> {
+    ghost use Rattle.std.specs.Prelude.{ℕ, map};
+    ghost use Rattle.cave_replay.specs.Log.{log_of};
+    ghost use Rattle.cave_replay.specs.Play.{game_of};
+    ghost use Rattle.cave_replay.specs.Held.{Held, IsKept};
+
+    ghost Value = { Held M M.Piece M.State };
+
+    ghost view = { λ s. record { machine = s.machine; game = game_of s.kept.seed (log_of s.kept.log.items); every = s.kept.checkpoints.every; opening = s.kept.opening; pieces = s.kept.pieces.items; ticks = s.kept.ticked.ticked; state = s.kept.state; checkpoints = s.kept.checkpoints.places } };
+
+    ghost invariant = { λ s. IsKept M.meaning M.is_state (M.rules s.machine) (game_of s.kept.seed (log_of s.kept.log.items)) (M.text s.kept.opening) (map M.text s.kept.pieces.items) s.kept.ticked.ticked s.kept.state s.kept.checkpoints };
+}
+
+impl<M: Machine> Session<M> {
+    /// The seed of the held game.
+    pub fn seed(&self) -> u32
+        ensures { result ≡ self.now.game.seed }
+    {
+        self.kept.seed
+    }
+
+    /// How far apart checkpoints may be.
+    pub fn every(&self) -> u32
+        ensures { result ≡ self.now.every }
+    {
+        self.kept.checkpoints.every()
+    }
+
+    /// How many lines the held log has.
+    pub fn lines(&self) -> u32
+        ensures lines { result ≡ length self.now.game.log }
+        ensures game { IsGame self.now.game }
+    {
+        self.kept.log.len() as u32
+    }
+
+    /// The line of the held log at a place.
+    pub fn line(&self, place: u32) -> &[u8]
+        requires { place < length self.now.game.log }
+        ensures line { result.now ≡ line_at self.now.game.log place }
+        ensures may_stand { IsTrue (is_line result.now) }
+    {
+        &self.kept.log[place as usize]
+    }
+
+    /// The places of which the states are kept.
+    pub fn checkpoints(&self) -> &[u32]
+        ensures checkpoints { result.now ≡ self.now.checkpoints }
+        ensures spaced { IsSpaced self.now.every self.now.checkpoints (length self.now.game.log) }
+        ensures few { length self.now.checkpoints ≤ most_spaced self.now.every (length self.now.game.log) }
+    {
+        self.kept.checkpoints.places()
+    }
+
+    /// What the machine said at the start.
+    pub fn opening(&self) -> &M::Piece
+        ensures opening { result.now ≡ self.now.opening }
+        ensures plays { HoldsPlay M.rules M.text M.meaning self.now }
+    {
+        &self.kept.opening
+    }
+
+    /// What the machine said at each line.
+    pub fn pieces(&self) -> &[M::Piece]
+        ensures pieces { result.now ≡ self.now.pieces }
+        ensures each { length result.now ≡ length self.now.game.log }
+    {
+        &self.kept.pieces
+    }
+
+    /// The state after the last line. All that is held is the play of the held game.
+    pub fn state(&self) -> &M::State
+        ensures state { result.now ≡ self.now.state }
+        ensures made { M.is_state result.now }
+        ensures plays { HoldsPlay M.rules M.text M.meaning self.now }
+    {
+        &self.kept.state
+    }
+
+    /// Whether the line at a place ticked.
+    pub fn ticked(&self, place: u32) -> bool
+        requires { place < length self.now.game.log }
+        ensures { slice_get self.now.ticks place ≡ Some result }
+    {
+        self.kept.ticked.ticked(place as usize)
+    }
+
+    /// How many of the lines before a place ticked.
+    pub fn ticks(&self, place: u32) -> u32
+        requires { place ≤ length self.now.game.log }
+        ensures { result ≡ count_by (λ ticks. ticks) (take place self.now.ticks) }
+    {
+        self.kept.ticked.ticks(place as usize)
+    }
+
+    /// Plays a log from its first line to its last and holds the play.
+    pub fn open(
+        alloc: Global,
+        machine: M,
+        seed: u32,
+        log: &[u8],
+        every: u32,
+        meter: &mut M::Meter,
+    ) -> Result<Session<M>, OpenFault>
+        requires { M.Meter.count meter.old + MOST_LINES < 2 ^ 64 }
+
+        ensures game { IfOk result (λ session. session.game ≡ game_of seed (lines log.now)) }
+        ensures kept { IfOk result (λ session. (session.machine ≡ machine) × (session.every ≡ every)) }
+        ensures plays { IfOk result (HoldsPlay M.rules M.text M.meaning) }
+
+        ensures faults { MatchOption (open_fault every (lines log.now) seed) (IfErr result (λ fault. fault ≡ OpenFault.Memory)) (λ fault. result ≡ Err fault) }
+
+        // The meter counts each line that is played: all of them, or those before memory was refused.
+        ensures steps { IfOk result (λ session. M.Meter.count meter.new ≡ M.Meter.count meter.old + length session.game.log) }
+        ensures steps_refused { MatchOption (open_fault every (lines log.now) seed) (IsWithin (M.Meter.count meter.old) (M.Meter.count meter.new) (length (lines log.now))) (λ _. M.Meter.count meter.new ≡ M.Meter.count meter.old) }
+    {
+        let count = check_game(every, log, seed)?;
+        let Ok(lines) = copy_lines(alloc, log, count) else {
+            return Err(OpenFault::Memory);
+        };
+        let Ok(kept) = play_game(alloc, &machine, seed, lines, every, meter) else {
+            return Err(OpenFault::Memory);
+        };
+        Ok(Session {
+            alloc,
+            machine,
+            kept,
+        })
+    }
+
+    /// Edits the held game by each of the edits in turn, and plays it once. All of them are made, or none.
+    pub fn edit_group(
+        &mut self,
+        edits: &[Edit],
+        meter: &mut M::Meter,
+    ) -> Result<GroupReport, GroupFault>
+        requires { length edits.now < 2 ^ 32 }
+
+        ensures game { OnOk result (self.new.game ≡ apply_all (changes_of edits.now) self.old.game) }
+        ensures kept { OnOk result ((self.new.machine ≡ self.old.machine) × (self.new.every ≡ self.old.every)) }
+        ensures plays { OnOk result (HoldsPlay M.rules M.text M.meaning self.new) }
+
+        ensures inverse { IfOk result (λ report. changes_of report.inverse.items ≡ inverses_of (changes_of edits.now) self.old.game) }
+        ensures back { IfOk result (λ report. apply_all (changes_of report.inverse.items) self.new.game ≡ self.old.game) }
+        ensures back_accepted { IfOk result (λ report. fault_of_all (changes_of report.inverse.items) self.new.game.log 0 ≡ None) }
+
+        ensures refused { OnErr result (self.new ≡ self.old) }
+        ensures faults { MatchOption (group_fault (changes_of edits.now) self.old.game.log (2 ^ 64 - 1 - M.Meter.count meter.old)) (IfErr result (λ fault. fault ≡ record { cause = EditFault.Memory; at = 0 })) (λ fault. result ≡ Err fault) }
+
+        ensures report { IfOk result (λ report. IsReport (M.rules self.old.machine) (changes_of edits.now) self.old.game self.old.every self.old.checkpoints report.from report.met report.played) }
+        ensures steps { IfOk result (λ report. M.Meter.count meter.new ≡ M.Meter.count meter.old + report.played) }
+        ensures bounded { AreStepsBounded (M.rules self.old.machine) (changes_of edits.now) self.old.game self.old.every (group_fault (changes_of edits.now) self.old.game.log (2 ^ 64 - 1 - M.Meter.count meter.old)) (M.Meter.count meter.old) (M.Meter.count meter.new) }
+    {
+        edit_kept(self.alloc, &self.machine, &mut self.kept, edits, meter)
+    }
+
+    /// Edits the held game, and plays it. It is the group of this edit alone.
+    pub fn edit(&mut self, edit: &Edit, meter: &mut M::Meter) -> Result<Report, EditFault>
+        ensures game { OnOk result (self.new.game ≡ apply (change_of edit.now) self.old.game) }
+        ensures kept { OnOk result ((self.new.machine ≡ self.old.machine) × (self.new.every ≡ self.old.every)) }
+        ensures plays { OnOk result (HoldsPlay M.rules M.text M.meaning self.new) }
+
+        ensures inverse { IfOk result (λ report. change_of report.inverse ≡ inverse_of (change_of edit.now) self.old.game) }
+        ensures back { IfOk result (λ report. apply (change_of report.inverse) self.new.game ≡ self.old.game) }
+        ensures back_accepted { IfOk result (λ report. fault_of (change_of report.inverse) self.new.game.log ≡ None) }
+
+        ensures refused { OnErr result (self.new ≡ self.old) }
+        ensures faults { MatchOption (edit_fault (change_of edit.now) self.old.game.log (2 ^ 64 - 1 - M.Meter.count meter.old)) (IfErr result (λ fault. fault ≡ EditFault.Memory)) (λ fault. result ≡ Err fault) }
+
+        ensures report { IfOk result (λ report. IsReport (M.rules self.old.machine) (change_of edit.now ∷ []) self.old.game self.old.every self.old.checkpoints report.from report.met report.played) }
+        ensures steps { IfOk result (λ report. M.Meter.count meter.new ≡ M.Meter.count meter.old + report.played) }
+        ensures bounded { AreStepsBounded (M.rules self.old.machine) (change_of edit.now ∷ []) self.old.game self.old.every (edit_fault (change_of edit.now) self.old.game.log (2 ^ 64 - 1 - M.Meter.count meter.old)) (M.Meter.count meter.old) (M.Meter.count meter.new) }
+    {
+        match self.edit_group(slice::from_ref(edit), meter) {
+            Ok(mut report) => match report.inverse.pop() {
+                Some(inverse) => Ok(Report {
+                    from: report.from,
+                    met: report.met,
+                    played: report.played,
+                    inverse,
+                }),
+                None => unreachable!(),
+            },
+            Err(fault) => Err(fault.cause),
+        }
+    }
+
+    /// A session that shows the same, over a machine that answers as this one's.
+    pub fn copy(&self, machine: M) -> Result<Session<M>, AllocError>
+        requires { M.rules machine ≡ M.rules self.now.machine }
+        ensures machine { IfOk result (λ copy. copy.machine ≡ machine) }
+        ensures game { IfOk result (λ copy. (copy.game ≡ self.now.game) × (copy.every ≡ self.now.every)) }
+        ensures opening { IfOk result (λ copy. M.text copy.opening ≡ M.text self.now.opening) }
+        ensures pieces { IfOk result (λ copy. map M.text copy.pieces ≡ map M.text self.now.pieces) }
+        ensures ticks { IfOk result (λ copy. copy.ticks ≡ self.now.ticks) }
+        ensures state { IfOk result (λ copy. copy.state ≡ self.now.state) }
+        ensures checkpoints { IfOk result (λ copy. copy.checkpoints ≡ self.now.checkpoints) }
+        ensures plays { IfOk result (HoldsPlay M.rules M.text M.meaning) }
+    {
+        let kept = copy_kept(self.alloc, &machine, &self.kept)?;
+        Ok(Session {
+            alloc: self.alloc,
+            machine,
+            kept,
+        })
+    }
+}
