@@ -1,0 +1,4 @@
+pub mod Moves
+pub mod Exact
+pub mod Places
+pub mod Laid

@@ -1,0 +1,171 @@
+-- What the moves of halves make of the lists.
+use Rattle.std.proofs.Common.{◌≡◌, ℕ, suc, ◌+◌, ◌-◌, ◌<◌, ◌≤◌, ◌||◌, Bool, true, false, cond, not, List, [], ◌∷◌, ◌++◌, length, map, take, drop, replicate, nat_lt, eqb, refl, sym, ap, ◌∙◌, arith}
+use Rattle.std.specs.List.{prefix_len, IsDistinct, AllByRecursion, list_any}
+use Rattle.std.proofs.lemmas.List.{append_assoc, take_at, drop-replicate, length-map}
+use Rattle.std.proofs.lemmas.Bool.Decides.{nat_tests}
+use Rattle.std.proofs.lemmas.Bool.{false≢true}
+use Rattle.std.proofs.lemmas.Map.Keys.{IsDistinct-cons}
+use Rattle.std.proofs.lemmas.Map.Steps.{length-le_from_distinct_below}
+use Rattle.cave_world.specs.declared.lists.Entry.{Entry}
+use Rattle.cave_world.specs.Halves.{half_number}
+use Rattle.cave_world.specs.Lists.{filled, no_entry, without, put_first, Lacks, StartsAt, AreLists}
+
+pub filled_is : (es : List Entry) (d : Entry) → d ≡ no_entry → es ++ drop (length es) (replicate 200 d) ≡ filled es
+unfolding filled
+filled_is es d e = ap (λ (l : List Entry). es ++ l) (drop-replicate (length es) 200 d ∙ ap (λ (x : Entry). replicate (200 - length es) x) e)
+
+pub take-filled : (es : List Entry) → take (length es) (filled es) ≡ es
+unfolding filled
+take-filled es = take_at es (replicate (200 - length es) no_entry) (length es) refl
+
+-- where one more entry goes
+goes_behind : (b : Bool) (n : ℕ) (first e : Entry) (es put : List Entry) → put ≡ take n es ++ first ∷ drop n es
+    → cond b (e ∷ put) (first ∷ e ∷ es) ≡ take (cond b (1 + n) 0) (e ∷ es) ++ first ∷ drop (cond b (1 + n) 0) (e ∷ es)
+goes_behind true n first e es put h =
+    let more : 1 + n ≡ suc n = omega arith in rw more (ap (λ (l : List Entry). e ∷ l) h)
+goes_behind false n first e es put h = refl
+
+-- the entries of earlier places stand before it
+pub put_first_is : (first : Entry) (es : List Entry) → put_first first es ≡ take (prefix_len (λ e. nat_lt e.place first.place) es) es ++ first ∷ drop (prefix_len (λ e. nat_lt e.place first.place) es) es
+unfolding put_first
+put_first_is first [] = refl
+put_first_is first (e ∷ es) =
+    goes_behind (nat_lt e.place first.place) (prefix_len (λ e'. nat_lt e'.place first.place) es) first e es (put_first first es) (put_first_is first es)
+
+-- what holds of both choices holds of the chosen one
+either : (P : List Entry → Type 0) (b : Bool) (x y : List Entry) → (b ≡ true → P x) → (b ≡ false → P y) → P (cond b x y)
+either P true x y f g = f refl
+either P false x y f g = g refl
+
+Lacks-without : (n m : ℕ) (es : List Entry) → Lacks m es → Lacks m (without n es)
+unfolding without
+Lacks-without n m [] h = tt
+Lacks-without n m (e ∷ es) h =
+    let rest = Lacks-without n m es h.1 in
+    either (λ l. Lacks m l) (not (eqb (half_number e.half) n)) (e ∷ without n es) (without n es) (λ _. (h.0, rest)) (λ _. rest)
+
+differs : (a b : ℕ) → not (eqb a b) ≡ true → a ≡ b → ⊥
+differs a b h e = grind (arith, nat_tests)
+
+pub Lacks-taken : (n : ℕ) (es : List Entry) → Lacks n (without n es)
+unfolding without
+Lacks-taken n [] = tt
+Lacks-taken n (e ∷ es) =
+    let rest = Lacks-taken n es in
+    either (λ l. Lacks n l) (not (eqb (half_number e.half) n)) (e ∷ without n es) (without n es) (λ t. (differs (half_number e.half) n t, rest)) (λ _. rest)
+
+StartsAt-without : (n p : ℕ) (es : List Entry) → StartsAt p es → StartsAt p (without n es)
+unfolding without
+StartsAt-without n p [] h = tt
+StartsAt-without n p (e ∷ es) h =
+    let rest = StartsAt-without n p es h.1 in
+    either (λ l. StartsAt p l) (not (eqb (half_number e.half) n)) (e ∷ without n es) (without n es) (λ _. (h.0, rest)) (λ _. rest)
+
+pub AreLists-without : (n : ℕ) (es : List Entry) → AreLists es → AreLists (without n es)
+unfolding without
+AreLists-without n [] h = tt
+AreLists-without n (e ∷ es) h =
+    let rest = AreLists-without n es h.1.1.1.1 in
+    either AreLists (not (eqb (half_number e.half) n)) (e ∷ without n es) (without n es)
+    (λ _. (h.0, (h.1.0, (Lacks-without n (half_number e.half) es h.1.1.0, (StartsAt-without n e.place es h.1.1.1.0, rest))))) (λ _. rest)
+
+StartsAt-earlier : (p q : ℕ) (es : List Entry) → p ≤ q → StartsAt q es → StartsAt p es
+StartsAt-earlier p q [] h s = tt
+StartsAt-earlier p q (e ∷ es) h s = (omega (arith, s.0), StartsAt-earlier p q es h s.1)
+
+Lacks-put_first : (m : ℕ) (first : Entry) (es : List Entry) → (half_number first.half ≡ m → ⊥) → Lacks m es → Lacks m (put_first first es)
+unfolding put_first
+Lacks-put_first m first [] h l = (h, tt)
+Lacks-put_first m first (e ∷ es) h l =
+    either (λ x. Lacks m x) (nat_lt e.place first.place) (e ∷ put_first first es) (first ∷ e ∷ es) (λ _. (l.0, Lacks-put_first m first es h l.1)) (λ _. (h, l))
+
+StartsAt-put_first : (p : ℕ) (first : Entry) (es : List Entry) → p ≤ first.place → StartsAt p es → StartsAt p (put_first first es)
+unfolding put_first
+StartsAt-put_first p first [] h s = (h, tt)
+StartsAt-put_first p first (e ∷ es) h s =
+    either (λ x. StartsAt p x) (nat_lt e.place first.place) (e ∷ put_first first es) (first ∷ e ∷ es) (λ _. (s.0, StartsAt-put_first p first es h s.1)) (λ _. (h, s))
+
+below : (a b : ℕ) → nat_lt a b ≡ true → a ≤ b
+below a b h = grind (arith, nat_tests)
+
+above : (a b : ℕ) → nat_lt a b ≡ false → b ≤ a
+above a b h = grind (arith, nat_tests)
+
+apart : (a b : ℕ) → (a ≡ b → ⊥) → b ≡ a → ⊥
+apart a b h e = h (sym e)
+
+pub AreLists-put_first : (first : Entry) (es : List Entry) → 0 < half_number first.half → half_number first.half ≤ 200 → Lacks (half_number first.half) es → AreLists es → AreLists (put_first first es)
+unfolding put_first
+AreLists-put_first first [] low high l h = (low, (high, (tt, (tt, tt))))
+AreLists-put_first first (e ∷ es) low high l h =
+    either AreLists (nat_lt e.place first.place) (e ∷ put_first first es) (first ∷ e ∷ es)
+    (λ t. (h.0, (h.1.0, (Lacks-put_first (half_number e.half) first es (apart (half_number e.half) (half_number first.half) l.0) h.1.1.0, (StartsAt-put_first e.place first es (below e.place first.place t) h.1.1.1.0, AreLists-put_first first es low high l.1 h.1.1.1.1)))))
+    (λ t. let first_before : first.place ≤ e.place = above e.place first.place t in
+    (low, (high, (l, ((first_before, StartsAt-earlier first.place e.place es first_before h.1.1.1.0), h)))))
+
+long : (b : Bool) (n : ℕ) (x y : List Entry) → length x ≡ n → length y ≡ n → length (cond b x y) ≡ n
+long true n x y h k = h
+long false n x y h k = k
+
+pub length-put_first : (first : Entry) (es : List Entry) → length (put_first first es) ≡ length es + 1
+unfolding put_first
+length-put_first first [] = refl
+length-put_first first (e ∷ es) =
+    let rest = length-put_first first es in
+    long (nat_lt e.place first.place) (length (e ∷ es) + 1) (e ∷ put_first first es) (first ∷ e ∷ es) (omega (arith, rest)) (omega arith)
+
+abbrev numbers : List Entry → List ℕ
+numbers es = map (λ (e : Entry). half_number e.half) es
+
+apart_from_Lacks : (n : ℕ) (es : List Entry) → Lacks n es → AllByRecursion (λ y. eqb n y ≡ false) (numbers es)
+apart_from_Lacks n [] h = tt
+apart_from_Lacks n (e ∷ es) h = (unequal n (half_number e.half) h.0, apart_from_Lacks n es h.1)
+  where
+    unequal : (a b : ℕ) → (b ≡ a → ⊥) → eqb a b ≡ false
+    unequal a b h = grind (arith, nat_tests)
+
+distinct : (es : List Entry) → AreLists es → IsDistinct eqb (numbers es)
+unfolding IsDistinct
+distinct [] h = tt
+distinct (e ∷ es) h = (apart_from_Lacks (half_number e.half) es h.1.1.0, distinct es h.1.1.1.1)
+
+Lacks-none : (es : List Entry) → AreLists es → Lacks 0 es
+Lacks-none [] h = tt
+Lacks-none (e ∷ es) h = (λ z. absurd (omega (arith, h.0, z)), Lacks-none es h.1.1.1.1)
+
+one_of : (a q : ℕ) (b rest : Bool) → eqb q a ≡ b → a < 201 → (rest ≡ true → q < 201) → (b || rest) ≡ true → q < 201
+one_of a q true rest is bound later t = grind (arith, nat_tests)
+one_of a q false rest is bound later t = later t
+
+in_range : (es : List Entry) → AreLists es → (q : ℕ) → list_any (eqb q) (numbers es) ≡ true → q < 201
+in_range [] h q t = absurd (false≢true t)
+in_range (e ∷ es) h q t =
+    one_of (half_number e.half) q (eqb q (half_number e.half)) (list_any (eqb q) (numbers es)) refl (omega (arith, h.1.0)) (in_range es h.1.1.1.1 q) t
+
+-- each half stands once, so there is room for all of them
+pub length-AreLists : (es : List Entry) → AreLists es → length es ≤ 200
+length-AreLists es h =
+    let all = IsDistinct-cons eqb 0 (numbers es) (apart_from_Lacks 0 es (Lacks-none es h)) (distinct es h) in
+    let count = length-le_from_distinct_below (0 ∷ numbers es) 201 all
+    (λ q t. one_of 0 q (eqb q 0) (list_any (eqb q) (numbers es)) refl (omega arith) (in_range es h q) t) in
+    let same = length-map es (λ (e : Entry). half_number e.half) in
+    omega (arith, count, same)
+
+-- the same, as it is put together
+pub put_first_built : (first : Entry) (es front put : List Entry) (n : ℕ) → n ≡ prefix_len (λ e. nat_lt e.place first.place) es → front ≡ take n es → put ≡ front ++ first ∷ [] → put ++ drop n es ≡ put_first first es
+put_first_built first es front put n h f p =
+    ap (λ (l : List Entry). l ++ drop n es) (p ∙ ap (λ (l : List Entry). l ++ first ∷ []) f) ∙ append_assoc (take n es) (first ∷ []) (drop n es)
+    ∙ ap (λ (k : ℕ). take k es ++ first ∷ drop k es) h ∙ sym (put_first_is first es)
+
+pub ruleset length_AreLists = (length-AreLists)
+
+pub AreLists-moved : (first : Entry) (es : List Entry) → 0 < half_number first.half → half_number first.half ≤ 200 → AreLists es → AreLists (put_first first (without (half_number first.half) es))
+AreLists-moved first es low high h =
+    let n = half_number first.half in
+    AreLists-put_first first (without n es) low high (Lacks-taken n es) (AreLists-without n es h)
+
+-- a half that was taken out finds room
+pub length-without : (first : Entry) (es : List Entry) → 0 < half_number first.half → half_number first.half ≤ 200 → AreLists es → length (without (half_number first.half) es) < 200
+length-without first es low high h =
+    let rest = without (half_number first.half) es in
+    omega (arith, length-put_first first rest, length-AreLists (put_first first rest) (AreLists-moved first es low high h))

@@ -1,0 +1,13 @@
+use Rattle.std.proofs.Common.{◌<◌, arith}
+use Rattle.std.proofs.lemmas.Bool.Decides.{nat_tests}
+use Rattle.cave_world.specs.Layout.{Layout}
+use Rattle.cave_world.proofs.Laid.{IsLaid-brought}
+use Rattle.cave_world.proofs.objects.Objects.bring.Goals as goal
+
+pub invariant_of-self : goal.invariant_of-self
+invariant_of-self c =
+    let i = c.self.inside in
+    let l : Layout = record { first = i.first; second = i.second; props = i.props; lists = i.lists } in
+    let low : 0 < c.args.object = grind (arith, nat_tests) in
+    rw (c.from.ensures, c.number.ensures.value)
+    (IsLaid-brought l c.args.object c.args.spot c.relist.new.self c.self.invariant low (rw c.number.ensures.value at c.number.ensures.within) (rw c.place-place.ensures at c.relist.ensures.lists))

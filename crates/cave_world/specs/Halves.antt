@@ -1,0 +1,18 @@
+-- The halves of objects.
+use Rattle.std.specs.Prelude.{ℕ, ◌+◌}
+use Rattle.cave_world.specs.declared.object.Half.{Half}
+use Rattle.cave_world.specs.declared.object.Half.TheVariants.{First, Second}
+
+-- the object that a half belongs to
+abbrev pub object_of : Half → ℕ
+object_of (First x) = x
+object_of (Second x) = x
+
+-- first halves have the numbers of their objects, second ones stand behind them
+abbrev pub half_number : Half → ℕ
+half_number (First x) = x
+half_number (Second x) = 100 + x
+
+-- half of no object
+abbrev pub no_half : Half
+no_half = First 0

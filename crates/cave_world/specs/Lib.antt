@@ -1,0 +1,11 @@
+pub mod Halves
+pub mod Lists
+pub mod ListLemmas
+pub mod Spots
+pub mod Layout
+pub mod Objects
+pub mod Sight
+pub mod Travel
+pub mod Fresh
+pub mod State
+pub mod Parts

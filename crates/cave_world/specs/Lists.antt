@@ -1,0 +1,61 @@
+-- For each place the list of the halves that stand there, latest first.
+use Rattle.std.specs.Prelude.{◌≡◌, ℕ, ◌-◌, ◌<◌, ◌≤◌, ◌==◌, not, nat_lt, if◌then◌else◌, List, [], ◌∷◌, ◌++◌, length, map, filter, replicate, Option, Some, None}
+use Rattle.cave_world.specs.declared.object.Half.{Half}
+use Rattle.cave_world.specs.declared.lists.Entry.{Entry}
+use Rattle.cave_world.specs.Halves.{half_number, no_half}
+
+-- the entries are in the order of their places, and those of one place are its list
+abbrev pub halves_at : ℕ → List Entry → List Half
+halves_at place entries = map (λ e. e.half) (filter (λ e. e.place == place) entries)
+
+-- the lists without the half of a number
+unfoldable pub without : ℕ → List Entry → List Entry
+without number entries = filter (λ e. not (half_number e.half == number)) entries
+
+-- an entry put at the front of the list of its place
+unfoldable pub put_first : Entry → List Entry → List Entry
+put_first first [] = first ∷ []
+put_first first (e ∷ es) = if nat_lt e.place first.place then e ∷ put_first first es else first ∷ e ∷ es
+
+-- a half at the front of the list of the place, or in no list
+unfoldable pub relisted : Half → Option ℕ → List Entry → List Entry
+relisted half None lists = without (half_number half) lists
+relisted half (Some place) lists = put_first (record { place = place; half = half }) (without (half_number half) lists)
+
+-- the halves of a list but that of a number
+unfoldable pub others : ℕ → List Half → List Half
+others number halves = filter (λ h. not (half_number h == number)) halves
+
+-- the list of a place once a half was put at the front of the list of another, or in no list
+unfoldable pub listed_at : ℕ → Half → Option ℕ → List Half → List Half
+listed_at q half None halves = others (half_number half) halves
+listed_at q half (Some place) halves =
+    let rest = others (half_number half) halves in if place == q then half ∷ rest else rest
+
+-- from the old lists to the new ones a half went to the front of the list of a place, or to no list,
+-- and nothing else changed
+abbrev pub AreRelisted : List Entry → List Entry → Half → Option ℕ → Type 0
+AreRelisted old new half place = (q : ℕ) → halves_at q new ≡ listed_at q half place (halves_at q old)
+
+-- what stands behind the last entry
+abbrev pub no_entry : Entry
+no_entry = record { place = 0; half = no_half }
+
+unfoldable pub filled : List Entry → List Entry
+filled entries = entries ++ replicate (200 - length entries) no_entry
+
+-- no entry has a half of this number
+abbrev pub Lacks : ℕ → List Entry → Type 0
+Lacks number [] = Unit {0}
+Lacks number (e ∷ es) = (half_number e.half ≡ number → ⊥) × Lacks number es
+
+-- no entry has a place before this one
+abbrev pub StartsAt : ℕ → List Entry → Type 0
+StartsAt place [] = Unit {0}
+StartsAt place (e ∷ es) = (place ≤ e.place) × StartsAt place es
+
+-- each entry has a half of an object, no half is there twice, and places ascend
+abbrev pub AreLists : List Entry → Type 0
+AreLists [] = Unit {0}
+AreLists (e ∷ es) =
+    (0 < half_number e.half) × ((half_number e.half ≤ 200) × (Lacks (half_number e.half) es × (StartsAt e.place es × AreLists es)))

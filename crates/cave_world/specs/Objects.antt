@@ -1,0 +1,74 @@
+-- What holds of objects, and what is done to them. Object 0 is no object: no test of it holds, and nothing is done to it.
+use Rattle.std.specs.Prelude.{ℕ, ℤ, pos, ◌+◌, ◌-◌, Bool, ◌==◌, ◌||◌, if◌then◌else◌, List, [], ◌∷◌, slice_index_or, slice_set, replicate}
+use Rattle.cave_world.specs.declared.object.Half.TheVariants.{First, Second}
+use Rattle.cave_world.specs.declared.spot.Spot.{Spot}
+use Rattle.cave_world.specs.declared.spot.Spot.TheVariants as spot
+use Rattle.cave_world.specs.declared.spot.Anchor.{Anchor}
+use Rattle.cave_world.specs.declared.spot.Anchor.TheVariants as anchor
+use Rattle.cave_world.specs.Layout.{Layout}
+use Rattle.cave_world.specs.Lists.{relisted}
+use Rattle.cave_world.specs.Spots.{spot_at, place_of_spot, place_of_anchor, is_carried_spot, is_place}
+
+-- where the first half of an object is
+unfoldable pub spot_of : Layout → ℕ → Spot
+spot_of o x = if x == 0 then spot.Away else slice_index_or o.first (x - 1) spot.Away
+
+-- what holds an object where it is
+unfoldable pub anchor_of : Layout → ℕ → Anchor
+anchor_of o x = if x == 0 then anchor.Loose else slice_index_or o.second (x - 1) anchor.Loose
+
+unfoldable pub prop_of : Layout → ℕ → ℤ
+prop_of o x = if x == 0 then pos 0 else slice_index_or o.props (x - 1) (pos 0)
+
+-- the object is carried
+unfoldable pub is_carried : Layout → ℕ → Bool
+is_carried o x = is_carried_spot (spot_of o x)
+
+-- its first half stands at the place
+unfoldable pub is_first_at : Layout → ℕ → ℕ → Bool
+is_first_at o place x = is_place place (place_of_spot (spot_of o x))
+
+-- one of its halves stands at the place
+unfoldable pub stands_at : Layout → ℕ → ℕ → Bool
+stands_at o place x = is_first_at o place x || is_place place (place_of_anchor (anchor_of o x))
+
+-- it is carried, or its first half stands at the place
+unfoldable pub is_at_hand : Layout → ℕ → ℕ → Bool
+is_at_hand o place x = is_carried o x || is_first_at o place x
+
+-- the numbers of those that are carried, from the number of the first spot on
+abbrev pub carried_from : ℕ → List Spot → List ℕ
+carried_from n [] = []
+carried_from n (s ∷ spots) = if is_carried_spot s then n ∷ carried_from (n + 1) spots else carried_from (n + 1) spots
+
+-- the objects that are carried, ascending
+unfoldable pub carried_objects : Layout → List ℕ
+carried_objects o = carried_from 1 o.first
+
+-- the first half of an object brought to a spot
+unfoldable pub brought : Layout → ℕ → Spot → Layout
+brought o x s = if x == 0 then o else record o { first = slice_set o.first (x - 1) s; lists = relisted (First x) (place_of_spot s) o.lists }
+
+-- another anchor for an object: its second half goes to the front of the anchor's place, or is in no list
+unfoldable pub anchored : Layout → ℕ → Anchor → Layout
+anchored o x a = if x == 0 then o else record o { second = slice_set o.second (x - 1) a; lists = relisted (Second x) (place_of_anchor a) o.lists }
+
+-- another prop for an object
+unfoldable pub with_prop : Layout → ℕ → ℤ → Layout
+with_prop o x v = if x == 0 then o else record o { props = slice_set o.props (x - 1) v }
+
+-- the first half moved to the front of a place's list; place 0 is nowhere
+unfoldable pub moved : Layout → ℕ → ℕ → Layout
+moved o x place = brought o x (spot_at place)
+
+-- the first half taken from its list and carried, if it isn't carried yet
+unfoldable pub taken : Layout → ℕ → Layout
+taken o x = if is_carried o x then o else brought o x spot.Carried
+
+-- both halves put anew where they are, if it isn't carried
+unfoldable pub juggled : Layout → ℕ → Layout
+juggled o x = if is_carried o x then o else let once = brought o x (spot_of o x) in anchored once x (anchor_of once x)
+
+-- objects of which none is placed
+unfoldable pub unplaced : Layout
+unplaced = record { first = replicate 100 spot.Away; second = replicate 100 anchor.Loose; props = replicate 100 (pos 0); lists = [] }

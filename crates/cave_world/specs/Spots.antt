@@ -1,0 +1,32 @@
+-- Where the halves of objects are.
+use Rattle.std.specs.Prelude.{ℕ, Bool, true, false, ◌==◌, if◌then◌else◌, Option, Some, None}
+use Rattle.cave_world.specs.declared.spot.Spot.{Spot}
+use Rattle.cave_world.specs.declared.spot.Spot.TheVariants as spot
+use Rattle.cave_world.specs.declared.spot.Anchor.{Anchor}
+use Rattle.cave_world.specs.declared.spot.Anchor.TheVariants as anchor
+
+-- the spot at a place; place 0 is away
+abbrev pub spot_at : ℕ → Spot
+spot_at place = if place == 0 then spot.Away else spot.At place
+
+-- the place where a first half stands
+abbrev pub place_of_spot : Spot → Option ℕ
+place_of_spot spot.Away = None
+place_of_spot spot.Carried = None
+place_of_spot (spot.At place) = Some place
+
+abbrev pub is_carried_spot : Spot → Bool
+is_carried_spot spot.Away = false
+is_carried_spot spot.Carried = true
+is_carried_spot (spot.At place) = false
+
+-- the place where a second half stands
+abbrev pub place_of_anchor : Anchor → Option ℕ
+place_of_anchor anchor.Loose = None
+place_of_anchor anchor.Fixed = None
+place_of_anchor (anchor.At place) = Some place
+
+-- a place is the one that is given
+abbrev pub is_place : ℕ → Option ℕ → Bool
+is_place place None = false
+is_place place (Some p) = p == place

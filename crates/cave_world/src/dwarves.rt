@@ -1,0 +1,64 @@
+ghost use Rattle.std.specs.Prelude.{◌≡◌};
+ghost use Rattle.cave_world.specs.Fresh.{nobody, asleep};
+
+use crate::count::Count;
+use crate::place::Place;
+
+/// How many dwarves there are. The last is the pirate.
+pub const DWARVES: usize = 6;
+
+/// A dwarf: where it is and was, place 0 where it is gone, and whether it has seen the player.
+#[derive(Clone, Copy, Debug, PartialEq, Eq)]
+pub struct Dwarf {
+    pub place: Place,
+    pub last: Place,
+    pub has_seen: bool,
+}
+
+/// The knife that a dwarf threw.
+#[derive(Clone, Copy, Debug, PartialEq, Eq)]
+pub enum Knife {
+    /// No knife was thrown that the player could still ask for.
+    Unthrown,
+    /// It was thrown at a place.
+    At(Place),
+    /// The player was told that knives vanish.
+    Vanished,
+}
+
+/// The dwarves, how angry they are, and how many were killed.
+#[derive(Clone, Copy, Debug, PartialEq, Eq)]
+pub struct Dwarves {
+    pub anger: Count<13>,
+    pub kills: Count<60000>,
+    pub knife: Knife,
+    pub each: [Dwarf; DWARVES],
+}
+
+impl Dwarf {
+    /// A dwarf that is nowhere.
+    pub fn nowhere() -> Dwarf
+        ensures { result ≡ nobody }
+    {
+        Dwarf {
+            place: Place::new(0),
+            last: Place::new(0),
+            has_seen: false,
+        }
+    }
+}
+
+impl Dwarves {
+    /// No dwarf is anywhere, and none has seen the player.
+    #[tactic(auto, unfolding(crate::specs::Fresh::asleep))]
+    pub fn asleep() -> Dwarves
+        ensures { result ≡ asleep }
+    {
+        Dwarves {
+            anger: Count::new(0),
+            kills: Count::new(0),
+            knife: Knife::Unthrown,
+            each: [Dwarf::nowhere(); DWARVES],
+        }
+    }
+}

@@ -1,0 +1,32 @@
+use crate::hints::HintNumber;
+
+/// The question that the next line of the player answers.
+#[derive(Clone, Copy, Debug, PartialEq, Eq)]
+pub enum Question {
+    /// Whether the player wants instructions.
+    Welcome,
+    /// Whether to end the game.
+    Quit,
+    /// Whether to end the game, after the score was told.
+    ScoreQuit,
+    /// Whether to come back from death.
+    Die,
+    /// Whether a hint is wanted.
+    Hint(HintNumber),
+    /// Whether the hint is worth its cost.
+    Take(HintNumber),
+    /// Whether what stands under the oyster is worth its cost.
+    Oyster,
+    /// Whether to fight a dragon with bare hands.
+    Dragon,
+}
+
+/// How a game has ended.
+#[derive(Clone, Copy, Debug, PartialEq, Eq)]
+pub enum Ending {
+    Quit,
+    Killed,
+    Klutz,
+    WrongWay,
+    Success,
+}

@@ -1,0 +1,63 @@
+ghost use Rattle.std.specs.Prelude.{◌≡◌, pos, negsuc, ◌≤ℤ◌};
+
+use std::marker::Model;
+
+/// The turns that a lamp still burns. -1 says that it went out.
+#[derive(Clone, Copy, Debug, PartialEq, Eq)]
+pub struct Charge {
+    turns: i32,
+}
+
+impl Model for Charge {
+    ghost use Rattle.std.specs.Prelude.{ℤ, pos, negsuc, ◌≤ℤ◌};
+
+    ghost Value = { ℤ };
+
+    ghost view = { λ c. c.turns };
+
+    ghost invariant = { λ c. (negsuc 0 ≤ℤ c.turns) × (c.turns ≤ℤ pos 100000) };
+
+    ghost inverse = { λ n. record { turns = n } };
+}
+
+impl Charge {
+    /// The charge of a number of turns.
+    pub fn new(turns: i32) -> Charge
+        requires low { negsuc 0 ≤ℤ turns }
+        requires high { turns ≤ℤ pos 100000 }
+        ensures { result ≡ turns }
+    {
+        Charge { turns }
+    }
+
+    /// The number of turns.
+    pub fn turns(self) -> i32
+        ensures value { result ≡ self }
+        ensures low { negsuc 0 ≤ℤ result }
+        ensures high { result ≤ℤ pos 100000 }
+    {
+        self.turns
+    }
+}
+
+/// The lamp's charge, and whether the player was warned that it is low.
+#[derive(Clone, Copy, Debug, PartialEq, Eq)]
+pub struct Lamp {
+    pub charge: Charge,
+    pub is_warned: bool,
+}
+
+impl Lamp {
+    ghost use Rattle.cave_world.specs.Fresh.{full_lamp};
+
+    /// A lamp that wasn't lit yet.
+    #[tactic(auto, unfolding(crate::specs::Fresh::full_lamp))]
+    pub fn full() -> Lamp
+        ensures { result ≡ full_lamp }
+    {
+        Lamp {
+            charge: Charge::new(330),
+            is_warned: false,
+        }
+    }
+}

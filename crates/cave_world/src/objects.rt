@@ -1,0 +1,237 @@
+ghost use Rattle.std.specs.Prelude.{◌≡◌, ℕ, ◌==◌, ◌||◌, ◌+◌, ◌<◌, ◌≤◌, false, [], length, IsTrue};
+ghost use Rattle.cave_world.specs.Objects.{spot_of, anchor_of, prop_of, is_carried, is_first_at, stands_at, is_at_hand, carried_objects, carried_from, brought, anchored, with_prop, moved, taken, juggled, unplaced};
+ghost use Rattle.cave_world.specs.Spots.{place_of_spot, place_of_anchor, spot_at, is_place};
+ghost use Rattle.cave_world.specs.Lists.{halves_at, AreRelisted};
+ghost use Rattle.cave_world.specs.Layout.{is_listed};
+
+use crate::lists::{HALVES, ObjectLists};
+use crate::object::{Half, LAST_OBJECT, Object};
+use crate::place::Place;
+use crate::prop::Prop;
+use crate::spot::{Anchor, Spot};
+use arrayvec::ArrayVec;
+use std::marker::Model;
+
+/// Where each object is, what holds it there, its prop, and for each place the list of the halves there.
+#[derive(Clone, Copy, Debug, PartialEq, Eq)]
+pub struct Objects {
+    first: [Spot; LAST_OBJECT],
+    second: [Anchor; LAST_OBJECT],
+    props: [Prop; LAST_OBJECT],
+    lists: ObjectLists,
+}
+
+impl Model for Objects {
+    ghost use Rattle.cave_world.specs.Layout.{Layout};
+
+    ghost Value = { Layout };
+
+    ghost use Rattle.cave_world.specs.Layout.{IsLaid};
+
+    ghost view = { λ o. record { first = o.first; second = o.second; props = o.props; lists = o.lists } };
+
+    ghost invariant = { λ o. let l : Layout = record { first = o.first; second = o.second; props = o.props; lists = o.lists } in IsLaid l };
+
+    ghost inverse = { λ l. record { first = l.first; second = l.second; props = l.props; lists = l.lists } };
+}
+
+impl Objects {
+    /// Objects of which none is placed.
+    #[tactic(auto, unfolding(crate::specs::Objects::unplaced))]
+    pub fn unplaced() -> Objects
+        ensures { result ≡ unplaced }
+    {
+        Objects {
+            first: [Spot::Away; LAST_OBJECT],
+            second: [Anchor::Loose; LAST_OBJECT],
+            props: [Prop::new(0); LAST_OBJECT],
+            lists: ObjectLists::empty(),
+        }
+    }
+
+    /// The halves that stand at a place, latest first.
+    pub fn at(&self, place: Place) -> ArrayVec<Half, HALVES>
+        ensures { result.items ≡ halves_at place self.now.lists }
+    {
+        self.lists.at(place)
+    }
+
+    /// Where the first half of an object is.
+    #[tactic(auto, unfolding(crate::specs::Objects::spot_of))]
+    pub fn spot(&self, object: Object) -> Spot
+        ensures value { result ≡ spot_of self.now object }
+        ensures listed { 0 < object → (q : ℕ) → is_listed object (halves_at q self.now.lists) ≡ is_place q (place_of_spot result) }
+    {
+        if object.is_none() {
+            return Spot::Away;
+        }
+        self.first[usize::from(object.number()) - 1]
+    }
+
+    /// What holds an object where it is.
+    #[tactic(auto, unfolding(crate::specs::Objects::anchor_of))]
+    pub fn anchor(&self, object: Object) -> Anchor
+        ensures value { result ≡ anchor_of self.now object }
+        ensures listed { 0 < object → (q : ℕ) → is_listed (100 + object) (halves_at q self.now.lists) ≡ is_place q (place_of_anchor result) }
+    {
+        if object.is_none() {
+            return Anchor::Loose;
+        }
+        self.second[usize::from(object.number()) - 1]
+    }
+
+    /// The prop of an object.
+    #[tactic(auto, unfolding(crate::specs::Objects::prop_of))]
+    pub fn prop(&self, object: Object) -> Prop
+        ensures { result ≡ prop_of self.now object }
+    {
+        if object.is_none() {
+            return Prop::new(0);
+        }
+        self.props[usize::from(object.number()) - 1]
+    }
+
+    /// Whether an object is carried.
+    #[tactic(auto, unfolding(crate::specs::Objects::is_carried))]
+    pub fn is_carried(&self, object: Object) -> bool
+        ensures value { result ≡ is_carried self.now object }
+        ensures unlisted { IsTrue result → 0 < object → (q : ℕ) → is_listed object (halves_at q self.now.lists) ≡ false }
+    {
+        self.spot(object).is_carried()
+    }
+
+    /// Whether the first half of an object stands at a place.
+    #[tactic(auto, unfolding(crate::specs::Objects::is_first_at))]
+    pub fn is_first_at(&self, place: Place, object: Object) -> bool
+        ensures value { result ≡ is_first_at self.now place object }
+        ensures listed { 0 < object → result ≡ is_listed object (halves_at place self.now.lists) }
+    {
+        match self.spot(object).place() {
+            Some(spot) => spot == place,
+            None => false,
+        }
+    }
+
+    fn is_second_at(&self, place: Place, object: Object) -> bool
+        ensures value { result ≡ is_place place (place_of_anchor (anchor_of self.now object)) }
+        ensures listed { 0 < object → result ≡ is_listed (100 + object) (halves_at place self.now.lists) }
+    {
+        match self.anchor(object).place() {
+            Some(anchor) => anchor == place,
+            None => false,
+        }
+    }
+
+    /// Whether a half of an object stands at a place.
+    #[tactic(auto, unfolding(crate::specs::Objects::stands_at))]
+    pub fn stands_at(&self, place: Place, object: Object) -> bool
+        ensures value { result ≡ stands_at self.now place object }
+        ensures listed { let halves = halves_at place self.now.lists in
+            0 < object → result ≡ (is_listed object halves || is_listed (100 + object) halves) }
+    {
+        self.is_first_at(place, object) || self.is_second_at(place, object)
+    }
+
+    /// Whether an object is carried, or its first half stands at a place.
+    #[tactic(auto, unfolding(crate::specs::Objects::is_at_hand))]
+    pub fn is_at_hand(&self, place: Place, object: Object) -> bool
+        ensures { result ≡ is_at_hand self.now place object }
+    {
+        self.is_carried(object) || self.is_first_at(place, object)
+    }
+
+    /// Brings the first half of an object to a spot.
+    #[tactic(auto, unfolding(crate::specs::Objects::brought))]
+    pub fn bring(&mut self, object: Object, spot: Spot)
+        ensures value { self.new ≡ brought self.old object spot }
+        ensures lists { 0 < object → AreRelisted self.old.lists self.new.lists (Half.First object) (place_of_spot spot) }
+    {
+        if object.is_none() {
+            return;
+        }
+        let place = spot.place();
+        self.first[usize::from(object.number()) - 1] = spot;
+        self.lists.relist(Half::First(object), place);
+    }
+
+    /// Gives an object another anchor.
+    #[tactic(auto, unfolding(crate::specs::Objects::anchored))]
+    pub fn anchor_to(&mut self, object: Object, anchor: Anchor)
+        ensures value { self.new ≡ anchored self.old object anchor }
+        ensures lists { 0 < object → AreRelisted self.old.lists self.new.lists (Half.Second object) (place_of_anchor anchor) }
+    {
+        if object.is_none() {
+            return;
+        }
+        let place = anchor.place();
+        self.second[usize::from(object.number()) - 1] = anchor;
+        self.lists.relist(Half::Second(object), place);
+    }
+
+    /// Gives an object another prop.
+    #[tactic(auto, unfolding(crate::specs::Objects::with_prop))]
+    pub fn set_prop(&mut self, object: Object, prop: Prop)
+        ensures { self.new ≡ with_prop self.old object prop }
+    {
+        if object.is_none() {
+            return;
+        }
+        self.props[usize::from(object.number()) - 1] = prop;
+    }
+
+    /// Moves the first half of an object to the front of a place's list. Place 0 is nowhere.
+    #[tactic(auto, unfolding(crate::specs::Objects::moved))]
+    pub fn move_to(&mut self, object: Object, place: Place)
+        ensures value { self.new ≡ moved self.old object place }
+        ensures lists { 0 < object → AreRelisted self.old.lists self.new.lists (Half.First object) (place_of_spot (spot_at place)) }
+    {
+        self.bring(object, Spot::at(place));
+    }
+
+    /// Takes the first half of an object from its list, to be carried, if it isn't carried yet.
+    #[tactic(auto, unfolding(crate::specs::Objects::taken))]
+    pub fn carry(&mut self, object: Object)
+        ensures value { self.new ≡ taken self.old object }
+        ensures lists { 0 < object → AreRelisted self.old.lists self.new.lists (Half.First object) None }
+    {
+        if self.is_carried(object) {
+            return;
+        }
+        self.bring(object, Spot::Carried);
+    }
+
+    /// Puts both halves of an object anew where they are, if it isn't carried.
+    #[tactic(auto, unfolding(crate::specs::Objects::juggled))]
+    pub fn juggle(&mut self, object: Object)
+        ensures { self.new ≡ juggled self.old object }
+    {
+        if self.is_carried(object) {
+            return;
+        }
+        let spot = self.spot(object);
+        self.bring(object, spot);
+        let anchor = self.anchor(object);
+        self.anchor_to(object, anchor);
+    }
+
+    /// The objects that are carried, ascending.
+    #[tactic(auto, unfolding(crate::specs::Objects::carried_objects))]
+    pub fn carried(&self) -> ArrayVec<Object, LAST_OBJECT>
+        ensures { result.items ≡ carried_objects self.now }
+    {
+        carried_in(&self.first)
+    }
+}
+
+fn carried_in(spots: &[Spot]) -> ArrayVec<Object, LAST_OBJECT>
+    requires { length spots.now ≤ 100 }
+    ensures { result.items ≡ carried_from 1 spots.now }
+{
+    let mut carried = ArrayVec::new();
+    for (i, spot) in spots.iter().enumerate() {
+        if spot.is_carried() {
+            carried.push(Object::new(i as u8 + 1));
+        }
+    }
+    carried
+}

@@ -1,0 +1,65 @@
+ghost use Rattle.std.specs.Prelude.{◌≡◌};
+
+use crate::object::Object;
+use crate::prop::Prop;
+use arrayvec::ArrayVec;
+use cave_data::Role;
+use cave_words::Word;
+
+/// A line of the game's own that tells a number.
+#[derive(Clone, Copy, Debug, PartialEq, Eq)]
+pub enum NumberLine {
+    DwarvesHere,
+    KnivesThrown,
+    KnivesHit,
+    HintCosts,
+    ScoreNow,
+    PointsWanted,
+}
+
+/// A line of the game's own that repeats a word.
+#[derive(Clone, Copy, Debug, PartialEq, Eq)]
+pub enum WordLine {
+    NotSeen,
+    WhatToDo,
+    Okay,
+    What,
+}
+
+/// One thing that a turn prints.
+#[derive(Clone, Copy, Debug, PartialEq, Eq)]
+pub enum Part {
+    /// The long text of a place.
+    Long(u16),
+    /// The short text of a place.
+    Short(u16),
+    /// The message of a number.
+    Message(u16),
+    /// The message that stands for a role.
+    Role(Role),
+    /// The text of an object for a prop.
+    Object(Object, Prop),
+    /// The inventory text of an object.
+    Name(Object),
+    /// A line with one number or two.
+    Number(NumberLine, u32, u32),
+    /// A line with a word.
+    Word(WordLine, Word),
+    /// The text of the class that a score belongs to.
+    Class(u32),
+    /// The line that tells a score, the greatest score, and the turns.
+    Turns(u32, u32),
+}
+
+impl Default for Part {
+    ghost use Rattle.cave_world.specs.Parts.{no_part};
+
+    ghost is_default = { λ p. p ≡ no_part };
+
+    fn default() -> Part {
+        Part::Message(0)
+    }
+}
+
+/// What a turn prints, in order.
+pub type Out = ArrayVec<Part, 512>;

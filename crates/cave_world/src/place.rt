@@ -1,0 +1,42 @@
+ghost use Rattle.std.specs.Prelude.{◌≡◌, ◌≤◌};
+
+use std::marker::Model;
+
+/// The greatest number of a place.
+pub const LAST_PLACE: usize = 300;
+
+/// The number of a place. 0 is nowhere: a player who comes there is dead.
+#[derive(Clone, Copy, Debug, PartialEq, Eq)]
+pub struct Place {
+    number: u16,
+}
+
+impl Model for Place {
+    ghost use Rattle.std.specs.Prelude.{ℕ, ◌≤◌};
+
+    ghost Value = { ℕ };
+
+    ghost view = { λ p. p.number };
+
+    ghost invariant = { λ p. p.number ≤ 300 };
+
+    ghost inverse = { λ n. record { number = n } };
+}
+
+impl Place {
+    /// The place of a number.
+    pub fn new(number: u16) -> Place
+        requires { number ≤ 300 }
+        ensures { result ≡ number }
+    {
+        Place { number }
+    }
+
+    /// The number of the place.
+    pub fn number(self) -> u16
+        ensures value { result ≡ self }
+        ensures within { result ≤ 300 }
+    {
+        self.number
+    }
+}

@@ -1,0 +1,37 @@
+ghost use Rattle.std.specs.Prelude.{◌≡◌};
+ghost use Rattle.cave_world.specs.Fresh.{nothing_said};
+
+use crate::count::Count;
+use crate::object::Object;
+
+/// What the game remembers of what was said.
+#[derive(Clone, Copy, Debug, PartialEq, Eq)]
+pub struct Talk {
+    /// The verb and the object of half a command.
+    pub verb: Option<u8>,
+    pub object: Object,
+    /// The object of the last command.
+    pub last: Object,
+    pub is_brief: bool,
+    /// How often the player was told that there are no more details.
+    pub details: Count<3>,
+    /// How far the player has come with the magic words.
+    pub magic: i16,
+}
+
+impl Talk {
+    /// Nothing was said yet.
+    #[tactic(auto, unfolding(crate::specs::Fresh::nothing_said))]
+    pub fn silent() -> Talk
+        ensures { result ≡ nothing_said }
+    {
+        Talk {
+            verb: None,
+            object: Object::none(),
+            last: Object::none(),
+            is_brief: false,
+            details: Count::new(0),
+            magic: 0,
+        }
+    }
+}

@@ -1,0 +1,45 @@
+ghost use Rattle.std.specs.Prelude.{◌≡◌};
+ghost use Rattle.cave_world.specs.State.{visits_of, with_visit, without_visits};
+
+use crate::count::Count;
+use crate::place::Place;
+use crate::state::State;
+
+/// How often a place was described, which starts anew after 9,999.
+pub type Visits = Count<9999>;
+
+impl State {
+    /// How often a place was described. Place 0 never is.
+    #[tactic(auto, unfolding(crate::specs::State::visits_of))]
+    pub fn visits(&self, place: Place) -> Visits
+        ensures { result ≡ visits_of self.now place }
+    {
+        if place.number() == 0 {
+            return Count::new(0);
+        }
+        self.visits[usize::from(place.number()) - 1]
+    }
+
+    /// One more description of a place.
+    #[tactic(auto, unfolding(crate::specs::State::with_visit, crate::specs::State::visits_of))]
+    pub fn visit(&mut self, place: Place)
+        ensures { self.new ≡ with_visit self.old place }
+    {
+        if place.number() == 0 {
+            return;
+        }
+        let visits = self.visits(place).round();
+        self.visits[usize::from(place.number()) - 1] = visits;
+    }
+
+    /// A place is described as if it never was.
+    #[tactic(auto, unfolding(crate::specs::State::without_visits))]
+    pub fn forget_visits(&mut self, place: Place)
+        ensures { self.new ≡ without_visits self.old place }
+    {
+        if place.number() == 0 {
+            return;
+        }
+        self.visits[usize::from(place.number()) - 1] = Count::new(0);
+    }
+}
