@@ -1,0 +1,9 @@
+use Rattle.std.proofs.Common.{◌≡◌, map, drop}
+use Rattle.cave_data.specs.Shown.{going}
+use Rattle.cave_turn.specs.Journeys.{direct_row}
+use Rattle.cave_turn.proofs.back.direct_row.Given as goal
+
+-- no row before this one leads there
+abbrev pub invariant-loop-row : goal.invariant-loop-row
+invariant-loop-row l =
+    direct_row l.sought (map going (drop l.row-index l.rows)) ≡ direct_row l.sought (map going l.rows)

@@ -1,0 +1,78 @@
+-- What happens where a player arrives.
+use Rattle.std.specs.Prelude.{ℕ, pos, Bool, true, false, ◌==◌, ◌&&◌, ◌||◌, not, nat_le, if◌then◌else◌, take, suc, zero}
+use Rattle.std.specs.List.{list_any}
+use Rattle.cave_data.specs.CaveView.{CaveView}
+use Rattle.cave_data.specs.declared.place_role.PlaceRole.TheVariants as place
+use Rattle.cave_data.specs.declared.role.Role.TheVariants as role
+use Rattle.cave_world.specs.Sight.{is_forced, has_condition}
+use Rattle.cave_world.specs.declared.dwarves.Dwarf.{Dwarf}
+use Rattle.cave_world.specs.declared.state.State.{State}
+use Rattle.cave_turn.specs.declared.names.Names.{Names}
+use Rattle.cave_turn.specs.declared.play.Play.{Play}
+use Rattle.cave_turn.specs.Description.{described, text_told}
+use Rattle.cave_turn.specs.Journeys.{Journey, set_forth, staying}
+use Rattle.cave_turn.specs.Places.{place_named, place_or}
+use Rattle.cave_turn.specs.Plays.{saying, with_state, standing, dies}
+
+-- a cave that is closing has no way out
+unfoldable pub is_shut : CaveView → ℕ → State → Bool
+is_shut cave new s = s.closing.is_closing && nat_le 1 new && nat_le new (place_or 8 (place_named cave place.Outside))
+
+-- who tries to get out has 15 turns left, unless that was tried before
+abbrev pub panicking : State → State
+panicking s =
+    let closing = s.closing in
+    if closing.is_panicking || closing.is_closed then record s { closing = record closing { is_panicking = true } }
+    else record s { closing = record closing { second_clock = pos 15; is_panicking = true } }
+
+unfoldable pub kept_in : CaveView → ℕ → Play → Journey
+kept_in cave new p =
+    if is_shut cave new p.state then staying (saying role.ClosingExit (with_state (panicking p.state) p)) else record { place = new; play = p }
+
+-- a dwarf that has seen the player comes from the place
+abbrev pub comes_from : ℕ → Dwarf → Bool
+comes_from new dwarf = dwarf.has_seen && dwarf.last == new
+
+-- a dwarf, and not the pirate, bars the way to another place
+unfoldable pub is_barred : CaveView → ℕ → State → Bool
+is_barred cave new s =
+    not (new == s.trail.here) && not (is_forced cave s.trail.here) && not (has_condition cave s.trail.here 3)
+    && list_any (comes_from new) (take 5 s.dwarves.each)
+
+unfoldable pub held_back : CaveView → ℕ → Play → Journey
+held_back cave new p = if is_barred cave new p.state then staying (saying role.Blocked p) else record { place = new; play = p }
+
+-- whether the player is carried on from a place, and what was told there
+pub record Showing : Type 0 where
+  pub is_carried_on : Bool
+  pub play : Play
+
+-- the player comes to a place: who comes to 0 is dead, and of a place that carries on the text alone is told
+unfoldable pub come_to : CaveView → Names → ℕ → Play → Showing
+come_to cave names new p =
+    let q = standing new p in
+    if new == 0 then record { is_carried_on = false; play = dies q }
+    else (if is_forced cave new then record { is_carried_on = true; play = text_told cave names q }
+    else record { is_carried_on = false; play = described cave names q })
+
+-- the player arrives at a place, if nothing is in the way
+unfoldable pub shown : CaveView → Names → ℕ → Play → Showing
+shown cave names new p =
+    let once = kept_in cave new p in
+    let twice = held_back cave once.place once.play in
+    come_to cave names twice.place twice.play
+
+-- the forced motions that are left in this turn, and the play
+pub record Arrival : Type 0 where
+  pub left : ℕ
+  pub play : Play
+
+-- the player arrives at a place, and is carried on from it while forced motions are left
+unfoldable pub arrived : ℕ → CaveView → Names → ℕ → Play → Arrival
+arrived zero cave names new p =
+    let s = shown cave names new p in
+    record { left = 0; play = (if s.is_carried_on then saying role.ForcedLimit s.play else s.play) }
+arrived (suc left) cave names new p =
+    let s = shown cave names new p in
+    let j = set_forth cave names 1 s.play in
+    if s.is_carried_on then arrived left cave names j.place j.play else record { left = suc left; play = s.play }

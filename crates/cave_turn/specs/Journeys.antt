@@ -1,0 +1,158 @@
+-- Where a motion leads a player.
+use Rattle.std.specs.Prelude.{ℕ, ◌+◌, Bool, false, ◌==◌, ◌&&◌, ◌||◌, nat_lt, nat_le, if◌then◌else◌, List, [], ◌∷◌, length, Option, Some, None, option_map, slice_index}
+use Rattle.cave_data.specs.CaveView.{CaveView, Going, ways_from}
+use Rattle.cave_data.specs.declared.place_role.PlaceRole.TheVariants as place
+use Rattle.cave_data.specs.declared.role.Role.{Role}
+use Rattle.cave_data.specs.declared.role.Role.TheVariants as role
+use Rattle.cave_world.specs.Objects.{is_carried, carried_objects}
+use Rattle.cave_world.specs.Sight.{is_forced}
+use Rattle.cave_world.specs.State.{without_visits}
+use Rattle.cave_world.specs.Travel.{travelled, number_of}
+use Rattle.cave_world.specs.declared.part.Part.TheVariants as part
+use Rattle.cave_world.specs.declared.rows.Outcome.{Outcome}
+use Rattle.cave_world.specs.declared.rows.Outcome.TheVariants as outcome
+use Rattle.cave_world.specs.declared.rows.Special.{Special}
+use Rattle.cave_world.specs.declared.rows.Special.TheVariants.{Squeeze, Bridge}
+use Rattle.cave_world.specs.declared.state.State.{State}
+use Rattle.cave_turn.specs.declared.names.Names.{Names}
+use Rattle.cave_turn.specs.declared.play.Play.{Play}
+use Rattle.cave_turn.specs.Places.{place_named, place_or}
+use Rattle.cave_turn.specs.Plays.{telling, saying, with_state, here_of, sets_out}
+
+-- a play, and the place where the player arrives next
+pub record Journey : Type 0 where
+  pub place : ℕ
+  pub play : Play
+
+-- the player arrives where the player stands
+abbrev pub staying : Play → Journey
+staying p = record { place = here_of p; play = p }
+
+-- what is said of a motion that no row lists: of a direction, of facing one, of in and out, of a magic word, of crawling, and of the rest
+abbrev pub refusal_of : ℕ → Role
+refusal_of motion =
+    if motion == 29 || motion == 30 || (nat_le 43 motion && nat_le motion 50) then role.NoDir
+    else (if motion == 7 || motion == 36 || motion == 37 then role.Facing
+    else (if motion == 11 || motion == 19 then role.Inout
+    else (if motion == 62 || motion == 65 then role.Magic
+    else (if motion == 17 then role.Crawl else role.NoMotion))))
+
+-- the other end of a passage between two places
+abbrev pub other_end : ℕ → Option ℕ → Option ℕ → Option ℕ
+other_end here None b = None
+other_end here (Some a) None = None
+other_end here (Some a) (Some b) = if here == a then Some b else (if here == b then Some a else None)
+
+unfoldable pub squeeze_end : CaveView → ℕ → Option ℕ
+squeeze_end cave here = other_end here (place_named cave place.Alcove) (place_named cave place.Plover)
+
+-- nothing is carried, or the emerald alone
+unfoldable pub is_slim : Names → State → Bool
+is_slim names s =
+    length (carried_objects s.objects) == 0 || (length (carried_objects s.objects) == 1 && is_carried s.objects names.emerald)
+
+-- through a narrow passage, in which nothing but the emerald may be carried
+abbrev pub squeezed_to : Names → Option ℕ → Play → Journey
+squeezed_to names None p = staying (saying role.NoWay p)
+squeezed_to names (Some end) p =
+    if is_slim names p.state then record { place = end; play = p } else staying (saying role.TooTight p)
+
+unfoldable pub squeezed : CaveView → Names → Play → Journey
+squeezed cave names p = squeezed_to names (squeeze_end cave (here_of p)) p
+
+-- a way with rules of its own; the bridge leads nowhere
+abbrev pub led_specially : CaveView → Names → Special → Play → Journey
+led_specially cave names Squeeze p = squeezed cave names p
+led_specially cave names Bridge p = staying (saying role.NoWay p)
+
+-- where the outcome of a motion leads
+abbrev pub led : CaveView → Names → ℕ → Outcome → Play → Journey
+led cave names motion (outcome.Go place) p = record { place = place; play = p }
+led cave names motion (outcome.Special special) p = led_specially cave names special p
+led cave names motion (outcome.Say message) p = staying (telling (part.Message message) p)
+led cave names motion outcome.NoMotion p = staying (saying (refusal_of motion) p)
+led cave names motion outcome.NoWay p = staying (saying role.NoWay p)
+
+-- where the rows of the place lead by a motion
+unfoldable pub routed : CaveView → Names → ℕ → Play → Journey
+routed cave names motion p =
+    let j = travelled cave names.emerald motion p.state in led cave names motion j.outcome (with_state j.state p)
+
+-- the player sets out by a motion
+unfoldable pub set_forth : CaveView → Names → ℕ → Play → Journey
+set_forth cave names motion p = routed cave names motion (sets_out p)
+
+-- the player looks round: the place is told at length, after two or three words on that
+abbrev pub enough_said : Play → Play
+enough_said p =
+    let s = p.state in let talk = s.talk in
+    if nat_lt talk.details 3 then saying role.Enough (with_state (record s { talk = record talk { details = talk.details + 1 } }) p) else p
+
+abbrev pub unvisited : Play → Play
+unvisited p = let q = with_state (without_visits p.state (here_of p)) p in record q { was_dark = false }
+
+unfoldable pub looking : Play → Journey
+looking p = staying (unvisited (enough_said p))
+
+-- where the cave is, is told by whether the player is outside
+unfoldable pub seeking_cave : CaveView → Play → Journey
+seeking_cave cave p =
+    if nat_lt (here_of p) (place_or 8 (place_named cave place.Outside)) then staying (saying role.CaveOut p) else staying (saying role.CaveIn p)
+
+-- where the player goes who goes back: where the player came from, or from where before that if that was a place to be carried on from
+abbrev pub back_place : CaveView → State → ℕ
+back_place cave s = if is_forced cave s.trail.last then s.trail.older else s.trail.last
+
+-- the number behind the condition of the first row
+abbrev pub first_number : List Going → Option ℕ
+first_number [] = None
+first_number (row ∷ rows) = Some (number_of row)
+
+abbrev pub is_number : ℕ → Option ℕ → Bool
+is_number n None = false
+is_number n (Some m) = m == n
+
+-- the row leads to a place that carries the player on to the place that is sought
+abbrev pub leads_through : CaveView → ℕ → Going → Bool
+leads_through cave sought row =
+    nat_le (number_of row) 300 && is_forced cave (number_of row) && is_number sought (first_number (ways_from cave (number_of row)))
+
+abbrev pub or_row : Option Going → Option Going → Option Going
+or_row None other = other
+or_row (Some row) other = Some row
+
+-- the first row with the number that is sought
+abbrev pub direct_row : ℕ → List Going → Option Going
+direct_row sought [] = None
+direct_row sought (row ∷ rows) = if number_of row == sought then Some row else direct_row sought rows
+
+-- the last row that leads through a place that carries the player on to it
+abbrev pub indirect_row : CaveView → ℕ → List Going → Option Going
+indirect_row cave sought [] = None
+indirect_row cave sought (row ∷ rows) = or_row (indirect_row cave sought rows) (if leads_through cave sought row then Some row else None)
+
+unfoldable pub row_back : CaveView → ℕ → List Going → Option Going
+row_back cave sought rows = or_row (direct_row sought rows) (indirect_row cave sought rows)
+
+-- the row's first motion
+abbrev pub first_motion : Going → ℕ
+first_motion row = slice_index row.motions 0
+
+-- a motion that leads back is travelled
+abbrev pub back_by : CaveView → Names → Option ℕ → Play → Journey
+back_by cave names None p = staying (saying role.BackNo p)
+back_by cave names (Some motion) p = routed cave names motion p
+
+-- the player goes back
+unfoldable pub going_back : CaveView → Names → Play → Journey
+going_back cave names p =
+    let sought = back_place cave p.state in let here = here_of p in let q = sets_out p in
+    if sought == here then staying (saying role.BackNone q) else back_by cave names (option_map first_motion (row_back cave sought (ways_from cave here))) q
+
+-- where a motion that the player asks for leads: four motions have rules of their own
+unfoldable pub led_by_motion : CaveView → Names → ℕ → Play → Journey
+led_by_motion cave names motion p =
+    if motion == 21 then staying p
+    else (if motion == 57 then looking p
+    else (if motion == 67 then seeking_cave cave p
+    else (if motion == 8 then going_back cave names p else set_forth cave names motion p)))

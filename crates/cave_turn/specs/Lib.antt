@@ -1,0 +1,13 @@
+pub mod OwnLines
+pub mod Text
+pub mod Names
+pub mod Plays
+pub mod Places
+pub mod Objects
+pub mod Description
+pub mod Journeys
+pub mod Arrival
+pub mod Begin
+pub mod Commands
+pub mod Answers
+pub mod Turn

@@ -1,0 +1,59 @@
+-- What a line of a log makes of a game.
+use Rattle.std.specs.Prelude.{ℕ, Bool, true, false, List, [], ◌∷◌, Option, Some, None}
+use Rattle.cave_data.specs.CaveView.{CaveView}
+use Rattle.cave_data.specs.declared.role.Role.TheVariants as role
+use Rattle.cave_words.specs.LogLine.{log_line}
+use Rattle.cave_words.specs.Stream.{seeded}
+use Rattle.cave_words.specs.declared.log_line.LogLine.{LogLine}
+use Rattle.cave_words.specs.declared.log_line.LogLine.TheVariants as kind
+use Rattle.cave_world.specs.declared.ending.Ending.{Ending}
+use Rattle.cave_world.specs.declared.ending.Question.{Question}
+use Rattle.cave_world.specs.declared.part.Part.{Part}
+use Rattle.cave_world.specs.declared.part.Part.TheVariants as part
+use Rattle.cave_world.specs.declared.state.State.{State}
+use Rattle.cave_turn.specs.declared.play.Play.{Play}
+use Rattle.cave_turn.specs.Answers.{answered}
+use Rattle.cave_turn.specs.Begin.{begun_state}
+use Rattle.cave_turn.specs.Commands.{commanded}
+
+-- the state after a line, what the line says, and whether it is a turn of the game
+pub record Turn : Type 0 where
+  pub state : State
+  pub parts : List Part
+  pub ticked : Bool
+
+-- nothing is said, and no turn passes
+abbrev pub silent : State → Turn
+silent s = record { state = s; parts = []; ticked = false }
+
+abbrev pub turn_of : Bool → Play → Turn
+turn_of ticked p = record { state = p.state; parts = p.out.items; ticked = ticked }
+
+-- a line of input: nothing after the end, an answer where a question is open, and else a command, which is a turn
+abbrev pub played : CaveView → List ℕ → Option Ending → Option Question → State → Turn
+played cave line (Some ending) question s = silent s
+played cave line None (Some question) s = turn_of false (answered cave question line s)
+played cave line None None s = turn_of true (commanded cave line s)
+
+-- the random stream goes on from a seed
+abbrev pub reseeded : State → ℕ → State
+reseeded s seed = record s { stream = seeded seed }
+
+-- a seed line changes the random stream alone, whatever else is going on
+abbrev pub turned_as : CaveView → List ℕ → LogLine → State → Turn
+turned_as cave line kind.Comment s = silent s
+turned_as cave line kind.Blank s = silent s
+turned_as cave line (kind.Seed seed) s = silent (reseeded s seed)
+turned_as cave line kind.Input s = played cave line s.ending s.question s
+
+unfoldable pub turned : CaveView → State → List ℕ → Turn
+turned cave s line = turned_as cave line (log_line line) s
+
+-- a state, and what is said as it begins
+pub record Scene : Type 0 where
+  pub state : State
+  pub parts : List Part
+
+-- a new game asks whether the player wants instructions
+unfoldable pub begun : CaveView → ℕ → Scene
+begun cave seed = record { state = begun_state cave (seeded seed); parts = part.Role role.Welcome ∷ [] }

@@ -1,0 +1,198 @@
+ghost use Rattle.std.specs.Prelude.{◌≡◌, ◌+◌, ◌<◌, ◌≤◌};
+ghost use Rattle.arrayvec.specs.ArrayVec.{array_vec_len};
+ghost use Rattle.cave_turn.specs.Plays.{saying};
+ghost use Rattle.cave_turn.specs.Journeys.{refusal_of, other_end, squeeze_end, is_slim, squeezed_to, squeezed, led_specially, led, routed, set_forth, enough_said, unvisited, looking, seeking_cave, led_by_motion, staying};
+
+use crate::back::go_back;
+use crate::names::Names;
+use crate::places::place_named;
+use crate::play::Play;
+use cave_data::{Cave, PlaceRole, Role};
+use cave_world::{Outcome, Part, Place, Special, State, travel};
+
+/// What is said of a motion that no row lists.
+fn refusal_of(motion: u16) -> Role
+    ensures { result ≡ refusal_of motion }
+{
+    match motion {
+        29 | 30 | 43..=50 => Role::NoDir,
+        7 | 36 | 37 => Role::Facing,
+        11 | 19 => Role::Inout,
+        62 | 65 => Role::Magic,
+        17 => Role::Crawl,
+        _ => Role::NoMotion,
+    }
+}
+
+fn other_end(here: Place, one: Option<Place>, other: Option<Place>) -> Option<Place>
+    ensures { result ≡ other_end here one other }
+{
+    let one = one?;
+    let other = other?;
+    if here == one {
+        return Some(other);
+    }
+    if here == other { Some(one) } else { None }
+}
+
+/// The other end of the narrow passage, where the player stands at one end.
+#[tactic(auto, unfolding(crate::specs::Journeys::squeeze_end))]
+fn squeeze_end(cave: &Cave, here: Place) -> Option<Place>
+    ensures { result ≡ squeeze_end cave.now here }
+{
+    let alcove = place_named(cave, PlaceRole::Alcove);
+    let plover = place_named(cave, PlaceRole::Plover);
+    other_end(here, alcove, plover)
+}
+
+#[tactic(auto, unfolding(crate::specs::Journeys::is_slim))]
+fn is_slim(names: &Names, state: &State) -> bool
+    ensures { result ≡ is_slim names.now state.now }
+{
+    let carried = state.holding();
+    carried == 0 || (carried == 1 && state.toting(names.emerald))
+}
+
+/// The player stays, and a role's message is said.
+pub fn stay(play: &mut Play, role: Role) -> Place
+    requires { array_vec_len play.old.out < 512 }
+    ensures journey { record { place = result; play = play.new } ≡ staying (saying role play.old) }
+    ensures few { array_vec_len play.new.out ≤ array_vec_len play.old.out + 1 }
+{
+    play.say(role);
+    play.state.trail.here
+}
+
+/// Through the narrow passage, in which nothing but the emerald may be carried.
+#[tactic(auto, unfolding(crate::specs::Journeys::squeezed))]
+fn squeeze(cave: &Cave, names: &Names, play: &mut Play) -> Place
+    requires { array_vec_len play.old.out < 512 }
+    ensures journey { record { place = result; play = play.new } ≡ squeezed cave.now names.now play.old }
+    ensures few { array_vec_len play.new.out ≤ array_vec_len play.old.out + 1 }
+{
+    match squeeze_end(cave, play.state.trail.here) {
+        None => stay(play, Role::NoWay),
+        Some(end) => {
+            if is_slim(names, &play.state) {
+                return end;
+            }
+            stay(play, Role::TooTight)
+        }
+    }
+}
+
+fn lead_specially(cave: &Cave, names: &Names, special: Special, play: &mut Play) -> Place
+    requires { array_vec_len play.old.out < 512 }
+    ensures journey { record { place = result; play = play.new } ≡ led_specially cave.now names.now special play.old }
+    ensures few { array_vec_len play.new.out ≤ array_vec_len play.old.out + 1 }
+{
+    match special {
+        Special::Squeeze => squeeze(cave, names, play),
+        Special::Bridge => stay(play, Role::NoWay),
+    }
+}
+
+/// Where the outcome of a motion leads.
+fn lead(cave: &Cave, names: &Names, motion: u16, outcome: Outcome, play: &mut Play) -> Place
+    requires { array_vec_len play.old.out < 512 }
+    ensures journey { record { place = result; play = play.new } ≡ led cave.now names.now motion outcome play.old }
+    ensures few { array_vec_len play.new.out ≤ array_vec_len play.old.out + 1 }
+{
+    match outcome {
+        Outcome::Go(place) => place,
+        Outcome::Special(special) => lead_specially(cave, names, special, play),
+        Outcome::Say(message) => {
+            play.tell(Part::Message(message));
+            play.state.trail.here
+        }
+        Outcome::NoMotion => stay(play, refusal_of(motion)),
+        Outcome::NoWay => stay(play, Role::NoWay),
+    }
+}
+
+/// Where the rows of the place lead by a motion.
+#[tactic(auto, unfolding(crate::specs::Journeys::routed))]
+pub fn route(cave: &Cave, names: &Names, motion: u16, play: &mut Play) -> Place
+    requires { array_vec_len play.old.out < 512 }
+    ensures journey { record { place = result; play = play.new } ≡ routed cave.now names.now motion play.old }
+    ensures few { array_vec_len play.new.out ≤ array_vec_len play.old.out + 1 }
+{
+    let outcome = travel(cave, names.emerald, &mut play.state, motion);
+    lead(cave, names, motion, outcome, play)
+}
+
+/// The player sets out by a motion.
+#[tactic(auto, unfolding(crate::specs::Journeys::set_forth))]
+pub fn set_forth(cave: &Cave, names: &Names, motion: u16, play: &mut Play) -> Place
+    requires { array_vec_len play.old.out < 512 }
+    ensures journey { record { place = result; play = play.new } ≡ set_forth cave.now names.now motion play.old }
+    ensures few { array_vec_len play.new.out ≤ array_vec_len play.old.out + 1 }
+{
+    play.set_out();
+    route(cave, names, motion, play)
+}
+
+fn say_enough(play: &mut Play)
+    requires { array_vec_len play.old.out < 512 }
+    ensures play { play.new ≡ enough_said play.old }
+    ensures few { array_vec_len play.new.out ≤ array_vec_len play.old.out + 1 }
+{
+    if play.state.talk.details.number() < 3 {
+        play.state.talk.details = play.state.talk.details.up();
+        play.say(Role::Enough);
+    }
+}
+
+fn forget(play: &mut Play)
+    ensures { play.new ≡ unvisited play.old }
+{
+    let here = play.state.trail.here;
+    play.state.forget_visits(here);
+    play.was_dark = false;
+}
+
+/// The player looks round, and is told the place at length.
+#[tactic(auto, unfolding(crate::specs::Journeys::looking))]
+fn look(play: &mut Play) -> Place
+    requires { array_vec_len play.old.out < 512 }
+    ensures journey { record { place = result; play = play.new } ≡ looking play.old }
+    ensures few { array_vec_len play.new.out ≤ array_vec_len play.old.out + 1 }
+{
+    say_enough(play);
+    forget(play);
+    play.state.trail.here
+}
+
+/// The player asks where the cave is.
+#[tactic(auto, unfolding(crate::specs::Journeys::seeking_cave))]
+fn seek_cave(cave: &Cave, play: &mut Play) -> Place
+    requires { array_vec_len play.old.out < 512 }
+    ensures journey { record { place = result; play = play.new } ≡ seeking_cave cave.now play.old }
+    ensures few { array_vec_len play.new.out ≤ array_vec_len play.old.out + 1 }
+{
+    let outside = match place_named(cave, PlaceRole::Outside) {
+        Some(place) => place.number(),
+        None => 8,
+    };
+    if play.state.trail.here.number() < outside {
+        stay(play, Role::CaveOut)
+    } else {
+        stay(play, Role::CaveIn)
+    }
+}
+
+/// Where a motion that the player asks for leads.
+#[tactic(auto, unfolding(crate::specs::Journeys::led_by_motion))]
+pub fn lead_by_motion(cave: &Cave, names: &Names, motion: u16, play: &mut Play) -> Place
+    requires { array_vec_len play.old.out < 512 }
+    ensures journey { record { place = result; play = play.new } ≡ led_by_motion cave.now names.now motion play.old }
+    ensures few { array_vec_len play.new.out ≤ array_vec_len play.old.out + 1 }
+{
+    match motion {
+        21 => play.state.trail.here,
+        57 => look(play),
+        67 => seek_cave(cave, play),
+        8 => go_back(cave, names, play),
+        _ => set_forth(cave, names, motion, play),
+    }
+}

@@ -1,0 +1,129 @@
+ghost use Rattle.std.specs.Prelude.{◌≡◌, ◌+◌, ◌<◌, ◌≤◌, length};
+ghost use Rattle.arrayvec.specs.ArrayVec.{array_vec_len};
+ghost use Rattle.cave_world.specs.Lists.{halves_at};
+ghost use Rattle.cave_world.specs.Objects.{anchor_of};
+ghost use Rattle.cave_world.specs.Spots.{place_of_anchor, is_place};
+ghost use Rattle.cave_turn.specs.Objects.{is_unseen, is_kept_back, first_prop, one_less_unseen, shortened, found, found_if_unseen, told_prop, object_told, objects_told};
+
+use crate::names::Names;
+use crate::play::Play;
+use cave_world::{Charge, Half, Object, Part, Prop, State};
+
+/// The most turns for which the lamp burns once the treasures that are left can't all be found.
+const SHORT_LAMP: i32 = 35;
+
+fn is_unseen(state: &State, object: Object) -> bool
+    ensures { result ≡ is_unseen state.now object }
+{
+    state.objects.prop(object).value() < 0
+}
+
+/// Whether an object isn't told though it is there.
+#[tactic(auto, unfolding(crate::specs::Objects::is_kept_back))]
+fn is_kept_back(names: &Names, state: &State, object: Object) -> bool
+    ensures { result ≡ is_kept_back names.now state.now object }
+{
+    (object == names.steps && state.toting(names.gold))
+        || (is_unseen(state, object) && state.closing.is_closed)
+}
+
+fn first_prop(names: &Names, object: Object) -> Prop
+    ensures { result ≡ first_prop names.now object }
+{
+    if object == names.rug || object == names.chain {
+        Prop::new(1)
+    } else {
+        Prop::new(0)
+    }
+}
+
+fn count_one_less(state: &mut State)
+    ensures { state.new ≡ one_less_unseen state.old }
+{
+    state.tallies.unseen = state.tallies.unseen.down();
+}
+
+fn shorten_lamp(state: &mut State)
+    ensures { state.new ≡ shortened state.old }
+{
+    let unseen = state.tallies.unseen.number();
+    let lost = state.tallies.lost.number();
+    if unseen == lost && unseen != 0 {
+        let turns = state.lamp.charge.turns();
+        state.lamp.charge = Charge::new(turns.min(SHORT_LAMP));
+    }
+}
+
+/// A treasure is seen for the first time.
+#[tactic(auto, unfolding(crate::specs::Objects::found))]
+fn find(names: &Names, object: Object, state: &mut State)
+    ensures { state.new ≡ found names.now object state.old }
+{
+    state.objects.set_prop(object, first_prop(names, object));
+    count_one_less(state);
+    shorten_lamp(state);
+}
+
+fn find_if_unseen(names: &Names, object: Object, state: &mut State)
+    ensures { state.new ≡ found_if_unseen names.now object state.old }
+{
+    if is_unseen(state, object) {
+        find(names, object, state);
+    }
+}
+
+/// The prop for which an object is told.
+#[tactic(auto, unfolding(crate::specs::Objects::told_prop))]
+fn told_prop(names: &Names, state: &State, object: Object) -> Prop
+    ensures { result ≡ told_prop names.now state.now object }
+{
+    if object == names.steps && is_second_here(state, object) {
+        Prop::new(1)
+    } else {
+        state.objects.prop(object)
+    }
+}
+
+fn is_second_here(state: &State, object: Object) -> bool
+    ensures { result ≡ is_place state.now.trail.here (place_of_anchor (anchor_of state.now.objects object)) }
+{
+    match state.objects.anchor(object).place() {
+        Some(place) => place == state.trail.here,
+        None => false,
+    }
+}
+
+/// An object is told, and is found if it wasn't seen before.
+#[tactic(auto, unfolding(crate::specs::Objects::object_told))]
+fn tell_object(names: &Names, object: Object, play: &mut Play)
+    requires { array_vec_len play.old.out < 512 }
+    ensures play { play.new ≡ object_told names.now object play.old }
+    ensures few { array_vec_len play.new.out ≤ array_vec_len play.old.out + 1 }
+{
+    if is_kept_back(names, &play.state, object) {
+        return;
+    }
+    find_if_unseen(names, object, &mut play.state);
+    let prop = told_prop(names, &play.state, object);
+    play.tell(Part::Object(object, prop));
+}
+
+fn tell_all(names: &Names, halves: &[Half], play: &mut Play)
+    requires { array_vec_len play.old.out + length halves.now ≤ 512 }
+    ensures play { play.new ≡ objects_told names.now halves.now play.old }
+    ensures few { array_vec_len play.new.out ≤ array_vec_len play.old.out + length halves.now }
+{
+    for half in halves {
+        tell_object(names, half.object(), play);
+    }
+}
+
+/// The objects where the player stands are told, latest first.
+pub fn tell_objects(names: &Names, play: &mut Play)
+    requires { array_vec_len play.old.out + 200 ≤ 512 }
+    ensures play { play.new ≡ objects_told names.now (halves_at play.old.state.trail.here play.old.state.objects.lists) play.old }
+    ensures few { array_vec_len play.new.out ≤ array_vec_len play.old.out + 200 }
+{
+    let halves = play.state.objects_at(play.state.trail.here);
+    tell_all(names, halves.as_slice(), play);
+}

@@ -1,0 +1,144 @@
+ghost use Rattle.std.specs.Prelude.{◌≡◌, ◌++◌, take, vec_len, decimal, OnOk};
+ghost use Rattle.cave_turn.specs.OwnLines.{counting, scored, quoting, number_line, word_line, final_line, points, more_points, turn_count};
+
+use cave_words::Word;
+use cave_world::{NumberLine, WordLine};
+use itoa::Buffer;
+use std::alloc::AllocError;
+
+/// Appends a number between two texts.
+fn count(text: &mut Vec<u8>, before: &[u8], number: u32, after: &[u8]) -> Result<(), AllocError>
+    ensures ok { OnOk result (text.new.items ≡ text.old.items ++ counting before.now number after.now) }
+    ensures front { take (vec_len text.old) text.new.items ≡ text.old.items }
+{
+    let mut buffer = Buffer::new();
+    text.extend_from_slice(before)?;
+    text.extend_from_slice(buffer.format(number).as_bytes())?;
+    text.extend_from_slice(after)
+}
+
+/// Appends a word between two texts.
+fn quote(text: &mut Vec<u8>, before: &[u8], word: Word, after: &[u8]) -> Result<(), AllocError>
+    ensures ok { OnOk result (text.new.items ≡ text.old.items ++ quoting before.now word after.now) }
+    ensures front { take (vec_len text.old) text.new.items ≡ text.old.items }
+{
+    text.extend_from_slice(before)?;
+    text.extend_from_slice(word.letters())?;
+    text.extend_from_slice(after)
+}
+
+fn points(number: u32) -> &'static [u8]
+    ensures { result.now ≡ points number }
+{
+    if number == 1 {
+        b" point.\n"
+    } else {
+        b" points.\n"
+    }
+}
+
+fn more_points(number: u32) -> &'static [u8]
+    ensures { result.now ≡ more_points number }
+{
+    if number == 1 {
+        b" more point.\n"
+    } else {
+        b" more points.\n"
+    }
+}
+
+fn turn_count(number: u32) -> &'static [u8]
+    ensures { result.now ≡ turn_count number }
+{
+    if number == 1 {
+        b" turn.\n"
+    } else {
+        b" turns.\n"
+    }
+}
+
+/// Appends a score and the greatest one between two texts.
+fn append_score(
+    text: &mut Vec<u8>,
+    before: &[u8],
+    score: u32,
+    most: u32,
+    after: &[u8],
+) -> Result<(), AllocError>
+    ensures ok { OnOk result (text.new.items ≡ text.old.items ++ scored before.now score most after.now) }
+    ensures front { take (vec_len text.old) text.new.items ≡ text.old.items }
+{
+    count(text, before, score, b" out of a possible ")?;
+    count(text, b"", most, after)
+}
+
+/// Appends a line that tells a number.
+#[tactic(auto, unfolding(crate::specs::OwnLines::number_line))]
+pub fn append_number_line(
+    text: &mut Vec<u8>,
+    line: NumberLine,
+    number: u32,
+    most: u32,
+) -> Result<(), AllocError>
+    ensures ok { OnOk result (text.new.items ≡ text.old.items ++ number_line line number most) }
+    ensures front { take (vec_len text.old) text.new.items ≡ text.old.items }
+{
+    match line {
+        NumberLine::DwarvesHere => count(
+            text,
+            b"There are ",
+            number,
+            b" threatening little dwarves in the room with you.\n",
+        ),
+        NumberLine::KnivesThrown => count(text, b"", number, b" of them throw knives at you!\n"),
+        NumberLine::KnivesHit => count(text, b"", number, b" of them get you!\n"),
+        NumberLine::HintCosts => count(
+            text,
+            b"I am prepared to give you a hint, but it will cost you ",
+            number,
+            points(number),
+        ),
+        NumberLine::ScoreNow => append_score(
+            text,
+            b"If you were to quit now, you would score ",
+            number,
+            most,
+            b".\n",
+        ),
+        NumberLine::PointsWanted => count(
+            text,
+            b"To achieve the next higher rating, you need ",
+            number,
+            more_points(number),
+        ),
+    }
+}
+
+/// Appends a line that repeats a word.
+#[tactic(auto, unfolding(crate::specs::OwnLines::word_line))]
+pub fn append_word_line(text: &mut Vec<u8>, line: WordLine, word: Word) -> Result<(), AllocError>
+    ensures ok { OnOk result (text.new.items ≡ text.old.items ++ word_line line word) }
+    ensures front { take (vec_len text.old) text.new.items ≡ text.old.items }
+{
+    match line {
+        WordLine::NotSeen => quote(text, b"I see no ", word, b" here.\n"),
+        WordLine::WhatToDo => quote(text, b"What do you want to do with the ", word, b"?\n"),
+        WordLine::Okay => quote(text, b"Okay, \"", word, b"\".\n"),
+        WordLine::What => quote(text, b"", word, b" what?\n"),
+    }
+}
+
+/// Appends the line that ends a game.
+#[tactic(auto, unfolding(crate::specs::OwnLines::final_line))]
+pub fn append_final_line(
+    text: &mut Vec<u8>,
+    score: u32,
+    most: u32,
+    turns: u32,
+) -> Result<(), AllocError>
+    ensures ok { OnOk result (text.new.items ≡ text.old.items ++ final_line score most turns) }
+    ensures front { take (vec_len text.old) text.new.items ≡ text.old.items }
+{
+    append_score(text, b"You scored ", score, most, b", using ")?;
+    count(text, b"", turns, turn_count(turns))
+}
