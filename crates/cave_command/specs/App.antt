@@ -1,0 +1,57 @@
+-- The commands and their arguments.
+use Rattle.std.specs.Prelude.{◌≡◌, true, false, Some, codes}
+use Rattle.clap.specs.Words.{App, Rule, app_of, new_app, new_rule, with_rule, with_subcommand}
+use Rattle.clap.specs.declared.builder.command.Command.{Command}
+use Rattle.clap.specs.declared.builder.command.Command.TheViews.{out-Command}
+
+-- a command that is this one, with no argument that other commands share
+abbrev pub IsLocal : App → Command → Type 0
+IsLocal app command = (app_of command ≡ app) × ((out-Command command).has_globals ≡ false)
+
+-- the files, which have to be named, in this order
+abbrev pub cave_rule : Rule
+cave_rule = record (new_rule (codes "cave")) { required = true; value_names = 1 }
+
+abbrev pub log_rule : Rule
+log_rule = record (new_rule (codes "log")) { required = true; value_names = 1 }
+
+abbrev pub script_rule : Rule
+script_rule = record (new_rule (codes "script")) { required = true; value_names = 1 }
+
+-- the options
+abbrev pub bind_rule : Rule
+bind_rule = record (new_rule (codes "bind")) { long = Some (codes "bind"); value_names = 1 }
+
+abbrev pub seed_rule : Rule
+seed_rule = record (new_rule (codes "seed")) { long = Some (codes "seed"); value_names = 1 }
+
+abbrev pub every_rule : Rule
+every_rule = record (new_rule (codes "every")) { long = Some (codes "every"); value_names = 1 }
+
+-- the commands
+abbrev pub check_app : App
+check_app = with_rule (with_rule (new_app (codes "check")) cave_rule) bind_rule
+
+-- a command with the files of a game
+abbrev pub with_game : App → App
+with_game app = with_rule (with_rule app cave_rule) log_rule
+
+-- a command with the options of a game
+abbrev pub with_options : App → App
+with_options app = with_rule (with_rule app bind_rule) seed_rule
+
+abbrev pub play_app : App
+play_app = with_options (with_game (new_app (codes "play")))
+
+abbrev pub edit_app : App
+edit_app = with_rule (with_options (with_rule (with_game (new_app (codes "edit"))) script_rule)) every_rule
+
+-- the program, which wants one of the commands
+abbrev pub plain_app : App
+plain_app = record {
+  top = record (new_app (codes "cave")).top { has_version = true; subcommand_required = true; arg_required_else_help = true };
+  subs = (new_app (codes "cave")).subs;
+}
+
+abbrev pub cave_app : App
+cave_app = with_subcommand (with_subcommand (with_subcommand plain_app check_app.top) play_app.top) edit_app.top

@@ -1,0 +1,102 @@
+-- Which run the words ask for.
+use Rattle.std.specs.Prelude.{◌≡◌, ◌≢◌, ◌⊎◌, ◌&&◌, ◌||◌, ℕ, Bool, false, bytes_eq, is_some, List, [], Option, Some, None, option_map, codes}
+use Rattle.clap.specs.Words.{IsAmong, Kinds, Row, first_of, found_of, kind_of, rows_of}
+use Rattle.clap.specs.declared.error.Error.{Error}
+use Rattle.clap.specs.declared.error.kind.ErrorKind.{ErrorKind}
+use Rattle.clap.specs.declared.error.kind.ErrorKind.TheVariants.{DisplayHelp, DisplayVersion, OutOfMemory}
+use Rattle.clap.specs.declared.parser.matches.ArgMatches.{ArgMatches}
+use Rattle.cave_command.specs.Number.{IsNumber, number_in}
+use Rattle.cave_command.specs.declared.fault.LineFault.{LineFault}
+use Rattle.cave_command.specs.declared.fault.LineFault.TheVariants.{Usage, Incomplete, BadSeed, BadEvery, Memory}
+use Rattle.cave_command.specs.declared.line.Files.{Files}
+use Rattle.cave_command.specs.declared.line.Line.{Line}
+use Rattle.cave_command.specs.declared.line.Line.TheVariants.{Check, Play, Edit, Text}
+use Rattle.cave_command.specs.declared.number.TheConstants.{GREATEST_SEED, MOST_EVERY}
+
+-- a command that was met, with what was found for its arguments
+abbrev pub Met : Type 0
+Met = Option (List ℕ × List Row)
+
+-- what was found for the arguments of a command
+abbrev pub rows_in : ArgMatches → List Row
+rows_in found = rows_of (found_of found)
+
+-- the files of a cave are what was found for them
+pub record IsFiles (rows : List Row) (files : Files) : Type 0 where
+  pub cave : first_of (codes "cave") rows ≡ Some files.cave.now
+  pub bind : first_of (codes "bind") rows ≡ option_map (λ s. s.now) files.bind
+
+-- a seed is what was found for it, or 0
+abbrev pub IsSeed : List Row → ℕ → Type 0
+IsSeed rows seed = IsNumber 0 GREATEST_SEED 0 (first_of (codes "seed") rows) seed
+
+-- a distance of kept states is what was found for it, or 50
+abbrev pub IsEvery : List Row → ℕ → Type 0
+IsEvery rows every = IsNumber 1 MOST_EVERY 50 (first_of (codes "every") rows) every
+
+-- the line is what was found for the command of this name
+abbrev pub IsLineOf : List ℕ → List Row → Line → Type 0
+IsLineOf name rows (Check files) = (name ≡ codes "check") × IsFiles rows files
+IsLineOf name rows (Play files log seed) =
+    (name ≡ codes "play") × IsFiles rows files × (first_of (codes "log") rows ≡ Some log.now) × IsSeed rows seed
+IsLineOf name rows (Edit files log script seed every) =
+    (name ≡ codes "edit") × IsFiles rows files × (first_of (codes "log") rows ≡ Some log.now)
+    × (first_of (codes "script") rows ≡ Some script.now) × IsSeed rows seed × IsEvery rows every
+IsLineOf name rows (Text error) = ⊥
+
+abbrev pub IsLineMet : Met → Line → Type 0
+IsLineMet None line = ⊥
+IsLineMet (Some found) line = IsLineOf found.0 found.1 line
+
+-- a run is what was found for its command
+abbrev pub IsLine : Met → Line → Type 0
+IsLine met (Text error) = Unit {0}
+IsLine met line = IsLineMet met line
+
+-- help or the version was asked for
+abbrev pub IsRequest : ErrorKind → Type 0
+IsRequest kind = (kind ≡ DisplayHelp) ⊎ (kind ≡ DisplayVersion)
+
+-- a text is printed where help or the version is what the words come to, and a run is made where nothing is wrong with them
+abbrev pub IsAsked : Kinds → Line → Type 0
+IsAsked kinds (Text error) = IsRequest (kind_of error) × IsAmong (kind_of error) kinds
+IsAsked kinds line = kinds ≡ []
+
+-- all the files of a command were found
+abbrev pub has_files : List ℕ → List Row → Bool
+has_files name rows =
+    is_some (first_of (codes "cave") rows)
+    && (bytes_eq name (codes "check")
+    || (is_some (first_of (codes "log") rows) && (bytes_eq name (codes "play") || (bytes_eq name (codes "edit") && is_some (first_of (codes "script") rows)))))
+
+abbrev pub is_complete : Met → Bool
+is_complete None = false
+is_complete (Some found) = has_files found.0 found.1
+
+-- what was found for the seed is no seed
+abbrev pub IsBadSeed : List Row → LineFault → Type 0
+IsBadSeed rows (BadSeed text) = (first_of (codes "seed") rows ≡ Some text.now) × (number_in 0 GREATEST_SEED text.now ≡ None)
+IsBadSeed rows _ = ⊥
+
+-- what was found for the distance of kept states is none
+abbrev pub IsBadEvery : List Row → LineFault → Type 0
+IsBadEvery rows (BadEvery text) = (first_of (codes "every") rows ≡ Some text.now) × (number_in 1 MOST_EVERY text.now ≡ None)
+IsBadEvery rows _ = ⊥
+
+-- what is wrong with what was found
+abbrev pub IsWrong : Met → LineFault → Type 0
+IsWrong met Incomplete = is_complete met ≡ false
+IsWrong None fault = ⊥
+IsWrong (Some found) fault = IsBadSeed found.1 fault ⊎ IsBadEvery found.1 fault
+
+-- the parser's error, as a fault
+abbrev pub IsRefusal : Error → LineFault → Type 0
+IsRefusal error Memory = kind_of error ≡ OutOfMemory
+IsRefusal error (Usage given) = (given ≡ error) × (¬ IsRequest (kind_of error)) × (kind_of error ≢ OutOfMemory)
+IsRefusal error _ = ⊥
+
+-- the words are refused for what is wrong with them, unless memory ran out
+abbrev pub IsRefused : Kinds → Met → LineFault → Type 0
+IsRefused kinds met Memory = Unit {0}
+IsRefused kinds met (Usage error) = (¬ IsRequest (kind_of error)) × IsAmong (kind_of error) kinds
+IsRefused kinds met fault = (kinds ≡ []) × IsWrong met fault

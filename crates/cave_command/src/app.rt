@@ -1,0 +1,92 @@
+//! The commands, as the parser knows them.
+
+ghost use Rattle.std.specs.Prelude.{◌≡◌, IfOk, false};
+ghost use Rattle.clap.specs.Words.{app_of};
+ghost use Rattle.clap.specs.declared.builder.command.Command.TheViews.{out-Command};
+ghost use Rattle.cave_command.specs.App.{IsLocal, cave_app, check_app, edit_app, plain_app, play_app, with_game, with_options};
+
+use crate::arguments::{
+    bind_argument, cave_argument, every_argument, log_argument, script_argument, seed_argument,
+};
+use clap::Command;
+use std::alloc::{AllocError, Global};
+
+/// What stands under the help of `edit`.
+const EDIT_EXAMPLE: &str = "Example: cave edit caves/a.txt logs/first.log edits.txt
+
+where edits.txt may hold the lines
+
+  insert 2 take lamp
+  begin
+  replace 3 out
+  seed 7
+  end";
+
+fn check_command<'a>(alloc: Global) -> Result<Command<'a>, AllocError>
+    ensures { IfOk result (IsLocal check_app) }
+{
+    let command = Command::new(alloc, "check")
+        .about("Reads a cave and says whether it is one that can be played")
+        .after_help("Example: cave check caves/b.txt --bind caves/b.bind");
+    command.arg(cave_argument(alloc))?.arg(bind_argument(alloc))
+}
+
+/// Adds the files of a game: the cave and the log.
+fn with_game<'a>(alloc: Global, command: Command<'a>) -> Result<Command<'a>, AllocError>
+    requires { (out-Command command).has_globals ≡ false }
+    ensures { IfOk result (IsLocal (with_game (app_of command.entry))) }
+{
+    command.arg(cave_argument(alloc))?.arg(log_argument(alloc))
+}
+
+/// Adds the options of a game: the bindings and the seed.
+fn with_options<'a>(alloc: Global, command: Command<'a>) -> Result<Command<'a>, AllocError>
+    requires { (out-Command command).has_globals ≡ false }
+    ensures { IfOk result (IsLocal (with_options (app_of command.entry))) }
+{
+    command.arg(bind_argument(alloc))?.arg(seed_argument(alloc))
+}
+
+fn play_command<'a>(alloc: Global) -> Result<Command<'a>, AllocError>
+    ensures { IfOk result (IsLocal play_app) }
+{
+    let command = Command::new(alloc, "play")
+        .about("Plays a log from its first line to its last and prints what the game says")
+        .after_help("Example: cave play caves/b.txt logs/first.log --bind caves/b.bind --seed 7");
+    with_options(alloc, with_game(alloc, command)?)
+}
+
+fn edit_command<'a>(alloc: Global) -> Result<Command<'a>, AllocError>
+    ensures { IfOk result (IsLocal edit_app) }
+{
+    let command = Command::new(alloc, "edit")
+        .about(
+            "Edits a log by a script, replays what the edits change and prints what the game then says",
+        )
+        .after_help(EDIT_EXAMPLE);
+    let command = with_game(alloc, command)?.arg(script_argument(alloc))?;
+    with_options(alloc, command)?.arg(every_argument(alloc))
+}
+
+/// The program's command, with its three subcommands.
+pub fn cave_command<'a>(alloc: Global) -> Result<Command<'a>, AllocError>
+    ensures { IfOk result (λ command. app_of command ≡ cave_app) }
+{
+    let check = check_command(alloc)?;
+    let play = play_command(alloc)?;
+    let edit = edit_command(alloc)?;
+    plain_command(alloc)
+        .subcommand(check)?
+        .subcommand(play)?
+        .subcommand(edit)
+}
+
+fn plain_command<'a>(alloc: Global) -> Command<'a>
+    ensures { app_of result ≡ plain_app }
+{
+    Command::new(alloc, "cave")
+        .about("Plays logs of a text adventure, and edits and replays them")
+        .version("1.0")
+        .subcommand_required(true)
+        .arg_required_else_help(true)
+}

@@ -1,0 +1,67 @@
+//! The arguments of the commands.
+
+ghost use Rattle.std.specs.Prelude.{◌≡◌, false};
+ghost use Rattle.clap.specs.Words.{rule_of};
+ghost use Rattle.cave_command.specs.App.{bind_rule, cave_rule, every_rule, log_rule, script_rule, seed_rule};
+
+use clap::Arg;
+use std::alloc::Global;
+
+pub(crate) fn cave_argument<'a>(alloc: Global) -> Arg<'a>
+    ensures rule { rule_of result ≡ cave_rule }
+    ensures local { result.global ≡ false }
+{
+    Arg::new(alloc, "cave")
+        .required(true)
+        .value_name("CAVE")
+        .help("The database of the cave")
+}
+
+pub(crate) fn log_argument<'a>(alloc: Global) -> Arg<'a>
+    ensures rule { rule_of result ≡ log_rule }
+    ensures local { result.global ≡ false }
+{
+    Arg::new(alloc, "log")
+        .required(true)
+        .value_name("LOG")
+        .help("The log of the game: what the player says, line by line")
+}
+
+pub(crate) fn script_argument<'a>(alloc: Global) -> Arg<'a>
+    ensures rule { rule_of result ≡ script_rule }
+    ensures local { result.global ≡ false }
+{
+    Arg::new(alloc, "script")
+        .required(true)
+        .value_name("SCRIPT")
+        .help(
+            "The edits of the log: lines `insert N TEXT`, `delete N`, `replace N TEXT`, `seed N`, and groups from `begin` to `end`",
+        )
+}
+
+pub(crate) fn bind_argument<'a>(alloc: Global) -> Arg<'a>
+    ensures rule { rule_of result ≡ bind_rule }
+    ensures local { result.global ≡ false }
+{
+    Arg::new(alloc, "bind").long("bind").value_name("FILE").help(
+        "The bindings of messages and places to what the rules call them",
+    )
+}
+
+pub(crate) fn seed_argument<'a>(alloc: Global) -> Arg<'a>
+    ensures rule { rule_of result ≡ seed_rule }
+    ensures local { result.global ≡ false }
+{
+    Arg::new(alloc, "seed").long("seed").value_name("N").help(
+        "Where the random numbers begin, from 0 to 2147483647 [default: 0]",
+    )
+}
+
+pub(crate) fn every_argument<'a>(alloc: Global) -> Arg<'a>
+    ensures rule { rule_of result ≡ every_rule }
+    ensures local { result.global ≡ false }
+{
+    Arg::new(alloc, "every").long("every").value_name("K").help(
+        "The most lines between two kept states, from 1 to 10000: the fewer, the less an edit replays and the more is kept [default: 50]",
+    )
+}

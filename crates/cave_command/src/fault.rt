@@ -1,0 +1,52 @@
+ghost use Rattle.std.specs.Prelude.{◌≡◌};
+ghost use Rattle.cave_command.specs.Status.{status_of};
+ghost use Rattle.cave_command.specs.declared.fault.LineFault.TheVariants.{Memory};
+
+use clap::Error as ParseError;
+use std::alloc::{AllocError, AllocFailed};
+use thiserror::Error;
+
+/// Why a command line asks for no run. Its text is whole lines, for standard error.
+#[derive(Debug, Drop, Error)]
+pub enum LineFault<'a> {
+    /// The parser refused the words.
+    #[error("{0}")]
+    Usage(ParseError),
+    /// The words name no command or not all of its files.
+    #[error("error: a command and its files are wanted\n\nFor more information, try '--help'.\n")]
+    Incomplete,
+    #[error("error: invalid value '{0}' for '--seed <N>': wanted are 1 to 10 digits, from 0 to 2147483647\n\nFor more information, try '--help'.\n")]
+    BadSeed(&'a str),
+    #[error("error: invalid value '{0}' for '--every <K>': wanted are 1 to 10 digits, from 1 to 10000\n\nFor more information, try '--help'.\n")]
+    BadEvery(&'a str),
+    #[error("error: out of memory\n")]
+    Memory,
+}
+
+impl LineFault<'_> {
+    /// The status with which the program ends.
+    pub fn status(&self) -> u8
+        ensures { result ≡ status_of self.now }
+    {
+        match self {
+            LineFault::Memory => 7,
+            _ => 2,
+        }
+    }
+}
+
+impl From<AllocError> for LineFault<'_> {
+    ghost from_gives = { λ _ fault. fault ≡ Memory };
+
+    fn from(_: AllocError) -> Self {
+        LineFault::Memory
+    }
+}
+
+impl<T: Drop> From<AllocFailed<T>> for LineFault<'_> {
+    ghost from_gives = { λ _ fault. fault ≡ Memory };
+
+    fn from(_: AllocFailed<T>) -> Self {
+        LineFault::Memory
+    }
+}

@@ -1,0 +1,15 @@
+//! The command line of the program: which run its words ask for.
+#![tactic(auto)]
+
+pub mod app;
+mod arguments;
+pub mod fault;
+pub mod line;
+mod number;
+mod read;
+#[cfg(test)]
+mod tests;
+
+pub use fault::LineFault;
+pub use line::{Files, Line};
+pub use read::command_line;

@@ -1,0 +1,31 @@
+use clap::Error;
+
+/// The files of a cave.
+#[derive(Clone, Copy, Debug, PartialEq, Eq)]
+pub struct Files<'a> {
+    pub cave: &'a str,
+    /// The bindings, where there are any.
+    pub bind: Option<&'a str>,
+}
+
+/// What the words ask for.
+#[derive(Debug, Drop)]
+pub enum Line<'a> {
+    Check {
+        files: Files<'a>,
+    },
+    Play {
+        files: Files<'a>,
+        log: &'a str,
+        seed: u32,
+    },
+    Edit {
+        files: Files<'a>,
+        log: &'a str,
+        script: &'a str,
+        seed: u32,
+        every: u32,
+    },
+    /// Help or the version: the text to print.
+    Text(Error),
+}

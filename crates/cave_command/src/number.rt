@@ -1,0 +1,39 @@
+//! Numbers of the command line: digits and nothing else.
+
+ghost use Rattle.std.specs.Prelude.{◌≡◌, ◌<◌, ◌^◌};
+ghost use Rattle.std.specs.List.{list_all};
+ghost use Rattle.cave_words.specs.Bytes.{is_digit};
+ghost use Rattle.cave_command.specs.Number.{number_in};
+
+use cave_words::bytes::number_of;
+
+/// The most digits of a number.
+pub const MOST_DIGITS: usize = 10;
+
+/// The greatest seed.
+pub const GREATEST_SEED: u32 = 2_147_483_647;
+
+/// The greatest distance of kept states.
+pub const MOST_EVERY: u32 = 10_000;
+
+fn is_all_digits(text: &[u8]) -> bool
+    ensures { result ≡ list_all is_digit text.now }
+{
+    text.iter().all(|byte| byte.is_ascii_digit())
+}
+
+/// The number that a text writes in 1 to 10 digits, if it lies from `least` to `most`.
+#[tactic(auto, unfolding(crate::specs::Number::number_in))]
+pub(crate) fn number_in(least: u32, most: u32, text: &str) -> Option<u32>
+    ensures { result ≡ number_in least most text.now }
+{
+    let digits = text.as_bytes();
+    if digits.is_empty() || digits.len() > MOST_DIGITS || !is_all_digits(digits) {
+        return None;
+    }
+    let number = number_of(digits);
+    if number < u64::from(least) || number > u64::from(most) {
+        return None;
+    }
+    Some(number as u32)
+}

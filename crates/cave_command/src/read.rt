@@ -1,0 +1,138 @@
+//! Which run the words ask for.
+
+ghost use Rattle.std.specs.Prelude.{◌≡◌, IfOk, IfErr, MatchOption, MatchResult, None, Some, codes, map};
+ghost use Rattle.clap.specs.Words.{fault_of, first_of, kind_of, subcommand_of, subcommand_rows_of};
+ghost use Rattle.cave_command.specs.App.{cave_app};
+ghost use Rattle.cave_command.specs.Parse.{IsParse};
+ghost use Rattle.cave_command.specs.Line.{IsAsked, IsBadEvery, IsBadSeed, IsEvery, IsFiles, IsLine, IsLineMet, IsLineOf, IsRefusal, IsRefused, IsRequest, IsSeed, IsWrong, rows_in};
+
+use crate::app::cave_command;
+use crate::fault::LineFault;
+use crate::line::{Files, Line};
+use crate::number::{GREATEST_SEED, MOST_EVERY, number_in};
+use clap::error::ErrorKind;
+use clap::{ArgMatches, Error};
+use std::alloc::Global;
+use std::convert::AsStr;
+
+/// The seed where none is given.
+const USUAL_SEED: u32 = 0;
+
+/// The distance of kept states where none is given.
+const USUAL_EVERY: u32 = 50;
+
+/// What the words of a command line ask for. The first word is the program's name.
+pub fn command_line<'a, S: AsStr>(alloc: Global, words: &'a [S]) -> Result<Line<'a>, LineFault<'a>>
+    ensures found { IfOk result (IsLine (subcommand_of cave_app (map S.text words.entry.now))) }
+    ensures asked { IfOk result (IsAsked (fault_of cave_app (map S.text words.entry.now))) }
+    ensures refused { let given = map S.text words.entry.now in
+        IfErr result (IsRefused (fault_of cave_app given) (subcommand_of cave_app given)) }
+{
+    match parse(alloc, words) {
+        Ok(matches) => line_met(&matches),
+        Err(error) => answer_to(error),
+    }
+}
+
+/// What the parser finds in the words.
+fn parse<'a, S: AsStr>(alloc: Global, words: &'a [S]) -> Result<ArgMatches<'a>, Error>
+    ensures { IsParse (map S.text words.entry.now) result }
+{
+    let command = cave_command(alloc)?;
+    command.try_get_matches_from(words)
+}
+
+/// What an error of the parser comes to: a text to print, or a fault.
+fn answer_to<'a>(error: Error) -> Result<Line<'a>, LineFault<'a>>
+    ensures ok { IfOk result (λ line. (line ≡ Line.Text error) × IsRequest (kind_of error)) }
+    ensures err { IfErr result (λ fault. IsRefusal error fault) }
+{
+    match error.kind() {
+        ErrorKind::DisplayHelp | ErrorKind::DisplayVersion => Ok(Line::Text(error)),
+        ErrorKind::OutOfMemory => Err(LineFault::Memory),
+        _ => Err(LineFault::Usage(error)),
+    }
+}
+
+/// The run of the command that was met.
+fn line_met<'a>(matches: &ArgMatches<'a>) -> Result<Line<'a>, LineFault<'a>>
+    ensures { MatchResult result (IsLineMet (subcommand_rows_of matches.now))
+        (IsWrong (subcommand_rows_of matches.now)) }
+{
+    let Some((name, found)) = matches.subcommand() else {
+        return Err(LineFault::Incomplete);
+    };
+    line_of(name, found)
+}
+
+/// The run of a command.
+fn line_of<'a>(name: &str, found: &ArgMatches<'a>) -> Result<Line<'a>, LineFault<'a>>
+    ensures { MatchResult result (IsLineOf name.now (rows_in found.now))
+        (IsWrong (Some (name.now, rows_in found.now))) }
+{
+    let Some(files) = files_in(found) else {
+        return Err(LineFault::Incomplete);
+    };
+    if name == "check" {
+        return Ok(Line::Check { files });
+    }
+    let Some(log) = value_in(found, "log") else {
+        return Err(LineFault::Incomplete);
+    };
+    if name == "play" {
+        let seed = seed_in(found)?;
+        return Ok(Line::Play { files, log, seed });
+    }
+    let Some(script) = value_in(found, "script") else {
+        return Err(LineFault::Incomplete);
+    };
+    if name != "edit" {
+        return Err(LineFault::Incomplete);
+    }
+    Ok(Line::Edit {
+        files,
+        log,
+        script,
+        seed: seed_in(found)?,
+        every: every_in(found)?,
+    })
+}
+
+/// What was found for an argument.
+#[tactic(auto, using(crate::proofs::Values::values))]
+fn value_in<'a>(found: &ArgMatches<'a>, id: &str) -> Option<&'a str>
+    ensures { MatchOption result (first_of id.now (rows_in found.now) ≡ None)
+        (λ text. first_of id.now (rows_in found.now) ≡ Some text.now) }
+{
+    found.get_str(id)
+}
+
+/// The files of a cave, if they were found.
+fn files_in<'a>(found: &ArgMatches<'a>) -> Option<Files<'a>>
+    ensures { MatchOption result (first_of (codes "cave") (rows_in found.now) ≡ None)
+        (IsFiles (rows_in found.now)) }
+{
+    let cave = value_in(found, "cave")?;
+    Some(Files {
+        cave,
+        bind: value_in(found, "bind"),
+    })
+}
+
+fn seed_in<'a>(found: &ArgMatches<'a>) -> Result<u32, LineFault<'a>>
+    ensures { MatchResult result (IsSeed (rows_in found.now)) (IsBadSeed (rows_in found.now)) }
+{
+    match value_in(found, "seed") {
+        None => Ok(USUAL_SEED),
+        Some(text) => number_in(0, GREATEST_SEED, text).ok_or(LineFault::BadSeed(text)),
+    }
+}
+
+fn every_in<'a>(found: &ArgMatches<'a>) -> Result<u32, LineFault<'a>>
+    ensures { MatchResult result (IsEvery (rows_in found.now)) (IsBadEvery (rows_in found.now)) }
+{
+    match value_in(found, "every") {
+        None => Ok(USUAL_EVERY),
+        Some(text) => number_in(1, MOST_EVERY, text).ok_or(LineFault::BadEvery(text)),
+    }
+}

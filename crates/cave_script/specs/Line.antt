@@ -1,0 +1,111 @@
+-- What one line of a script says.
+use Rattle.std.specs.Prelude.{◌≡◌, ℕ, ◌≤◌, ◌&&◌, ◌||◌, Bool, IsTrue, nat_lt, nat_le, bytes_eq, min, List, [], ◌∷◌, ◌++◌, length, take, drop, Option, Some, None, option_map, codes, if◌then◌else◌}
+use Rattle.std.specs.List.{list_all}
+use Rattle.cave_words.specs.Bytes.{is_blank, is_digit, in_front, behind, number_of}
+use Rattle.cave_words.specs.LogLine.{is_comment, is_blank_line}
+use Rattle.cave_replay.specs.Change.{Change, inserts, deletes, replaces, reseeds}
+use Rattle.cave_script.specs.declared.line.TheConstants.{MOST_DIGITS, GREATEST_NUMBER}
+
+-- ---- the grammar of a line
+
+-- a comment, or blanks alone
+abbrev pub is_skipped : List ℕ → Bool
+is_skipped line = is_comment line || is_blank_line line
+
+-- the word, with blanks behind it or none
+pub record IsWord (word line : List ℕ) : Type 0 where
+  pub blanks : List ℕ
+  pub parts : line ≡ word ++ blanks
+  pub all_blank : IsTrue (list_all is_blank blanks)
+
+-- the word, one blank, 1 to 10 digits and the rest; the number is what the digits write, or the greatest
+pub record IsNumbered (word line : List ℕ) (number : ℕ) (rest : List ℕ) : Type 0 where
+  pub blank : ℕ
+  pub digits : List ℕ
+  pub parts : line ≡ word ++ blank ∷ (digits ++ rest)
+  pub is_blank_byte : IsTrue (is_blank blank)
+  pub all_digits : IsTrue (list_all is_digit digits)
+  pub some_digits : 1 ≤ length digits
+  pub few_digits : length digits ≤ MOST_DIGITS
+  pub value : number ≡ min (number_of digits) GREATEST_NUMBER
+
+-- nothing, or one blank and the text
+abbrev pub IsText : List ℕ → List ℕ → Type 0
+IsText [] text = text ≡ []
+IsText (byte ∷ bytes) text = IsTrue (is_blank byte) × (text ≡ bytes)
+
+-- the line spells the change
+abbrev pub Spells : List ℕ → Change → Type 0
+Spells line (inserts at text) = (rest : List ℕ) × IsNumbered (codes "insert") line at rest × IsText rest text
+Spells line (deletes at) = (rest : List ℕ) × IsNumbered (codes "delete") line at rest × IsTrue (list_all is_blank rest)
+Spells line (replaces at text) = (rest : List ℕ) × IsNumbered (codes "replace") line at rest × IsText rest text
+Spells line (reseeds seed) = (rest : List ℕ) × IsNumbered (codes "seed") line seed rest × IsTrue (list_all is_blank rest)
+
+-- what a line can be
+pub data Kind : Type 0 where
+  nothing : Kind
+  begin : Kind
+  end : Kind
+  edit : Change → Kind
+  nonsense : Kind
+
+-- the line is of this kind
+abbrev pub IsKind : List ℕ → Kind → Type 0
+IsKind line nothing = IsTrue (is_skipped line)
+IsKind line begin = IsWord (codes "begin") line
+IsKind line end = IsWord (codes "end") line
+IsKind line (edit change) = Spells line change
+IsKind line nonsense = (¬ IsTrue (is_skipped line)) × (¬ IsWord (codes "begin") line) × (¬ IsWord (codes "end") line) × ((change : Change) → ¬ Spells line change)
+
+-- ---- what a line is, by cases
+
+unfoldable pub is_word : List ℕ → List ℕ → Bool
+is_word word line = bytes_eq (take (length word) line) word && list_all is_blank (drop (length word) line)
+
+-- the number that digits write, and the rest behind them
+abbrev pub number_in : List ℕ → List ℕ → Option (ℕ × List ℕ)
+number_in digits rest =
+    if nat_lt 0 (length digits) && nat_le (length digits) MOST_DIGITS
+    then Some (min (number_of digits) GREATEST_NUMBER, rest) else None
+
+-- the number behind one blank, and the rest behind it
+abbrev pub number_behind_blank : List ℕ → Option (ℕ × List ℕ)
+number_behind_blank [] = None
+number_behind_blank (byte ∷ bytes) = if is_blank byte then number_in (in_front is_digit bytes) (behind is_digit bytes) else None
+
+-- the number behind a word and one blank, and the rest behind it
+unfoldable pub number_after : List ℕ → List ℕ → Option (ℕ × List ℕ)
+number_after word line = if bytes_eq (take (length word) line) word then number_behind_blank (drop (length word) line) else None
+
+abbrev pub text_in : List ℕ → Option (List ℕ)
+text_in [] = Some []
+text_in (byte ∷ bytes) = if is_blank byte then Some bytes else None
+
+-- the change with a number and the text behind it, where the number was found, and else what comes later
+abbrev pub with_text : (ℕ → List ℕ → Change) → Option (ℕ × List ℕ) → Option Change → Option Change
+with_text change (Some found) later = option_map (change found.0) (text_in found.1)
+with_text change None later = later
+
+-- the change with a number and blanks behind it, where the number was found, and else what comes later
+abbrev pub alone : (ℕ → Change) → Option (ℕ × List ℕ) → Option Change → Option Change
+alone change (Some found) later = if list_all is_blank found.1 then Some (change found.0) else None
+alone change None later = later
+
+-- the change that the line spells, if it spells one
+unfoldable pub edit_of : List ℕ → Option Change
+edit_of line =
+    with_text inserts (number_after (codes "insert") line)
+    (alone deletes (number_after (codes "delete") line)
+    (with_text replaces (number_after (codes "replace") line)
+    (alone reseeds (number_after (codes "seed") line) None)))
+
+abbrev pub edit_or_nonsense : Option Change → Kind
+edit_or_nonsense (Some change) = edit change
+edit_or_nonsense None = nonsense
+
+-- what the line is
+unfoldable pub kind_of : List ℕ → Kind
+kind_of line =
+    if is_skipped line then nothing
+    else (if is_word (codes "begin") line then begin
+    else (if is_word (codes "end") line then end else edit_or_nonsense (edit_of line)))

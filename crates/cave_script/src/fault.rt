@@ -1,0 +1,44 @@
+ghost use Rattle.std.specs.Prelude.{◌≡◌};
+ghost use Rattle.cave_script.specs.declared.fault.ScriptFault.TheVariants.{Memory};
+
+use std::alloc::{AllocError, AllocFailed};
+use thiserror::Error;
+
+/// What is wrong with a line of a script.
+#[derive(Clone, Copy, Debug, PartialEq, Eq, Error)]
+pub enum Flaw {
+    #[error("expected `insert N TEXT`, `delete N`, `replace N TEXT`, `seed N`, `begin` or `end`, with one blank between the words and N of 1 to 10 digits")]
+    NoEdit,
+    #[error("`begin` inside a group: a group can't hold another")]
+    BeginInGroup,
+    #[error("`end` without a `begin` before it")]
+    EndOutsideGroup,
+    #[error("`begin` without an `end` behind it")]
+    NoEnd,
+}
+
+/// Why a script was refused as a whole.
+#[derive(Clone, Copy, Debug, PartialEq, Eq, Error)]
+pub enum ScriptFault {
+    /// The number, from 1, of the first malformed line, and what is wrong with it.
+    #[error("line {0} of the script: {1}")]
+    Malformed(usize, Flaw),
+    #[error("out of memory")]
+    Memory,
+}
+
+impl From<AllocError> for ScriptFault {
+    ghost from_gives = { λ _ fault. fault ≡ Memory };
+
+    fn from(_: AllocError) -> ScriptFault {
+        ScriptFault::Memory
+    }
+}
+
+impl<T: Drop> From<AllocFailed<T>> for ScriptFault {
+    ghost from_gives = { λ _ fault. fault ≡ Memory };
+
+    fn from(_: AllocFailed<T>) -> ScriptFault {
+        ScriptFault::Memory
+    }
+}

@@ -1,0 +1,142 @@
+//! One line of a script.
+
+ghost use Rattle.std.specs.Prelude.{◌≡◌, ◌+◌, ◌-◌, ◌*◌, IfOk, MatchOption, None, Some, option_map, min};
+ghost use Rattle.std.specs.List.{list_all};
+ghost use Rattle.cave_words.specs.Bytes.{is_blank, is_digit, number_of};
+ghost use Rattle.cave_replay.specs.Change.{change_of};
+ghost use Rattle.cave_script.specs.Line.{is_skipped, is_word, number_in, number_after, text_in, edit_of, kind_of};
+ghost use Rattle.cave_script.specs.Said.{kind_said};
+
+use cave_replay::Edit;
+use cave_words::bytes::{is_all_blank, is_blank, split_digits};
+use std::alloc::{AllocError, Global};
+
+/// The byte that begins a comment.
+pub const COMMENT_MARK: u8 = b'#';
+
+/// The most digits of a number.
+pub const MOST_DIGITS: usize = 10;
+
+/// The greatest number. One that is written greater is taken as this.
+pub const GREATEST_NUMBER: u32 = 4_294_967_295;
+
+/// What a line says.
+#[derive(Drop)]
+pub(crate) enum Said {
+    Nothing,
+    Begin,
+    End,
+    Edit(Edit),
+    Nonsense,
+}
+
+/// Whether a line is passed over: a comment, or blanks alone.
+fn is_skipped(line: &[u8]) -> bool
+    ensures { result ≡ is_skipped line.now }
+{
+    line.first() == Some(&COMMENT_MARK) || is_all_blank(line)
+}
+
+/// Whether a line is the word, with blanks behind it or none.
+#[tactic(auto, unfolding(crate::specs::Line::is_word))]
+fn is_word(word: &[u8], line: &[u8]) -> bool
+    ensures { result ≡ is_word word.now line.now }
+{
+    match line.strip_prefix(word) {
+        Some(rest) => is_all_blank(rest),
+        None => false,
+    }
+}
+
+/// A number with one more digit, as long as it doesn't pass the greatest.
+fn with_digit(number: u32, digit: u8) -> u32
+    ensures { result ≡ min (10 * number + (digit - 48)) GREATEST_NUMBER }
+{
+    number
+        .saturating_mul(10)
+        .saturating_add(u32::from(digit.saturating_sub(b'0')))
+}
+
+/// The number that digits write, or the greatest.
+#[tactic(auto, using(crate::proofs::Numbers::number_capped))]
+fn number_of(digits: &[u8]) -> u32
+    ensures { result ≡ min (number_of digits.now) GREATEST_NUMBER }
+{
+    digits
+        .iter()
+        .fold(0, |number, &digit| with_digit(number, digit))
+}
+
+/// The number behind a word and one blank, and what stands behind the number.
+#[tactic(auto, unfolding(crate::specs::Line::number_after))]
+fn number_after<'a>(word: &[u8], line: &'a [u8]) -> Option<(u32, &'a [u8])>
+    ensures { MatchOption result (number_after word.now line.now ≡ None)
+        (λ found. number_after word.now line.now ≡ Some (found.0, found.1.now)) }
+{
+    let (&blank, rest) = line.strip_prefix(word)?.split_first()?;
+    if !is_blank(blank) {
+        return None;
+    }
+    let (digits, rest) = split_digits(rest);
+    if digits.is_empty() || digits.len() > MOST_DIGITS {
+        return None;
+    }
+    Some((number_of(digits), rest))
+}
+
+/// The text behind a number: nothing, or what stands behind one blank.
+fn text_in(rest: &[u8]) -> Option<&[u8]>
+    ensures { MatchOption result (text_in rest.now ≡ None) (λ text. text_in rest.now ≡ Some text.now) }
+{
+    match rest {
+        [] => Some(rest),
+        [blank, text @ ..] if is_blank(*blank) => Some(text),
+        _ => None,
+    }
+}
+
+/// The edit that a line spells, if it spells one.
+#[tactic(auto, unfolding(crate::specs::Line::edit_of))]
+fn edit_of(alloc: Global, line: &[u8]) -> Result<Option<Edit>, AllocError>
+    ensures { IfOk result (λ edit. option_map change_of edit ≡ edit_of line.now) }
+{
+    if let Some((at, rest)) = number_after(b"insert", line) {
+        let Some(text) = text_in(rest) else {
+            return Ok(None);
+        };
+        return Ok(Some(Edit::Insert(at, Vec::from_slice(alloc, text)?)));
+    }
+    if let Some((at, rest)) = number_after(b"delete", line) {
+        return Ok(is_all_blank(rest).then_some(Edit::Delete(at)));
+    }
+    if let Some((at, rest)) = number_after(b"replace", line) {
+        let Some(text) = text_in(rest) else {
+            return Ok(None);
+        };
+        return Ok(Some(Edit::Replace(at, Vec::from_slice(alloc, text)?)));
+    }
+    if let Some((seed, rest)) = number_after(b"seed", line) {
+        return Ok(is_all_blank(rest).then_some(Edit::Reseed(seed)));
+    }
+    Ok(None)
+}
+
+/// What a line says.
+#[tactic(auto, unfolding(crate::specs::Line::kind_of))]
+pub(crate) fn read_line(alloc: Global, line: &[u8]) -> Result<Said, AllocError>
+    ensures { IfOk result (λ said. kind_said said ≡ kind_of line.now) }
+{
+    if is_skipped(line) {
+        return Ok(Said::Nothing);
+    }
+    if is_word(b"begin", line) {
+        return Ok(Said::Begin);
+    }
+    if is_word(b"end", line) {
+        return Ok(Said::End);
+    }
+    match edit_of(alloc, line)? {
+        Some(edit) => Ok(Said::Edit(edit)),
+        None => Ok(Said::Nonsense),
+    }
+}
