@@ -1,0 +1,152 @@
+//! Checks databases of caves, plays logs in them, and edits logs by scripts.
+#![tactic(auto)]
+
+use cave_command::{Files, Line, LineFault, command_line};
+use cave_play::bindings::Bindings;
+use cave_play::fault::{Input, PlayFault};
+use cave_play::run::{run_check, run_edit, run_play};
+use std::fs::File;
+use std::process::ExitCode;
+use std::{env, io};
+
+/// The files that a command line names.
+#[derive(Clone, Copy)]
+struct Names<'a> {
+    files: Files<'a>,
+    log: &'a str,
+    script: &'a str,
+}
+
+impl<'a> Names<'a> {
+    /// The file of an input.
+    fn of(self, input: Input) -> &'a str {
+        match input {
+            Input::Cave => self.files.cave,
+            Input::Bindings => self.files.bind.unwrap_or(""),
+            Input::Log => self.log,
+            Input::Script => self.script,
+        }
+    }
+}
+
+/// Opens the file of an input.
+fn open(rt: &HostRuntime, names: Names<'_>, input: Input) -> Result<File, PlayFault> {
+    File::open(rt, names.of(input)).map_err(|_| PlayFault::Read(input))
+}
+
+/// Opens the bindings, where there are any.
+fn open_bindings(rt: &HostRuntime, names: Names<'_>) -> Result<Bindings<File>, PlayFault> {
+    if names.files.bind.is_none() {
+        return Ok(Bindings::Absent);
+    }
+    Ok(Bindings::Given(open(rt, names, Input::Bindings)?))
+}
+
+fn check(rt: &HostRuntime, names: Names<'_>) -> Result<(), PlayFault> {
+    let mut cave = open(rt, names, Input::Cave)?;
+    let mut bind = open_bindings(rt, names)?;
+    run_check(rt.alloc(), &mut cave, &mut bind, &mut io::writer(rt))
+}
+
+fn play(rt: &HostRuntime, names: Names<'_>, seed: u32) -> Result<(), PlayFault> {
+    let mut cave = open(rt, names, Input::Cave)?;
+    let mut bind = open_bindings(rt, names)?;
+    let mut log = open(rt, names, Input::Log)?;
+    let mut output = io::writer(rt);
+    run_play(
+        rt.alloc(),
+        &mut cave,
+        &mut bind,
+        &mut log,
+        seed,
+        &mut output,
+    )
+}
+
+fn edit(rt: &HostRuntime, names: Names<'_>, seed: u32, every: u32) -> Result<(), PlayFault> {
+    let mut cave = open(rt, names, Input::Cave)?;
+    let mut bind = open_bindings(rt, names)?;
+    let mut log = open(rt, names, Input::Log)?;
+    let mut script = open(rt, names, Input::Script)?;
+    let mut output = io::writer(rt);
+    run_edit(
+        rt.alloc(),
+        &mut cave,
+        &mut bind,
+        &mut log,
+        &mut script,
+        seed,
+        every,
+        &mut output,
+    )
+}
+
+/// Tells how a run ended, in one line where it failed, and gives the status that goes with it.
+fn tell(rt: &HostRuntime, names: Names<'_>, ended: Result<(), PlayFault>) -> ExitCode {
+    let Err(fault) = ended else {
+        return ExitCode::SUCCESS;
+    };
+    let _ = match (fault.input(), fault.line()) {
+        (Some(input), Some(line)) => eprintln!(rt; "cave: {}:{line}: {fault}", names.of(input)),
+        (Some(input), None) => eprintln!(rt; "cave: {}: {fault}", names.of(input)),
+        (None, _) => eprintln!(rt; "cave: {fault}"),
+    };
+    ExitCode::from(fault.status())
+}
+
+/// Does what a command line asks for.
+fn run(rt: &HostRuntime, line: Line<'_>) -> ExitCode {
+    match line {
+        Line::Check { files } => {
+            let names = Names {
+                files,
+                log: "",
+                script: "",
+            };
+            tell(rt, names, check(rt, names))
+        }
+        Line::Play { files, log, seed } => {
+            let names = Names {
+                files,
+                log,
+                script: "",
+            };
+            tell(rt, names, play(rt, names, seed))
+        }
+        Line::Edit {
+            files,
+            log,
+            script,
+            seed,
+            every,
+        } => {
+            let names = Names { files, log, script };
+            tell(rt, names, edit(rt, names, seed, every))
+        }
+        Line::Text(text) => match rt.print(&text) {
+            Ok(()) => ExitCode::SUCCESS,
+            Err(_) => ExitCode::from(PlayFault::Write.status()),
+        },
+    }
+}
+
+fn main(rt: HostRuntime) -> ExitCode {
+    let words = match env::args(&rt) {
+        Ok(words) => words,
+        Err(error) => {
+            let _ = eprintln!(rt; "cave: the command line can't be read: {error}");
+            return ExitCode::from(LineFault::Incomplete.status());
+        }
+    };
+    let Ok(words) = words.collect::<Vec<String>>(rt.alloc()) else {
+        let _ = eprintln!(rt; "cave: {}", PlayFault::Memory);
+        return ExitCode::from(PlayFault::Memory.status());
+    };
+    match command_line(rt.alloc(), words.as_slice()) {
+        Ok(line) => run(&rt, line),
+        Err(fault) => {
+            let _ = eprint!(rt; "{fault}");
+            ExitCode::from(fault.status())
+        }
+    }
+}

@@ -1,0 +1,6 @@
+mod EditLemmas
+mod InputLemmas
+mod JudgeLemmas
+mod RunLemmas
+mod ScriptLemmas
+mod TranscriptLemmas

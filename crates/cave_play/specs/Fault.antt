@@ -1,0 +1,52 @@
+-- What a fault of a run says.
+use Rattle.std.specs.Prelude.{ℕ, Option, None, Some, nat_lt, if◌then◌else◌}
+use Rattle.cave_data.specs.declared.error.CaveError.{CaveError}
+use Rattle.cave_data.specs.declared.error.Spot.{Spot}
+use Rattle.cave_data.specs.declared.error.Spot.TheVariants as spot
+use Rattle.cave_play.specs.declared.fault.Input.{Input}
+use Rattle.cave_play.specs.declared.fault.Input.TheVariants as input
+use Rattle.cave_play.specs.declared.fault.LogFault.{LogFault}
+use Rattle.cave_play.specs.declared.fault.LogFault.TheVariants as log
+use Rattle.cave_play.specs.declared.fault.ScriptFault.{ScriptFault}
+use Rattle.cave_play.specs.declared.fault.ScriptFault.TheVariants as script
+use Rattle.cave_play.specs.declared.fault.PlayFault.{PlayFault}
+use Rattle.cave_play.specs.declared.fault.PlayFault.TheVariants as fault
+
+-- the status that the program ends with at a fault
+abbrev pub status_of : PlayFault → ℕ
+status_of (fault.Cave error) = 1
+status_of fault.Seed = 2
+status_of fault.Every = 2
+status_of (fault.Log refused) = 3
+status_of (fault.Script refused) = 4
+status_of (fault.Read from) = 5
+status_of fault.Write = 6
+status_of fault.Memory = 7
+
+-- which of a cave's two inputs a place of a fault is in
+abbrev pub input_at : Spot → Input
+input_at spot.Bindings = input.Bindings
+input_at _ = input.Cave
+
+-- the input that is at fault
+abbrev pub input_of : PlayFault → Option Input
+input_of (fault.Cave error) = Some (input_at error.spot)
+input_of (fault.Log refused) = Some input.Log
+input_of (fault.Script refused) = Some input.Script
+input_of (fault.Read from) = Some from
+input_of _ = None
+
+abbrev pub log_line_of : LogFault → Option ℕ
+log_line_of (log.BadLine line) = Some line
+log_line_of _ = None
+
+abbrev pub script_line_of : ScriptFault → Option ℕ
+script_line_of (script.Malformed line flaw) = Some line
+script_line_of _ = None
+
+-- the line of the input that is at fault
+abbrev pub line_of : PlayFault → Option ℕ
+line_of (fault.Cave error) = if nat_lt 0 error.line then Some error.line else None
+line_of (fault.Log refused) = log_line_of refused
+line_of (fault.Script refused) = script_line_of refused
+line_of _ = None

@@ -1,0 +1,63 @@
+-- The fault that each input of a run decides.
+use Rattle.std.specs.Prelude.{ℕ, List, length, nat_lt, ◌||◌, ◌==◌, if◌then◌else◌, Option, None, Some, option_map, Result, Ok, Err}
+use Rattle.std.specs.Str.Lines.{lines}
+use Rattle.cave_data.specs.Reading.{fault as cave_fault}
+use Rattle.cave_replay.specs.Opening.{first_bad_line}
+use Rattle.cave_replay.specs.declared.fault.TheConstants.{GREATEST_SEED, MOST_EVERY, MOST_LINES}
+use Rattle.cave_replay.specs.declared.fault.OpenFault.{OpenFault}
+use Rattle.cave_replay.specs.declared.fault.OpenFault.TheVariants as session
+use Rattle.cave_script.specs.Item.{Applied}
+use Rattle.cave_script.specs.Script.{script_of}
+use Rattle.cave_script.specs.declared.fault.ScriptFault.{ScriptFault}
+use Rattle.cave_script.specs.declared.fault.ScriptFault.TheVariants.{Malformed, Memory}
+use Rattle.cave_play.specs.declared.input.TheConstants.{MOST_BYTES}
+use Rattle.cave_play.specs.declared.fault.LogFault.TheVariants as log
+use Rattle.cave_play.specs.declared.fault.ScriptFault.TheVariants as script
+use Rattle.cave_play.specs.declared.fault.PlayFault.{PlayFault}
+use Rattle.cave_play.specs.declared.fault.PlayFault.TheVariants as fault
+
+-- the fault of a seed
+abbrev pub seed_fault : ℕ → Option PlayFault
+seed_fault seed = if nat_lt GREATEST_SEED seed then Some fault.Seed else None
+
+-- the fault of a distance of checkpoints
+abbrev pub every_fault : ℕ → Option PlayFault
+every_fault every = if every == 0 || nat_lt MOST_EVERY every then Some fault.Every else None
+
+-- the first fault of a database and its bindings
+abbrev pub inputs_fault : List ℕ → List ℕ → Option PlayFault
+inputs_fault database bindings = option_map (λ error. fault.Cave error) (cave_fault database bindings)
+
+abbrev pub or_too_many : Option ℕ → ℕ → Option PlayFault
+or_too_many (Some number) count = Some (fault.Log (log.BadLine number))
+or_too_many None count = if nat_lt MOST_LINES count then Some (fault.Log log.Full) else None
+
+-- the first fault of the lines of a log
+unfoldable pub lines_fault : List (List ℕ) → Option PlayFault
+lines_fault log = or_too_many (first_bad_line log 1) (length log)
+
+-- the first fault of a log
+unfoldable pub log_fault : List ℕ → Option PlayFault
+log_fault bytes = if nat_lt MOST_BYTES (length bytes) then Some (fault.Log log.TooLarge) else lines_fault (lines bytes)
+
+-- the first malformed line of a script, if it has one
+abbrev pub first_malformed : Result (List Applied) ScriptFault → Option PlayFault
+first_malformed (Err (Malformed line flaw)) = Some (fault.Script (script.Malformed line flaw))
+first_malformed _ = None
+
+-- the first fault of a script
+unfoldable pub script_fault : List ℕ → Option PlayFault
+script_fault bytes = if nat_lt MOST_BYTES (length bytes) then Some (fault.Script script.TooLarge) else first_malformed (script_of bytes)
+
+-- the fault of a run in which a session couldn't be opened
+abbrev pub opening_fault : OpenFault → PlayFault
+opening_fault session.BadEvery = fault.Every
+opening_fault (session.BadLine number) = fault.Log (log.BadLine number)
+opening_fault session.LogFull = fault.Log log.Full
+opening_fault session.BadSeed = fault.Seed
+opening_fault session.Memory = fault.Memory
+
+-- the fault of a run whose script was refused
+abbrev pub script_refusal : ScriptFault → PlayFault
+script_refusal (Malformed line flaw) = fault.Script (script.Malformed line flaw)
+script_refusal Memory = fault.Memory

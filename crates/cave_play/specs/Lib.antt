@@ -1,0 +1,9 @@
+pub mod Input
+pub mod Fault
+pub mod Run
+pub mod Judged
+pub mod Transcript
+pub mod CaveRules
+pub mod Holds
+pub mod Output
+pub mod Bindings

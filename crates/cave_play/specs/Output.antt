@@ -1,0 +1,105 @@
+-- What a run writes, and the fault that its bytes decide.
+use Rattle.std.specs.Prelude.{◌≡◌, ℕ, ◌-◌, ◌^◌, List, [], ◌∷◌, ◌++◌, codes, Option, None, Some, Ok}
+use Rattle.std.specs.Fmt.{decimal}
+use Rattle.std.specs.Str.Lines.{lines}
+use Rattle.cave_data.specs.CaveView.{CaveView}
+use Rattle.cave_data.specs.Reading.{Reads}
+use Rattle.cave_replay.specs.Change.{Change, apply_all}
+use Rattle.cave_replay.specs.Faults.{group_fault}
+use Rattle.cave_replay.specs.Play.{Game, game_of, texts_of, ticks_of}
+use Rattle.cave_replay.specs.declared.fault.EditFault.{EditFault}
+use Rattle.cave_replay.specs.declared.fault.EditFault.TheVariants.{NoSuchPlace, BadLine, LogFull, BadSeed, MeterFull, Memory, EmptyGroup}
+use Rattle.cave_replay.specs.declared.fault.GroupFault.{GroupFault}
+use Rattle.cave_script.specs.Item.{Applied, line_of}
+use Rattle.cave_script.specs.Script.{script_of}
+use Rattle.cave_play.specs.CaveRules.{cave_rules, rendered}
+use Rattle.cave_play.specs.Judged.{seed_fault, every_fault, inputs_fault, log_fault, script_fault}
+use Rattle.cave_play.specs.Run.{or_else}
+use Rattle.cave_play.specs.Transcript.{transcript}
+use Rattle.cave_play.specs.declared.fault.PlayFault.{PlayFault}
+
+-- ---- what is checked
+
+abbrev pub check_text : List ℕ
+check_text = codes "cave ok\n"
+
+-- the output of a check of a database that is a cave
+abbrev pub IsChecked : List ℕ → List ℕ → List ℕ → Type 0
+IsChecked database bindings output = (cave : CaveView) × Reads database bindings cave × (output ≡ check_text)
+
+-- ---- what is played
+
+-- what playing a log in a cave prints, from its first line on
+unfoldable pub play_text : CaveView → Game → List ℕ
+play_text cave game =
+    let rules = cave_rules cave in
+    let begun = rules.begun game.seed in
+    transcript (rendered cave) (rules.greeting game.seed) game.log (texts_of rules begun game.log) (ticks_of rules begun game.log)
+
+-- the output is what playing the log in the cave of the database and its bindings prints
+abbrev pub IsPlayed : List ℕ → List ℕ → List ℕ → ℕ → List ℕ → Type 0
+IsPlayed database bindings log seed output =
+    (cave : CaveView) × Reads database bindings cave × (output ≡ play_text cave (game_of seed (lines log)))
+
+-- the first fault of a play, in the order in which its inputs are judged
+abbrev pub play_fault : List ℕ → List ℕ → List ℕ → ℕ → Option PlayFault
+play_fault database bindings log seed = or_else (seed_fault seed) (or_else (inputs_fault database bindings) (log_fault log))
+
+-- ---- what is edited
+
+-- the number by which a report names a refusal
+abbrev pub refusal_number : EditFault → ℕ
+refusal_number NoSuchPlace = 1
+refusal_number BadLine = 2
+refusal_number LogFull = 3
+refusal_number BadSeed = 4
+refusal_number MeterFull = 5
+refusal_number Memory = 6
+refusal_number EmptyGroup = 7
+
+-- why the changes of an item are refused as a group, if they are, where the meter has counted no step yet
+unfoldable pub refusal_of : List Change → List (List ℕ) → Option GroupFault
+refusal_of changes log = group_fault changes log (2 ^ 64 - 1)
+
+abbrev pub report_by : Applied → Option GroupFault → List ℕ
+report_by item None = codes "line " ++ (decimal item.line ++ codes ": ok\n")
+report_by item (Some fault) =
+    codes "line " ++ (decimal (line_of item fault.at) ++ (codes ": refused " ++ (decimal (refusal_number fault.cause) ++ codes "\n")))
+
+abbrev pub game_by : Applied → Option GroupFault → Game → Game
+game_by item None game = apply_all item.changes game
+game_by item (Some fault) game = game
+
+-- what is reported of an item, and the game after it
+unfoldable pub report : Applied → Game → List ℕ
+report item game = report_by item (refusal_of item.changes game.log)
+
+unfoldable pub edited : Applied → Game → Game
+edited item game = game_by item (refusal_of item.changes game.log) game
+
+-- what is reported of several items, and the game after all that were accepted
+abbrev pub reports : List Applied → Game → List ℕ
+reports [] game = []
+reports (item ∷ items) game = report item game ++ reports items (edited item game)
+
+abbrev pub edited_all : List Applied → Game → Game
+edited_all [] game = game
+edited_all (item ∷ items) game = edited_all items (edited item game)
+
+-- the reports on the items of a script, and then what playing the log that they leave prints
+abbrev pub edit_text : CaveView → Game → List Applied → List ℕ
+edit_text cave game items = reports items game ++ play_text cave (edited_all items game)
+
+-- the text is what the items of the script make of the game in the cave
+abbrev pub IsEditOf : CaveView → Game → List ℕ → List ℕ → Type 0
+IsEditOf cave game script text = (items : List Applied) × (script_of script ≡ Ok items) × (text ≡ edit_text cave game items)
+
+-- the output is what the items of the script make of the log in the cave of the database and its bindings
+abbrev pub IsEdited : List ℕ → List ℕ → List ℕ → List ℕ → ℕ → List ℕ → Type 0
+IsEdited database bindings log script seed output =
+    (cave : CaveView) × Reads database bindings cave × IsEditOf cave (game_of seed (lines log)) script output
+
+-- the first fault of an edit, in the order in which its inputs are judged
+abbrev pub edit_fault : List ℕ → List ℕ → List ℕ → List ℕ → ℕ → ℕ → Option PlayFault
+edit_fault database bindings log script seed every =
+    or_else (seed_fault seed) (or_else (every_fault every) (or_else (inputs_fault database bindings) (or_else (log_fault log) (script_fault script))))

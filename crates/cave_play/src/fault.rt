@@ -1,0 +1,124 @@
+//! Why a run fails, and the status that the program then ends with.
+
+ghost use Rattle.std.specs.Prelude.{◌≡◌};
+ghost use Rattle.cave_play.specs.declared.fault.PlayFault.TheVariants.{Memory};
+ghost use Rattle.cave_play.specs.Fault.{status_of, input_of, line_of};
+
+use cave_data::{CaveError, Spot};
+use cave_script::Flaw;
+use std::alloc::AllocError;
+use thiserror::Error;
+
+/// An input of a run.
+#[derive(Clone, Copy, Debug, PartialEq, Eq)]
+pub enum Input {
+    Cave,
+    Bindings,
+    Log,
+    Script,
+}
+
+/// Why a log is refused.
+#[derive(Clone, Copy, Debug, PartialEq, Eq, Error)]
+pub enum LogFault {
+    /// It has more bytes than an input may have.
+    #[error("the log is larger than 1048576 bytes")]
+    TooLarge,
+    /// The line with this number, from 1, can't stand in a log.
+    #[error("a line of a log has at most 255 bytes, each of them printable ASCII or a tab")]
+    BadLine(usize),
+    /// It has more lines than a log may have.
+    #[error("the log has more than 65535 lines")]
+    Full,
+}
+
+/// Why a script is refused.
+#[derive(Clone, Copy, Debug, PartialEq, Eq, Error)]
+pub enum ScriptFault {
+    /// It has more bytes than an input may have.
+    #[error("the script is larger than 1048576 bytes")]
+    TooLarge,
+    /// The line with this number, from 1, is malformed.
+    #[error("{1}")]
+    Malformed(usize, Flaw),
+}
+
+/// Why a run failed. The text says what is wrong, and not where.
+#[derive(Clone, Copy, Debug, PartialEq, Eq, Error)]
+pub enum PlayFault {
+    /// The database or its bindings are refused.
+    #[error("{0}")]
+    Cave(CaveError),
+    /// The seed is too great.
+    #[error("a seed is at most 2147483647")]
+    Seed,
+    /// The distance of checkpoints is none that a session may have.
+    #[error("the distance of checkpoints is from 1 to 10000")]
+    Every,
+    /// The log is refused.
+    #[error("{0}")]
+    Log(LogFault),
+    /// The script is refused.
+    #[error("{0}")]
+    Script(ScriptFault),
+    /// The reader of an input answered an error.
+    #[error("it can't be read")]
+    Read(Input),
+    /// The writer answered an error, or took nothing.
+    #[error("the output can't be written")]
+    Write,
+    /// Memory was refused.
+    #[error("there isn't enough memory")]
+    Memory,
+}
+
+impl From<AllocError> for PlayFault {
+    ghost from_gives = { λ _ fault. fault ≡ Memory };
+
+    fn from(_: AllocError) -> PlayFault {
+        PlayFault::Memory
+    }
+}
+
+impl PlayFault {
+    /// The status that the program ends with.
+    pub fn status(self) -> u8
+        ensures { result ≡ status_of self }
+    {
+        match self {
+            PlayFault::Cave(_) => 1,
+            PlayFault::Seed | PlayFault::Every => 2,
+            PlayFault::Log(_) => 3,
+            PlayFault::Script(_) => 4,
+            PlayFault::Read(_) => 5,
+            PlayFault::Write => 6,
+            PlayFault::Memory => 7,
+        }
+    }
+
+    /// The input that is at fault, if one is.
+    pub fn input(self) -> Option<Input>
+        ensures { result ≡ input_of self }
+    {
+        match self {
+            PlayFault::Cave(error) if error.spot == Spot::Bindings => Some(Input::Bindings),
+            PlayFault::Cave(_) => Some(Input::Cave),
+            PlayFault::Log(_) => Some(Input::Log),
+            PlayFault::Script(_) => Some(Input::Script),
+            PlayFault::Read(input) => Some(input),
+            PlayFault::Seed | PlayFault::Every | PlayFault::Write | PlayFault::Memory => None,
+        }
+    }
+
+    /// The line of that input, from 1, that is at fault, if one is.
+    pub fn line(self) -> Option<usize>
+        ensures { result ≡ line_of self }
+    {
+        match self {
+            PlayFault::Cave(error) if error.line > 0 => Some(error.line),
+            PlayFault::Log(LogFault::BadLine(line)) => Some(line),
+            PlayFault::Script(ScriptFault::Malformed(line, _)) => Some(line),
+            _ => None,
+        }
+    }
+}

@@ -1,0 +1,84 @@
+//! Reading an input to its end, within a limit.
+
+ghost use Rattle.std.specs.Prelude.{◌≡◌, ℕ, ◌<◌, ◌≤◌, ◌+◌, ◌++◌, List, length, true, false, IfOk, IfErr, MatchResult, vec_len};
+ghost use Rattle.std.specs.Io.KnownBytes.{Consumes, IsAtEnd, Keeps};
+ghost use Rattle.cave_play.specs.declared.input.InputFault.TheVariants.{Memory};
+ghost use Rattle.cave_play.specs.Input.{Says, IsInputFault, Gives, Exceeds};
+
+use std::alloc::{AllocError, Global};
+use std::io::Read;
+
+/// How many bytes an input may have.
+pub const MOST_BYTES: usize = 1_048_576;
+
+/// How many bytes are asked for at once.
+const PIECE_BYTES: usize = 65_536;
+
+/// Why an input couldn't be had.
+#[derive(Clone, Copy, Debug, PartialEq, Eq)]
+pub enum InputFault {
+    /// The reader answered an error.
+    Unreadable,
+    /// The reader gave more bytes than an input may have.
+    TooLarge,
+    /// Memory was refused.
+    Memory,
+}
+
+impl From<AllocError> for InputFault {
+    ghost from_gives = { λ _ fault. fault ≡ Memory };
+
+    fn from(_: AllocError) -> InputFault {
+        InputFault::Memory
+    }
+}
+
+/// Reads all that the reader has, which is refused as soon as it is over the limit.
+pub fn read_input<R: Read>(alloc: Global, reader: &mut R) -> Result<Vec<u8>, InputFault>
+    ensures read { (bytes : List ℕ) × Says (R.remaining reader.old) bytes
+        × MatchResult result
+        (λ input. (input.items ≡ bytes) × (length bytes ≤ MOST_BYTES))
+        (IsInputFault bytes) }
+{
+    let Ok(mut piece) = zeros(alloc, PIECE_BYTES) else {
+        return Err(InputFault::Memory);
+    };
+    let mut input = Vec::new(alloc);
+    'pieces: loop {
+        match read_more(reader, piece.as_mut_slice(), &mut input) {
+            Ok(true) => {}
+            Ok(false) => return Ok(input),
+            Err(fault) => return Err(fault),
+        }
+    }
+}
+
+/// That many zero bytes, to be read into.
+fn zeros(alloc: Global, count: usize) -> Result<Vec<u8>, AllocError>
+    ensures { IfOk result (λ piece. vec_len piece ≡ count) }
+{
+    vec![in alloc; 0; count]
+}
+
+/// Reads once, appends what came, and tells whether anything came.
+fn read_more<R: Read>(
+    reader: &mut R,
+    piece: &mut [u8],
+    input: &mut Vec<u8>,
+) -> Result<bool, InputFault>
+    requires room { 0 < length piece.old }
+    requires within { vec_len input.old ≤ MOST_BYTES }
+    ensures given { IfOk result (Gives (R.remaining reader.old) (R.remaining reader.new) input.old.items input.new.items) }
+    ensures within { IfOk result (λ _. vec_len input.new ≤ MOST_BYTES) }
+    ensures over { IfErr result (Exceeds (R.remaining reader.old) (R.remaining reader.new) input.old.items) }
+{
+    let count = match reader.read(piece) {
+        Ok(count) => count,
+        Err(_) => return Err(InputFault::Unreadable),
+    };
+    if count > MOST_BYTES - input.len() {
+        return Err(InputFault::TooLarge);
+    }
+    input.extend_from_slice(&piece[..count])?;
+    Ok(count > 0)
+}

@@ -1,0 +1,136 @@
+//! Reading the inputs of a run, each of which is judged before the next.
+
+ghost use Rattle.std.specs.Prelude.{◌≡◌, ℕ, ◌^◌, ◌<◌, List, None, Ok, All, vec_len};
+ghost use Rattle.std.specs.Str.Lines.{lines};
+ghost use Rattle.cave_data.specs.Reading.{Reads};
+ghost use Rattle.cave_words.specs.Lexicon.{IsLexiconOf};
+ghost use Rattle.cave_replay.specs.Play.{game_of};
+ghost use Rattle.cave_script.specs.Script.{script_of};
+ghost use Rattle.cave_script.specs.Shown.{items_of};
+ghost use Rattle.cave_play.specs.Input.{Says};
+ghost use Rattle.cave_play.specs.Judged.{seed_fault, every_fault, inputs_fault, lines_fault, log_fault, script_fault, script_refusal, opening_fault};
+ghost use Rattle.cave_play.specs.Holds.{Holds};
+ghost use Rattle.cave_play.specs.Run.{Judges};
+
+use crate::fault::{Input, LogFault, PlayFault, ScriptFault};
+use crate::machine::CaveMachine;
+use crate::read::read;
+use cave_data::{Cause, Cave};
+use cave_replay::{GREATEST_SEED, MOST_EVERY, OpenFault, Session};
+use cave_script::Script;
+use cave_words::{Lexicon, Meter};
+use std::alloc::Global;
+use std::io::Read;
+
+/// Whether a game may begin with the seed.
+pub(crate) fn check_seed(seed: u32) -> Result<(), PlayFault>
+    ensures { Judges (seed_fault seed) (λ _. Unit {0}) result }
+{
+    if seed > GREATEST_SEED {
+        return Err(PlayFault::Seed);
+    }
+    Ok(())
+}
+
+/// Whether checkpoints may be so far apart.
+pub(crate) fn check_every(every: u32) -> Result<(), PlayFault>
+    ensures { Judges (every_fault every) (λ _. Unit {0}) result }
+{
+    if every == 0 || every > MOST_EVERY {
+        return Err(PlayFault::Every);
+    }
+    Ok(())
+}
+
+/// Reads a database and its bindings.
+pub(crate) fn read_cave<C: Read, B: Read>(
+    alloc: Global,
+    cave: &mut C,
+    bind: &mut B,
+) -> Result<Cave, PlayFault>
+    ensures judged { (database : List ℕ) × (bindings : List ℕ)
+        × Says (C.remaining cave.old) database × Says (B.remaining bind.old) bindings
+        × Judges (inputs_fault database bindings) (Reads database bindings) result }
+{
+    let database = read(alloc, Input::Cave, cave)?;
+    let bindings = read(alloc, Input::Bindings, bind)?;
+    match Cave::read(alloc, &database, &bindings) {
+        Ok(cave) => Ok(cave),
+        Err(error) if error.cause == Cause::Memory => Err(PlayFault::Memory),
+        Err(error) => Err(PlayFault::Cave(error)),
+    }
+}
+
+/// The fault of a run in which a session couldn't be opened.
+fn opening_fault(fault: OpenFault) -> PlayFault
+    ensures { result ≡ opening_fault fault }
+{
+    match fault {
+        OpenFault::BadEvery => PlayFault::Every,
+        OpenFault::BadLine(line) => PlayFault::Log(LogFault::BadLine(line)),
+        OpenFault::LogFull => PlayFault::Log(LogFault::Full),
+        OpenFault::BadSeed => PlayFault::Seed,
+        OpenFault::Memory => PlayFault::Memory,
+    }
+}
+
+/// Plays a log in a cave.
+fn open_log<'a>(
+    alloc: Global,
+    machine: CaveMachine<'a>,
+    log: &[u8],
+    seed: u32,
+    every: u32,
+) -> Result<Session<CaveMachine<'a>>, PlayFault>
+    requires seed_fits { seed_fault seed ≡ None }
+    requires every_fits { every_fault every ≡ None }
+    ensures judged { Judges (lines_fault (lines log.now)) (Holds machine.entry.cave.now (game_of seed (lines log.now))) result }
+{
+    let mut meter = Meter::new();
+    match Session::open(alloc, machine, seed, log, every, &mut meter) {
+        Ok(session) => Ok(session),
+        Err(fault) => Err(opening_fault(fault)),
+    }
+}
+
+/// Reads a log and plays it in a cave.
+pub(crate) fn read_log<'a, L: Read>(
+    alloc: Global,
+    machine: CaveMachine<'a>,
+    log: &mut L,
+    seed: u32,
+    every: u32,
+) -> Result<Session<CaveMachine<'a>>, PlayFault>
+    requires seed_fits { seed_fault seed ≡ None }
+    requires every_fits { every_fault every ≡ None }
+    ensures judged { (bytes : List ℕ) × Says (L.remaining log.old) bytes
+        × Judges (log_fault bytes) (Holds machine.entry.cave.now (game_of seed (lines bytes))) result }
+{
+    let log = read(alloc, Input::Log, log)?;
+    open_log(alloc, machine, &log, seed, every)
+}
+
+/// Reads a script.
+pub(crate) fn read_script<S: Read>(alloc: Global, script: &mut S) -> Result<Script, PlayFault>
+    ensures judged { (bytes : List ℕ) × Says (S.remaining script.old) bytes
+        × Judges (script_fault bytes) (λ script. (script_of bytes ≡ Ok (items_of script.items))
+        × All (λ item. vec_len item.edits < 2 ^ 32) script.items.items) result }
+{
+    let text = read(alloc, Input::Script, script)?;
+    match Script::read(alloc, &text) {
+        Ok(script) => Ok(script),
+        Err(fault) => Err(script_refusal(fault)),
+    }
+}
+
+/// The fault of a run whose script was refused.
+fn script_refusal(fault: cave_script::ScriptFault) -> PlayFault
+    ensures { result ≡ script_refusal fault }
+{
+    match fault {
+        cave_script::ScriptFault::Malformed(line, flaw) => {
+            PlayFault::Script(ScriptFault::Malformed(line, flaw))
+        }
+        cave_script::ScriptFault::Memory => PlayFault::Memory,
+    }
+}

@@ -1,0 +1,13 @@
+//! Runs of the program: from the bytes of its inputs to the bytes of its output.
+#![tactic(auto)]
+
+pub mod bindings;
+mod edits;
+pub mod fault;
+pub mod input;
+mod judge;
+pub mod machine;
+pub mod output;
+mod read;
+pub mod run;
+mod transcript;

@@ -1,0 +1,97 @@
+//! The machine of a cave.
+
+ghost use Rattle.std.specs.Prelude.{◌≡◌, IfOk};
+ghost use Rattle.cave_words.specs.Lexicon.{IsLexiconOf};
+ghost use Rattle.cave_world.proofs.Exact.{state_decides};
+ghost use Rattle.cave_play.specs.CaveRules.{cave_rules};
+
+use cave_data::Cave;
+use cave_replay::{Machine, Started, Stepped};
+use cave_turn::{start, turn};
+use cave_words::{Lexicon, Meter};
+use cave_world::{Out, Part, State};
+use std::alloc::{AllocError, Global};
+
+/// What plays a log in a cave, with the words of that cave.
+#[derive(Clone, Copy)]
+pub struct CaveMachine<'a> {
+    cave: &'a Cave,
+    lexicon: &'a Lexicon,
+    ghost words: { IsLexiconOf cave.now lexicon.now },
+}
+
+impl<'a> CaveMachine<'a> {
+    /// The machine of a cave, which reads words by the lexicon of that cave.
+    pub fn new(cave: &'a Cave, lexicon: &'a Lexicon) -> CaveMachine<'a>
+        requires { IsLexiconOf cave.now lexicon.now }
+        ensures { result.cave.now ≡ cave.now }
+    {
+        CaveMachine { cave, lexicon }
+    }
+
+    /// The cave that is played in.
+    pub fn cave(self) -> &'a Cave
+        ensures { result.now ≡ self.entry.cave.now }
+    {
+        self.cave
+    }
+}
+
+/// The parts as a list of their own.
+fn keep(alloc: Global, parts: &[Part]) -> Result<Vec<Part>, AllocError>
+    ensures { IfOk result (λ kept. kept.items ≡ parts.now) }
+{
+    Vec::from_slice(alloc, parts)
+}
+
+impl<'a> Machine for CaveMachine<'a> {
+    ghost use Rattle.std.specs.Prelude.{List};
+    ghost use Rattle.cave_world.specs.declared.part.Part.{Part};
+    ghost use Rattle.cave_world.specs.declared.state.State.{State};
+
+    type State = State;
+
+    type Piece = Vec<Part>;
+
+    type Meter = Meter;
+
+    ghost Meaning = { State };
+
+    ghost Text = { List Part };
+
+    ghost meaning = { λ state. state };
+
+    ghost text = { λ piece. piece.items };
+
+    ghost rules = { λ machine. cave_rules machine.cave.now };
+
+    ghost exact = { λ a b _ _. state_decides a b };
+
+    fn start(&self, alloc: Global, seed: u32) -> Result<Started<State, Vec<Part>>, AllocError> {
+        let mut out = Out::new();
+        let state = start(self.cave, seed, &mut out);
+        let piece = keep(alloc, out.as_slice())?;
+        Ok(Started { state, piece })
+    }
+
+    fn step(
+        &self,
+        alloc: Global,
+        state: &State,
+        line: &[u8],
+        meter: &mut Meter,
+    ) -> Result<Stepped<State, Vec<Part>>, AllocError> {
+        let mut out = Out::new();
+        let turned = turn(self.cave, self.lexicon, state, line, &mut out, meter);
+        let piece = keep(alloc, out.as_slice())?;
+        Ok(Stepped {
+            state: turned.state,
+            piece,
+            ticked: turned.ticked,
+        })
+    }
+
+    fn copy_piece(&self, alloc: Global, piece: &Vec<Part>) -> Result<Vec<Part>, AllocError> {
+        keep(alloc, piece)
+    }
+}

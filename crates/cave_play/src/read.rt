@@ -1,0 +1,48 @@
+//! Reading the inputs of a run.
+
+ghost use Rattle.std.specs.Prelude.{◌≡◌, ℕ, ◌≤◌, ◌<◌, ◌⊎◌, List, length, MatchResult};
+ghost use Rattle.cave_play.specs.Input.{Says};
+ghost use Rattle.cave_play.specs.Run.{IsOutside, too_large};
+
+use crate::fault::{Input, LogFault, PlayFault, ScriptFault};
+use crate::input::{InputFault, MOST_BYTES, read_input};
+use cave_data::{Cause, CaveError, Spot};
+use std::alloc::Global;
+use std::io::Read;
+
+/// The fault of an input that has too many bytes.
+fn too_large(input: Input) -> PlayFault
+    ensures { result ≡ too_large input }
+{
+    match input {
+        Input::Cave => too_large_at(Spot::Database),
+        Input::Bindings => too_large_at(Spot::Bindings),
+        Input::Log => PlayFault::Log(LogFault::TooLarge),
+        Input::Script => PlayFault::Script(ScriptFault::TooLarge),
+    }
+}
+
+fn too_large_at(spot: Spot) -> PlayFault
+    ensures { result ≡ PlayFault.Cave (record { cause = Cause.TooLarge; line = 0; spot = spot }) }
+{
+    PlayFault::Cave(CaveError {
+        cause: Cause::TooLarge,
+        line: 0,
+        spot,
+    })
+}
+
+/// Reads an input of a run whole.
+pub fn read<R: Read>(alloc: Global, input: Input, reader: &mut R) -> Result<Vec<u8>, PlayFault>
+    ensures read { (bytes : List ℕ) × Says (R.remaining reader.old) bytes
+        × MatchResult result
+        (λ text. (text.items ≡ bytes) × (length bytes ≤ MOST_BYTES))
+        (λ found. IsOutside found ⊎ ((MOST_BYTES < length bytes) × (found ≡ too_large input))) }
+{
+    match read_input(alloc, reader) {
+        Ok(text) => Ok(text),
+        Err(InputFault::Unreadable) => Err(PlayFault::Read(input)),
+        Err(InputFault::TooLarge) => Err(too_large(input)),
+        Err(InputFault::Memory) => Err(PlayFault::Memory),
+    }
+}

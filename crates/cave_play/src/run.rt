@@ -1,0 +1,255 @@
+//! Runs: from readers of the inputs to a writer of the output.
+
+ghost use Rattle.std.specs.Prelude.{◌≡◌, ℕ, List, None, take, MatchResult};
+ghost use Rattle.std.specs.Io.KnownBytes.{Appends};
+ghost use Rattle.std.specs.Str.Lines.{lines};
+ghost use Rattle.cave_data.specs.CaveView.{CaveView};
+ghost use Rattle.cave_data.specs.Reading.{Reads};
+ghost use Rattle.cave_replay.specs.Play.{game_of};
+ghost use Rattle.cave_play.specs.Input.{Says};
+ghost use Rattle.cave_play.specs.Judged.{seed_fault, every_fault, inputs_fault, log_fault, script_fault};
+ghost use Rattle.cave_play.specs.Output.{play_text, play_fault, edit_fault, IsChecked, IsPlayed, IsEditOf, IsEdited};
+ghost use Rattle.cave_play.specs.Run.{or_else, Judges, Runs};
+
+use crate::edits::apply;
+use crate::fault::PlayFault;
+use crate::judge::{check_every, check_seed, read_cave, read_log, read_script};
+use crate::machine::CaveMachine;
+use crate::output::write_output;
+use crate::transcript::tell;
+use cave_data::Cave;
+use cave_replay::Session;
+use cave_words::Lexicon;
+use std::alloc::Global;
+use std::io::{Read, Write};
+
+/// How far apart checkpoints may be where nothing else is asked.
+pub const EVERY: u32 = 50;
+
+/// Checks a database and its bindings, and says so where they are a cave.
+pub fn run_check<C: Read, B: Read, W: Write>(
+    alloc: Global,
+    cave: &mut C,
+    bind: &mut B,
+    output: &mut W,
+) -> Result<(), PlayFault>
+    ensures runs { (database : List ℕ) × (bindings : List ℕ)
+        × Says (C.remaining cave.old) database × Says (B.remaining bind.old) bindings
+        × Runs (inputs_fault database bindings) (IsChecked database bindings)
+        (W.contents output.old) (W.contents output.new) result }
+{
+    check(alloc, cave, bind)?;
+    write(output, b"cave ok\n")
+}
+
+/// Plays a log and writes the transcript, once it is whole.
+pub fn run_play<C: Read, B: Read, L: Read, W: Write>(
+    alloc: Global,
+    cave: &mut C,
+    bind: &mut B,
+    log: &mut L,
+    seed: u32,
+    output: &mut W,
+) -> Result<(), PlayFault>
+    ensures runs { (database : List ℕ) × (bindings : List ℕ) × (lines : List ℕ)
+        × Says (C.remaining cave.old) database × Says (B.remaining bind.old) bindings × Says (L.remaining log.old) lines
+        × Runs (play_fault database bindings lines seed) (IsPlayed database bindings lines seed)
+        (W.contents output.old) (W.contents output.new) result }
+{
+    let text = play(alloc, cave, bind, log, seed)?;
+    write(output, &text)
+}
+
+/// Plays a log that a script edits, and writes a report on each item of the script and then the transcript, once both are whole.
+pub fn run_edit<C: Read, B: Read, L: Read, S: Read, W: Write>(
+    alloc: Global,
+    cave: &mut C,
+    bind: &mut B,
+    log: &mut L,
+    script: &mut S,
+    seed: u32,
+    every: u32,
+    output: &mut W,
+) -> Result<(), PlayFault>
+    ensures runs { (database : List ℕ) × (bindings : List ℕ) × (lines : List ℕ) × (edits : List ℕ)
+        × Says (C.remaining cave.old) database × Says (B.remaining bind.old) bindings
+        × Says (L.remaining log.old) lines × Says (S.remaining script.old) edits
+        × Runs (edit_fault database bindings lines edits seed every) (IsEdited database bindings lines edits seed)
+        (W.contents output.old) (W.contents output.new) result }
+{
+    let text = edit(alloc, cave, bind, log, script, seed, every)?;
+    write(output, &text)
+}
+
+/// Writes an output that is built.
+fn write<W: Write>(output: &mut W, text: &[u8]) -> Result<(), PlayFault>
+    ensures written { MatchResult result
+        (λ _. Appends (W.contents output.old) (W.contents output.new) text.now)
+        (λ fault. (fault ≡ PlayFault.Write) × ((n : ℕ) × Appends (W.contents output.old) (W.contents output.new) (take n text.now))) }
+{
+    match write_output(output, text) {
+        Ok(()) => Ok(()),
+        Err(_) => Err(PlayFault::Write),
+    }
+}
+
+/// Reads a cave to see whether it is one.
+fn check<C: Read, B: Read>(alloc: Global, cave: &mut C, bind: &mut B) -> Result<(), PlayFault>
+    ensures judged { (database : List ℕ) × (bindings : List ℕ)
+        × Says (C.remaining cave.old) database × Says (B.remaining bind.old) bindings
+        × Judges (inputs_fault database bindings) (λ _. (cave : CaveView) × Reads database bindings cave) result }
+{
+    let _cave = read_cave(alloc, cave, bind)?;
+    Ok(())
+}
+
+/// The transcript of a log.
+fn play<C: Read, B: Read, L: Read>(
+    alloc: Global,
+    cave: &mut C,
+    bind: &mut B,
+    log: &mut L,
+    seed: u32,
+) -> Result<Vec<u8>, PlayFault>
+    ensures judged { (database : List ℕ) × (bindings : List ℕ) × (lines : List ℕ)
+        × Says (C.remaining cave.old) database × Says (B.remaining bind.old) bindings × Says (L.remaining log.old) lines
+        × Judges (play_fault database bindings lines seed) (λ text. IsPlayed database bindings lines seed text.items) result }
+{
+    check_seed(seed)?;
+    let cave = read_cave(alloc, cave, bind)?;
+    play_in(alloc, &cave, log, seed)
+}
+
+/// The transcript of a log in a cave.
+fn play_in<L: Read>(
+    alloc: Global,
+    cave: &Cave,
+    log: &mut L,
+    seed: u32,
+) -> Result<Vec<u8>, PlayFault>
+    requires { seed_fault seed ≡ None }
+    ensures judged { (bytes : List ℕ) × Says (L.remaining log.old) bytes
+        × Judges (log_fault bytes) (λ text. text.items ≡ play_text cave.now (game_of seed (lines bytes))) result }
+{
+    let lexicon = Lexicon::build(alloc, cave)?;
+    play_log(alloc, CaveMachine::new(cave, &lexicon), log, seed)
+}
+
+/// The transcript of a log that a machine plays.
+fn play_log<L: Read>(
+    alloc: Global,
+    machine: CaveMachine<'_>,
+    log: &mut L,
+    seed: u32,
+) -> Result<Vec<u8>, PlayFault>
+    requires { seed_fault seed ≡ None }
+    ensures judged { (bytes : List ℕ) × Says (L.remaining log.old) bytes
+        × Judges (log_fault bytes) (λ text. text.items ≡ play_text machine.entry.cave.now (game_of seed (lines bytes))) result }
+{
+    let session = read_log(alloc, machine, log, seed, EVERY)?;
+    let text = told(alloc, machine, &session);
+    drop(session);
+    text
+}
+
+/// The transcript of the play that a session of the machine holds.
+fn told(
+    alloc: Global,
+    machine: CaveMachine<'_>,
+    session: &Session<CaveMachine<'_>>,
+) -> Result<Vec<u8>, PlayFault>
+    requires { session.now.machine.cave.now ≡ machine.cave.now }
+    ensures told { MatchResult result (λ text. text.items ≡ play_text machine.entry.cave.now session.now.game) (λ fault. fault ≡ PlayFault.Memory) }
+{
+    let mut text = Vec::new(alloc);
+    tell(alloc, machine, session, &mut text)?;
+    Ok(text)
+}
+
+/// The reports on a script, and the transcript of the log that it leaves.
+fn edit<C: Read, B: Read, L: Read, S: Read>(
+    alloc: Global,
+    cave: &mut C,
+    bind: &mut B,
+    log: &mut L,
+    script: &mut S,
+    seed: u32,
+    every: u32,
+) -> Result<Vec<u8>, PlayFault>
+    ensures judged { (database : List ℕ) × (bindings : List ℕ) × (lines : List ℕ) × (edits : List ℕ)
+        × Says (C.remaining cave.old) database × Says (B.remaining bind.old) bindings
+        × Says (L.remaining log.old) lines × Says (S.remaining script.old) edits
+        × Judges (edit_fault database bindings lines edits seed every) (λ text. IsEdited database bindings lines edits seed text.items) result }
+{
+    check_seed(seed)?;
+    check_every(every)?;
+    let cave = read_cave(alloc, cave, bind)?;
+    edit_in(alloc, &cave, log, script, seed, every)
+}
+
+/// The reports on a script in a cave, and the transcript of the log that it leaves.
+fn edit_in<L: Read, S: Read>(
+    alloc: Global,
+    cave: &Cave,
+    log: &mut L,
+    script: &mut S,
+    seed: u32,
+    every: u32,
+) -> Result<Vec<u8>, PlayFault>
+    requires seed_fits { seed_fault seed ≡ None }
+    requires every_fits { every_fault every ≡ None }
+    ensures judged { (moves : List ℕ) × (edits : List ℕ)
+        × Says (L.remaining log.old) moves × Says (S.remaining script.old) edits
+        × Judges (or_else (log_fault moves) (script_fault edits))
+        (λ text. IsEditOf cave.now (game_of seed (lines moves)) edits text.items) result }
+{
+    let lexicon = Lexicon::build(alloc, cave)?;
+    edit_log(
+        alloc,
+        CaveMachine::new(cave, &lexicon),
+        log,
+        script,
+        seed,
+        every,
+    )
+}
+
+/// The reports on a script for a log that a machine plays, and the transcript of the log that it leaves.
+fn edit_log<L: Read, S: Read>(
+    alloc: Global,
+    machine: CaveMachine<'_>,
+    log: &mut L,
+    script: &mut S,
+    seed: u32,
+    every: u32,
+) -> Result<Vec<u8>, PlayFault>
+    requires seed_fits { seed_fault seed ≡ None }
+    requires every_fits { every_fault every ≡ None }
+    ensures judged { (moves : List ℕ) × (edits : List ℕ)
+        × Says (L.remaining log.old) moves × Says (S.remaining script.old) edits
+        × Judges (or_else (log_fault moves) (script_fault edits))
+        (λ text. IsEditOf machine.entry.cave.now (game_of seed (lines moves)) edits text.items) result }
+{
+    let mut session = read_log(alloc, machine, log, seed, every)?;
+    let text = edited(alloc, machine, &mut session, script);
+    drop(session);
+    text
+}
+
+/// The reports on a script that is applied to a session of the machine, and the transcript of the log that it leaves.
+fn edited<S: Read>(
+    alloc: Global,
+    machine: CaveMachine<'_>,
+    session: &mut Session<CaveMachine<'_>>,
+    script: &mut S,
+) -> Result<Vec<u8>, PlayFault>
+    requires { session.old.machine.cave.now ≡ machine.cave.now }
+    ensures judged { (edits : List ℕ) × Says (S.remaining script.old) edits
+        × Judges (script_fault edits) (λ text. IsEditOf machine.entry.cave.now session.old.game edits text.items) result }
+{
+    let script = read_script(alloc, script)?;
+    let mut text = Vec::new(alloc);
+    apply(alloc, session, &script, &mut text)?;
+    tell(alloc, machine, session, &mut text)?;
+    Ok(text)
+}

@@ -1,0 +1,96 @@
+//! The transcript of a play.
+
+ghost use Rattle.std.specs.Prelude.{◌≡◌, ◌+◌, ◌^◌, ◌<◌, ◌≤◌, ◌++◌, OnOk};
+ghost use Rattle.cave_words.specs.LogLine.{log_line};
+ghost use Rattle.cave_play.specs.CaveRules.{rendered};
+ghost use Rattle.cave_play.specs.Transcript.{echo, is_shown, closing, told_at, turns_after};
+ghost use Rattle.cave_play.specs.Output.{play_text};
+
+use crate::machine::CaveMachine;
+use cave_data::Cave;
+use cave_replay::Session;
+use cave_turn::render;
+use cave_words::LogLine;
+use cave_world::Part;
+use std::alloc::{AllocError, Global};
+
+/// Whether a line of a log is shown.
+#[tactic(auto, unfolding(cave_words::specs::LogLine::log_line))]
+fn is_shown(line: &[u8]) -> bool
+    ensures { result ≡ is_shown (log_line line.now) }
+{
+    match LogLine::of(line) {
+        LogLine::Comment | LogLine::Blank => false,
+        LogLine::Seed(_) | LogLine::Input => true,
+    }
+}
+
+/// Appends a line of the log as it is shown.
+fn push_echo(text: &mut Vec<u8>, line: &[u8]) -> Result<(), AllocError>
+    ensures { OnOk result (text.new.items ≡ text.old.items ++ echo line.now) }
+{
+    text.extend_from_slice(b"\n> ")?;
+    text.extend_from_slice(line)?;
+    text.extend_from_slice(b"\n")
+}
+
+/// Appends the line that tells how many turns were taken.
+fn push_closing(alloc: Global, text: &mut Vec<u8>, turns: u32) -> Result<(), AllocError>
+    ensures { OnOk result (text.new.items ≡ text.old.items ++ closing turns) }
+{
+    let line = format!(in alloc; "-- turns {turns}\n")?;
+    text.extend_from_slice(line.as_bytes())
+}
+
+/// Appends a line of the log and what was said at it, where the line is shown.
+fn push_line(
+    cave: &Cave,
+    text: &mut Vec<u8>,
+    line: &[u8],
+    piece: &[Part],
+    turns: u32,
+) -> Result<(), AllocError>
+    ensures { OnOk result (text.new.items ≡ text.old.items ++ told_at (rendered cave.now) line.now piece.now turns) }
+{
+    if !is_shown(line) {
+        return Ok(());
+    }
+    push_echo(text, line)?;
+    render(cave, piece, turns, text)
+}
+
+/// One turn more, where a line ticked.
+fn turns_after(turns: u32, ticked: bool) -> u32
+    requires { turns + 1 < 2 ^ 32 }
+    ensures after { result ≡ turns_after turns ticked }
+    ensures few { result ≤ turns + 1 }
+{
+    if ticked { turns + 1 } else { turns }
+}
+
+/// Appends the transcript of the play that a session of the machine holds.
+pub(crate) fn tell(
+    alloc: Global,
+    machine: CaveMachine<'_>,
+    session: &Session<CaveMachine<'_>>,
+    text: &mut Vec<u8>,
+) -> Result<(), AllocError>
+    requires { session.now.machine.cave.now ≡ machine.cave.now }
+    ensures { OnOk result (text.new.items ≡ text.old.items ++ play_text machine.entry.cave.now session.now.game) }
+{
+    let cave = machine.cave();
+    render(cave, session.opening(), 0, text)?;
+    let pieces = session.pieces();
+    let mut turns = 0;
+    for place in 0..session.lines() {
+        turns = turns_after(turns, session.ticked(place));
+        push_line(
+            cave,
+            text,
+            session.line(place),
+            &pieces[place as usize],
+            turns,
+        )?;
+    }
+    push_closing(alloc, text, turns)
+}

@@ -1,0 +1,116 @@
+//! Edits of a log by scripts, byte by byte.
+
+use crate::caves::{CAVE, LOG, LONG_LOG, edit};
+use cave_play::fault::{PlayFault, ScriptFault};
+use cave_script::Flaw;
+use std::test::Fail;
+
+/// What playing the long log prints.
+const LONG_TEXT: &str =
+    "[welcome]\n\n> no\nYou stand on a road.\n\n> in\nYou are in a hut.\nA lamp is here.\n\n> take lamp\n\n> on\n\n> down\n[dark]\n-- turns 4\n";
+
+#[test]
+fn a_line_is_inserted(rt: HostRuntime) {
+    let want =
+        b"line 1: ok\n[welcome]\n\n> no\nYou stand on a road.\n\n> in\nYou are in a hut.\nA lamp is here.\n\n> out\nRoad.\n\n> down\n[no-dir]\nRoad.\n-- turns 3\n";
+    for every in [1, 50, 10_000] {
+        let run = edit(rt.alloc(), CAVE, LOG, b"insert 2 out\n", every);
+        assert!(rt; run.wrote(want.as_slice()), "every {every}");
+    }
+}
+
+#[test]
+fn refusals_are_reported_by_the_line_of_the_script(rt: HostRuntime) -> Result<(), Fail> {
+    let script = b"# three edits\ninsert 2 # note\n\ndelete 9\nreplace 1 IN\n";
+    let want =
+        "line 2: ok\nline 4: refused 1\nline 5: ok\n[welcome]\n\n> no\nYou stand on a road.\n\n> IN\nYou are in a hut.\nA lamp is here.\n\n> take lamp\n\n> on\n\n> down\n[dark]\n-- turns 4\n";
+    let run = edit(rt.alloc(), CAVE, LONG_LOG, script.as_slice(), 1);
+    assert!(rt; run.wrote(want.as_bytes()));
+    Ok(())
+}
+
+#[test]
+fn the_distance_of_checkpoints_changes_no_byte(rt: HostRuntime) {
+    let script = b"insert 2 # note\nreplace 1 IN\ndelete 5\nseed 1\ndelete 9\ninsert 0 # a\n";
+    let want =
+        b"line 1: ok\nline 2: ok\nline 3: ok\nline 4: ok\nline 5: refused 1\nline 6: ok\n[welcome]\n\n> no\nYou stand on a road.\n\n> IN\nYou are in a hut.\nA lamp is here.\n\n> take lamp\n\n> on\n-- turns 3\n";
+    for every in [1, 2, 10_000] {
+        let run = edit(rt.alloc(), CAVE, LONG_LOG, script.as_slice(), every);
+        assert!(rt; run.wrote(want.as_slice()), "every {every}");
+    }
+}
+
+#[test]
+fn groups_are_applied_whole_or_not_at_all(rt: HostRuntime) -> Result<(), Fail> {
+    let alloc = rt.alloc();
+    let accepted = edit(
+        alloc,
+        CAVE,
+        LONG_LOG,
+        b"begin\ninsert 2 # note\ndelete 3\nend\n",
+        1,
+    );
+    let want =
+        b"line 1: ok\n[welcome]\n\n> no\nYou stand on a road.\n\n> in\nYou are in a hut.\nA lamp is here.\n\n> on\n\n> down\n[dark]\n-- turns 3\n";
+    assert!(rt; accepted.wrote(want.as_slice()));
+    let scripts: [(&[u8], &str); 4] = [
+        (b"begin\ndelete 0\ndelete 9\nend\n", "line 3: refused 1\n"),
+        (b"begin\ninsert 2 x\ndelete 2\nend\n", "line 1: ok\n"),
+        (b"begin\nend\n", "line 1: refused 7\n"),
+        (b"begin\n# empty\n\nend \t\n", "line 1: refused 7\n"),
+    ];
+    for (script, report) in scripts {
+        let want = format!(in alloc; "{report}{LONG_TEXT}")?;
+        let run = edit(alloc, CAVE, LONG_LOG, script, 1);
+        assert!(rt; run.wrote(want.as_bytes()), "{report:?}");
+    }
+    Ok(())
+}
+
+#[test]
+fn each_refusal_has_its_number(rt: HostRuntime) -> Result<(), Fail> {
+    let scripts: [(&[u8], u32); 5] = [
+        (b"insert 6 x", 1),
+        (b"replace 4294967296 x", 1),
+        (b"insert 0 \x7f", 2),
+        (b"insert 0 \xc3\xa9\n", 2),
+        (b"seed 2147483648\n", 4),
+    ];
+    for (script, number) in scripts {
+        let want = format!(in rt.alloc(); "line 1: refused {number}\n{LONG_TEXT}")?;
+        let run = edit(rt.alloc(), CAVE, LONG_LOG, script, 50);
+        assert!(rt; run.wrote(want.as_bytes()), "{number}");
+    }
+    Ok(())
+}
+
+#[test]
+fn a_malformed_script_is_refused_before_any_edit(rt: HostRuntime) {
+    let scripts: [(&[u8], usize, Flaw); 6] = [
+        (
+            b"insert 2 # note\ndelete 9\nreplace 1 IN\nbegone\n",
+            4,
+            Flaw::NoEdit,
+        ),
+        (b" delete 1\n", 1, Flaw::NoEdit),
+        (b"delete 1 2\n", 1, Flaw::NoEdit),
+        (b"end\n", 1, Flaw::EndOutsideGroup),
+        (b"begin\nbegin\nend\nend\n", 2, Flaw::BeginInGroup),
+        (b"begin\ndelete 0\n", 1, Flaw::NoEnd),
+    ];
+    for (script, line, flaw) in scripts {
+        let run = edit(rt.alloc(), CAVE, LONG_LOG, script, 1);
+        let fault = PlayFault::Script(ScriptFault::Malformed(line, flaw));
+        assert!(rt; run.failed(fault), "{line}");
+        assert_eq!(rt; fault.status(), 4);
+        assert_eq!(rt; fault.line(), Some(line));
+    }
+}
+
+#[test]
+fn distances_out_of_range_are_refused(rt: HostRuntime) {
+    for every in [0, 10_001] {
+        assert!(rt; edit(rt.alloc(), b"", b"\x7f", b"begone", every).failed(PlayFault::Every));
+    }
+    assert_eq!(rt; PlayFault::Every.status(), 2);
+}

@@ -1,0 +1,123 @@
+//! Readers and writers that misbehave on purpose, and count how often they are asked.
+
+use std::alloc::Global;
+use std::io;
+use std::io::{Read, Write};
+
+/// Gives its bytes in pieces, and fails at one of its asks where told so.
+#[derive(Drop)]
+pub struct Source<'a> {
+    /// What is left to give.
+    pub bytes: &'a [u8],
+    /// The most bytes given at once.
+    pub piece: usize,
+    /// The ask that is answered by an error, counted from 1; 0 is none.
+    pub failing: u64,
+    /// How often the source was asked.
+    pub asks: u64,
+}
+
+impl<'a> Source<'a> {
+    /// A source that gives all that it can at each ask.
+    pub fn of(bytes: &'a [u8]) -> Source<'a> {
+        Source::in_pieces(bytes, usize::MAX)
+    }
+
+    /// A source that gives at most so many bytes at each ask.
+    pub fn in_pieces(bytes: &'a [u8], piece: usize) -> Source<'a> {
+        Source {
+            bytes,
+            piece,
+            failing: 0,
+            asks: 0,
+        }
+    }
+
+    /// A source that answers its first ask by an error.
+    pub fn broken() -> Source<'a> {
+        Source {
+            bytes: &[],
+            piece: 1,
+            failing: 1,
+            asks: 0,
+        }
+    }
+}
+
+impl Read for Source<'_> {
+    fn read(&mut self, buf: &mut [u8]) -> io::Result<usize> {
+        self.asks = self.asks.saturating_add(1);
+        if self.asks == self.failing {
+            return Err(io::Error::other("the source fails"));
+        }
+        let bytes = self.bytes;
+        let count = self.piece.min(buf.len()).min(bytes.len());
+        buf[..count].copy_from_slice(&bytes[..count]);
+        self.bytes = &bytes[count..];
+        Ok(count)
+    }
+}
+
+/// Gives one byte at each ask, without end.
+#[derive(Drop)]
+pub struct Endless {
+    /// How often the source was asked.
+    pub asks: u64,
+}
+
+impl Read for Endless {
+    fn read(&mut self, buf: &mut [u8]) -> io::Result<usize> {
+        self.asks = self.asks.saturating_add(1);
+        if buf.is_empty() {
+            return Ok(0);
+        }
+        buf[0] = b'x';
+        Ok(1)
+    }
+}
+
+/// Takes bytes in pieces, and fails at one of its calls where told so.
+#[derive(Drop)]
+pub struct Sink {
+    /// What was taken.
+    pub taken: Vec<u8>,
+    /// The most bytes taken at once.
+    pub piece: usize,
+    /// The call that is answered by an error, counted from 1; 0 is none.
+    pub failing: u64,
+    /// How often the sink was called.
+    pub calls: u64,
+}
+
+impl Sink {
+    /// A sink that takes all that it is given.
+    pub fn new(alloc: Global) -> Sink {
+        Sink::in_pieces(alloc, usize::MAX)
+    }
+
+    /// A sink that takes at most so many bytes at each call.
+    pub fn in_pieces(alloc: Global, piece: usize) -> Sink {
+        Sink {
+            taken: Vec::new(alloc),
+            piece,
+            failing: 0,
+            calls: 0,
+        }
+    }
+}
+
+impl Write for Sink {
+    fn write(&mut self, buf: &[u8]) -> io::Result<usize> {
+        self.calls = self.calls.saturating_add(1);
+        if self.calls == self.failing {
+            return Err(io::Error::other("the sink fails"));
+        }
+        let count = self.piece.min(buf.len());
+        self.taken.extend_from_slice(&buf[..count])?;
+        Ok(count)
+    }
+
+    fn flush(&mut self) -> io::Result<()> {
+        Ok(())
+    }
+}
