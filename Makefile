@@ -1,11 +1,23 @@
 .PHONY: play test install
 
 PREFIX ?= $(HOME)/.local
+PROGRAM = crates/cave/out/cave
+SOURCES = $(shell find crates -name out -prune -o -type f \( -name '*.rt' -o -name '*.antt' \) -print) crates.txt
+FIRST_GAME = play $(CURDIR)/caves/a.txt $(CURDIR)/logs/first.log
 
 # Plays a shipped cave with a shipped log, and builds first what isn't built.
-play: crates/cave/out/cave
-	@crates/cave/out/cave play caves/a.txt logs/first.log
+play: $(PROGRAM)
+	@$(PROGRAM) $(FIRST_GAME)
+
+# Proves the program with all that it stands on, and builds it. What was said stands in build.log.
+$(PROGRAM): $(SOURCES)
+	@mkdir -p crates/cave/out
+	@cd crates/cave && rt run -- $(FIRST_GAME) > out/build.log 2>&1 || { cat out/build.log >&2; exit 1; }
+	@touch $@
 
 # The gate: each proof from nothing, the edits that must fail, the tests and the program.
 test:
 	rt ci
+
+install: $(PROGRAM)
+	install -D -m 755 $(PROGRAM) $(PREFIX)/bin/cave
