@@ -42,6 +42,21 @@ fn places_that_were_seen_are_told_in_short(rt: HostRuntime) {
 }
 
 #[test]
+fn unknown_words_are_answered_by_two_draws(rt: HostRuntime) {
+    let want =
+        b"[welcome]\n\n> no\nYou stand on a road.\n\n> xyzzy\n[no-word-2]\n\n> xyzzy\n[no-word-2]\n\n> xyzzy\n[no-word]\n-- turns 3\n";
+    assert!(rt; play(rt.alloc(), CAVE, b"no\nxyzzy\nxyzzy\nxyzzy\n").wrote(want.as_slice()));
+}
+
+#[test]
+fn a_seed_line_begins_the_draws_anew(rt: HostRuntime) {
+    let log = b"no\nseed 0\nxyzzy\nseed 0\nxyzzy\n";
+    let want =
+        b"[welcome]\n\n> no\nYou stand on a road.\n\n> seed 0\n\n> xyzzy\n[no-word-2]\n\n> seed 0\n\n> xyzzy\n[no-word-2]\n-- turns 2\n";
+    assert!(rt; play(rt.alloc(), CAVE, log.as_slice()).wrote(want.as_slice()));
+}
+
+#[test]
 fn a_cave_is_checked(rt: HostRuntime) {
     assert!(rt; check(rt.alloc(), CAVE, b"").wrote(b"cave ok\n"));
 }
@@ -58,7 +73,7 @@ fn cut(alloc: Global, lines: usize) -> Result<Vec<u8>, AllocError> {
 
 #[test]
 fn a_cave_that_is_cut_has_no_end(rt: HostRuntime) -> Result<(), Fail> {
-    for lines in 0..36 {
+    for lines in 0..37 {
         let database = cut(rt.alloc(), lines)?;
         let run = play(rt.alloc(), database.as_slice(), LOG);
         let Err(PlayFault::Cave(error)) = run.ended else {

@@ -128,6 +128,7 @@ fn refused_memory_changes_nothing(rt: HostRuntime) -> Result<(), Fail> {
     assert_eq!(rt; report.from, 5);
     assert_eq!(rt; report.met, Some(7));
     assert_eq!(rt; report.played, 2);
+    assert_eq!(rt; session.lines(), 10);
     assert_eq!(rt; session.line(5), b"aaaa".as_slice());
     Ok(())
 }
