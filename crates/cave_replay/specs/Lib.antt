@@ -11,4 +11,3 @@ pub mod Agreement
 pub mod Replay
 pub mod Changed
 pub mod Taken
-pub mod Counting

@@ -14,8 +14,6 @@ mod replay;
 pub mod report;
 pub mod session;
 mod span;
-#[cfg(test)]
-mod tests;
 
 pub use edit::Edit;
 pub use fault::{EditFault, GREATEST_SEED, GroupFault, MOST_EVERY, MOST_LINES, OpenFault};

@@ -1,5 +1,5 @@
-use super::counter::Counter;
-use crate::{Edit, EditFault, Session};
+use crate::counter::Counter;
+use cave_replay::{Edit, EditFault, Session};
 use cave_words::{Meter, Steps};
 use std::alloc::{AllocError, Global};
 use std::test::Fail;

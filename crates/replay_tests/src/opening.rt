@@ -1,5 +1,5 @@
-use super::counter::Counter;
-use crate::{OpenFault, Session};
+use crate::counter::Counter;
+use cave_replay::{OpenFault, Session};
 use cave_words::{Meter, Steps};
 use std::test::Fail;
 

@@ -1,7 +1,7 @@
 ghost use Rattle.std.specs.Prelude.{◌≡◌, ℕ, ◌%◌, List, [], ◌∷◌, length, true};
 ghost use Rattle.std.proofs.Common.{rules};
 
-use crate::machine::{Machine, Started, Stepped};
+use cave_replay::{Machine, Started, Stepped};
 use cave_words::Meter;
 use std::alloc::{AllocError, Global};
 
@@ -10,7 +10,7 @@ use std::alloc::{AllocError, Global};
 pub struct Counter;
 
 impl Machine for Counter {
-    ghost use Rattle.cave_replay.specs.Counting.{counting, same_numbers};
+    ghost use Rattle.replay_tests.specs.Counting.{counting, same_numbers};
 
     type State = usize;
 

@@ -1,3 +1,0 @@
-mod counter;
-mod editing;
-mod opening;
