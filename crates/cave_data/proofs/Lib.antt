@@ -13,5 +13,5 @@ pub mod DatabaseLemmas
 pub mod NameLemmas
 pub mod BindingLemmas
 pub mod CaveLemmas
-pub mod LetterLemmas
+pub mod RangeLemmas
 pub mod ReadLemmas

@@ -19,3 +19,4 @@ pub mod BindingSteps
 pub mod Reading
 pub mod Finished
 pub mod DefaultPlaces
+pub mod Ranges

@@ -1,10 +1,11 @@
 //! A cave: the tables of a database and what its bindings say.
-ghost use Rattle.std.specs.Prelude.{◌≡◌, ◌≤◌, All, option_map, map, length, nat_lt, IfOk, IfErr, IfSome, MatchResult, unwrap_or};
+ghost use Rattle.std.specs.Prelude.{◌≡◌, All, option_map, map, length, nat_lt, IfOk, IfErr, IfSome, MatchResult, unwrap_or};
 ghost use Rattle.std.specs.FinMap.{get};
 ghost use Rattle.cave_data.specs.CaveView.{name_of, look_of, ways_from, conditions_of, placement_of, default_message, CaveView, class_of};
 ghost use Rattle.cave_data.specs.Bindings.{default_place};
 ghost use Rattle.cave_data.specs.Faults.{FaultIs, no_memory};
 ghost use Rattle.cave_data.specs.Finished.{Finished};
+ghost use Rattle.cave_data.specs.Ranges.{IsLetters, IsMessage, IsPlace, IsStanding, HasOnly, AreInRange};
 ghost use Rattle.cave_data.specs.Reading.{Reads, fault};
 ghost use Rattle.cave_data.specs.RowViews.{rating};
 ghost use Rattle.cave_data.specs.Shown.{going, word_entry};
@@ -51,7 +52,8 @@ pub struct Cave {
 
 /// The place that has the role where bindings say nothing.
 fn default_place(place: PlaceRole) -> Option<u16>
-    ensures { result ≡ default_place (place_number place) }
+    ensures value { result ≡ default_place (place_number place) }
+    ensures within { IfSome result IsPlace }
 {
     match place {
         PlaceRole::Start => Some(1),
@@ -63,11 +65,12 @@ fn default_place(place: PlaceRole) -> Option<u16>
 }
 
 impl Model for Cave {
-    ghost use Rattle.std.specs.Prelude.{map, ◌≤◌};
+    ghost use Rattle.std.specs.Prelude.{map};
     ghost use Rattle.cave_data.specs.CaveView.{CaveView, cave_code};
     ghost use Rattle.cave_data.specs.Slots.{by_number};
     ghost use Rattle.cave_data.specs.Shown.{RowsAtPlaces, shown_text, goings, word_entry, class_entry};
     ghost use Rattle.cave_data.specs.DefaultPlaces.{with_defaults};
+    ghost use Rattle.cave_data.specs.Ranges.{IsLetters, IsMessage, IsPlace, IsStanding, HasOnly};
 
     ghost Value = { CaveView };
 
@@ -90,7 +93,11 @@ impl Model for Cave {
       letters = c.letters;
     } };
 
-    ghost invariant = { λ c. (5 ≤ c.letters) × (c.letters ≤ 8) × RowsAtPlaces c.travel.items.items };
+    ghost invariant = { λ c. IsLetters c.letters
+        × RowsAtPlaces c.travel.items.items
+        × HasOnly IsMessage c.roles
+        × HasOnly IsPlace c.places
+        × HasOnly IsStanding c.placements };
 }
 
 /// Whether an input is too large.
@@ -102,9 +109,9 @@ fn is_too_large(input: &[u8]) -> bool
 
 /// How many letters count.
 fn letters_of(bound: Option<u16>) -> u8
-    requires { IfSome bound (λ n. (5 ≤ n) × (n ≤ 8)) }
+    requires { IfSome bound IsLetters }
     ensures value { result ≡ unwrap_or bound 5 }
-    ensures range { (5 ≤ result) × (result ≤ 8) }
+    ensures range { IsLetters result }
 {
     match bound {
         Some(letters) => letters as u8,
@@ -114,7 +121,8 @@ fn letters_of(bound: Option<u16>) -> u8
 
 /// The cave of tables and bindings.
 fn finish(tables: Tables, bindings: Bindings) -> Cave
-    requires { IfSome bindings.letters (λ n. (5 ≤ n) × (n ≤ 8)) }
+    requires bindings { AreInRange bindings }
+    requires standing { HasOnly IsStanding tables.placements }
     ensures { Finished tables bindings result }
 {
     let Tables {
@@ -256,6 +264,7 @@ impl Cave {
     pub fn placement(&self, object: u16) -> (u16, i16)
         ensures first { result.0 ≡ (placement_of self.now object).first }
         ensures second { result.1 ≡ (placement_of self.now object).second }
+        ensures within { IsStanding (record { first = result.0; second = result.1 }) }
     {
         match self.placements.get(object) {
             Some(placement) => (placement.first, placement.second),
@@ -279,14 +288,16 @@ impl Cave {
 
     /// The message that bindings give the role.
     pub fn role(&self, role: Role) -> Option<u16>
-        ensures { result ≡ get self.now.roles (role_number role) }
+        ensures value { result ≡ get self.now.roles (role_number role) }
+        ensures within { IfSome result IsMessage }
     {
         self.roles.get(role.number())
     }
 
     /// The place that has the role, by bindings or where they say nothing.
     pub fn place(&self, place: PlaceRole) -> Option<u16>
-        ensures { result ≡ get self.now.places (place_number place) }
+        ensures value { result ≡ get self.now.places (place_number place) }
+        ensures within { IfSome result IsPlace }
     {
         self.places.get(place.number()).or(default_place(place))
     }
@@ -319,7 +330,7 @@ impl Cave {
     /// How many letters of a word count.
     pub fn letters(&self) -> u8
         ensures value { result ≡ self.now.letters }
-        ensures range { (5 ≤ result) × (result ≤ 8) }
+        ensures range { IsLetters result }
     {
         self.letters
     }

@@ -1,9 +1,9 @@
-use Rattle.std.proofs.Common.{sym, subst, ap, ◌∙◌, inr, IfSome}
+use Rattle.std.proofs.Common.{sym, subst, ◌∙◌, inr}
 use Rattle.std.specs.Str.Lines.{lines}
 use Rattle.std.proofs.lemmas.Result.{err_from_is_err_and}
-use Rattle.cave_data.specs.Bindings.{bindings_of}
-use Rattle.cave_data.proofs.BindingLemmas.{letters_bound}
-use Rattle.cave_data.proofs.LetterLemmas.{FewLetters, few_letters}
+use Rattle.cave_data.specs.declared.reader.Tables.{Tables}
+use Rattle.cave_data.specs.Ranges.{AreInRange, HasOnly, IsStanding}
+use Rattle.cave_data.proofs.RangeLemmas.{bound_in_range, standing_in_range}
 use Rattle.cave_data.proofs.ReadLemmas.{fault_database_large, fault_bindings_large, fault_in_database, fault_in_bindings, made_reads}
 use Rattle.cave_data.proofs.cave.read_cave.Goals as goal
 
@@ -26,8 +26,10 @@ returns-in_err-bindings-clause-fault c =
     c.in_err-bindings.ensures.fault)
 
 pub finish-requires : goal.finish-requires
-finish-requires c =
-    subst (λ o. IfSome o FewLetters) (sym (ap (λ b. b.letters) c.in_ok-bindings.ensures.found ∙ letters_bound (bindings_of (lines c.args.bindings.now)))) (few_letters (lines c.args.bindings.now))
+finish-requires c = record {
+  bindings = subst AreInRange (sym c.in_ok-bindings.ensures.found) (bound_in_range (lines c.args.bindings.now));
+  standing = subst (λ (t : Tables). HasOnly IsStanding t.placements) (sym c.in_ok-tables.ensures.found) (standing_in_range (lines c.args.database.now));
+}
 
 pub returns-clause-found : goal.returns-clause-found
 returns-clause-found c =

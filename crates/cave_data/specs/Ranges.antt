@@ -1,0 +1,31 @@
+-- The ranges of what bindings bind and of where objects stand.
+use Rattle.std.specs.Prelude.{ℕ, ◌≤◌, ℤ, pos, negsuc, ◌≤ℤ◌, IfSome}
+use Rattle.std.specs.Ordering.{nat_cmp}
+use Rattle.std.specs.FinMap as map
+use Rattle.cave_data.specs.declared.rows.Placement.{Placement}
+use Rattle.cave_data.specs.declared.bindings.Bindings.{Bindings}
+
+abbrev pub IsPlace : ℕ → Type 0
+IsPlace n = (1 ≤ n) × (n ≤ 300)
+
+abbrev pub IsMessage : ℕ → Type 0
+IsMessage n = (1 ≤ n) × (n ≤ 499)
+
+-- so many letters of a word may count
+abbrev pub IsLetters : ℕ → Type 0
+IsLetters n = (5 ≤ n) × (n ≤ 8)
+
+-- a first place, or 0, and a second place, or 0 or -1
+pub record IsStanding (p : Placement) : Type 0 where
+  pub first : p.first ≤ 300
+  pub low : negsuc 0 ≤ℤ p.second
+  pub high : p.second ≤ℤ pos 300
+
+-- all values of a map are such values
+abbrev pub HasOnly : {X : Type 0} → (X → Type 0) → map.FinMap nat_cmp X → Type 0
+HasOnly IsSuch m = (n : ℕ) → IfSome (map.get m n) IsSuch
+
+pub record AreInRange (b : Bindings) : Type 0 where
+  pub roles : HasOnly IsMessage b.roles
+  pub places : HasOnly IsPlace b.places
+  pub letters : IfSome b.letters IsLetters
