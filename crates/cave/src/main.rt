@@ -3,7 +3,7 @@
 
 use cave_command::{Files, Line, LineFault, command_line};
 use cave_play::bindings::Bindings;
-use cave_play::fault::{Input, PlayFault};
+use cave_play::fault::{Complaint, Input, PlayFault};
 use cave_play::run::{run_check, run_edit, run_play};
 use std::fs::File;
 use std::process::ExitCode;
@@ -86,11 +86,8 @@ fn tell(rt: &HostRuntime, names: Names<'_>, ended: Result<(), PlayFault>) -> Exi
     let Err(fault) = ended else {
         return ExitCode::SUCCESS;
     };
-    let _ = match (fault.input(), fault.line()) {
-        (Some(input), Some(line)) => eprintln!(rt; "cave: {}:{line}: {fault}", names.of(input)),
-        (Some(input), None) => eprintln!(rt; "cave: {}: {fault}", names.of(input)),
-        (None, _) => eprintln!(rt; "cave: {fault}"),
-    };
+    let file = fault.input().map(|input| names.of(input));
+    let _ = eprintln!(rt; "{}", Complaint {fault, file});
     ExitCode::from(fault.status())
 }
 

@@ -21,6 +21,7 @@ mod tests;
 
 pub use cave::Cave;
 pub use error::{Cause, CaveError, Section, Spot};
+pub use explain::Expected;
 pub use lines::split_line;
 pub use place_role::PlaceRole;
 pub use role::Role;

@@ -1,5 +1,6 @@
 -- The transcript of a play, from what was said at each of its lines.
-use Rattle.std.specs.Prelude.{ℕ, ◌+◌, Bool, true, false, List, [], ◌∷◌, ◌++◌, codes, if◌then◌else◌}
+use Rattle.std.specs.Prelude.{ℕ, ◌+◌, Bool, true, false, List, [], ◌++◌, length, take, count_by, codes, if◌then◌else◌}
+use Rattle.std.specs.List.{enumerate_from, flat_map, zip}
 use Rattle.std.specs.Fmt.{decimal}
 use Rattle.cave_words.specs.LogLine.{log_line}
 use Rattle.cave_words.specs.declared.log_line.LogLine.{LogLine}
@@ -20,21 +21,20 @@ is_shown Input = true
 abbrev pub closing : ℕ → List ℕ
 closing turns = codes "-- turns " ++ (decimal turns ++ codes "\n")
 
--- one turn more, where a line ticked
-abbrev pub turns_after : ℕ → Bool → ℕ
-turns_after turns ticked = if ticked then turns + 1 else turns
+-- how many of the first so many lines ticked
+abbrev pub ticks : List Bool → ℕ → ℕ
+ticks ticked count = count_by (λ ticks. ticks) (take count ticked)
 
 module _ {Piece : Type 0} (show : Piece → ℕ → List ℕ) where
   -- a line and what was said at it, where so many turns have been taken
   abbrev pub told_at : List ℕ → Piece → ℕ → List ℕ
   told_at line piece turns = if is_shown (log_line line) then echo line ++ show piece turns else []
 
-  -- line after line, where so many turns were taken before them, and then how many were taken in all
-  abbrev pub told_from : ℕ → List (List ℕ) → List Piece → List Bool → List ℕ
-  told_from turns (line ∷ lines) (piece ∷ pieces) (ticked ∷ ticks) =
-      told_at line piece (turns_after turns ticked) ++ told_from (turns_after turns ticked) lines pieces ticks
-  told_from turns _ _ _ = closing turns
+  -- the line at a place and what was said at it, where the lines up to it took the turns
+  abbrev pub told : List Bool → ℕ × (List ℕ × Piece) → List ℕ
+  told ticked (place, (line, piece)) = told_at line piece (ticks ticked (place + 1))
 
-  -- the opening, and then each line with what was said at it
+  -- the opening, then each line with what was said at it, and then how many turns were taken
   abbrev pub transcript : Piece → List (List ℕ) → List Piece → List Bool → List ℕ
-  transcript opening log pieces ticks = show opening 0 ++ told_from 0 log pieces ticks
+  transcript opening log pieces ticked =
+      show opening 0 ++ (flat_map (told ticked) (enumerate_from 0 (zip log pieces)) ++ closing (ticks ticked (length log)))

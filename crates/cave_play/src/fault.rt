@@ -4,9 +4,10 @@ ghost use Rattle.std.specs.Prelude.{◌≡◌};
 ghost use Rattle.cave_play.specs.declared.fault.PlayFault.TheVariants.{Memory};
 ghost use Rattle.cave_play.specs.Fault.{status_of, input_of, line_of};
 
-use cave_data::{CaveError, Spot};
+use cave_data::{CaveError, Expected, Spot};
 use cave_script::Flaw;
 use std::alloc::AllocError;
+use std::fmt;
 use thiserror::Error;
 
 /// An input of a run.
@@ -22,13 +23,13 @@ pub enum Input {
 #[derive(Clone, Copy, Debug, PartialEq, Eq, Error)]
 pub enum LogFault {
     /// It has more bytes than an input may have.
-    #[error("the log is larger than 1048576 bytes")]
+    #[error("the log is larger than 1,048,576 bytes")]
     TooLarge,
     /// The line with this number, from 1, can't stand in a log.
     #[error("a line of a log has at most 255 bytes, each of them printable ASCII or a tab")]
     BadLine(usize),
     /// It has more lines than a log may have.
-    #[error("the log has more than 65535 lines")]
+    #[error("the log has more than 65,535 lines")]
     Full,
 }
 
@@ -36,18 +37,18 @@ pub enum LogFault {
 #[derive(Clone, Copy, Debug, PartialEq, Eq, Error)]
 pub enum ScriptFault {
     /// It has more bytes than an input may have.
-    #[error("the script is larger than 1048576 bytes")]
+    #[error("the script is larger than 1,048,576 bytes")]
     TooLarge,
     /// The line with this number, from 1, is malformed.
     #[error("{1}")]
     Malformed(usize, Flaw),
 }
 
-/// Why a run failed. The text says what is wrong, and not where.
+/// Why a run failed. The text says what is wrong, and not where: that is `Complaint`.
 #[derive(Clone, Copy, Debug, PartialEq, Eq, Error)]
 pub enum PlayFault {
     /// The database or its bindings are refused.
-    #[error("{0}")]
+    #[error("{}", Expected {cause: .0.cause, spot: .0.spot})]
     Cave(CaveError),
     /// The seed is too great.
     #[error("a seed is at most 2147483647")]
@@ -62,7 +63,7 @@ pub enum PlayFault {
     #[error("{0}")]
     Script(ScriptFault),
     /// The reader of an input answered an error.
-    #[error("it can't be read")]
+    #[error("the file can't be opened or read")]
     Read(Input),
     /// The writer answered an error, or took nothing.
     #[error("the output can't be written")]
@@ -119,6 +120,25 @@ impl PlayFault {
             PlayFault::Log(LogFault::BadLine(line)) => Some(line),
             PlayFault::Script(ScriptFault::Malformed(line, _)) => Some(line),
             _ => None,
+        }
+    }
+}
+
+/// A fault as the program tells it: the file and the line that are at fault, where one is, and what is wrong.
+#[derive(Clone, Copy, Debug)]
+pub struct Complaint<'a> {
+    pub fault: PlayFault,
+    /// The file of the input that is at fault.
+    pub file: Option<&'a str>,
+}
+
+impl fmt::Display for Complaint<'_> {
+    fn fmt<W: fmt::Write>(&self, f: &mut fmt::Formatter<W>) -> fmt::Result {
+        let fault = self.fault;
+        match (self.file, fault.line()) {
+            (Some(file), Some(line)) => write!(f, "cave: {file}:{line}: {fault}"),
+            (Some(file), None) => write!(f, "cave: {file}: {fault}"),
+            (None, _) => write!(f, "cave: {fault}"),
         }
     }
 }

@@ -1,9 +1,9 @@
 //! The transcript of a play.
 
-ghost use Rattle.std.specs.Prelude.{◌≡◌, ◌+◌, ◌^◌, ◌<◌, ◌≤◌, ◌++◌, OnOk};
+ghost use Rattle.std.specs.Prelude.{◌≡◌, ◌++◌, OnOk};
 ghost use Rattle.cave_words.specs.LogLine.{log_line};
 ghost use Rattle.cave_play.specs.CaveRules.{rendered};
-ghost use Rattle.cave_play.specs.Transcript.{echo, is_shown, closing, told_at, turns_after};
+ghost use Rattle.cave_play.specs.Transcript.{echo, is_shown, closing, told_at};
 ghost use Rattle.cave_play.specs.Output.{play_text};
 
 use crate::machine::CaveMachine;
@@ -59,15 +59,6 @@ fn push_line(
     render(cave, piece, turns, text)
 }
 
-/// One turn more, where a line ticked.
-fn turns_after(turns: u32, ticked: bool) -> u32
-    requires { turns + 1 < 2 ^ 32 }
-    ensures after { result ≡ turns_after turns ticked }
-    ensures few { result ≤ turns + 1 }
-{
-    if ticked { turns + 1 } else { turns }
-}
-
 /// Appends the transcript of the play that a session of the machine holds.
 pub(crate) fn tell(
     alloc: Global,
@@ -81,16 +72,11 @@ pub(crate) fn tell(
     let cave = machine.cave();
     render(cave, session.opening(), 0, text)?;
     let pieces = session.pieces();
-    let mut turns = 0;
-    for place in 0..session.lines() {
-        turns = turns_after(turns, session.ticked(place));
-        push_line(
-            cave,
-            text,
-            session.line(place),
-            &pieces[place as usize],
-            turns,
-        )?;
+    let lines = session.lines();
+    for place in 0..lines {
+        let turns = session.ticks(place + 1);
+        let piece = &pieces[place as usize];
+        push_line(cave, text, session.line(place), piece, turns)?;
     }
-    push_closing(alloc, text, turns)
+    push_closing(alloc, text, session.ticks(lines))
 }

@@ -1,7 +1,8 @@
 -- What was told so far, and then the lines from here on, are the transcript.
-use Rattle.std.proofs.Common.{◌≡◌, ◌≤◌, ◌++◌, drop, map}
+use Rattle.std.proofs.Common.{◌≡◌, ◌++◌, length, map}
 use Rattle.cave_play.specs.CaveRules.{rendered}
-use Rattle.cave_play.specs.Transcript.{told_from, transcript}
+use Rattle.cave_play.specs.Transcript.{closing, ticks, transcript}
+use Rattle.cave_play.proofs.TranscriptLemmas.{told_from}
 use Rattle.cave_play.proofs.transcript.tell.Given as goal
 
 abbrev pub invariant-loop-place : goal.invariant-loop-place
@@ -9,7 +10,6 @@ invariant-loop-place l =
     let held = l.session in
     let pieces = map (λ piece. piece.items) held.pieces in
     record {
-      told : l.text.items ++ told_from (rendered l.cave) l.turns (drop l.place held.game.log) (drop l.place pieces) (drop l.place held.ticks)
+      told : l.text.items ++ (told_from (rendered l.cave) held.ticks l.place held.game.log pieces ++ closing (ticks held.ticks (length held.game.log)))
           ≡ l.fn.text.items ++ transcript (rendered l.cave) held.opening.items held.game.log pieces held.ticks;
-      few : l.turns ≤ l.place;
     }
