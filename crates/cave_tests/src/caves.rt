@@ -1,9 +1,9 @@
-//! The shipped caves, as bytes, and runs over them.
+//! The shipped caves, as bytes, and runs over them by readers that give what they have.
 
 use crate::streams::Sink;
 use cave_play::fault::PlayFault;
 use cave_play::run::{run_check, run_edit, run_play};
-use std::alloc::Global;
+use std::alloc::{AllocError, Global};
 
 /// A road, a hut and a cellar.
 pub const CAVE: &[u8] =
@@ -16,11 +16,43 @@ pub const CAVE: &[u8] =
 9\n0 1 3\n-1\n\
 0\n";
 
+/// What the other shipped cave has beside the first: a room that leads to itself, gold and classes.
+pub const ROUND: &[u8] =
+    b"1\n13 Round.\n-1\n3\n3 13 45\n13 13 1\n-1\n4\n45 NORTH\n1050 GOLD\n2002 DROP\n-1\n\
+5\n50 Gold\n000 Gold lies here.\n-1\n6\n1 Done.\n-1\n7\n50 9\n-1\n10\n100 Novice.\n350 Master.\n-1\n";
+
+/// The first cave with some lines before its last one.
+pub fn with_lines(alloc: Global, lines: &[u8]) -> Result<Vec<u8>, AllocError> {
+    let mut text = Vec::from_slice(alloc, CAVE.strip_suffix(b"0\n").unwrap_or(CAVE))?;
+    text.extend_from_slice(lines)?;
+    text.extend_from_slice(b"0\n")?;
+    Ok(text)
+}
+
+/// The first cave with another line in the place of the one with a number, from 1.
+pub fn with_line(alloc: Global, number: usize, line: &[u8]) -> Result<Vec<u8>, AllocError> {
+    let mut text = Vec::new(alloc);
+    for (before, kept) in CAVE
+        .strip_suffix(b"\n")
+        .unwrap_or(CAVE)
+        .split(|byte| *byte == b'\n')
+        .enumerate()
+    {
+        text.extend_from_slice(if before + 1 == number { line } else { kept })?;
+        text.push(b'\n')?;
+    }
+    Ok(text)
+}
+
 /// A log that goes into the cellar.
 pub const LOG: &[u8] = b"no\nin\ndown\n";
 
 /// A log that takes the lamp there.
 pub const LONG_LOG: &[u8] = b"no\nin\ntake lamp\non\ndown\n";
+
+/// What playing the long log prints.
+pub const LONG_TEXT: &str =
+    "[welcome]\n\n> no\nYou stand on a road.\n\n> in\nYou are in a hut.\nA lamp is here.\n\n> take lamp\n\n> on\n\n> down\n[dark]\n-- turns 4\n";
 
 /// How a run ended, and what it wrote.
 #[derive(Drop)]
@@ -30,7 +62,8 @@ pub struct Run {
 }
 
 impl Run {
-    fn of(ended: Result<(), PlayFault>, sink: Sink) -> Run {
+    /// The run that ended so, and wrote into the sink.
+    pub fn of(ended: Result<(), PlayFault>, sink: Sink) -> Run {
         let Sink { taken, .. } = sink;
         Run {
             ended,
@@ -57,9 +90,14 @@ pub fn check(alloc: Global, cave: &[u8], bind: &[u8]) -> Run {
     Run::of(ended, sink)
 }
 
-/// Plays a log from seed 0.
+/// Plays a log without bindings, from seed 0.
 pub fn play(alloc: Global, cave: &[u8], log: &[u8]) -> Run {
-    let (mut cave, mut bind, mut log) = (cave, b"".as_slice(), log);
+    play_bound(alloc, cave, b"", log)
+}
+
+/// Plays a log with bindings, from seed 0.
+pub fn play_bound(alloc: Global, cave: &[u8], bind: &[u8], log: &[u8]) -> Run {
+    let (mut cave, mut bind, mut log) = (cave, bind, log);
     let mut sink = Sink::new(alloc);
     let ended = run_play(alloc, &mut cave, &mut bind, &mut log, 0, &mut sink);
     Run::of(ended, sink)

@@ -1,13 +1,7 @@
 //! Edits of a log by scripts, byte by byte.
 
-use crate::caves::{CAVE, LOG, LONG_LOG, edit};
-use cave_play::fault::{PlayFault, ScriptFault};
-use cave_script::Flaw;
+use crate::caves::{CAVE, LOG, LONG_LOG, LONG_TEXT, edit, play};
 use std::test::Fail;
-
-/// What playing the long log prints.
-const LONG_TEXT: &str =
-    "[welcome]\n\n> no\nYou stand on a road.\n\n> in\nYou are in a hut.\nA lamp is here.\n\n> take lamp\n\n> on\n\n> down\n[dark]\n-- turns 4\n";
 
 #[test]
 fn a_line_is_inserted(rt: HostRuntime) {
@@ -85,32 +79,27 @@ fn each_refusal_has_its_number(rt: HostRuntime) -> Result<(), Fail> {
 }
 
 #[test]
-fn a_malformed_script_is_refused_before_any_edit(rt: HostRuntime) {
-    let scripts: [(&[u8], usize, Flaw); 6] = [
-        (
-            b"insert 2 # note\ndelete 9\nreplace 1 IN\nbegone\n",
-            4,
-            Flaw::NoEdit,
-        ),
-        (b" delete 1\n", 1, Flaw::NoEdit),
-        (b"delete 1 2\n", 1, Flaw::NoEdit),
-        (b"end\n", 1, Flaw::EndOutsideGroup),
-        (b"begin\nbegin\nend\nend\n", 2, Flaw::BeginInGroup),
-        (b"begin\ndelete 0\n", 1, Flaw::NoEnd),
-    ];
-    for (script, line, flaw) in scripts {
-        let run = edit(rt.alloc(), CAVE, LONG_LOG, script, 1);
-        let fault = PlayFault::Script(ScriptFault::Malformed(line, flaw));
-        assert!(rt; run.failed(fault), "{line}");
-        assert_eq!(rt; fault.status(), 4);
-        assert_eq!(rt; fault.line(), Some(line));
-    }
+fn a_line_that_changes_the_way_changes_what_is_told_later(rt: HostRuntime) {
+    let log = b"no\nin\nout\nin\n";
+    let before =
+        b"[welcome]\n\n> no\nYou stand on a road.\n\n> in\nYou are in a hut.\nA lamp is here.\n\n> out\nRoad.\n\n> in\nHut.\nA lamp is here.\n-- turns 3\n";
+    assert!(rt; play(rt.alloc(), CAVE, log).wrote(before.as_slice()));
+    let after =
+        b"line 1: ok\n[welcome]\n\n> no\nYou stand on a road.\n\n> up\n[no-dir]\nRoad.\n\n> out\n[inout]\nRoad.\n\n> in\nYou are in a hut.\nA lamp is here.\n-- turns 3\n";
+    let run = edit(rt.alloc(), CAVE, log, b"replace 1 up\n", 1);
+    assert!(rt; run.wrote(after.as_slice()));
 }
 
 #[test]
-fn distances_out_of_range_are_refused(rt: HostRuntime) {
-    for every in [0, 10_001] {
-        assert!(rt; edit(rt.alloc(), b"", b"\x7f", b"begone", every).failed(PlayFault::Every));
-    }
-    assert_eq!(rt; PlayFault::Every.status(), 2);
+fn a_turn_more_is_counted_where_the_rest_is_kept(rt: HostRuntime) {
+    let want =
+        b"line 1: ok\n[welcome]\n\n> no\nYou stand on a road.\n\n> on\n\n> in\nYou are in a hut.\nA lamp is here.\n\n> take lamp\n\n> on\n\n> down\n[dark]\n-- turns 5\n";
+    let run = edit(rt.alloc(), CAVE, LONG_LOG, b"insert 1 on\n", 1);
+    assert!(rt; run.wrote(want.as_slice()));
+}
+
+#[test]
+fn a_log_can_be_edited_down_to_nothing(rt: HostRuntime) {
+    let run = edit(rt.alloc(), CAVE, b"no\n", b"delete 0\ndelete 0\n", 50);
+    assert!(rt; run.wrote(b"line 1: ok\nline 2: refused 1\n[welcome]\n-- turns 0\n"));
 }

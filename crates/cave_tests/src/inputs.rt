@@ -1,6 +1,6 @@
 //! Reading and writing, through streams that misbehave.
 
-use crate::streams::{Endless, Sink, Source};
+use crate::streams::{Sink, Source};
 use cave_play::input::{InputFault, MOST_BYTES, read_input};
 use cave_play::output::{WriteFault, write_output};
 use std::alloc::{AllocError, Global};
@@ -49,7 +49,7 @@ fn an_input_over_its_limit_is_refused(rt: HostRuntime) -> Result<(), Fail> {
 
 #[test]
 fn a_reader_without_end_is_asked_once_for_each_byte_and_once_more(rt: HostRuntime) {
-    let mut source = Endless { asks: 0 };
+    let mut source = Source::endless();
     let refused = read_input(rt.alloc(), &mut source).err();
     assert_eq!(rt; refused, Some(InputFault::TooLarge));
     assert_eq!(rt; source.asks, 1_048_577);

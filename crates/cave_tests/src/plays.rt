@@ -1,7 +1,7 @@
 //! Plays of the shipped cave, byte by byte.
 
 use crate::caves::{CAVE, LOG, check, play};
-use cave_data::{Cause, CaveError, Spot};
+use cave_data::Cause;
 use cave_play::fault::{LogFault, PlayFault};
 use std::alloc::{AllocError, Global};
 use std::test::Fail;
@@ -93,15 +93,4 @@ fn bad_lines_of_a_log_are_named(rt: HostRuntime) {
     assert!(rt; play(rt.alloc(), CAVE, b"no\ni\x7f\ndown\n").failed(bad));
     assert_eq!(rt; bad.status(), 3);
     assert_eq!(rt; bad.line(), Some(2));
-}
-
-#[test]
-fn the_first_fault_is_told(rt: HostRuntime) {
-    let empty = PlayFault::Cave(CaveError {
-        cause: Cause::NoEnd,
-        line: 1,
-        spot: Spot::Database,
-    });
-    assert!(rt; play(rt.alloc(), b"", b"\x7f").failed(empty));
-    assert_eq!(rt; empty.status(), 1);
 }

@@ -1,10 +1,10 @@
 //! Readers and writers that misbehave on purpose, and count how often they are asked.
 
-use std::alloc::Global;
+use std::alloc::{AllocError, Global};
 use std::io;
 use std::io::{Read, Write};
 
-/// Gives its bytes in pieces, and fails at one of its asks where told so.
+/// Gives its bytes in pieces, and fails at one of its asks where told so, or gives a byte at each ask without end.
 #[derive(Drop)]
 pub struct Source<'a> {
     /// What is left to give.
@@ -13,6 +13,8 @@ pub struct Source<'a> {
     pub piece: usize,
     /// The ask that is answered by an error, counted from 1; 0 is none.
     pub failing: u64,
+    /// Whether it never comes to its end.
+    pub endless: bool,
     /// How often the source was asked.
     pub asks: u64,
 }
@@ -29,18 +31,23 @@ impl<'a> Source<'a> {
             bytes,
             piece,
             failing: 0,
+            endless: false,
             asks: 0,
         }
     }
 
     /// A source that answers its first ask by an error.
     pub fn broken() -> Source<'a> {
-        Source {
-            bytes: &[],
-            piece: 1,
-            failing: 1,
-            asks: 0,
-        }
+        let mut source = Source::of(&[]);
+        source.failing = 1;
+        source
+    }
+
+    /// A source that gives one byte at each ask, without end.
+    pub fn endless() -> Source<'a> {
+        let mut source = Source::of(&[]);
+        source.endless = true;
+        source
     }
 }
 
@@ -50,29 +57,15 @@ impl Read for Source<'_> {
         if self.asks == self.failing {
             return Err(io::Error::other("the source fails"));
         }
+        if self.endless && !buf.is_empty() {
+            buf[0] = b'x';
+            return Ok(1);
+        }
         let bytes = self.bytes;
         let count = self.piece.min(buf.len()).min(bytes.len());
         buf[..count].copy_from_slice(&bytes[..count]);
         self.bytes = &bytes[count..];
         Ok(count)
-    }
-}
-
-/// Gives one byte at each ask, without end.
-#[derive(Drop)]
-pub struct Endless {
-    /// How often the source was asked.
-    pub asks: u64,
-}
-
-impl Read for Endless {
-    fn read(&mut self, buf: &mut [u8]) -> io::Result<usize> {
-        self.asks = self.asks.saturating_add(1);
-        if buf.is_empty() {
-            return Ok(0);
-        }
-        buf[0] = b'x';
-        Ok(1)
     }
 }
 
@@ -97,8 +90,17 @@ impl Sink {
 
     /// A sink that takes at most so many bytes at each call.
     pub fn in_pieces(alloc: Global, piece: usize) -> Sink {
+        Sink::over(Vec::new(alloc), piece)
+    }
+
+    /// A sink that needs no more memory for its first so many bytes.
+    pub fn with_room(alloc: Global, bytes: usize) -> Result<Sink, AllocError> {
+        Ok(Sink::over(Vec::with_capacity(alloc, bytes)?, usize::MAX))
+    }
+
+    fn over(taken: Vec<u8>, piece: usize) -> Sink {
         Sink {
-            taken: Vec::new(alloc),
+            taken,
             piece,
             failing: 0,
             calls: 0,
