@@ -101,6 +101,3 @@ pub fn turn(
         LogLine::Input => play(cave, lexicon, state, line, out),
     }
 }
-
-#[cfg(test)]
-mod tests;

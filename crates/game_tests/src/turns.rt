@@ -1,5 +1,7 @@
-use crate::{render, start, turn};
+//! What lines of a log print.
+
 use cave_data::Cave;
+use cave_turn::{render, start, turn};
 use cave_words::{Lexicon, Meter, check_line};
 use cave_world::Out;
 use std::alloc::Global;
