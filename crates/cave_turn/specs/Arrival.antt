@@ -8,11 +8,10 @@ use Rattle.cave_world.specs.Sight.{is_forced, has_condition}
 use Rattle.cave_world.specs.declared.dwarves.Dwarf.{Dwarf}
 use Rattle.cave_world.specs.declared.state.State.{State}
 use Rattle.cave_turn.specs.declared.names.Names.{Names}
-use Rattle.cave_turn.specs.declared.play.Play.{Play}
 use Rattle.cave_turn.specs.Description.{described, text_told}
 use Rattle.cave_turn.specs.Journeys.{Journey, set_forth, staying}
 use Rattle.cave_turn.specs.Places.{place_named, place_or}
-use Rattle.cave_turn.specs.Plays.{saying, with_state, standing, dies}
+use Rattle.cave_turn.specs.Plays.{Scene, saying, with_state, with_left, standing, dies}
 
 -- a cave that is closing has no way out
 unfoldable pub is_shut : CaveView → ℕ → State → Bool
@@ -25,9 +24,9 @@ panicking s =
     if closing.is_panicking || closing.is_closed then record s { closing = record closing { is_panicking = true } }
     else record s { closing = record closing { second_clock = pos 15; is_panicking = true } }
 
-unfoldable pub kept_in : CaveView → ℕ → Play → Journey
+unfoldable pub kept_in : CaveView → ℕ → Scene → Journey
 kept_in cave new p =
-    if is_shut cave new p.state then staying (saying role.ClosingExit (with_state (panicking p.state) p)) else record { place = new; play = p }
+    if is_shut cave new p.state then staying (saying role.ClosingExit (with_state (panicking p.state) p)) else record { place = new; scene = p }
 
 -- a dwarf that has seen the player comes from the place
 abbrev pub comes_from : ℕ → Dwarf → Bool
@@ -39,40 +38,38 @@ is_barred cave new s =
     not (new == s.trail.here) && not (is_forced cave s.trail.here) && not (has_condition cave s.trail.here 3)
     && list_any (comes_from new) (take 5 s.dwarves.each)
 
-unfoldable pub held_back : CaveView → ℕ → Play → Journey
-held_back cave new p = if is_barred cave new p.state then staying (saying role.Blocked p) else record { place = new; play = p }
+unfoldable pub held_back : CaveView → ℕ → Scene → Journey
+held_back cave new p = if is_barred cave new p.state then staying (saying role.Blocked p) else record { place = new; scene = p }
 
 -- whether the player is carried on from a place, and what was told there
 pub record Showing : Type 0 where
   pub is_carried_on : Bool
-  pub play : Play
+  pub scene : Scene
 
 -- the player comes to a place: who comes to 0 is dead, and of a place that carries on the text alone is told
-unfoldable pub come_to : CaveView → Names → ℕ → Play → Showing
+unfoldable pub come_to : CaveView → Names → ℕ → Scene → Showing
 come_to cave names new p =
     let q = standing new p in
-    if new == 0 then record { is_carried_on = false; play = dies q }
-    else (if is_forced cave new then record { is_carried_on = true; play = text_told cave names q }
-    else record { is_carried_on = false; play = described cave names q })
+    if new == 0 then record { is_carried_on = false; scene = dies q }
+    else (if is_forced cave new then record { is_carried_on = true; scene = text_told cave names q }
+    else record { is_carried_on = false; scene = described cave names q })
 
 -- the player arrives at a place, if nothing is in the way
-unfoldable pub shown : CaveView → Names → ℕ → Play → Showing
+unfoldable pub shown : CaveView → Names → ℕ → Scene → Showing
 shown cave names new p =
     let once = kept_in cave new p in
-    let twice = held_back cave once.place once.play in
-    come_to cave names twice.place twice.play
-
--- the forced motions that are left in this turn, and the play
-pub record Arrival : Type 0 where
-  pub left : ℕ
-  pub play : Play
+    let twice = held_back cave once.place once.scene in
+    come_to cave names twice.place twice.scene
 
 -- the player arrives at a place, and is carried on from it while forced motions are left
-unfoldable pub arrived : ℕ → CaveView → Names → ℕ → Play → Arrival
+unfoldable pub arrived : ℕ → CaveView → Names → ℕ → Scene → Scene
 arrived zero cave names new p =
-    let s = shown cave names new p in
-    record { left = 0; play = (if s.is_carried_on then saying role.ForcedLimit s.play else s.play) }
+    let s = shown cave names new p in if s.is_carried_on then saying role.ForcedLimit s.scene else s.scene
 arrived (suc left) cave names new p =
     let s = shown cave names new p in
-    let j = set_forth cave names 1 s.play in
-    if s.is_carried_on then arrived left cave names j.place j.play else record { left = suc left; play = s.play }
+    let j = set_forth cave names 1 (with_left left s.scene) in
+    if s.is_carried_on then arrived left cave names j.place j.scene else s.scene
+
+-- the forced motions that are left are those of the whole turn
+abbrev pub arriving : CaveView → Names → ℕ → Scene → Scene
+arriving cave names new p = arrived p.left cave names new p

@@ -12,10 +12,9 @@ use Rattle.cave_world.specs.declared.part.Part.{Part}
 use Rattle.cave_world.specs.declared.part.Part.TheVariants as part
 use Rattle.cave_world.specs.declared.state.State.{State}
 use Rattle.cave_turn.specs.declared.names.Names.{Names}
-use Rattle.cave_turn.specs.declared.play.Play.{Play}
 use Rattle.cave_turn.specs.Objects.{objects_told}
 use Rattle.cave_turn.specs.Places.{place_named, is_that}
-use Rattle.cave_turn.specs.Plays.{telling, saying, with_state, here_of, dies, after_draw, happens}
+use Rattle.cave_turn.specs.Plays.{Scene, telling, saying, with_state, here_of, dies, after_draw, happens}
 
 -- each fifth visit tells the long text, or the first alone where the player wants it brief, and so does each visit of a place with no short one
 abbrev pub is_told_at_length : CaveView → State → ℕ → Bool
@@ -26,43 +25,43 @@ unfoldable pub place_text : CaveView → State → ℕ → Part
 place_text cave s place = if is_told_at_length cave s place then part.Long place else part.Short place
 
 -- a bear that is carried is told before the text
-abbrev pub bear_told : Names → Play → Play
+abbrev pub bear_told : Names → Scene → Scene
 bear_told names p = if is_carried p.state.objects names.bear then saying role.BearFollows p else p
 
 -- the text of the place, behind the bear
-unfoldable pub text_told : CaveView → Names → Play → Play
+unfoldable pub text_told : CaveView → Names → Scene → Scene
 text_told cave names p = let q = bear_told names p in telling (place_text cave q.state (here_of q)) q
 
 -- at one place something hollow is heard, by chance, until the cave is closing
-unfoldable pub is_hollow : CaveView → Play → Bool
+unfoldable pub is_hollow : CaveView → Scene → Bool
 is_hollow cave p = is_that (here_of p) (place_named cave place.Y2) && not p.state.closing.is_closing
 
-unfoldable pub hollow_told : CaveView → Play → Play
+unfoldable pub hollow_told : CaveView → Scene → Scene
 hollow_told cave p =
     if is_hollow cave p then (if happens 25 p then saying role.Hollow (after_draw p) else after_draw p) else p
 
 -- the player fell into a pit, and died where the player will have come from
-abbrev pub in_pit : Play → Play
+abbrev pub in_pit : Scene → Scene
 in_pit p = let s = p.state in let trail = s.trail in let q = saying role.Pit p in dies (with_state (record s { trail = record trail { older = trail.here } }) q)
 
 -- what is told of a place where the player sees nothing
-abbrev pub darkness_told : CaveView → Names → Play → Play
+abbrev pub darkness_told : CaveView → Names → Scene → Scene
 darkness_told cave names p = hollow_told cave (saying role.Dark (bear_told names p))
 
 -- who goes on in the dark may fall into a pit
-unfoldable pub dark_described : CaveView → Names → Play → Play
+unfoldable pub dark_described : CaveView → Names → Scene → Scene
 dark_described cave names p =
     if p.was_dark then (if happens 35 p then in_pit (after_draw p) else darkness_told cave names (after_draw p))
     else darkness_told cave names p
 
 -- what is told of a place that the player sees: its text, and the objects there
-unfoldable pub sight_described : CaveView → Names → Play → Play
+unfoldable pub sight_described : CaveView → Names → Scene → Scene
 sight_described cave names p =
     let q = hollow_told cave (text_told cave names p) in
     let r = with_state (with_visit q.state (here_of q)) q in
     objects_told names (halves_at (here_of r) r.state.objects.lists) r
 
 -- the place is described, from which the player isn't carried on
-unfoldable pub described : CaveView → Names → Play → Play
+unfoldable pub described : CaveView → Names → Scene → Scene
 described cave names p =
     if is_dark cave names.lamp p.state then dark_described cave names p else sight_described cave names p

@@ -15,18 +15,17 @@ use Rattle.cave_world.specs.declared.rows.Special.{Special}
 use Rattle.cave_world.specs.declared.rows.Special.TheVariants.{Squeeze, Bridge}
 use Rattle.cave_world.specs.declared.state.State.{State}
 use Rattle.cave_turn.specs.declared.names.Names.{Names}
-use Rattle.cave_turn.specs.declared.play.Play.{Play}
 use Rattle.cave_turn.specs.Places.{place_named, place_or}
-use Rattle.cave_turn.specs.Plays.{telling, saying, with_state, here_of, sets_out}
+use Rattle.cave_turn.specs.Plays.{Scene, telling, saying, with_state, here_of, sets_out}
 
 -- a play, and the place where the player arrives next
 pub record Journey : Type 0 where
   pub place : ℕ
-  pub play : Play
+  pub scene : Scene
 
 -- the player arrives where the player stands
-abbrev pub staying : Play → Journey
-staying p = record { place = here_of p; play = p }
+abbrev pub staying : Scene → Journey
+staying p = record { place = here_of p; scene = p }
 
 -- what is said of a motion that no row lists: of a direction, of facing one, of in and out, of a magic word, of crawling, and of the rest
 abbrev pub refusal_of : ℕ → Role
@@ -52,50 +51,50 @@ is_slim names s =
     length (carried_objects s.objects) == 0 || (length (carried_objects s.objects) == 1 && is_carried s.objects names.emerald)
 
 -- through a narrow passage, in which nothing but the emerald may be carried
-abbrev pub squeezed_to : Names → Option ℕ → Play → Journey
+abbrev pub squeezed_to : Names → Option ℕ → Scene → Journey
 squeezed_to names None p = staying (saying role.NoWay p)
 squeezed_to names (Some end) p =
-    if is_slim names p.state then record { place = end; play = p } else staying (saying role.TooTight p)
+    if is_slim names p.state then record { place = end; scene = p } else staying (saying role.TooTight p)
 
-unfoldable pub squeezed : CaveView → Names → Play → Journey
+unfoldable pub squeezed : CaveView → Names → Scene → Journey
 squeezed cave names p = squeezed_to names (squeeze_end cave (here_of p)) p
 
 -- a way with rules of its own; the bridge leads nowhere
-abbrev pub led_specially : CaveView → Names → Special → Play → Journey
+abbrev pub led_specially : CaveView → Names → Special → Scene → Journey
 led_specially cave names Squeeze p = squeezed cave names p
 led_specially cave names Bridge p = staying (saying role.NoWay p)
 
 -- where the outcome of a motion leads
-abbrev pub led : CaveView → Names → ℕ → Outcome → Play → Journey
-led cave names motion (outcome.Go place) p = record { place = place; play = p }
+abbrev pub led : CaveView → Names → ℕ → Outcome → Scene → Journey
+led cave names motion (outcome.Go place) p = record { place = place; scene = p }
 led cave names motion (outcome.Special special) p = led_specially cave names special p
 led cave names motion (outcome.Say message) p = staying (telling (part.Message message) p)
 led cave names motion outcome.NoMotion p = staying (saying (refusal_of motion) p)
 led cave names motion outcome.NoWay p = staying (saying role.NoWay p)
 
 -- where the rows of the place lead by a motion
-unfoldable pub routed : CaveView → Names → ℕ → Play → Journey
+unfoldable pub routed : CaveView → Names → ℕ → Scene → Journey
 routed cave names motion p =
     let j = travelled cave names.emerald motion p.state in led cave names motion j.outcome (with_state j.state p)
 
 -- the player sets out by a motion
-unfoldable pub set_forth : CaveView → Names → ℕ → Play → Journey
+unfoldable pub set_forth : CaveView → Names → ℕ → Scene → Journey
 set_forth cave names motion p = routed cave names motion (sets_out p)
 
 -- the player looks round: the place is told at length, after two or three words on that
-abbrev pub enough_said : Play → Play
+abbrev pub enough_said : Scene → Scene
 enough_said p =
     let s = p.state in let talk = s.talk in
     if nat_lt talk.details 3 then saying role.Enough (with_state (record s { talk = record talk { details = talk.details + 1 } }) p) else p
 
-abbrev pub unvisited : Play → Play
+abbrev pub unvisited : Scene → Scene
 unvisited p = let q = with_state (without_visits p.state (here_of p)) p in record q { was_dark = false }
 
-unfoldable pub looking : Play → Journey
+unfoldable pub looking : Scene → Journey
 looking p = staying (unvisited (enough_said p))
 
 -- where the cave is, is told by whether the player is outside
-unfoldable pub seeking_cave : CaveView → Play → Journey
+unfoldable pub seeking_cave : CaveView → Scene → Journey
 seeking_cave cave p =
     if nat_lt (here_of p) (place_or 8 (place_named cave place.Outside)) then staying (saying role.CaveOut p) else staying (saying role.CaveIn p)
 
@@ -139,18 +138,18 @@ abbrev pub first_motion : Going → ℕ
 first_motion row = slice_index row.motions 0
 
 -- a motion that leads back is travelled
-abbrev pub back_by : CaveView → Names → Option ℕ → Play → Journey
+abbrev pub back_by : CaveView → Names → Option ℕ → Scene → Journey
 back_by cave names None p = staying (saying role.BackNo p)
 back_by cave names (Some motion) p = routed cave names motion p
 
 -- the player goes back
-unfoldable pub going_back : CaveView → Names → Play → Journey
+unfoldable pub going_back : CaveView → Names → Scene → Journey
 going_back cave names p =
     let sought = back_place cave p.state in let here = here_of p in let q = sets_out p in
     if sought == here then staying (saying role.BackNone q) else back_by cave names (option_map first_motion (row_back cave sought (ways_from cave here))) q
 
 -- where a motion that the player asks for leads: four motions have rules of their own
-unfoldable pub led_by_motion : CaveView → Names → ℕ → Play → Journey
+unfoldable pub led_by_motion : CaveView → Names → ℕ → Scene → Journey
 led_by_motion cave names motion p =
     if motion == 21 then staying p
     else (if motion == 57 then looking p

@@ -8,8 +8,7 @@ use Rattle.cave_world.specs.declared.object.Half.{Half}
 use Rattle.cave_world.specs.declared.part.Part.TheVariants as part
 use Rattle.cave_world.specs.declared.state.State.{State}
 use Rattle.cave_turn.specs.declared.names.Names.{Names}
-use Rattle.cave_turn.specs.declared.play.Play.{Play}
-use Rattle.cave_turn.specs.Plays.{telling, with_state}
+use Rattle.cave_turn.specs.Plays.{Scene, telling, with_state}
 
 -- an object that the player hasn't seen yet
 abbrev pub is_unseen : State → ℕ → Bool
@@ -51,12 +50,12 @@ told_prop names s x =
     if x == names.steps && is_place s.trail.here (place_of_anchor (anchor_of s.objects x)) then pos 1 else prop_of s.objects x
 
 -- an object is told, and is found if it wasn't seen before
-unfoldable pub object_told : Names → ℕ → Play → Play
+unfoldable pub object_told : Names → ℕ → Scene → Scene
 object_told names x p =
     if is_kept_back names p.state x then p
     else (let s = found_if_unseen names x p.state in telling (part.Object x (told_prop names s x)) (with_state s p))
 
 -- the objects of a list are told one after another
-abbrev pub objects_told : Names → List Half → Play → Play
+abbrev pub objects_told : Names → List Half → Scene → Scene
 objects_told names [] p = p
 objects_told names (half ∷ halves) p = objects_told names halves (object_told names (object_of half) p)

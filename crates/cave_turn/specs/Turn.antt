@@ -11,10 +11,10 @@ use Rattle.cave_world.specs.declared.ending.Question.{Question}
 use Rattle.cave_world.specs.declared.part.Part.{Part}
 use Rattle.cave_world.specs.declared.part.Part.TheVariants as part
 use Rattle.cave_world.specs.declared.state.State.{State}
-use Rattle.cave_turn.specs.declared.play.Play.{Play}
 use Rattle.cave_turn.specs.Answers.{answered}
 use Rattle.cave_turn.specs.Begin.{begun_state}
 use Rattle.cave_turn.specs.Commands.{commanded}
+use Rattle.cave_turn.specs.Plays.{Scene}
 
 -- the state after a line, what the line says, and whether it is a turn of the game
 pub record Turn : Type 0 where
@@ -26,8 +26,8 @@ pub record Turn : Type 0 where
 abbrev pub silent : State → Turn
 silent s = record { state = s; parts = []; ticked = false }
 
-abbrev pub turn_of : Bool → Play → Turn
-turn_of ticked p = record { state = p.state; parts = p.out.items; ticked = ticked }
+abbrev pub turn_of : Bool → Scene → Turn
+turn_of ticked p = record { state = p.state; parts = p.parts; ticked = ticked }
 
 -- a line of input: nothing after the end, an answer where a question is open, and else a command, which is a turn
 abbrev pub played : CaveView → List ℕ → Option Ending → Option Question → State → Turn
@@ -50,10 +50,10 @@ unfoldable pub turned : CaveView → State → List ℕ → Turn
 turned cave s line = turned_as cave line (log_line line) s
 
 -- a state, and what is said as it begins
-pub record Scene : Type 0 where
+pub record Beginning : Type 0 where
   pub state : State
   pub parts : List Part
 
 -- a new game asks whether the player wants instructions
-unfoldable pub begun : CaveView → ℕ → Scene
+unfoldable pub begun : CaveView → ℕ → Beginning
 begun cave seed = record { state = begun_state cave (seeded seed); parts = part.Role role.Welcome ∷ [] }

@@ -1,15 +1,16 @@
-ghost use Rattle.std.specs.Prelude.{◌≡◌, ◌+◌, ◌<◌, ◌≤◌};
+ghost use Rattle.std.specs.Prelude.{◌≡◌, ◌+◌, ◌<◌, ◌≤◌, []};
 ghost use Rattle.arrayvec.specs.ArrayVec.{array_vec_len};
 ghost use Rattle.cave_words.specs.Lexicon.{IsLexiconOf};
 ghost use Rattle.cave_turn.specs.Answers.{answer_of, answer_in, instructed, entering, welcomed, asked, answered};
+ghost use Rattle.cave_turn.specs.Plays.{scene_of, parts_by_arrival, IsSamePlay};
 
+use crate::arrival::arrive;
 use crate::begin::start_place;
-use crate::commands::{arrive_at, open};
 use crate::names::Names;
 use crate::play::Play;
 use cave_data::{Cave, Role};
 use cave_words::{Lexicon, Word, Words};
-use cave_world::{Charge, Question, State};
+use cave_world::{Charge, Out, Question, State};
 
 /// What a line says to a question.
 #[derive(Clone, Copy, Debug, PartialEq, Eq)]
@@ -53,24 +54,26 @@ fn instruct(state: &mut State)
 
 /// The game begins at its first place.
 #[tactic(auto, unfolding(crate::specs::Answers::entering))]
-fn enter(cave: &Cave, names: &Names, play: &mut Play)
-    requires { array_vec_len play.old.out ≤ 90 }
-    ensures play { play.new ≡ entering cave.now names.now play.old }
-    ensures few { array_vec_len play.new.out ≤ array_vec_len play.old.out + 306 }
+fn enter(cave: &Cave, names: &Names, play: &mut Play<'_>)
+    requires { parts_by_arrival play.old ≤ 512 }
+    ensures play { scene_of play.new ≡ entering cave.now names.now (scene_of play.old) }
+    ensures same { IsSamePlay play.old play.new }
+    ensures few { array_vec_len play.new.out.now ≤ parts_by_arrival play.old }
 {
     play.state.question = None;
-    arrive_at(cave, names, start_place(cave), play);
+    arrive(cave, names, start_place(cave), play);
 }
 
-fn welcome(cave: &Cave, names: &Names, answer: Answer, play: &mut Play)
-    requires { array_vec_len play.old.out ≤ 80 }
-    ensures play { play.new ≡ welcomed cave.now names.now answer play.old }
-    ensures few { array_vec_len play.new.out ≤ array_vec_len play.old.out + 307 }
+fn welcome(cave: &Cave, names: &Names, answer: Answer, play: &mut Play<'_>)
+    requires { parts_by_arrival play.old < 512 }
+    ensures play { scene_of play.new ≡ welcomed cave.now names.now answer (scene_of play.old) }
+    ensures same { IsSamePlay play.old play.new }
+    ensures few { array_vec_len play.new.out.now ≤ parts_by_arrival play.old + 1 }
 {
     match answer {
         Answer::Yes => {
             play.say(Role::Instructions);
-            instruct(&mut play.state);
+            instruct(play.state);
             enter(cave, names, play)
         }
         Answer::No => enter(cave, names, play),
@@ -81,10 +84,11 @@ fn welcome(cave: &Cave, names: &Names, answer: Answer, play: &mut Play)
     }
 }
 
-fn ask(cave: &Cave, names: &Names, question: Question, answer: Answer, play: &mut Play)
-    requires { array_vec_len play.old.out ≤ 80 }
-    ensures play { play.new ≡ asked cave.now names.now question answer play.old }
-    ensures few { array_vec_len play.new.out ≤ array_vec_len play.old.out + 307 }
+fn ask(cave: &Cave, names: &Names, question: Question, answer: Answer, play: &mut Play<'_>)
+    requires { parts_by_arrival play.old < 512 }
+    ensures play { scene_of play.new ≡ asked cave.now names.now question answer (scene_of play.old) }
+    ensures same { IsSamePlay play.old play.new }
+    ensures few { array_vec_len play.new.out.now ≤ parts_by_arrival play.old + 1 }
 {
     match question {
         Question::Welcome => welcome(cave, names, answer, play),
@@ -104,16 +108,18 @@ pub fn take_answer(
     cave: &Cave,
     lexicon: &Lexicon,
     question: Question,
-    state: &State,
     line: &[u8],
-) -> Play
-    requires { IsLexiconOf cave.now lexicon.now }
-    ensures play { result ≡ answered cave.now question line.now state.now }
-    ensures few { array_vec_len result.out ≤ 307 }
+    state: &mut State,
+    out: &mut Out,
+)
+    requires lexicon { IsLexiconOf cave.now lexicon.now }
+    requires empty { out.old.items ≡ [] }
+    ensures state { (answered cave.now question line.now state.old).state ≡ state.new }
+    ensures parts { (answered cave.now question line.now state.old).parts ≡ out.new.items }
+    ensures few { array_vec_len out.new ≤ 307 }
 {
     let names = Names::of(cave, lexicon);
     let answer = answer_in(cave, lexicon, line);
-    let mut play = open(state, false);
+    let mut play = Play::open(state, out, false);
     ask(cave, &names, question, answer, &mut play);
-    play
 }

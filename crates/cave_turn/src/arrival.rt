@@ -1,7 +1,8 @@
 ghost use Rattle.std.specs.Prelude.{◌≡◌, ◌+◌, ◌*◌, ◌<◌, ◌≤◌, IsTrue, take};
 ghost use Rattle.std.specs.List.{list_any};
 ghost use Rattle.arrayvec.specs.ArrayVec.{array_vec_len};
-ghost use Rattle.cave_turn.specs.Arrival.{is_shut, panicking, kept_in, comes_from, is_barred, held_back, come_to, shown, arrived};
+ghost use Rattle.cave_turn.specs.Arrival.{is_shut, panicking, kept_in, comes_from, is_barred, held_back, come_to, shown, arriving};
+ghost use Rattle.cave_turn.specs.Plays.{scene_of, parts_by_arrival, IsSamePlay, GoesOn};
 
 use crate::description::{describe, tell_text};
 use crate::journeys::{set_forth, stay};
@@ -37,15 +38,16 @@ fn panic(state: &mut State)
 }
 
 #[tactic(auto, unfolding(crate::specs::Arrival::kept_in))]
-fn keep_in(cave: &Cave, place: Place, play: &mut Play) -> Place
-    requires { array_vec_len play.old.out < 512 }
-    ensures journey { record { place = result; play = play.new } ≡ kept_in cave.now place play.old }
-    ensures few { array_vec_len play.new.out ≤ array_vec_len play.old.out + 1 }
+fn keep_in(cave: &Cave, place: Place, play: &mut Play<'_>) -> Place
+    requires { array_vec_len play.old.out.now < 512 }
+    ensures journey { record { place = result; scene = scene_of play.new } ≡ kept_in cave.now place (scene_of play.old) }
+    ensures same { GoesOn play.old play.new }
+    ensures few { array_vec_len play.new.out.now ≤ array_vec_len play.old.out.now + 1 }
 {
-    if !is_shut(cave, place, &play.state) {
+    if !is_shut(cave, place, play.state) {
         return place;
     }
-    panic(&mut play.state);
+    panic(play.state);
     stay(play, Role::ClosingExit)
 }
 
@@ -74,12 +76,13 @@ fn is_barred(cave: &Cave, place: Place, state: &State) -> bool
 }
 
 #[tactic(auto, unfolding(crate::specs::Arrival::held_back))]
-fn hold_back(cave: &Cave, place: Place, play: &mut Play) -> Place
-    requires { array_vec_len play.old.out < 512 }
-    ensures journey { record { place = result; play = play.new } ≡ held_back cave.now place play.old }
-    ensures few { array_vec_len play.new.out ≤ array_vec_len play.old.out + 1 }
+fn hold_back(cave: &Cave, place: Place, play: &mut Play<'_>) -> Place
+    requires { array_vec_len play.old.out.now < 512 }
+    ensures journey { record { place = result; scene = scene_of play.new } ≡ held_back cave.now place (scene_of play.old) }
+    ensures same { GoesOn play.old play.new }
+    ensures few { array_vec_len play.new.out.now ≤ array_vec_len play.old.out.now + 1 }
 {
-    if is_barred(cave, place, &play.state) {
+    if is_barred(cave, place, play.state) {
         return stay(play, Role::Blocked);
     }
     place
@@ -87,11 +90,12 @@ fn hold_back(cave: &Cave, place: Place, play: &mut Play) -> Place
 
 /// The player comes to a place. Tells whether the player is carried on from there.
 #[tactic(auto, unfolding(crate::specs::Arrival::come_to))]
-fn come_to(cave: &Cave, names: &Names, place: Place, play: &mut Play) -> bool
-    requires { array_vec_len play.old.out + 203 ≤ 512 }
-    ensures showing { record { is_carried_on = result; play = play.new } ≡ come_to cave.now names.now place play.old }
-    ensures few { array_vec_len play.new.out ≤ array_vec_len play.old.out + 203 }
-    ensures few_on { IsTrue result → array_vec_len play.new.out ≤ array_vec_len play.old.out + 2 }
+fn come_to(cave: &Cave, names: &Names, place: Place, play: &mut Play<'_>) -> bool
+    requires { array_vec_len play.old.out.now + 203 ≤ 512 }
+    ensures showing { record { is_carried_on = result; scene = scene_of play.new } ≡ come_to cave.now names.now place (scene_of play.old) }
+    ensures same { GoesOn play.old play.new }
+    ensures few { array_vec_len play.new.out.now ≤ array_vec_len play.old.out.now + 203 }
+    ensures few_on { IsTrue result → array_vec_len play.new.out.now ≤ array_vec_len play.old.out.now + 2 }
 {
     play.stand_at(place);
     if place.number() == 0 {
@@ -108,32 +112,34 @@ fn come_to(cave: &Cave, names: &Names, place: Place, play: &mut Play) -> bool
 
 /// The player arrives at a place, if nothing is in the way. Tells whether the player is carried on from there.
 #[tactic(auto, unfolding(crate::specs::Arrival::shown))]
-fn show(cave: &Cave, names: &Names, place: Place, play: &mut Play) -> bool
-    requires { array_vec_len play.old.out + 205 ≤ 512 }
-    ensures showing { record { is_carried_on = result; play = play.new } ≡ shown cave.now names.now place play.old }
-    ensures few { array_vec_len play.new.out ≤ array_vec_len play.old.out + 205 }
-    ensures few_on { IsTrue result → array_vec_len play.new.out ≤ array_vec_len play.old.out + 4 }
+fn show(cave: &Cave, names: &Names, place: Place, play: &mut Play<'_>) -> bool
+    requires { array_vec_len play.old.out.now + 205 ≤ 512 }
+    ensures showing { record { is_carried_on = result; scene = scene_of play.new } ≡ shown cave.now names.now place (scene_of play.old) }
+    ensures same { GoesOn play.old play.new }
+    ensures few { array_vec_len play.new.out.now ≤ array_vec_len play.old.out.now + 205 }
+    ensures few_on { IsTrue result → array_vec_len play.new.out.now ≤ array_vec_len play.old.out.now + 4 }
 {
     let place = keep_in(cave, place, play);
     let place = hold_back(cave, place, play);
     come_to(cave, names, place, play)
 }
 
-/// The player arrives at a place, and is carried on from it while forced motions are left.
-/// Tells how many are left then.
+/// The player arrives at a place, and is carried on from it while forced motions are left in the turn.
 #[tactic(auto, unfolding(crate::specs::Arrival::arrived))]
-pub fn arrive(cave: &Cave, names: &Names, place: Place, left: u8, play: &mut Play) -> u8
-    requires { array_vec_len play.old.out + 5 * left + 206 ≤ 512 }
-    ensures arrival { record { left = result; play = play.new } ≡ arrived left cave.now names.now place play.old }
-    ensures few { array_vec_len play.new.out ≤ array_vec_len play.old.out + 5 * left + 206 }
+pub fn arrive(cave: &Cave, names: &Names, place: Place, play: &mut Play<'_>)
+    requires { parts_by_arrival play.old ≤ 512 }
+    ensures play { scene_of play.new ≡ arriving cave.now names.now place (scene_of play.old) }
+    ensures same { IsSamePlay play.old play.new }
+    ensures few { array_vec_len play.new.out.now ≤ parts_by_arrival play.old }
 {
     if !show(cave, names, place, play) {
-        return left;
+        return;
     }
-    if left == 0 {
+    if play.left == 0 {
         play.say(Role::ForcedLimit);
-        return 0;
+        return;
     }
+    play.left -= 1;
     let next = set_forth(cave, names, 1, play);
-    arrive(cave, names, next, left - 1, play)
+    arrive(cave, names, next, play);
 }

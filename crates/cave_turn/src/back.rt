@@ -3,6 +3,7 @@ ghost use Rattle.arrayvec.specs.ArrayVec.{array_vec_len};
 ghost use Rattle.cave_data.specs.CaveView.{ways_from};
 ghost use Rattle.cave_data.specs.Shown.{going};
 ghost use Rattle.cave_turn.specs.Journeys.{back_place, leads_through, direct_row, indirect_row, row_back, first_motion, first_number, is_number, going_back};
+ghost use Rattle.cave_turn.specs.Plays.{scene_of, GoesOn};
 
 use crate::journeys::{route, stay};
 use crate::names::Names;
@@ -85,12 +86,13 @@ fn motion_back(cave: &Cave, sought: Place, here: Place) -> Option<u16>
 
 /// The player goes back.
 #[tactic(auto, unfolding(crate::specs::Journeys::going_back))]
-pub fn go_back(cave: &Cave, names: &Names, play: &mut Play) -> Place
-    requires { array_vec_len play.old.out < 512 }
-    ensures journey { record { place = result; play = play.new } ≡ going_back cave.now names.now play.old }
-    ensures few { array_vec_len play.new.out ≤ array_vec_len play.old.out + 1 }
+pub fn go_back(cave: &Cave, names: &Names, play: &mut Play<'_>) -> Place
+    requires { array_vec_len play.old.out.now < 512 }
+    ensures journey { record { place = result; scene = scene_of play.new } ≡ going_back cave.now names.now (scene_of play.old) }
+    ensures same { GoesOn play.old play.new }
+    ensures few { array_vec_len play.new.out.now ≤ array_vec_len play.old.out.now + 1 }
 {
-    let sought = back_place(cave, &play.state);
+    let sought = back_place(cave, play.state);
     let here = play.state.trail.here;
     play.set_out();
     if sought == here {

@@ -2,7 +2,8 @@ ghost use Rattle.std.specs.Prelude.{◌≡◌, ◌+◌, ◌<◌, ◌≤◌, []};
 ghost use Rattle.arrayvec.specs.ArrayVec.{array_vec_len};
 ghost use Rattle.cave_words.specs.Lexicon.{IsLexiconOf};
 ghost use Rattle.cave_words.specs.Meaning.{meaning};
-ghost use Rattle.cave_turn.specs.Commands.{opening, arriving, travelling, puzzlement, puzzled, telling_message, done_by, done_as, has_water, is_by_water, wetted, entered, done_with, done_for, commanded};
+ghost use Rattle.cave_turn.specs.Commands.{travelling, puzzlement, puzzled, telling_message, done_by, done_as, has_water, is_by_water, wetted, entered, done_with, done_for, commanded};
+ghost use Rattle.cave_turn.specs.Plays.{scene_of, parts_by_arrival, IsSamePlay, GoesOn};
 
 use crate::arrival::arrive;
 use crate::journeys::lead_by_motion;
@@ -10,42 +11,18 @@ use crate::names::{Names, object_called};
 use crate::play::Play;
 use cave_data::{Cave, Role};
 use cave_words::{Class, Lexicon, Meaning, Named, Word, Words};
-use cave_world::{Out, Part, Place, State, WordLine, has_condition};
-
-/// The most forced motions of a turn.
-pub const FORCED_MOTIONS: u8 = 20;
-
-/// A play begins with nothing said.
-pub fn open(state: &State, was_dark: bool) -> Play
-    ensures play { result ≡ opening was_dark state.now }
-    ensures none { array_vec_len result.out ≡ 0 }
-{
-    Play {
-        state: *state,
-        out: Out::new(),
-        was_dark,
-    }
-}
-
-/// The player arrives at a place, with all forced motions of a turn left.
-#[tactic(auto, unfolding(crate::specs::Commands::arriving))]
-pub fn arrive_at(cave: &Cave, names: &Names, place: Place, play: &mut Play)
-    requires { array_vec_len play.old.out ≤ 90 }
-    ensures play { play.new ≡ arriving cave.now names.now place play.old }
-    ensures few { array_vec_len play.new.out ≤ array_vec_len play.old.out + 306 }
-{
-    let _left = arrive(cave, names, place, FORCED_MOTIONS, play);
-}
+use cave_world::{Out, Part, State, WordLine, has_condition};
 
 /// The player travels by a motion.
 #[tactic(auto, unfolding(crate::specs::Commands::travelling))]
-fn travel_by(cave: &Cave, names: &Names, motion: u16, play: &mut Play)
-    requires { array_vec_len play.old.out ≤ 80 }
-    ensures play { play.new ≡ travelling cave.now names.now motion play.old }
-    ensures few { array_vec_len play.new.out ≤ array_vec_len play.old.out + 307 }
+fn travel_by(cave: &Cave, names: &Names, motion: u16, play: &mut Play<'_>)
+    requires { parts_by_arrival play.old < 512 }
+    ensures play { scene_of play.new ≡ travelling cave.now names.now motion (scene_of play.old) }
+    ensures same { IsSamePlay play.old play.new }
+    ensures few { array_vec_len play.new.out.now ≤ parts_by_arrival play.old + 1 }
 {
     let place = lead_by_motion(cave, names, motion, play);
-    arrive_at(cave, names, place, play);
+    arrive(cave, names, place, play);
 }
 
 fn puzzlement(first: bool, second: bool) -> Role
@@ -62,20 +39,22 @@ fn puzzlement(first: bool, second: bool) -> Role
 
 /// The cave doesn't have the word.
 #[tactic(auto, unfolding(crate::specs::Commands::puzzled))]
-fn puzzle(play: &mut Play)
-    requires { array_vec_len play.old.out < 512 }
-    ensures play { play.new ≡ puzzled play.old }
-    ensures few { array_vec_len play.new.out ≤ array_vec_len play.old.out + 1 }
+fn puzzle(play: &mut Play<'_>)
+    requires { array_vec_len play.old.out.now < 512 }
+    ensures play { scene_of play.new ≡ puzzled (scene_of play.old) }
+    ensures same { GoesOn play.old play.new }
+    ensures few { array_vec_len play.new.out.now ≤ array_vec_len play.old.out.now + 1 }
 {
     let first = play.chance(20);
     let second = play.chance(20);
     play.say(puzzlement(first, second));
 }
 
-fn tell_message(number: u16, play: &mut Play)
-    requires { array_vec_len play.old.out < 512 }
-    ensures play { play.new ≡ telling_message number play.old }
-    ensures few { array_vec_len play.new.out ≤ array_vec_len play.old.out + 1 }
+fn tell_message(number: u16, play: &mut Play<'_>)
+    requires { array_vec_len play.old.out.now < 512 }
+    ensures play { scene_of play.new ≡ telling_message number (scene_of play.old) }
+    ensures same { GoesOn play.old play.new }
+    ensures few { array_vec_len play.new.out.now ≤ array_vec_len play.old.out.now + 1 }
 {
     if number != 0 {
         play.tell(Part::Message(number));
@@ -83,10 +62,11 @@ fn tell_message(number: u16, play: &mut Play)
 }
 
 /// Does what a word of a class does.
-fn do_by(cave: &Cave, names: &Names, word: Word, meaning: Meaning, play: &mut Play)
-    requires { array_vec_len play.old.out ≤ 80 }
-    ensures play { play.new ≡ done_by cave.now names.now word meaning.class meaning.number play.old }
-    ensures few { array_vec_len play.new.out ≤ array_vec_len play.old.out + 307 }
+fn do_by(cave: &Cave, names: &Names, word: Word, meaning: Meaning, play: &mut Play<'_>)
+    requires { parts_by_arrival play.old < 512 }
+    ensures play { scene_of play.new ≡ done_by cave.now names.now word meaning.class meaning.number (scene_of play.old) }
+    ensures same { IsSamePlay play.old play.new }
+    ensures few { array_vec_len play.new.out.now ≤ parts_by_arrival play.old + 1 }
 {
     match meaning.class {
         Class::Motion => travel_by(cave, names, meaning.number, play),
@@ -96,11 +76,12 @@ fn do_by(cave: &Cave, names: &Names, word: Word, meaning: Meaning, play: &mut Pl
     }
 }
 
-fn do_word(cave: &Cave, lexicon: &Lexicon, names: &Names, word: Word, play: &mut Play)
+fn do_word(cave: &Cave, lexicon: &Lexicon, names: &Names, word: Word, play: &mut Play<'_>)
     requires lexicon { IsLexiconOf cave.now lexicon.now }
-    requires room { array_vec_len play.old.out ≤ 80 }
-    ensures play { play.new ≡ done_as cave.now names.now word (meaning cave.now word) play.old }
-    ensures few { array_vec_len play.new.out ≤ array_vec_len play.old.out + 307 }
+    requires room { parts_by_arrival play.old < 512 }
+    ensures play { scene_of play.new ≡ done_as cave.now names.now word (meaning cave.now word) (scene_of play.old) }
+    ensures same { IsSamePlay play.old play.new }
+    ensures few { array_vec_len play.new.out.now ≤ parts_by_arrival play.old + 1 }
 {
     match lexicon.find(word) {
         Some(meaning) => do_by(cave, names, word, meaning, play),
@@ -128,13 +109,14 @@ fn is_by_water(cave: &Cave, lexicon: &Lexicon, state: &State) -> bool
     has_condition(cave, here, 2) && !has_condition(cave, here, 1) && has_water(cave, lexicon)
 }
 
-fn wet_feet(cave: &Cave, lexicon: &Lexicon, play: &mut Play)
+fn wet_feet(cave: &Cave, lexicon: &Lexicon, play: &mut Play<'_>)
     requires lexicon { IsLexiconOf cave.now lexicon.now }
-    requires room { array_vec_len play.old.out < 512 }
-    ensures play { play.new ≡ wetted cave.now play.old }
-    ensures few { array_vec_len play.new.out ≤ array_vec_len play.old.out + 1 }
+    requires room { array_vec_len play.old.out.now < 512 }
+    ensures play { scene_of play.new ≡ wetted cave.now (scene_of play.old) }
+    ensures same { GoesOn play.old play.new }
+    ensures few { array_vec_len play.new.out.now ≤ array_vec_len play.old.out.now + 1 }
 {
-    if is_by_water(cave, lexicon, &play.state) {
+    if is_by_water(cave, lexicon, play.state) {
         play.say(Role::FeetWet);
     } else {
         play.say(Role::Where);
@@ -142,11 +124,12 @@ fn wet_feet(cave: &Cave, lexicon: &Lexicon, play: &mut Play)
 }
 
 /// The player enters what a word says.
-fn enter_into(cave: &Cave, lexicon: &Lexicon, names: &Names, word: Word, play: &mut Play)
+fn enter_into(cave: &Cave, lexicon: &Lexicon, names: &Names, word: Word, play: &mut Play<'_>)
     requires lexicon { IsLexiconOf cave.now lexicon.now }
-    requires room { array_vec_len play.old.out ≤ 80 }
-    ensures play { play.new ≡ entered cave.now names.now word play.old }
-    ensures few { array_vec_len play.new.out ≤ array_vec_len play.old.out + 307 }
+    requires room { parts_by_arrival play.old < 512 }
+    ensures play { scene_of play.new ≡ entered cave.now names.now word (scene_of play.old) }
+    ensures same { IsSamePlay play.old play.new }
+    ensures few { array_vec_len play.new.out.now ≤ parts_by_arrival play.old + 1 }
 {
     if word.is(b"STREA") || word.is(b"WATER") {
         wet_feet(cave, lexicon, play);
@@ -161,12 +144,13 @@ fn do_with(
     names: &Names,
     word: Word,
     other: Option<Word>,
-    play: &mut Play,
+    play: &mut Play<'_>,
 )
     requires lexicon { IsLexiconOf cave.now lexicon.now }
-    requires room { array_vec_len play.old.out ≤ 80 }
-    ensures play { play.new ≡ done_with cave.now names.now word other play.old }
-    ensures few { array_vec_len play.new.out ≤ array_vec_len play.old.out + 307 }
+    requires room { parts_by_arrival play.old < 512 }
+    ensures play { scene_of play.new ≡ done_with cave.now names.now word other (scene_of play.old) }
+    ensures same { IsSamePlay play.old play.new }
+    ensures few { array_vec_len play.new.out.now ≤ parts_by_arrival play.old + 1 }
 {
     match other {
         None => do_word(cave, lexicon, names, word, play),
@@ -181,11 +165,12 @@ fn do_with(
 }
 
 /// Does what the words of a line say.
-fn do_words(cave: &Cave, lexicon: &Lexicon, names: &Names, words: Words, play: &mut Play)
+fn do_words(cave: &Cave, lexicon: &Lexicon, names: &Names, words: Words, play: &mut Play<'_>)
     requires lexicon { IsLexiconOf cave.now lexicon.now }
-    requires room { array_vec_len play.old.out ≤ 80 }
-    ensures play { play.new ≡ done_for cave.now names.now words play.old }
-    ensures few { array_vec_len play.new.out ≤ array_vec_len play.old.out + 307 }
+    requires room { parts_by_arrival play.old < 512 }
+    ensures play { scene_of play.new ≡ done_for cave.now names.now words (scene_of play.old) }
+    ensures same { IsSamePlay play.old play.new }
+    ensures few { array_vec_len play.new.out.now ≤ parts_by_arrival play.old + 1 }
 {
     match words.first {
         None => {}
@@ -195,14 +180,16 @@ fn do_words(cave: &Cave, lexicon: &Lexicon, names: &Names, words: Words, play: &
 
 /// Does what a line commands.
 #[tactic(auto, unfolding(crate::specs::Commands::commanded))]
-pub fn command(cave: &Cave, lexicon: &Lexicon, state: &State, line: &[u8]) -> Play
-    requires { IsLexiconOf cave.now lexicon.now }
-    ensures play { result ≡ commanded cave.now line.now state.now }
-    ensures few { array_vec_len result.out ≤ 307 }
+pub fn command(cave: &Cave, lexicon: &Lexicon, line: &[u8], state: &mut State, out: &mut Out)
+    requires lexicon { IsLexiconOf cave.now lexicon.now }
+    requires empty { out.old.items ≡ [] }
+    ensures state { (commanded cave.now line.now state.old).state ≡ state.new }
+    ensures parts { (commanded cave.now line.now state.old).parts ≡ out.new.items }
+    ensures few { array_vec_len out.new ≤ 307 }
 {
     let names = Names::of(cave, lexicon);
-    let mut play = open(state, state.is_dark(cave, names.lamp));
+    let was_dark = state.is_dark(cave, names.lamp);
+    let mut play = Play::open(state, out, was_dark);
     let words = Words::of(line, lexicon.letters());
     do_words(cave, lexicon, &names, words, &mut play);
-    play
 }

@@ -1,6 +1,7 @@
 ghost use Rattle.std.specs.Prelude.{◌≡◌, ◌+◌, ◌<◌, ◌≤◌};
 ghost use Rattle.arrayvec.specs.ArrayVec.{array_vec_len};
 ghost use Rattle.cave_turn.specs.Description.{is_told_at_length, place_text, bear_told, text_told, is_hollow, hollow_told, in_pit, darkness_told, dark_described, sight_described, described};
+ghost use Rattle.cave_turn.specs.Plays.{scene_of, GoesOn};
 
 use crate::names::Names;
 use crate::objects::tell_objects;
@@ -33,10 +34,11 @@ fn place_text(cave: &Cave, state: &State, place: Place) -> Part
     }
 }
 
-fn tell_bear(names: &Names, play: &mut Play)
-    requires { array_vec_len play.old.out < 512 }
-    ensures play { play.new ≡ bear_told names.now play.old }
-    ensures few { array_vec_len play.new.out ≤ array_vec_len play.old.out + 1 }
+fn tell_bear(names: &Names, play: &mut Play<'_>)
+    requires { array_vec_len play.old.out.now < 512 }
+    ensures play { scene_of play.new ≡ bear_told names.now (scene_of play.old) }
+    ensures same { GoesOn play.old play.new }
+    ensures few { array_vec_len play.new.out.now ≤ array_vec_len play.old.out.now + 1 }
 {
     if play.state.toting(names.bear) {
         play.say(Role::BearFollows);
@@ -45,19 +47,21 @@ fn tell_bear(names: &Names, play: &mut Play)
 
 /// The text of the place where the player stands is told.
 #[tactic(auto, unfolding(crate::specs::Description::text_told))]
-pub fn tell_text(cave: &Cave, names: &Names, play: &mut Play)
-    requires { array_vec_len play.old.out < 511 }
-    ensures play { play.new ≡ text_told cave.now names.now play.old }
-    ensures few { array_vec_len play.new.out ≤ array_vec_len play.old.out + 2 }
+pub fn tell_text(cave: &Cave, names: &Names, play: &mut Play<'_>)
+    requires { array_vec_len play.old.out.now < 511 }
+    ensures play { scene_of play.new ≡ text_told cave.now names.now (scene_of play.old) }
+    ensures same { GoesOn play.old play.new }
+    ensures few { array_vec_len play.new.out.now ≤ array_vec_len play.old.out.now + 2 }
 {
     tell_bear(names, play);
-    let text = place_text(cave, &play.state, play.state.trail.here);
+    let here = play.state.trail.here;
+    let text = place_text(cave, play.state, here);
     play.tell(text);
 }
 
 #[tactic(auto, unfolding(crate::specs::Description::is_hollow))]
-fn is_hollow(cave: &Cave, play: &Play) -> bool
-    ensures { result ≡ is_hollow cave.now play.now }
+fn is_hollow(cave: &Cave, play: &Play<'_>) -> bool
+    ensures { result ≡ is_hollow cave.now (scene_of play.now) }
 {
     is_that(play.state.trail.here, place_named(cave, PlaceRole::Y2))
         && !play.state.closing.is_closing
@@ -65,10 +69,11 @@ fn is_hollow(cave: &Cave, play: &Play) -> bool
 
 /// Something hollow may be heard.
 #[tactic(auto, unfolding(crate::specs::Description::hollow_told))]
-fn tell_hollow(cave: &Cave, play: &mut Play)
-    requires { array_vec_len play.old.out < 512 }
-    ensures play { play.new ≡ hollow_told cave.now play.old }
-    ensures few { array_vec_len play.new.out ≤ array_vec_len play.old.out + 1 }
+fn tell_hollow(cave: &Cave, play: &mut Play<'_>)
+    requires { array_vec_len play.old.out.now < 512 }
+    ensures play { scene_of play.new ≡ hollow_told cave.now (scene_of play.old) }
+    ensures same { GoesOn play.old play.new }
+    ensures few { array_vec_len play.new.out.now ≤ array_vec_len play.old.out.now + 1 }
 {
     if !is_hollow(cave, play) {
         return;
@@ -79,20 +84,22 @@ fn tell_hollow(cave: &Cave, play: &mut Play)
 }
 
 /// The player fell into a pit.
-fn fall(play: &mut Play)
-    requires { array_vec_len play.old.out < 512 }
-    ensures play { play.new ≡ in_pit play.old }
-    ensures few { array_vec_len play.new.out ≤ array_vec_len play.old.out + 1 }
+fn fall(play: &mut Play<'_>)
+    requires { array_vec_len play.old.out.now < 512 }
+    ensures play { scene_of play.new ≡ in_pit (scene_of play.old) }
+    ensures same { GoesOn play.old play.new }
+    ensures few { array_vec_len play.new.out.now ≤ array_vec_len play.old.out.now + 1 }
 {
     play.say(Role::Pit);
     play.state.trail.older = play.state.trail.here;
     play.kill();
 }
 
-fn tell_darkness(cave: &Cave, names: &Names, play: &mut Play)
-    requires { array_vec_len play.old.out + 3 ≤ 512 }
-    ensures play { play.new ≡ darkness_told cave.now names.now play.old }
-    ensures few { array_vec_len play.new.out ≤ array_vec_len play.old.out + 3 }
+fn tell_darkness(cave: &Cave, names: &Names, play: &mut Play<'_>)
+    requires { array_vec_len play.old.out.now + 3 ≤ 512 }
+    ensures play { scene_of play.new ≡ darkness_told cave.now names.now (scene_of play.old) }
+    ensures same { GoesOn play.old play.new }
+    ensures few { array_vec_len play.new.out.now ≤ array_vec_len play.old.out.now + 3 }
 {
     tell_bear(names, play);
     play.say(Role::Dark);
@@ -101,10 +108,11 @@ fn tell_darkness(cave: &Cave, names: &Names, play: &mut Play)
 
 /// Describes a place where the player sees nothing.
 #[tactic(auto, unfolding(crate::specs::Description::dark_described))]
-fn describe_dark(cave: &Cave, names: &Names, play: &mut Play)
-    requires { array_vec_len play.old.out + 3 ≤ 512 }
-    ensures play { play.new ≡ dark_described cave.now names.now play.old }
-    ensures few { array_vec_len play.new.out ≤ array_vec_len play.old.out + 3 }
+fn describe_dark(cave: &Cave, names: &Names, play: &mut Play<'_>)
+    requires { array_vec_len play.old.out.now + 3 ≤ 512 }
+    ensures play { scene_of play.new ≡ dark_described cave.now names.now (scene_of play.old) }
+    ensures same { GoesOn play.old play.new }
+    ensures few { array_vec_len play.new.out.now ≤ array_vec_len play.old.out.now + 3 }
 {
     if play.was_dark && play.chance(35) {
         fall(play);
@@ -115,10 +123,11 @@ fn describe_dark(cave: &Cave, names: &Names, play: &mut Play)
 
 /// Describes a place that the player sees.
 #[tactic(auto, unfolding(crate::specs::Description::sight_described))]
-fn describe_sight(cave: &Cave, names: &Names, play: &mut Play)
-    requires { array_vec_len play.old.out + 203 ≤ 512 }
-    ensures play { play.new ≡ sight_described cave.now names.now play.old }
-    ensures few { array_vec_len play.new.out ≤ array_vec_len play.old.out + 203 }
+fn describe_sight(cave: &Cave, names: &Names, play: &mut Play<'_>)
+    requires { array_vec_len play.old.out.now + 203 ≤ 512 }
+    ensures play { scene_of play.new ≡ sight_described cave.now names.now (scene_of play.old) }
+    ensures same { GoesOn play.old play.new }
+    ensures few { array_vec_len play.new.out.now ≤ array_vec_len play.old.out.now + 203 }
 {
     tell_text(cave, names, play);
     tell_hollow(cave, play);
@@ -129,10 +138,11 @@ fn describe_sight(cave: &Cave, names: &Names, play: &mut Play)
 
 /// Describes the place where the player stands, from which the player isn't carried on.
 #[tactic(auto, unfolding(crate::specs::Description::described))]
-pub fn describe(cave: &Cave, names: &Names, play: &mut Play)
-    requires { array_vec_len play.old.out + 203 ≤ 512 }
-    ensures play { play.new ≡ described cave.now names.now play.old }
-    ensures few { array_vec_len play.new.out ≤ array_vec_len play.old.out + 203 }
+pub fn describe(cave: &Cave, names: &Names, play: &mut Play<'_>)
+    requires { array_vec_len play.old.out.now + 203 ≤ 512 }
+    ensures play { scene_of play.new ≡ described cave.now names.now (scene_of play.old) }
+    ensures same { GoesOn play.old play.new }
+    ensures few { array_vec_len play.new.out.now ≤ array_vec_len play.old.out.now + 203 }
 {
     if play.state.is_dark(cave, names.lamp) {
         describe_dark(cave, names, play);

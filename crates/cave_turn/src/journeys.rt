@@ -1,6 +1,6 @@
 ghost use Rattle.std.specs.Prelude.{◌≡◌, ◌+◌, ◌<◌, ◌≤◌};
 ghost use Rattle.arrayvec.specs.ArrayVec.{array_vec_len};
-ghost use Rattle.cave_turn.specs.Plays.{saying};
+ghost use Rattle.cave_turn.specs.Plays.{saying, scene_of, GoesOn};
 ghost use Rattle.cave_turn.specs.Journeys.{refusal_of, other_end, squeeze_end, is_slim, squeezed_to, squeezed, led_specially, led, routed, set_forth, enough_said, unvisited, looking, seeking_cave, led_by_motion, staying};
 
 use crate::back::go_back;
@@ -54,10 +54,11 @@ fn is_slim(names: &Names, state: &State) -> bool
 }
 
 /// The player stays, and a role's message is said.
-pub fn stay(play: &mut Play, role: Role) -> Place
-    requires { array_vec_len play.old.out < 512 }
-    ensures journey { record { place = result; play = play.new } ≡ staying (saying role play.old) }
-    ensures few { array_vec_len play.new.out ≤ array_vec_len play.old.out + 1 }
+pub fn stay(play: &mut Play<'_>, role: Role) -> Place
+    requires { array_vec_len play.old.out.now < 512 }
+    ensures journey { record { place = result; scene = scene_of play.new } ≡ staying (saying role (scene_of play.old)) }
+    ensures same { GoesOn play.old play.new }
+    ensures few { array_vec_len play.new.out.now ≤ array_vec_len play.old.out.now + 1 }
 {
     play.say(role);
     play.state.trail.here
@@ -65,15 +66,16 @@ pub fn stay(play: &mut Play, role: Role) -> Place
 
 /// Through the narrow passage, in which nothing but the emerald may be carried.
 #[tactic(auto, unfolding(crate::specs::Journeys::squeezed))]
-fn squeeze(cave: &Cave, names: &Names, play: &mut Play) -> Place
-    requires { array_vec_len play.old.out < 512 }
-    ensures journey { record { place = result; play = play.new } ≡ squeezed cave.now names.now play.old }
-    ensures few { array_vec_len play.new.out ≤ array_vec_len play.old.out + 1 }
+fn squeeze(cave: &Cave, names: &Names, play: &mut Play<'_>) -> Place
+    requires { array_vec_len play.old.out.now < 512 }
+    ensures journey { record { place = result; scene = scene_of play.new } ≡ squeezed cave.now names.now (scene_of play.old) }
+    ensures same { GoesOn play.old play.new }
+    ensures few { array_vec_len play.new.out.now ≤ array_vec_len play.old.out.now + 1 }
 {
     match squeeze_end(cave, play.state.trail.here) {
         None => stay(play, Role::NoWay),
         Some(end) => {
-            if is_slim(names, &play.state) {
+            if is_slim(names, play.state) {
                 return end;
             }
             stay(play, Role::TooTight)
@@ -81,10 +83,11 @@ fn squeeze(cave: &Cave, names: &Names, play: &mut Play) -> Place
     }
 }
 
-fn lead_specially(cave: &Cave, names: &Names, special: Special, play: &mut Play) -> Place
-    requires { array_vec_len play.old.out < 512 }
-    ensures journey { record { place = result; play = play.new } ≡ led_specially cave.now names.now special play.old }
-    ensures few { array_vec_len play.new.out ≤ array_vec_len play.old.out + 1 }
+fn lead_specially(cave: &Cave, names: &Names, special: Special, play: &mut Play<'_>) -> Place
+    requires { array_vec_len play.old.out.now < 512 }
+    ensures journey { record { place = result; scene = scene_of play.new } ≡ led_specially cave.now names.now special (scene_of play.old) }
+    ensures same { GoesOn play.old play.new }
+    ensures few { array_vec_len play.new.out.now ≤ array_vec_len play.old.out.now + 1 }
 {
     match special {
         Special::Squeeze => squeeze(cave, names, play),
@@ -93,10 +96,11 @@ fn lead_specially(cave: &Cave, names: &Names, special: Special, play: &mut Play)
 }
 
 /// Where the outcome of a motion leads.
-fn lead(cave: &Cave, names: &Names, motion: u16, outcome: Outcome, play: &mut Play) -> Place
-    requires { array_vec_len play.old.out < 512 }
-    ensures journey { record { place = result; play = play.new } ≡ led cave.now names.now motion outcome play.old }
-    ensures few { array_vec_len play.new.out ≤ array_vec_len play.old.out + 1 }
+fn lead(cave: &Cave, names: &Names, motion: u16, outcome: Outcome, play: &mut Play<'_>) -> Place
+    requires { array_vec_len play.old.out.now < 512 }
+    ensures journey { record { place = result; scene = scene_of play.new } ≡ led cave.now names.now motion outcome (scene_of play.old) }
+    ensures same { GoesOn play.old play.new }
+    ensures few { array_vec_len play.new.out.now ≤ array_vec_len play.old.out.now + 1 }
 {
     match outcome {
         Outcome::Go(place) => place,
@@ -112,30 +116,33 @@ fn lead(cave: &Cave, names: &Names, motion: u16, outcome: Outcome, play: &mut Pl
 
 /// Where the rows of the place lead by a motion.
 #[tactic(auto, unfolding(crate::specs::Journeys::routed))]
-pub fn route(cave: &Cave, names: &Names, motion: u16, play: &mut Play) -> Place
-    requires { array_vec_len play.old.out < 512 }
-    ensures journey { record { place = result; play = play.new } ≡ routed cave.now names.now motion play.old }
-    ensures few { array_vec_len play.new.out ≤ array_vec_len play.old.out + 1 }
+pub fn route(cave: &Cave, names: &Names, motion: u16, play: &mut Play<'_>) -> Place
+    requires { array_vec_len play.old.out.now < 512 }
+    ensures journey { record { place = result; scene = scene_of play.new } ≡ routed cave.now names.now motion (scene_of play.old) }
+    ensures same { GoesOn play.old play.new }
+    ensures few { array_vec_len play.new.out.now ≤ array_vec_len play.old.out.now + 1 }
 {
-    let outcome = travel(cave, names.emerald, &mut play.state, motion);
+    let outcome = travel(cave, names.emerald, play.state, motion);
     lead(cave, names, motion, outcome, play)
 }
 
 /// The player sets out by a motion.
 #[tactic(auto, unfolding(crate::specs::Journeys::set_forth))]
-pub fn set_forth(cave: &Cave, names: &Names, motion: u16, play: &mut Play) -> Place
-    requires { array_vec_len play.old.out < 512 }
-    ensures journey { record { place = result; play = play.new } ≡ set_forth cave.now names.now motion play.old }
-    ensures few { array_vec_len play.new.out ≤ array_vec_len play.old.out + 1 }
+pub fn set_forth(cave: &Cave, names: &Names, motion: u16, play: &mut Play<'_>) -> Place
+    requires { array_vec_len play.old.out.now < 512 }
+    ensures journey { record { place = result; scene = scene_of play.new } ≡ set_forth cave.now names.now motion (scene_of play.old) }
+    ensures same { GoesOn play.old play.new }
+    ensures few { array_vec_len play.new.out.now ≤ array_vec_len play.old.out.now + 1 }
 {
     play.set_out();
     route(cave, names, motion, play)
 }
 
-fn say_enough(play: &mut Play)
-    requires { array_vec_len play.old.out < 512 }
-    ensures play { play.new ≡ enough_said play.old }
-    ensures few { array_vec_len play.new.out ≤ array_vec_len play.old.out + 1 }
+fn say_enough(play: &mut Play<'_>)
+    requires { array_vec_len play.old.out.now < 512 }
+    ensures play { scene_of play.new ≡ enough_said (scene_of play.old) }
+    ensures same { GoesOn play.old play.new }
+    ensures few { array_vec_len play.new.out.now ≤ array_vec_len play.old.out.now + 1 }
 {
     if play.state.talk.details.number() < 3 {
         play.state.talk.details = play.state.talk.details.up();
@@ -143,8 +150,9 @@ fn say_enough(play: &mut Play)
     }
 }
 
-fn forget(play: &mut Play)
-    ensures { play.new ≡ unvisited play.old }
+fn forget(play: &mut Play<'_>)
+    ensures play { scene_of play.new ≡ unvisited (scene_of play.old) }
+    ensures same { GoesOn play.old play.new }
 {
     let here = play.state.trail.here;
     play.state.forget_visits(here);
@@ -153,10 +161,11 @@ fn forget(play: &mut Play)
 
 /// The player looks round, and is told the place at length.
 #[tactic(auto, unfolding(crate::specs::Journeys::looking))]
-fn look(play: &mut Play) -> Place
-    requires { array_vec_len play.old.out < 512 }
-    ensures journey { record { place = result; play = play.new } ≡ looking play.old }
-    ensures few { array_vec_len play.new.out ≤ array_vec_len play.old.out + 1 }
+fn look(play: &mut Play<'_>) -> Place
+    requires { array_vec_len play.old.out.now < 512 }
+    ensures journey { record { place = result; scene = scene_of play.new } ≡ looking (scene_of play.old) }
+    ensures same { GoesOn play.old play.new }
+    ensures few { array_vec_len play.new.out.now ≤ array_vec_len play.old.out.now + 1 }
 {
     say_enough(play);
     forget(play);
@@ -165,10 +174,11 @@ fn look(play: &mut Play) -> Place
 
 /// The player asks where the cave is.
 #[tactic(auto, unfolding(crate::specs::Journeys::seeking_cave))]
-fn seek_cave(cave: &Cave, play: &mut Play) -> Place
-    requires { array_vec_len play.old.out < 512 }
-    ensures journey { record { place = result; play = play.new } ≡ seeking_cave cave.now play.old }
-    ensures few { array_vec_len play.new.out ≤ array_vec_len play.old.out + 1 }
+fn seek_cave(cave: &Cave, play: &mut Play<'_>) -> Place
+    requires { array_vec_len play.old.out.now < 512 }
+    ensures journey { record { place = result; scene = scene_of play.new } ≡ seeking_cave cave.now (scene_of play.old) }
+    ensures same { GoesOn play.old play.new }
+    ensures few { array_vec_len play.new.out.now ≤ array_vec_len play.old.out.now + 1 }
 {
     let outside = match place_named(cave, PlaceRole::Outside) {
         Some(place) => place.number(),
@@ -183,10 +193,11 @@ fn seek_cave(cave: &Cave, play: &mut Play) -> Place
 
 /// Where a motion that the player asks for leads.
 #[tactic(auto, unfolding(crate::specs::Journeys::led_by_motion))]
-pub fn lead_by_motion(cave: &Cave, names: &Names, motion: u16, play: &mut Play) -> Place
-    requires { array_vec_len play.old.out < 512 }
-    ensures journey { record { place = result; play = play.new } ≡ led_by_motion cave.now names.now motion play.old }
-    ensures few { array_vec_len play.new.out ≤ array_vec_len play.old.out + 1 }
+pub fn lead_by_motion(cave: &Cave, names: &Names, motion: u16, play: &mut Play<'_>) -> Place
+    requires { array_vec_len play.old.out.now < 512 }
+    ensures journey { record { place = result; scene = scene_of play.new } ≡ led_by_motion cave.now names.now motion (scene_of play.old) }
+    ensures same { GoesOn play.old play.new }
+    ensures few { array_vec_len play.new.out.now ≤ array_vec_len play.old.out.now + 1 }
 {
     match motion {
         21 => play.state.trail.here,

@@ -4,6 +4,7 @@ ghost use Rattle.cave_world.specs.Lists.{halves_at};
 ghost use Rattle.cave_world.specs.Objects.{anchor_of};
 ghost use Rattle.cave_world.specs.Spots.{place_of_anchor, is_place};
 ghost use Rattle.cave_turn.specs.Objects.{is_unseen, is_kept_back, first_prop, one_less_unseen, shortened, found, found_if_unseen, told_prop, object_told, objects_told};
+ghost use Rattle.cave_turn.specs.Plays.{scene_of, GoesOn};
 
 use crate::names::Names;
 use crate::play::Play;
@@ -95,23 +96,25 @@ fn is_second_here(state: &State, object: Object) -> bool
 
 /// An object is told, and is found if it wasn't seen before.
 #[tactic(auto, unfolding(crate::specs::Objects::object_told))]
-fn tell_object(names: &Names, object: Object, play: &mut Play)
-    requires { array_vec_len play.old.out < 512 }
-    ensures play { play.new ≡ object_told names.now object play.old }
-    ensures few { array_vec_len play.new.out ≤ array_vec_len play.old.out + 1 }
+fn tell_object(names: &Names, object: Object, play: &mut Play<'_>)
+    requires { array_vec_len play.old.out.now < 512 }
+    ensures play { scene_of play.new ≡ object_told names.now object (scene_of play.old) }
+    ensures same { GoesOn play.old play.new }
+    ensures few { array_vec_len play.new.out.now ≤ array_vec_len play.old.out.now + 1 }
 {
-    if is_kept_back(names, &play.state, object) {
+    if is_kept_back(names, play.state, object) {
         return;
     }
-    find_if_unseen(names, object, &mut play.state);
-    let prop = told_prop(names, &play.state, object);
+    find_if_unseen(names, object, play.state);
+    let prop = told_prop(names, play.state, object);
     play.tell(Part::Object(object, prop));
 }
 
-fn tell_all(names: &Names, halves: &[Half], play: &mut Play)
-    requires { array_vec_len play.old.out + length halves.now ≤ 512 }
-    ensures play { play.new ≡ objects_told names.now halves.now play.old }
-    ensures few { array_vec_len play.new.out ≤ array_vec_len play.old.out + length halves.now }
+fn tell_all(names: &Names, halves: &[Half], play: &mut Play<'_>)
+    requires { array_vec_len play.old.out.now + length halves.now ≤ 512 }
+    ensures play { scene_of play.new ≡ objects_told names.now halves.now (scene_of play.old) }
+    ensures same { GoesOn play.old play.new }
+    ensures few { array_vec_len play.new.out.now ≤ array_vec_len play.old.out.now + length halves.now }
 {
     for half in halves {
         tell_object(names, half.object(), play);
@@ -119,11 +122,13 @@ fn tell_all(names: &Names, halves: &[Half], play: &mut Play)
 }
 
 /// The objects where the player stands are told, latest first.
-pub fn tell_objects(names: &Names, play: &mut Play)
-    requires { array_vec_len play.old.out + 200 ≤ 512 }
-    ensures play { play.new ≡ objects_told names.now (halves_at play.old.state.trail.here play.old.state.objects.lists) play.old }
-    ensures few { array_vec_len play.new.out ≤ array_vec_len play.old.out + 200 }
+pub fn tell_objects(names: &Names, play: &mut Play<'_>)
+    requires { array_vec_len play.old.out.now + 200 ≤ 512 }
+    ensures play { scene_of play.new ≡ objects_told names.now (halves_at play.old.state.now.trail.here play.old.state.now.objects.lists) (scene_of play.old) }
+    ensures same { GoesOn play.old play.new }
+    ensures few { array_vec_len play.new.out.now ≤ array_vec_len play.old.out.now + 200 }
 {
-    let halves = play.state.objects_at(play.state.trail.here);
+    let here = play.state.trail.here;
+    let halves = play.state.objects_at(here);
     tell_all(names, halves.as_slice(), play);
 }

@@ -1,64 +1,93 @@
-ghost use Rattle.std.specs.Prelude.{◌≡◌, ◌+◌, ◌<◌, ◌≤◌};
+ghost use Rattle.std.specs.Prelude.{◌≡◌, ◌+◌, ◌<◌, ◌≤◌, []};
 ghost use Rattle.arrayvec.specs.ArrayVec.{array_vec_len};
 
 use cave_data::Role;
 use cave_world::{Ending, Out, Part, Place, State};
 
+/// The most forced motions of a turn.
+pub const FORCED_MOTIONS: u8 = 20;
+
 /// A turn while it is played.
 #[derive(Drop)]
-pub struct Play {
-    pub state: State,
-    pub out: Out,
+pub struct Play<'a> {
+    /// What the turn changes.
+    pub state: &'a mut State,
+    /// What the turn says.
+    pub out: &'a mut Out,
     /// Whether it was dark where the player stood as the turn began.
     pub was_dark: bool,
+    /// The forced motions that are left in the turn.
+    pub left: u8,
 }
 
-impl Play {
-    ghost use Rattle.cave_turn.specs.Plays.{telling, saying, standing, sets_out, dies, after_draw, happens};
+impl<'a> Play<'a> {
+    ghost use Rattle.cave_turn.specs.Plays.{scene_of, GoesOn, opening, telling, saying, standing, sets_out, dies, after_draw, happens};
+
+    /// A turn begins with nothing said, and with all its forced motions.
+    pub fn open(state: &'a mut State, out: &'a mut Out, was_dark: bool) -> Play<'a>
+        requires { out.old.items ≡ [] }
+        ensures play { scene_of result ≡ opening was_dark state.old }
+        ensures state { result.state.ghost_name ≡ state.entry.ghost_name }
+        ensures out { result.out.ghost_name ≡ out.entry.ghost_name }
+        ensures none { array_vec_len result.out.now ≡ 0 }
+    {
+        Play {
+            state,
+            out,
+            was_dark,
+            left: FORCED_MOTIONS,
+        }
+    }
 
     /// One more part is said.
     pub fn tell(&mut self, part: Part)
-        requires { array_vec_len self.old.out < 512 }
-        ensures play { self.new ≡ telling part self.old }
-        ensures few { array_vec_len self.new.out ≡ array_vec_len self.old.out + 1 }
+        requires { array_vec_len self.old.out.now < 512 }
+        ensures play { scene_of self.new ≡ telling part (scene_of self.old) }
+        ensures same { GoesOn self.old self.new }
+        ensures few { array_vec_len self.new.out.now ≡ array_vec_len self.old.out.now + 1 }
     {
         self.out.push(part);
     }
 
     /// The message of a role is said.
     pub fn say(&mut self, role: Role)
-        requires { array_vec_len self.old.out < 512 }
-        ensures play { self.new ≡ saying role self.old }
-        ensures few { array_vec_len self.new.out ≡ array_vec_len self.old.out + 1 }
+        requires { array_vec_len self.old.out.now < 512 }
+        ensures play { scene_of self.new ≡ saying role (scene_of self.old) }
+        ensures same { GoesOn self.old self.new }
+        ensures few { array_vec_len self.new.out.now ≡ array_vec_len self.old.out.now + 1 }
     {
         self.tell(Part::Role(role));
     }
 
     /// The player stands at a place.
     pub fn stand_at(&mut self, place: Place)
-        ensures { self.new ≡ standing place self.old }
+        ensures play { scene_of self.new ≡ standing place (scene_of self.old) }
+        ensures same { GoesOn self.old self.new }
     {
         self.state.stand_at(place);
     }
 
     /// The player sets out: where the player stands is where the player will have come from.
     pub fn set_out(&mut self)
-        ensures { self.new ≡ sets_out self.old }
+        ensures play { scene_of self.new ≡ sets_out (scene_of self.old) }
+        ensures same { GoesOn self.old self.new }
     {
         self.state.set_out();
     }
 
     /// The game ends, since the player is dead.
     pub fn kill(&mut self)
-        ensures { self.new ≡ dies self.old }
+        ensures play { scene_of self.new ≡ dies (scene_of self.old) }
+        ensures same { GoesOn self.old self.new }
     {
         self.state.ending = Some(Ending::Killed);
     }
 
     /// Draws whether something happens that happens in some of 100 cases.
     pub fn chance(&mut self, percent: u32) -> bool
-        ensures value { result ≡ happens percent self.old }
-        ensures play { self.new ≡ after_draw self.old }
+        ensures value { result ≡ happens percent (scene_of self.old) }
+        ensures play { scene_of self.new ≡ after_draw (scene_of self.old) }
+        ensures same { GoesOn self.old self.new }
     {
         self.state.stream.pct(percent)
     }

@@ -2,7 +2,7 @@ ghost use Rattle.std.specs.Prelude.{◌≡◌, ◌+◌, ◌^◌, ◌<◌, ◌≤
 ghost use Rattle.arrayvec.specs.ArrayVec.{array_vec_len};
 ghost use Rattle.cave_words.specs.Lexicon.{IsLexiconOf};
 ghost use Rattle.cave_words.specs.Line.{is_line};
-ghost use Rattle.cave_turn.specs.Turn.{begun, turned, played, reseeded};
+ghost use Rattle.cave_turn.specs.Turn.{begun, turned, played};
 
 use crate::answers::take_answer;
 use crate::begin::begun_state;
@@ -28,49 +28,24 @@ pub fn start(cave: &Cave, seed: u32, out: &mut Out) -> State
     begun_state(cave, Stream::seeded(seed))
 }
 
-/// A line that says nothing and is no turn.
-fn silent(state: State) -> Turned
-    ensures { result ≡ record { state = state; ticked = false } }
-{
-    Turned {
-        state,
-        ticked: false,
-    }
-}
-
-/// The state from which the random stream goes on by a seed.
-fn reseeded(state: &State, seed: u32) -> State
-    ensures { result ≡ reseeded state.now seed }
-{
-    State {
-        stream: Stream::seeded(seed),
-        ..*state
-    }
-}
-
-/// Plays a line of input.
-fn play(cave: &Cave, lexicon: &Lexicon, state: &State, line: &[u8], out: &mut Out) -> Turned
+/// Plays a line of input. Tells whether it is a turn of the game.
+fn play(cave: &Cave, lexicon: &Lexicon, line: &[u8], state: &mut State, out: &mut Out) -> bool
     requires lexicon { IsLexiconOf cave.now lexicon.now }
     requires empty { out.old.items ≡ [] }
-    ensures turn { record { state = result.state; parts = out.new.items; ticked = result.ticked } ≡ played cave.now line.now state.now.ending state.now.question state.now }
+    ensures turn { record { state = state.new; parts = out.new.items; ticked = result } ≡ played cave.now line.now state.old.ending state.old.question state.old }
     ensures few { array_vec_len out.new ≤ 307 }
 {
     if state.ending.is_some() {
-        return silent(*state);
+        return false;
     }
     match state.question {
         Some(question) => {
-            let play = take_answer(cave, lexicon, question, state, line);
-            *out = play.out;
-            silent(play.state)
+            take_answer(cave, lexicon, question, line, state, out);
+            false
         }
         None => {
-            let play = command(cave, lexicon, state, line);
-            *out = play.out;
-            Turned {
-                state: play.state,
-                ticked: true,
-            }
+            command(cave, lexicon, line, state, out);
+            true
         }
     }
 }
@@ -95,9 +70,14 @@ pub fn turn(
     ensures counted { meter.new ≡ meter.old + 1 }
 {
     meter.tick();
+    let mut turned = Turned {
+        state: *state,
+        ticked: false,
+    };
     match LogLine::of(line) {
-        LogLine::Comment | LogLine::Blank => silent(*state),
-        LogLine::Seed(seed) => silent(reseeded(state, seed)),
-        LogLine::Input => play(cave, lexicon, state, line, out),
+        LogLine::Comment | LogLine::Blank => {}
+        LogLine::Seed(seed) => turned.state.stream = Stream::seeded(seed),
+        LogLine::Input => turned.ticked = play(cave, lexicon, line, &mut turned.state, out),
     }
+    turned
 }
