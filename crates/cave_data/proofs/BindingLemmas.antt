@@ -14,7 +14,8 @@ use Rattle.cave_data.specs.declared.binding.Key.{Key}
 use Rattle.cave_data.specs.declared.binding.Key.TheVariants.{RoleKey, PlaceKey, LettersKey}
 use Rattle.cave_data.specs.declared.binding.Binding.{Binding}
 use Rattle.cave_data.specs.declared.bindings.Bindings.{Bindings}
-use Rattle.cave_data.specs.Bindings.{is_skipped, binding_row, binding_at, bindings_of, role_value, place_value, role_key, place_key, letters_key, letters_value, latest, value_of, repeat_cause, form_cause, binding_cause, binding_fault, first_binding_fault}
+use Rattle.cave_data.specs.Bindings.{is_skipped, binding_row, binding_at, bindings_of, role_value, place_value, role_key, place_key, letters_key, letters_value, latest, value_of}
+use Rattle.cave_data.specs.BindingFault.{repeat_cause, form_cause, binding_cause, binding_fault, first_binding_fault}
 use Rattle.cave_data.specs.BindingSteps.{bound_to, bind_key, bind, bind_new, bind_line, no_bindings, bound}
 use Rattle.cave_data.specs.Faults.{FaultIs, told}
 use Rattle.cave_data.specs.Gives.{Fails}

@@ -9,7 +9,8 @@ use Rattle.cave_data.specs.declared.reader.Place.TheVariants.{Outside, After}
 use Rattle.cave_data.specs.declared.reader.Reader.{Reader}
 use Rattle.cave_data.specs.Faults.{FaultIs, told}
 use Rattle.cave_data.specs.Gives.{Fails}
-use Rattle.cave_data.specs.Grammar.{stands, entries, line_cause, first_fault, fault_behind, end_fault, is_after, spot_of}
+use Rattle.cave_data.specs.Grammar.{stands, entries}
+use Rattle.cave_data.specs.FirstFault.{line_cause, first_fault, fault_behind, end_fault, is_after, spot_of}
 use Rattle.cave_data.specs.Steps.{tables_of, no_tables, allowed, advance}
 use Rattle.cave_data.proofs.StepLemmas.{reader_behind, advance-reader_behind}
 

@@ -10,6 +10,8 @@ pub mod RowLemmas
 pub mod PartLemmas
 pub mod StepLemmas
 pub mod DatabaseLemmas
+pub mod RightLemmas
+pub mod LawLemmas
 pub mod NameLemmas
 pub mod BindingLemmas
 pub mod CaveLemmas

@@ -10,8 +10,9 @@ use Rattle.cave_data.specs.Shown.{shown}
 use Rattle.cave_data.specs.Rows.{Entry, TextLine, LongLine, ShortLine, Way, Word, ObjectLine, MessageLine, Placed, Says, Marks, ClassLine, HintOf}
 use Rattle.cave_data.specs.Texts.{text_of, keyed, by_object, object_behind, object_of}
 use Rattle.cave_data.specs.Tables.{TextsSoFar, with_line}
-use Rattle.cave_data.specs.Grammar.{way_of, word_of, class_line_of, object_line_of, at_most, limit_cause}
-use Rattle.cave_data.specs.Reads.{long_line_of, short_line_of, message_line_of, placement_of_row, default_of_row, marks_of_row, hint_of_row, last_of, goings_from, bits_of}
+use Rattle.cave_data.specs.FirstFault.{at_most, limit_cause}
+use Rattle.cave_data.specs.SectionRows.{way_of, word_of, class_line_of, object_line_of, long_line_of, short_line_of, message_line_of, placement_of_row, default_of_row, marks_of_row, hint_of_row}
+use Rattle.cave_data.specs.Reads.{last_of, goings_from, bits_of}
 use Rattle.cave_data.specs.Steps.{put, no_texts, no_tables, tables_of, class_entry_of, table_limit}
 use Rattle.cave_data.proofs.FoldLemmas.{added, fold-part}
 use Rattle.cave_data.proofs.TextLemmas.{texts_behind}

@@ -1,5 +1,5 @@
 -- What is bound, and where objects stand, is in range: each row is, and so is what is made of rows.
-use Rattle.std.proofs.Common.{◌≡◌, ℕ, ◌≤◌, Bool, true, false, cond, eqb, leb, ◌&&◌, List, [], ◌∷◌, ◌++◌, drop, fold, Option, Some, None, Result, Ok, Err, refl, sym, ap, subst, ◌∙◌, arith}
+use Rattle.std.proofs.Common.{◌≡◌, ℕ, ◌≤◌, Bool, true, false, cond, eqb, leb, ◌&&◌, List, [], ◌∷◌, ◌++◌, drop, fold, Some, Result, Ok, Err, refl, sym, subst, arith}
 use Rattle.std.specs.Prelude.{ℤ, pos, negsuc, ◌≤ℤ◌, codes, nat_eq, IfOk, IfSome, option_to_list}
 use Rattle.std.specs.Option.{ok_or}
 use Rattle.std.specs.Result.{result_ok}
@@ -19,7 +19,6 @@ use Rattle.cave_data.specs.declared.number.Number.TheVariants.{Natural, Negative
 use Rattle.cave_data.specs.declared.reader.Place.{Place}
 use Rattle.cave_data.specs.declared.reader.Place.TheVariants.{Outside, Inside, After}
 use Rattle.cave_data.specs.declared.reader.Tables.{Tables}
-use Rattle.cave_data.specs.declared.rows.Placement.{Placement}
 use Rattle.cave_data.specs.declared.binding.Key.{Key}
 use Rattle.cave_data.specs.declared.binding.Key.TheVariants.{RoleKey, PlaceKey, LettersKey}
 use Rattle.cave_data.specs.declared.binding.Binding.{Binding}

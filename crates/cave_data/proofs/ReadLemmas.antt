@@ -1,5 +1,5 @@
 -- A cave that was made of tables and bindings is the one that the inputs describe, and no other is.
-use Rattle.std.proofs.Common.{◌≡◌, inl, inr, ℕ, suc, true, false, cond, ltb, List, [], ◌∷◌, ◌++◌, length, map, Option, Some, None, Result, Ok, Err, option_map, unwrap_or, refl, sym, ap, subst, ◌∙◌}
+use Rattle.std.proofs.Common.{◌≡◌, inl, inr, ℕ, suc, Bool, true, false, cond, ltb, List, [], ◌∷◌, ◌++◌, length, map, Option, Some, None, Result, Ok, Err, option_map, unwrap_or, refl, sym, ap, subst, ◌∙◌}
 use Rattle.std.specs.Option.{option_or}
 use Rattle.std.specs.Result.{IfOk, IfErr, MatchResult}
 use Rattle.std.specs.Str.Lines.{lines}
@@ -19,23 +19,32 @@ use Rattle.cave_data.specs.declared.bindings.Bindings.{Bindings}
 use Rattle.cave_data.specs.CaveView.{CaveView}
 use Rattle.cave_data.specs.Shown.{shown_class}
 use Rattle.cave_data.specs.Rows.{Entry, TextLine}
-use Rattle.cave_data.specs.Grammar.{spot_of, stands, entries, line_cause, fault_behind, is_after, end_fault, first_told, first_fault}
-use Rattle.cave_data.specs.Reads.{class_of_line, IsDatabase, Holds}
-use Rattle.cave_data.specs.Bindings.{bindings_of, binding_cause, binding_fault, first_binding_fault, default_place}
+use Rattle.cave_data.specs.Grammar.{stands, entries}
+use Rattle.cave_data.specs.FirstFault.{spot_of, line_cause, fault_behind, is_after, end_fault, first_told, first_fault}
+use Rattle.cave_data.specs.Reads.{class_of_line, MayStandTogether, IsDatabase, Holds}
+use Rattle.cave_data.specs.Bindings.{bindings_of, default_place}
+use Rattle.cave_data.specs.BindingFault.{binding_cause, binding_fault, first_binding_fault}
 use Rattle.cave_data.specs.BindingSteps.{bound}
 use Rattle.cave_data.specs.Steps.{tables_of, class_entry_of}
 use Rattle.cave_data.specs.Faults.{FaultIs, no_memory}
 use Rattle.cave_data.specs.Finished.{Finished}
-use Rattle.cave_data.specs.Reading.{AreBindings, Reads, fault, too_large}
+use Rattle.cave_data.specs.Reading.{AreBindings, AreRight, Reads, fault, too_large}
 use Rattle.cave_data.proofs.PartLemmas.{long_behind, short_behind, messages_behind, objects_behind, travel_behind, words_behind, classes_behind, placements_behind, defaults_behind, conditions_behind, hints_behind}
 use Rattle.cave_data.proofs.BindingLemmas.{roles_bound, places_bound, letters_bound}
 use Rattle.cave_data.proofs.CaveLemmas.{get-with_defaults}
+use Rattle.cave_data.specs.Laws.{Laws}
+use Rattle.cave_data.proofs.LawLemmas.{laws_hold}
+use Rattle.cave_data.proofs.RightLemmas.{line_right, line_together, none_together, line_fine, binding_right, binding_fine}
 
 -- Lines of which none is at fault.
 
 none_parts : (o : Option Cause) (tell : Cause → CaveError) (rest : Option CaveError) → option_or (option_map tell o) rest ≡ None → (o ≡ None) × (rest ≡ None)
 none_parts None tell rest e = (refl, e)
 none_parts (Some cause) tell rest e = cc
+
+none_either : {X : Type 0} (a b : Option X) → option_or a b ≡ None → (a ≡ None) × (b ≡ None)
+none_either None b e = (refl, e)
+none_either (Some x) b e = cc
 
 module _ (cause : List (List ℕ) → List ℕ → Option Cause) (tell : List (List ℕ) → Cause → CaveError) (ending : List (List ℕ) → Option CaveError) where
   abbrev Right : List (List ℕ) → List (List ℕ) → Type 0
@@ -70,20 +79,30 @@ at_after Outside x e = cc
 at_after (Inside s) x e = cc
 at_after After x e = refl
 
-pub database_right : (ls : List (List ℕ)) → first_fault [] ls ≡ None → IsDatabase ls
+-- rows that may stand together still may behind lines that have no cause
+together_behind : (before ls : List (List ℕ)) → first_fault before ls ≡ None → MayStandTogether (entries before) → MayStandTogether (entries (before ++ ls))
+together_behind before [] e may = subst (λ b. MayStandTogether (entries b)) (sym (append-nil before)) may
+together_behind before (line ∷ ls) e may =
+    let parts = none_parts (line_cause before line) (fault_behind before) _ e in
+    subst (λ b. MayStandTogether (entries b)) (append_assoc before (line ∷ []) ls) (together_behind (before ++ line ∷ []) ls parts.1 (line_together before line parts.0 may))
+
+database_right : (ls : List (List ℕ)) → first_fault [] ls ≡ None → IsDatabase ls
 database_right ls e = record {
-  each = λ before line later same. right_each line_cause fault_behind end_fault [] ls e before line later same;
+  each = λ before line later same. line_right before line (right_each line_cause fault_behind end_fault [] ls e before line later same);
+  together = together_behind [] ls e none_together;
   ended = at_after (stands ls) _ (right_end line_cause fault_behind end_fault [] ls e);
 }
 
 database_faultless : (ls : List (List ℕ)) → IsDatabase ls → first_fault [] ls ≡ None
-database_faultless ls is = none_told line_cause fault_behind end_fault [] ls is.each (ap (λ p. cond (is_after p) None (Some (record { cause = NoEnd; line = suc (length ls); spot = spot_of p }))) is.ended)
+database_faultless ls is =
+    none_told line_cause fault_behind end_fault [] ls (λ before line later same. line_fine before line later (is.each before line later same) (subst (λ xs. MayStandTogether (entries xs)) same is.together))
+    (ap (λ p. cond (is_after p) None (Some (record { cause = NoEnd; line = suc (length ls); spot = spot_of p }))) is.ended)
 
-pub bindings_right : (ls : List (List ℕ)) → first_binding_fault [] ls ≡ None → AreBindings ls
-bindings_right ls e = record { each = λ before line later same. right_each binding_cause binding_fault (λ before. None) [] ls e before line later same }
+bindings_right : (ls : List (List ℕ)) → first_binding_fault [] ls ≡ None → AreBindings ls
+bindings_right ls e = record { each = λ before line later same. binding_right before line (right_each binding_cause binding_fault (λ before. None) [] ls e before line later same) }
 
 bindings_faultless : (ls : List (List ℕ)) → AreBindings ls → first_binding_fault [] ls ≡ None
-bindings_faultless ls are = none_told binding_cause binding_fault (λ before. None) [] ls are.each refl
+bindings_faultless ls are = none_told binding_cause binding_fault (λ before. None) [] ls (λ before line later same. binding_fine before line (are.each before line later same)) refl
 
 -- The cave that was made.
 
@@ -111,11 +130,13 @@ pub made_reads : (database bindings : List ℕ) (t : Tables) (b : Bindings) (c :
 made_reads database bindings t b c small bindings_small right tables bindings_are_right are made =
     let made_of = subst (λ t'. Finished t' b c) tables made in
     record {
-      small = ltb-false _ _ small;
-      bindings_small = ltb-false _ _ bindings_small;
-      is_database = database_right (lines database) right;
+      right = record {
+        small = ltb-false _ _ small;
+        bindings_small = ltb-false _ _ bindings_small;
+        is_database = database_right (lines database) right;
+        are_bindings = bindings_right (lines bindings) bindings_are_right;
+      };
       holds = holds (entries (lines database)) b c made_of;
-      are_bindings = bindings_right (lines bindings) bindings_are_right;
       roles = λ n. ap (λ m. fin.get m n) (made.roles ∙ ap (λ x. x.roles) are) ∙ roles_bound (bindings_of (lines bindings)) n;
       places = λ n. ap (λ m. fin.get m n) made.places ∙ get-with_defaults b.places n ∙ ap (λ m. option_or (fin.get m n) (default_place n)) (ap (λ x. x.places) are)
           ∙ ap (λ o. option_or o (default_place n)) (places_bound (bindings_of (lines bindings)) n);
@@ -193,18 +214,40 @@ fault_in_bindings database bindings e s b right (inl h) = inl h
 fault_in_bindings database bindings e s b right (inr h) =
     inr (both_small database bindings s b ∙ ap (λ o. option_or o (first_binding_fault [] (lines bindings))) right ∙ h)
 
-pub faultless : (database bindings : List ℕ) (c : CaveView) → Reads database bindings c → fault database bindings ≡ None
-faultless database bindings c reads =
-    both_small database bindings (le-ltb _ _ reads.small) (le-ltb _ _ reads.bindings_small)
-    ∙ ap (λ o. option_or o (first_binding_fault [] (lines bindings))) (database_faultless (lines database) reads.is_database) ∙ bindings_faultless (lines bindings) reads.are_bindings
+right_faultless : (database bindings : List ℕ) → AreRight database bindings → fault database bindings ≡ None
+right_faultless database bindings right =
+    both_small database bindings (le-ltb _ _ right.small) (le-ltb _ _ right.bindings_small)
+    ∙ ap (λ o. option_or o (first_binding_fault [] (lines bindings))) (database_faultless (lines database) right.is_database) ∙ bindings_faultless (lines bindings) right.are_bindings
+
+faultless_right : (database bindings : List ℕ) → fault database bindings ≡ None → AreRight database bindings
+faultless_right database bindings e = large (ltb 1048576 (length database)) refl (ltb 1048576 (length bindings)) refl where
+  large : (v : Bool) → ltb 1048576 (length database) ≡ v → (w : Bool) → ltb 1048576 (length bindings) ≡ w → AreRight database bindings
+  large true is w are = let told = fault_database_large database bindings is in cc
+  large false is true are = let told = fault_bindings_large database bindings is are in cc
+  large false is false are =
+      let parts = none_either (first_fault [] (lines database)) (first_binding_fault [] (lines bindings)) (sym (both_small database bindings is are) ∙ e) in
+      record {
+        small = ltb-false _ _ is;
+        bindings_small = ltb-false _ _ are;
+        is_database = database_right (lines database) parts.0;
+        are_bindings = bindings_right (lines bindings) parts.1;
+      }
+
+-- the inputs are right exactly where no line of theirs, and no size, is at fault
+pub right_exactly : (database bindings : List ℕ) → (AreRight database bindings → fault database bindings ≡ None) × (fault database bindings ≡ None → AreRight database bindings)
+right_exactly database bindings = (right_faultless database bindings, faultless_right database bindings)
 
 -- where a cave is described, only memory can be wanting
 pub only_memory : (database bindings : List ℕ) (c : CaveView) (e : CaveError) → Reads database bindings c → FaultIs e (fault database bindings) → e ≡ no_memory
 only_memory database bindings c e reads (inl h) = h
-only_memory database bindings c e reads (inr h) = let none = faultless database bindings c reads in cc
+only_memory database bindings c e reads (inr h) = let none = right_faultless database bindings reads.right in cc
 
 -- what reading tells is what the relation asks
 pub read_decides : (database bindings : List ℕ) (r : Result CaveView CaveError) (c : CaveView) → IfOk r (λ d. Reads database bindings d) → IfErr r (λ e. FaultIs e (fault database bindings)) → Reads database bindings c
     → MatchResult r (λ d. d ≡ c) (λ e. e ≡ no_memory)
 read_decides database bindings (Ok d) c found told reads = same_cave database bindings c d reads found
 read_decides database bindings (Err e) c found told reads = only_memory database bindings c e reads told
+
+pub read_laws : (database bindings : List ℕ) (r : Result CaveView CaveError) → IfOk r (λ c. Reads database bindings c) → IfOk r (λ c. Laws (entries (lines database)) c)
+read_laws database bindings (Ok c) reads = laws_hold (entries (lines database)) c reads.right.is_database.together.objects reads.holds
+read_laws database bindings (Err e) reads = tt

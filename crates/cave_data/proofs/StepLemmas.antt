@@ -13,7 +13,8 @@ use Rattle.cave_data.specs.declared.reader.Tables.{Tables}
 use Rattle.cave_data.specs.declared.reader.Reader.{Reader}
 use Rattle.cave_data.specs.Fields.{is_blank_line}
 use Rattle.cave_data.specs.Rows.{◌>>=◌, Entry, entry_in}
-use Rattle.cave_data.specs.Grammar.{headed, closes, place_behind, after_line, stands, entry_here, entry_at, entries_from, entries, shape_here, shape_cause, limit_cause, first_limit, line_cause}
+use Rattle.cave_data.specs.Grammar.{headed, closes, place_behind, after_line, stands, entry_here, entry_at, entries_from, entries}
+use Rattle.cave_data.specs.FirstFault.{shape_here, shape_cause, limit_cause, first_limit, line_cause}
 use Rattle.cave_data.specs.Steps.{put, no_tables, tables_of, allowed, admit, row_step, into_place, advance_in, advance}
 use Rattle.cave_data.proofs.PartLemmas.{limit_behind}
 
@@ -65,10 +66,13 @@ at_line place rows line = at (is_blank_line line) where
   at true = ap (moved place) (no_more rows)
   at false = here place rows line
 
-entries-append : (place : Place) (before lines : List (List ℕ)) → entries_from place (before ++ lines) ≡ entries_from place before ++ entries_from (fold after_line place before) lines
+pub entries-append : (place : Place) (before lines : List (List ℕ)) → entries_from place (before ++ lines) ≡ entries_from place before ++ entries_from (fold after_line place before) lines
 entries-append place [] lines = refl
 entries-append place (line ∷ before) lines =
     ap (λ es. entry_at place line ++ es) (entries-append (after_line place line) before lines) ∙ sym (append_assoc (entry_at place line) (entries_from (after_line place line) before) (entries_from (fold after_line (after_line place line) before) lines))
+
+pub entries_push : (before : List (List ℕ)) (line : List ℕ) → entries (before ++ line ∷ []) ≡ entries before ++ entry_at (stands before) line
+entries_push before line = entries-append Outside before (line ∷ []) ∙ ap (λ es. entries before ++ es) (append-nil (entry_at (stands before) line))
 
 -- the reader behind lines
 abbrev pub reader_behind : List (List ℕ) → Reader
@@ -80,4 +84,4 @@ advance-reader_behind before line =
     at_line (stands before) (entries before) line
     ∙ ap (λ r. allowed (option_or (shape_cause (stands before) line) (first_limit (entries before) (entry_at (stands before) line))) r)
     (ap (λ place. reader_at place (entries before ++ entry_at (stands before) line)) (sym (fold_push after_line Outside before line))
-    ∙ ap (λ es. reader_at (stands (before ++ line ∷ [])) es) (sym (entries-append Outside before (line ∷ []) ∙ ap (λ es. entries before ++ es) (append-nil (entry_at (stands before) line)))))
+    ∙ ap (λ es. reader_at (stands (before ++ line ∷ [])) es) (sym (entries_push before line)))

@@ -1,18 +1,15 @@
--- Bindings: the lines that give roles and places their numbers, and the first fault.
-use Rattle.std.specs.Prelude.{ℕ, suc, Bool, false, ◌&&◌, ◌||◌, ◌==◌, nat_eq, nat_le, if◌then◌else◌, codes, List, [], ◌∷◌, ◌++◌, length, drop, fold, Option, Some, None, option_to_list, is_some, Result, Ok, Err}
-use Rattle.std.specs.Option.{ok_or, option_or}
-use Rattle.std.specs.Result.{result_ok, result_err}
+-- Bindings: the lines that give roles and places their numbers.
+use Rattle.std.specs.Prelude.{ℕ, Bool, false, ◌&&◌, ◌||◌, ◌==◌, nat_eq, nat_le, if◌then◌else◌, codes, List, [], ◌∷◌, ◌++◌, drop, fold, Option, Some, None, option_to_list, Result, Ok, Err}
+use Rattle.std.specs.Option.{ok_or}
+use Rattle.std.specs.Result.{result_ok}
 use Rattle.std.specs.List.{filter_map, starts_with, position_from}
 use Rattle.std.specs.Str.{bytes_eq}
 use Rattle.cave_data.specs.declared.error.Cause.{Cause}
 use Rattle.cave_data.specs.declared.error.Cause.TheVariants.{BadBinding, UnknownRole}
-use Rattle.cave_data.specs.declared.error.Spot.TheVariants.{Bindings}
-use Rattle.cave_data.specs.declared.error.CaveError.{CaveError}
 use Rattle.cave_data.specs.declared.binding.Key.{Key}
 use Rattle.cave_data.specs.declared.binding.Key.TheVariants.{RoleKey, PlaceKey, LettersKey}
 use Rattle.cave_data.specs.declared.binding.Binding.{Binding}
 use Rattle.cave_data.specs.Fields.{is_blank_line, fields, natural}
-use Rattle.cave_data.specs.Grammar.{first_told}
 use Rattle.cave_data.specs.Rows.{◌>>=◌}
 use Rattle.cave_data.specs.Reads.{last_of}
 use Rattle.cave_data.specs.Role.{role_names}
@@ -97,25 +94,6 @@ abbrev pub value_of : Key → List Binding → Option ℕ
 value_of (RoleKey number) bindings = last_of number (filter_map role_value bindings)
 value_of (PlaceKey number) bindings = last_of number (filter_map place_value bindings)
 value_of LettersKey bindings = fold latest None (filter_map letters_value bindings)
-
--- a key is bound once
-abbrev pub repeat_cause : List Binding → List Binding → Option Cause
-repeat_cause before [] = None
-repeat_cause before (binding ∷ more) = if is_some (value_of binding.key before) then Some BadBinding else None
-
-abbrev pub form_cause : List ℕ → Option Cause
-form_cause line = if is_skipped line then None else result_err (binding_row line)
-
--- what is wrong with a line behind these lines
-unfoldable pub binding_cause : List (List ℕ) → List ℕ → Option Cause
-binding_cause before line = option_or (form_cause line) (repeat_cause (bindings_of before) (binding_at line))
-
-abbrev pub binding_fault : List (List ℕ) → Cause → CaveError
-binding_fault before cause = record { cause = cause; line = suc (length before); spot = Bindings }
-
--- the first fault of lines that stand behind others
-abbrev pub first_binding_fault : List (List ℕ) → List (List ℕ) → Option CaveError
-first_binding_fault = first_told binding_cause binding_fault (λ before. None)
 
 -- the places that have a role where bindings say nothing: start, building, outside and deep
 abbrev pub default_place : ℕ → Option ℕ

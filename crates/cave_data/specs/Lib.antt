@@ -10,13 +10,17 @@ pub mod Slots
 pub mod RowViews
 pub mod Tables
 pub mod Grammar
+pub mod SectionRows
+pub mod FirstFault
 pub mod Steps
 pub mod Texts
 pub mod Reads
 pub mod Faults
 pub mod Bindings
+pub mod BindingFault
 pub mod BindingSteps
 pub mod Reading
+pub mod Laws
 pub mod Finished
 pub mod DefaultPlaces
 pub mod Ranges

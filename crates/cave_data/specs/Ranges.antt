@@ -1,5 +1,5 @@
 -- The ranges of what bindings bind and of where objects stand.
-use Rattle.std.specs.Prelude.{ℕ, ◌≤◌, ℤ, pos, negsuc, ◌≤ℤ◌, IfSome}
+use Rattle.std.specs.Prelude.{ℕ, ◌≤◌, pos, negsuc, ◌≤ℤ◌, IfSome}
 use Rattle.std.specs.Ordering.{nat_cmp}
 use Rattle.std.specs.FinMap as map
 use Rattle.cave_data.specs.declared.rows.Placement.{Placement}

@@ -1,45 +1,14 @@
 -- The relation of a database and a cave.
-use Rattle.std.specs.Prelude.{◌≡◌, ℕ, ◌^◌, Bool, ◌==◌, List, ◌∷◌, ◌++◌, map, reverse, fold, filter, Option, Some, None, option_map, bit_or}
+use Rattle.std.specs.Prelude.{◌≡◌, ℕ, ◌^◌, ◌≤◌, Bool, true, ◌==◌, List, [], ◌∷◌, ◌++◌, length, map, reverse, fold, filter, Option, option_map, bit_or}
 use Rattle.std.specs.List.{filter_map, find, list_any}
 use Rattle.std.specs.FinMap.{get}
-use Rattle.cave_data.specs.declared.rows.Placement.{Placement}
-use Rattle.cave_data.specs.declared.rows.Hint.{Hint}
 use Rattle.cave_data.specs.declared.reader.Place.TheVariants.{After}
 use Rattle.cave_data.specs.CaveView.{CaveView, Going, ClassEntry}
 use Rattle.cave_data.specs.Shown.{shown}
-use Rattle.cave_data.specs.Rows.{Entry, TextLine, LongLine, ShortLine, MessageLine, Placed, Says, Marks, HintOf}
-use Rattle.cave_data.specs.Texts.{line_text, nonempty, text_of, by_object}
-use Rattle.cave_data.specs.Grammar.{stands, line_cause, way_of, word_of, class_line_of, object_line_of}
-
--- The rows of one section.
-
-abbrev pub long_line_of : Entry → Option TextLine
-long_line_of (LongLine line) = Some line
-long_line_of entry = None
-
-abbrev pub short_line_of : Entry → Option TextLine
-short_line_of (ShortLine line) = Some line
-short_line_of entry = None
-
-abbrev pub message_line_of : Entry → Option TextLine
-message_line_of (MessageLine line) = Some line
-message_line_of entry = None
-
-abbrev pub placement_of_row : Entry → Option (ℕ × Placement)
-placement_of_row (Placed object placement) = Some (object, placement)
-placement_of_row entry = None
-
-abbrev pub default_of_row : Entry → Option (ℕ × ℕ)
-default_of_row (Says action message) = Some (action, message)
-default_of_row entry = None
-
-abbrev pub marks_of_row : Entry → Option (ℕ × List ℕ)
-marks_of_row (Marks bit places) = Some (bit, places)
-marks_of_row entry = None
-
-abbrev pub hint_of_row : Entry → Option (ℕ × Hint)
-hint_of_row (HintOf number hint) = Some (number, hint)
-hint_of_row entry = None
+use Rattle.cave_data.specs.Rows.{Entry, TextLine}
+use Rattle.cave_data.specs.Texts.{line_text, nonempty, text_of, names_object, by_object}
+use Rattle.cave_data.specs.Grammar.{IsRight, stands, entries}
+use Rattle.cave_data.specs.SectionRows.{way_of, word_of, class_line_of, object_line_of, long_line_of, short_line_of, message_line_of, placement_of_row, default_of_row, marks_of_row, hint_of_row}
 
 -- What the rows of a section say of a number.
 
@@ -65,13 +34,22 @@ bits_of place rows = option_map (fold with_bit_of 0) (nonempty (filter (lists pl
 abbrev pub class_of_line : TextLine → ClassEntry
 class_of_line line = record { bound = line.number; text = shown (line_text line) }
 
--- nothing is wrong with the line behind these lines: blank, or a heading, a row or an end where it stands, and no row too many
-abbrev pub IsRight : List (List ℕ) → List ℕ → Type 0
-IsRight before line = line_cause before line ≡ None
+-- each prop of section 5 has an object before it: the first row is an object's
+abbrev pub BeginWithObject : List TextLine → Type 0
+BeginWithObject [] = Unit {0}
+BeginWithObject (line ∷ lines) = names_object line ≡ true
 
--- The lines are those of a database.
+-- The rows may stand together.
+pub record MayStandTogether (rows : List Entry) : Type 0 where
+  pub ways : length (filter_map way_of rows) ≤ 2000
+  pub words : length (filter_map word_of rows) ≤ 1000
+  pub classes : length (filter_map class_line_of rows) ≤ 50
+  pub objects : BeginWithObject (filter_map object_line_of rows)
+
+-- The lines are those of a database: each may stand where it does, so may their rows together, and the 0 is there.
 pub record IsDatabase (ls : List (List ℕ)) : Type 0 where
   pub each : (before : List (List ℕ)) (line : List ℕ) (later : List (List ℕ)) → ls ≡ before ++ line ∷ later → IsRight before line
+  pub together : MayStandTogether (entries ls)
   pub ended : stands ls ≡ After
 
 -- The cave has what these rows say.

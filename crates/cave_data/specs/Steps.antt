@@ -11,7 +11,8 @@ use Rattle.cave_data.specs.declared.reader.Reader.{Reader}
 use Rattle.cave_data.specs.CaveView.{ClassEntry}
 use Rattle.cave_data.specs.Fields.{is_blank_line}
 use Rattle.cave_data.specs.Rows.{◌>>=◌, Entry, TextLine, LongLine, ShortLine, Way, Word, ObjectLine, MessageLine, Placed, Says, Marks, ClassLine, HintOf, MagicLine, entry_in}
-use Rattle.cave_data.specs.Grammar.{headed, closes, at_most}
+use Rattle.cave_data.specs.FirstFault.{at_most}
+use Rattle.cave_data.specs.Grammar.{headed, closes}
 use Rattle.cave_data.specs.Texts.{line_text, keyed, object_behind}
 use Rattle.cave_data.specs.Tables.{TextsSoFar, with_line, with_way, with_bit}
 

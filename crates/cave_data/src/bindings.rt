@@ -1,7 +1,8 @@
 //! Reading whole bindings.
 ghost use Rattle.std.specs.Prelude.{◌≡◌, [], None, IfOk, IfErr};
 ghost use Rattle.std.specs.Str.Lines.{lines};
-ghost use Rattle.cave_data.specs.Bindings.{bindings_of, first_binding_fault};
+ghost use Rattle.cave_data.specs.BindingFault.{first_binding_fault};
+ghost use Rattle.cave_data.specs.Bindings.{bindings_of};
 ghost use Rattle.cave_data.specs.BindingSteps.{bound_to, bind_new, bind_line, no_bindings, bound};
 ghost use Rattle.cave_data.specs.Faults.{FaultIs};
 ghost use Rattle.cave_data.specs.Gives.{Leaves};

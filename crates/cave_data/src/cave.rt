@@ -1,12 +1,15 @@
 //! A cave: the tables of a database and what its bindings say.
-ghost use Rattle.std.specs.Prelude.{◌≡◌, All, option_map, map, length, nat_lt, IfOk, IfErr, IfSome, MatchResult, unwrap_or};
+ghost use Rattle.std.specs.Prelude.{◌≡◌, All, option_map, map, length, nat_lt, IfOk, IfErr, IfSome, MatchResult, None, unwrap_or};
 ghost use Rattle.std.specs.FinMap.{get};
 ghost use Rattle.cave_data.specs.CaveView.{name_of, look_of, ways_from, conditions_of, placement_of, default_message, CaveView, class_of};
 ghost use Rattle.cave_data.specs.Bindings.{default_place};
 ghost use Rattle.cave_data.specs.Faults.{FaultIs, no_memory};
 ghost use Rattle.cave_data.specs.Finished.{Finished};
 ghost use Rattle.cave_data.specs.Ranges.{IsLetters, IsMessage, IsPlace, IsStanding, HasOnly, AreInRange};
-ghost use Rattle.cave_data.specs.Reading.{Reads, fault};
+ghost use Rattle.cave_data.specs.Grammar.{entries};
+ghost use Rattle.cave_data.specs.Laws.{Laws};
+ghost use Rattle.cave_data.specs.Reading.{AreRight, Reads, fault};
+ghost use Rattle.std.specs.Str.Lines.{lines};
 ghost use Rattle.cave_data.specs.RowViews.{rating};
 ghost use Rattle.cave_data.specs.Shown.{going, word_entry};
 ghost use Rattle.cave_data.specs.Role.{role_number};
@@ -194,6 +197,10 @@ impl Cave {
     pub fn read(alloc: Global, database: &[u8], bindings: &[u8]) -> Result<Cave, CaveError>
         ensures found { IfOk result (λ c. Reads database.now bindings.now c) }
         ensures fault { IfErr result (λ e. FaultIs e (fault database.now bindings.now)) }
+        // There is no fault exactly where the inputs are a database and bindings.
+        ensures right { (AreRight database.now bindings.now → fault database.now bindings.now ≡ None)
+            × (fault database.now bindings.now ≡ None → AreRight database.now bindings.now) }
+        ensures laws { IfOk result (λ c. Laws (entries (lines database.now)) c) }
         // Where a cave is described, it is read, unless memory is wanting.
         ensures only { (c : CaveView) → Reads database.now bindings.now c
             → MatchResult result (λ d. d ≡ c) (λ e. e ≡ no_memory) }

@@ -2,7 +2,8 @@
 ghost use Rattle.std.specs.Prelude.{◌≡◌, [], None, IfOk, IfErr};
 ghost use Rattle.std.specs.Str.Lines.{lines};
 ghost use Rattle.cave_data.specs.Faults.{FaultIs, told};
-ghost use Rattle.cave_data.specs.Grammar.{entries, first_fault, spot_of};
+ghost use Rattle.cave_data.specs.FirstFault.{first_fault, spot_of};
+ghost use Rattle.cave_data.specs.Grammar.{entries};
 ghost use Rattle.cave_data.specs.Steps.{tables_of};
 
 use crate::error::{Cause, CaveError, Spot};
