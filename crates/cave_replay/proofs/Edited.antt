@@ -1,43 +1,100 @@
--- A log with other lines in the place of a stretch of it.
-use Rattle.std.proofs.Common.{◌≡◌, ℕ, ◌+◌, ◌-◌, ◌≤◌, List, [], ◌++◌, length, take, drop, map, get_or, refl, sym, ap, ◌∙◌, arith}
-use Rattle.std.specs.List.{splice}
-use Rattle.std.specs.Global.{Vec}
-use Rattle.cave_replay.specs.Log.{log_of}
-use Rattle.std.proofs.lemmas.List.{length-append, length-take-le, length-drop, get_or-append_right, get_or-drop, take_at, drop_at, append_assoc, map-append, take-map, drop-map}
-use Rattle.cave_replay.specs.Change.{line_at}
+-- A log after changes: what they leave alone stays, and each line comes from the log or from a change.
+use Rattle.std.proofs.Common.{◌≡◌, ℕ, ◌+◌, ◌-◌, ◌<◌, ◌≤◌, List, [], ◌∷◌, ◌++◌, length, take, drop, get_or, insert, remove, set, suc, refl, sym, ap, ◌∙◌, arith}
+use Rattle.std.proofs.lemmas.List.{length-append, length-take-le, length-set, get_or-take, get_or-drop, drop_at, drop-drop, append_assoc, take-append-le, take-take, take-set-le, drop-set-lt}
+use Rattle.std.proofs.lemmas.List.Edits.{length-insert, length-remove}
+use Rattle.cave_replay.specs.declared.span.Span.{Span}
+use Rattle.cave_replay.specs.Change.{Change, inserts, deletes, replaces, reseeds, line_at, log_after}
+use Rattle.cave_replay.specs.Faults.{log_after_all}
+use Rattle.cave_replay.proofs.Spans.{Leaves, LeaveAlone}
 
-pub length-edited : (log middle : List (List ℕ)) (head behind : ℕ) → head ≤ behind → behind ≤ length log → length (splice log head behind middle) ≡ head + length middle + (length log - behind)
-length-edited log middle head behind ordered within =
-    let a = length-take-le head log (omega arith) in
-    let b = length-append (take head log) (middle ++ drop behind log) in
-    let c = length-append middle (drop behind log) in
-    let d = length-drop behind log in
-    omega arith
+-- a log stays as it is at the front and at the end
+pub record StaysAround (log new : List (List ℕ)) (span : Span) : Type 0 where
+  pub within : span.head + span.tail ≤ length new
+  pub front : take span.head new ≡ take span.head log
+  pub rest : drop (length new - span.tail) new ≡ drop (length log - span.tail) log
 
--- behind the changed lines stand those of the rest of the log
-pub line_behind : (log middle : List (List ℕ)) (head behind place : ℕ) → head ≤ behind → behind ≤ length log → head + length middle ≤ place
-    → line_at (splice log head behind middle) place ≡ line_at log (place - head - length middle + behind)
-line_behind log middle head behind place ordered within past =
-    let a = length-take-le head log (omega arith) in
-    let e : behind + (place - head - length middle) ≡ place - head - length middle + behind = omega arith in
-    get_or-append_right (take head log) (middle ++ drop behind log) head place [] a (omega arith)
-    ∙ get_or-append_right middle (drop behind log) (length middle) (place - head) [] refl (omega arith)
-    ∙ get_or-drop behind log (place - head - length middle) [] ∙ ap (λ k. get_or log k []) e
+drop_past : (front rest : List (List ℕ)) (count more all : ℕ) → length front ≡ count → all ≡ count + more → drop all (front ++ rest) ≡ drop more rest
+drop_past front rest count more all counted sum =
+    ap (λ k. drop k (front ++ rest)) sum ∙ sym (drop-drop more count (front ++ rest)) ∙ ap (drop more) (drop_at front rest count counted)
 
--- where the front and the rest of the log stand
-pub take-edited : (log middle : List (List ℕ)) (head behind : ℕ) → head ≤ length log → take head (splice log head behind middle) ≡ take head log
-take-edited log middle head behind within = take_at (take head log) (middle ++ drop behind log) head (length-take-le head log within)
+drop_again : (log : List (List ℕ)) (first more all : ℕ) → all ≡ first + more → drop more (drop first log) ≡ drop all log
+drop_again log first more all sum = drop-drop more first log ∙ ap (λ k. drop k log) (sym sum)
 
-pub drop-edited : (log middle : List (List ℕ)) (head behind : ℕ) → head ≤ length log → drop (head + length middle) (splice log head behind middle) ≡ drop behind log
-drop-edited log middle head behind within =
-    let a = length-take-le head log within in
-    let b = length-append (take head log) middle in
-    let e : splice log head behind middle ≡ (take head log ++ middle) ++ drop behind log = sym (append_assoc (take head log) middle (drop behind log)) in
-    ap (drop (head + length middle)) e ∙ drop_at (take head log ++ middle) (drop behind log) (head + length middle) (omega arith)
+take_front : (log rest : List (List ℕ)) (head at : ℕ) → head ≤ at → at ≤ length log → take head (take at log ++ rest) ≡ take head log
+take_front log rest head at before within =
+    let counted = length-take-le at log within in
+    take-append-le head (take at log) rest (omega arith) ∙ take-take head at log before
 
-pub log_of-splice : (log middle : List (Vec ℕ)) (head behind : ℕ) → log_of (splice log head behind middle) ≡ splice (log_of log) head behind (log_of middle)
-log_of-splice log middle head behind =
-    let f : Vec ℕ → List ℕ = λ line. line.items in
-    map-append f (take head log) (middle ++ drop behind log)
-    ∙ ap (λ x. map f (take head log) ++ x) (map-append f middle (drop behind log))
-    ∙ rw (take-map f head log, drop-map f behind log) refl
+insert_around : (log : List (List ℕ)) (at : ℕ) (line : List ℕ) (span : Span) → span.head ≤ at → at + span.tail ≤ length log → StaysAround log (insert log at line) span
+insert_around log at line span before after =
+    let longer : length (insert log at line) ≡ length log + 1 = length-insert log at line (omega arith) in
+    let counted : length (take at log) ≡ at = length-take-le at log (omega arith) in
+    let counted' : length (take at log ++ line ∷ []) ≡ suc at = length-append (take at log) (line ∷ []) ∙ omega arith in
+    let split : insert log at line ≡ (take at log ++ line ∷ []) ++ drop at log = simp append_assoc in
+    let more = length log - span.tail - at in
+    record {
+      within = omega arith;
+      front = take_front log (line ∷ drop at log) span.head at before (omega arith);
+      rest = ap (drop (length (insert log at line) - span.tail)) split
+          ∙ drop_past (take at log ++ line ∷ []) (drop at log) (suc at) more (length (insert log at line) - span.tail) counted' (omega arith)
+          ∙ drop_again log at more (length log - span.tail) (omega arith);
+    }
+
+remove_around : (log : List (List ℕ)) (at : ℕ) (span : Span) → span.head ≤ at → at + 1 + span.tail ≤ length log → StaysAround log (remove log at) span
+remove_around log at span before after =
+    let shorter : length (remove log at) + 1 ≡ length log = length-remove log at (omega arith) in
+    let counted : length (take at log) ≡ at = length-take-le at log (omega arith) in
+    let more = length log - span.tail - at - 1 in
+    record {
+      within = omega arith;
+      front = take_front log (drop (suc at) log) span.head at before (omega arith);
+      rest = drop_past (take at log) (drop (suc at) log) at more (length (remove log at) - span.tail) counted (omega arith)
+          ∙ drop_again log (suc at) more (length log - span.tail) (omega arith);
+    }
+
+set_around : (log : List (List ℕ)) (at : ℕ) (line : List ℕ) (span : Span) → span.head ≤ at → at + 1 + span.tail ≤ length log → StaysAround log (set log at line) span
+set_around log at line span before after =
+    let same : length (set log at line) ≡ length log = length-set log at line in
+    record {
+      within = omega arith;
+      front = take-set-le span.head log at line before;
+      rest = ap (λ n. drop (n - span.tail) (set log at line)) same ∙ drop-set-lt (length log - span.tail) log at line (omega arith);
+    }
+
+stays_after : (change : Change) (log : List (List ℕ)) (span : Span) → Leaves change (length log) span → span.head + span.tail ≤ length log → StaysAround log (log_after change log) span
+stays_after (inserts at line) log span leaves fits = insert_around log at line span leaves.0 leaves.1
+stays_after (deletes at) log span leaves fits = remove_around log at span leaves.0 leaves.1
+stays_after (replaces at line) log span leaves fits = set_around log at line span leaves.0 leaves.1
+stays_after (reseeds seed) log span leaves fits = record {
+  within = fits;
+  front = refl;
+  rest = refl;
+}
+
+-- what several changes leave alone stays
+pub stays_after_all : (changes : List Change) (log : List (List ℕ)) (span : Span) → LeaveAlone changes log span → span.head + span.tail ≤ length log → StaysAround log (log_after_all changes log) span
+stays_after_all [] log span alone fits = record {
+  within = fits;
+  front = refl;
+  rest = refl;
+}
+stays_after_all (change ∷ changes) log span alone fits =
+    let first = stays_after change log span alone.0 fits in
+    let later = stays_after_all changes (log_after change log) span alone.1 first.within in
+    record {
+      within = later.within;
+      front = later.front ∙ first.front;
+      rest = later.rest ∙ first.rest;
+    }
+
+-- a line of the front, and one of the end
+pub line_in_front : (log new : List (List ℕ)) (head place : ℕ) → take head new ≡ take head log → place < head → line_at new place ≡ line_at log place
+line_in_front log new head place same before =
+    sym (get_or-take head new place [] before) ∙ ap (λ l. get_or l place []) same ∙ get_or-take head log place [] before
+
+pub line_in_rest : (log new : List (List ℕ)) (start was place : ℕ) → drop start new ≡ drop was log → start ≤ place → line_at new place ≡ line_at log (place - start + was)
+line_in_rest log new start was place same behind =
+    let e : place ≡ start + (place - start) = omega arith in
+    let e' : was + (place - start) ≡ place - start + was = omega arith in
+    ap (λ k. get_or new k []) e ∙ sym (get_or-drop start new (place - start) []) ∙ ap (λ l. get_or l (place - start) []) same
+    ∙ get_or-drop was log (place - start) [] ∙ ap (λ k. get_or log k []) e'

@@ -10,7 +10,7 @@ use Rattle.cave_replay.specs.declared.fault.EditFault.TheVariants.{NoSuchPlace, 
 use Rattle.cave_replay.specs.declared.fault.GroupFault.{GroupFault}
 use Rattle.cave_replay.specs.declared.fault.TheConstants.{MOST_LINES, GREATEST_SEED}
 use Rattle.cave_replay.specs.Play.{Game, game_of}
-use Rattle.cave_replay.specs.Change.{Change, inserts, deletes, replaces, reseeds, line_at, log_after, apply, apply_all, inverse_of, undone, inverses_of}
+use Rattle.cave_replay.specs.Change.{Change, inserts, deletes, replaces, reseeds, line_at, log_after, seed_after, seed_after_all, apply, apply_all, inverse_of, undone, inverses_of}
 use Rattle.cave_replay.specs.Faults.{fault_of, added_fault, replaced_fault, fault_of_all, or_meter_full, group_fault, log_after_all}
 use Rattle.cave_replay.specs.Held.{IsGame}
 use Rattle.cave_replay.proofs.Groups.{first_is_free}
@@ -62,6 +62,11 @@ apply_all-append (x ∷ xs) ys game = apply_all-append xs ys (apply x game)
 pub log-apply_all : (changes : List Change) (game : Game) → (apply_all changes game).log ≡ log_after_all changes game.log
 log-apply_all [] game = refl
 log-apply_all (change ∷ changes) game = log-apply_all changes (apply change game)
+
+-- a game after changes, by its seed and its log
+pub game-apply_all : (changes : List Change) (seed : ℕ) (log : List (List ℕ)) → game_of (seed_after_all changes seed) (log_after_all changes log) ≡ apply_all changes (game_of seed log)
+game-apply_all [] seed log = refl
+game-apply_all (change ∷ changes) seed log = game-apply_all changes (seed_after change seed) (log_after change log)
 
 remove-insert : (log : List (List ℕ)) (at : ℕ) (line : List ℕ) → at ≤ length log → remove (insert log at line) at ≡ log
 remove-insert log at line within =
@@ -191,3 +196,8 @@ meter_free (Some fault) log left free = cc
 pub group_free : (changes : List Change) (log : List (List ℕ)) (left : ℕ) → group_fault changes log left ≡ None → (fault_of_all changes log 0 ≡ None) × (length (log_after_all changes log) ≤ left)
 group_free [] log left free = cc
 group_free (change ∷ changes) log left free = meter_free (fault_of_all (change ∷ changes) log 0) (log_after_all (change ∷ changes) log) left free
+
+-- it has a change
+pub group_some : (changes : List Change) (log : List (List ℕ)) (left : ℕ) → group_fault changes log left ≡ None → 0 < length changes
+group_some [] log left free = cc
+group_some (change ∷ changes) log left free = omega arith

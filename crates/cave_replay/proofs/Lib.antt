@@ -1,4 +1,3 @@
-pub mod Between
 pub mod Bounds
 pub mod Edited
 pub mod Groups
@@ -6,6 +5,7 @@ pub mod Inverses
 pub mod Joins
 pub mod Lines
 pub mod LogLines
+pub mod Makings
 pub mod Marking
 pub mod Openings
 pub mod Plays
@@ -13,4 +13,5 @@ pub mod Prepared
 pub mod Shifts
 pub mod Spans
 pub mod Taken
+pub mod Traces
 pub mod Underways

@@ -7,7 +7,7 @@ use Rattle.cave_replay.specs.declared.change.Changed.{Changed}
 use Rattle.cave_replay.specs.Rules.{Rules}
 use Rattle.cave_replay.specs.Log.{log_of}
 use Rattle.cave_replay.specs.Play.{Game, game_of}
-use Rattle.cave_replay.specs.Change.{Change, log_after, apply_all}
+use Rattle.cave_replay.specs.Change.{Change, changes_of, log_after, apply_all}
 use Rattle.cave_replay.specs.Changed.{edited, new_game}
 use Rattle.cave_replay.specs.Faults.{fault_of, fault_of_all, first_of_two, or_meter_full, or_full, group_fault, edit_fault, log_after_all}
 use Rattle.cave_replay.specs.declared.fault.EditFault.{EditFault}
@@ -18,29 +18,29 @@ use Rattle.cave_replay.specs.Held.{IsGame}
 use Rattle.cave_replay.specs.Agreement.{IsBounded}
 use Rattle.cave_replay.specs.Replay.{IsShift}
 use Rattle.cave_replay.specs.Report.{AreStepsBounded}
-use Rattle.cave_replay.proofs.Edited.{length-edited, take-edited, drop-edited}
+use Rattle.cave_replay.proofs.Edited.{stays_after_all}
 use Rattle.cave_replay.proofs.Inverses.{IsFree-from_none, IsGame-apply_all, log-apply_all, group_free}
 use Rattle.cave_replay.proofs.Lines.{length-log_of}
 use Rattle.cave_replay.proofs.Spans.{leave_alone, seed_stays}
 
 pub shift_of : (changes : List Change) (log : List (Vec ℕ)) (seed : ℕ) (changed : Changed) → fault_of_all changes (log_of log) 0 ≡ None
-    → new_game changed (log_of log) ≡ apply_all changes (game_of seed (log_of log)) → changed.head ≡ (span_of changes (log_of log)).head
+    → changes_of changed.edits.items ≡ changes → new_game changed (log_of log) ≡ apply_all changes (game_of seed (log_of log)) → changed.head ≡ (span_of changes (log_of log)).head
     → changed.behind + (span_of changes (log_of log)).tail ≡ length log → changed.head ≤ changed.behind
     → IsShift (game_of seed (log_of log)) (new_game changed (log_of log)) changed.head (length log - changed.behind)
-shift_of changes log seed changed accepted game head tail ordered =
+shift_of changes log seed changed accepted same game head tail ordered =
     let n = length-log_of log in
-    let middle = log_of changed.middle.items in
-    let whole = length-edited (log_of log) middle changed.head changed.behind ordered (omega arith) in
+    let span = span_of changes (log_of log) in
     let alone = leave_alone changes (log_of log) (record { head = length (log_of log); tail = length (log_of log) }) (IsFree-from_none changes (log_of log) 0 accepted) in
-    let e : length (edited changed (log_of log)) - (length log - changed.behind) ≡ changed.head + length middle = omega arith in
-    let e' : length (log_of log) - (length log - changed.behind) ≡ changed.behind = omega arith in
-    record {
+    let stays = stays_after_all changes (log_of log) span alone (omega arith) in
+    let e : length log - changed.behind ≡ span.tail = omega arith in
+    let within = stays.within in
+    rw (e, head, same) (record {
       within_old = omega arith;
-      within_new = omega arith;
-      front = take-edited (log_of log) middle changed.head changed.behind (omega arith);
-      rest = rw (e, e') (drop-edited (log_of log) middle changed.head changed.behind (omega arith));
-      seed = λ front. ap (λ (x : Game). x.seed) game ∙ seed_stays changes (game_of seed (log_of log)) (span_of changes (log_of log)) alone (rw (← head) front);
-    }
+      within_new = within;
+      front = stays.front;
+      rest = stays.rest;
+      seed = λ front. ap (λ (x : Game). x.seed) game ∙ seed_stays changes (game_of seed (log_of log)) span alone front;
+    })
 
 pub good_of : (changes : List Change) (log : List (List ℕ)) (seed : ℕ) (new : Game) → IsGame (game_of seed log) → fault_of_all changes log 0 ≡ None → new ≡ apply_all changes (game_of seed log) → IsGame new
 good_of changes log seed new good accepted game = rw game (IsGame-apply_all changes (game_of seed log) good (IsFree-from_none changes log 0 accepted))

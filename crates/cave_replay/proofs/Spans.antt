@@ -1,15 +1,14 @@
 -- What changes leave alone of a log.
-use Rattle.std.proofs.Common.{◌≡◌, ℕ, ◌+◌, ◌-◌, ◌<◌, ◌≤◌, List, [], ◌∷◌, ◌++◌, length, insert, remove, set, refl, ap, ◌∙◌, arith, None}
-use Rattle.std.proofs.lemmas.List.{set-append_left, set-append_right, get_or-append_right, get_or_append_left, length-map}
-use Rattle.std.proofs.lemmas.List.Edits.{insert-append_left, insert-append_right, remove-append_left, remove-append_right}
+use Rattle.std.proofs.Common.{◌≡◌, ℕ, ◌+◌, ◌<◌, ◌≤◌, List, [], ◌∷◌, length, refl, arith, None}
+use Rattle.std.proofs.lemmas.List.{length-map}
 use Rattle.std.specs.Global.{Vec}
 use Rattle.cave_replay.specs.declared.span.Span.{Span}
 use Rattle.cave_replay.specs.declared.edit.Edit.{Edit}
 use Rattle.cave_replay.specs.Log.{log_of}
 use Rattle.cave_replay.specs.Play.{Game}
-use Rattle.cave_replay.specs.Change.{Change, change_of, changes_of, inserts, deletes, replaces, reseeds, line_at, log_after, apply, apply_all}
+use Rattle.cave_replay.specs.Change.{Change, change_of, changes_of, inserts, deletes, replaces, reseeds, log_after, apply, apply_all}
 use Rattle.cave_replay.specs.Faults.{fault_of, fault_of_all}
-use Rattle.cave_replay.specs.Span.{span_after, span_after_all, span_of, IsAmong}
+use Rattle.cave_replay.specs.Span.{span_after, span_after_all, span_of}
 use Rattle.cave_replay.proofs.Lines.{length-log_of}
 use Rattle.cave_replay.proofs.Inverses.{IsFree, IsFree-from_none, insert_within, delete_within, replace_within}
 
@@ -86,34 +85,6 @@ span_fits (reseeds seed ∷ changes) log some free =
     let alone = (leave_alone (reseeds seed ∷ changes) log (record { head = length log; tail = length log }) free).0 in
     let inner = (after_all_narrower (reseeds seed ∷ changes) log (record { head = length log; tail = length log })).tail in
     omega arith
-
--- a change that leaves a span alone is one of the lines between
-pub among : (change : Change) (lines : ℕ) (span : Span) (count : ℕ) → Leaves change lines span → span.head + count + span.tail ≡ lines → IsAmong change span.head count
-among (inserts at line) lines span count leaves whole = let h = leaves.0 in let t = leaves.1 in (h, omega arith)
-among (deletes at) lines span count leaves whole = let h = leaves.0 in let t = leaves.1 in (h, omega arith)
-among (replaces at line) lines span count leaves whole = let h = leaves.0 in let t = leaves.1 in (h, omega arith)
-among (reseeds seed) lines span count leaves whole = leaves
-
--- an edit of the lines between a front and a rest
-pub insert_between : (front middle rest : List (List ℕ)) (head at : ℕ) (line : List ℕ) → length front ≡ head → head ≤ at → at ≤ head + length middle
-    → insert (front ++ (middle ++ rest)) at line ≡ front ++ (insert middle (at - head) line ++ rest)
-insert_between front middle rest head at line counted low high =
-    insert-append_right front (middle ++ rest) head at line counted low ∙ ap (λ x. front ++ x) (insert-append_left middle rest (at - head) line (omega arith))
-
-pub remove_between : (front middle rest : List (List ℕ)) (head at : ℕ) → length front ≡ head → head ≤ at → at < head + length middle
-    → remove (front ++ (middle ++ rest)) at ≡ front ++ (remove middle (at - head) ++ rest)
-remove_between front middle rest head at counted low high =
-    remove-append_right front (middle ++ rest) head at counted low ∙ ap (λ x. front ++ x) (remove-append_left middle rest (at - head) (omega arith))
-
-pub set_between : (front middle rest : List (List ℕ)) (head at : ℕ) (line : List ℕ) → length front ≡ head → head ≤ at → at < head + length middle
-    → set (front ++ (middle ++ rest)) at line ≡ front ++ (set middle (at - head) line ++ rest)
-set_between front middle rest head at line counted low high =
-    set-append_right front (middle ++ rest) head at line counted low ∙ ap (λ x. front ++ x) (set-append_left middle rest (at - head) line (omega arith))
-
-pub line_between : (front middle rest : List (List ℕ)) (head at : ℕ) → length front ≡ head → head ≤ at → at < head + length middle
-    → line_at (front ++ (middle ++ rest)) at ≡ line_at middle (at - head)
-line_between front middle rest head at counted low high =
-    get_or-append_right front (middle ++ rest) head at [] counted low ∙ get_or_append_left middle rest [] (at - head) (omega arith)
 
 -- the front and the end that edits leave alone fit into the log
 pub span_of_edits : (edits : List Edit) (log : List (Vec ℕ)) (span : Span) → 0 < length edits → fault_of_all (changes_of edits) (log_of log) 0 ≡ None → span ≡ span_of (changes_of edits) (log_of log) → span.head + span.tail ≤ length log

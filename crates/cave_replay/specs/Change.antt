@@ -31,9 +31,21 @@ log_after (deletes at) log = remove log at
 log_after (replaces at line) log = slice_set log at line
 log_after (reseeds seed) log = log
 
+-- the line that a change brings in, if it brings one
+abbrev pub own_line : Change → List ℕ
+own_line (inserts at line) = line
+own_line (deletes at) = []
+own_line (replaces at line) = line
+own_line (reseeds seed) = []
+
 abbrev pub seed_after : Change → ℕ → ℕ
 seed_after (reseeds new) seed = new
 seed_after _ seed = seed
+
+-- the seed after several changes
+abbrev pub seed_after_all : List Change → ℕ → ℕ
+seed_after_all [] seed = seed
+seed_after_all (change ∷ changes) seed = seed_after_all changes (seed_after change seed)
 
 -- what a change makes of a game
 abbrev pub apply : Change → Game → Game

@@ -1,12 +1,12 @@
 use Rattle.std.specs.Prelude.{ℕ, List}
-use Rattle.std.specs.List.{splice}
 use Rattle.cave_replay.specs.declared.change.Changed.{Changed}
-use Rattle.cave_replay.specs.Log.{log_of}
 use Rattle.cave_replay.specs.Play.{Game, game_of}
+use Rattle.cave_replay.specs.Change.{changes_of}
+use Rattle.cave_replay.specs.Faults.{log_after_all}
 
--- a log with the changed lines in the place of a stretch of it
+-- a log once the edits are made
 abbrev pub edited : Changed → List (List ℕ) → List (List ℕ)
-edited changed log = splice log changed.head changed.behind (log_of changed.middle.items)
+edited changed log = log_after_all (changes_of changed.edits.items) log
 
 -- the game with that log
 abbrev pub new_game : Changed → List (List ℕ) → Game

@@ -10,4 +10,5 @@ pub mod Span
 pub mod Agreement
 pub mod Replay
 pub mod Changed
+pub mod Table
 pub mod Taken

@@ -1,4 +1,4 @@
-use Rattle.std.specs.Prelude.{ℕ, ◌+◌, ◌-◌, ◌<◌, ◌≤◌, min, List, [], ◌∷◌, length}
+use Rattle.std.specs.Prelude.{ℕ, ◌-◌, min, List, [], ◌∷◌, length}
 use Rattle.cave_replay.specs.declared.span.Span.{Span}
 use Rattle.cave_replay.specs.Change.{Change, inserts, deletes, replaces, reseeds, log_after}
 
@@ -20,10 +20,3 @@ span_after_all (change ∷ changes) log span = span_after_all changes (log_after
 -- what changes of a log leave alone
 abbrev pub span_of : List Change → List (List ℕ) → Span
 span_of changes log = span_after_all changes log (record { head = length log; tail = length log })
-
--- a change is one of the `count` lines behind the first `head`, or of the seed where there is no front
-abbrev pub IsAmong : Change → ℕ → ℕ → Type 0
-IsAmong (inserts at line) head count = (head ≤ at) × (at ≤ head + count)
-IsAmong (deletes at) head count = (head ≤ at) × (at < head + count)
-IsAmong (replaces at line) head count = (head ≤ at) × (at < head + count)
-IsAmong (reseeds seed) head count = head ≤ 0

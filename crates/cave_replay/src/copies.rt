@@ -1,10 +1,51 @@
 ghost use Rattle.std.specs.Prelude.{◌≡◌, length, map, IfOk};
 ghost use Rattle.cave_replay.specs.Log.{log_of};
+ghost use Rattle.cave_replay.specs.Change.{change_of, changes_of};
 
-use crate::change::copy_lines;
+use crate::edit::Edit;
 use crate::kept::Kept;
 use crate::machine::Machine;
 use std::alloc::{AllocError, Global};
+
+/// A copy of lines.
+fn copy_lines(alloc: Global, lines: &[Vec<u8>]) -> Result<Vec<Vec<u8>>, AllocError>
+    ensures { IfOk result (λ copy. log_of copy.items ≡ log_of lines.now) }
+{
+    let mut copy = Vec::with_capacity(alloc, lines.len())?;
+    for line in lines {
+        copy.push(Vec::from_slice(alloc, line)?)?;
+    }
+    Ok(copy)
+}
+
+/// A copy of an edit.
+fn copy_edit(alloc: Global, edit: &Edit) -> Result<Edit, AllocError>
+    ensures { IfOk result (λ copy. change_of copy ≡ change_of edit.now) }
+{
+    match edit {
+        Edit::Insert(at, line) => {
+            let copy = Vec::from_slice(alloc, line)?;
+            Ok(Edit::Insert(*at, copy))
+        }
+        Edit::Delete(at) => Ok(Edit::Delete(*at)),
+        Edit::Replace(at, line) => {
+            let copy = Vec::from_slice(alloc, line)?;
+            Ok(Edit::Replace(*at, copy))
+        }
+        Edit::Reseed(seed) => Ok(Edit::Reseed(*seed)),
+    }
+}
+
+/// A copy of edits.
+pub(crate) fn copy_edits(alloc: Global, edits: &[Edit]) -> Result<Vec<Edit>, AllocError>
+    ensures { IfOk result (λ copy. changes_of copy.items ≡ changes_of edits.now) }
+{
+    let mut copy = Vec::with_capacity(alloc, edits.len())?;
+    for edit in edits {
+        copy.push(copy_edit(alloc, edit)?)?;
+    }
+    Ok(copy)
+}
 
 /// Pieces that say the same.
 fn copy_pieces<M: Machine>(

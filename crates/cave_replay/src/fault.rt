@@ -1,3 +1,4 @@
+use std::fmt;
 use thiserror::Error;
 
 /// The most lines that a log has.
@@ -14,7 +15,7 @@ pub const MOST_EVERY: u32 = 10_000;
 pub enum OpenFault {
     #[error("the distance of checkpoints is not from 1 to 10000")]
     BadEvery,
-    #[error("line {0} of the log is too long or has a byte that may not stand in a log")]
+    #[error("line {0} of the log is over 255 bytes or has a byte that is neither printable ASCII nor a tab")]
     BadLine(usize),
     #[error("the log has more than 65535 lines")]
     LogFull,
@@ -27,15 +28,15 @@ pub enum OpenFault {
 /// Why an edit was refused. The first of these that holds is answered; `EmptyGroup` is a group's alone and comes first.
 #[derive(Clone, Copy, Debug, Drop, PartialEq, Eq, Error)]
 pub enum EditFault {
-    #[error("the log has no such place")]
+    #[error("the place is past the end of the log")]
     NoSuchPlace,
-    #[error("the line is too long or has a byte that may not stand in a log")]
+    #[error("the line is over 255 bytes or has a byte that is neither printable ASCII nor a tab")]
     BadLine,
-    #[error("the log has 65535 lines already")]
+    #[error("the log has 65535 lines already, and no more fit in")]
     LogFull,
     #[error("the seed is over 2147483647")]
     BadSeed,
-    #[error("the meter has too few steps left")]
+    #[error("the meter has fewer steps left than the log would have lines")]
     MeterFull,
     #[error("out of memory")]
     Memory,
@@ -44,12 +45,26 @@ pub enum EditFault {
 }
 
 /// Why a group of edits was refused, and which of its edits, from 0, met that. The number is 0 where none is to blame.
-#[derive(Clone, Copy, Debug, Drop, PartialEq, Eq, Error)]
-#[error("edit {at} of the group: {cause}")]
+#[derive(Clone, Copy, Debug, Drop, PartialEq, Eq)]
 pub struct GroupFault {
     pub cause: EditFault,
     pub at: u32,
 }
+
+impl fmt::Display for GroupFault {
+    fn fmt<W: fmt::Write>(&self, f: &mut fmt::Formatter<W>) -> fmt::Result {
+        let GroupFault { cause, at } = *self;
+        match cause {
+            EditFault::NoSuchPlace | EditFault::BadLine | EditFault::LogFull | EditFault::BadSeed =>
+                write!(f, "edit {at} of the group, counted from 0: {cause}"),
+            EditFault::MeterFull | EditFault::Memory | EditFault::EmptyGroup => {
+                write!(f, "{cause}")
+            }
+        }
+    }
+}
+
+impl std::error::Error for GroupFault {}
 
 impl GroupFault {
     /// Memory ran out.

@@ -1,14 +1,17 @@
-ghost use Rattle.std.specs.Prelude.{◌≡◌, ◌+◌, ◌-◌, ◌^◌, ◌<◌, ◌≤◌, length, take, slice_index, vec_len, vec_capacity, MatchOption, OnOk};
+ghost use Rattle.std.specs.Prelude.{◌≡◌, ◌+◌, ◌-◌, ◌^◌, ◌<◌, ◌≤◌, length, take, slice_index, vec_len, vec_capacity, MatchOption, OnOk, None};
 ghost use Rattle.std.specs.Option.{ForSome};
 ghost use Rattle.std.specs.List.{splice};
 ghost use Rattle.cave_marks.specs.Marks.{IsBegunAt, places_met, states_met};
 ghost use Rattle.cave_replay.specs.Log.{log_of};
-ghost use Rattle.cave_replay.specs.Changed.{edited};
+ghost use Rattle.cave_replay.specs.Play.{game_of};
+ghost use Rattle.cave_replay.specs.Change.{changes_of, apply_all, inverses_of};
+ghost use Rattle.cave_replay.specs.Faults.{fault_of_all};
 ghost use Rattle.cave_replay.specs.Taken.{end_of_stretch, new_places, new_states, new_state};
 
 use crate::change::Changed;
 use crate::edit::Edit;
 use crate::machine::Machine;
+use crate::making::make_edits;
 use crate::played::Played;
 use cave_marks::{Checkpoints, Marks, Ticks, splice};
 use std::alloc::AllocError;
@@ -40,12 +43,12 @@ pub(crate) fn make_room<M: Machine>(
     ensures places { kept.new.checkpoints.places ≡ kept.old.checkpoints.places }
     ensures states { kept.new.checkpoints.states ≡ kept.old.checkpoints.states }
     ensures state { kept.new.state ≡ kept.old.state }
-    ensures room_log { OnOk result (vec_len kept.new.log + vec_len changed.now.middle ≤ vec_capacity kept.new.log) }
+    ensures room_log { OnOk result (vec_len kept.new.log + vec_len changed.now.edits ≤ vec_capacity kept.new.log) }
     ensures room_pieces { OnOk result (vec_len kept.new.pieces + vec_len played.now.pieces ≤ vec_capacity kept.new.pieces) }
     ensures room_ticked { OnOk result (length kept.new.ticked.ticked + length played.now.ticked.ticked ≤ kept.new.ticked.room) }
     ensures room_marks { OnOk result (length kept.new.checkpoints.places + length played.now.marks.places < kept.new.checkpoints.room) }
 {
-    kept.log.reserve(changed.middle.len())?;
+    kept.log.reserve(changed.edits.len())?;
     kept.pieces.reserve(played.pieces.len())?;
     kept.ticked.reserve(played.ticked.len())?;
     kept.checkpoints.reserve(played.marks.len() + 1)?;
@@ -98,9 +101,8 @@ fn take_marks<S: Copy>(
     }
 }
 
-/// Puts the changed lines and what was played in the place of the old ones, without memory, and gives what takes
-/// the change back. The play began at the
-/// checkpoint of the index `at`.
+/// Makes the edits, and puts what was played in the place of what was there, without memory; gives the edits that take
+/// these back. The play began at the checkpoint of the index `at`.
 pub(crate) fn take_over<M: Machine>(
     kept: &mut Kept<M>,
     changed: Changed,
@@ -108,8 +110,7 @@ pub(crate) fn take_over<M: Machine>(
     played: Played<M>,
     at: usize,
 ) -> Vec<Edit>
-    requires ordered { changed.head ≤ changed.behind }
-    requires within { changed.behind ≤ vec_len kept.old.log }
+    requires free { fault_of_all (changes_of changed.edits.items) (log_of kept.old.log.items) 0 ≡ None }
     requires pieces { vec_len kept.old.pieces ≡ vec_len kept.old.log }
     requires ticked { length kept.old.ticked.ticked ≡ vec_len kept.old.log }
     requires few { length kept.old.ticked.ticked + length played.ticked.ticked < 2 ^ 32 }
@@ -117,28 +118,21 @@ pub(crate) fn take_over<M: Machine>(
     requires begun { IsBegunAt kept.old.checkpoints at played.marks }
     requires met { MatchOption played.met (played.marks.next ≡ played.marks.end) (λ index. (at ≤ index) × (index < length kept.old.checkpoints.places) × (kept.old.checkpoints.lines - slice_index kept.old.checkpoints.places index + played.marks.next ≡ played.marks.end)) }
     requires stretch { slice_index kept.old.checkpoints.places at ≤ end_of_stretch kept.old.checkpoints played.met }
-    requires room_log { vec_len kept.old.log + vec_len changed.middle ≤ vec_capacity kept.old.log }
+    requires room_log { vec_len kept.old.log + vec_len changed.edits ≤ vec_capacity kept.old.log }
     requires room_pieces { vec_len kept.old.pieces + vec_len played.pieces ≤ vec_capacity kept.old.pieces }
     requires room_ticked { length kept.old.ticked.ticked + length played.ticked.ticked ≤ kept.old.ticked.room }
     requires room_marks { length kept.old.checkpoints.places + length played.marks.places < kept.old.checkpoints.room }
-    ensures seed { kept.new.seed ≡ changed.seed }
-    ensures log { log_of kept.new.log.items ≡ edited changed (log_of kept.old.log.items) }
+    ensures game { game_of kept.new.seed (log_of kept.new.log.items) ≡ apply_all (changes_of changed.edits.items) (game_of kept.old.seed (log_of kept.old.log.items)) }
     ensures opening { MatchOption opening (kept.new.opening ≡ kept.old.opening) (λ piece. kept.new.opening ≡ piece) }
     ensures pieces { kept.new.pieces.items ≡ splice kept.old.pieces.items (slice_index kept.old.checkpoints.places at) (end_of_stretch kept.old.checkpoints played.met) played.pieces.items }
     ensures ticked { kept.new.ticked.ticked ≡ splice kept.old.ticked.ticked (slice_index kept.old.checkpoints.places at) (end_of_stretch kept.old.checkpoints played.met) played.ticked.ticked }
     ensures settings { (kept.new.checkpoints.every ≡ kept.old.checkpoints.every) × (kept.new.checkpoints.lines ≡ played.marks.end) }
     ensures places { kept.new.checkpoints.places ≡ new_places kept.old.checkpoints played.marks at played.met }
     ensures states { kept.new.checkpoints.states ≡ new_states kept.old.checkpoints played.marks at played.met }
-    ensures inverse { result.items ≡ changed.inverse.items }
+    ensures inverse { changes_of result.items ≡ inverses_of (changes_of changed.edits.items) (game_of kept.old.seed (log_of kept.old.log.items)) }
     ensures state { kept.new.state ≡ new_state kept.old.state played.marks played.met }
 {
-    let Changed {
-        seed,
-        head,
-        behind,
-        mut middle,
-        inverse,
-    } = changed;
+    let mut edits = changed.edits;
     let Played {
         mut pieces,
         ticked,
@@ -147,11 +141,10 @@ pub(crate) fn take_over<M: Machine>(
     } = played;
     let from = kept.checkpoints.places()[at] as usize;
     let to = end_of_stretch(&kept.checkpoints, met);
-    splice(&mut kept.log, head, behind, &mut middle);
+    make_edits(&mut edits, &mut kept.log, &mut kept.seed);
     splice(&mut kept.pieces, from, to, &mut pieces);
     kept.ticked.splice(from, to, ticked);
-    kept.seed = seed;
     replace_piece(&mut kept.opening, opening);
     take_marks(&mut kept.checkpoints, &mut kept.state, marks, at, met);
-    inverse
+    edits
 }

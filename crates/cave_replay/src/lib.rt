@@ -8,6 +8,8 @@ pub mod fault;
 mod kept;
 pub mod log;
 pub mod machine;
+mod making;
+mod plan;
 mod play;
 mod played;
 mod replay;

@@ -4,6 +4,8 @@ ghost use Rattle.cave_marks.specs.Marks.{IsBegunAt};
 ghost use Rattle.cave_words.specs.Line.{is_line};
 ghost use Rattle.cave_replay.specs.Log.{log_of};
 ghost use Rattle.cave_replay.specs.Play.{game_of};
+ghost use Rattle.cave_replay.specs.Change.{changes_of};
+ghost use Rattle.cave_replay.specs.Faults.{fault_of_all};
 ghost use Rattle.cave_replay.specs.Changed.{edited, new_game};
 ghost use Rattle.cave_replay.specs.Held.{IsGame};
 ghost use Rattle.cave_replay.specs.Agreement.{state_at, image, AgreesAt, NoneMeetsBefore, IsMeet, IsBounded};
@@ -114,6 +116,8 @@ pub(crate) fn play_changed<M: Machine>(
     marks: Marks<M::State>,
     meter: &mut M::Meter,
 ) -> Result<Played<M>, AllocError>
+    requires free { fault_of_all (changes_of changed.now.edits.items) (log_of log.now) 0 ≡ None }
+    requires lines { changed.now.lines ≡ length (edited changed.now (log_of log.now)) }
     requires ordered { changed.now.head ≤ changed.now.behind }
     requires within { changed.now.behind ≤ length log.now }
     requires few { length log.now ≤ MOST_LINES }
@@ -139,8 +143,8 @@ pub(crate) fn play_changed<M: Machine>(
     ensures counted { M.Meter.count meter.old ≤ M.Meter.count meter.new }
     ensures bounded { IsBounded (M.rules machine.now) (game_of seed (log_of log.now)) (new_game changed.now (log_of log.now)) changed.now.head (length log.now - changed.now.behind) marks.every (M.Meter.count meter.new - M.Meter.count meter.old) }
 {
-    let end = changed.lines(log);
-    let new = changed.head + changed.middle.len();
+    let end = changed.lines;
+    let new = changed.rest(log);
     let mut index = first_from(checkpoints.places(), changed.behind as u32);
     let mut played = Played {
         pieces: Vec::new(alloc),

@@ -12,11 +12,12 @@ ghost use Rattle.cave_replay.specs.Agreement.{IsBounded, IsLastTo, IsMeet};
 ghost use Rattle.cave_replay.specs.Replay.{AreStates, IsMarking, IsShift, IsReplayed};
 ghost use Rattle.cave_replay.specs.Report.{IsWithin, IsReport, AreStepsBounded};
 
-use crate::change::{Changed, change, plan_group};
+use crate::change::{Changed, change};
 use crate::edit::Edit;
 use crate::fault::{EditFault, GroupFault};
 use crate::kept::{Kept, make_room, take_over};
 use crate::machine::Machine;
+use crate::plan::plan_group;
 use crate::played::{Played, play_changed};
 use crate::report::GroupReport;
 use cave_marks::{Checkpoints, Marks, last_to};
@@ -79,7 +80,8 @@ fn prepare(
     ensures accepted { OnOk result (fault_of_all (changes_of edits.now) (log_of log.now) 0 ≡ None) }
     ensures none { OnOk result (group_fault (changes_of edits.now) (log_of log.now) left ≡ None) }
     ensures game { IfOk result (λ changed. new_game changed (log_of log.now) ≡ apply_all (changes_of edits.now) (game_of seed (log_of log.now))) }
-    ensures inverse { IfOk result (λ changed. changes_of changed.inverse.items ≡ inverses_of (changes_of edits.now) (game_of seed (log_of log.now))) }
+    ensures edits { IfOk result (λ changed. changes_of changed.edits.items ≡ changes_of edits.now) }
+    ensures lines { IfOk result (λ changed. changed.lines ≡ length (edited changed (log_of log.now))) }
     ensures ordered { IfOk result (λ changed. changed.head ≤ changed.behind) }
     ensures head { IfOk result (λ changed. changed.head ≡ (span_of (changes_of edits.now) (log_of log.now)).head) }
     ensures tail { IfOk result (λ changed. changed.behind + (span_of (changes_of edits.now) (log_of log.now)).tail ≡ length log.now) }
@@ -92,7 +94,7 @@ fn prepare(
         Ok(plan) => plan,
         Err(fault) => return Err(fault),
     };
-    let Ok(changed) = change(alloc, edits, log, seed, plan.span) else {
+    let Ok(changed) = change(alloc, edits, log.len(), seed, plan) else {
         return Err(GroupFault::MEMORY);
     };
     Ok(changed)
@@ -119,7 +121,7 @@ fn replay<M: Machine>(
     requires kept { IsKept M.meaning M.is_state (M.rules machine.now) (game_of kept.now.seed (log_of kept.now.log.items)) (M.text kept.now.opening) (map M.text kept.now.pieces.items) kept.now.ticked.ticked kept.now.state kept.now.checkpoints }
     ensures accepted { OnOk result (fault_of_all (changes_of edits.now) (log_of kept.now.log.items) 0 ≡ None) }
     ensures game { IfOk result (λ replayed. new_game replayed.changed (log_of kept.now.log.items) ≡ apply_all (changes_of edits.now) (game_of kept.now.seed (log_of kept.now.log.items))) }
-    ensures inverse { IfOk result (λ replayed. changes_of replayed.changed.inverse.items ≡ inverses_of (changes_of edits.now) (game_of kept.now.seed (log_of kept.now.log.items))) }
+    ensures edits { IfOk result (λ replayed. changes_of replayed.changed.edits.items ≡ changes_of edits.now) }
     ensures ordered { IfOk result (λ replayed. replayed.changed.head ≤ replayed.changed.behind) }
     ensures head { IfOk result (λ replayed. replayed.changed.head ≡ (span_of (changes_of edits.now) (log_of kept.now.log.items)).head) }
     ensures tail { IfOk result (λ replayed. replayed.changed.behind + (span_of (changes_of edits.now) (log_of kept.now.log.items)).tail ≡ length kept.now.log.items) }
@@ -134,7 +136,7 @@ fn replay<M: Machine>(
         Err(fault) => return Err(fault),
     };
     let at = last_to(kept.checkpoints.places(), changed.head as u32);
-    let end = changed.lines(&kept.log) as u32;
+    let end = changed.lines as u32;
     let Ok(beginning) = begin(
         alloc,
         machine,

@@ -9,6 +9,7 @@ ghost use Rattle.cave_replay.specs.Faults.{fault_of, fault_of_all, log_after_all
 ghost use Rattle.cave_replay.specs.Opening.{open_fault};
 ghost use Rattle.cave_replay.specs.Held.{IsGame, HoldsPlay};
 ghost use Rattle.cave_replay.specs.Report.{IsWithin, IsReport, AreStepsBounded};
+ghost use Rattle.cave_replay.specs.Table.{IsByTable};
 ghost use Rattle.cave_replay.specs.declared.fault.TheConstants.{MOST_LINES};
 
 use crate::copies::copy_kept;
@@ -207,6 +208,9 @@ impl<M: Machine> Session<M> {
         ensures report { IfOk result (λ report. IsReport (M.rules self.old.machine) (change_of edit.now ∷ []) self.old.game self.old.every self.old.checkpoints report.from report.met report.played) }
         ensures steps { IfOk result (λ report. M.Meter.count meter.new ≡ M.Meter.count meter.old + report.played) }
         ensures bounded { AreStepsBounded (M.rules self.old.machine) (change_of edit.now ∷ []) self.old.game self.old.every (edit_fault (change_of edit.now) self.old.game.log (2 ^ 64 - 1 - M.Meter.count meter.old)) (M.Meter.count meter.old) (M.Meter.count meter.new) }
+
+        // What such a group leaves alone is told by the kind of its edit.
+        ensures table { OnOk result (IsByTable (change_of edit.now) self.old.game) }
     {
         match self.edit_group(slice::from_ref(edit), meter) {
             Ok(mut report) => match report.inverse.pop() {

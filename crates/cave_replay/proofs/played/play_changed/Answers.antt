@@ -8,7 +8,6 @@ use Rattle.cave_replay.specs.Changed.{new_game}
 use Rattle.cave_replay.specs.Agreement.{state_at}
 use Rattle.cave_replay.specs.Replay.{IsUnderway}
 use Rattle.cave_replay.proofs.Bounds.{bounded_to, underway_none}
-use Rattle.cave_replay.proofs.Edited.{length-edited}
 use Rattle.cave_replay.proofs.Lines.{length-log_of}
 use Rattle.cave_replay.proofs.Shifts.{texts_on, ticks_on, state_at-more}
 use Rattle.cave_replay.proofs.Underways.{underway_start, underway_further, underway_agrees, underway_end}
@@ -56,13 +55,10 @@ returns-in_default-clause-met g c =
     let K = c.args.checkpoints.now.every in
     let spaced : IsSpaced K C (length log) = rw (n, ← c.requires.old_lines) c.places.ensures.spaced in
     let at = c.lines.invariant in
-    let m = length-log_of c.args.changed.now.middle.items in
-    let items = c.args.changed.now.middle.ok in
-    let whole = length-edited log (log_of c.args.changed.now.middle.items) c.args.changed.now.head c.args.changed.now.behind ordered (omega arith) in
     let old_is : c.args.changed.now.behind + tail ≡ length log = omega arith in
-    let new_is : c.args.changed.now.head + c.len.result + tail ≡ length new.log = omega (arith, items, c.len.ensures) in
+    let new_is : c.rest-new.result + tail ≡ length new.log = omega (arith, c.rest-new.ensures, c.requires.lines) in
     let stands = c.in_default.ensures (state_at rules old) (state_at rules new) c.requires.old_states at.marking in
-    let met = underway_agrees rules old new c.args.changed.now.head tail c.requires.shift K C spaced c.lines.index c.lines.played.marks.next c.args.changed.now.behind (c.args.changed.now.head + c.len.result)
+    let met = underway_agrees rules old new c.args.changed.now.head tail c.requires.shift K C spaced c.lines.index c.lines.played.marks.next c.args.changed.now.behind c.rest-new.result
     old_is new_is at.underway stands in
     (stands.inside, met.0, met.1)
 
@@ -120,16 +116,13 @@ returns-then-place-end-clause-met g c =
     let K = c.args.checkpoints.now.every in
     let spaced : IsSpaced K C (length log) = rw (n, ← c.requires.old_lines) c.places.ensures.spaced in
     let at = c.lines.invariant in
-    let m = length-log_of c.args.changed.now.middle.items in
-    let items = c.args.changed.now.middle.ok in
-    let whole = length-edited log (log_of c.args.changed.now.middle.items) c.args.changed.now.head c.args.changed.now.behind ordered (omega arith) in
     let old_is : c.args.changed.now.behind + tail ≡ length log = omega arith in
-    let new_is : c.args.changed.now.head + c.len.result + tail ≡ length new.log = omega (arith, items, c.len.ensures) in
+    let new_is : c.rest-new.result + tail ≡ length new.log = omega (arith, c.rest-new.ensures, c.requires.lines) in
     let further : IsUnderway rules old new tail C c.in-Some.further (c.lines.played.marks.next + 1) =
-    underway_further rules old new c.args.changed.now.head tail c.requires.shift K C spaced c.lines.index c.lines.played.marks.next c.in-Some.further c.args.changed.now.behind (c.args.changed.now.head + c.len.result)
+    underway_further rules old new c.args.changed.now.head tail c.requires.shift K C spaced c.lines.index c.lines.played.marks.next c.in-Some.further c.args.changed.now.behind c.rest-new.result
     old_is new_is at.underway (c.in-Some.ensures (state_at rules old) (state_at rules new) c.requires.old_states at.marking) in
     let place = c.next-place.ensures.next in
-    let end : c.lines.played.marks.next ≡ length new.log = omega (arith, c.if-place-end.true, c.lines-end.ensures) in
+    let end : c.lines.played.marks.next ≡ length new.log = omega (arith, c.if-place-end.true, c.requires.lines) in
     rw at.unmet (end ∙ sym c.requires.end, underway_end rules old new c.args.changed.now.head tail c.requires.shift K C spaced c.in-Some.further (c.lines.played.marks.next + 1) further (omega arith))
 
 pub returns-then-place-end-clause-none : goal.returns-then-place-end-clause-none
@@ -186,18 +179,15 @@ lines-preserved g c =
     let K = c.args.checkpoints.now.every in
     let spaced : IsSpaced K C (length log) = rw (n, ← c.requires.old_lines) c.places.ensures.spaced in
     let at = c.lines.invariant in
-    let m = length-log_of c.args.changed.now.middle.items in
-    let items = c.args.changed.now.middle.ok in
-    let whole = length-edited log (log_of c.args.changed.now.middle.items) c.args.changed.now.head c.args.changed.now.behind ordered (omega arith) in
     let old_is : c.args.changed.now.behind + tail ≡ length log = omega arith in
-    let new_is : c.args.changed.now.head + c.len.result + tail ≡ length new.log = omega (arith, items, c.len.ensures) in
+    let new_is : c.rest-new.result + tail ≡ length new.log = omega (arith, c.rest-new.ensures, c.requires.lines) in
     let further : IsUnderway rules old new tail C c.in-Some.further (c.lines.played.marks.next + 1) =
-    underway_further rules old new c.args.changed.now.head tail c.requires.shift K C spaced c.lines.index c.lines.played.marks.next c.in-Some.further c.args.changed.now.behind (c.args.changed.now.head + c.len.result)
+    underway_further rules old new c.args.changed.now.head tail c.requires.shift K C spaced c.lines.index c.lines.played.marks.next c.in-Some.further c.args.changed.now.behind c.rest-new.result
     old_is new_is at.underway (c.in-Some.ensures (state_at rules old) (state_at rules new) c.requires.old_states at.marking) in
     let place = c.next-place.ensures.next in
     let reached = at.within in
     let end = c.requires.end in
-    let below : c.lines.played.marks.next < length new.log = omega (arith, c.if-place-end.false, c.lines-end.ensures) in
+    let below : c.lines.played.marks.next < length new.log = omega (arith, c.if-place-end.false, c.requires.lines) in
     let next = c.in_ok-play_line.ensures.next in
     let line : c.line.result.now ≡ line_at new.log c.lines.played.marks.next = c.line.ensures ∙ ap (line_at new.log) place in
     let more = c.in_ok-play_line.ensures.ticked in
@@ -233,16 +223,13 @@ returns-in_err-play_line-clause-bounded g c =
     let K = c.args.checkpoints.now.every in
     let spaced : IsSpaced K C (length log) = rw (n, ← c.requires.old_lines) c.places.ensures.spaced in
     let at = c.lines.invariant in
-    let m = length-log_of c.args.changed.now.middle.items in
-    let items = c.args.changed.now.middle.ok in
-    let whole = length-edited log (log_of c.args.changed.now.middle.items) c.args.changed.now.head c.args.changed.now.behind ordered (omega arith) in
     let old_is : c.args.changed.now.behind + tail ≡ length log = omega arith in
-    let new_is : c.args.changed.now.head + c.len.result + tail ≡ length new.log = omega (arith, items, c.len.ensures) in
+    let new_is : c.rest-new.result + tail ≡ length new.log = omega (arith, c.rest-new.ensures, c.requires.lines) in
     let further : IsUnderway rules old new tail C c.in-Some.further (c.lines.played.marks.next + 1) =
-    underway_further rules old new c.args.changed.now.head tail c.requires.shift K C spaced c.lines.index c.lines.played.marks.next c.in-Some.further c.args.changed.now.behind (c.args.changed.now.head + c.len.result)
+    underway_further rules old new c.args.changed.now.head tail c.requires.shift K C spaced c.lines.index c.lines.played.marks.next c.in-Some.further c.args.changed.now.behind c.rest-new.result
     old_is new_is at.underway (c.in-Some.ensures (state_at rules old) (state_at rules new) c.requires.old_states at.marking) in
     let place = c.next-place.ensures.next in
-    let below : c.lines.played.marks.next < length new.log = omega (arith, c.if-place-end.false, c.lines-end.ensures, at.within, c.requires.end) in
+    let below : c.lines.played.marks.next < length new.log = omega (arith, c.if-place-end.false, c.requires.lines, at.within, c.requires.end) in
     let counted = c.in_err-play_line.ensures.counted in
     let apart = c.requires.apart in
     let end = c.requires.end in

@@ -1,11 +1,11 @@
-use Rattle.std.proofs.Common.{◌≡◌, ◌-◌, length, map, ap, ◌∙◌, refl, arith}
+use Rattle.std.proofs.Common.{◌≡◌, ◌-◌, length, map, ap, ◌∙◌, refl, sym, arith}
 use Rattle.std.specs.Prelude.{slice_index}
 use Rattle.std.specs.Option.{option_map}
 use Rattle.std.proofs.lemmas.List.{length-map}
 use Rattle.cave_marks.specs.Spacing.{IsSpaced}
 use Rattle.cave_replay.specs.Log.{log_of}
 use Rattle.cave_replay.specs.Play.{Game, game_of}
-use Rattle.cave_replay.specs.Change.{changes_of, inverses_of}
+use Rattle.cave_replay.specs.Change.{changes_of, apply_all, inverses_of}
 use Rattle.cave_replay.specs.Faults.{log_after_all}
 use Rattle.cave_replay.proofs.Inverses.{IsFree-from_none, none_from_IsFree, log-apply_all, apply_all-inverses_of, IsFree-inverses_of}
 use Rattle.cave_replay.specs.Changed.{edited, new_game}
@@ -73,7 +73,7 @@ take_over-inverse-requires-clause-few g c =
     let old = game_of kept.seed log in
     let new = new_game changed log in
     let span = span_of changes log in
-    let shift' : IsShift old new changed.head (length items - changed.behind) = shift_of changes items kept.seed changed made.accepted made.game made.head made.tail made.ordered in
+    let shift' : IsShift old new changed.head (length items - changed.behind) = shift_of changes items kept.seed changed made.accepted made.edits made.game made.head made.tail made.ordered in
     let tail_is : length items - changed.behind ≡ span.tail = omega (arith, made.tail) in
     let shift : IsShift old new span.head span.tail = rw (← made.head, ← tail_is) shift' in
     let good = good_of changes log kept.seed new held.game_is made.accepted made.game in
@@ -105,7 +105,7 @@ take_over-inverse-requires-clause-met g c =
     let old = game_of kept.seed log in
     let new = new_game changed log in
     let span = span_of changes log in
-    let shift' : IsShift old new changed.head (length items - changed.behind) = shift_of changes items kept.seed changed made.accepted made.game made.head made.tail made.ordered in
+    let shift' : IsShift old new changed.head (length items - changed.behind) = shift_of changes items kept.seed changed made.accepted made.edits made.game made.head made.tail made.ordered in
     let tail_is : length items - changed.behind ≡ span.tail = omega (arith, made.tail) in
     let shift : IsShift old new span.head span.tail = rw (← made.head, ← tail_is) shift' in
     let good = good_of changes log kept.seed new held.game_is made.accepted made.game in
@@ -132,17 +132,18 @@ returns-clause-kept g c =
     let old = game_of kept.seed log in
     let new = new_game changed log in
     let span = span_of changes log in
-    let shift' : IsShift old new changed.head (length items - changed.behind) = shift_of changes items kept.seed changed made.accepted made.game made.head made.tail made.ordered in
+    let shift' : IsShift old new changed.head (length items - changed.behind) = shift_of changes items kept.seed changed made.accepted made.edits made.game made.head made.tail made.ordered in
     let tail_is : length items - changed.behind ≡ span.tail = omega (arith, made.tail) in
     let shift : IsShift old new span.head span.tail = rw (← made.head, ← tail_is) shift' in
     let good = good_of changes log kept.seed new held.game_is made.accepted made.game in
     let spaced : IsSpaced C.every C.places C.lines = rw (← same.settings.0, ← same.settings.1, ← same.places) c.places.ensures.spaced in
     let after = c.take_over-inverse.new.kept in
     let done = c.take_over-inverse.ensures in
-    let log_is : log_of after.log.items ≡ edited changed log = done.log ∙ ap (λ x. edited changed (log_of x)) same.log in
+    let moved : apply_all (changes_of changed.edits.items) (game_of roomy.seed (log_of roomy.log.items)) ≡ apply_all changes old = rw (made.edits, same.seed, same.log) refl in
+    let game_is : game_of after.seed (log_of after.log.items) ≡ new = done.game ∙ moved ∙ sym made.game in
     let stretch = stretch_same roomy.checkpoints C same.settings.1 same.places played.met in
     let from = ap (λ x. slice_index x at) same.places in
-    rw (log_is, done.seed)
+    rw game_is
     (kept_after g.M.Machine.meaning g.M.Machine.is_state rules old new span.head span.tail shift (text kept.opening) (map text kept.pieces.items) kept.ticked.ticked kept.state C held spaced at (option_map text c.in-Ok.replayed.opening) (map text played.pieces.items) played.ticked.ticked played.marks played.met made.replayed good (text after.opening) (map text after.pieces.items) after.ticked.ticked after.state after.checkpoints
     (opened_text text c.in-Ok.replayed.opening after.opening roomy.opening kept.opening same.opening done.opening)
     (ap (map text) done.pieces ∙ map-splice text roomy.pieces.items played.pieces.items (slice_index roomy.checkpoints.places at) _ ∙ rw (same.pieces, stretch, from) refl)
@@ -173,7 +174,7 @@ returns-clause-report g c =
     let old = game_of kept.seed log in
     let new = new_game changed log in
     let span = span_of changes log in
-    let shift' : IsShift old new changed.head (length items - changed.behind) = shift_of changes items kept.seed changed made.accepted made.game made.head made.tail made.ordered in
+    let shift' : IsShift old new changed.head (length items - changed.behind) = shift_of changes items kept.seed changed made.accepted made.edits made.game made.head made.tail made.ordered in
     let tail_is : length items - changed.behind ≡ span.tail = omega (arith, made.tail) in
     let shift : IsShift old new span.head span.tail = rw (← made.head, ← tail_is) shift' in
     let good = good_of changes log kept.seed new held.game_is made.accepted made.game in
@@ -182,42 +183,39 @@ returns-clause-report g c =
     rw (places, c.met_place-met.ensures, c.next-end.ensures.next)
     (report_after g.M.Machine.meaning g.M.Machine.is_state rules old new span.head span.tail shift (text kept.opening) (map text kept.pieces.items) kept.ticked.ticked kept.state C held spaced at (option_map text c.in-Ok.replayed.opening) (map text played.pieces.items) played.ticked.ticked played.marks changes made.game refl refl played.met made.replayed)
 
+pub returns-clause-game : goal.returns-clause-game
+returns-clause-game g c =
+    let same = c.make_room.ensures in
+    let made = c.in-Ok.ensures in
+    c.take_over-inverse.ensures.game ∙ rw (made.edits, same.seed, same.log) refl
+
+pub returns-clause-inverse : goal.returns-clause-inverse
+returns-clause-inverse g c =
+    let same = c.make_room.ensures in
+    let made = c.in-Ok.ensures in
+    c.take_over-inverse.ensures.inverse ∙ rw (made.edits, same.seed, same.log) refl
+
 pub returns-clause-back : goal.returns-clause-back
 returns-clause-back g c =
-    let text = g.M.Machine.text in
-    let rules = g.M.Machine.rules c.args.machine.now in
-    let kept = c.args.kept.now in
-    let items = kept.log.items in
-    let log = log_of items in
-    let n = length-log_of items in
-    let C = kept.checkpoints in
-    let held = c.requires.kept in
-    let roomy = c.make_room.new.kept in
     let same = c.make_room.ensures in
-    let changes = changes_of c.args.edits.now in
     let made = c.in-Ok.ensures in
     let done = c.take_over-inverse.ensures in
-    let log_is : log_of c.take_over-inverse.new.kept.log.items ≡ edited c.in-Ok.replayed.changed log = done.log ∙ ap (λ x. edited c.in-Ok.replayed.changed (log_of x)) same.log in
-    let inverse : changes_of c.take_over-inverse.result.items ≡ inverses_of changes (game_of kept.seed log) = ap changes_of done.inverse ∙ made.inverse in
-    rw (inverse, log_is, done.seed, made.game) (apply_all-inverses_of changes (game_of kept.seed log) (IsFree-from_none changes log 0 made.accepted))
+    let changes = changes_of c.args.edits.now in
+    let old = game_of c.args.kept.now.seed (log_of c.args.kept.now.log.items) in
+    rw (done.inverse, done.game, made.edits, same.seed, same.log) (apply_all-inverses_of changes old (IsFree-from_none changes old.log 0 made.accepted))
 
 pub returns-clause-back_accepted : goal.returns-clause-back_accepted
 returns-clause-back_accepted g c =
-    let text = g.M.Machine.text in
-    let rules = g.M.Machine.rules c.args.machine.now in
-    let kept = c.args.kept.now in
-    let items = kept.log.items in
-    let log = log_of items in
-    let n = length-log_of items in
-    let C = kept.checkpoints in
     let held = c.requires.kept in
-    let roomy = c.make_room.new.kept in
     let same = c.make_room.ensures in
-    let changes = changes_of c.args.edits.now in
     let made = c.in-Ok.ensures in
     let done = c.take_over-inverse.ensures in
-    let old = game_of kept.seed log in
-    let log_is : log_of c.take_over-inverse.new.kept.log.items ≡ log_after_all changes log = done.log ∙ ap (λ x. edited c.in-Ok.replayed.changed (log_of x)) same.log ∙ ap (λ (x : Game). x.log) made.game ∙ log-apply_all changes old in
-    let inverse : changes_of c.take_over-inverse.result.items ≡ inverses_of changes old = ap changes_of done.inverse ∙ made.inverse in
-    let free = IsFree-from_none changes log 0 made.accepted in
-    rw (inverse, log_is) (none_from_IsFree (inverses_of changes old) (log_after_all changes log) 0 (IsFree-inverses_of changes old held.game_is free))
+    let changes = changes_of c.args.edits.now in
+    let old = game_of c.args.kept.now.seed (log_of c.args.kept.now.log.items) in
+    let after = c.take_over-inverse.new.kept in
+    let roomy = c.make_room.new.kept in
+    let moved : apply_all (changes_of c.in-Ok.replayed.changed.edits.items) (game_of roomy.seed (log_of roomy.log.items)) ≡ apply_all changes old = rw (made.edits, same.seed, same.log) refl in
+    let log_is : log_of after.log.items ≡ log_after_all changes old.log = ap (λ (x : Game). x.log) (done.game ∙ moved) ∙ log-apply_all changes old in
+    let inverse : changes_of c.take_over-inverse.result.items ≡ inverses_of changes old = done.inverse ∙ rw (made.edits, same.seed, same.log) refl in
+    let free = IsFree-from_none changes old.log 0 made.accepted in
+    rw (inverse, log_is) (none_from_IsFree (inverses_of changes old) (log_after_all changes old.log) 0 (IsFree-inverses_of changes old held.game_is free))

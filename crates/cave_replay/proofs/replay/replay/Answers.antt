@@ -31,7 +31,7 @@ play_changed-requires-clause-marking g c =
     let among : c.last_to-at.result < length C.places = rw places at c.last_to-at.ensures.within in
     let before : slice_index C.places c.last_to-at.result ≤ changed.head = rw places at (c.last_to-at.ensures.before c.last_to-at.result (omega arith)) in
     let after : (k : ℕ) → c.last_to-at.result < k → k < length C.places → changed.head < slice_index C.places k = λ k later below. rw places at (c.last_to-at.ensures.after k later (rw places below)) in
-    let third = c.deref-3.ensures.value in
+    let third = c.deref-2.ensures.value in
     rw third (c.in-Ok-begin.ensures.marking (state_at rules new) refl
     (λ seed. front_are g.M.Machine.meaning g.M.Machine.is_state rules old new changed.head (length items - changed.behind) shift seed C spaced c.requires.kept.states c.last_to-at.result among before))
 
@@ -96,7 +96,7 @@ returns-in_default-play_changed-clause-bounded g c =
     let game = rw log_is at c.in-Ok.ensures.game in
     let head = rw log_is at c.in-Ok.ensures.head in
     let tail = rw log_is at c.in-Ok.ensures.tail in
-    let third = c.deref-3.ensures.value in
+    let third = c.deref-2.ensures.value in
     rw left
     (steps_within rules (changes_of c.args.edits.now) old new changed.head (length items - changed.behind) C.every c.in-Ok-begin.beginning.marks.every _ (g.M.Meter.Steps.count c.args.meter.now) (g.M.Meter.Steps.count c.play_changed.new.meter)
     none c.in_default-play_changed.ensures.counted game head (omega arith) c.in-Ok-begin.ensures.every (rw third at c.in_default-play_changed.ensures.bounded))
@@ -123,7 +123,7 @@ returns-clause-bounded g c =
     let game = rw log_is at c.in-Ok.ensures.game in
     let head = rw log_is at c.in-Ok.ensures.head in
     let tail = rw log_is at c.in-Ok.ensures.tail in
-    let third = c.deref-3.ensures.value in
+    let third = c.deref-2.ensures.value in
     rw left
     (steps_within rules (changes_of c.args.edits.now) old new changed.head (length items - changed.behind) C.every c.in-Ok-begin.beginning.marks.every _ (g.M.Meter.Steps.count c.args.meter.now) (g.M.Meter.Steps.count c.play_changed.new.meter)
     none c.in-Ok-play_changed.ensures.counted game head (omega arith) c.in-Ok-begin.ensures.every (rw third at c.in-Ok-play_changed.ensures.bounded))
@@ -148,11 +148,10 @@ returns-clause-replayed g c =
     let head = rw log_is at c.in-Ok.ensures.head in
     let tail_sum = rw log_is at c.in-Ok.ensures.tail in
     let tail : length items - changed.behind ≡ (span_of (changes_of c.args.edits.now) log).tail = omega arith in
-    let third = c.deref-3.ensures.value in
-    let second = c.deref-2.ensures.value in
+    let third = c.deref-2.ensures.value in
     let begun = c.in-Ok-begin.ensures in
     let made = c.in-Ok-play_changed.ensures in
-    let end : c.in-Ok-begin.beginning.marks.end ≡ length new.log = begun.end ∙ rw second at c.lines-end.ensures in
+    let end : c.in-Ok-begin.beginning.marks.end ≡ length new.log = begun.end ∙ rw log_is at c.in-Ok.ensures.lines in
     let next = begun.next in
     rw (← head, ← tail)
     (record {

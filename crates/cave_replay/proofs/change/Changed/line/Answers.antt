@@ -1,21 +1,33 @@
-use Rattle.std.proofs.Common.{◌≡◌, ◌+◌, ◌-◌, ◌<◌, length, ap, ◌∙◌, sym, arith}
+use Rattle.std.proofs.Common.{◌≡◌, ◌+◌, ◌-◌, ◌<◌, length, drop, ap, ◌∙◌, sym, arith}
 use Rattle.cave_replay.specs.Log.{log_of}
-use Rattle.cave_replay.specs.Change.{line_at}
+use Rattle.cave_replay.specs.Changed.{edited}
 use Rattle.cave_replay.proofs.Lines.{length-log_of, line_at-log_of}
-use Rattle.cave_replay.proofs.Edited.{length-edited, line_behind}
+use Rattle.cave_replay.proofs.Edited.{line_in_front, line_in_rest}
 use Rattle.cave_replay.proofs.change.Changed.line.Goals as goal
 
-pub returns : goal.returns
-returns c =
+pub returns-then-place-self : goal.returns-then-place-self
+returns-then-place-self c =
     let log = log_of c.args.log.now in
-    let middle = log_of c.args.self.now.middle.items in
     let n = length-log_of c.args.log.now in
-    let m = length-log_of c.args.self.now.middle.items in
-    let whole = length-edited log middle c.args.self.now.head c.args.self.now.behind c.requires.ordered (omega arith) in
-    let index = c.args.place - c.args.self.now.head - c.len-2.result + c.args.self.now.behind in
-    let items = c.args.self.now.middle.ok in
-    let len : c.len-2.result ≡ length middle = omega (arith, items, c.len-2.ensures) in
-    let below : index < length c.args.log.now = omega (arith, items, c.len.ensures) in
-    c.deref-2.ensures.value ∙ sym (line_at-log_of c.args.log.now index c.index-log-inner.result below c.index-log-inner.is)
-    ∙ ap (λ k. line_at log (c.args.place - c.args.self.now.head - k + c.args.self.now.behind)) len
-    ∙ sym (line_behind log middle c.args.self.now.head c.args.self.now.behind c.args.place c.requires.ordered (omega arith) (omega (arith, items, c.len.ensures)))
+    let fits = c.requires.shift.within_old in
+    let before = c.if-place-self.true in
+    let below : c.args.place < length c.args.log.now = omega arith in
+    c.deref.ensures.value ∙ sym (line_at-log_of c.args.log.now c.args.place c.index-log-place.result below c.index-log-place.is)
+    ∙ sym (line_in_front log (edited c.args.self.now log) c.args.self.now.head c.args.place c.requires.shift.front before)
+
+pub returns-then-place-rest : goal.returns-then-place-rest
+returns-then-place-rest c =
+    let log = log_of c.args.log.now in
+    let new = edited c.args.self.now log in
+    let n = length-log_of c.args.log.now in
+    let start = c.rest-rest.result in
+    let was = c.args.self.now.behind in
+    let tail = length c.args.log.now - was in
+    let behind = c.if-place-rest.true in
+    let start_is : length new - tail ≡ start = omega (arith, c.rest-rest.ensures, c.requires.lines) in
+    let was_is : length log - tail ≡ was = omega (arith, c.requires.within) in
+    let same : drop start new ≡ drop was log = ap (λ k. drop k new) (sym start_is) ∙ c.requires.shift.rest ∙ ap (λ k. drop k log) was_is in
+    let item = c.index-log-place-then-place-rest in
+    let below : c.args.place - start + was < length c.args.log.now = omega (arith, c.rest-rest.ensures, c.requires.place, c.requires.within) in
+    c.deref-then-place-rest.ensures.value ∙ sym (line_at-log_of c.args.log.now (c.args.place - start + was) item.result below item.is)
+    ∙ sym (line_in_rest log new start was c.args.place same behind)

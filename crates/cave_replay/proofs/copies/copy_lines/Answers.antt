@@ -4,7 +4,7 @@ use Rattle.std.specs.Global.{Vec}
 use Rattle.std.proofs.Common.{ℕ, List}
 use Rattle.cave_replay.specs.Log.{log_of}
 use Rattle.cave_replay.proofs.Lines.{take-log_of_more}
-use Rattle.cave_replay.proofs.change.copy_lines.Goals as goal
+use Rattle.cave_replay.proofs.copies.copy_lines.Goals as goal
 
 pub loop-line-preserved : goal.loop-line-preserved
 loop-line-preserved c =
