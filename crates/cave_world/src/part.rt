@@ -29,12 +29,12 @@ pub enum WordLine {
 /// One thing that a turn prints.
 #[derive(Clone, Copy, Debug, PartialEq, Eq)]
 pub enum Part {
+    /// The message of a number.
+    Message(u16),
     /// The long text of a place.
     Long(u16),
     /// The short text of a place.
     Short(u16),
-    /// The message of a number.
-    Message(u16),
     /// The message that stands for a role.
     Role(Role),
     /// The text of an object for a prop.
