@@ -5,6 +5,8 @@ use std::alloc::{AllocError, Global};
 mod bindings;
 mod databases;
 mod limits;
+mod names;
+mod ranges;
 mod whole;
 
 /// A small cave.

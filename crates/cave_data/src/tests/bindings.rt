@@ -2,7 +2,7 @@ use super::*;
 use std::test::Fail;
 
 #[test]
-fn binds(rt: HostRuntime) -> Result<(), Fail> {
+fn bindings_give_roles_and_places_their_numbers(rt: HostRuntime) -> Result<(), Fail> {
     let cave = Cave::read(
         rt.alloc(),
         CAVE_B,
@@ -44,7 +44,7 @@ const FAULTS: [(&[u8], Cause, usize); 19] = [
 ];
 
 #[test]
-fn refuses_other_bindings(rt: HostRuntime) {
+fn a_line_that_binds_nothing_is_refused(rt: HostRuntime) {
     for (bindings, cause, line) in &FAULTS {
         let refused = refusal(rt.alloc(), CAVE_A, bindings);
         assert_eq!(rt; refused, Some((*cause, *line)), "at {bindings:?}");
@@ -52,7 +52,7 @@ fn refuses_other_bindings(rt: HostRuntime) {
 }
 
 #[test]
-fn tells_the_faults_of_the_database_first(rt: HostRuntime) {
+fn the_fault_of_the_database_is_told_before_that_of_the_bindings(rt: HostRuntime) {
     assert_eq!(rt;
         refusal(rt.alloc(), b"13", b"foo"),
         Some((Cause::BadSection, 1))

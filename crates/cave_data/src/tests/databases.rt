@@ -24,7 +24,7 @@ fn numbers_agree(cave: &Cave) -> bool {
 }
 
 #[test]
-fn reads_the_small_cave(rt: HostRuntime) -> Result<(), Fail> {
+fn the_small_cave_is_read_through_each_getter(rt: HostRuntime) -> Result<(), Fail> {
     let cave = Cave::read(rt.alloc(), CAVE_A, b"")?;
     assert!(rt; texts_agree(&cave));
     assert!(rt; numbers_agree(&cave));
@@ -36,7 +36,7 @@ fn reads_the_small_cave(rt: HostRuntime) -> Result<(), Fail> {
 }
 
 #[test]
-fn wants_the_end(rt: HostRuntime) {
+fn a_database_without_its_end_is_refused_behind_its_last_line(rt: HostRuntime) {
     let mut line = 1usize;
     for (i, byte) in CAVE_A.iter().enumerate() {
         if *byte == b'\n' && line < 37 {
@@ -51,12 +51,30 @@ fn wants_the_end(rt: HostRuntime) {
     assert_eq!(rt; refusal(rt.alloc(), b"", b""), Some((Cause::NoEnd, 1)));
 }
 
+/// Whether a cut that has so many whole lines is refused at its last line, or at the one behind it for want of the end.
+fn is_refused_at_its_end(refused: Option<(Cause, usize)>, whole: usize) -> bool {
+    match refused {
+        Some((Cause::NoEnd, line)) => whole < line && line <= whole.saturating_add(2),
+        Some((Cause::BadSection | Cause::BadNumber | Cause::OutOfRange, line)) => line
+            == whole.saturating_add(1),
+        _ => false,
+    }
+}
+
 #[test]
-fn takes_any_cut(rt: HostRuntime) {
+fn a_cut_is_refused_at_its_end_until_the_end_is_there(rt: HostRuntime) {
     for cave in [CAVE_A, CAVE_B] {
-        for i in 0..cave.len() {
+        let mut whole = 0usize;
+        for (i, byte) in cave.iter().enumerate() {
             let refused = refusal(rt.alloc(), &cave[..i], b"");
-            assert!(rt; !matches!(refused, Some((Cause::Memory | Cause::TooLarge, _))));
+            if i.saturating_add(1) == cave.len() {
+                assert_eq!(rt; refused, None);
+            } else {
+                assert!(rt; is_refused_at_its_end(refused, whole), "at {i}");
+            }
+            if *byte == b'\n' {
+                whole = whole.saturating_add(1);
+            }
         }
     }
 }
@@ -93,7 +111,7 @@ const FAULTS: [(usize, &[u8], Cause); 27] = [
 ];
 
 #[test]
-fn tells_the_lowest_cause_of_a_line(rt: HostRuntime) -> Result<(), Fail> {
+fn of_two_faults_on_one_line_the_lower_is_told(rt: HostRuntime) -> Result<(), Fail> {
     for (number, line, cause) in &FAULTS {
         let database = edited(rt.alloc(), CAVE_A, *number, line)?;
         let refused = refusal(rt.alloc(), database.as_slice(), b"");
@@ -121,7 +139,7 @@ const READABLE: [(usize, &[u8]); 14] = [
 ];
 
 #[test]
-fn reads_what_may_stand(rt: HostRuntime) -> Result<(), Fail> {
+fn a_line_that_may_stand_is_read(rt: HostRuntime) -> Result<(), Fail> {
     for (number, line) in &READABLE {
         let database = edited(rt.alloc(), CAVE_A, *number, line)?;
         let refused = refusal(rt.alloc(), database.as_slice(), b"");
@@ -134,7 +152,7 @@ fn reads_what_may_stand(rt: HostRuntime) -> Result<(), Fail> {
 }
 
 #[test]
-fn reads_lines_that_end_in_a_return(rt: HostRuntime) -> Result<(), Fail> {
+fn a_return_before_a_line_feed_is_no_part_of_a_line(rt: HostRuntime) -> Result<(), Fail> {
     let mut database = Vec::new(rt.alloc());
     for byte in CAVE_A {
         if *byte == b'\n' {
@@ -143,11 +161,30 @@ fn reads_lines_that_end_in_a_return(rt: HostRuntime) -> Result<(), Fail> {
         database.push(*byte)?;
     }
     let cave = Cave::read(rt.alloc(), database.as_slice(), b"")?;
-    assert!(rt; cave.short(1) == Some(b"Road.\n".as_slice()));
+    assert!(rt; texts_agree(&cave));
+    assert!(rt; numbers_agree(&cave));
     assert_eq!(rt;
         refusal(rt.alloc(), b"0\r", b""),
         Some((Cause::BadSection, 1))
     );
+    Ok(())
+}
+
+/// The small cave, its sections in another order, some of them twice, its words in lower case, with returns.
+const TURNED: &[u8] =
+    b"9\r\n0 1\r\n-1\r\n7\r\n2 3\r\n-1\r\n5\r\n2 Lamp\r\n-1\r\n4\r\n19 in\r\n11 out\r\n29 up\r\n30 down\r\n-1\r\n3\r\n9 3 29\r\n3 9 30\r\n-1\r\n2\r\n3 Hut.\r\n1 Road.\r\n-1\r\n5\r\n000 A lamp is here.\r\n100 A lit lamp is here.\r\n-1\r\n4\r\n1002 lamp\r\n2001 take\r\n2007 on\r\n2018 quit\r\n-1\r\n1\r\n9 You are in a cellar.\r\n1 You stand on a road.\r\n3 You are in a hut.\r\n-1\r\n9\r\n0 3\r\n-1\r\n3\r\n1 3 19\r\n-1\r\n0\r\n";
+
+#[test]
+fn sections_may_come_in_any_order_and_again(rt: HostRuntime) -> Result<(), Fail> {
+    let cave = Cave::read(rt.alloc(), TURNED, b"")?;
+    assert!(rt; texts_agree(&cave));
+    assert!(rt; numbers_agree(&cave));
+    match (cave.travel(9), cave.travel(3), cave.travel(1)) {
+        ([cellar], [hut], [road]) => assert!(rt;
+            cellar.target == 3 && hut.target == 9 && road.target == 3
+        ),
+        _ => panic!(rt; "one way out of each place"),
+    }
     Ok(())
 }
 
@@ -171,7 +208,7 @@ fn the_last_run_of_a_text_stands(rt: HostRuntime) -> Result<(), Fail> {
 }
 
 #[test]
-fn tells_what_a_row_expects(rt: HostRuntime) -> Result<(), Fail> {
+fn a_fault_tells_what_the_row_expects(rt: HostRuntime) -> Result<(), Fail> {
     let database = edited(rt.alloc(), CAVE_A, 11, b"301 3 19")?;
     let text = told(rt.alloc(), database.as_slice(), b"")?;
     assert_eq!(rt;
@@ -182,7 +219,7 @@ fn tells_what_a_row_expects(rt: HostRuntime) -> Result<(), Fail> {
 }
 
 #[test]
-fn tells_what_a_binding_expects(rt: HostRuntime) -> Result<(), Fail> {
+fn a_fault_tells_what_a_binding_expects(rt: HostRuntime) -> Result<(), Fail> {
     let text = told(rt.alloc(), CAVE_A, b"msg.okay 1")?;
     assert_eq!(rt;
         text.as_str(),
@@ -192,7 +229,7 @@ fn tells_what_a_binding_expects(rt: HostRuntime) -> Result<(), Fail> {
 }
 
 #[test]
-fn tells_what_the_end_expects(rt: HostRuntime) -> Result<(), Fail> {
+fn a_fault_tells_that_the_end_is_missing(rt: HostRuntime) -> Result<(), Fail> {
     let text = told(rt.alloc(), b"1\n-1\n", b"")?;
     assert_eq!(rt;
         text.as_str(),
@@ -202,7 +239,7 @@ fn tells_what_the_end_expects(rt: HostRuntime) -> Result<(), Fail> {
 }
 
 #[test]
-fn wants_nothing_but_memory(rt: HostRuntime) {
+fn want_of_memory_is_told_at_no_line(rt: HostRuntime) {
     match Cave::read(rt.alloc(), CAVE_B, b"msg.ok 1\nplace.y2 3\n") {
         Ok(cave) => assert_eq!(rt; cave.role(Role::Ok), Some(1)),
         Err(fault) => assert_eq!(rt;

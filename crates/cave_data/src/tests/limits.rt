@@ -33,7 +33,7 @@ fn numbers_of(
 }
 
 #[test]
-fn rows_are_limited(rt: HostRuntime) -> Result<(), Fail> {
+fn the_row_past_a_limit_is_at_fault(rt: HostRuntime) -> Result<(), Fail> {
     for (section, line, limit) in [
         (b"3".as_slice(), b"1 1 1".as_slice(), 2000usize),
         (b"4", b"1 GO", 1000),
@@ -51,7 +51,7 @@ fn rows_are_limited(rt: HostRuntime) -> Result<(), Fail> {
 }
 
 #[test]
-fn lists_are_limited(rt: HostRuntime) -> Result<(), Fail> {
+fn a_row_lists_at_most_40_motions_or_places(rt: HostRuntime) -> Result<(), Fail> {
     for (section, start) in [(b"3".as_slice(), b"1 1".as_slice()), (b"9", b"0")] {
         let row = numbers_of(rt.alloc(), start, b"7", 40)?;
         let most = lines_of(rt.alloc(), section, row.as_slice(), 1)?;
@@ -71,24 +71,76 @@ fn lists_are_limited(rt: HostRuntime) -> Result<(), Fail> {
 }
 
 #[test]
-fn texts_are_limited(rt: HostRuntime) -> Result<(), Fail> {
-    let mut row = Vec::from_slice(rt.alloc(), b"1 ")?;
-    for _i in 0..255 {
+fn a_line_of_text_has_at_most_255_bytes(rt: HostRuntime) -> Result<(), Fail> {
+    for (section, number) in [
+        (b"1".as_slice(), b"300 ".as_slice()),
+        (b"2", b"300 "),
+        (b"5", b"99 "),
+        (b"6", b"499 "),
+        (b"10", b"9999 "),
+        (b"12", b"499 "),
+    ] {
+        let mut row = Vec::from_slice(rt.alloc(), number)?;
+        for _i in 0..255 {
+            row.push(b' ')?;
+        }
+        let most = lines_of(rt.alloc(), section, row.as_slice(), 1)?;
+        assert_eq!(rt; refusal(rt.alloc(), most.as_slice(), b""), None);
         row.push(b'x')?;
+        let more = lines_of(rt.alloc(), section, row.as_slice(), 1)?;
+        assert_eq!(rt;
+            refusal(rt.alloc(), more.as_slice(), b""),
+            Some((Cause::OutOfRange, 2))
+        );
     }
-    let most = lines_of(rt.alloc(), b"1", row.as_slice(), 1)?;
+    Ok(())
+}
+
+#[test]
+fn rows_are_counted_over_all_sections_of_a_number(rt: HostRuntime) -> Result<(), Fail> {
+    let mut database = Vec::new(rt.alloc());
+    for _i in 0..50 {
+        database.extend_from_slice(b"10\n\n9999 Master.\n-1\n")?;
+    }
+    let most = [database.as_slice(), b"0\n".as_slice()].concat(rt.alloc())?;
     assert_eq!(rt; refusal(rt.alloc(), most.as_slice(), b""), None);
-    row.push(b'x')?;
-    let more = lines_of(rt.alloc(), b"1", row.as_slice(), 1)?;
+    database.extend_from_slice(b"10\n9999 Master.\n-1\n0\n")?;
     assert_eq!(rt;
-        refusal(rt.alloc(), more.as_slice(), b""),
+        refusal(rt.alloc(), database.as_slice(), b""),
+        Some((Cause::TooManyRows, 202))
+    );
+    Ok(())
+}
+
+#[test]
+fn a_row_past_a_limit_tells_its_lower_fault_first(rt: HostRuntime) -> Result<(), Fail> {
+    for (row, cause) in [
+        (b"1".as_slice(), Cause::TooManyRows),
+        (b"x", Cause::BadNumber),
+        (b"10000", Cause::OutOfRange),
+    ] {
+        let mut database = Vec::from_slice(rt.alloc(), b"10\n")?;
+        for _i in 0..50 {
+            database.extend_from_slice(b"1\n")?;
+        }
+        database.extend_from_slice(row)?;
+        database.extend_from_slice(b"\n-1\n0\n")?;
+        assert_eq!(rt;
+            refusal(rt.alloc(), database.as_slice(), b""),
+            Some((cause, 52))
+        );
+    }
+    let far = numbers_of(rt.alloc(), b"1 1 1000", b"7", 40)?;
+    let far = lines_of(rt.alloc(), b"3", far.as_slice(), 1)?;
+    assert_eq!(rt;
+        refusal(rt.alloc(), far.as_slice(), b""),
         Some((Cause::OutOfRange, 2))
     );
     Ok(())
 }
 
 #[test]
-fn inputs_are_limited(rt: HostRuntime) -> Result<(), Fail> {
+fn each_input_has_at_most_1048576_bytes(rt: HostRuntime) -> Result<(), Fail> {
     let mut text = Vec::from_slice(rt.alloc(), b"0\n")?;
     for _i in 2..1_048_576 {
         text.push(b'\n')?;

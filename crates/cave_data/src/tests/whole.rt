@@ -115,7 +115,7 @@ fn hints_agree(cave: &Cave) -> bool {
 }
 
 #[test]
-fn reads_a_large_database(rt: HostRuntime) -> Result<(), Fail> {
+fn a_database_of_many_lines_is_read_through_each_getter(rt: HostRuntime) -> Result<(), Fail> {
     let text = large(rt.alloc())?;
     let cave = Cave::read(rt.alloc(), text.as_bytes(), b"")?;
     assert!(rt; texts_agree(&cave));
@@ -128,7 +128,7 @@ fn reads_a_large_database(rt: HostRuntime) -> Result<(), Fail> {
 }
 
 #[test]
-fn rates_scores(rt: HostRuntime) -> Result<(), Fail> {
+fn a_score_has_the_first_class_that_reaches_it(rt: HostRuntime) -> Result<(), Fail> {
     let text = large(rt.alloc())?;
     let cave = Cave::read(rt.alloc(), text.as_bytes(), b"")?;
     let first = cave.class_of(0).ok_or("a class")?;
@@ -143,34 +143,8 @@ fn rates_scores(rt: HostRuntime) -> Result<(), Fail> {
     Ok(())
 }
 
-/// Bindings of every role, whose messages count up from 1.
-fn every_role(alloc: Global) -> Result<String, AllocError> {
-    let mut text = String::new(alloc);
-    let mut value = 1u16;
-    for name in &role::ROLE_NAMES {
-        write!(text, "msg.{name} {value}\n")?;
-        value = value.saturating_add(1);
-    }
-    Ok(text)
-}
-
 #[test]
-fn every_name_is_bound_to_its_role(rt: HostRuntime) -> Result<(), Fail> {
-    let text = every_role(rt.alloc())?;
-    let cave = Cave::read(rt.alloc(), b"0", text.as_bytes())?;
-    assert_eq!(rt; cave.role(Role::Answer), Some(1));
-    assert_eq!(rt; cave.role(Role::WrongWay), Some(156));
-    Ok(())
-}
-
-#[test]
-fn names_are_those_of_the_tables(rt: HostRuntime) {
-    assert_eq!(rt; Role::NoDir.name(), "no-dir");
-    assert_eq!(rt; PlaceRole::Dwarfalt.name(), "dwarfalt");
-}
-
-#[test]
-fn splits_lines(rt: HostRuntime) {
+fn a_line_ends_before_its_line_feed(rt: HostRuntime) {
     assert!(rt; split_line(b"").is_none());
     match split_line(b"a\r\n\r") {
         Some((line, rest)) => {
