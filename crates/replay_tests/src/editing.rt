@@ -1,134 +1,215 @@
-use crate::counter::Counter;
-use cave_replay::{Edit, EditFault, Session};
-use cave_words::{Meter, Steps};
+//! Single edits of a counter's game.
+
+use crate::edits::{STAIRS, insert, is_same, letters, replace, stairs};
+use crate::machines::counter::Counter;
+use crate::machines::counts::Counts;
+use crate::sessions::{Counting, copy, expect_edit, expect_lines, expect_refused, open};
+use crate::shown::{expect_spaced, show_the_same, show_the_same_game};
+use cave_replay::{Edit, EditFault};
+use cave_words::Meter;
 use std::alloc::{AllocError, Global};
+use std::process::Abort;
 use std::test::Fail;
 
-fn text(alloc: Global, bytes: &[u8]) -> Result<Vec<u8>, AllocError> {
-    Vec::from_slice(alloc, bytes)
+#[test]
+fn a_replaced_line_is_met_behind_the_next(rt: HostRuntime) -> Result<(), Fail> {
+    let alloc = rt.alloc();
+    let counts = Counts::new();
+    let mut session = open(&rt, alloc, Counter, &counts, 0, STAIRS, 1)?;
+    let (old, new) = (replace(alloc, 5, b"aaaaaa")?, replace(alloc, 5, b"aaaa")?);
+    expect_edit(&rt, &mut session, &new, (5, Some(7), 2), &old)?;
+    assert_eq!(rt; session.state().number, 10);
+    assert_eq!(rt;
+        session
+            .pieces()
+            .get(5)
+            .and_then(|piece| piece.first().copied()),
+        Some(4)
+    );
+    expect_spaced(&rt, &session);
+    expect_edit(&rt, &mut session, &old, (5, Some(7), 2), &new)
 }
 
-// Ten lines, the line of the place i of i + 1 letters.
-const STAIRS: &[u8] =
-    b"a\naa\naaa\naaaa\naaaaa\naaaaaa\naaaaaaa\naaaaaaaa\naaaaaaaaa\naaaaaaaaaa\n";
+/// Edits a counter's game of forty lines in its sixth.
+fn replace_the_sixth(rt: &impl Abort, alloc: Global, every: u32) -> Result<(u32, u32, u32), Fail> {
+    let counts = Counts::new();
+    let mut session = open(rt, alloc, Counter, &counts, 0, &stairs(alloc, 40)?, every)?;
+    let report = session.edit(&replace(alloc, 5, b"aaaa")?, &mut Meter::new())?;
+    assert_eq!(rt; session.state().number, 40);
+    Ok((report.from, report.met.unwrap_or(0), report.played))
+}
 
 #[test]
-fn meets_behind_a_replaced_line(rt: HostRuntime) -> Result<(), Fail> {
-    let mut meter = Meter::new();
-    let mut session = Session::<Counter>::open(rt.alloc(), Counter, 0, STAIRS, 1, &mut meter)?;
-    let report = session.edit(&Edit::Replace(5, text(rt.alloc(), b"aaaa")?), &mut meter)?;
-    assert_eq!(rt; report.from, 5);
-    assert_eq!(rt; report.met, Some(7));
-    assert_eq!(rt; report.played, 2);
-    assert_eq!(rt; meter.used(), 12);
-    assert_eq!(rt; session.pieces().len(), 10);
-    let back = session.edit(&report.inverse, &mut meter)?;
-    assert_eq!(rt; back.met, Some(7));
-    assert!(rt; session.lines() == 10);
+fn a_replay_is_bounded_by_the_distance_of_checkpoints(rt: HostRuntime) -> Result<(), Fail> {
+    let (from, met, played) = replace_the_sixth(&rt, rt.alloc(), 4)?;
+    assert!(rt; 2 <= from && from <= 5, "{from}");
+    assert!(rt; 7 <= met && met <= 10, "{met}");
+    assert!(rt; played <= 8, "{played}");
     Ok(())
 }
 
 #[test]
-fn edits_of_each_kind(rt: HostRuntime) -> Result<(), Fail> {
-    let mut meter = Meter::new();
-    let mut session = Session::<Counter>::open(rt.alloc(), Counter, 0, STAIRS, 4, &mut meter)?;
-    let inserted = session.edit(&Edit::Insert(10, text(rt.alloc(), b"end")?), &mut meter)?;
-    assert_eq!(rt; session.lines(), 11);
-    assert_eq!(rt; *session.state(), 3);
-    let _ = session.edit(&inserted.inverse, &mut meter)?;
-    assert_eq!(rt; *session.state(), 10);
-    let deleted = session.edit(&Edit::Delete(0), &mut meter)?;
-    assert_eq!(rt; session.lines(), 9);
-    let _ = session.edit(&deleted.inverse, &mut meter)?;
-    let reseeded = session.edit(&Edit::Reseed(256), &mut meter)?;
-    assert_eq!(rt; reseeded.met, Some(0));
-    assert_eq!(rt; reseeded.played, 0);
-    assert_eq!(rt; session.seed(), 256);
-    let first = session.edit(&Edit::Reseed(1), &mut meter)?;
-    assert_eq!(rt; first.from, 0);
-    assert_eq!(rt; session.opening().as_slice(), [1].as_slice());
-    Ok(())
-}
-
-#[test]
-fn groups_are_all_or_nothing(rt: HostRuntime) -> Result<(), Fail> {
-    let mut meter = Meter::new();
-    let mut session = Session::<Counter>::open(rt.alloc(), Counter, 0, STAIRS, 1, &mut meter)?;
-    let nothing: [Edit; 0] = [];
-    let empty = session.edit_group(&nothing, &mut meter);
-    assert!(rt; empty.is_err());
-    let both = [Edit::Delete(0), Edit::Delete(9)];
-    match session.edit_group(&both, &mut meter) {
-        Ok(_) => assert!(rt; false),
-        Err(fault) => {
-            assert_eq!(rt; fault.cause, EditFault::NoSuchPlace);
-            assert_eq!(rt; fault.at, 1);
-        }
-    }
-    assert_eq!(rt; session.lines(), 10);
-    let undone = [Edit::Insert(2, text(rt.alloc(), b"x")?), Edit::Delete(2)];
-    let report = session.edit_group(&undone, &mut meter)?;
-    assert_eq!(rt; report.from, 2);
-    assert_eq!(rt; report.met, Some(2));
-    assert_eq!(rt; report.played, 0);
-    assert_eq!(rt; report.inverse.len(), 2);
-    Ok(())
-}
-
-#[test]
-fn meter_borders(rt: HostRuntime) -> Result<(), Fail> {
-    let mut meter = Meter::new();
-    let mut session = Session::<Counter>::open(
-        rt.alloc(),
-        Counter,
-        0,
-        b"a\nb\nc\nd\ne\n",
-        1,
-        &mut meter,
+fn an_inserted_line_moves_those_behind_it(rt: HostRuntime) -> Result<(), Fail> {
+    let alloc = rt.alloc();
+    let counts = Counts::new();
+    let mut session = open(&rt, alloc, Counter, &counts, 0, b"a\naa\naaa\naaaa\n", 1)?;
+    let back = Edit::Delete(2);
+    expect_edit(
+        &rt,
+        &mut session,
+        &insert(alloc, 2, b"zz")?,
+        (2, Some(3), 1),
+        &back,
     )?;
-    let mut short = Meter::starting(u64::MAX - 3);
-    let refused = session.edit(&Edit::Delete(0), &mut short);
-    assert!(rt; refused.err() == Some(EditFault::MeterFull));
-    assert_eq!(rt; session.lines(), 5);
-    let mut enough = Meter::starting(u64::MAX - 4);
-    let _ = session.edit(&Edit::Delete(0), &mut enough)?;
-    assert_eq!(rt; session.lines(), 4);
+    expect_edit(
+        &rt,
+        &mut session,
+        &insert(alloc, 2, b"zzzz")?,
+        (2, Some(4), 2),
+        &back,
+    )?;
+    let lines = [b"a".as_slice(), b"aa", b"zzzz", b"zz", b"aaa", b"aaaa"];
+    expect_lines(&rt, &session, &lines);
+    expect_spaced(&rt, &session);
     Ok(())
 }
 
 #[test]
-fn copies_show_the_same(rt: HostRuntime) -> Result<(), Fail> {
-    let mut meter = Meter::new();
-    let session = Session::<Counter>::open(rt.alloc(), Counter, 9, STAIRS, 3, &mut meter)?;
-    let copy = session.copy(Counter)?;
-    assert_eq!(rt; copy.lines(), session.lines());
-    assert_eq!(rt; copy.checkpoints(), session.checkpoints());
-    assert_eq!(rt; *copy.state(), *session.state());
+fn a_deleted_line_moves_those_behind_it(rt: HostRuntime) -> Result<(), Fail> {
+    let alloc = rt.alloc();
+    let counts = Counts::new();
+    let mut session = open(&rt, alloc, Counter, &counts, 0, b"a\naa\naaa\n", 1)?;
+    let first = insert(alloc, 0, b"a")?;
+    expect_edit(&rt, &mut session, &Edit::Delete(0), (0, Some(1), 1), &first)?;
+    let last = insert(alloc, 1, b"aaa")?;
+    expect_edit(&rt, &mut session, &Edit::Delete(1), (1, None, 0), &last)?;
+    expect_refused(
+        &rt,
+        &mut session,
+        &Edit::Delete(1),
+        9,
+        EditFault::NoSuchPlace,
+    );
+    let only = insert(alloc, 0, b"aa")?;
+    expect_edit(&rt, &mut session, &Edit::Delete(0), (0, None, 0), &only)?;
+    assert_eq!(rt; session.checkpoints(), [0].as_slice());
+    expect_lines(&rt, &session, &[]);
     Ok(())
 }
 
-// Run with one allocation refused, this shows that the refusal changes nothing and that the same edit then gives
-// the report that it gives to a session to which nothing happened.
 #[test]
-fn refused_memory_changes_nothing(rt: HostRuntime) -> Result<(), Fail> {
-    let mut meter = Meter::new();
-    let mut session = Session::<Counter>::open(rt.alloc(), Counter, 0, STAIRS, 1, &mut meter)?;
-    let edit = Edit::Replace(5, text(rt.alloc(), b"aaaa")?);
-    let report = match session.edit(&edit, &mut meter) {
-        Ok(report) => report,
-        Err(fault) => {
-            assert_eq!(rt; fault, EditFault::Memory);
-            assert_eq!(rt; session.lines(), 10);
-            assert_eq!(rt; session.line(5), b"aaaaaa".as_slice());
-            assert_eq!(rt; *session.state(), 10);
-            assert_eq!(rt; session.pieces().len(), 10);
-            session.edit(&edit, &mut meter)?
+fn a_seed_begins_the_game_anew(rt: HostRuntime) -> Result<(), Fail> {
+    let alloc = rt.alloc();
+    let counts = Counts::new();
+    let mut session = open(&rt, alloc, Counter, &counts, 0, STAIRS, 1)?;
+    expect_edit(
+        &rt,
+        &mut session,
+        &Edit::Reseed(256),
+        (0, Some(0), 0),
+        &Edit::Reseed(0),
+    )?;
+    expect_edit(
+        &rt,
+        &mut session,
+        &Edit::Reseed(1),
+        (0, Some(1), 1),
+        &Edit::Reseed(256),
+    )?;
+    let over = Edit::Reseed(2_147_483_648);
+    expect_refused(&rt, &mut session, &over, 99, EditFault::BadSeed);
+    assert_eq!(rt; session.opening().first().copied(), Some(1));
+    assert_eq!(rt; session.seed(), 1);
+    Ok(())
+}
+
+#[test]
+fn a_seed_without_a_line_meets_nothing(rt: HostRuntime) -> Result<(), Fail> {
+    let counts = Counts::new();
+    let mut session = open(&rt, rt.alloc(), Counter, &counts, 0, b"", 1)?;
+    let greatest = Edit::Reseed(2_147_483_647);
+    expect_edit(&rt, &mut session, &greatest, (0, None, 0), &Edit::Reseed(0))?;
+    assert_eq!(rt; session.state().number, 255);
+    Ok(())
+}
+
+/// An edit of each kind, at a place.
+fn edits_at(alloc: Global, at: u32) -> Result<[Edit; 4], AllocError> {
+    Ok([
+        insert(alloc, at, b"new")?,
+        Edit::Delete(at),
+        replace(alloc, at, b"other line")?,
+        Edit::Reseed(77),
+    ])
+}
+
+/// That an edit and then its inverse leave everything as it was, and that the inverse's inverse is the edit.
+fn expect_back(
+    rt: &impl Abort,
+    session: &mut Counting<'_>,
+    old: &Counting<'_>,
+    edit: &Edit,
+) -> Result<(), Fail> {
+    let report = session.edit(edit, &mut Meter::new())?;
+    assert!(rt; !show_the_same_game(session, old), "{edit:?}");
+    expect_spaced(rt, session);
+    let back = session.edit(&report.inverse, &mut Meter::new())?;
+    assert!(rt; is_same(&back.inverse, edit), "{edit:?}");
+    assert!(rt; show_the_same_game(session, old), "{edit:?}");
+    assert!(rt;
+        session.every() > 1 || show_the_same(session, old),
+        "{edit:?}"
+    );
+    expect_spaced(rt, session);
+    Ok(())
+}
+
+#[test]
+fn an_inverse_restores_everything(rt: HostRuntime) -> Result<(), Fail> {
+    let alloc = rt.alloc();
+    for every in [1, 3, 50] {
+        let counts = Counts::new();
+        let mut session = open(&rt, alloc, Counter, &counts, 9, STAIRS, every)?;
+        let old = copy(&session, &counts)?;
+        for at in [0, 4, 6, 9] {
+            for edit in &edits_at(alloc, at)? {
+                expect_back(&rt, &mut session, &old, edit)?;
+            }
         }
-    };
-    assert_eq!(rt; report.from, 5);
-    assert_eq!(rt; report.met, Some(7));
-    assert_eq!(rt; report.played, 2);
-    assert_eq!(rt; session.lines(), 10);
-    assert_eq!(rt; session.line(5), b"aaaa".as_slice());
+        expect_back(&rt, &mut session, &old, &insert(alloc, 10, b"end")?)?;
+    }
     Ok(())
+}
+
+#[test]
+fn a_line_that_may_not_stand_is_refused(rt: HostRuntime) -> Result<(), Fail> {
+    let alloc = rt.alloc();
+    let counts = Counts::new();
+    let mut session = open(&rt, alloc, Counter, &counts, 0, STAIRS, 1)?;
+    let old = copy(&session, &counts)?;
+    let longer = letters(alloc, 256)?;
+    for line in [longer.as_slice(), b"\x7f", b"\x1f", b"a\nb", b"\xc3\xa9"] {
+        for edit in [insert(alloc, 10, line)?, replace(alloc, 0, line)?] {
+            expect_refused(&rt, &mut session, &edit, 99, EditFault::BadLine);
+        }
+        let nowhere = insert(alloc, 11, line)?;
+        expect_refused(&rt, &mut session, &nowhere, 99, EditFault::NoSuchPlace);
+    }
+    assert!(rt; show_the_same(&session, &old));
+    Ok(())
+}
+
+#[test]
+fn a_line_of_255_bytes_may_stand(rt: HostRuntime) -> Result<(), Fail> {
+    let alloc = rt.alloc();
+    let counts = Counts::new();
+    let mut session = open(&rt, alloc, Counter, &counts, 0, b"a\nb", 1)?;
+    let longest = insert(alloc, 0, &letters(alloc, 255)?)?;
+    expect_edit(
+        &rt,
+        &mut session,
+        &longest,
+        (0, Some(2), 2),
+        &Edit::Delete(0),
+    )
 }

@@ -2,8 +2,36 @@
 #![tactic(auto)]
 
 #[cfg(test)]
-mod counter;
+mod copies;
+#[cfg(test)]
+mod costs;
+#[cfg(test)]
+mod dice;
 #[cfg(test)]
 mod editing;
 #[cfg(test)]
+mod edits;
+#[cfg(test)]
+mod groups;
+#[cfg(test)]
+mod limits;
+#[cfg(test)]
+mod machines;
+#[cfg(test)]
+mod meters;
+#[cfg(test)]
 mod opening;
+#[cfg(test)]
+mod plain;
+#[cfg(test)]
+mod random;
+#[cfg(test)]
+mod refused;
+#[cfg(test)]
+mod sessions;
+#[cfg(test)]
+mod shown;
+#[cfg(test)]
+mod ticking;
+#[cfg(test)]
+mod wanted;

@@ -1,52 +1,121 @@
-use crate::counter::Counter;
-use cave_replay::{OpenFault, Session};
+//! What a session is opened with, and what it shows then.
+
+use crate::edits::{flat, letters};
+use crate::machines::counter::Counter;
+use crate::machines::counts::Counts;
+use crate::sessions::{Counting, counter, expect_lines, expect_ticks, open};
+use crate::shown::expect_spaced;
+use cave_replay::OpenFault;
 use cave_words::{Meter, Steps};
+use std::alloc::Global;
+use std::process::Abort;
 use std::test::Fail;
 
 #[test]
-fn opens_and_counts(rt: HostRuntime) -> Result<(), Fail> {
-    let mut meter = Meter::new();
-    let session = Session::<Counter>::open(
-        rt.alloc(),
-        Counter,
-        7,
-        b"a\r\nbcd\n\nab",
-        1,
-        &mut meter,
-    )?;
-    assert_eq!(rt; session.lines(), 4);
-    assert_eq!(rt; *session.state(), 2);
-    assert_eq!(rt; session.opening().as_slice(), [7].as_slice());
+fn a_log_is_cut_into_lines_and_played(rt: HostRuntime) -> Result<(), Fail> {
+    let counts = Counts::new();
+    let log = b"a\r\nbcd\n\nab";
+    let session = open(&rt, rt.alloc(), Counter, &counts, 263, log, 1)?;
+    assert_eq!(rt; (session.seed(), session.every()), (263, 1));
+    expect_lines(&rt, &session, &[b"a".as_slice(), b"bcd", b"", b"ab"]);
+    expect_ticks(&rt, &session, &[0, 1, 2, 2, 3]);
+    for (piece, length) in session.pieces().iter().zip([1, 3, 0, 2]) {
+        assert_eq!(rt; piece.as_slice(), [length].as_slice());
+    }
     assert_eq!(rt; session.pieces().len(), 4);
-    assert_eq!(rt; session.ticks(4), 3);
-    assert_eq!(rt; session.checkpoints()[0], 0);
-    assert_eq!(rt; meter.used(), 4);
+    assert_eq!(rt; session.opening().as_slice(), [7].as_slice());
+    assert_eq!(rt; session.state().number, 2);
+    expect_spaced(&rt, &session);
     Ok(())
 }
 
 #[test]
-fn refuses_in_order(rt: HostRuntime) {
+fn an_empty_log_is_a_game(rt: HostRuntime) -> Result<(), Fail> {
+    let counts = Counts::new();
+    let session = open(&rt, rt.alloc(), Counter, &counts, 0, b"", 50)?;
+    expect_lines(&rt, &session, &[]);
+    expect_ticks(&rt, &session, &[0]);
+    assert_eq!(rt; session.checkpoints(), [0].as_slice());
+    assert_eq!(rt; session.state().number, 0);
+    Ok(())
+}
+
+/// That a log isn't opened, and that no step is taken.
+fn expect_closed(
+    rt: &impl Abort,
+    alloc: Global,
+    seed: u32,
+    log: &[u8],
+    every: u32,
+    fault: OpenFault,
+) {
+    let counts = Counts::new();
     let mut meter = Meter::new();
+    let opened = Counting::open(alloc, counter(&counts), seed, log, every, &mut meter);
+    assert!(rt; opened.err() == Some(fault), "{fault:?}");
+    assert_eq!(rt; (meter.used(), counts.steps()), (0, 0));
+}
+
+#[test]
+fn the_first_fault_of_an_opening_is_told(rt: HostRuntime) -> Result<(), Fail> {
     let alloc = rt.alloc();
-    assert!(rt;
-        Session::<Counter>::open(alloc, Counter, 3_000_000_000, b"\x01", 0, &mut meter).err()
-            == Some(OpenFault::BadEvery)
+    let full = flat(alloc, 65_536)?;
+    let faults = [
+        (OpenFault::BadEvery, b"\x01".as_slice(), 0),
+        (OpenFault::BadEvery, b"\x01".as_slice(), 10_001),
+        (OpenFault::BadLine(2), b"ok\n\x01\n\x02".as_slice(), 10_000),
+        (OpenFault::LogFull, full.as_slice(), 1),
+        (OpenFault::BadSeed, b"ok".as_slice(), 1),
+    ];
+    for (fault, log, every) in faults {
+        expect_closed(&rt, alloc, 2_147_483_648, log, every, fault);
+    }
+    let mut late = full;
+    late.extend_from_slice(b"\x01\n")?;
+    expect_closed(&rt, alloc, 0, &late, 1, OpenFault::BadLine(65_537));
+    Ok(())
+}
+
+#[test]
+fn distances_of_checkpoints_go_from_1_to_10_000(rt: HostRuntime) -> Result<(), Fail> {
+    let alloc = rt.alloc();
+    let log = flat(alloc, 20_001)?;
+    for (every, least) in [(1, 20_001), (10_000, 3)] {
+        let counts = Counts::new();
+        let session = open(&rt, alloc, Counter, &counts, 0, &log, every)?;
+        assert_eq!(rt; session.every(), every);
+        assert!(rt; session.checkpoints().len() >= least, "{every}");
+        expect_spaced(&rt, &session);
+    }
+    Ok(())
+}
+
+#[test]
+fn a_full_log_and_the_greatest_seed_are_taken(rt: HostRuntime) -> Result<(), Fail> {
+    let counts = Counts::new();
+    let log = flat(rt.alloc(), 65_535)?;
+    let session = open(&rt, rt.alloc(), Counter, &counts, 2_147_483_647, &log, 50)?;
+    assert_eq!(rt; session.lines(), 65_535);
+    assert_eq!(rt; session.opening().as_slice(), [255].as_slice());
+    expect_spaced(&rt, &session);
+    Ok(())
+}
+
+#[test]
+fn a_line_has_at_most_255_bytes(rt: HostRuntime) -> Result<(), Fail> {
+    let alloc = rt.alloc();
+    let counts = Counts::new();
+    let mut longest = letters(alloc, 255)?;
+    longest.extend_from_slice(b"\r\n")?;
+    let session = open(&rt, alloc, Counter, &counts, 0, &longest, 1)?;
+    assert_eq!(rt; session.state().number, 255);
+    expect_closed(
+        &rt,
+        alloc,
+        0,
+        &letters(alloc, 256)?,
+        1,
+        OpenFault::BadLine(1),
     );
-    assert!(rt;
-        Session::<Counter>::open(
-            alloc,
-            Counter,
-            3_000_000_000,
-            b"ok\n\x01",
-            10_000,
-            &mut meter
-        )
-        .err()
-            == Some(OpenFault::BadLine(2))
-    );
-    assert!(rt;
-        Session::<Counter>::open(alloc, Counter, 3_000_000_000, b"ok", 10_000, &mut meter).err()
-            == Some(OpenFault::BadSeed)
-    );
-    assert_eq!(rt; meter.used(), 0);
+    Ok(())
 }

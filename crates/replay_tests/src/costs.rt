@@ -1,0 +1,93 @@
+//! What an edit of a long log costs, in counts.
+
+use crate::edits::{flat, insert};
+use crate::machines::counter::Counter;
+use crate::machines::counts::Counts;
+use crate::machines::hasher::Hasher;
+use crate::machines::rule::Rule;
+use crate::sessions::open;
+use cave_words::Meter;
+use std::alloc::Global;
+use std::process::Abort;
+use std::test::Fail;
+
+/// The place in the middle of a long log that is a checkpoint.
+const LENGTHS: [(usize, u32); 3] = [(600, 300), (6_000, 3_000), (60_000, 30_000)];
+
+/// What one edit does: lines played, states compared, pieces copied.
+#[derive(Clone, Copy, Debug, Drop, PartialEq, Eq)]
+struct Cost {
+    steps: u64,
+    comparisons: u64,
+    copies: u64,
+}
+
+/// What it costs to insert a line at a checkpoint in the middle of a log of one-letter lines, and where the plays met.
+fn cost_of_an_insert<R: Rule>(
+    rt: &impl Abort,
+    alloc: Global,
+    rule: R,
+    lines: usize,
+    at: u32,
+    line: &[u8],
+) -> Result<(Cost, Option<u32>), Fail> {
+    let counts = Counts::new();
+    let mut session = open(rt, alloc, rule, &counts, 0, &flat(alloc, lines)?, 50)?;
+    assert!(rt; session.checkpoints().contains(&at));
+    let (steps, comparisons) = (counts.steps(), counts.comparisons());
+    let edit = insert(alloc, at, line)?;
+    let report = session.edit(&edit, &mut Meter::new())?;
+    let cost = Cost {
+        steps: counts.steps().saturating_sub(steps),
+        comparisons: counts.comparisons().saturating_sub(comparisons),
+        copies: counts.copies(),
+    };
+    drop(session);
+    Ok((cost, report.met))
+}
+
+#[test]
+fn an_edit_that_is_met_after_a_line_plays_a_line(rt: HostRuntime) -> Result<(), Fail> {
+    for (lines, at) in LENGTHS {
+        let (cost, met) = cost_of_an_insert(&rt, rt.alloc(), Counter, lines, at, b"b")?;
+        let wanted = Cost {
+            steps: 1,
+            comparisons: 1,
+            copies: 0,
+        };
+        assert_eq!(rt; cost, wanted, "{lines}");
+        assert_eq!(rt; met, Some(at.saturating_add(1)));
+    }
+    Ok(())
+}
+
+#[test]
+fn an_edit_that_is_met_at_the_next_checkpoint_plays_up_to_it(rt: HostRuntime) -> Result<(), Fail> {
+    for (lines, at) in LENGTHS {
+        let (cost, met) = cost_of_an_insert(&rt, rt.alloc(), Counter, lines, at, b"bb")?;
+        let wanted = Cost {
+            steps: 51,
+            comparisons: 2,
+            copies: 0,
+        };
+        assert_eq!(rt; cost, wanted, "{lines}");
+        assert_eq!(rt; met, Some(at.saturating_add(51)));
+    }
+    Ok(())
+}
+
+#[test]
+fn an_edit_that_is_never_met_plays_to_the_end(rt: HostRuntime) -> Result<(), Fail> {
+    for (lines, at) in LENGTHS {
+        let (cost, met) = cost_of_an_insert(&rt, rt.alloc(), Hasher, lines, at, b"b")?;
+        let behind = (lines as u64).saturating_sub(u64::from(at));
+        let wanted = Cost {
+            steps: behind.saturating_add(1),
+            comparisons: behind / 50,
+            copies: 0,
+        };
+        assert_eq!(rt; cost, wanted, "{lines}");
+        assert_eq!(rt; met, None);
+    }
+    Ok(())
+}

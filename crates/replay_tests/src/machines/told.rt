@@ -1,0 +1,80 @@
+ghost use Rattle.std.specs.Prelude.{◌≡◌, ℕ, List, [], ◌∷◌};
+
+use crate::machines::counts::Counts;
+use crate::machines::rule::Rule;
+use crate::machines::state::State;
+use cave_replay::{Machine, Started, Stepped};
+use cave_words::Meter;
+use std::alloc::{AllocError, Global};
+
+/// A machine of plain rules that counts what it does.
+#[derive(Drop)]
+pub(crate) struct Told<'a, R> {
+    pub(crate) rule: R,
+    pub(crate) counts: &'a Counts,
+}
+
+impl<'a, R: Rule> Machine for Told<'a, R> {
+    ghost use Rattle.replay_tests.specs.Telling.{telling, same_numbers};
+
+    type State = State<'a>;
+
+    type Piece = Vec<usize>;
+
+    type Meter = Meter;
+
+    ghost Meaning = { ℕ };
+
+    ghost Text = { List ℕ };
+
+    ghost meaning = { λ state. state.number };
+
+    ghost text = { λ piece. piece.items };
+
+    ghost rules = { λ _. telling R.begun R.after R.ticked };
+
+    fn start(
+        &self,
+        alloc: Global,
+        seed: u32,
+    ) -> Result<Started<State<'a>, Vec<usize>>, AllocError> {
+        let number = R::begun(seed);
+        let mut piece = Vec::new(alloc);
+        piece.push(number)?;
+        let state = State {
+            number,
+            counts: self.counts,
+        };
+        Ok(Started { state, piece })
+    }
+
+    fn step(
+        &self,
+        alloc: Global,
+        state: &State<'a>,
+        line: &[u8],
+        meter: &mut Meter,
+    ) -> Result<Stepped<State<'a>, Vec<usize>>, AllocError> {
+        meter.tick();
+        self.counts.count_step();
+        let number = R::after(state.number, line);
+        let mut piece = Vec::new(alloc);
+        piece.push(number)?;
+        Ok(Stepped {
+            state: State {
+                number,
+                counts: self.counts,
+            },
+            piece,
+            ticked: R::ticked(state.number, line),
+        })
+    }
+
+    fn copy_piece(&self, alloc: Global, piece: &Vec<usize>) -> Result<Vec<usize>, AllocError> {
+        self.counts.count_copy();
+        let copy = Vec::from_slice(alloc, piece)?;
+        Ok(copy)
+    }
+
+    ghost exact = { λ a b _ _. same_numbers a.number b.number };
+}

@@ -1,0 +1,177 @@
+//! Random edits and groups, each beside a play from scratch.
+
+use crate::dice::Dice;
+use crate::machines::counter::Counter;
+use crate::machines::counts::Counts;
+use crate::machines::hasher::Hasher;
+use crate::machines::rule::Rule;
+use crate::machines::walker::Walker;
+use crate::plain::Plain;
+use crate::sessions::{Play, open};
+use crate::shown::{expect_shown, expect_spaced};
+use crate::wanted::{Plan, agree, from, make_plan, met};
+use cave_replay::{Edit, GroupFault, GroupReport};
+use cave_words::{Meter, Steps};
+use std::alloc::{AllocError, Global};
+use std::process::Abort;
+use std::test::Fail;
+
+/// Lines of a log, and the text of it.
+fn first_log(alloc: Global, dice: &mut Dice) -> Result<(Vec<Vec<u8>>, Vec<u8>), AllocError> {
+    let mut lines = Vec::new(alloc);
+    let mut text = Vec::new(alloc);
+    for _ in 0..40 {
+        let mut line = Vec::new(alloc);
+        for _ in 0..dice.below(4) {
+            line.push(b'c')?;
+        }
+        text.extend_from_slice(&line)?;
+        text.push(b'\n')?;
+        lines.push(line)?;
+    }
+    Ok((lines, text))
+}
+
+/// Makes a group of edits; a group of one, by the call for one edit.
+fn make<R: Rule>(
+    rt: &impl Abort,
+    alloc: Global,
+    session: &mut Play<'_, R>,
+    edits: &[Edit],
+    meter: &mut Meter,
+) -> Result<Result<GroupReport, GroupFault>, AllocError> {
+    assert!(rt; edits.len() < 100);
+    let [edit] = edits else {
+        return Ok(session.edit_group(edits, meter));
+    };
+    match session.edit(edit, meter) {
+        Ok(report) => {
+            let mut inverse = Vec::new(alloc);
+            inverse.push(report.inverse)?;
+            Ok(Ok(GroupReport {
+                from: report.from,
+                met: report.met,
+                played: report.played,
+                inverse,
+            }))
+        }
+        Err(cause) => Ok(Err(GroupFault { cause, at: 0 })),
+    }
+}
+
+/// That a report says what plain code says of the two plays.
+fn expect_report(
+    rt: &impl Abort,
+    report: &GroupReport,
+    places: &[u32],
+    every: u32,
+    old: &Plain,
+    new: &Plain,
+    plan: Plan,
+) {
+    let (lines, first) = (new.lines.len(), from(places, plan));
+    assert_eq!(rt; lines, plan.lines);
+    assert_eq!(rt; report.from, first);
+    let place = met(places, old, new, plan);
+    assert_eq!(rt; report.met.map(|place| place as usize), place);
+    let played = place.unwrap_or(lines).saturating_sub(first as usize);
+    assert_eq!(rt; report.played as usize, played);
+    let distance = agree(old, new, plan).saturating_sub(plan.head);
+    assert!(rt; played <= distance.saturating_add((every as usize).saturating_mul(2)));
+}
+
+/// Makes a group in a session and in the plain game, and gives the plain game then and what takes the group back.
+fn edit_both<R: Rule>(
+    rt: &impl Abort,
+    alloc: Global,
+    session: &mut Play<'_, R>,
+    counts: &Counts,
+    old: Plain,
+    edits: &[Edit],
+    left: u64,
+) -> Result<(Plain, Vec<Edit>), Fail> {
+    let places = Vec::from_slice(alloc, session.checkpoints())?;
+    let wanted = make_plan(edits, old.lines.len(), left);
+    let mut meter = Meter::starting(u64::MAX - left);
+    let steps = counts.steps();
+    let answer = make(rt, alloc, session, edits, &mut meter)?;
+    let played = meter.used().saturating_sub(u64::MAX - left);
+    assert_eq!(rt; counts.steps().saturating_sub(steps), played);
+    match (answer, wanted) {
+        (Ok(report), Ok(plan)) => {
+            let new = old.edited::<R>(alloc, edits)?;
+            assert_eq!(rt; u64::from(report.played), played);
+            expect_report(rt, &report, &places, session.every(), &old, &new, plan);
+            assert!(rt; new.edited::<R>(alloc, &report.inverse)?.is(&old));
+            Ok((new, report.inverse))
+        }
+        (Err(fault), Err(wanted)) => {
+            assert_eq!(rt; fault, wanted);
+            assert_eq!(rt; played, 0);
+            assert_eq!(rt; session.checkpoints(), places.as_slice());
+            Ok((old, Vec::new(alloc)))
+        }
+        (answer, _) => {
+            assert!(rt; false, "answered {answer:?}");
+            Ok((old, Vec::new(alloc)))
+        }
+    }
+}
+
+/// Edits a session at a distance of checkpoints twenty times.
+fn edit_often<R: Rule>(
+    rt: &impl Abort,
+    alloc: Global,
+    rule: R,
+    every: u32,
+    dice: &mut Dice,
+) -> Result<(), Fail> {
+    let counts = Counts::new();
+    let (lines, text) = first_log(alloc, dice)?;
+    let mut plain = Plain::play::<R>(alloc, 3, lines)?;
+    let mut session = open(rt, alloc, rule, &counts, 3, &text, every)?;
+    expect_shown(rt, &session, &plain);
+    expect_spaced(rt, &session);
+    let mut back = Vec::new(alloc);
+    for _ in 0..20 {
+        let taken_back = dice.below(4) == 0;
+        let edits = if taken_back {
+            back
+        } else {
+            dice.edits(alloc, plain.lines.len())?
+        };
+        let left = dice.left(plain.lines.len());
+        (plain, back) = edit_both(rt, alloc, &mut session, &counts, plain, &edits, left)?;
+        expect_shown(rt, &session, &plain);
+        expect_spaced(rt, &session);
+    }
+    drop(session);
+    Ok(())
+}
+
+#[test]
+fn a_thousand_edits_of_a_counter(rt: HostRuntime) -> Result<(), Fail> {
+    let mut dice = Dice(1);
+    for every in 1..=50 {
+        edit_often(&rt, rt.alloc(), Counter, every, &mut dice)?;
+    }
+    Ok(())
+}
+
+#[test]
+fn a_thousand_edits_of_a_machine_that_remembers(rt: HostRuntime) -> Result<(), Fail> {
+    let mut dice = Dice(2);
+    for every in 1..=50 {
+        edit_often(&rt, rt.alloc(), Hasher, every, &mut dice)?;
+    }
+    Ok(())
+}
+
+#[test]
+fn a_thousand_edits_of_a_machine_that_ticks_at_times(rt: HostRuntime) -> Result<(), Fail> {
+    let mut dice = Dice(3);
+    for every in 1..=50 {
+        edit_often(&rt, rt.alloc(), Walker, every, &mut dice)?;
+    }
+    Ok(())
+}
