@@ -1,9 +1,9 @@
 -- The bytes of an input, where only a front of them was read.
-use Rattle.std.proofs.Common.{◌≡◌, ℕ, ◌+◌, ◌<◌, ◌≤◌, List, [], ◌++◌, length, None, Some, sym, ap, ◌∙◌, refl, arith, append-nil, append_assoc, length-append, le_refl}
+use Rattle.std.proofs.Common.{ℕ, ◌≤◌, List, [], ◌++◌, length, None, Some, sym, ap, ◌∙◌, refl, arith, append-nil, length-append, le_refl}
 use Rattle.std.specs.declared.option.Option.{Option}
 use Rattle.std.specs.Io.KnownBytes.{Consumes, IsAtEnd}
 use Rattle.std.proofs.KnownBytes.{Consumes-trans}
-use Rattle.cave_play.specs.Input.{Says, IsInputFault, Gives, Exceeds}
+use Rattle.cave_play.specs.Input.{Says, IsInputFault, Exceeds}
 use Rattle.cave_play.specs.declared.input.InputFault.{InputFault}
 use Rattle.cave_play.specs.declared.input.InputFault.TheVariants.{Unreadable, TooLarge, Memory}
 

@@ -1,15 +1,12 @@
 -- The fault that the inputs of a run decide.
-use Rattle.std.proofs.Common.{◌≡◌, ℕ, ◌<◌, ◌≤◌, Bool, true, false, List, length, None, Some, Ok, Err, MatchOption, nat_lt, inl, inr, true≢false, option_map, subst, sym, ap, ◌∙◌, refl, arith, lt-ltb, le-ltb}
+use Rattle.std.proofs.Common.{◌≡◌, ℕ, ◌<◌, ◌≤◌, Bool, true, false, List, length, None, Some, Ok, Err, MatchOption, nat_lt, inl, inr, option_map, subst, sym, ap, ◌∙◌, refl, lt-ltb, le-ltb}
 use Rattle.std.specs.Prelude.{◌⊎◌, ◌||◌, ◌==◌, if◌then◌else◌, Result, IfErr}
 use Rattle.std.specs.declared.option.Option.{Option}
 use Rattle.std.specs.Str.Lines.{lines}
 use Rattle.std.proofs.lemmas.Result.{IfErr-at_err}
-use Rattle.cave_data.proofs.ReadLemmas.{faultless, fault_database_large, fault_bindings_large}
+use Rattle.cave_data.proofs.ReadLemmas.{right_exactly, fault_database_large, fault_bindings_large}
 use Rattle.cave_data.specs.CaveView.{CaveView}
 use Rattle.cave_data.specs.Reading.{Reads}
-use Rattle.cave_data.specs.declared.error.CaveError.{CaveError}
-use Rattle.cave_data.specs.declared.error.Cause.TheVariants as cause
-use Rattle.cave_data.specs.declared.error.Spot.TheVariants as spot
 use Rattle.cave_replay.specs.Opening.{open_fault, first_bad_line, or_size_fault}
 use Rattle.cave_replay.specs.declared.fault.OpenFault.{OpenFault}
 use Rattle.cave_replay.specs.declared.fault.OpenFault.TheVariants as session
@@ -19,13 +16,11 @@ use Rattle.cave_script.specs.Script.{script_of}
 use Rattle.cave_script.specs.Shown.{IsFaultOf}
 use Rattle.cave_script.specs.declared.fault.ScriptFault.{ScriptFault}
 use Rattle.cave_script.specs.declared.fault.ScriptFault.TheVariants.{Malformed, Memory}
-use Rattle.cave_script.specs.declared.fault.Flaw.{Flaw}
 use Rattle.cave_play.specs.Judged.{seed_fault, every_fault, inputs_fault, lines_fault, log_fault, script_fault, first_malformed, script_refusal, or_too_many, opening_fault}
 use Rattle.cave_play.specs.Run.{or_else, too_large, IsOutside, IsDecided, Judges}
 use Rattle.cave_play.specs.declared.input.TheConstants.{MOST_BYTES}
 use Rattle.cave_play.specs.declared.fault.Input.TheVariants as input
 use Rattle.cave_play.specs.declared.fault.LogFault.TheVariants as log
-use Rattle.cave_play.specs.declared.fault.ScriptFault.TheVariants as script
 use Rattle.cave_play.specs.declared.fault.PlayFault.{PlayFault}
 use Rattle.cave_play.specs.declared.fault.PlayFault.TheVariants as fault
 
@@ -58,7 +53,7 @@ IsDecided-bindings database bindings found fits (inr (large, is)) =
 
 -- a database and bindings that describe a cave have no fault
 pub inputs_fault-read : (database bindings : List ℕ) (cave : CaveView) → Reads database bindings cave → inputs_fault database bindings ≡ None
-inputs_fault-read database bindings cave reads = ap (option_map (λ error. fault.Cave error)) (faultless database bindings cave reads)
+inputs_fault-read database bindings cave reads = ap (option_map (λ error. fault.Cave error)) ((right_exactly database bindings).0 reads.right)
 
 -- ---- a log
 

@@ -1,13 +1,13 @@
 -- What a run prints, and how a run that failed ends.
-use Rattle.std.proofs.Common.{◌≡◌, ℕ, ◌<◌, ◌≤◌, Bool, true, false, List, length, None, Some, Ok, Err, nat_lt, MatchResult, take, inl, inr, option_map, subst, sym, ap, ◌∙◌, refl, arith}
-use Rattle.std.specs.Prelude.{◌⊎◌, ◌||◌, ◌==◌, if◌then◌else◌, Result}
+use Rattle.std.proofs.Common.{◌≡◌, ℕ, Bool, true, false, List, length, None, Some, Ok, Err, nat_lt, MatchResult, take, inl, inr, option_map, subst, refl}
+use Rattle.std.specs.Prelude.{◌||◌, ◌==◌, if◌then◌else◌, Result}
 use Rattle.std.specs.declared.option.Option.{Option}
 use Rattle.std.specs.Io.KnownBytes.{Appends, Keeps}
 use Rattle.std.specs.Str.Lines.{lines}
 use Rattle.cave_data.specs.CaveView.{CaveView}
 use Rattle.cave_data.specs.Reading.{fault as cave_fault}
 use Rattle.cave_data.specs.declared.error.CaveError.{CaveError}
-use Rattle.cave_replay.specs.Play.{Game, game_of, IsPlay}
+use Rattle.cave_replay.specs.Play.{Game, IsPlay}
 use Rattle.cave_replay.specs.Opening.{first_bad_line}
 use Rattle.cave_replay.specs.declared.fault.TheConstants.{GREATEST_SEED, MOST_EVERY, MOST_LINES}
 use Rattle.cave_world.specs.declared.part.Part.{Part}

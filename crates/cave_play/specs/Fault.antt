@@ -1,6 +1,5 @@
 -- What a fault of a run says.
 use Rattle.std.specs.Prelude.{ℕ, Option, None, Some, nat_lt, if◌then◌else◌}
-use Rattle.cave_data.specs.declared.error.CaveError.{CaveError}
 use Rattle.cave_data.specs.declared.error.Spot.{Spot}
 use Rattle.cave_data.specs.declared.error.Spot.TheVariants as spot
 use Rattle.cave_play.specs.declared.fault.Input.{Input}

@@ -1,6 +1,6 @@
 -- What is known of an input before it is read, and what a reading of it answers.
-use Rattle.std.specs.Prelude.{◌≡◌, ℕ, ◌+◌, ◌<◌, ⊤, Bool, true, false, List, [], ◌++◌, length, Option, None, Some}
-use Rattle.std.specs.Io.KnownBytes.{Consumes, IsAtEnd, Keeps}
+use Rattle.std.specs.Prelude.{◌≡◌, ℕ, ◌+◌, ◌<◌, ⊤, Bool, true, false, List, ◌++◌, length, Option, None, Some}
+use Rattle.std.specs.Io.KnownBytes.{Consumes, IsAtEnd}
 use Rattle.cave_play.specs.declared.input.TheConstants.{MOST_BYTES}
 use Rattle.cave_play.specs.declared.input.InputFault.{InputFault}
 use Rattle.cave_play.specs.declared.input.InputFault.TheVariants.{Unreadable, TooLarge, Memory}

@@ -1,5 +1,5 @@
 -- The fault that each input of a run decides.
-use Rattle.std.specs.Prelude.{ℕ, List, length, nat_lt, ◌||◌, ◌==◌, if◌then◌else◌, Option, None, Some, option_map, Result, Ok, Err}
+use Rattle.std.specs.Prelude.{ℕ, List, length, nat_lt, ◌||◌, ◌==◌, if◌then◌else◌, Option, None, Some, option_map, Result, Err}
 use Rattle.std.specs.Str.Lines.{lines}
 use Rattle.cave_data.specs.Reading.{fault as cave_fault}
 use Rattle.cave_replay.specs.Opening.{first_bad_line}

@@ -1,10 +1,8 @@
 -- The order of a run's faults, and what a run leaves behind.
-use Rattle.std.specs.Prelude.{◌≡◌, ℕ, ◌<◌, ◌≤◌, ◌⊎◌, ⊤, List, length, take, Option, None, Some, Result, Ok, Err}
+use Rattle.std.specs.Prelude.{◌≡◌, ℕ, ◌⊎◌, ⊤, List, take, Option, None, Some, Result, Ok, Err}
 use Rattle.std.specs.Io.KnownBytes.{Appends, Keeps}
-use Rattle.cave_data.specs.declared.error.CaveError.{CaveError}
 use Rattle.cave_data.specs.declared.error.Cause.TheVariants as cause
 use Rattle.cave_data.specs.declared.error.Spot.TheVariants as spot
-use Rattle.cave_play.specs.declared.input.TheConstants.{MOST_BYTES}
 use Rattle.cave_play.specs.declared.fault.Input.{Input}
 use Rattle.cave_play.specs.declared.fault.Input.TheVariants as input
 use Rattle.cave_play.specs.declared.fault.LogFault.TheVariants as log

@@ -1,5 +1,5 @@
-use Rattle.std.proofs.Common.{sym, ap, ◌∙◌, arith}
-use Rattle.cave_play.proofs.EditLemmas.{reports-more, reports-end, edited_all-more, edited_all-end}
+use Rattle.std.proofs.Common.{◌∙◌}
+use Rattle.cave_play.proofs.EditLemmas.{reports-more, edited_all-more}
 use Rattle.cave_play.proofs.edits.apply.Goals as goal
 
 pub loop-item-preserved : goal.loop-item-preserved

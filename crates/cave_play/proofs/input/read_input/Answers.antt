@@ -1,4 +1,3 @@
-use Rattle.std.proofs.KnownBytes.{Consumes-nil}
 use Rattle.cave_play.proofs.InputLemmas.{Says-some, IsInputFault-from}
 use Rattle.cave_play.proofs.input.read_input.Goals as goal
 

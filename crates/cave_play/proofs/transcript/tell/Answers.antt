@@ -1,4 +1,4 @@
-use Rattle.std.proofs.Common.{◌≡◌, ◌++◌, length, map, get_or, drop, ap, sym, ◌∙◌, arith, rules}
+use Rattle.std.proofs.Common.{◌++◌, length, map, get_or, ap, sym, ◌∙◌, arith, rules}
 use Rattle.std.proofs.lemmas.Result.{on_ok_weaker}
 use Rattle.cave_play.specs.CaveRules.{rendered}
 use Rattle.cave_play.specs.Output.{play_text}
