@@ -2,7 +2,7 @@
 use Rattle.std.proofs.Common.{◌≡◌, ℕ, ◌+◌, ◌*◌, ◌/◌, ◌<◌, ◌≤◌, Bool, true, false, cond, eqb, leb, ltb, ◌||◌, ◌&&◌, List, [], ◌∷◌, ◌++◌, length, reverse, Option, Some, None, option_map, unwrap_or, is_some, refl, sym, ap, ◌∙◌, arith}
 use Rattle.std.specs.List.{filter_map, flat_map, list_all, list_any}
 use Rattle.std.specs.FinMap.{get}
-use Rattle.std.proofs.lemmas.Bool.{and_parts, ne_eqb, le-leb, ltb-true}
+use Rattle.std.proofs.lemmas.Bool.{and_parts, ne_eqb, le-leb}
 use Rattle.std.proofs.lemmas.Bool.Decides.{nat_tests}
 use Rattle.std.proofs.lemmas.List.{append_assoc, append-nil, reverse-append, reverse-reverse, length-reverse}
 use Rattle.std.proofs.lemmas.List.Folds.{list_all-append}
@@ -15,6 +15,7 @@ use Rattle.cave_data.specs.SectionRows.{object_line_of, long_line_of, short_line
 use Rattle.cave_data.specs.Reads.{BeginWithObject, Holds}
 use Rattle.cave_data.specs.Laws.{has_number, IsLastRun, AreLastRuns, Laws}
 use Rattle.cave_data.proofs.FoldLemmas.{reverse-cons}
+use Rattle.cave_data.proofs.RightLemmas.{is_object, stays_object}
 
 -- Runs.
 
@@ -130,19 +131,14 @@ same_key object n line low high some = at (names_object line) refl some where
 keys_below : (object n : ℕ) (lines : List TextLine) → 1 ≤ n → n ≤ 99 → 1 ≤ object → list_any (has_number n) (by_object object lines) ≡ list_any (has_number n) lines
 keys_below object n [] low high some = refl
 keys_below object n (line ∷ lines) low high some =
-    let more : 1 ≤ object_behind object line = stays object line some in
+    let more : 1 ≤ object_behind object line = stays_object object line some in
     ap (λ b. b || list_any (has_number n) (by_object (object_behind object line) lines)) (same_key object n line low high more)
-    ∙ ap (λ b. eqb line.number n || b) (keys_below (object_behind object line) n lines low high more) where
-      stays : (object : ℕ) (line : TextLine) → 1 ≤ object → 1 ≤ object_behind object line
-      stays object line h = at (names_object line) refl where
-        at : (b : Bool) → names_object line ≡ b → 1 ≤ cond b line.number object
-        at true e = ltb-true 0 line.number (and_parts (ltb 0 line.number) (leb line.number 99) e).0
-        at false e = h
+    ∙ ap (λ b. eqb line.number n || b) (keys_below (object_behind object line) n lines low high more)
 
 keys_from : (n : ℕ) (lines : List TextLine) → 1 ≤ n → n ≤ 99 → BeginWithObject lines → list_any (has_number n) (by_object 0 lines) ≡ list_any (has_number n) lines
 keys_from n [] low high begin = refl
 keys_from n (line ∷ lines) low high begin =
-    let named : 1 ≤ line.number = ltb-true 0 line.number (and_parts (ltb 0 line.number) (leb line.number 99) begin).0 in
+    let named : 1 ≤ line.number = is_object line begin in
     let behind : object_behind 0 line ≡ line.number = ap (λ b. cond b line.number 0) begin in
     let some : 1 ≤ object_behind 0 line = omega (arith, named, behind) in
     ap (λ b. b || list_any (has_number n) (by_object (object_behind 0 line) lines)) (same_key 0 n line low high some)

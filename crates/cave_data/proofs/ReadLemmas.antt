@@ -34,17 +34,13 @@ use Rattle.cave_data.proofs.BindingLemmas.{roles_bound, places_bound, letters_bo
 use Rattle.cave_data.proofs.CaveLemmas.{get-with_defaults}
 use Rattle.cave_data.specs.Laws.{Laws}
 use Rattle.cave_data.proofs.LawLemmas.{laws_hold}
-use Rattle.cave_data.proofs.RightLemmas.{line_right, line_together, none_together, line_fine, binding_right, binding_fine}
+use Rattle.cave_data.proofs.RightLemmas.{neither, line_right, line_together, none_together, line_fine, binding_right, binding_fine}
 
 -- Lines of which none is at fault.
 
 none_parts : (o : Option Cause) (tell : Cause → CaveError) (rest : Option CaveError) → option_or (option_map tell o) rest ≡ None → (o ≡ None) × (rest ≡ None)
 none_parts None tell rest e = (refl, e)
 none_parts (Some cause) tell rest e = cc
-
-none_either : {X : Type 0} (a b : Option X) → option_or a b ≡ None → (a ≡ None) × (b ≡ None)
-none_either None b e = (refl, e)
-none_either (Some x) b e = cc
 
 module _ (cause : List (List ℕ) → List ℕ → Option Cause) (tell : List (List ℕ) → Cause → CaveError) (ending : List (List ℕ) → Option CaveError) where
   abbrev Right : List (List ℕ) → List (List ℕ) → Type 0
@@ -225,7 +221,7 @@ faultless_right database bindings e = large (ltb 1048576 (length database)) refl
   large true is w are = let told = fault_database_large database bindings is in cc
   large false is true are = let told = fault_bindings_large database bindings is are in cc
   large false is false are =
-      let parts = none_either (first_fault [] (lines database)) (first_binding_fault [] (lines bindings)) (sym (both_small database bindings is are) ∙ e) in
+      let parts = neither (first_fault [] (lines database)) (first_binding_fault [] (lines bindings)) (sym (both_small database bindings is are) ∙ e) in
       record {
         small = ltb-false _ _ is;
         bindings_small = ltb-false _ _ are;

@@ -24,7 +24,7 @@ use Rattle.cave_data.specs.Reading.{BindsAnew, IsRightBinding}
 use Rattle.cave_data.proofs.StepLemmas.{entries-append, entries_push}
 
 -- neither is there where their choice isn't
-neither : {X : Type 0} (a b : Option X) → option_or a b ≡ None → (a ≡ None) × (b ≡ None)
+pub neither : {X : Type 0} (a b : Option X) → option_or a b ≡ None → (a ≡ None) × (b ≡ None)
 neither None b e = (refl, e)
 neither (Some x) b e = cc
 
@@ -149,11 +149,11 @@ some_less rows more may = record {
   objects = begin_less (filter_map object_line_of rows) (filter_map object_line_of more) (subst BeginWithObject (filter_map-append object_line_of rows more) may.objects);
 }
 
-is_object : (line : TextLine) → names_object line ≡ true → 1 ≤ line.number
+pub is_object : (line : TextLine) → names_object line ≡ true → 1 ≤ line.number
 is_object line e = ltb-true 0 line.number (and_parts (ltb 0 line.number) (leb line.number 99) e).0
 
 -- behind an object there is one
-stays_object : (object : ℕ) (line : TextLine) → 1 ≤ object → 1 ≤ object_behind object line
+pub stays_object : (object : ℕ) (line : TextLine) → 1 ≤ object → 1 ≤ object_behind object line
 stays_object object line h = at (names_object line) refl where
   at : (b : Bool) → names_object line ≡ b → 1 ≤ cond b line.number object
   at true e = is_object line e

@@ -241,7 +241,12 @@ fn a_fault_tells_that_the_end_is_missing(rt: HostRuntime) -> Result<(), Fail> {
 #[test]
 fn want_of_memory_is_told_at_no_line(rt: HostRuntime) {
     match Cave::read(rt.alloc(), CAVE_B, b"msg.ok 1\nplace.y2 3\n") {
-        Ok(cave) => assert_eq!(rt; cave.role(Role::Ok), Some(1)),
+        Ok(cave) => {
+            assert!(rt; texts_agree(&cave));
+            assert!(rt; cave.words().len() == 11);
+            assert_eq!(rt; cave.role(Role::Ok), Some(1));
+            assert_eq!(rt; cave.place(PlaceRole::Y2), Some(3));
+        }
         Err(fault) => assert_eq!(rt;
             fault,
             CaveError {

@@ -1,10 +1,10 @@
 use super::*;
 use std::test::Fail;
 
-/// A database of more than 1,500 lines, whose rows tell their own numbers.
-fn large(alloc: Global) -> Result<String, AllocError> {
+/// The sections with texts, whose rows tell their own numbers.
+fn large_texts(alloc: Global) -> Result<String, AllocError> {
     let mut out = String::from_str(alloc, "6\n")?;
-    for n in 1u16..200 {
+    for n in 1u16..499 {
         write!(out, "{n} message {n}\n{n} goes on\n")?;
     }
     out.push_str("-1\n1\n")?;
@@ -15,23 +15,33 @@ fn large(alloc: Global) -> Result<String, AllocError> {
     for n in 1u16..301 {
         write!(out, "{n} short {n}\n")?;
     }
-    out.push_str("-1\n3\n")?;
-    for n in 1u16..301 {
-        write!(out, "{n} {n} 2 3\n{n} 100{n} 4\n")?;
-    }
-    out.push_str("-1\n4\n")?;
-    for n in 1u16..100 {
-        write!(out, "{n} go{n}\n")?;
-    }
     out.push_str("-1\n5\n")?;
     for n in 1u16..100 {
         write!(out, "{n} object {n}\n000 here {n}\n9900 bent {n}\n")?;
     }
-    out.push_str("-1\n7\n")?;
-    for n in 1u16..101 {
-        write!(out, "{n} {n} -1\n")?;
+    out.push_str("-1\n10\n")?;
+    for n in 1u16..51 {
+        write!(out, "{n} class {n}\n")?;
     }
-    out.push_str("-1\n8\n")?;
+    out.push_str("-1\n12\n499 magic\n-1\n")?;
+    Ok(out)
+}
+
+/// The sections with numbers.
+fn large_numbers(alloc: Global) -> Result<String, AllocError> {
+    let mut out = String::from_str(alloc, "3\n")?;
+    for n in 1u16..301 {
+        write!(out, "{n} {n} 2 3\n{n} 100{n} 4\n")?;
+    }
+    out.push_str("-1\n4\n")?;
+    for n in 1u16..1000 {
+        write!(out, "{n} go{n}\n")?;
+    }
+    out.push_str("1001 lamp\n-1\n7\n")?;
+    for n in 1u16..101 {
+        write!(out, "{n} {n} 20\n{n} {n} -1\n")?;
+    }
+    out.push_str("50 7 300\n-1\n8\n")?;
     for n in 1u16..100 {
         write!(out, "{n} {n}\n")?;
     }
@@ -39,15 +49,19 @@ fn large(alloc: Global) -> Result<String, AllocError> {
     for n in 0u16..21 {
         write!(out, "{n} 1 300\n")?;
     }
-    out.push_str("-1\n10\n")?;
-    for n in 1u16..51 {
-        write!(out, "{n} class {n}\n")?;
-    }
     out.push_str("-1\n11\n")?;
     for n in 1u16..21 {
         write!(out, "{n} 1{n} 2 3{n} 4{n}\n")?;
     }
-    out.push_str("-1\n12\n499 magic\n-1\n0\n")?;
+    out.push_str("-1\n0\n")?;
+    Ok(out)
+}
+
+/// A database of more than 1,500 lines, whose rows tell their own numbers.
+fn large(alloc: Global) -> Result<String, AllocError> {
+    let mut out = large_texts(alloc)?;
+    let numbers = large_numbers(alloc)?;
+    out.push_str(numbers.as_str())?;
     Ok(out)
 }
 
@@ -56,8 +70,8 @@ fn texts_agree(cave: &Cave) -> bool {
     cave.long(300) == Some(b"long 300\n".as_slice())
         && cave.long(301).is_none()
         && cave.short(1) == Some(b"short 1\n".as_slice())
-        && cave.message(199) == Some(b"message 199\ngoes on\n".as_slice())
-        && cave.message(200).is_none()
+        && cave.message(498) == Some(b"message 498\ngoes on\n".as_slice())
+        && cave.message(499).is_none()
 }
 
 /// Texts of objects of the large database.
@@ -72,6 +86,7 @@ fn objects_agree(cave: &Cave) -> bool {
 /// Numbers of the large database.
 fn numbers_agree(cave: &Cave) -> bool {
     cave.placement(100) == (100, -1)
+        && cave.placement(50) == (7, 300)
         && cave.placement(101) == (0, 0)
         && cave.default_of(99) == 99
         && cave.default_of(100) == 0
@@ -96,11 +111,26 @@ fn ways_agree(cave: &Cave) -> bool {
 fn words_agree(cave: &Cave) -> bool {
     let words = cave.words();
     match words.get(41) {
-        Some(row) => words.len() == 99
+        Some(row) => words.len() == 1000
             && row.number == 42
             && row.word.as_slice() == b"go42".as_slice(),
         None => false,
     }
+}
+
+/// What bindings say beside the large database.
+fn bindings_agree(cave: &Cave) -> bool {
+    cave.role(Role::Ok) == Some(498)
+        && cave.role(Role::Welcome).is_none()
+        && cave.place(PlaceRole::Start) == Some(300)
+        && cave.place(PlaceRole::Deep) == Some(15)
+        && cave.place(PlaceRole::Chest).is_none()
+        && cave.letters() == 7
+}
+
+/// How many lines a text has.
+fn lines_in(text: &[u8]) -> usize {
+    text.iter().filter(|byte| **byte == b'\n').count()
 }
 
 /// Hints of the large database.
@@ -117,13 +147,19 @@ fn hints_agree(cave: &Cave) -> bool {
 #[test]
 fn a_database_of_many_lines_is_read_through_each_getter(rt: HostRuntime) -> Result<(), Fail> {
     let text = large(rt.alloc())?;
-    let cave = Cave::read(rt.alloc(), text.as_bytes(), b"")?;
+    assert!(rt; lines_in(text.as_bytes()) > 1500);
+    let cave = Cave::read(
+        rt.alloc(),
+        text.as_bytes(),
+        b"msg.ok 498\nplace.start 300\nnum.letters 7\n",
+    )?;
     assert!(rt; texts_agree(&cave));
     assert!(rt; objects_agree(&cave));
     assert!(rt; numbers_agree(&cave));
     assert!(rt; ways_agree(&cave));
     assert!(rt; words_agree(&cave));
     assert!(rt; hints_agree(&cave));
+    assert!(rt; bindings_agree(&cave));
     Ok(())
 }
 
