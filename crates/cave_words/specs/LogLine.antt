@@ -3,12 +3,11 @@ use Rattle.std.specs.List.{list_all}
 use Rattle.cave_words.specs.Bytes.{is_blank, is_digit, in_front, behind, number_of}
 use Rattle.cave_words.specs.declared.log_line.LogLine.{LogLine}
 use Rattle.cave_words.specs.declared.log_line.LogLine.TheVariants.{Comment, Blank, Seed, Input}
-use Rattle.cave_words.specs.declared.log_line.TheConstants.{COMMENT_MARK, LARGEST_SEED, SEED_DIGITS}
 
--- the line begins with the mark of a comment
+-- the line begins with a `#`
 abbrev pub is_comment : List ℕ → Bool
 is_comment [] = false
-is_comment (byte ∷ bytes) = byte == COMMENT_MARK
+is_comment (byte ∷ bytes) = byte == 35
 
 -- the line has blanks alone
 abbrev pub is_blank_line : List ℕ → Bool
@@ -24,9 +23,9 @@ pub record IsSeedLine (line : List ℕ) (seed : ℕ) : Type 0 where
   pub all_digits : IsTrue (list_all is_digit digits)
   pub blank_after : IsTrue (list_all is_blank after)
   pub some_digits : 1 ≤ length digits
-  pub few_digits : length digits ≤ SEED_DIGITS
+  pub few_digits : length digits ≤ 10
   pub value : number_of digits ≡ seed
-  pub in_range : seed ≤ LARGEST_SEED
+  pub in_range : seed ≤ 2147483647
 
 -- the line is of this kind
 abbrev pub IsLogLine : List ℕ → LogLine → Type 0
@@ -38,7 +37,7 @@ IsLogLine line Input = (¬ IsTrue (is_comment line)) × (¬ IsTrue (is_blank_lin
 -- the seed that digits and the blanks behind them name
 unfoldable pub seed_in : List ℕ → List ℕ → Option ℕ
 seed_in digits after =
-    if nat_lt 0 (length digits) && nat_le (length digits) SEED_DIGITS && list_all is_blank after && nat_le (number_of digits) LARGEST_SEED
+    if nat_lt 0 (length digits) && nat_le (length digits) 10 && list_all is_blank after && nat_le (number_of digits) 2147483647
     then Some (number_of digits) else None
 
 -- the seed that the line names, if it is a seed line

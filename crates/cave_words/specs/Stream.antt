@@ -1,17 +1,16 @@
 use Rattle.std.specs.Prelude.{ℕ, ◌+◌, ◌*◌, ◌/◌, ◌%◌, Bool, nat_lt}
-use Rattle.cave_words.specs.declared.stream.TheConstants.{STREAM_SIZE}
 
 -- where the stream of a seed begins
 abbrev pub seeded : ℕ → ℕ
-seeded seed = seed % STREAM_SIZE
+seeded seed = seed % 1048576
 
 -- the number below n that is drawn where the stream stands at x
 abbrev pub drawn : ℕ → ℕ → ℕ
-drawn n x = n * x / STREAM_SIZE
+drawn n x = n * x / 1048576
 
 -- where the stream goes on from x
 abbrev pub next : ℕ → ℕ
-next x = (1093 * x + 221587) % STREAM_SIZE
+next x = (1093 * x + 221587) % 1048576
 
 -- what happens in p of 100 cases happens where the stream stands at x
 abbrev pub is_within_percent : ℕ → ℕ → Bool

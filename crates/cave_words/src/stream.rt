@@ -15,13 +15,12 @@ pub struct Stream {
 
 impl Model for Stream {
     ghost use Rattle.std.specs.Prelude.{ℕ, ◌<◌};
-    ghost use Rattle.cave_words.specs.declared.stream.TheConstants.{STREAM_SIZE};
 
     ghost Value = { ℕ };
 
     ghost view = { λ s. s.x };
 
-    ghost invariant = { λ s. s.x < STREAM_SIZE };
+    ghost invariant = { λ s. s.x < 1048576 };
 
     ghost inverse = { λ x. record { x = x } };
 }
