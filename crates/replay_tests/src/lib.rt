@@ -32,6 +32,8 @@ mod sessions;
 #[cfg(test)]
 mod shown;
 #[cfg(test)]
+mod texts;
+#[cfg(test)]
 mod ticking;
 #[cfg(test)]
 mod wanted;

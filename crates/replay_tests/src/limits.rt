@@ -3,7 +3,7 @@
 use crate::edits::{flat, insert, replace};
 use crate::machines::counter::Counter;
 use crate::machines::counts::Counts;
-use crate::sessions::{Counting, copy, expect_group_refused, expect_refused, open};
+use crate::sessions::{Counting, copy, expect_group, expect_group_refused, expect_refused, open};
 use crate::shown::show_the_same;
 use cave_replay::{Edit, EditFault};
 use cave_words::{Meter, Steps};
@@ -95,14 +95,9 @@ fn a_full_log_can_be_changed(rt: HostRuntime) -> Result<(), Fail> {
     let alloc = rt.alloc();
     let counts = Counts::new();
     let mut session = open(&rt, alloc, Counter, &counts, 0, &flat(alloc, 65_535)?, 50)?;
-    let swap = [
-        Edit::Delete(65_534),
-        insert(alloc, 0, b"bbb")?,
-        replace(alloc, 65_534, b"last")?,
-    ];
-    let _ = session.edit_group(&swap, &mut Meter::new())?;
+    let edits = [Edit::Delete(65_534), insert(alloc, 0, b"bbb")?];
+    let back = [Edit::Delete(0), insert(alloc, 65_534, b"a")?];
+    expect_group(&rt, &mut session, &edits, (0, None, 65_535), &back)?;
     assert_eq!(rt; session.lines(), 65_535);
-    assert_eq!(rt; session.line(0), b"bbb".as_slice());
-    assert_eq!(rt; session.state().number, 4);
     Ok(())
 }
