@@ -1,6 +1,7 @@
 //! Plays and checks with bindings.
 
-use crate::caves::{CAVE, ROUND, check, play_bound, with_lines};
+use crate::caves::{CAVE, ROUND, with_lines};
+use crate::runs::{check, play_bound};
 use cave_data::{Cause, CaveError, Spot};
 use cave_play::fault::PlayFault;
 use std::test::Fail;

@@ -1,8 +1,5 @@
-//! The shipped caves, as bytes, and runs over them by readers that give what they have.
+//! The shipped caves, as bytes, and logs that are played in them.
 
-use crate::streams::Sink;
-use cave_play::fault::PlayFault;
-use cave_play::run::{run_check, run_edit, run_play};
 use std::alloc::{AllocError, Global};
 
 /// A road, a hut and a cellar.
@@ -53,69 +50,3 @@ pub const LONG_LOG: &[u8] = b"no\nin\ntake lamp\non\ndown\n";
 /// What playing the long log prints.
 pub const LONG_TEXT: &str =
     "[welcome]\n\n> no\nYou stand on a road.\n\n> in\nYou are in a hut.\nA lamp is here.\n\n> take lamp\n\n> on\n\n> down\n[dark]\n-- turns 4\n";
-
-/// How a run ended, and what it wrote.
-#[derive(Drop)]
-pub struct Run {
-    pub ended: Result<(), PlayFault>,
-    pub output: Vec<u8>,
-}
-
-impl Run {
-    /// The run that ended so, and wrote into the sink.
-    pub fn of(ended: Result<(), PlayFault>, sink: Sink) -> Run {
-        let Sink { taken, .. } = sink;
-        Run {
-            ended,
-            output: taken,
-        }
-    }
-
-    /// Whether the run went well and wrote this.
-    pub fn wrote(&self, output: &[u8]) -> bool {
-        self.ended == Ok(()) && self.output.as_slice() == output
-    }
-
-    /// Whether the run failed so and wrote nothing.
-    pub fn failed(&self, fault: PlayFault) -> bool {
-        self.ended == Err(fault) && self.output.is_empty()
-    }
-}
-
-/// Checks a cave.
-pub fn check(alloc: Global, cave: &[u8], bind: &[u8]) -> Run {
-    let (mut cave, mut bind) = (cave, bind);
-    let mut sink = Sink::new(alloc);
-    let ended = run_check(alloc, &mut cave, &mut bind, &mut sink);
-    Run::of(ended, sink)
-}
-
-/// Plays a log without bindings, from seed 0.
-pub fn play(alloc: Global, cave: &[u8], log: &[u8]) -> Run {
-    play_bound(alloc, cave, b"", log)
-}
-
-/// Plays a log with bindings, from seed 0.
-pub fn play_bound(alloc: Global, cave: &[u8], bind: &[u8], log: &[u8]) -> Run {
-    let (mut cave, mut bind, mut log) = (cave, bind, log);
-    let mut sink = Sink::new(alloc);
-    let ended = run_play(alloc, &mut cave, &mut bind, &mut log, 0, &mut sink);
-    Run::of(ended, sink)
-}
-
-/// Edits a log by a script, from seed 0.
-pub fn edit(alloc: Global, cave: &[u8], log: &[u8], script: &[u8], every: u32) -> Run {
-    let (mut cave, mut bind, mut log, mut script) = (cave, b"".as_slice(), log, script);
-    let mut sink = Sink::new(alloc);
-    let ended = run_edit(
-        alloc,
-        &mut cave,
-        &mut bind,
-        &mut log,
-        &mut script,
-        0,
-        every,
-        &mut sink,
-    );
-    Run::of(ended, sink)
-}

@@ -1,6 +1,7 @@
 //! Edits of a log by scripts, byte by byte.
 
-use crate::caves::{CAVE, LOG, LONG_LOG, LONG_TEXT, edit, play};
+use crate::caves::{CAVE, LOG, LONG_LOG, LONG_TEXT};
+use crate::runs::{edit, play};
 use std::test::Fail;
 
 #[test]

@@ -1,6 +1,7 @@
 //! What the program tells of each fault, and the status that it then ends with.
 
-use crate::caves::{CAVE, check, with_line};
+use crate::caves::{CAVE, with_line};
+use crate::runs::check;
 use cave_data::{Cause, CaveError, Spot};
 use cave_play::fault::{Complaint, Input, LogFault, PlayFault, ScriptFault};
 use cave_script::Flaw;

@@ -4,12 +4,10 @@
 #[cfg(test)]
 mod bindings;
 pub mod caves;
-pub mod commands;
 #[cfg(test)]
 mod edits;
 #[cfg(test)]
 mod faults;
-pub mod feeds;
 #[cfg(test)]
 mod inputs;
 #[cfg(test)]
@@ -20,6 +18,7 @@ mod memory;
 mod plays;
 #[cfg(test)]
 mod readers;
+pub mod runs;
 #[cfg(test)]
 mod scripts;
 pub mod streams;

@@ -1,12 +1,11 @@
 //! How much the inputs of a run may have.
 
-use crate::caves::{CAVE, LONG_LOG, LONG_TEXT, Run, edit, play};
-use crate::feeds::{Feeds, INPUTS};
-use crate::streams::{Sink, Source};
+use crate::caves::{CAVE, LONG_LOG, LONG_TEXT};
+use crate::runs::{Command, Feeds, INPUTS, Run, edit, play};
+use crate::streams::Source;
 use cave_data::{Cause, CaveError, Spot};
 use cave_play::fault::{Input, LogFault, PlayFault, ScriptFault};
 use cave_play::input::MOST_BYTES;
-use cave_play::run::run_play;
 use std::alloc::{AllocError, Global};
 use std::test::Fail;
 
@@ -30,7 +29,9 @@ fn a_reader_without_end_is_asked_for_one_byte_too_many(rt: HostRuntime) {
     for input in INPUTS {
         let mut feeds = Feeds::with(input, Source::endless());
         assert!(rt;
-            feeds.edit(rt.alloc()).failed(too_large(input)),
+            feeds
+                .run(Command::Edit, rt.alloc())
+                .failed(too_large(input)),
             "{input:?}"
         );
         assert_eq!(rt; feeds.asks(input), 1_048_577);
@@ -41,7 +42,11 @@ fn a_reader_without_end_is_asked_for_one_byte_too_many(rt: HostRuntime) {
 fn a_database_that_is_too_large_is_refused_before_its_bindings_are_read(rt: HostRuntime) {
     let mut feeds = Feeds::with(Input::Cave, Source::endless());
     feeds.put(Input::Bindings, Source::broken());
-    assert!(rt; feeds.check(rt.alloc()).failed(too_large(Input::Cave)));
+    assert!(rt;
+        feeds
+            .run(Command::Check, rt.alloc())
+            .failed(too_large(Input::Cave))
+    );
     assert_eq!(rt; feeds.bind.asks, 0);
 }
 
@@ -58,13 +63,12 @@ fn filled(alloc: Global, text: &[u8], size: usize) -> Result<Vec<u8>, AllocError
 fn inputs_of_the_greatest_size_are_read(rt: HostRuntime) -> Result<(), Fail> {
     let cave = filled(rt.alloc(), CAVE, MOST_BYTES)?;
     let comments = filled(rt.alloc(), b"", MOST_BYTES)?;
-    let mut feeds = Feeds {
-        cave: Source::of(&cave),
-        bind: Source::of(&comments),
-        log: Source::of(&comments),
-        script: Source::of(&comments),
-    };
-    assert!(rt; feeds.edit(rt.alloc()).wrote(b"[welcome]\n-- turns 0\n"));
+    let mut feeds = Feeds::of(&cave, &comments, &comments, &comments);
+    assert!(rt;
+        feeds
+            .run(Command::Edit, rt.alloc())
+            .wrote(b"[welcome]\n-- turns 0\n")
+    );
     Ok(())
 }
 
@@ -83,7 +87,7 @@ fn inputs_of_one_byte_more_are_refused(rt: HostRuntime) -> Result<(), Fail> {
         } else {
             &comments
         };
-        let run = Feeds::with(input, Source::of(bytes)).edit(rt.alloc());
+        let run = Feeds::with(input, Source::of(bytes)).run(Command::Edit, rt.alloc());
         assert!(rt; run.failed(too_large(input)), "{input:?}");
         assert_eq!(rt; too_large(input).status(), status);
     }
@@ -144,10 +148,9 @@ fn lines_of_a_log_have_a_length(rt: HostRuntime) -> Result<(), Fail> {
 
 /// Plays a log of one line from a seed.
 fn play_from(alloc: Global, seed: u32) -> Run {
-    let (mut cave, mut bind, mut log) = (CAVE, b"".as_slice(), b"no\n".as_slice());
-    let mut sink = Sink::new(alloc);
-    let ended = run_play(alloc, &mut cave, &mut bind, &mut log, seed, &mut sink);
-    Run::of(ended, sink)
+    let mut feeds = Feeds::of(CAVE, b"", b"no\n", b"");
+    feeds.seed = seed;
+    feeds.run(Command::Play, alloc)
 }
 
 #[test]

@@ -1,6 +1,6 @@
 //! Runs whose allocations are refused: `bench/refuse` refuses each in turn, and the gate none.
 
-use crate::commands::Command;
+use crate::runs::{Command, Feeds};
 use crate::streams::Sink;
 use cave_play::fault::PlayFault;
 use std::alloc::Global;
@@ -11,7 +11,7 @@ fn expect_all_or_want_of_memory(rt: &impl Abort, alloc: Global, command: Command
     let Ok(mut sink) = Sink::with_room(alloc, 4_096) else {
         return;
     };
-    match command.run(alloc, &mut sink) {
+    match Feeds::usual().run_into(command, alloc, &mut sink) {
         Ok(()) => assert!(rt; !sink.taken.is_empty()),
         Err(fault) => {
             assert_eq!(rt; fault, PlayFault::Memory);

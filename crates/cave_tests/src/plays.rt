@@ -1,6 +1,7 @@
 //! Plays of the shipped cave, byte by byte.
 
-use crate::caves::{CAVE, LOG, check, play};
+use crate::caves::{CAVE, LOG};
+use crate::runs::{check, play};
 use cave_data::Cause;
 use cave_play::fault::{LogFault, PlayFault};
 use std::alloc::{AllocError, Global};

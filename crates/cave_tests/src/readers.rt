@@ -1,7 +1,7 @@
 //! Runs whose readers fail, and the order in which inputs are read and judged.
 
-use crate::caves::LONG_TEXT;
-use crate::feeds::{Feeds, INPUTS};
+use crate::caves::{CAVE, LONG_LOG, LONG_TEXT};
+use crate::runs::{Command, Feeds, INPUTS};
 use crate::streams::Source;
 use cave_data::{Cause, CaveError, Spot};
 use cave_play::fault::{Input, LogFault, PlayFault, ScriptFault};
@@ -21,14 +21,14 @@ fn a_reader_that_fails_at_its_first_ask_is_named(rt: HostRuntime) {
     for (number, input) in INPUTS.iter().copied().enumerate() {
         let fault = PlayFault::Read(input);
         assert_eq!(rt; fault.status(), 5);
-        let edited = Feeds::with(input, Source::broken()).edit(alloc);
+        let edited = Feeds::with(input, Source::broken()).run(Command::Edit, alloc);
         assert!(rt; edited.failed(fault), "{input:?}");
         if number < 3 {
-            let played = Feeds::with(input, Source::broken()).play(alloc);
+            let played = Feeds::with(input, Source::broken()).run(Command::Play, alloc);
             assert!(rt; played.failed(fault), "{input:?}");
         }
         if number < 2 {
-            let checked = Feeds::with(input, Source::broken()).check(alloc);
+            let checked = Feeds::with(input, Source::broken()).run(Command::Check, alloc);
             assert!(rt; checked.failed(fault), "{input:?}");
         }
     }
@@ -37,12 +37,14 @@ fn a_reader_that_fails_at_its_first_ask_is_named(rt: HostRuntime) {
 #[test]
 fn the_first_reader_that_fails_is_named_and_no_later_one_is_asked(rt: HostRuntime) {
     for (first, input) in INPUTS.iter().copied().enumerate() {
-        let mut feeds = Feeds::new();
+        let mut feeds = Feeds::usual();
         for later in INPUTS.iter().skip(first) {
             feeds.put(*later, Source::broken());
         }
         assert!(rt;
-            feeds.edit(rt.alloc()).failed(PlayFault::Read(input)),
+            feeds
+                .run(Command::Edit, rt.alloc())
+                .failed(PlayFault::Read(input)),
             "{input:?}"
         );
         assert_eq!(rt; feeds.asks(input), 1);
@@ -57,16 +59,20 @@ fn a_cave_is_judged_when_its_bindings_are_read_too(rt: HostRuntime) {
     let alloc = rt.alloc();
     let mut feeds = Feeds::with(Input::Cave, Source::of(b""));
     feeds.put(Input::Log, Source::broken());
-    let run = feeds.play(alloc);
+    let run = feeds.run(Command::Play, alloc);
     assert!(rt; run.failed(EMPTY));
     assert_eq!(rt; EMPTY.status(), 1);
     assert_eq!(rt; feeds.log.asks, 0);
     let mut feeds = Feeds::with(Input::Cave, Source::of(b""));
     feeds.put(Input::Bindings, Source::of(b"msg.okay 1\n"));
-    assert!(rt; feeds.edit(alloc).failed(EMPTY));
+    assert!(rt; feeds.run(Command::Edit, alloc).failed(EMPTY));
     let mut feeds = Feeds::with(Input::Cave, Source::of(b""));
     feeds.put(Input::Bindings, Source::broken());
-    assert!(rt; feeds.check(alloc).failed(PlayFault::Read(Input::Bindings)));
+    assert!(rt;
+        feeds
+            .run(Command::Check, alloc)
+            .failed(PlayFault::Read(Input::Bindings))
+    );
 }
 
 #[test]
@@ -75,22 +81,22 @@ fn a_log_is_judged_before_a_script_is_read(rt: HostRuntime) {
     let bad = PlayFault::Log(LogFault::BadLine(1));
     let mut feeds = Feeds::with(Input::Log, Source::of(b"\x7f"));
     feeds.put(Input::Script, Source::broken());
-    assert!(rt; feeds.edit(alloc).failed(bad));
+    assert!(rt; feeds.run(Command::Edit, alloc).failed(bad));
     assert_eq!(rt; feeds.script.asks, 0);
     let mut feeds = Feeds::with(Input::Script, Source::of(b"begone"));
     let malformed = PlayFault::Script(ScriptFault::Malformed(1, Flaw::NoEdit));
-    assert!(rt; feeds.edit(alloc).failed(malformed));
+    assert!(rt; feeds.run(Command::Edit, alloc).failed(malformed));
 }
 
 #[test]
 fn readers_that_give_one_byte_at_a_time_give_all(rt: HostRuntime) -> Result<(), Fail> {
-    let mut feeds = Feeds::new();
+    let mut feeds = Feeds::of(CAVE, b"", LONG_LOG, b"insert 2 # note\n");
     feeds.cave.piece = 1;
     feeds.bind.piece = 1;
     feeds.log.piece = 1;
     feeds.script.piece = 1;
     let want = format!(in rt.alloc(); "line 1: ok\n{LONG_TEXT}")?;
-    assert!(rt; feeds.edit(rt.alloc()).wrote(want.as_bytes()));
+    assert!(rt; feeds.run(Command::Edit, rt.alloc()).wrote(want.as_bytes()));
     assert_eq!(rt; feeds.script.asks, 17);
     Ok(())
 }

@@ -1,6 +1,7 @@
 //! Scripts that are well formed or not, as a run takes them.
 
-use crate::caves::{CAVE, LOG, LONG_LOG, edit};
+use crate::caves::{CAVE, LOG, LONG_LOG};
+use crate::runs::edit;
 use cave_play::fault::{PlayFault, ScriptFault};
 use cave_script::Flaw;
 use std::test::Fail;

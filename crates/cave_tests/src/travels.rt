@@ -1,6 +1,7 @@
 //! Travel and what it says, in caves that have a few lines more.
 
-use crate::caves::{CAVE, ROUND, Run, play, play_bound, with_lines};
+use crate::caves::{CAVE, ROUND, with_lines};
+use crate::runs::{Run, play, play_bound};
 use std::alloc::{AllocError, Global};
 use std::test::Fail;
 

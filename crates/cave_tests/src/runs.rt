@@ -1,0 +1,163 @@
+//! Runs of the program over inputs from sources that can be made to misbehave.
+
+use crate::caves::{CAVE, LONG_LOG};
+use crate::streams::{Sink, Source};
+use cave_play::fault::{Input, PlayFault};
+use cave_play::run::{run_check, run_edit, run_play};
+use std::alloc::Global;
+
+/// What the program can be asked to do.
+#[derive(Clone, Copy, Debug)]
+pub enum Command {
+    Check,
+    Play,
+    Edit,
+}
+
+/// Each command.
+pub const COMMANDS: [Command; 3] = [Command::Check, Command::Play, Command::Edit];
+
+/// Each input, in the order in which they are read.
+pub const INPUTS: [Input; 4] = [Input::Cave, Input::Bindings, Input::Log, Input::Script];
+
+/// A script of an edit, a refused one and a group.
+pub const SCRIPT: &[u8] = b"insert 2 # note\ndelete 9\nbegin\nreplace 1 IN\ndelete 3\nend\n";
+
+/// How a run ended, and what it wrote.
+#[derive(Drop)]
+pub struct Run {
+    pub ended: Result<(), PlayFault>,
+    pub output: Vec<u8>,
+}
+
+impl Run {
+    /// Whether the run went well and wrote this.
+    pub fn wrote(&self, output: &[u8]) -> bool {
+        self.ended == Ok(()) && self.output.as_slice() == output
+    }
+
+    /// Whether the run failed so and wrote nothing.
+    pub fn failed(&self, fault: PlayFault) -> bool {
+        self.ended == Err(fault) && self.output.is_empty()
+    }
+}
+
+/// The inputs of a run.
+#[derive(Drop)]
+pub struct Feeds<'a> {
+    pub cave: Source<'a>,
+    pub bind: Source<'a>,
+    pub log: Source<'a>,
+    pub script: Source<'a>,
+    pub seed: u32,
+    pub every: u32,
+}
+
+impl<'a> Feeds<'a> {
+    /// Inputs that give what they have, with seed 0 and a checkpoint at each line.
+    pub fn of(cave: &'a [u8], bind: &'a [u8], log: &'a [u8], script: &'a [u8]) -> Feeds<'a> {
+        Feeds {
+            cave: Source::of(cave),
+            bind: Source::of(bind),
+            log: Source::of(log),
+            script: Source::of(script),
+            seed: 0,
+            every: 1,
+        }
+    }
+
+    /// The first cave without bindings, a log and a script.
+    pub fn usual() -> Feeds<'a> {
+        Feeds::of(CAVE, b"", LONG_LOG, SCRIPT)
+    }
+
+    /// The same with another source for an input.
+    pub fn with(input: Input, source: Source<'a>) -> Feeds<'a> {
+        let mut feeds = Feeds::usual();
+        feeds.put(input, source);
+        feeds
+    }
+
+    /// Puts another source in the place of an input's.
+    pub fn put(&mut self, input: Input, source: Source<'a>) {
+        match input {
+            Input::Cave => self.cave = source,
+            Input::Bindings => self.bind = source,
+            Input::Log => self.log = source,
+            Input::Script => self.script = source,
+        }
+    }
+
+    /// How often the source of an input was asked.
+    pub fn asks(&self, input: Input) -> u64 {
+        match input {
+            Input::Cave => self.cave.asks,
+            Input::Bindings => self.bind.asks,
+            Input::Log => self.log.asks,
+            Input::Script => self.script.asks,
+        }
+    }
+
+    /// Does what is asked for, into a sink.
+    pub fn run_into(
+        &mut self,
+        command: Command,
+        alloc: Global,
+        sink: &mut Sink,
+    ) -> Result<(), PlayFault> {
+        match command {
+            Command::Check => run_check(alloc, &mut self.cave, &mut self.bind, sink),
+            Command::Play => run_play(
+                alloc,
+                &mut self.cave,
+                &mut self.bind,
+                &mut self.log,
+                self.seed,
+                sink,
+            ),
+            Command::Edit => run_edit(
+                alloc,
+                &mut self.cave,
+                &mut self.bind,
+                &mut self.log,
+                &mut self.script,
+                self.seed,
+                self.every,
+                sink,
+            ),
+        }
+    }
+
+    /// Does what is asked for, into a sink that takes all.
+    pub fn run(&mut self, command: Command, alloc: Global) -> Run {
+        let mut sink = Sink::new(alloc);
+        let ended = self.run_into(command, alloc, &mut sink);
+        let Sink { taken, .. } = sink;
+        Run {
+            ended,
+            output: taken,
+        }
+    }
+}
+
+/// Checks a cave.
+pub fn check(alloc: Global, cave: &[u8], bind: &[u8]) -> Run {
+    Feeds::of(cave, bind, b"", b"").run(Command::Check, alloc)
+}
+
+/// Plays a log without bindings, from seed 0.
+pub fn play(alloc: Global, cave: &[u8], log: &[u8]) -> Run {
+    play_bound(alloc, cave, b"", log)
+}
+
+/// Plays a log with bindings, from seed 0.
+pub fn play_bound(alloc: Global, cave: &[u8], bind: &[u8], log: &[u8]) -> Run {
+    Feeds::of(cave, bind, log, b"").run(Command::Play, alloc)
+}
+
+/// Edits a log by a script, from seed 0.
+pub fn edit(alloc: Global, cave: &[u8], log: &[u8], script: &[u8], every: u32) -> Run {
+    let mut feeds = Feeds::of(cave, b"", log, script);
+    feeds.every = every;
+    feeds.run(Command::Edit, alloc)
+}
