@@ -81,14 +81,18 @@ fn edit(rt: &HostRuntime, names: Names<'_>, seed: u32, every: u32) -> Result<(),
     )
 }
 
-/// Tells how a run ended, in one line where it failed, and gives the status that goes with it.
-fn tell(rt: &HostRuntime, names: Names<'_>, ended: Result<(), PlayFault>) -> ExitCode {
-    let Err(fault) = ended else {
-        return ExitCode::SUCCESS;
-    };
-    let file = fault.input().map(|input| names.of(input));
-    let _ = eprintln!(rt; "{}", Complaint {fault, file});
+/// Tells a fault in one line, and gives the status that goes with it.
+fn fail(rt: &HostRuntime, fault: PlayFault, file: Option<&str>) -> ExitCode {
+    let _ = eprintln!(rt; "{}", Complaint { fault, file });
     ExitCode::from(fault.status())
+}
+
+/// Tells how a run ended, and gives the status that goes with it.
+fn tell(rt: &HostRuntime, names: Names<'_>, ended: Result<(), PlayFault>) -> ExitCode {
+    match ended {
+        Ok(()) => ExitCode::SUCCESS,
+        Err(fault) => fail(rt, fault, fault.input().map(|input| names.of(input))),
+    }
 }
 
 /// Does what a command line asks for.
@@ -122,7 +126,7 @@ fn run(rt: &HostRuntime, line: Line<'_>) -> ExitCode {
         }
         Line::Text(text) => match rt.print(&text) {
             Ok(()) => ExitCode::SUCCESS,
-            Err(_) => ExitCode::from(PlayFault::Write.status()),
+            Err(_) => fail(rt, PlayFault::Write, None),
         },
     }
 }
@@ -136,8 +140,7 @@ fn main(rt: HostRuntime) -> ExitCode {
         }
     };
     let Ok(words) = words.collect::<Vec<String>>(rt.alloc()) else {
-        let _ = eprintln!(rt; "cave: {}", PlayFault::Memory);
-        return ExitCode::from(PlayFault::Memory.status());
+        return fail(&rt, PlayFault::Memory, None);
     };
     match command_line(rt.alloc(), words.as_slice()) {
         Ok(line) => run(&rt, line),
