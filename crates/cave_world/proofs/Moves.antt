@@ -1,14 +1,14 @@
 -- What the moves of halves make of the lists.
 use Rattle.std.proofs.Common.{◌≡◌, ℕ, suc, ◌+◌, ◌-◌, ◌<◌, ◌≤◌, ◌||◌, Bool, true, false, cond, not, List, [], ◌∷◌, ◌++◌, length, map, take, drop, replicate, nat_lt, eqb, refl, sym, ap, ◌∙◌, arith}
 use Rattle.std.specs.List.{prefix_len, IsDistinct, AllByRecursion, list_any}
-use Rattle.std.proofs.lemmas.List.{append_assoc, take_at, drop-replicate, length-map}
+use Rattle.std.proofs.lemmas.List.{take_at, drop-replicate, length-map}
 use Rattle.std.proofs.lemmas.Bool.Decides.{nat_tests}
 use Rattle.std.proofs.lemmas.Bool.{false≢true}
 use Rattle.std.proofs.lemmas.Map.Keys.{IsDistinct-cons}
 use Rattle.std.proofs.lemmas.Map.Steps.{length-le_from_distinct_below}
 use Rattle.cave_world.specs.declared.lists.Entry.{Entry}
 use Rattle.cave_world.specs.Halves.{half_number}
-use Rattle.cave_world.specs.Lists.{filled, no_entry, without, put_first, Lacks, StartsAt, AreLists}
+use Rattle.cave_world.specs.Lists.{filled, no_entry, without, put_first, Lacks, StartsAt, AreLists, IsNew}
 
 pub filled_is : (es : List Entry) (d : Entry) → d ≡ no_entry → es ++ drop (length es) (replicate 200 d) ≡ filled es
 unfolding filled
@@ -69,7 +69,7 @@ AreLists-without n (e ∷ es) h =
     either AreLists (not (eqb (half_number e.half) n)) (e ∷ without n es) (without n es)
     (λ _. (h.0, (h.1.0, (Lacks-without n (half_number e.half) es h.1.1.0, (StartsAt-without n e.place es h.1.1.1.0, rest))))) (λ _. rest)
 
-StartsAt-earlier : (p q : ℕ) (es : List Entry) → p ≤ q → StartsAt q es → StartsAt p es
+pub StartsAt-earlier : (p q : ℕ) (es : List Entry) → p ≤ q → StartsAt q es → StartsAt p es
 StartsAt-earlier p q [] h s = tt
 StartsAt-earlier p q (e ∷ es) h s = (omega (arith, s.0), StartsAt-earlier p q es h s.1)
 
@@ -151,12 +151,6 @@ length-AreLists es h =
     let same = length-map es (λ (e : Entry). half_number e.half) in
     omega (arith, count, same)
 
--- the same, as it is put together
-pub put_first_built : (first : Entry) (es front put : List Entry) (n : ℕ) → n ≡ prefix_len (λ e. nat_lt e.place first.place) es → front ≡ take n es → put ≡ front ++ first ∷ [] → put ++ drop n es ≡ put_first first es
-put_first_built first es front put n h f p =
-    ap (λ (l : List Entry). l ++ drop n es) (p ∙ ap (λ (l : List Entry). l ++ first ∷ []) f) ∙ append_assoc (take n es) (first ∷ []) (drop n es)
-    ∙ ap (λ (k : ℕ). take k es ++ first ∷ drop k es) h ∙ sym (put_first_is first es)
-
 pub ruleset length_AreLists = (length-AreLists)
 
 pub AreLists-moved : (first : Entry) (es : List Entry) → 0 < half_number first.half → half_number first.half ≤ 200 → AreLists es → AreLists (put_first first (without (half_number first.half) es))
@@ -164,8 +158,7 @@ AreLists-moved first es low high h =
     let n = half_number first.half in
     AreLists-put_first first (without n es) low high (Lacks-taken n es) (AreLists-without n es h)
 
--- a half that was taken out finds room
-pub length-without : (first : Entry) (es : List Entry) → 0 < half_number first.half → half_number first.half ≤ 200 → AreLists es → length (without (half_number first.half) es) < 200
-length-without first es low high h =
-    let rest = without (half_number first.half) es in
-    omega (arith, length-put_first first rest, length-AreLists (put_first first rest) (AreLists-moved first es low high h))
+-- a half that stands nowhere finds room
+pub room_for : (e : Entry) (es : List Entry) → IsNew e.half es → AreLists es → length es < 200
+room_for e es new lists =
+    omega (arith, length-put_first e es, length-AreLists (put_first e es) (AreLists-put_first e es new.0 new.1.0 new.1.1 lists))

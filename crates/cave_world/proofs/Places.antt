@@ -57,7 +57,7 @@ halves_at-relisted half (Some place) es q =
     halves_at-put_first q (record { place = place; half = half }) rest ∙ ap (λ (l : List Half). cond (eqb place q) (half ∷ l) l) left
 
 -- no entry stands at a place before the first
-nobody : (p q : ℕ) (es : List Entry) → q < p → StartsAt p es → halves_at q es ≡ []
+pub nobody : (p q : ℕ) (es : List Entry) → q < p → StartsAt p es → halves_at q es ≡ []
 nobody p q [] h s = refl
 nobody p q (e ∷ es) h s =
     let far : eqb e.place q ≡ false = unequal e.place q (omega (arith, s.0)) in rw far (nobody p q es h s.1)

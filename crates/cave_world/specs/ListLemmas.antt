@@ -5,7 +5,7 @@ use Rattle.cave_world.specs.declared.lists.ObjectLists.TheInside.{Inside}
 use Rattle.cave_world.specs.declared.lists.Entry.{Entry}
 use Rattle.cave_world.specs.Lists.{filled, no_entry}
 
-length-filled : (es : List Entry) → length (filled es) ≡ length es + (200 - length es)
+pub length-filled : (es : List Entry) → length (filled es) ≡ length es + (200 - length es)
 unfolding filled
 length-filled es = length-append es (replicate (200 - length es) no_entry) ∙ ap (λ n. length es + n) (length-replicate (200 - length es) no_entry)
 

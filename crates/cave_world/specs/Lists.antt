@@ -1,5 +1,5 @@
 -- For each place the list of the halves that stand there, latest first.
-use Rattle.std.specs.Prelude.{◌≡◌, ℕ, ◌-◌, ◌<◌, ◌≤◌, ◌==◌, not, nat_lt, if◌then◌else◌, List, [], ◌∷◌, ◌++◌, length, map, filter, replicate, Option, Some, None}
+use Rattle.std.specs.Prelude.{◌≡◌, ℕ, ◌-◌, ◌<◌, ◌≤◌, ◌==◌, Bool, not, nat_lt, if◌then◌else◌, List, [], ◌∷◌, ◌++◌, length, map, filter, replicate, Option, Some, None}
 use Rattle.cave_world.specs.declared.object.Half.{Half}
 use Rattle.cave_world.specs.declared.lists.Entry.{Entry}
 use Rattle.cave_world.specs.Halves.{half_number, no_half}
@@ -18,9 +18,13 @@ put_first first [] = first ∷ []
 put_first first (e ∷ es) = if nat_lt e.place first.place then e ∷ put_first first es else first ∷ e ∷ es
 
 -- a half at the front of the list of the place, or in no list
+abbrev pub listed : Half → Option ℕ → List Entry → List Entry
+listed half None lists = lists
+listed half (Some place) lists = put_first (record { place = place; half = half }) lists
+
+-- the same, once it was taken from the list in which it stood
 unfoldable pub relisted : Half → Option ℕ → List Entry → List Entry
-relisted half None lists = without (half_number half) lists
-relisted half (Some place) lists = put_first (record { place = place; half = half }) (without (half_number half) lists)
+relisted half place lists = listed half place (without (half_number half) lists)
 
 -- the halves of a list but that of a number
 unfoldable pub others : ℕ → List Half → List Half
@@ -59,3 +63,16 @@ abbrev pub AreLists : List Entry → Type 0
 AreLists [] = Unit {0}
 AreLists (e ∷ es) =
     (0 < half_number e.half) × ((half_number e.half ≤ 200) × (Lacks (half_number e.half) es × (StartsAt e.place es × AreLists es)))
+
+-- the half of a number stands nowhere but at the place
+abbrev pub IsOnlyAt : ℕ → Option ℕ → List Entry → Type 0
+IsOnlyAt number from [] = Unit {0}
+IsOnlyAt number from (e ∷ es) = (half_number e.half ≡ number → from ≡ Some e.place) × IsOnlyAt number from es
+
+-- a half of an object, which stands nowhere
+abbrev pub IsNew : Half → List Entry → Type 0
+IsNew half es = (0 < half_number half) × ((half_number half ≤ 200) × Lacks (half_number half) es)
+
+-- the entry has the half of a number
+abbrev pub has_half : ℕ → Entry → Bool
+has_half number e = half_number e.half == number

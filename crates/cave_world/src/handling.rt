@@ -39,7 +39,7 @@ impl State {
     pub fn holding(&self) -> usize
         ensures { result ≡ length (carried_objects self.now.objects) }
     {
-        self.objects.carried().len()
+        self.objects.count_carried()
     }
 
     /// The halves that stand at a place, latest first.

@@ -1,6 +1,8 @@
-ghost use Rattle.std.specs.Prelude.{◌≡◌, ℕ, ◌≤◌, ◌<◌, ◌+◌, ◌++◌, ◌↔◌, [], length, nat_lt, IsTrue};
-ghost use Rattle.std.specs.List.{prefix_len};
-ghost use Rattle.cave_world.specs.Lists.{relisted, AreRelisted, without, put_first, halves_at, no_entry, filled, AreLists};
+ghost use Rattle.std.specs.Prelude.{◌≡◌, ℕ, ◌-◌, ◌≤◌, ◌<◌, ◌==◌, ◌++◌, ◌∷◌, ◌↔◌, [], length, take, nat_lt, insert, remove, IsTrue};
+ghost use Rattle.std.specs.List.{prefix_len, position};
+ghost use Rattle.cave_world.specs.Layout.{is_listed};
+ghost use Rattle.cave_world.specs.Lists.{relisted, AreRelisted, without, put_first, listed, halves_at, no_entry, AreLists, IsOnlyAt, IsNew, has_half};
+ghost use Rattle.cave_world.specs.Spots.{is_place};
 ghost use Rattle.cave_world.specs.Halves.{half_number};
 
 use crate::object::{Half, Object};
@@ -54,63 +56,54 @@ impl Model for ObjectLists {
     ghost inverse_ok = { λ l h. filled_back l.entries l.count h.0 h.1.0 };
 }
 
-/// The entries without the half of a number.
-#[tactic(auto, using(std::proofs::lemmas::List::Elements::filter_more), unfolding(crate::specs::Lists::without))]
-fn without(entries: &[Entry], number: u8) -> ArrayVec<Entry, HALVES>
-    requires { length entries.now ≤ 200 }
-    ensures { result.items ≡ without number entries.now }
-{
-    let mut kept = ArrayVec::new();
-    for entry in entries {
-        if entry.half.number() != number {
-            kept.push(*entry);
-        }
-    }
-    kept
-}
-
 /// How many entries have places before a place.
 fn count_before(entries: &[Entry], place: Place) -> usize
+    requires { AreLists entries.now }
     ensures value { result ≡ prefix_len (λ e. nat_lt e.place place) entries.now }
     ensures within { result ≤ length entries.now }
 {
-    entries
-        .iter()
-        .take_while(|entry| entry.place.number() < place.number())
-        .count()
+    entries.partition_point(|entry| entry.place.number() < place.number())
 }
 
-fn append(list: &mut ArrayVec<Entry, HALVES>, entries: &[Entry])
-    requires { length list.old.items + length entries.now ≤ 200 }
-    ensures { list.new.items ≡ list.old.items ++ entries.now }
+/// The index of the entry with the half of a number.
+fn index_of(entries: &[Entry], number: u8) -> Option<usize>
+    ensures { result ≡ position (has_half number) entries.now }
 {
-    for entry in entries {
-        list.push(*entry);
+    entries
+        .iter()
+        .position(|entry| entry.half.number() == number)
+}
+
+/// The index of the entry with the half of a number, which stands nowhere but at a place.
+fn find(entries: &[Entry], number: u8, place: Place) -> Option<usize>
+    requires lists { AreLists entries.now }
+    requires only { IsOnlyAt number (Some place) entries.now }
+    ensures { result ≡ position (has_half number) entries.now }
+{
+    let before = count_before(entries, place);
+    match index_of(&entries[before..], number) {
+        Some(behind) => Some(before + behind),
+        None => None,
     }
 }
 
-/// The entries, and one more at the front of the list of its place.
-fn put_first(entries: &[Entry], first: Entry) -> ArrayVec<Entry, HALVES>
-    requires { length entries.now < 200 }
-    ensures { result.items ≡ put_first first entries.now }
+/// Takes an entry out. Those behind it move up, and none stands at the end.
+fn take_out(entries: &mut [Entry], at: usize)
+    requires { at < length entries.old }
+    ensures { entries.new ≡ remove entries.old at ++ no_entry ∷ [] }
 {
-    let before = count_before(entries, first.place);
-    let mut put = ArrayVec::new();
-    append(&mut put, &entries[..before]);
-    put.push(first);
-    append(&mut put, &entries[before..]);
-    put
+    let last = entries.len() - 1;
+    entries[at..].rotate_left(1);
+    entries[last] = Entry::default();
 }
 
-/// The entries, and no entries behind them.
-#[tactic(auto, using(crate::proofs::Moves::filled_is))]
-fn filled(entries: &[Entry]) -> [Entry; HALVES]
-    requires { length entries.now ≤ 200 }
-    ensures { result ≡ filled entries.now }
+/// Puts an entry in. Those behind it move down, and the last one makes room.
+fn put_in(entries: &mut [Entry], at: usize, entry: Entry)
+    requires { at < length entries.old }
+    ensures { entries.new ≡ insert (take (length entries.old - 1) entries.old) at entry }
 {
-    let mut filled = [Entry::default(); HALVES];
-    filled[..entries.len()].copy_from_slice(entries);
-    filled
+    entries[at..].rotate_right(1);
+    entries[at] = entry;
 }
 
 impl ObjectLists {
@@ -118,7 +111,10 @@ impl ObjectLists {
     pub fn empty() -> ObjectLists
         ensures { result ≡ [] }
     {
-        ObjectLists::of(&[])
+        ObjectLists {
+            entries: [Entry::default(); HALVES],
+            count: 0,
+        }
     }
 
     /// Tells whether the lists are the same at each place.
@@ -134,46 +130,73 @@ impl ObjectLists {
     pub fn at(&self, place: Place) -> ArrayVec<Half, HALVES>
         ensures { result.items ≡ halves_at place self.now }
     {
+        let entries = self.entries();
         let mut halves = ArrayVec::new();
-        for entry in self.entries() {
-            if entry.place == place {
-                halves.push(entry.half);
+        for entry in &entries[count_before(entries, place)..] {
+            if entry.place != place {
+                break;
             }
+            halves.push(entry.half);
         }
         halves
     }
 
-    /// Takes a half from the list that it stands in.
-    #[tactic(auto, using(crate::proofs::Moves::length_AreLists))]
-    pub fn remove(&mut self, half: Half)
-        ensures { self.new ≡ without (half_number half) self.old }
+    /// Takes the half of a number out of the list of the place where it stands.
+    fn remove_from(&mut self, number: u8, place: Place)
+        requires { IsOnlyAt number (Some place) self.old }
+        ensures { self.new ≡ without number self.old }
     {
-        let kept = without(self.entries(), half.number());
-        *self = ObjectLists::of(kept.as_slice());
-    }
-
-    /// Moves a half from wherever it stands to the front of the list of a place.
-    #[tactic(auto, using(crate::proofs::Moves::length_AreLists))]
-    pub fn put(&mut self, entry: Entry)
-        requires { 0 < half_number entry.half }
-        ensures { self.new ≡ put_first entry (without (half_number entry.half) self.old) }
-    {
-        let kept = without(self.entries(), entry.half.number());
-        let put = put_first(kept.as_slice(), entry);
-        *self = ObjectLists::of(put.as_slice());
-    }
-
-    /// Moves a half to the front of the list of the place, or out of its list.
-    #[tactic(auto, unfolding(crate::specs::Lists::relisted))]
-    pub fn relist(&mut self, half: Half, place: Option<Place>)
-        requires { 0 < half_number half }
-        ensures value { self.new ≡ relisted half place self.old }
-        ensures lists { AreRelisted self.old self.new half place }
-    {
-        match place {
-            Some(place) => self.put(Entry { place, half }),
-            None => self.remove(half),
+        match find(self.entries(), number, place) {
+            Some(at) => {
+                let count = self.count;
+                self.count = count - 1;
+                take_out(&mut self.entries[..count], at);
+            }
+            None => {}
         }
+    }
+
+    fn remove(&mut self, number: u8, from: Option<Place>)
+        requires { IsOnlyAt number from self.old }
+        ensures { self.new ≡ without number self.old }
+    {
+        match from {
+            Some(place) => self.remove_from(number, place),
+            None => {}
+        }
+    }
+
+    /// Puts a half that stands nowhere at the front of the list of a place.
+    fn put_at(&mut self, half: Half, place: Place)
+        requires { IsNew half self.old }
+        ensures { self.new ≡ put_first (record { place = place; half = half }) self.old }
+    {
+        let at = count_before(self.entries(), place);
+        let count = self.count + 1;
+        self.count = count;
+        put_in(&mut self.entries[..count], at, Entry { place, half });
+    }
+
+    fn put(&mut self, half: Half, to: Option<Place>)
+        requires { IsNew half self.old }
+        ensures { self.new ≡ listed half to self.old }
+    {
+        match to {
+            Some(place) => self.put_at(half, place),
+            None => {}
+        }
+    }
+
+    /// Moves a half from the place where it stands to the front of the list of another, or out of its list.
+    #[tactic(auto, unfolding(crate::specs::Lists::relisted))]
+    pub fn relist(&mut self, half: Half, from: Option<Place>, to: Option<Place>)
+        requires some { 0 < half_number half }
+        requires only { (q : ℕ) → IsTrue (is_listed (half_number half) (halves_at q self.old)) → IsTrue (is_place q from) }
+        ensures value { self.new ≡ relisted half to self.old }
+        ensures lists { AreRelisted self.old self.new half to }
+    {
+        self.remove(half.number(), from);
+        self.put(half, to);
     }
 
     fn entries(&self) -> &[Entry]
@@ -181,16 +204,5 @@ impl ObjectLists {
         ensures lists { AreLists result.now }
     {
         &self.entries[..self.count]
-    }
-
-    #[tactic(auto, using(crate::proofs::Moves::length_AreLists))]
-    fn of(entries: &[Entry]) -> ObjectLists
-        requires { AreLists entries.now }
-        ensures { result ≡ entries.now }
-    {
-        ObjectLists {
-            entries: filled(entries),
-            count: entries.len(),
-        }
     }
 }

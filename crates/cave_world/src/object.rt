@@ -93,8 +93,8 @@ impl Half {
     }
 
     /// A number of its own: the object's for a first half, 100 more for a second.
-    pub fn number(self) -> u8
-        ensures value { result ≡ half_number self }
+    pub fn number(&self) -> u8
+        ensures value { result ≡ half_number self.now }
         ensures within { result ≤ 200 }
     {
         match self {

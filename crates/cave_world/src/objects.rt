@@ -1,6 +1,6 @@
-ghost use Rattle.std.specs.Prelude.{◌≡◌, ℕ, ◌==◌, ◌||◌, ◌+◌, ◌<◌, ◌≤◌, false, [], length, IsTrue};
+ghost use Rattle.std.specs.Prelude.{◌≡◌, ℕ, ◌==◌, ◌||◌, ◌+◌, ◌<◌, ◌≤◌, false, [], length, count_by, IsTrue};
 ghost use Rattle.cave_world.specs.Objects.{spot_of, anchor_of, prop_of, is_carried, is_first_at, stands_at, is_at_hand, carried_objects, carried_from, brought, anchored, with_prop, moved, taken, juggled, unplaced};
-ghost use Rattle.cave_world.specs.Spots.{place_of_spot, place_of_anchor, spot_at, is_place};
+ghost use Rattle.cave_world.specs.Spots.{place_of_spot, place_of_anchor, is_carried_spot, spot_at, is_place};
 ghost use Rattle.cave_world.specs.Lists.{halves_at, AreRelisted};
 ghost use Rattle.cave_world.specs.Layout.{is_listed};
 
@@ -149,9 +149,10 @@ impl Objects {
         if object.is_none() {
             return;
         }
+        let was = self.spot(object).place();
         let place = spot.place();
         self.first[usize::from(object.number()) - 1] = spot;
-        self.lists.relist(Half::First(object), place);
+        self.lists.relist(Half::First(object), was, place);
     }
 
     /// Gives an object another anchor.
@@ -163,9 +164,10 @@ impl Objects {
         if object.is_none() {
             return;
         }
+        let was = self.anchor(object).place();
         let place = anchor.place();
         self.second[usize::from(object.number()) - 1] = anchor;
-        self.lists.relist(Half::Second(object), place);
+        self.lists.relist(Half::Second(object), was, place);
     }
 
     /// Gives an object another prop.
@@ -214,6 +216,14 @@ impl Objects {
         self.anchor_to(object, anchor);
     }
 
+    /// How many objects are carried.
+    #[tactic(auto, using(crate::proofs::Laid::length_carried), unfolding(crate::specs::Objects::carried_objects))]
+    pub fn count_carried(&self) -> usize
+        ensures { result ≡ length (carried_objects self.now) }
+    {
+        count_carried_in(&self.first)
+    }
+
     /// The objects that are carried, ascending.
     #[tactic(auto, unfolding(crate::specs::Objects::carried_objects))]
     pub fn carried(&self) -> ArrayVec<Object, LAST_OBJECT>
@@ -221,6 +231,12 @@ impl Objects {
     {
         carried_in(&self.first)
     }
+}
+
+fn count_carried_in(spots: &[Spot]) -> usize
+    ensures { result ≡ count_by is_carried_spot spots.now }
+{
+    spots.iter().filter(|spot| spot.is_carried()).count()
 }
 
 fn carried_in(spots: &[Spot]) -> ArrayVec<Object, LAST_OBJECT>

@@ -1,12 +1,18 @@
-use Rattle.std.proofs.Common.{Some, None}
 use Rattle.cave_world.specs.Lists.{relisted}
+use Rattle.cave_world.specs.Halves.{half_number}
+use Rattle.cave_world.proofs.Found.{only_at}
+use Rattle.cave_world.proofs.Moves.{Lacks-taken}
 use Rattle.cave_world.proofs.Places.{halves_at-relisted}
 use Rattle.cave_world.proofs.lists.ObjectLists.relist.Goals as goal
 
-pub returns-in-Some-clause-lists : goal.returns-in-Some-clause-lists
-unfolding relisted
-returns-in-Some-clause-lists c = λ q. rw (c.put.ensures, c.in-Some.is) (halves_at-relisted c.args.half (Some c.in-Some.place) c.args.self.now q)
+pub remove-requires : goal.remove-requires
+remove-requires c = rw c.number.ensures.value (only_at (half_number c.args.half) c.args.from c.args.self.now c.requires.only)
 
-pub returns-in-None-clause-lists : goal.returns-in-None-clause-lists
+pub put-requires : goal.put-requires
+put-requires c =
+    rw (c.remove.ensures, c.number.ensures.value)
+    (c.requires.some, (rw c.number.ensures.value at c.number.ensures.within, Lacks-taken (half_number c.args.half) c.args.self.now))
+
+pub returns-clause-lists : goal.returns-clause-lists
 unfolding relisted
-returns-in-None-clause-lists c = λ q. rw (c.remove.ensures, c.in-None.is) (halves_at-relisted c.args.half None c.args.self.now q)
+returns-clause-lists c = λ q. rw (c.put.ensures, c.remove.ensures, c.number.ensures.value) (halves_at-relisted c.args.half c.args.to c.args.self.now q)

@@ -1,4 +1,4 @@
-use Rattle.std.proofs.Common.{◌<◌, arith}
+use Rattle.std.proofs.Common.{◌<◌, sym, ◌∙◌, arith}
 use Rattle.std.proofs.lemmas.Bool.Decides.{nat_tests}
 use Rattle.cave_world.specs.Layout.{Layout}
 use Rattle.cave_world.proofs.Laid.{IsLaid-anchored}
@@ -11,3 +11,9 @@ invariant_of-self c =
     let low : 0 < c.args.object = grind (arith, nat_tests) in
     rw (c.from.ensures, c.number.ensures.value)
     (IsLaid-anchored l c.args.object c.args.anchor c.relist.new.self c.self.invariant low (rw c.number.ensures.value at c.number.ensures.within) (rw c.place-place.ensures at c.relist.ensures.lists))
+
+pub relist-requires-clause-only : goal.relist-requires-clause-only
+relist-requires-clause-only c =
+    let low : 0 < c.args.object = grind (arith, nat_tests) in
+    let listed = rw (← c.self.view_is) at c.anchor.ensures.listed in
+    λ q t. rw c.place-was.ensures (sym (listed low q) ∙ t)
