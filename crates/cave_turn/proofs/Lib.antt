@@ -1,1 +1,2 @@
+pub mod Countdown
 pub mod Joining

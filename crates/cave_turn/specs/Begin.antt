@@ -1,5 +1,5 @@
 -- The state that a game begins with.
-use Rattle.std.specs.Prelude.{ℕ, ℤ, pos, negsuc, ◌+◌, ◌-◌, Bool, true, false, nat_le, if◌then◌else◌, List, [], ◌∷◌, is_some, suc, zero}
+use Rattle.std.specs.Prelude.{ℕ, ℤ, pos, negsuc, ◌+◌, Bool, true, false, not, if◌then◌else◌, List, [], ◌∷◌, is_some, suc, zero}
 use Rattle.cave_data.specs.CaveView.{CaveView, name_of, placement_of}
 use Rattle.cave_data.specs.declared.place_role.PlaceRole.{PlaceRole}
 use Rattle.cave_data.specs.declared.place_role.PlaceRole.TheVariants as place
@@ -12,45 +12,40 @@ use Rattle.cave_world.specs.declared.spot.Anchor.TheVariants as anchor
 use Rattle.cave_world.specs.declared.state.State.{State}
 use Rattle.cave_turn.specs.Places.{place_named, place_or}
 
--- a number that is a place's, or 0
-abbrev pub or_nowhere : ℕ → ℕ
-or_nowhere number = if nat_le number 300 then number else 0
-
 -- where an object stands as the game begins
 abbrev pub home : CaveView → ℕ → ℕ
-home cave x = or_nowhere (placement_of cave x).first
+home cave x = (placement_of cave x).first
 
 -- what holds it there: -1 that it can't be moved, a place its second half
 abbrev pub anchor_by : ℤ → Anchor
 anchor_by (pos zero) = anchor.Loose
-anchor_by (pos (suc n)) = if nat_le (suc n) 300 then anchor.At (suc n) else anchor.Loose
+anchor_by (pos (suc n)) = anchor.At (suc n)
 anchor_by (negsuc n) = anchor.Fixed
 
 abbrev pub hold_of : CaveView → ℕ → Anchor
 hold_of cave x = anchor_by (placement_of cave x).second
 
-abbrev pub has_two : Anchor → Bool
-has_two anchor.Loose = false
-has_two anchor.Fixed = false
-has_two (anchor.At place) = true
-
 -- an object is put where it stands, its second half first
 unfoldable pub placed : CaveView → ℕ → Layout → Layout
 placed cave x o = moved (anchored o x (hold_of cave x)) x (home cave x)
 
--- the objects with two places down from 100, of which so many are done, and then the others
-unfoldable pub placed_twice : CaveView → ℕ → Layout → Layout
-placed_twice cave zero o = o
-placed_twice cave (suc i) o = let p = placed_twice cave i o in if has_two (hold_of cave (100 - i)) then placed cave (100 - i) p else p
+-- it is put with those that have two places, or with the others
+abbrev pub is_due : Bool → Anchor → Bool
+is_due twice anchor.Loose = not twice
+is_due twice anchor.Fixed = not twice
+is_due twice (anchor.At place) = twice
 
-unfoldable pub placed_once : CaveView → ℕ → Layout → Layout
-placed_once cave zero o = o
-placed_once cave (suc i) o = let p = placed_once cave i o in if has_two (hold_of cave (100 - i)) then p else placed cave (100 - i) p
+-- the objects from a number down to 1 that have two places, or the others
+unfoldable pub placed_down : CaveView → Bool → ℕ → Layout → Layout
+placed_down cave twice zero o = o
+placed_down cave twice (suc x) o =
+    placed_down cave twice x (if is_due twice (hold_of cave (suc x)) then placed cave (suc x) o else o)
 
+-- first those with two places, and then the others
 unfoldable pub all_placed : CaveView → Layout → Layout
-all_placed cave o = placed_once cave 100 (placed_twice cave 100 o)
+all_placed cave o = placed_down cave false 100 (placed_down cave true 100 o)
 
--- an object with an inventory text, of those that are treasures from 50 on
+-- an object is known by its inventory text
 abbrev pub is_known : CaveView → ℕ → Bool
 is_known cave x = is_some (name_of cave x)
 
@@ -60,10 +55,14 @@ hidden x s =
     let tallies = s.tallies in
     record s { objects = with_prop s.objects x (negsuc 0); tallies = record tallies { unseen = tallies.unseen + 1 } }
 
--- the first so many treasures from 50 on are hidden, if they are known
-unfoldable pub treasures_hidden : CaveView → ℕ → State → State
-treasures_hidden cave zero s = s
-treasures_hidden cave (suc i) s = let t = treasures_hidden cave i s in if is_known cave (50 + i) then hidden (50 + i) t else t
+-- of so many objects from a number on those that are known are hidden
+unfoldable pub hidden_from : CaveView → ℕ → ℕ → State → State
+hidden_from cave x zero s = s
+hidden_from cave x (suc count) s = hidden_from cave (x + 1) count (if is_known cave x then hidden x s else s)
+
+-- the treasures are the objects from 50 to 79
+abbrev pub treasures_hidden : CaveView → State → State
+treasures_hidden cave s = hidden_from cave 50 30 s
 
 -- a dwarf at its place, or gone where there is none
 abbrev pub dwarf_at : ℕ → Dwarf
@@ -87,4 +86,4 @@ with_objects cave s = record s { objects = all_placed cave s.objects }
 
 -- the state at the start
 unfoldable pub begun_state : CaveView → ℕ → State
-begun_state cave x = with_dwarves cave (with_objects cave (treasures_hidden cave 30 (starting (start_place cave) x)))
+begun_state cave x = with_dwarves cave (with_objects cave (treasures_hidden cave (starting (start_place cave) x)))

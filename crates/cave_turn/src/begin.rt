@@ -1,10 +1,18 @@
-ghost use Rattle.std.specs.Prelude.{◌≡◌, ◌≤◌, ◌<◌, ◌+◌};
-ghost use Rattle.cave_turn.specs.Begin.{or_nowhere, home, anchor_by, hold_of, has_two, placed, placed_twice, placed_once, all_placed, is_known, hidden, treasures_hidden, dwarf_of, dwarves_placed, start_place, with_dwarves, with_objects, begun_state};
+ghost use Rattle.std.specs.Prelude.{◌≡◌, ◌+◌, ◌-◌, ◌<◌, ◌≤◌, ◌≤ℤ◌, pos};
+ghost use Rattle.cave_turn.specs.Begin.{home, anchor_by, hold_of, is_due, placed, placed_down, all_placed, hidden, hidden_from, dwarf_of, dwarves_placed, start_place, with_dwarves, with_objects, begun_state};
 
 use crate::places::place_named;
 use cave_data::{Cave, PlaceRole};
 use cave_words::Stream;
 use cave_world::{Anchor, Dwarf, Object, Objects, Place, Prop, State};
+
+/// The treasures are the objects from one to another.
+const FIRST_TREASURE: u8 = 50;
+
+const LAST_TREASURE: u8 = 79;
+
+/// The greatest number of an object.
+const LAST_OBJECT: u8 = 100;
 
 /// The place where a game begins.
 #[tactic(auto, unfolding(crate::specs::Begin::start_place))]
@@ -17,33 +25,23 @@ pub fn start_place(cave: &Cave) -> Place
     }
 }
 
-fn or_nowhere(number: u16) -> Place
-    ensures { result ≡ or_nowhere number }
-{
-    if number <= 300 {
-        Place::new(number)
-    } else {
-        Place::new(0)
-    }
-}
-
 fn home(cave: &Cave, object: Object) -> Place
     ensures { result ≡ home cave.now object }
 {
-    or_nowhere(cave.placement(u16::from(object.number())).0)
+    Place::new(cave.placement(u16::from(object.number())).0)
 }
 
 fn anchor_by(second: i16) -> Anchor
+    requires { second ≤ℤ pos 300 }
     ensures { result ≡ anchor_by second }
 {
     if second < 0 {
         return Anchor::Fixed;
     }
-    let number = second as u16;
-    if number == 0 || number > 300 {
+    if second == 0 {
         Anchor::Loose
     } else {
-        Anchor::At(Place::new(number))
+        Anchor::At(Place::new(second as u16))
     }
 }
 
@@ -54,12 +52,13 @@ fn hold_of(cave: &Cave, object: Object) -> Anchor
     anchor_by(cave.placement(u16::from(object.number())).1)
 }
 
-fn has_two(anchor: Anchor) -> bool
-    ensures { result ≡ has_two anchor }
+/// Whether an object is put with those that have two places, or with the others.
+fn is_due(twice: bool, anchor: Anchor) -> bool
+    ensures { result ≡ is_due twice anchor }
 {
     match anchor {
-        Anchor::At(_) => true,
-        Anchor::Loose | Anchor::Fixed => false,
+        Anchor::At(_) => twice,
+        Anchor::Loose | Anchor::Fixed => !twice,
     }
 }
 
@@ -72,29 +71,15 @@ fn place_object(cave: &Cave, object: Object, objects: &mut Objects)
     objects.move_to(object, home(cave, object));
 }
 
-/// Places some objects down from the last, if they have two places.
-#[tactic(auto, unfolding(crate::specs::Begin::placed_twice))]
-fn place_twice(cave: &Cave, count: u8, objects: &mut Objects)
-    requires { count ≤ 100 }
-    ensures { objects.new ≡ placed_twice cave.now count objects.old }
+/// Places the objects up to a number that have two places, or the others, from the last down.
+#[tactic(auto, using(crate::proofs::Countdown::placing))]
+fn place_down(cave: &Cave, twice: bool, last: u8, objects: &mut Objects)
+    requires { last ≤ 100 }
+    ensures { objects.new ≡ placed_down cave.now twice last objects.old }
 {
-    for i in 0..count {
-        let object = Object::new(100 - i);
-        if has_two(hold_of(cave, object)) {
-            place_object(cave, object, objects);
-        }
-    }
-}
-
-/// Places some objects down from the last, unless they have two places.
-#[tactic(auto, unfolding(crate::specs::Begin::placed_once))]
-fn place_once(cave: &Cave, count: u8, objects: &mut Objects)
-    requires { count ≤ 100 }
-    ensures { objects.new ≡ placed_once cave.now count objects.old }
-{
-    for i in 0..count {
-        let object = Object::new(100 - i);
-        if !has_two(hold_of(cave, object)) {
+    for i in 0..last {
+        let object = Object::new(last - i);
+        if is_due(twice, hold_of(cave, object)) {
             place_object(cave, object, objects);
         }
     }
@@ -104,8 +89,8 @@ fn place_once(cave: &Cave, count: u8, objects: &mut Objects)
 fn place_all(cave: &Cave, objects: &mut Objects)
     ensures { objects.new ≡ all_placed cave.now objects.old }
 {
-    place_twice(cave, 100, objects);
-    place_once(cave, 100, objects);
+    place_down(cave, true, LAST_OBJECT, objects);
+    place_down(cave, false, LAST_OBJECT, objects);
 }
 
 fn hide(object: Object, state: &mut State)
@@ -116,17 +101,17 @@ fn hide(object: Object, state: &mut State)
     state.tallies.unseen = state.tallies.unseen.up();
 }
 
-/// Some treasures, from the first on, weren't seen yet.
-#[tactic(auto, unfolding(crate::specs::Begin::treasures_hidden))]
-fn hide_treasures(cave: &Cave, count: u8, state: &mut State)
-    requires few { count ≤ 30 }
-    requires none { state.old.tallies.unseen ≡ 0 }
-    ensures { state.new ≡ treasures_hidden cave.now count state.old }
+/// The known objects from one to before another weren't seen yet.
+#[tactic(auto, using(crate::proofs::Countdown::hiding))]
+fn hide_between(cave: &Cave, first: u8, end: u8, state: &mut State)
+    requires ascending { first ≤ end }
+    requires last { end ≤ 101 }
+    requires few { state.old.tallies.unseen + (end - first) ≤ 30 }
+    ensures { state.new ≡ hidden_from cave.now first (end - first) state.old }
 {
-    for i in 0..count {
-        let object = Object::new(50 + i);
-        if cave.name(u16::from(object.number())).is_some() {
-            hide(object, state);
+    for number in first..end {
+        if cave.name(u16::from(number)).is_some() {
+            hide(Object::new(number), state);
         }
     }
 }
@@ -167,7 +152,7 @@ pub fn begun_state(cave: &Cave, stream: Stream) -> State
     ensures { result ≡ begun_state cave.now stream }
 {
     let mut state = State::starting(start_place(cave), stream);
-    hide_treasures(cave, 30, &mut state);
+    hide_between(cave, FIRST_TREASURE, LAST_TREASURE + 1, &mut state);
     place_all(cave, &mut state.objects);
     place_dwarves(cave, &mut state);
     state
