@@ -1,5 +1,5 @@
 -- What a run writes, and the fault that its bytes decide.
-use Rattle.std.specs.Prelude.{◌≡◌, ℕ, ◌-◌, ◌^◌, List, [], ◌∷◌, ◌++◌, codes, Option, None, Some, Ok}
+use Rattle.std.specs.Prelude.{◌≡◌, ℕ, ◌-◌, ◌^◌, List, [], ◌∷◌, ◌++◌, codes, Option, None, Some}
 use Rattle.std.specs.Fmt.{decimal}
 use Rattle.std.specs.Str.Lines.{lines}
 use Rattle.cave_data.specs.CaveView.{CaveView}
@@ -11,7 +11,7 @@ use Rattle.cave_replay.specs.declared.fault.EditFault.{EditFault}
 use Rattle.cave_replay.specs.declared.fault.EditFault.TheVariants.{NoSuchPlace, BadLine, LogFull, BadSeed, MeterFull, Memory, EmptyGroup}
 use Rattle.cave_replay.specs.declared.fault.GroupFault.{GroupFault}
 use Rattle.cave_script.specs.Item.{Applied, line_of}
-use Rattle.cave_script.specs.Script.{script_of}
+use Rattle.cave_script.specs.Script.{IsScript}
 use Rattle.cave_play.specs.CaveRules.{cave_rules, rendered}
 use Rattle.cave_play.specs.Judged.{seed_fault, every_fault, inputs_fault, log_fault, script_fault}
 use Rattle.cave_play.specs.Run.{or_else}
@@ -90,9 +90,9 @@ edited_all (item ∷ items) game = edited_all items (edited item game)
 abbrev pub edit_text : CaveView → Game → List Applied → List ℕ
 edit_text cave game items = reports items game ++ play_text cave (edited_all items game)
 
--- the text is what the items of the script make of the game in the cave
+-- the text is what the items that the script spells make of the game in the cave
 abbrev pub IsEditOf : CaveView → Game → List ℕ → List ℕ → Type 0
-IsEditOf cave game script text = (items : List Applied) × (script_of script ≡ Ok items) × (text ≡ edit_text cave game items)
+IsEditOf cave game script text = (items : List Applied) × IsScript 1 (lines script) items × (text ≡ edit_text cave game items)
 
 -- the output is what the items of the script make of the log in the cave of the database and its bindings
 abbrev pub IsEdited : List ℕ → List ℕ → List ℕ → List ℕ → ℕ → List ℕ → Type 0

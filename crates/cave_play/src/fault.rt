@@ -63,7 +63,7 @@ pub enum PlayFault {
     #[error("{0}")]
     Script(ScriptFault),
     /// The reader of an input answered an error.
-    #[error("the file can't be opened or read")]
+    #[error("the file can't be read")]
     Read(Input),
     /// The writer answered an error, or took nothing.
     #[error("the output can't be written")]

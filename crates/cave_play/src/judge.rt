@@ -5,7 +5,7 @@ ghost use Rattle.std.specs.Str.Lines.{lines};
 ghost use Rattle.cave_data.specs.Reading.{Reads};
 ghost use Rattle.cave_words.specs.Lexicon.{IsLexiconOf};
 ghost use Rattle.cave_replay.specs.Play.{game_of};
-ghost use Rattle.cave_script.specs.Script.{script_of};
+ghost use Rattle.cave_script.specs.Script.{IsScript};
 ghost use Rattle.cave_script.specs.Shown.{items_of};
 ghost use Rattle.cave_play.specs.Input.{Says};
 ghost use Rattle.cave_play.specs.Judged.{seed_fault, every_fault, inputs_fault, lines_fault, log_fault, script_fault, script_refusal, opening_fault};
@@ -113,7 +113,7 @@ pub(crate) fn read_log<'a, L: Read>(
 /// Reads a script.
 pub(crate) fn read_script<S: Read>(alloc: Global, script: &mut S) -> Result<Script, PlayFault>
     ensures judged { (bytes : List ℕ) × Says (S.remaining script.old) bytes
-        × Judges (script_fault bytes) (λ script. (script_of bytes ≡ Ok (items_of script.items))
+        × Judges (script_fault bytes) (λ script. IsScript 1 (lines bytes) (items_of script.items)
         × All (λ item. vec_len item.edits < 2 ^ 32) script.items.items) result }
 {
     let text = read(alloc, Input::Script, script)?;

@@ -1,7 +1,7 @@
 //! Edits of a log by scripts, byte by byte.
 
-use crate::caves::{CAVE, LOG, LONG_LOG, LONG_TEXT};
-use crate::runs::{edit, play};
+use crate::caves::{CAVE, LOG, LONG_LOG, LONG_TEXT, ROUND, with_lines};
+use crate::runs::{Command, Feeds, edit, play};
 use std::test::Fail;
 
 #[test]
@@ -103,4 +103,73 @@ fn a_turn_more_is_counted_where_the_rest_is_kept(rt: HostRuntime) {
 fn a_log_can_be_edited_down_to_nothing(rt: HostRuntime) {
     let run = edit(rt.alloc(), CAVE, b"no\n", b"delete 0\ndelete 0\n", 50);
     assert!(rt; run.wrote(b"line 1: ok\nline 2: refused 1\n[welcome]\n-- turns 0\n"));
+}
+
+#[test]
+fn edits_of_a_log_of_five_lines(rt: HostRuntime) -> Result<(), Fail> {
+    let scripts: [(&[u8], &str, &str, &str); 6] = [
+        (
+            b"insert 2 # note\ndelete 9\nreplace 1 IN\n",
+            "line 1: ok\nline 2: refused 1\nline 3: ok\n",
+            "IN",
+            "\n> down\n[dark]\n-- turns 4\n",
+        ),
+        (
+            b"replace 1 IN  \n",
+            "line 1: ok\n",
+            "IN  ",
+            "\n> down\n[dark]\n-- turns 4\n",
+        ),
+        (b"delete 4\n", "line 1: ok\n", "in", "-- turns 3\n"),
+        (
+            b"delete 5\n",
+            "line 1: refused 1\n",
+            "in",
+            "\n> down\n[dark]\n-- turns 4\n",
+        ),
+        (
+            b"seed 1048576\n",
+            "line 1: ok\n",
+            "in",
+            "\n> down\n[dark]\n-- turns 4\n",
+        ),
+        (
+            b"seed 1\n",
+            "line 1: ok\n",
+            "in",
+            "\n> down\n[dark]\n-- turns 4\n",
+        ),
+    ];
+    for (script, reports, echo, end) in scripts {
+        let want = format!(in rt.alloc();
+            "{reports}[welcome]\n\n> no\nYou stand on a road.\n\n> {echo}\nYou are in a hut.\nA lamp is here.\n\n> take lamp\n\n> on\n{end}"
+        )?;
+        let run = edit(rt.alloc(), CAVE, LONG_LOG, script, 1);
+        assert!(rt; run.wrote(want.as_bytes()), "{script:?}");
+    }
+    Ok(())
+}
+
+#[test]
+fn a_new_seed_is_that_of_the_draws_up_to_a_seed_line(rt: HostRuntime) -> Result<(), Fail> {
+    let cave = with_lines(rt.alloc(), ROUND)?;
+    let log = b"no\nxyzzy\nseed 0\nxyzzy\n".as_slice();
+    for (seed, script, reports) in [
+        (1_048_575, b"insert 1 # a\n".as_slice(), "line 1: ok\n"),
+        (0, b"seed 1048575\n", "line 1: ok\n"),
+        (
+            3,
+            b"seed 2147483648\nseed 2097151\n",
+            "line 1: refused 4\nline 2: ok\n",
+        ),
+    ] {
+        let want = format!(in rt.alloc();
+            "{reports}Done.\n\n> no\nYou stand on a road.\n\n> xyzzy\n[no-word]\n\n> seed 0\n\n> xyzzy\n[no-word-2]\n-- turns 2\n"
+        )?;
+        let mut feeds = Feeds::of(&cave, b"msg.welcome 1\n", log, script);
+        feeds.seed = seed;
+        let run = feeds.run(Command::Edit, rt.alloc());
+        assert!(rt; run.wrote(want.as_bytes()), "{script:?}");
+    }
+    Ok(())
 }

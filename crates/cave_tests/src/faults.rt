@@ -94,22 +94,22 @@ fn each_fault_has_a_status_and_a_line(rt: HostRuntime) -> Result<(), Fail> {
         (
             PlayFault::Read(Input::Cave),
             5,
-            "cave: a.txt: the file can't be opened or read",
+            "cave: a.txt: the file can't be read",
         ),
         (
             PlayFault::Read(Input::Bindings),
             5,
-            "cave: a.bind: the file can't be opened or read",
+            "cave: a.bind: the file can't be read",
         ),
         (
             PlayFault::Read(Input::Log),
             5,
-            "cave: a.log: the file can't be opened or read",
+            "cave: a.log: the file can't be read",
         ),
         (
             PlayFault::Read(Input::Script),
             5,
-            "cave: a.script: the file can't be opened or read",
+            "cave: a.script: the file can't be read",
         ),
         (PlayFault::Write, 6, "cave: the output can't be written"),
         (PlayFault::Memory, 7, "cave: there isn't enough memory"),

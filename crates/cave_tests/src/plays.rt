@@ -1,6 +1,6 @@
 //! Plays of the shipped cave, byte by byte.
 
-use crate::caves::{CAVE, LOG};
+use crate::caves::{CAVE, LOG, LONG_LOG, LONG_TEXT};
 use crate::runs::{check, play};
 use cave_data::Cause;
 use cave_play::fault::{LogFault, PlayFault};
@@ -12,6 +12,14 @@ fn a_log_of_motions_is_played(rt: HostRuntime) {
     let want =
         b"[welcome]\n\n> no\nYou stand on a road.\n\n> in\nYou are in a hut.\nA lamp is here.\n\n> down\n[dark]\n-- turns 2\n";
     assert!(rt; play(rt.alloc(), CAVE, LOG).wrote(want.as_slice()));
+}
+
+#[test]
+fn a_log_of_five_lines_is_played(rt: HostRuntime) {
+    let returns = b"no\r\nin\r\ntake lamp\r\non\r\ndown".as_slice();
+    for log in [LONG_LOG, returns] {
+        assert!(rt; play(rt.alloc(), CAVE, log).wrote(LONG_TEXT.as_bytes()));
+    }
 }
 
 #[test]

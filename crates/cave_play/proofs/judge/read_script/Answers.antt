@@ -1,6 +1,8 @@
-use Rattle.std.proofs.Common.{sym, ap, ◌∙◌}
+use Rattle.std.proofs.Common.{subst, sym, ap, ◌∙◌}
+use Rattle.std.specs.Str.Lines.{lines}
 use Rattle.std.proofs.lemmas.Result.{err_from_is_err_and}
-use Rattle.cave_script.specs.Script.{script_of}
+use Rattle.cave_script.specs.Script.{IsScript, script_of}
+use Rattle.cave_script.specs.Shown.{items_of}
 use Rattle.cave_play.proofs.ScriptLemmas.{few_edits}
 use Rattle.cave_play.proofs.JudgeLemmas.{IsDecided-script, script_fault-none, IsDecided-refused}
 use Rattle.cave_play.proofs.judge.read_script.Goals as goal
@@ -14,8 +16,11 @@ returns-in_err-text g c =
 pub returns-in-Ok : goal.returns-in-Ok
 returns-in-Ok g c =
     let (bytes, said, read) = c.in_ok-text.ensures.read in
-    let is = ap script_of (sym (c.deref.ensures.value ∙ read.0)) ∙ c.in-Ok.ensures.script in
-    record { judged = (bytes, said, (script_fault-none bytes _ read.1 is, (is, few_edits c.in-Ok.script.items _ bytes c.in-Ok.ensures.grammar (c.deref.ensures.value ∙ read.0) read.1))) }
+    let items = c.in-Ok.script.items in
+    let same = c.deref.ensures.value ∙ read.0 in
+    let is = ap script_of (sym same) ∙ c.in-Ok.ensures.script in
+    let spelled = subst (λ t. IsScript 1 (lines t) (items_of items)) same c.in-Ok.ensures.grammar in
+    record { judged = (bytes, said, (script_fault-none bytes _ read.1 is, (spelled, few_edits items _ bytes c.in-Ok.ensures.grammar same read.1))) }
 
 pub returns : goal.returns
 returns g c =
