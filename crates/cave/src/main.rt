@@ -29,26 +29,43 @@ impl<'a> Names<'a> {
     }
 }
 
+/// Why a run wasn't done.
+#[derive(Drop)]
+enum Failure {
+    /// The file of the input can't be opened, for a reason of the system's.
+    Unopened(Input, io::Error),
+    Run(PlayFault),
+}
+
 /// Opens the file of an input.
-fn open(rt: &HostRuntime, names: Names<'_>, input: Input) -> Result<File, PlayFault> {
-    File::open(rt, names.of(input)).map_err(|_| PlayFault::Read(input))
+fn open(rt: &HostRuntime, names: Names<'_>, input: Input) -> Result<File, Failure> {
+    match File::open(rt, names.of(input)) {
+        Ok(file) => Ok(file),
+        Err(reason) => {
+            if reason.kind() == io::ErrorKind::OutOfMemory {
+                return Err(Failure::Run(PlayFault::Memory));
+            }
+            Err(Failure::Unopened(input, reason))
+        }
+    }
 }
 
 /// Opens the bindings, where there are any.
-fn open_bindings(rt: &HostRuntime, names: Names<'_>) -> Result<Bindings<File>, PlayFault> {
+fn open_bindings(rt: &HostRuntime, names: Names<'_>) -> Result<Bindings<File>, Failure> {
     if names.files.bind.is_none() {
         return Ok(Bindings::Absent);
     }
     Ok(Bindings::Given(open(rt, names, Input::Bindings)?))
 }
 
-fn check(rt: &HostRuntime, names: Names<'_>) -> Result<(), PlayFault> {
+fn check(rt: &HostRuntime, names: Names<'_>) -> Result<(), Failure> {
     let mut cave = open(rt, names, Input::Cave)?;
     let mut bind = open_bindings(rt, names)?;
-    run_check(rt.alloc(), &mut cave, &mut bind, &mut io::writer(rt))
+    let mut output = io::writer(rt);
+    run_check(rt.alloc(), &mut cave, &mut bind, &mut output).map_err(Failure::Run)
 }
 
-fn play(rt: &HostRuntime, names: Names<'_>, seed: u32) -> Result<(), PlayFault> {
+fn play(rt: &HostRuntime, names: Names<'_>, seed: u32) -> Result<(), Failure> {
     let mut cave = open(rt, names, Input::Cave)?;
     let mut bind = open_bindings(rt, names)?;
     let mut log = open(rt, names, Input::Log)?;
@@ -61,9 +78,10 @@ fn play(rt: &HostRuntime, names: Names<'_>, seed: u32) -> Result<(), PlayFault> 
         seed,
         &mut output,
     )
+    .map_err(Failure::Run)
 }
 
-fn edit(rt: &HostRuntime, names: Names<'_>, seed: u32, every: u32) -> Result<(), PlayFault> {
+fn edit(rt: &HostRuntime, names: Names<'_>, seed: u32, every: u32) -> Result<(), Failure> {
     let mut cave = open(rt, names, Input::Cave)?;
     let mut bind = open_bindings(rt, names)?;
     let mut log = open(rt, names, Input::Log)?;
@@ -79,6 +97,7 @@ fn edit(rt: &HostRuntime, names: Names<'_>, seed: u32, every: u32) -> Result<(),
         every,
         &mut output,
     )
+    .map_err(Failure::Run)
 }
 
 /// Tells a fault in one line, and gives the status that goes with it.
@@ -88,10 +107,15 @@ fn fail(rt: &HostRuntime, fault: PlayFault, file: Option<&str>) -> ExitCode {
 }
 
 /// Tells how a run ended, and gives the status that goes with it.
-fn tell(rt: &HostRuntime, names: Names<'_>, ended: Result<(), PlayFault>) -> ExitCode {
+fn tell(rt: &HostRuntime, names: Names<'_>, ended: Result<(), Failure>) -> ExitCode {
     match ended {
         Ok(()) => ExitCode::SUCCESS,
-        Err(fault) => fail(rt, fault, fault.input().map(|input| names.of(input))),
+        Err(Failure::Run(fault)) => fail(rt, fault, fault.input().map(|input| names.of(input))),
+        Err(Failure::Unopened(input, reason)) => {
+            let file = names.of(input);
+            let _ = eprintln!(rt; "cave: {file}: the file can't be opened: {reason}");
+            ExitCode::from(PlayFault::Read(input).status())
+        }
     }
 }
 
@@ -135,6 +159,9 @@ fn main(rt: HostRuntime) -> ExitCode {
     let words = match env::args(&rt) {
         Ok(words) => words,
         Err(error) => {
+            if error.kind() == io::ErrorKind::OutOfMemory {
+                return fail(&rt, PlayFault::Memory, None);
+            }
             let _ = eprintln!(rt; "cave: the command line can't be read: {error}");
             return ExitCode::from(LineFault::Incomplete.status());
         }

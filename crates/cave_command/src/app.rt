@@ -12,9 +12,9 @@ use clap::Command;
 use std::alloc::{AllocError, Global};
 
 /// What stands under the help of `edit`.
-const EDIT_EXAMPLE: &str = "Example: cave edit caves/a.txt logs/first.log edits.txt
+const EDIT_EXAMPLE: &str = "Example: cave edit caves/a.txt logs/first.log logs/edits.script
 
-where edits.txt may hold the lines
+A script has lines as these:
 
   insert 2 take lamp
   begin

@@ -19,7 +19,7 @@ pub enum LineFault<'a> {
     BadSeed(&'a str),
     #[error("error: invalid value '{0}' for '--every <K>': wanted are 1 to 10 digits, from 1 to 10000\n\nFor more information, try '--help'.\n")]
     BadEvery(&'a str),
-    #[error("error: out of memory\n")]
+    #[error("cave: there isn't enough memory\n")]
     Memory,
 }
 
