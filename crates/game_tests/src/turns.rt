@@ -1,37 +1,11 @@
 //! What lines of a log print.
 
+use crate::hut::{HUT, told};
 use cave_data::Cave;
-use cave_turn::{render, start, turn};
-use cave_words::{Lexicon, Meter, check_line};
+use cave_turn::{render, start};
 use cave_world::Out;
 use std::alloc::Global;
 use std::test::Fail;
-
-/// A road, a hut with a lamp, and a dark cellar.
-const HUT: &str =
-    "1\n1 You stand on a road.\n3 You are in a hut.\n9 You are in a cellar.\n-1\n2\n1 Road.\n3 Hut.\n-1\n3\n1 3 19\n3 1 11\n3 9 30\n9 3 29\n-1\n4\n19 IN\n11 OUT\n29 UP\n30 DOWN\n8 BACK\n57 LOOK\n1002 LAMP\n2001 TAKE\n-1\n5\n2 Lamp\n000 A lamp is here.\n100 A lit lamp is here.\n-1\n7\n2 3\n-1\n9\n0 1 3\n-1\n";
-
-/// The texts that the lines of a log print on the hut's cave with further sections, each behind a bar.
-fn told(alloc: Global, sections: &str, bindings: &str, log: &str) -> Result<Vec<u8>, Fail> {
-    let mut database = Vec::from_slice(alloc, HUT.as_bytes())?;
-    database.extend_from_slice(sections.as_bytes())?;
-    database.extend_from_slice(b"0\n")?;
-    let cave = Cave::read(alloc, database.as_slice(), bindings.as_bytes())?;
-    let lexicon = Lexicon::build(alloc, &cave)?;
-    let mut text = Vec::new(alloc);
-    let mut out = Out::new();
-    let mut state = start(&cave, 0, &mut out);
-    render(&cave, out.as_slice(), 0, &mut text)?;
-    for line in log.as_bytes().split(|byte| *byte == b'/') {
-        check_line(line)?;
-        let mut out = Out::new();
-        let turned = turn(&cave, &lexicon, &state, line, &mut out, &mut Meter::new());
-        state = turned.state;
-        text.extend_from_slice(if turned.ticked { b"|" } else { b"?" })?;
-        render(&cave, out.as_slice(), 0, &mut text)?;
-    }
-    Ok(text)
-}
 
 #[test]
 fn plays_a_cave(rt: HostRuntime) -> Result<(), Fail> {
@@ -67,6 +41,14 @@ fn plays_a_cave(rt: HostRuntime) -> Result<(), Fail> {
         (
             "no/in/back/back",
             "[welcome]\n?You stand on a road.\n|You are in a hut.\nA lamp is here.\n|Road.\n|Hut.\nA lamp is here.\n",
+        ),
+        (
+            "no/in/out/in",
+            "[welcome]\n?You stand on a road.\n|You are in a hut.\nA lamp is here.\n|Road.\n|Hut.\nA lamp is here.\n",
+        ),
+        (
+            "no/up/out/in",
+            "[welcome]\n?You stand on a road.\n|[no-dir]\nRoad.\n|[inout]\nRoad.\n|You are in a hut.\nA lamp is here.\n",
         ),
         (
             "no/enter in/enter water",
@@ -134,7 +116,19 @@ fn travels_by_conditions(rt: HostRuntime) -> Result<(), Fail> {
             "no/enter stream",
             "[feet-wet]\n",
         ),
-        ("3\n1 0 45\n-1\n4\n45 NORTH\n-1\n", "", "no/north/in", "?"),
+        (
+            "4\n1005 BOTTL\n1005 WATER\n-1\n9\n2 1\n-1\n",
+            "",
+            "no/enter water",
+            "[where]\n",
+        ),
+        (
+            "4\n1005 WATER\n-1\n9\n2 1\n1 1\n-1\n",
+            "",
+            "no/enter water",
+            "[where]\n",
+        ),
+        ("3\n1 0 45\n-1\n4\n45 NORTH\n-1\n", "", "no/north/in", "|?"),
         (
             "1\n13 Round.\n-1\n3\n3 14 45\n14 13 1\n13 14 1\n-1\n4\n45 NORTH\n-1\n",
             "",
@@ -148,22 +142,6 @@ fn travels_by_conditions(rt: HostRuntime) -> Result<(), Fail> {
             "at {sections}{log}"
         );
     }
-    Ok(())
-}
-
-#[test]
-fn tells_two_hundred_halves(rt: HostRuntime) -> Result<(), Fail> {
-    let mut sections = String::from_str(rt.alloc(), "5\n")?;
-    for number in 3..100 {
-        sections.push_str(format!(in rt.alloc(); "{number} X\n000 Here.\n")?.as_str())?;
-    }
-    sections.push_str("-1\n7\n")?;
-    for number in 3..100 {
-        sections.push_str(format!(in rt.alloc(); "{number} 1 1\n")?.as_str())?;
-    }
-    sections.push_str("-1\n")?;
-    let text = told(rt.alloc(), sections.as_str(), "", "no")?;
-    assert_eq!(rt; text.as_slice().len(), 10 + 1 + 21 + 6 * 2 * 97);
     Ok(())
 }
 
