@@ -3,10 +3,8 @@ use Rattle.std.proofs.Common.{◌≡◌, ℕ, ◌+◌, ◌-◌, ◌<◌, ◌≤�
 use Rattle.std.specs.Prelude.{slice_index, if◌then◌else◌}
 use borrow.Author.Tests.{ltb-true, ltb-false}
 use Rattle.std.proofs.lemmas.List.{length_push}
-use Rattle.cave_marks.specs.Spacing.{most_spaced}
 use Rattle.cave_marks.specs.Thinning.{IsThinned}
 use Rattle.cave_marks.specs.Marks.{IsSound, is_far}
-use Rattle.cave_marks.proofs.Counts.{count_from}
 use Rattle.cave_marks.proofs.Runs.{at_left}
 use Rattle.cave_marks.proofs.Thinned.{thinned_keep, thinned_pass}
 
@@ -17,10 +15,6 @@ last_at places i e = let at : i ≡ length places - 1 = omega arith in ap (slice
 module _ (start from every : ℕ) (places : List ℕ) (next place : ℕ) (t : IsThinned start from every places next) (up : next ≤ place) (near : place ≤ next + every) (far : slice_index places (length places - 1) + every < place) where
   pub kept_thinned : IsThinned start from every (places ++ next ∷ []) place
   kept_thinned = thinned_keep start from every places next place t (λ i e. omega (arith, last_at places i e)) up near
-
-  -- and there is room for it
-  pub room_for : (end room : ℕ) → place ≤ end → most_spaced every (end - start) ≤ room → length places < room
-  room_for end room within enough = omega (arith, count_from start every (places ++ next ∷ []) place (end - start) kept_thinned.spaced (omega arith), length_push places next)
 
 before_at : (start from every : ℕ) (places : List ℕ) (next place : ℕ) → IsThinned start from every places next → next ≤ place → place ≤ next + every → (far : Bool) → is_far every places place ≡ far → (places' : List ℕ) → places' ≡ (if far then places ++ next ∷ [] else places) → IsThinned start from every places' place
 before_at start from every places next place t up near true test places' p =
@@ -33,28 +27,36 @@ before_at start from every places next place t up near false test places' p =
 pub thinned_before : (start from every : ℕ) (places : List ℕ) (next place : ℕ) → IsThinned start from every places next → next ≤ place → place ≤ next + every → (places' : List ℕ) → places' ≡ (if is_far every places place then places ++ next ∷ [] else places) → IsThinned start from every places' place
 thinned_before start from every places next place t up near places' p = before_at start from every places next place t up near (is_far every places place) refl places' p
 
-offered_at : {S : Type 0} (every end from : ℕ) (places : List ℕ) (states : List S) (next : ℕ) (state : S) (room place : ℕ) (places' : List ℕ) (states' : List S) (room' : ℕ) → IsSound every end from places (length states) next room → next ≤ place → place ≤ next + every → place ≤ end → (far : Bool) → is_far every places place ≡ far → places' ≡ (if far then places ++ next ∷ [] else places) → states' ≡ (if far then states ++ state ∷ [] else states) → room' ≡ room → IsSound every end from places' (length states') place room'
-offered_at every end from places states next state room place places' states' room' sound up near within true test p s r =
+offered_at : {S : Type 0} (every end from : ℕ) (places : List ℕ) (states : List S) (next : ℕ) (state : S) (room place : ℕ) (places' : List ℕ) (states' : List S) (room' : ℕ) → IsSound every end from places (length states) next room → next ≤ place → place ≤ next + every → place ≤ end → (far : Bool) → is_far every places place ≡ far → places' ≡ (if far then places ++ next ∷ [] else places) → states' ≡ (if far then states ++ state ∷ [] else states) → length places' < room' → IsSound every end from places' (length states') place room'
+offered_at every end from places states next state room place places' states' room' sound up near within true test p s enough =
     let far : slice_index places (length places - 1) + every < place = ltb-true _ _ test in
     let start = slice_index places 0 in
     let same : slice_index (places ++ next ∷ []) 0 ≡ start = at_left places (next ∷ []) 0 sound.thinned.spaced.some in
     let thinned : IsThinned start from every (places ++ next ∷ []) place = kept_thinned start from every places next place sound.thinned up near far in
-    rw (p, s, r) (record {
+    rw (p, s) (record {
       thinned = rw same thinned;
       within = within;
       even = omega (arith, length_push places next, length_push states state, sound.even);
-      enough = rw same sound.enough;
+      enough = rw p at enough;
     })
-offered_at every end from places states next state room place places' states' room' sound up near within false test p s r =
+offered_at every end from places states next state room place places' states' room' sound up near within false test p s enough =
     let close : place ≤ slice_index places (length places - 1) + every = ltb-false _ _ test in
-    rw (p, s, r) (record {
+    rw (p, s) (record {
       thinned = thinned_pass (slice_index places 0) from every places next place sound.thinned (λ i e. omega (arith, last_at places i e)) up;
       within = within;
       even = sound.even;
-      enough = sound.enough;
+      enough = rw p at enough;
     })
 
 -- marks stay sound as they are offered the next place
-pub offered : {S : Type 0} (every end from : ℕ) (places : List ℕ) (states : List S) (next : ℕ) (state : S) (room place : ℕ) (places' : List ℕ) (states' : List S) (room' : ℕ) → IsSound every end from places (length states) next room → next ≤ place → place ≤ next + every → place ≤ end → places' ≡ (if is_far every places place then places ++ next ∷ [] else places) → states' ≡ (if is_far every places place then states ++ state ∷ [] else states) → room' ≡ room → IsSound every end from places' (length states') place room'
-offered every end from places states next state room place places' states' room' sound up near within p s r =
-    offered_at every end from places states next state room place places' states' room' sound up near within (is_far every places place) refl p s r
+pub offered : {S : Type 0} (every end from : ℕ) (places : List ℕ) (states : List S) (next : ℕ) (state : S) (room place : ℕ) (places' : List ℕ) (states' : List S) (room' : ℕ) → IsSound every end from places (length states) next room → next ≤ place → place ≤ next + every → place ≤ end → places' ≡ (if is_far every places place then places ++ next ∷ [] else places) → states' ≡ (if is_far every places place then states ++ state ∷ [] else states) → length places' < room' → IsSound every end from places' (length states') place room'
+offered every end from places states next state room place places' states' room' sound up near within p s enough =
+    offered_at every end from places states next state room place places' states' room' sound up near within (is_far every places place) refl p s enough
+
+room_by : (places : List ℕ) (next room : ℕ) (places' : List ℕ) (far : Bool) → places' ≡ (if far then places ++ next ∷ [] else places) → length places + 2 ≤ room → length places' < room
+room_by places next room places' true p enough = rw p (omega (arith, length_push places next))
+room_by places next room places' false p enough = rw p (omega arith)
+
+-- room for two more is room for the place that was open and the one that is now
+pub room_after : (every : ℕ) (places : List ℕ) (next place room room' : ℕ) (places' : List ℕ) → places' ≡ (if is_far every places place then places ++ next ∷ [] else places) → length places + 2 ≤ room → room' ≡ room → length places' < room'
+room_after every places next place room room' places' p enough same = rw same (room_by places next room places' (is_far every places place) p enough)

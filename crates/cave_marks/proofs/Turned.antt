@@ -1,9 +1,8 @@
 -- A list in four parts, and what rotating its middle makes of it.
 use Rattle.std.proofs.Common.{◌≡◌, ℕ, ◌+◌, ◌-◌, ◌≤◌, List, [], ◌++◌, length, take, drop, arith, sym, refl, ◌∙◌, ap, append_assoc, length-append}
-use Rattle.std.proofs.lemmas.List.{take_at, drop_at, append-nil, length-take-le, length-drop}
+use Rattle.std.proofs.lemmas.List.{take_at, drop_at, append-nil, take-append-drop, length-take-le, length-drop}
 use Rattle.std.proofs.lemmas.List.Edits.{split_between, length-between}
 use Rattle.std.specs.Prelude.{slice_range}
-use Rattle.std.specs.List.{splice}
 use borrow.Rule.Slice.PartMut.{put_mid, mid_of}
 
 -- the middle two parts as `items[from..to]` shows them
@@ -25,22 +24,23 @@ turned xs ys a b c d from to count whole p q r e =
     let parts : ys ≡ c ++ b = e ∙ ap (λ t. drop count t ++ take count t) mid ∙ ap (λ t. t ++ take count (b ++ c)) (drop_at b c count q) ∙ ap (λ t. c ++ t) (take_at b c count q) in
     ap (λ t. put_mid from (to - from) t ys) regroup ∙ put_middle a (b ++ c) d ys from (to - from) p len ∙ ap (λ t. a ++ (t ++ d)) parts ∙ ap (λ t. a ++ t) (append_assoc c b d)
 
--- after two turns: `d`, which stood at the end, takes the place of `b`
-pub brought : {X : Type 0} (xs ys zs a b c d : List X) (from to end : ℕ) → ((a b c d : List X) → xs ≡ a ++ (b ++ (c ++ d)) → length a ≡ from → length b ≡ to - from → from + (to - from) + length c ≡ length xs → ys ≡ a ++ (c ++ (b ++ d))) → ((a b c d : List X) → ys ≡ a ++ (b ++ (c ++ d)) → length a ≡ from → length b ≡ end - to → from + (end - to) + length c ≡ length xs - (to - from) → zs ≡ a ++ (c ++ (b ++ d))) → xs ≡ a ++ (b ++ (c ++ d)) → length a ≡ from → from + length b ≡ to → to + length c ≡ end → zs ≡ a ++ (d ++ (c ++ b))
-brought xs ys zs a b c d from to end first second whole p q r =
-    let parts : length xs ≡ length a + (length b + (length c + length d)) = ap length whole ∙ simp length-append in
-    let first_whole : xs ≡ a ++ (b ++ ((c ++ d) ++ [])) = whole ∙ ap (λ t. a ++ (b ++ t)) (sym (append-nil (c ++ d))) in
-    let after_first : ys ≡ a ++ ((c ++ d) ++ (b ++ [])) = first a b (c ++ d) [] first_whole p (omega arith) (omega (arith, length-append c d)) in
-    let second_whole : ys ≡ a ++ (c ++ (d ++ b)) = after_first ∙ ap (λ t. a ++ ((c ++ d) ++ t)) (append-nil b) ∙ ap (λ t. a ++ t) (append_assoc c d b) in
-    second a c d b second_whole p (omega arith) (omega arith)
+-- after a turn that brings a stretch to the end, where it is cut off
+pub taken_out : {X : Type 0} (xs ys : List X) (from to : ℕ) → from ≤ to → to ≤ length xs → ((a b c d : List X) → xs ≡ a ++ (b ++ (c ++ d)) → length a ≡ from → length b ≡ to - from → from + (to - from) + length c ≡ length xs → ys ≡ a ++ (c ++ (b ++ d))) → take (length xs - (to - from)) ys ≡ take from xs ++ drop to xs
+taken_out xs ys from to ordered within turn =
+    let front = length-take-le from xs (omega arith) in
+    let back = length-drop to xs in
+    let whole : xs ≡ take from xs ++ (slice_range xs from to ++ (drop to xs ++ [])) = split_between xs from to ordered ∙ ap (λ t. take from xs ++ (slice_range xs from to ++ t)) (sym (append-nil (drop to xs))) in
+    let result : ys ≡ take from xs ++ (drop to xs ++ (slice_range xs from to ++ [])) = turn (take from xs) (slice_range xs from to) (drop to xs) [] whole front (length-between xs from to within) (omega arith) in
+    ap (take (length xs - (to - from))) (result ∙ sym (append_assoc (take from xs) (drop to xs) (slice_range xs from to ++ [])))
+    ∙ take_at (take from xs ++ drop to xs) (slice_range xs from to ++ []) (length xs - (to - from)) (omega (arith, length-append (take from xs) (drop to xs)))
 
--- what `splice` and the stretch behind it come to
-pub moved_in : {X : Type 0} (xs ms ys : List X) (from to : ℕ) → from ≤ to → to ≤ length xs → ((a b c d : List X) → xs ++ ms ≡ a ++ (b ++ (c ++ d)) → length a ≡ from → from + length b ≡ to → to + length c ≡ length xs → ys ≡ a ++ (d ++ (c ++ b))) → ys ≡ splice xs from to ms ++ slice_range xs from to
-moved_in xs ms ys from to ordered within turn =
-    let whole : xs ≡ take from xs ++ (slice_range xs from to ++ drop to xs) = split_between xs from to ordered in
-    let joined : xs ++ ms ≡ take from xs ++ (slice_range xs from to ++ (drop to xs ++ ms)) = ap (λ t. t ++ ms) whole ∙ append_assoc (take from xs) (slice_range xs from to ++ drop to xs) ms ∙ ap (λ t. take from xs ++ t) (append_assoc (slice_range xs from to) (drop to xs) ms) in
-    let result : ys ≡ take from xs ++ (ms ++ (drop to xs ++ slice_range xs from to)) = turn (take from xs) (slice_range xs from to) (drop to xs) ms joined (length-take-le from xs (omega arith)) (omega (arith, length-between xs from to within)) (omega (arith, length-drop to xs)) in
-    result ∙ ap (λ t. take from xs ++ t) (sym (append_assoc ms (drop to xs) (slice_range xs from to))) ∙ sym (append_assoc (take from xs) (ms ++ drop to xs) (slice_range xs from to))
+-- after a turn that brings what was added to its place
+pub brought_in : {X : Type 0} (xs ms ys : List X) (at : ℕ) → at ≤ length xs → ((a b c d : List X) → xs ++ ms ≡ a ++ (b ++ (c ++ d)) → length a ≡ at → length b ≡ length xs - at → at + (length xs - at) + length c ≡ length xs + length ms → ys ≡ a ++ (c ++ (b ++ d))) → ys ≡ take at xs ++ (ms ++ drop at xs)
+brought_in xs ms ys at within turn =
+    let front = length-take-le at xs within in
+    let whole : xs ++ ms ≡ take at xs ++ (drop at xs ++ (ms ++ [])) =
+    ap (λ t. t ++ ms) (sym (take-append-drop at xs)) ∙ append_assoc (take at xs) (drop at xs) ms ∙ ap (λ t. take at xs ++ (drop at xs ++ t)) (sym (append-nil ms)) in
+    turn (take at xs) (drop at xs) ms [] whole front (length-drop at xs) (omega arith) ∙ ap (λ t. take at xs ++ (ms ++ t)) (append-nil (drop at xs))
 
 -- the items of a Vec that was lent as a slice of its length
 pub lent_items : {X : Type 0} (n : ℕ) (ys zs : List X) → length ys ≡ n → take n (ys ++ zs) ≡ ys

@@ -1,6 +1,6 @@
 -- What contracts see of marks that are being thinned, and of the checkpoints of a log.
 use Rattle.std.specs.Prelude.{◌≡◌, ℕ, ◌+◌, ◌-◌, ◌<◌, ◌≤◌, Bool, nat_lt, if◌then◌else◌, List, [], ◌∷◌, ◌++◌, length, take, drop, slice_index}
-use Rattle.cave_marks.specs.Spacing.{IsSpaced, most_spaced}
+use Rattle.cave_marks.specs.Spacing.{IsSpaced}
 use Rattle.cave_marks.specs.Thinning.{IsThinned, moved}
 
 -- The stream began with the first of `places` and `from`. Its last place, `next`, is still open;
@@ -40,7 +40,7 @@ pub record IsSound (every end from : ℕ) (places : List ℕ) (states next room 
   pub thinned : IsThinned (slice_index places 0) from every places next
   pub within : next ≤ end
   pub even : states ≡ length places
-  pub enough : most_spaced every (end - slice_index places 0) ≤ room
+  pub enough : length places < room
 
 -- `marks` began at the checkpoint of the index `at`, with the one before it
 pub record IsBegunAt {S : Type 0} (checkpoints : Spaced S) (at : ℕ) (marks : Thinned S) :

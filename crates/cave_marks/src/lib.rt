@@ -7,13 +7,13 @@
 //!
 //! - [`Checkpoints`] are spaced, always: 0 is one, none is past the end, neighbours and the last
 //!   one and the end are at most `every` apart, and two gaps that follow one another together exceed
-//!   `every`. So there are at most [`most_places`] of them.
+//!   `every`. So there are at most `2 (n / (every + 1)) + 2` of them in a log of n lines.
 //! - [`Marks`] are the new checkpoints of a play that goes on: each place is offered, each at most
 //!   `every` behind the one before it, and the place offered last is kept only where the next one
 //!   lies more than `every` past the last one kept.
 //! - [`Checkpoints::meet`] and [`Checkpoints::replace_from`] take marks over. The checkpoints before
 //!   stay where they are, and those behind move with the one that was met.
-//! - [`splice`] and [`exchange`] put a stretch into a list in the place of another.
+//! - [`splice`] puts a stretch into a list in the place of another.
 //! - [`Ticks`] keep one truth value for each line, and how many of the first lines are true.
 //!
 //! What an edit costs here, beside one offer for each place that is played:
@@ -21,12 +21,13 @@
 //! | Step | Cost |
 //! |---|---|
 //! | `last_to`, `first_from` | a binary search |
-//! | `Checkpoints::marks` | two states copied, and room taken for those to come |
+//! | `Checkpoints::marks` | two states copied |
+//! | `Marks::offer` | a comparison, and a state copied where it is kept; room doubles as it runs out |
 //! | `meet`, `replace_from` | a block move of the checkpoints behind the edit; a pass over their places where the length changed |
-//! | `splice`, `exchange` | the stretch item by item where it keeps its length, else a block move of the items behind it |
+//! | `splice` | the stretch item by item where it keeps its length, else a block move of the items behind it |
 //! | `Ticks::splice` | those block moves; a pass over the counts behind where the number of ticks changed |
 //!
-//! None of these takes memory but `Checkpoints::marks`, `reserve`, and what makes or copies a list.
+//! None of these takes memory but `Checkpoints::marks`, `offer`, `reserve`, and what makes or copies a list.
 #![tactic(auto)]
 
 mod checkpoints;
@@ -34,7 +35,6 @@ mod marks;
 mod placed;
 mod search;
 mod shift;
-mod spacing;
 mod stretch;
 #[cfg(test)]
 mod tests;
@@ -43,6 +43,5 @@ mod ticks;
 pub use checkpoints::Checkpoints;
 pub use marks::Marks;
 pub use search::{first_from, last_to};
-pub use spacing::most_places;
-pub use stretch::{exchange, splice};
+pub use stretch::splice;
 pub use ticks::Ticks;

@@ -1,16 +1,15 @@
-ghost use Rattle.std.specs.Prelude.{◌≡◌, ℕ, ◌+◌, ◌-◌, ◌<◌, ◌≤◌, ◌^◌, [], ◌∷◌, ◌++◌, length, slice_index, IfOk};
+ghost use Rattle.std.specs.Prelude.{◌≡◌, ℕ, ◌+◌, ◌-◌, ◌<◌, ◌≤◌, ◌^◌, [], ◌∷◌, ◌++◌, length, slice_index, IfOk, OnOk, OnErr};
 ghost use Rattle.cave_marks.specs.Marks.{places_before, states_before};
 ghost use Rattle.cave_marks.specs.Thinning.{IsThinned};
 
 use crate::placed::PlacedStates;
-use crate::spacing::most_places;
 use std::alloc::{AllocError, Global};
 use std::marker::Model;
 
 /// Places that are offered in rising order, of which those are kept that a log's checkpoints need.
 ///
 /// The place offered last stays open: it is kept only where the next one lies more than `every`
-/// past the last one kept. Room for all is taken at the start, so no offer can be refused.
+/// past the last one kept. Room is taken as places are offered, and there is always room to keep the open one.
 #[derive(Drop)]
 pub struct Marks<S: Copy> {
     every: u32,
@@ -73,7 +72,7 @@ impl<S: Copy> Marks<S> {
         ensures kept { IfOk result (λ marks. (marks.places ≡ start ∷ [])
             × (marks.states ≡ start_state ∷ [])) }
     {
-        let mut kept = PlacedStates::with_room(alloc, most_places(every, end - start))?;
+        let mut kept = PlacedStates::with_room(alloc, 2)?;
         kept.push(start, start_state);
         Ok(Marks {
             every,
@@ -86,21 +85,24 @@ impl<S: Copy> Marks<S> {
     }
 
     /// Offers the next place. The one before it, which was open till now, is kept if it has to be.
-    pub fn offer(&mut self, place: u32, state: S)
+    pub fn offer(&mut self, place: u32, state: S) -> Result<(), AllocError>
         requires later { self.old.next < place }
         requires near { place ≤ self.old.next + self.old.every }
         requires within { place ≤ self.old.end }
-        ensures places { self.new.places ≡ places_before self.old place }
-        ensures states { self.new.states ≡ states_before self.old place }
+        ensures places { OnOk result (self.new.places ≡ places_before self.old place) }
+        ensures states { OnOk result (self.new.states ≡ states_before self.old place) }
         ensures start { slice_index self.new.places 0 ≡ slice_index self.old.places 0 }
-        ensures open { (self.new.next ≡ place) × (self.new.state ≡ state) }
+        ensures open { OnOk result ((self.new.next ≡ place) × (self.new.state ≡ state)) }
         ensures settings { (self.new.every ≡ self.old.every) × (self.new.end ≡ self.old.end)
             × (self.new.from ≡ self.old.from) }
+        ensures refused { OnErr result (self.new ≡ self.old) }
     {
+        self.kept.reserve(2)?;
         self.kept
             .push_before(self.next, self.state, self.every, place);
         self.next = place;
         self.state = state;
+        Ok(())
     }
 
     /// How many are kept, without the open one.

@@ -76,6 +76,7 @@ impl<S: Copy> PlacedStates<S> {
         ensures places { self.new.places ≡ self.old.places }
         ensures states { self.new.states ≡ self.old.states }
         ensures room { OnOk result (length self.new.places + additional ≤ self.new.room) }
+        ensures more { self.old.room ≤ self.new.room }
     {
         self.places.reserve(additional)?;
         self.states.reserve(additional)?;
@@ -114,7 +115,7 @@ impl<S: Copy> PlacedStates<S> {
     pub fn splice(&mut self, from: usize, to: usize, mut middle: PlacedStates<S>)
         requires ordered { from ≤ to }
         requires within { to ≤ length self.old.places }
-        requires room { length self.old.places + length middle.places ≤ self.old.room }
+        requires room { length self.old.places + length middle.places ≤ self.old.room + (to - from) }
         ensures places { self.new.places ≡ splice self.old.places from to middle.places }
         ensures states { self.new.states ≡ splice self.old.states from to middle.states }
         ensures room { self.old.room ≤ self.new.room }

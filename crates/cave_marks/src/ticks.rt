@@ -1,4 +1,4 @@
-ghost use Rattle.std.specs.Prelude.{◌≡◌, ◌+◌, ◌<◌, ◌≤◌, ◌^◌, [], ◌∷◌, ◌++◌, length, slice_get, Some, IfOk, OnOk, OnErr};
+ghost use Rattle.std.specs.Prelude.{◌≡◌, ◌+◌, ◌-◌, ◌<◌, ◌≤◌, ◌^◌, [], ◌∷◌, ◌++◌, length, slice_get, Some, IfOk, OnOk, OnErr};
 ghost use Rattle.std.specs.List.{splice};
 ghost use Rattle.cave_marks.specs.Ticks.{ticks};
 
@@ -117,7 +117,7 @@ impl Ticks {
     pub fn splice(&mut self, from: usize, to: usize, mut middle: Ticks)
         requires ordered { from ≤ to }
         requires within { to ≤ length self.old.ticked }
-        requires room { length self.old.ticked + length middle.ticked ≤ self.old.room }
+        requires room { length self.old.ticked + length middle.ticked ≤ self.old.room + (to - from) }
         requires short { length self.old.ticked + length middle.ticked < 2 ^ 32 }
         ensures ticked { self.new.ticked ≡ splice self.old.ticked from to middle.ticked }
         ensures room { self.old.room ≤ self.new.room }

@@ -2,7 +2,7 @@
 use Rattle.std.proofs.Common.{◌≡◌, ℕ, ◌+◌, ◌-◌, ◌<◌, ◌≤◌, inl, inr, Bool, List, length, take, refl, sym, ap, ◌∙◌, arith, Option, Some, None}
 use Rattle.std.specs.Prelude.{slice_index, MatchOption, unwrap_or}
 use Rattle.std.specs.List.{splice}
-use Rattle.std.specs.Option.{option_map}
+use Rattle.std.specs.Option.{option_map, ForSome}
 use Rattle.std.proofs.Math.Seq.{take-length}
 use Rattle.std.proofs.lemmas.Bool.{cases_lt}
 use Rattle.std.proofs.lemmas.List.{get_or_default, length-append, length-take}
@@ -16,7 +16,7 @@ use Rattle.cave_replay.specs.Held.{IsGame, IsKept}
 use Rattle.cave_replay.specs.Agreement.{state_at, IsMeet, IsLastTo}
 use Rattle.cave_replay.specs.Replay.{IsShift, ticks_at, AreStates, IsReplayed}
 use Rattle.cave_replay.specs.Report.{IsReport}
-use Rattle.cave_replay.specs.Taken.{end_of_stretch, new_places, new_states, new_state}
+use Rattle.cave_replay.specs.Taken.{end_of_stretch, passed, HasRoom, new_places, new_states, new_state}
 use Rattle.cave_replay.proofs.Bounds.{bounded_to, near_last, contains_at}
 use Rattle.cave_replay.proofs.Joins.{met_texts, met_ticks, met_state, end_texts, end_ticks, met_states, end_states}
 use Rattle.cave_replay.proofs.Plays.{length-pieces, length-ticks, length-ticks_of}
@@ -120,6 +120,25 @@ module _ {State S T : Type 0} (meaning : State → S) (is_state : State → Type
         bounded = rw (← game, ← head_is, ← tail_is) (bounded_to rules old new head tail shift C.every C.places spaced' some (slice_index C.places at) near marks.next replayed.within replayed.none_before (marks.next - slice_index C.places at) (omega arith));
       }
 
+  -- the checkpoint that the replay met is there, and the replay passed the one at which it began
+  pub met_inside : (met : Option ℕ) → IsReplayed meaning is_state rules old new head tail C at opening pieces ticks marks met → (at ≤ passed C met) × ForSome met (λ index. index < length C.places)
+  met_inside None replayed =
+      let among = replayed.begun.among in
+      (omega arith, λ index is. cc)
+  met_inside (Some met) replayed =
+      let inside = replayed.met_is.0 in
+      let agrees = replayed.met_is.1 in
+      let late = agrees.late in
+      let within = agrees.within in
+      let count = kept.lines in
+      let fits = shift.within_old in
+      let low = replayed.not_after in
+      let ordered : at ≤ met = elim (cases_lt met at) [
+        | inl before ↦ (let rising = rising_lt C.places spaced.rising met at before replayed.begun.among in omega arith)
+        | inr upto ↦ upto
+      ] in
+      (ordered, λ index is. let e : met ≡ index = cc in rw (← e) inside)
+
   pub met_ready : (met : Option ℕ) → IsReplayed meaning is_state rules old new head tail C at opening pieces ticks marks met → (C1 : Spaced State) → C1.lines ≡ C.lines → C1.places ≡ C.places
       → MatchOption met (marks.next ≡ marks.end) (λ index. (at ≤ index) × (index < length C1.places) × (C1.lines - slice_index C1.places index + marks.next ≡ marks.end))
   met_ready None replayed C1 lines places = replayed.met_is.0 ∙ sym replayed.end
@@ -160,6 +179,11 @@ places_same C1 C places marks at (Some index) = rw places refl
 pub states_same : {State : Type 0} (C1 C : Spaced State) → C1.places ≡ C.places → C1.states ≡ C.states → (marks : Thinned State) (at : ℕ) (met : Option ℕ) → new_states C1 marks at met ≡ new_states C marks at met
 states_same C1 C places states marks at None = rw states refl
 states_same C1 C places states marks at (Some index) = rw (places, states) refl
+
+-- the room that was taken is there for the checkpoints as they are
+pub room_ready : {State : Type 0} (C1 C : Spaced State) → C1.places ≡ C.places → (marks : Thinned State) (at : ℕ) (met : Option ℕ) → HasRoom C1 marks at (passed C met) → HasRoom C1 marks at (passed C1 met)
+room_ready C1 C places marks at None enough = let same = ap length places in omega arith
+room_ready C1 C places marks at (Some index) enough = enough
 
 pub opened_text : {P T : Type 0} (text : P → T) (opening : Option P) (new was old : P) → was ≡ old → MatchOption opening (new ≡ was) (λ piece. new ≡ piece) → MatchOption (option_map text opening) (text new ≡ text old) (λ said. text new ≡ said)
 opened_text text None new was old same m = ap text (m ∙ same)

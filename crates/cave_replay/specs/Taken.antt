@@ -1,11 +1,21 @@
 -- What is left when a replay is taken over.
-use Rattle.std.specs.Prelude.{ℕ, ◌-◌, List, ◌++◌, take, slice_index, Option, Some, None}
+use Rattle.std.specs.Prelude.{ℕ, ◌+◌, ◌-◌, ◌≤◌, List, ◌++◌, length, take, slice_index, Option, Some, None}
 use Rattle.cave_marks.specs.Marks.{Thinned, Spaced, places_met, states_met}
 
 -- the old place up to which what was played comes in: the checkpoint that was met, or the end
 abbrev pub end_of_stretch : {S : Type 0} → Spaced S → Option ℕ → ℕ
 end_of_stretch checkpoints None = checkpoints.lines
 end_of_stretch checkpoints (Some index) = slice_index checkpoints.places index
+
+-- how many checkpoints stand before that place, or all of them where it is the end
+abbrev pub passed : {S : Type 0} → Spaced S → Option ℕ → ℕ
+passed checkpoints None = length checkpoints.places
+passed checkpoints (Some index) = index
+
+-- There is room for the checkpoints that the marks of a replay from the one of the index `at` leave, where those that
+-- it passed go.
+abbrev pub HasRoom : {S : Type 0} → Spaced S → Thinned S → ℕ → ℕ → Type 0
+HasRoom checkpoints marks at count = length checkpoints.places + length marks.places + (at - 1) ≤ checkpoints.room + count
 
 -- the checkpoints after a replay from the one of the index `at`, and their states
 abbrev pub new_places : {S : Type 0} → Spaced S → Thinned S → ℕ → Option ℕ → List ℕ

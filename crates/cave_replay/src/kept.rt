@@ -6,7 +6,7 @@ ghost use Rattle.cave_replay.specs.Log.{log_of};
 ghost use Rattle.cave_replay.specs.Play.{game_of};
 ghost use Rattle.cave_replay.specs.Change.{changes_of, apply_all, inverses_of};
 ghost use Rattle.cave_replay.specs.Faults.{fault_of_all};
-ghost use Rattle.cave_replay.specs.Taken.{end_of_stretch, new_places, new_states, new_state};
+ghost use Rattle.cave_replay.specs.Taken.{end_of_stretch, passed, HasRoom, new_places, new_states, new_state};
 
 use crate::change::Changed;
 use crate::edit::Edit;
@@ -28,12 +28,28 @@ pub(crate) struct Kept<M: Machine> {
     pub(crate) state: M::State,
 }
 
-/// Takes room for what is to be taken over. What is kept stays as it is.
+/// How many checkpoints stand before the one at which a replay met the old play; all of them if it met it nowhere.
+fn passed<S: Copy>(checkpoints: &Checkpoints<S>, met: Option<usize>) -> usize
+    requires { ForSome met (λ index. index < length checkpoints.now.places) }
+    ensures count { result ≡ passed checkpoints.now met }
+    ensures within { result ≤ length checkpoints.now.places }
+{
+    match met {
+        Some(index) => index,
+        None => checkpoints.places().len(),
+    }
+}
+
+/// Takes room for what is to be taken over, where the replay began at the checkpoint of the index `at`. What is kept
+/// stays as it is.
 pub(crate) fn make_room<M: Machine>(
     kept: &mut Kept<M>,
     changed: &Changed,
     played: &Played<M>,
+    at: usize,
 ) -> Result<(), AllocError>
+    requires passed { at ≤ passed kept.old.checkpoints played.now.met }
+    requires met { ForSome played.now.met (λ index. index < length kept.old.checkpoints.places) }
     ensures seed { kept.new.seed ≡ kept.old.seed }
     ensures log { kept.new.log.items ≡ kept.old.log.items }
     ensures opening { kept.new.opening ≡ kept.old.opening }
@@ -46,12 +62,14 @@ pub(crate) fn make_room<M: Machine>(
     ensures room_log { OnOk result (vec_len kept.new.log + vec_len changed.now.edits ≤ vec_capacity kept.new.log) }
     ensures room_pieces { OnOk result (vec_len kept.new.pieces + vec_len played.now.pieces ≤ vec_capacity kept.new.pieces) }
     ensures room_ticked { OnOk result (length kept.new.ticked.ticked + length played.now.ticked.ticked ≤ kept.new.ticked.room) }
-    ensures room_marks { OnOk result (length kept.new.checkpoints.places + length played.now.marks.places < kept.new.checkpoints.room) }
+    ensures room_marks { OnOk result (HasRoom kept.new.checkpoints played.now.marks at (passed kept.old.checkpoints played.now.met)) }
 {
     kept.log.reserve(changed.edits.len())?;
     kept.pieces.reserve(played.pieces.len())?;
     kept.ticked.reserve(played.ticked.len())?;
-    kept.checkpoints.reserve(played.marks.len() + 1)?;
+    let going = passed(&kept.checkpoints, played.met) - at.saturating_sub(1);
+    kept.checkpoints
+        .reserve(played.marks.len().saturating_sub(going))?;
     Ok(())
 }
 
@@ -86,7 +104,7 @@ fn take_marks<S: Copy>(
 )
     requires begun { IsBegunAt checkpoints.old at marks }
     requires end { MatchOption met (marks.next ≡ marks.end) (λ index. (at ≤ index) × (index < length checkpoints.old.places) × (checkpoints.old.lines - slice_index checkpoints.old.places index + marks.next ≡ marks.end)) }
-    requires room { length checkpoints.old.places + length marks.places < checkpoints.old.room }
+    requires room { HasRoom checkpoints.old marks at (passed checkpoints.old met) }
     ensures settings { (checkpoints.new.every ≡ checkpoints.old.every) × (checkpoints.new.lines ≡ marks.end) }
     ensures places { checkpoints.new.places ≡ new_places checkpoints.old marks at met }
     ensures states { checkpoints.new.states ≡ new_states checkpoints.old marks at met }
@@ -121,7 +139,7 @@ pub(crate) fn take_over<M: Machine>(
     requires room_log { vec_len kept.old.log + vec_len changed.edits ≤ vec_capacity kept.old.log }
     requires room_pieces { vec_len kept.old.pieces + vec_len played.pieces ≤ vec_capacity kept.old.pieces }
     requires room_ticked { length kept.old.ticked.ticked + length played.ticked.ticked ≤ kept.old.ticked.room }
-    requires room_marks { length kept.old.checkpoints.places + length played.marks.places < kept.old.checkpoints.room }
+    requires room_marks { HasRoom kept.old.checkpoints played.marks at (passed kept.old.checkpoints played.met) }
     ensures game { game_of kept.new.seed (log_of kept.new.log.items) ≡ apply_all (changes_of changed.edits.items) (game_of kept.old.seed (log_of kept.old.log.items)) }
     ensures opening { MatchOption opening (kept.new.opening ≡ kept.old.opening) (λ piece. kept.new.opening ≡ piece) }
     ensures pieces { kept.new.pieces.items ≡ splice kept.old.pieces.items (slice_index kept.old.checkpoints.places at) (end_of_stretch kept.old.checkpoints played.met) played.pieces.items }

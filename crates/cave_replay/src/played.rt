@@ -56,7 +56,7 @@ pub(crate) fn play_line<M: Machine>(
     played.pieces.push(stepped.piece)?;
     played.ticked.push(stepped.ticked)?;
     let place = played.marks.next() + 1;
-    played.marks.offer(place, stepped.state);
+    played.marks.offer(place, stepped.state)?;
     Ok(())
 }
 

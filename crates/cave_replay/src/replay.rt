@@ -218,10 +218,10 @@ pub(crate) fn edit_kept<M: Machine>(
         played,
         at,
     } = replayed;
-    if make_room(kept, &changed, &played).is_err() {
+    let from = kept.checkpoints.places()[at];
+    if make_room(kept, &changed, &played, at).is_err() {
         return Err(GroupFault::MEMORY);
     }
-    let from = kept.checkpoints.places()[at];
     let end = played.marks.next();
     let met = met_place(played.met, end);
     let inverse = take_over(kept, changed, opening, played, at);

@@ -14,7 +14,7 @@ impl<S: Copy> Checkpoints<S> {
         requires ordered { at ≤ met }
         requires met { met < length self.old.places }
         requires end { self.old.lines - slice_index self.old.places met + marks.next ≡ marks.end }
-        requires room { length self.old.places + length marks.places < self.old.room }
+        requires room { length self.old.places + length marks.places + (at - 1) ≤ self.old.room + met }
         ensures settings { (self.new.every ≡ self.old.every) × (self.new.lines ≡ marks.end) }
         ensures places { self.new.places ≡ places_met self.old marks at met }
         ensures states { self.new.states ≡ states_met self.old marks at met }
@@ -52,7 +52,7 @@ impl<S: Copy> Checkpoints<S> {
     pub fn replace_from(&mut self, marks: Marks<S>, at: usize)
         requires begun { IsBegunAt self.old at marks }
         requires done { marks.next ≡ marks.end }
-        requires room { length self.old.places + length marks.places ≤ self.old.room }
+        requires room { length marks.places + (at - 1) ≤ self.old.room }
         ensures settings { (self.new.every ≡ self.old.every) × (self.new.lines ≡ marks.end) }
         ensures places { self.new.places ≡ take (at - 1) self.old.places ++ marks.places }
         ensures states { self.new.states ≡ take (at - 1) self.old.states ++ marks.states }
@@ -84,7 +84,7 @@ impl<S: Copy> Checkpoints<S> {
         requires low { (i : ℕ) → i + 1 ≡ length middle.places → slice_index middle.places i ≤ new }
         requires even { length middle.states ≡ length middle.places }
         requires end { self.old.lines - old + new ≡ end }
-        requires room { length self.old.places + length middle.places ≤ self.old.room }
+        requires room { length self.old.places + length middle.places + (at - 1) ≤ self.old.room + rest }
         ensures settings { (self.new.every ≡ self.old.every) × (self.new.lines ≡ end) }
         ensures places { self.new.places ≡ take (at - 1) self.old.places ++ (middle.places
             ++ moved self.old.places rest old new) }

@@ -45,7 +45,7 @@ fn open(
     let mut marks = Marks::open(alloc, every, lines, 0)?;
     'offers: while marks.next() < lines {
         let place = marks.next() + 1;
-        marks.offer(place, tag(tags, place));
+        marks.offer(place, tag(tags, place))?;
     }
     Ok(Checkpoints::of(marks))
 }
@@ -85,7 +85,7 @@ fn edit(
     assert!(rt; target <= end);
     'offers: while marks.next() < target {
         let place = marks.next() + 1;
-        marks.offer(place, tag(tags, place));
+        marks.offer(place, tag(tags, place))?;
     }
     checkpoints.reserve(marks.len() + 1)?;
     assert!(rt; marks.next() == target);

@@ -1,4 +1,4 @@
-use crate::{Ticks, exchange, first_from, last_to, most_places, splice};
+use crate::{Ticks, first_from, last_to, splice};
 use std::alloc::{AllocError, Global};
 use std::test::Fail;
 
@@ -31,25 +31,6 @@ fn splices(rt: HostRuntime) -> Result<(), Fail> {
 }
 
 #[test]
-fn exchanges(rt: HostRuntime) -> Result<(), Fail> {
-    for (from, to, middle, want, back) in [
-        (1, 3, ["x"].as_slice(), "a x d", "b c"),
-        (1, 2, ["x"].as_slice(), "a x c d", "b"),
-        (3, 3, ["x", "y"].as_slice(), "a b c x y d", ""),
-    ] {
-        let mut items = words(rt.alloc(), &["a", "b", "c", "d"])?;
-        let mut put = words(rt.alloc(), middle)?;
-        items.reserve(put.len())?;
-        put.reserve(items.len())?;
-        assert!(rt; from <= to && to <= items.len());
-        exchange(&mut items, from, to, &mut put);
-        assert_eq!(rt; items.join(rt.alloc(), " ")?.as_str(), want);
-        assert_eq!(rt; put.join(rt.alloc(), " ")?.as_str(), back);
-    }
-    Ok(())
-}
-
-#[test]
 fn searches(rt: HostRuntime) {
     let places = [0, 4, 9];
     for (place, first, last) in [
@@ -63,13 +44,6 @@ fn searches(rt: HostRuntime) {
         assert_eq!(rt; first_from(&places, place), first, "from {place}");
         assert_eq!(rt; last_to(&places, place), last, "to {place}");
     }
-}
-
-#[test]
-fn counts_places(rt: HostRuntime) {
-    assert_eq!(rt; most_places(4, 40), 18);
-    assert_eq!(rt; most_places(1, 0), 2);
-    assert_eq!(rt; most_places(u32::MAX, u32::MAX), 2);
 }
 
 #[test]

@@ -1,4 +1,4 @@
-use Rattle.std.proofs.Common.{◌≡◌, ◌-◌, length, map, ap, ◌∙◌, refl, sym, arith}
+use Rattle.std.proofs.Common.{◌≡◌, ◌-◌, length, map, ap, ◌∙◌, refl, sym, arith, rules}
 use Rattle.std.specs.Prelude.{slice_index}
 use Rattle.std.specs.Option.{option_map}
 use Rattle.std.proofs.lemmas.List.{length-map}
@@ -15,7 +15,7 @@ use Rattle.cave_replay.proofs.Joins.{map-splice}
 use Rattle.cave_replay.proofs.Lines.{length-log_of}
 use Rattle.cave_replay.proofs.Plays.{length-pieces, length-ticks}
 use Rattle.cave_replay.proofs.Prepared.{shift_of, good_of}
-use Rattle.cave_replay.proofs.Taken.{kept_after, report_after, met_ready, few_ticks, stretch_same, places_same, states_same, opened_text}
+use Rattle.cave_replay.proofs.Taken.{kept_after, report_after, met_inside, met_ready, room_ready, few_ticks, stretch_same, places_same, states_same, opened_text}
 use Rattle.cave_replay.proofs.replay.edit_kept.Goals as goal
 
 pub take_over-inverse-requires-clause-pieces : goal.take_over-inverse-requires-clause-pieces
@@ -77,7 +77,7 @@ take_over-inverse-requires-clause-few g c =
     let tail_is : length items - changed.behind ≡ span.tail = omega (arith, made.tail) in
     let shift : IsShift old new span.head span.tail = rw (← made.head, ← tail_is) shift' in
     let good = good_of changes log kept.seed new held.game_is made.accepted made.game in
-    let spaced : IsSpaced C.every C.places C.lines = rw (← same.settings.0, ← same.settings.1, ← same.places) c.places.ensures.spaced in
+    let spaced : IsSpaced C.every C.places C.lines = c.places.ensures.spaced in
     let lengths = length-ticks rules old (text kept.opening) (map text kept.pieces.items) kept.ticked.ticked (g.M.Machine.meaning kept.state) held.plays in
     let p = ap length same.ticked in
     let few = few_ticks g.M.Machine.meaning g.M.Machine.is_state rules old new span.head span.tail shift (text kept.opening) (map text kept.pieces.items) kept.ticked.ticked kept.state C held spaced at (option_map text c.in-Ok.replayed.opening) (map text played.pieces.items) played.ticked.ticked played.marks played.met made.replayed in
@@ -109,7 +109,7 @@ take_over-inverse-requires-clause-met g c =
     let tail_is : length items - changed.behind ≡ span.tail = omega (arith, made.tail) in
     let shift : IsShift old new span.head span.tail = rw (← made.head, ← tail_is) shift' in
     let good = good_of changes log kept.seed new held.game_is made.accepted made.game in
-    let spaced : IsSpaced C.every C.places C.lines = rw (← same.settings.0, ← same.settings.1, ← same.places) c.places.ensures.spaced in
+    let spaced : IsSpaced C.every C.places C.lines = c.places.ensures.spaced in
     met_ready g.M.Machine.meaning g.M.Machine.is_state rules old new span.head span.tail shift (text kept.opening) (map text kept.pieces.items) kept.ticked.ticked kept.state C held spaced at (option_map text c.in-Ok.replayed.opening) (map text played.pieces.items) played.ticked.ticked played.marks played.met made.replayed roomy.checkpoints same.settings.1 same.places
 
 pub returns-clause-kept : goal.returns-clause-kept
@@ -136,7 +136,7 @@ returns-clause-kept g c =
     let tail_is : length items - changed.behind ≡ span.tail = omega (arith, made.tail) in
     let shift : IsShift old new span.head span.tail = rw (← made.head, ← tail_is) shift' in
     let good = good_of changes log kept.seed new held.game_is made.accepted made.game in
-    let spaced : IsSpaced C.every C.places C.lines = rw (← same.settings.0, ← same.settings.1, ← same.places) c.places.ensures.spaced in
+    let spaced : IsSpaced C.every C.places C.lines = c.places.ensures.spaced in
     let after = c.take_over-inverse.new.kept in
     let done = c.take_over-inverse.ensures in
     let moved : apply_all (changes_of changed.edits.items) (game_of roomy.seed (log_of roomy.log.items)) ≡ apply_all changes old = rw (made.edits, same.seed, same.log) refl in
@@ -178,10 +178,62 @@ returns-clause-report g c =
     let tail_is : length items - changed.behind ≡ span.tail = omega (arith, made.tail) in
     let shift : IsShift old new span.head span.tail = rw (← made.head, ← tail_is) shift' in
     let good = good_of changes log kept.seed new held.game_is made.accepted made.game in
-    let spaced : IsSpaced C.every C.places C.lines = rw (← same.settings.0, ← same.settings.1, ← same.places) c.places.ensures.spaced in
-    let places = c.places.ensures.places ∙ same.places in
+    let spaced : IsSpaced C.every C.places C.lines = c.places.ensures.spaced in
+    let places = c.places.ensures.places in
     rw (places, c.met_place-met.ensures, c.next-end.ensures.next)
     (report_after g.M.Machine.meaning g.M.Machine.is_state rules old new span.head span.tail shift (text kept.opening) (map text kept.pieces.items) kept.ticked.ticked kept.state C held spaced at (option_map text c.in-Ok.replayed.opening) (map text played.pieces.items) played.ticked.ticked played.marks changes made.game refl refl played.met made.replayed)
+
+pub make_room-requires-clause-passed : goal.make_room-requires-clause-passed
+make_room-requires-clause-passed g c =
+    let text = g.M.Machine.text in
+    let rules = g.M.Machine.rules c.args.machine.now in
+    let kept = c.args.kept.now in
+    let items = kept.log.items in
+    let log = log_of items in
+    let n = length-log_of items in
+    let C = kept.checkpoints in
+    let held = c.requires.kept in
+    let changes = changes_of c.args.edits.now in
+    let changed = c.in-Ok.replayed.changed in
+    let played = c.in-Ok.replayed.played in
+    let at = c.in-Ok.replayed.at in
+    let made = c.in-Ok.ensures in
+    let old = game_of kept.seed log in
+    let new = new_game changed log in
+    let span = span_of changes log in
+    let shift' : IsShift old new changed.head (length items - changed.behind) = shift_of changes items kept.seed changed made.accepted made.edits made.game made.head made.tail made.ordered in
+    let tail_is : length items - changed.behind ≡ span.tail = omega (arith, made.tail) in
+    let shift : IsShift old new span.head span.tail = rw (← made.head, ← tail_is) shift' in
+    let spaced : IsSpaced C.every C.places C.lines = c.places.ensures.spaced in
+    (met_inside g.M.Machine.meaning g.M.Machine.is_state rules old new span.head span.tail shift (text kept.opening) (map text kept.pieces.items) kept.ticked.ticked kept.state C held spaced at (option_map text c.in-Ok.replayed.opening) (map text played.pieces.items) played.ticked.ticked played.marks played.met made.replayed).0
+
+pub make_room-requires-clause-met : goal.make_room-requires-clause-met
+make_room-requires-clause-met g c =
+    let text = g.M.Machine.text in
+    let rules = g.M.Machine.rules c.args.machine.now in
+    let kept = c.args.kept.now in
+    let items = kept.log.items in
+    let log = log_of items in
+    let n = length-log_of items in
+    let C = kept.checkpoints in
+    let held = c.requires.kept in
+    let changes = changes_of c.args.edits.now in
+    let changed = c.in-Ok.replayed.changed in
+    let played = c.in-Ok.replayed.played in
+    let at = c.in-Ok.replayed.at in
+    let made = c.in-Ok.ensures in
+    let old = game_of kept.seed log in
+    let new = new_game changed log in
+    let span = span_of changes log in
+    let shift' : IsShift old new changed.head (length items - changed.behind) = shift_of changes items kept.seed changed made.accepted made.edits made.game made.head made.tail made.ordered in
+    let tail_is : length items - changed.behind ≡ span.tail = omega (arith, made.tail) in
+    let shift : IsShift old new span.head span.tail = rw (← made.head, ← tail_is) shift' in
+    let spaced : IsSpaced C.every C.places C.lines = c.places.ensures.spaced in
+    (met_inside g.M.Machine.meaning g.M.Machine.is_state rules old new span.head span.tail shift (text kept.opening) (map text kept.pieces.items) kept.ticked.ticked kept.state C held spaced at (option_map text c.in-Ok.replayed.opening) (map text played.pieces.items) played.ticked.ticked played.marks played.met made.replayed).1
+
+pub take_over-inverse-requires-clause-room_marks : goal.take_over-inverse-requires-clause-room_marks
+take_over-inverse-requires-clause-room_marks g c =
+    room_ready c.make_room.new.kept.checkpoints c.args.kept.now.checkpoints c.make_room.ensures.places c.in-Ok.replayed.played.marks c.in-Ok.replayed.at c.in-Ok.replayed.played.met (search rules)
 
 pub returns-clause-game : goal.returns-clause-game
 returns-clause-game g c =
