@@ -1,12 +1,12 @@
 -- The places that the rules of play name by what they are for.
-use Rattle.std.specs.Prelude.{ℕ, List, map}
+use Rattle.std.specs.Prelude.{ℕ, List, [], ◌∷◌, codes}
 use Rattle.cave_data.specs.declared.place_role.PlaceRole.{PlaceRole}
 use Rattle.cave_data.specs.declared.place_role.PlaceRole.TheVariants as place
-use Rattle.cave_data.specs.declared.place_role.TheConstants.{PLACE_NAMES}
 
 -- the names that bindings use, in the order of their numbers
 abbrev pub place_names : List (List ℕ)
-place_names = map (λ name. name.now) PLACE_NAMES
+place_names =
+    codes "start" ∷ codes "building" ∷ codes "outside" ∷ codes "deep" ∷ codes "alcove" ∷ codes "plover" ∷ codes "y2" ∷ codes "chest" ∷ codes "message" ∷ codes "dwarfalt" ∷ codes "dwarf1" ∷ codes "dwarf2" ∷ codes "dwarf3" ∷ codes "dwarf4" ∷ codes "dwarf5" ∷ codes "culdesac" ∷ codes "witt" ∷ codes "ne" ∷ codes "sw" ∷ []
 
 -- its place in the table of names
 abbrev pub place_number : PlaceRole → ℕ

@@ -1,12 +1,12 @@
 -- The messages that the rules of play name by what they are for.
-use Rattle.std.specs.Prelude.{ℕ, List, map}
+use Rattle.std.specs.Prelude.{ℕ, List, [], ◌∷◌, codes}
 use Rattle.cave_data.specs.declared.role.Role.{Role}
 use Rattle.cave_data.specs.declared.role.Role.TheVariants as role
-use Rattle.cave_data.specs.declared.role.TheConstants.{ROLE_NAMES}
 
 -- the names that bindings use, in the order of their numbers
 abbrev pub role_names : List (List ℕ)
-role_names = map (λ name. name.now) ROLE_NAMES
+role_names =
+    codes "answer" ∷ codes "around" ∷ codes "axe-bear" ∷ codes "axe-dragon" ∷ codes "axe-first" ∷ codes "axe-kill" ∷ codes "axe-miss" ∷ codes "axe-thrown" ∷ codes "axe-troll" ∷ codes "back-no" ∷ codes "back-none" ∷ codes "bear-bars" ∷ codes "bear-chained" ∷ codes "bear-fed" ∷ codes "bear-fight" ∷ codes "bear-follows" ∷ codes "bear-friend" ∷ codes "bird-dead" ∷ codes "bird-dragon" ∷ codes "bird-eaten" ∷ codes "bird-feed" ∷ codes "bird-no" ∷ codes "bird-rod" ∷ codes "bird-snake" ∷ codes "blocked" ∷ codes "booty" ∷ codes "bottle-full" ∷ codes "bridge-falls" ∷ codes "brief" ∷ codes "cant-pour" ∷ codes "cave-in" ∷ codes "cave-out" ∷ codes "chain-free" ∷ codes "chain-lock" ∷ codes "chain-locked" ∷ codes "chest-hid" ∷ codes "clam-held" ∷ codes "clam-tool" ∷ codes "closing" ∷ codes "closing-exit" ∷ codes "crawl" ∷ codes "dark" ∷ codes "dead-already" ∷ codes "die1" ∷ codes "die2" ∷ codes "die3" ∷ codes "disturbed" ∷ codes "door-oiled" ∷ codes "door-wet" ∷ codes "drunk" ∷ codes "dwarf-feed" ∷ codes "dwarf-one" ∷ codes "eaten" ∷ codes "empty" ∷ codes "enough" ∷ codes "facing" ∷ codes "feed-what" ∷ codes "feet-wet" ∷ codes "filled-oil" ∷ codes "filled-water" ∷ codes "foo-order" ∷ codes "forced-limit" ∷ codes "give-up" ∷ codes "held-it" ∷ codes "here-it" ∷ codes "hint-take" ∷ codes "hit-many" ∷ codes "hit-one" ∷ codes "holding" ∷ codes "hollow" ∷ codes "immovable" ∷ codes "inout" ∷ codes "instructions" ∷ codes "keys-what" ∷ codes "killed-closing" ∷ codes "klutz" ∷ codes "knife" ∷ codes "knife-one" ∷ codes "lamp-dead" ∷ codes "lamp-low" ∷ codes "lamp-low-find" ∷ codes "lamp-low-used" ∷ codes "lamp-off" ∷ codes "lamp-on" ∷ codes "lock-what" ∷ codes "locked" ∷ codes "magic" ∷ codes "mirror-break" ∷ codes "mirror-no" ∷ codes "miss-all" ∷ codes "miss-one" ∷ codes "no-appetite" ∷ codes "no-bottle" ∷ codes "no-cage" ∷ codes "no-dir" ∷ codes "no-keys" ∷ codes "no-lake" ∷ codes "no-latch" ∷ codes "no-lock" ∷ codes "no-lock-here" ∷ codes "no-motion" ∷ codes "no-way" ∷ codes "no-word" ∷ codes "no-word-2" ∷ codes "no-word-3" ∷ codes "none-to-kill" ∷ codes "not-held" ∷ codes "not-hungry" ∷ codes "off-scale" ∷ codes "ok" ∷ codes "oyster-ask" ∷ codes "oyster-held" ∷ codes "oyster-hint" ∷ codes "oyster-open" ∷ codes "oyster-tool" ∷ codes "pearl" ∷ codes "pit" ∷ codes "plant-oil" ∷ codes "plant-roots" ∷ codes "pour-ground" ∷ codes "quit" ∷ codes "read-magazine" ∷ codes "read-message" ∷ codes "read-oyster" ∷ codes "read-tablet" ∷ codes "reborn1" ∷ codes "reborn2" ∷ codes "reborn3" ∷ codes "replaced" ∷ codes "repository" ∷ codes "ridiculous" ∷ codes "rub-odd" ∷ codes "rustle" ∷ codes "rusty" ∷ codes "score-quit" ∷ codes "shell" ∷ codes "snake-no" ∷ codes "success" ∷ codes "too-much" ∷ codes "too-tight" ∷ codes "top-class" ∷ codes "troll-feed" ∷ codes "troll-flees" ∷ codes "troll-no" ∷ codes "troll-paid" ∷ codes "unlocked" ∷ codes "vase-break" ∷ codes "vase-dry" ∷ codes "vase-smash" ∷ codes "wake-dwarf" ∷ codes "was-locked" ∷ codes "was-unlocked" ∷ codes "welcome" ∷ codes "where" ∷ codes "with-what" ∷ codes "wrong-way" ∷ []
 
 -- its place in the table of names
 abbrev pub role_number : Role → ℕ
