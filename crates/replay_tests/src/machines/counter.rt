@@ -1,4 +1,4 @@
-ghost use Rattle.std.specs.Prelude.{ℕ, ◌%◌, length};
+ghost use Rattle.std.specs.Prelude.{◌%◌, length};
 
 use crate::machines::rule::Rule;
 

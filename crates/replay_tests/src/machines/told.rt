@@ -1,4 +1,4 @@
-ghost use Rattle.std.specs.Prelude.{◌≡◌, ℕ, List, [], ◌∷◌};
+ghost use Rattle.std.specs.Prelude.{ℕ, List};
 
 use crate::machines::counts::Counts;
 use crate::machines::rule::Rule;
