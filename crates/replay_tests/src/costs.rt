@@ -14,13 +14,8 @@ use std::test::Fail;
 /// The place in the middle of a long log that is a checkpoint.
 const LENGTHS: [(usize, u32); 3] = [(600, 300), (6_000, 3_000), (60_000, 30_000)];
 
-/// What one edit does: lines played, states compared, pieces copied.
-#[derive(Clone, Copy, Debug, Drop, PartialEq, Eq)]
-struct Cost {
-    steps: u64,
-    comparisons: u64,
-    copies: u64,
-}
+/// How many lines one edit plays, how many states it compares, and how many pieces it copies.
+type Cost = (u64, u64, u64);
 
 /// What it costs to insert a line at a checkpoint in the middle of a log of one-letter lines, and where the plays met.
 fn cost_of_an_insert<R: Rule>(
@@ -37,25 +32,17 @@ fn cost_of_an_insert<R: Rule>(
     let (steps, comparisons) = (counts.steps(), counts.comparisons());
     let edit = insert(alloc, at, line)?;
     let report = session.edit(&edit, &mut Meter::new())?;
-    let cost = Cost {
-        steps: counts.steps().saturating_sub(steps),
-        comparisons: counts.comparisons().saturating_sub(comparisons),
-        copies: counts.copies(),
-    };
+    let played = counts.steps().saturating_sub(steps);
+    let compared = counts.comparisons().saturating_sub(comparisons);
     drop(session);
-    Ok((cost, report.met))
+    Ok(((played, compared, counts.copies()), report.met))
 }
 
 #[test]
 fn an_edit_that_is_met_after_a_line_plays_a_line(rt: HostRuntime) -> Result<(), Fail> {
     for (lines, at) in LENGTHS {
         let (cost, met) = cost_of_an_insert(&rt, rt.alloc(), Counter, lines, at, b"b")?;
-        let wanted = Cost {
-            steps: 1,
-            comparisons: 1,
-            copies: 0,
-        };
-        assert_eq!(rt; cost, wanted, "{lines}");
+        assert_eq!(rt; cost, (1, 1, 0), "{lines}");
         assert_eq!(rt; met, Some(at.saturating_add(1)));
     }
     Ok(())
@@ -65,12 +52,7 @@ fn an_edit_that_is_met_after_a_line_plays_a_line(rt: HostRuntime) -> Result<(), 
 fn an_edit_that_is_met_at_the_next_checkpoint_plays_up_to_it(rt: HostRuntime) -> Result<(), Fail> {
     for (lines, at) in LENGTHS {
         let (cost, met) = cost_of_an_insert(&rt, rt.alloc(), Counter, lines, at, b"bb")?;
-        let wanted = Cost {
-            steps: 51,
-            comparisons: 2,
-            copies: 0,
-        };
-        assert_eq!(rt; cost, wanted, "{lines}");
+        assert_eq!(rt; cost, (51, 2, 0), "{lines}");
         assert_eq!(rt; met, Some(at.saturating_add(51)));
     }
     Ok(())
@@ -81,11 +63,7 @@ fn an_edit_that_is_never_met_plays_to_the_end(rt: HostRuntime) -> Result<(), Fai
     for (lines, at) in LENGTHS {
         let (cost, met) = cost_of_an_insert(&rt, rt.alloc(), Hasher, lines, at, b"b")?;
         let behind = (lines as u64).saturating_sub(u64::from(at));
-        let wanted = Cost {
-            steps: behind.saturating_add(1),
-            comparisons: behind / 50,
-            copies: 0,
-        };
+        let wanted = (behind.saturating_add(1), behind / 50, 0);
         assert_eq!(rt; cost, wanted, "{lines}");
         assert_eq!(rt; met, None);
     }

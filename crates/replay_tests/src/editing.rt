@@ -4,7 +4,7 @@ use crate::edits::{STAIRS, insert, is_same, letters, replace, stairs};
 use crate::machines::counter::Counter;
 use crate::machines::counts::Counts;
 use crate::sessions::{Counting, copy, expect_edit, expect_lines, expect_refused, open};
-use crate::shown::{expect_spaced, show_the_same, show_the_same_game};
+use crate::shown::{expect_spaced, list_at, show_the_same, show_the_same_game};
 use cave_replay::{Edit, EditFault};
 use cave_words::Meter;
 use std::alloc::{AllocError, Global};
@@ -19,13 +19,7 @@ fn a_replaced_line_is_met_behind_the_next(rt: HostRuntime) -> Result<(), Fail> {
     let (old, new) = (replace(alloc, 5, b"aaaaaa")?, replace(alloc, 5, b"aaaa")?);
     expect_edit(&rt, &mut session, &new, (5, Some(7), 2), &old)?;
     assert_eq!(rt; session.state().number, 10);
-    assert_eq!(rt;
-        session
-            .pieces()
-            .get(5)
-            .and_then(|piece| piece.first().copied()),
-        Some(4)
-    );
+    assert_eq!(rt; list_at(session.pieces(), 5), [4].as_slice());
     expect_spaced(&rt, &session);
     expect_edit(&rt, &mut session, &old, (5, Some(7), 2), &new)
 }

@@ -5,6 +5,14 @@ use crate::plain::Plain;
 use crate::sessions::Play;
 use std::process::Abort;
 
+/// The list at a place of some lists; an empty one where there is none.
+pub(crate) fn list_at<T>(lists: &[Vec<T>], place: usize) -> &[T] {
+    match lists.get(place) {
+        Some(list) => list.as_slice(),
+        None => &[],
+    }
+}
+
 /// That a session shows what playing the plain game gives.
 pub(crate) fn expect_shown<R: Rule>(rt: &impl Abort, session: &Play<'_, R>, plain: &Plain) {
     assert_eq!(rt; session.seed(), plain.seed);
@@ -19,19 +27,13 @@ pub(crate) fn expect_shown<R: Rule>(rt: &impl Abort, session: &Play<'_, R>, plai
     let mut ticks = 0u32;
     for place in 0..session.lines() {
         let line = session.line(place);
-        assert_eq!(rt;
-            Some(line),
-            plain.lines.get(place as usize).map(|line| line.as_slice())
-        );
+        assert_eq!(rt; line, list_at(&plain.lines, place as usize), "at {place}");
         assert_eq!(rt; session.ticks(place), ticks, "at {place}");
         assert_eq!(rt; session.ticked(place), R::ticked(state, line), "at {place}");
         ticks = ticks.saturating_add(u32::from(session.ticked(place)));
         state = R::after(state, line);
-        let piece = session
-            .pieces()
-            .get(place as usize)
-            .map(|piece| piece.as_slice());
-        assert_eq!(rt; piece, Some([state].as_slice()), "at {place}");
+        let piece = list_at(session.pieces(), place as usize);
+        assert_eq!(rt; piece, [state].as_slice(), "at {place}");
     }
     assert_eq!(rt; session.ticks(session.lines()), ticks);
 }
@@ -74,8 +76,7 @@ fn show_the_same_lines<R: Rule>(one: &Play<'_, R>, other: &Play<'_, R>) -> bool 
     for place in 0..one.lines() {
         let at = place as usize;
         let same = one.line(place) == other.line(place)
-            && one.pieces().get(at).map(|piece| piece.as_slice())
-                == other.pieces().get(at).map(|piece| piece.as_slice())
+            && list_at(one.pieces(), at) == list_at(other.pieces(), at)
             && one.ticked(place) == other.ticked(place)
             && one.ticks(place) == other.ticks(place);
         if !same {

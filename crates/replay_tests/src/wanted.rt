@@ -13,10 +13,12 @@ pub(crate) struct Plan {
 
 /// Whether a line may stand in a log.
 fn may_stand(line: &[u8]) -> bool {
+    for byte in line {
+        if *byte != b'\t' && (*byte < 32 || *byte > 126) {
+            return false;
+        }
+    }
     line.len() <= 255
-        && line
-            .iter()
-            .all(|byte| (32..127).contains(byte) || *byte == b'\t')
 }
 
 /// The first fault of an edit in a log of so many lines.
