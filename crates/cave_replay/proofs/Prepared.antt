@@ -8,7 +8,7 @@ use Rattle.cave_replay.specs.Rules.{Rules}
 use Rattle.cave_replay.specs.Log.{log_of}
 use Rattle.cave_replay.specs.Play.{Game, game_of}
 use Rattle.cave_replay.specs.Change.{Change, changes_of, log_after, apply_all}
-use Rattle.cave_replay.specs.Changed.{edited, new_game}
+use Rattle.cave_replay.specs.Changed.{new_game}
 use Rattle.cave_replay.specs.Faults.{fault_of, fault_of_all, first_of_two, or_meter_full, or_full, group_fault, edit_fault, log_after_all}
 use Rattle.cave_replay.specs.declared.fault.EditFault.{EditFault}
 use Rattle.cave_replay.specs.declared.fault.EditFault.TheVariants.{MeterFull}

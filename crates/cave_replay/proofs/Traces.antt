@@ -1,7 +1,6 @@
 -- Where a line of a log after changes comes from, looked for from the last change back.
-use Rattle.std.proofs.Common.{◌≡◌, ◌≢◌, ℕ, ◌+◌, ◌-◌, ◌<◌, ◌≤◌, List, [], ◌∷◌, ◌++◌, length, take, get_or, insert, remove, set, refl, sym, ap, ◌∙◌, arith, None}
-use Rattle.std.proofs.lemmas.List.{length-map, length-set, take-map, take_more, map-append, get_or-set_same, get_or-set_other}
-use Rattle.std.proofs.lemmas.List.Edits.{length-insert, length-remove, get_or-insert_at, get_or-insert_below, get_or-insert_above, get_or-remove_below, get_or-remove_above}
+use Rattle.std.proofs.Common.{◌≡◌, ℕ, ◌+◌, ◌<◌, List, [], ◌∷◌, ◌++◌, length, take, get_or, refl, sym, ap, ◌∙◌, None}
+use Rattle.std.proofs.lemmas.List.{take_more, map-append}
 use Rattle.std.proofs.Math.Seq.{take-length}
 use Rattle.cave_replay.specs.declared.edit.Edit.{Edit}
 use Rattle.cave_replay.specs.Change.{Change, change_of, changes_of, line_at, log_after}

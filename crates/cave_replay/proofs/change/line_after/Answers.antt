@@ -1,4 +1,4 @@
-use Rattle.std.proofs.Common.{◌≡◌, ◌+◌, ◌-◌, take, refl, sym, ◌∙◌, arith}
+use Rattle.std.proofs.Common.{◌-◌, take, refl, sym, ◌∙◌, arith}
 use Rattle.cave_replay.specs.Log.{log_of}
 use Rattle.cave_replay.specs.Change.{changes_of}
 use Rattle.cave_replay.specs.Faults.{log_after_all}

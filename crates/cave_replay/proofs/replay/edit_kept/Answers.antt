@@ -8,7 +8,7 @@ use Rattle.cave_replay.specs.Play.{Game, game_of}
 use Rattle.cave_replay.specs.Change.{changes_of, apply_all, inverses_of}
 use Rattle.cave_replay.specs.Faults.{log_after_all}
 use Rattle.cave_replay.proofs.Inverses.{IsFree-from_none, none_from_IsFree, log-apply_all, apply_all-inverses_of, IsFree-inverses_of}
-use Rattle.cave_replay.specs.Changed.{edited, new_game}
+use Rattle.cave_replay.specs.Changed.{new_game}
 use Rattle.cave_replay.specs.Span.{span_of}
 use Rattle.cave_replay.specs.Replay.{IsShift}
 use Rattle.cave_replay.proofs.Joins.{map-splice}

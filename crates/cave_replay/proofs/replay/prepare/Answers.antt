@@ -1,9 +1,8 @@
-use Rattle.std.proofs.Common.{◌≡◌, ◌+◌, ◌≤◌, length, ap, sym, ◌∙◌, arith}
+use Rattle.std.proofs.Common.{◌≡◌, length, ap, ◌∙◌, arith}
 use Rattle.cave_replay.specs.Log.{log_of}
 use Rattle.cave_replay.specs.Play.{game_of}
 use Rattle.cave_replay.specs.Change.{changes_of, apply_all}
 use Rattle.cave_replay.specs.Changed.{new_game}
-use Rattle.cave_replay.specs.Span.{span_of}
 use Rattle.cave_replay.specs.declared.span.Span.{Span}
 use Rattle.cave_replay.proofs.Inverses.{IsFree-from_none, game-apply_all, group_free, group_some}
 use Rattle.cave_replay.proofs.Lines.{length-log_of}

@@ -1,4 +1,4 @@
-use Rattle.std.proofs.Common.{◌≡◌, ◌+◌, ◌≤◌, length, rules}
+use Rattle.std.proofs.Common.{rules}
 use Rattle.cave_marks.proofs.Offered.{offered, room_after}
 use Rattle.cave_marks.proofs.marks.Marks.offer.Goals as goal
 
