@@ -6,6 +6,7 @@ use cave_data::{Cause, CaveError, Spot};
 use cave_play::fault::{Complaint, Input, LogFault, PlayFault, ScriptFault};
 use cave_script::Flaw;
 use std::alloc::{AllocError, Global};
+use std::process::Abort;
 use std::test::Fail;
 
 /// The line that the program writes to standard error.
@@ -32,8 +33,21 @@ const fn malformed(line: usize, flaw: Flaw) -> PlayFault {
     PlayFault::Script(ScriptFault::Malformed(line, flaw))
 }
 
+/// Expects the status and the line of each fault.
+fn expect_told(
+    rt: &impl Abort,
+    alloc: Global,
+    cases: &[(PlayFault, u8, &str)],
+) -> Result<(), Fail> {
+    for &(fault, status, line) in cases {
+        assert_eq!(rt; fault.status(), status, "{fault:?}");
+        assert_eq!(rt; told(alloc, fault)?.as_str(), line);
+    }
+    Ok(())
+}
+
 #[test]
-fn each_fault_has_a_status_and_a_line(rt: HostRuntime) -> Result<(), Fail> {
+fn faults_of_a_cave_and_of_numbers(rt: HostRuntime) -> Result<(), Fail> {
     let cases = [
         (
             too_large(Spot::Database),
@@ -51,6 +65,13 @@ fn each_fault_has_a_status_and_a_line(rt: HostRuntime) -> Result<(), Fail> {
             2,
             "cave: the distance of checkpoints is from 1 to 10000",
         ),
+    ];
+    expect_told(&rt, rt.alloc(), &cases)
+}
+
+#[test]
+fn faults_of_a_log(rt: HostRuntime) -> Result<(), Fail> {
+    let cases = [
         (
             PlayFault::Log(LogFault::TooLarge),
             3,
@@ -66,6 +87,13 @@ fn each_fault_has_a_status_and_a_line(rt: HostRuntime) -> Result<(), Fail> {
             3,
             "cave: a.log: the log has more than 65,535 lines",
         ),
+    ];
+    expect_told(&rt, rt.alloc(), &cases)
+}
+
+#[test]
+fn faults_of_a_script(rt: HostRuntime) -> Result<(), Fail> {
+    let cases = [
         (
             PlayFault::Script(ScriptFault::TooLarge),
             4,
@@ -91,6 +119,13 @@ fn each_fault_has_a_status_and_a_line(rt: HostRuntime) -> Result<(), Fail> {
             4,
             "cave: a.script:3: `begin` without an `end` behind it",
         ),
+    ];
+    expect_told(&rt, rt.alloc(), &cases)
+}
+
+#[test]
+fn faults_of_files_and_memory(rt: HostRuntime) -> Result<(), Fail> {
+    let cases = [
         (
             PlayFault::Read(Input::Cave),
             5,
@@ -114,11 +149,7 @@ fn each_fault_has_a_status_and_a_line(rt: HostRuntime) -> Result<(), Fail> {
         (PlayFault::Write, 6, "cave: the output can't be written"),
         (PlayFault::Memory, 7, "cave: there isn't enough memory"),
     ];
-    for (fault, status, line) in cases {
-        assert_eq!(rt; fault.status(), status, "{fault:?}");
-        assert_eq!(rt; told(rt.alloc(), fault)?.as_str(), line);
-    }
-    Ok(())
+    expect_told(&rt, rt.alloc(), &cases)
 }
 
 /// What is told of a cave that is refused.
