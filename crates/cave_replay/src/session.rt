@@ -210,7 +210,7 @@ impl<M: Machine> Session<M> {
         ensures bounded { AreStepsBounded (M.rules self.old.machine) (change_of edit.now ∷ []) self.old.game self.old.every (edit_fault (change_of edit.now) self.old.game.log (2 ^ 64 - 1 - M.Meter.count meter.old)) (M.Meter.count meter.old) (M.Meter.count meter.new) }
 
         // What such a group leaves alone is told by the kind of its edit.
-        ensures table { OnOk result (IsByTable (change_of edit.now) self.old.game) }
+        ensures table { fault_of (change_of edit.now) self.old.game.log ≡ None → IsByTable (change_of edit.now) self.old.game }
     {
         match self.edit_group(slice::from_ref(edit), meter) {
             Ok(mut report) => match report.inverse.pop() {
