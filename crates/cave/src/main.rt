@@ -1,28 +1,31 @@
 //! Checks databases of caves, plays logs in them, and edits logs by scripts.
 #![tactic(auto)]
 
-use cave_command::{Files, Line, LineFault, command_line};
+use cave_command::{Files, Line, command_line};
 use cave_play::bindings::Bindings;
-use cave_play::fault::{Complaint, Input, PlayFault};
+use cave_play::fault::{Complaint, Input, PlayFault, Unopened};
 use cave_play::run::{run_check, run_edit, run_play};
 use std::fs::File;
 use std::process::ExitCode;
 use std::{env, io};
 
+/// The status that the program ends with where its words can't be read.
+const WRONG_WORDS: u8 = 2;
+
 /// The files that a command line names.
 #[derive(Clone, Copy)]
 struct Names<'a> {
     files: Files<'a>,
-    log: &'a str,
-    script: &'a str,
+    log: Option<&'a str>,
+    script: Option<&'a str>,
 }
 
 impl<'a> Names<'a> {
-    /// The file of an input.
-    fn of(self, input: Input) -> &'a str {
+    /// The file of an input, where one is named.
+    fn of(self, input: Input) -> Option<&'a str> {
         match input {
-            Input::Cave => self.files.cave,
-            Input::Bindings => self.files.bind.unwrap_or(""),
+            Input::Cave => Some(self.files.cave),
+            Input::Bindings => self.files.bind,
             Input::Log => self.log,
             Input::Script => self.script,
         }
@@ -31,44 +34,49 @@ impl<'a> Names<'a> {
 
 /// Why a run wasn't done.
 #[derive(Drop)]
-enum Failure {
+enum Failure<'a> {
     /// The file of the input can't be opened, for a reason of the system's.
-    Unopened(Input, io::Error),
+    Unopened(Input, &'a str, io::Error),
     Run(PlayFault),
 }
 
 /// Opens the file of an input.
-fn open(rt: &HostRuntime, names: Names<'_>, input: Input) -> Result<File, Failure> {
-    match File::open(rt, names.of(input)) {
-        Ok(file) => Ok(file),
+fn open<'a>(rt: &HostRuntime, input: Input, file: &'a str) -> Result<File, Failure<'a>> {
+    match File::open(rt, file) {
+        Ok(opened) => Ok(opened),
         Err(reason) => {
             if reason.kind() == io::ErrorKind::OutOfMemory {
                 return Err(Failure::Run(PlayFault::Memory));
             }
-            Err(Failure::Unopened(input, reason))
+            Err(Failure::Unopened(input, file, reason))
         }
     }
 }
 
 /// Opens the bindings, where there are any.
-fn open_bindings(rt: &HostRuntime, names: Names<'_>) -> Result<Bindings<File>, Failure> {
-    if names.files.bind.is_none() {
-        return Ok(Bindings::Absent);
+fn open_bindings<'a>(rt: &HostRuntime, files: Files<'a>) -> Result<Bindings<File>, Failure<'a>> {
+    match files.bind {
+        Some(file) => Ok(Bindings::Given(open(rt, Input::Bindings, file)?)),
+        None => Ok(Bindings::Absent),
     }
-    Ok(Bindings::Given(open(rt, names, Input::Bindings)?))
 }
 
-fn check(rt: &HostRuntime, names: Names<'_>) -> Result<(), Failure> {
-    let mut cave = open(rt, names, Input::Cave)?;
-    let mut bind = open_bindings(rt, names)?;
+fn check<'a>(rt: &HostRuntime, files: Files<'a>) -> Result<(), Failure<'a>> {
+    let mut cave = open(rt, Input::Cave, files.cave)?;
+    let mut bind = open_bindings(rt, files)?;
     let mut output = io::writer(rt);
     run_check(rt.alloc(), &mut cave, &mut bind, &mut output).map_err(Failure::Run)
 }
 
-fn play(rt: &HostRuntime, names: Names<'_>, seed: u32) -> Result<(), Failure> {
-    let mut cave = open(rt, names, Input::Cave)?;
-    let mut bind = open_bindings(rt, names)?;
-    let mut log = open(rt, names, Input::Log)?;
+fn play<'a>(
+    rt: &HostRuntime,
+    files: Files<'a>,
+    log: &'a str,
+    seed: u32,
+) -> Result<(), Failure<'a>> {
+    let mut cave = open(rt, Input::Cave, files.cave)?;
+    let mut bind = open_bindings(rt, files)?;
+    let mut log = open(rt, Input::Log, log)?;
     let mut output = io::writer(rt);
     run_play(
         rt.alloc(),
@@ -81,11 +89,18 @@ fn play(rt: &HostRuntime, names: Names<'_>, seed: u32) -> Result<(), Failure> {
     .map_err(Failure::Run)
 }
 
-fn edit(rt: &HostRuntime, names: Names<'_>, seed: u32, every: u32) -> Result<(), Failure> {
-    let mut cave = open(rt, names, Input::Cave)?;
-    let mut bind = open_bindings(rt, names)?;
-    let mut log = open(rt, names, Input::Log)?;
-    let mut script = open(rt, names, Input::Script)?;
+fn edit<'a>(
+    rt: &HostRuntime,
+    files: Files<'a>,
+    log: &'a str,
+    script: &'a str,
+    seed: u32,
+    every: u32,
+) -> Result<(), Failure<'a>> {
+    let mut cave = open(rt, Input::Cave, files.cave)?;
+    let mut bind = open_bindings(rt, files)?;
+    let mut log = open(rt, Input::Log, log)?;
+    let mut script = open(rt, Input::Script, script)?;
     let mut output = io::writer(rt);
     run_edit(
         rt.alloc(),
@@ -107,13 +122,17 @@ fn fail(rt: &HostRuntime, fault: PlayFault, file: Option<&str>) -> ExitCode {
 }
 
 /// Tells how a run ended, and gives the status that goes with it.
-fn tell(rt: &HostRuntime, names: Names<'_>, ended: Result<(), Failure>) -> ExitCode {
+fn tell(rt: &HostRuntime, names: Names<'_>, ended: Result<(), Failure<'_>>) -> ExitCode {
     match ended {
         Ok(()) => ExitCode::SUCCESS,
-        Err(Failure::Run(fault)) => fail(rt, fault, fault.input().map(|input| names.of(input))),
-        Err(Failure::Unopened(input, reason)) => {
-            let file = names.of(input);
-            let _ = eprintln!(rt; "cave: {file}: the file can't be opened: {reason}");
+        Err(Failure::Run(fault)) => fail(
+            rt,
+            fault,
+            fault.input().and_then(|input| names.of(input)),
+        ),
+        Err(Failure::Unopened(input, file, reason)) => {
+            let reason = &reason;
+            let _ = eprintln!(rt; "{}", Unopened { file, reason });
             ExitCode::from(PlayFault::Read(input).status())
         }
     }
@@ -125,18 +144,18 @@ fn run(rt: &HostRuntime, line: Line<'_>) -> ExitCode {
         Line::Check { files } => {
             let names = Names {
                 files,
-                log: "",
-                script: "",
+                log: None,
+                script: None,
             };
-            tell(rt, names, check(rt, names))
+            tell(rt, names, check(rt, files))
         }
         Line::Play { files, log, seed } => {
             let names = Names {
                 files,
-                log,
-                script: "",
+                log: Some(log),
+                script: None,
             };
-            tell(rt, names, play(rt, names, seed))
+            tell(rt, names, play(rt, files, log, seed))
         }
         Line::Edit {
             files,
@@ -145,8 +164,12 @@ fn run(rt: &HostRuntime, line: Line<'_>) -> ExitCode {
             seed,
             every,
         } => {
-            let names = Names { files, log, script };
-            tell(rt, names, edit(rt, names, seed, every))
+            let names = Names {
+                files,
+                log: Some(log),
+                script: Some(script),
+            };
+            tell(rt, names, edit(rt, files, log, script, seed, every))
         }
         Line::Text(text) => match rt.print(&text) {
             Ok(()) => ExitCode::SUCCESS,
@@ -163,7 +186,7 @@ fn main(rt: HostRuntime) -> ExitCode {
                 return fail(&rt, PlayFault::Memory, None);
             }
             let _ = eprintln!(rt; "cave: the command line can't be read: {error}");
-            return ExitCode::from(LineFault::Incomplete.status());
+            return ExitCode::from(WRONG_WORDS);
         }
     };
     let Ok(words) = words.collect::<Vec<String>>(rt.alloc()) else {

@@ -7,8 +7,6 @@ pub mod fault;
 pub mod line;
 mod number;
 mod read;
-#[cfg(test)]
-mod tests;
 
 pub use fault::LineFault;
 pub use line::{Files, Line};

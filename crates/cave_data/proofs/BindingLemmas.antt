@@ -8,6 +8,7 @@ use Rattle.std.specs.Str.Lines.{lines}
 use Rattle.std.proofs.lemmas.List.{append_assoc, append-nil, length-append}
 use Rattle.std.proofs.lemmas.List.Sums.{fold_push}
 use Rattle.cave_data.specs.declared.error.Cause.{Cause}
+use Rattle.cave_data.specs.declared.error.BindingFlaw.TheVariants.{Repeated}
 use Rattle.cave_data.specs.declared.error.Cause.TheVariants.{Memory, TooLarge, BadSection, BadNumber, OutOfRange, NoEnd, TooManyRows, BadBinding, UnknownRole}
 use Rattle.cave_data.specs.declared.error.Spot.TheVariants as spot
 use Rattle.cave_data.specs.declared.binding.Key.{Key}
@@ -59,9 +60,9 @@ key_bound bs LettersKey = letters_bound bs
 
 bind_new_is : (bs : List Binding) (binding : Binding) → bind_new (bound bs) binding ≡ allowed (repeat_cause bs (binding ∷ [])) (bound (bs ++ binding ∷ []))
 bind_new_is bs binding =
-    ap (λ o. cond (is_some o) (Err BadBinding) (Ok (bind (bound bs) binding))) (key_bound bs binding.key) ∙ at (is_some (value_of binding.key bs))
+    ap (λ o. cond (is_some o) (Err (BadBinding Repeated)) (Ok (bind (bound bs) binding))) (key_bound bs binding.key) ∙ at (is_some (value_of binding.key bs))
     ∙ ap (λ b. allowed (repeat_cause bs (binding ∷ [])) b) (sym (fold_push bind no_bindings bs binding)) where
-      at : (v : Bool) → cond v (Err BadBinding) (Ok (bind (bound bs) binding)) ≡ allowed (cond v (Some BadBinding) None) (bind (bound bs) binding)
+      at : (v : Bool) → cond v (Err (BadBinding Repeated)) (Ok (bind (bound bs) binding)) ≡ allowed (cond v (Some (BadBinding Repeated)) None) (bind (bound bs) binding)
       at true = refl
       at false = refl
 
@@ -130,7 +131,7 @@ module _ {text rest line : List ℕ} {count : ℕ} {bindings : Bindings} (after 
   bound_fault OutOfRange e = inr (at_fault OutOfRange (allowed_err _ _ OutOfRange (sym step ∙ e)))
   bound_fault NoEnd e = inr (at_fault NoEnd (allowed_err _ _ NoEnd (sym step ∙ e)))
   bound_fault TooManyRows e = inr (at_fault TooManyRows (allowed_err _ _ TooManyRows (sym step ∙ e)))
-  bound_fault BadBinding e = inr (at_fault BadBinding (allowed_err _ _ BadBinding (sym step ∙ e)))
+  bound_fault (BadBinding flaw) e = inr (at_fault (BadBinding flaw) (allowed_err _ _ (BadBinding flaw) (sym step ∙ e)))
   bound_fault UnknownRole e = inr (at_fault UnknownRole (allowed_err _ _ UnknownRole (sym step ∙ e)))
 
 module _ {text rest : List ℕ} {count : ℕ} {bindings : Bindings} (none : lines rest ≡ []) (so_far : BoundSoFar text rest count bindings) where

@@ -13,7 +13,7 @@ use Rattle.cave_data.specs.CaveView.{class_from}
 use Rattle.cave_data.specs.Shown.{shown, shown_text, raw_text, raw_class, shown_class, class_entry}
 use Rattle.cave_data.specs.Bindings.{default_place}
 use Rattle.cave_data.specs.DefaultPlaces.{or_default, with_defaults}
-use Rattle.cave_data.specs.SlotLemmas.{get-by_number}
+use Rattle.cave_data.proofs.SlotLemmas.{get-by_number}
 use Rattle.cave_data.proofs.SlotChanges.{same_key, other_key}
 
 get-or_default : (n place : ℕ) (m : fin.FinMap nat_cmp ℕ) (q : ℕ) → fin.get (or_default n place m) q ≡ cond (eqb q n) (option_or (fin.get m q) (Some place)) (fin.get m q)

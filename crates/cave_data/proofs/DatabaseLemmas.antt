@@ -69,7 +69,7 @@ module _ {database rest line : List ℕ} {count : ℕ} {reader : Reader} (after 
   read_fault OutOfRange e = inr (at_fault OutOfRange (allowed_err _ _ OutOfRange (sym step ∙ e)))
   read_fault NoEnd e = inr (at_fault NoEnd (allowed_err _ _ NoEnd (sym step ∙ e)))
   read_fault TooManyRows e = inr (at_fault TooManyRows (allowed_err _ _ TooManyRows (sym step ∙ e)))
-  read_fault BadBinding e = inr (at_fault BadBinding (allowed_err _ _ BadBinding (sym step ∙ e)))
+  read_fault (BadBinding flaw) e = inr (at_fault (BadBinding flaw) (allowed_err _ _ (BadBinding flaw) (sym step ∙ e)))
   read_fault UnknownRole e = inr (at_fault UnknownRole (allowed_err _ _ UnknownRole (sym step ∙ e)))
 
 -- the lines are at an end

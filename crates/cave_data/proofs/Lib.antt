@@ -2,6 +2,7 @@ pub mod LineLemmas
 pub mod NumberLemmas
 pub mod FieldLemmas
 pub mod Fronts
+pub mod SlotLemmas
 pub mod SlotChanges
 pub mod TableLemmas
 pub mod FoldLemmas
@@ -17,3 +18,4 @@ pub mod BindingLemmas
 pub mod CaveLemmas
 pub mod RangeLemmas
 pub mod ReadLemmas
+pub mod LowestLemmas

@@ -11,6 +11,7 @@ use Rattle.std.specs.Cmp.{nat_cmp_total}
 use Rattle.std.specs.FinMap as map
 use Rattle.std.proofs.lemmas.Bool.{and_parts, leb-true}
 use Rattle.cave_data.specs.declared.error.Cause.{Cause}
+use Rattle.cave_data.specs.declared.error.BindingFlaw.TheVariants.{Malformed, BadValue}
 use Rattle.cave_data.specs.declared.error.Cause.TheVariants.{BadBinding, UnknownRole, OutOfRange}
 use Rattle.cave_data.specs.declared.error.Section.{Section}
 use Rattle.cave_data.specs.declared.error.Section.TheVariants as section
@@ -92,13 +93,13 @@ chosen true x y fx fy = fx
 chosen false x y fx fy = fy
 
 role_fine : (name : List ℕ) (n : ℕ) → IfOk (role_binding name n) IsFine
-role_fine name n = read_then IsMessage IsFine (bound_within 1 499 n) _ (in_range 1 499 n BadBinding) (λ value fine. read_on IsFine (ok_or (name_number role_names name) UnknownRole) _ (λ number. fine))
+role_fine name n = read_then IsMessage IsFine (bound_within 1 499 n) _ (in_range 1 499 n (BadBinding BadValue)) (λ value fine. read_on IsFine (ok_or (name_number role_names name) UnknownRole) _ (λ number. fine))
 
 place_fine : (name : List ℕ) (n : ℕ) → IfOk (place_binding name n) IsFine
-place_fine name n = read_then IsPlace IsFine (bound_within 1 300 n) _ (in_range 1 300 n BadBinding) (λ value fine. read_on IsFine (ok_or (name_number place_names name) UnknownRole) _ (λ number. fine))
+place_fine name n = read_then IsPlace IsFine (bound_within 1 300 n) _ (in_range 1 300 n (BadBinding BadValue)) (λ value fine. read_on IsFine (ok_or (name_number place_names name) UnknownRole) _ (λ number. fine))
 
 letters_fine : (n : ℕ) → IfOk (letters_binding n) IsFine
-letters_fine n = read_then IsLetters IsFine (bound_within 5 8 n) _ (in_range 5 8 n BadBinding) (λ value fine. fine)
+letters_fine n = read_then IsLetters IsFine (bound_within 5 8 n) _ (in_range 5 8 n (BadBinding BadValue)) (λ value fine. fine)
 
 binding_fine : (key : List ℕ) (n : ℕ) → IfOk (binding_of key n) IsFine
 binding_fine key n =
@@ -107,7 +108,7 @@ binding_fine key n =
 
 row_fine : (line : List ℕ) → IfOk (binding_row line) IsFine
 unfolding binding_row
-row_fine line = read_on IsFine (two_fields (fields line)) _ (λ pair. read_on IsFine (ok_or (natural pair.1) BadBinding) _ (λ n. binding_fine pair.0 n))
+row_fine line = read_on IsFine (two_fields (fields line)) _ (λ pair. read_on IsFine (ok_or (natural pair.1) (BadBinding Malformed)) _ (λ n. binding_fine pair.0 n))
 
 line_fine : (line : List ℕ) → Each IsFine (binding_at line)
 unfolding binding_at

@@ -7,6 +7,7 @@ use Rattle.std.proofs.lemmas.Bool.{ltb-true, lt-ltb, ne_eqb, and_parts}
 use Rattle.std.proofs.lemmas.List.{append_assoc, append-nil, length-append}
 use Rattle.std.proofs.lemmas.List.Elements.{filter_map-append}
 use Rattle.cave_data.specs.declared.error.Cause.{Cause}
+use Rattle.cave_data.specs.declared.error.BindingFlaw.TheVariants.{Repeated}
 use Rattle.cave_data.specs.declared.error.Cause.TheVariants.{BadSection, OutOfRange, TooManyRows, BadBinding}
 use Rattle.cave_data.specs.declared.reader.Place.{Place}
 use Rattle.cave_data.specs.declared.reader.Place.TheVariants.{Outside, Inside, After}
@@ -238,7 +239,7 @@ line_fine before line later right may =
 
 anew_one : (before : List (List ℕ)) (line : List ℕ) (r : Result Binding Cause) → binding_row line ≡ r → option_or (result_err r) (repeat_cause (bindings_of before) (option_to_list (result_ok r))) ≡ None → BindsAnew before line
 anew_one before line (Ok binding) is e = record { binding = binding; is = is; anew = free (value_of binding.key (bindings_of before)) e } where
-  free : (o : Option ℕ) → cond (is_some o) (Some BadBinding) None ≡ None → o ≡ None
+  free : (o : Option ℕ) → cond (is_some o) (Some (BadBinding Repeated)) None ≡ None → o ≡ None
   free None e = refl
   free (Some n) e = cc
 anew_one before line (Err cause) is e = cc
@@ -258,4 +259,4 @@ binding_fine before line (inr binds) =
     ap (λ r. option_or (cond (is_skipped line) None (result_err r)) (repeat_cause (bindings_of before) (cond (is_skipped line) [] (option_to_list (result_ok r))))) binds.is ∙ at (is_skipped line) where
       at : (b : Bool) → option_or (cond b None (result_err {E = Cause} (Ok binds.binding))) (repeat_cause (bindings_of before) (cond b [] (binds.binding ∷ []))) ≡ None
       at true = refl
-      at false = ap (λ o. cond (is_some o) (Some BadBinding) None) binds.anew
+      at false = ap (λ o. cond (is_some o) (Some (BadBinding Repeated)) None) binds.anew

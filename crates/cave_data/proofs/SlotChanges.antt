@@ -6,7 +6,7 @@ use Rattle.std.specs.Ordering.{nat_cmp, eq_by_cmp}
 use Rattle.std.specs.Cmp.{nat_cmp_total}
 use Rattle.std.specs.FinMap as map
 use Rattle.cave_data.specs.Slots.{slot, by_number, ChangesSlot}
-use Rattle.cave_data.specs.SlotLemmas.{get-by_number}
+use Rattle.cave_data.proofs.SlotLemmas.{get-by_number}
 
 pub same_key : (m n : ℕ) → m ≡ n → eq_by_cmp nat_cmp m n ≡ true
 same_key m n h = grind (arith, nat_tests)

@@ -7,7 +7,7 @@ use Rattle.cave_data.specs.declared.rows.Row.{Row}
 use Rattle.cave_data.specs.CaveView.{Going}
 use Rattle.cave_data.specs.Shown.{raw_text, going, goings}
 use Rattle.cave_data.specs.Slots.{slot, by_number, ChangesSlot}
-use Rattle.cave_data.specs.SlotLemmas.{get-by_number}
+use Rattle.cave_data.proofs.SlotLemmas.{get-by_number}
 use Rattle.cave_data.specs.Tables.{with_line, with_way, is_number}
 use Rattle.cave_data.proofs.SlotChanges.{by_number-replace}
 

@@ -3,6 +3,7 @@ use Rattle.std.specs.Prelude.{ℕ, suc, if◌then◌else◌, List, [], ◌∷◌
 use Rattle.std.specs.Option.{option_or}
 use Rattle.std.specs.Result.{result_err}
 use Rattle.cave_data.specs.declared.error.Cause.{Cause}
+use Rattle.cave_data.specs.declared.error.BindingFlaw.TheVariants.{Repeated}
 use Rattle.cave_data.specs.declared.error.Cause.TheVariants.{BadBinding}
 use Rattle.cave_data.specs.declared.error.Spot.TheVariants.{Bindings}
 use Rattle.cave_data.specs.declared.error.CaveError.{CaveError}
@@ -13,7 +14,7 @@ use Rattle.cave_data.specs.Bindings.{is_skipped, binding_row, binding_at, bindin
 -- a key is bound once
 abbrev pub repeat_cause : List Binding → List Binding → Option Cause
 repeat_cause before [] = None
-repeat_cause before (binding ∷ more) = if is_some (value_of binding.key before) then Some BadBinding else None
+repeat_cause before (binding ∷ more) = if is_some (value_of binding.key before) then Some (BadBinding Repeated) else None
 
 abbrev pub form_cause : List ℕ → Option Cause
 form_cause line = if is_skipped line then None else result_err (binding_row line)

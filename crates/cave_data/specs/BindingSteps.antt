@@ -2,6 +2,7 @@
 use Rattle.std.specs.Prelude.{ℕ, is_some, if◌then◌else◌, List, fold, Option, Some, None, Result, Ok, Err}
 use Rattle.std.specs.FinMap as map
 use Rattle.cave_data.specs.declared.error.Cause.{Cause}
+use Rattle.cave_data.specs.declared.error.BindingFlaw.TheVariants.{Repeated}
 use Rattle.cave_data.specs.declared.error.Cause.TheVariants.{BadBinding}
 use Rattle.cave_data.specs.declared.binding.Key.{Key}
 use Rattle.cave_data.specs.declared.binding.Key.TheVariants.{RoleKey, PlaceKey, LettersKey}
@@ -25,7 +26,7 @@ abbrev pub bind : Bindings → Binding → Bindings
 bind b binding = bind_key b binding.key binding.value
 
 abbrev pub bind_new : Bindings → Binding → Result Bindings Cause
-bind_new b binding = if is_some (bound_to b binding.key) then Err BadBinding else Ok (bind b binding)
+bind_new b binding = if is_some (bound_to b binding.key) then Err (BadBinding Repeated) else Ok (bind b binding)
 
 -- the bindings behind a line
 unfoldable pub bind_line : Bindings → List ℕ → Result Bindings Cause

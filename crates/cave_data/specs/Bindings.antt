@@ -5,6 +5,7 @@ use Rattle.std.specs.Result.{result_ok}
 use Rattle.std.specs.List.{filter_map, starts_with, position_from}
 use Rattle.std.specs.Str.{bytes_eq}
 use Rattle.cave_data.specs.declared.error.Cause.{Cause}
+use Rattle.cave_data.specs.declared.error.BindingFlaw.TheVariants.{Malformed, BadValue}
 use Rattle.cave_data.specs.declared.error.Cause.TheVariants.{BadBinding, UnknownRole}
 use Rattle.cave_data.specs.declared.binding.Key.{Key}
 use Rattle.cave_data.specs.declared.binding.Key.TheVariants.{RoleKey, PlaceKey, LettersKey}
@@ -26,10 +27,10 @@ is_skipped line = is_blank_line line || starts_comment line
 -- a binding is two fields, a key and a number of 1 to 9 digits
 abbrev pub two_fields : List (List ℕ) → Result (List ℕ × List ℕ) Cause
 two_fields (key ∷ value ∷ []) = Ok (key, value)
-two_fields others = Err BadBinding
+two_fields others = Err (BadBinding Malformed)
 
 abbrev pub bound_within : ℕ → ℕ → ℕ → Result ℕ Cause
-bound_within low high n = if nat_le low n && nat_le n high then Ok n else Err BadBinding
+bound_within low high n = if nat_le low n && nat_le n high then Ok n else Err (BadBinding BadValue)
 
 -- the number of a name in a table of names
 abbrev pub name_number : List (List ℕ) → List ℕ → Option ℕ
@@ -53,7 +54,7 @@ binding_of key n =
 unfoldable pub binding_row : List ℕ → Result Binding Cause
 binding_row line = do
   pair ← two_fields (fields line)
-  n ← ok_or (natural pair.1) BadBinding
+  n ← ok_or (natural pair.1) (BadBinding Malformed)
   binding_of pair.0 n
 
 -- the binding that a line is, if it is one

@@ -5,7 +5,6 @@ pub mod PlaceRole
 pub mod Role
 pub mod Rows
 pub mod Shown
-pub mod SlotLemmas
 pub mod Slots
 pub mod RowViews
 pub mod Tables
@@ -20,6 +19,7 @@ pub mod Bindings
 pub mod BindingFault
 pub mod BindingSteps
 pub mod Reading
+pub mod LowestCause
 pub mod Laws
 pub mod Finished
 pub mod DefaultPlaces

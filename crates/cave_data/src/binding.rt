@@ -5,7 +5,7 @@ ghost use Rattle.cave_data.specs.Bindings.{is_skipped, two_fields, bound_within,
 ghost use Rattle.cave_data.specs.Fields.{fields};
 ghost use Rattle.cave_data.specs.Gives.{Gives};
 
-use crate::error::Cause;
+use crate::error::{BindingFlaw, Cause};
 use crate::field_rows::next_field;
 use crate::number::{is_blank_line, natural};
 use crate::place_role::PLACE_NAMES;
@@ -46,14 +46,14 @@ fn two_fields(line: &[u8]) -> Result<(&[u8], &[u8]), Cause>
     ensures { Gives (λ pair. (pair.0.now, pair.1.now)) result (two_fields (fields line.now)) }
 {
     let Some((key, rest)) = next_field(line) else {
-        return Err(Cause::BadBinding);
+        return Err(Cause::BadBinding(BindingFlaw::Malformed));
     };
     let Some((value, rest)) = next_field(rest) else {
-        return Err(Cause::BadBinding);
+        return Err(Cause::BadBinding(BindingFlaw::Malformed));
     };
     match next_field(rest) {
         None => Ok((key, value)),
-        Some(_) => Err(Cause::BadBinding),
+        Some(_) => Err(Cause::BadBinding(BindingFlaw::Malformed)),
     }
 }
 
@@ -64,7 +64,7 @@ fn bound_within(n: u32, low: u16, high: u16) -> Result<u16, Cause>
     if u32::from(low) <= n && n <= u32::from(high) {
         Ok(n as u16)
     } else {
-        Err(Cause::BadBinding)
+        Err(Cause::BadBinding(BindingFlaw::BadValue))
     }
 }
 
@@ -145,6 +145,6 @@ pub fn binding_row(line: &[u8]) -> Result<Binding, Cause>
     ensures { Gives (λ binding. binding) result (binding_row line.now) }
 {
     let (key, value) = two_fields(line)?;
-    let n = natural(value).ok_or(Cause::BadBinding)?;
+    let n = natural(value).ok_or(Cause::BadBinding(BindingFlaw::Malformed))?;
     binding_of(key, n)
 }

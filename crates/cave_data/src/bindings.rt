@@ -9,7 +9,7 @@ ghost use Rattle.cave_data.specs.Gives.{Leaves};
 
 use crate::binding::{Binding, Key, binding_row, is_skipped};
 use crate::database::told;
-use crate::error::{Cause, CaveError, Spot};
+use crate::error::{BindingFlaw, Cause, CaveError, Spot};
 use crate::lines::split_line;
 use crate::tables::Table;
 use std::alloc::Global;
@@ -50,7 +50,7 @@ impl Bindings {
         ensures { Leaves result self.new (bind_new self.old binding) }
     {
         if self.bound_to(binding.key).is_some() {
-            return Err(Cause::BadBinding);
+            return Err(Cause::BadBinding(BindingFlaw::Repeated));
         }
         match binding.key {
             Key::RoleKey(number) => {

@@ -8,6 +8,7 @@ ghost use Rattle.cave_data.specs.Finished.{Finished};
 ghost use Rattle.cave_data.specs.Ranges.{IsLetters, IsMessage, IsPlace, IsStanding, HasOnly, AreInRange};
 ghost use Rattle.cave_data.specs.Grammar.{entries};
 ghost use Rattle.cave_data.specs.Laws.{Laws};
+ghost use Rattle.cave_data.specs.LowestCause.{TellsLowest};
 ghost use Rattle.cave_data.specs.Reading.{AreRight, Reads, fault};
 ghost use Rattle.std.specs.Str.Lines.{lines};
 ghost use Rattle.cave_data.specs.RowViews.{rating};
@@ -19,7 +20,7 @@ use crate::bindings::{Bindings, read_bindings};
 use crate::database::read_database;
 use crate::error::{Cause, CaveError, Spot};
 use crate::place_role::PlaceRole;
-use crate::reader::Tables;
+use crate::reader::{LAST_NAMED, Tables};
 use crate::role::Role;
 use crate::rows::{ClassRow, Hint, Placement, Rating, Row, WordRow};
 use crate::slots::{Slots, printed, text_at};
@@ -29,8 +30,6 @@ use std::marker::Model;
 
 /// The greatest size of an input.
 const MAX_SIZE: usize = 1_048_576;
-/// The last object that may have texts.
-const LAST_NAMED: u16 = 99;
 /// The last prop that may have a text.
 const LAST_PROP: u16 = 99;
 
@@ -128,41 +127,21 @@ fn finish(tables: Tables, bindings: Bindings) -> Cave
     requires standing { HasOnly IsStanding tables.placements }
     ensures { Finished tables bindings result }
 {
-    let Tables {
-        long,
-        short,
-        ways,
-        words,
-        objects,
-        object: _,
-        messages,
-        placements,
-        defaults,
-        conditions,
-        classes,
-        hints,
-    } = tables;
-    let Bindings {
-        roles,
-        places,
-        letters,
-    } = bindings;
-    let letters = letters_of(letters);
     Cave {
-        long: long.into_slots(),
-        short: short.into_slots(),
-        travel: ways.into_slots(),
-        words: words.into_rows(),
-        objects: objects.into_slots(),
-        messages: messages.into_slots(),
-        placements,
-        defaults,
-        conditions,
-        classes: classes.into_rows(),
-        hints,
-        roles,
-        places,
-        letters,
+        long: tables.long.into_slots(),
+        short: tables.short.into_slots(),
+        travel: tables.ways.into_slots(),
+        words: tables.words.into_rows(),
+        objects: tables.objects.into_slots(),
+        messages: tables.messages.into_slots(),
+        placements: tables.placements,
+        defaults: tables.defaults,
+        conditions: tables.conditions,
+        classes: tables.classes.into_rows(),
+        hints: tables.hints,
+        roles: bindings.roles,
+        places: bindings.places,
+        letters: letters_of(bindings.letters),
     }
 }
 
@@ -197,6 +176,8 @@ impl Cave {
     pub fn read(alloc: Global, database: &[u8], bindings: &[u8]) -> Result<Cave, CaveError>
         ensures found { IfOk result (λ c. Reads database.now bindings.now c) }
         ensures fault { IfErr result (λ e. FaultIs e (fault database.now bindings.now)) }
+        // Where a line of the database has several faults, the one with the lowest number is its cause.
+        ensures lowest { TellsLowest }
         // There is no fault exactly where the inputs are a database and bindings.
         ensures right { (AreRight database.now bindings.now → fault database.now bindings.now ≡ None)
             × (fault database.now bindings.now ≡ None → AreRight database.now bindings.now) }

@@ -5,12 +5,23 @@ use crate::explain::{At, Expected};
 use std::alloc::{AllocError, AllocFailed};
 use thiserror::Error;
 
+/// Why a line of bindings binds nothing, though its key may be known.
+#[derive(Clone, Copy, Debug, PartialEq, Eq, Error)]
+pub enum BindingFlaw {
+    #[error("this is no binding")]
+    Malformed,
+    #[error("the number of a binding is out of its range")]
+    BadValue,
+    #[error("the key was bound before")]
+    Repeated,
+}
+
 /// Why a database or its bindings are refused. On one line the first cause that fits is told.
 #[derive(Clone, Copy, Debug, PartialEq, Eq, Error)]
 pub enum Cause {
-    #[error("an input is too large")]
+    #[error("the input is too large")]
     TooLarge,
-    #[error("a section's number was expected")]
+    #[error("this opens no section")]
     BadSection,
     #[error("a number or a word is missing")]
     BadNumber,
@@ -18,11 +29,11 @@ pub enum Cause {
     OutOfRange,
     #[error("the database has no end")]
     NoEnd,
-    #[error("there are too many rows")]
+    #[error("a limit is passed")]
     TooManyRows,
-    #[error("a binding was expected")]
-    BadBinding,
-    #[error("the name is not known")]
+    #[error("{0}")]
+    BadBinding(BindingFlaw),
+    #[error("the key is not known")]
     UnknownRole,
     #[error("there is not enough memory")]
     Memory,

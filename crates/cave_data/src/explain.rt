@@ -1,5 +1,5 @@
-//! What a fault tells the person who wrote the line: what was expected there.
-use crate::error::{Cause, Section, Spot};
+//! What a fault tells the person who wrote the line: what is wrong, and what was expected there.
+use crate::error::{BindingFlaw, Cause, Section, Spot};
 use std::fmt;
 
 /// The line that is at fault, if one is.
@@ -15,12 +15,19 @@ impl fmt::Display for At {
         match self.spot {
             _ if line == 0 => Ok(()),
             Spot::Bindings => write!(f, "line {line} of the bindings: "),
-            _ => write!(f, "line {line} of the database: "),
+            Spot::Database | Spot::Section(_) => write!(f, "line {line} of the database: "),
         }
     }
 }
 
-/// What was expected in place of what has the fault.
+impl fmt::Display for Section {
+    fn fmt<W: fmt::Write>(&self, f: &mut fmt::Formatter<W>) -> fmt::Result {
+        let number = *self as u8 + 1;
+        write!(f, "section {number}")
+    }
+}
+
+/// What is wrong, and what was expected there.
 #[derive(Clone, Copy, Debug)]
 pub struct Expected {
     pub cause: Cause,
@@ -30,54 +37,80 @@ pub struct Expected {
 impl fmt::Display for Expected {
     fn fmt<W: fmt::Write>(&self, f: &mut fmt::Formatter<W>) -> fmt::Result {
         let cause = self.cause;
-        match self.spot {
-            Spot::Section(section) => {
-                let text = in_section(cause, section);
-                write!(f, "{text}")
-            }
-            Spot::Bindings => {
-                let text = in_bindings(cause);
-                write!(f, "{text}")
-            }
-            Spot::Database => {
-                let text = outside(cause);
-                write!(f, "{text}")
-            }
+        if let (Cause::NoEnd, Spot::Section(section)) = (cause, self.spot) {
+            return write!(
+                f,
+                "{cause}: {section} has to end with -1, and the database with 0"
+            );
+        }
+        let expected = match self.spot {
+            Spot::Database => outside(cause),
+            Spot::Section(section) => in_section(cause, section),
+            Spot::Bindings => in_bindings(cause),
+        };
+        match expected {
+            Some(text) => write!(f, "{cause}: {text}"),
+            None => write!(f, "{cause}"),
         }
     }
 }
 
 /// What was expected where the database as a whole or a line outside every section is at fault.
-fn outside(cause: Cause) -> &'static str {
+fn outside(cause: Cause) -> Option<&'static str> {
     match cause {
-        Cause::TooLarge => "the database is larger than 1,048,576 bytes",
-        Cause::NoEnd => "the database ends here, but its last line has to be 0",
-        Cause::Memory => "there is not enough memory to read the cave",
-        _ => "expected the number of a section, 1 to 12, or 0 at the end of the database",
+        Cause::TooLarge => Some("a database has at most 1,048,576 bytes"),
+        Cause::BadSection => Some(
+            "expected the number of a section, 1 to 12, or 0 at the end of the database",
+        ),
+        Cause::NoEnd => Some("its last line has to be 0"),
+        Cause::BadNumber
+        | Cause::OutOfRange
+        | Cause::TooManyRows
+        | Cause::BadBinding(_)
+        | Cause::UnknownRole
+        | Cause::Memory => None,
     }
 }
 
 /// What was expected in bindings.
-fn in_bindings(cause: Cause) -> &'static str {
+fn in_bindings(cause: Cause) -> Option<&'static str> {
     match cause {
-        Cause::TooLarge => "the bindings are larger than 1,048,576 bytes",
+        Cause::TooLarge => Some("bindings have at most 1,048,576 bytes"),
+        Cause::BadBinding(BindingFlaw::Malformed) => {
+            Some(
+                "expected two fields, `msg.NAME N`, `place.NAME N` or `num.letters N`, with N of 1 to 9 digits",
+            )
+        }
+        Cause::BadBinding(BindingFlaw::BadValue) => {
+            Some(
+                "in `msg.NAME N` it is from 1 to 499, in `place.NAME N` from 1 to 300, in `num.letters N` from 5 to 8",
+            )
+        }
+        Cause::BadBinding(BindingFlaw::Repeated) => Some("each key is bound at most once"),
         Cause::UnknownRole => {
-            "no message or place has this name: expected `msg.`, `place.` or `num.letters` with a name that the game knows"
+            Some("expected `msg.` or `place.` with a name that the game knows, or `num.letters`")
         }
-        _ => {
-            "expected `msg.NAME N` with N from 1 to 499, `place.NAME N` with N from 1 to 300 or `num.letters N` with N from 5 to 8, and each key once"
-        }
+        Cause::BadSection
+        | Cause::BadNumber
+        | Cause::OutOfRange
+        | Cause::NoEnd
+        | Cause::TooManyRows
+        | Cause::Memory => None,
     }
 }
 
 /// What was expected in a section.
-fn in_section(cause: Cause, section: Section) -> &'static str {
+fn in_section(cause: Cause, section: Section) -> Option<&'static str> {
     match cause {
-        Cause::BadNumber => row(section),
-        Cause::OutOfRange => range(section),
+        Cause::BadNumber => Some(row(section)),
+        Cause::OutOfRange => Some(range(section)),
         Cause::TooManyRows => limit(section),
-        _ =>
-            "the database ends within a section: the section has to end with -1, and the database with 0",
+        Cause::TooLarge
+        | Cause::BadSection
+        | Cause::NoEnd
+        | Cause::BadBinding(_)
+        | Cause::UnknownRole
+        | Cause::Memory => None,
     }
 }
 
@@ -91,23 +124,24 @@ fn row(section: Section) -> &'static str {
         Section::Travel => {
             "section 3 expects a place, a target and at least one motion, all of them numbers of 1 to 9 digits, or -1 at its end"
         }
-        Section::Words => "section 4 expects a number and a word, or -1 at its end",
+        Section::Words =>
+            "section 4 expects a number of 1 to 9 digits and a word, or -1 at its end",
         Section::Objects => {
             "section 5 expects the number of an object, or a hundred times a prop, and a line of its text, or -1 at its end"
         }
         Section::Messages => "section 6 expects a message and a line of its text, or -1 at its end",
         Section::Placements => {
-            "section 7 expects an object, its first place, and then nothing, -1 or its second place, all of them numbers, or -1 at its end"
+            "section 7 expects an object and at most two places of it, all of them numbers of 1 to 9 digits, or -1 at its end"
         }
         Section::Defaults =>
-            "section 8 expects an action and a message, both of them numbers, or -1 at its end",
+            "section 8 expects an action and a message, both of them numbers of 1 to 9 digits, or -1 at its end",
         Section::Conditions => {
-            "section 9 expects a bit and the places that have it, all of them numbers, or -1 at its end"
+            "section 9 expects a bit and the places that have it, all of them numbers of 1 to 9 digits, or -1 at its end"
         }
         Section::Classes =>
             "section 10 expects the greatest score of a class and its text, or -1 at its end",
         Section::Hints => {
-            "section 11 expects a hint, its turns, its points, its question and its text, all of them numbers, or -1 at its end"
+            "section 11 expects a hint, its turns, its points, its question and its text, all of them numbers of 1 to 9 digits, or -1 at its end"
         }
         Section::Magic => "section 12 expects a message and a line of its text, or -1 at its end",
     }
@@ -143,12 +177,20 @@ fn range(section: Section) -> &'static str {
     }
 }
 
-/// How many rows the section may have, and how long they may be.
-fn limit(section: Section) -> &'static str {
+/// How many rows the section may have, and how long they may be, where that is limited.
+fn limit(section: Section) -> Option<&'static str> {
     match section {
-        Section::Travel => "section 3 has at most 2000 rows, and a row at most 40 motions",
-        Section::Words => "section 4 has at most 1000 rows",
-        Section::Classes => "section 10 has at most 50 rows",
-        _ => "a row has at most 40 places",
+        Section::Travel => Some("section 3 has at most 2000 rows, and a row at most 40 motions"),
+        Section::Words => Some("section 4 has at most 1000 rows"),
+        Section::Conditions => Some("a row of section 9 has at most 40 places"),
+        Section::Classes => Some("section 10 has at most 50 rows"),
+        Section::LongTexts
+        | Section::ShortTexts
+        | Section::Objects
+        | Section::Messages
+        | Section::Placements
+        | Section::Defaults
+        | Section::Hints
+        | Section::Magic => None,
     }
 }

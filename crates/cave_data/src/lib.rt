@@ -16,11 +16,9 @@ pub mod role;
 pub mod rows;
 mod slots;
 mod tables;
-#[cfg(test)]
-mod tests;
 
 pub use cave::Cave;
-pub use error::{Cause, CaveError, Section, Spot};
+pub use error::{BindingFlaw, Cause, CaveError, Section, Spot};
 pub use explain::Expected;
 pub use lines::split_line;
 pub use place_role::PlaceRole;

@@ -20,7 +20,7 @@ const MAX_WORDS: usize = 1000;
 /// The most classes.
 const MAX_CLASSES: usize = 50;
 /// The last object that may have texts.
-const LAST_NAMED: u16 = 99;
+pub const LAST_NAMED: u16 = 99;
 
 /// Where a line stands.
 #[derive(Clone, Copy, Debug, PartialEq, Eq)]

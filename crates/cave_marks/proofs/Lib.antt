@@ -5,5 +5,4 @@ pub mod Offered
 pub mod Places
 pub mod Runs
 pub mod Thinned
-pub mod Ticking
 pub mod Turned

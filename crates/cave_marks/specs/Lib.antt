@@ -2,4 +2,3 @@ pub mod Marks
 pub mod Placed
 pub mod Spacing
 pub mod Thinning
-pub mod Ticks

@@ -1,4 +1,4 @@
-//! What an edit of a log changes beside the lines: checkpoints, stretches of lists, and ticks.
+//! What an edit of a log changes beside the lines: checkpoints, and stretches of lists.
 //!
 //! A log is played line by line, and the states at some of its places are kept as checkpoints. An
 //! edit plays the log again from the last checkpoint before it, and stops where the new play agrees
@@ -14,7 +14,6 @@
 //! - [`Checkpoints::meet`] and [`Checkpoints::replace_from`] take marks over. The checkpoints before
 //!   stay where they are, and those behind move with the one that was met.
 //! - [`splice`] puts a stretch into a list in the place of another.
-//! - [`Ticks`] keep one truth value for each line, and how many of the first lines are true.
 //!
 //! What an edit costs here, beside one offer for each place that is played:
 //!
@@ -25,7 +24,6 @@
 //! | `Marks::offer` | a comparison, and a state copied where it is kept; room doubles as it runs out |
 //! | `meet`, `replace_from` | a block move of the checkpoints behind the edit; a pass over their places where the length changed |
 //! | `splice` | the stretch item by item where it keeps its length, else a block move of the items behind it |
-//! | `Ticks::splice` | those block moves; a pass over the counts behind where the number of ticks changed |
 //!
 //! None of these takes memory but `Checkpoints::marks`, `offer`, `reserve`, and what makes or copies a list.
 #![tactic(auto)]
@@ -38,10 +36,8 @@ mod shift;
 mod stretch;
 #[cfg(test)]
 mod tests;
-mod ticks;
 
 pub use checkpoints::Checkpoints;
 pub use marks::Marks;
 pub use search::{first_from, last_to};
 pub use stretch::splice;
-pub use ticks::Ticks;

@@ -1,6 +1,7 @@
 mod EditLemmas
 mod InputLemmas
 mod JudgeLemmas
+mod OutputLemmas
 mod RunLemmas
 mod ScriptLemmas
 mod TranscriptLemmas

@@ -46,6 +46,10 @@ abbrev pub EndsBy : PlayFault → Option PlayFault → (List ℕ → Type 0) →
 EndsBy fault.Write decided IsOutput old new = (decided ≡ None) × WritesFront IsOutput old new
 EndsBy found decided IsOutput old new = IsDecided decided found × Keeps old new
 
+-- one output at most is right
+abbrev pub AtMostOne : (List ℕ → Type 0) → Type 0
+AtMostOne IsOutput = (one other : List ℕ) → IsOutput one → IsOutput other → one ≡ other
+
 -- what a run leaves behind: a right output, where no fault is decided, or what its fault leaves
 abbrev pub Runs : Option PlayFault → (List ℕ → Type 0) → Option (List ℕ) → Option (List ℕ) → Result (Unit {0}) PlayFault → Type 0
 Runs decided IsOutput old new (Ok done) = (decided ≡ None) × ((output : List ℕ) × IsOutput output × Appends old new output)

@@ -7,7 +7,7 @@ ghost use Rattle.cave_play.specs.Fault.{status_of, input_of, line_of};
 use cave_data::{CaveError, Expected, Spot};
 use cave_script::Flaw;
 use std::alloc::AllocError;
-use std::fmt;
+use std::{fmt, io};
 use thiserror::Error;
 
 /// An input of a run.
@@ -140,5 +140,20 @@ impl fmt::Display for Complaint<'_> {
             (Some(file), None) => write!(f, "cave: {file}: {fault}"),
             (None, _) => write!(f, "cave: {fault}"),
         }
+    }
+}
+
+/// A file that can't be opened, as the program tells it.
+#[derive(Drop)]
+pub struct Unopened<'a> {
+    pub file: &'a str,
+    /// The system's reason.
+    pub reason: &'a io::Error,
+}
+
+impl fmt::Display for Unopened<'_> {
+    fn fmt<W: fmt::Write>(&self, f: &mut fmt::Formatter<W>) -> fmt::Result {
+        let (file, reason) = (self.file, self.reason);
+        write!(f, "cave: {file}: the file can't be opened: {reason}")
     }
 }

@@ -7,6 +7,7 @@ ghost use Rattle.cave_play.specs.Input.{Says, IsInputFault, Gives, Exceeds};
 
 use std::alloc::{AllocError, Global};
 use std::io::Read;
+use thiserror::Error;
 
 /// How many bytes an input may have.
 pub const MOST_BYTES: usize = 1_048_576;
@@ -15,13 +16,16 @@ pub const MOST_BYTES: usize = 1_048_576;
 const PIECE_BYTES: usize = 65_536;
 
 /// Why an input couldn't be had.
-#[derive(Clone, Copy, Debug, PartialEq, Eq)]
+#[derive(Clone, Copy, Debug, PartialEq, Eq, Error)]
 pub enum InputFault {
     /// The reader answered an error.
+    #[error("the input can't be read")]
     Unreadable,
     /// The reader gave more bytes than an input may have.
+    #[error("the input is larger than 1,048,576 bytes")]
     TooLarge,
     /// Memory was refused.
+    #[error("there isn't enough memory")]
     Memory,
 }
 

@@ -2,7 +2,7 @@
 
 ghost use Rattle.std.specs.Prelude.{◌≡◌, IfOk};
 ghost use Rattle.cave_words.specs.Lexicon.{IsLexiconOf};
-ghost use Rattle.cave_world.proofs.Exact.{state_decides};
+ghost use Rattle.cave_world.specs.Equality.{state_equality};
 ghost use Rattle.cave_play.specs.CaveRules.{cave_rules};
 
 use cave_data::Cave;
@@ -65,7 +65,7 @@ impl<'a> Machine for CaveMachine<'a> {
 
     ghost rules = { λ machine. cave_rules machine.cave.now };
 
-    ghost exact = { λ a b _ _. state_decides a b };
+    ghost exact = { λ a b _ _. state_equality a b };
 
     fn start(&self, alloc: Global, seed: u32) -> Result<Started<State, Vec<Part>>, AllocError> {
         let mut out = Out::new();

@@ -4,9 +4,11 @@ ghost use Rattle.std.specs.Prelude.{ℕ, take, OnOk, OnErr};
 ghost use Rattle.std.specs.Io.KnownBytes.{Appends};
 
 use std::io::Write;
+use thiserror::Error;
 
 /// The writer answered an error, or took nothing.
-#[derive(Clone, Copy, Debug, PartialEq, Eq)]
+#[derive(Clone, Copy, Debug, PartialEq, Eq, Error)]
+#[error("the output can't be written")]
 pub struct WriteFault;
 
 /// Writes the whole output, or a front of it where the writer fails.

@@ -9,7 +9,7 @@ ghost use Rattle.cave_replay.specs.Play.{game_of};
 ghost use Rattle.cave_play.specs.Input.{Says};
 ghost use Rattle.cave_play.specs.Judged.{seed_fault, every_fault, inputs_fault, log_fault, script_fault};
 ghost use Rattle.cave_play.specs.Output.{play_text, play_fault, edit_fault, IsChecked, IsPlayed, IsEditOf, IsEdited};
-ghost use Rattle.cave_play.specs.Run.{or_else, Judges, Runs};
+ghost use Rattle.cave_play.specs.Run.{or_else, AtMostOne, Judges, Runs};
 
 use crate::edits::apply;
 use crate::fault::PlayFault;
@@ -37,6 +37,7 @@ pub fn run_check<C: Read, B: Read, W: Write>(
         × Says (C.remaining cave.old) database × Says (B.remaining bind.old) bindings
         × Runs (inputs_fault database bindings) (IsChecked database bindings)
         (W.contents output.old) (W.contents output.new) result }
+    ensures alone { (database : List ℕ) → (bindings : List ℕ) → AtMostOne (IsChecked database bindings) }
 {
     check(alloc, cave, bind)?;
     write(output, b"cave ok\n")
@@ -51,12 +52,16 @@ pub fn run_play<C: Read, B: Read, L: Read, W: Write>(
     seed: u32,
     output: &mut W,
 ) -> Result<(), PlayFault>
-    ensures runs { (database : List ℕ) × (bindings : List ℕ) × (lines : List ℕ)
-        × Says (C.remaining cave.old) database × Says (B.remaining bind.old) bindings × Says (L.remaining log.old) lines
-        × Runs (play_fault database bindings lines seed) (IsPlayed database bindings lines seed)
+    ensures runs { (database : List ℕ) × (bindings : List ℕ) × (moves : List ℕ)
+        × Says (C.remaining cave.old) database × Says (B.remaining bind.old) bindings × Says (L.remaining log.old) moves
+        × Runs (play_fault database bindings moves seed) (IsPlayed database bindings moves seed)
         (W.contents output.old) (W.contents output.new) result }
+
+    // The inputs and the seed determine what is written.
+    ensures alone { (database : List ℕ) → (bindings : List ℕ) → (moves : List ℕ)
+        → AtMostOne (IsPlayed database bindings moves seed) }
 {
-    let text = play(alloc, cave, bind, log, seed)?;
+    let text = play_inputs(alloc, cave, bind, log, seed)?;
     write(output, &text)
 }
 
@@ -71,13 +76,17 @@ pub fn run_edit<C: Read, B: Read, L: Read, S: Read, W: Write>(
     every: u32,
     output: &mut W,
 ) -> Result<(), PlayFault>
-    ensures runs { (database : List ℕ) × (bindings : List ℕ) × (lines : List ℕ) × (edits : List ℕ)
+    ensures runs { (database : List ℕ) × (bindings : List ℕ) × (moves : List ℕ) × (edits : List ℕ)
         × Says (C.remaining cave.old) database × Says (B.remaining bind.old) bindings
-        × Says (L.remaining log.old) lines × Says (S.remaining script.old) edits
-        × Runs (edit_fault database bindings lines edits seed every) (IsEdited database bindings lines edits seed)
+        × Says (L.remaining log.old) moves × Says (S.remaining script.old) edits
+        × Runs (edit_fault database bindings moves edits seed every) (IsEdited database bindings moves edits seed)
         (W.contents output.old) (W.contents output.new) result }
+
+    // The inputs and the seed determine what is written, so that the distance of checkpoints doesn't show in it.
+    ensures alone { (database : List ℕ) → (bindings : List ℕ) → (moves : List ℕ) → (edits : List ℕ)
+        → AtMostOne (IsEdited database bindings moves edits seed) }
 {
-    let text = edit(alloc, cave, bind, log, script, seed, every)?;
+    let text = edit_inputs(alloc, cave, bind, log, script, seed, every)?;
     write(output, &text)
 }
 
@@ -103,57 +112,58 @@ fn check<C: Read, B: Read>(alloc: Global, cave: &mut C, bind: &mut B) -> Result<
     Ok(())
 }
 
-/// The transcript of a log.
-fn play<C: Read, B: Read, L: Read>(
+/// The transcript of a log, from readers of the inputs.
+fn play_inputs<C: Read, B: Read, L: Read>(
     alloc: Global,
     cave: &mut C,
     bind: &mut B,
     log: &mut L,
     seed: u32,
 ) -> Result<Vec<u8>, PlayFault>
-    ensures judged { (database : List ℕ) × (bindings : List ℕ) × (lines : List ℕ)
-        × Says (C.remaining cave.old) database × Says (B.remaining bind.old) bindings × Says (L.remaining log.old) lines
-        × Judges (play_fault database bindings lines seed) (λ text. IsPlayed database bindings lines seed text.items) result }
+    ensures judged { (database : List ℕ) × (bindings : List ℕ) × (moves : List ℕ)
+        × Says (C.remaining cave.old) database × Says (B.remaining bind.old) bindings × Says (L.remaining log.old) moves
+        × Judges (play_fault database bindings moves seed) (λ text. IsPlayed database bindings moves seed text.items) result }
 {
     check_seed(seed)?;
     let cave = read_cave(alloc, cave, bind)?;
-    play_in(alloc, &cave, log, seed)
+    play_in_cave(alloc, &cave, log, seed)
 }
 
 /// The transcript of a log in a cave.
-fn play_in<L: Read>(
+fn play_in_cave<L: Read>(
     alloc: Global,
     cave: &Cave,
     log: &mut L,
     seed: u32,
 ) -> Result<Vec<u8>, PlayFault>
     requires { seed_fault seed ≡ None }
-    ensures judged { (bytes : List ℕ) × Says (L.remaining log.old) bytes
-        × Judges (log_fault bytes) (λ text. text.items ≡ play_text cave.now (game_of seed (lines bytes))) result }
+    ensures judged { (moves : List ℕ) × Says (L.remaining log.old) moves
+        × Judges (log_fault moves) (λ text. text.items ≡ play_text cave.now (game_of seed (lines moves))) result }
 {
     let lexicon = Lexicon::build(alloc, cave)?;
-    play_log(alloc, CaveMachine::new(cave, &lexicon), log, seed)
+    play_by_machine(alloc, CaveMachine::new(cave, &lexicon), log, seed)
 }
 
 /// The transcript of a log that a machine plays.
-fn play_log<L: Read>(
+fn play_by_machine<L: Read>(
     alloc: Global,
     machine: CaveMachine<'_>,
     log: &mut L,
     seed: u32,
 ) -> Result<Vec<u8>, PlayFault>
     requires { seed_fault seed ≡ None }
-    ensures judged { (bytes : List ℕ) × Says (L.remaining log.old) bytes
-        × Judges (log_fault bytes) (λ text. text.items ≡ play_text machine.entry.cave.now (game_of seed (lines bytes))) result }
+    ensures judged { (moves : List ℕ) × Says (L.remaining log.old) moves
+        × Judges (log_fault moves) (λ text. text.items ≡ play_text machine.entry.cave.now (game_of seed (lines moves))) result }
 {
     let session = read_log(alloc, machine, log, seed, EVERY)?;
-    let text = told(alloc, machine, &session);
+    let text = transcript_of(alloc, machine, &session);
+    // The check knows no way to let go of a session over a borrowed machine at the end of a block.
     drop(session);
     text
 }
 
 /// The transcript of the play that a session of the machine holds.
-fn told(
+fn transcript_of(
     alloc: Global,
     machine: CaveMachine<'_>,
     session: &Session<CaveMachine<'_>>,
@@ -166,8 +176,8 @@ fn told(
     Ok(text)
 }
 
-/// The reports on a script, and the transcript of the log that it leaves.
-fn edit<C: Read, B: Read, L: Read, S: Read>(
+/// The reports on a script and the transcript of the log that it leaves, from readers of the inputs.
+fn edit_inputs<C: Read, B: Read, L: Read, S: Read>(
     alloc: Global,
     cave: &mut C,
     bind: &mut B,
@@ -176,19 +186,19 @@ fn edit<C: Read, B: Read, L: Read, S: Read>(
     seed: u32,
     every: u32,
 ) -> Result<Vec<u8>, PlayFault>
-    ensures judged { (database : List ℕ) × (bindings : List ℕ) × (lines : List ℕ) × (edits : List ℕ)
+    ensures judged { (database : List ℕ) × (bindings : List ℕ) × (moves : List ℕ) × (edits : List ℕ)
         × Says (C.remaining cave.old) database × Says (B.remaining bind.old) bindings
-        × Says (L.remaining log.old) lines × Says (S.remaining script.old) edits
-        × Judges (edit_fault database bindings lines edits seed every) (λ text. IsEdited database bindings lines edits seed text.items) result }
+        × Says (L.remaining log.old) moves × Says (S.remaining script.old) edits
+        × Judges (edit_fault database bindings moves edits seed every) (λ text. IsEdited database bindings moves edits seed text.items) result }
 {
     check_seed(seed)?;
     check_every(every)?;
     let cave = read_cave(alloc, cave, bind)?;
-    edit_in(alloc, &cave, log, script, seed, every)
+    edit_in_cave(alloc, &cave, log, script, seed, every)
 }
 
 /// The reports on a script in a cave, and the transcript of the log that it leaves.
-fn edit_in<L: Read, S: Read>(
+fn edit_in_cave<L: Read, S: Read>(
     alloc: Global,
     cave: &Cave,
     log: &mut L,
@@ -204,7 +214,7 @@ fn edit_in<L: Read, S: Read>(
         (λ text. IsEditOf cave.now (game_of seed (lines moves)) edits text.items) result }
 {
     let lexicon = Lexicon::build(alloc, cave)?;
-    edit_log(
+    edit_by_machine(
         alloc,
         CaveMachine::new(cave, &lexicon),
         log,
@@ -215,7 +225,7 @@ fn edit_in<L: Read, S: Read>(
 }
 
 /// The reports on a script for a log that a machine plays, and the transcript of the log that it leaves.
-fn edit_log<L: Read, S: Read>(
+fn edit_by_machine<L: Read, S: Read>(
     alloc: Global,
     machine: CaveMachine<'_>,
     log: &mut L,
@@ -231,13 +241,13 @@ fn edit_log<L: Read, S: Read>(
         (λ text. IsEditOf machine.entry.cave.now (game_of seed (lines moves)) edits text.items) result }
 {
     let mut session = read_log(alloc, machine, log, seed, every)?;
-    let text = edited(alloc, machine, &mut session, script);
+    let text = edit_session(alloc, machine, &mut session, script);
     drop(session);
     text
 }
 
 /// The reports on a script that is applied to a session of the machine, and the transcript of the log that it leaves.
-fn edited<S: Read>(
+fn edit_session<S: Read>(
     alloc: Global,
     machine: CaveMachine<'_>,
     session: &mut Session<CaveMachine<'_>>,

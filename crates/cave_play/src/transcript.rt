@@ -73,10 +73,11 @@ pub(crate) fn tell(
     render(cave, session.opening(), 0, text)?;
     let pieces = session.pieces();
     let lines = session.lines();
+    let mut turns = 0;
     for place in 0..lines {
-        let turns = session.ticks(place + 1);
+        turns += u32::from(session.ticked(place));
         let piece = &pieces[place as usize];
         push_line(cave, text, session.line(place), piece, turns)?;
     }
-    push_closing(alloc, text, session.ticks(lines))
+    push_closing(alloc, text, turns)
 }

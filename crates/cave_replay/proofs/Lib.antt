@@ -1,4 +1,5 @@
 pub mod Bounds
+pub mod Counting
 pub mod Edited
 pub mod Groups
 pub mod Inverses

@@ -159,15 +159,6 @@ module _ {State S T : Type 0} (meaning : State → S) (is_state : State → Type
       ] in
       rw (lines, places) (ordered, inside, omega arith)
 
-  -- what was played is no longer than the new log
-  pub few_ticks : (met : Option ℕ) → IsReplayed meaning is_state rules old new head tail C at opening pieces ticks marks met → length ticks ≤ length new.log
-  few_ticks met replayed =
-      let whole = ap length replayed.ticks_are in
-      let a = length-append (ticks_at rules new (slice_index C.places at)) ticks in
-      let b = length-ticks_of rules (rules.begun new.seed) (take marks.next new.log) in
-      let d = length-take marks.next new.log in
-      omega arith
-
 pub stretch_same : {State : Type 0} (C1 C : Spaced State) → C1.lines ≡ C.lines → C1.places ≡ C.places → (met : Option ℕ) → end_of_stretch C1 met ≡ end_of_stretch C met
 stretch_same C1 C lines places None = lines
 stretch_same C1 C lines places (Some index) = ap (λ p. slice_index p index) places

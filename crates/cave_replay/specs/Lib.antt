@@ -12,3 +12,4 @@ pub mod Replay
 pub mod Changed
 pub mod Table
 pub mod Taken
+pub mod TickCounts

@@ -72,7 +72,7 @@ pub(crate) fn copy_kept<M: Machine>(
     ensures log { IfOk result (λ copy. log_of copy.log.items ≡ log_of kept.now.log.items) }
     ensures opening { IfOk result (λ copy. M.text copy.opening ≡ M.text kept.now.opening) }
     ensures pieces { IfOk result (λ copy. map M.text copy.pieces.items ≡ map M.text kept.now.pieces.items) }
-    ensures ticked { IfOk result (λ copy. copy.ticked.ticked ≡ kept.now.ticked.ticked) }
+    ensures ticked { IfOk result (λ copy. copy.ticked.items ≡ kept.now.ticked.items) }
     ensures settings { IfOk result (λ copy. (copy.checkpoints.every ≡ kept.now.checkpoints.every) × (copy.checkpoints.lines ≡ kept.now.checkpoints.lines)) }
     ensures places { IfOk result (λ copy. copy.checkpoints.places ≡ kept.now.checkpoints.places) }
     ensures states { IfOk result (λ copy. copy.checkpoints.states ≡ kept.now.checkpoints.states) }
@@ -81,7 +81,7 @@ pub(crate) fn copy_kept<M: Machine>(
     let log = copy_lines(alloc, &kept.log)?;
     let opening = machine.copy_piece(alloc, &kept.opening)?;
     let pieces = copy_pieces(alloc, machine, &kept.pieces)?;
-    let ticked = kept.ticked.copy(alloc)?;
+    let ticked = Vec::from_slice(alloc, &kept.ticked)?;
     let checkpoints = kept.checkpoints.copy(alloc)?;
     Ok(Kept {
         seed: kept.seed,

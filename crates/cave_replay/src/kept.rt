@@ -13,7 +13,7 @@ use crate::edit::Edit;
 use crate::machine::Machine;
 use crate::making::make_edits;
 use crate::played::Played;
-use cave_marks::{Checkpoints, Marks, Ticks, splice};
+use cave_marks::{Checkpoints, Marks, splice};
 use std::alloc::AllocError;
 
 /// What a session keeps: a game and its play, and the states at its checkpoints.
@@ -23,7 +23,7 @@ pub(crate) struct Kept<M: Machine> {
     pub(crate) log: Vec<Vec<u8>>,
     pub(crate) opening: M::Piece,
     pub(crate) pieces: Vec<M::Piece>,
-    pub(crate) ticked: Ticks,
+    pub(crate) ticked: Vec<bool>,
     pub(crate) checkpoints: Checkpoints<M::State>,
     pub(crate) state: M::State,
 }
@@ -54,14 +54,14 @@ pub(crate) fn make_room<M: Machine>(
     ensures log { kept.new.log.items ≡ kept.old.log.items }
     ensures opening { kept.new.opening ≡ kept.old.opening }
     ensures pieces { kept.new.pieces.items ≡ kept.old.pieces.items }
-    ensures ticked { kept.new.ticked.ticked ≡ kept.old.ticked.ticked }
+    ensures ticked { kept.new.ticked.items ≡ kept.old.ticked.items }
     ensures settings { (kept.new.checkpoints.every ≡ kept.old.checkpoints.every) × (kept.new.checkpoints.lines ≡ kept.old.checkpoints.lines) }
     ensures places { kept.new.checkpoints.places ≡ kept.old.checkpoints.places }
     ensures states { kept.new.checkpoints.states ≡ kept.old.checkpoints.states }
     ensures state { kept.new.state ≡ kept.old.state }
     ensures room_log { OnOk result (vec_len kept.new.log + vec_len changed.now.edits ≤ vec_capacity kept.new.log) }
     ensures room_pieces { OnOk result (vec_len kept.new.pieces + vec_len played.now.pieces ≤ vec_capacity kept.new.pieces) }
-    ensures room_ticked { OnOk result (length kept.new.ticked.ticked + length played.now.ticked.ticked ≤ kept.new.ticked.room) }
+    ensures room_ticked { OnOk result (vec_len kept.new.ticked + vec_len played.now.ticked ≤ vec_capacity kept.new.ticked) }
     ensures room_marks { OnOk result (HasRoom kept.new.checkpoints played.now.marks at (passed kept.old.checkpoints played.now.met)) }
 {
     kept.log.reserve(changed.edits.len())?;
@@ -130,20 +130,19 @@ pub(crate) fn take_over<M: Machine>(
 ) -> Vec<Edit>
     requires free { fault_of_all (changes_of changed.edits.items) (log_of kept.old.log.items) 0 ≡ None }
     requires pieces { vec_len kept.old.pieces ≡ vec_len kept.old.log }
-    requires ticked { length kept.old.ticked.ticked ≡ vec_len kept.old.log }
-    requires few { length kept.old.ticked.ticked + length played.ticked.ticked < 2 ^ 32 }
+    requires ticked { vec_len kept.old.ticked ≡ vec_len kept.old.log }
     requires lines { kept.old.checkpoints.lines ≡ vec_len kept.old.log }
     requires begun { IsBegunAt kept.old.checkpoints at played.marks }
     requires met { MatchOption played.met (played.marks.next ≡ played.marks.end) (λ index. (at ≤ index) × (index < length kept.old.checkpoints.places) × (kept.old.checkpoints.lines - slice_index kept.old.checkpoints.places index + played.marks.next ≡ played.marks.end)) }
     requires stretch { slice_index kept.old.checkpoints.places at ≤ end_of_stretch kept.old.checkpoints played.met }
     requires room_log { vec_len kept.old.log + vec_len changed.edits ≤ vec_capacity kept.old.log }
     requires room_pieces { vec_len kept.old.pieces + vec_len played.pieces ≤ vec_capacity kept.old.pieces }
-    requires room_ticked { length kept.old.ticked.ticked + length played.ticked.ticked ≤ kept.old.ticked.room }
+    requires room_ticked { vec_len kept.old.ticked + vec_len played.ticked ≤ vec_capacity kept.old.ticked }
     requires room_marks { HasRoom kept.old.checkpoints played.marks at (passed kept.old.checkpoints played.met) }
     ensures game { game_of kept.new.seed (log_of kept.new.log.items) ≡ apply_all (changes_of changed.edits.items) (game_of kept.old.seed (log_of kept.old.log.items)) }
     ensures opening { MatchOption opening (kept.new.opening ≡ kept.old.opening) (λ piece. kept.new.opening ≡ piece) }
     ensures pieces { kept.new.pieces.items ≡ splice kept.old.pieces.items (slice_index kept.old.checkpoints.places at) (end_of_stretch kept.old.checkpoints played.met) played.pieces.items }
-    ensures ticked { kept.new.ticked.ticked ≡ splice kept.old.ticked.ticked (slice_index kept.old.checkpoints.places at) (end_of_stretch kept.old.checkpoints played.met) played.ticked.ticked }
+    ensures ticked { kept.new.ticked.items ≡ splice kept.old.ticked.items (slice_index kept.old.checkpoints.places at) (end_of_stretch kept.old.checkpoints played.met) played.ticked.items }
     ensures settings { (kept.new.checkpoints.every ≡ kept.old.checkpoints.every) × (kept.new.checkpoints.lines ≡ played.marks.end) }
     ensures places { kept.new.checkpoints.places ≡ new_places kept.old.checkpoints played.marks at played.met }
     ensures states { kept.new.checkpoints.states ≡ new_states kept.old.checkpoints played.marks at played.met }
@@ -153,7 +152,7 @@ pub(crate) fn take_over<M: Machine>(
     let mut edits = changed.edits;
     let Played {
         mut pieces,
-        ticked,
+        mut ticked,
         marks,
         met,
     } = played;
@@ -161,7 +160,7 @@ pub(crate) fn take_over<M: Machine>(
     let to = end_of_stretch(&kept.checkpoints, met);
     make_edits(&mut edits, &mut kept.log, &mut kept.seed);
     splice(&mut kept.pieces, from, to, &mut pieces);
-    kept.ticked.splice(from, to, ticked);
+    splice(&mut kept.ticked, from, to, &mut ticked);
     replace_piece(&mut kept.opening, opening);
     take_marks(&mut kept.checkpoints, &mut kept.state, marks, at, met);
     edits

@@ -16,6 +16,7 @@ mod replay;
 pub mod report;
 pub mod session;
 mod span;
+mod tick_counts;
 
 pub use edit::Edit;
 pub use fault::{EditFault, GREATEST_SEED, GroupFault, MOST_EVERY, MOST_LINES, OpenFault};
@@ -24,3 +25,4 @@ pub use machine::{Machine, Started, Stepped};
 pub use report::{GroupReport, Report};
 pub use session::Session;
 pub use span::Span;
+pub use tick_counts::TickCounts;

@@ -7,7 +7,7 @@ ghost use Rattle.cave_replay.specs.Report.{IsWithin};
 use crate::kept::Kept;
 use crate::machine::Machine;
 use crate::played::{Played, play_line};
-use cave_marks::{Checkpoints, Marks, Ticks};
+use cave_marks::{Checkpoints, Marks};
 use std::alloc::{AllocError, Global};
 
 /// Plays a game from its first line to its last.
@@ -22,7 +22,7 @@ pub(crate) fn play_game<M: Machine>(
     requires game { IsGame (game_of seed (log_of log.items)) }
     requires every { IsEvery every }
     requires room { M.Meter.count meter.old + length log.items < 2 ^ 64 }
-    ensures kept { IfOk result (λ kept. IsKept M.meaning M.is_state (M.rules machine.now) (game_of kept.seed (log_of kept.log.items)) (M.text kept.opening) (map M.text kept.pieces.items) kept.ticked.ticked kept.state kept.checkpoints) }
+    ensures kept { IfOk result (λ kept. IsKept M.meaning M.is_state (M.rules machine.now) (game_of kept.seed (log_of kept.log.items)) (M.text kept.opening) (map M.text kept.pieces.items) kept.ticked.items kept.state kept.checkpoints) }
     ensures game { IfOk result (λ kept. game_of kept.seed (log_of kept.log.items) ≡ game_of seed (log_of log.items)) }
     ensures every { IfOk result (λ kept. kept.checkpoints.every ≡ every) }
     ensures steps { OnOk result (M.Meter.count meter.new ≡ M.Meter.count meter.old + length log.items) }
@@ -32,7 +32,7 @@ pub(crate) fn play_game<M: Machine>(
     let opening = started.piece;
     let mut played = Played {
         pieces: Vec::with_capacity(alloc, log.len())?,
-        ticked: Ticks::with_room(alloc, log.len())?,
+        ticked: Vec::with_capacity(alloc, log.len())?,
         marks: Marks::open(alloc, every, log.len() as u32, started.state)?,
         met: None,
     };

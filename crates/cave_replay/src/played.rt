@@ -14,7 +14,7 @@ ghost use Rattle.cave_replay.specs.declared.fault.TheConstants.{MOST_LINES};
 
 use crate::change::Changed;
 use crate::machine::Machine;
-use cave_marks::{Checkpoints, Marks, Ticks, first_from};
+use cave_marks::{Checkpoints, Marks, first_from};
 use std::alloc::{AllocError, Global};
 
 /// Lines that were played from a checkpoint on: what was said, which ticked, and the places passed.
@@ -23,7 +23,7 @@ use std::alloc::{AllocError, Global};
 #[derive(Drop)]
 pub(crate) struct Played<M: Machine> {
     pub(crate) pieces: Vec<M::Piece>,
-    pub(crate) ticked: Ticks,
+    pub(crate) ticked: Vec<bool>,
     pub(crate) marks: Marks<M::State>,
     pub(crate) met: Option<usize>,
 }
@@ -42,10 +42,9 @@ pub(crate) fn play_line<M: Machine>(
     requires inside { played.old.marks.next < played.old.marks.end }
     requires few { played.old.marks.end ≤ MOST_LINES }
     requires apart { 0 < played.old.marks.every }
-    requires short { length played.old.ticked.ticked ≤ played.old.marks.next }
     ensures counted { M.Meter.count meter.new ≡ M.Meter.count meter.old + 1 }
     ensures pieces { OnOk result (map M.text played.new.pieces.items ≡ map M.text played.old.pieces.items ++ (M.rules machine.now).said (M.meaning played.old.marks.state) line.now ∷ []) }
-    ensures ticked { OnOk result (played.new.ticked.ticked ≡ played.old.ticked.ticked ++ (M.rules machine.now).ticked (M.meaning played.old.marks.state) line.now ∷ []) }
+    ensures ticked { OnOk result (played.new.ticked.items ≡ played.old.ticked.items ++ (M.rules machine.now).ticked (M.meaning played.old.marks.state) line.now ∷ []) }
     ensures next { OnOk result (played.new.marks.next ≡ played.old.marks.next + 1) }
     ensures marking { OnOk result ((at : ℕ → M.Meaning) → IsMarking M.meaning M.is_state at played.old.marks → at (played.old.marks.next + 1) ≡ (M.rules machine.now).after (M.meaning played.old.marks.state) line.now → IsMarking M.meaning M.is_state at played.new.marks) }
     ensures settings { OnOk result ((played.new.marks.every ≡ played.old.marks.every) × (played.new.marks.end ≡ played.old.marks.end) × (played.new.marks.from ≡ played.old.marks.from)) }
@@ -133,7 +132,7 @@ pub(crate) fn play_changed<M: Machine>(
     requires near { changed.now.head ≤ marks.next + marks.every }
     requires room { M.Meter.count meter.old + length (edited changed.now (log_of log.now)) < 2 ^ 64 }
     ensures texts { IfOk result (λ played. texts_at (M.rules machine.now) (new_game changed.now (log_of log.now)) marks.next ++ map M.text played.pieces.items ≡ texts_at (M.rules machine.now) (new_game changed.now (log_of log.now)) played.marks.next) }
-    ensures ticks { IfOk result (λ played. ticks_at (M.rules machine.now) (new_game changed.now (log_of log.now)) marks.next ++ played.ticked.ticked ≡ ticks_at (M.rules machine.now) (new_game changed.now (log_of log.now)) played.marks.next) }
+    ensures ticks { IfOk result (λ played. ticks_at (M.rules machine.now) (new_game changed.now (log_of log.now)) marks.next ++ played.ticked.items ≡ ticks_at (M.rules machine.now) (new_game changed.now (log_of log.now)) played.marks.next) }
     ensures marking { IfOk result (λ played. IsMarking M.meaning M.is_state (state_at (M.rules machine.now) (new_game changed.now (log_of log.now))) played.marks) }
     ensures settings { IfOk result (λ played. (played.marks.every ≡ marks.every) × (played.marks.end ≡ marks.end) × (played.marks.from ≡ marks.from) × (slice_index played.marks.places 0 ≡ slice_index marks.places 0)) }
     ensures forward { IfOk result (λ played. (marks.next ≤ played.marks.next) × (played.marks.next ≤ marks.end)) }
@@ -148,7 +147,7 @@ pub(crate) fn play_changed<M: Machine>(
     let mut index = first_from(checkpoints.places(), changed.behind as u32);
     let mut played = Played {
         pieces: Vec::new(alloc),
-        ticked: Ticks::new(alloc),
+        ticked: Vec::new(alloc),
         marks,
         met: None,
     };

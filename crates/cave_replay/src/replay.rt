@@ -118,14 +118,14 @@ fn replay<M: Machine>(
     meter: &mut M::Meter,
 ) -> Result<Replayed<M>, GroupFault>
     requires few { length edits.now < 2 ^ 32 }
-    requires kept { IsKept M.meaning M.is_state (M.rules machine.now) (game_of kept.now.seed (log_of kept.now.log.items)) (M.text kept.now.opening) (map M.text kept.now.pieces.items) kept.now.ticked.ticked kept.now.state kept.now.checkpoints }
+    requires kept { IsKept M.meaning M.is_state (M.rules machine.now) (game_of kept.now.seed (log_of kept.now.log.items)) (M.text kept.now.opening) (map M.text kept.now.pieces.items) kept.now.ticked.items kept.now.state kept.now.checkpoints }
     ensures accepted { OnOk result (fault_of_all (changes_of edits.now) (log_of kept.now.log.items) 0 ≡ None) }
     ensures game { IfOk result (λ replayed. new_game replayed.changed (log_of kept.now.log.items) ≡ apply_all (changes_of edits.now) (game_of kept.now.seed (log_of kept.now.log.items))) }
     ensures edits { IfOk result (λ replayed. changes_of replayed.changed.edits.items ≡ changes_of edits.now) }
     ensures ordered { IfOk result (λ replayed. replayed.changed.head ≤ replayed.changed.behind) }
     ensures head { IfOk result (λ replayed. replayed.changed.head ≡ (span_of (changes_of edits.now) (log_of kept.now.log.items)).head) }
     ensures tail { IfOk result (λ replayed. replayed.changed.behind + (span_of (changes_of edits.now) (log_of kept.now.log.items)).tail ≡ length kept.now.log.items) }
-    ensures replayed { IfOk result (λ replayed. IsReplayed M.meaning M.is_state (M.rules machine.now) (game_of kept.now.seed (log_of kept.now.log.items)) (new_game replayed.changed (log_of kept.now.log.items)) (span_of (changes_of edits.now) (log_of kept.now.log.items)).head (span_of (changes_of edits.now) (log_of kept.now.log.items)).tail kept.now.checkpoints replayed.at (option_map M.text replayed.opening) (map M.text replayed.played.pieces.items) replayed.played.ticked.ticked replayed.played.marks replayed.played.met) }
+    ensures replayed { IfOk result (λ replayed. IsReplayed M.meaning M.is_state (M.rules machine.now) (game_of kept.now.seed (log_of kept.now.log.items)) (new_game replayed.changed (log_of kept.now.log.items)) (span_of (changes_of edits.now) (log_of kept.now.log.items)).head (span_of (changes_of edits.now) (log_of kept.now.log.items)).tail kept.now.checkpoints replayed.at (option_map M.text replayed.opening) (map M.text replayed.played.pieces.items) replayed.played.ticked.items replayed.played.marks replayed.played.met) }
     ensures faults { MatchOption (group_fault (changes_of edits.now) (log_of kept.now.log.items) (2 ^ 64 - 1 - M.Meter.count meter.old)) (IfErr result (λ fault. fault ≡ record { cause = EditFault.Memory; at = 0 })) (λ fault. result ≡ Err fault) }
     ensures steps { IfOk result (λ replayed. M.Meter.count meter.new + slice_index kept.now.checkpoints.places replayed.at ≡ M.Meter.count meter.old + replayed.played.marks.next) }
     ensures bounded { AreStepsBounded (M.rules machine.now) (changes_of edits.now) (game_of kept.now.seed (log_of kept.now.log.items)) kept.now.checkpoints.every (group_fault (changes_of edits.now) (log_of kept.now.log.items) (2 ^ 64 - 1 - M.Meter.count meter.old)) (M.Meter.count meter.old) (M.Meter.count meter.new) }
@@ -188,8 +188,8 @@ pub(crate) fn edit_kept<M: Machine>(
     meter: &mut M::Meter,
 ) -> Result<GroupReport, GroupFault>
     requires few { length edits.now < 2 ^ 32 }
-    requires kept { IsKept M.meaning M.is_state (M.rules machine.now) (game_of kept.old.seed (log_of kept.old.log.items)) (M.text kept.old.opening) (map M.text kept.old.pieces.items) kept.old.ticked.ticked kept.old.state kept.old.checkpoints }
-    ensures kept { IsKept M.meaning M.is_state (M.rules machine.now) (game_of kept.new.seed (log_of kept.new.log.items)) (M.text kept.new.opening) (map M.text kept.new.pieces.items) kept.new.ticked.ticked kept.new.state kept.new.checkpoints }
+    requires kept { IsKept M.meaning M.is_state (M.rules machine.now) (game_of kept.old.seed (log_of kept.old.log.items)) (M.text kept.old.opening) (map M.text kept.old.pieces.items) kept.old.ticked.items kept.old.state kept.old.checkpoints }
+    ensures kept { IsKept M.meaning M.is_state (M.rules machine.now) (game_of kept.new.seed (log_of kept.new.log.items)) (M.text kept.new.opening) (map M.text kept.new.pieces.items) kept.new.ticked.items kept.new.state kept.new.checkpoints }
     ensures game { OnOk result (game_of kept.new.seed (log_of kept.new.log.items) ≡ apply_all (changes_of edits.now) (game_of kept.old.seed (log_of kept.old.log.items))) }
     ensures every { kept.new.checkpoints.every ≡ kept.old.checkpoints.every }
     ensures inverse { IfOk result (λ report. changes_of report.inverse.items ≡ inverses_of (changes_of edits.now) (game_of kept.old.seed (log_of kept.old.log.items))) }
@@ -199,7 +199,7 @@ pub(crate) fn edit_kept<M: Machine>(
     ensures same_game { OnErr result (game_of kept.new.seed (log_of kept.new.log.items) ≡ game_of kept.old.seed (log_of kept.old.log.items)) }
     ensures same_opening { OnErr result (kept.new.opening ≡ kept.old.opening) }
     ensures same_pieces { OnErr result (kept.new.pieces.items ≡ kept.old.pieces.items) }
-    ensures same_ticks { OnErr result (kept.new.ticked.ticked ≡ kept.old.ticked.ticked) }
+    ensures same_ticks { OnErr result (kept.new.ticked.items ≡ kept.old.ticked.items) }
     ensures same_state { OnErr result (kept.new.state ≡ kept.old.state) }
     ensures same_places { OnErr result (kept.new.checkpoints.places ≡ kept.old.checkpoints.places) }
 

@@ -1,4 +1,4 @@
-ghost use Rattle.std.specs.Prelude.{◌≡◌, ℕ, ◌+◌, ◌-◌, ◌^◌, ◌<◌, ◌≤◌, ◌↔◌, ◌∷◌, [], List, Bool, true, length, map, take, slice_get, count_by, IsTrue, IfOk, IfErr, OnOk, OnErr, MatchOption, Option, None, Some};
+ghost use Rattle.std.specs.Prelude.{◌≡◌, ℕ, ◌+◌, ◌-◌, ◌^◌, ◌<◌, ◌≤◌, ◌↔◌, ◌∷◌, [], List, Bool, true, length, map, take, slice_get, slice_index, count_by, IsTrue, IfOk, IfErr, OnOk, OnErr, MatchOption, Option, None, Some};
 ghost use Rattle.std.specs.Str.Lines.{lines};
 ghost use Rattle.cave_marks.specs.Spacing.{IsSpaced, most_spaced};
 ghost use Rattle.cave_words.specs.Line.{is_line};
@@ -21,6 +21,7 @@ use crate::machine::Machine;
 use crate::play::play_game;
 use crate::replay::edit_kept;
 use crate::report::{GroupReport, Report};
+use crate::tick_counts::{TickCounts, count_ticks};
 use cave_words::Steps;
 use std::alloc::{AllocError, Global};
 use std::marker::Model;
@@ -44,9 +45,9 @@ impl<M: Machine> Model for Session<M> {
 
     ghost Value = { Held M M.Piece M.State };
 
-    ghost view = { λ s. record { machine = s.machine; game = game_of s.kept.seed (log_of s.kept.log.items); every = s.kept.checkpoints.every; opening = s.kept.opening; pieces = s.kept.pieces.items; ticks = s.kept.ticked.ticked; state = s.kept.state; checkpoints = s.kept.checkpoints.places } };
+    ghost view = { λ s. record { machine = s.machine; game = game_of s.kept.seed (log_of s.kept.log.items); every = s.kept.checkpoints.every; opening = s.kept.opening; pieces = s.kept.pieces.items; ticks = s.kept.ticked.items; state = s.kept.state; checkpoints = s.kept.checkpoints.places } };
 
-    ghost invariant = { λ s. IsKept M.meaning M.is_state (M.rules s.machine) (game_of s.kept.seed (log_of s.kept.log.items)) (M.text s.kept.opening) (map M.text s.kept.pieces.items) s.kept.ticked.ticked s.kept.state s.kept.checkpoints };
+    ghost invariant = { λ s. IsKept M.meaning M.is_state (M.rules s.machine) (game_of s.kept.seed (log_of s.kept.log.items)) (M.text s.kept.opening) (map M.text s.kept.pieces.items) s.kept.ticked.items s.kept.state s.kept.checkpoints };
 }
 
 impl<M: Machine> Session<M> {
@@ -120,15 +121,23 @@ impl<M: Machine> Session<M> {
         requires { place < length self.now.game.log }
         ensures { slice_get self.now.ticks place ≡ Some result }
     {
-        self.kept.ticked.ticked(place as usize)
+        self.kept.ticked[place as usize]
     }
 
-    /// How many of the lines before a place ticked.
+    /// How many of the lines before a place ticked. It counts them; `tick_counts` goes over all lines in one pass.
     pub fn ticks(&self, place: u32) -> u32
         requires { place ≤ length self.now.game.log }
         ensures { result ≡ count_by (λ ticks. ticks) (take place self.now.ticks) }
     {
-        self.kept.ticked.ticks(place as usize)
+        count_ticks(&self.kept.ticked, place as usize)
+    }
+
+    /// How many of the lines ticked up to each line and with it, from the first line to the last.
+    pub fn tick_counts(&self) -> TickCounts<'_>
+        ensures each_line { length result ≡ length self.now.game.log }
+        ensures counts { (place : ℕ) → place < length self.now.game.log → slice_index result place ≡ count_by (λ ticks. ticks) (take (place + 1) self.now.ticks) }
+    {
+        TickCounts::of(&self.kept.ticked)
     }
 
     /// Plays a log from its first line to its last and holds the play.

@@ -4,8 +4,6 @@
 pub mod fault;
 mod line;
 pub mod script;
-#[cfg(test)]
-mod tests;
 
 pub use fault::{Flaw, ScriptFault};
 pub use script::{Item, Script};

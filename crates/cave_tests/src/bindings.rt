@@ -2,7 +2,7 @@
 
 use crate::caves::{CAVE, ROUND, with_lines};
 use crate::runs::{check, play_bound};
-use cave_data::{Cause, CaveError, Spot};
+use cave_data::{BindingFlaw, Cause, CaveError, Spot};
 use cave_play::fault::PlayFault;
 use std::test::Fail;
 
@@ -26,12 +26,32 @@ fn a_bound_message_is_said_in_place_of_its_name(rt: HostRuntime) -> Result<(), F
 #[test]
 fn bad_bindings_are_refused_with_their_line(rt: HostRuntime) {
     let cases: [(&[u8], usize, Cause); 7] = [
-        (b"msg.ok 1\nmsg.ok 2\n", 2, Cause::BadBinding),
+        (
+            b"msg.ok 1\nmsg.ok 2\n",
+            2,
+            Cause::BadBinding(BindingFlaw::Repeated),
+        ),
         (b"msg.okay 1\n", 1, Cause::UnknownRole),
-        (b"msg.okay 500\n", 1, Cause::BadBinding),
-        (b"place.y2 301\n", 1, Cause::BadBinding),
-        (b"num.letters 4\n", 1, Cause::BadBinding),
-        (b"\nnum.letters 9", 2, Cause::BadBinding),
+        (
+            b"msg.okay 500\n",
+            1,
+            Cause::BadBinding(BindingFlaw::BadValue),
+        ),
+        (
+            b"place.y2 301\n",
+            1,
+            Cause::BadBinding(BindingFlaw::BadValue),
+        ),
+        (
+            b"num.letters 4\n",
+            1,
+            Cause::BadBinding(BindingFlaw::BadValue),
+        ),
+        (
+            b"\nnum.letters 9",
+            2,
+            Cause::BadBinding(BindingFlaw::BadValue),
+        ),
         (b"#\nnum.words 5\n", 2, Cause::UnknownRole),
     ];
     for (bind, line, cause) in cases {

@@ -3,9 +3,10 @@
 use crate::caves::{CAVE, with_line};
 use crate::runs::check;
 use cave_data::{Cause, CaveError, Spot};
-use cave_play::fault::{Complaint, Input, LogFault, PlayFault, ScriptFault};
+use cave_play::fault::{Complaint, Input, LogFault, PlayFault, ScriptFault, Unopened};
 use cave_script::Flaw;
 use std::alloc::{AllocError, Global};
+use std::io;
 use std::process::Abort;
 use std::test::Fail;
 
@@ -52,12 +53,12 @@ fn faults_of_a_cave_and_of_numbers(rt: HostRuntime) -> Result<(), Fail> {
         (
             too_large(Spot::Database),
             1,
-            "cave: a.txt: the database is larger than 1,048,576 bytes",
+            "cave: a.txt: the input is too large: a database has at most 1,048,576 bytes",
         ),
         (
             too_large(Spot::Bindings),
             1,
-            "cave: a.bind: the bindings are larger than 1,048,576 bytes",
+            "cave: a.bind: the input is too large: bindings have at most 1,048,576 bytes",
         ),
         (PlayFault::Seed, 2, "cave: a seed is at most 2147483647"),
         (
@@ -152,6 +153,21 @@ fn faults_of_files_and_memory(rt: HostRuntime) -> Result<(), Fail> {
     expect_told(&rt, rt.alloc(), &cases)
 }
 
+#[test]
+fn a_file_that_is_not_opened_is_told_with_the_reason(rt: HostRuntime) -> Result<(), Fail> {
+    let reason = &io::Error::other("no such file");
+    let told = format!(in rt.alloc();
+        "{}",
+        Unopened {
+            file: "a.txt",
+            reason
+        }
+    )?;
+    let want = "cave: a.txt: the file can't be opened: no such file";
+    assert_eq!(rt; told.as_str(), want);
+    Ok(())
+}
+
 /// What is told of a cave that is refused.
 fn refusal(alloc: Global, database: &[u8], bind: &[u8]) -> Result<String, AllocError> {
     let run = check(alloc, database, bind);
@@ -167,32 +183,32 @@ fn a_refused_cave_is_told_by_its_line_and_what_belongs_there(rt: HostRuntime) ->
         (
             b"",
             b"",
-            "cave: a.txt:1: the database ends here, but its last line has to be 0",
+            "cave: a.txt:1: the database has no end: its last line has to be 0",
         ),
         (
             b"1\n1 Road.\n",
             b"",
-            "cave: a.txt:3: the database ends within a section: the section has to end with -1, and the database with 0",
+            "cave: a.txt:3: the database has no end: section 1 has to end with -1, and the database with 0",
         ),
         (
             b"3\n1 1000000 45\n",
             b"",
-            "cave: a.txt:2: a place is from 1 to 300, a target from 0 to 999999, and a motion from 1 to 999",
+            "cave: a.txt:2: a number or a text is out of its range: a place is from 1 to 300, a target from 0 to 999999, and a motion from 1 to 999",
         ),
         (
             b"9\n0 1 1 1 1 1 1 1 1 1 1 1 1 1 1 1 1 1 1 1 1 1 1 1 1 1 1 1 1 1 1 1 1 1 1 1 1 1 1 1 1 1\n",
             b"",
-            "cave: a.txt:2: a row has at most 40 places",
+            "cave: a.txt:2: a limit is passed: a row of section 9 has at most 40 places",
         ),
         (
             CAVE,
             b"msg.okay 1\n",
-            "cave: a.bind:1: no message or place has this name: expected `msg.`, `place.` or `num.letters` with a name that the game knows",
+            "cave: a.bind:1: the key is not known: expected `msg.` or `place.` with a name that the game knows, or `num.letters`",
         ),
         (
             CAVE,
             b"msg.ok 1\nmsg.ok 2\n",
-            "cave: a.bind:2: expected `msg.NAME N` with N from 1 to 499, `place.NAME N` with N from 1 to 300 or `num.letters N` with N from 5 to 8, and each key once",
+            "cave: a.bind:2: the key was bound before: each key is bound at most once",
         ),
     ];
     for (database, bind, line) in cases {
@@ -207,17 +223,17 @@ fn one_bad_line_of_a_cave_is_told(rt: HostRuntime) -> Result<(), Fail> {
         (
             11,
             b"1 3".as_slice(),
-            "cave: a.txt:11: section 3 expects a place, a target and at least one motion, all of them numbers of 1 to 9 digits, or -1 at its end",
+            "cave: a.txt:11: a number or a word is missing: section 3 expects a place, a target and at least one motion, all of them numbers of 1 to 9 digits, or -1 at its end",
         ),
         (
             11,
             b"301 3 19",
-            "cave: a.txt:11: a place is from 1 to 300, a target from 0 to 999999, and a motion from 1 to 999",
+            "cave: a.txt:11: a number or a text is out of its range: a place is from 1 to 300, a target from 0 to 999999, and a motion from 1 to 999",
         ),
         (
             6,
             b"13",
-            "cave: a.txt:6: expected the number of a section, 1 to 12, or 0 at the end of the database",
+            "cave: a.txt:6: this opens no section: expected the number of a section, 1 to 12, or 0 at the end of the database",
         ),
     ] {
         let database = with_line(rt.alloc(), number, line)?;

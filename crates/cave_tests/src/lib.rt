@@ -18,6 +18,8 @@ mod memory;
 mod plays;
 #[cfg(test)]
 mod readers;
+#[cfg(test)]
+mod reports;
 pub mod runs;
 #[cfg(test)]
 mod scripts;

@@ -6,6 +6,8 @@ use crate::streams::Source;
 use cave_data::{Cause, CaveError, Spot};
 use cave_play::fault::{Input, LogFault, PlayFault, ScriptFault};
 use cave_script::Flaw;
+use std::alloc::Global;
+use std::process::Abort;
 use std::test::Fail;
 
 /// The fault of an empty database.
@@ -86,6 +88,68 @@ fn a_log_is_judged_before_a_script_is_read(rt: HostRuntime) {
     let mut feeds = Feeds::with(Input::Script, Source::of(b"begone"));
     let malformed = PlayFault::Script(ScriptFault::Malformed(1, Flaw::NoEdit));
     assert!(rt; feeds.run(Command::Edit, alloc).failed(malformed));
+}
+
+#[test]
+fn bindings_are_judged_before_a_log_is_read(rt: HostRuntime) {
+    for (bindings, cause, line) in [
+        (Source::of(b"msg.okay 1\n"), Cause::UnknownRole, 1),
+        (Source::endless(), Cause::TooLarge, 0),
+    ] {
+        let spot = Spot::Bindings;
+        let bad = PlayFault::Cave(CaveError { cause, line, spot });
+        let mut feeds = Feeds::with(Input::Bindings, bindings);
+        feeds.put(Input::Log, Source::broken());
+        assert!(rt; feeds.run(Command::Play, rt.alloc()).failed(bad));
+        assert_eq!(rt; bad.status(), 1);
+        assert_eq!(rt; feeds.log.asks, 0);
+    }
+}
+
+#[test]
+fn a_log_that_is_too_large_is_refused_before_a_script_is_read(rt: HostRuntime) {
+    let large = PlayFault::Log(LogFault::TooLarge);
+    let mut feeds = Feeds::with(Input::Log, Source::endless());
+    feeds.put(Input::Script, Source::broken());
+    assert!(rt; feeds.run(Command::Edit, rt.alloc()).failed(large));
+    assert_eq!(rt; large.status(), 3);
+    assert_eq!(rt; feeds.script.asks, 0);
+}
+
+/// Expects a fault of a run's numbers, while no reader is asked, though each would fail.
+fn expect_unasked(
+    rt: &impl Abort,
+    alloc: Global,
+    command: Command,
+    seed: u32,
+    every: u32,
+    fault: PlayFault,
+) {
+    let mut feeds = Feeds::usual();
+    for input in INPUTS {
+        feeds.put(input, Source::broken());
+    }
+    feeds.seed = seed;
+    feeds.every = every;
+    assert!(rt; feeds.run(command, alloc).failed(fault));
+    assert_eq!(rt; fault.status(), 2);
+    for input in INPUTS {
+        assert_eq!(rt; feeds.asks(input), 0, "{input:?}");
+    }
+}
+
+#[test]
+fn numbers_are_judged_before_any_reader_is_asked(rt: HostRuntime) {
+    let (great, far) = (2_147_483_648, 10_001);
+    expect_unasked(&rt, rt.alloc(), Command::Play, great, 1, PlayFault::Seed);
+    for (seed, every, fault) in [
+        (great, 1, PlayFault::Seed),
+        (great, far, PlayFault::Seed),
+        (0, 0, PlayFault::Every),
+        (0, far, PlayFault::Every),
+    ] {
+        expect_unasked(&rt, rt.alloc(), Command::Edit, seed, every, fault);
+    }
 }
 
 #[test]

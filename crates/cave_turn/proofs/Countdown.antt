@@ -1,30 +1,76 @@
 -- Objects that are done one after another.
-use Rattle.std.proofs.Common.{◌≡◌, ℕ, suc, ◌+◌, ◌-◌, ◌<◌, ◌≤◌, Bool, cond, refl, arith}
-use Rattle.cave_data.specs.CaveView.{CaveView}
+use Rattle.std.proofs.Common.{◌≡◌, ℕ, suc, ◌+◌, ◌-◌, ◌<◌, ◌≤◌, Bool, cond, true, false, List, [], ◌∷◌, length, negsuc, refl, ap, arith}
+use Rattle.std.specs.Prelude.{is_some}
+use Rattle.std.specs.List.{filter, range_with_len}
+use Rattle.cave_data.specs.CaveView.{CaveView, name_of}
 use Rattle.cave_world.specs.Layout.{Layout}
-use Rattle.cave_world.specs.declared.state.State.{State}
-use Rattle.cave_turn.specs.Begin.{hold_of, is_due, placed, placed_down, is_known, hidden, hidden_from}
+use Rattle.cave_world.specs.Objects.{with_prop}
+use Rattle.cave_turn.specs.Begin.{hold_of, is_due, all_objects, objects_due, treasures, known_treasures}
+use Rattle.cave_turn.specs.Placing.{placed, all_placed, all_hidden}
+
+-- of some objects those that are due
+unfoldable pub due_from : CaveView → Bool → ℕ → ℕ → List ℕ
+due_from cave twice first count = filter (λ x. is_due twice (hold_of cave x)) (range_with_len first count)
+
+pub due_none : (cave : CaveView) (twice : Bool) (first : ℕ) → due_from cave twice first 0 ≡ []
+unfolding due_from
+due_none cave twice first = refl
+
+pub due_all : (cave : CaveView) (twice : Bool) (i : ℕ) → i ≡ 100 → due_from cave twice (101 - i) i ≡ objects_due cave twice
+unfolding due_from objects_due all_objects
+due_all cave twice i all = ap (λ n. filter (λ x. is_due twice (hold_of cave x)) (range_with_len (101 - n) n)) all
 
 -- one object down
-pub placed_next : (cave : CaveView) (twice : Bool) (last i : ℕ) (o : Layout) → i < last
-    → placed_down cave twice (last - i) o ≡ placed_down cave twice (last - (i + 1)) (cond (is_due twice (hold_of cave (last - i))) (placed cave (last - i) o) o)
-unfolding placed_down
-placed_next cave twice last i o h = let more : last - i ≡ suc (last - (i + 1)) = omega arith in rw more refl
+pub placed_next : (cave : CaveView) (twice : Bool) (i : ℕ) (o : Layout) → i < 100
+    → all_placed cave (due_from cave twice (101 - (i + 1)) (i + 1)) o
+    ≡ cond (is_due twice (hold_of cave (100 - i))) (placed cave (100 - i) (all_placed cave (due_from cave twice (101 - i) i) o)) (all_placed cave (due_from cave twice (101 - i) i) o)
+unfolding due_from
+placed_next cave twice i o h =
+    let more : i + 1 ≡ suc i = omega arith in
+    let first : 101 - suc i ≡ 100 - i = omega arith in
+    let next : 100 - i + 1 ≡ 101 - i = omega arith in
+    rw (more, first, next) (chosen (is_due twice (hold_of cave (100 - i))) (100 - i) (filter (λ x. is_due twice (hold_of cave x)) (range_with_len (101 - i) i)))
+  where
+    chosen : (b : Bool) (x : ℕ) (xs : List ℕ) → all_placed cave (cond b (x ∷ xs) xs) o ≡ cond b (placed cave x (all_placed cave xs o)) (all_placed cave xs o)
+    chosen true x xs = refl
+    chosen false x xs = refl
 
-pub placed_none : (cave : CaveView) (twice : Bool) (last i : ℕ) (o : Layout) → last ≤ i → placed_down cave twice (last - i) o ≡ o
-unfolding placed_down
-placed_none cave twice last i o h = let none : last - i ≡ 0 = omega arith in rw none refl
+-- of the treasures from one on those that are known
+unfoldable pub known_from : CaveView → ℕ → ℕ → List ℕ
+known_from cave first count = filter (λ x. is_some (name_of cave x)) (range_with_len first count)
 
--- one object up
-pub hidden_next : (cave : CaveView) (number end : ℕ) (s : State) → number < end
-    → hidden_from cave number (end - number) s ≡ hidden_from cave (number + 1) (end - (number + 1)) (cond (is_known cave number) (hidden number s) s)
-unfolding hidden_from
-hidden_next cave number end s h = let more : end - number ≡ suc (end - (number + 1)) = omega arith in rw more refl
+pub known_all : (cave : CaveView) → known_from cave 50 30 ≡ known_treasures cave
+unfolding known_from known_treasures treasures
+known_all cave = refl
 
-pub hidden_none : (cave : CaveView) (number end : ℕ) (s : State) → end ≤ number → hidden_from cave number (end - number) s ≡ s
-unfolding hidden_from
-hidden_none cave number end s h = let none : end - number ≡ 0 = omega arith in rw none refl
+pub known_none : (cave : CaveView) (n : ℕ) → 80 ≤ n → known_from cave n (80 - n) ≡ []
+unfolding known_from
+known_none cave n h = let none : 80 - n ≡ 0 = omega arith in rw none refl
+
+-- one treasure up
+pub hidden_next : (cave : CaveView) (n : ℕ) (o : Layout) → n < 80
+    → all_hidden (known_from cave n (80 - n)) o
+    ≡ all_hidden (known_from cave (n + 1) (80 - (n + 1))) (cond (is_some (name_of cave n)) (with_prop o n (negsuc 0)) o)
+unfolding known_from
+hidden_next cave n o h =
+    let more : 80 - n ≡ suc (80 - (n + 1)) = omega arith in
+    rw more (chosen (is_some (name_of cave n)) (filter (λ x. is_some (name_of cave x)) (range_with_len (n + 1) (80 - (n + 1)))))
+  where
+    chosen : (b : Bool) (xs : List ℕ) → all_hidden (cond b (n ∷ xs) xs) o ≡ all_hidden xs (cond b (with_prop o n (negsuc 0)) o)
+    chosen true xs = refl
+    chosen false xs = refl
+
+pub counted_next : (cave : CaveView) (n : ℕ) → n < 80
+    → length (known_from cave n (80 - n)) ≡ cond (is_some (name_of cave n)) 1 0 + length (known_from cave (n + 1) (80 - (n + 1)))
+unfolding known_from
+counted_next cave n h =
+    let more : 80 - n ≡ suc (80 - (n + 1)) = omega arith in
+    rw more (chosen (is_some (name_of cave n)) (filter (λ x. is_some (name_of cave x)) (range_with_len (n + 1) (80 - (n + 1)))))
+  where
+    chosen : (b : Bool) (xs : List ℕ) → length (cond b (n ∷ xs) xs) ≡ cond b 1 0 + length xs
+    chosen true xs = omega arith
+    chosen false xs = omega arith
 
 pub ruleset placing = (placed_next)
 
-pub ruleset hiding = (hidden_next)
+pub ruleset hiding = (hidden_next, counted_next)

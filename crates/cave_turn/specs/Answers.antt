@@ -10,9 +10,9 @@ use Rattle.cave_world.specs.declared.state.State.{State}
 use Rattle.cave_turn.specs.declared.answers.Answer.{Answer}
 use Rattle.cave_turn.specs.declared.answers.Answer.TheVariants.{Yes, No, Neither}
 use Rattle.cave_turn.specs.declared.names.Names.{Names}
-use Rattle.cave_turn.specs.Begin.{start_place}
 use Rattle.cave_turn.specs.Arrival.{arriving}
 use Rattle.cave_turn.specs.Names.{names_of}
+use Rattle.cave_turn.specs.Places.{start_place}
 use Rattle.cave_turn.specs.Plays.{Scene, opening, saying, with_state}
 
 -- Y and YES say yes, N and NO say no

@@ -2,7 +2,6 @@
 use Rattle.std.specs.Prelude.{ℕ, pos, Bool, true, false, ◌==◌, ◌&&◌, ◌||◌, not, nat_le, if◌then◌else◌, take, suc, zero}
 use Rattle.std.specs.List.{list_any}
 use Rattle.cave_data.specs.CaveView.{CaveView}
-use Rattle.cave_data.specs.declared.place_role.PlaceRole.TheVariants as place
 use Rattle.cave_data.specs.declared.role.Role.TheVariants as role
 use Rattle.cave_world.specs.Sight.{is_forced, has_condition}
 use Rattle.cave_world.specs.declared.dwarves.Dwarf.{Dwarf}
@@ -10,12 +9,12 @@ use Rattle.cave_world.specs.declared.state.State.{State}
 use Rattle.cave_turn.specs.declared.names.Names.{Names}
 use Rattle.cave_turn.specs.Description.{described, text_told}
 use Rattle.cave_turn.specs.Journeys.{Journey, set_forth, staying}
-use Rattle.cave_turn.specs.Places.{place_named, place_or}
+use Rattle.cave_turn.specs.Places.{outside_place}
 use Rattle.cave_turn.specs.Plays.{Scene, saying, with_state, with_left, standing, dies}
 
 -- a cave that is closing has no way out
 unfoldable pub is_shut : CaveView → ℕ → State → Bool
-is_shut cave new s = s.closing.is_closing && nat_le 1 new && nat_le new (place_or 8 (place_named cave place.Outside))
+is_shut cave new s = s.closing.is_closing && nat_le 1 new && nat_le new (outside_place cave)
 
 -- who tries to get out has 15 turns left, unless that was tried before
 abbrev pub panicking : State → State

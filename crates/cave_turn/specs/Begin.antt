@@ -1,16 +1,21 @@
 -- The state that a game begins with.
-use Rattle.std.specs.Prelude.{ℕ, ℤ, pos, negsuc, ◌+◌, Bool, true, false, not, if◌then◌else◌, List, [], ◌∷◌, is_some, suc, zero}
+use Rattle.std.specs.Prelude.{ℕ, ℤ, pos, negsuc, ◌==◌, Bool, true, false, not, if◌then◌else◌, List, [], ◌∷◌, ◌++◌, length, map, filter, flat_map, Option, is_some, suc, zero}
+use Rattle.std.specs.List.{list_any, range_with_len}
 use Rattle.cave_data.specs.CaveView.{CaveView, name_of, placement_of}
 use Rattle.cave_data.specs.declared.place_role.PlaceRole.{PlaceRole}
 use Rattle.cave_data.specs.declared.place_role.PlaceRole.TheVariants as place
 use Rattle.cave_world.specs.Layout.{Layout}
-use Rattle.cave_world.specs.Objects.{moved, anchored, with_prop}
+use Rattle.cave_world.specs.Lists.{listed}
+use Rattle.cave_world.specs.Spots.{spot_at, place_of_spot, place_of_anchor, is_place}
 use Rattle.cave_world.specs.State.{starting}
 use Rattle.cave_world.specs.declared.dwarves.Dwarf.{Dwarf}
+use Rattle.cave_world.specs.declared.lists.Entry.{Entry}
+use Rattle.cave_world.specs.declared.object.Half.{Half}
+use Rattle.cave_world.specs.declared.object.Half.TheVariants.{First, Second}
 use Rattle.cave_world.specs.declared.spot.Anchor.{Anchor}
 use Rattle.cave_world.specs.declared.spot.Anchor.TheVariants as anchor
 use Rattle.cave_world.specs.declared.state.State.{State}
-use Rattle.cave_turn.specs.Places.{place_named, place_or}
+use Rattle.cave_turn.specs.Places.{place_named, place_or, start_place}
 
 -- where an object stands as the game begins
 abbrev pub home : CaveView → ℕ → ℕ
@@ -25,44 +30,65 @@ anchor_by (negsuc n) = anchor.Fixed
 abbrev pub hold_of : CaveView → ℕ → Anchor
 hold_of cave x = anchor_by (placement_of cave x).second
 
--- an object is put where it stands, its second half first
-unfoldable pub placed : CaveView → ℕ → Layout → Layout
-placed cave x o = moved (anchored o x (hold_of cave x)) x (home cave x)
+-- the objects by their numbers
+unfoldable pub all_objects : List ℕ
+all_objects = range_with_len 1 100
 
--- it is put with those that have two places, or with the others
+-- the treasures by their numbers
+unfoldable pub treasures : List ℕ
+treasures = range_with_len 50 30
+
+-- those that the cave knows, by their inventory texts
+unfoldable pub known_treasures : CaveView → List ℕ
+known_treasures cave = filter (λ x. is_some (name_of cave x)) treasures
+
+-- a known treasure wasn't seen yet
+abbrev pub start_prop : CaveView → ℕ → ℤ
+start_prop cave x = if list_any (λ t. x == t) (known_treasures cave) then negsuc 0 else pos 0
+
+-- an object belongs to those with two places, or to the others
 abbrev pub is_due : Bool → Anchor → Bool
 is_due twice anchor.Loose = not twice
 is_due twice anchor.Fixed = not twice
 is_due twice (anchor.At place) = twice
 
--- the objects from a number down to 1 that have two places, or the others
-unfoldable pub placed_down : CaveView → Bool → ℕ → Layout → Layout
-placed_down cave twice zero o = o
-placed_down cave twice (suc x) o =
-    placed_down cave twice x (if is_due twice (hold_of cave (suc x)) then placed cave (suc x) o else o)
+unfoldable pub objects_due : CaveView → Bool → List ℕ
+objects_due cave twice = filter (λ x. is_due twice (hold_of cave x)) all_objects
 
--- first those with two places, and then the others
-unfoldable pub all_placed : CaveView → Layout → Layout
-all_placed cave o = placed_down cave false 100 (placed_down cave true 100 o)
+-- in a list those with one place stand before those with two, and each of either before those of higher numbers
+unfoldable pub start_order : CaveView → List ℕ
+start_order cave = objects_due cave false ++ objects_due cave true
 
--- an object is known by its inventory text
-abbrev pub is_known : CaveView → ℕ → Bool
-is_known cave x = is_some (name_of cave x)
+-- the first half of an object stands before the second
+abbrev pub both_halves : ℕ → List Half
+both_halves x = First x ∷ Second x ∷ []
 
--- a treasure wasn't seen yet
-abbrev pub hidden : ℕ → State → State
-hidden x s =
-    let tallies = s.tallies in
-    record s { objects = with_prop s.objects x (negsuc 0); tallies = record tallies { unseen = tallies.unseen + 1 } }
+-- all halves in the order in which they stand in lists, the latest first
+abbrev pub start_halves : CaveView → List Half
+start_halves cave = flat_map both_halves (start_order cave)
 
--- of so many objects from a number on those that are known are hidden
-unfoldable pub hidden_from : CaveView → ℕ → ℕ → State → State
-hidden_from cave x zero s = s
-hidden_from cave x (suc count) s = hidden_from cave (x + 1) count (if is_known cave x then hidden x s else s)
+-- the place of a half, if it stands anywhere
+abbrev pub place_of_half : CaveView → Half → Option ℕ
+place_of_half cave (First x) = place_of_spot (spot_at (home cave x))
+place_of_half cave (Second x) = place_of_anchor (hold_of cave x)
 
--- the treasures are the objects from 50 to 79
-abbrev pub treasures_hidden : CaveView → State → State
-treasures_hidden cave s = hidden_from cave 50 30 s
+-- halves in the lists of their places, each in front of those that come after it
+abbrev pub laid_out : CaveView → List Half → List Entry
+laid_out cave [] = []
+laid_out cave (half ∷ halves) = listed half (place_of_half cave half) (laid_out cave halves)
+
+-- the list of a place at the start
+abbrev pub start_list : CaveView → ℕ → List Half
+start_list cave place = filter (λ half. is_place place (place_of_half cave half)) (start_halves cave)
+
+-- each object where it stands, held by what holds it, with its prop
+unfoldable pub begun_objects : CaveView → Layout
+begun_objects cave = record {
+  first = map (λ x. spot_at (home cave x)) all_objects;
+  second = map (hold_of cave) all_objects;
+  props = map (start_prop cave) all_objects;
+  lists = laid_out cave (start_halves cave);
+}
 
 -- a dwarf at its place, or gone where there is none
 abbrev pub dwarf_at : ℕ → Dwarf
@@ -75,15 +101,12 @@ unfoldable pub dwarves_placed : CaveView → List Dwarf
 dwarves_placed cave =
     dwarf_of cave place.Dwarf1 ∷ dwarf_of cave place.Dwarf2 ∷ dwarf_of cave place.Dwarf3 ∷ dwarf_of cave place.Dwarf4 ∷ dwarf_of cave place.Dwarf5 ∷ dwarf_of cave place.Chest ∷ []
 
-unfoldable pub start_place : CaveView → ℕ
-start_place cave = place_or 1 (place_named cave place.Start)
-
-abbrev pub with_dwarves : CaveView → State → State
-with_dwarves cave s = let dwarves = s.dwarves in record s { dwarves = record dwarves { each = dwarves_placed cave } }
-
-abbrev pub with_objects : CaveView → State → State
-with_objects cave s = record s { objects = all_placed cave s.objects }
-
--- the state at the start
+-- the state at the start: what isn't told here is as in a game in which nothing is placed yet
 unfoldable pub begun_state : CaveView → ℕ → State
-begun_state cave x = with_dwarves cave (with_objects cave (treasures_hidden cave (starting (start_place cave) x)))
+begun_state cave x =
+    let s = starting (start_place cave) x in let tallies = s.tallies in let dwarves = s.dwarves in
+    record s {
+      objects = begun_objects cave;
+      tallies = record tallies { unseen = length (known_treasures cave) };
+      dwarves = record dwarves { each = dwarves_placed cave };
+    }

@@ -15,7 +15,7 @@ use Rattle.cave_world.specs.declared.rows.Special.{Special}
 use Rattle.cave_world.specs.declared.rows.Special.TheVariants.{Squeeze, Bridge}
 use Rattle.cave_world.specs.declared.state.State.{State}
 use Rattle.cave_turn.specs.declared.names.Names.{Names}
-use Rattle.cave_turn.specs.Places.{place_named, place_or}
+use Rattle.cave_turn.specs.Places.{place_named, outside_place}
 use Rattle.cave_turn.specs.Plays.{Scene, telling, saying, with_state, here_of, sets_out}
 
 -- a play, and the place where the player arrives next
@@ -96,7 +96,7 @@ looking p = staying (unvisited (enough_said p))
 -- where the cave is, is told by whether the player is outside
 unfoldable pub seeking_cave : CaveView → Scene → Journey
 seeking_cave cave p =
-    if nat_lt (here_of p) (place_or 8 (place_named cave place.Outside)) then staying (saying role.CaveOut p) else staying (saying role.CaveIn p)
+    if nat_lt (here_of p) (outside_place cave) then staying (saying role.CaveOut p) else staying (saying role.CaveIn p)
 
 -- where the player goes who goes back: where the player came from, or from where before that if that was a place to be carried on from
 abbrev pub back_place : CaveView → State → ℕ

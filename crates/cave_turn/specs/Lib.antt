@@ -8,6 +8,7 @@ pub mod Description
 pub mod Journeys
 pub mod Arrival
 pub mod Begin
+pub mod Placing
 pub mod Commands
 pub mod Answers
 pub mod Turn

@@ -4,6 +4,7 @@ use Rattle.std.specs.FinMap as map
 use Rattle.cave_data.specs.CaveView.{CaveView}
 use Rattle.cave_data.specs.PlaceRole.{place_number}
 use Rattle.cave_data.specs.declared.place_role.PlaceRole.{PlaceRole}
+use Rattle.cave_data.specs.declared.place_role.PlaceRole.TheVariants as place
 
 -- the place that has a role
 unfoldable pub place_named : CaveView → PlaceRole → Option ℕ
@@ -18,3 +19,11 @@ is_that place (Some named) = named == place
 abbrev pub place_or : ℕ → Option ℕ → ℕ
 place_or other None = other
 place_or other (Some named) = named
+
+-- the place where a game begins
+unfoldable pub start_place : CaveView → ℕ
+start_place cave = place_or 1 (place_named cave place.Start)
+
+-- the last place outside the cave
+unfoldable pub outside_place : CaveView → ℕ
+outside_place cave = place_or 8 (place_named cave place.Outside)

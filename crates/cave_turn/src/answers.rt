@@ -5,8 +5,8 @@ ghost use Rattle.cave_turn.specs.Answers.{answer_of, answer_in, instructed, ente
 ghost use Rattle.cave_turn.specs.Plays.{scene_of, parts_by_arrival, IsSamePlay};
 
 use crate::arrival::arrive;
-use crate::begin::start_place;
 use crate::names::Names;
+use crate::places::start_place;
 use crate::play::Play;
 use cave_data::{Cave, Role};
 use cave_words::{Lexicon, Word, Words};

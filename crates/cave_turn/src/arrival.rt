@@ -7,9 +7,9 @@ ghost use Rattle.cave_turn.specs.Plays.{scene_of, parts_by_arrival, IsSamePlay, 
 use crate::description::{describe, tell_text};
 use crate::journeys::{set_forth, stay};
 use crate::names::Names;
-use crate::places::place_named;
+use crate::places::outside_place;
 use crate::play::Play;
-use cave_data::{Cave, PlaceRole, Role};
+use cave_data::{Cave, Role};
 use cave_world::{Dwarf, Place, State, has_condition, is_forced};
 
 /// The bit of the places to which no dwarf goes.
@@ -20,11 +20,9 @@ const NO_DWARF: u8 = 3;
 fn is_shut(cave: &Cave, place: Place, state: &State) -> bool
     ensures { result ≡ is_shut cave.now place state.now }
 {
-    let outside = match place_named(cave, PlaceRole::Outside) {
-        Some(place) => place.number(),
-        None => 8,
-    };
-    state.closing.is_closing && 1 <= place.number() && place.number() <= outside
+    state.closing.is_closing
+        && 1 <= place.number()
+        && place.number() <= outside_place(cave).number()
 }
 
 /// The player tries to get out of a closing cave.

@@ -1,10 +1,13 @@
-ghost use Rattle.std.specs.Prelude.{◌≡◌, ◌+◌, ◌-◌, ◌<◌, ◌≤◌, ◌≤ℤ◌, pos};
-ghost use Rattle.cave_turn.specs.Begin.{home, anchor_by, hold_of, is_due, placed, placed_down, all_placed, hidden, hidden_from, dwarf_of, dwarves_placed, start_place, with_dwarves, with_objects, begun_state};
+ghost use Rattle.std.specs.Prelude.{◌≡◌, ℕ, ◌≤◌, ◌≤ℤ◌, length, pos};
+ghost use Rattle.cave_world.specs.Lists.{halves_at};
+ghost use Rattle.cave_world.specs.Objects.{moved, anchored, unplaced};
+ghost use Rattle.cave_turn.specs.Begin.{anchor_by, is_due, objects_due, known_treasures, begun_objects, dwarf_of, dwarves_placed, start_list, begun_state};
+ghost use Rattle.cave_turn.specs.Placing.{all_placed, all_hidden};
 
-use crate::places::place_named;
+use crate::places::{place_named, place_or, start_place};
 use cave_data::{Cave, PlaceRole};
 use cave_words::Stream;
-use cave_world::{Anchor, Dwarf, Object, Objects, Place, Prop, State};
+use cave_world::{Anchor, Count, Dwarf, Object, Objects, Place, Prop, State};
 
 /// The treasures are the objects from one to another.
 const FIRST_TREASURE: u8 = 50;
@@ -14,116 +17,85 @@ const LAST_TREASURE: u8 = 79;
 /// The greatest number of an object.
 const LAST_OBJECT: u8 = 100;
 
-/// The place where a game begins.
-#[tactic(auto, unfolding(crate::specs::Begin::start_place))]
-pub fn start_place(cave: &Cave) -> Place
-    ensures { result ≡ start_place cave.now }
-{
-    match place_named(cave, PlaceRole::Start) {
-        Some(place) => place,
-        None => Place::new(1),
-    }
-}
-
-fn home(cave: &Cave, object: Object) -> Place
-    ensures { result ≡ home cave.now object }
-{
-    Place::new(cave.placement(u16::from(object.number())).0)
-}
-
 fn anchor_by(second: i16) -> Anchor
     requires { second ≤ℤ pos 300 }
     ensures { result ≡ anchor_by second }
 {
     if second < 0 {
-        return Anchor::Fixed;
-    }
-    if second == 0 {
-        Anchor::Loose
+        Anchor::Fixed
     } else {
-        Anchor::At(Place::new(second as u16))
+        Anchor::at(Place::new(second as u16))
     }
-}
-
-/// What holds an object where it stands as a game begins.
-fn hold_of(cave: &Cave, object: Object) -> Anchor
-    ensures { result ≡ hold_of cave.now object }
-{
-    anchor_by(cave.placement(u16::from(object.number())).1)
 }
 
 /// Whether an object is put with those that have two places, or with the others.
-fn is_due(twice: bool, anchor: Anchor) -> bool
-    ensures { result ≡ is_due twice anchor }
+fn is_due(twice: bool, second: i16) -> bool
+    requires { second ≤ℤ pos 300 }
+    ensures { result ≡ is_due twice (anchor_by second) }
 {
-    match anchor {
+    match anchor_by(second) {
         Anchor::At(_) => twice,
         Anchor::Loose | Anchor::Fixed => !twice,
     }
 }
 
-/// Puts an object where it stands as a game begins, its second half first.
-#[tactic(auto, unfolding(crate::specs::Begin::placed))]
-fn place_object(cave: &Cave, object: Object, objects: &mut Objects)
-    ensures { objects.new ≡ placed cave.now object objects.old }
+/// Puts an object at a place, its second half first.
+fn place_object(object: Object, home: u16, second: i16, objects: &mut Objects)
+    requires first { home ≤ 300 }
+    requires second { second ≤ℤ pos 300 }
+    ensures { objects.new ≡ moved (anchored objects.old object (anchor_by second)) object home }
 {
-    objects.anchor_to(object, hold_of(cave, object));
-    objects.move_to(object, home(cave, object));
+    objects.anchor_to(object, anchor_by(second));
+    objects.move_to(object, Place::new(home));
 }
 
-/// Places the objects up to a number that have two places, or the others, from the last down.
-#[tactic(auto, using(crate::proofs::Countdown::placing))]
-fn place_down(cave: &Cave, twice: bool, last: u8, objects: &mut Objects)
-    requires { last ≤ 100 }
-    ensures { objects.new ≡ placed_down cave.now twice last objects.old }
+/// Places the objects that have two places, or the others, from the last down.
+#[tactic(auto, using(crate::proofs::Countdown::placing), unfolding(crate::specs::Placing::placed))]
+fn place_down(cave: &Cave, twice: bool, objects: &mut Objects)
+    ensures { objects.new ≡ all_placed cave.now (objects_due cave.now twice) objects.old }
 {
-    for i in 0..last {
-        let object = Object::new(last - i);
-        if is_due(twice, hold_of(cave, object)) {
-            place_object(cave, object, objects);
+    for i in 0..LAST_OBJECT {
+        let object = Object::new(LAST_OBJECT - i);
+        let (home, second) = cave.placement(u16::from(object.number()));
+        if is_due(twice, second) {
+            place_object(object, home, second, objects);
         }
     }
 }
 
-#[tactic(auto, unfolding(crate::specs::Begin::all_placed))]
-fn place_all(cave: &Cave, objects: &mut Objects)
-    ensures { objects.new ≡ all_placed cave.now objects.old }
-{
-    place_down(cave, true, LAST_OBJECT, objects);
-    place_down(cave, false, LAST_OBJECT, objects);
-}
-
-fn hide(object: Object, state: &mut State)
-    requires { state.old.tallies.unseen < 30 }
-    ensures { state.new ≡ hidden object state.old }
-{
-    state.objects.set_prop(object, Prop::new(-1));
-    state.tallies.unseen = state.tallies.unseen.up();
-}
-
-/// The known objects from one to before another weren't seen yet.
+/// The known treasures weren't seen yet. Tells how many they are.
 #[tactic(auto, using(crate::proofs::Countdown::hiding))]
-fn hide_between(cave: &Cave, first: u8, end: u8, state: &mut State)
-    requires ascending { first ≤ end }
-    requires last { end ≤ 101 }
-    requires few { state.old.tallies.unseen + (end - first) ≤ 30 }
-    ensures { state.new ≡ hidden_from cave.now first (end - first) state.old }
+fn hide_treasures(cave: &Cave, objects: &mut Objects) -> Count<30>
+    ensures objects { objects.new ≡ all_hidden (known_treasures cave.now) objects.old }
+    ensures count { result ≡ length (known_treasures cave.now) }
 {
-    for number in first..end {
+    let mut hidden = Count::new(0);
+    for number in FIRST_TREASURE..LAST_TREASURE + 1 {
         if cave.name(u16::from(number)).is_some() {
-            hide(Object::new(number), state);
+            objects.set_prop(Object::new(number), Prop::new(-1));
+            hidden = hidden.up();
         }
     }
+    hidden
+}
+
+/// Puts the objects where they stand as a game begins. Tells how many treasures weren't seen yet.
+fn place_all(cave: &Cave, objects: &mut Objects) -> Count<30>
+    requires { objects.old ≡ unplaced }
+    ensures objects { objects.new ≡ begun_objects cave.now }
+    ensures hidden { result ≡ length (known_treasures cave.now) }
+{
+    let hidden = hide_treasures(cave, objects);
+    place_down(cave, true, objects);
+    place_down(cave, false, objects);
+    hidden
 }
 
 #[tactic(auto, unfolding(crate::specs::Begin::dwarf_of))]
 fn dwarf_of(cave: &Cave, role: PlaceRole) -> Dwarf
     ensures { result ≡ dwarf_of cave.now role }
 {
-    let place = match place_named(cave, role) {
-        Some(place) => place,
-        None => Place::new(0),
-    };
+    let place = place_or(Place::new(0), place_named(cave, role));
     Dwarf {
         place,
         last: place,
@@ -132,28 +104,27 @@ fn dwarf_of(cave: &Cave, role: PlaceRole) -> Dwarf
 }
 
 #[tactic(auto, unfolding(crate::specs::Begin::dwarves_placed))]
-fn place_dwarves(cave: &Cave, state: &mut State)
-    ensures { state.new ≡ with_dwarves cave.now state.old }
+fn place_dwarves(cave: &Cave) -> [Dwarf; 6]
+    ensures { result ≡ dwarves_placed cave.now }
 {
-    let each = [
+    [
         dwarf_of(cave, PlaceRole::Dwarf1),
         dwarf_of(cave, PlaceRole::Dwarf2),
         dwarf_of(cave, PlaceRole::Dwarf3),
         dwarf_of(cave, PlaceRole::Dwarf4),
         dwarf_of(cave, PlaceRole::Dwarf5),
         dwarf_of(cave, PlaceRole::Chest),
-    ];
-    state.dwarves.each = each;
+    ]
 }
 
 /// The state that a game begins with.
 #[tactic(auto, unfolding(crate::specs::Begin::begun_state, cave_world::specs::State::starting))]
 pub fn begun_state(cave: &Cave, stream: Stream) -> State
-    ensures { result ≡ begun_state cave.now stream }
+    ensures state { result ≡ begun_state cave.now stream }
+    ensures lists { (q : ℕ) → halves_at q result.objects.lists ≡ start_list cave.now q }
 {
     let mut state = State::starting(start_place(cave), stream);
-    hide_between(cave, FIRST_TREASURE, LAST_TREASURE + 1, &mut state);
-    place_all(cave, &mut state.objects);
-    place_dwarves(cave, &mut state);
+    state.tallies.unseen = place_all(cave, &mut state.objects);
+    state.dwarves.each = place_dwarves(cave);
     state
 }

@@ -5,7 +5,7 @@ ghost use Rattle.cave_turn.specs.Journeys.{refusal_of, other_end, squeeze_end, i
 
 use crate::back::go_back;
 use crate::names::Names;
-use crate::places::place_named;
+use crate::places::{outside_place, place_named};
 use crate::play::Play;
 use cave_data::{Cave, PlaceRole, Role};
 use cave_world::{Outcome, Part, Place, Special, State, travel};
@@ -180,11 +180,7 @@ fn seek_cave(cave: &Cave, play: &mut Play<'_>) -> Place
     ensures same { GoesOn play.old play.new }
     ensures few { array_vec_len play.new.out.now ≤ array_vec_len play.old.out.now + 1 }
 {
-    let outside = match place_named(cave, PlaceRole::Outside) {
-        Some(place) => place.number(),
-        None => 8,
-    };
-    if play.state.trail.here.number() < outside {
+    if play.state.trail.here.number() < outside_place(cave).number() {
         stay(play, Role::CaveOut)
     } else {
         stay(play, Role::CaveIn)

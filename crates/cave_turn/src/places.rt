@@ -1,5 +1,5 @@
 ghost use Rattle.std.specs.Prelude.{◌≡◌};
-ghost use Rattle.cave_turn.specs.Places.{place_named, is_that};
+ghost use Rattle.cave_turn.specs.Places.{place_named, is_that, place_or, start_place, outside_place};
 
 use cave_data::{Cave, PlaceRole};
 use cave_world::Place;
@@ -23,4 +23,30 @@ pub fn is_that(place: Place, named: Option<Place>) -> bool
         Some(named) => named == place,
         None => false,
     }
+}
+
+/// The place that is named, or another.
+pub fn place_or(other: Place, named: Option<Place>) -> Place
+    ensures { result ≡ place_or other named }
+{
+    match named {
+        Some(place) => place,
+        None => other,
+    }
+}
+
+/// The place where a game begins.
+#[tactic(auto, unfolding(crate::specs::Places::start_place))]
+pub fn start_place(cave: &Cave) -> Place
+    ensures { result ≡ start_place cave.now }
+{
+    place_or(Place::new(1), place_named(cave, PlaceRole::Start))
+}
+
+/// The last place outside the cave.
+#[tactic(auto, unfolding(crate::specs::Places::outside_place))]
+pub fn outside_place(cave: &Cave) -> Place
+    ensures { result ≡ outside_place cave.now }
+{
+    place_or(Place::new(8), place_named(cave, PlaceRole::Outside))
 }

@@ -1,14 +1,7 @@
-use Rattle.std.specs.Prelude.{ℕ, ◌+◌, ◌-◌, ◌*◌, Bool, ◌==◌, ◌&&◌, ◌||◌, not, nat_le, List, [], ◌∷◌, fold, if◌then◌else◌}
-
--- a space or a tab
-abbrev pub is_blank : ℕ → Bool
-is_blank byte = byte == 32 || byte == 9
-
-abbrev pub is_nonblank : ℕ → Bool
-is_nonblank byte = not (is_blank byte)
-
-abbrev pub is_digit : ℕ → Bool
-is_digit byte = nat_le 48 byte && nat_le byte 57
+-- Blanks and digits are those of a database. What stands in front of a line, and the number that digits write.
+use Rattle.std.specs.Prelude.{ℕ, Bool, List, [], ◌∷◌, fold, if◌then◌else◌}
+use Rattle.cave_data.specs.Fields.{with_digit}
+pub use Rattle.cave_data.specs.Fields.{is_blank, is_nonblank, is_digit}
 
 -- the bytes in front that pass a test
 abbrev pub in_front : (ℕ → Bool) → List ℕ → List ℕ
@@ -22,4 +15,4 @@ behind test (byte ∷ bytes) = if test byte then behind test bytes else byte ∷
 
 -- the number that digits write, the first digit counting most
 abbrev pub number_of : List ℕ → ℕ
-number_of digits = fold (λ number digit. 10 * number + (digit - 48)) 0 digits
+number_of digits = fold with_digit 0 digits

@@ -22,6 +22,3 @@ pub use named::Named;
 pub use stream::Stream;
 pub use word::Word;
 pub use words::Words;
-
-#[cfg(test)]
-mod tests;

@@ -117,9 +117,9 @@ taken entries front count at n within same lists found is =
     (omega arith, done.1, rw left (AreLists-without n es lists), left)
 
 -- one entry more, at the front of the list of its place
-pub put : (entries front : List Entry) (count at : ℕ) (e : Entry) → count ≤ 200 → filled (take count entries) ≡ entries → AreLists (take count entries) → IsNew e.half (take count entries) → at ≡ prefix_len (λ f. nat_lt f.place e.place) (take count entries) → front ≡ insert (take (length (take (count + 1) entries) - 1) (take (count + 1) entries)) at e
+pub put : (entries front : List Entry) (count at : ℕ) (e : Entry) → count ≤ 200 → filled (take count entries) ≡ entries → AreLists (take count entries) → IsNew e.half (take count entries) → 0 < e.place → at ≡ prefix_len (λ f. nat_lt f.place e.place) (take count entries) → front ≡ insert (take (length (take (count + 1) entries) - 1) (take (count + 1) entries)) at e
     → (count + 1 ≤ 200) × (filled (take (count + 1) (front ++ drop (count + 1) entries)) ≡ front ++ drop (count + 1) entries) × AreLists (take (count + 1) (front ++ drop (count + 1) entries)) × (take (count + 1) (front ++ drop (count + 1) entries) ≡ put_first e (take count entries))
-put entries front count at e within same lists new there is =
+put entries front count at e within same lists new somewhere there is =
     let es : List Entry = take count entries in
     let long : length es ≡ count = count_back entries count within same in
     let room : count < 200 = omega (arith, long, room_for e es new lists) in
@@ -131,7 +131,7 @@ put entries front count at e within same lists new there is =
     let short : at ≤ count = omega (arith, there, long, prefix_len-le-length (λ (f : Entry). nat_lt f.place e.place) es) in
     let done = opened entries (front ++ drop (count + 1) entries) count at e room same short (ap (λ (l : List Entry). l ++ drop (count + 1) entries) first) in
     let made : take (count + 1) (front ++ drop (count + 1) entries) ≡ put_first e es = done.0 ∙ placed in
-    (omega (arith, room), done.1, rw made (AreLists-put_first e es new.0 new.1.0 new.1.1 lists), made)
+    (omega (arith, room), done.1, rw made (AreLists-put_first e es (new.0, somewhere) new.1.0 new.1.1 lists), made)
 
 pub room_left : (entries : List Entry) (count : ℕ) (half : Half) (place : ℕ) → count ≤ 200 → filled (take count entries) ≡ entries → AreLists (take count entries) → IsNew half (take count entries) → count + 1 ≤ 200
 room_left entries count half place within same lists new =

@@ -1,9 +1,7 @@
 -- The lists and the objects go on telling the same where a half moves.
 use Rattle.std.proofs.Common.{◌≡◌, ◌≢◌, ℕ, ℤ, ◌+◌, ◌-◌, ◌<◌, ◌≤◌, ◌||◌, Bool, true, false, cond, not, eqb, List, [], ◌∷◌, length, set, get_or, replicate, Option, Some, None, refl, sym, ap, ◌∙◌, arith}
-use Rattle.std.specs.List.{count_by}
 use Rattle.std.proofs.lemmas.Bool.{false≢true}
 use Rattle.std.proofs.lemmas.Bool.Decides.{nat_tests}
-use Rattle.std.proofs.lemmas.List.Sums.{sum_by-cons}
 use Rattle.std.proofs.lemmas.List.{length-set, get_or-set_same, get_or-set_other, get_or-replicate, length-replicate, get_or_default}
 use Rattle.cave_world.specs.declared.object.Half.{Half}
 use Rattle.cave_world.specs.declared.object.Half.TheVariants.{First, Second}
@@ -15,8 +13,7 @@ use Rattle.cave_world.specs.declared.lists.Entry.{Entry}
 use Rattle.cave_world.specs.Halves.{half_number}
 use Rattle.cave_world.specs.Layout.{Layout, is_listed, IsLaid}
 use Rattle.cave_world.specs.Lists.{halves_at, others, listed_at, AreRelisted}
-use Rattle.cave_world.specs.Objects.{carried_from}
-use Rattle.cave_world.specs.Spots.{place_of_spot, place_of_anchor, is_carried_spot, is_place}
+use Rattle.cave_world.specs.Spots.{place_of_spot, place_of_anchor, is_place}
 
 gone : (b : Bool) → cond b false false ≡ false
 gone true = refl
@@ -147,16 +144,3 @@ unfolding is_listed others
 others_absent n [] t = refl
 others_absent n (h ∷ hs) t =
     stays n h hs (eqb (half_number h) n) refl t (others_absent n hs (rest_unlisted (eqb (half_number h) n) (is_listed n hs) t))
-
-counted : (b : Bool) (n : ℕ) (xs : List ℕ) (m : ℕ) → length xs ≡ m → length (cond b (n ∷ xs) xs) ≡ cond b 1 0 + m
-counted true n xs m h = omega (arith, h)
-counted false n xs m h = omega (arith, h)
-
--- so many are carried as have their first halves carried
-pub length-carried_from : (n : ℕ) (spots : List Spot) → length (carried_from n spots) ≡ count_by is_carried_spot spots
-length-carried_from n [] = refl
-length-carried_from n (s ∷ spots) =
-    counted (is_carried_spot s) n (carried_from (n + 1) spots) (count_by is_carried_spot spots) (length-carried_from (n + 1) spots)
-    ∙ sym (sum_by-cons (λ (t : Spot). cond (is_carried_spot t) 1 0) s spots)
-
-pub ruleset length_carried = (length-carried_from)

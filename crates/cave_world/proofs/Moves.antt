@@ -1,22 +1,20 @@
 -- What the moves of halves make of the lists.
 use Rattle.std.proofs.Common.{◌≡◌, ℕ, suc, ◌+◌, ◌-◌, ◌<◌, ◌≤◌, ◌||◌, Bool, true, false, cond, not, List, [], ◌∷◌, ◌++◌, length, map, take, drop, replicate, nat_lt, eqb, refl, sym, ap, ◌∙◌, arith}
 use Rattle.std.specs.List.{prefix_len, IsDistinct, AllByRecursion, list_any}
-use Rattle.std.proofs.lemmas.List.{take_at, drop-replicate, length-map}
+use Rattle.std.proofs.lemmas.List.{drop-replicate, length-map}
 use Rattle.std.proofs.lemmas.Bool.Decides.{nat_tests}
 use Rattle.std.proofs.lemmas.Bool.{false≢true}
 use Rattle.std.proofs.lemmas.Map.Keys.{IsDistinct-cons}
 use Rattle.std.proofs.lemmas.Map.Steps.{length-le_from_distinct_below}
 use Rattle.cave_world.specs.declared.lists.Entry.{Entry}
-use Rattle.cave_world.specs.Halves.{half_number}
-use Rattle.cave_world.specs.Lists.{filled, no_entry, without, put_first, Lacks, StartsAt, AreLists, IsNew}
+use Rattle.cave_world.specs.declared.object.Half.{Half}
+use Rattle.cave_world.specs.declared.object.Half.TheVariants.{First, Second}
+use Rattle.cave_world.specs.Halves.{object_of, half_number}
+use Rattle.cave_world.specs.Lists.{filled, no_entry, without, put_first, Lacks, StartsAt, IsEntry, AreLists, IsNew}
 
 pub filled_is : (es : List Entry) (d : Entry) → d ≡ no_entry → es ++ drop (length es) (replicate 200 d) ≡ filled es
 unfolding filled
 filled_is es d e = ap (λ (l : List Entry). es ++ l) (drop-replicate (length es) 200 d ∙ ap (λ (x : Entry). replicate (200 - length es) x) e)
-
-pub take-filled : (es : List Entry) → take (length es) (filled es) ≡ es
-unfolding filled
-take-filled es = take_at es (replicate (200 - length es) no_entry) (length es) refl
 
 -- where one more entry goes
 goes_behind : (b : Bool) (n : ℕ) (first e : Entry) (es put : List Entry) → put ≡ take n es ++ first ∷ drop n es
@@ -94,14 +92,14 @@ above a b h = grind (arith, nat_tests)
 apart : (a b : ℕ) → (a ≡ b → ⊥) → b ≡ a → ⊥
 apart a b h e = h (sym e)
 
-pub AreLists-put_first : (first : Entry) (es : List Entry) → 0 < half_number first.half → half_number first.half ≤ 200 → Lacks (half_number first.half) es → AreLists es → AreLists (put_first first es)
+pub AreLists-put_first : (first : Entry) (es : List Entry) → IsEntry first → half_number first.half ≤ 200 → Lacks (half_number first.half) es → AreLists es → AreLists (put_first first es)
 unfolding put_first
-AreLists-put_first first [] low high l h = (low, (high, (tt, (tt, tt))))
-AreLists-put_first first (e ∷ es) low high l h =
+AreLists-put_first first [] is high l h = (is, (high, (tt, (tt, tt))))
+AreLists-put_first first (e ∷ es) is high l h =
     either AreLists (nat_lt e.place first.place) (e ∷ put_first first es) (first ∷ e ∷ es)
-    (λ t. (h.0, (h.1.0, (Lacks-put_first (half_number e.half) first es (apart (half_number e.half) (half_number first.half) l.0) h.1.1.0, (StartsAt-put_first e.place first es (below e.place first.place t) h.1.1.1.0, AreLists-put_first first es low high l.1 h.1.1.1.1)))))
+    (λ t. (h.0, (h.1.0, (Lacks-put_first (half_number e.half) first es (apart (half_number e.half) (half_number first.half) l.0) h.1.1.0, (StartsAt-put_first e.place first es (below e.place first.place t) h.1.1.1.0, AreLists-put_first first es is high l.1 h.1.1.1.1)))))
     (λ t. let first_before : first.place ≤ e.place = above e.place first.place t in
-    (low, (high, (l, ((first_before, StartsAt-earlier first.place e.place es first_before h.1.1.1.0), h)))))
+    (is, (high, (l, ((first_before, StartsAt-earlier first.place e.place es first_before h.1.1.1.0), h)))))
 
 long : (b : Bool) (n : ℕ) (x y : List Entry) → length x ≡ n → length y ≡ n → length (cond b x y) ≡ n
 long true n x y h k = h
@@ -129,9 +127,14 @@ unfolding IsDistinct
 distinct [] h = tt
 distinct (e ∷ es) h = (apart_from_Lacks (half_number e.half) es h.1.1.0, distinct es h.1.1.1.1)
 
+-- a half of an object has a number
+numbered : (half : Half) → 0 < object_of half → half_number half ≡ 0 → ⊥
+numbered (First x) low none = omega (arith, low, none)
+numbered (Second x) low none = omega (arith, none)
+
 Lacks-none : (es : List Entry) → AreLists es → Lacks 0 es
 Lacks-none [] h = tt
-Lacks-none (e ∷ es) h = (λ z. absurd (omega (arith, h.0, z)), Lacks-none es h.1.1.1.1)
+Lacks-none (e ∷ es) h = (λ z. numbered e.half h.0.0 z, Lacks-none es h.1.1.1.1)
 
 one_of : (a q : ℕ) (b rest : Bool) → eqb q a ≡ b → a < 201 → (rest ≡ true → q < 201) → (b || rest) ≡ true → q < 201
 one_of a q true rest is bound later t = grind (arith, nat_tests)
@@ -153,12 +156,8 @@ length-AreLists es h =
 
 pub ruleset length_AreLists = (length-AreLists)
 
-pub AreLists-moved : (first : Entry) (es : List Entry) → 0 < half_number first.half → half_number first.half ≤ 200 → AreLists es → AreLists (put_first first (without (half_number first.half) es))
-AreLists-moved first es low high h =
-    let n = half_number first.half in
-    AreLists-put_first first (without n es) low high (Lacks-taken n es) (AreLists-without n es h)
-
 -- a half that stands nowhere finds room
 pub room_for : (e : Entry) (es : List Entry) → IsNew e.half es → AreLists es → length es < 200
 room_for e es new lists =
-    omega (arith, length-put_first e es, length-AreLists (put_first e es) (AreLists-put_first e es new.0 new.1.0 new.1.1 lists))
+    let f : Entry = record { place = 1; half = e.half } in
+    omega (arith, length-put_first f es, length-AreLists (put_first f es) (AreLists-put_first f es (new.0, omega arith) new.1.0 new.1.1 lists))

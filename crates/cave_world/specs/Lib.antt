@@ -9,3 +9,4 @@ pub mod Travel
 pub mod Fresh
 pub mod State
 pub mod Parts
+pub mod Equality

@@ -1,6 +1,6 @@
 -- What the lists keep of themselves.
-use Rattle.std.proofs.Common.{◌≡◌, ℕ, ◌+◌, ◌-◌, ◌≤◌, List, length, take, replicate, ap, ◌∙◌, arith}
-use Rattle.std.proofs.lemmas.List.{length-take, length-append, length-replicate}
+use Rattle.std.proofs.Common.{◌≡◌, ℕ, ◌+◌, ◌-◌, ◌≤◌, List, length, take, replicate, ap, ◌∙◌, refl, arith}
+use Rattle.std.proofs.lemmas.List.{take_at, length-take, length-append, length-replicate}
 use Rattle.cave_world.specs.declared.lists.ObjectLists.TheInside.{Inside}
 use Rattle.cave_world.specs.declared.lists.Entry.{Entry}
 use Rattle.cave_world.specs.Lists.{filled, no_entry}
@@ -8,6 +8,10 @@ use Rattle.cave_world.specs.Lists.{filled, no_entry}
 pub length-filled : (es : List Entry) → length (filled es) ≡ length es + (200 - length es)
 unfolding filled
 length-filled es = length-append es (replicate (200 - length es) no_entry) ∙ ap (λ n. length es + n) (length-replicate (200 - length es) no_entry)
+
+pub take-filled : (es : List Entry) → take (length es) (filled es) ≡ es
+unfolding filled
+take-filled es = take_at es (replicate (200 - length es) no_entry) (length es) refl
 
 pub count_back : (entries : List Entry) (count : ℕ) → count ≤ 200 → filled (take count entries) ≡ entries → length (take count entries) ≡ count
 count_back entries count within same =

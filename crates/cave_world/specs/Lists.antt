@@ -2,7 +2,7 @@
 use Rattle.std.specs.Prelude.{◌≡◌, ℕ, ◌-◌, ◌<◌, ◌≤◌, ◌==◌, Bool, not, nat_lt, if◌then◌else◌, List, [], ◌∷◌, ◌++◌, length, map, filter, replicate, Option, Some, None}
 use Rattle.cave_world.specs.declared.object.Half.{Half}
 use Rattle.cave_world.specs.declared.lists.Entry.{Entry}
-use Rattle.cave_world.specs.Halves.{half_number, no_half}
+use Rattle.cave_world.specs.Halves.{object_of, half_number, no_half}
 
 -- the entries are in the order of their places, and those of one place are its list
 abbrev pub halves_at : ℕ → List Entry → List Half
@@ -58,11 +58,15 @@ abbrev pub StartsAt : ℕ → List Entry → Type 0
 StartsAt place [] = Unit {0}
 StartsAt place (e ∷ es) = (place ≤ e.place) × StartsAt place es
 
--- each entry has a half of an object, no half is there twice, and places ascend
+-- an entry has a half of an object, and a place where it can stand
+abbrev pub IsEntry : Entry → Type 0
+IsEntry e = (0 < object_of e.half) × (0 < e.place)
+
+-- each is an entry, no half is there twice, and places ascend
 abbrev pub AreLists : List Entry → Type 0
 AreLists [] = Unit {0}
 AreLists (e ∷ es) =
-    (0 < half_number e.half) × ((half_number e.half ≤ 200) × (Lacks (half_number e.half) es × (StartsAt e.place es × AreLists es)))
+    IsEntry e × ((half_number e.half ≤ 200) × (Lacks (half_number e.half) es × (StartsAt e.place es × AreLists es)))
 
 -- the half of a number stands nowhere but at the place
 abbrev pub IsOnlyAt : ℕ → Option ℕ → List Entry → Type 0
@@ -71,7 +75,7 @@ IsOnlyAt number from (e ∷ es) = (half_number e.half ≡ number → from ≡ So
 
 -- a half of an object, which stands nowhere
 abbrev pub IsNew : Half → List Entry → Type 0
-IsNew half es = (0 < half_number half) × ((half_number half ≤ 200) × Lacks (half_number half) es)
+IsNew half es = (0 < object_of half) × ((half_number half ≤ 200) × Lacks (half_number half) es)
 
 -- the entry has the half of a number
 abbrev pub has_half : ℕ → Entry → Bool

@@ -1,5 +1,6 @@
 -- What holds of objects, and what is done to them. Object 0 is no object: no test of it holds, and nothing is done to it.
-use Rattle.std.specs.Prelude.{ℕ, ℤ, pos, ◌+◌, ◌-◌, Bool, ◌==◌, ◌||◌, if◌then◌else◌, List, [], ◌∷◌, slice_index_or, slice_set, replicate}
+use Rattle.std.specs.Prelude.{ℕ, ℤ, pos, ◌+◌, ◌-◌, Bool, ◌==◌, ◌||◌, if◌then◌else◌, List, [], filter, slice_index_or, slice_set, replicate}
+use Rattle.std.specs.List.{range_with_len}
 use Rattle.cave_world.specs.declared.object.Half.TheVariants.{First, Second}
 use Rattle.cave_world.specs.declared.spot.Spot.{Spot}
 use Rattle.cave_world.specs.declared.spot.Spot.TheVariants as spot
@@ -36,14 +37,13 @@ stands_at o place x = is_first_at o place x || is_place place (place_of_anchor (
 unfoldable pub is_at_hand : Layout → ℕ → ℕ → Bool
 is_at_hand o place x = is_carried o x || is_first_at o place x
 
--- the numbers of those that are carried, from the number of the first spot on
-abbrev pub carried_from : ℕ → List Spot → List ℕ
-carried_from n [] = []
-carried_from n (s ∷ spots) = if is_carried_spot s then n ∷ carried_from (n + 1) spots else carried_from (n + 1) spots
+-- of the objects from 1 on so many, those that are carried
+unfoldable pub carried_up_to : Layout → ℕ → List ℕ
+carried_up_to o n = filter (is_carried o) (range_with_len 1 n)
 
 -- the objects that are carried, ascending
-unfoldable pub carried_objects : Layout → List ℕ
-carried_objects o = carried_from 1 o.first
+abbrev pub carried_objects : Layout → List ℕ
+carried_objects o = carried_up_to o 100
 
 -- the first half of an object brought to a spot
 unfoldable pub brought : Layout → ℕ → Spot → Layout

@@ -5,6 +5,10 @@ use Rattle.cave_world.specs.declared.spot.Spot.TheVariants as spot
 use Rattle.cave_world.specs.declared.spot.Anchor.{Anchor}
 use Rattle.cave_world.specs.declared.spot.Anchor.TheVariants as anchor
 
+-- where something can stand: at any place but 0
+abbrev pub site_at : ℕ → Option ℕ
+site_at place = if place == 0 then None else Some place
+
 -- the spot at a place; place 0 is away
 abbrev pub spot_at : ℕ → Spot
 spot_at place = if place == 0 then spot.Away else spot.At place
@@ -19,6 +23,10 @@ abbrev pub is_carried_spot : Spot → Bool
 is_carried_spot spot.Away = false
 is_carried_spot spot.Carried = true
 is_carried_spot (spot.At place) = false
+
+-- the anchor of an object whose second half stands at a place; at place 0 there is none
+abbrev pub anchor_at : ℕ → Anchor
+anchor_at place = if place == 0 then anchor.Loose else anchor.At place
 
 -- the place where a second half stands
 abbrev pub place_of_anchor : Anchor → Option ℕ

@@ -58,22 +58,26 @@ after_row emerald s row =
     let t = tested (condition_of row) s in
     if holds (condition_of row) s && number_of row == 302 then record t { objects = moved t.objects emerald t.trail.here } else t
 
--- the row has the target that has just failed
-abbrev pub has_failed : Option ℕ → Going → Bool
-has_failed None row = false
-has_failed (Some target) row = target == row.target
+-- the rows but the first, if that has the target
+abbrev pub passed : ℕ → List Going → List Going
+passed target [] = []
+passed target (row ∷ rows) = if row.target == target then rows else row ∷ rows
+
+-- of neighbours with the same target only the first is tried: where it fails, it passes the others
+abbrev pub tried : List Going → List Going
+tried [] = []
+tried (row ∷ rows) = row ∷ passed row.target (tried rows)
 
 -- the journey ends where a row leads somewhere, and goes on where it fails
 abbrev pub ends_or : Option Outcome → State → Journey → Journey
 ends_or None s later = later
 ends_or (Some outcome) s later = record { state = s; outcome = outcome }
 
--- the first row that leads somewhere. A row that fails passes all that follow, up to one with another target
-abbrev pub first_way : ℕ → Option ℕ → State → List Going → Journey
-first_way emerald failed s [] = record { state = s; outcome = NoWay }
-first_way emerald failed s (row ∷ rows) =
-    if has_failed failed row then first_way emerald failed s rows
-    else ends_or (row_outcome s row) (after_row emerald s row) (first_way emerald (Some row.target) (after_row emerald s row) rows)
+-- the way of the first row that leads somewhere
+abbrev pub first_way : ℕ → State → List Going → Journey
+first_way emerald s [] = record { state = s; outcome = NoWay }
+first_way emerald s (row ∷ rows) =
+    let t = after_row emerald s row in ends_or (row_outcome s row) t (first_way emerald t rows)
 
 -- the rows from the first that lists the motion
 abbrev pub from_listed : ℕ → List Going → List Going
@@ -84,7 +88,7 @@ from_listed motion (row ∷ rows) = if lists motion row then row ∷ rows else f
 unfoldable pub way_along : ℕ → ℕ → State → List Going → Journey
 way_along emerald motion s ways =
     let listed = from_listed motion ways in
-    if length listed == 0 then record { state = s; outcome = NoMotion } else first_way emerald None s listed
+    if length listed == 0 then record { state = s; outcome = NoMotion } else first_way emerald s (tried listed)
 
 -- where a motion leads from where the player stands
 unfoldable pub travelled : CaveView → ℕ → ℕ → State → Journey

@@ -1,6 +1,7 @@
-ghost use Rattle.std.specs.Prelude.{◌≡◌, ℕ, ◌+◌, ◌<◌, ◌||◌, false, length, IsTrue};
+ghost use Rattle.std.specs.Prelude.{◌≡◌, ℕ, ◌+◌, ◌<◌, ◌||◌, false, [], length, All, IsTrue};
 ghost use Rattle.cave_world.specs.Lists.{halves_at, AreRelisted};
 ghost use Rattle.cave_world.specs.Layout.{is_listed};
+ghost use Rattle.cave_world.specs.Halves.{object_of};
 ghost use Rattle.cave_world.specs.Spots.{place_of_spot, spot_at};
 ghost use Rattle.cave_world.specs.Objects.{is_carried, stands_at, is_at_hand, carried_objects, moved, taken};
 
@@ -42,9 +43,11 @@ impl State {
         self.objects.count_carried()
     }
 
-    /// The halves that stand at a place, latest first.
+    /// The halves that stand at a place, latest first. Each is of an object, and none stands at place 0.
     pub fn objects_at(&self, place: Place) -> ArrayVec<Half, HALVES>
-        ensures { result.items ≡ halves_at place self.now.objects.lists }
+        ensures value { result.items ≡ halves_at place self.now.objects.lists }
+        ensures objects { All (λ half. 0 < object_of half) (halves_at place self.now.objects.lists) }
+        ensures nowhere { halves_at 0 self.now.objects.lists ≡ [] }
     {
         self.objects.at(place)
     }

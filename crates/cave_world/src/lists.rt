@@ -1,9 +1,9 @@
-ghost use Rattle.std.specs.Prelude.{◌≡◌, ℕ, ◌-◌, ◌≤◌, ◌<◌, ◌==◌, ◌++◌, ◌∷◌, ◌↔◌, [], length, take, nat_lt, insert, remove, IsTrue};
+ghost use Rattle.std.specs.Prelude.{◌≡◌, ◌≢◌, ℕ, ◌-◌, ◌≤◌, ◌<◌, ◌==◌, ◌++◌, ◌∷◌, ◌↔◌, [], length, take, nat_lt, insert, remove, All, Some, IsTrue};
 ghost use Rattle.std.specs.List.{prefix_len, position};
 ghost use Rattle.cave_world.specs.Layout.{is_listed};
 ghost use Rattle.cave_world.specs.Lists.{relisted, AreRelisted, without, put_first, listed, halves_at, no_entry, AreLists, IsOnlyAt, IsNew, has_half};
 ghost use Rattle.cave_world.specs.Spots.{is_place};
-ghost use Rattle.cave_world.specs.Halves.{half_number};
+ghost use Rattle.cave_world.specs.Halves.{object_of, half_number};
 
 use crate::object::{Half, Object};
 use crate::place::Place;
@@ -125,10 +125,12 @@ impl ObjectLists {
         self.entries() == other.entries()
     }
 
-    /// The halves at a place, latest first.
+    /// The halves at a place, latest first. Each is of an object, and none stands at place 0.
     #[tactic(auto, using(crate::proofs::Moves::length_AreLists))]
     pub fn at(&self, place: Place) -> ArrayVec<Half, HALVES>
-        ensures { result.items ≡ halves_at place self.now }
+        ensures value { result.items ≡ halves_at place self.now }
+        ensures objects { All (λ half. 0 < object_of half) (halves_at place self.now) }
+        ensures nowhere { halves_at 0 self.now ≡ [] }
     {
         let entries = self.entries();
         let mut halves = ArrayVec::new();
@@ -168,7 +170,8 @@ impl ObjectLists {
 
     /// Puts a half that stands nowhere at the front of the list of a place.
     fn put_at(&mut self, half: Half, place: Place)
-        requires { IsNew half self.old }
+        requires new { IsNew half self.old }
+        requires somewhere { 0 < place }
         ensures { self.new ≡ put_first (record { place = place; half = half }) self.old }
     {
         let at = count_before(self.entries(), place);
@@ -178,7 +181,8 @@ impl ObjectLists {
     }
 
     fn put(&mut self, half: Half, to: Option<Place>)
-        requires { IsNew half self.old }
+        requires new { IsNew half self.old }
+        requires somewhere { to ≢ Some 0 }
         ensures { self.new ≡ listed half to self.old }
     {
         match to {
@@ -190,7 +194,8 @@ impl ObjectLists {
     /// Moves a half from the place where it stands to the front of the list of another, or out of its list.
     #[tactic(auto, unfolding(crate::specs::Lists::relisted))]
     pub fn relist(&mut self, half: Half, from: Option<Place>, to: Option<Place>)
-        requires some { 0 < half_number half }
+        requires some { 0 < object_of half }
+        requires somewhere { to ≢ Some 0 }
         requires only { (q : ℕ) → IsTrue (is_listed (half_number half) (halves_at q self.old)) → IsTrue (is_place q from) }
         ensures value { self.new ≡ relisted half to self.old }
         ensures lists { AreRelisted self.old self.new half to }

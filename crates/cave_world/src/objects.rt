@@ -1,8 +1,9 @@
-ghost use Rattle.std.specs.Prelude.{◌≡◌, ℕ, ◌==◌, ◌||◌, ◌+◌, ◌<◌, ◌≤◌, false, [], length, count_by, IsTrue};
-ghost use Rattle.cave_world.specs.Objects.{spot_of, anchor_of, prop_of, is_carried, is_first_at, stands_at, is_at_hand, carried_objects, carried_from, brought, anchored, with_prop, moved, taken, juggled, unplaced};
-ghost use Rattle.cave_world.specs.Spots.{place_of_spot, place_of_anchor, is_carried_spot, spot_at, is_place};
+ghost use Rattle.std.specs.Prelude.{◌≡◌, ℕ, ◌||◌, ◌+◌, ◌<◌, false, [], length, All, IsTrue};
+ghost use Rattle.cave_world.specs.Objects.{spot_of, anchor_of, prop_of, is_carried, is_first_at, stands_at, is_at_hand, carried_objects, brought, anchored, with_prop, moved, taken, juggled, unplaced};
+ghost use Rattle.cave_world.specs.Spots.{place_of_spot, place_of_anchor, spot_at, is_place};
 ghost use Rattle.cave_world.specs.Lists.{halves_at, AreRelisted};
 ghost use Rattle.cave_world.specs.Layout.{is_listed};
+ghost use Rattle.cave_world.specs.Halves.{object_of};
 
 use crate::lists::{HALVES, ObjectLists};
 use crate::object::{Half, LAST_OBJECT, Object};
@@ -49,9 +50,11 @@ impl Objects {
         }
     }
 
-    /// The halves that stand at a place, latest first.
+    /// The halves that stand at a place, latest first. Each is of an object, and none stands at place 0.
     pub fn at(&self, place: Place) -> ArrayVec<Half, HALVES>
-        ensures { result.items ≡ halves_at place self.now.lists }
+        ensures value { result.items ≡ halves_at place self.now.lists }
+        ensures objects { All (λ half. 0 < object_of half) (halves_at place self.now.lists) }
+        ensures nowhere { halves_at 0 self.now.lists ≡ [] }
     {
         self.lists.at(place)
     }
@@ -217,37 +220,24 @@ impl Objects {
     }
 
     /// How many objects are carried.
-    #[tactic(auto, using(crate::proofs::Laid::length_carried), unfolding(crate::specs::Objects::carried_objects))]
     pub fn count_carried(&self) -> usize
         ensures { result ≡ length (carried_objects self.now) }
     {
-        count_carried_in(&self.first)
+        self.carried().len()
     }
 
     /// The objects that are carried, ascending.
-    #[tactic(auto, unfolding(crate::specs::Objects::carried_objects))]
+    #[tactic(auto, using(crate::proofs::Carried::carrying))]
     pub fn carried(&self) -> ArrayVec<Object, LAST_OBJECT>
         ensures { result.items ≡ carried_objects self.now }
     {
-        carried_in(&self.first)
-    }
-}
-
-fn count_carried_in(spots: &[Spot]) -> usize
-    ensures { result ≡ count_by is_carried_spot spots.now }
-{
-    spots.iter().filter(|spot| spot.is_carried()).count()
-}
-
-fn carried_in(spots: &[Spot]) -> ArrayVec<Object, LAST_OBJECT>
-    requires { length spots.now ≤ 100 }
-    ensures { result.items ≡ carried_from 1 spots.now }
-{
-    let mut carried = ArrayVec::new();
-    for (i, spot) in spots.iter().enumerate() {
-        if spot.is_carried() {
-            carried.push(Object::new(i as u8 + 1));
+        let mut carried = ArrayVec::new();
+        for before in 0..LAST_OBJECT {
+            let object = Object::new(before as u8 + 1);
+            if self.is_carried(object) {
+                carried.push(object);
+            }
         }
+        carried
     }
-    carried
 }

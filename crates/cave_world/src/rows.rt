@@ -1,6 +1,6 @@
-ghost use Rattle.std.specs.Prelude.{◌≡◌, ◌<◌, None, Some, map, [], length};
+ghost use Rattle.std.specs.Prelude.{◌≡◌, ◌<◌, map, [], length};
 ghost use Rattle.cave_data.specs.Shown.{going};
-ghost use Rattle.cave_world.specs.Travel.{lists, holds, tested, allows, leads_to, row_outcome, after_row, first_way, from_listed, way_along, travelled};
+ghost use Rattle.cave_world.specs.Travel.{lists, holds, tested, allows, leads_to, row_outcome, after_row, tried, first_way, from_listed, way_along, travelled};
 
 use crate::object::Object;
 use crate::place::Place;
@@ -110,8 +110,9 @@ impl State {
     }
 }
 
+#[tactic(auto, using(crate::proofs::Ways::passing))]
 fn first_way(rows: &[Row], emerald: Object, state: &mut State) -> Outcome
-    ensures { record { state = state.new; outcome = result } ≡ first_way emerald None state.old (map going rows.now) }
+    ensures { record { state = state.new; outcome = result } ≡ first_way emerald state.old (tried (map going rows.now)) }
 {
     let mut failed = None;
     for row in rows {

@@ -1,14 +1,15 @@
-ghost use Rattle.std.specs.Prelude.{◌≡◌, ◌==◌};
-ghost use Rattle.cave_world.specs.Spots.{place_of_spot, place_of_anchor, is_carried_spot, spot_at};
+ghost use Rattle.std.specs.Prelude.{◌≡◌, ◌≢◌, Some};
+ghost use Rattle.cave_world.specs.Spots.{place_of_spot, place_of_anchor, is_carried_spot, spot_at, anchor_at};
 
 use crate::place::Place;
+use crate::site::Site;
 
 /// Where the first half of an object is.
 #[derive(Clone, Copy, Debug, PartialEq, Eq)]
 pub enum Spot {
     Away,
     Carried,
-    At(Place),
+    At(Site),
 }
 
 impl Spot {
@@ -16,19 +17,19 @@ impl Spot {
     pub fn at(place: Place) -> Spot
         ensures { result ≡ spot_at place }
     {
-        if place.number() == 0 {
-            Spot::Away
-        } else {
-            Spot::At(place)
+        match Site::at(place) {
+            Some(site) => Spot::At(site),
+            None => Spot::Away,
         }
     }
 
     /// The place where the half stands.
     pub fn place(&self) -> Option<Place>
-        ensures { result ≡ place_of_spot self.now }
+        ensures value { result ≡ place_of_spot self.now }
+        ensures somewhere { result ≢ Some 0 }
     {
         match self {
-            Spot::At(place) => Some(*place),
+            Spot::At(site) => Some(site.place()),
             Spot::Away => None,
             Spot::Carried => None,
         }
@@ -51,16 +52,27 @@ impl Spot {
 pub enum Anchor {
     Loose,
     Fixed,
-    At(Place),
+    At(Site),
 }
 
 impl Anchor {
+    /// The anchor of an object whose second half stands at a place; at place 0 there is none.
+    pub fn at(place: Place) -> Anchor
+        ensures { result ≡ anchor_at place }
+    {
+        match Site::at(place) {
+            Some(site) => Anchor::At(site),
+            None => Anchor::Loose,
+        }
+    }
+
     /// The place where the second half stands.
     pub fn place(&self) -> Option<Place>
-        ensures { result ≡ place_of_anchor self.now }
+        ensures value { result ≡ place_of_anchor self.now }
+        ensures somewhere { result ≢ Some 0 }
     {
         match self {
-            Anchor::At(place) => Some(*place),
+            Anchor::At(site) => Some(site.place()),
             Anchor::Loose => None,
             Anchor::Fixed => None,
         }

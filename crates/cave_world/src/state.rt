@@ -97,9 +97,10 @@ impl State {
         self.trail.last = self.trail.here;
     }
 
-    /// Tells whether two states are the same state.
+    /// Tells whether two states are the same state, as `==` does.
     pub fn is_same(&self, other: &State) -> bool
-        ensures { IsTrue result ↔ (self.now ≡ other.now) }
+        ensures value { IsTrue result ↔ (self.now ≡ other.now) }
+        ensures equality { result ≡ ⟦<State as PartialEq>⟧.eq self.now other.now }
     {
         self == other
     }

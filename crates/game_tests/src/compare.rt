@@ -1,15 +1,15 @@
 //! What is the same in the model's world and in a state of the game.
 
 use crate::model::cavern::PLACES;
-use crate::model::world::{APART, World, number_at};
+use crate::model::world::{APART, Sentry, World, number_at};
 use cave_words::Stream;
-use cave_world::{Anchor, Object, Place, Question, Spot, State};
+use cave_world::{Anchor, Dwarf, Ending, Knife, Object, Place, Question, Spot, State};
 
 fn spot_number(spot: Spot) -> i32 {
     match spot {
         Spot::Away => 0,
         Spot::Carried => i32::from(APART),
-        Spot::At(place) => i32::from(place.number()),
+        Spot::At(site) => i32::from(site.place().number()),
     }
 }
 
@@ -17,7 +17,7 @@ fn anchor_number(anchor: Anchor) -> i32 {
     match anchor {
         Anchor::Loose => 0,
         Anchor::Fixed => i32::from(APART),
-        Anchor::At(place) => i32::from(place.number()),
+        Anchor::At(site) => i32::from(site.place().number()),
     }
 }
 
@@ -89,7 +89,6 @@ fn are_same_counts(world: &World, state: &State) -> bool {
         && state.lamp.charge.turns() == world.lamp
         && state.talk.details.number() == world.details
         && state.talk.is_brief == world.is_brief
-        && state.hints.is_taken[2] == world.is_instructed
 }
 
 fn is_same_closing(world: &World, state: &State) -> bool {
@@ -100,13 +99,64 @@ fn is_same_closing(world: &World, state: &State) -> bool {
         && i16::from(closing.second_clock) == world.second_clock
 }
 
+fn is_same_dwarf(sentry: Sentry, dwarf: Dwarf) -> bool {
+    (sentry.place, sentry.last, sentry.has_seen)
+        == (dwarf.place.number(), dwarf.last.number(), dwarf.has_seen)
+}
+
+fn are_same_dwarves(world: &World, state: &State) -> bool {
+    let dwarves = state.dwarves.each;
+    if world.sentries.len() != dwarves.len() {
+        return false;
+    }
+    for (sentry, dwarf) in world.sentries.iter().zip(dwarves.iter()) {
+        if !is_same_dwarf(*sentry, *dwarf) {
+            return false;
+        }
+    }
+    true
+}
+
+/// Of the hints the instructions alone are ever taken.
+fn are_same_hints(world: &World, state: &State) -> bool {
+    let hints = state.hints;
+    for (index, (turns, is_taken)) in hints.turns.iter().zip(hints.is_taken.iter()).enumerate() {
+        let want = index == 2 && world.is_instructed;
+        if turns.number() != 0 || *is_taken != want {
+            return false;
+        }
+    }
+    true
+}
+
+/// What no rule changes yet is as it was at the start.
+fn is_untouched(state: &State) -> bool {
+    let talk = state.talk;
+    let dwarves = state.dwarves;
+    state.closing.first_clock == 30
+        && !state.lamp.is_warned
+        && state.tallies.deaths.number() == 0
+        && talk.verb.is_none()
+        && talk.object.is_none()
+        && talk.last.is_none()
+        && talk.magic == 0
+        && dwarves.anger.number() == 0
+        && dwarves.kills.number() == 0
+        && dwarves.knife == Knife::Unthrown
+}
+
 fn is_same_course(world: &World, state: &State) -> bool {
     let question = if world.is_greeted {
         Some(Question::Welcome)
     } else {
         None
     };
-    state.question == question && state.ending.is_some() == world.has_ended
+    let ending = if world.has_ended {
+        Some(Ending::Killed)
+    } else {
+        None
+    };
+    state.question == question && state.ending == ending
 }
 
 fn is_same_stream(world: &World, state: &State) -> bool {
@@ -130,6 +180,12 @@ pub fn difference(world: &World, state: &State) -> Option<&'static str> {
         Some("the counts")
     } else if !is_same_closing(world, state) {
         Some("the closing")
+    } else if !are_same_dwarves(world, state) {
+        Some("the dwarves")
+    } else if !are_same_hints(world, state) {
+        Some("the hints")
+    } else if !is_untouched(state) {
+        Some("what no rule changes")
     } else if !is_same_course(world, state) {
         Some("the course")
     } else if !is_same_stream(world, state) {

@@ -35,7 +35,7 @@ fn things_are_handled(rt: HostRuntime) {
 fn a_second_half_stays(rt: HostRuntime) {
     let mut state = begun();
     let grate = Object::new(3);
-    state.objects.anchor_to(grate, Anchor::At(Place::new(1)));
+    state.objects.anchor_to(grate, Anchor::at(Place::new(1)));
     state.move_to(grate, Place::new(9));
     assert!(rt; state.at(grate) && !state.here(grate));
     state.carry(grate);
@@ -55,7 +55,7 @@ fn all_halves_stand_at_one_place(rt: HostRuntime) {
     for number in 1..101 {
         state
             .objects
-            .anchor_to(Object::new(number), Anchor::At(hall));
+            .anchor_to(Object::new(number), Anchor::at(hall));
         state.move_to(Object::new(number), hall);
     }
     let halves = state.objects_at(hall);
@@ -88,7 +88,7 @@ fn equal_lists_are_equal_states(rt: HostRuntime) {
 fn both_halves_are_juggled(rt: HostRuntime) {
     let mut state = begun();
     let (chasm, axe) = (Object::new(4), Object::new(5));
-    state.objects.anchor_to(chasm, Anchor::At(Place::new(2)));
+    state.objects.anchor_to(chasm, Anchor::at(Place::new(2)));
     state.move_to(chasm, Place::new(1));
     state.move_to(axe, Place::new(1));
     state.objects.juggle(chasm);

@@ -2,15 +2,31 @@
 
 use crate::hut::{game_in, told};
 use cave_world::Place;
+use std::alloc::Global;
+use std::process::Abort;
 use std::test::Fail;
 
 /// A barn that has light, and words.
 const BARN: &str =
     "1\n5 You are in a barn.\n13 Round.\n-1\n9\n0 5\n-1\n4\n44 WEST\n45 NORTH\n67 CAVE\n21 NULL\n-1\n";
 
+/// With more rows of travel and bindings each log ends with what is wanted.
+fn end_in_barn(
+    rt: &impl Abort,
+    alloc: Global,
+    cases: &[(&str, &str, &str, &str)],
+) -> Result<(), Fail> {
+    for (rows, bindings, log, wanted) in cases {
+        let sections = format!(in alloc; "{BARN}3\n{rows}-1\n")?;
+        let text = told(alloc, sections.as_str(), bindings, log)?;
+        assert!(rt; text.as_slice().ends_with(wanted.as_bytes()), "at {rows}");
+    }
+    Ok(())
+}
+
 #[test]
 fn back_is_where_the_player_came_from(rt: HostRuntime) -> Result<(), Fail> {
-    for (rows, bindings, log, wanted) in [
+    let cases = [
         // From a place that carried the player on.
         ("1 13 45\n13 3 1\n", "", "no/north/back", "|Road.\n"),
         // By a way through a place that carries on: the last one counts.
@@ -33,6 +49,13 @@ fn back_is_where_the_player_came_from(rt: HostRuntime) -> Result<(), Fail> {
             "no/out/back",
             "|You are in a barn.\n",
         ),
+    ];
+    end_in_barn(&rt, rt.alloc(), &cases)
+}
+
+#[test]
+fn back_is_read_by_the_rows_alone(rt: HostRuntime) -> Result<(), Fail> {
+    let cases = [
         ("", "", "no/back", "|[back-none]\nRoad.\n"),
         (
             "1 5 45\n",
@@ -48,12 +71,8 @@ fn back_is_where_the_player_came_from(rt: HostRuntime) -> Result<(), Fail> {
             "no/north/back/back",
             "|You are in a barn.\n",
         ),
-    ] {
-        let sections = format!(in rt.alloc(); "{BARN}3\n{rows}-1\n")?;
-        let text = told(rt.alloc(), sections.as_str(), bindings, log)?;
-        assert!(rt; text.as_slice().ends_with(wanted.as_bytes()), "at {rows}");
-    }
-    Ok(())
+    ];
+    end_in_barn(&rt, rt.alloc(), &cases)
 }
 
 #[test]

@@ -57,6 +57,21 @@ fn conditions_hold_and_draw(rt: HostRuntime) -> Result<(), Fail> {
 }
 
 #[test]
+fn chances_hold_below_their_bound(rt: HostRuntime) -> Result<(), Fail> {
+    // These states of the stream draw 0, 1, 98 and 99 of 100, each as near to the next draw as can be.
+    for (seed, condition, holds) in [
+        (10_485, 1, true),
+        (10_486, 1, false),
+        (1_038_090, 99, true),
+        (1_038_091, 99, false),
+    ] {
+        let told = told(rt.alloc(), &in_place(seed), condition)?;
+        assert_eq!(rt; told, (holds, true), "at {condition} from {seed}");
+    }
+    Ok(())
+}
+
+#[test]
 fn conditions_look_at_objects(rt: HostRuntime) -> Result<(), Fail> {
     let mut carried = in_place(0);
     carried.carry(Object::new(1));
@@ -64,7 +79,7 @@ fn conditions_look_at_objects(rt: HostRuntime) -> Result<(), Fail> {
     let mut near = in_place(0);
     near.move_to(Object::new(1), Place::new(15));
     near.objects
-        .anchor_to(Object::new(100), Anchor::At(Place::new(15)));
+        .anchor_to(Object::new(100), Anchor::at(Place::new(15)));
     for (condition, in_hand, beside) in [
         (101, true, false),
         (102, false, false),
@@ -152,5 +167,20 @@ fn the_emerald_is_left_behind(rt: HostRuntime) -> Result<(), Fail> {
     assert_eq!(rt; outcome, Outcome::NoWay);
     assert!(rt; state.at(emerald));
     assert!(rt; !state.toting(emerald));
+    Ok(())
+}
+
+#[test]
+fn the_row_behind_the_emerald_is_taken(rt: HostRuntime) -> Result<(), Fail> {
+    let cave = cave_of(
+        rt.alloc(),
+        "15 159302 71\n15 159302 71\n15 33 72\n15 34 71\n",
+    )?;
+    let emerald = Object::new(59);
+    let mut state = in_place(0);
+    state.carry(emerald);
+    let outcome = travel(&cave, emerald, &mut state, 71);
+    assert_eq!(rt; outcome, Outcome::Go(Place::new(33)));
+    assert!(rt; state.at(emerald));
     Ok(())
 }

@@ -5,30 +5,36 @@ use cave_data::Cave;
 use cave_turn::{render, start};
 use cave_world::Out;
 use std::alloc::Global;
+use std::process::Abort;
 use std::test::Fail;
+
+/// Each log prints what is wanted.
+fn print_all(rt: &impl Abort, alloc: Global, cases: &[(&str, &str)]) -> Result<(), Fail> {
+    for (log, wanted) in cases {
+        let text = told(alloc, "", "", log)?;
+        assert_eq!(rt; text.as_slice(), wanted.as_bytes(), "at {log}");
+    }
+    Ok(())
+}
+
+/// With more sections and bindings each log ends with what is wanted.
+fn end_all(rt: &impl Abort, alloc: Global, cases: &[(&str, &str, &str, &str)]) -> Result<(), Fail> {
+    for (sections, bindings, log, wanted) in cases {
+        let text = told(alloc, sections, bindings, log)?;
+        assert!(rt;
+            text.as_slice().ends_with(wanted.as_bytes()),
+            "at {sections}{log}"
+        );
+    }
+    Ok(())
+}
 
 #[test]
 fn plays_a_cave(rt: HostRuntime) -> Result<(), Fail> {
-    for (log, wanted) in [
+    let cases = [
         (
             "no/in/down",
             "[welcome]\n?You stand on a road.\n|You are in a hut.\nA lamp is here.\n|[dark]\n",
-        ),
-        (
-            "maybe/YES please",
-            "[welcome]\n?[answer]\n[welcome]\n?[instructions]\nYou stand on a road.\n",
-        ),
-        (
-            "# in/ / seed 7 /no",
-            "[welcome]\n????You stand on a road.\n",
-        ),
-        (
-            "no/xyzzy/xyzzy/xyzzy",
-            "[welcome]\n?You stand on a road.\n|[no-word-2]\n|[no-word-2]\n|[no-word]\n",
-        ),
-        (
-            "no/lamp/take",
-            "[welcome]\n?You stand on a road.\n|I see no LAMP here.\n|",
         ),
         (
             "no/up/out",
@@ -58,16 +64,36 @@ fn plays_a_cave(rt: HostRuntime) -> Result<(), Fail> {
             "no/look/look/look/look",
             "[welcome]\n?You stand on a road.\n|[enough]\nYou stand on a road.\n|[enough]\nYou stand on a road.\n|[enough]\nYou stand on a road.\n|You stand on a road.\n",
         ),
-    ] {
-        let text = told(rt.alloc(), "", "", log)?;
-        assert_eq!(rt; text.as_slice(), wanted.as_bytes(), "at {log}");
-    }
-    Ok(())
+    ];
+    print_all(&rt, rt.alloc(), &cases)
+}
+
+#[test]
+fn tells_words_and_lines_of_each_kind(rt: HostRuntime) -> Result<(), Fail> {
+    let cases = [
+        (
+            "maybe/YES please",
+            "[welcome]\n?[answer]\n[welcome]\n?[instructions]\nYou stand on a road.\n",
+        ),
+        (
+            "# in/ / seed 7 /no",
+            "[welcome]\n????You stand on a road.\n",
+        ),
+        (
+            "no/xyzzy/xyzzy/xyzzy",
+            "[welcome]\n?You stand on a road.\n|[no-word-2]\n|[no-word-2]\n|[no-word]\n",
+        ),
+        (
+            "no/lamp/take",
+            "[welcome]\n?You stand on a road.\n|I see no LAMP here.\n|",
+        ),
+    ];
+    print_all(&rt, rt.alloc(), &cases)
 }
 
 #[test]
 fn travels_by_conditions(rt: HostRuntime) -> Result<(), Fail> {
-    for (sections, bindings, log, wanted) in [
+    let cases = [
         (
             "3\n1 999999 45\n-1\n4\n45 NORTH\n-1\n6\n499 Far.\n-1\n",
             "",
@@ -98,6 +124,20 @@ fn travels_by_conditions(rt: HostRuntime) -> Result<(), Fail> {
             "no/seed 629005/west",
             "You are in a hut.\nA lamp is here.\n",
         ),
+        ("3\n1 0 45\n-1\n4\n45 NORTH\n-1\n", "", "no/north/in", "|?"),
+        (
+            "1\n13 Round.\n-1\n3\n3 14 45\n14 13 1\n13 14 1\n-1\n4\n45 NORTH\n-1\n",
+            "",
+            "no/in/north",
+            "Round.\n[forced-limit]\n",
+        ),
+    ];
+    end_all(&rt, rt.alloc(), &cases)
+}
+
+#[test]
+fn squeezes_between_two_places(rt: HostRuntime) -> Result<(), Fail> {
+    let cases = [
         (
             "3\n1 301 45\n3 301 45\n-1\n4\n45 NORTH\n-1\n",
             "place.alcove 1\nplace.plover 3",
@@ -110,6 +150,13 @@ fn travels_by_conditions(rt: HostRuntime) -> Result<(), Fail> {
             "no/north",
             "[no-way]\nRoad.\n",
         ),
+    ];
+    end_all(&rt, rt.alloc(), &cases)
+}
+
+#[test]
+fn enters_water(rt: HostRuntime) -> Result<(), Fail> {
+    let cases = [
         (
             "4\n1005 WATER\n-1\n9\n2 1\n-1\n",
             "",
@@ -128,21 +175,8 @@ fn travels_by_conditions(rt: HostRuntime) -> Result<(), Fail> {
             "no/enter water",
             "[where]\n",
         ),
-        ("3\n1 0 45\n-1\n4\n45 NORTH\n-1\n", "", "no/north/in", "|?"),
-        (
-            "1\n13 Round.\n-1\n3\n3 14 45\n14 13 1\n13 14 1\n-1\n4\n45 NORTH\n-1\n",
-            "",
-            "no/in/north",
-            "Round.\n[forced-limit]\n",
-        ),
-    ] {
-        let text = told(rt.alloc(), sections, bindings, log)?;
-        assert!(rt;
-            text.as_slice().ends_with(wanted.as_bytes()),
-            "at {sections}{log}"
-        );
-    }
-    Ok(())
+    ];
+    end_all(&rt, rt.alloc(), &cases)
 }
 
 /// Whether the greeting is rendered whole, or the text stays as it was.

@@ -1,11 +1,10 @@
 //! Copies of sessions.
 
-use crate::edits::{STAIRS, insert, replace};
+use crate::edits::{Change, STAIRS, edits_of};
 use crate::machines::counter::Counter;
 use crate::machines::counts::Counts;
 use crate::sessions::{Counting, copy, open};
 use crate::shown::show_the_same;
-use cave_replay::Edit;
 use cave_words::Meter;
 use std::alloc::Global;
 use std::process::Abort;
@@ -13,11 +12,13 @@ use std::test::Fail;
 
 /// Edits a session in its log and its seed.
 fn change(rt: &impl Abort, alloc: Global, session: &mut Counting<'_>) -> Result<(), Fail> {
-    let group = [
-        replace(alloc, 3, b"x")?,
-        Edit::Reseed(1),
-        insert(alloc, 0, b"")?,
+    let changes = [
+        Change::Replace(3, b"x"),
+        Change::Reseed(1),
+        Change::Insert(0, b""),
     ];
+    let group = edits_of(alloc, &changes)?;
+    assert!(rt; group.len() < 100);
     let _ = session.edit_group(&group, &mut Meter::new())?;
     assert_eq!(rt; session.seed(), 1);
     Ok(())
@@ -34,14 +35,19 @@ fn expect_copy(rt: &impl Abort, session: &Counting<'_>, counts: &Counts) -> Resu
     Ok(())
 }
 
+/// The same of a session before and after it is edited.
+fn expect_copies(rt: &impl Abort, alloc: Global, every: u32) -> Result<(), Fail> {
+    let counts = Counts::new();
+    let mut session = open(rt, alloc, Counter, &counts, 9, STAIRS, every)?;
+    expect_copy(rt, &session, &counts)?;
+    change(rt, alloc, &mut session)?;
+    expect_copy(rt, &session, &counts)
+}
+
 #[test]
 fn a_copy_shows_the_same_and_plays_nothing(rt: HostRuntime) -> Result<(), Fail> {
     for every in [1, 3, 10_000] {
-        let counts = Counts::new();
-        let mut session = open(&rt, rt.alloc(), Counter, &counts, 9, STAIRS, every)?;
-        expect_copy(&rt, &session, &counts)?;
-        change(&rt, rt.alloc(), &mut session)?;
-        expect_copy(&rt, &session, &counts)?;
+        expect_copies(&rt, rt.alloc(), every)?;
     }
     Ok(())
 }

@@ -1,6 +1,6 @@
 //! What an edit of a long log costs, in counts.
 
-use crate::edits::{flat, insert};
+use crate::edits::{Change, flat};
 use crate::machines::counter::Counter;
 use crate::machines::counts::Counts;
 use crate::machines::hasher::Hasher;
@@ -30,7 +30,7 @@ fn cost_of_an_insert<R: Rule>(
     let mut session = open(rt, alloc, rule, &counts, 0, &flat(alloc, lines)?, 50)?;
     assert!(rt; session.checkpoints().contains(&at));
     let (steps, comparisons) = (counts.steps(), counts.comparisons());
-    let edit = insert(alloc, at, line)?;
+    let edit = Change::Insert(at, line).edit(alloc)?;
     let report = session.edit(&edit, &mut Meter::new())?;
     let played = counts.steps().saturating_sub(steps);
     let compared = counts.comparisons().saturating_sub(comparisons);

@@ -35,12 +35,59 @@ pub(crate) fn flat(alloc: Global, lines: usize) -> Result<Vec<u8>, AllocError> {
     Ok(log)
 }
 
-pub(crate) fn insert(alloc: Global, at: u32, line: &[u8]) -> Result<Edit, AllocError> {
-    Ok(Edit::Insert(at, Vec::from_slice(alloc, line)?))
+/// An edit as a test writes it, without memory of its own.
+#[derive(Clone, Copy, Debug)]
+pub(crate) enum Change<'a> {
+    Insert(u32, &'a [u8]),
+    Delete(u32),
+    Replace(u32, &'a [u8]),
+    Reseed(u32),
 }
 
-pub(crate) fn replace(alloc: Global, at: u32, line: &[u8]) -> Result<Edit, AllocError> {
-    Ok(Edit::Replace(at, Vec::from_slice(alloc, line)?))
+impl Change<'_> {
+    /// The edit.
+    pub(crate) fn edit(&self, alloc: Global) -> Result<Edit, AllocError> {
+        let edit = match self {
+            Change::Insert(at, line) => Edit::Insert(*at, Vec::from_slice(alloc, line)?),
+            Change::Delete(at) => Edit::Delete(*at),
+            Change::Replace(at, line) => Edit::Replace(*at, Vec::from_slice(alloc, line)?),
+            Change::Reseed(seed) => Edit::Reseed(*seed),
+        };
+        Ok(edit)
+    }
+
+    /// Whether an edit is this one.
+    pub(crate) fn is(&self, edit: &Edit) -> bool {
+        match (self, edit) {
+            (Change::Insert(at, line), Edit::Insert(place, text)) => {
+                at == place && text.as_slice() == *line
+            }
+            (Change::Delete(at), Edit::Delete(place)) => at == place,
+            (Change::Replace(at, line), Edit::Replace(place, text)) => {
+                at == place && text.as_slice() == *line
+            }
+            (Change::Reseed(seed), Edit::Reseed(other)) => seed == other,
+            _ => false,
+        }
+    }
+}
+
+/// The edits, in their order.
+pub(crate) fn edits_of(alloc: Global, changes: &[Change<'_>]) -> Result<Vec<Edit>, AllocError> {
+    let mut edits = Vec::new(alloc);
+    for change in changes {
+        edits.push(change.edit(alloc)?)?;
+    }
+    Ok(edits)
+}
+
+/// Whether edits are these, in their order.
+pub(crate) fn are(edits: &[Edit], changes: &[Change<'_>]) -> bool {
+    edits.len() == changes.len()
+        && edits
+            .iter()
+            .zip(changes)
+            .all(|(edit, change)| change.is(edit))
 }
 
 /// Whether two edits are the same.

@@ -6,34 +6,61 @@ use crate::machines::counts::Counts;
 use crate::sessions::{Counting, counter};
 use cave_replay::Edit;
 use cave_words::{Meter, Steps};
+use std::alloc::{AllocError, Global};
+use std::process::Abort;
 use std::test::Fail;
+
+/// A random edit that a log of so many lines takes.
+fn any_edit(alloc: Global, dice: &mut Dice, lines: u32) -> Result<Edit, AllocError> {
+    let at = dice.below(lines.saturating_add(1));
+    let line = letters(alloc, dice.below(6) as usize)?;
+    let last = lines.saturating_sub(1);
+    let edit = match dice.below(5) {
+        0 if lines > 0 => Edit::Delete(at.min(last)),
+        1 if lines > 0 => Edit::Replace(at.min(last), line),
+        2 => Edit::Reseed(dice.below(300)),
+        _ => Edit::Insert(at, line),
+    };
+    Ok(edit)
+}
+
+/// That the meter and the machine count the lines that an edit plays.
+fn expect_counted(
+    rt: &impl Abort,
+    session: &mut Counting<'_>,
+    counts: &Counts,
+    edit: &Edit,
+    meter: &mut Meter,
+) -> Result<(), Fail> {
+    let before = meter.used();
+    let report = session.edit(edit, meter)?;
+    let played = before.saturating_add(u64::from(report.played));
+    assert_eq!(rt;
+        (meter.used(), counts.steps()),
+        (played, played),
+        "{edit:?}"
+    );
+    Ok(())
+}
+
+/// Makes two hundred edits by one meter.
+fn edit_by_one_meter(rt: &impl Abort, alloc: Global, every: u32) -> Result<(), Fail> {
+    let counts = Counts::new();
+    let mut dice = Dice(every);
+    let mut meter = Meter::new();
+    let mut session = Counting::open(alloc, counter(&counts), 0, STAIRS, every, &mut meter)?;
+    assert_eq!(rt; (meter.used(), counts.steps()), (10, 10));
+    for _ in 0..200 {
+        let edit = any_edit(alloc, &mut dice, session.lines())?;
+        expect_counted(rt, &mut session, &counts, &edit, &mut meter)?;
+    }
+    Ok(())
+}
 
 #[test]
 fn two_hundred_edits_take_no_step_that_the_meter_does_not_count(
     rt: HostRuntime,
 ) -> Result<(), Fail> {
-    let alloc = rt.alloc();
-    for every in [1, 7] {
-        let counts = Counts::new();
-        let mut dice = Dice(every);
-        let mut meter = Meter::new();
-        let mut session = Counting::open(alloc, counter(&counts), 0, STAIRS, every, &mut meter)?;
-        let mut played = u64::from(session.lines());
-        for _ in 0..200 {
-            let at = dice.below(session.lines().saturating_add(1));
-            let line = letters(alloc, dice.below(6) as usize)?;
-            let last = session.lines().saturating_sub(1);
-            let edit = match dice.below(5) {
-                0 if session.lines() > 0 => Edit::Delete(at.min(last)),
-                1 if session.lines() > 0 => Edit::Replace(at.min(last), line),
-                2 => Edit::Reseed(dice.below(300)),
-                _ => Edit::Insert(at, line),
-            };
-            let report = session.edit(&edit, &mut meter)?;
-            played = played.saturating_add(u64::from(report.played));
-            assert_eq!(rt; meter.used(), played, "{edit:?}");
-            assert_eq!(rt; counts.steps(), played, "{edit:?}");
-        }
-    }
-    Ok(())
+    edit_by_one_meter(&rt, rt.alloc(), 1)?;
+    edit_by_one_meter(&rt, rt.alloc(), 7)
 }

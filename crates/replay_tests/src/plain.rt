@@ -3,6 +3,7 @@
 use crate::machines::rule::Rule;
 use cave_replay::Edit;
 use std::alloc::{AllocError, Global};
+use std::process::Abort;
 
 /// A seed, a log, and the state at each place of the log.
 #[derive(Drop)]
@@ -21,8 +22,9 @@ fn copy_lines(alloc: Global, lines: &[Vec<u8>]) -> Result<Vec<Vec<u8>>, AllocErr
     Ok(copy)
 }
 
-/// Makes an edit in a seed and a log; one that can't be made makes nothing.
+/// Makes an edit in a seed and a log, in which it has its place.
 fn make(
+    rt: &impl Abort,
     alloc: Global,
     edit: &Edit,
     seed: &mut u32,
@@ -30,19 +32,16 @@ fn make(
 ) -> Result<(), AllocError> {
     match edit {
         Edit::Insert(at, line) => {
-            if *at as usize <= lines.len() {
-                lines.insert(*at as usize, Vec::from_slice(alloc, line)?)?;
-            }
+            assert!(rt; *at as usize <= lines.len(), "{edit:?}");
+            lines.insert(*at as usize, Vec::from_slice(alloc, line)?)?;
         }
         Edit::Delete(at) => {
-            if (*at as usize) < lines.len() {
-                lines.remove(*at as usize);
-            }
+            assert!(rt; (*at as usize) < lines.len(), "{edit:?}");
+            lines.remove(*at as usize);
         }
         Edit::Replace(at, line) => {
-            if (*at as usize) < lines.len() {
-                lines[*at as usize] = Vec::from_slice(alloc, line)?;
-            }
+            assert!(rt; (*at as usize) < lines.len(), "{edit:?}");
+            lines[*at as usize] = Vec::from_slice(alloc, line)?;
         }
         Edit::Reseed(new) => *seed = *new,
     }
@@ -70,16 +69,17 @@ impl Plain {
         })
     }
 
-    /// The game with edits made in it, one after another.
+    /// The game with edits made in it, one after another. Each has its place in the log as those before it left it.
     pub(crate) fn edited<R: Rule>(
         &self,
+        rt: &impl Abort,
         alloc: Global,
         edits: &[Edit],
     ) -> Result<Plain, AllocError> {
         let mut seed = self.seed;
         let mut lines = copy_lines(alloc, &self.lines)?;
         for edit in edits {
-            make(alloc, edit, &mut seed, &mut lines)?;
+            make(rt, alloc, edit, &mut seed, &mut lines)?;
         }
         Plain::play::<R>(alloc, seed, lines)
     }

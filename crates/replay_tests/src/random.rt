@@ -10,7 +10,7 @@ use crate::plain::Plain;
 use crate::sessions::{Play, open};
 use crate::shown::{expect_shown, expect_spaced};
 use crate::wanted::{Plan, agree, from, make_plan, met};
-use cave_replay::{Edit, GroupFault, GroupReport};
+use cave_replay::{Edit, EditFault, GroupFault, GroupReport};
 use cave_words::{Meter, Steps};
 use std::alloc::{AllocError, Global};
 use std::process::Abort;
@@ -80,7 +80,15 @@ fn expect_report(
     assert!(rt; played <= distance.saturating_add((every as usize).saturating_mul(2)));
 }
 
-/// Makes a group in a session and in the plain game, and gives the plain game then and what takes the group back.
+/// What a group comes to: the plain game then, what takes the group back, and why it was refused, if it was.
+#[derive(Drop)]
+struct Outcome {
+    plain: Plain,
+    back: Vec<Edit>,
+    refused: Option<EditFault>,
+}
+
+/// Makes a group in a session and in the plain game.
 fn edit_both<R: Rule>(
     rt: &impl Abort,
     alloc: Global,
@@ -89,7 +97,7 @@ fn edit_both<R: Rule>(
     old: Plain,
     edits: &[Edit],
     left: u64,
-) -> Result<(Plain, Vec<Edit>), Fail> {
+) -> Result<Outcome, Fail> {
     let places = Vec::from_slice(alloc, session.checkpoints())?;
     let wanted = make_plan(edits, old.lines.len(), left);
     let mut meter = Meter::starting(u64::MAX - left);
@@ -99,24 +107,32 @@ fn edit_both<R: Rule>(
     assert_eq!(rt; counts.steps().saturating_sub(steps), played);
     match (answer, wanted) {
         (Ok(report), Ok(plan)) => {
-            let new = old.edited::<R>(alloc, edits)?;
             assert_eq!(rt; u64::from(report.played), played);
+            let new = old.edited::<R>(rt, alloc, edits)?;
             expect_report(rt, &report, &places, session.every(), &old, &new, plan);
-            assert!(rt; new.edited::<R>(alloc, &report.inverse)?.is(&old));
-            Ok((new, report.inverse))
+            assert!(rt; new.edited::<R>(rt, alloc, &report.inverse)?.is(&old));
+            Ok(Outcome {
+                plain: new,
+                back: report.inverse,
+                refused: None,
+            })
         }
         (Err(fault), Err(wanted)) => {
             assert_eq!(rt; fault, wanted);
             assert_eq!(rt; played, 0);
             assert_eq!(rt; session.checkpoints(), places.as_slice());
-            Ok((old, Vec::new(alloc)))
+            Ok(Outcome {
+                plain: old,
+                back: Vec::new(alloc),
+                refused: Some(fault.cause),
+            })
         }
-        (answer, _) => {
-            assert!(rt; false, "answered {answer:?}");
-            Ok((old, Vec::new(alloc)))
-        }
+        (answer, _) => panic!(rt; "answered {answer:?}"),
     }
 }
+
+/// Why each group was refused, or that it was made.
+type Answers = Vec<Option<EditFault>>;
 
 /// Edits a session at a distance of checkpoints twenty times.
 fn edit_often<R: Rule>(
@@ -125,6 +141,7 @@ fn edit_often<R: Rule>(
     rule: R,
     every: u32,
     dice: &mut Dice,
+    answers: &mut Answers,
 ) -> Result<(), Fail> {
     let counts = Counts::new();
     let (lines, text) = first_log(alloc, dice)?;
@@ -141,37 +158,59 @@ fn edit_often<R: Rule>(
             dice.edits(alloc, plain.lines.len())?
         };
         let left = dice.left(plain.lines.len());
-        (plain, back) = edit_both(rt, alloc, &mut session, &counts, plain, &edits, left)?;
-        expect_shown(rt, &session, &plain);
+        let outcome = edit_both(rt, alloc, &mut session, &counts, plain, &edits, left)?;
+        expect_shown(rt, &session, &outcome.plain);
         expect_spaced(rt, &session);
+        answers.push(outcome.refused)?;
+        plain = outcome.plain;
+        back = outcome.back;
     }
     drop(session);
     Ok(())
 }
 
+/// That of a thousand groups enough were made, and enough refused for each reason that can come in a short log.
+fn expect_each_answer(rt: &impl Abort, answers: &Answers) {
+    assert_eq!(rt; answers.len(), 1_000);
+    for (answer, least) in [
+        (None, 550),
+        (Some(EditFault::EmptyGroup), 200),
+        (Some(EditFault::NoSuchPlace), 35),
+        (Some(EditFault::BadLine), 30),
+        (Some(EditFault::BadSeed), 25),
+        (Some(EditFault::MeterFull), 40),
+    ] {
+        let count = answers.iter().filter(|other| **other == answer).count();
+        assert!(rt; count >= least, "{answer:?}: {count}");
+    }
+}
+
+/// Edits a session twenty times at each distance of checkpoints from 1 to 50.
+fn edit_a_thousand_times<R: Rule + Default>(
+    rt: &impl Abort,
+    alloc: Global,
+    seed: u32,
+) -> Result<(), Fail> {
+    let mut dice = Dice(seed);
+    let mut answers = Vec::new(alloc);
+    for every in 1..=50 {
+        edit_often(rt, alloc, R::default(), every, &mut dice, &mut answers)?;
+    }
+    expect_each_answer(rt, &answers);
+    Ok(())
+}
+
 #[test]
 fn a_thousand_edits_of_a_counter(rt: HostRuntime) -> Result<(), Fail> {
-    let mut dice = Dice(1);
-    for every in 1..=50 {
-        edit_often(&rt, rt.alloc(), Counter, every, &mut dice)?;
-    }
-    Ok(())
+    edit_a_thousand_times::<Counter>(&rt, rt.alloc(), 1)
 }
 
 #[test]
 fn a_thousand_edits_of_a_machine_that_remembers(rt: HostRuntime) -> Result<(), Fail> {
-    let mut dice = Dice(2);
-    for every in 1..=50 {
-        edit_often(&rt, rt.alloc(), Hasher, every, &mut dice)?;
-    }
-    Ok(())
+    edit_a_thousand_times::<Hasher>(&rt, rt.alloc(), 2)
 }
 
 #[test]
 fn a_thousand_edits_of_a_machine_that_ticks_at_times(rt: HostRuntime) -> Result<(), Fail> {
-    let mut dice = Dice(3);
-    for every in 1..=50 {
-        edit_often(&rt, rt.alloc(), Walker, every, &mut dice)?;
-    }
-    Ok(())
+    edit_a_thousand_times::<Walker>(&rt, rt.alloc(), 3)
 }

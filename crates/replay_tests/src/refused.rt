@@ -3,17 +3,17 @@
 //! Each of these holds whatever one allocation is refused, and shows then that want of memory is answered, that nothing
 //! has changed, and that the same call with ample memory gives what it gives to a session to which nothing happened.
 
-use crate::edits::{STAIRS, are_same, flat, is_same};
+use crate::edits::{Change, STAIRS, are_same, edits_of, flat, is_same};
 use crate::machines::counts::Counts;
 use crate::sessions::{Counting, counter};
 use crate::shown::show_the_same;
-use cave_replay::{Edit, EditFault, GroupFault, OpenFault};
+use cave_replay::{Edit, EditFault, GroupFault, GroupReport, OpenFault, Report};
 use cave_words::{Meter, Steps};
 use std::alloc::{AllocError, Global};
 use std::process::Abort;
 use std::test::Fail;
 
-/// Opens a session, and where memory is refused once more.
+/// Opens a session, and where memory is refused once more. The refused opening took no more steps than the log has lines.
 fn open<'a>(
     rt: &impl Abort,
     alloc: Global,
@@ -22,15 +22,15 @@ fn open<'a>(
     every: u32,
 ) -> Result<Counting<'a>, Fail> {
     let mut meter = Meter::new();
-    match Counting::open(alloc, counter(counts), 7, log, every, &mut meter) {
-        Ok(session) => Ok(session),
-        Err(fault) => {
-            assert_eq!(rt; fault, OpenFault::Memory);
-            assert_eq!(rt; counts.steps(), meter.used());
-            let mut meter = Meter::new();
-            Ok(Counting::open(alloc, counter(counts), 7, log, every, &mut meter)?)
-        }
-    }
+    let fault = match Counting::open(alloc, counter(counts), 7, log, every, &mut meter) {
+        Ok(session) => return Ok(session),
+        Err(fault) => fault,
+    };
+    assert_eq!(rt; fault, OpenFault::Memory);
+    assert_eq!(rt; counts.steps(), meter.used());
+    let session = Counting::open(alloc, counter(counts), 7, log, every, &mut Meter::new())?;
+    assert!(rt; meter.used() <= u64::from(session.lines()));
+    Ok(session)
 }
 
 /// A copy of a session, made once more where memory is refused.
@@ -41,11 +41,50 @@ fn copy<'a>(session: &Counting<'a>, counts: &'a Counts) -> Result<Counting<'a>, 
     }
 }
 
-/// A line, made once more where memory is refused.
-fn line(alloc: Global, bytes: &[u8]) -> Result<Vec<u8>, AllocError> {
-    match Vec::from_slice(alloc, bytes) {
-        Ok(line) => Ok(line),
-        Err(_) => Vec::from_slice(alloc, bytes),
+/// An edit, made once more where memory is refused.
+fn edit_of(alloc: Global, change: Change<'_>) -> Result<Edit, AllocError> {
+    match change.edit(alloc) {
+        Ok(edit) => Ok(edit),
+        Err(_) => change.edit(alloc),
+    }
+}
+
+/// A group, made once more where memory is refused.
+fn group_of(alloc: Global, changes: &[Change<'_>]) -> Result<Vec<Edit>, AllocError> {
+    match edits_of(alloc, changes) {
+        Ok(edits) => Ok(edits),
+        Err(_) => edits_of(alloc, changes),
+    }
+}
+
+/// Makes an edit in a session, once more where memory is refused. The refused one leaves the session as the copy is, and
+/// what it played is a front of what is played then, so within the bound.
+fn edit_at_last(
+    rt: &impl Abort,
+    session: &mut Counting<'_>,
+    copy: &Counting<'_>,
+    edit: &Edit,
+) -> Result<Report, Fail> {
+    let mut meter = Meter::new();
+    let fault = match session.edit(edit, &mut meter) {
+        Ok(report) => return Ok(report),
+        Err(fault) => fault,
+    };
+    assert_eq!(rt; fault, EditFault::Memory);
+    assert!(rt; show_the_same(session, copy), "{edit:?}");
+    let report = session.edit(edit, &mut Meter::new())?;
+    assert!(rt; meter.used() <= u64::from(report.played), "{edit:?}");
+    Ok(report)
+}
+
+/// The same in the copy.
+fn edit_copy(rt: &impl Abort, copy: &mut Counting<'_>, edit: &Edit) -> Result<Report, Fail> {
+    match copy.edit(edit, &mut Meter::new()) {
+        Ok(report) => Ok(report),
+        Err(fault) => {
+            assert_eq!(rt; fault, EditFault::Memory);
+            Ok(copy.edit(edit, &mut Meter::new())?)
+        }
     }
 }
 
@@ -56,22 +95,8 @@ fn edit_both(
     copy: &mut Counting<'_>,
     edit: &Edit,
 ) -> Result<(), Fail> {
-    let mut meter = Meter::new();
-    let report = match session.edit(edit, &mut meter) {
-        Ok(report) => report,
-        Err(fault) => {
-            assert_eq!(rt; fault, EditFault::Memory);
-            assert!(rt; show_the_same(session, copy), "{edit:?}");
-            session.edit(edit, &mut meter)?
-        }
-    };
-    let same = match copy.edit(edit, &mut meter) {
-        Ok(same) => same,
-        Err(fault) => {
-            assert_eq!(rt; fault, EditFault::Memory);
-            copy.edit(edit, &mut meter)?
-        }
-    };
+    let report = edit_at_last(rt, session, copy, edit)?;
+    let same = edit_copy(rt, copy, edit)?;
     assert_eq!(rt;
         (report.from, report.met, report.played),
         (same.from, same.met, same.played)
@@ -81,34 +106,56 @@ fn edit_both(
     Ok(())
 }
 
-/// The same for a group.
+/// That memory was refused to a group.
+fn expect_memory(rt: &impl Abort, fault: GroupFault) {
+    assert_eq!(rt; (fault.cause, fault.at), (EditFault::Memory, 0));
+}
+
+/// Makes a group in a session, once more where memory is refused, as one edit.
+fn edit_group_at_last(
+    rt: &impl Abort,
+    session: &mut Counting<'_>,
+    copy: &Counting<'_>,
+    edits: &[Edit],
+) -> Result<GroupReport, Fail> {
+    assert!(rt; edits.len() < 100);
+    let mut meter = Meter::new();
+    let fault = match session.edit_group(edits, &mut meter) {
+        Ok(report) => return Ok(report),
+        Err(fault) => fault,
+    };
+    expect_memory(rt, fault);
+    assert!(rt; show_the_same(session, copy));
+    let report = session.edit_group(edits, &mut Meter::new())?;
+    assert!(rt; meter.used() <= u64::from(report.played));
+    Ok(report)
+}
+
+/// The same in the copy.
+fn edit_copy_by_group(
+    rt: &impl Abort,
+    copy: &mut Counting<'_>,
+    edits: &[Edit],
+) -> Result<GroupReport, Fail> {
+    assert!(rt; edits.len() < 100);
+    match copy.edit_group(edits, &mut Meter::new()) {
+        Ok(report) => Ok(report),
+        Err(fault) => {
+            expect_memory(rt, fault);
+            Ok(copy.edit_group(edits, &mut Meter::new())?)
+        }
+    }
+}
+
+/// Makes a group in a session and in a copy of it, as one edit.
 fn edit_both_by_group(
     rt: &impl Abort,
     session: &mut Counting<'_>,
     copy: &mut Counting<'_>,
     edits: &[Edit],
 ) -> Result<(), Fail> {
-    assert!(rt; edits.len() < 100);
-    let mut meter = Meter::new();
-    let memory = GroupFault {
-        cause: EditFault::Memory,
-        at: 0,
-    };
-    let report = match session.edit_group(edits, &mut meter) {
-        Ok(report) => report,
-        Err(fault) => {
-            assert_eq!(rt; fault, memory);
-            assert!(rt; show_the_same(session, copy));
-            session.edit_group(edits, &mut meter)?
-        }
-    };
-    let same = match copy.edit_group(edits, &mut meter) {
-        Ok(same) => same,
-        Err(fault) => {
-            assert_eq!(rt; fault, memory);
-            copy.edit_group(edits, &mut meter)?
-        }
-    };
+    let report = edit_group_at_last(rt, session, copy, edits)?;
+    let same = edit_copy_by_group(rt, copy, edits)?;
     assert_eq!(rt;
         (report.from, report.met, report.played),
         (same.from, same.met, same.played)
@@ -126,29 +173,47 @@ fn edit_by_each_kind(
     copy: &mut Counting<'_>,
     at: u32,
 ) -> Result<(), Fail> {
-    edit_both(rt, session, copy, &Edit::Insert(at, line(alloc, b"new")?))?;
-    edit_both(
-        rt,
-        session,
-        copy,
-        &Edit::Replace(at, line(alloc, b"other line")?),
-    )?;
-    edit_both(rt, session, copy, &Edit::Delete(at))?;
-    edit_both(rt, session, copy, &Edit::Reseed(at.saturating_add(8)))
+    for change in [
+        Change::Insert(at, b"new"),
+        Change::Replace(at, b"other line"),
+        Change::Delete(at),
+        Change::Reseed(at.saturating_add(8)),
+    ] {
+        edit_both(rt, session, copy, &edit_of(alloc, change)?)?;
+    }
+    Ok(())
 }
 
-/// Edits at the front, in the middle, at the end and at a checkpoint.
+/// A checkpoint that is neither the front nor the end.
+fn inner_checkpoint(rt: &impl Abort, session: &Counting<'_>) -> u32 {
+    let checkpoint = session.checkpoints().get(1).copied().unwrap_or(0);
+    assert!(rt; 0 < checkpoint && checkpoint < session.lines());
+    checkpoint
+}
+
+/// Edits the line before a checkpoint, and then the one behind a checkpoint.
+fn edit_beside_checkpoints(
+    rt: &impl Abort,
+    alloc: Global,
+    session: &mut Counting<'_>,
+    copy: &mut Counting<'_>,
+) -> Result<(), Fail> {
+    let before = inner_checkpoint(rt, session).saturating_sub(1);
+    edit_by_each_kind(rt, alloc, session, copy, before)?;
+    let behind = inner_checkpoint(rt, session);
+    edit_by_each_kind(rt, alloc, session, copy, behind)
+}
+
+/// Edits at the front, in the middle, at the end and on both sides of a checkpoint.
 fn edit_at_each_place(rt: &impl Abort, alloc: Global, log: &[u8], every: u32) -> Result<(), Fail> {
     let counts = Counts::new();
     let mut session = open(rt, alloc, &counts, log, every)?;
     let mut copy = copy(&session, &counts)?;
     let end = session.lines();
-    let checkpoint = session.checkpoints().get(1).copied().unwrap_or(0);
-    assert!(rt; 0 < checkpoint && checkpoint < end);
-    for at in [0, end / 2, end, checkpoint] {
+    for at in [0, end / 2, end] {
         edit_by_each_kind(rt, alloc, &mut session, &mut copy, at)?;
     }
-    Ok(())
+    edit_beside_checkpoints(rt, alloc, &mut session, &mut copy)
 }
 
 #[test]
@@ -187,20 +252,23 @@ fn a_refused_edit_changes_nothing_with_far_checkpoints(rt: HostRuntime) -> Resul
     edit_at_each_place(&rt, alloc, &log, 50)
 }
 
+/// Makes a group of edits of each kind.
+fn edit_by_group(rt: &impl Abort, alloc: Global, every: u32) -> Result<(), Fail> {
+    let counts = Counts::new();
+    let mut session = open(rt, alloc, &counts, STAIRS, every)?;
+    let mut copy = copy(&session, &counts)?;
+    let changes = [
+        Change::Insert(2, b"x"),
+        Change::Delete(5),
+        Change::Reseed(300),
+        Change::Replace(7, b"yy"),
+    ];
+    let edits = group_of(alloc, &changes)?;
+    edit_both_by_group(rt, &mut session, &mut copy, &edits)
+}
+
 #[test]
 fn a_refused_group_changes_nothing(rt: HostRuntime) -> Result<(), Fail> {
-    let alloc = rt.alloc();
-    for every in [1, 50] {
-        let counts = Counts::new();
-        let mut session = open(&rt, alloc, &counts, STAIRS, every)?;
-        let mut copy = copy(&session, &counts)?;
-        let edits = [
-            Edit::Insert(2, line(alloc, b"x")?),
-            Edit::Delete(5),
-            Edit::Reseed(300),
-            Edit::Replace(7, line(alloc, b"yy")?),
-        ];
-        edit_both_by_group(&rt, &mut session, &mut copy, &edits)?;
-    }
-    Ok(())
+    edit_by_group(&rt, rt.alloc(), 1)?;
+    edit_by_group(&rt, rt.alloc(), 50)
 }

@@ -1,11 +1,11 @@
 //! Sessions over the machines of the tests, and what they are expected to answer and to show.
 
-use crate::edits::{are_same, is_same};
+use crate::edits::{Change, are, edits_of};
 use crate::machines::counter::Counter;
 use crate::machines::counts::Counts;
 use crate::machines::rule::Rule;
 use crate::machines::told::Told;
-use cave_replay::{Edit, EditFault, GroupFault, Session};
+use cave_replay::{EditFault, GroupFault, Session};
 use cave_words::{Meter, Steps};
 use std::alloc::{AllocError, Global};
 use std::process::Abort;
@@ -50,40 +50,56 @@ pub(crate) type Replay = (u32, Option<u32>, u32);
 /// That an edit is answered by this replay and taken back by the inverse.
 pub(crate) fn expect_edit<R: Rule>(
     rt: &impl Abort,
+    alloc: Global,
     session: &mut Play<'_, R>,
-    edit: &Edit,
+    change: Change<'_>,
     replay: Replay,
-    inverse: &Edit,
+    inverse: Change<'_>,
 ) -> Result<(), Fail> {
     let mut meter = Meter::new();
-    let report = session.edit(edit, &mut meter)?;
+    let report = session.edit(&change.edit(alloc)?, &mut meter)?;
     assert_eq!(rt;
         (report.from, report.met, report.played),
         replay,
-        "{edit:?}"
+        "{change:?}"
     );
-    assert!(rt; is_same(&report.inverse, inverse), "{report:?}");
+    assert!(rt; inverse.is(&report.inverse), "{report:?}");
     assert_eq!(rt; meter.used(), u64::from(report.played));
+    Ok(())
+}
+
+/// The same of edits, one after another.
+pub(crate) fn expect_edits<R: Rule>(
+    rt: &impl Abort,
+    alloc: Global,
+    session: &mut Play<'_, R>,
+    edits: &[(Change<'_>, Replay, Change<'_>)],
+) -> Result<(), Fail> {
+    for &(change, replay, inverse) in edits {
+        expect_edit(rt, alloc, session, change, replay, inverse)?;
+    }
     Ok(())
 }
 
 /// That a group is answered by this replay and taken back by the inverse.
 pub(crate) fn expect_group<R: Rule>(
     rt: &impl Abort,
+    alloc: Global,
     session: &mut Play<'_, R>,
-    edits: &[Edit],
+    changes: &[Change<'_>],
     replay: Replay,
-    inverse: &[Edit],
+    inverse: &[Change<'_>],
 ) -> Result<(), Fail> {
+    let edits = edits_of(alloc, changes)?;
     assert!(rt; edits.len() < 100);
     let mut meter = Meter::new();
-    let report = session.edit_group(edits, &mut meter)?;
+    let report = session.edit_group(&edits, &mut meter)?;
     assert_eq!(rt;
         (report.from, report.met, report.played),
         replay,
-        "{edits:?}"
+        "{changes:?}"
     );
-    assert!(rt; are_same(&report.inverse, inverse), "{report:?}");
+    assert!(rt; are(&report.inverse, inverse), "{report:?}");
     assert_eq!(rt; meter.used(), u64::from(report.played));
     Ok(())
 }
@@ -91,31 +107,39 @@ pub(crate) fn expect_group<R: Rule>(
 /// That an edit is refused, where the meter has so many steps left, and takes none of them.
 pub(crate) fn expect_refused<R: Rule>(
     rt: &impl Abort,
+    alloc: Global,
     session: &mut Play<'_, R>,
-    edit: &Edit,
+    change: Change<'_>,
     left: u64,
     fault: EditFault,
-) {
+) -> Result<(), Fail> {
     let mut meter = Meter::starting(u64::MAX - left);
-    let answer = session.edit(edit, &mut meter);
-    assert!(rt; answer.err() == Some(fault), "{edit:?}");
+    let answer = session.edit(&change.edit(alloc)?, &mut meter);
+    assert!(rt; answer.err() == Some(fault), "{change:?}");
     assert_eq!(rt; meter.left(), left);
+    Ok(())
 }
 
 /// The same of a group, for the edit with the number `at`.
 pub(crate) fn expect_group_refused<R: Rule>(
     rt: &impl Abort,
+    alloc: Global,
     session: &mut Play<'_, R>,
-    edits: &[Edit],
+    changes: &[Change<'_>],
     left: u64,
     cause: EditFault,
     at: u32,
-) {
+) -> Result<(), Fail> {
+    let edits = edits_of(alloc, changes)?;
     assert!(rt; edits.len() < 100);
     let mut meter = Meter::starting(u64::MAX - left);
-    let answer = session.edit_group(edits, &mut meter);
-    assert!(rt; answer.err() == Some(GroupFault { cause, at }), "{edits:?}");
+    let answer = session.edit_group(&edits, &mut meter);
+    assert!(rt;
+        answer.err() == Some(GroupFault { cause, at }),
+        "{changes:?}"
+    );
     assert_eq!(rt; meter.left(), left);
+    Ok(())
 }
 
 /// That a session holds these lines.
@@ -135,6 +159,11 @@ pub(crate) fn expect_ticks<R: Rule>(rt: &impl Abort, session: &Play<'_, R>, tick
         assert_eq!(rt; count, ticks.get(place as usize).copied(), "at {place}");
     }
     assert_eq!(rt; Some(session.ticks(session.lines())), ticks.last().copied());
+    let mut wanted = ticks.iter().skip(1);
+    for count in session.tick_counts() {
+        assert_eq!(rt; Some(count), wanted.next().copied());
+    }
+    assert!(rt; wanted.next().is_none());
 }
 
 /// A session that shows the same.

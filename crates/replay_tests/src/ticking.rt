@@ -1,10 +1,9 @@
 //! Lines that tick, and lines that don't.
 
-use crate::edits::insert;
+use crate::edits::Change;
 use crate::machines::counts::Counts;
 use crate::machines::walker::Walker;
 use crate::sessions::{expect_edit, expect_group, expect_ticks, open};
-use cave_replay::Edit;
 use std::test::Fail;
 
 #[test]
@@ -14,8 +13,8 @@ fn a_line_that_does_nothing_but_tick_is_met_at_once(rt: HostRuntime) -> Result<(
     let log = b"hello\n+in\n+take\n+on\n+down\n";
     let mut session = open(&rt, alloc, Walker, &counts, 0, log, 1)?;
     expect_ticks(&rt, &session, &[0, 0, 1, 2, 3, 4]);
-    let edit = insert(alloc, 1, b"+on")?;
-    expect_edit(&rt, &mut session, &edit, (1, Some(2), 1), &Edit::Delete(1))?;
+    let (edit, back) = (Change::Insert(1, b"+on"), Change::Delete(1));
+    expect_edit(&rt, alloc, &mut session, edit, (1, Some(2), 1), back)?;
     expect_ticks(&rt, &session, &[0, 0, 1, 2, 3, 4, 5]);
     Ok(())
 }
@@ -26,8 +25,8 @@ fn a_line_that_does_not_tick_leaves_the_counts_behind_it(rt: HostRuntime) -> Res
     let counts = Counts::new();
     let mut session = open(&rt, alloc, Walker, &counts, 0, b"+a\nb\n+c\nd\n\n+\n", 1)?;
     expect_ticks(&rt, &session, &[0, 1, 1, 2, 2, 2, 3]);
-    let edit = insert(alloc, 0, b"x")?;
-    expect_edit(&rt, &mut session, &edit, (0, Some(3), 3), &Edit::Delete(0))?;
+    let (edit, back) = (Change::Insert(0, b"x"), Change::Delete(0));
+    expect_edit(&rt, alloc, &mut session, edit, (0, Some(3), 3), back)?;
     expect_ticks(&rt, &session, &[0, 0, 1, 1, 2, 2, 2, 3]);
     Ok(())
 }
@@ -38,14 +37,18 @@ fn counts_of_ticks_follow_a_group(rt: HostRuntime) -> Result<(), Fail> {
     let counts = Counts::new();
     let mut session = open(&rt, alloc, Walker, &counts, 0, b"+a\nb\n+c\nd\n\n+\n", 1)?;
     let edits = [
-        Edit::Delete(2),
-        insert(alloc, 4, b"+")?,
-        insert(alloc, 0, b"+")?,
+        Change::Delete(2),
+        Change::Insert(4, b"+"),
+        Change::Insert(0, b"+"),
     ];
-    let back = [Edit::Delete(0), Edit::Delete(4), insert(alloc, 2, b"+c")?];
-    expect_group(&rt, &mut session, &edits, (0, Some(6), 6), &back)?;
+    let back = [
+        Change::Delete(0),
+        Change::Delete(4),
+        Change::Insert(2, b"+c"),
+    ];
+    expect_group(&rt, alloc, &mut session, &edits, (0, Some(6), 6), &back)?;
     expect_ticks(&rt, &session, &[0, 1, 2, 2, 2, 2, 3, 4]);
-    expect_group(&rt, &mut session, &back, (0, Some(5), 5), &edits)?;
+    expect_group(&rt, alloc, &mut session, &back, (0, Some(5), 5), &edits)?;
     expect_ticks(&rt, &session, &[0, 1, 1, 2, 2, 2, 3]);
     Ok(())
 }

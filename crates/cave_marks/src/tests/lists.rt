@@ -1,4 +1,4 @@
-use crate::{Ticks, first_from, last_to, splice};
+use crate::{first_from, last_to, splice};
 use std::alloc::{AllocError, Global};
 use std::test::Fail;
 
@@ -44,27 +44,4 @@ fn searches(rt: HostRuntime) {
         assert_eq!(rt; first_from(&places, place), first, "from {place}");
         assert_eq!(rt; last_to(&places, place), last, "to {place}");
     }
-}
-
-#[test]
-fn ticks(rt: HostRuntime) -> Result<(), Fail> {
-    let mut ticks = Ticks::new(rt.alloc());
-    for ticked in [true, false, true, true] {
-        assert!(rt; ticks.len() < 4);
-        ticks.push(ticked)?;
-    }
-    let mut middle = Ticks::with_room(rt.alloc(), 2)?;
-    middle.push_reserved(false);
-    middle.push_reserved(true);
-    ticks.reserve(2)?;
-    assert_eq!(rt; ticks.len(), 4);
-    ticks.splice(1, 3, middle);
-    let copied = ticks.copy(rt.alloc())?;
-    for (index, ticked, before) in [(0, true, 0), (1, false, 1), (2, true, 1), (3, true, 2)] {
-        assert!(rt; index < copied.len());
-        assert_eq!(rt; copied.ticked(index), ticked, "line {index}");
-        assert_eq!(rt; copied.ticks(index), before, "before {index}");
-    }
-    assert_eq!(rt; ticks.ticks(ticks.len()), 3);
-    Ok(())
 }

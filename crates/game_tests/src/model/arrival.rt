@@ -87,6 +87,7 @@ impl Cavern {
         let is_barred = world
             .sentries
             .iter()
+            .take(5)
             .any(|sentry| sentry.has_seen && sentry.last == place);
         if is_barred && place != here && !self.is_forced(here) && !self.has_bit(here, 3) {
             self.say("blocked", world)?;

@@ -4,6 +4,9 @@ use std::alloc::{AllocError, Global};
 
 const OBJECTS: u16 = 100;
 
+/// The places where the dwarves begin, the pirate's last.
+const POSTS: [&str; 6] = ["dwarf1", "dwarf2", "dwarf3", "dwarf4", "dwarf5", "chest"];
+
 fn empty_lists(alloc: Global) -> Result<Vec<Vec<u16>>, AllocError> {
     let mut lists = Vec::new(alloc);
     for _place in 0..=PLACES {
@@ -18,10 +21,6 @@ fn zeros(alloc: Global, count: u16) -> Result<Vec<i16>, AllocError> {
 
 /// A world in which the player stands at a place, and nothing else is anywhere.
 fn bare_world(alloc: Global, seed: u32, start: u16) -> Result<World, AllocError> {
-    let nobody = Sentry {
-        last: 0,
-        has_seen: false,
-    };
     Ok(World {
         here: start,
         last: start,
@@ -40,7 +39,7 @@ fn bare_world(alloc: Global, seed: u32, start: u16) -> Result<World, AllocError>
         is_closed: false,
         is_panicking: false,
         second_clock: 50,
-        sentries: vec![in alloc; nobody; 5]?,
+        sentries: Vec::new(alloc),
         is_greeted: true,
         is_instructed: false,
         has_ended: false,
@@ -77,11 +76,24 @@ fn hide_treasures(cavern: &Cavern, world: &mut World) {
     }
 }
 
+fn post_sentries(cavern: &Cavern, world: &mut World) -> Result<(), AllocError> {
+    for name in POSTS {
+        let place = cavern.bound("place", name).unwrap_or(0);
+        world.sentries.push(Sentry {
+            place,
+            last: place,
+            has_seen: false,
+        })?;
+    }
+    Ok(())
+}
+
 /// The world as a game begins.
 pub fn begin(alloc: Global, cavern: &Cavern, seed: u32) -> Result<World, AllocError> {
     let start = cavern.bound("place", "start").unwrap_or(1);
     let mut world = bare_world(alloc, seed, start)?;
     hide_treasures(cavern, &mut world);
+    post_sentries(cavern, &mut world)?;
     place_objects(cavern, &mut world, true)?;
     place_objects(cavern, &mut world, false)?;
     cavern.say("welcome", &mut world)?;

@@ -3,9 +3,10 @@ use std::alloc::{AllocError, Global};
 /// An object that is carried has this for its first place, and one that can't be moved for its second.
 pub const APART: i16 = -1;
 
-/// A dwarf: where it was, and whether it has seen the player.
+/// A dwarf: where it is and was, and whether it has seen the player.
 #[derive(Clone, Copy, Debug, PartialEq, Eq)]
 pub struct Sentry {
+    pub place: u16,
     pub last: u16,
     pub has_seen: bool,
 }
@@ -33,9 +34,11 @@ pub struct World {
     pub is_closed: bool,
     pub is_panicking: bool,
     pub second_clock: i16,
+    /// The dwarves, of which the last is the pirate.
     pub sentries: Vec<Sentry>,
     pub is_greeted: bool,
     pub is_instructed: bool,
+    /// Whether the player is dead, which ends a game.
     pub has_ended: bool,
     pub was_dark: bool,
     pub x: u64,

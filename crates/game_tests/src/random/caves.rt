@@ -78,7 +78,10 @@ const ROLES: [&str; 8] = [
 ];
 
 /// Places that may be bound.
-const SPOTS: [&str; 5] = ["start", "outside", "y2", "alcove", "plover"];
+const SPOTS: [&str; 11] = [
+    "start", "outside", "y2", "alcove", "plover", "chest", "dwarf1", "dwarf2", "dwarf3", "dwarf4",
+    "dwarf5",
+];
 
 fn text_kind(dice: &mut Dice) -> Told {
     match dice.below(8) {

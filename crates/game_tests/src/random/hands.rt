@@ -2,7 +2,7 @@ use crate::model::cavern::PLACES;
 use crate::model::world::{APART, Sentry, World, set_number};
 use crate::random::caves::OBJECTS;
 use crate::random::dice::Dice;
-use cave_world::{Anchor, Charge, Count, Object, Place, Prop, State};
+use cave_world::{Anchor, Charge, Count, Dwarf, Object, Place, Prop, State};
 use std::alloc::AllocError;
 
 fn object_of(number: u16) -> Object {
@@ -43,7 +43,7 @@ fn anchor(object: u16, place: u16, world: &mut World, state: &mut State) -> Resu
     let (anchor, second) = match place {
         0 => (Anchor::Loose, 0),
         1..=PLACES => (
-            Anchor::At(place_of(place)),
+            Anchor::at(place_of(place)),
             i16::try_from(place).unwrap_or(0),
         ),
         _ => (Anchor::Fixed, APART),
@@ -86,13 +86,21 @@ fn close(dice: &mut Dice, world: &mut World, state: &mut State) {
 }
 
 fn post(dice: &mut Dice, world: &mut World, state: &mut State) {
-    let number = usize::from(dice.below(5));
+    let number = usize::from(dice.below(6));
+    let place = dice.below(9);
     let last = dice.below(9);
     let has_seen = dice.happens(80);
-    state.dwarves.each[number].last = Place::new(last);
-    state.dwarves.each[number].has_seen = has_seen;
+    state.dwarves.each[number] = Dwarf {
+        place: Place::new(place),
+        last: Place::new(last),
+        has_seen,
+    };
     if let Some(sentry) = world.sentries.get_mut(number) {
-        *sentry = Sentry { last, has_seen };
+        *sentry = Sentry {
+            place,
+            last,
+            has_seen,
+        };
     }
 }
 

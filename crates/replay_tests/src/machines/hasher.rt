@@ -5,7 +5,7 @@ use crate::machines::rule::Rule;
 
 /// The state is a hash of the seed and all lines so far, so that plays of other lines don't meet. A line ticks where
 /// the state after it is even.
-#[derive(Drop)]
+#[derive(Default, Drop)]
 pub(crate) struct Hasher;
 
 /// Mixes one byte more into a hash.

@@ -4,7 +4,7 @@ ghost use Rattle.replay_tests.specs.Walking.{starts_with_plus};
 use crate::machines::rule::Rule;
 
 /// A line that begins with a plus sign ticks and leaves the state; any other makes the state its length, and doesn't tick.
-#[derive(Drop)]
+#[derive(Default, Drop)]
 pub(crate) struct Walker;
 
 fn begins_with_plus(line: &[u8]) -> bool

@@ -1,6 +1,6 @@
 use Rattle.std.proofs.Common.{option_map, refl, ap, ◌∙◌}
 use Rattle.cave_data.specs.Shown.{shown, shown_text, shown_class, goings}
-use Rattle.cave_data.specs.SlotLemmas.{get-by_number}
+use Rattle.cave_data.proofs.SlotLemmas.{get-by_number}
 use Rattle.std.proofs.Common.{map}
 use Rattle.cave_data.proofs.CaveLemmas.{shown_raw, classes_raw}
 use Rattle.cave_data.proofs.cave.finish.Goals as goal
@@ -20,5 +20,5 @@ returns c = record {
   hints = refl;
   roles = refl;
   places = refl;
-  letters = c.letters_of-letters.ensures.value;
+  letters = c.letters_of.ensures.value;
 }

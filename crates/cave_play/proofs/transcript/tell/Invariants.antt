@@ -10,6 +10,7 @@ invariant-loop-place l =
     let held = l.session in
     let pieces = map (λ piece. piece.items) held.pieces in
     record {
+      turns : l.turns ≡ ticks held.ticks l.place;
       told : l.text.items ++ (told_from (rendered l.cave) held.ticks l.place held.game.log pieces ++ closing (ticks held.ticks (length held.game.log)))
           ≡ l.fn.text.items ++ transcript (rendered l.cave) held.opening.items held.game.log pieces held.ticks;
     }

@@ -1,5 +1,4 @@
-use Rattle.std.proofs.Common.{◌≡◌, ◌+◌, ◌<◌, ◌∷◌, [], length, ap, ◌∙◌, sym, refl, arith}
-use Rattle.std.proofs.lemmas.List.{length-append}
+use Rattle.std.proofs.Common.{◌≡◌, ◌+◌, ◌<◌, length, ap, ◌∙◌, sym, refl, arith}
 use Rattle.cave_replay.specs.Log.{log_of}
 use Rattle.cave_replay.specs.Play.{game_of}
 use Rattle.cave_replay.specs.Change.{line_at}
@@ -37,6 +36,5 @@ loop-line-preserved g c =
       every = c.in_ok-play_line.ensures.settings.0 ∙ at.every;
       end = c.in_ok-play_line.ensures.settings.1 ∙ at.end;
       first = c.in_ok-play_line.ensures.start ∙ at.first;
-      short = let l = ap length c.in_ok-play_line.ensures.ticked in let p = length-append c.loop-line.played.ticked.ticked (rules.ticked (g.M.Machine.meaning c.loop-line.played.marks.state) c.deref.result.now ∷ []) in let short = at.short in omega (arith, next);
       counted = let counted = at.counted in omega (arith, c.in_ok-play_line.ensures.counted);
     }

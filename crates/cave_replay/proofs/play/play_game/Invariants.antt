@@ -9,12 +9,11 @@ use Rattle.cave_replay.proofs.play.play_game.Given as goal
 abbrev pub invariant-loop-line : goal.invariant-loop-line
 invariant-loop-line g l = record {
   texts : map g.M.Machine.text l.played.pieces.items ≡ texts_at (g.M.Machine.rules l.machine) (game_of l.fn.seed (log_of l.fn.log.items)) l.line-index;
-  ticks : l.played.ticked.ticked ≡ ticks_at (g.M.Machine.rules l.machine) (game_of l.fn.seed (log_of l.fn.log.items)) l.line-index;
+  ticks : l.played.ticked.items ≡ ticks_at (g.M.Machine.rules l.machine) (game_of l.fn.seed (log_of l.fn.log.items)) l.line-index;
   marking : IsMarking g.M.Machine.meaning g.M.Machine.is_state (state_at (g.M.Machine.rules l.machine) (game_of l.fn.seed (log_of l.fn.log.items))) l.played.marks;
   next : l.played.marks.next ≡ l.line-index;
   every : l.played.marks.every ≡ l.fn.every;
   end : l.played.marks.end ≡ length l.fn.log.items;
   first : slice_index l.played.marks.places 0 ≡ 0;
-  short : length l.played.ticked.ticked ≤ l.played.marks.next;
   counted : g.M.Meter.Steps.count l.meter ≡ g.M.Meter.Steps.count l.fn.meter + l.line-index;
 }

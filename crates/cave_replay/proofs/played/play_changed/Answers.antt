@@ -28,7 +28,7 @@ lines-init g c =
           (λ k from inside. let late = rw places at (c.first_from-index.ensures.after k from (rw places inside)) in omega arith)
           c.requires.from;
       texts = rw c.new.ensures.items (append-nil _);
-      ticks = rw c.new-2.ensures (append-nil _);
+      ticks = rw c.new-2.ensures.items (append-nil _);
       marking = c.requires.marking;
       every = refl;
       end = refl;
@@ -36,7 +36,6 @@ lines-init g c =
       first = refl;
       forward = omega arith;
       within = let a = c.requires.from in let b = c.requires.shift.within_new in let e = c.requires.end in omega arith;
-      short = rw c.new-2.ensures (omega arith);
       unmet = refl;
       counted = refl;
     }
@@ -192,7 +191,6 @@ lines-preserved g c =
     let line : c.line.result.now ≡ line_at new.log c.lines.played.marks.next = c.line.ensures ∙ ap (line_at new.log) place in
     let more = c.in_ok-play_line.ensures.ticked in
     let forward = at.forward in
-    let short = at.short in
     record {
       underway = rw next further;
       texts = texts_on rules new c.args.marks.next c.lines.played.marks.next _ _ _ _ _ below at.texts c.in_ok-play_line.ensures.pieces at.marking.next line next;
@@ -204,7 +202,6 @@ lines-preserved g c =
       first = c.in_ok-play_line.ensures.start ∙ at.first;
       forward = omega (arith, next);
       within = omega (arith, next, end);
-      short = let l = ap length more in let p = length-append c.lines.played.ticked.ticked (rules.ticked (g.M.Machine.meaning c.lines.played.marks.state) c.line.result.now ∷ []) in omega (arith, next);
       unmet = c.in_ok-play_line.ensures.met ∙ at.unmet;
       counted = let counted = at.counted in omega (arith, next, c.in_ok-play_line.ensures.counted);
     }

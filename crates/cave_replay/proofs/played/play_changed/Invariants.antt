@@ -11,7 +11,7 @@ abbrev pub invariant-lines : goal.invariant-lines
 invariant-lines g l = record {
   underway : IsUnderway (g.M.Machine.rules l.machine) (game_of l.fn.seed (log_of l.log)) (new_game l.changed (log_of l.log)) (length l.log - l.changed.behind) l.checkpoints.places l.index l.played.marks.next;
   texts : texts_at (g.M.Machine.rules l.machine) (new_game l.changed (log_of l.log)) l.fn.marks.next ++ map g.M.Machine.text l.played.pieces.items ≡ texts_at (g.M.Machine.rules l.machine) (new_game l.changed (log_of l.log)) l.played.marks.next;
-  ticks : ticks_at (g.M.Machine.rules l.machine) (new_game l.changed (log_of l.log)) l.fn.marks.next ++ l.played.ticked.ticked ≡ ticks_at (g.M.Machine.rules l.machine) (new_game l.changed (log_of l.log)) l.played.marks.next;
+  ticks : ticks_at (g.M.Machine.rules l.machine) (new_game l.changed (log_of l.log)) l.fn.marks.next ++ l.played.ticked.items ≡ ticks_at (g.M.Machine.rules l.machine) (new_game l.changed (log_of l.log)) l.played.marks.next;
   marking : IsMarking g.M.Machine.meaning g.M.Machine.is_state (state_at (g.M.Machine.rules l.machine) (new_game l.changed (log_of l.log))) l.played.marks;
   every : l.played.marks.every ≡ l.fn.marks.every;
   end : l.played.marks.end ≡ l.fn.marks.end;
@@ -19,7 +19,6 @@ invariant-lines g l = record {
   first : slice_index l.played.marks.places 0 ≡ slice_index l.fn.marks.places 0;
   forward : l.fn.marks.next ≤ l.played.marks.next;
   within : l.played.marks.next ≤ l.fn.marks.end;
-  short : length l.played.ticked.ticked ≤ l.played.marks.next;
   unmet : l.played.met ≡ None;
   counted : g.M.Meter.Steps.count l.meter + l.fn.marks.next ≡ g.M.Meter.Steps.count l.fn.meter + l.played.marks.next;
 }

@@ -15,7 +15,7 @@ use Rattle.cave_replay.proofs.Joins.{map-splice}
 use Rattle.cave_replay.proofs.Lines.{length-log_of}
 use Rattle.cave_replay.proofs.Plays.{length-pieces, length-ticks}
 use Rattle.cave_replay.proofs.Prepared.{shift_of, good_of}
-use Rattle.cave_replay.proofs.Taken.{kept_after, report_after, met_inside, met_ready, room_ready, few_ticks, stretch_same, places_same, states_same, opened_text}
+use Rattle.cave_replay.proofs.Taken.{kept_after, report_after, met_inside, met_ready, room_ready, stretch_same, places_same, states_same, opened_text}
 use Rattle.cave_replay.proofs.replay.edit_kept.Goals as goal
 
 pub take_over-inverse-requires-clause-pieces : goal.take_over-inverse-requires-clause-pieces
@@ -30,7 +30,7 @@ take_over-inverse-requires-clause-pieces g c =
     let held = c.requires.kept in
     let roomy = c.make_room.new.kept in
     let same = c.make_room.ensures in
-    let lengths = length-pieces rules (game_of kept.seed log) (text kept.opening) (map text kept.pieces.items) kept.ticked.ticked (g.M.Machine.meaning kept.state) held.plays in
+    let lengths = length-pieces rules (game_of kept.seed log) (text kept.opening) (map text kept.pieces.items) kept.ticked.items (g.M.Machine.meaning kept.state) held.plays in
     let m = length-map kept.pieces.items text in
     let p = ap length same.pieces in
     let l = ap length same.log in
@@ -48,42 +48,10 @@ take_over-inverse-requires-clause-ticked g c =
     let held = c.requires.kept in
     let roomy = c.make_room.new.kept in
     let same = c.make_room.ensures in
-    let lengths = length-ticks rules (game_of kept.seed log) (text kept.opening) (map text kept.pieces.items) kept.ticked.ticked (g.M.Machine.meaning kept.state) held.plays in
+    let lengths = length-ticks rules (game_of kept.seed log) (text kept.opening) (map text kept.pieces.items) kept.ticked.items (g.M.Machine.meaning kept.state) held.plays in
     let p = ap length same.ticked in
     let l = ap length same.log in
     omega (arith, roomy.log.ok)
-
-pub take_over-inverse-requires-clause-few : goal.take_over-inverse-requires-clause-few
-take_over-inverse-requires-clause-few g c =
-    let text = g.M.Machine.text in
-    let rules = g.M.Machine.rules c.args.machine.now in
-    let kept = c.args.kept.now in
-    let items = kept.log.items in
-    let log = log_of items in
-    let n = length-log_of items in
-    let C = kept.checkpoints in
-    let held = c.requires.kept in
-    let roomy = c.make_room.new.kept in
-    let same = c.make_room.ensures in
-    let changes = changes_of c.args.edits.now in
-    let changed = c.in-Ok.replayed.changed in
-    let played = c.in-Ok.replayed.played in
-    let at = c.in-Ok.replayed.at in
-    let made = c.in-Ok.ensures in
-    let old = game_of kept.seed log in
-    let new = new_game changed log in
-    let span = span_of changes log in
-    let shift' : IsShift old new changed.head (length items - changed.behind) = shift_of changes items kept.seed changed made.accepted made.edits made.game made.head made.tail made.ordered in
-    let tail_is : length items - changed.behind ≡ span.tail = omega (arith, made.tail) in
-    let shift : IsShift old new span.head span.tail = rw (← made.head, ← tail_is) shift' in
-    let good = good_of changes log kept.seed new held.game_is made.accepted made.game in
-    let spaced : IsSpaced C.every C.places C.lines = c.places.ensures.spaced in
-    let lengths = length-ticks rules old (text kept.opening) (map text kept.pieces.items) kept.ticked.ticked (g.M.Machine.meaning kept.state) held.plays in
-    let p = ap length same.ticked in
-    let few = few_ticks g.M.Machine.meaning g.M.Machine.is_state rules old new span.head span.tail shift (text kept.opening) (map text kept.pieces.items) kept.ticked.ticked kept.state C held spaced at (option_map text c.in-Ok.replayed.opening) (map text played.pieces.items) played.ticked.ticked played.marks played.met made.replayed in
-    let most = good.few in
-    let most_old = held.game_is.few in
-    omega arith
 
 pub take_over-inverse-requires-clause-met : goal.take_over-inverse-requires-clause-met
 take_over-inverse-requires-clause-met g c =
@@ -110,7 +78,7 @@ take_over-inverse-requires-clause-met g c =
     let shift : IsShift old new span.head span.tail = rw (← made.head, ← tail_is) shift' in
     let good = good_of changes log kept.seed new held.game_is made.accepted made.game in
     let spaced : IsSpaced C.every C.places C.lines = c.places.ensures.spaced in
-    met_ready g.M.Machine.meaning g.M.Machine.is_state rules old new span.head span.tail shift (text kept.opening) (map text kept.pieces.items) kept.ticked.ticked kept.state C held spaced at (option_map text c.in-Ok.replayed.opening) (map text played.pieces.items) played.ticked.ticked played.marks played.met made.replayed roomy.checkpoints same.settings.1 same.places
+    met_ready g.M.Machine.meaning g.M.Machine.is_state rules old new span.head span.tail shift (text kept.opening) (map text kept.pieces.items) kept.ticked.items kept.state C held spaced at (option_map text c.in-Ok.replayed.opening) (map text played.pieces.items) played.ticked.items played.marks played.met made.replayed roomy.checkpoints same.settings.1 same.places
 
 pub returns-clause-kept : goal.returns-clause-kept
 returns-clause-kept g c =
@@ -144,7 +112,7 @@ returns-clause-kept g c =
     let stretch = stretch_same roomy.checkpoints C same.settings.1 same.places played.met in
     let from = ap (λ x. slice_index x at) same.places in
     rw game_is
-    (kept_after g.M.Machine.meaning g.M.Machine.is_state rules old new span.head span.tail shift (text kept.opening) (map text kept.pieces.items) kept.ticked.ticked kept.state C held spaced at (option_map text c.in-Ok.replayed.opening) (map text played.pieces.items) played.ticked.ticked played.marks played.met made.replayed good (text after.opening) (map text after.pieces.items) after.ticked.ticked after.state after.checkpoints
+    (kept_after g.M.Machine.meaning g.M.Machine.is_state rules old new span.head span.tail shift (text kept.opening) (map text kept.pieces.items) kept.ticked.items kept.state C held spaced at (option_map text c.in-Ok.replayed.opening) (map text played.pieces.items) played.ticked.items played.marks played.met made.replayed good (text after.opening) (map text after.pieces.items) after.ticked.items after.state after.checkpoints
     (opened_text text c.in-Ok.replayed.opening after.opening roomy.opening kept.opening same.opening done.opening)
     (ap (map text) done.pieces ∙ map-splice text roomy.pieces.items played.pieces.items (slice_index roomy.checkpoints.places at) _ ∙ rw (same.pieces, stretch, from) refl)
     (done.ticked ∙ rw (same.ticked, stretch, from) refl)
@@ -181,7 +149,7 @@ returns-clause-report g c =
     let spaced : IsSpaced C.every C.places C.lines = c.places.ensures.spaced in
     let places = c.places.ensures.places in
     rw (places, c.met_place-met.ensures, c.next-end.ensures.next)
-    (report_after g.M.Machine.meaning g.M.Machine.is_state rules old new span.head span.tail shift (text kept.opening) (map text kept.pieces.items) kept.ticked.ticked kept.state C held spaced at (option_map text c.in-Ok.replayed.opening) (map text played.pieces.items) played.ticked.ticked played.marks changes made.game refl refl played.met made.replayed)
+    (report_after g.M.Machine.meaning g.M.Machine.is_state rules old new span.head span.tail shift (text kept.opening) (map text kept.pieces.items) kept.ticked.items kept.state C held spaced at (option_map text c.in-Ok.replayed.opening) (map text played.pieces.items) played.ticked.items played.marks changes made.game refl refl played.met made.replayed)
 
 pub make_room-requires-clause-passed : goal.make_room-requires-clause-passed
 make_room-requires-clause-passed g c =
@@ -205,7 +173,7 @@ make_room-requires-clause-passed g c =
     let tail_is : length items - changed.behind ≡ span.tail = omega (arith, made.tail) in
     let shift : IsShift old new span.head span.tail = rw (← made.head, ← tail_is) shift' in
     let spaced : IsSpaced C.every C.places C.lines = c.places.ensures.spaced in
-    (met_inside g.M.Machine.meaning g.M.Machine.is_state rules old new span.head span.tail shift (text kept.opening) (map text kept.pieces.items) kept.ticked.ticked kept.state C held spaced at (option_map text c.in-Ok.replayed.opening) (map text played.pieces.items) played.ticked.ticked played.marks played.met made.replayed).0
+    (met_inside g.M.Machine.meaning g.M.Machine.is_state rules old new span.head span.tail shift (text kept.opening) (map text kept.pieces.items) kept.ticked.items kept.state C held spaced at (option_map text c.in-Ok.replayed.opening) (map text played.pieces.items) played.ticked.items played.marks played.met made.replayed).0
 
 pub make_room-requires-clause-met : goal.make_room-requires-clause-met
 make_room-requires-clause-met g c =
@@ -229,7 +197,7 @@ make_room-requires-clause-met g c =
     let tail_is : length items - changed.behind ≡ span.tail = omega (arith, made.tail) in
     let shift : IsShift old new span.head span.tail = rw (← made.head, ← tail_is) shift' in
     let spaced : IsSpaced C.every C.places C.lines = c.places.ensures.spaced in
-    (met_inside g.M.Machine.meaning g.M.Machine.is_state rules old new span.head span.tail shift (text kept.opening) (map text kept.pieces.items) kept.ticked.ticked kept.state C held spaced at (option_map text c.in-Ok.replayed.opening) (map text played.pieces.items) played.ticked.ticked played.marks played.met made.replayed).1
+    (met_inside g.M.Machine.meaning g.M.Machine.is_state rules old new span.head span.tail shift (text kept.opening) (map text kept.pieces.items) kept.ticked.items kept.state C held spaced at (option_map text c.in-Ok.replayed.opening) (map text played.pieces.items) played.ticked.items played.marks played.met made.replayed).1
 
 pub take_over-inverse-requires-clause-room_marks : goal.take_over-inverse-requires-clause-room_marks
 take_over-inverse-requires-clause-room_marks g c =

@@ -1,6 +1,12 @@
-use Rattle.std.proofs.Common.{sym, ◌∙◌}
-use Rattle.cave_turn.proofs.Countdown.{placed_none}
+use Rattle.std.proofs.Common.{sym, ap, ◌∙◌, arith}
+use Rattle.cave_turn.specs.Placing.{all_placed}
+use Rattle.cave_turn.proofs.Countdown.{due_none, due_all}
 use Rattle.cave_turn.proofs.begin.place_down.Goals as goal
 
+pub loop-i-init : goal.loop-i-init
+loop-i-init c = ap (λ xs. all_placed c.args.cave.now xs c.args.objects.now) (sym (due_none c.args.cave.now c.args.twice 101))
+
 pub returns : goal.returns
-returns c = sym (placed_none c.args.cave.now c.args.twice c.args.last c.loop-i.i c.loop-i.objects c.loop-i-test.false) ∙ c.loop-i.invariant
+returns c =
+    c.loop-i.invariant
+    ∙ ap (λ xs. all_placed c.args.cave.now xs c.args.objects.now) (due_all c.args.cave.now c.args.twice c.loop-i.i (omega arith))

@@ -1,7 +1,8 @@
 use Rattle.std.proofs.Common.{◌≡◌, ◌-◌}
-use Rattle.cave_turn.specs.Begin.{placed_down}
+use Rattle.cave_turn.specs.Placing.{all_placed}
+use Rattle.cave_turn.proofs.Countdown.{due_from}
 use Rattle.cave_turn.proofs.begin.place_down.Given as goal
 
--- placing those that are left is placing all
+-- so far the last objects are placed
 abbrev pub invariant-loop-i : goal.invariant-loop-i
-invariant-loop-i l = placed_down l.cave l.twice (l.last - l.i) l.objects ≡ placed_down l.cave l.twice l.last l.initial.objects
+invariant-loop-i l = l.objects ≡ all_placed l.cave (due_from l.cave l.twice (101 - l.i) l.i) l.initial.objects

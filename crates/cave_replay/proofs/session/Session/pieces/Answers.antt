@@ -10,4 +10,4 @@ returns-clause-each g c =
     let text = g.M.Machine.text in
     let k = c.self.inside.kept in
     rw (c.deref.ensures.value, ← c.self.view_is)
-    (sym (length-map k.pieces.items text) ∙ length-pieces (g.M.Machine.rules c.self.inside.machine) (game_of k.seed (log_of k.log.items)) (text k.opening) (map text k.pieces.items) k.ticked.ticked (g.M.Machine.meaning k.state) c.self.invariant.plays)
+    (sym (length-map k.pieces.items text) ∙ length-pieces (g.M.Machine.rules c.self.inside.machine) (game_of k.seed (log_of k.log.items)) (text k.opening) (map text k.pieces.items) k.ticked.items (g.M.Machine.meaning k.state) c.self.invariant.plays)

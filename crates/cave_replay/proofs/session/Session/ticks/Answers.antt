@@ -1,14 +1,28 @@
-use Rattle.std.proofs.Common.{map, arith}
+use Rattle.std.proofs.Common.{Bool, take, count_by, map, ap, ◌∙◌, arith}
 use Rattle.cave_replay.specs.Log.{log_of}
 use Rattle.cave_replay.specs.Play.{game_of}
+use Rattle.cave_replay.proofs.Lines.{length-log_of}
 use Rattle.cave_replay.proofs.Plays.{length-ticks}
 use Rattle.cave_replay.proofs.session.Session.ticks.Goals as goal
 
-pub ticks-requires : goal.ticks-requires
-ticks-requires g c =
+pub count_ticks-requires-clause-within : goal.count_ticks-requires-clause-within
+count_ticks-requires-clause-within g c =
     let text = g.M.Machine.text in
     let k = c.self.inside.kept in
     let game = game_of k.seed (log_of k.log.items) in
-    let ticks = length-ticks (g.M.Machine.rules c.self.inside.machine) game (text k.opening) (map text k.pieces.items) k.ticked.ticked (g.M.Machine.meaning k.state) c.self.invariant.plays in
+    let ticks = length-ticks (g.M.Machine.rules c.self.inside.machine) game (text k.opening) (map text k.pieces.items) k.ticked.items (g.M.Machine.meaning k.state) c.self.invariant.plays in
     let within = rw (← c.self.view_is) at c.requires in
-    omega arith
+    rw c.deref.ensures.value (omega arith)
+
+pub count_ticks-requires-clause-few : goal.count_ticks-requires-clause-few
+count_ticks-requires-clause-few g c =
+    let text = g.M.Machine.text in
+    let k = c.self.inside.kept in
+    let game = game_of k.seed (log_of k.log.items) in
+    let ticks = length-ticks (g.M.Machine.rules c.self.inside.machine) game (text k.opening) (map text k.pieces.items) k.ticked.items (g.M.Machine.meaning k.state) c.self.invariant.plays in
+    let few = c.self.invariant.game_is.few in
+    let n = length-log_of k.log.items in
+    rw c.deref.ensures.value (omega arith)
+
+pub returns : goal.returns
+returns g c = rw (← c.self.view_is) (c.count_ticks.ensures ∙ ap (λ ticked. count_by (λ ticks. ticks) (take c.args.place ticked)) c.deref.ensures.value)

@@ -2,7 +2,7 @@ use Rattle.std.proofs.Common.{List, sym, ap, ◌∙◌}
 use Rattle.std.specs.Cmp.Lexicographic.{pointwise_decides}
 use Rattle.cave_world.specs.declared.lists.Entry.{Entry}
 use Rattle.cave_world.specs.Lists.{halves_at}
-use Rattle.cave_world.proofs.Exact.{entry_decides}
+use Rattle.cave_world.specs.Equality.{entry_decides}
 use Rattle.cave_world.proofs.Places.{same_lists}
 use Rattle.cave_world.proofs.lists.ObjectLists.is_same.Goals as goal
 

@@ -8,8 +8,8 @@ use Rattle.cave_world.proofs.lists.ObjectLists.relist.Goals as goal
 pub remove-requires : goal.remove-requires
 remove-requires c = rw c.number.ensures.value (only_at (half_number c.args.half) c.args.from c.args.self.now c.requires.only)
 
-pub put-requires : goal.put-requires
-put-requires c =
+pub put-requires-clause-new : goal.put-requires-clause-new
+put-requires-clause-new c =
     rw (c.remove.ensures, c.number.ensures.value)
     (c.requires.some, (rw c.number.ensures.value at c.number.ensures.within, Lacks-taken (half_number c.args.half) c.args.self.now))
 

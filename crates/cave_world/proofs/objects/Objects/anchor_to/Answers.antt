@@ -10,10 +10,10 @@ invariant_of-self c =
     let l : Layout = record { first = i.first; second = i.second; props = i.props; lists = i.lists } in
     let low : 0 < c.args.object = grind (arith, nat_tests) in
     rw (c.from.ensures, c.number.ensures.value)
-    (IsLaid-anchored l c.args.object c.args.anchor c.relist.new.self c.self.invariant low (rw c.number.ensures.value at c.number.ensures.within) (rw c.place-place.ensures at c.relist.ensures.lists))
+    (IsLaid-anchored l c.args.object c.args.anchor c.relist.new.self c.self.invariant low (rw c.number.ensures.value at c.number.ensures.within) (rw c.place-place.ensures.value at c.relist.ensures.lists))
 
 pub relist-requires-clause-only : goal.relist-requires-clause-only
 relist-requires-clause-only c =
     let low : 0 < c.args.object = grind (arith, nat_tests) in
     let listed = rw (← c.self.view_is) at c.anchor.ensures.listed in
-    λ q t. rw c.place-was.ensures (sym (listed low q) ∙ t)
+    λ q t. rw c.place-was.ensures.value (sym (listed low q) ∙ t)

@@ -1,0 +1,41 @@
+-- What a run writes is determined by the bytes of its inputs.
+use Rattle.std.proofs.Common.{◌≡◌, ℕ, List, Ok, sym, ap, ◌∙◌}
+use Rattle.std.specs.Str.Lines.{lines}
+use Rattle.cave_data.proofs.ReadLemmas.{same_cave}
+use Rattle.cave_replay.specs.Play.{game_of}
+use Rattle.cave_script.proofs.Grammar.{script_of-only}
+use Rattle.cave_script.specs.Item.{Applied}
+use Rattle.cave_script.specs.Script.{IsScript}
+use Rattle.cave_play.specs.Output.{play_text, edit_text, IsChecked, IsPlayed, IsEdited}
+use Rattle.cave_play.specs.Run.{AtMostOne}
+
+pub checked_alone : (database bindings : List ℕ) → AtMostOne (IsChecked database bindings)
+checked_alone database bindings =
+    λ one other first second.
+    let (cave, reads, is) = first in
+    let (kept, rereads, same) = second in
+    is ∙ sym same
+
+pub played_alone : (database bindings log : List ℕ) (seed : ℕ) → AtMostOne (IsPlayed database bindings log seed)
+played_alone database bindings log seed =
+    λ one other first second.
+    let (cave, reads, is) = first in
+    let (kept, rereads, same) = second in
+    let game = game_of seed (lines log) in
+    is ∙ ap (λ c. play_text c game) (same_cave database bindings kept cave rereads reads) ∙ sym same
+
+-- a script spells the same items, whoever reads it
+same_items : (script : List ℕ) (items others : List Applied) → IsScript 1 (lines script) items → IsScript 1 (lines script) others → items ≡ others
+same_items script items others spelled respelled =
+    let first = script_of-only script items spelled in
+    let second = script_of-only script others respelled in
+    cc
+
+pub edited_alone : (database bindings log script : List ℕ) (seed : ℕ) → AtMostOne (IsEdited database bindings log script seed)
+edited_alone database bindings log script seed =
+    λ one other first second.
+    let (cave, reads, (items, spelled, is)) = first in
+    let (kept, rereads, (others, respelled, same)) = second in
+    let game = game_of seed (lines log) in
+    let caves = ap (λ c. edit_text c game items) (same_cave database bindings kept cave rereads reads) in
+    is ∙ caves ∙ ap (edit_text kept game) (same_items script items others spelled respelled) ∙ sym same

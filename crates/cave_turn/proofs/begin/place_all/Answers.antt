@@ -1,0 +1,14 @@
+use Rattle.std.proofs.Common.{true, false, sym, ap, ◌∙◌}
+use Rattle.cave_turn.specs.Begin.{known_treasures, objects_due, start_order}
+use Rattle.cave_turn.specs.Placing.{all_placed, all_hidden}
+use Rattle.cave_turn.proofs.Begun.{all_placed-append, begun_is}
+use Rattle.cave_turn.proofs.begin.place_all.Goals as goal
+
+pub returns-clause-objects : goal.returns-clause-objects
+unfolding start_order
+returns-clause-objects c =
+    let cave = c.args.cave.now in
+    let once = c.hide_treasures-hidden.ensures.objects ∙ ap (λ o. all_hidden (known_treasures cave) o) c.requires in
+    let twice = c.place_down.ensures ∙ ap (λ o. all_placed cave (objects_due cave true) o) once in
+    let all = c.place_down-2.ensures ∙ ap (λ o. all_placed cave (objects_due cave false) o) twice in
+    all ∙ (sym (all_placed-append cave (objects_due cave false) (objects_due cave true) _) ∙ begun_is cave)

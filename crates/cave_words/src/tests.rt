@@ -1,6 +1,0 @@
-//! Lines, words and draws with values from outside.
-
-mod draws;
-mod lexicon;
-mod lines;
-mod words;
