@@ -40,6 +40,12 @@ enum Failure<'a> {
     Run(PlayFault),
 }
 
+impl<'a> From<PlayFault> for Failure<'a> {
+    fn from(fault: PlayFault) -> Failure<'a> {
+        Failure::Run(fault)
+    }
+}
+
 /// Opens the file of an input.
 fn open<'a>(rt: &HostRuntime, input: Input, file: &'a str) -> Result<File, Failure<'a>> {
     match File::open(rt, file) {
@@ -65,7 +71,8 @@ fn check<'a>(rt: &HostRuntime, files: Files<'a>) -> Result<(), Failure<'a>> {
     let mut cave = open(rt, Input::Cave, files.cave)?;
     let mut bind = open_bindings(rt, files)?;
     let mut output = io::writer(rt);
-    run_check(rt.alloc(), &mut cave, &mut bind, &mut output).map_err(Failure::Run)
+    run_check(rt.alloc(), &mut cave, &mut bind, &mut output)?;
+    Ok(())
 }
 
 fn play<'a>(
@@ -85,8 +92,8 @@ fn play<'a>(
         &mut log,
         seed,
         &mut output,
-    )
-    .map_err(Failure::Run)
+    )?;
+    Ok(())
 }
 
 fn edit<'a>(
@@ -111,8 +118,8 @@ fn edit<'a>(
         seed,
         every,
         &mut output,
-    )
-    .map_err(Failure::Run)
+    )?;
+    Ok(())
 }
 
 /// Tells a fault in one line, and gives the status that goes with it.
