@@ -2,10 +2,10 @@
 //! plays, and the edits that take it back.
 
 use crate::caves::{CAVE, LONG_LOG};
-use cave_data::Cave;
+use cave_data::{Cave, CaveError};
 use cave_play::machine::CaveMachine;
 use cave_replay::{Edit, EditFault, GroupFault, GroupReport, OpenFault, Session};
-use cave_script::Script;
+use cave_script::{Script, ScriptFault};
 use cave_words::{Lexicon, Meter};
 use std::alloc::{AllocError, Global};
 use std::process::Abort;
@@ -33,6 +33,29 @@ fn edit_in(
     Ok(answer)
 }
 
+/// The first cave. It promises nothing, nor does `script_of`, so that what calls them is proved without facts of reading.
+fn cave(alloc: Global) -> Result<Cave, CaveError> {
+    Cave::read(alloc, CAVE, b"")
+}
+
+fn script_of(alloc: Global, text: &[u8]) -> Result<Script, ScriptFault> {
+    Script::read(alloc, text)
+}
+
+/// Makes edits in the session of a log in a cave.
+fn edit_in_cave(
+    rt: &impl Abort,
+    alloc: Global,
+    cave: &Cave,
+    log: &[u8],
+    edits: &[Edit],
+    meter: &mut Meter,
+) -> Result<Answer, Fail> {
+    let lexicon = Lexicon::build(alloc, cave)?;
+    let machine = CaveMachine::new(cave, &lexicon);
+    Ok(edit_in(rt, alloc, machine, log, edits, meter)?)
+}
+
 /// Makes the first item of a script in the session of a log in the first cave.
 fn edit(
     rt: &impl Abort,
@@ -41,15 +64,13 @@ fn edit(
     script: &[u8],
     meter: &mut Meter,
 ) -> Result<Answer, Fail> {
-    let cave = Cave::read(alloc, CAVE, b"")?;
-    let lexicon = Lexicon::build(alloc, &cave)?;
-    let machine = CaveMachine::new(&cave, &lexicon);
-    let script = Script::read(alloc, script)?;
+    let script = script_of(alloc, script)?;
     let edits: &[Edit] = match script.items.first() {
         Some(item) => &item.edits,
         None => &[],
     };
-    Ok(edit_in(rt, alloc, machine, log, edits, meter)?)
+    let cave = cave(alloc)?;
+    edit_in_cave(rt, alloc, &cave, log, edits, meter)
 }
 
 /// An edit as a script spells it.
