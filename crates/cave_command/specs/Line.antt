@@ -30,7 +30,7 @@ pub record IsFiles (rows : List Row) (files : Files) : Type 0 where
 abbrev pub IsSeed : List Row → ℕ → Type 0
 IsSeed rows seed = IsNumber 0 GREATEST_SEED 0 (first_of (codes "seed") rows) seed
 
--- a distance of kept states is what was found for it, or 50
+-- a distance of checkpoints is what was found for it, or 50
 abbrev pub IsEvery : List Row → ℕ → Type 0
 IsEvery rows every = IsNumber 1 MOST_EVERY 50 (first_of (codes "every") rows) every
 
@@ -78,7 +78,7 @@ abbrev pub IsBadSeed : List Row → LineFault → Type 0
 IsBadSeed rows (BadSeed text) = (first_of (codes "seed") rows ≡ Some text.now) × (number_in 0 GREATEST_SEED text.now ≡ None)
 IsBadSeed rows _ = ⊥
 
--- what was found for the distance of kept states is none
+-- what was found for the distance of checkpoints is none
 abbrev pub IsBadEvery : List Row → LineFault → Type 0
 IsBadEvery rows (BadEvery text) = (first_of (codes "every") rows ≡ Some text.now) × (number_in 1 MOST_EVERY text.now ≡ None)
 IsBadEvery rows _ = ⊥

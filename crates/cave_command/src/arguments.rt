@@ -62,6 +62,6 @@ pub(crate) fn every_argument<'a>(alloc: Global) -> Arg<'a>
     ensures local { result.global ≡ false }
 {
     Arg::new(alloc, "every").long("every").value_name("K").help(
-        "The most lines between two kept states, from 1 to 10000: the fewer, the less an edit replays and the more is kept [default: 50]",
+        "The most lines between two checkpoints, from 1 to 10000: the fewer, the less an edit replays and the more is kept [default: 50]",
     )
 }

@@ -13,7 +13,7 @@ pub const MOST_DIGITS: usize = 10;
 /// The greatest seed.
 pub const GREATEST_SEED: u32 = 2_147_483_647;
 
-/// The greatest distance of kept states.
+/// The greatest distance of checkpoints.
 pub const MOST_EVERY: u32 = 10_000;
 
 fn is_all_digits(text: &[u8]) -> bool

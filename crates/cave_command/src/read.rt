@@ -18,7 +18,7 @@ use std::convert::AsStr;
 /// The seed where none is given.
 const USUAL_SEED: u32 = 0;
 
-/// The distance of kept states where none is given.
+/// The distance of checkpoints where none is given.
 const USUAL_EVERY: u32 = 50;
 
 /// What the words of a command line ask for. The first word is the program's name.

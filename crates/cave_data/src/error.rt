@@ -35,7 +35,7 @@ pub enum Cause {
     BadBinding(BindingFlaw),
     #[error("the key is not known")]
     UnknownRole,
-    #[error("there is not enough memory")]
+    #[error("there isn't enough memory")]
     Memory,
 }
 

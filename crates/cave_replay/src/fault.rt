@@ -21,7 +21,7 @@ pub enum OpenFault {
     LogFull,
     #[error("the seed is over 2147483647")]
     BadSeed,
-    #[error("out of memory")]
+    #[error("there isn't enough memory")]
     Memory,
 }
 
@@ -38,7 +38,7 @@ pub enum EditFault {
     BadSeed,
     #[error("the meter has fewer steps left than the log would have lines")]
     MeterFull,
-    #[error("out of memory")]
+    #[error("there isn't enough memory")]
     Memory,
     #[error("the group has no edit")]
     EmptyGroup,

@@ -23,7 +23,7 @@ pub enum ScriptFault {
     /// The number, from 1, of the first malformed line, and what is wrong with it.
     #[error("line {0} of the script: {1}")]
     Malformed(usize, Flaw),
-    #[error("out of memory")]
+    #[error("there isn't enough memory")]
     Memory,
 }
 

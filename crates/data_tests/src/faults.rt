@@ -289,7 +289,7 @@ fn a_fault_of_no_line_is_told_without_one(rt: HostRuntime) -> Result<(), Fail> {
             Spot::Bindings,
             "the input is too large: bindings have at most 1,048,576 bytes",
         ),
-        (Cause::Memory, Spot::Database, "there is not enough memory"),
+        (Cause::Memory, Spot::Database, "there isn't enough memory"),
     ];
     for (cause, spot, want) in cases {
         let fault = CaveError {

@@ -16,7 +16,7 @@ fn faults_of_an_opening_say_what_is_wrong(rt: HostRuntime) -> Result<(), Fail> {
         ),
         (OpenFault::LogFull, "the log has more than 65535 lines"),
         (OpenFault::BadSeed, "the seed is over 2147483647"),
-        (OpenFault::Memory, "out of memory"),
+        (OpenFault::Memory, "there isn't enough memory"),
     ];
     for (fault, text) in texts {
         assert_eq!(rt; format!(in rt.alloc(); "{fault}")?.as_str(), text);
@@ -51,7 +51,7 @@ const TEXTS: [(EditFault, &str, &str); 7] = [
         "the meter has fewer steps left than the log would have lines",
         "the meter has fewer steps left than the log would have lines",
     ),
-    (EditFault::Memory, "out of memory", "out of memory"),
+    (EditFault::Memory, "there isn't enough memory", "there isn't enough memory"),
     (
         EditFault::EmptyGroup,
         "the group has no edit",
