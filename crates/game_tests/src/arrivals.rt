@@ -1,8 +1,9 @@
 //! What stands in the way of an arrival, places that carry on, and what is heard.
 
-use crate::hut::{game_in, lines_told, told};
+use crate::hands::{Change, place};
+use crate::hut::{Step, play_steps, told};
 use cave_words::Stream;
-use cave_world::{Dwarf, Ending, Object, Place};
+use cave_world::{Dwarf, Ending};
 use std::alloc::Global;
 use std::test::Fail;
 
@@ -55,55 +56,49 @@ fn something_hollow_is_heard(rt: HostRuntime) -> Result<(), Fail> {
         let text = told(rt.alloc(), "", bindings, log)?;
         assert!(rt; text.as_slice().ends_with(wanted.as_bytes()), "at {log}");
     }
-    let mut game = game_in(rt.alloc(), "", "place.y2 9\nplace.outside 2")?;
-    let _text = lines_told(rt.alloc(), &mut game, "no/in")?;
-    game.state.closing.is_closing = true;
-    let _text = lines_told(rt.alloc(), &mut game, "seed 0/down")?;
-    assert_eq!(rt; game.text.as_slice(), b"[dark]\n".as_slice());
-    assert_eq!(rt; game.state.stream, Stream::seeded(0));
+    let steps: [Step<'_>; 2] = [(&[], "no/in"), (&[Change::Closing], "seed 0/down")];
+    let played = play_steps(rt.alloc(), "", "place.y2 9\nplace.outside 2", &steps)?;
+    assert!(rt; played.text.as_slice().ends_with(b"?|[dark]\n"));
+    assert_eq!(rt; played.state.stream, Stream::seeded(0));
     Ok(())
 }
 
 #[test]
 fn a_bear_follows(rt: HostRuntime) -> Result<(), Fail> {
-    let mut game = game_in(rt.alloc(), ROUND, "")?;
-    let _text = lines_told(rt.alloc(), &mut game, "no")?;
-    game.state.carry(Object::new(35));
-    let text = lines_told(rt.alloc(), &mut game, "north/down/down")?;
+    let steps: [Step<'_>; 2] = [(&[], "no"), (&[Change::Carried(35)], "north/down/down")];
+    let played = play_steps(rt.alloc(), ROUND, "", &steps)?;
     assert_eq!(rt;
-        text.as_slice(),
-        b"|[bear-follows]\nRound.\n[bear-follows]\nYou are in a hut.\nA lamp is here.\n|[bear-follows]\n[dark]\n|[no-dir]\n[pit]\n".as_slice()
+        played.text.as_slice(),
+        b"[welcome]\n?You stand on a road.\n|[bear-follows]\nRound.\n[bear-follows]\nYou are in a hut.\nA lamp is here.\n|[bear-follows]\n[dark]\n|[no-dir]\n[pit]\n".as_slice()
     );
-    assert_eq!(rt; game.state.ending, Some(Ending::Killed));
-    assert_eq!(rt; game.trail(), [9, 9, 9]);
+    assert_eq!(rt; played.state.ending, Some(Ending::Killed));
+    assert_eq!(rt; played.trail(), [9, 9, 9]);
     Ok(())
 }
 
-/// What `in` prints where a dwarf came from the hut.
+/// What `in` prints where a dwarf in the cellar came from another place.
 fn told_of_dwarf(
     alloc: Global,
     sections: &str,
-    number: usize,
+    index: usize,
     last: u16,
     has_seen: bool,
 ) -> Result<Vec<u8>, Fail> {
-    let mut game = game_in(alloc, sections, "")?;
-    let _text = lines_told(alloc, &mut game, "no")?;
-    if number < 6 && last <= 300 {
-        game.state.dwarves.each[number] = Dwarf {
-            place: Place::new(9),
-            last: Place::new(last),
-            has_seen,
-        };
-    }
-    lines_told(alloc, &mut game, "in")
+    let dwarf = Dwarf {
+        place: place(9),
+        last: place(last),
+        has_seen,
+    };
+    let steps: [Step<'_>; 2] = [(&[], "no"), (&[Change::Dwarf(index, dwarf)], "in")];
+    let played = play_steps(alloc, sections, "", &steps)?;
+    Ok(played.text)
 }
 
 #[test]
 fn a_dwarf_blocks_the_way_that_it_came(rt: HostRuntime) -> Result<(), Fail> {
-    let blocked = "|[blocked]\nRoad.\n";
-    let hut = "|You are in a hut.\nA lamp is here.\n";
-    for (sections, number, last, has_seen, wanted) in [
+    let blocked = "road.\n|[blocked]\nRoad.\n";
+    let hut = "road.\n|You are in a hut.\nA lamp is here.\n";
+    for (sections, index, last, has_seen, wanted) in [
         ("", 0, 3, true, blocked),
         ("", 4, 3, true, blocked),
         ("", 5, 3, true, hut),
@@ -112,11 +107,10 @@ fn a_dwarf_blocks_the_way_that_it_came(rt: HostRuntime) -> Result<(), Fail> {
         ("9\n3 1\n-1\n", 0, 3, true, hut),
         ("9\n3 3\n-1\n", 0, 3, true, blocked),
     ] {
-        let text = told_of_dwarf(rt.alloc(), sections, number, last, has_seen)?;
-        assert_eq!(rt;
-            text.as_slice(),
-            wanted.as_bytes(),
-            "dwarf {number} from {last}"
+        let text = told_of_dwarf(rt.alloc(), sections, index, last, has_seen)?;
+        assert!(rt;
+            text.as_slice().ends_with(wanted.as_bytes()),
+            "dwarf {index} from {last}"
         );
     }
     Ok(())
@@ -124,30 +118,33 @@ fn a_dwarf_blocks_the_way_that_it_came(rt: HostRuntime) -> Result<(), Fail> {
 
 #[test]
 fn a_closing_cave_keeps_the_player_in(rt: HostRuntime) -> Result<(), Fail> {
-    let mut game = game_in(rt.alloc(), "", "")?;
-    let _text = lines_told(rt.alloc(), &mut game, "no/in")?;
-    game.state.closing.is_closing = true;
-    let text = lines_told(rt.alloc(), &mut game, "out")?;
-    let kept = b"|[closing-exit]\nHut.\nA lamp is here.\n".as_slice();
-    assert_eq!(rt; text.as_slice(), kept);
-    assert!(rt; game.state.closing.is_panicking);
-    assert_eq!(rt; game.state.closing.second_clock, 15);
-    game.state.closing.second_clock = 9;
-    let text = lines_told(rt.alloc(), &mut game, "out")?;
-    assert_eq!(rt; text.as_slice(), kept);
-    assert_eq!(rt; game.state.closing.second_clock, 9);
-    let text = lines_told(rt.alloc(), &mut game, "down")?;
-    assert_eq!(rt; text.as_slice(), b"|[dark]\n".as_slice());
+    let steps: [Step<'_>; 3] = [
+        (&[], "no/in"),
+        (&[Change::Closing], "out"),
+        (&[Change::SecondClock(9)], "out/down"),
+    ];
+    let once = play_steps(rt.alloc(), "", "", &steps[..2])?;
+    let kept = "|[closing-exit]\nHut.\nA lamp is here.\n";
+    assert!(rt; once.text.as_slice().ends_with(kept.as_bytes()));
+    assert!(rt; once.state.closing.is_panicking);
+    assert_eq!(rt; once.state.closing.second_clock, 15);
+    let again = play_steps(rt.alloc(), "", "", &steps)?;
+    let wanted = format!(in rt.alloc(); "{kept}{kept}|[dark]\n")?;
+    assert!(rt; again.text.as_slice().ends_with(wanted.as_bytes()));
+    assert_eq!(rt; again.state.closing.second_clock, 9);
     Ok(())
 }
 
 #[test]
 fn place_0_is_death(rt: HostRuntime) -> Result<(), Fail> {
-    let mut game = game_in(rt.alloc(), "3\n1 0 45\n-1\n4\n45 NORTH\n-1\n", "")?;
-    let text = lines_told(rt.alloc(), &mut game, "no/north/in/seed 5/maybe")?;
-    assert_eq!(rt; text.as_slice(), b"?You stand on a road.\n|???".as_slice());
-    assert_eq!(rt; game.state.ending, Some(Ending::Killed));
-    assert_eq!(rt; game.trail(), [0, 1, 1]);
-    assert_eq!(rt; game.state.stream, Stream::seeded(5));
+    let steps: [Step<'_>; 1] = [(&[], "no/north/in/seed 5/maybe")];
+    let played = play_steps(rt.alloc(), "3\n1 0 45\n-1\n4\n45 NORTH\n-1\n", "", &steps)?;
+    assert_eq!(rt;
+        played.text.as_slice(),
+        b"[welcome]\n?You stand on a road.\n|???".as_slice()
+    );
+    assert_eq!(rt; played.state.ending, Some(Ending::Killed));
+    assert_eq!(rt; played.trail(), [0, 1, 1]);
+    assert_eq!(rt; played.state.stream, Stream::seeded(5));
     Ok(())
 }

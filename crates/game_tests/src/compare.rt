@@ -105,16 +105,13 @@ fn is_same_dwarf(sentry: Sentry, dwarf: Dwarf) -> bool {
 }
 
 fn are_same_dwarves(world: &World, state: &State) -> bool {
-    let dwarves = state.dwarves.each;
-    if world.sentries.len() != dwarves.len() {
-        return false;
-    }
-    for (sentry, dwarf) in world.sentries.iter().zip(dwarves.iter()) {
-        if !is_same_dwarf(*sentry, *dwarf) {
+    let dwarves = state.dwarves;
+    for (index, sentry) in world.sentries.iter().enumerate() {
+        if index >= dwarves.each.len() || !is_same_dwarf(*sentry, dwarves.each[index]) {
             return false;
         }
     }
-    true
+    world.sentries.len() == dwarves.each.len()
 }
 
 /// Of the hints the instructions alone are ever taken.

@@ -2,12 +2,17 @@
 
 ghost use Rattle.cave_words.specs.Lexicon.{IsLexiconOf};
 
-use cave_data::Cave;
+use cave_data::{Cave, CaveError};
 use cave_turn::{render, start, turn};
 use cave_words::{Lexicon, Meter, check_line};
-use cave_world::{Object, Out, State};
+use cave_world::{Out, State};
 use std::alloc::Global;
 use std::test::Fail;
+
+/// The cave of a database. It promises nothing, so that what reads a cave by it is proved without the facts of `Cave::read`.
+pub fn read_cave(alloc: Global, database: &[u8], bindings: &[u8]) -> Result<Cave, CaveError> {
+    Cave::read(alloc, database, bindings)
+}
 
 /// A cave with its words, the state of a game in it, and what the game printed since it was last asked.
 #[derive(Drop)]
@@ -19,15 +24,21 @@ pub struct Game {
     ghost words: { IsLexiconOf cave lexicon },
 }
 
+/// Begins a game in a cave, and renders its greeting.
+fn greet(alloc: Global, cave: &Cave, seed: u32) -> Result<(State, Vec<u8>), Fail> {
+    let mut out = Out::new();
+    let state = start(cave, seed, &mut out);
+    let mut text = Vec::new(alloc);
+    render(cave, out.as_slice(), 0, &mut text)?;
+    Ok((state, text))
+}
+
 impl Game {
     /// A game begins.
     pub fn begin(alloc: Global, database: &[u8], bindings: &[u8], seed: u32) -> Result<Game, Fail> {
-        let cave = Cave::read(alloc, database, bindings)?;
+        let cave = read_cave(alloc, database, bindings)?;
+        let (state, text) = greet(alloc, &cave, seed)?;
         let lexicon = Lexicon::build(alloc, &cave)?;
-        let mut out = Out::new();
-        let state = start(&cave, seed, &mut out);
-        let mut text = Vec::new(alloc);
-        render(&cave, out.as_slice(), 0, &mut text)?;
         Ok(Game {
             cave,
             lexicon,
@@ -53,25 +64,5 @@ impl Game {
         self.text.clear();
         render(&self.cave, out.as_slice(), 0, &mut self.text)?;
         Ok(turned.ticked)
-    }
-
-    /// Where the player stands, where the player came from, and where from before that.
-    pub fn trail(&self) -> [u16; 3] {
-        let trail = self.state.trail;
-        [
-            trail.here.number(),
-            trail.last.number(),
-            trail.older.number(),
-        ]
-    }
-
-    /// The treasures that weren't seen yet.
-    pub fn unseen(&self) -> u16 {
-        self.state.tallies.unseen.number()
-    }
-
-    /// The prop of an object.
-    pub fn prop(&self, object: Object) -> i8 {
-        self.state.objects.prop(object).value()
     }
 }

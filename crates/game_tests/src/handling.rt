@@ -1,101 +1,104 @@
 //! Objects are taken, moved and put down.
 
+use crate::hands::{
+    anchor, anchor_at, are_carried, are_listed, carry, count_at, destroy, drop_at, holding, juggle,
+    move_to, object, whereabouts,
+};
 use cave_words::Stream;
-use cave_world::{Anchor, Half, Object, Place, State};
+use cave_world::{Anchor, Half, Place, State};
+
+const KEYS: u8 = 1;
+
+const LAMP: u8 = 2;
+
+const GRATE: u8 = 3;
 
 fn begun() -> State {
     State::starting(Place::new(1), Stream::seeded(0))
 }
 
+fn first(number: u8) -> Half {
+    Half::First(object(number))
+}
+
+fn second(number: u8) -> Half {
+    Half::Second(object(number))
+}
+
+fn is_same(state: &State, other: &State) -> bool {
+    state.is_same(other)
+}
+
 #[test]
 fn things_are_handled(rt: HostRuntime) {
     let mut state = begun();
-    let lamp = Object::new(2);
-    let keys = Object::new(1);
-    state.drop_at(lamp, Place::new(1));
-    state.drop_at(keys, Place::new(1));
-    let latest_first = [Half::First(keys), Half::First(lamp)];
-    assert_eq!(rt;
-        state.objects_at(Place::new(1)).as_slice(),
-        latest_first.as_slice()
-    );
-    assert!(rt; state.at(lamp) && state.here(lamp) && !state.toting(lamp));
-    state.carry(lamp);
-    assert!(rt; !state.at(lamp) && state.here(lamp) && state.toting(lamp));
-    assert_eq!(rt; state.holding(), 1);
-    state.carry(keys);
-    assert_eq!(rt; state.objects.carried().as_slice(), [keys, lamp].as_slice());
-    state.destroy(keys);
-    assert_eq!(rt; state.holding(), 1);
-    assert!(rt; state.objects_at(Place::new(1)).is_empty());
-    assert!(rt; !state.toting(Object::none()) && !state.at(Object::none()));
+    drop_at(&mut state, LAMP, 1);
+    drop_at(&mut state, KEYS, 1);
+    assert!(rt; are_listed(&state, 1, &[first(KEYS), first(LAMP)]));
+    assert_eq!(rt; whereabouts(&state, LAMP), [true, true, false]);
+    carry(&mut state, LAMP);
+    assert_eq!(rt; whereabouts(&state, LAMP), [false, true, true]);
+    assert_eq!(rt; holding(&state), 1);
+    carry(&mut state, KEYS);
+    assert!(rt; are_carried(&state, &[object(KEYS), object(LAMP)]));
+    destroy(&mut state, KEYS);
+    assert_eq!(rt; holding(&state), 1);
+    assert_eq!(rt; count_at(&state, 1), 0);
+    assert_eq!(rt; whereabouts(&state, 0), [false, false, false]);
 }
 
 #[test]
 fn a_second_half_stays(rt: HostRuntime) {
     let mut state = begun();
-    let grate = Object::new(3);
-    state.objects.anchor_to(grate, Anchor::at(Place::new(1)));
-    state.move_to(grate, Place::new(9));
-    assert!(rt; state.at(grate) && !state.here(grate));
-    state.carry(grate);
-    let second = [Half::Second(grate)];
-    assert_eq!(rt;
-        state.objects_at(Place::new(1)).as_slice(),
-        second.as_slice()
-    );
-    state.objects.anchor_to(grate, Anchor::Fixed);
-    assert!(rt; state.objects_at(Place::new(1)).is_empty());
+    anchor_at(&mut state, GRATE, 1);
+    move_to(&mut state, GRATE, 9);
+    assert_eq!(rt; whereabouts(&state, GRATE), [true, false, false]);
+    carry(&mut state, GRATE);
+    assert!(rt; are_listed(&state, 1, &[second(GRATE)]));
+    anchor(&mut state, GRATE, Anchor::Fixed);
+    assert_eq!(rt; count_at(&state, 1), 0);
 }
 
 #[test]
 fn all_halves_stand_at_one_place(rt: HostRuntime) {
     let mut state = begun();
-    let hall = Place::new(300);
     for number in 1..101 {
-        state
-            .objects
-            .anchor_to(Object::new(number), Anchor::at(hall));
-        state.move_to(Object::new(number), hall);
+        anchor_at(&mut state, number, 300);
+        move_to(&mut state, number, 300);
     }
-    let halves = state.objects_at(hall);
+    let halves = state.objects_at(Place::new(300));
     assert_eq!(rt; halves.len(), 200);
-    assert_eq!(rt; halves.first(), Some(&Half::First(Object::new(100))));
-    assert_eq!(rt; halves.last(), Some(&Half::Second(Object::new(1))));
-    state.move_to(Object::new(1), hall);
-    assert_eq!(rt; state.objects_at(hall).len(), 200);
+    assert_eq!(rt; halves.first(), Some(&first(100)));
+    assert_eq!(rt; halves.last(), Some(&second(1)));
+    move_to(&mut state, 1, 300);
+    assert_eq!(rt; count_at(&state, 300), 200);
 }
 
 #[test]
 fn equal_lists_are_equal_states(rt: HostRuntime) {
-    let (lamp, keys) = (Object::new(2), Object::new(1));
     let mut once = begun();
-    once.move_to(lamp, Place::new(1));
-    once.move_to(keys, Place::new(1));
+    move_to(&mut once, LAMP, 1);
+    move_to(&mut once, KEYS, 1);
     let mut again = once;
-    again.carry(lamp);
-    again.carry(keys);
-    again.move_to(lamp, Place::new(7));
-    again.move_to(lamp, Place::new(1));
-    again.drop_at(keys, Place::new(1));
-    assert!(rt; again.is_same(&once));
-    again.carry(lamp);
-    again.drop_at(lamp, Place::new(1));
-    assert!(rt; !again.is_same(&once));
+    carry(&mut again, LAMP);
+    carry(&mut again, KEYS);
+    move_to(&mut again, LAMP, 7);
+    move_to(&mut again, LAMP, 1);
+    drop_at(&mut again, KEYS, 1);
+    assert!(rt; is_same(&again, &once));
+    carry(&mut again, LAMP);
+    drop_at(&mut again, LAMP, 1);
+    assert!(rt; !is_same(&again, &once));
 }
 
 #[test]
 fn both_halves_are_juggled(rt: HostRuntime) {
+    let (chasm, axe) = (4, 5);
     let mut state = begun();
-    let (chasm, axe) = (Object::new(4), Object::new(5));
-    state.objects.anchor_to(chasm, Anchor::at(Place::new(2)));
-    state.move_to(chasm, Place::new(1));
-    state.move_to(axe, Place::new(1));
-    state.objects.juggle(chasm);
-    let latest_first = [Half::First(chasm), Half::First(axe)];
-    assert_eq!(rt;
-        state.objects_at(Place::new(1)).as_slice(),
-        latest_first.as_slice()
-    );
-    assert_eq!(rt; state.objects_at(Place::new(2)).len(), 1);
+    anchor_at(&mut state, chasm, 2);
+    move_to(&mut state, chasm, 1);
+    move_to(&mut state, axe, 1);
+    juggle(&mut state, chasm);
+    assert!(rt; are_listed(&state, 1, &[first(chasm), first(axe)]));
+    assert_eq!(rt; count_at(&state, 2), 1);
 }

@@ -12,6 +12,8 @@ mod game;
 #[cfg(test)]
 mod handling;
 #[cfg(test)]
+mod hands;
+#[cfg(test)]
 mod hut;
 #[cfg(test)]
 mod model;

@@ -1,7 +1,7 @@
 //! The motions that have rules of their own, and those that no row lists.
 
-use crate::hut::{game_in, told};
-use cave_world::Place;
+use crate::hands::visits;
+use crate::hut::{play_steps, told};
 use std::alloc::Global;
 use std::process::Abort;
 use std::test::Fail;
@@ -77,11 +77,8 @@ fn back_is_read_by_the_rows_alone(rt: HostRuntime) -> Result<(), Fail> {
 
 #[test]
 fn going_back_moves_the_trail_once(rt: HostRuntime) -> Result<(), Fail> {
-    let mut game = game_in(rt.alloc(), "", "")?;
-    for line in ["no", "in", "down", "back"] {
-        let _ticked = game.play(line.as_bytes())?;
-    }
-    assert_eq!(rt; game.trail(), [3, 9, 3]);
+    let played = play_steps(rt.alloc(), "", "", &[(&[], "no/in/down/back")])?;
+    assert_eq!(rt; played.trail(), [3, 9, 3]);
     Ok(())
 }
 
@@ -108,12 +105,9 @@ fn the_cave_is_in_or_out(rt: HostRuntime) -> Result<(), Fail> {
 
 #[test]
 fn staying_and_looking_leave_the_trail(rt: HostRuntime) -> Result<(), Fail> {
-    let mut game = game_in(rt.alloc(), BARN, "")?;
-    for line in ["no", "in", "null", "look", "cave"] {
-        let _ticked = game.play(line.as_bytes())?;
-    }
-    assert_eq!(rt; game.trail(), [3, 1, 1]);
-    assert_eq!(rt; game.state.visits(Place::new(3)).number(), 2);
+    let played = play_steps(rt.alloc(), BARN, "", &[(&[], "no/in/null/look/cave")])?;
+    assert_eq!(rt; played.trail(), [3, 1, 1]);
+    assert_eq!(rt; visits(&played.state, 3), 2);
     Ok(())
 }
 

@@ -1,15 +1,30 @@
 //! Which row of a place a motion takes.
 
-use cave_data::Cave;
+use crate::game::read_cave;
+use crate::hands::{anchor_at, carry, move_to, object, place, set_prop, whereabouts};
 use cave_words::Stream;
-use cave_world::{Anchor, Object, Outcome, Place, Prop, Special, State, travel};
+use cave_world::{Outcome, Place, Special, State, travel};
 use std::alloc::Global;
 use std::test::Fail;
 
-/// A cave that has these rows of travel alone.
-fn cave_of(alloc: Global, rows: &str) -> Result<Cave, Fail> {
+/// The number of the emerald.
+const EMERALD: u8 = 59;
+
+/// Where a motion leads in a cave that has these rows of travel alone.
+fn led(
+    alloc: Global,
+    rows: &str,
+    emerald: u8,
+    state: &mut State,
+    motion: u16,
+) -> Result<Outcome, Fail> {
     let database = format!(in alloc; "3\n{rows}-1\n0\n")?;
-    Ok(Cave::read(alloc, database.as_bytes(), b"")?)
+    let cave = read_cave(alloc, database.as_bytes(), b"")?;
+    Ok(travel(&cave, object(emerald), state, motion))
+}
+
+fn go(number: u16) -> Outcome {
+    Outcome::Go(place(number))
 }
 
 fn in_place(seed: u32) -> State {
@@ -19,14 +34,10 @@ fn in_place(seed: u32) -> State {
 /// Whether the condition holds, and whether it took a draw.
 fn told(alloc: Global, state: &State, condition: u16) -> Result<(bool, bool), Fail> {
     let rows = format!(in alloc; "15 {condition}014 29\n15 16 29\n")?;
-    let cave = cave_of(alloc, rows.as_str())?;
     let mut state = *state;
     let before = state.stream;
-    let outcome = travel(&cave, Object::none(), &mut state, 29);
-    Ok((
-        outcome == Outcome::Go(Place::new(14)),
-        state.stream != before,
-    ))
+    let outcome = led(alloc, rows.as_str(), 0, &mut state, 29)?;
+    Ok((outcome == go(14), state.stream != before))
 }
 
 #[test]
@@ -74,12 +85,11 @@ fn chances_hold_below_their_bound(rt: HostRuntime) -> Result<(), Fail> {
 #[test]
 fn conditions_look_at_objects(rt: HostRuntime) -> Result<(), Fail> {
     let mut carried = in_place(0);
-    carried.carry(Object::new(1));
-    carried.carry(Object::new(100));
+    carry(&mut carried, 1);
+    carry(&mut carried, 100);
     let mut near = in_place(0);
-    near.move_to(Object::new(1), Place::new(15));
-    near.objects
-        .anchor_to(Object::new(100), Anchor::at(Place::new(15)));
+    move_to(&mut near, 1, 15);
+    anchor_at(&mut near, 100, 15);
     for (condition, in_hand, beside) in [
         (101, true, false),
         (102, false, false),
@@ -99,8 +109,8 @@ fn conditions_look_at_objects(rt: HostRuntime) -> Result<(), Fail> {
 #[test]
 fn conditions_look_at_props(rt: HostRuntime) -> Result<(), Fail> {
     let mut state = in_place(0);
-    state.objects.set_prop(Object::new(1), Prop::new(1));
-    state.objects.set_prop(Object::new(99), Prop::new(6));
+    set_prop(&mut state, 1, 1);
+    set_prop(&mut state, 99, 6);
     for (condition, want) in [(301, true), (401, false), (999, false), (399, true)] {
         let told = told(rt.alloc(), &state, condition)?;
         assert_eq!(rt; told, (want, false), "at {condition}");
@@ -111,8 +121,8 @@ fn conditions_look_at_props(rt: HostRuntime) -> Result<(), Fail> {
 #[test]
 fn numbers_lead(rt: HostRuntime) -> Result<(), Fail> {
     for (number, want) in [
-        (0, Outcome::Go(Place::new(0))),
-        (300, Outcome::Go(Place::new(300))),
+        (0, go(0)),
+        (300, go(300)),
         (301, Outcome::Special(Special::Squeeze)),
         (302, Outcome::NoWay),
         (303, Outcome::Special(Special::Bridge)),
@@ -122,8 +132,7 @@ fn numbers_lead(rt: HostRuntime) -> Result<(), Fail> {
         (999, Outcome::Say(499)),
     ] {
         let rows = format!(in rt.alloc(); "15 {number} 29\n")?;
-        let cave = cave_of(rt.alloc(), rows.as_str())?;
-        let outcome = travel(&cave, Object::none(), &mut in_place(0), 29);
+        let outcome = led(rt.alloc(), rows.as_str(), 0, &mut in_place(0), 29)?;
         assert_eq!(rt; outcome, want, "at {number}");
     }
     Ok(())
@@ -131,56 +140,39 @@ fn numbers_lead(rt: HostRuntime) -> Result<(), Fail> {
 
 #[test]
 fn a_failed_row_passes_its_like(rt: HostRuntime) -> Result<(), Fail> {
-    let cave = cave_of(rt.alloc(), "15 110022 29\n15 110022 31\n15 14 40\n")?;
+    let rows = "15 110022 29\n15 110022 31\n15 14 40\n";
     let mut state = in_place(0);
-    for (motion, want) in [
-        (29, Outcome::Go(Place::new(14))),
-        (40, Outcome::Go(Place::new(14))),
-        (41, Outcome::NoMotion),
-    ] {
-        let outcome = travel(&cave, Object::none(), &mut state, motion);
+    for (motion, want) in [(29, go(14)), (40, go(14)), (41, Outcome::NoMotion)] {
+        let outcome = led(rt.alloc(), rows, 0, &mut state, motion)?;
         assert_eq!(rt; outcome, want, "by {motion}");
     }
-    state.carry(Object::new(10));
-    let outcome = travel(&cave, Object::none(), &mut state, 31);
-    assert_eq!(rt; outcome, Outcome::Go(Place::new(22)));
+    carry(&mut state, 10);
+    let outcome = led(rt.alloc(), rows, 0, &mut state, 31)?;
+    assert_eq!(rt; outcome, go(22));
     Ok(())
 }
 
 #[test]
 fn chances_are_drawn(rt: HostRuntime) -> Result<(), Fail> {
-    let cave = cave_of(rt.alloc(), "15 25006 44\n15 7 44\n")?;
+    let rows = "15 25006 44\n15 7 44\n";
     for (seed, want) in [(221_587, 6), (629_005, 7)] {
-        let outcome = travel(&cave, Object::none(), &mut in_place(seed), 44);
-        assert_eq!(rt; outcome, Outcome::Go(Place::new(want)), "from {seed}");
+        let outcome = led(rt.alloc(), rows, 0, &mut in_place(seed), 44)?;
+        assert_eq!(rt; outcome, go(want), "from {seed}");
     }
     Ok(())
 }
 
 #[test]
 fn the_emerald_is_left_behind(rt: HostRuntime) -> Result<(), Fail> {
-    let cave = cave_of(rt.alloc(), "15 159302 71\n15 159302 72\n15 101033 71\n")?;
-    let emerald = Object::new(59);
-    let mut state = in_place(0);
-    state.carry(emerald);
-    let outcome = travel(&cave, emerald, &mut state, 71);
-    assert_eq!(rt; outcome, Outcome::NoWay);
-    assert!(rt; state.at(emerald));
-    assert!(rt; !state.toting(emerald));
-    Ok(())
-}
-
-#[test]
-fn the_row_behind_the_emerald_is_taken(rt: HostRuntime) -> Result<(), Fail> {
-    let cave = cave_of(
-        rt.alloc(),
-        "15 159302 71\n15 159302 71\n15 33 72\n15 34 71\n",
-    )?;
-    let emerald = Object::new(59);
-    let mut state = in_place(0);
-    state.carry(emerald);
-    let outcome = travel(&cave, emerald, &mut state, 71);
-    assert_eq!(rt; outcome, Outcome::Go(Place::new(33)));
-    assert!(rt; state.at(emerald));
+    for (rows, want) in [
+        ("15 159302 71\n15 159302 72\n15 101033 71\n", Outcome::NoWay),
+        ("15 159302 71\n15 159302 71\n15 33 72\n15 34 71\n", go(33)),
+    ] {
+        let mut state = in_place(0);
+        carry(&mut state, EMERALD);
+        let outcome = led(rt.alloc(), rows, EMERALD, &mut state, 71)?;
+        assert_eq!(rt; outcome, want, "by {rows}");
+        assert_eq!(rt; whereabouts(&state, EMERALD), [true, true, false]);
+    }
     Ok(())
 }

@@ -1,5 +1,6 @@
 //! What lines of a log print.
 
+use crate::game::read_cave;
 use crate::hut::{HUT, told};
 use cave_data::Cave;
 use cave_turn::{render, start};
@@ -179,18 +180,28 @@ fn enters_water(rt: HostRuntime) -> Result<(), Fail> {
     end_all(&rt, rt.alloc(), &cases)
 }
 
-/// Whether the greeting is rendered whole, or the text stays as it was.
-fn is_whole_or_nothing(alloc: Global) -> Option<bool> {
-    let mut database = Vec::from_slice(alloc, HUT.as_bytes()).ok()?;
-    database.extend_from_slice(b"0\n").ok()?;
-    let cave = Cave::read(alloc, database.as_slice(), b"").ok()?;
+/// What is printed as a game begins.
+fn greeting(cave: &Cave) -> Out {
     let mut out = Out::new();
-    let _state = start(&cave, 0, &mut out);
-    let mut text = Vec::from_slice(alloc, b"before ").ok()?;
-    Some(match render(&cave, out.as_slice(), 0, &mut text) {
+    let _state = start(cave, 0, &mut out);
+    out
+}
+
+/// Whether the greeting is rendered whole behind a text, or the text stays as it was.
+fn is_rendered_whole_or_not(cave: &Cave, text: &mut Vec<u8>) -> bool {
+    let out = greeting(cave);
+    match render(cave, out.as_slice(), 0, text) {
         Ok(()) => text.as_slice() == b"before [welcome]\n".as_slice(),
         Err(_) => text.as_slice() == b"before ".as_slice(),
-    })
+    }
+}
+
+/// The same in the hut's cave, where there is memory to read it.
+fn is_whole_or_nothing(alloc: Global) -> Option<bool> {
+    let database = [HUT.as_bytes(), b"0\n"].concat(alloc).ok()?;
+    let cave = read_cave(alloc, database.as_slice(), b"").ok()?;
+    let mut text = Vec::from_slice(alloc, b"before ").ok()?;
+    Some(is_rendered_whole_or_not(&cave, &mut text))
 }
 
 // It holds also where an allocation is refused, whichever it is.
