@@ -7,7 +7,8 @@ use crate::machines::hasher::Hasher;
 use crate::machines::rule::Rule;
 use crate::machines::walker::Walker;
 use crate::plain::Plain;
-use crate::sessions::{Play, open};
+use crate::play::Play;
+use crate::sessions::open;
 use crate::shown::{expect_shown, expect_spaced};
 use crate::wanted::{Plan, agree, from, make_plan, met};
 use cave_replay::{Edit, EditFault, GroupFault, GroupReport};
@@ -40,9 +41,8 @@ fn make<R: Rule>(
     edits: &[Edit],
     meter: &mut Meter,
 ) -> Result<Result<GroupReport, GroupFault>, AllocError> {
-    assert!(rt; edits.len() < 100);
     let [edit] = edits else {
-        return Ok(session.edit_group(edits, meter));
+        return Ok(session.edit_group(rt, edits, meter));
     };
     match session.edit(edit, meter) {
         Ok(report) => {

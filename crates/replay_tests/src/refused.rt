@@ -4,8 +4,9 @@
 //! has changed, and that the same call with ample memory gives what it gives to a session to which nothing happened.
 
 use crate::edits::{Change, STAIRS, are_same, edits_of, flat, is_same};
+use crate::machines::counter::Counter;
 use crate::machines::counts::Counts;
-use crate::sessions::{Counting, counter};
+use crate::play::{Counting, Play};
 use crate::shown::show_the_same;
 use cave_replay::{Edit, EditFault, GroupFault, GroupReport, OpenFault, Report};
 use cave_words::{Meter, Steps};
@@ -22,22 +23,22 @@ fn open<'a>(
     every: u32,
 ) -> Result<Counting<'a>, Fail> {
     let mut meter = Meter::new();
-    let fault = match Counting::open(alloc, counter(counts), 7, log, every, &mut meter) {
+    let fault = match Play::open(alloc, Counter, counts, 7, log, every, &mut meter) {
         Ok(session) => return Ok(session),
         Err(fault) => fault,
     };
     assert_eq!(rt; fault, OpenFault::Memory);
     assert_eq!(rt; counts.steps(), meter.used());
-    let session = Counting::open(alloc, counter(counts), 7, log, every, &mut Meter::new())?;
+    let session = Play::open(alloc, Counter, counts, 7, log, every, &mut Meter::new())?;
     assert!(rt; meter.used() <= u64::from(session.lines()));
     Ok(session)
 }
 
 /// A copy of a session, made once more where memory is refused.
 fn copy<'a>(session: &Counting<'a>, counts: &'a Counts) -> Result<Counting<'a>, AllocError> {
-    match session.copy(counter(counts)) {
+    match session.copy(Counter, counts) {
         Ok(copy) => Ok(copy),
-        Err(_) => session.copy(counter(counts)),
+        Err(_) => session.copy(Counter, counts),
     }
 }
 
@@ -118,15 +119,14 @@ fn edit_group_at_last(
     copy: &Counting<'_>,
     edits: &[Edit],
 ) -> Result<GroupReport, Fail> {
-    assert!(rt; edits.len() < 100);
     let mut meter = Meter::new();
-    let fault = match session.edit_group(edits, &mut meter) {
+    let fault = match session.edit_group(rt, edits, &mut meter) {
         Ok(report) => return Ok(report),
         Err(fault) => fault,
     };
     expect_memory(rt, fault);
     assert!(rt; show_the_same(session, copy));
-    let report = session.edit_group(edits, &mut Meter::new())?;
+    let report = session.edit_group(rt, edits, &mut Meter::new())?;
     assert!(rt; meter.used() <= u64::from(report.played));
     Ok(report)
 }
@@ -137,12 +137,11 @@ fn edit_copy_by_group(
     copy: &mut Counting<'_>,
     edits: &[Edit],
 ) -> Result<GroupReport, Fail> {
-    assert!(rt; edits.len() < 100);
-    match copy.edit_group(edits, &mut Meter::new()) {
+    match copy.edit_group(rt, edits, &mut Meter::new()) {
         Ok(report) => Ok(report),
         Err(fault) => {
             expect_memory(rt, fault);
-            Ok(copy.edit_group(edits, &mut Meter::new())?)
+            Ok(copy.edit_group(rt, edits, &mut Meter::new())?)
         }
     }
 }
@@ -221,8 +220,8 @@ fn a_refused_opening_is_want_of_memory(rt: HostRuntime) -> Result<(), Fail> {
     let counts = Counts::new();
     let session = open(&rt, rt.alloc(), &counts, b"a\nbb\n\nccc\n", 1)?;
     assert_eq!(rt; session.lines(), 4);
-    assert_eq!(rt; session.state().number, 3);
-    assert_eq!(rt; session.opening().as_slice(), [7].as_slice());
+    assert_eq!(rt; session.number(), 3);
+    assert_eq!(rt; session.opening(), [7].as_slice());
     Ok(())
 }
 
