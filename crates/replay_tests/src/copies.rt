@@ -1,12 +1,11 @@
 //! Copies of sessions.
 
-use crate::edits::{Change, STAIRS, edits_of};
+use crate::edits::{Change, STAIRS};
 use crate::machines::counter::Counter;
 use crate::machines::counts::Counts;
 use crate::play::Counting;
-use crate::sessions::{copy, open};
+use crate::sessions::{copy, make_group, open};
 use crate::shown::show_the_same;
-use cave_words::Meter;
 use std::alloc::Global;
 use std::process::Abort;
 use std::test::Fail;
@@ -18,7 +17,7 @@ fn change(rt: &impl Abort, alloc: Global, session: &mut Counting<'_>) -> Result<
         Change::Reseed(1),
         Change::Insert(0, b""),
     ];
-    let _ = session.edit_group(rt, &edits_of(alloc, &changes)?, &mut Meter::new())?;
+    make_group(rt, alloc, session, &changes, u64::MAX)?;
     assert_eq!(rt; session.seed(), 1);
     Ok(())
 }
@@ -64,7 +63,9 @@ fn expect_changed_alone(
     same: &mut Counting<'_>,
 ) -> Result<(), Fail> {
     change(rt, alloc, session)?;
-    assert!(rt; (same.seed(), same.lines()) == (9, 10) && !show_the_same(same, session));
+    assert_eq!(rt; same.seed(), 9);
+    assert_eq!(rt; same.lines(), 10);
+    assert!(rt; !show_the_same(same, session));
     change(rt, alloc, same)?;
     assert!(rt; show_the_same(same, session));
     Ok(())

@@ -1,11 +1,11 @@
 //! Meters that are nearly full, and full logs.
 
-use crate::edits::{Change, edits_of, flat};
+use crate::edits::{Change, flat};
 use crate::machines::counter::Counter;
 use crate::machines::counts::Counts;
 use crate::play::Counting;
 use crate::sessions::{
-    copy, expect_all_refused, expect_group, expect_group_refused, expect_refused, open,
+    copy, expect_all_refused, expect_group, expect_group_refused, expect_refused, make_group, open,
 };
 use crate::shown::show_the_same;
 use cave_replay::{Edit, EditFault};
@@ -60,19 +60,6 @@ fn an_edit_wants_as_many_steps_as_the_new_log_has_lines(rt: HostRuntime) -> Resu
     ] {
         expect_needed(&rt, alloc, &mut session, &old, change, needed)?;
     }
-    Ok(())
-}
-
-/// Makes a group where the meter has so many steps left.
-fn make_group(
-    rt: &impl Abort,
-    alloc: Global,
-    session: &mut Counting<'_>,
-    changes: &[Change<'_>],
-    left: u64,
-) -> Result<(), Fail> {
-    let mut meter = Meter::starting(u64::MAX - left);
-    let _ = session.edit_group(rt, &edits_of(alloc, changes)?, &mut meter)?;
     Ok(())
 }
 

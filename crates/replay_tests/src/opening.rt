@@ -28,10 +28,9 @@ fn a_log_is_cut_into_lines_and_played(rt: HostRuntime) -> Result<(), Fail> {
     let log = b"a\r\nbcd\n\nab";
     let session = open(&rt, rt.alloc(), Counter, &counts, 263, log, 1)?;
     expect_lengths(&rt, &session, &[1, 3, 0, 2]);
-    assert_eq!(rt;
-        (session.seed(), session.every(), session.number()),
-        (263, 1, 2)
-    );
+    assert_eq!(rt; session.seed(), 263);
+    assert_eq!(rt; session.every(), 1);
+    assert_eq!(rt; session.number(), 2);
     assert_eq!(rt; session.opening(), [7].as_slice());
     expect_lines(&rt, &session, &[b"a".as_slice(), b"bcd", b"", b"ab"]);
     expect_spaced(&rt, &session);
@@ -61,7 +60,8 @@ fn expect_closed(
     let mut meter = Meter::new();
     let opened = Play::open(alloc, Counter, &counts, seed, log, every, &mut meter);
     assert!(rt; opened.err() == Some(fault), "{fault:?}");
-    assert_eq!(rt; (meter.used(), counts.steps()), (0, 0));
+    assert_eq!(rt; meter.used(), 0);
+    assert_eq!(rt; counts.steps(), 0);
 }
 
 #[test]

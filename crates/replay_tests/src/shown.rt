@@ -38,44 +38,42 @@ fn expect_rows<R: Rule>(rt: &impl Abort, session: &Play<'_, R>, plain: &Plain) {
 pub(crate) fn expect_shown<R: Rule>(rt: &impl Abort, session: &Play<'_, R>, plain: &Plain) {
     let lines = plain.lines.len();
     assert_eq!(rt; session.seed(), plain.seed);
-    assert_eq!(rt;
-        (session.lines() as usize, session.pieces()),
-        (lines, lines)
-    );
+    assert_eq!(rt; session.lines() as usize, lines);
+    assert_eq!(rt; session.pieces(), lines);
     assert_eq!(rt; Some(session.number()), plain.states.last().copied());
     let opening = session.opening().first().copied();
     assert_eq!(rt; opening, Some(R::begun(plain.seed)));
     expect_rows(rt, session, plain);
 }
 
+/// Whether a checkpoint may follow the last one and the one before it. The first of them all stands at the front.
+fn may_follow(index: usize, place: usize, last: usize, before: usize, every: usize) -> bool {
+    if index == 0 {
+        return place == 0;
+    }
+    let far = index < 2 || place > every.saturating_add(before);
+    far && last < place && place <= last.saturating_add(every)
+}
+
+/// The most checkpoints that are spaced.
+fn most_spaced(every: usize, lines: usize) -> usize {
+    let stretches = lines / every.max(1).saturating_add(1);
+    stretches.saturating_mul(2).saturating_add(2)
+}
+
 /// That the checkpoints of a session are spaced.
 pub(crate) fn expect_spaced<R: Rule>(rt: &impl Abort, session: &Play<'_, R>) {
     let (every, lines) = (session.every() as usize, session.lines() as usize);
-    let mut last = 0usize;
-    let mut before = None;
+    let (mut before, mut last) = (0usize, 0usize);
     for (index, place) in session.checkpoints().iter().enumerate() {
         let place = *place as usize;
-        match before {
-            None => assert_eq!(rt; place, 0),
-            Some(second) => {
-                assert!(rt;
-                    last < place && place <= last.saturating_add(every),
-                    "at {place}"
-                );
-                assert!(rt;
-                    index < 2 || place > every.saturating_add(second),
-                    "at {place}"
-                );
-            }
-        }
-        before = Some(last);
+        assert!(rt; may_follow(index, place, last, before, every), "at {place}");
+        before = last;
         last = place;
     }
-    assert!(rt; last <= lines && lines <= last.saturating_add(every));
-    let most = (lines / every.max(1).saturating_add(1))
-        .saturating_mul(2)
-        .saturating_add(2);
-    assert!(rt; session.checkpoints().len() <= most);
+    assert!(rt; last <= lines);
+    assert!(rt; lines <= last.saturating_add(every));
+    assert!(rt; session.checkpoints().len() <= most_spaced(every, lines));
 }
 
 /// Whether two sessions show the same at each place of their logs.
