@@ -1,11 +1,11 @@
 //! Copies of sessions.
 
-use crate::edits::{Change, STAIRS, edits_of};
+use crate::edits::{Change, STAIRS};
 use crate::machines::counter::Counter;
 use crate::machines::counts::Counts;
-use crate::sessions::{Counting, copy, open};
+use crate::play::Counting;
+use crate::sessions::{copy, make_group, open};
 use crate::shown::show_the_same;
-use cave_words::Meter;
 use std::alloc::Global;
 use std::process::Abort;
 use std::test::Fail;
@@ -17,18 +17,21 @@ fn change(rt: &impl Abort, alloc: Global, session: &mut Counting<'_>) -> Result<
         Change::Reseed(1),
         Change::Insert(0, b""),
     ];
-    let group = edits_of(alloc, &changes)?;
-    assert!(rt; group.len() < 100);
-    let _ = session.edit_group(&group, &mut Meter::new())?;
+    make_group(rt, alloc, session, &changes, u64::MAX)?;
     assert_eq!(rt; session.seed(), 1);
     Ok(())
 }
 
 /// That a copy shows the same, and that making it plays nothing and copies each piece and the greeting.
-fn expect_copy(rt: &impl Abort, session: &Counting<'_>, counts: &Counts) -> Result<(), Fail> {
+fn expect_copy<'a>(
+    rt: &impl Abort,
+    session: &Counting<'a>,
+    counts: &'a Counts,
+) -> Result<(), Fail> {
     let (steps, copies) = (counts.steps(), counts.copies());
     let copied = copy(session, counts)?;
     assert!(rt; show_the_same(&copied, session));
+    drop(copied);
     assert_eq!(rt; counts.steps(), steps);
     let pieces = counts.copies().saturating_sub(copies);
     assert_eq!(rt; pieces, u64::from(session.lines()).saturating_add(1));
@@ -52,14 +55,26 @@ fn a_copy_shows_the_same_and_plays_nothing(rt: HostRuntime) -> Result<(), Fail> 
     Ok(())
 }
 
+/// That two sessions that show the same are changed one at a time, and show the same then.
+fn expect_changed_alone(
+    rt: &impl Abort,
+    alloc: Global,
+    session: &mut Counting<'_>,
+    same: &mut Counting<'_>,
+) -> Result<(), Fail> {
+    change(rt, alloc, session)?;
+    assert_eq!(rt; same.seed(), 9);
+    assert_eq!(rt; same.lines(), 10);
+    assert!(rt; !show_the_same(same, session));
+    change(rt, alloc, same)?;
+    assert!(rt; show_the_same(same, session));
+    Ok(())
+}
+
 #[test]
 fn a_copy_and_its_original_change_alone(rt: HostRuntime) -> Result<(), Fail> {
     let counts = Counts::new();
     let mut session = open(&rt, rt.alloc(), Counter, &counts, 9, STAIRS, 2)?;
     let mut same = copy(&session, &counts)?;
-    change(&rt, rt.alloc(), &mut session)?;
-    assert!(rt; same.seed() == 9 && same.lines() == 10 && !show_the_same(&same, &session));
-    change(&rt, rt.alloc(), &mut same)?;
-    assert!(rt; show_the_same(&same, &session));
-    Ok(())
+    expect_changed_alone(&rt, rt.alloc(), &mut session, &mut same)
 }

@@ -5,6 +5,7 @@ use crate::machines::counter::Counter;
 use crate::machines::counts::Counts;
 use crate::machines::hasher::Hasher;
 use crate::machines::rule::Rule;
+use crate::play::Play;
 use crate::sessions::open;
 use cave_words::Meter;
 use std::alloc::Global;
@@ -16,6 +17,18 @@ const LENGTHS: [(usize, u32); 3] = [(600, 300), (6_000, 3_000), (60_000, 30_000)
 
 /// How many lines one edit plays, how many states it compares, and how many pieces it copies.
 type Cost = (u64, u64, u64);
+
+/// Inserts a line. Tells where the plays met.
+fn insert<R: Rule>(
+    alloc: Global,
+    session: &mut Play<'_, R>,
+    at: u32,
+    line: &[u8],
+) -> Result<Option<u32>, Fail> {
+    let edit = Change::Insert(at, line).edit(alloc)?;
+    let report = session.edit(&edit, &mut Meter::new())?;
+    Ok(report.met)
+}
 
 /// What it costs to insert a line at a checkpoint in the middle of a log of one-letter lines, and where the plays met.
 fn cost_of_an_insert<R: Rule>(
@@ -30,12 +43,11 @@ fn cost_of_an_insert<R: Rule>(
     let mut session = open(rt, alloc, rule, &counts, 0, &flat(alloc, lines)?, 50)?;
     assert!(rt; session.checkpoints().contains(&at));
     let (steps, comparisons) = (counts.steps(), counts.comparisons());
-    let edit = Change::Insert(at, line).edit(alloc)?;
-    let report = session.edit(&edit, &mut Meter::new())?;
+    let met = insert(alloc, &mut session, at, line)?;
     let played = counts.steps().saturating_sub(steps);
     let compared = counts.comparisons().saturating_sub(comparisons);
     drop(session);
-    Ok(((played, compared, counts.copies()), report.met))
+    Ok(((played, compared, counts.copies()), met))
 }
 
 #[test]

@@ -3,10 +3,11 @@
 use crate::edits::{Change, STAIRS, letters, stairs};
 use crate::machines::counter::Counter;
 use crate::machines::counts::Counts;
+use crate::play::Counting;
 use crate::sessions::{
-    Counting, copy, expect_edit, expect_edits, expect_lines, expect_refused, open,
+    copy, expect_all_refused, expect_edit, expect_edits, expect_lines, expect_refused, open,
 };
-use crate::shown::{expect_spaced, list_at, show_the_same, show_the_same_game};
+use crate::shown::{expect_spaced, show_the_same, show_the_same_game};
 use cave_replay::{Edit, EditFault};
 use cave_words::Meter;
 use std::alloc::Global;
@@ -20,8 +21,8 @@ fn a_replaced_line_is_met_behind_the_next(rt: HostRuntime) -> Result<(), Fail> {
     let mut session = open(&rt, alloc, Counter, &counts, 0, STAIRS, 1)?;
     let (old, new) = (Change::Replace(5, b"aaaaaa"), Change::Replace(5, b"aaaa"));
     expect_edit(&rt, alloc, &mut session, new, (5, Some(7), 2), old)?;
-    assert_eq!(rt; session.state().number, 10);
-    assert_eq!(rt; list_at(session.pieces(), 5), [4].as_slice());
+    assert_eq!(rt; session.number(), 10);
+    assert_eq!(rt; session.piece(5), [4].as_slice());
     expect_spaced(&rt, &session);
     expect_edit(&rt, alloc, &mut session, old, (5, Some(7), 2), new)
 }
@@ -31,7 +32,7 @@ fn replace_the_sixth(rt: &impl Abort, alloc: Global, every: u32) -> Result<(u32,
     let counts = Counts::new();
     let mut session = open(rt, alloc, Counter, &counts, 0, &stairs(alloc, 40)?, every)?;
     let report = session.edit(&Change::Replace(5, b"aaaa").edit(alloc)?, &mut Meter::new())?;
-    assert_eq!(rt; session.state().number, 40);
+    assert_eq!(rt; session.number(), 40);
     Ok((report.from, report.met.unwrap_or(0), report.played))
 }
 
@@ -76,15 +77,8 @@ fn a_deleted_line_moves_those_behind_it(rt: HostRuntime) -> Result<(), Fail> {
     expect_edits(&rt, alloc, &mut session, &edits)?;
     let (gone, nowhere) = (Change::Delete(1), EditFault::NoSuchPlace);
     expect_refused(&rt, alloc, &mut session, gone, 9, nowhere)?;
-    let only = Change::Insert(0, b"aa");
-    expect_edit(
-        &rt,
-        alloc,
-        &mut session,
-        Change::Delete(0),
-        (0, None, 0),
-        only,
-    )?;
+    let (last, only) = (Change::Delete(0), Change::Insert(0, b"aa"));
+    expect_edit(&rt, alloc, &mut session, last, (0, None, 0), only)?;
     assert_eq!(rt; session.checkpoints(), [0].as_slice());
     expect_lines(&rt, &session, &[]);
     Ok(())
@@ -102,7 +96,7 @@ fn a_seed_begins_the_game_anew(rt: HostRuntime) -> Result<(), Fail> {
     expect_edits(&rt, alloc, &mut session, &edits)?;
     let over = Change::Reseed(2_147_483_648);
     expect_refused(&rt, alloc, &mut session, over, 99, EditFault::BadSeed)?;
-    assert_eq!(rt; session.opening().first().copied(), Some(1));
+    assert_eq!(rt; session.opening(), [1].as_slice());
     assert_eq!(rt; session.seed(), 1);
     Ok(())
 }
@@ -114,7 +108,7 @@ fn a_seed_without_a_line_meets_nothing(rt: HostRuntime) -> Result<(), Fail> {
     let mut session = open(&rt, alloc, Counter, &counts, 0, b"", 1)?;
     let (greatest, back) = (Change::Reseed(2_147_483_647), Change::Reseed(0));
     expect_edit(&rt, alloc, &mut session, greatest, (0, None, 0), back)?;
-    assert_eq!(rt; session.state().number, 255);
+    assert_eq!(rt; session.number(), 255);
     Ok(())
 }
 
@@ -198,14 +192,12 @@ fn expect_bad_line(
     session: &mut Counting<'_>,
     line: &[u8],
 ) -> Result<(), Fail> {
-    for (change, fault) in [
+    let refused = [
         (Change::Insert(10, line), EditFault::BadLine),
         (Change::Replace(0, line), EditFault::BadLine),
         (Change::Insert(11, line), EditFault::NoSuchPlace),
-    ] {
-        expect_refused(rt, alloc, session, change, 99, fault)?;
-    }
-    Ok(())
+    ];
+    expect_all_refused(rt, alloc, session, 99, &refused)
 }
 
 #[test]

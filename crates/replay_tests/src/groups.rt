@@ -72,7 +72,7 @@ fn a_new_seed_in_a_group_begins_at_the_first_line(rt: HostRuntime) -> Result<(),
         Change::Replace(3, b"aaaa"),
     ];
     expect_group(&rt, alloc, &mut session, &edits, (0, Some(7), 7), &back)?;
-    assert_eq!(rt; session.opening().as_slice(), [5].as_slice());
+    assert_eq!(rt; session.opening(), [5].as_slice());
     expect_group(&rt, alloc, &mut session, &back, (0, Some(8), 8), &edits)?;
     assert_eq!(rt; session.seed(), 0);
     Ok(())

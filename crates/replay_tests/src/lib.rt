@@ -24,9 +24,13 @@ mod opening;
 #[cfg(test)]
 mod plain;
 #[cfg(test)]
+mod play;
+#[cfg(test)]
 mod random;
 #[cfg(test)]
 mod refused;
+#[cfg(test)]
+mod row;
 #[cfg(test)]
 mod sessions;
 #[cfg(test)]

@@ -1,9 +1,12 @@
 //! Meters that are nearly full, and full logs.
 
-use crate::edits::{Change, edits_of, flat};
+use crate::edits::{Change, flat};
 use crate::machines::counter::Counter;
 use crate::machines::counts::Counts;
-use crate::sessions::{Counting, copy, expect_group, expect_group_refused, expect_refused, open};
+use crate::play::Counting;
+use crate::sessions::{
+    copy, expect_all_refused, expect_group, expect_group_refused, expect_refused, make_group, open,
+};
 use crate::shown::show_the_same;
 use cave_replay::{Edit, EditFault};
 use cave_words::{Meter, Steps};
@@ -60,20 +63,6 @@ fn an_edit_wants_as_many_steps_as_the_new_log_has_lines(rt: HostRuntime) -> Resu
     Ok(())
 }
 
-/// Makes a group where the meter has so many steps left.
-fn make_group(
-    rt: &impl Abort,
-    alloc: Global,
-    session: &mut Counting<'_>,
-    changes: &[Change<'_>],
-    left: u64,
-) -> Result<(), Fail> {
-    let edits = edits_of(alloc, changes)?;
-    assert!(rt; edits.len() < 100);
-    let _ = session.edit_group(&edits, &mut Meter::starting(u64::MAX - left))?;
-    Ok(())
-}
-
 #[test]
 fn a_group_wants_as_many_steps_as_the_last_log_has_lines(rt: HostRuntime) -> Result<(), Fail> {
     let alloc = rt.alloc();
@@ -107,15 +96,14 @@ fn a_full_log_takes_no_line_more(rt: HostRuntime) -> Result<(), Fail> {
     let counts = Counts::new();
     let log = flat(alloc, 65_535)?;
     let mut session = open(&rt, alloc, Counter, &counts, 0, &log, 50)?;
-    for (change, fault) in [
+    let refused = [
         (Change::Insert(0, b"b"), EditFault::LogFull),
         (Change::Insert(30_000, b"b"), EditFault::LogFull),
         (Change::Insert(65_535, b"b"), EditFault::LogFull),
         (Change::Insert(0, b"\x7f"), EditFault::BadLine),
         (Change::Insert(65_536, b"b"), EditFault::NoSuchPlace),
-    ] {
-        expect_refused(&rt, alloc, &mut session, change, 99_999, fault)?;
-    }
+    ];
+    expect_all_refused(&rt, alloc, &mut session, 99_999, &refused)?;
     let (early, full) = (
         [Change::Insert(0, b"b"), Change::Delete(65_535)],
         EditFault::LogFull,

@@ -2,8 +2,9 @@
 
 use crate::dice::Dice;
 use crate::edits::{STAIRS, letters};
+use crate::machines::counter::Counter;
 use crate::machines::counts::Counts;
-use crate::sessions::{Counting, counter};
+use crate::play::{Counting, Play};
 use cave_replay::Edit;
 use cave_words::{Meter, Steps};
 use std::alloc::{AllocError, Global};
@@ -24,22 +25,21 @@ fn any_edit(alloc: Global, dice: &mut Dice, lines: u32) -> Result<Edit, AllocErr
     Ok(edit)
 }
 
-/// That the meter and the machine count the lines that an edit plays.
+/// That the meter and the machine count the lines that a random edit plays.
 fn expect_counted(
     rt: &impl Abort,
+    alloc: Global,
+    dice: &mut Dice,
     session: &mut Counting<'_>,
     counts: &Counts,
-    edit: &Edit,
     meter: &mut Meter,
 ) -> Result<(), Fail> {
+    let edit = any_edit(alloc, dice, session.lines())?;
     let before = meter.used();
-    let report = session.edit(edit, meter)?;
+    let report = session.edit(&edit, meter)?;
     let played = before.saturating_add(u64::from(report.played));
-    assert_eq!(rt;
-        (meter.used(), counts.steps()),
-        (played, played),
-        "{edit:?}"
-    );
+    assert_eq!(rt; meter.used(), played, "{edit:?}");
+    assert_eq!(rt; counts.steps(), played, "{edit:?}");
     Ok(())
 }
 
@@ -48,11 +48,11 @@ fn edit_by_one_meter(rt: &impl Abort, alloc: Global, every: u32) -> Result<(), F
     let counts = Counts::new();
     let mut dice = Dice(every);
     let mut meter = Meter::new();
-    let mut session = Counting::open(alloc, counter(&counts), 0, STAIRS, every, &mut meter)?;
-    assert_eq!(rt; (meter.used(), counts.steps()), (10, 10));
+    let mut session = Play::open(alloc, Counter, &counts, 0, STAIRS, every, &mut meter)?;
+    assert_eq!(rt; meter.used(), 10);
+    assert_eq!(rt; counts.steps(), 10);
     for _ in 0..200 {
-        let edit = any_edit(alloc, &mut dice, session.lines())?;
-        expect_counted(rt, &mut session, &counts, &edit, &mut meter)?;
+        expect_counted(rt, alloc, &mut dice, &mut session, &counts, &mut meter)?;
     }
     Ok(())
 }

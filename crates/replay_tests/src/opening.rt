@@ -3,7 +3,8 @@
 use crate::edits::{flat, letters};
 use crate::machines::counter::Counter;
 use crate::machines::counts::Counts;
-use crate::sessions::{Counting, counter, expect_lines, expect_ticks, open};
+use crate::play::{Counting, Play};
+use crate::sessions::{expect_lines, expect_ticks, open};
 use crate::shown::expect_spaced;
 use cave_replay::OpenFault;
 use cave_words::{Meter, Steps};
@@ -11,22 +12,29 @@ use std::alloc::Global;
 use std::process::Abort;
 use std::test::Fail;
 
+/// That the pieces say these lengths of the lines.
+fn expect_lengths(rt: &impl Abort, session: &Counting<'_>, lengths: &[usize]) {
+    assert_eq!(rt; session.pieces(), lengths.len());
+    let mut place = 0u32;
+    for length in lengths {
+        assert_eq!(rt; session.piece(place), [*length].as_slice(), "at {place}");
+        place = place.saturating_add(1);
+    }
+}
+
 #[test]
 fn a_log_is_cut_into_lines_and_played(rt: HostRuntime) -> Result<(), Fail> {
     let counts = Counts::new();
     let log = b"a\r\nbcd\n\nab";
     let session = open(&rt, rt.alloc(), Counter, &counts, 263, log, 1)?;
-    assert_eq!(rt; (session.seed(), session.every()), (263, 1));
+    expect_lengths(&rt, &session, &[1, 3, 0, 2]);
+    assert_eq!(rt; session.seed(), 263);
+    assert_eq!(rt; session.every(), 1);
+    assert_eq!(rt; session.number(), 2);
+    assert_eq!(rt; session.opening(), [7].as_slice());
     expect_lines(&rt, &session, &[b"a".as_slice(), b"bcd", b"", b"ab"]);
-    expect_ticks(&rt, &session, &[0, 1, 2, 2, 3]);
-    for (piece, length) in session.pieces().iter().zip([1, 3, 0, 2]) {
-        assert_eq!(rt; piece.as_slice(), [length].as_slice());
-    }
-    assert_eq!(rt; session.pieces().len(), 4);
-    assert_eq!(rt; session.opening().as_slice(), [7].as_slice());
-    assert_eq!(rt; session.state().number, 2);
     expect_spaced(&rt, &session);
-    Ok(())
+    expect_ticks(&rt, rt.alloc(), &session, &[0, 1, 2, 2, 3])
 }
 
 #[test]
@@ -34,10 +42,9 @@ fn an_empty_log_is_a_game(rt: HostRuntime) -> Result<(), Fail> {
     let counts = Counts::new();
     let session = open(&rt, rt.alloc(), Counter, &counts, 0, b"", 50)?;
     expect_lines(&rt, &session, &[]);
-    expect_ticks(&rt, &session, &[0]);
     assert_eq!(rt; session.checkpoints(), [0].as_slice());
-    assert_eq!(rt; session.state().number, 0);
-    Ok(())
+    assert_eq!(rt; session.number(), 0);
+    expect_ticks(&rt, rt.alloc(), &session, &[0])
 }
 
 /// That a log isn't opened, and that no step is taken.
@@ -51,9 +58,10 @@ fn expect_closed(
 ) {
     let counts = Counts::new();
     let mut meter = Meter::new();
-    let opened = Counting::open(alloc, counter(&counts), seed, log, every, &mut meter);
+    let opened = Play::open(alloc, Counter, &counts, seed, log, every, &mut meter);
     assert!(rt; opened.err() == Some(fault), "{fault:?}");
-    assert_eq!(rt; (meter.used(), counts.steps()), (0, 0));
+    assert_eq!(rt; meter.used(), 0);
+    assert_eq!(rt; counts.steps(), 0);
 }
 
 #[test]
@@ -96,7 +104,7 @@ fn a_full_log_and_the_greatest_seed_are_taken(rt: HostRuntime) -> Result<(), Fai
     let log = flat(rt.alloc(), 65_535)?;
     let session = open(&rt, rt.alloc(), Counter, &counts, 2_147_483_647, &log, 50)?;
     assert_eq!(rt; session.lines(), 65_535);
-    assert_eq!(rt; session.opening().as_slice(), [255].as_slice());
+    assert_eq!(rt; session.opening(), [255].as_slice());
     expect_spaced(&rt, &session);
     Ok(())
 }
@@ -105,17 +113,11 @@ fn a_full_log_and_the_greatest_seed_are_taken(rt: HostRuntime) -> Result<(), Fai
 fn a_line_has_at_most_255_bytes(rt: HostRuntime) -> Result<(), Fail> {
     let alloc = rt.alloc();
     let counts = Counts::new();
+    let longer = letters(alloc, 256)?;
+    expect_closed(&rt, alloc, 0, &longer, 1, OpenFault::BadLine(1));
     let mut longest = letters(alloc, 255)?;
     longest.extend_from_slice(b"\r\n")?;
     let session = open(&rt, alloc, Counter, &counts, 0, &longest, 1)?;
-    assert_eq!(rt; session.state().number, 255);
-    expect_closed(
-        &rt,
-        alloc,
-        0,
-        &letters(alloc, 256)?,
-        1,
-        OpenFault::BadLine(1),
-    );
+    assert_eq!(rt; session.number(), 255);
     Ok(())
 }

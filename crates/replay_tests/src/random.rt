@@ -7,7 +7,8 @@ use crate::machines::hasher::Hasher;
 use crate::machines::rule::Rule;
 use crate::machines::walker::Walker;
 use crate::plain::Plain;
-use crate::sessions::{Play, open};
+use crate::play::Play;
+use crate::sessions::open;
 use crate::shown::{expect_shown, expect_spaced};
 use crate::wanted::{Plan, agree, from, make_plan, met};
 use cave_replay::{Edit, EditFault, GroupFault, GroupReport};
@@ -40,9 +41,8 @@ fn make<R: Rule>(
     edits: &[Edit],
     meter: &mut Meter,
 ) -> Result<Result<GroupReport, GroupFault>, AllocError> {
-    assert!(rt; edits.len() < 100);
     let [edit] = edits else {
-        return Ok(session.edit_group(edits, meter));
+        return Ok(session.edit_group(rt, edits, meter));
     };
     match session.edit(edit, meter) {
         Ok(report) => {
@@ -88,6 +88,39 @@ struct Outcome {
     refused: Option<EditFault>,
 }
 
+/// Makes a group where the meter has so many steps left. Tells how many the meter and the machine counted.
+fn make_counted<R: Rule>(
+    rt: &impl Abort,
+    alloc: Global,
+    session: &mut Play<'_, R>,
+    counts: &Counts,
+    edits: &[Edit],
+    left: u64,
+) -> Result<(Result<GroupReport, GroupFault>, u64), AllocError> {
+    let mut meter = Meter::starting(u64::MAX - left);
+    let steps = counts.steps();
+    let answer = make(rt, alloc, session, edits, &mut meter)?;
+    let played = left.saturating_sub(meter.left());
+    assert_eq!(rt; counts.steps().saturating_sub(steps), played);
+    Ok((answer, played))
+}
+
+/// What a made group comes to, whose inverse takes it back in the plain game.
+fn outcome_of<R: Rule>(
+    rt: &impl Abort,
+    alloc: Global,
+    old: &Plain,
+    new: Plain,
+    back: Vec<Edit>,
+) -> Result<Outcome, Fail> {
+    assert!(rt; new.edited::<R>(rt, alloc, &back)?.is(old));
+    Ok(Outcome {
+        plain: new,
+        back,
+        refused: None,
+    })
+}
+
 /// Makes a group in a session and in the plain game.
 fn edit_both<R: Rule>(
     rt: &impl Abort,
@@ -100,22 +133,13 @@ fn edit_both<R: Rule>(
 ) -> Result<Outcome, Fail> {
     let places = Vec::from_slice(alloc, session.checkpoints())?;
     let wanted = make_plan(edits, old.lines.len(), left);
-    let mut meter = Meter::starting(u64::MAX - left);
-    let steps = counts.steps();
-    let answer = make(rt, alloc, session, edits, &mut meter)?;
-    let played = meter.used().saturating_sub(u64::MAX - left);
-    assert_eq!(rt; counts.steps().saturating_sub(steps), played);
+    let (answer, played) = make_counted(rt, alloc, session, counts, edits, left)?;
     match (answer, wanted) {
         (Ok(report), Ok(plan)) => {
             assert_eq!(rt; u64::from(report.played), played);
             let new = old.edited::<R>(rt, alloc, edits)?;
             expect_report(rt, &report, &places, session.every(), &old, &new, plan);
-            assert!(rt; new.edited::<R>(rt, alloc, &report.inverse)?.is(&old));
-            Ok(Outcome {
-                plain: new,
-                back: report.inverse,
-                refused: None,
-            })
+            outcome_of::<R>(rt, alloc, &old, new, report.inverse)
         }
         (Err(fault), Err(wanted)) => {
             assert_eq!(rt; fault, wanted);

@@ -1,29 +1,15 @@
-//! Sessions over the machines of the tests, and what they are expected to answer and to show.
+//! What sessions over the machines of the tests are expected to answer and to show.
 
 use crate::edits::{Change, are, edits_of};
 use crate::machines::counter::Counter;
 use crate::machines::counts::Counts;
 use crate::machines::rule::Rule;
-use crate::machines::told::Told;
-use cave_replay::{EditFault, GroupFault, Session};
+use crate::play::{Counting, Play};
+use cave_replay::{EditFault, GroupFault};
 use cave_words::{Meter, Steps};
 use std::alloc::{AllocError, Global};
 use std::process::Abort;
 use std::test::Fail;
-
-/// A session over a machine of a rule.
-pub(crate) type Play<'a, R> = Session<Told<'a, R>>;
-
-/// A session over the counter.
-pub(crate) type Counting<'a> = Play<'a, Counter>;
-
-/// The counter.
-pub(crate) fn counter(counts: &Counts) -> Told<'_, Counter> {
-    Told {
-        rule: Counter,
-        counts,
-    }
-}
 
 /// Opens a session whose meter counts what the machine counts.
 pub(crate) fn open<'a, R: Rule>(
@@ -37,15 +23,27 @@ pub(crate) fn open<'a, R: Rule>(
 ) -> Result<Play<'a, R>, Fail> {
     let mut meter = Meter::new();
     let before = counts.steps();
-    let machine = Told { rule, counts };
-    let session = Session::open(alloc, machine, seed, log, every, &mut meter)?;
+    let session = Play::open(alloc, rule, counts, seed, log, every, &mut meter)?;
     assert_eq!(rt; counts.steps().saturating_sub(before), meter.used());
     assert_eq!(rt; u64::from(session.lines()), meter.used());
     Ok(session)
 }
 
+/// A session that shows the same.
+pub(crate) fn copy<'a>(
+    session: &Counting<'a>,
+    counts: &'a Counts,
+) -> Result<Counting<'a>, AllocError> {
+    session.copy(Counter, counts)
+}
+
 /// Where a replay began, what it met, and how many lines it played.
 pub(crate) type Replay = (u32, Option<u32>, u32);
+
+/// Whether a replay is the wanted one, part by part.
+pub(crate) fn is_replay(found: Replay, wanted: Replay) -> bool {
+    found.0 == wanted.0 && found.1 == wanted.1 && found.2 == wanted.2
+}
 
 /// That an edit is answered by this replay and taken back by the inverse.
 pub(crate) fn expect_edit<R: Rule>(
@@ -58,11 +56,8 @@ pub(crate) fn expect_edit<R: Rule>(
 ) -> Result<(), Fail> {
     let mut meter = Meter::new();
     let report = session.edit(&change.edit(alloc)?, &mut meter)?;
-    assert_eq!(rt;
-        (report.from, report.met, report.played),
-        replay,
-        "{change:?}"
-    );
+    let found = (report.from, report.met, report.played);
+    assert!(rt; is_replay(found, replay), "{change:?}: {report:?}");
     assert!(rt; inverse.is(&report.inverse), "{report:?}");
     assert_eq!(rt; meter.used(), u64::from(report.played));
     Ok(())
@@ -90,17 +85,25 @@ pub(crate) fn expect_group<R: Rule>(
     replay: Replay,
     inverse: &[Change<'_>],
 ) -> Result<(), Fail> {
-    let edits = edits_of(alloc, changes)?;
-    assert!(rt; edits.len() < 100);
     let mut meter = Meter::new();
-    let report = session.edit_group(&edits, &mut meter)?;
-    assert_eq!(rt;
-        (report.from, report.met, report.played),
-        replay,
-        "{changes:?}"
-    );
+    let report = session.edit_group(rt, &edits_of(alloc, changes)?, &mut meter)?;
+    let found = (report.from, report.met, report.played);
+    assert!(rt; is_replay(found, replay), "{changes:?}: {report:?}");
     assert!(rt; are(&report.inverse, inverse), "{report:?}");
     assert_eq!(rt; meter.used(), u64::from(report.played));
+    Ok(())
+}
+
+/// Makes a group where the meter has so many steps left.
+pub(crate) fn make_group<R: Rule>(
+    rt: &impl Abort,
+    alloc: Global,
+    session: &mut Play<'_, R>,
+    changes: &[Change<'_>],
+    left: u64,
+) -> Result<(), Fail> {
+    let mut meter = Meter::starting(u64::MAX - left);
+    let _ = session.edit_group(rt, &edits_of(alloc, changes)?, &mut meter)?;
     Ok(())
 }
 
@@ -120,6 +123,20 @@ pub(crate) fn expect_refused<R: Rule>(
     Ok(())
 }
 
+/// The same of edits, one after another.
+pub(crate) fn expect_all_refused<R: Rule>(
+    rt: &impl Abort,
+    alloc: Global,
+    session: &mut Play<'_, R>,
+    left: u64,
+    edits: &[(Change<'_>, EditFault)],
+) -> Result<(), Fail> {
+    for &(change, fault) in edits {
+        expect_refused(rt, alloc, session, change, left, fault)?;
+    }
+    Ok(())
+}
+
 /// The same of a group, for the edit with the number `at`.
 pub(crate) fn expect_group_refused<R: Rule>(
     rt: &impl Abort,
@@ -130,10 +147,8 @@ pub(crate) fn expect_group_refused<R: Rule>(
     cause: EditFault,
     at: u32,
 ) -> Result<(), Fail> {
-    let edits = edits_of(alloc, changes)?;
-    assert!(rt; edits.len() < 100);
     let mut meter = Meter::starting(u64::MAX - left);
-    let answer = session.edit_group(&edits, &mut meter);
+    let answer = session.edit_group(rt, &edits_of(alloc, changes)?, &mut meter);
     assert!(rt;
         answer.err() == Some(GroupFault { cause, at }),
         "{changes:?}"
@@ -145,31 +160,35 @@ pub(crate) fn expect_group_refused<R: Rule>(
 /// That a session holds these lines.
 pub(crate) fn expect_lines<R: Rule>(rt: &impl Abort, session: &Play<'_, R>, lines: &[&[u8]]) {
     assert_eq!(rt; session.lines() as usize, lines.len());
-    for place in 0..session.lines() {
-        let line = lines.get(place as usize).copied();
-        assert_eq!(rt; Some(session.line(place)), line, "at {place}");
+    let mut place = 0u32;
+    for line in lines {
+        assert_eq!(rt; session.line(place), *line, "at {place}");
+        place = place.saturating_add(1);
+    }
+}
+
+/// All counts but the first.
+fn behind_first(counts: &[u32]) -> &[u32] {
+    match counts {
+        [_, behind @ ..] => behind,
+        [] => &[],
     }
 }
 
 /// That so many lines of a session tick before each place, and at the end.
-pub(crate) fn expect_ticks<R: Rule>(rt: &impl Abort, session: &Play<'_, R>, ticks: &[u32]) {
-    assert_eq!(rt; session.lines() as usize + 1, ticks.len());
-    for place in 0..session.lines() {
-        let count = Some(session.ticks(place));
-        assert_eq!(rt; count, ticks.get(place as usize).copied(), "at {place}");
+pub(crate) fn expect_ticks<R: Rule>(
+    rt: &impl Abort,
+    alloc: Global,
+    session: &Play<'_, R>,
+    ticks: &[u32],
+) -> Result<(), Fail> {
+    assert_eq!(rt; (session.lines() as usize).saturating_add(1), ticks.len());
+    let mut place = 0u32;
+    for count in ticks {
+        assert_eq!(rt; session.ticks(place), *count, "at {place}");
+        place = place.saturating_add(1);
     }
-    assert_eq!(rt; Some(session.ticks(session.lines())), ticks.last().copied());
-    let mut wanted = ticks.iter().skip(1);
-    for count in session.tick_counts() {
-        assert_eq!(rt; Some(count), wanted.next().copied());
-    }
-    assert!(rt; wanted.next().is_none());
-}
-
-/// A session that shows the same.
-pub(crate) fn copy<'a>(
-    session: &Counting<'a>,
-    counts: &'a Counts,
-) -> Result<Counting<'a>, AllocError> {
-    session.copy(counter(counts))
+    let counts = session.tick_counts(alloc)?;
+    assert_eq!(rt; counts.as_slice(), behind_first(ticks));
+    Ok(())
 }

@@ -1,50 +1,71 @@
 //! Words of a command line, right and wrong, with what they ask for.
 
-use cave_command::{Line, LineFault, command_line};
+use cave_command::{Files, Line, LineFault, command_line};
 use std::alloc::{AllocError, Global};
 use std::process::Abort;
 use std::test::Fail;
 
-/// What an answer says.
-fn shown(alloc: Global, answer: &Result<Line<'_>, LineFault<'_>>) -> Result<String, AllocError> {
-    match answer {
-        Ok(Line::Check { files }) => format!(in alloc; "check {} {:?}", files.cave, files.bind),
-        Ok(Line::Play { files, log, seed }) => {
-            format!(in alloc; "play {} {:?} {log} {seed}", files.cave, files.bind)
-        }
-        Ok(
-            Line::Edit {
-                files,
-                log,
-                script,
-                seed,
-                every,
-            },
-        ) => {
-            format!(in alloc;
-                "edit {} {:?} {log} {script} {seed} {every}",
-                files.cave, files.bind
-            )
-        }
-        Ok(Line::Text(error)) => format!(in alloc; "text {:?}", error.kind()),
-        Err(LineFault::Usage(error)) => format!(in alloc; "2 {:?}", error.kind()),
-        Err(LineFault::BadSeed(text)) => format!(in alloc; "2 seed {text}"),
-        Err(LineFault::BadEvery(text)) => format!(in alloc; "2 every {text}"),
-        Err(fault) => format!(in alloc; "{} {fault:?}", fault.status()),
+/// The answer to words. It promises nothing, so that the tests are proved without what a command line promises.
+fn answer_to<'a>(alloc: Global, words: &'a [&'a str]) -> Result<Line<'a>, LineFault<'a>> {
+    command_line(alloc, words)
+}
+
+/// The command of a line.
+fn command_of(line: &Line<'_>) -> &'static str {
+    match line {
+        Line::Check { .. } => "check",
+        Line::Play { .. } => "play",
+        Line::Edit { .. } => "edit",
+        Line::Text(_) => "text",
+    }
+}
+
+/// What a line says.
+fn line_shown(alloc: Global, line: &Line<'_>) -> Result<String, AllocError> {
+    let (Files { cave, bind }, rest) = match line {
+        Line::Check { files } => (files, String::new(alloc)),
+        Line::Play { files, log, seed } => (files, format!(in alloc; " {log} {seed}")?),
+        Line::Edit {
+            files,
+            log,
+            script,
+            seed,
+            every,
+        } => (files, format!(in alloc; " {log} {script} {seed} {every}")?),
+        Line::Text(error) => return format!(in alloc; "text {:?}", error.kind()),
+    };
+    format!(in alloc; "{} {cave} {bind:?}{rest}", command_of(line))
+}
+
+/// What a fault says, behind its status.
+fn fault_shown(alloc: Global, fault: &LineFault<'_>) -> Result<String, AllocError> {
+    let status = fault.status();
+    match fault {
+        LineFault::Usage(error) => format!(in alloc; "{status} {:?}", error.kind()),
+        LineFault::BadSeed(text) => format!(in alloc; "{status} seed {text}"),
+        LineFault::BadEvery(text) => format!(in alloc; "{status} every {text}"),
+        _ => format!(in alloc; "{status} {fault:?}"),
+    }
+}
+
+/// What the answer to words says.
+fn shown(alloc: Global, words: &[&str]) -> Result<String, AllocError> {
+    match answer_to(alloc, words) {
+        Ok(line) => line_shown(alloc, &line),
+        Err(fault) => fault_shown(alloc, &fault),
     }
 }
 
 fn expect_answers(rt: &impl Abort, alloc: Global, cases: &[(&[&str], &str)]) -> Result<(), Fail> {
     for (words, want) in cases {
-        let answer = command_line(alloc, words);
-        assert_eq!(rt; shown(alloc, &answer)?.as_str(), *want, "{words:?}");
+        assert_eq!(rt; shown(alloc, words)?.as_str(), *want, "{words:?}");
     }
     Ok(())
 }
 
-/// The text that is printed, of help or of a fault.
-fn printed(alloc: Global, answer: &Result<Line<'_>, LineFault<'_>>) -> Result<String, AllocError> {
-    match answer {
+/// The text that is printed for words, of help or of a fault.
+fn printed(alloc: Global, words: &[&str]) -> Result<String, AllocError> {
+    match answer_to(alloc, words) {
         Ok(Line::Text(text)) => format!(in alloc; "{text}"),
         Ok(_) => Ok(String::new(alloc)),
         Err(fault) => format!(in alloc; "{fault}"),
@@ -161,7 +182,7 @@ fn expect_refused(
     option: &str,
     number: &str,
 ) -> Result<(), Fail> {
-    let said = shown(alloc, &command_line(alloc, words))?;
+    let said = shown(alloc, words)?;
     let want = format!(in alloc; "2 {option} {number}")?;
     assert_eq!(rt; said.as_str(), want.as_str());
     Ok(())
@@ -251,7 +272,7 @@ fn words_that_are_too_many_or_unknown(rt: HostRuntime) -> Result<(), Fail> {
 
 /// That what is printed has this text in it.
 fn expect_text(rt: &impl Abort, alloc: Global, words: &[&str], want: &str) -> Result<(), Fail> {
-    let text = printed(alloc, &command_line(alloc, words))?;
+    let text = printed(alloc, words)?;
     assert!(rt; text.as_str().contains(want), "{text}");
     Ok(())
 }
@@ -302,7 +323,7 @@ fn texts_of_help_and_faults(rt: HostRuntime) -> Result<(), Fail> {
 #[test]
 fn refused_memory_is_no_other_fault(rt: HostRuntime) {
     let words = ["cave", "edit", "a", "--seed=3", "b", "c", "--every", "7"];
-    match command_line(rt.alloc(), words.as_slice()) {
+    match answer_to(rt.alloc(), words.as_slice()) {
         Ok(line) => assert!(rt;
             matches!(
                 &line,

@@ -1,31 +1,28 @@
 //! Words of caves, and what they mean.
 
-use cave_data::Cave;
-use cave_words::{Class, Lexicon, Meaning, Named, Word, Words};
-use std::alloc::{AllocError, Global};
+use crate::known::{Known, cave_of};
+use cave_words::{Class, Meaning, Named, Word};
+use std::alloc::Global;
 use std::process::Abort;
 use std::test::Fail;
 
-fn meaning(class: Class, number: u16) -> Option<Meaning> {
-    Some(Meaning { class, number })
-}
-
-/// The lexicon of a cave with these rows of words.
-fn lexicon_of(alloc: Global, database: &[u8], bindings: &[u8]) -> Result<Lexicon, Fail> {
-    let cave = Cave::read(alloc, database, bindings)?;
-    let lexicon = Lexicon::build(alloc, &cave)?;
-    Ok(lexicon)
+/// The first five letters of a word, of which nothing is promised.
+fn five_of(word: &[u8]) -> Word {
+    Word::of(word, 5)
 }
 
 /// That so many letters count, and what GOLDENROD then means.
-fn expect_goldenrod(rt: &impl Abort, lexicon: &Lexicon, letters: u8, object: u16) {
-    assert_eq!(rt; lexicon.letters(), letters);
-    let wanted = meaning(Class::Object, object);
-    let Some(word) = Words::of(b"goldenrod", lexicon.letters()).first else {
+fn expect_goldenrod(rt: &impl Abort, known: &Known, letters: u8, object: u16) {
+    assert_eq!(rt; known.letters(), letters);
+    let wanted = Some(Meaning {
+        class: Class::Object,
+        number: object,
+    });
+    let Some(word) = known.first_word(b"goldenrod") else {
         panic!(rt; "no word");
     };
-    assert_eq!(rt; lexicon.find(word), wanted);
-    assert_eq!(rt; lexicon.find_in(word, Class::Object), wanted);
+    assert_eq!(rt; known.find(word), wanted);
+    assert_eq!(rt; known.find_in(word, Class::Object), wanted);
 }
 
 #[test]
@@ -37,42 +34,58 @@ fn letters_that_count_tell_words_apart(rt: HostRuntime) -> Result<(), Fail> {
         (b"num.letters 8", 8, 51),
     ];
     for (bindings, letters, object) in cases {
-        let lexicon = lexicon_of(rt.alloc(), database, bindings)?;
-        expect_goldenrod(&rt, &lexicon, letters, object);
+        let known = Known::read(rt.alloc(), database, bindings)?;
+        expect_goldenrod(&rt, &known, letters, object);
     }
     Ok(())
 }
 
-/// That a word means this.
-fn expect_meaning(rt: &impl Abort, lexicon: &Lexicon, word: &[u8], wanted: Option<Meaning>) {
-    assert_eq!(rt; lexicon.find(Word::of(word, 5)), wanted, "{word:?}");
+/// That words mean these, and OUT in each class this.
+fn expect_meanings(
+    rt: &impl Abort,
+    known: &Known,
+    words: &[(&[u8], Option<(Class, u16)>)],
+    classes: &[(Class, Option<u16>)],
+) {
+    for &(word, wanted) in words {
+        let found = known.find(five_of(word));
+        assert_eq!(rt;
+            found.map(|meaning| (meaning.class, meaning.number)),
+            wanted,
+            "{word:?}"
+        );
+    }
+    for &(class, wanted) in classes {
+        let found = known.find_in(five_of(b"OUT"), class);
+        assert_eq!(rt;
+            found.map(|meaning| (meaning.class, meaning.number)),
+            wanted.map(|number| (class, number)),
+            "{class:?}"
+        );
+    }
 }
 
 #[test]
 fn the_first_row_stands(rt: HostRuntime) -> Result<(), Fail> {
     let database = b"4\n1 out\n2003 OUT\n5 OUT\n2004 outs\n3069 OUT\n1009 OUTSIDER\n-1\n0\n";
-    let lexicon = lexicon_of(rt.alloc(), database, b"")?;
-    expect_meaning(&rt, &lexicon, b"OUT", meaning(Class::Motion, 1));
-    expect_meaning(&rt, &lexicon, b"outsiders", meaning(Class::Object, 9));
-    expect_meaning(&rt, &lexicon, b"in", None);
-    for (class, wanted) in [
+    let known = Known::read(rt.alloc(), database, b"")?;
+    let words: [(&[u8], Option<(Class, u16)>); 3] = [
+        (b"OUT", Some((Class::Motion, 1))),
+        (b"outsiders", Some((Class::Object, 9))),
+        (b"in", None),
+    ];
+    let classes = [
         (Class::Motion, Some(1)),
         (Class::Action, Some(3)),
         (Class::Special, Some(69)),
         (Class::Object, None),
-    ] {
-        let found = lexicon.find_in(Word::of(b"OUT", 5), class);
-        let wanted = wanted.map(|number| Meaning { class, number });
-        assert_eq!(rt; found, wanted, "{class:?}");
-    }
+    ];
+    expect_meanings(&rt, &known, &words, &classes);
     Ok(())
 }
 
 /// That each name has its object, with these bindings.
-fn expect_names(rt: &impl Abort, alloc: Global, bindings: &[u8]) -> Result<(), Fail> {
-    let database = b"4\n2005 ROD\n1005 ROD\n1006 ROD\n1020 BOTTLES\n1100 TROLL\n-1\n0\n";
-    let cave = Cave::read(alloc, database, bindings)?;
-    let lexicon = Lexicon::build(alloc, &cave)?;
+fn expect_names(rt: &impl Abort, known: &Known) {
     for (name, object) in [
         (Named::Rod, Some(5)),
         (Named::SecondRod, Some(6)),
@@ -82,32 +95,44 @@ fn expect_names(rt: &impl Abort, alloc: Global, bindings: &[u8]) -> Result<(), F
         (Named::Lamp, None),
         (Named::SecondPlant, None),
     ] {
-        assert_eq!(rt; lexicon.named(&cave, name), object, "{name:?}");
+        assert_eq!(rt; known.named(name), object, "{name:?}");
     }
-    Ok(())
 }
 
 #[test]
 fn names_go_by_five_letters(rt: HostRuntime) -> Result<(), Fail> {
-    expect_names(&rt, rt.alloc(), b"")?;
-    expect_names(&rt, rt.alloc(), b"num.letters 8")
+    let database = b"4\n2005 ROD\n1005 ROD\n1006 ROD\n1020 BOTTLES\n1100 TROLL\n-1\n0\n";
+    for bindings in [b"".as_slice(), b"num.letters 8"] {
+        let known = Known::read(rt.alloc(), database, bindings)?;
+        expect_names(&rt, &known);
+    }
+    Ok(())
+}
+
+/// What WEST and the lamp are, where memory was ample.
+fn expect_west_and_lamp(rt: &impl Abort, known: &Known) {
+    let west = known.find(five_of(b"west"));
+    assert!(rt;
+        matches!(
+            west,
+            Some(Meaning {
+                class: Class::Motion,
+                number: 6
+            })
+        )
+    );
+    assert_eq!(rt; known.named(Named::Lamp), Some(9));
 }
 
 // Passes with any allocation refused too: `rt try --test --fail-alloc N`, N from 1 on.
 #[test]
-fn want_of_memory_is_the_only_refusal(rt: HostRuntime) -> Result<(), Fail> {
+fn want_of_memory_is_the_only_refusal(rt: HostRuntime) {
     let database =
         b"4\n1 out\n2003 OUT\n1009 LAMP\n2 in\n3 up\n4 down\n5 east\n6 west\n7 north\n-1\n0\n";
-    let Ok(cave) = Cave::read(rt.alloc(), database, b"") else {
-        return Ok(());
+    let Ok(cave) = cave_of(rt.alloc(), database, b"") else {
+        return;
     };
-    match Lexicon::build(rt.alloc(), &cave) {
-        Ok(lexicon) => {
-            let west = Word::of(b"west", 5);
-            assert_eq!(rt; lexicon.find(west), meaning(Class::Motion, 6));
-            assert_eq!(rt; lexicon.named(&cave, Named::Lamp), Some(9));
-        }
-        Err(AllocError) => {}
+    if let Ok(known) = Known::of(rt.alloc(), cave) {
+        expect_west_and_lamp(&rt, &known);
     }
-    Ok(())
 }

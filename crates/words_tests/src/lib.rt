@@ -6,6 +6,8 @@ mod commands;
 #[cfg(test)]
 mod draws;
 #[cfg(test)]
+mod known;
+#[cfg(test)]
 mod lexicon;
 #[cfg(test)]
 mod lines;

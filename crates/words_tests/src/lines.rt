@@ -4,16 +4,21 @@ use cave_words::{LineFault, LogLine, Meter, Steps, check_line};
 
 #[test]
 fn lines_that_may_stand(rt: HostRuntime) {
-    let line = [b'a'; 256];
-    assert_eq!(rt; check_line(&line[..255]), Ok(()));
-    assert_eq!(rt; check_line(&line), Err(LineFault::TooLong));
-    assert_eq!(rt; check_line(b" ~\t"), Ok(()));
-    assert_eq!(rt; check_line(b""), Ok(()));
-    assert_eq!(rt; check_line(b"in\x7f"), Err(LineFault::BadByte));
-    assert_eq!(rt; check_line(b"in\r"), Err(LineFault::BadByte));
-    assert_eq!(rt; check_line(b"\x1f"), Err(LineFault::BadByte));
-    assert_eq!(rt; check_line(b"\xc3\xa4"), Err(LineFault::BadByte));
-    assert_eq!(rt; check_line(&[0; 256]), Err(LineFault::TooLong));
+    let (line, zeros) = ([b'a'; 256], [0; 256]);
+    let cases: [(&[u8], Option<LineFault>); 9] = [
+        (&line[..255], None),
+        (&line, Some(LineFault::TooLong)),
+        (b" ~\t", None),
+        (b"", None),
+        (b"in\x7f", Some(LineFault::BadByte)),
+        (b"in\r", Some(LineFault::BadByte)),
+        (b"\x1f", Some(LineFault::BadByte)),
+        (b"\xc3\xa4", Some(LineFault::BadByte)),
+        (&zeros, Some(LineFault::TooLong)),
+    ];
+    for (line, want) in cases {
+        assert_eq!(rt; check_line(line).err(), want, "{line:?}");
+    }
 }
 
 #[test]

@@ -5,14 +5,20 @@ use std::alloc::{AllocError, Global};
 use std::process::Abort;
 use std::test::Fail;
 
-/// The items of a script as text: `LINE: EDIT on LINE, EDIT on LINE;`.
+/// An item of a script as text: `LINE: EDIT on LINE, EDIT on LINE,`.
+fn item_shown(alloc: Global, item: &Item) -> Result<String, AllocError> {
+    let mut text = format!(in alloc; "{}:", item.line)?;
+    for (edit, line) in item.edits.iter().zip(item.lines.iter()) {
+        text.push_str(format!(in alloc; " {edit:?} on {line},")?.as_str())?;
+    }
+    Ok(text)
+}
+
+/// The items of a script as text, with a semicolon behind each.
 fn shown(alloc: Global, items: &[Item]) -> Result<String, AllocError> {
     let mut text = String::new(alloc);
     for item in items {
-        text.push_str(format!(in alloc; "{}:", item.line)?.as_str())?;
-        for (edit, line) in item.edits.iter().zip(item.lines.iter()) {
-            text.push_str(format!(in alloc; " {edit:?} on {line},")?.as_str())?;
-        }
+        text.push_str(item_shown(alloc, item)?.as_str())?;
         text.push_str(";")?;
     }
     Ok(text)

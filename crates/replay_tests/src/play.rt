@@ -1,0 +1,148 @@
+//! Sessions of the tests, behind calls that promise nothing: the tests are proved without what a session promises, and
+//! look at what it does.
+
+use crate::machines::counter::Counter;
+use crate::machines::counts::Counts;
+use crate::machines::rule::Rule;
+use crate::machines::told::Told;
+use crate::row::Row;
+use cave_replay::{Edit, EditFault, GroupFault, GroupReport, OpenFault, Report, Session};
+use cave_words::Meter;
+use std::alloc::{AllocError, Global};
+use std::process::Abort;
+
+/// A session over a machine of a rule.
+pub(crate) struct Play<'a, R: Rule> {
+    session: Session<Told<'a, R>>,
+}
+
+impl<'a, R: Rule> Drop for Play<'a, R> {
+    fn drop(self) {
+        let Play { session } = self;
+        drop(session);
+    }
+}
+
+/// A session over the counter.
+pub(crate) type Counting<'a> = Play<'a, Counter>;
+
+impl<'a, R: Rule> Play<'a, R> {
+    /// Opens a session, by the meter as it is when new.
+    pub(crate) fn open(
+        alloc: Global,
+        rule: R,
+        counts: &'a Counts,
+        seed: u32,
+        log: &[u8],
+        every: u32,
+        meter: &mut Meter,
+    ) -> Result<Play<'a, R>, OpenFault> {
+        *meter = Meter::new();
+        let machine = Told { rule, counts };
+        let session = Session::open(alloc, machine, seed, log, every, meter)?;
+        Ok(Play { session })
+    }
+
+    /// Edits the game.
+    pub(crate) fn edit(&mut self, edit: &Edit, meter: &mut Meter) -> Result<Report, EditFault> {
+        self.session.edit(edit, meter)
+    }
+
+    /// Edits the game by each of the edits, of which there are few.
+    pub(crate) fn edit_group(
+        &mut self,
+        rt: &impl Abort,
+        edits: &[Edit],
+        meter: &mut Meter,
+    ) -> Result<GroupReport, GroupFault> {
+        assert!(rt; edits.len() < 100);
+        self.session.edit_group(edits, meter)
+    }
+
+    /// A session that shows the same.
+    pub(crate) fn copy(&self, rule: R, counts: &'a Counts) -> Result<Play<'a, R>, AllocError> {
+        let session = self.session.copy(Told { rule, counts })?;
+        Ok(Play { session })
+    }
+
+    /// The seed of the held game.
+    pub(crate) fn seed(&self) -> u32 {
+        self.session.seed()
+    }
+
+    /// How far apart checkpoints may be.
+    pub(crate) fn every(&self) -> u32 {
+        self.session.every()
+    }
+
+    /// How many lines the held log has.
+    pub(crate) fn lines(&self) -> u32 {
+        self.session.lines()
+    }
+
+    /// The places of which the states are kept.
+    pub(crate) fn checkpoints(&self) -> &[u32] {
+        self.session.checkpoints()
+    }
+
+    /// What the machine said at the start.
+    pub(crate) fn opening(&self) -> &[usize] {
+        self.session.opening().as_slice()
+    }
+
+    /// How many pieces the machine said behind it.
+    pub(crate) fn pieces(&self) -> usize {
+        self.session.pieces().len()
+    }
+
+    /// The number that the last state is.
+    pub(crate) fn number(&self) -> usize {
+        self.session.state().number
+    }
+
+    /// The line at a place; an empty one at the end.
+    pub(crate) fn line(&self, place: u32) -> &[u8] {
+        if place < self.session.lines() {
+            self.session.line(place)
+        } else {
+            &[]
+        }
+    }
+
+    /// Whether the line at a place ticked; at the end none did.
+    pub(crate) fn ticked(&self, place: u32) -> bool {
+        place < self.session.lines() && self.session.ticked(place)
+    }
+
+    /// How many of the lines before a place ticked, the end at most.
+    pub(crate) fn ticks(&self, place: u32) -> u32 {
+        self.session.ticks(place.min(self.session.lines()))
+    }
+
+    /// What the machine said at a place; nothing at the end.
+    pub(crate) fn piece(&self, place: u32) -> &[usize] {
+        match self.session.pieces().get(place as usize) {
+            Some(piece) => piece.as_slice(),
+            None => &[],
+        }
+    }
+
+    /// All that is shown of a place.
+    pub(crate) fn row(&self, place: u32) -> Row<'_> {
+        Row {
+            line: self.line(place),
+            piece: self.piece(place),
+            ticked: self.ticked(place),
+            ticks: self.ticks(place),
+        }
+    }
+
+    /// How many lines ticked up to each line and with it.
+    pub(crate) fn tick_counts(&self, alloc: Global) -> Result<Vec<u32>, AllocError> {
+        let mut counts = Vec::new(alloc);
+        for count in self.session.tick_counts() {
+            counts.push(count)?;
+        }
+        Ok(counts)
+    }
+}
