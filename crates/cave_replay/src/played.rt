@@ -77,7 +77,7 @@ fn agrees<M: Machine>(
     requires { index < length checkpoints.now.places }
     ensures { (old new : ℕ → M.Meaning) → AreStates M.meaning M.is_state old checkpoints.now.places checkpoints.now.states → IsMarking M.meaning M.is_state new marks.now → (IsTrue result ↔ (new marks.now.next ≡ old (slice_index checkpoints.now.places index))) }
 {
-    checkpoints.state(index) == *marks.state()
+    *checkpoints.state(index) == *marks.state()
 }
 
 /// The index of the checkpoint to look at once the open place of the marks is passed, where `index` is the first that
