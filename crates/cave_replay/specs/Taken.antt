@@ -7,6 +7,10 @@ abbrev pub end_of_stretch : {S : Type 0} → Spaced S → Option ℕ → ℕ
 end_of_stretch checkpoints None = checkpoints.lines
 end_of_stretch checkpoints (Some index) = slice_index checkpoints.places index
 
+-- how many lines of the old play go where a replay from the checkpoint of the index `at` is taken over
+abbrev pub lines_gone : {S : Type 0} → Spaced S → ℕ → Option ℕ → ℕ
+lines_gone checkpoints at met = end_of_stretch checkpoints met - slice_index checkpoints.places at
+
 -- how many checkpoints stand before that place, or all of them where it is the end
 abbrev pub passed : {S : Type 0} → Spaced S → Option ℕ → ℕ
 passed checkpoints None = length checkpoints.places

@@ -6,7 +6,7 @@ ghost use Rattle.cave_replay.specs.Log.{log_of};
 ghost use Rattle.cave_replay.specs.Play.{game_of};
 ghost use Rattle.cave_replay.specs.Change.{changes_of, apply_all, inverses_of};
 ghost use Rattle.cave_replay.specs.Faults.{fault_of_all};
-ghost use Rattle.cave_replay.specs.Taken.{end_of_stretch, passed, HasRoom, new_places, new_states, new_state};
+ghost use Rattle.cave_replay.specs.Taken.{end_of_stretch, lines_gone, passed, HasRoom, new_places, new_states, new_state};
 
 use crate::change::Changed;
 use crate::edit::Edit;
@@ -40,6 +40,28 @@ fn passed<S: Copy>(checkpoints: &Checkpoints<S>, met: Option<usize>) -> usize
     }
 }
 
+/// The old place up to which what was played comes in: the checkpoint that was met, or the end.
+fn end_of_stretch<S: Copy>(checkpoints: &Checkpoints<S>, met: Option<usize>) -> usize
+    requires { ForSome met (λ index. index < length checkpoints.now.places) }
+    ensures place { result ≡ end_of_stretch checkpoints.now met }
+    ensures within { result ≤ checkpoints.now.lines }
+{
+    match met {
+        Some(index) => checkpoints.places()[index] as usize,
+        None => checkpoints.lines() as usize,
+    }
+}
+
+/// How many lines of the old play go where a replay from the checkpoint of the index `at` is taken over.
+fn lines_gone<S: Copy>(checkpoints: &Checkpoints<S>, at: usize, met: Option<usize>) -> usize
+    requires among { at < length checkpoints.now.places }
+    requires met { ForSome met (λ index. index < length checkpoints.now.places) }
+    ensures { result ≡ lines_gone checkpoints.now at met }
+{
+    let from = checkpoints.places()[at] as usize;
+    end_of_stretch(checkpoints, met).saturating_sub(from)
+}
+
 /// Takes room for what is to be taken over, where the replay began at the checkpoint of the index `at`. What is kept
 /// stays as it is.
 pub(crate) fn make_room<M: Machine>(
@@ -48,6 +70,7 @@ pub(crate) fn make_room<M: Machine>(
     played: &Played<M>,
     at: usize,
 ) -> Result<(), AllocError>
+    requires among { at < length kept.old.checkpoints.places }
     requires passed { at ≤ passed kept.old.checkpoints played.now.met }
     requires met { ForSome played.now.met (λ index. index < length kept.old.checkpoints.places) }
     ensures seed { kept.new.seed ≡ kept.old.seed }
@@ -60,29 +83,20 @@ pub(crate) fn make_room<M: Machine>(
     ensures states { kept.new.checkpoints.states ≡ kept.old.checkpoints.states }
     ensures state { kept.new.state ≡ kept.old.state }
     ensures room_log { OnOk result (vec_len kept.new.log + vec_len changed.now.edits ≤ vec_capacity kept.new.log) }
-    ensures room_pieces { OnOk result (vec_len kept.new.pieces + vec_len played.now.pieces ≤ vec_capacity kept.new.pieces) }
-    ensures room_ticked { OnOk result (vec_len kept.new.ticked + vec_len played.now.ticked ≤ vec_capacity kept.new.ticked) }
+    ensures room_pieces { OnOk result (vec_len kept.new.pieces + vec_len played.now.pieces ≤ vec_capacity kept.new.pieces + lines_gone kept.old.checkpoints at played.now.met) }
+    ensures room_ticked { OnOk result (vec_len kept.new.ticked + vec_len played.now.ticked ≤ vec_capacity kept.new.ticked + lines_gone kept.old.checkpoints at played.now.met) }
     ensures room_marks { OnOk result (HasRoom kept.new.checkpoints played.now.marks at (passed kept.old.checkpoints played.now.met)) }
 {
     kept.log.reserve(changed.edits.len())?;
-    kept.pieces.reserve(played.pieces.len())?;
-    kept.ticked.reserve(played.ticked.len())?;
+    let gone = lines_gone(&kept.checkpoints, at, played.met);
+    let pieces = played.pieces.len().saturating_sub(gone);
+    kept.pieces.reserve(pieces)?;
+    let ticks = played.ticked.len().saturating_sub(gone);
+    kept.ticked.reserve(ticks)?;
     let going = passed(&kept.checkpoints, played.met) - at.saturating_sub(1);
     kept.checkpoints
         .reserve(played.marks.len().saturating_sub(going))?;
     Ok(())
-}
-
-/// The old place up to which what was played comes in: the checkpoint that was met, or the end.
-fn end_of_stretch<S: Copy>(checkpoints: &Checkpoints<S>, met: Option<usize>) -> usize
-    requires { ForSome met (λ index. index < length checkpoints.now.places) }
-    ensures place { result ≡ end_of_stretch checkpoints.now met }
-    ensures within { result ≤ checkpoints.now.lines }
-{
-    match met {
-        Some(index) => checkpoints.places()[index] as usize,
-        None => checkpoints.lines() as usize,
-    }
 }
 
 fn replace_piece<P: Drop>(piece: &mut P, new: Option<P>)
@@ -136,8 +150,8 @@ pub(crate) fn take_over<M: Machine>(
     requires met { MatchOption played.met (played.marks.next ≡ played.marks.end) (λ index. (at ≤ index) × (index < length kept.old.checkpoints.places) × (kept.old.checkpoints.lines - slice_index kept.old.checkpoints.places index + played.marks.next ≡ played.marks.end)) }
     requires stretch { slice_index kept.old.checkpoints.places at ≤ end_of_stretch kept.old.checkpoints played.met }
     requires room_log { vec_len kept.old.log + vec_len changed.edits ≤ vec_capacity kept.old.log }
-    requires room_pieces { vec_len kept.old.pieces + vec_len played.pieces ≤ vec_capacity kept.old.pieces }
-    requires room_ticked { vec_len kept.old.ticked + vec_len played.ticked ≤ vec_capacity kept.old.ticked }
+    requires room_pieces { vec_len kept.old.pieces + vec_len played.pieces ≤ vec_capacity kept.old.pieces + lines_gone kept.old.checkpoints at played.met }
+    requires room_ticked { vec_len kept.old.ticked + vec_len played.ticked ≤ vec_capacity kept.old.ticked + lines_gone kept.old.checkpoints at played.met }
     requires room_marks { HasRoom kept.old.checkpoints played.marks at (passed kept.old.checkpoints played.met) }
     ensures game { game_of kept.new.seed (log_of kept.new.log.items) ≡ apply_all (changes_of changed.edits.items) (game_of kept.old.seed (log_of kept.old.log.items)) }
     ensures opening { MatchOption opening (kept.new.opening ≡ kept.old.opening) (λ piece. kept.new.opening ≡ piece) }
