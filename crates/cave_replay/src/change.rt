@@ -1,7 +1,7 @@
 ghost use Rattle.std.specs.Prelude.{◌≡◌, ℕ, List, ◌+◌, ◌-◌, ◌^◌, ◌<◌, ◌≤◌, length, IfOk, IfSome, MatchOption, None};
 ghost use Rattle.cave_replay.specs.Log.{log_of};
 ghost use Rattle.cave_replay.specs.Play.{game_of};
-ghost use Rattle.cave_replay.specs.Change.{change_of, changes_of, own_line, line_at, log_after, seed_after_all};
+ghost use Rattle.cave_replay.specs.Change.{change_of, changes_of, own_line, line_at, log_after, seed_after_all, inserted_by_all};
 ghost use Rattle.cave_replay.specs.Faults.{fault_of, fault_of_all, log_after_all};
 ghost use Rattle.cave_replay.specs.Changed.{edited, new_game};
 ghost use Rattle.cave_replay.specs.Replay.{IsShift};
@@ -36,6 +36,20 @@ fn seed_after(edits: &[Edit], seed: u32) -> u32
         }
     }
     last
+}
+
+/// How many lines the edits insert.
+pub(crate) fn lines_inserted(edits: &[Edit]) -> usize
+    ensures { result ≡ inserted_by_all (changes_of edits.now) }
+{
+    let mut lines = 0;
+    for edit in edits {
+        match edit {
+            Edit::Insert(_, _) => lines += 1,
+            Edit::Delete(_) | Edit::Replace(_, _) | Edit::Reseed(_) => {}
+        }
+    }
+    lines
 }
 
 /// The edits of a log of `lines` lines, which were planned, made ready.

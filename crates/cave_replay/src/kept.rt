@@ -4,11 +4,11 @@ ghost use Rattle.std.specs.List.{splice};
 ghost use Rattle.cave_marks.specs.Marks.{IsBegunAt, places_met, states_met};
 ghost use Rattle.cave_replay.specs.Log.{log_of};
 ghost use Rattle.cave_replay.specs.Play.{game_of};
-ghost use Rattle.cave_replay.specs.Change.{changes_of, apply_all, inverses_of};
+ghost use Rattle.cave_replay.specs.Change.{changes_of, apply_all, inverses_of, inserted_by_all};
 ghost use Rattle.cave_replay.specs.Faults.{fault_of_all};
 ghost use Rattle.cave_replay.specs.Taken.{end_of_stretch, lines_gone, passed, HasRoom, new_places, new_states, new_state};
 
-use crate::change::Changed;
+use crate::change::{Changed, lines_inserted};
 use crate::edit::Edit;
 use crate::machine::Machine;
 use crate::making::make_edits;
@@ -82,12 +82,12 @@ pub(crate) fn make_room<M: Machine>(
     ensures places { kept.new.checkpoints.places ≡ kept.old.checkpoints.places }
     ensures states { kept.new.checkpoints.states ≡ kept.old.checkpoints.states }
     ensures state { kept.new.state ≡ kept.old.state }
-    ensures room_log { OnOk result (vec_len kept.new.log + vec_len changed.now.edits ≤ vec_capacity kept.new.log) }
+    ensures room_log { OnOk result (vec_len kept.new.log + inserted_by_all (changes_of changed.now.edits.items) ≤ vec_capacity kept.new.log) }
     ensures room_pieces { OnOk result (vec_len kept.new.pieces + vec_len played.now.pieces ≤ vec_capacity kept.new.pieces + lines_gone kept.old.checkpoints at played.now.met) }
     ensures room_ticked { OnOk result (vec_len kept.new.ticked + vec_len played.now.ticked ≤ vec_capacity kept.new.ticked + lines_gone kept.old.checkpoints at played.now.met) }
     ensures room_marks { OnOk result (HasRoom kept.new.checkpoints played.now.marks at (passed kept.old.checkpoints played.now.met)) }
 {
-    kept.log.reserve(changed.edits.len())?;
+    kept.log.reserve(lines_inserted(&changed.edits))?;
     let gone = lines_gone(&kept.checkpoints, at, played.met);
     let pieces = played.pieces.len().saturating_sub(gone);
     kept.pieces.reserve(pieces)?;
@@ -149,7 +149,7 @@ pub(crate) fn take_over<M: Machine>(
     requires begun { IsBegunAt kept.old.checkpoints at played.marks }
     requires met { MatchOption played.met (played.marks.next ≡ played.marks.end) (λ index. (at ≤ index) × (index < length kept.old.checkpoints.places) × (kept.old.checkpoints.lines - slice_index kept.old.checkpoints.places index + played.marks.next ≡ played.marks.end)) }
     requires stretch { slice_index kept.old.checkpoints.places at ≤ end_of_stretch kept.old.checkpoints played.met }
-    requires room_log { vec_len kept.old.log + vec_len changed.edits ≤ vec_capacity kept.old.log }
+    requires room_log { vec_len kept.old.log + inserted_by_all (changes_of changed.edits.items) ≤ vec_capacity kept.old.log }
     requires room_pieces { vec_len kept.old.pieces + vec_len played.pieces ≤ vec_capacity kept.old.pieces + lines_gone kept.old.checkpoints at played.met }
     requires room_ticked { vec_len kept.old.ticked + vec_len played.ticked ≤ vec_capacity kept.old.ticked + lines_gone kept.old.checkpoints at played.met }
     requires room_marks { HasRoom kept.old.checkpoints played.marks at (passed kept.old.checkpoints played.met) }
