@@ -9,7 +9,7 @@ pub mod Log
 pub mod Span
 pub mod Agreement
 pub mod Replay
-pub mod Changed
+pub mod ReadyEdits
 pub mod Table
 pub mod Taken
 pub mod TickCounts

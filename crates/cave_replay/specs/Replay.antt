@@ -31,18 +31,18 @@ pub record IsMarking {State Meaning : Type 0} (meaning : State → Meaning) (is_
   pub next : meaning marks.state ≡ at marks.next
   pub next_made : is_state marks.state
 
--- The checkpoint of an index stands at a new place, where `old` stands at `new`; `was` and `is` give the states of the
+-- The checkpoint of an index stands at a new place, where `old` stands at `new`; `old_at` and `new_at` give the states of the
 -- old play and of the new one, which agree there.
-pub record StandsAndAgrees {Meaning : Type 0} (was is : ℕ → Meaning) (checkpoints : List ℕ) (index old new place : ℕ) : Type 0 where
+pub record StandsAndAgrees {Meaning : Type 0} (old_at new_at : ℕ → Meaning) (checkpoints : List ℕ) (index old new place : ℕ) : Type 0 where
   pub inside : index < length checkpoints
   pub here : slice_index checkpoints index - old + new ≡ place
-  pub same : is place ≡ was (slice_index checkpoints index)
+  pub same : new_at place ≡ old_at (slice_index checkpoints index)
 
 -- It stands elsewhere and stays the next one, or the plays don't agree there and the one behind it is next.
 abbrev pub Passes : {Meaning : Type 0} → (ℕ → Meaning) → (ℕ → Meaning) → List ℕ → ℕ → ℕ → ℕ → ℕ → ℕ → Type 0
-Passes was is checkpoints index old new place further =
+Passes old_at new_at checkpoints index old new place further =
     ((further ≡ index) × (index < length checkpoints → slice_index checkpoints index - old + new ≡ place → ⊥))
-    ⊎ ((further ≡ index + 1) × (index < length checkpoints) × (slice_index checkpoints index - old + new ≡ place) × (is place ≡ was (slice_index checkpoints index) → ⊥))
+    ⊎ ((further ≡ index + 1) × (index < length checkpoints) × (slice_index checkpoints index - old + new ≡ place) × (new_at place ≡ old_at (slice_index checkpoints index) → ⊥))
 
 -- Of the old checkpoints those before `index` don't agree; the others stand in the unchanged end, and not before
 -- the new place `place`.

@@ -8,11 +8,11 @@ ghost use Rattle.cave_replay.specs.Change.{changes_of, apply_all, inverses_of, i
 ghost use Rattle.cave_replay.specs.Faults.{fault_of_all};
 ghost use Rattle.cave_replay.specs.Taken.{end_of_stretch, lines_gone, passed, HasRoom, new_places, new_states, new_state};
 
-use crate::change::{Changed, lines_inserted};
 use crate::edit::Edit;
 use crate::machine::Machine;
 use crate::making::make_edits;
 use crate::played::Played;
+use crate::ready_edits::{ReadyEdits, lines_inserted};
 use cave_marks::{Checkpoints, Marks, splice};
 use std::alloc::AllocError;
 
@@ -66,7 +66,7 @@ fn lines_gone<S: Copy>(checkpoints: &Checkpoints<S>, at: usize, met: Option<usiz
 /// stays as it is.
 pub(crate) fn make_room<M: Machine>(
     kept: &mut Kept<M>,
-    changed: &Changed,
+    ready: &ReadyEdits,
     played: &Played<M>,
     at: usize,
 ) -> Result<(), AllocError>
@@ -82,12 +82,12 @@ pub(crate) fn make_room<M: Machine>(
     ensures places { kept.new.checkpoints.places ≡ kept.old.checkpoints.places }
     ensures states { kept.new.checkpoints.states ≡ kept.old.checkpoints.states }
     ensures state { kept.new.state ≡ kept.old.state }
-    ensures room_log { OnOk result (vec_len kept.new.log + inserted_by_all (changes_of changed.now.edits.items) ≤ vec_capacity kept.new.log) }
+    ensures room_log { OnOk result (vec_len kept.new.log + inserted_by_all (changes_of ready.now.edits.items) ≤ vec_capacity kept.new.log) }
     ensures room_pieces { OnOk result (vec_len kept.new.pieces + vec_len played.now.pieces ≤ vec_capacity kept.new.pieces + lines_gone kept.old.checkpoints at played.now.met) }
     ensures room_ticked { OnOk result (vec_len kept.new.ticked + vec_len played.now.ticked ≤ vec_capacity kept.new.ticked + lines_gone kept.old.checkpoints at played.now.met) }
     ensures room_marks { OnOk result (HasRoom kept.new.checkpoints played.now.marks at (passed kept.old.checkpoints played.now.met)) }
 {
-    kept.log.reserve(lines_inserted(&changed.edits))?;
+    kept.log.reserve(lines_inserted(&ready.edits))?;
     let gone = lines_gone(&kept.checkpoints, at, played.met);
     let pieces = played.pieces.len().saturating_sub(gone);
     kept.pieces.reserve(pieces)?;
@@ -137,33 +137,33 @@ fn take_marks<S: Copy>(
 /// these back. The play began at the checkpoint of the index `at`.
 pub(crate) fn take_over<M: Machine>(
     kept: &mut Kept<M>,
-    changed: Changed,
+    ready: ReadyEdits,
     opening: Option<M::Piece>,
     played: Played<M>,
     at: usize,
 ) -> Vec<Edit>
-    requires free { fault_of_all (changes_of changed.edits.items) (log_of kept.old.log.items) 0 ≡ None }
+    requires free { fault_of_all (changes_of ready.edits.items) (log_of kept.old.log.items) 0 ≡ None }
     requires pieces { vec_len kept.old.pieces ≡ vec_len kept.old.log }
     requires ticked { vec_len kept.old.ticked ≡ vec_len kept.old.log }
     requires lines { kept.old.checkpoints.lines ≡ vec_len kept.old.log }
     requires begun { IsBegunAt kept.old.checkpoints at played.marks }
     requires met { MatchOption played.met (played.marks.next ≡ played.marks.end) (λ index. (at ≤ index) × (index < length kept.old.checkpoints.places) × (kept.old.checkpoints.lines - slice_index kept.old.checkpoints.places index + played.marks.next ≡ played.marks.end)) }
     requires stretch { slice_index kept.old.checkpoints.places at ≤ end_of_stretch kept.old.checkpoints played.met }
-    requires room_log { vec_len kept.old.log + inserted_by_all (changes_of changed.edits.items) ≤ vec_capacity kept.old.log }
+    requires room_log { vec_len kept.old.log + inserted_by_all (changes_of ready.edits.items) ≤ vec_capacity kept.old.log }
     requires room_pieces { vec_len kept.old.pieces + vec_len played.pieces ≤ vec_capacity kept.old.pieces + lines_gone kept.old.checkpoints at played.met }
     requires room_ticked { vec_len kept.old.ticked + vec_len played.ticked ≤ vec_capacity kept.old.ticked + lines_gone kept.old.checkpoints at played.met }
     requires room_marks { HasRoom kept.old.checkpoints played.marks at (passed kept.old.checkpoints played.met) }
-    ensures game { game_of kept.new.seed (log_of kept.new.log.items) ≡ apply_all (changes_of changed.edits.items) (game_of kept.old.seed (log_of kept.old.log.items)) }
+    ensures game { game_of kept.new.seed (log_of kept.new.log.items) ≡ apply_all (changes_of ready.edits.items) (game_of kept.old.seed (log_of kept.old.log.items)) }
     ensures opening { MatchOption opening (kept.new.opening ≡ kept.old.opening) (λ piece. kept.new.opening ≡ piece) }
     ensures pieces { kept.new.pieces.items ≡ splice kept.old.pieces.items (slice_index kept.old.checkpoints.places at) (end_of_stretch kept.old.checkpoints played.met) played.pieces.items }
     ensures ticked { kept.new.ticked.items ≡ splice kept.old.ticked.items (slice_index kept.old.checkpoints.places at) (end_of_stretch kept.old.checkpoints played.met) played.ticked.items }
     ensures settings { (kept.new.checkpoints.every ≡ kept.old.checkpoints.every) × (kept.new.checkpoints.lines ≡ played.marks.end) }
     ensures places { kept.new.checkpoints.places ≡ new_places kept.old.checkpoints played.marks at played.met }
     ensures states { kept.new.checkpoints.states ≡ new_states kept.old.checkpoints played.marks at played.met }
-    ensures inverse { changes_of result.items ≡ inverses_of (changes_of changed.edits.items) (game_of kept.old.seed (log_of kept.old.log.items)) }
+    ensures inverse { changes_of result.items ≡ inverses_of (changes_of ready.edits.items) (game_of kept.old.seed (log_of kept.old.log.items)) }
     ensures state { kept.new.state ≡ new_state kept.old.state played.marks played.met }
 {
-    let mut edits = changed.edits;
+    let mut edits = ready.edits;
     let Played {
         mut pieces,
         mut ticked,

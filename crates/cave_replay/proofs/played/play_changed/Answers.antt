@@ -4,7 +4,7 @@ use Rattle.cave_marks.specs.Spacing.{IsSpaced}
 use Rattle.cave_replay.specs.Log.{log_of}
 use Rattle.cave_replay.specs.Play.{game_of}
 use Rattle.cave_replay.specs.Change.{line_at}
-use Rattle.cave_replay.specs.Changed.{new_game}
+use Rattle.cave_replay.specs.ReadyEdits.{new_game}
 use Rattle.cave_replay.specs.Agreement.{state_at}
 use Rattle.cave_replay.specs.Replay.{IsUnderway}
 use Rattle.cave_replay.proofs.Bounds.{bounded_to, underway_none}
@@ -22,7 +22,7 @@ lines-init g c =
     let spaced : IsSpaced c.args.checkpoints.now.every c.args.checkpoints.now.places (length log) = rw (n, ← c.requires.old_lines) c.places.ensures.spaced in
     let places = c.places.ensures.places in
     record {
-      underway = underway_start rules (game_of c.args.seed log) (new_game c.args.changed.now log) c.args.changed.now.head (length c.args.log.now - c.args.changed.now.behind) c.requires.shift
+      underway = underway_start rules (game_of c.args.seed log) (new_game c.args.ready.now log) c.args.ready.now.head (length c.args.log.now - c.args.ready.now.behind) c.requires.shift
           c.args.checkpoints.now.every c.args.checkpoints.now.places spaced c.first_from-index.result c.args.marks.next
           (λ k below. let early = rw places at (c.first_from-index.ensures.before k below) in omega arith)
           (λ k from inside. let late = rw places at (c.first_from-index.ensures.after k from (rw places inside)) in omega arith)
@@ -48,16 +48,16 @@ returns-in_default-clause-met g c =
     let within = c.requires.within in
     let rules = g.M.Machine.rules c.args.machine.now in
     let old = game_of c.args.seed log in
-    let new = new_game c.args.changed.now log in
-    let tail = length c.args.log.now - c.args.changed.now.behind in
+    let new = new_game c.args.ready.now log in
+    let tail = length c.args.log.now - c.args.ready.now.behind in
     let C = c.args.checkpoints.now.places in
     let K = c.args.checkpoints.now.every in
     let spaced : IsSpaced K C (length log) = rw (n, ← c.requires.old_lines) c.places.ensures.spaced in
     let at = c.lines.invariant in
-    let old_is : c.args.changed.now.behind + tail ≡ length log = omega arith in
+    let old_is : c.args.ready.now.behind + tail ≡ length log = omega arith in
     let new_is : c.rest-new.result + tail ≡ length new.log = omega (arith, c.rest-new.ensures, c.requires.lines) in
     let stands = c.in_default.ensures (state_at rules old) (state_at rules new) c.requires.old_states at.marking in
-    let met = underway_agrees rules old new c.args.changed.now.head tail c.requires.shift K C spaced c.lines.index c.lines.played.marks.next c.args.changed.now.behind c.rest-new.result
+    let met = underway_agrees rules old new c.args.ready.now.head tail c.requires.shift K C spaced c.lines.index c.lines.played.marks.next c.args.ready.now.behind c.rest-new.result
     old_is new_is at.underway stands in
     (stands.inside, met.0, met.1)
 
@@ -69,8 +69,8 @@ returns-in_default-clause-none g c =
     let within = c.requires.within in
     let rules = g.M.Machine.rules c.args.machine.now in
     let old = game_of c.args.seed log in
-    let new = new_game c.args.changed.now log in
-    let tail = length c.args.log.now - c.args.changed.now.behind in
+    let new = new_game c.args.ready.now log in
+    let tail = length c.args.log.now - c.args.ready.now.behind in
     let C = c.args.checkpoints.now.places in
     let K = c.args.checkpoints.now.every in
     let spaced : IsSpaced K C (length log) = rw (n, ← c.requires.old_lines) c.places.ensures.spaced in
@@ -85,8 +85,8 @@ returns-in_default-clause-bounded g c =
     let within = c.requires.within in
     let rules = g.M.Machine.rules c.args.machine.now in
     let old = game_of c.args.seed log in
-    let new = new_game c.args.changed.now log in
-    let tail = length c.args.log.now - c.args.changed.now.behind in
+    let new = new_game c.args.ready.now log in
+    let tail = length c.args.log.now - c.args.ready.now.behind in
     let C = c.args.checkpoints.now.places in
     let K = c.args.checkpoints.now.every in
     let spaced : IsSpaced K C (length log) = rw (n, ← c.requires.old_lines) c.places.ensures.spaced in
@@ -99,7 +99,7 @@ returns-in_default-clause-bounded g c =
     let steps = at.counted in
     let forward = at.forward in
     rw every
-    (bounded_to rules old new c.args.changed.now.head tail c.requires.shift K C spaced (omega arith) c.args.marks.next (omega arith) (c.lines.played.marks.next) (omega (arith, end, reached)) (underway_none rules old new tail C c.lines.index c.lines.played.marks.next at.underway) (g.M.Meter.Steps.count c.lines.meter - g.M.Meter.Steps.count c.args.meter.now) (omega (arith, steps, forward)))
+    (bounded_to rules old new c.args.ready.now.head tail c.requires.shift K C spaced (omega arith) c.args.marks.next (omega arith) (c.lines.played.marks.next) (omega (arith, end, reached)) (underway_none rules old new tail C c.lines.index c.lines.played.marks.next at.underway) (g.M.Meter.Steps.count c.lines.meter - g.M.Meter.Steps.count c.args.meter.now) (omega (arith, steps, forward)))
 
 pub returns-then-place-end-clause-met : goal.returns-then-place-end-clause-met
 returns-then-place-end-clause-met g c =
@@ -109,20 +109,20 @@ returns-then-place-end-clause-met g c =
     let within = c.requires.within in
     let rules = g.M.Machine.rules c.args.machine.now in
     let old = game_of c.args.seed log in
-    let new = new_game c.args.changed.now log in
-    let tail = length c.args.log.now - c.args.changed.now.behind in
+    let new = new_game c.args.ready.now log in
+    let tail = length c.args.log.now - c.args.ready.now.behind in
     let C = c.args.checkpoints.now.places in
     let K = c.args.checkpoints.now.every in
     let spaced : IsSpaced K C (length log) = rw (n, ← c.requires.old_lines) c.places.ensures.spaced in
     let at = c.lines.invariant in
-    let old_is : c.args.changed.now.behind + tail ≡ length log = omega arith in
+    let old_is : c.args.ready.now.behind + tail ≡ length log = omega arith in
     let new_is : c.rest-new.result + tail ≡ length new.log = omega (arith, c.rest-new.ensures, c.requires.lines) in
     let further : IsUnderway rules old new tail C c.in-Some.further (c.lines.played.marks.next + 1) =
-    underway_further rules old new c.args.changed.now.head tail c.requires.shift K C spaced c.lines.index c.lines.played.marks.next c.in-Some.further c.args.changed.now.behind c.rest-new.result
+    underway_further rules old new c.args.ready.now.head tail c.requires.shift K C spaced c.lines.index c.lines.played.marks.next c.in-Some.further c.args.ready.now.behind c.rest-new.result
     old_is new_is at.underway (c.in-Some.ensures (state_at rules old) (state_at rules new) c.requires.old_states at.marking) in
     let place = c.next-place.ensures.next in
     let end : c.lines.played.marks.next ≡ length new.log = omega (arith, c.if-place-end.true, c.requires.lines) in
-    rw at.unmet (end ∙ sym c.requires.end, underway_end rules old new c.args.changed.now.head tail c.requires.shift K C spaced c.in-Some.further (c.lines.played.marks.next + 1) further (omega arith))
+    rw at.unmet (end ∙ sym c.requires.end, underway_end rules old new c.args.ready.now.head tail c.requires.shift K C spaced c.in-Some.further (c.lines.played.marks.next + 1) further (omega arith))
 
 pub returns-then-place-end-clause-none : goal.returns-then-place-end-clause-none
 returns-then-place-end-clause-none g c =
@@ -132,8 +132,8 @@ returns-then-place-end-clause-none g c =
     let within = c.requires.within in
     let rules = g.M.Machine.rules c.args.machine.now in
     let old = game_of c.args.seed log in
-    let new = new_game c.args.changed.now log in
-    let tail = length c.args.log.now - c.args.changed.now.behind in
+    let new = new_game c.args.ready.now log in
+    let tail = length c.args.log.now - c.args.ready.now.behind in
     let C = c.args.checkpoints.now.places in
     let K = c.args.checkpoints.now.every in
     let spaced : IsSpaced K C (length log) = rw (n, ← c.requires.old_lines) c.places.ensures.spaced in
@@ -148,8 +148,8 @@ returns-then-place-end-clause-bounded g c =
     let within = c.requires.within in
     let rules = g.M.Machine.rules c.args.machine.now in
     let old = game_of c.args.seed log in
-    let new = new_game c.args.changed.now log in
-    let tail = length c.args.log.now - c.args.changed.now.behind in
+    let new = new_game c.args.ready.now log in
+    let tail = length c.args.log.now - c.args.ready.now.behind in
     let C = c.args.checkpoints.now.places in
     let K = c.args.checkpoints.now.every in
     let spaced : IsSpaced K C (length log) = rw (n, ← c.requires.old_lines) c.places.ensures.spaced in
@@ -162,7 +162,7 @@ returns-then-place-end-clause-bounded g c =
     let steps = at.counted in
     let forward = at.forward in
     rw every
-    (bounded_to rules old new c.args.changed.now.head tail c.requires.shift K C spaced (omega arith) c.args.marks.next (omega arith) (c.lines.played.marks.next) (omega (arith, end, reached)) (underway_none rules old new tail C c.lines.index c.lines.played.marks.next at.underway) (g.M.Meter.Steps.count c.lines.meter - g.M.Meter.Steps.count c.args.meter.now) (omega (arith, steps, forward)))
+    (bounded_to rules old new c.args.ready.now.head tail c.requires.shift K C spaced (omega arith) c.args.marks.next (omega arith) (c.lines.played.marks.next) (omega (arith, end, reached)) (underway_none rules old new tail C c.lines.index c.lines.played.marks.next at.underway) (g.M.Meter.Steps.count c.lines.meter - g.M.Meter.Steps.count c.args.meter.now) (omega (arith, steps, forward)))
 
 pub lines-preserved : goal.lines-preserved
 lines-preserved g c =
@@ -172,16 +172,16 @@ lines-preserved g c =
     let within = c.requires.within in
     let rules = g.M.Machine.rules c.args.machine.now in
     let old = game_of c.args.seed log in
-    let new = new_game c.args.changed.now log in
-    let tail = length c.args.log.now - c.args.changed.now.behind in
+    let new = new_game c.args.ready.now log in
+    let tail = length c.args.log.now - c.args.ready.now.behind in
     let C = c.args.checkpoints.now.places in
     let K = c.args.checkpoints.now.every in
     let spaced : IsSpaced K C (length log) = rw (n, ← c.requires.old_lines) c.places.ensures.spaced in
     let at = c.lines.invariant in
-    let old_is : c.args.changed.now.behind + tail ≡ length log = omega arith in
+    let old_is : c.args.ready.now.behind + tail ≡ length log = omega arith in
     let new_is : c.rest-new.result + tail ≡ length new.log = omega (arith, c.rest-new.ensures, c.requires.lines) in
     let further : IsUnderway rules old new tail C c.in-Some.further (c.lines.played.marks.next + 1) =
-    underway_further rules old new c.args.changed.now.head tail c.requires.shift K C spaced c.lines.index c.lines.played.marks.next c.in-Some.further c.args.changed.now.behind c.rest-new.result
+    underway_further rules old new c.args.ready.now.head tail c.requires.shift K C spaced c.lines.index c.lines.played.marks.next c.in-Some.further c.args.ready.now.behind c.rest-new.result
     old_is new_is at.underway (c.in-Some.ensures (state_at rules old) (state_at rules new) c.requires.old_states at.marking) in
     let place = c.next-place.ensures.next in
     let reached = at.within in
@@ -214,16 +214,16 @@ returns-in_err-play_line-clause-bounded g c =
     let within = c.requires.within in
     let rules = g.M.Machine.rules c.args.machine.now in
     let old = game_of c.args.seed log in
-    let new = new_game c.args.changed.now log in
-    let tail = length c.args.log.now - c.args.changed.now.behind in
+    let new = new_game c.args.ready.now log in
+    let tail = length c.args.log.now - c.args.ready.now.behind in
     let C = c.args.checkpoints.now.places in
     let K = c.args.checkpoints.now.every in
     let spaced : IsSpaced K C (length log) = rw (n, ← c.requires.old_lines) c.places.ensures.spaced in
     let at = c.lines.invariant in
-    let old_is : c.args.changed.now.behind + tail ≡ length log = omega arith in
+    let old_is : c.args.ready.now.behind + tail ≡ length log = omega arith in
     let new_is : c.rest-new.result + tail ≡ length new.log = omega (arith, c.rest-new.ensures, c.requires.lines) in
     let further : IsUnderway rules old new tail C c.in-Some.further (c.lines.played.marks.next + 1) =
-    underway_further rules old new c.args.changed.now.head tail c.requires.shift K C spaced c.lines.index c.lines.played.marks.next c.in-Some.further c.args.changed.now.behind c.rest-new.result
+    underway_further rules old new c.args.ready.now.head tail c.requires.shift K C spaced c.lines.index c.lines.played.marks.next c.in-Some.further c.args.ready.now.behind c.rest-new.result
     old_is new_is at.underway (c.in-Some.ensures (state_at rules old) (state_at rules new) c.requires.old_states at.marking) in
     let place = c.next-place.ensures.next in
     let below : c.lines.played.marks.next < length new.log = omega (arith, c.if-place-end.false, c.requires.lines, at.within, c.requires.end) in
@@ -236,4 +236,4 @@ returns-in_err-play_line-clause-bounded g c =
     let steps = at.counted in
     let forward = at.forward in
     rw every
-    (bounded_to rules old new c.args.changed.now.head tail c.requires.shift K C spaced (omega arith) c.args.marks.next (omega arith) (c.lines.played.marks.next + 1) (omega arith) (underway_none rules old new tail C c.in-Some.further (c.lines.played.marks.next + 1) further) (g.M.Meter.Steps.count c.play_line.new.meter - g.M.Meter.Steps.count c.args.meter.now) (omega (arith, steps, forward, counted)))
+    (bounded_to rules old new c.args.ready.now.head tail c.requires.shift K C spaced (omega arith) c.args.marks.next (omega arith) (c.lines.played.marks.next + 1) (omega arith) (underway_none rules old new tail C c.in-Some.further (c.lines.played.marks.next + 1) further) (g.M.Meter.Steps.count c.play_line.new.meter - g.M.Meter.Steps.count c.args.meter.now) (omega (arith, steps, forward, counted)))

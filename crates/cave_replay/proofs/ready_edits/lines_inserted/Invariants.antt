@@ -1,6 +1,6 @@
 use Rattle.std.proofs.Common.{◌≡◌, ◌+◌, ◌≤◌, drop}
 use Rattle.cave_replay.specs.Change.{changes_of, inserted_by_all}
-use Rattle.cave_replay.proofs.change.lines_inserted.Given as goal
+use Rattle.cave_replay.proofs.ready_edits.lines_inserted.Given as goal
 
 abbrev pub invariant-loop-edit : goal.invariant-loop-edit
 invariant-loop-edit l = record {
