@@ -10,6 +10,7 @@ pub mod Span
 pub mod Agreement
 pub mod Replay
 pub mod ReadyEdits
+pub mod Kept
 pub mod Table
 pub mod Taken
 pub mod TickCounts

@@ -1,4 +1,4 @@
-ghost use Rattle.std.specs.Prelude.{◌≡◌, ◌+◌, ◌≤◌, ◌<◌, length, vec_len, vec_capacity, None};
+ghost use Rattle.std.specs.Prelude.{◌≡◌, ◌+◌, ◌≤◌, ◌<◌, vec_len, vec_capacity, None};
 ghost use Rattle.cave_replay.specs.Log.{log_of};
 ghost use Rattle.cave_replay.specs.Play.{game_of};
 ghost use Rattle.cave_replay.specs.Change.{change_of, changes_of, apply, apply_all, inverse_of, inverses_of, inserted, inserted_by_all};

@@ -1,15 +1,8 @@
-ghost use Rattle.std.specs.Prelude.{◌≡◌, ℕ, ◌+◌, ◌-◌, ◌^◌, ◌<◌, ◌≤◌, ◌∷◌, [], ◌++◌, ◌↔◌, length, map, take, slice_index, IfOk, OnOk, OnErr, IsTrue, MatchOption, None, Some, All};
-ghost use Rattle.std.specs.List.Sorted.{IsStrictlyIncreasing};
-ghost use Rattle.cave_marks.specs.Marks.{IsBegunAt};
+ghost use Rattle.std.specs.Prelude.{◌≡◌, ℕ, ◌+◌, ◌-◌, ◌^◌, ◌<◌, ◌≤◌, ◌∷◌, [], ◌++◌, ◌↔◌, length, map, slice_index, IfOk, OnOk, IsTrue, MatchOption, None, Some};
 ghost use Rattle.cave_words.specs.Line.{is_line};
 ghost use Rattle.cave_replay.specs.Log.{log_of};
-ghost use Rattle.cave_replay.specs.Play.{game_of};
-ghost use Rattle.cave_replay.specs.Change.{changes_of};
-ghost use Rattle.cave_replay.specs.Faults.{fault_of_all};
-ghost use Rattle.cave_replay.specs.ReadyEdits.{edited, new_game};
-ghost use Rattle.cave_replay.specs.Held.{IsGame};
-ghost use Rattle.cave_replay.specs.Agreement.{state_at, image, AgreesAt, NoneMeetsBefore, IsMeet, IsBounded};
-ghost use Rattle.cave_replay.specs.Replay.{IsShift, texts_at, ticks_at, AreStates, IsMarking, StandsAndAgrees, Passes};
+ghost use Rattle.cave_replay.specs.ReadyEdits.{edited, replay_of, IsReady};
+ghost use Rattle.cave_replay.specs.Replay.{AreStates, IsMarking, StandsAndAgrees, Passes, SaysNew, TicksNew, old_states, new_states, HasMet, NoneMetBefore, IsWithinBound};
 ghost use Rattle.cave_replay.specs.declared.fault.TheConstants.{MOST_LINES};
 
 use crate::machine::Machine;
@@ -115,32 +108,35 @@ pub(crate) fn play_changed<M: Machine>(
     marks: Marks<M::State>,
     meter: &mut M::Meter,
 ) -> Result<Played<M>, AllocError>
-    requires free { fault_of_all (changes_of ready.now.edits.items) (log_of log.now) 0 ≡ None }
-    requires lines { ready.now.lines ≡ length (edited ready.now (log_of log.now)) }
-    requires ordered { ready.now.head ≤ ready.now.behind }
-    requires within { ready.now.behind ≤ length log.now }
+    requires ready { IsReady seed log.now ready.now }
     requires few { length log.now ≤ MOST_LINES }
-    requires shift { IsShift (game_of seed (log_of log.now)) (new_game ready.now (log_of log.now)) ready.now.head (length log.now - ready.now.behind) }
-    requires game { IsGame (new_game ready.now (log_of log.now)) }
     requires old_lines { checkpoints.now.lines ≡ length log.now }
-    requires old_states { AreStates M.meaning M.is_state (state_at (M.rules machine.now) (game_of seed (log_of log.now))) checkpoints.now.places checkpoints.now.states }
-    requires marking { IsMarking M.meaning M.is_state (state_at (M.rules machine.now) (new_game ready.now (log_of log.now))) marks }
+    requires old_states { let replay = replay_of (M.rules machine.now) seed log.now ready.now in
+        AreStates M.meaning M.is_state (old_states replay) checkpoints.now.places checkpoints.now.states }
+    requires marking { let replay = replay_of (M.rules machine.now) seed log.now ready.now in
+        IsMarking M.meaning M.is_state (new_states replay) marks }
     requires end { marks.end ≡ length (edited ready.now (log_of log.now)) }
     requires every { marks.every ≡ checkpoints.now.every }
     requires apart { 0 < marks.every }
     requires from { marks.next ≤ ready.now.head }
     requires near { ready.now.head ≤ marks.next + marks.every }
     requires room { M.Meter.count meter.old + length (edited ready.now (log_of log.now)) < 2 ^ 64 }
-    ensures texts { IfOk result (λ played. texts_at (M.rules machine.now) (new_game ready.now (log_of log.now)) marks.next ++ map M.text played.pieces.items ≡ texts_at (M.rules machine.now) (new_game ready.now (log_of log.now)) played.marks.next) }
-    ensures ticks { IfOk result (λ played. ticks_at (M.rules machine.now) (new_game ready.now (log_of log.now)) marks.next ++ played.ticked.items ≡ ticks_at (M.rules machine.now) (new_game ready.now (log_of log.now)) played.marks.next) }
-    ensures marking { IfOk result (λ played. IsMarking M.meaning M.is_state (state_at (M.rules machine.now) (new_game ready.now (log_of log.now))) played.marks) }
+    ensures texts { let replay = replay_of (M.rules machine.now) seed log.now ready.now in
+        IfOk result (λ played. SaysNew replay marks.next (map M.text played.pieces.items) played.marks.next) }
+    ensures ticks { let replay = replay_of (M.rules machine.now) seed log.now ready.now in
+        IfOk result (λ played. TicksNew replay marks.next played.ticked.items played.marks.next) }
+    ensures marking { let replay = replay_of (M.rules machine.now) seed log.now ready.now in
+        IfOk result (λ played. IsMarking M.meaning M.is_state (new_states replay) played.marks) }
     ensures settings { IfOk result (λ played. (played.marks.every ≡ marks.every) × (played.marks.end ≡ marks.end) × (played.marks.from ≡ marks.from) × (slice_index played.marks.places 0 ≡ slice_index marks.places 0)) }
     ensures forward { IfOk result (λ played. (marks.next ≤ played.marks.next) × (played.marks.next ≤ marks.end)) }
-    ensures met { IfOk result (λ played. MatchOption played.met ((played.marks.next ≡ marks.end) × IsMeet (M.rules machine.now) (game_of seed (log_of log.now)) (new_game ready.now (log_of log.now)) (length log.now - ready.now.behind) checkpoints.now.places None) (λ index. (index < length checkpoints.now.places) × AgreesAt (M.rules machine.now) (game_of seed (log_of log.now)) (new_game ready.now (log_of log.now)) (length log.now - ready.now.behind) (slice_index checkpoints.now.places index) × (played.marks.next ≡ image (game_of seed (log_of log.now)) (new_game ready.now (log_of log.now)) (slice_index checkpoints.now.places index)))) }
-    ensures none { IfOk result (λ played. NoneMeetsBefore (M.rules machine.now) (game_of seed (log_of log.now)) (new_game ready.now (log_of log.now)) (length log.now - ready.now.behind) checkpoints.now.places played.marks.next) }
+    ensures met { let replay = replay_of (M.rules machine.now) seed log.now ready.now in
+        IfOk result (λ played. HasMet replay checkpoints.now.places played.marks.next marks.end played.met) }
+    ensures none { let replay = replay_of (M.rules machine.now) seed log.now ready.now in
+        IfOk result (λ played. NoneMetBefore replay checkpoints.now.places played.marks.next) }
     ensures steps { IfOk result (λ played. M.Meter.count meter.new + marks.next ≡ M.Meter.count meter.old + played.marks.next) }
     ensures counted { M.Meter.count meter.old ≤ M.Meter.count meter.new }
-    ensures bounded { IsBounded (M.rules machine.now) (game_of seed (log_of log.now)) (new_game ready.now (log_of log.now)) ready.now.head (length log.now - ready.now.behind) marks.every (M.Meter.count meter.new - M.Meter.count meter.old) }
+    ensures bounded { let replay = replay_of (M.rules machine.now) seed log.now ready.now in
+        IsWithinBound replay marks.every (M.Meter.count meter.new - M.Meter.count meter.old) }
 {
     let end = ready.lines;
     let new = ready.rest(log);

@@ -29,7 +29,7 @@ take_over-inverse-requires-clause-pieces g c =
     let C = kept.checkpoints in
     let held = c.requires.kept in
     let roomy = c.make_room.new.kept in
-    let same = c.make_room.ensures in
+    let same = c.make_room.ensures.same in
     let lengths = length-pieces rules (game_of kept.seed log) (text kept.opening) (map text kept.pieces.items) kept.ticked.items (g.M.Machine.meaning kept.state) held.plays in
     let m = length-map kept.pieces.items text in
     let p = ap length same.pieces in
@@ -47,7 +47,7 @@ take_over-inverse-requires-clause-ticked g c =
     let C = kept.checkpoints in
     let held = c.requires.kept in
     let roomy = c.make_room.new.kept in
-    let same = c.make_room.ensures in
+    let same = c.make_room.ensures.same in
     let lengths = length-ticks rules (game_of kept.seed log) (text kept.opening) (map text kept.pieces.items) kept.ticked.items (g.M.Machine.meaning kept.state) held.plays in
     let p = ap length same.ticked in
     let l = ap length same.log in
@@ -64,7 +64,7 @@ take_over-inverse-requires-clause-met g c =
     let C = kept.checkpoints in
     let held = c.requires.kept in
     let roomy = c.make_room.new.kept in
-    let same = c.make_room.ensures in
+    let same = c.make_room.ensures.same in
     let changes = changes_of c.args.edits.now in
     let ready = c.in-Ok.replayed.ready in
     let played = c.in-Ok.replayed.played in
@@ -78,7 +78,7 @@ take_over-inverse-requires-clause-met g c =
     let shift : IsShift old new span.head span.tail = rw (← made.head, ← tail_is) shift' in
     let good = good_of changes log kept.seed new held.game_is made.accepted made.game in
     let spaced : IsSpaced C.every C.places C.lines = c.places.ensures.spaced in
-    met_ready g.M.Machine.meaning g.M.Machine.is_state rules old new span.head span.tail shift (text kept.opening) (map text kept.pieces.items) kept.ticked.items kept.state C held spaced at (option_map text c.in-Ok.replayed.opening) (map text played.pieces.items) played.ticked.items played.marks played.met made.replayed roomy.checkpoints same.settings.1 same.places
+    met_ready g.M.Machine.meaning g.M.Machine.is_state rules old new span.head span.tail shift (text kept.opening) (map text kept.pieces.items) kept.ticked.items kept.state C held spaced at (option_map text c.in-Ok.replayed.opening) (map text played.pieces.items) played.ticked.items played.marks played.met made.replayed roomy.checkpoints same.lines same.places
 
 pub returns-clause-kept : goal.returns-clause-kept
 returns-clause-kept g c =
@@ -91,7 +91,7 @@ returns-clause-kept g c =
     let C = kept.checkpoints in
     let held = c.requires.kept in
     let roomy = c.make_room.new.kept in
-    let same = c.make_room.ensures in
+    let same = c.make_room.ensures.same in
     let changes = changes_of c.args.edits.now in
     let ready = c.in-Ok.replayed.ready in
     let played = c.in-Ok.replayed.played in
@@ -109,7 +109,7 @@ returns-clause-kept g c =
     let done = c.take_over-inverse.ensures in
     let moved : apply_all (changes_of ready.edits.items) (game_of roomy.seed (log_of roomy.log.items)) ≡ apply_all changes old = rw (made.edits, same.seed, same.log) refl in
     let game_is : game_of after.seed (log_of after.log.items) ≡ new = done.game ∙ moved ∙ sym made.game in
-    let stretch = stretch_same roomy.checkpoints C same.settings.1 same.places played.met in
+    let stretch = stretch_same roomy.checkpoints C same.lines same.places played.met in
     let from = ap (λ x. slice_index x at) same.places in
     rw game_is
     (kept_after g.M.Machine.meaning g.M.Machine.is_state rules old new span.head span.tail shift (text kept.opening) (map text kept.pieces.items) kept.ticked.items kept.state C held spaced at (option_map text c.in-Ok.replayed.opening) (map text played.pieces.items) played.ticked.items played.marks played.met made.replayed good (text after.opening) (map text after.pieces.items) after.ticked.items after.state after.checkpoints
@@ -117,7 +117,7 @@ returns-clause-kept g c =
     (ap (map text) done.pieces ∙ map-splice text roomy.pieces.items played.pieces.items (slice_index roomy.checkpoints.places at) _ ∙ rw (same.pieces, stretch, from) refl)
     (done.ticked ∙ rw (same.ticked, stretch, from) refl)
     (done.state ∙ rw same.state refl)
-    (done.settings.0 ∙ same.settings.0)
+    (done.settings.0 ∙ same.every)
     done.settings.1
     (done.places ∙ places_same roomy.checkpoints C same.places played.marks at played.met)
     (done.states ∙ states_same roomy.checkpoints C same.places same.states played.marks at played.met))
@@ -133,7 +133,7 @@ returns-clause-report g c =
     let C = kept.checkpoints in
     let held = c.requires.kept in
     let roomy = c.make_room.new.kept in
-    let same = c.make_room.ensures in
+    let same = c.make_room.ensures.same in
     let changes = changes_of c.args.edits.now in
     let ready = c.in-Ok.replayed.ready in
     let played = c.in-Ok.replayed.played in
@@ -201,23 +201,23 @@ make_room-requires-clause-met g c =
 
 pub take_over-inverse-requires-clause-room_marks : goal.take_over-inverse-requires-clause-room_marks
 take_over-inverse-requires-clause-room_marks g c =
-    room_ready c.make_room.new.kept.checkpoints c.args.kept.now.checkpoints c.make_room.ensures.places c.in-Ok.replayed.played.marks c.in-Ok.replayed.at c.in-Ok.replayed.played.met (search rules)
+    room_ready c.make_room.new.kept.checkpoints c.args.kept.now.checkpoints c.make_room.ensures.same.places c.in-Ok.replayed.played.marks c.in-Ok.replayed.at c.in-Ok.replayed.played.met (search rules)
 
 pub returns-clause-game : goal.returns-clause-game
 returns-clause-game g c =
-    let same = c.make_room.ensures in
+    let same = c.make_room.ensures.same in
     let made = c.in-Ok.ensures in
     c.take_over-inverse.ensures.game ∙ rw (made.edits, same.seed, same.log) refl
 
 pub returns-clause-inverse : goal.returns-clause-inverse
 returns-clause-inverse g c =
-    let same = c.make_room.ensures in
+    let same = c.make_room.ensures.same in
     let made = c.in-Ok.ensures in
     c.take_over-inverse.ensures.inverse ∙ rw (made.edits, same.seed, same.log) refl
 
 pub returns-clause-back : goal.returns-clause-back
 returns-clause-back g c =
-    let same = c.make_room.ensures in
+    let same = c.make_room.ensures.same in
     let made = c.in-Ok.ensures in
     let done = c.take_over-inverse.ensures in
     let changes = changes_of c.args.edits.now in
@@ -227,7 +227,7 @@ returns-clause-back g c =
 pub returns-clause-back_accepted : goal.returns-clause-back_accepted
 returns-clause-back_accepted g c =
     let held = c.requires.kept in
-    let same = c.make_room.ensures in
+    let same = c.make_room.ensures.same in
     let made = c.in-Ok.ensures in
     let done = c.take_over-inverse.ensures in
     let changes = changes_of c.args.edits.now in

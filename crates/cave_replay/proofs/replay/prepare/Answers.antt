@@ -32,25 +32,8 @@ returns-clause-game c =
     let made = c.in-Ok-make_ready.ensures in
     rw (made.edits, made.seed) (game-apply_all (changes_of c.args.edits.now) c.args.seed log)
 
-pub returns-clause-lines : goal.returns-clause-lines
-returns-clause-lines c =
-    let log = log_of c.args.log.now in
-    let made = c.in-Ok-make_ready.ensures in
-    rw made.edits (made.lines ∙ (c.in-Ok.ensures log (length-log_of c.args.log.now)).1)
-
-pub returns-clause-ordered : goal.returns-clause-ordered
-returns-clause-ordered c =
-    let log = log_of c.args.log.now in
-    let n = length-log_of c.args.log.now in
-    let changes = changes_of c.args.edits.now in
-    let planned = c.in-Ok.ensures log n in
-    let fits = span_fits changes log (group_some changes log c.args.left planned.0) (IsFree-from_none changes log 0 (group_free changes log c.args.left planned.0).0) in
-    let head = c.in-Ok-make_ready.ensures.head ∙ ap (λ (s : Span). s.head) planned.2 in
-    let behind = rw planned.2 at c.in-Ok-make_ready.ensures.behind in
-    omega arith
-
-pub returns-clause-shift : goal.returns-clause-shift
-returns-clause-shift c =
+pub returns-clause-ready : goal.returns-clause-ready
+returns-clause-ready c =
     let log = log_of c.args.log.now in
     let n = length-log_of c.args.log.now in
     let changes = changes_of c.args.edits.now in
@@ -61,16 +44,14 @@ returns-clause-shift c =
     let head = made.head ∙ ap (λ (s : Span). s.head) planned.2 in
     let behind = rw planned.2 at made.behind in
     let game : new_game c.in-Ok-make_ready.ready log ≡ apply_all changes (game_of c.args.seed log) = rw (made.edits, made.seed) (game-apply_all changes c.args.seed log) in
-    shift_of changes c.args.log.now c.args.seed c.in-Ok-make_ready.ready accepted made.edits game head behind (omega arith)
-
-pub returns-clause-good : goal.returns-clause-good
-returns-clause-good c =
-    let log = log_of c.args.log.now in
-    let changes = changes_of c.args.edits.now in
-    let planned = c.in-Ok.ensures log (length-log_of c.args.log.now) in
-    let made = c.in-Ok-make_ready.ensures in
-    let game : new_game c.in-Ok-make_ready.ready log ≡ apply_all changes (game_of c.args.seed log) = rw (made.edits, made.seed) (game-apply_all changes c.args.seed log) in
-    good_of changes log c.args.seed _ c.requires.game (group_free changes log c.args.left planned.0).0 game
+    record {
+      free = rw made.edits accepted;
+      lines = rw made.edits (made.lines ∙ planned.1);
+      ordered = omega arith;
+      within = omega arith;
+      shift = shift_of changes c.args.log.now c.args.seed c.in-Ok-make_ready.ready accepted made.edits game head behind (omega arith);
+      good = good_of changes log c.args.seed _ c.requires.game accepted game;
+    }
 
 pub returns-clause-room : goal.returns-clause-room
 returns-clause-room c =
