@@ -1,9 +1,10 @@
--- A list in four parts, and what rotating its middle makes of it.
+-- A list in four parts, and what rotating its middle makes of it; a stretch of a list that comes in the place of another.
 use Rattle.std.proofs.Common.{◌≡◌, ℕ, ◌+◌, ◌-◌, ◌≤◌, List, [], ◌++◌, length, take, drop, arith, sym, refl, ◌∙◌, ap, append_assoc, length-append}
-use Rattle.std.proofs.lemmas.List.{take_at, drop_at, append-nil, take-append-drop, length-take-le, length-drop}
+use Rattle.std.proofs.lemmas.List.{take_at, drop_at, take-append-le, take-take, append-nil, take-append-drop, length-take-le, length-drop}
 use Rattle.std.proofs.lemmas.List.Edits.{split_between, length-between}
 use Rattle.std.specs.Prelude.{slice_range}
-use borrow.Rule.Slice.PartMut.{put_mid, mid_of}
+use Rattle.std.specs.List.{splice}
+use borrow.Rule.Slice.PartMut.{put_mid, mid_of, take_put, Post-is, same_len_mid, mid_len}
 
 -- the middle two parts as `items[from..to]` shows them
 pub middle_of : {X : Type 0} (a m d : List X) (from k : ℕ) → length a ≡ from → length m ≡ k → mid_of from k (a ++ (m ++ d)) ≡ m
@@ -45,3 +46,29 @@ brought_in xs ms ys at within turn =
 -- the items of a Vec that was lent as a slice of its length
 pub lent_items : {X : Type 0} (n : ℕ) (ys zs : List X) → length ys ≡ n → take n (ys ++ zs) ≡ ys
 lent_items n ys zs e = take_at ys zs n e
+
+-- what stands from `a` on, once the items from `a` up to `to` are others
+pub put_back : {X : Type 0} (xs ys : List X) (a to : ℕ) → a ≤ to → to ≤ length xs → drop a (put_mid a (to - a) xs ys) ≡ ys ++ drop to xs
+put_back xs ys a to ordered within =
+    drop_at (take a xs) (ys ++ drop (to - a) (drop a xs)) a (length-take-le a xs (omega arith)) ∙ ap (λ t. ys ++ t) (Post-is a to xs ordered)
+
+pub length-put_back : {X : Type 0} (xs ys : List X) (a to : ℕ) → a ≤ to → to ≤ length xs → length ys ≡ to - a → length (put_mid a (to - a) xs ys) ≡ length xs
+length-put_back xs ys a to ordered within same =
+    same_len_mid a (to - a) xs ys (same ∙ sym (mid_len a to xs within))
+
+-- The last of a stretch are those of `ms` behind its first `more`, which come before them in the place of the stretch's others.
+pub spliced : {X : Type 0} (xs ms ws taken : List X) (from to last more : ℕ) → from ≤ last → last ≤ to → to ≤ length xs → ws ≡ put_mid last (to - last) xs (drop more ms) → taken ≡ take from ws ++ drop last ws → take from taken ++ (take more ms ++ drop from taken) ≡ splice xs from to ms
+spliced xs ms ws taken from to last more ordered later within changed cut =
+    let len : length (take last xs) ≡ last = length-take-le last xs (omega arith) in
+    let front : take from ws ≡ take from xs = ap (take from) changed ∙ take-append-le from (take last xs) (drop more ms ++ drop (to - last) (drop last xs)) (omega arith) ∙ take-take from last xs ordered in
+    let back : drop last ws ≡ drop more ms ++ drop to xs = ap (drop last) changed ∙ put_back xs (drop more ms) last to later within in
+    let taken_is : taken ≡ take from xs ++ (drop more ms ++ drop to xs) = cut ∙ rw (front, back) refl in
+    let head = length-take-le from xs (omega arith) in
+    rw (taken_is, take_at (take from xs) (drop more ms ++ drop to xs) from head, drop_at (take from xs) (drop more ms ++ drop to xs) from head)
+    (ap (λ t. take from xs ++ t) (sym (append_assoc (take more ms) (drop more ms) (drop to xs)) ∙ ap (λ t. t ++ drop to xs) (take-append-drop more ms)))
+
+-- what stands before `a` stays as it is
+pub front_kept : {X : Type 0} (xs ys zs : List X) (n a k : ℕ) → a ≤ n → a ≤ length xs → take a (take n (put_mid a k xs ys ++ zs)) ≡ take a xs
+front_kept xs ys zs n a k fits within =
+    let len : a ≤ length (put_mid a k xs ys) = omega (arith, length-append (take a xs) (ys ++ drop k (drop a xs)), length-take-le a xs within) in
+    take-take a n (put_mid a k xs ys ++ zs) fits ∙ take-append-le a (put_mid a k xs ys) zs len ∙ take_put a k xs ys within

@@ -77,9 +77,9 @@ impl<S: Copy> Checkpoints<S> {
     }
 
     /// The state at the checkpoint of this index.
-    pub fn state(&self, index: usize) -> S
+    pub fn state(&self, index: usize) -> &S
         requires { index < length self.now.places }
-        ensures { slice_get self.now.states index ≡ Some result }
+        ensures { slice_get self.now.states index ≡ Some result.now }
     {
         self.kept.state(index)
     }
@@ -116,9 +116,9 @@ impl<S: Copy> Checkpoints<S> {
             self.every,
             end,
             start,
-            self.kept.state(before),
+            *self.kept.state(before),
             from,
-            self.kept.state(at),
+            *self.kept.state(at),
         )
     }
 

@@ -23,7 +23,9 @@
 //! | `Checkpoints::marks` | two states copied |
 //! | `Marks::offer` | a comparison, and a state copied where it is kept; room doubles as it runs out |
 //! | `meet`, `replace_from` | a block move of the checkpoints behind the edit; a pass over their places where the length changed |
-//! | `splice` | the stretch item by item where it keeps its length, else a block move of the items behind it |
+//! | `splice` | the stretch item by item; where its length changes, one turn of it and the items behind it by the difference |
+//!
+//! A turn by one item, or by at most 4,096 bytes, is a block move; by more it exchanges items.
 //!
 //! None of these takes memory but `Checkpoints::marks`, `offer`, `reserve`, and what makes or copies a list.
 #![tactic(auto)]

@@ -64,11 +64,11 @@ impl<S: Copy> PlacedStates<S> {
         self.places[index]
     }
 
-    pub fn state(&self, index: usize) -> S
+    pub fn state(&self, index: usize) -> &S
         requires { index < length self.now.places }
-        ensures { slice_get self.now.states index ≡ Some result }
+        ensures { slice_get self.now.states index ≡ Some result.now }
     {
-        self.states[index]
+        &self.states[index]
     }
 
     /// Takes room for so many more.

@@ -4,8 +4,9 @@ ghost use Rattle.std.specs.List.{splice};
 /// Puts `middle` in the place of the items from `from` up to `to`, which are dropped, and leaves it
 /// empty.
 ///
-/// It takes no memory: room for what `items` comes to hold is the caller's to reserve. Stretches of
-/// one length change places item by item; else the items behind them move as blocks.
+/// It takes no memory: room for what `items` comes to hold is the caller's to reserve. The last items
+/// of both change places one by one, as many as both have; then one turn moves these, and what
+/// stands behind them, by what the lengths differ.
 pub fn splice<T: Drop>(items: &mut Vec<T>, from: usize, to: usize, middle: &mut Vec<T>)
     requires ordered { from ≤ to }
     requires within { to ≤ vec_len items.old }
@@ -16,12 +17,11 @@ pub fn splice<T: Drop>(items: &mut Vec<T>, from: usize, to: usize, middle: &mut 
     ensures emptied { middle.new.items ≡ [] }
     ensures kept_room { vec_capacity middle.new ≡ vec_capacity middle.old }
 {
-    if middle.len() == to - from {
-        items[from..to].swap_with_slice(middle.as_mut_slice());
-        middle.clear();
-        return;
-    }
-    take_out(items, from, to);
+    let common = middle.len().min(to - from);
+    let more = middle.len() - common;
+    items[to - common..to].swap_with_slice(&mut middle[more..]);
+    middle.truncate(more);
+    take_out(items, from, to - common);
     bring_in(items, from, middle);
 }
 

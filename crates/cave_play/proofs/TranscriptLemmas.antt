@@ -1,10 +1,8 @@
 -- A transcript, line by line.
-use Rattle.std.proofs.Common.{◌≡◌, ℕ, zero, suc, ◌+◌, ◌<◌, ◌≤◌, Bool, true, false, List, [], ◌∷◌, ◌++◌, take, count_by, Some, length, map, get_or, drop, append_assoc, sym, ap, ◌∙◌, refl, arith}
-use Rattle.std.specs.Prelude.{slice_get, if◌then◌else◌}
-use Rattle.std.proofs.lemmas.List.Sums.{sum_by-cons, count_by-le-length}
-use mir.Val.{bool_byte}
+use Rattle.std.proofs.Common.{◌≡◌, ℕ, suc, ◌+◌, ◌<◌, ◌≤◌, Bool, List, [], ◌∷◌, ◌++◌, length, map, get_or, drop, append_assoc, sym, ap, ◌∙◌, refl, arith}
+use Rattle.std.specs.Prelude.{slice_index}
 use Rattle.std.specs.List.{enumerate_from, flat_map, zip}
-use Rattle.std.proofs.lemmas.List.{drop_more, drop_all, get_or-map, length-map, length-take}
+use Rattle.std.proofs.lemmas.List.{drop_more, drop_all, get_or-map, length-map}
 use Rattle.cave_play.specs.Transcript.{ticks, told, told_at}
 
 module _ {Piece : Type 0} (show : Piece → ℕ → List ℕ) (ticked : List Bool) where
@@ -40,30 +38,20 @@ told-more show items place turns log pieces ticked line piece text text' end who
     ap (λ t. t ++ (rest ++ end)) grown ∙ append_assoc text this (rest ++ end)
     ∙ ap (λ t. text ++ t) (sym (append_assoc this rest end) ∙ ap (λ t. t ++ end) (sym more)) ∙ told
 
-total-cons : (t : Bool) (ts : List Bool) → count_by (λ ticks. ticks) (t ∷ ts) ≡ (if t then 1 else 0) + count_by (λ ticks. ticks) ts
-total-cons t ts = sum_by-cons (λ x. if x then 1 else 0) t ts
+-- counts of turns, from a place on: the first, and the others, from the next place on
+module _ (counts others : List ℕ) (first : ℕ) (total : ℕ → ℕ) (place : ℕ) (parts : counts ≡ first ∷ others) (each : (k : ℕ) → k < length counts → slice_index counts k ≡ total (place + k + 1)) where
+  pub counts-first : first ≡ total (place + 1)
+  counts-first =
+      let some = ap length parts in
+      let here : slice_index counts 0 ≡ total (place + 0 + 1) = each 0 (omega arith) in
+      let head : slice_index counts 0 ≡ first = ap (λ cs. slice_index cs 0) parts in
+      let same : place + 0 + 1 ≡ place + 1 = omega arith in
+      sym head ∙ here ∙ ap total same
 
--- the turns up to a line and with it, from those before it
-pub ticks-more : (ticked : List Bool) (place : ℕ) (t : Bool) → slice_get ticked place ≡ Some t → ticks ticked (place + 1) ≡ ticks ticked place + (if t then 1 else 0)
-ticks-more [] place t e = absurd (cc)
-ticks-more (x ∷ xs) zero t e =
-    let same : x ≡ t = cc in
-    rw same (omega (arith, total-cons t []))
-ticks-more (x ∷ xs) (suc place) t e =
-    let more = ticks-more xs place t e in
-    let here : suc place + 1 ≡ suc (place + 1) = omega arith in
-    ap (λ k. ticks (x ∷ xs) k) here ∙ omega (arith, more, total-cons x (take (place + 1) xs), total-cons x (take place xs))
-
--- as a number: whether a line ticks
-pub byte_of : (t : Bool) → bool_byte t ≡ (if t then 1 else 0)
-byte_of true = refl
-byte_of false = refl
-
--- a line ticks once at most
-pub one-at-most : (t : Bool) → (if t then 1 else 0) ≤ 1
-one-at-most true = omega arith
-one-at-most false = omega arith
-
--- no more lines tick than there are
-pub ticks-few : (ticked : List Bool) (place : ℕ) → ticks ticked place ≤ place
-ticks-few ticked place = omega (arith, count_by-le-length (λ ticks. ticks) (take place ticked), length-take place ticked)
+  pub counts-others : (next k : ℕ) → next ≡ place + 1 → k < length others → slice_index others k ≡ total (next + k + 1)
+  counts-others next k later below =
+      let some = ap length parts in
+      let there : slice_index counts (suc k) ≡ total (place + suc k + 1) = each (suc k) (omega arith) in
+      let moved : slice_index counts (suc k) ≡ slice_index others k = ap (λ cs. slice_index cs (suc k)) parts in
+      let same : place + suc k + 1 ≡ next + k + 1 = omega arith in
+      sym moved ∙ there ∙ ap total same

@@ -73,11 +73,9 @@ pub(crate) fn tell(
     render(cave, session.opening(), 0, text)?;
     let pieces = session.pieces();
     let lines = session.lines();
-    let mut turns = 0;
-    for place in 0..lines {
-        turns += u32::from(session.ticked(place));
-        let piece = &pieces[place as usize];
-        push_line(cave, text, session.line(place), piece, turns)?;
+    for (place, turns) in session.tick_counts().enumerate() {
+        let line = session.line(place as u32);
+        push_line(cave, text, line, &pieces[place], turns)?;
     }
-    push_closing(alloc, text, turns)
+    push_closing(alloc, text, session.ticks(lines))
 }

@@ -3,12 +3,12 @@ use Rattle.std.proofs.Common.{◌≡◌, ℕ, ◌+◌, ◌-◌, ◌≤◌, Bool,
 use Rattle.std.specs.Prelude.{MatchOption}
 use Rattle.std.specs.Option.{option_map}
 use Rattle.std.specs.Global.{Vec}
-use Rattle.cave_replay.specs.declared.change.Changed.{Changed}
+use Rattle.cave_replay.specs.declared.ready_edits.ReadyEdits.{ReadyEdits}
 use Rattle.cave_replay.specs.Rules.{Rules}
 use Rattle.cave_replay.specs.Log.{log_of}
 use Rattle.cave_replay.specs.Play.{Game, game_of}
 use Rattle.cave_replay.specs.Change.{Change, changes_of, log_after, apply_all}
-use Rattle.cave_replay.specs.Changed.{new_game}
+use Rattle.cave_replay.specs.ReadyEdits.{new_game}
 use Rattle.cave_replay.specs.Faults.{fault_of, fault_of_all, first_of_two, or_meter_full, or_full, group_fault, edit_fault, log_after_all}
 use Rattle.cave_replay.specs.declared.fault.EditFault.{EditFault}
 use Rattle.cave_replay.specs.declared.fault.EditFault.TheVariants.{MeterFull}
@@ -23,16 +23,16 @@ use Rattle.cave_replay.proofs.Inverses.{IsFree-from_none, IsGame-apply_all, log-
 use Rattle.cave_replay.proofs.Lines.{length-log_of}
 use Rattle.cave_replay.proofs.Spans.{leave_alone, seed_stays}
 
-pub shift_of : (changes : List Change) (log : List (Vec ℕ)) (seed : ℕ) (changed : Changed) → fault_of_all changes (log_of log) 0 ≡ None
-    → changes_of changed.edits.items ≡ changes → new_game changed (log_of log) ≡ apply_all changes (game_of seed (log_of log)) → changed.head ≡ (span_of changes (log_of log)).head
-    → changed.behind + (span_of changes (log_of log)).tail ≡ length log → changed.head ≤ changed.behind
-    → IsShift (game_of seed (log_of log)) (new_game changed (log_of log)) changed.head (length log - changed.behind)
-shift_of changes log seed changed accepted same game head tail ordered =
+pub shift_of : (changes : List Change) (log : List (Vec ℕ)) (seed : ℕ) (ready : ReadyEdits) → fault_of_all changes (log_of log) 0 ≡ None
+    → changes_of ready.edits.items ≡ changes → new_game ready (log_of log) ≡ apply_all changes (game_of seed (log_of log)) → ready.head ≡ (span_of changes (log_of log)).head
+    → ready.behind + (span_of changes (log_of log)).tail ≡ length log → ready.head ≤ ready.behind
+    → IsShift (game_of seed (log_of log)) (new_game ready (log_of log)) ready.head (length log - ready.behind)
+shift_of changes log seed ready accepted same game head tail ordered =
     let n = length-log_of log in
     let span = span_of changes (log_of log) in
     let alone = leave_alone changes (log_of log) (record { head = length (log_of log); tail = length (log_of log) }) (IsFree-from_none changes (log_of log) 0 accepted) in
     let stays = stays_after_all changes (log_of log) span alone (omega arith) in
-    let e : length log - changed.behind ≡ span.tail = omega arith in
+    let e : length log - ready.behind ≡ span.tail = omega arith in
     let within = stays.within in
     rw (e, head, same) (record {
       within_old = omega arith;

@@ -1,11 +1,11 @@
 -- What is kept and reported once a replay is taken over.
-use Rattle.std.proofs.Common.{◌≡◌, ℕ, ◌+◌, ◌-◌, ◌<◌, ◌≤◌, inl, inr, Bool, List, length, take, refl, sym, ap, ◌∙◌, arith, Option, Some, None}
+use Rattle.std.proofs.Common.{◌≡◌, ℕ, ◌+◌, ◌-◌, ◌<◌, ◌≤◌, inl, inr, Bool, List, length, refl, sym, ap, ◌∙◌, arith, Option, Some, None}
 use Rattle.std.specs.Prelude.{slice_index, MatchOption, unwrap_or}
 use Rattle.std.specs.List.{splice}
 use Rattle.std.specs.Option.{option_map, ForSome}
 use Rattle.std.proofs.Math.Seq.{take-length}
 use Rattle.std.proofs.lemmas.Bool.{cases_lt}
-use Rattle.std.proofs.lemmas.List.{get_or_default, length-append, length-take}
+use Rattle.std.proofs.lemmas.List.{get_or_default}
 use Rattle.cave_marks.specs.Spacing.{IsSpaced}
 use Rattle.cave_marks.specs.Marks.{Thinned, Spaced}
 use Rattle.cave_replay.specs.Rules.{Rules}
@@ -14,12 +14,12 @@ use Rattle.cave_replay.specs.Change.{Change, apply_all}
 use Rattle.cave_replay.specs.Span.{span_of}
 use Rattle.cave_replay.specs.Held.{IsGame, IsKept}
 use Rattle.cave_replay.specs.Agreement.{state_at, IsMeet, IsLastTo}
-use Rattle.cave_replay.specs.Replay.{IsShift, ticks_at, AreStates, IsReplayed}
+use Rattle.cave_replay.specs.Replay.{IsShift, AreStates, IsReplayed}
 use Rattle.cave_replay.specs.Report.{IsReport}
 use Rattle.cave_replay.specs.Taken.{end_of_stretch, passed, HasRoom, new_places, new_states, new_state}
 use Rattle.cave_replay.proofs.Bounds.{bounded_to, near_last, contains_at}
 use Rattle.cave_replay.proofs.Joins.{met_texts, met_ticks, met_state, end_texts, end_ticks, met_states, end_states}
-use Rattle.cave_replay.proofs.Plays.{length-pieces, length-ticks, length-ticks_of}
+use Rattle.cave_replay.proofs.Plays.{length-pieces, length-ticks}
 use Rattle.cave_replay.proofs.Underways.{rising_lt}
 
 opening_after : {T : Type 0} (opening : Option T) (same : Type 0) (old new greeting greeting' : T) → (same → greeting ≡ greeting') → MatchOption opening same (λ piece. piece ≡ greeting') → MatchOption opening (new ≡ old) (λ piece. new ≡ piece) → old ≡ greeting → new ≡ greeting'

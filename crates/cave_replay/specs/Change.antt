@@ -1,4 +1,4 @@
-use Rattle.std.specs.Prelude.{ℕ, List, [], ◌∷◌, map, reverse, insert, remove, slice_set}
+use Rattle.std.specs.Prelude.{ℕ, ◌+◌, List, [], ◌∷◌, map, reverse, insert, remove, slice_set}
 use Rattle.std.specs.List.{slice_index_or}
 use Rattle.cave_replay.specs.declared.edit.Edit.{Edit}
 use Rattle.cave_replay.specs.declared.edit.Edit.TheVariants.{Insert, Delete, Replace, Reseed}
@@ -37,6 +37,17 @@ own_line (inserts at line) = line
 own_line (deletes at) = []
 own_line (replaces at line) = line
 own_line (reseeds seed) = []
+
+-- how many lines changes insert
+abbrev pub inserted : Change → ℕ
+inserted (inserts at line) = 1
+inserted (deletes at) = 0
+inserted (replaces at line) = 0
+inserted (reseeds seed) = 0
+
+abbrev pub inserted_by_all : List Change → ℕ
+inserted_by_all [] = 0
+inserted_by_all (change ∷ changes) = inserted change + inserted_by_all changes
 
 abbrev pub seed_after : Change → ℕ → ℕ
 seed_after (reseeds new) seed = new

@@ -1,7 +1,7 @@
-use Rattle.std.specs.Prelude.{ℕ, ◌+◌, not, nat_lt, nat_le, if◌then◌else◌, List, [], ◌∷◌, length, Option, None, Some}
+use Rattle.std.specs.Prelude.{◌≡◌, ℕ, ◌+◌, not, nat_lt, nat_le, if◌then◌else◌, List, [], ◌∷◌, length, Option, None, Some, MatchOption, IfErr, Result, Err}
 use Rattle.cave_words.specs.Line.{is_line}
 use Rattle.cave_replay.specs.declared.fault.EditFault.{EditFault}
-use Rattle.cave_replay.specs.declared.fault.EditFault.TheVariants.{NoSuchPlace, BadLine, LogFull, BadSeed, MeterFull, EmptyGroup}
+use Rattle.cave_replay.specs.declared.fault.EditFault.TheVariants.{NoSuchPlace, BadLine, LogFull, BadSeed, MeterFull, EmptyGroup, Memory}
 use Rattle.cave_replay.specs.declared.fault.GroupFault.{GroupFault}
 use Rattle.cave_replay.specs.declared.fault.TheConstants.{MOST_LINES, GREATEST_SEED}
 use Rattle.cave_replay.specs.Change.{Change, inserts, deletes, replaces, reseeds, log_after}
@@ -53,6 +53,11 @@ abbrev pub group_fault : List Change → List (List ℕ) → ℕ → Option Grou
 group_fault [] log left = Some (record { cause = EmptyGroup; at = 0 })
 group_fault (change ∷ changes) log left =
     or_meter_full (fault_of_all (change ∷ changes) log 0) (log_after_all (change ∷ changes) log) left
+
+-- A result is the fault of a group, if there is one; else it is an error only where memory is refused.
+abbrev pub IsAnswerTo : {A : Type 0} → Option GroupFault → Result A GroupFault → Type 0
+IsAnswerTo fault result =
+    MatchOption fault (IfErr result (λ refused. refused ≡ record { cause = Memory; at = 0 })) (λ found. result ≡ Err found)
 
 abbrev pub or_full : Option EditFault → List (List ℕ) → ℕ → Option EditFault
 or_full (Some fault) log left = Some fault

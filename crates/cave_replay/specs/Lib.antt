@@ -9,7 +9,8 @@ pub mod Log
 pub mod Span
 pub mod Agreement
 pub mod Replay
-pub mod Changed
+pub mod ReadyEdits
+pub mod Kept
 pub mod Table
 pub mod Taken
 pub mod TickCounts

@@ -1,11 +1,22 @@
 -- What is left when a replay is taken over.
-use Rattle.std.specs.Prelude.{ℕ, ◌+◌, ◌-◌, ◌≤◌, List, ◌++◌, length, take, slice_index, Option, Some, None}
+use Rattle.std.specs.Prelude.{◌≡◌, ℕ, ◌+◌, ◌-◌, ◌<◌, ◌≤◌, List, ◌++◌, length, take, slice_index, Option, Some, None, MatchOption}
 use Rattle.cave_marks.specs.Marks.{Thinned, Spaced, places_met, states_met}
 
 -- the old place up to which what was played comes in: the checkpoint that was met, or the end
 abbrev pub end_of_stretch : {S : Type 0} → Spaced S → Option ℕ → ℕ
 end_of_stretch checkpoints None = checkpoints.lines
 end_of_stretch checkpoints (Some index) = slice_index checkpoints.places index
+
+-- The marks of a replay from the checkpoint of the index `at` end at the end of the new log; or, where the old play was
+-- met, as far from it as the checkpoint that was met stands from the end of the old log.
+abbrev pub MarksEnd : {S : Type 0} → Spaced S → Thinned S → ℕ → Option ℕ → Type 0
+MarksEnd checkpoints marks at met =
+    MatchOption met (marks.next ≡ marks.end) (λ index. (at ≤ index) × (index < length checkpoints.places)
+    × (checkpoints.lines - slice_index checkpoints.places index + marks.next ≡ marks.end))
+
+-- how many lines of the old play go where a replay from the checkpoint of the index `at` is taken over
+abbrev pub lines_gone : {S : Type 0} → Spaced S → ℕ → Option ℕ → ℕ
+lines_gone checkpoints at met = end_of_stretch checkpoints met - slice_index checkpoints.places at
 
 -- how many checkpoints stand before that place, or all of them where it is the end
 abbrev pub passed : {S : Type 0} → Spaced S → Option ℕ → ℕ

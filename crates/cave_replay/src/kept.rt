@@ -1,18 +1,17 @@
 ghost use Rattle.std.specs.Prelude.{◌≡◌, ◌+◌, ◌-◌, ◌^◌, ◌<◌, ◌≤◌, length, take, slice_index, vec_len, vec_capacity, MatchOption, OnOk, None};
 ghost use Rattle.std.specs.Option.{ForSome};
 ghost use Rattle.std.specs.List.{splice};
-ghost use Rattle.cave_marks.specs.Marks.{IsBegunAt, places_met, states_met};
-ghost use Rattle.cave_replay.specs.Log.{log_of};
-ghost use Rattle.cave_replay.specs.Play.{game_of};
-ghost use Rattle.cave_replay.specs.Change.{changes_of, apply_all, inverses_of};
+ghost use Rattle.cave_marks.specs.Marks.{IsBegunAt};
+ghost use Rattle.cave_replay.specs.Kept.{kept_game, KeepsAll};
+ghost use Rattle.cave_replay.specs.Change.{changes_of, apply_all, inverses_of, inserted_by_all};
 ghost use Rattle.cave_replay.specs.Faults.{fault_of_all};
-ghost use Rattle.cave_replay.specs.Taken.{end_of_stretch, passed, HasRoom, new_places, new_states, new_state};
+ghost use Rattle.cave_replay.specs.Taken.{end_of_stretch, lines_gone, passed, MarksEnd, HasRoom, new_places, new_states, new_state};
 
-use crate::change::Changed;
 use crate::edit::Edit;
 use crate::machine::Machine;
 use crate::making::make_edits;
 use crate::played::Played;
+use crate::ready_edits::{ReadyEdits, lines_inserted};
 use cave_marks::{Checkpoints, Marks, splice};
 use std::alloc::AllocError;
 
@@ -40,39 +39,6 @@ fn passed<S: Copy>(checkpoints: &Checkpoints<S>, met: Option<usize>) -> usize
     }
 }
 
-/// Takes room for what is to be taken over, where the replay began at the checkpoint of the index `at`. What is kept
-/// stays as it is.
-pub(crate) fn make_room<M: Machine>(
-    kept: &mut Kept<M>,
-    changed: &Changed,
-    played: &Played<M>,
-    at: usize,
-) -> Result<(), AllocError>
-    requires passed { at ≤ passed kept.old.checkpoints played.now.met }
-    requires met { ForSome played.now.met (λ index. index < length kept.old.checkpoints.places) }
-    ensures seed { kept.new.seed ≡ kept.old.seed }
-    ensures log { kept.new.log.items ≡ kept.old.log.items }
-    ensures opening { kept.new.opening ≡ kept.old.opening }
-    ensures pieces { kept.new.pieces.items ≡ kept.old.pieces.items }
-    ensures ticked { kept.new.ticked.items ≡ kept.old.ticked.items }
-    ensures settings { (kept.new.checkpoints.every ≡ kept.old.checkpoints.every) × (kept.new.checkpoints.lines ≡ kept.old.checkpoints.lines) }
-    ensures places { kept.new.checkpoints.places ≡ kept.old.checkpoints.places }
-    ensures states { kept.new.checkpoints.states ≡ kept.old.checkpoints.states }
-    ensures state { kept.new.state ≡ kept.old.state }
-    ensures room_log { OnOk result (vec_len kept.new.log + vec_len changed.now.edits ≤ vec_capacity kept.new.log) }
-    ensures room_pieces { OnOk result (vec_len kept.new.pieces + vec_len played.now.pieces ≤ vec_capacity kept.new.pieces) }
-    ensures room_ticked { OnOk result (vec_len kept.new.ticked + vec_len played.now.ticked ≤ vec_capacity kept.new.ticked) }
-    ensures room_marks { OnOk result (HasRoom kept.new.checkpoints played.now.marks at (passed kept.old.checkpoints played.now.met)) }
-{
-    kept.log.reserve(changed.edits.len())?;
-    kept.pieces.reserve(played.pieces.len())?;
-    kept.ticked.reserve(played.ticked.len())?;
-    let going = passed(&kept.checkpoints, played.met) - at.saturating_sub(1);
-    kept.checkpoints
-        .reserve(played.marks.len().saturating_sub(going))?;
-    Ok(())
-}
-
 /// The old place up to which what was played comes in: the checkpoint that was met, or the end.
 fn end_of_stretch<S: Copy>(checkpoints: &Checkpoints<S>, met: Option<usize>) -> usize
     requires { ForSome met (λ index. index < length checkpoints.now.places) }
@@ -83,6 +49,45 @@ fn end_of_stretch<S: Copy>(checkpoints: &Checkpoints<S>, met: Option<usize>) -> 
         Some(index) => checkpoints.places()[index] as usize,
         None => checkpoints.lines() as usize,
     }
+}
+
+/// How many lines of the old play go where a replay from the checkpoint of the index `at` is taken over.
+fn lines_gone<S: Copy>(checkpoints: &Checkpoints<S>, at: usize, met: Option<usize>) -> usize
+    requires among { at < length checkpoints.now.places }
+    requires met { ForSome met (λ index. index < length checkpoints.now.places) }
+    ensures { result ≡ lines_gone checkpoints.now at met }
+{
+    let from = checkpoints.places()[at] as usize;
+    end_of_stretch(checkpoints, met).saturating_sub(from)
+}
+
+/// Takes room for what is to be taken over, where the replay began at the checkpoint of the index `at`. What is kept
+/// stays as it is.
+pub(crate) fn make_room<M: Machine>(
+    kept: &mut Kept<M>,
+    ready: &ReadyEdits,
+    played: &Played<M>,
+    at: usize,
+) -> Result<(), AllocError>
+    requires among { at < length kept.old.checkpoints.places }
+    requires passed { at ≤ passed kept.old.checkpoints played.now.met }
+    requires met { ForSome played.now.met (λ index. index < length kept.old.checkpoints.places) }
+    ensures same { KeepsAll kept.old kept.new }
+    ensures room_log { OnOk result (vec_len kept.new.log + inserted_by_all (changes_of ready.now.edits.items) ≤ vec_capacity kept.new.log) }
+    ensures room_pieces { OnOk result (vec_len kept.new.pieces + vec_len played.now.pieces ≤ vec_capacity kept.new.pieces + lines_gone kept.old.checkpoints at played.now.met) }
+    ensures room_ticked { OnOk result (vec_len kept.new.ticked + vec_len played.now.ticked ≤ vec_capacity kept.new.ticked + lines_gone kept.old.checkpoints at played.now.met) }
+    ensures room_marks { OnOk result (HasRoom kept.new.checkpoints played.now.marks at (passed kept.old.checkpoints played.now.met)) }
+{
+    kept.log.reserve(lines_inserted(&ready.edits))?;
+    let gone = lines_gone(&kept.checkpoints, at, played.met);
+    let pieces = played.pieces.len().saturating_sub(gone);
+    kept.pieces.reserve(pieces)?;
+    let ticks = played.ticked.len().saturating_sub(gone);
+    kept.ticked.reserve(ticks)?;
+    let going = passed(&kept.checkpoints, played.met) - at.saturating_sub(1);
+    kept.checkpoints
+        .reserve(played.marks.len().saturating_sub(going))?;
+    Ok(())
 }
 
 fn replace_piece<P: Drop>(piece: &mut P, new: Option<P>)
@@ -103,7 +108,7 @@ fn take_marks<S: Copy>(
     met: Option<usize>,
 )
     requires begun { IsBegunAt checkpoints.old at marks }
-    requires end { MatchOption met (marks.next ≡ marks.end) (λ index. (at ≤ index) × (index < length checkpoints.old.places) × (checkpoints.old.lines - slice_index checkpoints.old.places index + marks.next ≡ marks.end)) }
+    requires end { MarksEnd checkpoints.old marks at met }
     requires room { HasRoom checkpoints.old marks at (passed checkpoints.old met) }
     ensures settings { (checkpoints.new.every ≡ checkpoints.old.every) × (checkpoints.new.lines ≡ marks.end) }
     ensures places { checkpoints.new.places ≡ new_places checkpoints.old marks at met }
@@ -123,33 +128,37 @@ fn take_marks<S: Copy>(
 /// these back. The play began at the checkpoint of the index `at`.
 pub(crate) fn take_over<M: Machine>(
     kept: &mut Kept<M>,
-    changed: Changed,
+    ready: ReadyEdits,
     opening: Option<M::Piece>,
     played: Played<M>,
     at: usize,
 ) -> Vec<Edit>
-    requires free { fault_of_all (changes_of changed.edits.items) (log_of kept.old.log.items) 0 ≡ None }
+    requires free { fault_of_all (changes_of ready.edits.items) (kept_game kept.old).log 0 ≡ None }
     requires pieces { vec_len kept.old.pieces ≡ vec_len kept.old.log }
     requires ticked { vec_len kept.old.ticked ≡ vec_len kept.old.log }
     requires lines { kept.old.checkpoints.lines ≡ vec_len kept.old.log }
     requires begun { IsBegunAt kept.old.checkpoints at played.marks }
-    requires met { MatchOption played.met (played.marks.next ≡ played.marks.end) (λ index. (at ≤ index) × (index < length kept.old.checkpoints.places) × (kept.old.checkpoints.lines - slice_index kept.old.checkpoints.places index + played.marks.next ≡ played.marks.end)) }
+    requires met { MarksEnd kept.old.checkpoints played.marks at played.met }
     requires stretch { slice_index kept.old.checkpoints.places at ≤ end_of_stretch kept.old.checkpoints played.met }
-    requires room_log { vec_len kept.old.log + vec_len changed.edits ≤ vec_capacity kept.old.log }
-    requires room_pieces { vec_len kept.old.pieces + vec_len played.pieces ≤ vec_capacity kept.old.pieces }
-    requires room_ticked { vec_len kept.old.ticked + vec_len played.ticked ≤ vec_capacity kept.old.ticked }
+    requires room_log { vec_len kept.old.log + inserted_by_all (changes_of ready.edits.items) ≤ vec_capacity kept.old.log }
+    requires room_pieces { vec_len kept.old.pieces + vec_len played.pieces ≤ vec_capacity kept.old.pieces + lines_gone kept.old.checkpoints at played.met }
+    requires room_ticked { vec_len kept.old.ticked + vec_len played.ticked ≤ vec_capacity kept.old.ticked + lines_gone kept.old.checkpoints at played.met }
     requires room_marks { HasRoom kept.old.checkpoints played.marks at (passed kept.old.checkpoints played.met) }
-    ensures game { game_of kept.new.seed (log_of kept.new.log.items) ≡ apply_all (changes_of changed.edits.items) (game_of kept.old.seed (log_of kept.old.log.items)) }
+    ensures game { kept_game kept.new ≡ apply_all (changes_of ready.edits.items) (kept_game kept.old) }
     ensures opening { MatchOption opening (kept.new.opening ≡ kept.old.opening) (λ piece. kept.new.opening ≡ piece) }
-    ensures pieces { kept.new.pieces.items ≡ splice kept.old.pieces.items (slice_index kept.old.checkpoints.places at) (end_of_stretch kept.old.checkpoints played.met) played.pieces.items }
-    ensures ticked { kept.new.ticked.items ≡ splice kept.old.ticked.items (slice_index kept.old.checkpoints.places at) (end_of_stretch kept.old.checkpoints played.met) played.ticked.items }
+    ensures pieces { let from = slice_index kept.old.checkpoints.places at in
+        let to = end_of_stretch kept.old.checkpoints played.met in
+        kept.new.pieces.items ≡ splice kept.old.pieces.items from to played.pieces.items }
+    ensures ticked { let from = slice_index kept.old.checkpoints.places at in
+        let to = end_of_stretch kept.old.checkpoints played.met in
+        kept.new.ticked.items ≡ splice kept.old.ticked.items from to played.ticked.items }
     ensures settings { (kept.new.checkpoints.every ≡ kept.old.checkpoints.every) × (kept.new.checkpoints.lines ≡ played.marks.end) }
     ensures places { kept.new.checkpoints.places ≡ new_places kept.old.checkpoints played.marks at played.met }
     ensures states { kept.new.checkpoints.states ≡ new_states kept.old.checkpoints played.marks at played.met }
-    ensures inverse { changes_of result.items ≡ inverses_of (changes_of changed.edits.items) (game_of kept.old.seed (log_of kept.old.log.items)) }
+    ensures inverse { changes_of result.items ≡ inverses_of (changes_of ready.edits.items) (kept_game kept.old) }
     ensures state { kept.new.state ≡ new_state kept.old.state played.marks played.met }
 {
-    let mut edits = changed.edits;
+    let mut edits = ready.edits;
     let Played {
         mut pieces,
         mut ticked,

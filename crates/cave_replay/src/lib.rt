@@ -1,7 +1,6 @@
 //! Sessions over any machine: a log of lines that is played, edited and played again.
 #![tactic(auto)]
 
-mod change;
 mod copies;
 pub mod edit;
 pub mod fault;
@@ -12,6 +11,7 @@ mod making;
 mod plan;
 mod play;
 mod played;
+mod ready_edits;
 mod replay;
 pub mod report;
 pub mod session;

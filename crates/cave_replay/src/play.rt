@@ -1,7 +1,8 @@
-ghost use Rattle.std.specs.Prelude.{◌≡◌, ◌+◌, ◌^◌, ◌<◌, ◌≤◌, length, map, IfOk, OnOk};
+ghost use Rattle.std.specs.Prelude.{◌≡◌, ◌+◌, ◌^◌, ◌<◌, ◌≤◌, length, IfOk, OnOk};
 ghost use Rattle.cave_replay.specs.Log.{log_of};
 ghost use Rattle.cave_replay.specs.Play.{game_of};
-ghost use Rattle.cave_replay.specs.Held.{IsGame, IsEvery, IsKept};
+ghost use Rattle.cave_replay.specs.Held.{IsGame, IsEvery};
+ghost use Rattle.cave_replay.specs.Kept.{kept_game, KeepsPlay};
 ghost use Rattle.cave_replay.specs.Report.{IsWithin};
 
 use crate::kept::Kept;
@@ -22,8 +23,8 @@ pub(crate) fn play_game<M: Machine>(
     requires game { IsGame (game_of seed (log_of log.items)) }
     requires every { IsEvery every }
     requires room { M.Meter.count meter.old + length log.items < 2 ^ 64 }
-    ensures kept { IfOk result (λ kept. IsKept M.meaning M.is_state (M.rules machine.now) (game_of kept.seed (log_of kept.log.items)) (M.text kept.opening) (map M.text kept.pieces.items) kept.ticked.items kept.state kept.checkpoints) }
-    ensures game { IfOk result (λ kept. game_of kept.seed (log_of kept.log.items) ≡ game_of seed (log_of log.items)) }
+    ensures kept { IfOk result (λ kept. KeepsPlay M.meaning M.is_state M.text (M.rules machine.now) kept) }
+    ensures game { IfOk result (λ kept. kept_game kept ≡ game_of seed (log_of log.items)) }
     ensures every { IfOk result (λ kept. kept.checkpoints.every ≡ every) }
     ensures steps { OnOk result (M.Meter.count meter.new ≡ M.Meter.count meter.old + length log.items) }
     ensures counted { IsWithin (M.Meter.count meter.old) (M.Meter.count meter.new) (length log.items) }

@@ -1,19 +1,12 @@
-ghost use Rattle.std.specs.Prelude.{◌≡◌, ℕ, ◌+◌, ◌-◌, ◌^◌, ◌<◌, ◌≤◌, ◌∷◌, [], ◌++◌, ◌↔◌, length, map, take, slice_index, IfOk, OnOk, OnErr, IsTrue, MatchOption, None, Some, All};
-ghost use Rattle.std.specs.List.Sorted.{IsStrictlyIncreasing};
-ghost use Rattle.cave_marks.specs.Marks.{IsBegunAt};
+ghost use Rattle.std.specs.Prelude.{◌≡◌, ℕ, ◌+◌, ◌-◌, ◌^◌, ◌<◌, ◌≤◌, ◌∷◌, [], ◌++◌, ◌↔◌, length, map, slice_index, IfOk, OnOk, IsTrue, MatchOption, None, Some};
 ghost use Rattle.cave_words.specs.Line.{is_line};
 ghost use Rattle.cave_replay.specs.Log.{log_of};
-ghost use Rattle.cave_replay.specs.Play.{game_of};
-ghost use Rattle.cave_replay.specs.Change.{changes_of};
-ghost use Rattle.cave_replay.specs.Faults.{fault_of_all};
-ghost use Rattle.cave_replay.specs.Changed.{edited, new_game};
-ghost use Rattle.cave_replay.specs.Held.{IsGame};
-ghost use Rattle.cave_replay.specs.Agreement.{state_at, image, AgreesAt, NoneMeetsBefore, IsMeet, IsBounded};
-ghost use Rattle.cave_replay.specs.Replay.{IsShift, texts_at, ticks_at, AreStates, IsMarking, StandsAndAgrees, Passes};
+ghost use Rattle.cave_replay.specs.ReadyEdits.{edited, replay_of, IsReady};
+ghost use Rattle.cave_replay.specs.Replay.{AreStates, IsMarking, StandsAndAgrees, Passes, SaysNew, TicksNew, old_states, new_states, HasMet, NoneMetBefore, IsWithinBound};
 ghost use Rattle.cave_replay.specs.declared.fault.TheConstants.{MOST_LINES};
 
-use crate::change::Changed;
 use crate::machine::Machine;
+use crate::ready_edits::ReadyEdits;
 use cave_marks::{Checkpoints, Marks, first_from};
 use std::alloc::{AllocError, Global};
 
@@ -77,7 +70,7 @@ fn agrees<M: Machine>(
     requires { index < length checkpoints.now.places }
     ensures { (old new : ℕ → M.Meaning) → AreStates M.meaning M.is_state old checkpoints.now.places checkpoints.now.states → IsMarking M.meaning M.is_state new marks.now → (IsTrue result ↔ (new marks.now.next ≡ old (slice_index checkpoints.now.places index))) }
 {
-    checkpoints.state(index) == *marks.state()
+    *checkpoints.state(index) == *marks.state()
 }
 
 /// The index of the checkpoint to look at once the open place of the marks is passed, where `index` is the first that
@@ -91,7 +84,7 @@ fn pass<M: Machine>(
 ) -> Option<usize>
     requires behind { index < length checkpoints.now.places → old ≤ slice_index checkpoints.now.places index }
     requires few { new ≤ MOST_LINES }
-    ensures { (was is : ℕ → M.Meaning) → AreStates M.meaning M.is_state was checkpoints.now.places checkpoints.now.states → IsMarking M.meaning M.is_state is marks.now → MatchOption result (StandsAndAgrees was is checkpoints.now.places index old new marks.now.next) (Passes was is checkpoints.now.places index old new marks.now.next) }
+    ensures { (old_at new_at : ℕ → M.Meaning) → AreStates M.meaning M.is_state old_at checkpoints.now.places checkpoints.now.states → IsMarking M.meaning M.is_state new_at marks.now → MatchOption result (StandsAndAgrees old_at new_at checkpoints.now.places index old new marks.now.next) (Passes old_at new_at checkpoints.now.places index old new marks.now.next) }
 {
     let place = marks.next() as usize;
     if !stands_at(checkpoints.places(), index, old, new, place) {
@@ -110,41 +103,44 @@ pub(crate) fn play_changed<M: Machine>(
     machine: &M,
     seed: u32,
     log: &[Vec<u8>],
-    changed: &Changed,
+    ready: &ReadyEdits,
     checkpoints: &Checkpoints<M::State>,
     marks: Marks<M::State>,
     meter: &mut M::Meter,
 ) -> Result<Played<M>, AllocError>
-    requires free { fault_of_all (changes_of changed.now.edits.items) (log_of log.now) 0 ≡ None }
-    requires lines { changed.now.lines ≡ length (edited changed.now (log_of log.now)) }
-    requires ordered { changed.now.head ≤ changed.now.behind }
-    requires within { changed.now.behind ≤ length log.now }
+    requires ready { IsReady seed log.now ready.now }
     requires few { length log.now ≤ MOST_LINES }
-    requires shift { IsShift (game_of seed (log_of log.now)) (new_game changed.now (log_of log.now)) changed.now.head (length log.now - changed.now.behind) }
-    requires game { IsGame (new_game changed.now (log_of log.now)) }
     requires old_lines { checkpoints.now.lines ≡ length log.now }
-    requires old_states { AreStates M.meaning M.is_state (state_at (M.rules machine.now) (game_of seed (log_of log.now))) checkpoints.now.places checkpoints.now.states }
-    requires marking { IsMarking M.meaning M.is_state (state_at (M.rules machine.now) (new_game changed.now (log_of log.now))) marks }
-    requires end { marks.end ≡ length (edited changed.now (log_of log.now)) }
+    requires old_states { let replay = replay_of (M.rules machine.now) seed log.now ready.now in
+        AreStates M.meaning M.is_state (old_states replay) checkpoints.now.places checkpoints.now.states }
+    requires marking { let replay = replay_of (M.rules machine.now) seed log.now ready.now in
+        IsMarking M.meaning M.is_state (new_states replay) marks }
+    requires end { marks.end ≡ length (edited ready.now (log_of log.now)) }
     requires every { marks.every ≡ checkpoints.now.every }
     requires apart { 0 < marks.every }
-    requires from { marks.next ≤ changed.now.head }
-    requires near { changed.now.head ≤ marks.next + marks.every }
-    requires room { M.Meter.count meter.old + length (edited changed.now (log_of log.now)) < 2 ^ 64 }
-    ensures texts { IfOk result (λ played. texts_at (M.rules machine.now) (new_game changed.now (log_of log.now)) marks.next ++ map M.text played.pieces.items ≡ texts_at (M.rules machine.now) (new_game changed.now (log_of log.now)) played.marks.next) }
-    ensures ticks { IfOk result (λ played. ticks_at (M.rules machine.now) (new_game changed.now (log_of log.now)) marks.next ++ played.ticked.items ≡ ticks_at (M.rules machine.now) (new_game changed.now (log_of log.now)) played.marks.next) }
-    ensures marking { IfOk result (λ played. IsMarking M.meaning M.is_state (state_at (M.rules machine.now) (new_game changed.now (log_of log.now))) played.marks) }
+    requires from { marks.next ≤ ready.now.head }
+    requires near { ready.now.head ≤ marks.next + marks.every }
+    requires room { M.Meter.count meter.old + length (edited ready.now (log_of log.now)) < 2 ^ 64 }
+    ensures texts { let replay = replay_of (M.rules machine.now) seed log.now ready.now in
+        IfOk result (λ played. SaysNew replay marks.next (map M.text played.pieces.items) played.marks.next) }
+    ensures ticks { let replay = replay_of (M.rules machine.now) seed log.now ready.now in
+        IfOk result (λ played. TicksNew replay marks.next played.ticked.items played.marks.next) }
+    ensures marking { let replay = replay_of (M.rules machine.now) seed log.now ready.now in
+        IfOk result (λ played. IsMarking M.meaning M.is_state (new_states replay) played.marks) }
     ensures settings { IfOk result (λ played. (played.marks.every ≡ marks.every) × (played.marks.end ≡ marks.end) × (played.marks.from ≡ marks.from) × (slice_index played.marks.places 0 ≡ slice_index marks.places 0)) }
     ensures forward { IfOk result (λ played. (marks.next ≤ played.marks.next) × (played.marks.next ≤ marks.end)) }
-    ensures met { IfOk result (λ played. MatchOption played.met ((played.marks.next ≡ marks.end) × IsMeet (M.rules machine.now) (game_of seed (log_of log.now)) (new_game changed.now (log_of log.now)) (length log.now - changed.now.behind) checkpoints.now.places None) (λ index. (index < length checkpoints.now.places) × AgreesAt (M.rules machine.now) (game_of seed (log_of log.now)) (new_game changed.now (log_of log.now)) (length log.now - changed.now.behind) (slice_index checkpoints.now.places index) × (played.marks.next ≡ image (game_of seed (log_of log.now)) (new_game changed.now (log_of log.now)) (slice_index checkpoints.now.places index)))) }
-    ensures none { IfOk result (λ played. NoneMeetsBefore (M.rules machine.now) (game_of seed (log_of log.now)) (new_game changed.now (log_of log.now)) (length log.now - changed.now.behind) checkpoints.now.places played.marks.next) }
+    ensures met { let replay = replay_of (M.rules machine.now) seed log.now ready.now in
+        IfOk result (λ played. HasMet replay checkpoints.now.places played.marks.next marks.end played.met) }
+    ensures none { let replay = replay_of (M.rules machine.now) seed log.now ready.now in
+        IfOk result (λ played. NoneMetBefore replay checkpoints.now.places played.marks.next) }
     ensures steps { IfOk result (λ played. M.Meter.count meter.new + marks.next ≡ M.Meter.count meter.old + played.marks.next) }
     ensures counted { M.Meter.count meter.old ≤ M.Meter.count meter.new }
-    ensures bounded { IsBounded (M.rules machine.now) (game_of seed (log_of log.now)) (new_game changed.now (log_of log.now)) changed.now.head (length log.now - changed.now.behind) marks.every (M.Meter.count meter.new - M.Meter.count meter.old) }
+    ensures bounded { let replay = replay_of (M.rules machine.now) seed log.now ready.now in
+        IsWithinBound replay marks.every (M.Meter.count meter.new - M.Meter.count meter.old) }
 {
-    let end = changed.lines;
-    let new = changed.rest(log);
-    let mut index = first_from(checkpoints.places(), changed.behind as u32);
+    let end = ready.lines;
+    let new = ready.rest(log);
+    let mut index = first_from(checkpoints.places(), ready.behind as u32);
     let mut played = Played {
         pieces: Vec::new(alloc),
         ticked: Vec::new(alloc),
@@ -152,7 +148,7 @@ pub(crate) fn play_changed<M: Machine>(
         met: None,
     };
     'lines: loop {
-        let Some(further) = pass::<M>(checkpoints, index, changed.behind, new, &played.marks) else {
+        let Some(further) = pass::<M>(checkpoints, index, ready.behind, new, &played.marks) else {
             played.met = Some(index);
             return Ok(played);
         };
@@ -161,6 +157,6 @@ pub(crate) fn play_changed<M: Machine>(
         if place == end {
             return Ok(played);
         }
-        play_line(alloc, machine, changed.line(log, place), &mut played, meter)?;
+        play_line(alloc, machine, ready.line(log, place), &mut played, meter)?;
     }
 }

@@ -1,24 +1,24 @@
-ghost use Rattle.std.specs.Prelude.{◌≡◌, ◌≢◌, ℕ, ◌+◌, ◌-◌, ◌^◌, ◌<◌, ◌≤◌, length, map, take, slice_index, IfOk, IfErr, OnOk, OnErr, MatchOption, None, Option};
+ghost use Rattle.std.specs.Prelude.{◌≡◌, ◌≢◌, ℕ, ◌+◌, ◌-◌, ◌^◌, ◌<◌, ◌≤◌, length, map, take, slice_index, IfOk, OnOk, OnErr, MatchOption, None, Option};
 ghost use Rattle.std.specs.Option.{option_map};
 ghost use Rattle.cave_marks.specs.Marks.{IsBegunAt};
 ghost use Rattle.cave_replay.specs.Log.{log_of};
 ghost use Rattle.cave_replay.specs.Play.{game_of};
 ghost use Rattle.cave_replay.specs.Change.{changes_of, apply_all, inverses_of};
-ghost use Rattle.cave_replay.specs.Changed.{edited, new_game};
-ghost use Rattle.cave_replay.specs.Faults.{fault_of_all, group_fault};
+ghost use Rattle.cave_replay.specs.ReadyEdits.{edited, new_game, IsReady};
+ghost use Rattle.cave_replay.specs.Faults.{fault_of_all, group_fault, IsAnswerTo};
 ghost use Rattle.cave_replay.specs.Span.{span_of};
-ghost use Rattle.cave_replay.specs.Held.{IsGame, IsKept};
-ghost use Rattle.cave_replay.specs.Agreement.{IsBounded, IsLastTo, IsMeet};
-ghost use Rattle.cave_replay.specs.Replay.{AreStates, IsMarking, IsShift, IsReplayed};
-ghost use Rattle.cave_replay.specs.Report.{IsWithin, IsReport, AreStepsBounded};
+ghost use Rattle.cave_replay.specs.Held.{IsGame};
+ghost use Rattle.cave_replay.specs.Kept.{kept_game, KeepsPlay, KeepsAll};
+ghost use Rattle.cave_replay.specs.Replay.{AreStates, IsMarking, IsReplayed};
+ghost use Rattle.cave_replay.specs.Report.{IsReport, AreStepsBounded};
 
-use crate::change::{Changed, change};
 use crate::edit::Edit;
 use crate::fault::{EditFault, GroupFault};
 use crate::kept::{Kept, make_room, take_over};
 use crate::machine::Machine;
 use crate::plan::plan_group;
 use crate::played::{Played, play_changed};
+use crate::ready_edits::{ReadyEdits, make_ready};
 use crate::report::GroupReport;
 use cave_marks::{Checkpoints, Marks, last_to};
 use cave_words::Steps;
@@ -74,36 +74,33 @@ fn prepare(
     log: &[Vec<u8>],
     edits: &[Edit],
     left: u64,
-) -> Result<Changed, GroupFault>
+) -> Result<ReadyEdits, GroupFault>
     requires few { length edits.now < 2 ^ 32 }
     requires game { IsGame (game_of seed (log_of log.now)) }
     ensures accepted { OnOk result (fault_of_all (changes_of edits.now) (log_of log.now) 0 ≡ None) }
     ensures none { OnOk result (group_fault (changes_of edits.now) (log_of log.now) left ≡ None) }
-    ensures game { IfOk result (λ changed. new_game changed (log_of log.now) ≡ apply_all (changes_of edits.now) (game_of seed (log_of log.now))) }
-    ensures edits { IfOk result (λ changed. changes_of changed.edits.items ≡ changes_of edits.now) }
-    ensures lines { IfOk result (λ changed. changed.lines ≡ length (edited changed (log_of log.now))) }
-    ensures ordered { IfOk result (λ changed. changed.head ≤ changed.behind) }
-    ensures head { IfOk result (λ changed. changed.head ≡ (span_of (changes_of edits.now) (log_of log.now)).head) }
-    ensures tail { IfOk result (λ changed. changed.behind + (span_of (changes_of edits.now) (log_of log.now)).tail ≡ length log.now) }
-    ensures shift { IfOk result (λ changed. IsShift (game_of seed (log_of log.now)) (new_game changed (log_of log.now)) changed.head (length log.now - changed.behind)) }
-    ensures good { IfOk result (λ changed. IsGame (new_game changed (log_of log.now))) }
-    ensures room { IfOk result (λ changed. length (edited changed (log_of log.now)) ≤ left) }
-    ensures faults { MatchOption (group_fault (changes_of edits.now) (log_of log.now) left) (IfErr result (λ fault. fault ≡ record { cause = EditFault.Memory; at = 0 })) (λ fault. result ≡ Err fault) }
+    ensures game { IfOk result (λ ready. new_game ready (log_of log.now) ≡ apply_all (changes_of edits.now) (game_of seed (log_of log.now))) }
+    ensures edits { IfOk result (λ ready. changes_of ready.edits.items ≡ changes_of edits.now) }
+    ensures head { IfOk result (λ ready. ready.head ≡ (span_of (changes_of edits.now) (log_of log.now)).head) }
+    ensures tail { IfOk result (λ ready. ready.behind + (span_of (changes_of edits.now) (log_of log.now)).tail ≡ length log.now) }
+    ensures ready { IfOk result (λ ready. IsReady seed log.now ready) }
+    ensures room { IfOk result (λ ready. length (edited ready (log_of log.now)) ≤ left) }
+    ensures faults { IsAnswerTo (group_fault (changes_of edits.now) (log_of log.now) left) result }
 {
     let plan = match plan_group(edits, log.len(), left) {
         Ok(plan) => plan,
         Err(fault) => return Err(fault),
     };
-    let Ok(changed) = change(alloc, edits, log.len(), seed, plan) else {
+    let Ok(ready) = make_ready(alloc, edits, log.len(), seed, plan) else {
         return Err(GroupFault::MEMORY);
     };
-    Ok(changed)
+    Ok(ready)
 }
 
 /// A changed game, replayed from the checkpoint of the index `at` on.
 #[derive(Drop)]
 pub(crate) struct Replayed<M: Machine> {
-    pub(crate) changed: Changed,
+    pub(crate) ready: ReadyEdits,
     pub(crate) opening: Option<M::Piece>,
     pub(crate) played: Played<M>,
     pub(crate) at: usize,
@@ -118,30 +115,36 @@ fn replay<M: Machine>(
     meter: &mut M::Meter,
 ) -> Result<Replayed<M>, GroupFault>
     requires few { length edits.now < 2 ^ 32 }
-    requires kept { IsKept M.meaning M.is_state (M.rules machine.now) (game_of kept.now.seed (log_of kept.now.log.items)) (M.text kept.now.opening) (map M.text kept.now.pieces.items) kept.now.ticked.items kept.now.state kept.now.checkpoints }
-    ensures accepted { OnOk result (fault_of_all (changes_of edits.now) (log_of kept.now.log.items) 0 ≡ None) }
-    ensures game { IfOk result (λ replayed. new_game replayed.changed (log_of kept.now.log.items) ≡ apply_all (changes_of edits.now) (game_of kept.now.seed (log_of kept.now.log.items))) }
-    ensures edits { IfOk result (λ replayed. changes_of replayed.changed.edits.items ≡ changes_of edits.now) }
-    ensures ordered { IfOk result (λ replayed. replayed.changed.head ≤ replayed.changed.behind) }
-    ensures head { IfOk result (λ replayed. replayed.changed.head ≡ (span_of (changes_of edits.now) (log_of kept.now.log.items)).head) }
-    ensures tail { IfOk result (λ replayed. replayed.changed.behind + (span_of (changes_of edits.now) (log_of kept.now.log.items)).tail ≡ length kept.now.log.items) }
-    ensures replayed { IfOk result (λ replayed. IsReplayed M.meaning M.is_state (M.rules machine.now) (game_of kept.now.seed (log_of kept.now.log.items)) (new_game replayed.changed (log_of kept.now.log.items)) (span_of (changes_of edits.now) (log_of kept.now.log.items)).head (span_of (changes_of edits.now) (log_of kept.now.log.items)).tail kept.now.checkpoints replayed.at (option_map M.text replayed.opening) (map M.text replayed.played.pieces.items) replayed.played.ticked.items replayed.played.marks replayed.played.met) }
-    ensures faults { MatchOption (group_fault (changes_of edits.now) (log_of kept.now.log.items) (2 ^ 64 - 1 - M.Meter.count meter.old)) (IfErr result (λ fault. fault ≡ record { cause = EditFault.Memory; at = 0 })) (λ fault. result ≡ Err fault) }
+    requires kept { KeepsPlay M.meaning M.is_state M.text (M.rules machine.now) kept.now }
+    ensures accepted { OnOk result (fault_of_all (changes_of edits.now) (kept_game kept.now).log 0 ≡ None) }
+    ensures game { IfOk result (λ replayed. new_game replayed.ready (kept_game kept.now).log ≡ apply_all (changes_of edits.now) (kept_game kept.now)) }
+    ensures edits { IfOk result (λ replayed. changes_of replayed.ready.edits.items ≡ changes_of edits.now) }
+    ensures ordered { IfOk result (λ replayed. replayed.ready.head ≤ replayed.ready.behind) }
+    ensures head { IfOk result (λ replayed. replayed.ready.head ≡ (span_of (changes_of edits.now) (kept_game kept.now).log).head) }
+    ensures tail { IfOk result (λ replayed. replayed.ready.behind + (span_of (changes_of edits.now) (kept_game kept.now).log).tail ≡ length kept.now.log.items) }
+    ensures replayed { let game = kept_game kept.now in
+        let span = span_of (changes_of edits.now) game.log in
+        IfOk result (λ replayed. let played = replayed.played in
+        IsReplayed M.meaning M.is_state (M.rules machine.now) game (new_game replayed.ready game.log) span.head span.tail kept.now.checkpoints replayed.at (option_map M.text replayed.opening) (map M.text played.pieces.items) played.ticked.items played.marks played.met) }
+    ensures faults { let left = 2 ^ 64 - 1 - M.Meter.count meter.old in
+        IsAnswerTo (group_fault (changes_of edits.now) (kept_game kept.now).log left) result }
     ensures steps { IfOk result (λ replayed. M.Meter.count meter.new + slice_index kept.now.checkpoints.places replayed.at ≡ M.Meter.count meter.old + replayed.played.marks.next) }
-    ensures bounded { AreStepsBounded (M.rules machine.now) (changes_of edits.now) (game_of kept.now.seed (log_of kept.now.log.items)) kept.now.checkpoints.every (group_fault (changes_of edits.now) (log_of kept.now.log.items) (2 ^ 64 - 1 - M.Meter.count meter.old)) (M.Meter.count meter.old) (M.Meter.count meter.new) }
+    ensures bounded { let changes = changes_of edits.now in
+        let fault = group_fault changes (kept_game kept.now).log (2 ^ 64 - 1 - M.Meter.count meter.old) in
+        AreStepsBounded (M.rules machine.now) changes (kept_game kept.now) kept.now.checkpoints.every fault (M.Meter.count meter.old) (M.Meter.count meter.new) }
 {
     let left = meter.left();
-    let changed = match prepare(alloc, kept.seed, &kept.log, edits, left) {
-        Ok(changed) => changed,
+    let ready = match prepare(alloc, kept.seed, &kept.log, edits, left) {
+        Ok(ready) => ready,
         Err(fault) => return Err(fault),
     };
-    let at = last_to(kept.checkpoints.places(), changed.head as u32);
-    let end = changed.lines as u32;
+    let at = last_to(kept.checkpoints.places(), ready.head as u32);
+    let end = ready.lines as u32;
     let Ok(beginning) = begin(
         alloc,
         machine,
         kept.seed,
-        changed.seed,
+        ready.seed,
         &kept.checkpoints,
         at,
         end,
@@ -154,7 +157,7 @@ fn replay<M: Machine>(
         machine,
         kept.seed,
         &kept.log,
-        &changed,
+        &ready,
         &kept.checkpoints,
         marks,
         meter,
@@ -162,7 +165,7 @@ fn replay<M: Machine>(
         return Err(GroupFault::MEMORY);
     };
     Ok(Replayed {
-        changed,
+        ready,
         opening,
         played,
         at,
@@ -188,43 +191,41 @@ pub(crate) fn edit_kept<M: Machine>(
     meter: &mut M::Meter,
 ) -> Result<GroupReport, GroupFault>
     requires few { length edits.now < 2 ^ 32 }
-    requires kept { IsKept M.meaning M.is_state (M.rules machine.now) (game_of kept.old.seed (log_of kept.old.log.items)) (M.text kept.old.opening) (map M.text kept.old.pieces.items) kept.old.ticked.items kept.old.state kept.old.checkpoints }
-    ensures kept { IsKept M.meaning M.is_state (M.rules machine.now) (game_of kept.new.seed (log_of kept.new.log.items)) (M.text kept.new.opening) (map M.text kept.new.pieces.items) kept.new.ticked.items kept.new.state kept.new.checkpoints }
-    ensures game { OnOk result (game_of kept.new.seed (log_of kept.new.log.items) ≡ apply_all (changes_of edits.now) (game_of kept.old.seed (log_of kept.old.log.items))) }
+    requires kept { KeepsPlay M.meaning M.is_state M.text (M.rules machine.now) kept.old }
+    ensures kept { KeepsPlay M.meaning M.is_state M.text (M.rules machine.now) kept.new }
+    ensures game { OnOk result (kept_game kept.new ≡ apply_all (changes_of edits.now) (kept_game kept.old)) }
     ensures every { kept.new.checkpoints.every ≡ kept.old.checkpoints.every }
-    ensures inverse { IfOk result (λ report. changes_of report.inverse.items ≡ inverses_of (changes_of edits.now) (game_of kept.old.seed (log_of kept.old.log.items))) }
-    ensures back { IfOk result (λ report. apply_all (changes_of report.inverse.items) (game_of kept.new.seed (log_of kept.new.log.items)) ≡ game_of kept.old.seed (log_of kept.old.log.items)) }
-    ensures back_accepted { IfOk result (λ report. fault_of_all (changes_of report.inverse.items) (log_of kept.new.log.items) 0 ≡ None) }
+    ensures inverse { IfOk result (λ report. changes_of report.inverse.items ≡ inverses_of (changes_of edits.now) (kept_game kept.old)) }
+    ensures back { IfOk result (λ report. apply_all (changes_of report.inverse.items) (kept_game kept.new) ≡ kept_game kept.old) }
+    ensures back_accepted { IfOk result (λ report. fault_of_all (changes_of report.inverse.items) (kept_game kept.new).log 0 ≡ None) }
 
-    ensures same_game { OnErr result (game_of kept.new.seed (log_of kept.new.log.items) ≡ game_of kept.old.seed (log_of kept.old.log.items)) }
-    ensures same_opening { OnErr result (kept.new.opening ≡ kept.old.opening) }
-    ensures same_pieces { OnErr result (kept.new.pieces.items ≡ kept.old.pieces.items) }
-    ensures same_ticks { OnErr result (kept.new.ticked.items ≡ kept.old.ticked.items) }
-    ensures same_state { OnErr result (kept.new.state ≡ kept.old.state) }
-    ensures same_places { OnErr result (kept.new.checkpoints.places ≡ kept.old.checkpoints.places) }
+    ensures refused { OnErr result (KeepsAll kept.old kept.new) }
 
-    ensures faults { MatchOption (group_fault (changes_of edits.now) (log_of kept.old.log.items) (2 ^ 64 - 1 - M.Meter.count meter.old)) (IfErr result (λ fault. fault ≡ record { cause = EditFault.Memory; at = 0 })) (λ fault. result ≡ Err fault) }
-    ensures report { IfOk result (λ report. IsReport (M.rules machine.now) (changes_of edits.now) (game_of kept.old.seed (log_of kept.old.log.items)) kept.old.checkpoints.every kept.old.checkpoints.places report.from report.met report.played) }
+    ensures faults { let left = 2 ^ 64 - 1 - M.Meter.count meter.old in
+        IsAnswerTo (group_fault (changes_of edits.now) (kept_game kept.old).log left) result }
+    ensures report { IfOk result (λ report. IsReport (M.rules machine.now) (changes_of edits.now) (kept_game kept.old) kept.old.checkpoints.every kept.old.checkpoints.places report.from report.met report.played) }
     ensures steps { IfOk result (λ report. M.Meter.count meter.new ≡ M.Meter.count meter.old + report.played) }
-    ensures bounded { AreStepsBounded (M.rules machine.now) (changes_of edits.now) (game_of kept.old.seed (log_of kept.old.log.items)) kept.old.checkpoints.every (group_fault (changes_of edits.now) (log_of kept.old.log.items) (2 ^ 64 - 1 - M.Meter.count meter.old)) (M.Meter.count meter.old) (M.Meter.count meter.new) }
+    ensures bounded { let changes = changes_of edits.now in
+        let fault = group_fault changes (kept_game kept.old).log (2 ^ 64 - 1 - M.Meter.count meter.old) in
+        AreStepsBounded (M.rules machine.now) changes (kept_game kept.old) kept.old.checkpoints.every fault (M.Meter.count meter.old) (M.Meter.count meter.new) }
 {
     let replayed = match replay(alloc, machine, kept, edits, meter) {
         Ok(replayed) => replayed,
         Err(fault) => return Err(fault),
     };
     let Replayed {
-        changed,
+        ready,
         opening,
         played,
         at,
     } = replayed;
     let from = kept.checkpoints.places()[at];
-    if make_room(kept, &changed, &played, at).is_err() {
+    if make_room(kept, &ready, &played, at).is_err() {
         return Err(GroupFault::MEMORY);
     }
     let end = played.marks.next();
     let met = met_place(played.met, end);
-    let inverse = take_over(kept, changed, opening, played, at);
+    let inverse = take_over(kept, ready, opening, played, at);
     Ok(GroupReport {
         from,
         met,

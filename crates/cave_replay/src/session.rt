@@ -1,11 +1,11 @@
-ghost use Rattle.std.specs.Prelude.{◌≡◌, ℕ, ◌+◌, ◌-◌, ◌^◌, ◌<◌, ◌≤◌, ◌↔◌, ◌∷◌, [], List, Bool, true, length, map, take, slice_get, slice_index, count_by, IsTrue, IfOk, IfErr, OnOk, OnErr, MatchOption, Option, None, Some};
+ghost use Rattle.std.specs.Prelude.{◌≡◌, ℕ, ◌+◌, ◌-◌, ◌^◌, ◌<◌, ◌≤◌, ◌↔◌, ◌∷◌, [], length, map, take, slice_get, slice_index, count_by, IsTrue, IfOk, IfErr, OnOk, OnErr, MatchOption, None, Some};
 ghost use Rattle.std.specs.Str.Lines.{lines};
 ghost use Rattle.cave_marks.specs.Spacing.{IsSpaced, most_spaced};
 ghost use Rattle.cave_words.specs.Line.{is_line};
 ghost use Rattle.cave_replay.specs.Log.{log_of};
-ghost use Rattle.cave_replay.specs.Play.{Game, game_of, IsPlay};
-ghost use Rattle.cave_replay.specs.Change.{change_of, changes_of, log_after, apply, apply_all, inverse_of, inverses_of, line_at};
-ghost use Rattle.cave_replay.specs.Faults.{fault_of, fault_of_all, log_after_all, edit_fault, group_fault};
+ghost use Rattle.cave_replay.specs.Play.{game_of};
+ghost use Rattle.cave_replay.specs.Change.{change_of, changes_of, apply, apply_all, inverse_of, inverses_of, line_at};
+ghost use Rattle.cave_replay.specs.Faults.{fault_of, fault_of_all, edit_fault, group_fault};
 ghost use Rattle.cave_replay.specs.Opening.{open_fault};
 ghost use Rattle.cave_replay.specs.Held.{IsGame, HoldsPlay};
 ghost use Rattle.cave_replay.specs.Report.{IsWithin, IsReport, AreStepsBounded};

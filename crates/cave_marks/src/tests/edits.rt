@@ -17,7 +17,7 @@ fn check(rt: &impl Abort, checkpoints: &Checkpoints<u32>, tags: &[u32]) {
     let mut last = 0;
     let mut before = None;
     for (index, place) in places.iter().enumerate() {
-        assert_eq!(rt; checkpoints.state(index), tag(tags, *place), "at {place}");
+        assert_eq!(rt; *checkpoints.state(index), tag(tags, *place), "at {place}");
         match before {
             None => assert_eq!(rt; *place, 0),
             Some(second) => {

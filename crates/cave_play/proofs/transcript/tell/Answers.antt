@@ -1,45 +1,56 @@
-use Rattle.std.proofs.Common.{◌≡◌, ◌+◌, ◌++◌, length, map, get_or, ap, sym, ◌∙◌, arith, rules}
+use Rattle.std.proofs.Common.{◌≡◌, ◌+◌, ◌++◌, [], length, map, get_or, ap, sym, ◌∙◌, arith, rules}
+use Rattle.std.specs.Iterator.Adapters.{enumerate_source, enumerate_count}
 use Rattle.std.proofs.lemmas.Result.{on_ok_weaker}
 use Rattle.cave_play.specs.CaveRules.{rendered}
 use Rattle.cave_play.specs.Output.{play_text}
 use Rattle.cave_play.specs.Transcript.{closing, ticks}
 use Rattle.cave_play.proofs.RunLemmas.{transcript-played}
-use Rattle.cave_play.proofs.TranscriptLemmas.{told-more, told_from-end, ticks-more, ticks-few, byte_of, one-at-most}
+use Rattle.cave_play.proofs.TranscriptLemmas.{told-more, told_from-end, counts-first, counts-others}
 use Rattle.cave_play.proofs.transcript.tell.Goals as goal
+
+pub overflow_cast-place : goal.overflow_cast-place
+overflow_cast-place c =
+    let step = c.in-Some.ensures.steps in
+    let left = c.loop-place.invariant.left in
+    let some = ap length step.0 in
+    omega (arith, step.1, left, some, c.lines-lines.ensures.game.few)
 
 pub loop-place-preserved : goal.loop-place-preserved
 loop-place-preserved c =
     let held = c.args.session.now in
-    let place = c.loop-place.place in
+    let step = c.in-Some.ensures.steps in
+    let place = enumerate_count c.loop-place.place-iterator in
+    let counts = enumerate_source c.loop-place.place-iterator in
+    let here = c.loop-place.invariant in
     let piece = c.index-pieces-place.result in
     let pieces = c.pieces-pieces.ensures in
-    let before = c.loop-place.invariant.turns in
-    let more = ticks-more held.ticks place c.ticked.result c.ticked.ensures in
-    let turns : c.loop-place.turns + c.from-turns.result ≡ ticks held.ticks (place + 1) = omega (arith, before, more, c.from-turns.ensures, byte_of c.ticked.result) in
+    let some = ap length step.0 in
+    let left : enumerate_count c.next.new.self + length (enumerate_source c.next.new.self) ≡ length held.game.log = omega (arith, here.left, some, step.2) in
+    let others = enumerate_source c.next.new.self in
+    let next = enumerate_count c.next.new.self in
+    let turns = counts-first counts others c.in-Some.turns (ticks held.ticks) place step.0 here.turns in
     record {
-      turns = turns;
-      told = told-more (rendered c.cave-cave.result.now) (λ piece. piece.items) place (c.loop-place.turns + c.from-turns.result) held.game.log held.pieces held.ticks c.line.result.now piece _ _
-          (closing (ticks held.ticks (length held.game.log))) _ (omega arith) (ap length (sym pieces.pieces) ∙ pieces.each)
-          c.line.ensures.line (c.index-pieces-place.is ∙ ap (λ ps. get_or ps place piece) pieces.pieces) turns
-          c.loop-place.invariant.told (search rules);
+      may_go_on = search (rules, left, c.lines-lines.ensures.game.few);
+      ends = tt;
+      left = left;
+      turns = λ k below. counts-others counts others c.in-Some.turns (ticks held.ticks) place step.0 here.turns next k step.2 below;
+      told = rw step.2 (told-more (rendered c.cave-cave.result.now) (λ piece. piece.items) place c.in-Some.turns held.game.log held.pieces held.ticks c.line-line.result.now piece _ _
+          (closing (ticks held.ticks (length held.game.log))) _ (omega (arith, some, here.left)) (ap length (sym pieces.pieces) ∙ pieces.each)
+          (c.line-line.ensures.line ∙ ap (λ p. get_or held.game.log p []) step.1) (c.index-pieces-place.is ∙ ap (λ ps. get_or ps c.in-Some.place piece) pieces.pieces ∙ ap (λ p. get_or held.pieces p piece) step.1) turns
+          here.told (search rules));
     }
-
-pub overflow_add-turns : goal.overflow_add-turns
-overflow_add-turns c =
-    let turns = c.loop-place.invariant.turns in
-    omega (arith, turns, ticks-few c.args.session.now.ticks c.loop-place.place, c.from-turns.ensures, byte_of c.ticked.result, one-at-most c.ticked.result)
 
 pub returns : goal.returns
 returns c =
     let held = c.args.session.now in
     let old = c.args.text.now.items in
     let cave = c.cave-cave.result.now in
-    let place = c.loop-place.place in
+    let place = enumerate_count c.loop-place.place-iterator in
     let pieces = map (λ piece. piece.items) held.pieces in
-    let ended = told_from-end (rendered cave) held.ticks place held.game.log pieces (omega arith) in
+    let none = ap length c.in-None.ensures.steps.0.0 in
+    let ended = told_from-end (rendered cave) held.ticks place held.game.log pieces (omega (arith, none, c.loop-place.invariant.left)) in
     let played = transcript-played cave _ held.game _ pieces held.ticks _ (c.requires ∙ sym c.cave-cave.ensures) c.opening.ensures.plays in
     let end = closing (ticks held.ticks (length held.game.log)) in
     let whole = ap (λ t. c.loop-place.text.items ++ (t ++ end)) (sym ended) ∙ c.loop-place.invariant.told ∙ ap (λ t. old ++ t) (played ∙ ap (λ k. play_text k held.game) c.cave-cave.ensures) in
-    let lines : place ≡ length held.game.log = omega (arith, c.lines-lines.ensures.lines) in
-    let turns : c.loop-place.turns ≡ ticks held.ticks (length held.game.log) = c.loop-place.invariant.turns ∙ ap (ticks held.ticks) lines in
+    let turns : c.ticks.result ≡ ticks held.ticks (length held.game.log) = c.ticks.ensures ∙ ap (ticks held.ticks) c.lines-lines.ensures.lines in
     on_ok_weaker c.push_closing.result (λ told. told ∙ ap (λ n. c.loop-place.text.items ++ closing n) turns ∙ whole) c.push_closing.ensures

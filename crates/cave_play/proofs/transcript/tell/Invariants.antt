@@ -1,5 +1,7 @@
--- What was told so far, and then the lines from here on, are the transcript.
-use Rattle.std.proofs.Common.{◌≡◌, ◌++◌, length, map}
+-- What was told so far, and then the lines from here on, are the transcript; what is left of the counts are those of these lines.
+use Rattle.std.proofs.Common.{◌≡◌, ℕ, ◌+◌, ◌<◌, ◌++◌, length, map}
+use Rattle.std.specs.Prelude.{slice_index}
+use Rattle.std.specs.Iterator.Adapters.{enumerate_source, enumerate_count}
 use Rattle.cave_play.specs.CaveRules.{rendered}
 use Rattle.cave_play.specs.Transcript.{closing, ticks, transcript}
 use Rattle.cave_play.proofs.TranscriptLemmas.{told_from}
@@ -8,9 +10,14 @@ use Rattle.cave_play.proofs.transcript.tell.Given as goal
 abbrev pub invariant-loop-place : goal.invariant-loop-place
 invariant-loop-place l =
     let held = l.session in
+    let place = enumerate_count l.place-iterator in
+    let counts = enumerate_source l.place-iterator in
     let pieces = map (λ piece. piece.items) held.pieces in
     record {
-      turns : l.turns ≡ ticks held.ticks l.place;
-      told : l.text.items ++ (told_from (rendered l.cave) held.ticks l.place held.game.log pieces ++ closing (ticks held.ticks (length held.game.log)))
+      may_go_on : (goal.iterator-loop-place).can_next l.place-iterator;
+      ends : (goal.iterator-loop-place).is_finite l.place-iterator;
+      left : place + length counts ≡ length held.game.log;
+      turns : (k : ℕ) → k < length counts → slice_index counts k ≡ ticks held.ticks (place + k + 1);
+      told : l.text.items ++ (told_from (rendered l.cave) held.ticks place held.game.log pieces ++ closing (ticks held.ticks (length held.game.log)))
           ≡ l.fn.text.items ++ transcript (rendered l.cave) held.opening.items held.game.log pieces held.ticks;
     }

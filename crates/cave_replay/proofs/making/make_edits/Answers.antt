@@ -17,7 +17,7 @@ loop-edit-init c =
     let room = c.requires.room in
     record {
       making = rw c.deref_mut-edit-items.ensures.value (IsMaking-start changes (game_of c.args.seed.now log) (IsFree-from_none changes log 0 c.requires.free));
-      room = omega arith;
+      room = rw c.deref_mut-edit-items.ensures.value room;
     }
 
 pub returns-clause-inverse : goal.returns-clause-inverse

@@ -1,10 +1,10 @@
-use Rattle.std.proofs.Common.{◌≡◌, ◌+◌, ◌-◌, ◌<◌, ◌∷◌, [], length, ap, ◌∙◌, sym, refl, arith}
-use Rattle.std.proofs.lemmas.List.{append-nil, length-append}
+use Rattle.std.proofs.Common.{◌≡◌, ◌+◌, ◌-◌, ◌<◌, length, ap, ◌∙◌, sym, refl, arith}
+use Rattle.std.proofs.lemmas.List.{append-nil}
 use Rattle.cave_marks.specs.Spacing.{IsSpaced}
 use Rattle.cave_replay.specs.Log.{log_of}
 use Rattle.cave_replay.specs.Play.{game_of}
 use Rattle.cave_replay.specs.Change.{line_at}
-use Rattle.cave_replay.specs.Changed.{new_game}
+use Rattle.cave_replay.specs.ReadyEdits.{new_game}
 use Rattle.cave_replay.specs.Agreement.{state_at}
 use Rattle.cave_replay.specs.Replay.{IsUnderway}
 use Rattle.cave_replay.proofs.Bounds.{bounded_to, underway_none}
@@ -17,12 +17,12 @@ pub lines-init : goal.lines-init
 lines-init g c =
     let log = log_of c.args.log.now in
     let n = length-log_of c.args.log.now in
-    let within = c.requires.within in
+    let within = c.requires.ready.within in
     let rules = g.M.Machine.rules c.args.machine.now in
     let spaced : IsSpaced c.args.checkpoints.now.every c.args.checkpoints.now.places (length log) = rw (n, ← c.requires.old_lines) c.places.ensures.spaced in
     let places = c.places.ensures.places in
     record {
-      underway = underway_start rules (game_of c.args.seed log) (new_game c.args.changed.now log) c.args.changed.now.head (length c.args.log.now - c.args.changed.now.behind) c.requires.shift
+      underway = underway_start rules (game_of c.args.seed log) (new_game c.args.ready.now log) c.args.ready.now.head (length c.args.log.now - c.args.ready.now.behind) c.requires.ready.shift
           c.args.checkpoints.now.every c.args.checkpoints.now.places spaced c.first_from-index.result c.args.marks.next
           (λ k below. let early = rw places at (c.first_from-index.ensures.before k below) in omega arith)
           (λ k from inside. let late = rw places at (c.first_from-index.ensures.after k from (rw places inside)) in omega arith)
@@ -35,7 +35,7 @@ lines-init g c =
       start = refl;
       first = refl;
       forward = omega arith;
-      within = let a = c.requires.from in let b = c.requires.shift.within_new in let e = c.requires.end in omega arith;
+      within = let a = c.requires.from in let b = c.requires.ready.shift.within_new in let e = c.requires.end in omega arith;
       unmet = refl;
       counted = refl;
     }
@@ -44,20 +44,20 @@ pub returns-in_default-clause-met : goal.returns-in_default-clause-met
 returns-in_default-clause-met g c =
     let log = log_of c.args.log.now in
     let n = length-log_of c.args.log.now in
-    let ordered = c.requires.ordered in
-    let within = c.requires.within in
+    let ordered = c.requires.ready.ordered in
+    let within = c.requires.ready.within in
     let rules = g.M.Machine.rules c.args.machine.now in
     let old = game_of c.args.seed log in
-    let new = new_game c.args.changed.now log in
-    let tail = length c.args.log.now - c.args.changed.now.behind in
+    let new = new_game c.args.ready.now log in
+    let tail = length c.args.log.now - c.args.ready.now.behind in
     let C = c.args.checkpoints.now.places in
     let K = c.args.checkpoints.now.every in
     let spaced : IsSpaced K C (length log) = rw (n, ← c.requires.old_lines) c.places.ensures.spaced in
     let at = c.lines.invariant in
-    let old_is : c.args.changed.now.behind + tail ≡ length log = omega arith in
-    let new_is : c.rest-new.result + tail ≡ length new.log = omega (arith, c.rest-new.ensures, c.requires.lines) in
+    let old_is : c.args.ready.now.behind + tail ≡ length log = omega arith in
+    let new_is : c.rest-new.result + tail ≡ length new.log = omega (arith, c.rest-new.ensures, c.requires.ready.lines) in
     let stands = c.in_default.ensures (state_at rules old) (state_at rules new) c.requires.old_states at.marking in
-    let met = underway_agrees rules old new c.args.changed.now.head tail c.requires.shift K C spaced c.lines.index c.lines.played.marks.next c.args.changed.now.behind c.rest-new.result
+    let met = underway_agrees rules old new c.args.ready.now.head tail c.requires.ready.shift K C spaced c.lines.index c.lines.played.marks.next c.args.ready.now.behind c.rest-new.result
     old_is new_is at.underway stands in
     (stands.inside, met.0, met.1)
 
@@ -65,12 +65,12 @@ pub returns-in_default-clause-none : goal.returns-in_default-clause-none
 returns-in_default-clause-none g c =
     let log = log_of c.args.log.now in
     let n = length-log_of c.args.log.now in
-    let ordered = c.requires.ordered in
-    let within = c.requires.within in
+    let ordered = c.requires.ready.ordered in
+    let within = c.requires.ready.within in
     let rules = g.M.Machine.rules c.args.machine.now in
     let old = game_of c.args.seed log in
-    let new = new_game c.args.changed.now log in
-    let tail = length c.args.log.now - c.args.changed.now.behind in
+    let new = new_game c.args.ready.now log in
+    let tail = length c.args.log.now - c.args.ready.now.behind in
     let C = c.args.checkpoints.now.places in
     let K = c.args.checkpoints.now.every in
     let spaced : IsSpaced K C (length log) = rw (n, ← c.requires.old_lines) c.places.ensures.spaced in
@@ -81,12 +81,12 @@ pub returns-in_default-clause-bounded : goal.returns-in_default-clause-bounded
 returns-in_default-clause-bounded g c =
     let log = log_of c.args.log.now in
     let n = length-log_of c.args.log.now in
-    let ordered = c.requires.ordered in
-    let within = c.requires.within in
+    let ordered = c.requires.ready.ordered in
+    let within = c.requires.ready.within in
     let rules = g.M.Machine.rules c.args.machine.now in
     let old = game_of c.args.seed log in
-    let new = new_game c.args.changed.now log in
-    let tail = length c.args.log.now - c.args.changed.now.behind in
+    let new = new_game c.args.ready.now log in
+    let tail = length c.args.log.now - c.args.ready.now.behind in
     let C = c.args.checkpoints.now.places in
     let K = c.args.checkpoints.now.every in
     let spaced : IsSpaced K C (length log) = rw (n, ← c.requires.old_lines) c.places.ensures.spaced in
@@ -99,41 +99,41 @@ returns-in_default-clause-bounded g c =
     let steps = at.counted in
     let forward = at.forward in
     rw every
-    (bounded_to rules old new c.args.changed.now.head tail c.requires.shift K C spaced (omega arith) c.args.marks.next (omega arith) (c.lines.played.marks.next) (omega (arith, end, reached)) (underway_none rules old new tail C c.lines.index c.lines.played.marks.next at.underway) (g.M.Meter.Steps.count c.lines.meter - g.M.Meter.Steps.count c.args.meter.now) (omega (arith, steps, forward)))
+    (bounded_to rules old new c.args.ready.now.head tail c.requires.ready.shift K C spaced (omega arith) c.args.marks.next (omega arith) (c.lines.played.marks.next) (omega (arith, end, reached)) (underway_none rules old new tail C c.lines.index c.lines.played.marks.next at.underway) (g.M.Meter.Steps.count c.lines.meter - g.M.Meter.Steps.count c.args.meter.now) (omega (arith, steps, forward)))
 
 pub returns-then-place-end-clause-met : goal.returns-then-place-end-clause-met
 returns-then-place-end-clause-met g c =
     let log = log_of c.args.log.now in
     let n = length-log_of c.args.log.now in
-    let ordered = c.requires.ordered in
-    let within = c.requires.within in
+    let ordered = c.requires.ready.ordered in
+    let within = c.requires.ready.within in
     let rules = g.M.Machine.rules c.args.machine.now in
     let old = game_of c.args.seed log in
-    let new = new_game c.args.changed.now log in
-    let tail = length c.args.log.now - c.args.changed.now.behind in
+    let new = new_game c.args.ready.now log in
+    let tail = length c.args.log.now - c.args.ready.now.behind in
     let C = c.args.checkpoints.now.places in
     let K = c.args.checkpoints.now.every in
     let spaced : IsSpaced K C (length log) = rw (n, ← c.requires.old_lines) c.places.ensures.spaced in
     let at = c.lines.invariant in
-    let old_is : c.args.changed.now.behind + tail ≡ length log = omega arith in
-    let new_is : c.rest-new.result + tail ≡ length new.log = omega (arith, c.rest-new.ensures, c.requires.lines) in
+    let old_is : c.args.ready.now.behind + tail ≡ length log = omega arith in
+    let new_is : c.rest-new.result + tail ≡ length new.log = omega (arith, c.rest-new.ensures, c.requires.ready.lines) in
     let further : IsUnderway rules old new tail C c.in-Some.further (c.lines.played.marks.next + 1) =
-    underway_further rules old new c.args.changed.now.head tail c.requires.shift K C spaced c.lines.index c.lines.played.marks.next c.in-Some.further c.args.changed.now.behind c.rest-new.result
+    underway_further rules old new c.args.ready.now.head tail c.requires.ready.shift K C spaced c.lines.index c.lines.played.marks.next c.in-Some.further c.args.ready.now.behind c.rest-new.result
     old_is new_is at.underway (c.in-Some.ensures (state_at rules old) (state_at rules new) c.requires.old_states at.marking) in
     let place = c.next-place.ensures.next in
-    let end : c.lines.played.marks.next ≡ length new.log = omega (arith, c.if-place-end.true, c.requires.lines) in
-    rw at.unmet (end ∙ sym c.requires.end, underway_end rules old new c.args.changed.now.head tail c.requires.shift K C spaced c.in-Some.further (c.lines.played.marks.next + 1) further (omega arith))
+    let end : c.lines.played.marks.next ≡ length new.log = omega (arith, c.if-place-end.true, c.requires.ready.lines) in
+    rw at.unmet (end ∙ sym c.requires.end, underway_end rules old new c.args.ready.now.head tail c.requires.ready.shift K C spaced c.in-Some.further (c.lines.played.marks.next + 1) further (omega arith))
 
 pub returns-then-place-end-clause-none : goal.returns-then-place-end-clause-none
 returns-then-place-end-clause-none g c =
     let log = log_of c.args.log.now in
     let n = length-log_of c.args.log.now in
-    let ordered = c.requires.ordered in
-    let within = c.requires.within in
+    let ordered = c.requires.ready.ordered in
+    let within = c.requires.ready.within in
     let rules = g.M.Machine.rules c.args.machine.now in
     let old = game_of c.args.seed log in
-    let new = new_game c.args.changed.now log in
-    let tail = length c.args.log.now - c.args.changed.now.behind in
+    let new = new_game c.args.ready.now log in
+    let tail = length c.args.log.now - c.args.ready.now.behind in
     let C = c.args.checkpoints.now.places in
     let K = c.args.checkpoints.now.every in
     let spaced : IsSpaced K C (length log) = rw (n, ← c.requires.old_lines) c.places.ensures.spaced in
@@ -144,12 +144,12 @@ pub returns-then-place-end-clause-bounded : goal.returns-then-place-end-clause-b
 returns-then-place-end-clause-bounded g c =
     let log = log_of c.args.log.now in
     let n = length-log_of c.args.log.now in
-    let ordered = c.requires.ordered in
-    let within = c.requires.within in
+    let ordered = c.requires.ready.ordered in
+    let within = c.requires.ready.within in
     let rules = g.M.Machine.rules c.args.machine.now in
     let old = game_of c.args.seed log in
-    let new = new_game c.args.changed.now log in
-    let tail = length c.args.log.now - c.args.changed.now.behind in
+    let new = new_game c.args.ready.now log in
+    let tail = length c.args.log.now - c.args.ready.now.behind in
     let C = c.args.checkpoints.now.places in
     let K = c.args.checkpoints.now.every in
     let spaced : IsSpaced K C (length log) = rw (n, ← c.requires.old_lines) c.places.ensures.spaced in
@@ -162,31 +162,31 @@ returns-then-place-end-clause-bounded g c =
     let steps = at.counted in
     let forward = at.forward in
     rw every
-    (bounded_to rules old new c.args.changed.now.head tail c.requires.shift K C spaced (omega arith) c.args.marks.next (omega arith) (c.lines.played.marks.next) (omega (arith, end, reached)) (underway_none rules old new tail C c.lines.index c.lines.played.marks.next at.underway) (g.M.Meter.Steps.count c.lines.meter - g.M.Meter.Steps.count c.args.meter.now) (omega (arith, steps, forward)))
+    (bounded_to rules old new c.args.ready.now.head tail c.requires.ready.shift K C spaced (omega arith) c.args.marks.next (omega arith) (c.lines.played.marks.next) (omega (arith, end, reached)) (underway_none rules old new tail C c.lines.index c.lines.played.marks.next at.underway) (g.M.Meter.Steps.count c.lines.meter - g.M.Meter.Steps.count c.args.meter.now) (omega (arith, steps, forward)))
 
 pub lines-preserved : goal.lines-preserved
 lines-preserved g c =
     let log = log_of c.args.log.now in
     let n = length-log_of c.args.log.now in
-    let ordered = c.requires.ordered in
-    let within = c.requires.within in
+    let ordered = c.requires.ready.ordered in
+    let within = c.requires.ready.within in
     let rules = g.M.Machine.rules c.args.machine.now in
     let old = game_of c.args.seed log in
-    let new = new_game c.args.changed.now log in
-    let tail = length c.args.log.now - c.args.changed.now.behind in
+    let new = new_game c.args.ready.now log in
+    let tail = length c.args.log.now - c.args.ready.now.behind in
     let C = c.args.checkpoints.now.places in
     let K = c.args.checkpoints.now.every in
     let spaced : IsSpaced K C (length log) = rw (n, ← c.requires.old_lines) c.places.ensures.spaced in
     let at = c.lines.invariant in
-    let old_is : c.args.changed.now.behind + tail ≡ length log = omega arith in
-    let new_is : c.rest-new.result + tail ≡ length new.log = omega (arith, c.rest-new.ensures, c.requires.lines) in
+    let old_is : c.args.ready.now.behind + tail ≡ length log = omega arith in
+    let new_is : c.rest-new.result + tail ≡ length new.log = omega (arith, c.rest-new.ensures, c.requires.ready.lines) in
     let further : IsUnderway rules old new tail C c.in-Some.further (c.lines.played.marks.next + 1) =
-    underway_further rules old new c.args.changed.now.head tail c.requires.shift K C spaced c.lines.index c.lines.played.marks.next c.in-Some.further c.args.changed.now.behind c.rest-new.result
+    underway_further rules old new c.args.ready.now.head tail c.requires.ready.shift K C spaced c.lines.index c.lines.played.marks.next c.in-Some.further c.args.ready.now.behind c.rest-new.result
     old_is new_is at.underway (c.in-Some.ensures (state_at rules old) (state_at rules new) c.requires.old_states at.marking) in
     let place = c.next-place.ensures.next in
     let reached = at.within in
     let end = c.requires.end in
-    let below : c.lines.played.marks.next < length new.log = omega (arith, c.if-place-end.false, c.requires.lines) in
+    let below : c.lines.played.marks.next < length new.log = omega (arith, c.if-place-end.false, c.requires.ready.lines) in
     let next = c.in_ok-play_line.ensures.next in
     let line : c.line.result.now ≡ line_at new.log c.lines.played.marks.next = c.line.ensures ∙ ap (line_at new.log) place in
     let more = c.in_ok-play_line.ensures.ticked in
@@ -210,23 +210,23 @@ pub returns-in_err-play_line-clause-bounded : goal.returns-in_err-play_line-clau
 returns-in_err-play_line-clause-bounded g c =
     let log = log_of c.args.log.now in
     let n = length-log_of c.args.log.now in
-    let ordered = c.requires.ordered in
-    let within = c.requires.within in
+    let ordered = c.requires.ready.ordered in
+    let within = c.requires.ready.within in
     let rules = g.M.Machine.rules c.args.machine.now in
     let old = game_of c.args.seed log in
-    let new = new_game c.args.changed.now log in
-    let tail = length c.args.log.now - c.args.changed.now.behind in
+    let new = new_game c.args.ready.now log in
+    let tail = length c.args.log.now - c.args.ready.now.behind in
     let C = c.args.checkpoints.now.places in
     let K = c.args.checkpoints.now.every in
     let spaced : IsSpaced K C (length log) = rw (n, ← c.requires.old_lines) c.places.ensures.spaced in
     let at = c.lines.invariant in
-    let old_is : c.args.changed.now.behind + tail ≡ length log = omega arith in
-    let new_is : c.rest-new.result + tail ≡ length new.log = omega (arith, c.rest-new.ensures, c.requires.lines) in
+    let old_is : c.args.ready.now.behind + tail ≡ length log = omega arith in
+    let new_is : c.rest-new.result + tail ≡ length new.log = omega (arith, c.rest-new.ensures, c.requires.ready.lines) in
     let further : IsUnderway rules old new tail C c.in-Some.further (c.lines.played.marks.next + 1) =
-    underway_further rules old new c.args.changed.now.head tail c.requires.shift K C spaced c.lines.index c.lines.played.marks.next c.in-Some.further c.args.changed.now.behind c.rest-new.result
+    underway_further rules old new c.args.ready.now.head tail c.requires.ready.shift K C spaced c.lines.index c.lines.played.marks.next c.in-Some.further c.args.ready.now.behind c.rest-new.result
     old_is new_is at.underway (c.in-Some.ensures (state_at rules old) (state_at rules new) c.requires.old_states at.marking) in
     let place = c.next-place.ensures.next in
-    let below : c.lines.played.marks.next < length new.log = omega (arith, c.if-place-end.false, c.requires.lines, at.within, c.requires.end) in
+    let below : c.lines.played.marks.next < length new.log = omega (arith, c.if-place-end.false, c.requires.ready.lines, at.within, c.requires.end) in
     let counted = c.in_err-play_line.ensures.counted in
     let apart = c.requires.apart in
     let end = c.requires.end in
@@ -236,4 +236,4 @@ returns-in_err-play_line-clause-bounded g c =
     let steps = at.counted in
     let forward = at.forward in
     rw every
-    (bounded_to rules old new c.args.changed.now.head tail c.requires.shift K C spaced (omega arith) c.args.marks.next (omega arith) (c.lines.played.marks.next + 1) (omega arith) (underway_none rules old new tail C c.in-Some.further (c.lines.played.marks.next + 1) further) (g.M.Meter.Steps.count c.play_line.new.meter - g.M.Meter.Steps.count c.args.meter.now) (omega (arith, steps, forward, counted)))
+    (bounded_to rules old new c.args.ready.now.head tail c.requires.ready.shift K C spaced (omega arith) c.args.marks.next (omega arith) (c.lines.played.marks.next + 1) (omega arith) (underway_none rules old new tail C c.in-Some.further (c.lines.played.marks.next + 1) further) (g.M.Meter.Steps.count c.play_line.new.meter - g.M.Meter.Steps.count c.args.meter.now) (omega (arith, steps, forward, counted)))

@@ -8,7 +8,7 @@ use Rattle.cave_replay.specs.Play.{Game, game_of}
 use Rattle.cave_replay.specs.Change.{changes_of, apply_all, inverses_of}
 use Rattle.cave_replay.specs.Faults.{log_after_all}
 use Rattle.cave_replay.proofs.Inverses.{IsFree-from_none, none_from_IsFree, log-apply_all, apply_all-inverses_of, IsFree-inverses_of}
-use Rattle.cave_replay.specs.Changed.{new_game}
+use Rattle.cave_replay.specs.ReadyEdits.{new_game}
 use Rattle.cave_replay.specs.Span.{span_of}
 use Rattle.cave_replay.specs.Replay.{IsShift}
 use Rattle.cave_replay.proofs.Joins.{map-splice}
@@ -29,7 +29,7 @@ take_over-inverse-requires-clause-pieces g c =
     let C = kept.checkpoints in
     let held = c.requires.kept in
     let roomy = c.make_room.new.kept in
-    let same = c.make_room.ensures in
+    let same = c.make_room.ensures.same in
     let lengths = length-pieces rules (game_of kept.seed log) (text kept.opening) (map text kept.pieces.items) kept.ticked.items (g.M.Machine.meaning kept.state) held.plays in
     let m = length-map kept.pieces.items text in
     let p = ap length same.pieces in
@@ -47,7 +47,7 @@ take_over-inverse-requires-clause-ticked g c =
     let C = kept.checkpoints in
     let held = c.requires.kept in
     let roomy = c.make_room.new.kept in
-    let same = c.make_room.ensures in
+    let same = c.make_room.ensures.same in
     let lengths = length-ticks rules (game_of kept.seed log) (text kept.opening) (map text kept.pieces.items) kept.ticked.items (g.M.Machine.meaning kept.state) held.plays in
     let p = ap length same.ticked in
     let l = ap length same.log in
@@ -64,21 +64,21 @@ take_over-inverse-requires-clause-met g c =
     let C = kept.checkpoints in
     let held = c.requires.kept in
     let roomy = c.make_room.new.kept in
-    let same = c.make_room.ensures in
+    let same = c.make_room.ensures.same in
     let changes = changes_of c.args.edits.now in
-    let changed = c.in-Ok.replayed.changed in
+    let ready = c.in-Ok.replayed.ready in
     let played = c.in-Ok.replayed.played in
     let at = c.in-Ok.replayed.at in
     let made = c.in-Ok.ensures in
     let old = game_of kept.seed log in
-    let new = new_game changed log in
+    let new = new_game ready log in
     let span = span_of changes log in
-    let shift' : IsShift old new changed.head (length items - changed.behind) = shift_of changes items kept.seed changed made.accepted made.edits made.game made.head made.tail made.ordered in
-    let tail_is : length items - changed.behind ≡ span.tail = omega (arith, made.tail) in
+    let shift' : IsShift old new ready.head (length items - ready.behind) = shift_of changes items kept.seed ready made.accepted made.edits made.game made.head made.tail made.ordered in
+    let tail_is : length items - ready.behind ≡ span.tail = omega (arith, made.tail) in
     let shift : IsShift old new span.head span.tail = rw (← made.head, ← tail_is) shift' in
     let good = good_of changes log kept.seed new held.game_is made.accepted made.game in
     let spaced : IsSpaced C.every C.places C.lines = c.places.ensures.spaced in
-    met_ready g.M.Machine.meaning g.M.Machine.is_state rules old new span.head span.tail shift (text kept.opening) (map text kept.pieces.items) kept.ticked.items kept.state C held spaced at (option_map text c.in-Ok.replayed.opening) (map text played.pieces.items) played.ticked.items played.marks played.met made.replayed roomy.checkpoints same.settings.1 same.places
+    met_ready g.M.Machine.meaning g.M.Machine.is_state rules old new span.head span.tail shift (text kept.opening) (map text kept.pieces.items) kept.ticked.items kept.state C held spaced at (option_map text c.in-Ok.replayed.opening) (map text played.pieces.items) played.ticked.items played.marks played.met made.replayed roomy.checkpoints same.lines same.places
 
 pub returns-clause-kept : goal.returns-clause-kept
 returns-clause-kept g c =
@@ -91,25 +91,25 @@ returns-clause-kept g c =
     let C = kept.checkpoints in
     let held = c.requires.kept in
     let roomy = c.make_room.new.kept in
-    let same = c.make_room.ensures in
+    let same = c.make_room.ensures.same in
     let changes = changes_of c.args.edits.now in
-    let changed = c.in-Ok.replayed.changed in
+    let ready = c.in-Ok.replayed.ready in
     let played = c.in-Ok.replayed.played in
     let at = c.in-Ok.replayed.at in
     let made = c.in-Ok.ensures in
     let old = game_of kept.seed log in
-    let new = new_game changed log in
+    let new = new_game ready log in
     let span = span_of changes log in
-    let shift' : IsShift old new changed.head (length items - changed.behind) = shift_of changes items kept.seed changed made.accepted made.edits made.game made.head made.tail made.ordered in
-    let tail_is : length items - changed.behind ≡ span.tail = omega (arith, made.tail) in
+    let shift' : IsShift old new ready.head (length items - ready.behind) = shift_of changes items kept.seed ready made.accepted made.edits made.game made.head made.tail made.ordered in
+    let tail_is : length items - ready.behind ≡ span.tail = omega (arith, made.tail) in
     let shift : IsShift old new span.head span.tail = rw (← made.head, ← tail_is) shift' in
     let good = good_of changes log kept.seed new held.game_is made.accepted made.game in
     let spaced : IsSpaced C.every C.places C.lines = c.places.ensures.spaced in
     let after = c.take_over-inverse.new.kept in
     let done = c.take_over-inverse.ensures in
-    let moved : apply_all (changes_of changed.edits.items) (game_of roomy.seed (log_of roomy.log.items)) ≡ apply_all changes old = rw (made.edits, same.seed, same.log) refl in
+    let moved : apply_all (changes_of ready.edits.items) (game_of roomy.seed (log_of roomy.log.items)) ≡ apply_all changes old = rw (made.edits, same.seed, same.log) refl in
     let game_is : game_of after.seed (log_of after.log.items) ≡ new = done.game ∙ moved ∙ sym made.game in
-    let stretch = stretch_same roomy.checkpoints C same.settings.1 same.places played.met in
+    let stretch = stretch_same roomy.checkpoints C same.lines same.places played.met in
     let from = ap (λ x. slice_index x at) same.places in
     rw game_is
     (kept_after g.M.Machine.meaning g.M.Machine.is_state rules old new span.head span.tail shift (text kept.opening) (map text kept.pieces.items) kept.ticked.items kept.state C held spaced at (option_map text c.in-Ok.replayed.opening) (map text played.pieces.items) played.ticked.items played.marks played.met made.replayed good (text after.opening) (map text after.pieces.items) after.ticked.items after.state after.checkpoints
@@ -117,7 +117,7 @@ returns-clause-kept g c =
     (ap (map text) done.pieces ∙ map-splice text roomy.pieces.items played.pieces.items (slice_index roomy.checkpoints.places at) _ ∙ rw (same.pieces, stretch, from) refl)
     (done.ticked ∙ rw (same.ticked, stretch, from) refl)
     (done.state ∙ rw same.state refl)
-    (done.settings.0 ∙ same.settings.0)
+    (done.settings.0 ∙ same.every)
     done.settings.1
     (done.places ∙ places_same roomy.checkpoints C same.places played.marks at played.met)
     (done.states ∙ states_same roomy.checkpoints C same.places same.states played.marks at played.met))
@@ -133,17 +133,17 @@ returns-clause-report g c =
     let C = kept.checkpoints in
     let held = c.requires.kept in
     let roomy = c.make_room.new.kept in
-    let same = c.make_room.ensures in
+    let same = c.make_room.ensures.same in
     let changes = changes_of c.args.edits.now in
-    let changed = c.in-Ok.replayed.changed in
+    let ready = c.in-Ok.replayed.ready in
     let played = c.in-Ok.replayed.played in
     let at = c.in-Ok.replayed.at in
     let made = c.in-Ok.ensures in
     let old = game_of kept.seed log in
-    let new = new_game changed log in
+    let new = new_game ready log in
     let span = span_of changes log in
-    let shift' : IsShift old new changed.head (length items - changed.behind) = shift_of changes items kept.seed changed made.accepted made.edits made.game made.head made.tail made.ordered in
-    let tail_is : length items - changed.behind ≡ span.tail = omega (arith, made.tail) in
+    let shift' : IsShift old new ready.head (length items - ready.behind) = shift_of changes items kept.seed ready made.accepted made.edits made.game made.head made.tail made.ordered in
+    let tail_is : length items - ready.behind ≡ span.tail = omega (arith, made.tail) in
     let shift : IsShift old new span.head span.tail = rw (← made.head, ← tail_is) shift' in
     let good = good_of changes log kept.seed new held.game_is made.accepted made.game in
     let spaced : IsSpaced C.every C.places C.lines = c.places.ensures.spaced in
@@ -162,15 +162,15 @@ make_room-requires-clause-passed g c =
     let C = kept.checkpoints in
     let held = c.requires.kept in
     let changes = changes_of c.args.edits.now in
-    let changed = c.in-Ok.replayed.changed in
+    let ready = c.in-Ok.replayed.ready in
     let played = c.in-Ok.replayed.played in
     let at = c.in-Ok.replayed.at in
     let made = c.in-Ok.ensures in
     let old = game_of kept.seed log in
-    let new = new_game changed log in
+    let new = new_game ready log in
     let span = span_of changes log in
-    let shift' : IsShift old new changed.head (length items - changed.behind) = shift_of changes items kept.seed changed made.accepted made.edits made.game made.head made.tail made.ordered in
-    let tail_is : length items - changed.behind ≡ span.tail = omega (arith, made.tail) in
+    let shift' : IsShift old new ready.head (length items - ready.behind) = shift_of changes items kept.seed ready made.accepted made.edits made.game made.head made.tail made.ordered in
+    let tail_is : length items - ready.behind ≡ span.tail = omega (arith, made.tail) in
     let shift : IsShift old new span.head span.tail = rw (← made.head, ← tail_is) shift' in
     let spaced : IsSpaced C.every C.places C.lines = c.places.ensures.spaced in
     (met_inside g.M.Machine.meaning g.M.Machine.is_state rules old new span.head span.tail shift (text kept.opening) (map text kept.pieces.items) kept.ticked.items kept.state C held spaced at (option_map text c.in-Ok.replayed.opening) (map text played.pieces.items) played.ticked.items played.marks played.met made.replayed).0
@@ -186,38 +186,38 @@ make_room-requires-clause-met g c =
     let C = kept.checkpoints in
     let held = c.requires.kept in
     let changes = changes_of c.args.edits.now in
-    let changed = c.in-Ok.replayed.changed in
+    let ready = c.in-Ok.replayed.ready in
     let played = c.in-Ok.replayed.played in
     let at = c.in-Ok.replayed.at in
     let made = c.in-Ok.ensures in
     let old = game_of kept.seed log in
-    let new = new_game changed log in
+    let new = new_game ready log in
     let span = span_of changes log in
-    let shift' : IsShift old new changed.head (length items - changed.behind) = shift_of changes items kept.seed changed made.accepted made.edits made.game made.head made.tail made.ordered in
-    let tail_is : length items - changed.behind ≡ span.tail = omega (arith, made.tail) in
+    let shift' : IsShift old new ready.head (length items - ready.behind) = shift_of changes items kept.seed ready made.accepted made.edits made.game made.head made.tail made.ordered in
+    let tail_is : length items - ready.behind ≡ span.tail = omega (arith, made.tail) in
     let shift : IsShift old new span.head span.tail = rw (← made.head, ← tail_is) shift' in
     let spaced : IsSpaced C.every C.places C.lines = c.places.ensures.spaced in
     (met_inside g.M.Machine.meaning g.M.Machine.is_state rules old new span.head span.tail shift (text kept.opening) (map text kept.pieces.items) kept.ticked.items kept.state C held spaced at (option_map text c.in-Ok.replayed.opening) (map text played.pieces.items) played.ticked.items played.marks played.met made.replayed).1
 
 pub take_over-inverse-requires-clause-room_marks : goal.take_over-inverse-requires-clause-room_marks
 take_over-inverse-requires-clause-room_marks g c =
-    room_ready c.make_room.new.kept.checkpoints c.args.kept.now.checkpoints c.make_room.ensures.places c.in-Ok.replayed.played.marks c.in-Ok.replayed.at c.in-Ok.replayed.played.met (search rules)
+    room_ready c.make_room.new.kept.checkpoints c.args.kept.now.checkpoints c.make_room.ensures.same.places c.in-Ok.replayed.played.marks c.in-Ok.replayed.at c.in-Ok.replayed.played.met (search rules)
 
 pub returns-clause-game : goal.returns-clause-game
 returns-clause-game g c =
-    let same = c.make_room.ensures in
+    let same = c.make_room.ensures.same in
     let made = c.in-Ok.ensures in
     c.take_over-inverse.ensures.game ∙ rw (made.edits, same.seed, same.log) refl
 
 pub returns-clause-inverse : goal.returns-clause-inverse
 returns-clause-inverse g c =
-    let same = c.make_room.ensures in
+    let same = c.make_room.ensures.same in
     let made = c.in-Ok.ensures in
     c.take_over-inverse.ensures.inverse ∙ rw (made.edits, same.seed, same.log) refl
 
 pub returns-clause-back : goal.returns-clause-back
 returns-clause-back g c =
-    let same = c.make_room.ensures in
+    let same = c.make_room.ensures.same in
     let made = c.in-Ok.ensures in
     let done = c.take_over-inverse.ensures in
     let changes = changes_of c.args.edits.now in
@@ -227,14 +227,14 @@ returns-clause-back g c =
 pub returns-clause-back_accepted : goal.returns-clause-back_accepted
 returns-clause-back_accepted g c =
     let held = c.requires.kept in
-    let same = c.make_room.ensures in
+    let same = c.make_room.ensures.same in
     let made = c.in-Ok.ensures in
     let done = c.take_over-inverse.ensures in
     let changes = changes_of c.args.edits.now in
     let old = game_of c.args.kept.now.seed (log_of c.args.kept.now.log.items) in
     let after = c.take_over-inverse.new.kept in
     let roomy = c.make_room.new.kept in
-    let moved : apply_all (changes_of c.in-Ok.replayed.changed.edits.items) (game_of roomy.seed (log_of roomy.log.items)) ≡ apply_all changes old = rw (made.edits, same.seed, same.log) refl in
+    let moved : apply_all (changes_of c.in-Ok.replayed.ready.edits.items) (game_of roomy.seed (log_of roomy.log.items)) ≡ apply_all changes old = rw (made.edits, same.seed, same.log) refl in
     let log_is : log_of after.log.items ≡ log_after_all changes old.log = ap (λ (x : Game). x.log) (done.game ∙ moved) ∙ log-apply_all changes old in
     let inverse : changes_of c.take_over-inverse.result.items ≡ inverses_of changes old = done.inverse ∙ rw (made.edits, same.seed, same.log) refl in
     let free = IsFree-from_none changes old.log 0 made.accepted in

@@ -2,7 +2,7 @@ use Rattle.std.proofs.Common.{◌≡◌, length, ap, ◌∙◌, arith}
 use Rattle.cave_replay.specs.Log.{log_of}
 use Rattle.cave_replay.specs.Play.{game_of}
 use Rattle.cave_replay.specs.Change.{changes_of, apply_all}
-use Rattle.cave_replay.specs.Changed.{new_game}
+use Rattle.cave_replay.specs.ReadyEdits.{new_game}
 use Rattle.cave_replay.specs.declared.span.Span.{Span}
 use Rattle.cave_replay.proofs.Inverses.{IsFree-from_none, game-apply_all, group_free, group_some}
 use Rattle.cave_replay.proofs.Lines.{length-log_of}
@@ -10,8 +10,8 @@ use Rattle.cave_replay.proofs.Prepared.{shift_of, good_of, room_of}
 use Rattle.cave_replay.proofs.Spans.{after_all_narrower, span_fits}
 use Rattle.cave_replay.proofs.replay.prepare.Goals as goal
 
-pub change-requires : goal.change-requires
-change-requires c =
+pub make_ready-requires : goal.make_ready-requires
+make_ready-requires c =
     let log = log_of c.args.log.now in
     let n = length-log_of c.args.log.now in
     let span = (c.in-Ok.ensures log n).2 in
@@ -29,54 +29,35 @@ returns-clause-accepted c =
 pub returns-clause-game : goal.returns-clause-game
 returns-clause-game c =
     let log = log_of c.args.log.now in
-    let made = c.in-Ok-change.ensures in
+    let made = c.in-Ok-make_ready.ensures in
     rw (made.edits, made.seed) (game-apply_all (changes_of c.args.edits.now) c.args.seed log)
 
-pub returns-clause-lines : goal.returns-clause-lines
-returns-clause-lines c =
-    let log = log_of c.args.log.now in
-    let made = c.in-Ok-change.ensures in
-    rw made.edits (made.lines ∙ (c.in-Ok.ensures log (length-log_of c.args.log.now)).1)
-
-pub returns-clause-ordered : goal.returns-clause-ordered
-returns-clause-ordered c =
-    let log = log_of c.args.log.now in
-    let n = length-log_of c.args.log.now in
-    let changes = changes_of c.args.edits.now in
-    let planned = c.in-Ok.ensures log n in
-    let fits = span_fits changes log (group_some changes log c.args.left planned.0) (IsFree-from_none changes log 0 (group_free changes log c.args.left planned.0).0) in
-    let head = c.in-Ok-change.ensures.head ∙ ap (λ (s : Span). s.head) planned.2 in
-    let behind = rw planned.2 at c.in-Ok-change.ensures.behind in
-    omega arith
-
-pub returns-clause-shift : goal.returns-clause-shift
-returns-clause-shift c =
+pub returns-clause-ready : goal.returns-clause-ready
+returns-clause-ready c =
     let log = log_of c.args.log.now in
     let n = length-log_of c.args.log.now in
     let changes = changes_of c.args.edits.now in
     let planned = c.in-Ok.ensures log n in
     let accepted = (group_free changes log c.args.left planned.0).0 in
     let fits = span_fits changes log (group_some changes log c.args.left planned.0) (IsFree-from_none changes log 0 accepted) in
-    let made = c.in-Ok-change.ensures in
+    let made = c.in-Ok-make_ready.ensures in
     let head = made.head ∙ ap (λ (s : Span). s.head) planned.2 in
     let behind = rw planned.2 at made.behind in
-    let game : new_game c.in-Ok-change.changed log ≡ apply_all changes (game_of c.args.seed log) = rw (made.edits, made.seed) (game-apply_all changes c.args.seed log) in
-    shift_of changes c.args.log.now c.args.seed c.in-Ok-change.changed accepted made.edits game head behind (omega arith)
-
-pub returns-clause-good : goal.returns-clause-good
-returns-clause-good c =
-    let log = log_of c.args.log.now in
-    let changes = changes_of c.args.edits.now in
-    let planned = c.in-Ok.ensures log (length-log_of c.args.log.now) in
-    let made = c.in-Ok-change.ensures in
-    let game : new_game c.in-Ok-change.changed log ≡ apply_all changes (game_of c.args.seed log) = rw (made.edits, made.seed) (game-apply_all changes c.args.seed log) in
-    good_of changes log c.args.seed _ c.requires.game (group_free changes log c.args.left planned.0).0 game
+    let game : new_game c.in-Ok-make_ready.ready log ≡ apply_all changes (game_of c.args.seed log) = rw (made.edits, made.seed) (game-apply_all changes c.args.seed log) in
+    record {
+      free = rw made.edits accepted;
+      lines = rw made.edits (made.lines ∙ planned.1);
+      ordered = omega arith;
+      within = omega arith;
+      shift = shift_of changes c.args.log.now c.args.seed c.in-Ok-make_ready.ready accepted made.edits game head behind (omega arith);
+      good = good_of changes log c.args.seed _ c.requires.game accepted game;
+    }
 
 pub returns-clause-room : goal.returns-clause-room
 returns-clause-room c =
     let log = log_of c.args.log.now in
     let changes = changes_of c.args.edits.now in
     let planned = c.in-Ok.ensures log (length-log_of c.args.log.now) in
-    let made = c.in-Ok-change.ensures in
-    let game : new_game c.in-Ok-change.changed log ≡ apply_all changes (game_of c.args.seed log) = rw (made.edits, made.seed) (game-apply_all changes c.args.seed log) in
+    let made = c.in-Ok-make_ready.ensures in
+    let game : new_game c.in-Ok-make_ready.ready log ≡ apply_all changes (game_of c.args.seed log) = rw (made.edits, made.seed) (game-apply_all changes c.args.seed log) in
     room_of changes log c.args.seed c.args.left _ planned.0 game

@@ -1,4 +1,4 @@
-use Rattle.std.proofs.Common.{Bool, take, count_by, map, ap, ◌∙◌, arith}
+use Rattle.std.proofs.Common.{take, count_by, map, ap, ◌∙◌, arith}
 use Rattle.cave_replay.specs.Log.{log_of}
 use Rattle.cave_replay.specs.Play.{game_of}
 use Rattle.cave_replay.proofs.Lines.{length-log_of}

@@ -1,9 +1,9 @@
 ghost use Rattle.std.specs.Prelude.{◌≡◌, ℕ, List, ◌+◌, ◌-◌, ◌^◌, ◌<◌, ◌≤◌, length, IfOk, IfSome, MatchOption, None};
 ghost use Rattle.cave_replay.specs.Log.{log_of};
 ghost use Rattle.cave_replay.specs.Play.{game_of};
-ghost use Rattle.cave_replay.specs.Change.{change_of, changes_of, own_line, line_at, log_after, seed_after_all};
+ghost use Rattle.cave_replay.specs.Change.{change_of, changes_of, own_line, line_at, log_after, seed_after_all, inserted_by_all};
 ghost use Rattle.cave_replay.specs.Faults.{fault_of, fault_of_all, log_after_all};
-ghost use Rattle.cave_replay.specs.Changed.{edited, new_game};
+ghost use Rattle.cave_replay.specs.ReadyEdits.{edited, new_game};
 ghost use Rattle.cave_replay.specs.Replay.{IsShift};
 ghost use Rattle.cave_replay.specs.declared.fault.TheConstants.{MOST_LINES};
 
@@ -16,7 +16,7 @@ use std::cmp::Ordering;
 /// Edits of a game that are accepted, copied and not made yet: the seed and the number of lines that they leave, and
 /// where the lines that they may change begin and end.
 #[derive(Drop)]
-pub(crate) struct Changed {
+pub(crate) struct ReadyEdits {
     pub(crate) seed: u32,
     pub(crate) lines: usize,
     pub(crate) head: usize,
@@ -38,22 +38,36 @@ fn seed_after(edits: &[Edit], seed: u32) -> u32
     last
 }
 
+/// How many lines the edits insert.
+pub(crate) fn lines_inserted(edits: &[Edit]) -> usize
+    ensures { result ≡ inserted_by_all (changes_of edits.now) }
+{
+    let mut lines = 0;
+    for edit in edits {
+        match edit {
+            Edit::Insert(_, _) => lines += 1,
+            Edit::Delete(_) | Edit::Replace(_, _) | Edit::Reseed(_) => {}
+        }
+    }
+    lines
+}
+
 /// The edits of a log of `lines` lines, which were planned, made ready.
-pub(crate) fn change(
+pub(crate) fn make_ready(
     alloc: Global,
     edits: &[Edit],
     lines: usize,
     seed: u32,
     plan: Plan,
-) -> Result<Changed, AllocError>
+) -> Result<ReadyEdits, AllocError>
     requires { plan.span.tail ≤ lines }
-    ensures edits { IfOk result (λ changed. changes_of changed.edits.items ≡ changes_of edits.now) }
-    ensures seed { IfOk result (λ changed. changed.seed ≡ seed_after_all (changes_of edits.now) seed) }
-    ensures lines { IfOk result (λ changed. changed.lines ≡ plan.lines) }
-    ensures head { IfOk result (λ changed. changed.head ≡ plan.span.head) }
-    ensures behind { IfOk result (λ changed. changed.behind + plan.span.tail ≡ lines) }
+    ensures edits { IfOk result (λ ready. changes_of ready.edits.items ≡ changes_of edits.now) }
+    ensures seed { IfOk result (λ ready. ready.seed ≡ seed_after_all (changes_of edits.now) seed) }
+    ensures lines { IfOk result (λ ready. ready.lines ≡ plan.lines) }
+    ensures head { IfOk result (λ ready. ready.head ≡ plan.span.head) }
+    ensures behind { IfOk result (λ ready. ready.behind + plan.span.tail ≡ lines) }
 {
-    Ok(Changed {
+    Ok(ReadyEdits {
         seed: seed_after(edits, seed),
         lines: plan.lines,
         head: plan.span.head,
@@ -122,7 +136,7 @@ fn line_after<'a>(edits: &'a [Edit], log: &'a [Vec<u8>], place: usize) -> &'a [u
     &log[source]
 }
 
-impl Changed {
+impl ReadyEdits {
     /// Where the lines behind the edits stand once these are made.
     pub(crate) fn rest(&self, log: &[Vec<u8>]) -> usize
         requires within { self.now.behind ≤ length log.now }

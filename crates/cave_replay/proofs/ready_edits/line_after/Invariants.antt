@@ -1,7 +1,7 @@
 use Rattle.std.proofs.Common.{◌+◌, ◌≤◌, length}
 use Rattle.cave_replay.specs.Log.{log_of}
 use Rattle.cave_replay.proofs.Traces.{IsTraced}
-use Rattle.cave_replay.proofs.change.line_after.Given as goal
+use Rattle.cave_replay.proofs.ready_edits.line_after.Given as goal
 
 abbrev pub invariant-loop-count : goal.invariant-loop-count
 invariant-loop-count l = record {

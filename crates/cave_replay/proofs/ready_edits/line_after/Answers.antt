@@ -4,7 +4,7 @@ use Rattle.cave_replay.specs.Change.{changes_of}
 use Rattle.cave_replay.specs.Faults.{log_after_all}
 use Rattle.cave_replay.proofs.Inverses.{IsFree-from_none}
 use Rattle.cave_replay.proofs.Traces.{IsTraced-start, IsTraced-last}
-use Rattle.cave_replay.proofs.change.line_after.Goals as goal
+use Rattle.cave_replay.proofs.ready_edits.line_after.Goals as goal
 
 pub loop-count-init : goal.loop-count-init
 loop-count-init c =

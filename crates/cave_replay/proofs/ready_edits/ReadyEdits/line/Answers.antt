@@ -1,9 +1,9 @@
 use Rattle.std.proofs.Common.{◌≡◌, ◌+◌, ◌-◌, ◌<◌, length, drop, ap, ◌∙◌, sym, arith}
 use Rattle.cave_replay.specs.Log.{log_of}
-use Rattle.cave_replay.specs.Changed.{edited}
+use Rattle.cave_replay.specs.ReadyEdits.{edited}
 use Rattle.cave_replay.proofs.Lines.{length-log_of, line_at-log_of}
 use Rattle.cave_replay.proofs.Edited.{line_in_front, line_in_rest}
-use Rattle.cave_replay.proofs.change.Changed.line.Goals as goal
+use Rattle.cave_replay.proofs.ready_edits.ReadyEdits.line.Goals as goal
 
 pub returns-then-place-self : goal.returns-then-place-self
 returns-then-place-self c =
