@@ -10,31 +10,37 @@ fn answer_to<'a>(alloc: Global, words: &'a [&'a str]) -> Result<Line<'a>, LineFa
     command_line(alloc, words)
 }
 
-/// The command of a line.
-fn command_of(line: &Line<'_>) -> &'static str {
-    match line {
-        Line::Check { .. } => "check",
-        Line::Play { .. } => "play",
-        Line::Edit { .. } => "edit",
-        Line::Text(_) => "text",
-    }
+/// What a command with its files says, and what stands behind them.
+fn files_shown(
+    alloc: Global,
+    command: &str,
+    files: &Files<'_>,
+    rest: &str,
+) -> Result<String, AllocError> {
+    let Files { cave, bind } = files;
+    format!(in alloc; "{command} {cave} {bind:?}{rest}")
 }
 
 /// What a line says.
 fn line_shown(alloc: Global, line: &Line<'_>) -> Result<String, AllocError> {
-    let (Files { cave, bind }, rest) = match line {
-        Line::Check { files } => (files, String::new(alloc)),
-        Line::Play { files, log, seed } => (files, format!(in alloc; " {log} {seed}")?),
+    match line {
+        Line::Check { files } => files_shown(alloc, "check", files, ""),
+        Line::Play { files, log, seed } => {
+            let rest = format!(in alloc; " {log} {seed}")?;
+            files_shown(alloc, "play", files, rest.as_str())
+        }
         Line::Edit {
             files,
             log,
             script,
             seed,
             every,
-        } => (files, format!(in alloc; " {log} {script} {seed} {every}")?),
-        Line::Text(error) => return format!(in alloc; "text {:?}", error.kind()),
-    };
-    format!(in alloc; "{} {cave} {bind:?}{rest}", command_of(line))
+        } => {
+            let rest = format!(in alloc; " {log} {script} {seed} {every}")?;
+            files_shown(alloc, "edit", files, rest.as_str())
+        }
+        Line::Text(error) => format!(in alloc; "text {:?}", error.kind()),
+    }
 }
 
 /// What a fault says, behind its status.
