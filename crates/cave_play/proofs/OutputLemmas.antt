@@ -1,5 +1,5 @@
 -- What a run writes is determined by the bytes of its inputs.
-use Rattle.std.proofs.Common.{◌≡◌, ℕ, List, Ok, sym, ap, ◌∙◌}
+use Rattle.std.proofs.Common.{◌≡◌, ℕ, List, sym, ap, ◌∙◌}
 use Rattle.std.specs.Str.Lines.{lines}
 use Rattle.cave_data.proofs.ReadLemmas.{same_cave}
 use Rattle.cave_replay.specs.Play.{game_of}
