@@ -1,12 +1,13 @@
-use Rattle.std.specs.Prelude.{◌≡◌, ℕ, ◌-◌, ◌≤◌, List, length, None}
+use Rattle.std.specs.Prelude.{◌≡◌, ℕ, ◌+◌, ◌-◌, ◌≤◌, List, length, None}
 use Rattle.std.specs.Global.{Vec}
 use Rattle.cave_replay.specs.declared.ready_edits.ReadyEdits.{ReadyEdits}
 use Rattle.cave_replay.specs.Rules.{Rules}
 use Rattle.cave_replay.specs.Log.{log_of}
 use Rattle.cave_replay.specs.Play.{Game, game_of}
+use Rattle.cave_replay.specs.Span.{span_of}
 use Rattle.cave_replay.specs.Held.{IsGame}
 use Rattle.cave_replay.specs.Replay.{Replay, IsShift}
-use Rattle.cave_replay.specs.Change.{changes_of}
+use Rattle.cave_replay.specs.Change.{Change, changes_of, apply_all}
 use Rattle.cave_replay.specs.Faults.{fault_of_all, log_after_all}
 
 -- a log once the edits are made
@@ -36,3 +37,13 @@ pub record IsReady (seed : ℕ) (log : List (Vec ℕ)) (ready : ReadyEdits) : Ty
   pub within : ready.behind ≤ length log
   pub shift : IsShift (game_of seed (log_of log)) (new_game ready (log_of log)) ready.head (length log - ready.behind)
   pub good : IsGame (new_game ready (log_of log))
+
+-- They are these changes of a game, which meet no fault and leave its new game; and `head` and `behind` bound the lines
+-- that the changes don't leave alone.
+pub record AreEditsOf (changes : List Change) (seed : ℕ) (log : List (Vec ℕ)) (ready : ReadyEdits) : Type 0 where
+  pub accepted : fault_of_all changes (log_of log) 0 ≡ None
+  pub edits : changes_of ready.edits.items ≡ changes
+  pub game : new_game ready (log_of log) ≡ apply_all changes (game_of seed (log_of log))
+  pub ordered : ready.head ≤ ready.behind
+  pub head : ready.head ≡ (span_of changes (log_of log)).head
+  pub tail : ready.behind + (span_of changes (log_of log)).tail ≡ length log

@@ -4,7 +4,7 @@ ghost use Rattle.cave_marks.specs.Marks.{IsBegunAt};
 ghost use Rattle.cave_replay.specs.Log.{log_of};
 ghost use Rattle.cave_replay.specs.Play.{game_of};
 ghost use Rattle.cave_replay.specs.Change.{changes_of, apply_all, inverses_of};
-ghost use Rattle.cave_replay.specs.ReadyEdits.{edited, new_game, IsReady};
+ghost use Rattle.cave_replay.specs.ReadyEdits.{edited, new_game, IsReady, AreEditsOf};
 ghost use Rattle.cave_replay.specs.Faults.{fault_of_all, group_fault, IsAnswerTo};
 ghost use Rattle.cave_replay.specs.Span.{span_of};
 ghost use Rattle.cave_replay.specs.Held.{IsGame};
@@ -77,12 +77,8 @@ fn prepare(
 ) -> Result<ReadyEdits, GroupFault>
     requires few { length edits.now < 2 ^ 32 }
     requires game { IsGame (game_of seed (log_of log.now)) }
-    ensures accepted { OnOk result (fault_of_all (changes_of edits.now) (log_of log.now) 0 ≡ None) }
     ensures none { OnOk result (group_fault (changes_of edits.now) (log_of log.now) left ≡ None) }
-    ensures game { IfOk result (λ ready. new_game ready (log_of log.now) ≡ apply_all (changes_of edits.now) (game_of seed (log_of log.now))) }
-    ensures edits { IfOk result (λ ready. changes_of ready.edits.items ≡ changes_of edits.now) }
-    ensures head { IfOk result (λ ready. ready.head ≡ (span_of (changes_of edits.now) (log_of log.now)).head) }
-    ensures tail { IfOk result (λ ready. ready.behind + (span_of (changes_of edits.now) (log_of log.now)).tail ≡ length log.now) }
+    ensures edits { IfOk result (λ ready. AreEditsOf (changes_of edits.now) seed log.now ready) }
     ensures ready { IfOk result (λ ready. IsReady seed log.now ready) }
     ensures room { IfOk result (λ ready. length (edited ready (log_of log.now)) ≤ left) }
     ensures faults { IsAnswerTo (group_fault (changes_of edits.now) (log_of log.now) left) result }
@@ -116,12 +112,7 @@ fn replay<M: Machine>(
 ) -> Result<Replayed<M>, GroupFault>
     requires few { length edits.now < 2 ^ 32 }
     requires kept { KeepsPlay M.meaning M.is_state M.text (M.rules machine.now) kept.now }
-    ensures accepted { OnOk result (fault_of_all (changes_of edits.now) (kept_game kept.now).log 0 ≡ None) }
-    ensures game { IfOk result (λ replayed. new_game replayed.ready (kept_game kept.now).log ≡ apply_all (changes_of edits.now) (kept_game kept.now)) }
-    ensures edits { IfOk result (λ replayed. changes_of replayed.ready.edits.items ≡ changes_of edits.now) }
-    ensures ordered { IfOk result (λ replayed. replayed.ready.head ≤ replayed.ready.behind) }
-    ensures head { IfOk result (λ replayed. replayed.ready.head ≡ (span_of (changes_of edits.now) (kept_game kept.now).log).head) }
-    ensures tail { IfOk result (λ replayed. replayed.ready.behind + (span_of (changes_of edits.now) (kept_game kept.now).log).tail ≡ length kept.now.log.items) }
+    ensures edits { IfOk result (λ replayed. AreEditsOf (changes_of edits.now) kept.now.seed kept.now.log.items replayed.ready) }
     ensures replayed { let game = kept_game kept.now in
         let span = span_of (changes_of edits.now) game.log in
         IfOk result (λ replayed. let played = replayed.played in

@@ -73,10 +73,10 @@ take_over-inverse-requires-clause-met g c =
     let old = game_of kept.seed log in
     let new = new_game ready log in
     let span = span_of changes log in
-    let shift' : IsShift old new ready.head (length items - ready.behind) = shift_of changes items kept.seed ready made.accepted made.edits made.game made.head made.tail made.ordered in
-    let tail_is : length items - ready.behind ≡ span.tail = omega (arith, made.tail) in
-    let shift : IsShift old new span.head span.tail = rw (← made.head, ← tail_is) shift' in
-    let good = good_of changes log kept.seed new held.game_is made.accepted made.game in
+    let shift' : IsShift old new ready.head (length items - ready.behind) = shift_of changes items kept.seed ready made.edits.accepted made.edits.edits made.edits.game made.edits.head made.edits.tail made.edits.ordered in
+    let tail_is : length items - ready.behind ≡ span.tail = omega (arith, made.edits.tail) in
+    let shift : IsShift old new span.head span.tail = rw (← made.edits.head, ← tail_is) shift' in
+    let good = good_of changes log kept.seed new held.game_is made.edits.accepted made.edits.game in
     let spaced : IsSpaced C.every C.places C.lines = c.places.ensures.spaced in
     met_ready g.M.Machine.meaning g.M.Machine.is_state rules old new span.head span.tail shift (text kept.opening) (map text kept.pieces.items) kept.ticked.items kept.state C held spaced at (option_map text c.in-Ok.replayed.opening) (map text played.pieces.items) played.ticked.items played.marks played.met made.replayed roomy.checkpoints same.lines same.places
 
@@ -100,15 +100,15 @@ returns-clause-kept g c =
     let old = game_of kept.seed log in
     let new = new_game ready log in
     let span = span_of changes log in
-    let shift' : IsShift old new ready.head (length items - ready.behind) = shift_of changes items kept.seed ready made.accepted made.edits made.game made.head made.tail made.ordered in
-    let tail_is : length items - ready.behind ≡ span.tail = omega (arith, made.tail) in
-    let shift : IsShift old new span.head span.tail = rw (← made.head, ← tail_is) shift' in
-    let good = good_of changes log kept.seed new held.game_is made.accepted made.game in
+    let shift' : IsShift old new ready.head (length items - ready.behind) = shift_of changes items kept.seed ready made.edits.accepted made.edits.edits made.edits.game made.edits.head made.edits.tail made.edits.ordered in
+    let tail_is : length items - ready.behind ≡ span.tail = omega (arith, made.edits.tail) in
+    let shift : IsShift old new span.head span.tail = rw (← made.edits.head, ← tail_is) shift' in
+    let good = good_of changes log kept.seed new held.game_is made.edits.accepted made.edits.game in
     let spaced : IsSpaced C.every C.places C.lines = c.places.ensures.spaced in
     let after = c.take_over-inverse.new.kept in
     let done = c.take_over-inverse.ensures in
-    let moved : apply_all (changes_of ready.edits.items) (game_of roomy.seed (log_of roomy.log.items)) ≡ apply_all changes old = rw (made.edits, same.seed, same.log) refl in
-    let game_is : game_of after.seed (log_of after.log.items) ≡ new = done.game ∙ moved ∙ sym made.game in
+    let moved : apply_all (changes_of ready.edits.items) (game_of roomy.seed (log_of roomy.log.items)) ≡ apply_all changes old = rw (made.edits.edits, same.seed, same.log) refl in
+    let game_is : game_of after.seed (log_of after.log.items) ≡ new = done.game ∙ moved ∙ sym made.edits.game in
     let stretch = stretch_same roomy.checkpoints C same.lines same.places played.met in
     let from = ap (λ x. slice_index x at) same.places in
     rw game_is
@@ -142,14 +142,14 @@ returns-clause-report g c =
     let old = game_of kept.seed log in
     let new = new_game ready log in
     let span = span_of changes log in
-    let shift' : IsShift old new ready.head (length items - ready.behind) = shift_of changes items kept.seed ready made.accepted made.edits made.game made.head made.tail made.ordered in
-    let tail_is : length items - ready.behind ≡ span.tail = omega (arith, made.tail) in
-    let shift : IsShift old new span.head span.tail = rw (← made.head, ← tail_is) shift' in
-    let good = good_of changes log kept.seed new held.game_is made.accepted made.game in
+    let shift' : IsShift old new ready.head (length items - ready.behind) = shift_of changes items kept.seed ready made.edits.accepted made.edits.edits made.edits.game made.edits.head made.edits.tail made.edits.ordered in
+    let tail_is : length items - ready.behind ≡ span.tail = omega (arith, made.edits.tail) in
+    let shift : IsShift old new span.head span.tail = rw (← made.edits.head, ← tail_is) shift' in
+    let good = good_of changes log kept.seed new held.game_is made.edits.accepted made.edits.game in
     let spaced : IsSpaced C.every C.places C.lines = c.places.ensures.spaced in
     let places = c.places.ensures.places in
     rw (places, c.met_place-met.ensures, c.next-end.ensures.next)
-    (report_after g.M.Machine.meaning g.M.Machine.is_state rules old new span.head span.tail shift (text kept.opening) (map text kept.pieces.items) kept.ticked.items kept.state C held spaced at (option_map text c.in-Ok.replayed.opening) (map text played.pieces.items) played.ticked.items played.marks changes made.game refl refl played.met made.replayed)
+    (report_after g.M.Machine.meaning g.M.Machine.is_state rules old new span.head span.tail shift (text kept.opening) (map text kept.pieces.items) kept.ticked.items kept.state C held spaced at (option_map text c.in-Ok.replayed.opening) (map text played.pieces.items) played.ticked.items played.marks changes made.edits.game refl refl played.met made.replayed)
 
 pub make_room-requires-clause-passed : goal.make_room-requires-clause-passed
 make_room-requires-clause-passed g c =
@@ -169,9 +169,9 @@ make_room-requires-clause-passed g c =
     let old = game_of kept.seed log in
     let new = new_game ready log in
     let span = span_of changes log in
-    let shift' : IsShift old new ready.head (length items - ready.behind) = shift_of changes items kept.seed ready made.accepted made.edits made.game made.head made.tail made.ordered in
-    let tail_is : length items - ready.behind ≡ span.tail = omega (arith, made.tail) in
-    let shift : IsShift old new span.head span.tail = rw (← made.head, ← tail_is) shift' in
+    let shift' : IsShift old new ready.head (length items - ready.behind) = shift_of changes items kept.seed ready made.edits.accepted made.edits.edits made.edits.game made.edits.head made.edits.tail made.edits.ordered in
+    let tail_is : length items - ready.behind ≡ span.tail = omega (arith, made.edits.tail) in
+    let shift : IsShift old new span.head span.tail = rw (← made.edits.head, ← tail_is) shift' in
     let spaced : IsSpaced C.every C.places C.lines = c.places.ensures.spaced in
     (met_inside g.M.Machine.meaning g.M.Machine.is_state rules old new span.head span.tail shift (text kept.opening) (map text kept.pieces.items) kept.ticked.items kept.state C held spaced at (option_map text c.in-Ok.replayed.opening) (map text played.pieces.items) played.ticked.items played.marks played.met made.replayed).0
 
@@ -193,9 +193,9 @@ make_room-requires-clause-met g c =
     let old = game_of kept.seed log in
     let new = new_game ready log in
     let span = span_of changes log in
-    let shift' : IsShift old new ready.head (length items - ready.behind) = shift_of changes items kept.seed ready made.accepted made.edits made.game made.head made.tail made.ordered in
-    let tail_is : length items - ready.behind ≡ span.tail = omega (arith, made.tail) in
-    let shift : IsShift old new span.head span.tail = rw (← made.head, ← tail_is) shift' in
+    let shift' : IsShift old new ready.head (length items - ready.behind) = shift_of changes items kept.seed ready made.edits.accepted made.edits.edits made.edits.game made.edits.head made.edits.tail made.edits.ordered in
+    let tail_is : length items - ready.behind ≡ span.tail = omega (arith, made.edits.tail) in
+    let shift : IsShift old new span.head span.tail = rw (← made.edits.head, ← tail_is) shift' in
     let spaced : IsSpaced C.every C.places C.lines = c.places.ensures.spaced in
     (met_inside g.M.Machine.meaning g.M.Machine.is_state rules old new span.head span.tail shift (text kept.opening) (map text kept.pieces.items) kept.ticked.items kept.state C held spaced at (option_map text c.in-Ok.replayed.opening) (map text played.pieces.items) played.ticked.items played.marks played.met made.replayed).1
 
@@ -207,13 +207,13 @@ pub returns-clause-game : goal.returns-clause-game
 returns-clause-game g c =
     let same = c.make_room.ensures.same in
     let made = c.in-Ok.ensures in
-    c.take_over-inverse.ensures.game ∙ rw (made.edits, same.seed, same.log) refl
+    c.take_over-inverse.ensures.game ∙ rw (made.edits.edits, same.seed, same.log) refl
 
 pub returns-clause-inverse : goal.returns-clause-inverse
 returns-clause-inverse g c =
     let same = c.make_room.ensures.same in
     let made = c.in-Ok.ensures in
-    c.take_over-inverse.ensures.inverse ∙ rw (made.edits, same.seed, same.log) refl
+    c.take_over-inverse.ensures.inverse ∙ rw (made.edits.edits, same.seed, same.log) refl
 
 pub returns-clause-back : goal.returns-clause-back
 returns-clause-back g c =
@@ -222,7 +222,7 @@ returns-clause-back g c =
     let done = c.take_over-inverse.ensures in
     let changes = changes_of c.args.edits.now in
     let old = game_of c.args.kept.now.seed (log_of c.args.kept.now.log.items) in
-    rw (done.inverse, done.game, made.edits, same.seed, same.log) (apply_all-inverses_of changes old (IsFree-from_none changes old.log 0 made.accepted))
+    rw (done.inverse, done.game, made.edits.edits, same.seed, same.log) (apply_all-inverses_of changes old (IsFree-from_none changes old.log 0 made.edits.accepted))
 
 pub returns-clause-back_accepted : goal.returns-clause-back_accepted
 returns-clause-back_accepted g c =
@@ -234,8 +234,8 @@ returns-clause-back_accepted g c =
     let old = game_of c.args.kept.now.seed (log_of c.args.kept.now.log.items) in
     let after = c.take_over-inverse.new.kept in
     let roomy = c.make_room.new.kept in
-    let moved : apply_all (changes_of c.in-Ok.replayed.ready.edits.items) (game_of roomy.seed (log_of roomy.log.items)) ≡ apply_all changes old = rw (made.edits, same.seed, same.log) refl in
+    let moved : apply_all (changes_of c.in-Ok.replayed.ready.edits.items) (game_of roomy.seed (log_of roomy.log.items)) ≡ apply_all changes old = rw (made.edits.edits, same.seed, same.log) refl in
     let log_is : log_of after.log.items ≡ log_after_all changes old.log = ap (λ (x : Game). x.log) (done.game ∙ moved) ∙ log-apply_all changes old in
-    let inverse : changes_of c.take_over-inverse.result.items ≡ inverses_of changes old = done.inverse ∙ rw (made.edits, same.seed, same.log) refl in
-    let free = IsFree-from_none changes old.log 0 made.accepted in
+    let inverse : changes_of c.take_over-inverse.result.items ≡ inverses_of changes old = done.inverse ∙ rw (made.edits.edits, same.seed, same.log) refl in
+    let free = IsFree-from_none changes old.log 0 made.edits.accepted in
     rw (inverse, log_is) (none_from_IsFree (inverses_of changes old) (log_after_all changes old.log) 0 (IsFree-inverses_of changes old held.game_is free))

@@ -21,16 +21,25 @@ make_ready-requires c =
 pub returns-clause-none : goal.returns-clause-none
 returns-clause-none c = (c.in-Ok.ensures (log_of c.args.log.now) (length-log_of c.args.log.now)).0
 
-pub returns-clause-accepted : goal.returns-clause-accepted
-returns-clause-accepted c =
+pub returns-clause-edits : goal.returns-clause-edits
+returns-clause-edits c =
     let log = log_of c.args.log.now in
-    (group_free (changes_of c.args.edits.now) log c.args.left (c.in-Ok.ensures log (length-log_of c.args.log.now)).0).0
-
-pub returns-clause-game : goal.returns-clause-game
-returns-clause-game c =
-    let log = log_of c.args.log.now in
+    let n = length-log_of c.args.log.now in
+    let changes = changes_of c.args.edits.now in
+    let planned = c.in-Ok.ensures log n in
+    let accepted = (group_free changes log c.args.left planned.0).0 in
+    let fits = span_fits changes log (group_some changes log c.args.left planned.0) (IsFree-from_none changes log 0 accepted) in
     let made = c.in-Ok-make_ready.ensures in
-    rw (made.edits, made.seed) (game-apply_all (changes_of c.args.edits.now) c.args.seed log)
+    let head = made.head ∙ ap (λ (s : Span). s.head) planned.2 in
+    let behind = rw planned.2 at made.behind in
+    record {
+      accepted = accepted;
+      edits = made.edits;
+      game = rw (made.edits, made.seed) (game-apply_all changes c.args.seed log);
+      ordered = omega arith;
+      head = head;
+      tail = behind;
+    }
 
 pub returns-clause-ready : goal.returns-clause-ready
 returns-clause-ready c =

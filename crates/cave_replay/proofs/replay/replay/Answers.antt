@@ -93,9 +93,9 @@ returns-in_default-play_changed-clause-bounded g c =
     let after : (k : ℕ) → c.last_to-at.result < k → k < length C.places → ready.head < slice_index C.places k = λ k later below. rw places at (c.last_to-at.ensures.after k later (rw places below)) in
     let left : 2 ^ 64 - 1 - g.M.Meter.Steps.count c.args.meter.now ≡ c.left-left.result = omega (arith, c.left-left.ensures) in
     let none = rw log_is at c.in-Ok.ensures.none in
-    let game = rw log_is at c.in-Ok.ensures.game in
-    let head = rw log_is at c.in-Ok.ensures.head in
-    let tail = rw log_is at c.in-Ok.ensures.tail in
+    let game = rw log_is at c.in-Ok.ensures.edits.game in
+    let head = rw log_is at c.in-Ok.ensures.edits.head in
+    let tail = rw log_is at c.in-Ok.ensures.edits.tail in
     let third = c.deref-2.ensures.value in
     rw left
     (steps_within rules (changes_of c.args.edits.now) old new ready.head (length items - ready.behind) C.every c.in-Ok-begin.beginning.marks.every _ (g.M.Meter.Steps.count c.args.meter.now) (g.M.Meter.Steps.count c.play_changed.new.meter)
@@ -120,9 +120,9 @@ returns-clause-bounded g c =
     let after : (k : ℕ) → c.last_to-at.result < k → k < length C.places → ready.head < slice_index C.places k = λ k later below. rw places at (c.last_to-at.ensures.after k later (rw places below)) in
     let left : 2 ^ 64 - 1 - g.M.Meter.Steps.count c.args.meter.now ≡ c.left-left.result = omega (arith, c.left-left.ensures) in
     let none = rw log_is at c.in-Ok.ensures.none in
-    let game = rw log_is at c.in-Ok.ensures.game in
-    let head = rw log_is at c.in-Ok.ensures.head in
-    let tail = rw log_is at c.in-Ok.ensures.tail in
+    let game = rw log_is at c.in-Ok.ensures.edits.game in
+    let head = rw log_is at c.in-Ok.ensures.edits.head in
+    let tail = rw log_is at c.in-Ok.ensures.edits.tail in
     let third = c.deref-2.ensures.value in
     rw left
     (steps_within rules (changes_of c.args.edits.now) old new ready.head (length items - ready.behind) C.every c.in-Ok-begin.beginning.marks.every _ (g.M.Meter.Steps.count c.args.meter.now) (g.M.Meter.Steps.count c.play_changed.new.meter)
@@ -145,8 +145,8 @@ returns-clause-replayed g c =
     let among : c.last_to-at.result < length C.places = rw places at c.last_to-at.ensures.within in
     let before : slice_index C.places c.last_to-at.result ≤ ready.head = rw places at (c.last_to-at.ensures.before c.last_to-at.result (omega arith)) in
     let after : (k : ℕ) → c.last_to-at.result < k → k < length C.places → ready.head < slice_index C.places k = λ k later below. rw places at (c.last_to-at.ensures.after k later (rw places below)) in
-    let head = rw log_is at c.in-Ok.ensures.head in
-    let tail_sum = rw log_is at c.in-Ok.ensures.tail in
+    let head = rw log_is at c.in-Ok.ensures.edits.head in
+    let tail_sum = rw log_is at c.in-Ok.ensures.edits.tail in
     let tail : length items - ready.behind ≡ (span_of (changes_of c.args.edits.now) log).tail = omega arith in
     let third = c.deref-2.ensures.value in
     let begun = c.in-Ok-begin.ensures in
