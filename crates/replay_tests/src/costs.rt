@@ -16,7 +16,12 @@ use std::test::Fail;
 const LENGTHS: [(usize, u32); 3] = [(600, 300), (6_000, 3_000), (60_000, 30_000)];
 
 /// How many lines one edit plays, how many states it compares, and how many pieces it copies.
-type Cost = (u64, u64, u64);
+#[derive(Clone, Copy, Debug, PartialEq)]
+struct Cost {
+    played: u64,
+    compared: u64,
+    copied: u64,
+}
 
 /// Inserts a line. Tells where the plays met.
 fn insert<R: Rule>(
@@ -44,17 +49,25 @@ fn cost_of_an_insert<R: Rule>(
     assert!(rt; session.checkpoints().contains(&at));
     let (steps, comparisons) = (counts.steps(), counts.comparisons());
     let met = insert(alloc, &mut session, at, line)?;
-    let played = counts.steps().saturating_sub(steps);
-    let compared = counts.comparisons().saturating_sub(comparisons);
+    let cost = Cost {
+        played: counts.steps().saturating_sub(steps),
+        compared: counts.comparisons().saturating_sub(comparisons),
+        copied: counts.copies(),
+    };
     drop(session);
-    Ok(((played, compared, counts.copies()), met))
+    Ok((cost, met))
 }
 
 #[test]
 fn an_edit_that_is_met_after_a_line_plays_a_line(rt: HostRuntime) -> Result<(), Fail> {
     for (lines, at) in LENGTHS {
         let (cost, met) = cost_of_an_insert(&rt, rt.alloc(), Counter, lines, at, b"b")?;
-        assert_eq!(rt; cost, (1, 1, 0), "{lines}");
+        let wanted = Cost {
+            played: 1,
+            compared: 1,
+            copied: 0,
+        };
+        assert_eq!(rt; cost, wanted, "{lines}");
         assert_eq!(rt; met, Some(at.saturating_add(1)));
     }
     Ok(())
@@ -64,7 +77,12 @@ fn an_edit_that_is_met_after_a_line_plays_a_line(rt: HostRuntime) -> Result<(), 
 fn an_edit_that_is_met_at_the_next_checkpoint_plays_up_to_it(rt: HostRuntime) -> Result<(), Fail> {
     for (lines, at) in LENGTHS {
         let (cost, met) = cost_of_an_insert(&rt, rt.alloc(), Counter, lines, at, b"bb")?;
-        assert_eq!(rt; cost, (51, 2, 0), "{lines}");
+        let wanted = Cost {
+            played: 51,
+            compared: 2,
+            copied: 0,
+        };
+        assert_eq!(rt; cost, wanted, "{lines}");
         assert_eq!(rt; met, Some(at.saturating_add(51)));
     }
     Ok(())
@@ -75,7 +93,11 @@ fn an_edit_that_is_never_met_plays_to_the_end(rt: HostRuntime) -> Result<(), Fai
     for (lines, at) in LENGTHS {
         let (cost, met) = cost_of_an_insert(&rt, rt.alloc(), Hasher, lines, at, b"b")?;
         let behind = (lines as u64).saturating_sub(u64::from(at));
-        let wanted = (behind.saturating_add(1), behind / 50, 0);
+        let wanted = Cost {
+            played: behind.saturating_add(1),
+            compared: behind / 50,
+            copied: 0,
+        };
         assert_eq!(rt; cost, wanted, "{lines}");
         assert_eq!(rt; met, None);
     }

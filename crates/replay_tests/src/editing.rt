@@ -65,18 +65,23 @@ fn an_inserted_line_moves_those_behind_it(rt: HostRuntime) -> Result<(), Fail> {
     Ok(())
 }
 
+/// Deletes the first line of three, and then the last. No other stands behind the one that is left.
+fn delete_two(rt: &impl Abort, alloc: Global, session: &mut Counting<'_>) -> Result<(), Fail> {
+    let edits = [
+        (Change::Delete(0), (0, Some(1), 1), Change::Insert(0, b"a")),
+        (Change::Delete(1), (1, None, 0), Change::Insert(1, b"aaa")),
+    ];
+    expect_edits(rt, alloc, session, &edits)?;
+    let (gone, nowhere) = (Change::Delete(1), EditFault::NoSuchPlace);
+    expect_refused(rt, alloc, session, gone, 9, nowhere)
+}
+
 #[test]
 fn a_deleted_line_moves_those_behind_it(rt: HostRuntime) -> Result<(), Fail> {
     let alloc = rt.alloc();
     let counts = Counts::new();
     let mut session = open(&rt, alloc, Counter, &counts, 0, b"a\naa\naaa\n", 1)?;
-    let edits = [
-        (Change::Delete(0), (0, Some(1), 1), Change::Insert(0, b"a")),
-        (Change::Delete(1), (1, None, 0), Change::Insert(1, b"aaa")),
-    ];
-    expect_edits(&rt, alloc, &mut session, &edits)?;
-    let (gone, nowhere) = (Change::Delete(1), EditFault::NoSuchPlace);
-    expect_refused(&rt, alloc, &mut session, gone, 9, nowhere)?;
+    delete_two(&rt, alloc, &mut session)?;
     let (last, only) = (Change::Delete(0), Change::Insert(0, b"aa"));
     expect_edit(&rt, alloc, &mut session, last, (0, None, 0), only)?;
     assert_eq!(rt; session.checkpoints(), [0].as_slice());

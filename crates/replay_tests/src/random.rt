@@ -59,25 +59,36 @@ fn make<R: Rule>(
     }
 }
 
-/// That a report says what plain code says of the two plays.
-fn expect_report(
-    rt: &impl Abort,
-    report: &GroupReport,
-    places: &[u32],
-    every: u32,
-    old: &Plain,
-    new: &Plain,
+/// What is known before a group is made: the plain game, where checkpoints stand and how far apart they may be, and what
+/// the group does to the log.
+#[derive(Clone, Copy)]
+struct Before<'a> {
+    plain: &'a Plain,
+    places: &'a [u32],
+    every: usize,
     plan: Plan,
-) {
+}
+
+/// That a report says what plain code says of the two plays.
+fn expect_report(rt: &impl Abort, report: &GroupReport, before: Before<'_>, new: &Plain) {
+    let Before {
+        plain,
+        places,
+        every,
+        plan,
+    } = before;
     let (lines, first) = (new.lines.len(), from(places, plan));
     assert_eq!(rt; lines, plan.lines);
     assert_eq!(rt; report.from, first);
-    let place = met(places, old, new, plan);
-    assert_eq!(rt; report.met.map(|place| place as usize), place);
+    let place = met(places, plain, new, plan);
+    assert!(rt;
+        report.met.map(|place| place as usize) == place,
+        "{report:?}"
+    );
     let played = place.unwrap_or(lines).saturating_sub(first as usize);
     assert_eq!(rt; report.played as usize, played);
-    let distance = agree(old, new, plan).saturating_sub(plan.head);
-    assert!(rt; played <= distance.saturating_add((every as usize).saturating_mul(2)));
+    let distance = agree(plain, new, plan).saturating_sub(plan.head);
+    assert!(rt; played <= distance.saturating_add(every.saturating_mul(2)));
 }
 
 /// What a group comes to: the plain game then, what takes the group back, and why it was refused, if it was.
@@ -105,15 +116,18 @@ fn make_counted<R: Rule>(
     Ok((answer, played))
 }
 
-/// What a made group comes to, whose inverse takes it back in the plain game.
-fn outcome_of<R: Rule>(
+/// What a made group comes to, which is reported as plain code says and taken back by its inverse.
+fn expect_made<R: Rule>(
     rt: &impl Abort,
     alloc: Global,
-    old: &Plain,
-    new: Plain,
-    back: Vec<Edit>,
+    before: Before<'_>,
+    edits: &[Edit],
+    report: GroupReport,
 ) -> Result<Outcome, Fail> {
-    assert!(rt; new.edited::<R>(rt, alloc, &back)?.is(old));
+    let new = before.plain.edited::<R>(rt, alloc, edits)?;
+    expect_report(rt, &report, before, &new);
+    let back = report.inverse;
+    assert!(rt; new.edited::<R>(rt, alloc, &back)?.is(before.plain));
     Ok(Outcome {
         plain: new,
         back,
@@ -134,24 +148,30 @@ fn edit_both<R: Rule>(
     let places = Vec::from_slice(alloc, session.checkpoints())?;
     let wanted = make_plan(edits, old.lines.len(), left);
     let (answer, played) = make_counted(rt, alloc, session, counts, edits, left)?;
-    match (answer, wanted) {
-        (Ok(report), Ok(plan)) => {
+    match answer {
+        Ok(report) => {
             assert_eq!(rt; u64::from(report.played), played);
-            let new = old.edited::<R>(rt, alloc, edits)?;
-            expect_report(rt, &report, &places, session.every(), &old, &new, plan);
-            outcome_of::<R>(rt, alloc, &old, new, report.inverse)
+            let Ok(plan) = wanted else {
+                panic!(rt; "answered {report:?}");
+            };
+            let before = Before {
+                plain: &old,
+                places: &places,
+                every: session.every() as usize,
+                plan,
+            };
+            expect_made::<R>(rt, alloc, before, edits, report)
         }
-        (Err(fault), Err(wanted)) => {
-            assert_eq!(rt; fault, wanted);
+        Err(fault) => {
+            assert!(rt; wanted.err() == Some(fault), "{fault:?}");
             assert_eq!(rt; played, 0);
-            assert_eq!(rt; session.checkpoints(), places.as_slice());
+            assert!(rt; session.checkpoints() == places.as_slice(), "{fault:?}");
             Ok(Outcome {
                 plain: old,
                 back: Vec::new(alloc),
                 refused: Some(fault.cause),
             })
         }
-        (answer, _) => panic!(rt; "answered {answer:?}"),
     }
 }
 

@@ -57,8 +57,8 @@ pub(crate) fn expect_edit<R: Rule>(
     let mut meter = Meter::new();
     let report = session.edit(&change.edit(alloc)?, &mut meter)?;
     let found = (report.from, report.met, report.played);
-    assert!(rt; is_replay(found, replay), "{change:?}: {report:?}");
-    assert!(rt; inverse.is(&report.inverse), "{report:?}");
+    assert!(rt; is_replay(found, replay), "{change:?}");
+    assert!(rt; inverse.is(&report.inverse), "{change:?}");
     assert_eq!(rt; meter.used(), u64::from(report.played));
     Ok(())
 }
@@ -88,8 +88,8 @@ pub(crate) fn expect_group<R: Rule>(
     let mut meter = Meter::new();
     let report = session.edit_group(rt, &edits_of(alloc, changes)?, &mut meter)?;
     let found = (report.from, report.met, report.played);
-    assert!(rt; is_replay(found, replay), "{changes:?}: {report:?}");
-    assert!(rt; are(&report.inverse, inverse), "{report:?}");
+    assert!(rt; is_replay(found, replay), "{changes:?}");
+    assert!(rt; are(&report.inverse, inverse), "{changes:?}");
     assert_eq!(rt; meter.used(), u64::from(report.played));
     Ok(())
 }
@@ -189,6 +189,6 @@ pub(crate) fn expect_ticks<R: Rule>(
         place = place.saturating_add(1);
     }
     let counts = session.tick_counts(alloc)?;
-    assert_eq!(rt; counts.as_slice(), behind_first(ticks));
+    assert!(rt; counts.as_slice() == behind_first(ticks));
     Ok(())
 }
