@@ -22,7 +22,7 @@
 //! | `last_to`, `first_from` | a binary search |
 //! | `Checkpoints::marks` | two states copied |
 //! | `Marks::offer` | a comparison, and a state copied where it is kept; room doubles as it runs out |
-//! | `meet`, `replace_from` | a block move of the checkpoints behind the edit; a pass over their places where the length changed |
+//! | `meet`, `replace_from` | a `splice` of the checkpoints that were passed; a pass over the places behind them where the length changed |
 //! | `splice` | the stretch item by item; where its length changes, one turn of it and the items behind it by the difference |
 //!
 //! A turn by one item, or by at most 4,096 bytes, is a block move; by more it exchanges items.

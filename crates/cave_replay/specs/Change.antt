@@ -38,13 +38,14 @@ own_line (deletes at) = []
 own_line (replaces at line) = line
 own_line (reseeds seed) = []
 
--- how many lines changes insert
+-- how many lines a change inserts
 abbrev pub inserted : Change → ℕ
 inserted (inserts at line) = 1
 inserted (deletes at) = 0
 inserted (replaces at line) = 0
 inserted (reseeds seed) = 0
 
+-- how many lines changes insert, all together
 abbrev pub inserted_by_all : List Change → ℕ
 inserted_by_all [] = 0
 inserted_by_all (change ∷ changes) = inserted change + inserted_by_all changes

@@ -10,7 +10,8 @@ use Rattle.cave_replay.specs.Held.{IsKept}
 abbrev pub kept_game : {Machine State Piece Meter : Type 0} → Kept Machine State Piece Meter → Game
 kept_game kept = game_of kept.seed (log_of kept.log.items)
 
--- What is kept is the play of the game that is kept, with the states at its checkpoints.
+-- What is kept is the play of the game that is kept, with the states at its checkpoints; the game and their distance are
+-- allowed ones.
 abbrev pub KeepsPlay : {Machine State Piece Meter Meaning Text : Type 0} → (State → Meaning) → (State → Type 0) → (Piece → Text) → Rules Meaning Text → Kept Machine State Piece Meter → Type 0
 KeepsPlay meaning is_state text rules kept =
     IsKept meaning is_state rules (kept_game kept) (text kept.opening) (map text kept.pieces.items) kept.ticked.items kept.state kept.checkpoints

@@ -29,7 +29,8 @@ replay_of rules seed log ready = record {
 }
 
 -- The edits may be made in a game: they meet no fault, and leave a game that may be held, of so many lines. Its lines before
--- `head` are those of the log, and its last lines are those that stand in the log from `behind` on.
+-- `head` are those of the log, and its last lines are those that stand in the log from `behind` on; with another seed
+-- `head` is 0.
 pub record IsReady (seed : ℕ) (log : List (Vec ℕ)) (ready : ReadyEdits) : Type 0 where
   pub free : fault_of_all (changes_of ready.edits.items) (log_of log) 0 ≡ None
   pub lines : ready.lines ≡ length (edited ready (log_of log))

@@ -20,8 +20,8 @@ texts_at rules game place = texts_of rules (rules.begun game.seed) (take place g
 abbrev pub ticks_at : {S T : Type 0} → Rules S T → Game → ℕ → List Bool
 ticks_at rules game place = ticks_of rules (rules.begun game.seed) (take place game.log)
 
--- What is played again: a new game, where the play of an old one is held. The logs begin with the same `head` lines, and
--- end with the same `tail` lines.
+-- What is played again: a new game, where the play of an old one is held. The first `head` lines and the last `tail` lines
+-- are those that an edit leaves as they are.
 pub record Replay (S T : Type 0) : Type 0 where
   pub rules : Rules S T
   pub old : Game
@@ -38,11 +38,11 @@ abbrev pub TicksNew : {S T : Type 0} → Replay S T → ℕ → List Bool → �
 TicksNew replay from ticks to = ticks_at replay.rules replay.new from ++ ticks ≡ ticks_at replay.rules replay.new to
 
 -- the states of the old play and of the new one, by their places
-abbrev pub old_states : {S T : Type 0} → Replay S T → ℕ → S
-old_states replay = state_at replay.rules replay.old
+abbrev pub states_of_old : {S T : Type 0} → Replay S T → ℕ → S
+states_of_old replay = state_at replay.rules replay.old
 
-abbrev pub new_states : {S T : Type 0} → Replay S T → ℕ → S
-new_states replay = state_at replay.rules replay.new
+abbrev pub states_of_new : {S T : Type 0} → Replay S T → ℕ → S
+states_of_new replay = state_at replay.rules replay.new
 
 -- At the place `next` the new play met the old one at the checkpoint of the index `met`; or it met it nowhere, and `next`
 -- is the end.

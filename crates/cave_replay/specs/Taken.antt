@@ -23,8 +23,8 @@ abbrev pub passed : {S : Type 0} → Spaced S → Option ℕ → ℕ
 passed checkpoints None = length checkpoints.places
 passed checkpoints (Some index) = index
 
--- There is room for the checkpoints that the marks of a replay from the one of the index `at` leave, where those that
--- it passed go.
+-- There is room for the checkpoints that the marks of a replay from the one of the index `at` leave, where those go that
+-- it passed: they are those before the index `count`.
 abbrev pub HasRoom : {S : Type 0} → Spaced S → Thinned S → ℕ → ℕ → Type 0
 HasRoom checkpoints marks at count = length checkpoints.places + length marks.places + (at - 1) ≤ checkpoints.room + count
 

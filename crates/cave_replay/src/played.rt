@@ -2,7 +2,7 @@ ghost use Rattle.std.specs.Prelude.{◌≡◌, ℕ, ◌+◌, ◌-◌, ◌^◌, �
 ghost use Rattle.cave_words.specs.Line.{is_line};
 ghost use Rattle.cave_replay.specs.Log.{log_of};
 ghost use Rattle.cave_replay.specs.ReadyEdits.{edited, replay_of, IsReady};
-ghost use Rattle.cave_replay.specs.Replay.{AreStates, IsMarking, StandsAndAgrees, Passes, SaysNew, TicksNew, old_states, new_states, HasMet, NoneMetBefore, IsWithinBound};
+ghost use Rattle.cave_replay.specs.Replay.{AreStates, IsMarking, StandsAndAgrees, Passes, SaysNew, TicksNew, states_of_old, states_of_new, HasMet, NoneMetBefore, IsWithinBound};
 ghost use Rattle.cave_replay.specs.declared.fault.TheConstants.{MOST_LINES};
 
 use crate::machine::Machine;
@@ -112,9 +112,9 @@ pub(crate) fn play_changed<M: Machine>(
     requires few { length log.now ≤ MOST_LINES }
     requires old_lines { checkpoints.now.lines ≡ length log.now }
     requires old_states { let replay = replay_of (M.rules machine.now) seed log.now ready.now in
-        AreStates M.meaning M.is_state (old_states replay) checkpoints.now.places checkpoints.now.states }
+        AreStates M.meaning M.is_state (states_of_old replay) checkpoints.now.places checkpoints.now.states }
     requires marking { let replay = replay_of (M.rules machine.now) seed log.now ready.now in
-        IsMarking M.meaning M.is_state (new_states replay) marks }
+        IsMarking M.meaning M.is_state (states_of_new replay) marks }
     requires end { marks.end ≡ length (edited ready.now (log_of log.now)) }
     requires every { marks.every ≡ checkpoints.now.every }
     requires apart { 0 < marks.every }
@@ -126,7 +126,7 @@ pub(crate) fn play_changed<M: Machine>(
     ensures ticks { let replay = replay_of (M.rules machine.now) seed log.now ready.now in
         IfOk result (λ played. TicksNew replay marks.next played.ticked.items played.marks.next) }
     ensures marking { let replay = replay_of (M.rules machine.now) seed log.now ready.now in
-        IfOk result (λ played. IsMarking M.meaning M.is_state (new_states replay) played.marks) }
+        IfOk result (λ played. IsMarking M.meaning M.is_state (states_of_new replay) played.marks) }
     ensures settings { IfOk result (λ played. (played.marks.every ≡ marks.every) × (played.marks.end ≡ marks.end) × (played.marks.from ≡ marks.from) × (slice_index played.marks.places 0 ≡ slice_index marks.places 0)) }
     ensures forward { IfOk result (λ played. (marks.next ≤ played.marks.next) × (played.marks.next ≤ marks.end)) }
     ensures met { let replay = replay_of (M.rules machine.now) seed log.now ready.now in

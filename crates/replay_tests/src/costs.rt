@@ -12,7 +12,7 @@ use std::alloc::Global;
 use std::process::Abort;
 use std::test::Fail;
 
-/// The place in the middle of a long log that is a checkpoint.
+/// How many lines a log has, and the place in its middle that is a checkpoint.
 const LENGTHS: [(usize, u32); 3] = [(600, 300), (6_000, 3_000), (60_000, 30_000)];
 
 /// How many lines one edit plays, how many states it compares, and how many pieces it copies.

@@ -51,7 +51,11 @@ const TEXTS: [(EditFault, &str, &str); 7] = [
         "the meter has fewer steps left than the log would have lines",
         "the meter has fewer steps left than the log would have lines",
     ),
-    (EditFault::Memory, "there isn't enough memory", "there isn't enough memory"),
+    (
+        EditFault::Memory,
+        "there isn't enough memory",
+        "there isn't enough memory",
+    ),
     (
         EditFault::EmptyGroup,
         "the group has no edit",
