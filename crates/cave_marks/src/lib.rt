@@ -25,7 +25,7 @@
 //! | `meet`, `replace_from` | a `splice` of the checkpoints that were passed; a pass over the places behind them where the length changed |
 //! | `splice` | the stretch item by item; where its length changes, one turn of it and the items behind it by the difference |
 //!
-//! A turn by one item, or by at most 4,096 bytes, is a block move; by more it exchanges items.
+//! A turn is a block move where either side of it is one item or has at most 4,096 bytes; else it exchanges items.
 //!
 //! None of these takes memory but `Checkpoints::marks`, `offer`, `reserve`, and what makes or copies a list.
 #![tactic(auto)]
