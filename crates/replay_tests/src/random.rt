@@ -81,10 +81,7 @@ fn expect_report(rt: &impl Abort, report: &GroupReport, before: Before<'_>, new:
     assert_eq!(rt; lines, plan.lines);
     assert_eq!(rt; report.from, first);
     let place = met(places, plain, new, plan);
-    assert!(rt;
-        report.met.map(|place| place as usize) == place,
-        "{report:?}"
-    );
+    assert_eq!(rt; report.met.map(|place| place as usize), place);
     let played = place.unwrap_or(lines).saturating_sub(first as usize);
     assert_eq!(rt; report.played as usize, played);
     let distance = agree(plain, new, plan).saturating_sub(plan.head);

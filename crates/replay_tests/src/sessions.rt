@@ -5,7 +5,7 @@ use crate::machines::counter::Counter;
 use crate::machines::counts::Counts;
 use crate::machines::rule::Rule;
 use crate::play::{Counting, Play};
-use cave_replay::{EditFault, GroupFault};
+use cave_replay::{EditFault, GroupFault, Report};
 use cave_words::{Meter, Steps};
 use std::alloc::{AllocError, Global};
 use std::process::Abort;
@@ -45,6 +45,12 @@ pub(crate) fn is_replay(found: Replay, wanted: Replay) -> bool {
     found.0 == wanted.0 && found.1 == wanted.1 && found.2 == wanted.2
 }
 
+/// Whether a report tells this replay and this inverse.
+fn is_answer(report: &Report, replay: Replay, inverse: Change<'_>) -> bool {
+    let found = (report.from, report.met, report.played);
+    is_replay(found, replay) && inverse.is(&report.inverse)
+}
+
 /// That an edit is answered by this replay and taken back by the inverse.
 pub(crate) fn expect_edit<R: Rule>(
     rt: &impl Abort,
@@ -56,9 +62,7 @@ pub(crate) fn expect_edit<R: Rule>(
 ) -> Result<(), Fail> {
     let mut meter = Meter::new();
     let report = session.edit(&change.edit(alloc)?, &mut meter)?;
-    let found = (report.from, report.met, report.played);
-    assert!(rt; is_replay(found, replay), "{change:?}");
-    assert!(rt; inverse.is(&report.inverse), "{change:?}");
+    assert!(rt; is_answer(&report, replay, inverse), "{change:?}");
     assert_eq!(rt; meter.used(), u64::from(report.played));
     Ok(())
 }
