@@ -15,7 +15,7 @@ use Rattle.cave_world.specs.declared.object.Half.TheVariants.{First, Second}
 use Rattle.cave_world.specs.declared.spot.Anchor.{Anchor}
 use Rattle.cave_world.specs.declared.spot.Anchor.TheVariants as anchor
 use Rattle.cave_world.specs.declared.state.State.{State}
-use Rattle.cave_turn.specs.Places.{place_named, place_or, start_place}
+use Rattle.cave_things.specs.Places.{place_named, place_or, start_place}
 
 -- where an object stands as the game begins
 abbrev pub home : CaveView → ℕ → ℕ

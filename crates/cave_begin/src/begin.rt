@@ -1,11 +1,11 @@
 ghost use Rattle.std.specs.Prelude.{◌≡◌, ℕ, ◌≤◌, ◌≤ℤ◌, length, pos};
 ghost use Rattle.cave_world.specs.Lists.{halves_at};
 ghost use Rattle.cave_world.specs.Objects.{moved, anchored, unplaced};
-ghost use Rattle.cave_turn.specs.Begin.{anchor_by, is_due, objects_due, known_treasures, begun_objects, dwarf_of, dwarves_placed, start_list, begun_state};
-ghost use Rattle.cave_turn.specs.Placing.{all_placed, all_hidden};
+ghost use Rattle.cave_begin.specs.Begin.{anchor_by, is_due, objects_due, known_treasures, begun_objects, dwarf_of, dwarves_placed, start_list, begun_state};
+ghost use Rattle.cave_begin.specs.Placing.{all_placed, all_hidden};
 
-use crate::places::{place_named, place_or, start_place};
 use cave_data::{Cave, PlaceRole};
+use cave_things::places::{place_named, place_or, start_place};
 use cave_words::Stream;
 use cave_world::{Anchor, Count, Dwarf, Object, Objects, Place, Prop, State};
 

@@ -3,14 +3,15 @@ use Rattle.std.specs.Prelude.{ℕ, pos, Bool, true, false, ◌==◌, ◌&&◌, �
 use Rattle.std.specs.List.{list_any}
 use Rattle.cave_data.specs.CaveView.{CaveView}
 use Rattle.cave_data.specs.declared.role.Role.TheVariants as role
-use Rattle.cave_world.specs.Sight.{is_forced, has_condition}
+use Rattle.cave_world.specs.Sight.{is_forced}
 use Rattle.cave_world.specs.declared.dwarves.Dwarf.{Dwarf}
 use Rattle.cave_world.specs.declared.state.State.{State}
-use Rattle.cave_turn.specs.declared.names.Names.{Names}
-use Rattle.cave_turn.specs.Description.{described, text_told}
-use Rattle.cave_turn.specs.Journeys.{Journey, set_forth, staying}
-use Rattle.cave_turn.specs.Places.{outside_place}
-use Rattle.cave_turn.specs.Plays.{Scene, saying, with_state, with_left, standing, dies}
+use Rattle.cave_things.specs.Conditions.{has}
+use Rattle.cave_things.specs.Places.{outside_place}
+use Rattle.cave_things.specs.declared.conditions.Condition.TheVariants.{NoPirate}
+use Rattle.cave_moves.specs.Description.{Showing, seen_here}
+use Rattle.cave_moves.specs.Journeys.{Journey, set_forth, staying}
+use Rattle.cave_moves.specs.Plays.{Scene, saying, with_state, with_left, standing, dies}
 
 -- a cave that is closing has no way out
 unfoldable pub is_shut : CaveView → ℕ → State → Bool
@@ -34,41 +35,36 @@ comes_from new dwarf = dwarf.has_seen && dwarf.last == new
 -- a dwarf, and not the pirate, bars the way to another place
 unfoldable pub is_barred : CaveView → ℕ → State → Bool
 is_barred cave new s =
-    not (new == s.trail.here) && not (is_forced cave s.trail.here) && not (has_condition cave s.trail.here 3)
-    && list_any (comes_from new) (take 5 s.dwarves.each)
+    not (new == s.trail.here) && not (is_forced cave s.trail.here)
+    && not (has cave s.trail.here NoPirate) && list_any (comes_from new) (take 5 s.dwarves.each)
 
 unfoldable pub held_back : CaveView → ℕ → Scene → Journey
 held_back cave new p = if is_barred cave new p.state then staying (saying role.Blocked p) else record { place = new; scene = p }
 
--- whether the player is carried on from a place, and what was told there
-pub record Showing : Type 0 where
-  pub is_carried_on : Bool
-  pub scene : Scene
-
--- the player comes to a place: who comes to 0 is dead, and of a place that carries on the text alone is told
-unfoldable pub come_to : CaveView → Names → ℕ → Scene → Showing
-come_to cave names new p =
+-- the player comes to a place: who comes to 0 is dead, any other is told what is seen there
+unfoldable pub come_to : CaveView → ℕ → Scene → Showing
+come_to cave new p =
     let q = standing new p in
-    if new == 0 then record { is_carried_on = false; scene = dies q }
-    else (if is_forced cave new then record { is_carried_on = true; scene = text_told cave names q }
-    else record { is_carried_on = false; scene = described cave names q })
+    if new == 0 then record { is_carried_on = false; scene = dies q } else seen_here cave q
 
 -- the player arrives at a place, if nothing is in the way
-unfoldable pub shown : CaveView → Names → ℕ → Scene → Showing
-shown cave names new p =
+unfoldable pub shown : CaveView → ℕ → Scene → Showing
+shown cave new p =
     let once = kept_in cave new p in
     let twice = held_back cave once.place once.scene in
-    come_to cave names twice.place twice.scene
+    come_to cave twice.place twice.scene
 
--- the player arrives at a place, and is carried on from it while forced motions are left
-unfoldable pub arrived : ℕ → CaveView → Names → ℕ → Scene → Scene
-arrived zero cave names new p =
-    let s = shown cave names new p in if s.is_carried_on then saying role.ForcedLimit s.scene else s.scene
-arrived (suc left) cave names new p =
-    let s = shown cave names new p in
-    let j = set_forth cave names 1 (with_left left s.scene) in
-    if s.is_carried_on then arrived left cave names j.place j.scene else s.scene
+-- who is carried on sets out by motion 1 and is shown the next place, while forced motions are left
+unfoldable pub carried_on : ℕ → CaveView → Showing → Scene
+carried_on zero cave s = if s.is_carried_on then saying role.ForcedLimit s.scene else s.scene
+carried_on (suc left) cave s =
+    let j = set_forth cave 1 (with_left left s.scene) in
+    if s.is_carried_on then carried_on left cave (shown cave j.place j.scene) else s.scene
 
--- the forced motions that are left are those of the whole turn
-abbrev pub arriving : CaveView → Names → ℕ → Scene → Scene
-arriving cave names new p = arrived p.left cave names new p
+-- the player arrives at a place; the forced motions that are left are those of the whole turn
+abbrev pub arriving : CaveView → ℕ → Scene → Scene
+arriving cave new p = carried_on p.left cave (shown cave new p)
+
+-- the player is told anew where the player stands, without arriving there
+abbrev pub describing : CaveView → Scene → Scene
+describing cave p = carried_on p.left cave (seen_here cave p)

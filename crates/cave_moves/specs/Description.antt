@@ -1,20 +1,22 @@
 -- How the place where the player stands is described.
-use Rattle.std.specs.Prelude.{ℕ, ◌%◌, Bool, ◌==◌, ◌&&◌, ◌||◌, not, is_none, if◌then◌else◌}
+use Rattle.std.specs.Prelude.{ℕ, ◌%◌, Bool, true, false, ◌==◌, ◌&&◌, ◌||◌, not, is_none}
+use Rattle.std.specs.Prelude.{if◌then◌else◌}
 use Rattle.std.specs.FinMap as map
 use Rattle.cave_data.specs.CaveView.{CaveView}
 use Rattle.cave_data.specs.declared.place_role.PlaceRole.TheVariants as place
 use Rattle.cave_data.specs.declared.role.Role.TheVariants as role
+use Rattle.cave_words.specs.declared.named.Named.TheVariants as name
 use Rattle.cave_world.specs.Lists.{halves_at}
 use Rattle.cave_world.specs.Objects.{is_carried}
-use Rattle.cave_world.specs.Sight.{is_dark}
+use Rattle.cave_world.specs.Sight.{is_dark, is_forced}
 use Rattle.cave_world.specs.State.{visits_of, with_visit}
 use Rattle.cave_world.specs.declared.part.Part.{Part}
 use Rattle.cave_world.specs.declared.part.Part.TheVariants as part
 use Rattle.cave_world.specs.declared.state.State.{State}
-use Rattle.cave_turn.specs.declared.names.Names.{Names}
-use Rattle.cave_turn.specs.Objects.{objects_told}
-use Rattle.cave_turn.specs.Places.{place_named, is_that}
-use Rattle.cave_turn.specs.Plays.{Scene, telling, saying, with_state, here_of, dies, after_draw, happens}
+use Rattle.cave_things.specs.Places.{place_named, is_that}
+use Rattle.cave_things.specs.Things.{thing}
+use Rattle.cave_moves.specs.Objects.{objects_told}
+use Rattle.cave_moves.specs.Plays.{Scene, telling, saying, with_state, here_of, dies, after_draw, happens}
 
 -- each fifth visit tells the long text, or the first alone where the player wants it brief, and so does each visit of a place with no short one
 abbrev pub is_told_at_length : CaveView → State → ℕ → Bool
@@ -25,12 +27,13 @@ unfoldable pub place_text : CaveView → State → ℕ → Part
 place_text cave s place = if is_told_at_length cave s place then part.Long place else part.Short place
 
 -- a bear that is carried is told before the text
-abbrev pub bear_told : Names → Scene → Scene
-bear_told names p = if is_carried p.state.objects names.bear then saying role.BearFollows p else p
+abbrev pub bear_told : CaveView → Scene → Scene
+bear_told cave p =
+    if is_carried p.state.objects (thing cave name.Bear) then saying role.BearFollows p else p
 
 -- the text of the place, behind the bear
-unfoldable pub text_told : CaveView → Names → Scene → Scene
-text_told cave names p = let q = bear_told names p in telling (place_text cave q.state (here_of q)) q
+unfoldable pub text_told : CaveView → Scene → Scene
+text_told cave p = let q = bear_told cave p in telling (place_text cave q.state (here_of q)) q
 
 -- at one place something hollow is heard, by chance, until the cave is closing
 unfoldable pub is_hollow : CaveView → Scene → Bool
@@ -45,23 +48,37 @@ abbrev pub in_pit : Scene → Scene
 in_pit p = let s = p.state in let trail = s.trail in let q = saying role.Pit p in dies (with_state (record s { trail = record trail { older = trail.here } }) q)
 
 -- what is told of a place where the player sees nothing
-abbrev pub darkness_told : CaveView → Names → Scene → Scene
-darkness_told cave names p = hollow_told cave (saying role.Dark (bear_told names p))
+abbrev pub darkness_told : CaveView → Scene → Scene
+darkness_told cave p = hollow_told cave (saying role.Dark (bear_told cave p))
 
 -- who goes on in the dark may fall into a pit
-unfoldable pub dark_described : CaveView → Names → Scene → Scene
-dark_described cave names p =
-    if p.was_dark then (if happens 35 p then in_pit (after_draw p) else darkness_told cave names (after_draw p))
-    else darkness_told cave names p
+unfoldable pub dark_described : CaveView → Scene → Scene
+dark_described cave p =
+    if p.was_dark
+    then (if happens 35 p then in_pit (after_draw p) else darkness_told cave (after_draw p))
+    else darkness_told cave p
 
 -- what is told of a place that the player sees: its text, and the objects there
-unfoldable pub sight_described : CaveView → Names → Scene → Scene
-sight_described cave names p =
-    let q = hollow_told cave (text_told cave names p) in
+unfoldable pub sight_described : CaveView → Scene → Scene
+sight_described cave p =
+    let q = hollow_told cave (text_told cave p) in
     let r = with_state (with_visit q.state (here_of q)) q in
-    objects_told names (halves_at (here_of r) r.state.objects.lists) r
+    objects_told cave (halves_at (here_of r) r.state.objects.lists) r
 
 -- the place is described, from which the player isn't carried on
-unfoldable pub described : CaveView → Names → Scene → Scene
-described cave names p =
-    if is_dark cave names.lamp p.state then dark_described cave names p else sight_described cave names p
+unfoldable pub described : CaveView → Scene → Scene
+described cave p =
+    if is_dark cave (thing cave name.Lamp) p.state then dark_described cave p
+    else sight_described cave p
+
+-- whether the player is carried on from a place, and what was told there
+pub record Showing : Type 0 where
+  pub is_carried_on : Bool
+  pub scene : Scene
+
+-- what is seen where the player stands: a place that carries on is told by its text alone,
+-- and any other is described
+unfoldable pub seen_here : CaveView → Scene → Showing
+seen_here cave p =
+    if is_forced cave (here_of p) then record { is_carried_on = true; scene = text_told cave p }
+    else record { is_carried_on = false; scene = described cave p }

@@ -4,6 +4,7 @@ use Rattle.cave_data.specs.CaveView.{CaveView, Going, ways_from}
 use Rattle.cave_data.specs.declared.place_role.PlaceRole.TheVariants as place
 use Rattle.cave_data.specs.declared.role.Role.{Role}
 use Rattle.cave_data.specs.declared.role.Role.TheVariants as role
+use Rattle.cave_words.specs.declared.named.Named.TheVariants as name
 use Rattle.cave_world.specs.Objects.{is_carried, carried_objects}
 use Rattle.cave_world.specs.Sight.{is_forced}
 use Rattle.cave_world.specs.State.{without_visits}
@@ -14,9 +15,9 @@ use Rattle.cave_world.specs.declared.rows.Outcome.TheVariants as outcome
 use Rattle.cave_world.specs.declared.rows.Special.{Special}
 use Rattle.cave_world.specs.declared.rows.Special.TheVariants.{Squeeze, Bridge}
 use Rattle.cave_world.specs.declared.state.State.{State}
-use Rattle.cave_turn.specs.declared.names.Names.{Names}
-use Rattle.cave_turn.specs.Places.{place_named, outside_place}
-use Rattle.cave_turn.specs.Plays.{Scene, telling, saying, with_state, here_of, sets_out}
+use Rattle.cave_things.specs.Places.{place_named, outside_place}
+use Rattle.cave_things.specs.Things.{thing}
+use Rattle.cave_moves.specs.Plays.{Scene, telling, saying, with_state, here_of, sets_out}
 
 -- a play, and the place where the player arrives next
 pub record Journey : Type 0 where
@@ -46,40 +47,43 @@ unfoldable pub squeeze_end : CaveView → ℕ → Option ℕ
 squeeze_end cave here = other_end here (place_named cave place.Alcove) (place_named cave place.Plover)
 
 -- nothing is carried, or the emerald alone
-unfoldable pub is_slim : Names → State → Bool
-is_slim names s =
-    length (carried_objects s.objects) == 0 || (length (carried_objects s.objects) == 1 && is_carried s.objects names.emerald)
+unfoldable pub is_slim : CaveView → State → Bool
+is_slim cave s =
+    let carried = length (carried_objects s.objects) in
+    carried == 0 || (carried == 1 && is_carried s.objects (thing cave name.Emerald))
 
 -- through a narrow passage, in which nothing but the emerald may be carried
-abbrev pub squeezed_to : Names → Option ℕ → Scene → Journey
-squeezed_to names None p = staying (saying role.NoWay p)
-squeezed_to names (Some end) p =
-    if is_slim names p.state then record { place = end; scene = p } else staying (saying role.TooTight p)
+abbrev pub squeezed_to : CaveView → Option ℕ → Scene → Journey
+squeezed_to cave None p = staying (saying role.NoWay p)
+squeezed_to cave (Some end) p =
+    if is_slim cave p.state then record { place = end; scene = p }
+    else staying (saying role.TooTight p)
 
-unfoldable pub squeezed : CaveView → Names → Scene → Journey
-squeezed cave names p = squeezed_to names (squeeze_end cave (here_of p)) p
+unfoldable pub squeezed : CaveView → Scene → Journey
+squeezed cave p = squeezed_to cave (squeeze_end cave (here_of p)) p
 
 -- a way with rules of its own; the bridge leads nowhere
-abbrev pub led_specially : CaveView → Names → Special → Scene → Journey
-led_specially cave names Squeeze p = squeezed cave names p
-led_specially cave names Bridge p = staying (saying role.NoWay p)
+abbrev pub led_specially : CaveView → Special → Scene → Journey
+led_specially cave Squeeze p = squeezed cave p
+led_specially cave Bridge p = staying (saying role.NoWay p)
 
 -- where the outcome of a motion leads
-abbrev pub led : CaveView → Names → ℕ → Outcome → Scene → Journey
-led cave names motion (outcome.Go place) p = record { place = place; scene = p }
-led cave names motion (outcome.Special special) p = led_specially cave names special p
-led cave names motion (outcome.Say message) p = staying (telling (part.Message message) p)
-led cave names motion outcome.NoMotion p = staying (saying (refusal_of motion) p)
-led cave names motion outcome.NoWay p = staying (saying role.NoWay p)
+abbrev pub led : CaveView → ℕ → Outcome → Scene → Journey
+led cave motion (outcome.Go place) p = record { place = place; scene = p }
+led cave motion (outcome.Special special) p = led_specially cave special p
+led cave motion (outcome.Say message) p = staying (telling (part.Message message) p)
+led cave motion outcome.NoMotion p = staying (saying (refusal_of motion) p)
+led cave motion outcome.NoWay p = staying (saying role.NoWay p)
 
 -- where the rows of the place lead by a motion
-unfoldable pub routed : CaveView → Names → ℕ → Scene → Journey
-routed cave names motion p =
-    let j = travelled cave names.emerald motion p.state in led cave names motion j.outcome (with_state j.state p)
+unfoldable pub routed : CaveView → ℕ → Scene → Journey
+routed cave motion p =
+    let j = travelled cave (thing cave name.Emerald) motion p.state in
+    led cave motion j.outcome (with_state j.state p)
 
 -- the player sets out by a motion
-unfoldable pub set_forth : CaveView → Names → ℕ → Scene → Journey
-set_forth cave names motion p = routed cave names motion (sets_out p)
+unfoldable pub set_forth : CaveView → ℕ → Scene → Journey
+set_forth cave motion p = routed cave motion (sets_out p)
 
 -- the player looks round: the place is told at length, after two or three words on that
 abbrev pub enough_said : Scene → Scene
@@ -138,20 +142,21 @@ abbrev pub first_motion : Going → ℕ
 first_motion row = slice_index row.motions 0
 
 -- a motion that leads back is travelled
-abbrev pub back_by : CaveView → Names → Option ℕ → Scene → Journey
-back_by cave names None p = staying (saying role.BackNo p)
-back_by cave names (Some motion) p = routed cave names motion p
+abbrev pub back_by : CaveView → Option ℕ → Scene → Journey
+back_by cave None p = staying (saying role.BackNo p)
+back_by cave (Some motion) p = routed cave motion p
 
 -- the player goes back
-unfoldable pub going_back : CaveView → Names → Scene → Journey
-going_back cave names p =
+unfoldable pub going_back : CaveView → Scene → Journey
+going_back cave p =
     let sought = back_place cave p.state in let here = here_of p in let q = sets_out p in
-    if sought == here then staying (saying role.BackNone q) else back_by cave names (option_map first_motion (row_back cave sought (ways_from cave here))) q
+    if sought == here then staying (saying role.BackNone q)
+    else back_by cave (option_map first_motion (row_back cave sought (ways_from cave here))) q
 
 -- where a motion that the player asks for leads: four motions have rules of their own
-unfoldable pub led_by_motion : CaveView → Names → ℕ → Scene → Journey
-led_by_motion cave names motion p =
+unfoldable pub led_by_motion : CaveView → ℕ → Scene → Journey
+led_by_motion cave motion p =
     if motion == 21 then staying p
     else (if motion == 57 then looking p
     else (if motion == 67 then seeking_cave cave p
-    else (if motion == 8 then going_back cave names p else set_forth cave names motion p)))
+    else (if motion == 8 then going_back cave p else set_forth cave motion p)))

@@ -8,7 +8,7 @@ use Rattle.cave_world.specs.declared.ending.Ending.TheVariants.{Killed}
 use Rattle.cave_world.specs.declared.part.Part.{Part}
 use Rattle.cave_world.specs.declared.part.Part.TheVariants as part
 use Rattle.cave_world.specs.declared.state.State.{State}
-use Rattle.cave_turn.specs.declared.play.Play.{Play}
+use Rattle.cave_moves.specs.declared.play.Play.{Play}
 
 -- the state, what was said, whether it was dark as the turn began, and the forced motions that are left in it
 pub record Scene : Type 0 where
@@ -36,6 +36,10 @@ opening was_dark s = record { state = s; parts = []; was_dark = was_dark; left =
 -- the most parts that are said once the player has arrived, of which each forced motion that is left may say 5
 abbrev pub parts_by_arrival : Play → ℕ
 parts_by_arrival play = array_vec_len play.out.now + 5 * play.left + 206
+
+-- the most parts that are said once the player is carried on from where the player stands
+abbrev pub parts_by_carrying : Play → ℕ
+parts_by_carrying play = array_vec_len play.out.now + 5 * play.left + 201
 
 -- another state
 abbrev pub with_state : State → Scene → Scene

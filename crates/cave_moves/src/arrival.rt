@@ -1,28 +1,29 @@
-ghost use Rattle.std.specs.Prelude.{◌≡◌, ◌+◌, ◌*◌, ◌<◌, ◌≤◌, IsTrue, take};
+ghost use Rattle.std.specs.Prelude.{◌≡◌, ◌+◌, ◌*◌, ◌<◌, ◌≤◌, true, IsTrue, take};
 ghost use Rattle.std.specs.List.{list_any};
 ghost use Rattle.arrayvec.specs.ArrayVec.{array_vec_len};
-ghost use Rattle.cave_turn.specs.Arrival.{is_shut, panicking, kept_in, comes_from, is_barred, held_back, come_to, shown, arriving};
-ghost use Rattle.cave_turn.specs.Plays.{scene_of, parts_by_arrival, IsSamePlay, GoesOn};
+ghost use Rattle.cave_things.specs.Things.{cave_of};
+ghost use Rattle.cave_moves.specs.Arrival.{is_shut, panicking, kept_in, comes_from, is_barred};
+ghost use Rattle.cave_moves.specs.Arrival.{held_back, come_to, shown, carried_on};
+ghost use Rattle.cave_moves.specs.Arrival.{arriving, describing};
+ghost use Rattle.cave_moves.specs.Plays.{scene_of, parts_by_arrival, parts_by_carrying};
+ghost use Rattle.cave_moves.specs.Plays.{IsSamePlay, GoesOn};
 
-use crate::description::{describe, tell_text};
+use crate::description::see_here;
 use crate::journeys::{set_forth, stay};
-use crate::names::Names;
-use crate::places::outside_place;
 use crate::play::Play;
-use cave_data::{Cave, Role};
-use cave_world::{Dwarf, Place, State, has_condition, is_forced};
-
-/// The bit of the places to which no dwarf goes.
-const NO_DWARF: u8 = 3;
+use cave_data::Role;
+use cave_things::places::outside_place;
+use cave_things::{Condition, Rules};
+use cave_world::{Dwarf, Place, State, is_forced};
 
 /// Whether a cave that is closing keeps the player from a place.
 #[tactic(auto, unfolding(crate::specs::Arrival::is_shut))]
-fn is_shut(cave: &Cave, place: Place, state: &State) -> bool
-    ensures { result ≡ is_shut cave.now place state.now }
+fn is_shut(rules: &Rules<'_>, place: Place, state: &State) -> bool
+    ensures { result ≡ is_shut (cave_of rules.now) place state.now }
 {
     state.closing.is_closing
         && 1 <= place.number()
-        && place.number() <= outside_place(cave).number()
+        && place.number() <= outside_place(rules.cave).number()
 }
 
 /// The player tries to get out of a closing cave.
@@ -36,13 +37,14 @@ fn panic(state: &mut State)
 }
 
 #[tactic(auto, unfolding(crate::specs::Arrival::kept_in))]
-fn keep_in(cave: &Cave, place: Place, play: &mut Play<'_>) -> Place
+fn keep_in(rules: &Rules<'_>, place: Place, play: &mut Play<'_>) -> Place
     requires { array_vec_len play.old.out.now < 512 }
-    ensures journey { record { place = result; scene = scene_of play.new } ≡ kept_in cave.now place (scene_of play.old) }
+    ensures journey { record { place = result; scene = scene_of play.new }
+        ≡ kept_in (cave_of rules.now) place (scene_of play.old) }
     ensures same { GoesOn play.old play.new }
     ensures few { array_vec_len play.new.out.now ≤ array_vec_len play.old.out.now + 1 }
 {
-    if !is_shut(cave, place, play.state) {
+    if !is_shut(rules, place, play.state) {
         return place;
     }
     panic(play.state);
@@ -63,24 +65,25 @@ fn some_comes_from(place: Place, dwarves: &[Dwarf]) -> bool
 
 /// Whether a dwarf bars the way to a place.
 #[tactic(auto, unfolding(crate::specs::Arrival::is_barred))]
-fn is_barred(cave: &Cave, place: Place, state: &State) -> bool
-    ensures { result ≡ is_barred cave.now place state.now }
+fn is_barred(rules: &Rules<'_>, place: Place, state: &State) -> bool
+    ensures { result ≡ is_barred (cave_of rules.now) place state.now }
 {
     let here = state.trail.here;
     place != here
-        && !is_forced(cave, here)
-        && !has_condition(cave, here, NO_DWARF)
+        && !is_forced(rules.cave, here)
+        && !rules.has(here, Condition::NoPirate)
         && some_comes_from(place, &state.dwarves.each[..5])
 }
 
 #[tactic(auto, unfolding(crate::specs::Arrival::held_back))]
-fn hold_back(cave: &Cave, place: Place, play: &mut Play<'_>) -> Place
+fn hold_back(rules: &Rules<'_>, place: Place, play: &mut Play<'_>) -> Place
     requires { array_vec_len play.old.out.now < 512 }
-    ensures journey { record { place = result; scene = scene_of play.new } ≡ held_back cave.now place (scene_of play.old) }
+    ensures journey { record { place = result; scene = scene_of play.new }
+        ≡ held_back (cave_of rules.now) place (scene_of play.old) }
     ensures same { GoesOn play.old play.new }
     ensures few { array_vec_len play.new.out.now ≤ array_vec_len play.old.out.now + 1 }
 {
-    if is_barred(cave, place, play.state) {
+    if is_barred(rules, place, play.state) {
         return stay(play, Role::Blocked);
     }
     place
@@ -88,56 +91,81 @@ fn hold_back(cave: &Cave, place: Place, play: &mut Play<'_>) -> Place
 
 /// The player comes to a place. Tells whether the player is carried on from there.
 #[tactic(auto, unfolding(crate::specs::Arrival::come_to))]
-fn come_to(cave: &Cave, names: &Names, place: Place, play: &mut Play<'_>) -> bool
+fn come_to(rules: &Rules<'_>, place: Place, play: &mut Play<'_>) -> bool
     requires { array_vec_len play.old.out.now + 203 ≤ 512 }
-    ensures showing { record { is_carried_on = result; scene = scene_of play.new } ≡ come_to cave.now names.now place (scene_of play.old) }
+    ensures showing { record { is_carried_on = result; scene = scene_of play.new }
+        ≡ come_to (cave_of rules.now) place (scene_of play.old) }
     ensures same { GoesOn play.old play.new }
     ensures few { array_vec_len play.new.out.now ≤ array_vec_len play.old.out.now + 203 }
-    ensures few_on { IsTrue result → array_vec_len play.new.out.now ≤ array_vec_len play.old.out.now + 2 }
+    ensures few_on { IsTrue result
+        → array_vec_len play.new.out.now ≤ array_vec_len play.old.out.now + 2 }
 {
     play.stand_at(place);
     if place.number() == 0 {
         play.kill();
         return false;
     }
-    if is_forced(cave, place) {
-        tell_text(cave, names, play);
-        return true;
-    }
-    describe(cave, names, play);
-    false
+    see_here(rules, play)
 }
 
-/// The player arrives at a place, if nothing is in the way. Tells whether the player is carried on from there.
+/// The player arrives at a place, if nothing is in the way. Tells whether the player is carried on.
 #[tactic(auto, unfolding(crate::specs::Arrival::shown))]
-fn show(cave: &Cave, names: &Names, place: Place, play: &mut Play<'_>) -> bool
+fn show(rules: &Rules<'_>, place: Place, play: &mut Play<'_>) -> bool
     requires { array_vec_len play.old.out.now + 205 ≤ 512 }
-    ensures showing { record { is_carried_on = result; scene = scene_of play.new } ≡ shown cave.now names.now place (scene_of play.old) }
+    ensures showing { record { is_carried_on = result; scene = scene_of play.new }
+        ≡ shown (cave_of rules.now) place (scene_of play.old) }
     ensures same { GoesOn play.old play.new }
     ensures few { array_vec_len play.new.out.now ≤ array_vec_len play.old.out.now + 205 }
-    ensures few_on { IsTrue result → array_vec_len play.new.out.now ≤ array_vec_len play.old.out.now + 4 }
+    ensures few_on { IsTrue result
+        → array_vec_len play.new.out.now ≤ array_vec_len play.old.out.now + 4 }
 {
-    let place = keep_in(cave, place, play);
-    let place = hold_back(cave, place, play);
-    come_to(cave, names, place, play)
+    let place = keep_in(rules, place, play);
+    let place = hold_back(rules, place, play);
+    come_to(rules, place, play)
 }
 
-/// The player arrives at a place, and is carried on from it while forced motions are left in the turn.
-#[tactic(auto, unfolding(crate::specs::Arrival::arrived))]
-pub fn arrive(cave: &Cave, names: &Names, place: Place, play: &mut Play<'_>)
-    requires { parts_by_arrival play.old ≤ 512 }
-    ensures play { scene_of play.new ≡ arriving cave.now names.now place (scene_of play.old) }
+/// The player is carried on from where the player stands, while forced motions are left.
+#[tactic(auto, unfolding(crate::specs::Arrival::carried_on))]
+fn carry_on(rules: &Rules<'_>, play: &mut Play<'_>)
+    requires { parts_by_carrying play.old ≤ 512 }
+    ensures play { scene_of play.new ≡ carried_on play.old.left (cave_of rules.now)
+        (record { is_carried_on = true; scene = scene_of play.old }) }
     ensures same { IsSamePlay play.old play.new }
-    ensures few { array_vec_len play.new.out.now ≤ parts_by_arrival play.old }
+    ensures few { array_vec_len play.new.out.now ≤ parts_by_carrying play.old }
 {
-    if !show(cave, names, place, play) {
-        return;
-    }
     if play.left == 0 {
         play.say(Role::ForcedLimit);
         return;
     }
     play.left -= 1;
-    let next = set_forth(cave, names, 1, play);
-    arrive(cave, names, next, play);
+    let next = set_forth(rules, 1, play);
+    if show(rules, next, play) {
+        carry_on(rules, play);
+    }
+}
+
+/// The player arrives at a place, and is carried on from there while forced motions are left.
+#[tactic(auto, unfolding(crate::specs::Arrival::carried_on))]
+pub fn arrive(rules: &Rules<'_>, place: Place, play: &mut Play<'_>)
+    requires { parts_by_arrival play.old ≤ 512 }
+    ensures play { scene_of play.new ≡ arriving (cave_of rules.now) place (scene_of play.old) }
+    ensures same { IsSamePlay play.old play.new }
+    ensures few { array_vec_len play.new.out.now ≤ parts_by_arrival play.old }
+{
+    if show(rules, place, play) {
+        carry_on(rules, play);
+    }
+}
+
+/// The player is told anew where the player stands, and is carried on from there in the same way.
+#[tactic(auto, unfolding(crate::specs::Arrival::carried_on))]
+pub fn describe_here(rules: &Rules<'_>, play: &mut Play<'_>)
+    requires { parts_by_arrival play.old ≤ 512 }
+    ensures play { scene_of play.new ≡ describing (cave_of rules.now) (scene_of play.old) }
+    ensures same { IsSamePlay play.old play.new }
+    ensures few { array_vec_len play.new.out.now ≤ parts_by_arrival play.old }
+{
+    if see_here(rules, play) {
+        carry_on(rules, play);
+    }
 }

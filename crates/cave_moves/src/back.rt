@@ -2,20 +2,23 @@ ghost use Rattle.std.specs.Prelude.{◌≡◌, ◌+◌, ◌<◌, ◌≤◌, map,
 ghost use Rattle.arrayvec.specs.ArrayVec.{array_vec_len};
 ghost use Rattle.cave_data.specs.CaveView.{ways_from};
 ghost use Rattle.cave_data.specs.Shown.{going};
-ghost use Rattle.cave_turn.specs.Journeys.{back_place, leads_through, direct_row, indirect_row, row_back, first_motion, first_number, is_number, going_back};
-ghost use Rattle.cave_turn.specs.Plays.{scene_of, GoesOn};
+ghost use Rattle.cave_things.specs.Things.{cave_of};
+ghost use Rattle.cave_moves.specs.Journeys.{back_place, leads_through, direct_row, indirect_row};
+ghost use Rattle.cave_moves.specs.Journeys.{row_back, first_motion, first_number, is_number};
+ghost use Rattle.cave_moves.specs.Journeys.{going_back};
+ghost use Rattle.cave_moves.specs.Plays.{scene_of, GoesOn};
 
 use crate::journeys::{route, stay};
-use crate::names::Names;
 use crate::play::Play;
-use cave_data::{Cave, Role, Row};
+use cave_data::{Role, Row};
+use cave_things::Rules;
 use cave_world::{Place, State, is_forced};
 
 /// Where the player goes who goes back.
-fn back_place(cave: &Cave, state: &State) -> Place
-    ensures { result ≡ back_place cave.now state.now }
+fn back_place(rules: &Rules<'_>, state: &State) -> Place
+    ensures { result ≡ back_place (cave_of rules.now) state.now }
 {
-    if is_forced(cave, state.trail.last) {
+    if is_forced(rules.cave, state.trail.last) {
         state.trail.older
     } else {
         state.trail.last
@@ -23,15 +26,15 @@ fn back_place(cave: &Cave, state: &State) -> Place
 }
 
 /// Whether a row leads to a place that carries the player on to the place that is sought.
-fn leads_through(cave: &Cave, sought: Place, row: &Row) -> bool
-    ensures { result ≡ leads_through cave.now sought (going row.now) }
+fn leads_through(rules: &Rules<'_>, sought: Place, row: &Row) -> bool
+    ensures { result ≡ leads_through (cave_of rules.now) sought (going row.now) }
 {
     let number = row.target % 1000;
     if number > 300 {
         return false;
     }
     let place = Place::new(number as u16);
-    is_forced(cave, place) && is_first_number(sought, cave.travel(place.number()))
+    is_forced(rules.cave, place) && is_first_number(sought, rules.cave.travel(place.number()))
 }
 
 fn is_first_number(sought: Place, rows: &[Row]) -> bool
@@ -54,12 +57,13 @@ fn direct_row(sought: Place, rows: &[Row]) -> Option<&Row>
     None
 }
 
-fn indirect_row<'a>(cave: &Cave, sought: Place, rows: &'a [Row]) -> Option<&'a Row>
-    ensures { option_map (λ row. going row.now) result ≡ indirect_row cave.now sought (map going rows.now) }
+fn indirect_row<'a>(rules: &Rules<'_>, sought: Place, rows: &'a [Row]) -> Option<&'a Row>
+    ensures { option_map (λ row. going row.now) result
+        ≡ indirect_row (cave_of rules.now) sought (map going rows.now) }
 {
     let mut last = None;
     for row in rows {
-        if leads_through(cave, sought, row) {
+        if leads_through(rules, sought, row) {
             last = Some(row);
         }
     }
@@ -68,38 +72,41 @@ fn indirect_row<'a>(cave: &Cave, sought: Place, rows: &'a [Row]) -> Option<&'a R
 
 /// The row that leads back, or through a place that carries the player on.
 #[tactic(auto, unfolding(crate::specs::Journeys::row_back))]
-fn row_back<'a>(cave: &Cave, sought: Place, rows: &'a [Row]) -> Option<&'a Row>
-    ensures { option_map (λ row. going row.now) result ≡ row_back cave.now sought (map going rows.now) }
+fn row_back<'a>(rules: &Rules<'_>, sought: Place, rows: &'a [Row]) -> Option<&'a Row>
+    ensures { option_map (λ row. going row.now) result
+        ≡ row_back (cave_of rules.now) sought (map going rows.now) }
 {
     match direct_row(sought, rows) {
         Some(row) => Some(row),
-        None => indirect_row(cave, sought, rows),
+        None => indirect_row(rules, sought, rows),
     }
 }
 
-fn motion_back(cave: &Cave, sought: Place, here: Place) -> Option<u16>
-    ensures { result ≡ option_map first_motion (row_back cave.now sought (ways_from cave.now here)) }
+fn motion_back(rules: &Rules<'_>, sought: Place, here: Place) -> Option<u16>
+    ensures { let cave = cave_of rules.now in
+        result ≡ option_map first_motion (row_back cave sought (ways_from cave here)) }
 {
-    let row = row_back(cave, sought, cave.travel(here.number()))?;
+    let row = row_back(rules, sought, rules.cave.travel(here.number()))?;
     Some(row.motions.first().copied().unwrap_or(0))
 }
 
 /// The player goes back.
 #[tactic(auto, unfolding(crate::specs::Journeys::going_back))]
-pub fn go_back(cave: &Cave, names: &Names, play: &mut Play<'_>) -> Place
+pub fn go_back(rules: &Rules<'_>, play: &mut Play<'_>) -> Place
     requires { array_vec_len play.old.out.now < 512 }
-    ensures journey { record { place = result; scene = scene_of play.new } ≡ going_back cave.now names.now (scene_of play.old) }
+    ensures journey { record { place = result; scene = scene_of play.new }
+        ≡ going_back (cave_of rules.now) (scene_of play.old) }
     ensures same { GoesOn play.old play.new }
     ensures few { array_vec_len play.new.out.now ≤ array_vec_len play.old.out.now + 1 }
 {
-    let sought = back_place(cave, play.state);
+    let sought = back_place(rules, play.state);
     let here = play.state.trail.here;
     play.set_out();
     if sought == here {
         return stay(play, Role::BackNone);
     }
-    match motion_back(cave, sought, here) {
-        Some(motion) => route(cave, names, motion, play),
+    match motion_back(rules, sought, here) {
+        Some(motion) => route(rules, motion, play),
         None => stay(play, Role::BackNo),
     }
 }

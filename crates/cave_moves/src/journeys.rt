@@ -1,13 +1,18 @@
 ghost use Rattle.std.specs.Prelude.{◌≡◌, ◌+◌, ◌<◌, ◌≤◌};
 ghost use Rattle.arrayvec.specs.ArrayVec.{array_vec_len};
-ghost use Rattle.cave_turn.specs.Plays.{saying, scene_of, GoesOn};
-ghost use Rattle.cave_turn.specs.Journeys.{refusal_of, other_end, squeeze_end, is_slim, squeezed_to, squeezed, led_specially, led, routed, set_forth, enough_said, unvisited, looking, seeking_cave, led_by_motion, staying};
+ghost use Rattle.cave_things.specs.Things.{cave_of};
+ghost use Rattle.cave_moves.specs.Plays.{saying, scene_of, GoesOn};
+ghost use Rattle.cave_moves.specs.Journeys.{refusal_of, other_end, squeeze_end, is_slim};
+ghost use Rattle.cave_moves.specs.Journeys.{squeezed_to, squeezed, led_specially, led, routed};
+ghost use Rattle.cave_moves.specs.Journeys.{set_forth, enough_said, unvisited, looking};
+ghost use Rattle.cave_moves.specs.Journeys.{seeking_cave, led_by_motion, staying};
 
 use crate::back::go_back;
-use crate::names::Names;
-use crate::places::{outside_place, place_named};
 use crate::play::Play;
-use cave_data::{Cave, PlaceRole, Role};
+use cave_data::{PlaceRole, Role};
+use cave_things::Rules;
+use cave_things::places::{outside_place, place_named};
+use cave_words::Named;
 use cave_world::{Outcome, Part, Place, Special, State, travel};
 
 /// What is said of a motion that no row lists.
@@ -37,26 +42,27 @@ fn other_end(here: Place, one: Option<Place>, other: Option<Place>) -> Option<Pl
 
 /// The other end of the narrow passage, where the player stands at one end.
 #[tactic(auto, unfolding(crate::specs::Journeys::squeeze_end))]
-fn squeeze_end(cave: &Cave, here: Place) -> Option<Place>
-    ensures { result ≡ squeeze_end cave.now here }
+fn squeeze_end(rules: &Rules<'_>, here: Place) -> Option<Place>
+    ensures { result ≡ squeeze_end (cave_of rules.now) here }
 {
-    let alcove = place_named(cave, PlaceRole::Alcove);
-    let plover = place_named(cave, PlaceRole::Plover);
+    let alcove = place_named(rules.cave, PlaceRole::Alcove);
+    let plover = place_named(rules.cave, PlaceRole::Plover);
     other_end(here, alcove, plover)
 }
 
 #[tactic(auto, unfolding(crate::specs::Journeys::is_slim))]
-fn is_slim(names: &Names, state: &State) -> bool
-    ensures { result ≡ is_slim names.now state.now }
+fn is_slim(rules: &Rules<'_>, state: &State) -> bool
+    ensures { result ≡ is_slim (cave_of rules.now) state.now }
 {
     let carried = state.holding();
-    carried == 0 || (carried == 1 && state.toting(names.emerald))
+    carried == 0 || (carried == 1 && state.toting(rules.object(Named::Emerald)))
 }
 
 /// The player stays, and a role's message is said.
 pub fn stay(play: &mut Play<'_>, role: Role) -> Place
     requires { array_vec_len play.old.out.now < 512 }
-    ensures journey { record { place = result; scene = scene_of play.new } ≡ staying (saying role (scene_of play.old)) }
+    ensures journey { record { place = result; scene = scene_of play.new }
+        ≡ staying (saying role (scene_of play.old)) }
     ensures same { GoesOn play.old play.new }
     ensures few { array_vec_len play.new.out.now ≤ array_vec_len play.old.out.now + 1 }
 {
@@ -66,16 +72,17 @@ pub fn stay(play: &mut Play<'_>, role: Role) -> Place
 
 /// Through the narrow passage, in which nothing but the emerald may be carried.
 #[tactic(auto, unfolding(crate::specs::Journeys::squeezed))]
-fn squeeze(cave: &Cave, names: &Names, play: &mut Play<'_>) -> Place
+fn squeeze(rules: &Rules<'_>, play: &mut Play<'_>) -> Place
     requires { array_vec_len play.old.out.now < 512 }
-    ensures journey { record { place = result; scene = scene_of play.new } ≡ squeezed cave.now names.now (scene_of play.old) }
+    ensures journey { record { place = result; scene = scene_of play.new }
+        ≡ squeezed (cave_of rules.now) (scene_of play.old) }
     ensures same { GoesOn play.old play.new }
     ensures few { array_vec_len play.new.out.now ≤ array_vec_len play.old.out.now + 1 }
 {
-    match squeeze_end(cave, play.state.trail.here) {
+    match squeeze_end(rules, play.state.trail.here) {
         None => stay(play, Role::NoWay),
         Some(end) => {
-            if is_slim(names, play.state) {
+            if is_slim(rules, play.state) {
                 return end;
             }
             stay(play, Role::TooTight)
@@ -83,28 +90,30 @@ fn squeeze(cave: &Cave, names: &Names, play: &mut Play<'_>) -> Place
     }
 }
 
-fn lead_specially(cave: &Cave, names: &Names, special: Special, play: &mut Play<'_>) -> Place
+fn lead_specially(rules: &Rules<'_>, special: Special, play: &mut Play<'_>) -> Place
     requires { array_vec_len play.old.out.now < 512 }
-    ensures journey { record { place = result; scene = scene_of play.new } ≡ led_specially cave.now names.now special (scene_of play.old) }
+    ensures journey { record { place = result; scene = scene_of play.new }
+        ≡ led_specially (cave_of rules.now) special (scene_of play.old) }
     ensures same { GoesOn play.old play.new }
     ensures few { array_vec_len play.new.out.now ≤ array_vec_len play.old.out.now + 1 }
 {
     match special {
-        Special::Squeeze => squeeze(cave, names, play),
+        Special::Squeeze => squeeze(rules, play),
         Special::Bridge => stay(play, Role::NoWay),
     }
 }
 
 /// Where the outcome of a motion leads.
-fn lead(cave: &Cave, names: &Names, motion: u16, outcome: Outcome, play: &mut Play<'_>) -> Place
+fn lead(rules: &Rules<'_>, motion: u16, outcome: Outcome, play: &mut Play<'_>) -> Place
     requires { array_vec_len play.old.out.now < 512 }
-    ensures journey { record { place = result; scene = scene_of play.new } ≡ led cave.now names.now motion outcome (scene_of play.old) }
+    ensures journey { record { place = result; scene = scene_of play.new }
+        ≡ led (cave_of rules.now) motion outcome (scene_of play.old) }
     ensures same { GoesOn play.old play.new }
     ensures few { array_vec_len play.new.out.now ≤ array_vec_len play.old.out.now + 1 }
 {
     match outcome {
         Outcome::Go(place) => place,
-        Outcome::Special(special) => lead_specially(cave, names, special, play),
+        Outcome::Special(special) => lead_specially(rules, special, play),
         Outcome::Say(message) => {
             play.tell(Part::Message(message));
             play.state.trail.here
@@ -116,26 +125,28 @@ fn lead(cave: &Cave, names: &Names, motion: u16, outcome: Outcome, play: &mut Pl
 
 /// Where the rows of the place lead by a motion.
 #[tactic(auto, unfolding(crate::specs::Journeys::routed))]
-pub fn route(cave: &Cave, names: &Names, motion: u16, play: &mut Play<'_>) -> Place
+pub fn route(rules: &Rules<'_>, motion: u16, play: &mut Play<'_>) -> Place
     requires { array_vec_len play.old.out.now < 512 }
-    ensures journey { record { place = result; scene = scene_of play.new } ≡ routed cave.now names.now motion (scene_of play.old) }
+    ensures journey { record { place = result; scene = scene_of play.new }
+        ≡ routed (cave_of rules.now) motion (scene_of play.old) }
     ensures same { GoesOn play.old play.new }
     ensures few { array_vec_len play.new.out.now ≤ array_vec_len play.old.out.now + 1 }
 {
-    let outcome = travel(cave, names.emerald, play.state, motion);
-    lead(cave, names, motion, outcome, play)
+    let outcome = travel(rules.cave, rules.object(Named::Emerald), play.state, motion);
+    lead(rules, motion, outcome, play)
 }
 
 /// The player sets out by a motion.
 #[tactic(auto, unfolding(crate::specs::Journeys::set_forth))]
-pub fn set_forth(cave: &Cave, names: &Names, motion: u16, play: &mut Play<'_>) -> Place
+pub fn set_forth(rules: &Rules<'_>, motion: u16, play: &mut Play<'_>) -> Place
     requires { array_vec_len play.old.out.now < 512 }
-    ensures journey { record { place = result; scene = scene_of play.new } ≡ set_forth cave.now names.now motion (scene_of play.old) }
+    ensures journey { record { place = result; scene = scene_of play.new }
+        ≡ set_forth (cave_of rules.now) motion (scene_of play.old) }
     ensures same { GoesOn play.old play.new }
     ensures few { array_vec_len play.new.out.now ≤ array_vec_len play.old.out.now + 1 }
 {
     play.set_out();
-    route(cave, names, motion, play)
+    route(rules, motion, play)
 }
 
 fn say_enough(play: &mut Play<'_>)
@@ -163,7 +174,8 @@ fn forget(play: &mut Play<'_>)
 #[tactic(auto, unfolding(crate::specs::Journeys::looking))]
 fn look(play: &mut Play<'_>) -> Place
     requires { array_vec_len play.old.out.now < 512 }
-    ensures journey { record { place = result; scene = scene_of play.new } ≡ looking (scene_of play.old) }
+    ensures journey { record { place = result; scene = scene_of play.new }
+        ≡ looking (scene_of play.old) }
     ensures same { GoesOn play.old play.new }
     ensures few { array_vec_len play.new.out.now ≤ array_vec_len play.old.out.now + 1 }
 {
@@ -174,13 +186,14 @@ fn look(play: &mut Play<'_>) -> Place
 
 /// The player asks where the cave is.
 #[tactic(auto, unfolding(crate::specs::Journeys::seeking_cave))]
-fn seek_cave(cave: &Cave, play: &mut Play<'_>) -> Place
+fn seek_cave(rules: &Rules<'_>, play: &mut Play<'_>) -> Place
     requires { array_vec_len play.old.out.now < 512 }
-    ensures journey { record { place = result; scene = scene_of play.new } ≡ seeking_cave cave.now (scene_of play.old) }
+    ensures journey { record { place = result; scene = scene_of play.new }
+        ≡ seeking_cave (cave_of rules.now) (scene_of play.old) }
     ensures same { GoesOn play.old play.new }
     ensures few { array_vec_len play.new.out.now ≤ array_vec_len play.old.out.now + 1 }
 {
-    if play.state.trail.here.number() < outside_place(cave).number() {
+    if play.state.trail.here.number() < outside_place(rules.cave).number() {
         stay(play, Role::CaveOut)
     } else {
         stay(play, Role::CaveIn)
@@ -189,17 +202,18 @@ fn seek_cave(cave: &Cave, play: &mut Play<'_>) -> Place
 
 /// Where a motion that the player asks for leads.
 #[tactic(auto, unfolding(crate::specs::Journeys::led_by_motion))]
-pub fn lead_by_motion(cave: &Cave, names: &Names, motion: u16, play: &mut Play<'_>) -> Place
+pub fn lead_by_motion(rules: &Rules<'_>, motion: u16, play: &mut Play<'_>) -> Place
     requires { array_vec_len play.old.out.now < 512 }
-    ensures journey { record { place = result; scene = scene_of play.new } ≡ led_by_motion cave.now names.now motion (scene_of play.old) }
+    ensures journey { record { place = result; scene = scene_of play.new }
+        ≡ led_by_motion (cave_of rules.now) motion (scene_of play.old) }
     ensures same { GoesOn play.old play.new }
     ensures few { array_vec_len play.new.out.now ≤ array_vec_len play.old.out.now + 1 }
 {
     match motion {
         21 => play.state.trail.here,
         57 => look(play),
-        67 => seek_cave(cave, play),
-        8 => go_back(cave, names, play),
-        _ => set_forth(cave, names, motion, play),
+        67 => seek_cave(rules, play),
+        8 => go_back(rules, play),
+        _ => set_forth(rules, motion, play),
     }
 }

@@ -3,11 +3,15 @@ ghost use Rattle.arrayvec.specs.ArrayVec.{array_vec_len};
 ghost use Rattle.cave_world.specs.Lists.{halves_at};
 ghost use Rattle.cave_world.specs.Objects.{anchor_of};
 ghost use Rattle.cave_world.specs.Spots.{place_of_anchor, is_place};
-ghost use Rattle.cave_turn.specs.Objects.{is_unseen, is_kept_back, first_prop, one_less_unseen, shortened, found, found_if_unseen, told_prop, object_told, objects_told};
-ghost use Rattle.cave_turn.specs.Plays.{scene_of, GoesOn};
+ghost use Rattle.cave_things.specs.Things.{cave_of};
+ghost use Rattle.cave_moves.specs.Objects.{is_unseen, is_kept_back, first_prop, one_less_unseen};
+ghost use Rattle.cave_moves.specs.Objects.{shortened, found, found_if_unseen, told_prop};
+ghost use Rattle.cave_moves.specs.Objects.{object_told, objects_told};
+ghost use Rattle.cave_moves.specs.Plays.{scene_of, GoesOn};
 
-use crate::names::Names;
 use crate::play::Play;
+use cave_things::Rules;
+use cave_words::Named;
 use cave_world::{Charge, Half, Object, Part, Prop, State};
 
 /// The most turns for which the lamp burns once the treasures that are left can't all be found.
@@ -21,17 +25,17 @@ fn is_unseen(state: &State, object: Object) -> bool
 
 /// Whether an object isn't told though it is there.
 #[tactic(auto, unfolding(crate::specs::Objects::is_kept_back))]
-fn is_kept_back(names: &Names, state: &State, object: Object) -> bool
-    ensures { result ≡ is_kept_back names.now state.now object }
+fn is_kept_back(rules: &Rules<'_>, state: &State, object: Object) -> bool
+    ensures { result ≡ is_kept_back (cave_of rules.now) state.now object }
 {
-    (object == names.steps && state.toting(names.gold))
+    (object == rules.object(Named::Steps) && state.toting(rules.object(Named::Gold)))
         || (is_unseen(state, object) && state.closing.is_closed)
 }
 
-fn first_prop(names: &Names, object: Object) -> Prop
-    ensures { result ≡ first_prop names.now object }
+fn first_prop(rules: &Rules<'_>, object: Object) -> Prop
+    ensures { result ≡ first_prop (cave_of rules.now) object }
 {
-    if object == names.rug || object == names.chain {
+    if object == rules.object(Named::Rug) || object == rules.object(Named::Chain) {
         Prop::new(1)
     } else {
         Prop::new(0)
@@ -57,28 +61,28 @@ fn shorten_lamp(state: &mut State)
 
 /// A treasure is seen for the first time.
 #[tactic(auto, unfolding(crate::specs::Objects::found))]
-fn find(names: &Names, object: Object, state: &mut State)
-    ensures { state.new ≡ found names.now object state.old }
+fn find(rules: &Rules<'_>, object: Object, state: &mut State)
+    ensures { state.new ≡ found (cave_of rules.now) object state.old }
 {
-    state.objects.set_prop(object, first_prop(names, object));
+    state.objects.set_prop(object, first_prop(rules, object));
     count_one_less(state);
     shorten_lamp(state);
 }
 
-fn find_if_unseen(names: &Names, object: Object, state: &mut State)
-    ensures { state.new ≡ found_if_unseen names.now object state.old }
+fn find_if_unseen(rules: &Rules<'_>, object: Object, state: &mut State)
+    ensures { state.new ≡ found_if_unseen (cave_of rules.now) object state.old }
 {
     if is_unseen(state, object) {
-        find(names, object, state);
+        find(rules, object, state);
     }
 }
 
 /// The prop for which an object is told.
 #[tactic(auto, unfolding(crate::specs::Objects::told_prop))]
-fn told_prop(names: &Names, state: &State, object: Object) -> Prop
-    ensures { result ≡ told_prop names.now state.now object }
+fn told_prop(rules: &Rules<'_>, state: &State, object: Object) -> Prop
+    ensures { result ≡ told_prop (cave_of rules.now) state.now object }
 {
-    if object == names.steps && is_second_here(state, object) {
+    if object == rules.object(Named::Steps) && is_second_here(state, object) {
         Prop::new(1)
     } else {
         state.objects.prop(object)
@@ -86,7 +90,8 @@ fn told_prop(names: &Names, state: &State, object: Object) -> Prop
 }
 
 fn is_second_here(state: &State, object: Object) -> bool
-    ensures { result ≡ is_place state.now.trail.here (place_of_anchor (anchor_of state.now.objects object)) }
+    ensures { result
+        ≡ is_place state.now.trail.here (place_of_anchor (anchor_of state.now.objects object)) }
 {
     match state.objects.anchor(object).place() {
         Some(place) => place == state.trail.here,
@@ -96,39 +101,44 @@ fn is_second_here(state: &State, object: Object) -> bool
 
 /// An object is told, and is found if it wasn't seen before.
 #[tactic(auto, unfolding(crate::specs::Objects::object_told))]
-fn tell_object(names: &Names, object: Object, play: &mut Play<'_>)
+fn tell_object(rules: &Rules<'_>, object: Object, play: &mut Play<'_>)
     requires { array_vec_len play.old.out.now < 512 }
-    ensures play { scene_of play.new ≡ object_told names.now object (scene_of play.old) }
+    ensures play { scene_of play.new
+        ≡ object_told (cave_of rules.now) object (scene_of play.old) }
     ensures same { GoesOn play.old play.new }
     ensures few { array_vec_len play.new.out.now ≤ array_vec_len play.old.out.now + 1 }
 {
-    if is_kept_back(names, play.state, object) {
+    if is_kept_back(rules, play.state, object) {
         return;
     }
-    find_if_unseen(names, object, play.state);
-    let prop = told_prop(names, play.state, object);
+    find_if_unseen(rules, object, play.state);
+    let prop = told_prop(rules, play.state, object);
     play.tell(Part::Object(object, prop));
 }
 
-fn tell_all(names: &Names, halves: &[Half], play: &mut Play<'_>)
+fn tell_all(rules: &Rules<'_>, halves: &[Half], play: &mut Play<'_>)
     requires { array_vec_len play.old.out.now + length halves.now ≤ 512 }
-    ensures play { scene_of play.new ≡ objects_told names.now halves.now (scene_of play.old) }
+    ensures play { scene_of play.new
+        ≡ objects_told (cave_of rules.now) halves.now (scene_of play.old) }
     ensures same { GoesOn play.old play.new }
-    ensures few { array_vec_len play.new.out.now ≤ array_vec_len play.old.out.now + length halves.now }
+    ensures few { array_vec_len play.new.out.now
+        ≤ array_vec_len play.old.out.now + length halves.now }
 {
     for half in halves {
-        tell_object(names, half.object(), play);
+        tell_object(rules, half.object(), play);
     }
 }
 
 /// The objects where the player stands are told, latest first.
-pub fn tell_objects(names: &Names, play: &mut Play<'_>)
+pub fn tell_objects(rules: &Rules<'_>, play: &mut Play<'_>)
     requires { array_vec_len play.old.out.now + 200 ≤ 512 }
-    ensures play { scene_of play.new ≡ objects_told names.now (halves_at play.old.state.now.trail.here play.old.state.now.objects.lists) (scene_of play.old) }
+    ensures play { let state = play.old.state.now in
+        let halves = halves_at state.trail.here state.objects.lists in
+        scene_of play.new ≡ objects_told (cave_of rules.now) halves (scene_of play.old) }
     ensures same { GoesOn play.old play.new }
     ensures few { array_vec_len play.new.out.now ≤ array_vec_len play.old.out.now + 200 }
 {
     let here = play.state.trail.here;
     let halves = play.state.objects_at(here);
-    tell_all(names, halves.as_slice(), play);
+    tell_all(rules, halves.as_slice(), play);
 }

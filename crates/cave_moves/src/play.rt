@@ -21,7 +21,7 @@ pub struct Play<'a> {
 }
 
 impl<'a> Play<'a> {
-    ghost use Rattle.cave_turn.specs.Plays.{scene_of, GoesOn, opening, telling, saying, standing, sets_out, dies, after_draw, happens};
+    ghost use Rattle.cave_moves.specs.Plays.{scene_of, GoesOn, opening, telling, saying, standing, sets_out, dies, after_draw, happens};
 
     /// A turn begins with nothing said, and with all its forced motions.
     pub fn open(state: &'a mut State, out: &'a mut Out, was_dark: bool) -> Play<'a>

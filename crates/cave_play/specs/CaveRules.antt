@@ -2,7 +2,7 @@
 use Rattle.std.specs.Prelude.{ℕ, List}
 use Rattle.cave_data.specs.CaveView.{CaveView}
 use Rattle.cave_replay.specs.Rules.{Rules}
-use Rattle.cave_turn.specs.Text.{text_of_all}
+use Rattle.cave_text.specs.Text.{text_of_all}
 use Rattle.cave_turn.specs.Turn.{begun, turned}
 use Rattle.cave_world.specs.declared.part.Part.{Part}
 use Rattle.cave_world.specs.declared.state.State.{State}

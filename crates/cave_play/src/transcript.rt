@@ -9,7 +9,7 @@ ghost use Rattle.cave_play.specs.Output.{play_text};
 use crate::machine::CaveMachine;
 use cave_data::Cave;
 use cave_replay::Session;
-use cave_turn::render;
+use cave_text::render;
 use cave_words::LogLine;
 use cave_world::Part;
 use std::alloc::{AllocError, Global};

@@ -6,7 +6,7 @@ use Rattle.cave_data.specs.Role.{role_number, role_names}
 use Rattle.cave_data.specs.declared.role.Role.{Role}
 use Rattle.cave_world.specs.declared.part.Part.{Part}
 use Rattle.cave_world.specs.declared.part.Part.TheVariants as part
-use Rattle.cave_turn.specs.OwnLines.{number_line, word_line, final_line}
+use Rattle.cave_text.specs.OwnLines.{number_line, word_line, final_line}
 
 -- a text that isn't there prints nothing
 abbrev pub or_nothing : Option (List ℕ) → List ℕ

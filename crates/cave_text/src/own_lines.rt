@@ -1,5 +1,5 @@
 ghost use Rattle.std.specs.Prelude.{◌≡◌, ◌++◌, take, vec_len, decimal, OnOk};
-ghost use Rattle.cave_turn.specs.OwnLines.{counting, scored, quoting, number_line, word_line, final_line, points, more_points, turn_count};
+ghost use Rattle.cave_text.specs.OwnLines.{counting, scored, quoting, number_line, word_line, final_line, points, more_points, turn_count};
 
 use cave_words::Word;
 use cave_world::{NumberLine, WordLine};

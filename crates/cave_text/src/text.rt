@@ -1,5 +1,5 @@
 ghost use Rattle.std.specs.Prelude.{◌≡◌, ◌++◌, take, vec_len, OnOk, OnErr};
-ghost use Rattle.cave_turn.specs.Text.{text_of, text_of_all, message_text, name_line, look_text, class_text};
+ghost use Rattle.cave_text.specs.Text.{text_of, text_of_all, message_text, name_line, look_text, class_text};
 
 use crate::own_lines::{append_final_line, append_number_line, append_word_line};
 use cave_data::{Cave, Role};

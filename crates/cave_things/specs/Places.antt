@@ -27,3 +27,11 @@ start_place cave = place_or 1 (place_named cave place.Start)
 -- the last place outside the cave
 unfoldable pub outside_place : CaveView → ℕ
 outside_place cave = place_or 8 (place_named cave place.Outside)
+
+-- the first place of the cave's depths
+unfoldable pub deep_place : CaveView → ℕ
+deep_place cave = place_or 15 (place_named cave place.Deep)
+
+-- the place where treasures are to be brought
+unfoldable pub building_place : CaveView → ℕ
+building_place cave = place_or 3 (place_named cave place.Building)

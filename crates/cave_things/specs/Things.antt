@@ -1,26 +1,33 @@
--- The objects that the rules of the turn name.
-use Rattle.std.specs.Prelude.{ℕ, nat_le, if◌then◌else◌, Option, Some, None}
+-- The objects that rules name.
+use Rattle.std.specs.Prelude.{ℕ, Bool, true, false, ◌==◌, ◌&&◌, nat_le, if◌then◌else◌}
+use Rattle.std.specs.Prelude.{Option, Some, None}
 use Rattle.cave_data.specs.CaveView.{CaveView}
 use Rattle.cave_words.specs.Named.{object_named}
 use Rattle.cave_words.specs.declared.named.Named.{Named}
-use Rattle.cave_words.specs.declared.named.Named.TheVariants as name
-use Rattle.cave_turn.specs.declared.names.Names.{Names}
+use Rattle.cave_words.specs.declared.named.Named.TheVariants as named
+use Rattle.cave_things.specs.declared.rules.Rules.{Rules}
+
+-- the cave that the rules are of
+abbrev pub cave_of : Rules → CaveView
+cave_of rules = rules.cave.now
 
 -- an object, or 0 where there is none
 abbrev pub or_no_object : Option ℕ → ℕ
 or_no_object None = 0
 or_no_object (Some object) = if nat_le object 100 then object else 0
 
-abbrev pub object_called : CaveView → Named → ℕ
-object_called cave name = or_no_object (object_named cave name)
+-- the object that a word of the rules names
+unfoldable pub called : CaveView → Named → ℕ
+called cave name = or_no_object (object_named cave name)
 
-unfoldable pub names_of : CaveView → Names
-names_of cave = record {
-  lamp = object_called cave name.Lamp;
-  steps = object_called cave name.Steps;
-  bear = object_called cave name.Bear;
-  gold = object_called cave name.Gold;
-  emerald = object_called cave name.Emerald;
-  rug = object_called cave name.Rug;
-  chain = object_called cave name.Chain;
-}
+-- a liquid, which the bottle may hold
+abbrev pub is_liquid_name : Named → Bool
+is_liquid_name named.Water = true
+is_liquid_name named.Oil = true
+is_liquid_name _ = false
+
+-- the object of a name: WATER and OIL count as absent where their number is that of BOTTL
+unfoldable pub thing : CaveView → Named → ℕ
+thing cave name =
+    if is_liquid_name name && called cave name == called cave named.Bottle then 0
+    else called cave name

@@ -1,5 +1,6 @@
 ghost use Rattle.std.specs.Prelude.{◌≡◌};
-ghost use Rattle.cave_turn.specs.Places.{place_named, is_that, place_or, start_place, outside_place};
+ghost use Rattle.cave_things.specs.Places.{place_named, is_that, place_or};
+ghost use Rattle.cave_things.specs.Places.{start_place, outside_place, deep_place, building_place};
 
 use cave_data::{Cave, PlaceRole};
 use cave_world::Place;
@@ -49,4 +50,20 @@ pub fn outside_place(cave: &Cave) -> Place
     ensures { result ≡ outside_place cave.now }
 {
     place_or(Place::new(8), place_named(cave, PlaceRole::Outside))
+}
+
+/// The first place of the cave's depths.
+#[tactic(auto, unfolding(crate::specs::Places::deep_place))]
+pub fn deep_place(cave: &Cave) -> Place
+    ensures { result ≡ deep_place cave.now }
+{
+    place_or(Place::new(15), place_named(cave, PlaceRole::Deep))
+}
+
+/// The place where treasures are to be brought.
+#[tactic(auto, unfolding(crate::specs::Places::building_place))]
+pub fn building_place(cave: &Cave) -> Place
+    ensures { result ≡ building_place cave.now }
+{
+    place_or(Place::new(3), place_named(cave, PlaceRole::Building))
 }

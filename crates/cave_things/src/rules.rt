@@ -1,55 +1,81 @@
+//! What a cave says, by which its rules go: the cave, its words, and the objects that rules name.
+
 ghost use Rattle.std.specs.Prelude.{◌≡◌};
 ghost use Rattle.cave_words.specs.Lexicon.{IsLexiconOf};
-ghost use Rattle.cave_turn.specs.Names.{or_no_object, object_called, names_of};
+ghost use Rattle.cave_words.specs.Meaning.{meaning};
+ghost use Rattle.cave_words.specs.Words.{words_of};
 
 use cave_data::Cave;
-use cave_words::{Lexicon, Named};
+use cave_words::{Lexicon, Meaning, Named, Word, Words};
 use cave_world::Object;
 
-/// The objects that the rules of the turn name. Object 0 stands for one that the cave doesn't have.
-#[derive(Clone, Copy, Debug, PartialEq, Eq)]
-pub struct Names {
-    pub lamp: Object,
-    pub steps: Object,
-    pub bear: Object,
-    pub gold: Object,
-    pub emerald: Object,
-    pub rug: Object,
-    pub chain: Object,
+/// The rules of a cave: what its database says, and the objects that rules name.
+#[derive(Clone, Copy)]
+pub struct Rules<'a> {
+    pub cave: &'a Cave,
+    pub lexicon: &'a Lexicon,
+    pub ghost words: { IsLexiconOf cave.now lexicon.now },
 }
 
-fn or_no_object(object: Option<u16>) -> Object
-    ensures { result ≡ or_no_object object }
-{
-    match object {
-        Some(number) if number <= 100 => Object::new(number as u8),
-        _ => Object::none(),
-    }
-}
+impl<'a> Rules<'a> {
+    ghost use Rattle.cave_things.specs.Things.{cave_of, is_liquid_name, or_no_object};
+    ghost use Rattle.cave_things.specs.Things.{called, thing};
 
-/// The object that a word of the rules names in a cave.
-pub fn object_called(cave: &Cave, lexicon: &Lexicon, name: Named) -> Object
-    requires { IsLexiconOf cave.now lexicon.now }
-    ensures { result ≡ object_called cave.now name }
-{
-    or_no_object(lexicon.named(cave, name))
-}
-
-impl Names {
-    /// The objects that have the names in a cave.
-    #[tactic(auto, unfolding(crate::specs::Names::names_of))]
-    pub fn of(cave: &Cave, lexicon: &Lexicon) -> Names
+    /// The rules of a cave, with the lexicon of that cave.
+    pub fn of(cave: &'a Cave, lexicon: &'a Lexicon) -> Rules<'a>
         requires { IsLexiconOf cave.now lexicon.now }
-        ensures { result ≡ names_of cave.now }
+        ensures { cave_of result ≡ cave.now }
     {
-        Names {
-            lamp: object_called(cave, lexicon, Named::Lamp),
-            steps: object_called(cave, lexicon, Named::Steps),
-            bear: object_called(cave, lexicon, Named::Bear),
-            gold: object_called(cave, lexicon, Named::Gold),
-            emerald: object_called(cave, lexicon, Named::Emerald),
-            rug: object_called(cave, lexicon, Named::Rug),
-            chain: object_called(cave, lexicon, Named::Chain),
+        Rules { cave, lexicon }
+    }
+
+    /// What a word means.
+    pub fn meaning(&self, word: Word) -> Option<Meaning>
+        ensures { result ≡ meaning (cave_of self.now) word }
+    {
+        self.lexicon.find(word)
+    }
+
+    /// The words of a line.
+    pub fn words_of(&self, line: &[u8]) -> Words
+        ensures { result ≡ words_of (cave_of self.now).letters line.now }
+    {
+        Words::of(line, self.lexicon.letters())
+    }
+
+    /// The object of a number, or object 0.
+    fn or_no_object(object: Option<u16>) -> Object
+        ensures { result ≡ or_no_object object }
+    {
+        match object {
+            Some(number) if number <= 100 => Object::new(number as u8),
+            _ => Object::none(),
         }
+    }
+
+    /// The object that the word of a name means.
+    #[tactic(auto, unfolding(crate::specs::Things::called))]
+    fn called(&self, name: Named) -> Object
+        ensures { result ≡ called (cave_of self.now) name }
+    {
+        Self::or_no_object(self.lexicon.named(self.cave, name))
+    }
+
+    fn is_liquid_name(name: Named) -> bool
+        ensures { result ≡ is_liquid_name name }
+    {
+        matches!(name, Named::Water | Named::Oil)
+    }
+
+    /// The object of a name; object 0 where the cave has none.
+    #[tactic(auto, unfolding(crate::specs::Things::thing))]
+    pub fn object(&self, name: Named) -> Object
+        ensures { result ≡ thing (cave_of self.now) name }
+    {
+        let object = self.called(name);
+        if Self::is_liquid_name(name) && object == self.called(Named::Bottle) {
+            return Object::none();
+        }
+        object
     }
 }

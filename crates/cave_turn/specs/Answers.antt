@@ -7,13 +7,11 @@ use Rattle.cave_words.specs.Words.{words_of}
 use Rattle.cave_world.specs.declared.ending.Question.{Question}
 use Rattle.cave_world.specs.declared.ending.Question.TheVariants.{Welcome}
 use Rattle.cave_world.specs.declared.state.State.{State}
+use Rattle.cave_things.specs.Places.{start_place}
+use Rattle.cave_moves.specs.Arrival.{arriving}
+use Rattle.cave_moves.specs.Plays.{Scene, opening, saying, with_state}
 use Rattle.cave_turn.specs.declared.answers.Answer.{Answer}
 use Rattle.cave_turn.specs.declared.answers.Answer.TheVariants.{Yes, No, Neither}
-use Rattle.cave_turn.specs.declared.names.Names.{Names}
-use Rattle.cave_turn.specs.Arrival.{arriving}
-use Rattle.cave_turn.specs.Names.{names_of}
-use Rattle.cave_turn.specs.Places.{start_place}
-use Rattle.cave_turn.specs.Plays.{Scene, opening, saying, with_state}
 
 -- Y and YES say yes, N and NO say no
 abbrev pub answer_of : List ℕ → Answer
@@ -40,19 +38,19 @@ instructed s =
     record s { hints = record hints { is_taken = slice_set hints.is_taken 2 true }; lamp = record lamp { charge = pos 1000 } }
 
 -- the game begins at its first place
-unfoldable pub entering : CaveView → Names → Scene → Scene
-entering cave names p = arriving cave names (start_place cave) (with_state (closed p.state) p)
+unfoldable pub entering : CaveView → Scene → Scene
+entering cave p = arriving cave (start_place cave) (with_state (closed p.state) p)
 
 -- who wants instructions gets them first
-abbrev pub welcomed : CaveView → Names → Answer → Scene → Scene
-welcomed cave names Yes p = entering cave names (with_state (instructed p.state) (saying role.Instructions p))
-welcomed cave names No p = entering cave names p
-welcomed cave names Neither p = saying role.Welcome (saying role.Answer p)
+abbrev pub welcomed : CaveView → Answer → Scene → Scene
+welcomed cave Yes p = entering cave (with_state (instructed p.state) (saying role.Instructions p))
+welcomed cave No p = entering cave p
+welcomed cave Neither p = saying role.Welcome (saying role.Answer p)
 
 -- the question at the start alone has an answer yet
-abbrev pub asked : CaveView → Names → Question → Answer → Scene → Scene
-asked cave names Welcome answer p = welcomed cave names answer p
-asked cave names _ answer p = p
+abbrev pub asked : CaveView → Question → Answer → Scene → Scene
+asked cave Welcome answer p = welcomed cave answer p
+asked cave _ answer p = p
 
 unfoldable pub answered : CaveView → Question → List ℕ → State → Scene
-answered cave question line s = asked cave (names_of cave) question (answer_in cave line) (opening false s)
+answered cave question line s = asked cave question (answer_in cave line) (opening false s)

@@ -1,14 +1,3 @@
-pub mod OwnLines
-pub mod Text
-pub mod Names
-pub mod Plays
-pub mod Places
-pub mod Objects
-pub mod Description
-pub mod Journeys
-pub mod Arrival
-pub mod Begin
-pub mod Placing
 pub mod Commands
 pub mod Answers
 pub mod Turn

@@ -12,9 +12,9 @@ use Rattle.cave_world.specs.declared.part.Part.{Part}
 use Rattle.cave_world.specs.declared.part.Part.TheVariants as part
 use Rattle.cave_world.specs.declared.state.State.{State}
 use Rattle.cave_turn.specs.Answers.{answered}
-use Rattle.cave_turn.specs.Begin.{begun_state}
+use Rattle.cave_begin.specs.Begin.{begun_state}
 use Rattle.cave_turn.specs.Commands.{commanded}
-use Rattle.cave_turn.specs.Plays.{Scene}
+use Rattle.cave_moves.specs.Plays.{Scene}
 
 -- the state after a line, what the line says, and whether it is a turn of the game
 pub record Turn : Type 0 where

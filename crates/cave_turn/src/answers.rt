@@ -1,15 +1,16 @@
 ghost use Rattle.std.specs.Prelude.{◌≡◌, ◌+◌, ◌<◌, ◌≤◌, []};
 ghost use Rattle.arrayvec.specs.ArrayVec.{array_vec_len};
-ghost use Rattle.cave_words.specs.Lexicon.{IsLexiconOf};
-ghost use Rattle.cave_turn.specs.Answers.{answer_of, answer_in, instructed, entering, welcomed, asked, answered};
-ghost use Rattle.cave_turn.specs.Plays.{scene_of, parts_by_arrival, IsSamePlay};
+ghost use Rattle.cave_things.specs.Things.{cave_of};
+ghost use Rattle.cave_moves.specs.Plays.{scene_of, parts_by_arrival, IsSamePlay};
+ghost use Rattle.cave_turn.specs.Answers.{answer_of, answer_in, instructed, entering};
+ghost use Rattle.cave_turn.specs.Answers.{welcomed, asked, answered};
 
-use crate::arrival::arrive;
-use crate::names::Names;
-use crate::places::start_place;
-use crate::play::Play;
-use cave_data::{Cave, Role};
-use cave_words::{Lexicon, Word, Words};
+use cave_data::Role;
+use cave_moves::Play;
+use cave_moves::arrival::arrive;
+use cave_things::Rules;
+use cave_things::places::start_place;
+use cave_words::Word;
 use cave_world::{Charge, Out, Question, State};
 
 /// What a line says to a question.
@@ -34,11 +35,10 @@ fn answer_of(word: Word) -> Answer
 
 /// What a line says to a question: its first word alone counts.
 #[tactic(auto, unfolding(crate::specs::Answers::answer_in))]
-pub fn answer_in(cave: &Cave, lexicon: &Lexicon, line: &[u8]) -> Answer
-    requires { IsLexiconOf cave.now lexicon.now }
-    ensures { result ≡ answer_in cave.now line.now }
+pub fn answer_in(rules: &Rules<'_>, line: &[u8]) -> Answer
+    ensures { result ≡ answer_in (cave_of rules.now) line.now }
 {
-    match Words::of(line, lexicon.letters()).first {
+    match rules.words_of(line).first {
         Some(word) => answer_of(word),
         None => Answer::Neither,
     }
@@ -54,19 +54,19 @@ fn instruct(state: &mut State)
 
 /// The game begins at its first place.
 #[tactic(auto, unfolding(crate::specs::Answers::entering))]
-fn enter(cave: &Cave, names: &Names, play: &mut Play<'_>)
+fn enter(rules: &Rules<'_>, play: &mut Play<'_>)
     requires { parts_by_arrival play.old ≤ 512 }
-    ensures play { scene_of play.new ≡ entering cave.now names.now (scene_of play.old) }
+    ensures play { scene_of play.new ≡ entering (cave_of rules.now) (scene_of play.old) }
     ensures same { IsSamePlay play.old play.new }
     ensures few { array_vec_len play.new.out.now ≤ parts_by_arrival play.old }
 {
     play.state.question = None;
-    arrive(cave, names, start_place(cave), play);
+    arrive(rules, start_place(rules.cave), play);
 }
 
-fn welcome(cave: &Cave, names: &Names, answer: Answer, play: &mut Play<'_>)
+fn welcome(rules: &Rules<'_>, answer: Answer, play: &mut Play<'_>)
     requires { parts_by_arrival play.old < 512 }
-    ensures play { scene_of play.new ≡ welcomed cave.now names.now answer (scene_of play.old) }
+    ensures play { scene_of play.new ≡ welcomed (cave_of rules.now) answer (scene_of play.old) }
     ensures same { IsSamePlay play.old play.new }
     ensures few { array_vec_len play.new.out.now ≤ parts_by_arrival play.old + 1 }
 {
@@ -74,9 +74,9 @@ fn welcome(cave: &Cave, names: &Names, answer: Answer, play: &mut Play<'_>)
         Answer::Yes => {
             play.say(Role::Instructions);
             instruct(play.state);
-            enter(cave, names, play)
+            enter(rules, play)
         }
-        Answer::No => enter(cave, names, play),
+        Answer::No => enter(rules, play),
         Answer::Neither => {
             play.say(Role::Answer);
             play.say(Role::Welcome)
@@ -84,14 +84,15 @@ fn welcome(cave: &Cave, names: &Names, answer: Answer, play: &mut Play<'_>)
     }
 }
 
-fn ask(cave: &Cave, names: &Names, question: Question, answer: Answer, play: &mut Play<'_>)
+fn ask(rules: &Rules<'_>, question: Question, answer: Answer, play: &mut Play<'_>)
     requires { parts_by_arrival play.old < 512 }
-    ensures play { scene_of play.new ≡ asked cave.now names.now question answer (scene_of play.old) }
+    ensures play { scene_of play.new
+        ≡ asked (cave_of rules.now) question answer (scene_of play.old) }
     ensures same { IsSamePlay play.old play.new }
     ensures few { array_vec_len play.new.out.now ≤ parts_by_arrival play.old + 1 }
 {
     match question {
-        Question::Welcome => welcome(cave, names, answer, play),
+        Question::Welcome => welcome(rules, answer, play),
         Question::Quit
         | Question::ScoreQuit
         | Question::Die
@@ -105,21 +106,19 @@ fn ask(cave: &Cave, names: &Names, question: Question, answer: Answer, play: &mu
 /// Takes a line as the answer to the open question.
 #[tactic(auto, unfolding(crate::specs::Answers::answered))]
 pub fn take_answer(
-    cave: &Cave,
-    lexicon: &Lexicon,
+    rules: &Rules<'_>,
     question: Question,
     line: &[u8],
     state: &mut State,
     out: &mut Out,
 )
-    requires lexicon { IsLexiconOf cave.now lexicon.now }
-    requires empty { out.old.items ≡ [] }
-    ensures state { (answered cave.now question line.now state.old).state ≡ state.new }
-    ensures parts { (answered cave.now question line.now state.old).parts ≡ out.new.items }
+    requires { out.old.items ≡ [] }
+    ensures state { (answered (cave_of rules.now) question line.now state.old).state ≡ state.new }
+    ensures parts { (answered (cave_of rules.now) question line.now state.old).parts
+        ≡ out.new.items }
     ensures few { array_vec_len out.new ≤ 307 }
 {
-    let names = Names::of(cave, lexicon);
-    let answer = answer_in(cave, lexicon, line);
+    let answer = answer_in(rules, line);
     let mut play = Play::open(state, out, false);
-    ask(cave, &names, question, answer, &mut play);
+    ask(rules, question, answer, &mut play);
 }

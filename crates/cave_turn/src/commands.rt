@@ -1,28 +1,30 @@
 ghost use Rattle.std.specs.Prelude.{◌≡◌, ◌+◌, ◌<◌, ◌≤◌, []};
 ghost use Rattle.arrayvec.specs.ArrayVec.{array_vec_len};
-ghost use Rattle.cave_words.specs.Lexicon.{IsLexiconOf};
 ghost use Rattle.cave_words.specs.Meaning.{meaning};
-ghost use Rattle.cave_turn.specs.Commands.{travelling, puzzlement, puzzled, telling_message, done_by, done_as, has_water, is_by_water, wetted, entered, done_with, done_for, commanded};
-ghost use Rattle.cave_turn.specs.Plays.{scene_of, parts_by_arrival, IsSamePlay, GoesOn};
+ghost use Rattle.cave_things.specs.Things.{cave_of};
+ghost use Rattle.cave_moves.specs.Plays.{scene_of, parts_by_arrival, IsSamePlay, GoesOn};
+ghost use Rattle.cave_turn.specs.Commands.{travelling, puzzlement, puzzled, telling_message};
+ghost use Rattle.cave_turn.specs.Commands.{done_by, done_as, is_by_water, wetted, entered};
+ghost use Rattle.cave_turn.specs.Commands.{done_with, done_for, commanded};
 
-use crate::arrival::arrive;
-use crate::journeys::lead_by_motion;
-use crate::names::{Names, object_called};
-use crate::play::Play;
-use cave_data::{Cave, Role};
-use cave_words::{Class, Lexicon, Meaning, Named, Word, Words};
-use cave_world::{Out, Part, State, WordLine, has_condition};
+use cave_data::Role;
+use cave_moves::Play;
+use cave_moves::arrival::arrive;
+use cave_moves::journeys::lead_by_motion;
+use cave_things::{Rules, is_liquid};
+use cave_words::{Class, Meaning, Named, Word, Words};
+use cave_world::{Out, Part, State, WordLine};
 
 /// The player travels by a motion.
 #[tactic(auto, unfolding(crate::specs::Commands::travelling))]
-fn travel_by(cave: &Cave, names: &Names, motion: u16, play: &mut Play<'_>)
+fn travel_by(rules: &Rules<'_>, motion: u16, play: &mut Play<'_>)
     requires { parts_by_arrival play.old < 512 }
-    ensures play { scene_of play.new ≡ travelling cave.now names.now motion (scene_of play.old) }
+    ensures play { scene_of play.new ≡ travelling (cave_of rules.now) motion (scene_of play.old) }
     ensures same { IsSamePlay play.old play.new }
     ensures few { array_vec_len play.new.out.now ≤ parts_by_arrival play.old + 1 }
 {
-    let place = lead_by_motion(cave, names, motion, play);
-    arrive(cave, names, place, play);
+    let place = lead_by_motion(rules, motion, play);
+    arrive(rules, place, play);
 }
 
 fn puzzlement(first: bool, second: bool) -> Role
@@ -62,61 +64,49 @@ fn tell_message(number: u16, play: &mut Play<'_>)
 }
 
 /// Does what a word of a class does.
-fn do_by(cave: &Cave, names: &Names, word: Word, meaning: Meaning, play: &mut Play<'_>)
+fn do_by(rules: &Rules<'_>, word: Word, meaning: Meaning, play: &mut Play<'_>)
     requires { parts_by_arrival play.old < 512 }
-    ensures play { scene_of play.new ≡ done_by cave.now names.now word meaning.class meaning.number (scene_of play.old) }
+    ensures play { scene_of play.new
+        ≡ done_by (cave_of rules.now) word meaning.class meaning.number (scene_of play.old) }
     ensures same { IsSamePlay play.old play.new }
     ensures few { array_vec_len play.new.out.now ≤ parts_by_arrival play.old + 1 }
 {
     match meaning.class {
-        Class::Motion => travel_by(cave, names, meaning.number, play),
+        Class::Motion => travel_by(rules, meaning.number, play),
         Class::Object => play.tell(Part::Word(WordLine::NotSeen, word)),
-        Class::Action => tell_message(cave.default_of(meaning.number), play),
+        Class::Action => tell_message(rules.cave.default_of(meaning.number), play),
         Class::Special => play.tell(Part::Message(meaning.number)),
     }
 }
 
-fn do_word(cave: &Cave, lexicon: &Lexicon, names: &Names, word: Word, play: &mut Play<'_>)
-    requires lexicon { IsLexiconOf cave.now lexicon.now }
-    requires room { parts_by_arrival play.old < 512 }
-    ensures play { scene_of play.new ≡ done_as cave.now names.now word (meaning cave.now word) (scene_of play.old) }
+fn do_word(rules: &Rules<'_>, word: Word, play: &mut Play<'_>)
+    requires { parts_by_arrival play.old < 512 }
+    ensures play { let cave = cave_of rules.now in
+        scene_of play.new ≡ done_as cave word (meaning cave word) (scene_of play.old) }
     ensures same { IsSamePlay play.old play.new }
     ensures few { array_vec_len play.new.out.now ≤ parts_by_arrival play.old + 1 }
 {
-    match lexicon.find(word) {
-        Some(meaning) => do_by(cave, names, word, meaning, play),
+    match rules.meaning(word) {
+        Some(meaning) => do_by(rules, word, meaning, play),
         None => puzzle(play),
     }
 }
 
-/// Whether WATER is an object of its own.
-#[tactic(auto, unfolding(crate::specs::Commands::has_water))]
-fn has_water(cave: &Cave, lexicon: &Lexicon) -> bool
-    requires { IsLexiconOf cave.now lexicon.now }
-    ensures { result ≡ has_water cave.now }
-{
-    let water = object_called(cave, lexicon, Named::Water).number();
-    water != 0 && water != object_called(cave, lexicon, Named::Bottle).number()
-}
-
 /// Whether there is water to step into.
 #[tactic(auto, unfolding(crate::specs::Commands::is_by_water))]
-fn is_by_water(cave: &Cave, lexicon: &Lexicon, state: &State) -> bool
-    requires { IsLexiconOf cave.now lexicon.now }
-    ensures { result ≡ is_by_water cave.now state.now }
+fn is_by_water(rules: &Rules<'_>, state: &State) -> bool
+    ensures { result ≡ is_by_water (cave_of rules.now) state.now }
 {
-    let here = state.trail.here;
-    has_condition(cave, here, 2) && !has_condition(cave, here, 1) && has_water(cave, lexicon)
+    is_liquid(rules.object(Named::Water), rules.lake(state))
 }
 
-fn wet_feet(cave: &Cave, lexicon: &Lexicon, play: &mut Play<'_>)
-    requires lexicon { IsLexiconOf cave.now lexicon.now }
-    requires room { array_vec_len play.old.out.now < 512 }
-    ensures play { scene_of play.new ≡ wetted cave.now (scene_of play.old) }
+fn wet_feet(rules: &Rules<'_>, play: &mut Play<'_>)
+    requires { array_vec_len play.old.out.now < 512 }
+    ensures play { scene_of play.new ≡ wetted (cave_of rules.now) (scene_of play.old) }
     ensures same { GoesOn play.old play.new }
     ensures few { array_vec_len play.new.out.now ≤ array_vec_len play.old.out.now + 1 }
 {
-    if is_by_water(cave, lexicon, play.state) {
+    if is_by_water(rules, play.state) {
         play.say(Role::FeetWet);
     } else {
         play.say(Role::Where);
@@ -124,72 +114,60 @@ fn wet_feet(cave: &Cave, lexicon: &Lexicon, play: &mut Play<'_>)
 }
 
 /// The player enters what a word says.
-fn enter_into(cave: &Cave, lexicon: &Lexicon, names: &Names, word: Word, play: &mut Play<'_>)
-    requires lexicon { IsLexiconOf cave.now lexicon.now }
-    requires room { parts_by_arrival play.old < 512 }
-    ensures play { scene_of play.new ≡ entered cave.now names.now word (scene_of play.old) }
+fn enter_into(rules: &Rules<'_>, word: Word, play: &mut Play<'_>)
+    requires { parts_by_arrival play.old < 512 }
+    ensures play { scene_of play.new ≡ entered (cave_of rules.now) word (scene_of play.old) }
     ensures same { IsSamePlay play.old play.new }
     ensures few { array_vec_len play.new.out.now ≤ parts_by_arrival play.old + 1 }
 {
     if word.is(b"STREA") || word.is(b"WATER") {
-        wet_feet(cave, lexicon, play);
+        wet_feet(rules, play);
     } else {
-        do_word(cave, lexicon, names, word, play);
+        do_word(rules, word, play);
     }
 }
 
-fn do_with(
-    cave: &Cave,
-    lexicon: &Lexicon,
-    names: &Names,
-    word: Word,
-    other: Option<Word>,
-    play: &mut Play<'_>,
-)
-    requires lexicon { IsLexiconOf cave.now lexicon.now }
-    requires room { parts_by_arrival play.old < 512 }
-    ensures play { scene_of play.new ≡ done_with cave.now names.now word other (scene_of play.old) }
+fn do_with(rules: &Rules<'_>, word: Word, other: Option<Word>, play: &mut Play<'_>)
+    requires { parts_by_arrival play.old < 512 }
+    ensures play { scene_of play.new
+        ≡ done_with (cave_of rules.now) word other (scene_of play.old) }
     ensures same { IsSamePlay play.old play.new }
     ensures few { array_vec_len play.new.out.now ≤ parts_by_arrival play.old + 1 }
 {
     match other {
-        None => do_word(cave, lexicon, names, word, play),
+        None => do_word(rules, word, play),
         Some(other) => {
             if word.is(b"ENTER") {
-                enter_into(cave, lexicon, names, other, play)
+                enter_into(rules, other, play)
             } else {
-                do_word(cave, lexicon, names, word, play)
+                do_word(rules, word, play)
             }
         }
     }
 }
 
 /// Does what the words of a line say.
-fn do_words(cave: &Cave, lexicon: &Lexicon, names: &Names, words: Words, play: &mut Play<'_>)
-    requires lexicon { IsLexiconOf cave.now lexicon.now }
-    requires room { parts_by_arrival play.old < 512 }
-    ensures play { scene_of play.new ≡ done_for cave.now names.now words (scene_of play.old) }
+fn do_words(rules: &Rules<'_>, words: Words, play: &mut Play<'_>)
+    requires { parts_by_arrival play.old < 512 }
+    ensures play { scene_of play.new ≡ done_for (cave_of rules.now) words (scene_of play.old) }
     ensures same { IsSamePlay play.old play.new }
     ensures few { array_vec_len play.new.out.now ≤ parts_by_arrival play.old + 1 }
 {
     match words.first {
         None => {}
-        Some(word) => do_with(cave, lexicon, names, word, words.second, play),
+        Some(word) => do_with(rules, word, words.second, play),
     }
 }
 
 /// Does what a line commands.
 #[tactic(auto, unfolding(crate::specs::Commands::commanded))]
-pub fn command(cave: &Cave, lexicon: &Lexicon, line: &[u8], state: &mut State, out: &mut Out)
-    requires lexicon { IsLexiconOf cave.now lexicon.now }
-    requires empty { out.old.items ≡ [] }
-    ensures state { (commanded cave.now line.now state.old).state ≡ state.new }
-    ensures parts { (commanded cave.now line.now state.old).parts ≡ out.new.items }
+pub fn command(rules: &Rules<'_>, line: &[u8], state: &mut State, out: &mut Out)
+    requires { out.old.items ≡ [] }
+    ensures state { (commanded (cave_of rules.now) line.now state.old).state ≡ state.new }
+    ensures parts { (commanded (cave_of rules.now) line.now state.old).parts ≡ out.new.items }
     ensures few { array_vec_len out.new ≤ 307 }
 {
-    let names = Names::of(cave, lexicon);
-    let was_dark = state.is_dark(cave, names.lamp);
+    let was_dark = state.is_dark(rules.cave, rules.object(Named::Lamp));
     let mut play = Play::open(state, out, was_dark);
-    let words = Words::of(line, lexicon.letters());
-    do_words(cave, lexicon, &names, words, &mut play);
+    do_words(rules, rules.words_of(line), &mut play);
 }

@@ -2,12 +2,14 @@ ghost use Rattle.std.specs.Prelude.{◌≡◌, ◌+◌, ◌^◌, ◌<◌, ◌≤
 ghost use Rattle.arrayvec.specs.ArrayVec.{array_vec_len};
 ghost use Rattle.cave_words.specs.Lexicon.{IsLexiconOf};
 ghost use Rattle.cave_words.specs.Line.{is_line};
+ghost use Rattle.cave_things.specs.Things.{cave_of};
 ghost use Rattle.cave_turn.specs.Turn.{begun, turned, played};
 
 use crate::answers::take_answer;
-use crate::begin::begun_state;
 use crate::commands::command;
+use cave_begin::begun_state;
 use cave_data::{Cave, Role};
+use cave_things::Rules;
 use cave_words::{Lexicon, LogLine, Meter, Stream};
 use cave_world::{Out, Part, State};
 
@@ -29,10 +31,10 @@ pub fn start(cave: &Cave, seed: u32, out: &mut Out) -> State
 }
 
 /// Plays a line of input. Tells whether it is a turn of the game.
-fn play(cave: &Cave, lexicon: &Lexicon, line: &[u8], state: &mut State, out: &mut Out) -> bool
-    requires lexicon { IsLexiconOf cave.now lexicon.now }
-    requires empty { out.old.items ≡ [] }
-    ensures turn { record { state = state.new; parts = out.new.items; ticked = result } ≡ played cave.now line.now state.old.ending state.old.question state.old }
+fn play(rules: &Rules<'_>, line: &[u8], state: &mut State, out: &mut Out) -> bool
+    requires { out.old.items ≡ [] }
+    ensures turn { record { state = state.new; parts = out.new.items; ticked = result }
+        ≡ played (cave_of rules.now) line.now state.old.ending state.old.question state.old }
     ensures few { array_vec_len out.new ≤ 307 }
 {
     if state.ending.is_some() {
@@ -40,11 +42,11 @@ fn play(cave: &Cave, lexicon: &Lexicon, line: &[u8], state: &mut State, out: &mu
     }
     match state.question {
         Some(question) => {
-            take_answer(cave, lexicon, question, line, state, out);
+            take_answer(rules, question, line, state, out);
             false
         }
         None => {
-            command(cave, lexicon, line, state, out);
+            command(rules, line, state, out);
             true
         }
     }
@@ -70,6 +72,7 @@ pub fn turn(
     ensures counted { meter.new ≡ meter.old + 1 }
 {
     meter.tick();
+    let rules = Rules::of(cave, lexicon);
     let mut turned = Turned {
         state: *state,
         ticked: false,
@@ -77,7 +80,7 @@ pub fn turn(
     match LogLine::of(line) {
         LogLine::Comment | LogLine::Blank => {}
         LogLine::Seed(seed) => turned.state.stream = Stream::seeded(seed),
-        LogLine::Input => turned.ticked = play(cave, lexicon, line, &mut turned.state, out),
+        LogLine::Input => turned.ticked = play(&rules, line, &mut turned.state, out),
     }
     turned
 }

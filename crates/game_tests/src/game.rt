@@ -3,7 +3,8 @@
 ghost use Rattle.cave_words.specs.Lexicon.{IsLexiconOf};
 
 use cave_data::{Cave, CaveError};
-use cave_turn::{render, start, turn};
+use cave_text::render;
+use cave_turn::{start, turn};
 use cave_words::{Lexicon, Meter, check_line};
 use cave_world::{Out, State};
 use std::alloc::Global;

@@ -3,7 +3,8 @@
 use crate::game::read_cave;
 use crate::hut::{HUT, told};
 use cave_data::Cave;
-use cave_turn::{render, start};
+use cave_text::render;
+use cave_turn::start;
 use cave_world::Out;
 use std::alloc::Global;
 use std::process::Abort;
@@ -172,6 +173,18 @@ fn enters_water(rt: HostRuntime) -> Result<(), Fail> {
         ),
         (
             "4\n1005 WATER\n-1\n9\n2 1\n1 1\n-1\n",
+            "",
+            "no/enter water",
+            "[where]\n",
+        ),
+        (
+            "4\n1005 WATER\n1005 OIL\n1006 BOTTL\n-1\n9\n2 1\n1 1\n-1\n",
+            "",
+            "no/enter water",
+            "[feet-wet]\n",
+        ),
+        (
+            "4\n1005 OIL\n1005 WATER\n1005 BOTTL\n-1\n9\n2 1\n1 1\n-1\n",
             "",
             "no/enter water",
             "[where]\n",

@@ -36,12 +36,23 @@ impl Cavern {
         self.arrive(self.bound("place", "start").unwrap_or(1), world)
     }
 
+    /// The object of a liquid, unless the bottle has that number.
+    fn liquid(&self, name: &str) -> Option<u16> {
+        let liquid = self.named(name);
+        if liquid == self.named("BOTTLE") {
+            None
+        } else {
+            liquid
+        }
+    }
+
     fn wade(&self, world: &mut World) -> Result<(), AllocError> {
-        let water = self.named("WATER");
-        let is_water = water.is_some() && water != self.named("BOTTLE");
-        let is_lake = self.has_bit(world.here, 2) && !self.has_bit(world.here, 1);
+        let water = self.liquid("WATER");
+        let is_lake = self.has_bit(world.here, 2);
+        let is_of_oil = self.has_bit(world.here, 1);
+        let lake = if is_of_oil { self.liquid("OIL") } else { water };
         self.say(
-            if is_water && is_lake {
+            if is_lake && water.is_some() && lake == water {
                 "feet-wet"
             } else {
                 "where"

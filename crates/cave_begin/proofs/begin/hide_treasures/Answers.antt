@@ -1,7 +1,7 @@
 use Rattle.std.proofs.Common.{length, sym, ap, ◌∙◌, arith}
-use Rattle.cave_turn.specs.Placing.{all_hidden}
-use Rattle.cave_turn.proofs.Countdown.{known_all, known_none}
-use Rattle.cave_turn.proofs.begin.hide_treasures.Goals as goal
+use Rattle.cave_begin.specs.Placing.{all_hidden}
+use Rattle.cave_begin.proofs.Countdown.{known_all, known_none}
+use Rattle.cave_begin.proofs.begin.hide_treasures.Goals as goal
 
 pub loop-number-init : goal.loop-number-init
 loop-number-init c = record {

@@ -1,8 +1,8 @@
 use Rattle.std.proofs.Common.{◌≡◌, ◌+◌, ◌-◌, ◌≤◌, length}
-use Rattle.cave_turn.specs.Begin.{known_treasures}
-use Rattle.cave_turn.specs.Placing.{all_hidden}
-use Rattle.cave_turn.proofs.Countdown.{known_from}
-use Rattle.cave_turn.proofs.begin.hide_treasures.Given as goal
+use Rattle.cave_begin.specs.Begin.{known_treasures}
+use Rattle.cave_begin.specs.Placing.{all_hidden}
+use Rattle.cave_begin.proofs.Countdown.{known_from}
+use Rattle.cave_begin.proofs.begin.hide_treasures.Given as goal
 
 -- hiding those that are left is hiding all, and each that is hidden is counted
 abbrev pub invariant-loop-number : goal.invariant-loop-number

@@ -1,8 +1,8 @@
 use Rattle.std.proofs.Common.{true, false, sym, ap, ◌∙◌}
-use Rattle.cave_turn.specs.Begin.{known_treasures, objects_due, start_order}
-use Rattle.cave_turn.specs.Placing.{all_placed, all_hidden}
-use Rattle.cave_turn.proofs.Begun.{all_placed-append, begun_is}
-use Rattle.cave_turn.proofs.begin.place_all.Goals as goal
+use Rattle.cave_begin.specs.Begin.{known_treasures, objects_due, start_order}
+use Rattle.cave_begin.specs.Placing.{all_placed, all_hidden}
+use Rattle.cave_begin.proofs.Begun.{all_placed-append, begun_is}
+use Rattle.cave_begin.proofs.begin.place_all.Goals as goal
 
 pub returns-clause-objects : goal.returns-clause-objects
 unfolding start_order

@@ -1,7 +1,7 @@
 use Rattle.std.proofs.Common.{◌≡◌, ◌-◌}
-use Rattle.cave_turn.specs.Placing.{all_placed}
-use Rattle.cave_turn.proofs.Countdown.{due_from}
-use Rattle.cave_turn.proofs.begin.place_down.Given as goal
+use Rattle.cave_begin.specs.Placing.{all_placed}
+use Rattle.cave_begin.proofs.Countdown.{due_from}
+use Rattle.cave_begin.proofs.begin.place_down.Given as goal
 
 -- so far the last objects are placed
 abbrev pub invariant-loop-i : goal.invariant-loop-i

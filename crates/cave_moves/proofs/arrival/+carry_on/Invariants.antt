@@ -1,5 +1,5 @@
-use Rattle.cave_turn.proofs.arrival.+arrive.Given as goal
+use Rattle.cave_moves.proofs.arrival.+carry_on.Given as goal
 
 -- the forced motions that are left
-abbrev pub decreases-arrive : goal.decreases-arrive
-decreases-arrive l = l.play.now.left
+abbrev pub decreases-carry_on : goal.decreases-carry_on
+decreases-carry_on l = l.play.now.left

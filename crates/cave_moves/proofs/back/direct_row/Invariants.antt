@@ -1,7 +1,7 @@
 use Rattle.std.proofs.Common.{◌≡◌, map, drop}
 use Rattle.cave_data.specs.Shown.{going}
-use Rattle.cave_turn.specs.Journeys.{direct_row}
-use Rattle.cave_turn.proofs.back.direct_row.Given as goal
+use Rattle.cave_moves.specs.Journeys.{direct_row}
+use Rattle.cave_moves.proofs.back.direct_row.Given as goal
 
 -- no row before this one leads there
 abbrev pub invariant-loop-row : goal.invariant-loop-row

@@ -1,6 +1,6 @@
 use Rattle.std.proofs.lemmas.Result.{on_ok_weaker}
-use Rattle.cave_turn.proofs.Joining.{joined}
-use Rattle.cave_turn.proofs.own_lines.append_score.Goals as goal
+use Rattle.cave_text.proofs.Joining.{joined}
+use Rattle.cave_text.proofs.own_lines.append_score.Goals as goal
 
 pub returns-clause-ok : goal.returns-clause-ok
 returns-clause-ok c =

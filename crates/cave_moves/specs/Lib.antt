@@ -1,0 +1,5 @@
+pub mod Plays
+pub mod Objects
+pub mod Description
+pub mod Journeys
+pub mod Arrival

@@ -1,0 +1,4 @@
+pub mod Places
+pub mod Things
+pub mod Conditions
+pub mod Liquids

@@ -1,0 +1,32 @@
+-- The liquid of a lake, and the liquid in the bottle.
+use Rattle.std.specs.Prelude.{ℕ, pos, Bool, false, ◌==◌, ◌&&◌, not, if◌then◌else◌}
+use Rattle.std.specs.Prelude.{Option, Some, None}
+use Rattle.std.specs.Ordering.{int_eq}
+use Rattle.cave_data.specs.CaveView.{CaveView}
+use Rattle.cave_words.specs.declared.named.Named.TheVariants as name
+use Rattle.cave_world.specs.Objects.{prop_of}
+use Rattle.cave_world.specs.declared.state.State.{State}
+use Rattle.cave_things.specs.Conditions.{has}
+use Rattle.cave_things.specs.Things.{thing}
+use Rattle.cave_things.specs.declared.conditions.Condition.TheVariants as condition
+
+-- an object is the liquid that is there, if any is; object 0 is none
+abbrev pub is_liquid : ℕ → Option ℕ → Bool
+is_liquid x None = false
+is_liquid x (Some liquid) = not (x == 0) && liquid == x
+
+-- the liquid of the lake where the player stands: oil where the place says so, and else water
+unfoldable pub lake_of : CaveView → State → Option ℕ
+lake_of cave s =
+    if has cave s.trail.here condition.Liquid
+    then (if has cave s.trail.here condition.Oil then Some (thing cave name.Oil)
+    else Some (thing cave name.Water))
+    else None
+
+-- the liquid in the bottle: water at prop 0, oil at prop 2, and none at any other prop
+unfoldable pub liquid_of : CaveView → State → Option ℕ
+liquid_of cave s =
+    let bottle = thing cave name.Bottle in let prop = prop_of s.objects bottle in
+    if bottle == 0 then None
+    else (if int_eq prop (pos 0) then Some (thing cave name.Water)
+    else (if int_eq prop (pos 2) then Some (thing cave name.Oil) else None))
