@@ -10,8 +10,8 @@ Index = List (List ℕ × Meanings)
 abbrev pub looked_up : Index → List ℕ → Option Meanings
 looked_up index word = lookup (bytes_eq word) index
 
--- what a lexicon is: the words with their meanings where its letters count, and where five count
+-- what a lexicon is: the words with their meanings, and the objects of the names by their numbers
 pub record LexiconView : Type 0 where
   pub letters : ℕ
   pub words : Index
-  pub names : Index
+  pub names : List (Option ℕ)

@@ -1,11 +1,13 @@
-use Rattle.std.specs.Prelude.{◌≡◌, ℕ, List, Option, option_map, option_and_then}
+use Rattle.std.specs.Prelude.{◌≡◌, ℕ, List, slice_index_or}
+use Rattle.std.specs.Prelude.{Option, None, option_map, option_and_then}
 use Rattle.cave_data.specs.CaveView.{CaveView}
 use Rattle.cave_words.specs.Index.{LexiconView, looked_up}
-use Rattle.cave_words.specs.Meaning.{meaning, meaning_in, first_meaning, is_word_in}
+use Rattle.cave_words.specs.Meaning.{meaning, meaning_in}
 use Rattle.cave_words.specs.Meanings.{meaning_in_class}
+use Rattle.cave_words.specs.Named.{name_number, object_named}
 use Rattle.cave_words.specs.declared.meaning.Class.{Class}
-use Rattle.cave_words.specs.declared.meaning.Class.TheVariants.{Object}
 use Rattle.cave_words.specs.declared.meaning.Meaning.{Meaning}
+use Rattle.cave_words.specs.declared.named.Named.{Named}
 
 -- what a lexicon says that a word means
 unfoldable pub found : LexiconView → List ℕ → Option Meaning
@@ -15,13 +17,13 @@ found lexicon word = option_map (λ meanings. meanings.first) (looked_up lexicon
 unfoldable pub found_in : LexiconView → List ℕ → Class → Option Meaning
 found_in lexicon word class = option_and_then (meaning_in_class class) (looked_up lexicon.words word)
 
--- the object that a lexicon has for a name of five letters
-unfoldable pub found_object : LexiconView → List ℕ → Option Meaning
-found_object lexicon name = option_and_then (meaning_in_class Object) (looked_up lexicon.names name)
+-- the object that a lexicon has for a name
+abbrev pub found_object : LexiconView → Named → Option ℕ
+found_object lexicon name = slice_index_or lexicon.names (name_number name) None
 
 -- the lexicon says what the rows of the cave say
 pub record IsLexiconOf (cave : CaveView) (lexicon : LexiconView) : Type 0 where
   pub letters : lexicon.letters ≡ cave.letters
   pub finds : (word : List ℕ) → found lexicon word ≡ meaning cave word
   pub finds_in : (word : List ℕ) (class : Class) → found_in lexicon word class ≡ meaning_in cave word class
-  pub finds_objects : (name : List ℕ) → found_object lexicon name ≡ first_meaning (is_word_in 5 name Object) cave.words
+  pub finds_objects : (name : Named) → found_object lexicon name ≡ object_named cave name

@@ -1,15 +1,24 @@
-use Rattle.std.specs.Prelude.{ℕ, ◌+◌, Bool, true, false, List, [], map, Option, Some, None, option_map, option_and_then, slice_index_or, nat_lt, if◌then◌else◌}
-use Rattle.cave_data.specs.CaveView.{CaveView}
+use Rattle.std.specs.Prelude.{ℕ, ◌+◌, Bool, true, false, nat_lt, if◌then◌else◌}
+use Rattle.std.specs.Prelude.{List, [], ◌∷◌, codes, slice_index_or}
+use Rattle.std.specs.Prelude.{Option, Some, None, option_map, option_and_then}
+use Rattle.cave_data.specs.CaveView.{CaveView, WordEntry}
 use Rattle.cave_words.specs.Meaning.{first_meaning, is_word_in}
 use Rattle.cave_words.specs.Word.{word_of}
 use Rattle.cave_words.specs.declared.meaning.Class.TheVariants.{Object}
 use Rattle.cave_words.specs.declared.named.Named.{Named}
 use Rattle.cave_words.specs.declared.named.Named.TheVariants as name
-use Rattle.cave_words.specs.declared.named.TheConstants.{NAMES}
 
 -- the words of the names, in the order of their numbers
 abbrev pub names : List (List ℕ)
-names = map (λ word. word.now) NAMES
+names =
+    codes "KEYS" ∷ codes "LAMP" ∷ codes "GRATE" ∷ codes "CAGE" ∷ codes "ROD" ∷ codes "STEPS" ∷
+    codes "BIRD" ∷ codes "DOOR" ∷ codes "PILLO" ∷ codes "SNAKE" ∷ codes "FISSU" ∷ codes "TABLE" ∷
+    codes "CLAM" ∷ codes "OYSTE" ∷ codes "MAGAZ" ∷ codes "DWARF" ∷ codes "KNIFE" ∷ codes "FOOD" ∷
+    codes "BOTTL" ∷ codes "WATER" ∷ codes "OIL" ∷ codes "PLANT" ∷ codes "AXE" ∷ codes "MIRRO" ∷
+    codes "DRAGO" ∷ codes "CHASM" ∷ codes "TROLL" ∷ codes "BEAR" ∷ codes "MESSA" ∷ codes "VENDI" ∷
+    codes "BATTE" ∷ codes "GOLD" ∷ codes "COINS" ∷ codes "CHEST" ∷ codes "EGGS" ∷ codes "TRIDE" ∷
+    codes "VASE" ∷ codes "EMERA" ∷ codes "PYRAM" ∷ codes "PEARL" ∷ codes "RUG" ∷ codes "SPICE" ∷
+    codes "CHAIN" ∷ codes "ROD" ∷ codes "PLANT" ∷ codes "TROLL" ∷ []
 
 -- its place in the table of words
 abbrev pub name_number : Named → ℕ
@@ -71,9 +80,15 @@ is_second _ = false
 unfoldable pub name_of : Named → List ℕ
 name_of name = slice_index_or names (name_number name) []
 
+-- the row is of this word of five letters, and means an object
+abbrev pub is_object_word : List ℕ → WordEntry → Bool
+is_object_word word row = is_word_in 5 word Object row
+
 -- the object that a word names in a cave, by the word's first five letters
 unfoldable pub object_of_word : CaveView → List ℕ → Option ℕ
-object_of_word cave word = option_map (λ meaning. meaning.number) (first_meaning (is_word_in 5 (word_of 5 word) Object) cave.words)
+object_of_word cave word =
+    let object = first_meaning (is_object_word (word_of 5 word)) cave.words in
+    option_map (λ meaning. meaning.number) object
 
 -- the object after, if there may be one
 abbrev pub next_object : ℕ → Option ℕ

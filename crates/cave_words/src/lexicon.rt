@@ -5,10 +5,11 @@ ghost use Rattle.cave_data.specs.Shown.{word_entry};
 ghost use Rattle.cave_words.specs.Meaning.{meaning, meaning_in};
 ghost use Rattle.cave_words.specs.Meanings.{meanings_of};
 ghost use Rattle.cave_words.specs.Index.{looked_up};
+ghost use Rattle.cave_words.specs.Named.{is_object_word, object_of_word, object_named};
 
 use crate::meaning::{Class, Meaning};
 use crate::meanings::Meanings;
-use crate::named::Named;
+use crate::named::{EACH_NAME, NAME_COUNT, Named};
 use crate::word::Word;
 use cave_data::{Cave, WordRow};
 use indexmap::IndexMap;
@@ -26,7 +27,7 @@ const LAST_OBJECT: u16 = 100;
 pub struct Lexicon {
     letters: u8,
     words: IndexMap<Word, Meanings>,
-    names: IndexMap<Word, Meanings>,
+    names: [Option<u16>; NAME_COUNT],
 }
 
 impl Model for Lexicon {
@@ -35,14 +36,13 @@ impl Model for Lexicon {
 
     ghost Value = { LexiconView };
 
-    ghost view = { λ l. record { letters = l.letters; words = l.words.entries; names = l.names.entries } };
+    ghost view = { λ l. record { letters = l.letters; words = l.words.entries; names = l.names } };
 
     ghost invariant = { λ l. (5 ≤ l.letters) × (l.letters ≤ 8) };
 }
 
 impl Lexicon {
     ghost use Rattle.cave_words.specs.Lexicon.{IsLexiconOf, found, found_in};
-    ghost use Rattle.cave_words.specs.Named.{object_named, object_of_word};
 
     /// The lexicon of a cave.
     pub fn build(alloc: Global, cave: &Cave) -> Result<Lexicon, AllocError>
@@ -51,7 +51,7 @@ impl Lexicon {
         let letters = cave.letters();
         let rows = cave.words();
         let words = index(alloc, rows, letters)?;
-        let names = index(alloc, rows, NAME_LETTERS)?;
+        let names = objects_of_names(cave);
         Ok(Lexicon {
             letters,
             words,
@@ -87,32 +87,64 @@ impl Lexicon {
         look_up(&self.words, word)?.in_class(class)
     }
 
-    /// The object of a name that rules of play write out, found by its first five letters. The cave is the lexicon's own.
-    #[tactic(auto, unfolding(crate::specs::Named::object_named))]
+    /// The object of a name that rules of play write out. The cave is the lexicon's own.
+    #[tactic(auto, using(crate::proofs::Lexicons::found_object_means))]
     pub fn named(&self, cave: &Cave, name: Named) -> Option<u16>
         requires { IsLexiconOf cave.now self.now }
         ensures { result ≡ object_named cave.now name }
     {
-        let object = self.object_of_word(cave, name.word())?;
-        if !name.is_second() {
-            return Some(object);
-        }
-        if object < LAST_OBJECT {
-            Some(object + 1)
-        } else {
-            None
-        }
+        self.names[name.number()]
     }
+}
 
-    /// The object that a word names, by its first five letters.
-    #[tactic(auto, using(crate::proofs::Lexicons::found_object_means), unfolding(crate::specs::Lexicon::found_object, crate::specs::Named::object_of_word))]
-    fn object_of_word(&self, cave: &Cave, word: &[u8]) -> Option<u16>
-        requires { IsLexiconOf cave.now self.now }
-        ensures { result ≡ object_of_word cave.now word.now }
-    {
-        let meanings = look_up(&self.names, Word::of(word, NAME_LETTERS))?;
-        Some(meanings.object?.number)
+/// Whether a row is of a word that means an object, where the letters of names count.
+fn is_object_word(row: &WordRow, word: Word) -> bool
+    ensures { result ≡ is_object_word word (word_entry row.now) }
+{
+    matches!(Meaning::of(row.number).class, Class::Object)
+        && Word::of(row.word.as_slice(), NAME_LETTERS) == word
+}
+
+/// The object that a word names in a cave, by its first five letters.
+#[tactic(auto, unfolding(crate::specs::Named::object_of_word))]
+fn object_of_word(cave: &Cave, written: &[u8]) -> Option<u16>
+    ensures { result ≡ object_of_word cave.now written.now }
+{
+    let word = Word::of(written, NAME_LETTERS);
+    let rows = cave.words();
+    for row in rows {
+        if is_object_word(row, word) {
+            return Some(Meaning::of(row.number).number);
+        }
     }
+    None
+}
+
+/// The object of a name in a cave.
+#[tactic(auto, unfolding(crate::specs::Named::object_named))]
+fn object_named(cave: &Cave, name: Named) -> Option<u16>
+    ensures { result ≡ object_named cave.now name }
+{
+    let object = object_of_word(cave, name.word())?;
+    if !name.is_second() {
+        return Some(object);
+    }
+    if object < LAST_OBJECT {
+        Some(object + 1)
+    } else {
+        None
+    }
+}
+
+/// The object of each name in a cave, by the numbers of the names.
+fn objects_of_names(cave: &Cave) -> [Option<u16>; NAME_COUNT]
+    ensures { result ≡ map (object_named cave.now) EACH_NAME }
+{
+    let mut objects = [None; NAME_COUNT];
+    for (i, &name) in EACH_NAME.iter().enumerate() {
+        objects[i] = object_named(cave, name);
+    }
+    objects
 }
 
 /// The meanings of a word.

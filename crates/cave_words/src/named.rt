@@ -1,6 +1,6 @@
 //! The objects that rules of play name by a word.
-ghost use Rattle.std.specs.Prelude.{◌≡◌};
-ghost use Rattle.cave_words.specs.Named.{name_of, is_second};
+ghost use Rattle.std.specs.Prelude.{◌≡◌, ◌<◌};
+ghost use Rattle.cave_words.specs.Named.{name_number, name_of, is_second};
 
 /// An object that rules of play name by a word of the cave.
 #[derive(Clone, Copy, Debug, PartialEq, Eq)]
@@ -56,8 +56,61 @@ pub enum Named {
     SecondTroll,
 }
 
+/// How many names there are.
+pub const NAME_COUNT: usize = 46;
+
+/// Each name, in the order of their numbers.
+pub const EACH_NAME: [Named; NAME_COUNT] = [
+    Named::Keys,
+    Named::Lamp,
+    Named::Grate,
+    Named::Cage,
+    Named::Rod,
+    Named::Steps,
+    Named::Bird,
+    Named::Door,
+    Named::Pillow,
+    Named::Snake,
+    Named::Fissure,
+    Named::Tablet,
+    Named::Clam,
+    Named::Oyster,
+    Named::Magazine,
+    Named::Dwarf,
+    Named::Knife,
+    Named::Food,
+    Named::Bottle,
+    Named::Water,
+    Named::Oil,
+    Named::Plant,
+    Named::Axe,
+    Named::Mirror,
+    Named::Dragon,
+    Named::Chasm,
+    Named::Troll,
+    Named::Bear,
+    Named::Message,
+    Named::Vending,
+    Named::Batteries,
+    Named::Gold,
+    Named::Coins,
+    Named::Chest,
+    Named::Eggs,
+    Named::Trident,
+    Named::Vase,
+    Named::Emerald,
+    Named::Pyramid,
+    Named::Pearl,
+    Named::Rug,
+    Named::Spices,
+    Named::Chain,
+    Named::SecondRod,
+    Named::SecondPlant,
+    Named::SecondTroll,
+];
+
 /// The words that name them, in the order of `Named`.
-pub const NAMES: [&[u8]; 46] = [
+pub const NAMES: [&[u8]; NAME_COUNT] = [
     b"KEYS", b"LAMP", b"GRATE", b"CAGE", b"ROD", b"STEPS", b"BIRD", b"DOOR", b"PILLO", b"SNAKE",
     b"FISSU", b"TABLE", b"CLAM", b"OYSTE", b"MAGAZ", b"DWARF", b"KNIFE", b"FOOD", b"BOTTL",
     b"WATER", b"OIL", b"PLANT", b"AXE", b"MIRRO", b"DRAGO", b"CHASM", b"TROLL", b"BEAR", b"MESSA",
@@ -66,6 +119,14 @@ pub const NAMES: [&[u8]; 46] = [
 ];
 
 impl Named {
+    /// Its place in the tables of names, from 0.
+    pub fn number(self) -> usize
+        ensures value { result ≡ name_number self }
+        ensures within { result < 46 }
+    {
+        self as usize
+    }
+
     /// The word that names it, or that names the object before a second one.
     #[tactic(auto, unfolding(crate::specs::Named::name_of))]
     pub fn word(self) -> &'static [u8]

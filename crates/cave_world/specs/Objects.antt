@@ -1,5 +1,6 @@
 -- What holds of objects, and what is done to them. Object 0 is no object: no test of it holds, and nothing is done to it.
-use Rattle.std.specs.Prelude.{ℕ, ℤ, pos, ◌+◌, ◌-◌, Bool, ◌==◌, ◌||◌, if◌then◌else◌, List, [], filter, slice_index_or, slice_set, replicate}
+use Rattle.std.specs.Prelude.{ℕ, ℤ, pos, ◌-◌, Bool, not, ◌==◌, ◌&&◌, ◌||◌, if◌then◌else◌}
+use Rattle.std.specs.Prelude.{List, [], filter, slice_index_or, slice_set, replicate}
 use Rattle.std.specs.List.{range_with_len}
 use Rattle.cave_world.specs.declared.object.Half.TheVariants.{First, Second}
 use Rattle.cave_world.specs.declared.spot.Spot.{Spot}
@@ -8,7 +9,8 @@ use Rattle.cave_world.specs.declared.spot.Anchor.{Anchor}
 use Rattle.cave_world.specs.declared.spot.Anchor.TheVariants as anchor
 use Rattle.cave_world.specs.Layout.{Layout}
 use Rattle.cave_world.specs.Lists.{relisted}
-use Rattle.cave_world.specs.Spots.{spot_at, place_of_spot, place_of_anchor, is_carried_spot, is_place}
+use Rattle.cave_world.specs.Spots.{spot_at, place_of_spot, is_carried_spot, is_away_spot}
+use Rattle.cave_world.specs.Spots.{place_of_anchor, is_place}
 
 -- where the first half of an object is
 unfoldable pub spot_of : Layout → ℕ → Spot
@@ -24,6 +26,10 @@ prop_of o x = if x == 0 then pos 0 else slice_index_or o.props (x - 1) (pos 0)
 -- the object is carried
 unfoldable pub is_carried : Layout → ℕ → Bool
 is_carried o x = is_carried_spot (spot_of o x)
+
+-- its first half is nowhere; object 0 is not gone
+unfoldable pub is_gone : Layout → ℕ → Bool
+is_gone o x = not (x == 0) && is_away_spot (spot_of o x)
 
 -- its first half stands at the place
 unfoldable pub is_first_at : Layout → ℕ → ℕ → Bool

@@ -24,6 +24,11 @@ is_carried_spot spot.Away = false
 is_carried_spot spot.Carried = true
 is_carried_spot (spot.At place) = false
 
+abbrev pub is_away_spot : Spot → Bool
+is_away_spot spot.Away = true
+is_away_spot spot.Carried = false
+is_away_spot (spot.At place) = false
+
 -- the anchor of an object whose second half stands at a place; at place 0 there is none
 abbrev pub anchor_at : ℕ → Anchor
 anchor_at place = if place == 0 then anchor.Loose else anchor.At place

@@ -1,5 +1,6 @@
--- Where the player stands, how often places were described, and the state that a game begins with.
-use Rattle.std.specs.Prelude.{ℕ, ◌+◌, ◌-◌, ◌%◌, ◌==◌, if◌then◌else◌, None, Some, replicate, slice_index_or, slice_set}
+-- Where the player stands, how often places were described, and how a game begins and is over.
+use Rattle.std.specs.Prelude.{ℕ, ◌+◌, ◌-◌, ◌%◌, Bool, ◌==◌, ◌||◌, if◌then◌else◌}
+use Rattle.std.specs.Prelude.{None, Some, is_some, replicate, slice_index_or, slice_set}
 use Rattle.cave_world.specs.declared.state.State.{State}
 use Rattle.cave_world.specs.declared.ending.Question.TheVariants.{Welcome}
 use Rattle.cave_world.specs.Objects.{unplaced}
@@ -21,6 +22,10 @@ starting place x = record {
   ending = None;
   stream = x;
 }
+
+-- no command can follow: a question is open, or the game has ended
+unfoldable pub is_over : State → Bool
+is_over s = is_some s.question || is_some s.ending
 
 -- the player stands at a place
 unfoldable pub standing_at : State → ℕ → State

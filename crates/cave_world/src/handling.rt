@@ -1,17 +1,49 @@
-ghost use Rattle.std.specs.Prelude.{◌≡◌, ℕ, ◌+◌, ◌<◌, ◌||◌, false, [], length, All, IsTrue};
+ghost use Rattle.std.specs.Prelude.{◌≡◌, ℕ, ◌+◌, ◌<◌, ◌≤◌, ◌||◌, false, [], length, All, IsTrue};
 ghost use Rattle.cave_world.specs.Lists.{halves_at, AreRelisted};
 ghost use Rattle.cave_world.specs.Layout.{is_listed};
 ghost use Rattle.cave_world.specs.Halves.{object_of};
-ghost use Rattle.cave_world.specs.Spots.{place_of_spot, spot_at};
-ghost use Rattle.cave_world.specs.Objects.{is_carried, stands_at, is_at_hand, carried_objects, moved, taken};
+ghost use Rattle.cave_world.specs.Spots.{place_of_spot, place_of_anchor, spot_at};
+ghost use Rattle.cave_world.specs.Objects.{spot_of, anchor_of, prop_of, carried_objects};
+ghost use Rattle.cave_world.specs.Objects.{is_carried, is_gone, stands_at, is_at_hand};
+ghost use Rattle.cave_world.specs.Objects.{anchored, with_prop, moved, taken, juggled};
 
 use crate::lists::HALVES;
-use crate::object::{Half, Object};
+use crate::object::{Half, LAST_OBJECT, Object};
 use crate::place::Place;
+use crate::prop::Prop;
+use crate::spot::{Anchor, Spot};
 use crate::state::State;
 use arrayvec::ArrayVec;
 
 impl State {
+    /// Where the first half of an object is.
+    pub fn spot(&self, object: Object) -> Spot
+        ensures { result ≡ spot_of self.now.objects object }
+    {
+        self.objects.spot(object)
+    }
+
+    /// What holds an object where it is.
+    pub fn anchor(&self, object: Object) -> Anchor
+        ensures { result ≡ anchor_of self.now.objects object }
+    {
+        self.objects.anchor(object)
+    }
+
+    /// The prop of an object.
+    pub fn prop(&self, object: Object) -> Prop
+        ensures { result ≡ prop_of self.now.objects object }
+    {
+        self.objects.prop(object)
+    }
+
+    /// Whether the first half of an object is nowhere. Object 0 is not gone.
+    pub fn is_gone(&self, object: Object) -> bool
+        ensures { result ≡ is_gone self.now.objects object }
+    {
+        self.objects.is_gone(object)
+    }
+
     /// Whether the player carries an object.
     pub fn toting(&self, object: Object) -> bool
         ensures value { result ≡ is_carried self.now.objects object }
@@ -31,16 +63,26 @@ impl State {
 
     /// Whether the player carries an object, or its first half stands where the player stands.
     pub fn here(&self, object: Object) -> bool
-        ensures { result ≡ is_at_hand self.now.objects self.now.trail.here object }
+        ensures value { result ≡ is_at_hand self.now.objects self.now.trail.here object }
+        ensures listed { let halves = halves_at self.now.trail.here self.now.objects.lists in
+            0 < object → result ≡ (is_carried self.now.objects object || is_listed object halves) }
     {
         self.objects.is_at_hand(self.trail.here, object)
     }
 
     /// How many objects the player carries.
     pub fn holding(&self) -> usize
-        ensures { result ≡ length (carried_objects self.now.objects) }
+        ensures value { result ≡ length (carried_objects self.now.objects) }
+        ensures within { result ≤ 100 }
     {
         self.objects.count_carried()
+    }
+
+    /// The objects that the player carries, ascending.
+    pub fn carried(&self) -> ArrayVec<Object, LAST_OBJECT>
+        ensures { result.items ≡ carried_objects self.now.objects }
+    {
+        self.objects.carried()
     }
 
     /// The halves that stand at a place, latest first. Each is of an object, and none stands at place 0.
@@ -68,6 +110,31 @@ impl State {
             → AreRelisted self.old.objects.lists self.new.objects.lists (Half.First object) (place_of_spot (spot_at place)) }
     {
         self.objects.move_to(object, place);
+    }
+
+    /// Both halves of an object are put anew where they are, if the player doesn't carry it.
+    pub fn juggle(&mut self, object: Object)
+        ensures { let s = self.old in self.new ≡ record s { objects = juggled s.objects object } }
+    {
+        self.objects.juggle(object);
+    }
+
+    /// An object is given another anchor.
+    pub fn anchor_to(&mut self, object: Object, anchor: Anchor)
+        ensures value { let s = self.old in
+            self.new ≡ record s { objects = anchored s.objects object anchor } }
+        ensures lists { let old = self.old.objects.lists in let new = self.new.objects.lists in
+            0 < object → AreRelisted old new (Half.Second object) (place_of_anchor anchor) }
+    {
+        self.objects.anchor_to(object, anchor);
+    }
+
+    /// An object is given another prop.
+    pub fn set_prop(&mut self, object: Object, prop: Prop)
+        ensures { let s = self.old in
+            self.new ≡ record s { objects = with_prop s.objects object prop } }
+    {
+        self.objects.set_prop(object, prop);
     }
 
     /// An object is put down at a place.

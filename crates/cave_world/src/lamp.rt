@@ -1,6 +1,10 @@
 ghost use Rattle.std.specs.Prelude.{◌≡◌, pos, negsuc, ◌≤ℤ◌};
+ghost use Rattle.std.specs.Int.{int_min};
 
 use std::marker::Model;
+
+/// The most turns that a lamp can still burn.
+const MOST_TURNS: i32 = 100_000;
 
 /// The turns that a lamp still burns. -1 says that it went out.
 #[derive(Clone, Copy, Debug, PartialEq, Eq)]
@@ -28,6 +32,16 @@ impl Charge {
         ensures { result ≡ turns }
     {
         Charge { turns }
+    }
+
+    /// The charge of a number of turns, or the greatest one where there are more.
+    pub fn capped(turns: i32) -> Charge
+        requires { negsuc 0 ≤ℤ turns }
+        ensures { result ≡ int_min turns (pos 100000) }
+    {
+        Charge {
+            turns: turns.min(MOST_TURNS),
+        }
     }
 
     /// The number of turns.

@@ -1,5 +1,7 @@
-ghost use Rattle.std.specs.Prelude.{◌≡◌, ℕ, ◌||◌, ◌+◌, ◌<◌, false, [], length, All, IsTrue};
-ghost use Rattle.cave_world.specs.Objects.{spot_of, anchor_of, prop_of, is_carried, is_first_at, stands_at, is_at_hand, carried_objects, brought, anchored, with_prop, moved, taken, juggled, unplaced};
+ghost use Rattle.std.specs.Prelude.{◌≡◌, ℕ, ◌||◌, ◌+◌, ◌<◌, ◌≤◌, false, [], length, All, IsTrue};
+ghost use Rattle.cave_world.specs.Objects.{spot_of, anchor_of, prop_of, carried_objects, unplaced};
+ghost use Rattle.cave_world.specs.Objects.{is_carried, is_gone, is_first_at, stands_at, is_at_hand};
+ghost use Rattle.cave_world.specs.Objects.{brought, anchored, with_prop, moved, taken, juggled};
 ghost use Rattle.cave_world.specs.Spots.{place_of_spot, place_of_anchor, spot_at, is_place};
 ghost use Rattle.cave_world.specs.Lists.{halves_at, AreRelisted};
 ghost use Rattle.cave_world.specs.Layout.{is_listed};
@@ -103,6 +105,14 @@ impl Objects {
         self.spot(object).is_carried()
     }
 
+    /// Whether the first half of an object is nowhere.
+    #[tactic(auto, unfolding(crate::specs::Objects::is_gone))]
+    pub fn is_gone(&self, object: Object) -> bool
+        ensures { result ≡ is_gone self.now object }
+    {
+        !object.is_none() && self.spot(object).is_away()
+    }
+
     /// Whether the first half of an object stands at a place.
     #[tactic(auto, unfolding(crate::specs::Objects::is_first_at))]
     pub fn is_first_at(&self, place: Place, object: Object) -> bool
@@ -138,7 +148,10 @@ impl Objects {
     /// Whether an object is carried, or its first half stands at a place.
     #[tactic(auto, unfolding(crate::specs::Objects::is_at_hand))]
     pub fn is_at_hand(&self, place: Place, object: Object) -> bool
-        ensures { result ≡ is_at_hand self.now place object }
+        ensures value { result ≡ is_at_hand self.now place object }
+        ensures listed { 0 < object
+            → result ≡ (is_carried self.now object
+            || is_listed object (halves_at place self.now.lists)) }
     {
         self.is_carried(object) || self.is_first_at(place, object)
     }
@@ -221,7 +234,8 @@ impl Objects {
 
     /// How many objects are carried.
     pub fn count_carried(&self) -> usize
-        ensures { result ≡ length (carried_objects self.now) }
+        ensures value { result ≡ length (carried_objects self.now) }
+        ensures within { result ≤ 100 }
     {
         self.carried().len()
     }

@@ -1,7 +1,6 @@
 ghost use Rattle.std.specs.Prelude.{◌≡◌};
 
 use crate::object::Object;
-use crate::prop::Prop;
 use arrayvec::ArrayVec;
 use cave_data::Role;
 use cave_words::Word;
@@ -37,8 +36,8 @@ pub enum Part {
     Short(u16),
     /// The message that stands for a role.
     Role(Role),
-    /// The text of an object for a prop.
-    Object(Object, Prop),
+    /// The text of an object for a number, as a prop is one.
+    Object(Object, i8),
     /// The inventory text of an object.
     Name(Object),
     /// A line with one number or two.

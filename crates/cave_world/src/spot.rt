@@ -1,5 +1,6 @@
 ghost use Rattle.std.specs.Prelude.{◌≡◌, ◌≢◌, Some};
-ghost use Rattle.cave_world.specs.Spots.{place_of_spot, place_of_anchor, is_carried_spot, spot_at, anchor_at};
+ghost use Rattle.cave_world.specs.Spots.{place_of_spot, is_carried_spot, is_away_spot, spot_at};
+ghost use Rattle.cave_world.specs.Spots.{place_of_anchor, anchor_at};
 
 use crate::place::Place;
 use crate::site::Site;
@@ -42,6 +43,17 @@ impl Spot {
         match self {
             Spot::Carried => true,
             Spot::Away => false,
+            Spot::At(_) => false,
+        }
+    }
+
+    /// Whether the half is nowhere.
+    pub fn is_away(&self) -> bool
+        ensures { result ≡ is_away_spot self.now }
+    {
+        match self {
+            Spot::Away => true,
+            Spot::Carried => false,
             Spot::At(_) => false,
         }
     }

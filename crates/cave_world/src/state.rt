@@ -1,5 +1,5 @@
 ghost use Rattle.std.specs.Prelude.{◌≡◌, ◌↔◌, IsTrue};
-ghost use Rattle.cave_world.specs.State.{starting, standing_at, setting_out};
+ghost use Rattle.cave_world.specs.State.{starting, is_over, standing_at, setting_out};
 
 use crate::closing::Closing;
 use crate::count::Count;
@@ -78,6 +78,14 @@ impl State {
             ending: None,
             stream,
         }
+    }
+
+    /// Whether a question is open or the game has ended.
+    #[tactic(auto, unfolding(crate::specs::State::is_over))]
+    pub fn is_over(&self) -> bool
+        ensures { result ≡ is_over self.now }
+    {
+        self.question.is_some() || self.ending.is_some()
     }
 
     /// Puts the player at a place.

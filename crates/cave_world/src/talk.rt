@@ -2,21 +2,21 @@ ghost use Rattle.std.specs.Prelude.{◌≡◌};
 ghost use Rattle.cave_world.specs.Fresh.{nothing_said};
 
 use crate::count::Count;
+use crate::magic::Magic;
 use crate::object::Object;
 
 /// What the game remembers of what was said.
 #[derive(Clone, Copy, Debug, PartialEq, Eq)]
 pub struct Talk {
     /// The verb and the object of half a command.
-    pub verb: Option<u8>,
+    pub verb: Option<u16>,
     pub object: Object,
     /// The object of the last command.
     pub last: Object,
     pub is_brief: bool,
     /// How often the player was told that there are no more details.
     pub details: Count<3>,
-    /// How far the player has come with the magic words.
-    pub magic: i16,
+    pub magic: Magic,
 }
 
 impl Talk {
@@ -31,7 +31,7 @@ impl Talk {
             last: Object::none(),
             is_brief: false,
             details: Count::new(0),
-            magic: 0,
+            magic: Magic::new(0),
         }
     }
 }

@@ -9,4 +9,4 @@ returns c =
     let letters : c.letters-letters.result ≡ c.args.cave.now.letters = c.letters-letters.ensures.value in
     lexicon_of c.args.cave.now _ letters
     (λ word. rw (← rows, ← letters) (c.in_ok-words.ensures word))
-    (λ word. rw (← rows) (c.in_ok-names.ensures word))
+    c.objects_of_names-names.ensures
