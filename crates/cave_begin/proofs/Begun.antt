@@ -21,7 +21,8 @@ use Rattle.cave_world.specs.declared.spot.Anchor.{Anchor}
 use Rattle.cave_world.specs.declared.spot.Anchor.TheVariants as anchor
 use Rattle.cave_world.specs.declared.spot.Spot.TheVariants as spot
 use Rattle.cave_world.proofs.Places.{halves_at-put_first}
-use Rattle.cave_begin.specs.Begin.{home, hold_of, is_due, all_objects, objects_due, treasures, known_treasures, start_prop, start_order, start_halves, start_list, both_halves, place_of_half, laid_out, begun_objects}
+use Rattle.cave_things.specs.Homes.{home, hold_of}
+use Rattle.cave_begin.specs.Begin.{is_due, all_objects, objects_due, treasures, known_treasures, start_prop, start_order, start_halves, start_list, both_halves, place_of_half, laid_out, begun_objects}
 use Rattle.cave_begin.specs.Placing.{placed, all_placed, all_hidden}
 
 -- ---- numbers in a range

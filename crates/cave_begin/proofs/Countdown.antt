@@ -5,7 +5,8 @@ use Rattle.std.specs.List.{filter, range_with_len}
 use Rattle.cave_data.specs.CaveView.{CaveView, name_of}
 use Rattle.cave_world.specs.Layout.{Layout}
 use Rattle.cave_world.specs.Objects.{with_prop}
-use Rattle.cave_begin.specs.Begin.{hold_of, is_due, all_objects, objects_due, treasures, known_treasures}
+use Rattle.cave_things.specs.Homes.{hold_of}
+use Rattle.cave_begin.specs.Begin.{is_due, all_objects, objects_due, treasures, known_treasures}
 use Rattle.cave_begin.specs.Placing.{placed, all_placed, all_hidden}
 
 -- of some objects those that are due

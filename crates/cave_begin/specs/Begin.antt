@@ -15,20 +15,8 @@ use Rattle.cave_world.specs.declared.object.Half.TheVariants.{First, Second}
 use Rattle.cave_world.specs.declared.spot.Anchor.{Anchor}
 use Rattle.cave_world.specs.declared.spot.Anchor.TheVariants as anchor
 use Rattle.cave_world.specs.declared.state.State.{State}
+use Rattle.cave_things.specs.Homes.{home, hold_of}
 use Rattle.cave_things.specs.Places.{place_named, place_or, start_place}
-
--- where an object stands as the game begins
-abbrev pub home : CaveView → ℕ → ℕ
-home cave x = (placement_of cave x).first
-
--- what holds it there: -1 that it can't be moved, a place its second half
-abbrev pub anchor_by : ℤ → Anchor
-anchor_by (pos zero) = anchor.Loose
-anchor_by (pos (suc n)) = anchor.At (suc n)
-anchor_by (negsuc n) = anchor.Fixed
-
-abbrev pub hold_of : CaveView → ℕ → Anchor
-hold_of cave x = anchor_by (placement_of cave x).second
 
 -- the objects by their numbers
 unfoldable pub all_objects : List ℕ

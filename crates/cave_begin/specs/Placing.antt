@@ -3,7 +3,7 @@ use Rattle.std.specs.Prelude.{ℕ, negsuc, List, [], ◌∷◌}
 use Rattle.cave_data.specs.CaveView.{CaveView}
 use Rattle.cave_world.specs.Layout.{Layout}
 use Rattle.cave_world.specs.Objects.{moved, anchored, with_prop}
-use Rattle.cave_begin.specs.Begin.{home, hold_of}
+use Rattle.cave_things.specs.Homes.{home, hold_of}
 
 -- an object is put where it stands as the game begins, its second half first
 unfoldable pub placed : CaveView → ℕ → Layout → Layout

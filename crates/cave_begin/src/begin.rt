@@ -1,10 +1,12 @@
 ghost use Rattle.std.specs.Prelude.{◌≡◌, ℕ, ◌≤◌, ◌≤ℤ◌, length, pos};
 ghost use Rattle.cave_world.specs.Lists.{halves_at};
 ghost use Rattle.cave_world.specs.Objects.{moved, anchored, unplaced};
-ghost use Rattle.cave_begin.specs.Begin.{anchor_by, is_due, objects_due, known_treasures, begun_objects, dwarf_of, dwarves_placed, start_list, begun_state};
+ghost use Rattle.cave_things.specs.Homes.{anchor_by};
+ghost use Rattle.cave_begin.specs.Begin.{is_due, objects_due, known_treasures, begun_objects, dwarf_of, dwarves_placed, start_list, begun_state};
 ghost use Rattle.cave_begin.specs.Placing.{all_placed, all_hidden};
 
 use cave_data::{Cave, PlaceRole};
+use cave_things::homes::anchor_by;
 use cave_things::places::{place_named, place_or, start_place};
 use cave_words::Stream;
 use cave_world::{Anchor, Count, Dwarf, Object, Objects, Place, Prop, State};
@@ -16,17 +18,6 @@ const LAST_TREASURE: u8 = 79;
 
 /// The greatest number of an object.
 const LAST_OBJECT: u8 = 100;
-
-fn anchor_by(second: i16) -> Anchor
-    requires { second ≤ℤ pos 300 }
-    ensures { result ≡ anchor_by second }
-{
-    if second < 0 {
-        Anchor::Fixed
-    } else {
-        Anchor::at(Place::new(second as u16))
-    }
-}
 
 /// Whether an object is put with those that have two places, or with the others.
 fn is_due(twice: bool, second: i16) -> bool

@@ -7,6 +7,7 @@ use Rattle.cave_world.specs.Sight.{is_forced}
 use Rattle.cave_world.specs.declared.dwarves.Dwarf.{Dwarf}
 use Rattle.cave_world.specs.declared.state.State.{State}
 use Rattle.cave_things.specs.Conditions.{has}
+use Rattle.cave_things.specs.Panic.{panicking}
 use Rattle.cave_things.specs.Places.{outside_place}
 use Rattle.cave_things.specs.declared.conditions.Condition.TheVariants.{NoPirate}
 use Rattle.cave_moves.specs.Description.{Showing, seen_here}
@@ -16,13 +17,6 @@ use Rattle.cave_moves.specs.Plays.{Scene, saying, with_state, with_left, standin
 -- a cave that is closing has no way out
 unfoldable pub is_shut : CaveView → ℕ → State → Bool
 is_shut cave new s = s.closing.is_closing && nat_le 1 new && nat_le new (outside_place cave)
-
--- who tries to get out has 15 turns left, unless that was tried before
-abbrev pub panicking : State → State
-panicking s =
-    let closing = s.closing in
-    if closing.is_panicking || closing.is_closed then record s { closing = record closing { is_panicking = true } }
-    else record s { closing = record closing { second_clock = pos 15; is_panicking = true } }
 
 unfoldable pub kept_in : CaveView → ℕ → Scene → Journey
 kept_in cave new p =

@@ -2,7 +2,7 @@ ghost use Rattle.std.specs.Prelude.{◌≡◌, ◌+◌, ◌*◌, ◌<◌, ◌≤
 ghost use Rattle.std.specs.List.{list_any};
 ghost use Rattle.arrayvec.specs.ArrayVec.{array_vec_len};
 ghost use Rattle.cave_things.specs.Things.{cave_of};
-ghost use Rattle.cave_moves.specs.Arrival.{is_shut, panicking, kept_in, comes_from, is_barred};
+ghost use Rattle.cave_moves.specs.Arrival.{is_shut, kept_in, comes_from, is_barred};
 ghost use Rattle.cave_moves.specs.Arrival.{held_back, come_to, shown, carried_on};
 ghost use Rattle.cave_moves.specs.Arrival.{arriving, describing};
 ghost use Rattle.cave_moves.specs.Plays.{scene_of, parts_by_arrival, parts_by_carrying};
@@ -12,6 +12,7 @@ use crate::description::see_here;
 use crate::journeys::{set_forth, stay};
 use crate::play::Play;
 use cave_data::Role;
+use cave_things::panic::panic;
 use cave_things::places::outside_place;
 use cave_things::{Condition, Rules};
 use cave_world::{Dwarf, Place, State, is_forced};
@@ -24,16 +25,6 @@ fn is_shut(rules: &Rules<'_>, place: Place, state: &State) -> bool
     state.closing.is_closing
         && 1 <= place.number()
         && place.number() <= outside_place(rules.cave).number()
-}
-
-/// The player tries to get out of a closing cave.
-fn panic(state: &mut State)
-    ensures { state.new ≡ panicking state.old }
-{
-    if !(state.closing.is_panicking || state.closing.is_closed) {
-        state.closing.second_clock = 15;
-    }
-    state.closing.is_panicking = true;
 }
 
 #[tactic(auto, unfolding(crate::specs::Arrival::kept_in))]

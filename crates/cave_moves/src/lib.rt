@@ -8,4 +8,6 @@ pub mod journeys;
 pub mod objects;
 pub mod play;
 
+pub use arrival::{arrive, describe_here};
+pub use journeys::lead_by_motion;
 pub use play::Play;

@@ -113,7 +113,7 @@ fn tell_object(rules: &Rules<'_>, object: Object, play: &mut Play<'_>)
     }
     find_if_unseen(rules, object, play.state);
     let prop = told_prop(rules, play.state, object);
-    play.tell(Part::Object(object, prop));
+    play.tell(Part::Object(object, prop.value()));
 }
 
 fn tell_all(rules: &Rules<'_>, halves: &[Half], play: &mut Play<'_>)

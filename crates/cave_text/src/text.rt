@@ -3,7 +3,7 @@ ghost use Rattle.cave_text.specs.Text.{text_of, text_of_all, message_text, name_
 
 use crate::own_lines::{append_final_line, append_number_line, append_word_line};
 use cave_data::{Cave, Role};
-use cave_world::{Object, Part, Prop};
+use cave_world::{Object, Part};
 use std::alloc::AllocError;
 
 fn append_name(role: Role, text: &mut Vec<u8>) -> Result<(), AllocError>
@@ -22,16 +22,10 @@ fn append_message(cave: &Cave, number: u16, text: &mut Vec<u8>) -> Result<(), Al
     text.extend_from_slice(cave.message(number).unwrap_or(&[]))
 }
 
-fn append_look(
-    cave: &Cave,
-    object: Object,
-    prop: Prop,
-    text: &mut Vec<u8>,
-) -> Result<(), AllocError>
+fn append_look(cave: &Cave, object: Object, prop: i8, text: &mut Vec<u8>) -> Result<(), AllocError>
     ensures ok { OnOk result (text.new.items ≡ text.old.items ++ look_text cave.now object prop) }
     ensures front { take (vec_len text.old) text.new.items ≡ text.old.items }
 {
-    let prop = prop.value();
     if prop < 0 {
         return Ok(());
     }

@@ -1,4 +1,10 @@
-pub mod Places
-pub mod Things
 pub mod Conditions
+pub mod Effects
+pub mod Homes
 pub mod Liquids
+pub mod Numbers
+pub mod Panic
+pub mod Places
+pub mod Reach
+pub mod SpecialWords
+pub mod Things

@@ -5,16 +5,12 @@ use Rattle.cave_data.specs.CaveView.{CaveView}
 use Rattle.cave_words.specs.Named.{object_named}
 use Rattle.cave_words.specs.declared.named.Named.{Named}
 use Rattle.cave_words.specs.declared.named.Named.TheVariants as named
+use Rattle.cave_things.specs.Numbers.{or_no_object}
 use Rattle.cave_things.specs.declared.rules.Rules.{Rules}
 
 -- the cave that the rules are of
 abbrev pub cave_of : Rules → CaveView
 cave_of rules = rules.cave.now
-
--- an object, or 0 where there is none
-abbrev pub or_no_object : Option ℕ → ℕ
-or_no_object None = 0
-or_no_object (Some object) = if nat_le object 100 then object else 0
 
 -- the object that a word of the rules names
 unfoldable pub called : CaveView → Named → ℕ

@@ -5,6 +5,7 @@ ghost use Rattle.cave_words.specs.Lexicon.{IsLexiconOf};
 ghost use Rattle.cave_words.specs.Meaning.{meaning};
 ghost use Rattle.cave_words.specs.Words.{words_of};
 
+use crate::numbers::or_no_object;
 use cave_data::Cave;
 use cave_words::{Lexicon, Meaning, Named, Word, Words};
 use cave_world::Object;
@@ -18,8 +19,7 @@ pub struct Rules<'a> {
 }
 
 impl<'a> Rules<'a> {
-    ghost use Rattle.cave_things.specs.Things.{cave_of, is_liquid_name, or_no_object};
-    ghost use Rattle.cave_things.specs.Things.{called, thing};
+    ghost use Rattle.cave_things.specs.Things.{cave_of, is_liquid_name, called, thing};
 
     /// The rules of a cave, with the lexicon of that cave.
     pub fn of(cave: &'a Cave, lexicon: &'a Lexicon) -> Rules<'a>
@@ -43,22 +43,12 @@ impl<'a> Rules<'a> {
         Words::of(line, self.lexicon.letters())
     }
 
-    /// The object of a number, or object 0.
-    fn or_no_object(object: Option<u16>) -> Object
-        ensures { result ≡ or_no_object object }
-    {
-        match object {
-            Some(number) if number <= 100 => Object::new(number as u8),
-            _ => Object::none(),
-        }
-    }
-
     /// The object that the word of a name means.
     #[tactic(auto, unfolding(crate::specs::Things::called))]
     fn called(&self, name: Named) -> Object
         ensures { result ≡ called (cave_of self.now) name }
     {
-        Self::or_no_object(self.lexicon.named(self.cave, name))
+        or_no_object(self.lexicon.named(self.cave, name))
     }
 
     fn is_liquid_name(name: Named) -> bool

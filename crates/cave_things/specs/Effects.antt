@@ -1,0 +1,58 @@
+-- What rules do to objects. What is done to an object that isn't there does nothing.
+use Rattle.std.specs.Prelude.{ℕ, ℤ, pos, ◌+◌, ◌&&◌, Bool, if◌then◌else◌, min}
+use Rattle.cave_data.specs.CaveView.{CaveView}
+use Rattle.cave_words.specs.declared.named.Named.TheVariants as name
+use Rattle.cave_world.specs.Objects.{moved, anchored, juggled, with_prop}
+use Rattle.cave_world.specs.declared.spot.Anchor.TheVariants as anchor
+use Rattle.cave_world.specs.declared.state.State.{State}
+use Rattle.cave_world.specs.Layout.{Layout}
+use Rattle.cave_things.specs.Things.{thing}
+use Rattle.cave_things.specs.Liquids.{liquid_of, is_liquid}
+use Rattle.cave_things.specs.Homes.{home, hold_of, is_at_home}
+use Rattle.cave_things.specs.Reach.{is_called, is_toted, has_other_prop}
+
+-- other objects in the same state
+abbrev pub with_objects : Layout → State → State
+with_objects o s = record s { objects = o }
+
+-- what is put down for an object: of a liquid, the bottle that it is in
+abbrev pub vessel : CaveView → State → ℕ → ℕ
+vessel cave s x = if is_liquid x (liquid_of cave s) then thing cave name.Bottle else x
+
+-- the cage is put down with the bird in it
+abbrev pub with_bird_in_cage : CaveView → ℕ → State → State
+with_bird_in_cage cave x s =
+    if is_called cave x name.Cage && has_other_prop s (thing cave name.Bird) (pos 0) then with_objects (moved s.objects (thing cave name.Bird) s.trail.here) s
+    else s
+
+-- the bird that is put down is free
+abbrev pub with_free_bird : CaveView → ℕ → State → State
+with_free_bird cave x s = if is_called cave x name.Bird then with_objects (with_prop s.objects x (pos 0)) s else s
+
+abbrev pub put_here : ℕ → State → State
+put_here x s = with_objects (moved s.objects x s.trail.here) s
+
+-- an object is put down where the player stands
+unfoldable pub put_down : CaveView → ℕ → State → State
+put_down cave x s =
+    let y = vessel cave s x in put_here y (with_free_bird cave y (with_bird_in_cage cave y s))
+
+-- what is carried is put where the player stands
+unfoldable pub let_go : CaveView → ℕ → State → State
+let_go cave x s = if is_toted cave s x then put_here x s else s
+
+-- the troll goes, and its second self stands at both ends of the bridge
+unfoldable pub without_troll : CaveView → State → State
+without_troll cave s =
+    let troll = thing cave name.Troll in let second = thing cave name.SecondTroll in
+    let gone = anchored (moved s.objects troll 0) troll anchor.Loose in
+    let there = anchored (moved gone second (home cave troll)) second (hold_of cave troll) in
+    with_objects (juggled there (thing cave name.Chasm)) s
+
+-- one treasure more is lost
+abbrev pub one_more_lost : State → State
+one_more_lost s = let tallies = s.tallies in record s { tallies = record tallies { lost = min (tallies.lost + 1) 60000 } }
+
+-- one treasure more is lost while the snake is at home
+unfoldable pub lost_to_snake : CaveView → State → State
+lost_to_snake cave s = if is_at_home cave s (thing cave name.Snake) then one_more_lost s else s

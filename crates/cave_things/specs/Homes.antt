@@ -1,0 +1,41 @@
+-- Where objects are at home: where they stand as a game begins.
+use Rattle.std.specs.Prelude.{ℕ, ℤ, pos, negsuc, zero, suc, Bool, false, ◌==◌, ◌&&◌, not, Option, Some, None}
+use Rattle.cave_data.specs.CaveView.{CaveView, placement_of}
+use Rattle.cave_world.specs.Objects.{spot_of}
+use Rattle.cave_world.specs.Spots.{is_place}
+use Rattle.cave_world.specs.declared.spot.Anchor.{Anchor}
+use Rattle.cave_world.specs.declared.spot.Anchor.TheVariants as anchor
+use Rattle.cave_world.specs.declared.spot.Spot.{Spot}
+use Rattle.cave_world.specs.declared.spot.Spot.TheVariants as spot
+use Rattle.cave_world.specs.declared.state.State.{State}
+
+-- where an object stands as the game begins
+abbrev pub home : CaveView → ℕ → ℕ
+home cave x = (placement_of cave x).first
+
+-- what holds it there: -1 that it can't be moved, a place its second half
+abbrev pub anchor_by : ℤ → Anchor
+anchor_by (pos zero) = anchor.Loose
+anchor_by (pos (suc n)) = anchor.At (suc n)
+anchor_by (negsuc n) = anchor.Fixed
+
+abbrev pub hold_of : CaveView → ℕ → Anchor
+hold_of cave x = anchor_by (placement_of cave x).second
+
+-- the place of a first half, where 0 is nowhere; what is carried is at no place
+abbrev pub place_or_nowhere : Spot → Option ℕ
+place_or_nowhere spot.Away = Some 0
+place_or_nowhere spot.Carried = None
+place_or_nowhere (spot.At place) = Some place
+
+-- the first half of an object is at home, which may be nowhere
+unfoldable pub is_at_home : CaveView → State → ℕ → Bool
+is_at_home cave s x = not (x == 0) && is_place (home cave x) (place_or_nowhere (spot_of s.objects x))
+
+-- the player stands where the object is at home
+unfoldable pub is_home_here : CaveView → State → ℕ → Bool
+is_home_here cave s x = not (x == 0) && home cave x == s.trail.here
+
+-- the player stands elsewhere
+unfoldable pub is_home_elsewhere : CaveView → State → ℕ → Bool
+is_home_elsewhere cave s x = not (x == 0) && not (home cave x == s.trail.here)

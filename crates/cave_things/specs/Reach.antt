@@ -1,0 +1,62 @@
+-- What the player can get at, and what rules ask of objects. Of an object that isn't there each test is false.
+use Rattle.std.specs.Prelude.{ℕ, ℤ, Bool, true, false, ◌==◌, ◌&&◌, ◌||◌, not, nat_le, int_le, if◌then◌else◌, take, List}
+use Rattle.std.specs.Ordering.{int_eq}
+use Rattle.std.specs.List.{list_any}
+use Rattle.cave_data.specs.CaveView.{CaveView}
+use Rattle.cave_words.specs.declared.named.Named.{Named}
+use Rattle.cave_words.specs.declared.named.Named.TheVariants as name
+use Rattle.cave_world.specs.Objects.{is_carried, is_first_at, anchor_of, prop_of}
+use Rattle.cave_world.specs.declared.spot.Anchor.{Anchor}
+use Rattle.cave_world.specs.declared.spot.Anchor.TheVariants as anchor
+use Rattle.cave_world.specs.declared.dwarves.Dwarf.{Dwarf}
+use Rattle.cave_world.specs.declared.state.State.{State}
+use Rattle.cave_things.specs.Things.{thing}
+use Rattle.cave_things.specs.Liquids.{liquid_of, is_liquid}
+
+-- an object is the one of a name
+unfoldable pub is_called : CaveView → ℕ → Named → Bool
+is_called cave x n = not (x == 0) && thing cave n == x
+
+-- an object is the one of one of the names
+abbrev pub is_one_of : CaveView → ℕ → List Named → Bool
+is_one_of cave x names = list_any (is_called cave x) names
+
+-- an object is carried: a liquid where the bottle is carried and has it
+unfoldable pub is_toted : CaveView → State → ℕ → Bool
+is_toted cave s x =
+    if is_called cave x name.Water || is_called cave x name.Oil then is_carried s.objects (thing cave name.Bottle) && is_liquid x (liquid_of cave s)
+    else is_carried s.objects x
+
+-- an object is carried, or its first half stands where the player stands
+unfoldable pub is_near : CaveView → State → ℕ → Bool
+is_near cave s x = is_toted cave s x || is_first_at s.objects s.trail.here x
+
+-- an object has a prop, another one, or one up to a number
+unfoldable pub has_prop : State → ℕ → ℤ → Bool
+has_prop s x v = not (x == 0) && int_eq (prop_of s.objects x) v
+
+unfoldable pub has_other_prop : State → ℕ → ℤ → Bool
+has_other_prop s x v = not (x == 0) && not (int_eq (prop_of s.objects x) v)
+
+unfoldable pub has_prop_up_to : State → ℕ → ℤ → Bool
+has_prop_up_to s x v = not (x == 0) && int_le (prop_of s.objects x) v
+
+-- the treasures are the objects from 50 to 79
+abbrev pub is_treasure : ℕ → Bool
+is_treasure x = nat_le 50 x && nat_le x 79
+
+abbrev pub is_dwarf_at : ℕ → Dwarf → Bool
+is_dwarf_at place dwarf = dwarf.place == place
+
+-- one of the five dwarves, once they are angry, stands where the player stands
+unfoldable pub is_dwarf_here : State → Bool
+is_dwarf_here s = nat_le 2 s.dwarves.anger && list_any (is_dwarf_at s.trail.here) (take 5 s.dwarves.each)
+
+abbrev pub is_held : Anchor → Bool
+is_held anchor.Loose = false
+is_held anchor.Fixed = true
+is_held (anchor.At place) = true
+
+-- an object can't be moved
+unfoldable pub is_fixed : State → ℕ → Bool
+is_fixed s x = is_held (anchor_of s.objects x)

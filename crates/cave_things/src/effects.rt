@@ -1,0 +1,91 @@
+ghost use Rattle.std.specs.Prelude.{◌≡◌};
+ghost use Rattle.cave_things.specs.Things.{cave_of};
+ghost use Rattle.cave_things.specs.Effects.{vessel, with_bird_in_cage, with_free_bird, put_down, let_go, without_troll, one_more_lost, lost_to_snake};
+
+use crate::liquids::is_liquid;
+use crate::reach::has_other_prop;
+use crate::rules::Rules;
+use cave_words::Named;
+use cave_world::{Anchor, Object, Place, Prop, State};
+
+fn vessel(rules: &Rules<'_>, state: &State, object: Object) -> Object
+    ensures { result ≡ vessel (cave_of rules.now) state.now object }
+{
+    if is_liquid(object, rules.liquid(state)) {
+        rules.object(Named::Bottle)
+    } else {
+        object
+    }
+}
+
+fn bring_bird(rules: &Rules<'_>, object: Object, state: &mut State)
+    ensures { state.new ≡ with_bird_in_cage (cave_of rules.now) object state.old }
+{
+    let bird = rules.object(Named::Bird);
+    if rules.is(object, Named::Cage) && has_other_prop(state, bird, 0) {
+        let here = state.trail.here;
+        state.move_to(bird, here);
+    }
+}
+
+fn free_bird(rules: &Rules<'_>, object: Object, state: &mut State)
+    ensures { state.new ≡ with_free_bird (cave_of rules.now) object state.old }
+{
+    if rules.is(object, Named::Bird) {
+        state.objects.set_prop(object, Prop::new(0));
+    }
+}
+
+/// An object is put down where the player stands: a liquid in its bottle, the cage with the bird in it.
+#[tactic(auto, unfolding(crate::specs::Effects::put_down))]
+pub fn put_down(rules: &Rules<'_>, object: Object, state: &mut State)
+    ensures { state.new ≡ put_down (cave_of rules.now) object state.old }
+{
+    let object = vessel(rules, state, object);
+    bring_bird(rules, object, state);
+    free_bird(rules, object, state);
+    let here = state.trail.here;
+    state.move_to(object, here);
+}
+
+/// What is carried is put where the player stands.
+#[tactic(auto, unfolding(crate::specs::Effects::let_go))]
+pub fn let_go(rules: &Rules<'_>, object: Object, state: &mut State)
+    ensures { state.new ≡ let_go (cave_of rules.now) object state.old }
+{
+    if rules.is_toted(state, object) {
+        let here = state.trail.here;
+        state.move_to(object, here);
+    }
+}
+
+/// The troll goes, and its second self stands at both ends of the bridge.
+#[tactic(auto, unfolding(crate::specs::Effects::without_troll))]
+pub fn pay_troll(rules: &Rules<'_>, state: &mut State)
+    ensures { state.new ≡ without_troll (cave_of rules.now) state.old }
+{
+    let troll = rules.object(Named::Troll);
+    let second = rules.object(Named::SecondTroll);
+    state.move_to(troll, Place::new(0));
+    state.objects.anchor_to(troll, Anchor::Loose);
+    state.move_to(second, rules.home(troll));
+    state.objects.anchor_to(second, rules.hold(troll));
+    state.objects.juggle(rules.object(Named::Chasm));
+}
+
+/// One treasure more can't be found any more.
+pub fn lose_one(state: &mut State)
+    ensures { state.new ≡ one_more_lost state.old }
+{
+    state.tallies.lost = state.tallies.lost.up();
+}
+
+/// One treasure more can't be found any more, if the snake is still at home.
+#[tactic(auto, unfolding(crate::specs::Effects::lost_to_snake))]
+pub fn lose(rules: &Rules<'_>, state: &mut State)
+    ensures { state.new ≡ lost_to_snake (cave_of rules.now) state.old }
+{
+    if rules.is_at_home(state, rules.object(Named::Snake)) {
+        lose_one(state);
+    }
+}

@@ -1,0 +1,68 @@
+ghost use Rattle.std.specs.Prelude.{◌≡◌, ◌≤ℤ◌, pos};
+ghost use Rattle.cave_things.specs.Things.{cave_of};
+ghost use Rattle.cave_things.specs.Homes.{home, anchor_by, hold_of, is_at_home, is_home_here, is_home_elsewhere};
+
+use crate::rules::Rules;
+use cave_world::{Anchor, Object, Place, Spot, State};
+
+/// What a second number of a row of places says of the object's second half.
+pub fn anchor_by(second: i16) -> Anchor
+    requires { second ≤ℤ pos 300 }
+    ensures { result ≡ anchor_by second }
+{
+    if second < 0 {
+        Anchor::Fixed
+    } else {
+        Anchor::at(Place::new(second as u16))
+    }
+}
+
+impl Rules<'_> {
+    /// Where an object stands as the game begins.
+    pub fn home(&self, object: Object) -> Place
+        ensures { result ≡ home (cave_of self.now) object }
+    {
+        let (home, _) = self.cave.placement(u16::from(object.number()));
+        Place::new(home)
+    }
+
+    /// What holds an object where it stands as the game begins.
+    pub fn hold(&self, object: Object) -> Anchor
+        ensures { result ≡ hold_of (cave_of self.now) object }
+    {
+        let (_, second) = self.cave.placement(u16::from(object.number()));
+        anchor_by(second)
+    }
+
+    /// Whether the first half of an object is at home, which may be nowhere.
+    #[tactic(auto, unfolding(crate::specs::Homes::is_at_home))]
+    pub fn is_at_home(&self, state: &State, object: Object) -> bool
+        ensures { result ≡ is_at_home (cave_of self.now) state.now object }
+    {
+        if object.is_none() {
+            return false;
+        }
+        let home = self.home(object);
+        match state.objects.spot(object) {
+            Spot::Away => home.number() == 0,
+            Spot::Carried => false,
+            Spot::At(site) => site.place() == home,
+        }
+    }
+
+    /// Whether the player stands where an object is at home.
+    #[tactic(auto, unfolding(crate::specs::Homes::is_home_here))]
+    pub fn is_home_here(&self, state: &State, object: Object) -> bool
+        ensures { result ≡ is_home_here (cave_of self.now) state.now object }
+    {
+        !object.is_none() && self.home(object) == state.trail.here
+    }
+
+    /// Whether an object is at home elsewhere than where the player stands.
+    #[tactic(auto, unfolding(crate::specs::Homes::is_home_elsewhere))]
+    pub fn is_home_elsewhere(&self, state: &State, object: Object) -> bool
+        ensures { result ≡ is_home_elsewhere (cave_of self.now) state.now object }
+    {
+        !object.is_none() && self.home(object) != state.trail.here
+    }
+}

@@ -1,0 +1,14 @@
+ghost use Rattle.std.specs.Prelude.{◌≡◌};
+ghost use Rattle.cave_things.specs.Numbers.{or_no_object};
+
+use cave_world::Object;
+
+/// The object of a number; object 0 where there is none.
+pub fn or_no_object(object: Option<u16>) -> Object
+    ensures { result ≡ or_no_object object }
+{
+    match object {
+        Some(number) if number <= 100 => Object::new(number as u8),
+        _ => Object::none(),
+    }
+}

@@ -1,0 +1,109 @@
+ghost use Rattle.std.specs.Prelude.{◌≡◌, take};
+ghost use Rattle.std.specs.List.{list_any};
+ghost use Rattle.cave_things.specs.Things.{cave_of};
+ghost use Rattle.cave_things.specs.Reach.{is_called, is_one_of, is_toted, is_near, is_fixed, is_treasure};
+ghost use Rattle.cave_things.specs.Reach.{has_prop, has_other_prop, has_prop_up_to, is_dwarf_at, is_dwarf_here};
+
+use crate::liquids::is_liquid;
+use crate::rules::Rules;
+use cave_words::Named;
+use cave_world::{Anchor, Dwarf, Object, Place, State};
+
+impl Rules<'_> {
+    /// Whether an object is the one of a name.
+    #[tactic(auto, unfolding(crate::specs::Reach::is_called))]
+    pub fn is(&self, object: Object, name: Named) -> bool
+        ensures { result ≡ is_called (cave_of self.now) object name }
+    {
+        !object.is_none() && self.object(name) == object
+    }
+
+    /// Whether an object is the one of one of the names.
+    pub fn is_one_of(&self, object: Object, names: &[Named]) -> bool
+        ensures { result ≡ is_one_of (cave_of self.now) object names.now }
+    {
+        names.iter().any(|name| self.is(object, *name))
+    }
+
+    /// Whether an object is carried: a liquid where the bottle is carried and has it.
+    #[tactic(auto, unfolding(crate::specs::Reach::is_toted))]
+    pub fn is_toted(&self, state: &State, object: Object) -> bool
+        ensures { result ≡ is_toted (cave_of self.now) state.now object }
+    {
+        if self.is(object, Named::Water) || self.is(object, Named::Oil) {
+            return state.toting(self.object(Named::Bottle))
+                && is_liquid(object, self.liquid(state));
+        }
+        state.toting(object)
+    }
+
+    /// Whether an object is carried, or its first half stands where the player stands.
+    #[tactic(auto, unfolding(crate::specs::Reach::is_near))]
+    pub fn is_near(&self, state: &State, object: Object) -> bool
+        ensures { result ≡ is_near (cave_of self.now) state.now object }
+    {
+        self.is_toted(state, object) || state.objects.is_first_at(state.trail.here, object)
+    }
+}
+
+/// Whether there is the object, and it has a prop.
+#[tactic(auto, unfolding(crate::specs::Reach::has_prop))]
+pub fn has_prop(state: &State, object: Object, prop: i8) -> bool
+    ensures { result ≡ has_prop state.now object prop }
+{
+    !object.is_none() && state.objects.prop(object).value() == prop
+}
+
+/// Whether there is the object, and it has another prop.
+#[tactic(auto, unfolding(crate::specs::Reach::has_other_prop))]
+pub fn has_other_prop(state: &State, object: Object, prop: i8) -> bool
+    ensures { result ≡ has_other_prop state.now object prop }
+{
+    !object.is_none() && state.objects.prop(object).value() != prop
+}
+
+/// Whether there is the object, and its prop is at most a number.
+#[tactic(auto, unfolding(crate::specs::Reach::has_prop_up_to))]
+pub fn has_prop_up_to(state: &State, object: Object, most: i8) -> bool
+    ensures { result ≡ has_prop_up_to state.now object most }
+{
+    !object.is_none() && state.objects.prop(object).value() <= most
+}
+
+/// Whether an object is a treasure.
+pub fn is_treasure(object: Object) -> bool
+    ensures { result ≡ is_treasure object }
+{
+    50 <= object.number() && object.number() <= 79
+}
+
+fn is_at(place: Place, dwarf: &Dwarf) -> bool
+    ensures { result ≡ is_dwarf_at place dwarf.now }
+{
+    dwarf.place == place
+}
+
+fn some_is_at(place: Place, dwarves: &[Dwarf]) -> bool
+    ensures { result ≡ list_any (is_dwarf_at place) dwarves.now }
+{
+    dwarves.iter().any(|dwarf| is_at(place, dwarf))
+}
+
+/// Whether one of the five dwarves, once they are angry, stands where the player stands.
+#[tactic(auto, unfolding(crate::specs::Reach::is_dwarf_here))]
+pub fn is_dwarf_here(state: &State) -> bool
+    ensures { result ≡ is_dwarf_here state.now }
+{
+    2 <= state.dwarves.anger.number() && some_is_at(state.trail.here, &state.dwarves.each[..5])
+}
+
+/// Whether an object can't be moved.
+#[tactic(auto, unfolding(crate::specs::Reach::is_fixed))]
+pub fn is_fixed(state: &State, object: Object) -> bool
+    ensures { result ≡ is_fixed state.now object }
+{
+    match state.objects.anchor(object) {
+        Anchor::Loose => false,
+        Anchor::Fixed | Anchor::At(_) => true,
+    }
+}

@@ -1,0 +1,26 @@
+ghost use Rattle.std.specs.Prelude.{◌≡◌, ◌<◌};
+ghost use Rattle.cave_things.specs.Things.{cave_of};
+ghost use Rattle.cave_things.specs.SpecialWords.{number_or_none, special};
+
+use crate::rules::Rules;
+use cave_words::{Class, Meaning, Word};
+
+fn number_or_none(meaning: Option<Meaning>) -> u16
+    ensures { result ≡ number_or_none meaning }
+{
+    match meaning {
+        Some(meaning) => meaning.number,
+        None => 0,
+    }
+}
+
+impl Rules<'_> {
+    /// The number of a word among the special words; 0 if it is none of them.
+    #[tactic(auto, using(crate::proofs::SpecialNumbers::specials), unfolding(crate::specs::SpecialWords::special))]
+    pub fn special(&self, word: Word) -> u16
+        ensures value { result ≡ special (cave_of self.now) word }
+        ensures within { result < 1000 }
+    {
+        number_or_none(self.lexicon.find_in(word, Class::Special))
+    }
+}
