@@ -1,0 +1,5 @@
+pub mod DroppingLemmas
+pub mod Falls
+pub mod Listed
+pub mod Near
+pub mod PouringLemmas

@@ -1,0 +1,11 @@
+-- TAKE goes on from a liquid to its bottle.
+use Rattle.cave_things.specs.Things.{cave_of}
+use Rattle.cave_verbs.specs.Ranks.{rank}
+use Rattle.cave_verbs.proofs.Falls.{take-falls}
+use Rattle.std.proofs.Common.{rules}
+use Rattle.cave_verbs.proofs.taking.take.Goals as goal
+
+pub returns-then-is_near-clause-ranks : goal.returns-then-is_near-clause-ranks
+unfolding rank
+returns-then-is_near-clause-ranks c =
+    rw c.object-bottle.ensures (take-falls (cave_of c.args.rules.now) c.args.state.now c.args.order.object (search rules))

@@ -1,0 +1,18 @@
+-- THROW goes on from the first rod to the second.
+use Rattle.std.proofs.Common.{◌≡◌, ℕ, ◌≤◌, suc, true, arith, rules}
+use Rattle.cave_data.specs.CaveView.{CaveView}
+use Rattle.cave_words.specs.declared.named.Named.TheVariants as name
+use Rattle.cave_things.specs.Things.{cave_of, thing}
+use Rattle.cave_things.specs.Reach.{is_called}
+use Rattle.cave_verbs.specs.Ranks.{rank, throw_rank}
+use Rattle.cave_verbs.proofs.Falls.{second-rod}
+use Rattle.cave_verbs.proofs.throwing.throw.Goals as goal
+
+throw-falls : (cave : CaveView) (x : ℕ) → is_called cave x name.Rod ≡ true
+    → suc (throw_rank cave (thing cave name.SecondRod)) ≤ throw_rank cave x
+throw-falls cave x rod = let other = second-rod cave in grind (arith, rod, other)
+
+pub returns-then-is_toted-clause-ranks : goal.returns-then-is_toted-clause-ranks
+unfolding rank
+returns-then-is_toted-clause-ranks c =
+    rw c.object-second_rod.ensures (throw-falls (cave_of c.args.rules.now) c.args.order.object (search rules))

@@ -1,0 +1,58 @@
+-- FEED and EAT.
+use Rattle.std.specs.Prelude.{pos, ◌+◌, min, List, [], ◌∷◌}
+use Rattle.cave_data.specs.declared.role.Role.TheVariants as role
+use Rattle.cave_words.specs.declared.named.Named.{Named}
+use Rattle.cave_words.specs.declared.named.Named.TheVariants as name
+use Rattle.cave_world.specs.declared.state.State.{State}
+use Rattle.cave_things.specs.Reach.{is_one_of}
+use Rattle.cave_verbs.specs.Effects.{in_state, say, default, ask_what, kill, loosen, set_prop, lose_one}
+use Rattle.cave_verbs.specs.Rows.{Row, Test, Effect, row, row_then, keeps, goes_on}
+use Rattle.cave_verbs.specs.Verbs as verb
+use Rattle.cave_verbs.specs.Tests.{x, the, no, either, is, near, prop, other_prop, closed}
+
+-- the order's object has one of the names
+abbrev pub is_any : List Named → Test
+is_any names d = is_one_of d.cave d.order.object names
+
+-- the dwarves are angrier by one, up to 13
+abbrev pub angrier : State → State
+angrier s = let dwarves = s.dwarves in record s { dwarves = record dwarves { anger = min (dwarves.anger + 1) 13 } }
+
+abbrev pub anger : Effect
+anger d = in_state (angrier d.state) d
+
+unfoldable pub feed_rows : List Row
+feed_rows =
+    row (is name.Bird ∷ []) (say role.BirdFeed ∷ [])
+    ∷ row (is name.Snake ∷ no closed ∷ near (the name.Bird) ∷ [])
+    (kill (the name.Bird) ∷ set_prop (the name.Bird) (pos 0) ∷ lose_one ∷ say role.BirdEaten ∷ [])
+    ∷ row (is name.Dragon ∷ other_prop x (pos 0) ∷ []) (say role.Ridiculous ∷ [])
+    ∷ row (either (is name.Snake) (is name.Dragon) ∷ []) (say role.NotHungry ∷ [])
+    ∷ row (is name.Troll ∷ []) (say role.TrollFeed ∷ [])
+    ∷ row (is name.Dwarf ∷ near (the name.Food) ∷ []) (anger ∷ say role.DwarfFeed ∷ [])
+    ∷ row (is name.Dwarf ∷ []) (default ∷ [])
+    ∷ row (is name.Bear ∷ near (the name.Food) ∷ [])
+    (kill (the name.Food) ∷ set_prop x (pos 1) ∷ loosen (the name.Axe) ∷ set_prop (the name.Axe) (pos 0) ∷ say role.BearFed ∷ [])
+    ∷ row (is name.Bear ∷ prop x (pos 0) ∷ []) (say role.NotHungry ∷ [])
+    ∷ row (is name.Bear ∷ prop x (pos 3) ∷ []) (say role.Ridiculous ∷ [])
+    ∷ row (is name.Bear ∷ []) (default ∷ [])
+    ∷ row [] (say role.FeedWhat ∷ [])
+    ∷ []
+
+unfoldable pub bare_eat_rows : List Row
+bare_eat_rows =
+    row_then (near (the name.Food) ∷ []) [] (goes_on verb.EAT (the name.Food))
+    ∷ row_then [] (ask_what ∷ []) keeps
+    ∷ []
+
+-- who lives, and is no food
+abbrev pub living : List Named
+living =
+    name.Bird ∷ name.Snake ∷ name.Clam ∷ name.Oyster ∷ name.Dwarf ∷ name.Dragon ∷ name.Troll ∷ name.Bear ∷ []
+
+unfoldable pub eat_rows : List Row
+eat_rows =
+    row (is name.Food ∷ []) (kill x ∷ say role.Eaten ∷ [])
+    ∷ row (is_any living ∷ []) (say role.NoAppetite ∷ [])
+    ∷ row [] (default ∷ [])
+    ∷ []

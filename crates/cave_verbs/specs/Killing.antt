@@ -1,0 +1,58 @@
+-- KILL.
+use Rattle.std.specs.Prelude.{ℕ, pos, ◌==◌, List, [], ◌∷◌}
+use Rattle.cave_data.specs.declared.role.Role.TheVariants as role
+use Rattle.cave_words.specs.declared.named.Named.TheVariants as name
+use Rattle.cave_world.specs.declared.ending.Ending.TheVariants as ending
+use Rattle.cave_world.specs.declared.ending.Question.TheVariants as question
+use Rattle.cave_verbs.specs.Choice.{candidate, meant, several, first}
+use Rattle.cave_verbs.specs.Deeds.{Deed}
+use Rattle.cave_verbs.specs.Effects.{say, default, ask_what, kill, set_prop, lost}
+use Rattle.cave_verbs.specs.Rows.{Row, Test, row, row_then, keeps, asks, ends, goes_on}
+use Rattle.cave_verbs.specs.Verbs as verb
+use Rattle.cave_verbs.specs.Tests.{x, the, no, either, both, there_is, is, near, stands, prop, dwarf, closed}
+
+-- the player's own verb, which may have gone on to this one
+abbrev pub typed : ℕ → Test
+typed v d = d.order.command.verb == v
+
+abbrev pub foes : Deed → List ℕ
+foes = meant
+    (candidate name.Dwarf dwarf
+    ∷ candidate name.Snake (near (the name.Snake))
+    ∷ candidate name.Dragon (both (stands (the name.Dragon)) (prop (the name.Dragon) (pos 0)))
+    ∷ candidate name.Troll (stands (the name.Troll))
+    ∷ candidate name.Bear (both (near (the name.Bear)) (prop (the name.Bear) (pos 0)))
+    ∷ [])
+
+-- what is killed for want of a foe
+abbrev pub prey : Deed → List ℕ
+prey = meant
+    (candidate name.Bird (both (near (the name.Bird)) (no (typed verb.THROW)))
+    ∷ candidate name.Clam (either (near (the name.Clam)) (near (the name.Oyster)))
+    ∷ [])
+
+unfoldable pub bare_kill_rows : List Row
+bare_kill_rows =
+    row_then (several foes ∷ []) (ask_what ∷ []) keeps
+    ∷ row_then (there_is (first foes) ∷ []) [] (goes_on verb.KILL (first foes))
+    ∷ row_then (several prey ∷ []) (ask_what ∷ []) keeps
+    ∷ row_then (there_is (first prey) ∷ []) [] (goes_on verb.KILL (first prey))
+    ∷ row [] (say role.NoneToKill ∷ [])
+    ∷ []
+
+unfoldable pub kill_rows : List Row
+kill_rows =
+    row (is name.Bird ∷ closed ∷ []) (say role.BirdNo ∷ [])
+    ∷ row (is name.Bird ∷ []) (kill x ∷ set_prop x (pos 0) ∷ lost ∷ say role.BirdDead ∷ [])
+    ∷ row (either (is name.Clam) (is name.Oyster) ∷ []) (say role.Shell ∷ [])
+    ∷ row (is name.Snake ∷ []) (say role.SnakeNo ∷ [])
+    ∷ row_then (is name.Dwarf ∷ closed ∷ []) (say role.Disturbed ∷ []) (ends ending.Killed)
+    ∷ row (is name.Dwarf ∷ []) (say role.WithWhat ∷ [])
+    ∷ row_then (is name.Dragon ∷ prop x (pos 0) ∷ []) [] (asks question.Dragon)
+    ∷ row (is name.Dragon ∷ []) (say role.DeadAlready ∷ [])
+    ∷ row (is name.Troll ∷ []) (say role.TrollNo ∷ [])
+    ∷ row (is name.Bear ∷ prop x (pos 0) ∷ []) (say role.BearFight ∷ [])
+    ∷ row (is name.Bear ∷ prop x (pos 3) ∷ []) (say role.DeadAlready ∷ [])
+    ∷ row (is name.Bear ∷ []) (say role.BearFriend ∷ [])
+    ∷ row [] (default ∷ [])
+    ∷ []

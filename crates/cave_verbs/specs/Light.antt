@@ -1,0 +1,35 @@
+-- ON and OFF.
+use Rattle.std.specs.Prelude.{int_lt, pos, List, [], ◌∷◌, if◌then◌else◌}
+use Rattle.cave_data.specs.declared.role.Role.TheVariants as role
+use Rattle.cave_words.specs.declared.named.Named.TheVariants as name
+use Rattle.cave_world.specs.Sight.{is_dark}
+use Rattle.cave_things.specs.Things.{thing}
+use Rattle.cave_verbs.specs.Effects.{say, default, set_prop}
+use Rattle.cave_verbs.specs.Rows.{Row, Test, Effect, row, row_then, describes}
+use Rattle.cave_verbs.specs.Tests.{the, no, near}
+
+-- the lamp went out
+abbrev pub burnt_out : Test
+burnt_out d = int_lt d.state.lamp.charge (pos 0)
+
+-- it was dark as the turn began
+abbrev pub was_dark : Test
+was_dark d = d.order.command.was_dark
+
+-- that it is dark is said, if it is
+abbrev pub say_dark : Effect
+say_dark d = if is_dark d.cave (thing d.cave name.Lamp) d.state then say role.Dark d else d
+
+unfoldable pub on_rows : List Row
+on_rows =
+    row (no (near (the name.Lamp)) ∷ []) (default ∷ [])
+    ∷ row (burnt_out ∷ []) (say role.LampDead ∷ [])
+    ∷ row_then (was_dark ∷ []) (set_prop (the name.Lamp) (pos 1) ∷ say role.LampOn ∷ []) describes
+    ∷ row [] (set_prop (the name.Lamp) (pos 1) ∷ say role.LampOn ∷ [])
+    ∷ []
+
+unfoldable pub off_rows : List Row
+off_rows =
+    row (no (near (the name.Lamp)) ∷ []) (default ∷ [])
+    ∷ row [] (set_prop (the name.Lamp) (pos 0) ∷ say role.LampOff ∷ say_dark ∷ [])
+    ∷ []

@@ -1,0 +1,99 @@
+-- OPEN and LOCK.
+use Rattle.std.specs.Prelude.{ℕ, pos, List, [], ◌∷◌, ◌==◌, if◌then◌else◌, Option, Some, None}
+use Rattle.cave_data.specs.CaveView.{CaveView}
+use Rattle.cave_data.specs.declared.place_role.PlaceRole.{PlaceRole}
+use Rattle.cave_data.specs.declared.place_role.PlaceRole.TheVariants as place
+use Rattle.cave_data.specs.declared.role.Role.TheVariants as role
+use Rattle.cave_words.specs.declared.named.Named.TheVariants as name
+use Rattle.cave_world.specs.Objects.{moved, stands_at}
+use Rattle.cave_world.specs.declared.state.State.{State}
+use Rattle.cave_things.specs.Effects.{with_objects}
+use Rattle.cave_things.specs.Homes.{is_home_elsewhere}
+use Rattle.cave_things.specs.Panic.{panicking}
+use Rattle.cave_things.specs.Places.{place_named}
+use Rattle.cave_things.specs.Reach.{is_near}
+use Rattle.cave_things.specs.Things.{thing}
+use Rattle.cave_verbs.specs.Deeds.{Deed}
+use Rattle.cave_verbs.specs.Effects.{in_state, say, default, ask_what, bring, kill, fix, loosen, set_prop, lay_down}
+use Rattle.cave_verbs.specs.Rows.{Row, Test, Effect, Thing, row, row_then, keeps}
+use Rattle.cave_verbs.specs.Verbs as verb
+use Rattle.cave_verbs.specs.Tests.{x, the, no, either, there_is, is, toted, near, prop, other_prop, closing}
+use Rattle.cave_verbs.specs.declared.next.Step.{Step}
+use Rattle.cave_verbs.specs.declared.next.Step.TheVariants.{GoOn}
+
+abbrev pub opening : Test
+opening d = d.order.verb == verb.OPEN
+
+abbrev pub locking : Test
+locking d = d.order.verb == verb.LOCK
+
+-- the player isn't where the order's object is at home
+abbrev pub away_from_home : Test
+away_from_home d = is_home_elsewhere d.cave d.state d.order.object
+
+-- who tries to get out of a closing cave is in a hurry
+abbrev pub panic : Effect
+panic d = in_state (panicking d.state) d
+
+-- an object is moved to a place, if there is the place
+abbrev pub sent : ℕ → Option ℕ → State → State
+sent x None s = s
+sent x (Some place) s = with_objects (moved s.objects x place) s
+
+abbrev pub send : Thing → PlaceRole → Effect
+send t role d = in_state (sent (t d) (place_named d.cave role) d.state) d
+
+-- it goes on with the same verb and an object
+abbrev pub goes_on_with : Thing → Deed → Step
+goes_on_with t d = GoOn d.order.verb (t d)
+
+-- what is meant where the order names nothing: the grate or the door that stands here, the oyster or the clam at hand
+unfoldable pub lock_meant : CaveView → State → ℕ
+lock_meant cave s =
+    if stands_at s.objects s.trail.here (thing cave name.Grate) then thing cave name.Grate
+    else (if stands_at s.objects s.trail.here (thing cave name.Door) then thing cave name.Door
+    else (if is_near cave s (thing cave name.Oyster) then thing cave name.Oyster
+    else (if is_near cave s (thing cave name.Clam) then thing cave name.Clam else 0)))
+
+abbrev pub meant : Thing
+meant d = lock_meant d.cave d.state
+
+unfoldable pub bare_open_rows : List Row
+bare_open_rows =
+    row_then (there_is meant ∷ near (the name.Chain) ∷ []) (ask_what ∷ []) keeps
+    ∷ row_then (there_is meant ∷ []) [] (goes_on_with meant)
+    ∷ row_then (near (the name.Chain) ∷ []) [] (goes_on_with (the name.Chain))
+    ∷ row [] (say role.NoLock ∷ [])
+    ∷ []
+
+unfoldable pub open_rows : List Row
+open_rows =
+    row (either (is name.Clam) (is name.Oyster) ∷ locking ∷ []) (say role.LockWhat ∷ [])
+    ∷ row (is name.Clam ∷ no (toted (the name.Trident)) ∷ []) (say role.ClamTool ∷ [])
+    ∷ row (is name.Oyster ∷ no (toted (the name.Trident)) ∷ []) (say role.OysterTool ∷ [])
+    ∷ row (is name.Clam ∷ toted x ∷ []) (say role.ClamHeld ∷ [])
+    ∷ row (is name.Oyster ∷ toted x ∷ []) (say role.OysterHeld ∷ [])
+    ∷ row (is name.Clam ∷ [])
+    (kill x ∷ bring (the name.Oyster) ∷ send (the name.Pearl) place.Culdesac ∷ say role.Pearl ∷ [])
+    ∷ row (is name.Oyster ∷ []) (say role.OysterOpen ∷ [])
+    ∷ row (is name.Door ∷ prop x (pos 1) ∷ []) (say role.Ok ∷ [])
+    ∷ row (is name.Door ∷ []) (say role.Rusty ∷ [])
+    ∷ row (is name.Cage ∷ []) (say role.NoLatch ∷ [])
+    ∷ row (is name.Keys ∷ []) (say role.KeysWhat ∷ [])
+    ∷ row (either (is name.Grate) (is name.Chain) ∷ no (near (the name.Keys)) ∷ []) (say role.NoKeys ∷ [])
+    ∷ row (is name.Grate ∷ closing ∷ []) (say role.ClosingExit ∷ panic ∷ [])
+    ∷ row (is name.Grate ∷ opening ∷ prop x (pos 0) ∷ []) (set_prop x (pos 1) ∷ say role.Unlocked ∷ [])
+    ∷ row (is name.Grate ∷ opening ∷ []) (say role.WasUnlocked ∷ [])
+    ∷ row (is name.Grate ∷ prop x (pos 0) ∷ []) (say role.WasLocked ∷ [])
+    ∷ row (is name.Grate ∷ []) (set_prop x (pos 0) ∷ say role.Locked ∷ [])
+    ∷ row (is name.Chain ∷ opening ∷ prop x (pos 0) ∷ []) (say role.WasUnlocked ∷ [])
+    ∷ row (is name.Chain ∷ opening ∷ prop (the name.Bear) (pos 0) ∷ []) (say role.BearBars ∷ [])
+    ∷ row (is name.Chain ∷ opening ∷ prop (the name.Bear) (pos 3) ∷ [])
+    (set_prop x (pos 0) ∷ loosen x ∷ fix (the name.Bear) ∷ say role.ChainFree ∷ [])
+    ∷ row (is name.Chain ∷ opening ∷ [])
+    (set_prop x (pos 0) ∷ loosen x ∷ set_prop (the name.Bear) (pos 2) ∷ loosen (the name.Bear) ∷ say role.ChainFree ∷ [])
+    ∷ row (is name.Chain ∷ away_from_home ∷ []) (say role.NoLockHere ∷ [])
+    ∷ row (is name.Chain ∷ other_prop x (pos 0) ∷ []) (say role.WasLocked ∷ [])
+    ∷ row (is name.Chain ∷ []) (lay_down x ∷ set_prop x (pos 2) ∷ fix x ∷ say role.ChainLock ∷ [])
+    ∷ row [] (default ∷ [])
+    ∷ []

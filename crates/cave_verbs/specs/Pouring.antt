@@ -1,0 +1,90 @@
+-- POUR, DRINK and FILL.
+use Rattle.std.specs.Prelude.{ℕ, pos, ◌+ℤ◌, int_div, ◌==◌, ◌||◌, if◌then◌else◌, List, [], ◌∷◌, unwrap_or}
+use Rattle.std.specs.Int.{int_rem_euclid}
+use Rattle.cave_data.specs.CaveView.{CaveView}
+use Rattle.cave_data.specs.declared.role.Role.TheVariants as role
+use Rattle.cave_words.specs.declared.named.Named.{Named}
+use Rattle.cave_words.specs.declared.named.Named.TheVariants as name
+use Rattle.cave_world.specs.Objects.{prop_of}
+use Rattle.cave_world.specs.declared.state.State.{State}
+use Rattle.cave_things.specs.Liquids.{liquid_of}
+use Rattle.cave_things.specs.Reach.{is_called}
+use Rattle.cave_verbs.specs.Effects.{say, default, ask_what, look, bring, fix, set_prop}
+use Rattle.cave_verbs.specs.Rows.{Row, Test, Effect, Thing, row, row_then, keeps, again, goes_on}
+use Rattle.cave_verbs.specs.Verbs as verb
+use Rattle.cave_verbs.specs.Tests.{x, the, bare, no, either, both, is, toted, near, stands, in_bottle, bottle_full, in_lake, lake}
+
+-- what is poured: what is in the bottle, where that or nothing is named; 0 for a liquid without a name
+abbrev pub poured_of : CaveView → State → ℕ → ℕ
+poured_of cave s y =
+    if y == 0 || is_called cave y name.Bottle then unwrap_or (liquid_of cave s) 0 else y
+
+abbrev pub poured : Thing
+poured d = poured_of d.cave d.state d.order.object
+
+-- what is poured has a name
+abbrev pub pours : Named → Test
+pours n d = is_called d.cave (poured d) n
+
+abbrev pub empty_bottle : Effect
+empty_bottle d = set_prop (the name.Bottle) (pos 1) d
+
+-- the text for the prop above an object's
+abbrev pub look_above : Thing → Effect
+look_above t d = look t (prop_of d.state.objects (t d) +ℤ pos 1) d
+
+-- a prop goes up by two, from 0 to 5 round and round
+abbrev pub grow : Thing → Effect
+grow t d = set_prop t (int_rem_euclid (prop_of d.state.objects (t d) +ℤ pos 2) (pos 6)) d
+
+-- one object's prop becomes half of another's
+abbrev pub halve : Thing → Thing → Effect
+halve t of d = set_prop t (int_div (prop_of d.state.objects (of d)) (pos 2)) d
+
+-- the plant and its upper part grow with the water
+abbrev pub plant_watered : List Effect
+plant_watered = look_above (the name.Plant) ∷ grow (the name.Plant) ∷ halve (the name.SecondPlant) (the name.Plant) ∷ []
+
+-- the bottle is at hand, and water is in it
+abbrev pub water_at_hand : Test
+water_at_hand = both (in_bottle (the name.Water)) (near (the name.Bottle))
+
+unfoldable pub pour_rows : List Row
+pour_rows =
+    row_then (either bare (is name.Bottle) ∷ no bottle_full ∷ []) (ask_what ∷ []) keeps
+    ∷ row (no (toted poured) ∷ []) (default ∷ [])
+    ∷ row (no (pours name.Water) ∷ no (pours name.Oil) ∷ []) (say role.CantPour ∷ [])
+    ∷ row (stands (the name.Door) ∷ pours name.Oil ∷ [])
+    (empty_bottle ∷ set_prop (the name.Door) (pos 1) ∷ say role.DoorOiled ∷ [])
+    ∷ row (stands (the name.Door) ∷ [])
+    (empty_bottle ∷ set_prop (the name.Door) (pos 0) ∷ say role.DoorWet ∷ [])
+    ∷ row_then (stands (the name.Plant) ∷ pours name.Water ∷ []) (empty_bottle ∷ plant_watered) again
+    ∷ row (stands (the name.Plant) ∷ []) (empty_bottle ∷ say role.PlantOil ∷ [])
+    ∷ row [] (empty_bottle ∷ say role.PourGround ∷ [])
+    ∷ []
+
+unfoldable pub drink_rows : List Row
+drink_rows =
+    row_then (bare ∷ no (in_lake (the name.Water)) ∷ no water_at_hand ∷ []) (ask_what ∷ []) keeps
+    ∷ row (no bare ∷ no (is name.Water) ∷ []) (say role.Ridiculous ∷ [])
+    ∷ row (water_at_hand ∷ []) (empty_bottle ∷ say role.Drunk ∷ [])
+    ∷ row [] (default ∷ [])
+    ∷ []
+
+unfoldable pub bare_fill_rows : List Row
+bare_fill_rows =
+    row_then (near (the name.Bottle) ∷ []) [] (goes_on verb.FILL (the name.Bottle))
+    ∷ row_then [] (ask_what ∷ []) keeps
+    ∷ []
+
+unfoldable pub fill_rows : List Row
+fill_rows =
+    row (is name.Vase ∷ no lake ∷ []) (say role.VaseDry ∷ [])
+    ∷ row (is name.Vase ∷ no (toted x) ∷ []) (say role.NotHeld ∷ [])
+    ∷ row (is name.Vase ∷ []) (say role.VaseBreak ∷ set_prop x (pos 2) ∷ fix x ∷ bring x ∷ [])
+    ∷ row (no (is name.Bottle) ∷ []) (default ∷ [])
+    ∷ row (bottle_full ∷ []) (say role.BottleFull ∷ [])
+    ∷ row (no lake ∷ []) (say role.NoLake ∷ [])
+    ∷ row (in_lake (the name.Oil) ∷ []) (set_prop x (pos 2) ∷ say role.FilledOil ∷ [])
+    ∷ row [] (set_prop x (pos 0) ∷ say role.FilledWater ∷ [])
+    ∷ []

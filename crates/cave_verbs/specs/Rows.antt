@@ -1,0 +1,76 @@
+-- Rules as rows: the first row whose tests hold applies, and its effects follow one another.
+use Rattle.std.specs.Prelude.{ℕ, Bool, true, false, ◌==◌, ◌&&◌, if◌then◌else◌, List, [], ◌∷◌}
+use Rattle.cave_words.specs.Stream.{next, drawn}
+use Rattle.cave_world.specs.declared.ending.Ending.{Ending}
+use Rattle.cave_world.specs.declared.ending.Question.{Question}
+use Rattle.cave_verbs.specs.Deeds.{Deed, Outcome, outcome}
+use Rattle.cave_verbs.specs.declared.next.Next.TheVariants as next_is
+use Rattle.cave_verbs.specs.declared.next.Step.{Step}
+use Rattle.cave_verbs.specs.declared.next.Step.TheVariants.{Done, GoOn}
+
+abbrev pub Test : Type 0
+Test = Deed → Bool
+
+abbrev pub Effect : Type 0
+Effect = Deed → Deed
+
+-- an object by what it is in a deed; 0 is none
+abbrev pub Thing : Type 0
+Thing = Deed → ℕ
+
+-- tests, effects, and what follows
+pub record Row : Type 0 where
+  pub tests : List Test
+  pub effects : List Effect
+  pub end : Deed → Step
+
+-- nothing follows
+abbrev pub stays : Deed → Step
+stays d = Done next_is.Stay
+
+-- the verb is kept for the next line
+abbrev pub keeps : Deed → Step
+keeps d = Done next_is.Keep
+
+-- the place is described
+abbrev pub describes : Deed → Step
+describes d = Done next_is.Describe
+
+-- the player arrives again where the player stands
+abbrev pub again : Deed → Step
+again d = Done (next_is.Arrive d.state.trail.here)
+
+abbrev pub asks : Question → Deed → Step
+asks question d = Done (next_is.Ask question)
+
+abbrev pub ends : Ending → Deed → Step
+ends how d = Done (next_is.End how)
+
+-- it goes on with a verb and an object
+abbrev pub goes_on : ℕ → Thing → Deed → Step
+goes_on verb x d = GoOn verb (x d)
+
+-- a row after which nothing follows
+abbrev pub row : List Test → List Effect → Row
+row tests effects = record { tests = tests; effects = effects; end = stays }
+
+-- a row with what follows
+abbrev pub row_then : List Test → List Effect → (Deed → Step) → Row
+row_then tests effects end = record { tests = tests; effects = effects; end = end }
+
+-- tests are made from the left, and none after one that fails
+abbrev pub fits : List Test → Deed → Bool
+fits [] d = true
+fits (test ∷ tests) d = test d && fits tests d
+
+abbrev pub after_all : List Effect → Deed → Deed
+after_all [] d = d
+after_all (effect ∷ effects) d = after_all effects (effect d)
+
+abbrev pub outcome_of : Row → Deed → Outcome
+outcome_of r d = let e = after_all r.effects d in outcome e.state e.parts (r.end e)
+
+-- the outcome of the first row that fits
+abbrev pub first_fitting : List Row → Deed → Outcome
+first_fitting [] d = outcome d.state d.parts (stays d)
+first_fitting (r ∷ rows) d = if fits r.tests d then outcome_of r d else first_fitting rows d

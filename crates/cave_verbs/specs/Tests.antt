@@ -1,0 +1,96 @@
+-- What rows of verbs ask.
+use Rattle.std.specs.Prelude.{ℕ, ℤ, Bool, ◌==◌, ◌&&◌, ◌||◌, not, nat_le, int_lt, pos, length, is_some, is_none, Option, Some, None}
+use Rattle.cave_words.specs.declared.named.Named.{Named}
+use Rattle.cave_words.specs.declared.named.Named.TheVariants as name
+use Rattle.cave_world.specs.Objects.{stands_at, carried_objects}
+use Rattle.cave_things.specs.Things.{thing}
+use Rattle.cave_things.specs.Liquids.{liquid_of, lake_of, is_liquid}
+use Rattle.cave_things.specs.Reach.{is_called, is_toted, is_near, has_prop, has_other_prop, has_prop_up_to, is_treasure, is_dwarf_here, is_fixed}
+use Rattle.cave_verbs.specs.Rows.{Test, Thing}
+
+-- the order's object
+abbrev pub x : Thing
+x d = d.order.object
+
+-- the object of a name
+abbrev pub the : Named → Thing
+the n d = thing d.cave n
+
+-- there is no object in the order
+abbrev pub bare : Test
+bare d = d.order.object == 0
+
+abbrev pub no : Test → Test
+no test d = not (test d)
+
+abbrev pub either : Test → Test → Test
+either one other d = one d || other d
+
+abbrev pub both : Test → Test → Test
+both one other d = one d && other d
+
+-- there is the object
+abbrev pub there_is : Thing → Test
+there_is t d = not (t d == 0)
+
+-- the order's object has a name
+abbrev pub is : Named → Test
+is n d = is_called d.cave d.order.object n
+
+-- an object is carried
+abbrev pub toted : Thing → Test
+toted t d = is_toted d.cave d.state (t d)
+
+-- an object is carried, or its first half stands here
+abbrev pub near : Thing → Test
+near t d = is_near d.cave d.state (t d)
+
+-- a half of an object stands here
+abbrev pub stands : Thing → Test
+stands t d = stands_at d.state.objects d.state.trail.here (t d)
+
+-- an object can't be moved
+abbrev pub fixed : Thing → Test
+fixed t d = is_fixed d.state (t d)
+
+abbrev pub prop : Thing → ℤ → Test
+prop t v d = has_prop d.state (t d) v
+
+abbrev pub other_prop : Thing → ℤ → Test
+other_prop t v d = has_other_prop d.state (t d) v
+
+abbrev pub prop_up_to : Thing → ℤ → Test
+prop_up_to t v d = has_prop_up_to d.state (t d) v
+
+-- a dwarf stands here
+abbrev pub dwarf : Test
+dwarf d = is_dwarf_here d.state
+
+abbrev pub closing : Test
+closing d = d.state.closing.is_closing
+
+abbrev pub closed : Test
+closed d = d.state.closing.is_closed
+
+-- the object is what is in the bottle
+abbrev pub in_bottle : Thing → Test
+in_bottle t d = is_liquid (t d) (liquid_of d.cave d.state)
+
+-- the bottle has something in it
+abbrev pub bottle_full : Test
+bottle_full d = is_some (liquid_of d.cave d.state)
+
+-- the object is what the lake is of
+abbrev pub in_lake : Thing → Test
+in_lake t d = is_liquid (t d) (lake_of d.cave d.state)
+
+-- there is a lake
+abbrev pub lake : Test
+lake d = is_some (lake_of d.cave d.state)
+
+-- the player carries seven things or more
+abbrev pub full_hands : Test
+full_hands d = nat_le 7 (length (carried_objects d.state.objects))
+
+abbrev pub treasure : Thing → Test
+treasure t d = is_treasure (t d)

@@ -1,0 +1,31 @@
+-- WAVE and RUB.
+use Rattle.std.specs.Prelude.{pos, ◌-ℤ◌, List, [], ◌∷◌}
+use Rattle.cave_data.specs.declared.role.Role.TheVariants as role
+use Rattle.cave_words.specs.declared.named.Named.TheVariants as name
+use Rattle.cave_world.specs.Objects.{prop_of}
+use Rattle.cave_verbs.specs.Effects.{say, default, ask_what, look, set_prop}
+use Rattle.cave_verbs.specs.Rows.{Row, Effect, Thing, row, row_then, keeps}
+use Rattle.cave_verbs.specs.Tests.{x, the, no, both, is, toted, stands, closing}
+
+-- a prop becomes 1 less what it was
+abbrev pub flip : Thing → Effect
+flip t d = set_prop t (pos 1 -ℤ prop_of d.state.objects (t d)) d
+
+-- the text for 2 less the prop: of what was just flipped, the text for 1 more than its prop was
+abbrev pub look_at_flip : Thing → Effect
+look_at_flip t d = look t (pos 2 -ℤ prop_of d.state.objects (t d)) d
+
+unfoldable pub wave_rows : List Row
+wave_rows =
+    row (no (toted x) ∷ no (both (is name.Rod) (toted (the name.SecondRod))) ∷ [])
+    (say role.NotHeld ∷ [])
+    ∷ row (is name.Rod ∷ stands (the name.Fissure) ∷ toted (the name.Rod) ∷ no closing ∷ [])
+    (flip (the name.Fissure) ∷ look_at_flip (the name.Fissure) ∷ [])
+    ∷ row [] (default ∷ [])
+    ∷ []
+
+unfoldable pub rub_rows : List Row
+rub_rows =
+    row (is name.Lamp ∷ []) (default ∷ [])
+    ∷ row [] (say role.RubOdd ∷ [])
+    ∷ []

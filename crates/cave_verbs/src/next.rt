@@ -1,0 +1,27 @@
+use cave_world::{Ending, Object, Place, Question};
+
+/// What follows what a verb did.
+#[derive(Clone, Copy, Debug, PartialEq, Eq)]
+pub enum Next {
+    /// Nothing more.
+    Stay,
+    /// The next line may say what is missing: the command's verb is kept.
+    Keep,
+    /// The place where the player stands is described.
+    Describe,
+    /// The player arrives at a place.
+    Arrive(Place),
+    /// A question is asked.
+    Ask(Question),
+    /// The game ends.
+    End(Ending),
+}
+
+/// What a row of a verb ends with.
+#[derive(Clone, Copy, Debug, PartialEq, Eq)]
+pub enum Step {
+    /// The verb is done.
+    Done(Next),
+    /// It goes on with another verb, or on another object; object 0 is none.
+    GoOn(u16, Object),
+}
