@@ -1,25 +1,48 @@
 -- What a command does.
-use Rattle.std.specs.Prelude.{ℕ, Bool, ◌==◌, ◌||◌, codes, if◌then◌else◌, List, Option, Some, None}
-use Rattle.cave_data.specs.CaveView.{CaveView, default_message}
+use Rattle.std.specs.Prelude.{ℕ, ℤ, pos, ◌-ℤ◌, Bool, ◌==◌, if◌then◌else◌, List, Option, Some, None}
+use Rattle.std.specs.Int.{int_min}
+use Rattle.cave_data.specs.CaveView.{CaveView}
 use Rattle.cave_data.specs.declared.role.Role.{Role}
 use Rattle.cave_data.specs.declared.role.Role.TheVariants as role
-use Rattle.cave_words.specs.Meaning.{meaning}
-use Rattle.cave_words.specs.Word.{is_written}
+use Rattle.cave_moves.specs.Arrival.{arriving, describing}
+use Rattle.cave_moves.specs.Journeys.{led_by_motion}
+use Rattle.cave_moves.specs.Plays.{Scene, opening, telling, saying, with_state, after_draw, happens}
+use Rattle.cave_things.specs.Things.{thing}
+use Rattle.cave_verbs.specs.Acting.{acted, next_of}
+use Rattle.cave_verbs.specs.declared.next.Next.{Next}
+use Rattle.cave_verbs.specs.declared.next.Next.TheVariants.{Stay, Keep, Describe, Arrive, Ask, End}
 use Rattle.cave_words.specs.Words.{words_of}
-use Rattle.cave_words.specs.declared.meaning.Class.{Class}
-use Rattle.cave_words.specs.declared.meaning.Class.TheVariants as class
-use Rattle.cave_words.specs.declared.meaning.Meaning.{Meaning}
 use Rattle.cave_words.specs.declared.named.Named.TheVariants as name
 use Rattle.cave_words.specs.declared.words.Words.{Words}
 use Rattle.cave_world.specs.Sight.{is_dark}
-use Rattle.cave_world.specs.declared.part.Part.TheVariants as part
-use Rattle.cave_world.specs.declared.part.WordLine.TheVariants.{NotSeen}
+use Rattle.cave_world.specs.declared.dwarves.Knife.{Knife}
+use Rattle.cave_world.specs.declared.dwarves.Knife.TheVariants as knife
 use Rattle.cave_world.specs.declared.state.State.{State}
-use Rattle.cave_things.specs.Liquids.{is_liquid, lake_of}
-use Rattle.cave_things.specs.Things.{thing}
-use Rattle.cave_moves.specs.Arrival.{arriving}
-use Rattle.cave_moves.specs.Journeys.{led_by_motion}
-use Rattle.cave_moves.specs.Plays.{Scene, opening, telling, saying, after_draw, happens}
+use Rattle.cave_turn.specs.Questions.{asking, ending}
+use Rattle.cave_turn.specs.Reading.{read_words, half_of}
+use Rattle.cave_world.specs.declared.part.Part.TheVariants as part
+use Rattle.cave_world.specs.declared.part.WordLine.TheVariants as line
+use Rattle.cave_turn.specs.declared.reading.Half.{Half}
+use Rattle.cave_turn.specs.declared.reading.Reading.{Reading}
+use Rattle.cave_turn.specs.declared.reading.Reading.TheVariants.{Unknown, Motion, Tell, Knives, Act, WhatToDo}
+use Rattle.cave_turn.specs.declared.reading.Understood.{Understood}
+
+-- the magic words go on from where the last command left them, and stop where it left them twice
+abbrev pub with_magic_waiting : State → State
+with_magic_waiting s = let talk = s.talk in record s { talk = record talk { magic = int_min (pos 0) (pos 0 -ℤ talk.magic) } }
+
+-- a knife that was thrown elsewhere is forgotten
+abbrev pub knife_here : ℕ → Knife → Knife
+knife_here here knife.Unthrown = knife.Unthrown
+knife_here here knife.Vanished = knife.Vanished
+knife_here here (knife.At place) = if place == here then knife.At place else knife.Unthrown
+
+abbrev pub with_knife : Knife → State → State
+with_knife k s = let dwarves = s.dwarves in record s { dwarves = record dwarves { knife = k } }
+
+-- a command begins
+unfoldable pub beginning : State → State
+beginning s = let t = with_magic_waiting s in with_knife (knife_here t.trail.here t.dwarves.knife) t
 
 -- the player travels by a motion
 unfoldable pub travelling : CaveView → ℕ → Scene → Scene
@@ -34,46 +57,68 @@ puzzled p =
     let once = after_draw p in let twice = after_draw once in
     saying (puzzlement (happens 20 p) (happens 20 once)) twice
 
--- a message is told; 0 tells nothing
-abbrev pub telling_message : ℕ → Scene → Scene
-telling_message number p = if number == 0 then p else telling (part.Message number) p
+-- the player is told that the knives vanished
+abbrev pub told_of_knives : Scene → Scene
+told_of_knives p = saying role.Knife (with_state (with_knife knife.Vanished p.state) p)
 
--- what a word of a class does: a motion travels, of an object nothing is seen, an action and a special word have a message
-abbrev pub done_by : CaveView → List ℕ → Class → ℕ → Scene → Scene
-done_by cave word class.Motion number p = travelling cave number p
-done_by cave word class.Object number p = telling (part.Word NotSeen word) p
-done_by cave word class.Action number p = telling_message (default_message cave number) p
-done_by cave word class.Special number p = telling (part.Message number) p
+-- what follows what a verb did
+abbrev pub following : CaveView → Next → Scene → Scene
+following cave Stay p = p
+following cave Keep p = p
+following cave Describe p = describing cave p
+following cave (Arrive place) p = arriving cave place p
+following cave (Ask question) p = asking question p
+following cave (End how) p = ending how p
 
-abbrev pub done_as : CaveView → List ℕ → Option Meaning → Scene → Scene
-done_as cave word None p = puzzled p
-done_as cave word (Some m) p = done_by cave word m.class m.number p
+-- what a line has done, and the half command that it leaves for the next one
+pub record Doing : Type 0 where
+  pub scene : Scene
+  pub kept : Option Half
 
--- there is water to step into: a lake of the object that is WATER
-unfoldable pub is_by_water : CaveView → State → Bool
-is_by_water cave s = is_liquid (thing cave name.Water) (lake_of cave s)
+abbrev pub doing : Scene → Option Half → Doing
+doing p kept = record { scene = p; kept = kept }
 
-abbrev pub wetted : CaveView → Scene → Scene
-wetted cave p = if is_by_water cave p.state then saying role.FeetWet p else saying role.Where p
+-- a verb that asks what it is to be done to is kept alone
+abbrev pub kept_of : Next → ℕ → Option Half
+kept_of Keep v = Some (record { verb = Some v; object = 0 })
+kept_of _ v = None
 
--- a player who enters a stream gets wet feet if there is one; entering anything else is that word alone
-abbrev pub entered : CaveView → List ℕ → Scene → Scene
-entered cave word p =
-    if is_written (codes "STREA") word || is_written (codes "WATER") word then wetted cave p
-    else done_as cave word (meaning cave word) p
+-- a verb is done by the first of its rows that fits, and then what follows
+unfoldable pub acting : CaveView → ℕ → ℕ → List ℕ → Scene → Doing
+acting cave v x word p =
+    let o = acted cave (record { verb = v; object = x; word = word; was_dark = p.was_dark }) p.state p.parts in
+    let next = next_of o.step in
+    doing (following cave next (record p { state = o.state; parts = o.parts })) (kept_of next v)
 
--- the first word counts, unless it is ENTER and a second one stands behind it
-abbrev pub done_with : CaveView → List ℕ → Option (List ℕ) → Scene → Scene
-done_with cave word None p = done_as cave word (meaning cave word) p
-done_with cave word (Some other) p =
-    if is_written (codes "ENTER") word then entered cave other p
-    else done_as cave word (meaning cave word) p
+-- what was read is done. An unknown word and a verb that is wanted leave the half command as it then is
+abbrev pub done_as : CaveView → Half → Reading → Scene → Doing
+done_as cave half Unknown p = doing (puzzled p) (Some half)
+done_as cave half (Motion motion) p = doing (travelling cave motion p) None
+done_as cave half (Tell told) p = doing (telling told p) None
+done_as cave half Knives p = doing (told_of_knives p) None
+done_as cave half (Act v x word) p = acting cave v x word p
+done_as cave half (WhatToDo word) p = doing (telling (part.Word line.WhatToDo word) p) (Some half)
 
+-- what is kept is remembered; where nothing is, the object that was read is the last one
+abbrev pub remembering : Option Half → ℕ → State → State
+remembering None x s = let talk = s.talk in record s { talk = record talk { verb = None; object = 0; last = x } }
+remembering (Some half) x s = let talk = s.talk in record s { talk = record talk { verb = half.verb; object = half.object } }
+
+unfoldable pub settled : ℕ → Doing → Scene
+settled x d = with_state (remembering d.kept x d.scene.state) d.scene
+
+unfoldable pub carried_out : CaveView → Understood → Scene → Scene
+carried_out cave u p = settled u.half.object (done_as cave u.half u.reading p)
+
+-- an input line has a first word
 abbrev pub done_for : CaveView → Words → Scene → Scene
 done_for cave words p =
-    elim words.first as (λ _. Scene) [ None ↦ p | Some word ↦ done_with cave word words.second p ]
+    elim words.first as (λ _. Scene) [
+      | None ↦ p
+      | Some word ↦ carried_out cave (read_words cave p.state (half_of p.state.talk) word words.second) p
+    ]
 
 -- the words of the line are done
 unfoldable pub commanded : CaveView → List ℕ → State → Scene
 commanded cave line s =
-    done_for cave (words_of cave.letters line) (opening (is_dark cave (thing cave name.Lamp) s) s)
+    let t = beginning s in done_for cave (words_of cave.letters line) (opening (is_dark cave (thing cave name.Lamp) t) t)

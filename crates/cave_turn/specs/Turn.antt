@@ -1,5 +1,5 @@
 -- What a line of a log makes of a game.
-use Rattle.std.specs.Prelude.{ℕ, Bool, true, false, List, [], ◌∷◌, Option, Some, None}
+use Rattle.std.specs.Prelude.{ℕ, Bool, true, false, if◌then◌else◌, List, [], ◌∷◌, Option, Some, None}
 use Rattle.cave_data.specs.CaveView.{CaveView}
 use Rattle.cave_data.specs.declared.role.Role.TheVariants as role
 use Rattle.cave_words.specs.LogLine.{log_line}
@@ -11,7 +11,7 @@ use Rattle.cave_world.specs.declared.ending.Question.{Question}
 use Rattle.cave_world.specs.declared.part.Part.{Part}
 use Rattle.cave_world.specs.declared.part.Part.TheVariants as part
 use Rattle.cave_world.specs.declared.state.State.{State}
-use Rattle.cave_turn.specs.Answers.{answered}
+use Rattle.cave_turn.specs.Answers.{answered, answers, closed}
 use Rattle.cave_begin.specs.Begin.{begun_state}
 use Rattle.cave_turn.specs.Commands.{commanded}
 use Rattle.cave_moves.specs.Plays.{Scene}
@@ -32,7 +32,8 @@ turn_of ticked p = record { state = p.state; parts = p.parts; ticked = ticked }
 -- a line of input: nothing after the end, an answer where a question is open, and else a command, which is a turn
 abbrev pub played : CaveView → List ℕ → Option Ending → Option Question → State → Turn
 played cave line (Some ending) question s = silent s
-played cave line None (Some question) s = turn_of false (answered cave question line s)
+played cave line None (Some question) s =
+    if answers cave line question then turn_of false (answered cave question line s) else turn_of true (commanded cave line (closed s))
 played cave line None None s = turn_of true (commanded cave line s)
 
 -- the random stream goes on from a seed

@@ -1,17 +1,16 @@
 ghost use Rattle.std.specs.Prelude.{◌≡◌, ◌+◌, ◌<◌, ◌≤◌, []};
 ghost use Rattle.arrayvec.specs.ArrayVec.{array_vec_len};
+ghost use Rattle.cave_moves.specs.Plays.{scene_of, parts_by_arrival, IsSamePlay, GoesOn};
 ghost use Rattle.cave_things.specs.Things.{cave_of};
-ghost use Rattle.cave_moves.specs.Plays.{scene_of, parts_by_arrival, IsSamePlay};
-ghost use Rattle.cave_turn.specs.Answers.{answer_of, answer_in, instructed, entering};
-ghost use Rattle.cave_turn.specs.Answers.{welcomed, asked, answered};
+ghost use Rattle.cave_turn.specs.Answers.{answer_of, answer_in, instructed, told_of_oyster, entering, quitting, agreed, declined, asked, answered, answers, closed, is_dragon, is_yes};
 
+use crate::dragon::fight;
+use crate::questions::say_question;
 use cave_data::Role;
-use cave_moves::Play;
-use cave_moves::arrival::arrive;
-use cave_things::Rules;
-use cave_things::places::start_place;
+use cave_moves::{Play, arrive};
+use cave_things::{Rules, start_place};
 use cave_words::Word;
-use cave_world::{Charge, Out, Question, State};
+use cave_world::{Charge, Ending, Out, Question, State};
 
 /// What a line says to a question.
 #[derive(Clone, Copy, Debug, PartialEq, Eq)]
@@ -20,6 +19,12 @@ pub enum Answer {
     No,
     Neither,
 }
+
+/// The index of the hint that explains how to play.
+const INSTRUCTIONS: usize = 2;
+
+/// The index of the hint that stands under the oyster.
+const CLUE: usize = 1;
 
 fn answer_of(word: Word) -> Answer
     ensures { result ≡ answer_of word }
@@ -48,8 +53,22 @@ pub fn answer_in(rules: &Rules<'_>, line: &[u8]) -> Answer
 fn instruct(state: &mut State)
     ensures { state.new ≡ instructed state.old }
 {
-    state.hints.is_taken[2] = true;
+    state.hints.is_taken[INSTRUCTIONS] = true;
     state.lamp.charge = Charge::new(1000);
+}
+
+/// What stands under the oyster was told.
+fn tell_of_oyster(state: &mut State)
+    ensures { state.new ≡ told_of_oyster state.old }
+{
+    state.hints.is_taken[CLUE] = true;
+}
+
+/// The question is answered.
+pub fn close(state: &mut State)
+    ensures { state.new ≡ closed state.old }
+{
+    state.question = None;
 }
 
 /// The game begins at its first place.
@@ -60,46 +79,76 @@ fn enter(rules: &Rules<'_>, play: &mut Play<'_>)
     ensures same { IsSamePlay play.old play.new }
     ensures few { array_vec_len play.new.out.now ≤ parts_by_arrival play.old }
 {
-    play.state.question = None;
     arrive(rules, start_place(rules.cave), play);
 }
 
-fn welcome(rules: &Rules<'_>, answer: Answer, play: &mut Play<'_>)
+/// The player quits.
+fn quit(play: &mut Play<'_>)
+    requires { array_vec_len play.old.out.now < 512 }
+    ensures play { scene_of play.new ≡ quitting (scene_of play.old) }
+    ensures same { GoesOn play.old play.new }
+    ensures few { array_vec_len play.new.out.now ≤ array_vec_len play.old.out.now + 1 }
+{
+    play.say(Role::Ok);
+    play.state.ending = Some(Ending::Quit);
+}
+
+fn agree(rules: &Rules<'_>, question: &Question, play: &mut Play<'_>)
     requires { parts_by_arrival play.old < 512 }
-    ensures play { scene_of play.new ≡ welcomed (cave_of rules.now) answer (scene_of play.old) }
+    ensures play { scene_of play.new ≡ agreed (cave_of rules.now) question.now (scene_of play.old) }
+    ensures same { IsSamePlay play.old play.new }
+    ensures few { array_vec_len play.new.out.now ≤ parts_by_arrival play.old + 1 }
+{
+    match question {
+        Question::Welcome => {
+            play.say(Role::Instructions);
+            instruct(play.state);
+            enter(rules, play)
+        }
+        Question::Quit | Question::ScoreQuit => quit(play),
+        Question::Oyster => {
+            play.say(Role::OysterHint);
+            tell_of_oyster(play.state);
+        }
+        Question::Dragon => fight(rules, play),
+        Question::Die | Question::Hint(_) | Question::Take(_) => {}
+    }
+}
+
+fn decline(rules: &Rules<'_>, question: &Question, play: &mut Play<'_>)
+    requires { parts_by_arrival play.old < 512 }
+    ensures play { scene_of play.new
+        ≡ declined (cave_of rules.now) question.now (scene_of play.old) }
+    ensures same { IsSamePlay play.old play.new }
+    ensures few { array_vec_len play.new.out.now ≤ parts_by_arrival play.old + 1 }
+{
+    match question {
+        Question::Welcome => enter(rules, play),
+        Question::Quit | Question::ScoreQuit | Question::Oyster => play.say(Role::Ok),
+        Question::Dragon | Question::Die | Question::Hint(_) | Question::Take(_) => {}
+    }
+}
+
+fn take(rules: &Rules<'_>, question: &Question, answer: Answer, play: &mut Play<'_>)
+    requires { parts_by_arrival play.old < 512 }
+    ensures play { scene_of play.new
+        ≡ asked (cave_of rules.now) question.now answer (scene_of play.old) }
     ensures same { IsSamePlay play.old play.new }
     ensures few { array_vec_len play.new.out.now ≤ parts_by_arrival play.old + 1 }
 {
     match answer {
         Answer::Yes => {
-            play.say(Role::Instructions);
-            instruct(play.state);
-            enter(rules, play)
+            close(play.state);
+            agree(rules, question, play)
         }
-        Answer::No => enter(rules, play),
+        Answer::No => {
+            close(play.state);
+            decline(rules, question, play)
+        }
         Answer::Neither => {
             play.say(Role::Answer);
-            play.say(Role::Welcome)
+            say_question(question, play)
         }
-    }
-}
-
-fn ask(rules: &Rules<'_>, question: Question, answer: Answer, play: &mut Play<'_>)
-    requires { parts_by_arrival play.old < 512 }
-    ensures play { scene_of play.new
-        ≡ asked (cave_of rules.now) question answer (scene_of play.old) }
-    ensures same { IsSamePlay play.old play.new }
-    ensures few { array_vec_len play.new.out.now ≤ parts_by_arrival play.old + 1 }
-{
-    match question {
-        Question::Welcome => welcome(rules, answer, play),
-        Question::Quit
-        | Question::ScoreQuit
-        | Question::Die
-        | Question::Hint(_)
-        | Question::Take(_)
-        | Question::Oyster
-        | Question::Dragon => {}
     }
 }
 
@@ -107,18 +156,39 @@ fn ask(rules: &Rules<'_>, question: Question, answer: Answer, play: &mut Play<'_
 #[tactic(auto, unfolding(crate::specs::Answers::answered))]
 pub fn take_answer(
     rules: &Rules<'_>,
-    question: Question,
+    question: &Question,
     line: &[u8],
     state: &mut State,
     out: &mut Out,
 )
     requires { out.old.items ≡ [] }
-    ensures state { (answered (cave_of rules.now) question line.now state.old).state ≡ state.new }
-    ensures parts { (answered (cave_of rules.now) question line.now state.old).parts
+    ensures state { (answered (cave_of rules.now) question.now line.now state.old).state
+        ≡ state.new }
+    ensures parts { (answered (cave_of rules.now) question.now line.now state.old).parts
         ≡ out.new.items }
     ensures few { array_vec_len out.new ≤ 307 }
 {
     let answer = answer_in(rules, line);
     let mut play = Play::open(state, out, false);
-    ask(rules, question, answer, &mut play);
+    take(rules, question, answer, &mut play);
+}
+
+/// Whether a line answers a question, and isn't a command: who is asked whether to fight the dragon
+/// with bare hands commands something else by any line but yes.
+pub fn answers(rules: &Rules<'_>, line: &[u8], question: &Question) -> bool
+    ensures { result ≡ answers (cave_of rules.now) line.now question.now }
+{
+    !is_dragon(question) || is_yes(answer_in(rules, line))
+}
+
+fn is_dragon(question: &Question) -> bool
+    ensures { result ≡ is_dragon question.now }
+{
+    matches!(question, Question::Dragon)
+}
+
+fn is_yes(answer: Answer) -> bool
+    ensures { result ≡ is_yes answer }
+{
+    matches!(answer, Answer::Yes)
 }

@@ -1,19 +1,50 @@
 ghost use Rattle.std.specs.Prelude.{◌≡◌, ◌+◌, ◌<◌, ◌≤◌, []};
 ghost use Rattle.arrayvec.specs.ArrayVec.{array_vec_len};
-ghost use Rattle.cave_words.specs.Meaning.{meaning};
-ghost use Rattle.cave_things.specs.Things.{cave_of};
 ghost use Rattle.cave_moves.specs.Plays.{scene_of, parts_by_arrival, IsSamePlay, GoesOn};
-ghost use Rattle.cave_turn.specs.Commands.{travelling, puzzlement, puzzled, telling_message};
-ghost use Rattle.cave_turn.specs.Commands.{done_by, done_as, is_by_water, wetted, entered};
-ghost use Rattle.cave_turn.specs.Commands.{done_with, done_for, commanded};
+ghost use Rattle.cave_things.specs.Things.{cave_of};
+ghost use Rattle.cave_turn.specs.Commands.{with_magic_waiting, knife_here, with_knife, beginning, travelling, puzzlement, puzzled, told_of_knives, following, kept_of, doing, acting, done_as, remembering, settled, carried_out, done_for, commanded};
 
+use crate::questions::ask;
+use crate::reading::{Half, Reading, Understood, read_words};
 use cave_data::Role;
-use cave_moves::Play;
-use cave_moves::arrival::arrive;
-use cave_moves::journeys::lead_by_motion;
-use cave_things::{Rules, is_liquid};
-use cave_words::{Class, Meaning, Named, Word, Words};
-use cave_world::{Out, Part, State, WordLine};
+use cave_moves::{Play, arrive, describe_here, lead_by_motion};
+use cave_things::Rules;
+use cave_verbs::{Command, Next, act};
+use cave_words::{Named, Word, Words};
+use cave_world::{Knife, Magic, Object, Out, Part, Place, State, WordLine};
+
+/// The magic words go on from where the last command left them.
+fn wait_for_magic(state: &mut State)
+    ensures { state.new ≡ with_magic_waiting state.old }
+{
+    let magic = state.talk.magic.value();
+    state.talk.magic = Magic::new((-magic).min(0));
+}
+
+fn knife_here(here: Place, knife: Knife) -> Knife
+    ensures { result ≡ knife_here here knife }
+{
+    match knife {
+        Knife::At(place) => {
+            if place == here {
+                Knife::At(place)
+            } else {
+                Knife::Unthrown
+            }
+        }
+        Knife::Unthrown => Knife::Unthrown,
+        Knife::Vanished => Knife::Vanished,
+    }
+}
+
+/// A command begins.
+#[tactic(auto, unfolding(crate::specs::Commands::beginning))]
+fn begin(state: &mut State)
+    ensures { state.new ≡ beginning state.old }
+{
+    wait_for_magic(state);
+    state.dwarves.knife = knife_here(state.trail.here, state.dwarves.knife);
+}
 
 /// The player travels by a motion.
 #[tactic(auto, unfolding(crate::specs::Commands::travelling))]
@@ -52,110 +83,149 @@ fn puzzle(play: &mut Play<'_>)
     play.say(puzzlement(first, second));
 }
 
-fn tell_message(number: u16, play: &mut Play<'_>)
+/// The player is told that the knives vanished.
+fn tell_of_knives(play: &mut Play<'_>)
     requires { array_vec_len play.old.out.now < 512 }
-    ensures play { scene_of play.new ≡ telling_message number (scene_of play.old) }
+    ensures play { scene_of play.new ≡ told_of_knives (scene_of play.old) }
     ensures same { GoesOn play.old play.new }
     ensures few { array_vec_len play.new.out.now ≤ array_vec_len play.old.out.now + 1 }
 {
-    if number != 0 {
-        play.tell(Part::Message(number));
-    }
+    play.state.dwarves.knife = Knife::Vanished;
+    play.say(Role::Knife);
 }
 
-/// Does what a word of a class does.
-fn do_by(rules: &Rules<'_>, word: Word, meaning: Meaning, play: &mut Play<'_>)
-    requires { parts_by_arrival play.old < 512 }
-    ensures play { scene_of play.new
-        ≡ done_by (cave_of rules.now) word meaning.class meaning.number (scene_of play.old) }
+/// What follows what a verb did.
+fn follow(rules: &Rules<'_>, next: &Next, play: &mut Play<'_>)
+    requires { parts_by_arrival play.old ≤ 512 }
+    ensures play { scene_of play.new ≡ following (cave_of rules.now) next.now (scene_of play.old) }
     ensures same { IsSamePlay play.old play.new }
-    ensures few { array_vec_len play.new.out.now ≤ parts_by_arrival play.old + 1 }
+    ensures few { array_vec_len play.new.out.now ≤ parts_by_arrival play.old }
 {
-    match meaning.class {
-        Class::Motion => travel_by(rules, meaning.number, play),
-        Class::Object => play.tell(Part::Word(WordLine::NotSeen, word)),
-        Class::Action => tell_message(rules.cave.default_of(meaning.number), play),
-        Class::Special => play.tell(Part::Message(meaning.number)),
+    match next {
+        Next::Stay | Next::Keep => {}
+        Next::Describe => describe_here(rules, play),
+        Next::Arrive(place) => arrive(rules, *place, play),
+        Next::Ask(question) => ask(question, play),
+        Next::End(ending) => play.state.ending = Some(*ending),
     }
 }
 
-fn do_word(rules: &Rules<'_>, word: Word, play: &mut Play<'_>)
-    requires { parts_by_arrival play.old < 512 }
-    ensures play { let cave = cave_of rules.now in
-        scene_of play.new ≡ done_as cave word (meaning cave word) (scene_of play.old) }
+fn kept_of(next: &Next, verb: u16) -> Option<Half>
+    ensures { result ≡ kept_of next.now verb }
+{
+    match next {
+        Next::Keep => Some(Half {
+            verb: Some(verb),
+            object: Object::none(),
+        }),
+        _ => None,
+    }
+}
+
+/// A verb is done by the first of its rows that fits, and then what follows. Tells what is kept for the next line.
+#[tactic(auto, unfolding(crate::specs::Commands::acting))]
+fn do_verb(
+    rules: &Rules<'_>,
+    verb: u16,
+    object: Object,
+    word: Word,
+    play: &mut Play<'_>,
+) -> Option<Half>
+    requires { parts_by_arrival play.old + 110 ≤ 512 }
+    ensures play { doing (scene_of play.new) result
+        ≡ acting (cave_of rules.now) verb object word (scene_of play.old) }
     ensures same { IsSamePlay play.old play.new }
-    ensures few { array_vec_len play.new.out.now ≤ parts_by_arrival play.old + 1 }
+    ensures few { array_vec_len play.new.out.now ≤ parts_by_arrival play.old + 10 }
 {
-    match rules.meaning(word) {
-        Some(meaning) => do_by(rules, word, meaning, play),
-        None => puzzle(play),
-    }
+    let command = Command {
+        verb,
+        object,
+        word,
+        was_dark: play.was_dark,
+    };
+    let next = act(rules, command, play.state, play.out);
+    follow(rules, &next, play);
+    kept_of(&next, verb)
 }
 
-/// Whether there is water to step into.
-#[tactic(auto, unfolding(crate::specs::Commands::is_by_water))]
-fn is_by_water(rules: &Rules<'_>, state: &State) -> bool
-    ensures { result ≡ is_by_water (cave_of rules.now) state.now }
-{
-    is_liquid(rules.object(Named::Water), rules.lake(state))
-}
-
-fn wet_feet(rules: &Rules<'_>, play: &mut Play<'_>)
-    requires { array_vec_len play.old.out.now < 512 }
-    ensures play { scene_of play.new ≡ wetted (cave_of rules.now) (scene_of play.old) }
-    ensures same { GoesOn play.old play.new }
-    ensures few { array_vec_len play.new.out.now ≤ array_vec_len play.old.out.now + 1 }
-{
-    if is_by_water(rules, play.state) {
-        play.say(Role::FeetWet);
-    } else {
-        play.say(Role::Where);
-    }
-}
-
-/// The player enters what a word says.
-fn enter_into(rules: &Rules<'_>, word: Word, play: &mut Play<'_>)
-    requires { parts_by_arrival play.old < 512 }
-    ensures play { scene_of play.new ≡ entered (cave_of rules.now) word (scene_of play.old) }
+/// What was read is done. Tells what is kept for the next line.
+fn do_reading(rules: &Rules<'_>, understood: &Understood, play: &mut Play<'_>) -> Option<Half>
+    requires { parts_by_arrival play.old + 110 ≤ 512 }
+    ensures play { doing (scene_of play.new) result
+        ≡ done_as (cave_of rules.now) understood.now.half understood.now.reading (scene_of play.old) }
     ensures same { IsSamePlay play.old play.new }
-    ensures few { array_vec_len play.new.out.now ≤ parts_by_arrival play.old + 1 }
+    ensures few { array_vec_len play.new.out.now ≤ parts_by_arrival play.old + 10 }
 {
-    if word.is(b"STREA") || word.is(b"WATER") {
-        wet_feet(rules, play);
-    } else {
-        do_word(rules, word, play);
-    }
-}
-
-fn do_with(rules: &Rules<'_>, word: Word, other: Option<Word>, play: &mut Play<'_>)
-    requires { parts_by_arrival play.old < 512 }
-    ensures play { scene_of play.new
-        ≡ done_with (cave_of rules.now) word other (scene_of play.old) }
-    ensures same { IsSamePlay play.old play.new }
-    ensures few { array_vec_len play.new.out.now ≤ parts_by_arrival play.old + 1 }
-{
-    match other {
-        None => do_word(rules, word, play),
-        Some(other) => {
-            if word.is(b"ENTER") {
-                enter_into(rules, other, play)
-            } else {
-                do_word(rules, word, play)
-            }
+    let half = understood.half;
+    match &understood.reading {
+        Reading::Unknown => {
+            puzzle(play);
+            Some(half)
+        }
+        Reading::Motion(motion) => {
+            travel_by(rules, *motion, play);
+            None
+        }
+        Reading::Tell(part) => {
+            play.tell(*part);
+            None
+        }
+        Reading::Knives => {
+            tell_of_knives(play);
+            None
+        }
+        Reading::Act(verb, object, word) => do_verb(rules, *verb, *object, *word, play),
+        Reading::WhatToDo(word) => {
+            play.tell(Part::Word(WordLine::WhatToDo, *word));
+            Some(half)
         }
     }
 }
 
+/// What is kept is remembered; where nothing is, the object that was read is the last one.
+fn remember(kept: Option<Half>, object: Object, state: &mut State)
+    ensures { state.new ≡ remembering kept object state.old }
+{
+    match kept {
+        Some(half) => {
+            state.talk.verb = half.verb;
+            state.talk.object = half.object;
+        }
+        None => {
+            state.talk.verb = None;
+            state.talk.object = Object::none();
+            state.talk.last = object;
+        }
+    }
+}
+
+/// What was read is carried out, and what is left of it is remembered.
+#[tactic(auto, unfolding(crate::specs::Commands::carried_out, crate::specs::Commands::settled))]
+fn carry_out(rules: &Rules<'_>, understood: &Understood, play: &mut Play<'_>)
+    requires { parts_by_arrival play.old + 110 ≤ 512 }
+    ensures play { scene_of play.new
+        ≡ carried_out (cave_of rules.now) understood.now (scene_of play.old) }
+    ensures same { IsSamePlay play.old play.new }
+    ensures few { array_vec_len play.new.out.now ≤ parts_by_arrival play.old + 10 }
+{
+    let kept = do_reading(rules, understood, play);
+    remember(kept, understood.half.object, play.state);
+}
+
 /// Does what the words of a line say.
 fn do_words(rules: &Rules<'_>, words: Words, play: &mut Play<'_>)
-    requires { parts_by_arrival play.old < 512 }
+    requires { parts_by_arrival play.old + 110 ≤ 512 }
     ensures play { scene_of play.new ≡ done_for (cave_of rules.now) words (scene_of play.old) }
     ensures same { IsSamePlay play.old play.new }
-    ensures few { array_vec_len play.new.out.now ≤ parts_by_arrival play.old + 1 }
+    ensures few { array_vec_len play.new.out.now ≤ parts_by_arrival play.old + 10 }
 {
     match words.first {
         None => {}
-        Some(word) => do_with(rules, word, words.second, play),
+        Some(word) => {
+            let half = Half::of(play.state.talk);
+            let understood = read_words(rules, play.state, half, word, words.second);
+            carry_out(rules, &understood, play);
+        }
     }
 }
 
@@ -165,9 +235,11 @@ pub fn command(rules: &Rules<'_>, line: &[u8], state: &mut State, out: &mut Out)
     requires { out.old.items ≡ [] }
     ensures state { (commanded (cave_of rules.now) line.now state.old).state ≡ state.new }
     ensures parts { (commanded (cave_of rules.now) line.now state.old).parts ≡ out.new.items }
-    ensures few { array_vec_len out.new ≤ 307 }
+    ensures few { array_vec_len out.new ≤ 316 }
 {
+    begin(state);
     let was_dark = state.is_dark(rules.cave, rules.object(Named::Lamp));
+    let words = rules.words_of(line);
     let mut play = Play::open(state, out, was_dark);
-    do_words(rules, rules.words_of(line), &mut play);
+    do_words(rules, words, &mut play);
 }

@@ -3,6 +3,10 @@
 
 pub mod answers;
 pub mod commands;
+pub mod dragon;
+pub mod object_words;
+pub mod questions;
+pub mod reading;
 pub mod turns;
 
 pub use turns::{Turned, start, turn};

@@ -5,7 +5,7 @@ ghost use Rattle.cave_words.specs.Line.{is_line};
 ghost use Rattle.cave_things.specs.Things.{cave_of};
 ghost use Rattle.cave_turn.specs.Turn.{begun, turned, played};
 
-use crate::answers::take_answer;
+use crate::answers::{answers, close, take_answer};
 use crate::commands::command;
 use cave_begin::begun_state;
 use cave_data::{Cave, Role};
@@ -35,14 +35,19 @@ fn play(rules: &Rules<'_>, line: &[u8], state: &mut State, out: &mut Out) -> boo
     requires { out.old.items ≡ [] }
     ensures turn { record { state = state.new; parts = out.new.items; ticked = result }
         ≡ played (cave_of rules.now) line.now state.old.ending state.old.question state.old }
-    ensures few { array_vec_len out.new ≤ 307 }
+    ensures few { array_vec_len out.new ≤ 316 }
 {
     if state.ending.is_some() {
         return false;
     }
     match state.question {
         Some(question) => {
-            take_answer(rules, question, line, state, out);
+            if !answers(rules, line, &question) {
+                close(state);
+                command(rules, line, state, out);
+                return true;
+            }
+            take_answer(rules, &question, line, state, out);
             false
         }
         None => {
@@ -67,7 +72,8 @@ pub fn turn(
     requires empty { out.old.items ≡ [] }
     requires room { meter.old + 1 < 2 ^ 64 }
 
-    ensures turn { record { state = result.state; parts = out.new.items; ticked = result.ticked } ≡ turned cave.now state.now line.now }
+    ensures turn { record { state = result.state; parts = out.new.items; ticked = result.ticked }
+        ≡ turned cave.now state.now line.now }
     ensures few { array_vec_len out.new ≤ 400 }
     ensures counted { meter.new ≡ meter.old + 1 }
 {

@@ -1,0 +1,317 @@
+ghost use Rattle.std.specs.Prelude.{◌≡◌};
+ghost use Rattle.cave_things.specs.Things.{cave_of};
+ghost use Rattle.cave_turn.specs.Reading.{with_verb, with_object, said_in, done_to, object_alone, action_alone, alone_by, alone, is_magic_by, is_magic, aloud, object_before, action_before, before_by, before, wet_or_lost, entering_into, is_pouring, pour_in, two_words, is_saying, read_words, half_of, understood};
+
+use crate::object_words::{ObjectWord, object_word};
+use cave_data::Role;
+use cave_things::{Rules, is_liquid, or_no_object};
+use cave_verbs::verb::{FOO, POUR, SAY};
+use cave_words::{Class, Meaning, Named, Word};
+use cave_world::{Object, Part, State, Talk, WordLine};
+
+/// Half a command: what was said of one before its other half.
+#[derive(Clone, Copy, Debug, PartialEq, Eq)]
+pub struct Half {
+    /// The number of the action.
+    pub verb: Option<u16>,
+    /// The object; object 0 is none.
+    pub object: Object,
+}
+
+/// A word, and what it means.
+#[derive(Clone, Copy, Debug, PartialEq, Eq)]
+pub struct Said {
+    pub word: Word,
+    pub meaning: Option<Meaning>,
+}
+
+/// What a line asks for.
+#[derive(Clone, Copy, Debug, PartialEq, Eq)]
+pub enum Reading {
+    /// The cave doesn't have the word.
+    Unknown,
+    /// The player travels by a motion.
+    Motion(u16),
+    /// Something is told, and that is all.
+    Tell(Part),
+    /// The player asks for the knives of the dwarves.
+    Knives,
+    /// A verb is done to an object, or to none; the word is the one that was just read.
+    Act(u16, Object, Word),
+    /// The player names an object, and doesn't say what to do with it.
+    WhatToDo(Word),
+}
+
+/// What was understood of a line, and the half command as the line leaves it.
+#[derive(Clone, Copy, Debug, PartialEq, Eq)]
+pub struct Understood {
+    pub half: Half,
+    pub reading: Reading,
+}
+
+impl Half {
+    /// The half command that the game remembers.
+    pub fn of(talk: Talk) -> Half
+        ensures { result ≡ half_of talk }
+    {
+        Half {
+            verb: talk.verb,
+            object: talk.object,
+        }
+    }
+
+    fn with_verb(self, verb: Option<u16>) -> Half
+        ensures { result ≡ with_verb verb self }
+    {
+        Half {
+            verb,
+            object: self.object,
+        }
+    }
+
+    fn with_object(self, object: Object) -> Half
+        ensures { result ≡ with_object object self }
+    {
+        Half {
+            verb: self.verb,
+            object,
+        }
+    }
+
+    fn asks(self, reading: Reading) -> Understood
+        ensures { result ≡ understood self reading }
+    {
+        Understood {
+            half: self,
+            reading,
+        }
+    }
+}
+
+fn said_in(rules: &Rules<'_>, word: Word) -> Said
+    ensures { result ≡ said_in (cave_of rules.now) word }
+{
+    Said {
+        word,
+        meaning: rules.meaning(word),
+    }
+}
+
+fn object_alone(found: ObjectWord, half: Half, word: Word) -> Understood
+    ensures { result ≡ object_alone found half word }
+{
+    match found {
+        ObjectWord::Is(object) => match half.verb {
+            Some(verb) => half
+                .with_object(object)
+                .asks(Reading::Act(verb, object, word)),
+            None => half.with_object(object).asks(Reading::WhatToDo(word)),
+        },
+        ObjectWord::Leads(motion) => half.asks(Reading::Motion(motion)),
+        ObjectWord::Knives => half.asks(Reading::Knives),
+        ObjectWord::Unseen => half.asks(Reading::Tell(Part::Word(WordLine::NotSeen, word))),
+    }
+}
+
+fn action_alone(verb: u16, half: Half, word: Word) -> Understood
+    ensures { result ≡ action_alone verb half word }
+{
+    let object = half.object;
+    if verb == SAY {
+        half.asks(Reading::Act(verb, Object::none(), word))
+    } else {
+        half.with_verb(Some(verb))
+            .asks(Reading::Act(verb, object, word))
+    }
+}
+
+/// What a word says that no other follows.
+#[tactic(auto, unfolding(crate::specs::Reading::alone))]
+fn alone(rules: &Rules<'_>, state: &State, half: Half, said: Said) -> Understood
+    ensures { result ≡ alone (cave_of rules.now) state.now half said }
+{
+    let word = said.word;
+    match said.meaning {
+        None => half.asks(Reading::Unknown),
+        Some(meaning) => match meaning.class {
+            Class::Motion => half.asks(Reading::Motion(meaning.number)),
+            Class::Object => {
+                let object = or_no_object(Some(meaning.number));
+                object_alone(
+                    object_word(rules, state, half.verb, true, object),
+                    half,
+                    word,
+                )
+            }
+            Class::Action => action_alone(meaning.number, half, word),
+            Class::Special => half.asks(Reading::Tell(Part::Message(meaning.number))),
+        },
+    }
+}
+
+fn is_magic(meaning: Option<Meaning>) -> bool
+    ensures { result ≡ is_magic meaning }
+{
+    match meaning {
+        None => false,
+        Some(meaning) => match meaning.class {
+            Class::Motion => matches!(meaning.number, 62 | 65 | 71),
+            Class::Action => meaning.number == FOO,
+            Class::Object | Class::Special => false,
+        },
+    }
+}
+
+/// What is done where a word is said aloud.
+#[tactic(auto, unfolding(crate::specs::Reading::aloud))]
+fn aloud(rules: &Rules<'_>, state: &State, half: Half, said: Said) -> Understood
+    ensures { result ≡ aloud (cave_of rules.now) state.now half said }
+{
+    if is_magic(said.meaning) {
+        return alone(rules, state, half, said);
+    }
+    half.asks(Reading::Tell(Part::Word(WordLine::Okay, said.word)))
+}
+
+fn object_before(
+    rules: &Rules<'_>,
+    state: &State,
+    found: ObjectWord,
+    half: Half,
+    word: Word,
+    next: Said,
+) -> Understood
+    ensures { result ≡ object_before (cave_of rules.now) state.now found half word next }
+{
+    match found {
+        ObjectWord::Is(object) => alone(rules, state, half.with_object(object), next),
+        ObjectWord::Leads(_) | ObjectWord::Knives | ObjectWord::Unseen => {
+            object_alone(found, half, word)
+        }
+    }
+}
+
+fn action_before(rules: &Rules<'_>, state: &State, verb: u16, half: Half, next: Said) -> Understood
+    ensures { result ≡ action_before (cave_of rules.now) state.now verb half next }
+{
+    if verb == SAY {
+        aloud(rules, state, half, next)
+    } else {
+        alone(rules, state, half.with_verb(Some(verb)), next)
+    }
+}
+
+/// What a word says that another follows.
+#[tactic(auto, unfolding(crate::specs::Reading::before))]
+fn before(rules: &Rules<'_>, state: &State, half: Half, said: Said, next: Said) -> Understood
+    ensures { result ≡ before (cave_of rules.now) state.now half said next }
+{
+    match said.meaning {
+        None => half.asks(Reading::Unknown),
+        Some(meaning) => match meaning.class {
+            Class::Motion => half.asks(Reading::Motion(meaning.number)),
+            Class::Object => {
+                let object = or_no_object(Some(meaning.number));
+                let found = object_word(rules, state, half.verb, false, object);
+                object_before(rules, state, found, half, said.word, next)
+            }
+            Class::Action => action_before(rules, state, meaning.number, half, next),
+            Class::Special => half.asks(Reading::Tell(Part::Message(meaning.number))),
+        },
+    }
+}
+
+fn wet_or_lost(rules: &Rules<'_>, state: &State, half: Half) -> Understood
+    ensures { result ≡ wet_or_lost (cave_of rules.now) state.now half }
+{
+    if is_liquid(rules.object(Named::Water), rules.lake(state)) {
+        half.asks(Reading::Tell(Part::Role(Role::FeetWet)))
+    } else {
+        half.asks(Reading::Tell(Part::Role(Role::Where)))
+    }
+}
+
+/// What it says to enter what a word names.
+#[tactic(auto, unfolding(crate::specs::Reading::entering_into))]
+fn enter_into(rules: &Rules<'_>, state: &State, half: Half, word: Word) -> Understood
+    ensures { result ≡ entering_into (cave_of rules.now) state.now half word }
+{
+    if word.is(b"STREA") || word.is(b"WATER") {
+        return wet_or_lost(rules, state, half);
+    }
+    alone(rules, state, half, said_in(rules, word))
+}
+
+/// Whether two words pour a liquid over what stands where the player stands.
+#[tactic(auto, unfolding(crate::specs::Reading::is_pouring))]
+fn is_pouring(rules: &Rules<'_>, state: &State, word: Word, next: Word) -> bool
+    ensures { result ≡ is_pouring (cave_of rules.now) state.now word next }
+{
+    (word.is(b"WATER") || word.is(b"OIL"))
+        && ((next.is(b"PLANT") && state.at(rules.object(Named::Plant)))
+            || (next.is(b"DOOR") && state.at(rules.object(Named::Door))))
+}
+
+fn pour_in(rules: &Rules<'_>) -> Said
+    ensures { result ≡ pour_in (cave_of rules.now) }
+{
+    Said {
+        word: Word::of(b"POUR", rules.lexicon.letters()),
+        meaning: Some(Meaning {
+            class: Class::Action,
+            number: POUR,
+        }),
+    }
+}
+
+#[tactic(auto, unfolding(crate::specs::Reading::two_words))]
+fn two_words(rules: &Rules<'_>, state: &State, half: Half, word: Word, next: Word) -> Understood
+    ensures { result ≡ two_words (cave_of rules.now) state.now half word next }
+{
+    if word.is(b"ENTER") {
+        return enter_into(rules, state, half, next);
+    }
+    let said = said_in(rules, word);
+    if is_pouring(rules, state, word, next) {
+        return before(rules, state, half, said, pour_in(rules));
+    }
+    before(rules, state, half, said, said_in(rules, next))
+}
+
+fn is_saying(verb: Option<u16>) -> bool
+    ensures { result ≡ is_saying verb }
+{
+    match verb {
+        Some(verb) => verb == SAY,
+        None => false,
+    }
+}
+
+/// What the words of a line say, with what was said before.
+pub fn read_words(
+    rules: &Rules<'_>,
+    state: &State,
+    half: Half,
+    word: Word,
+    next: Option<Word>,
+) -> Understood
+    ensures { result ≡ read_words (cave_of rules.now) state.now half word next }
+{
+    match next {
+        None => {
+            let said = said_in(rules, word);
+            if is_saying(half.verb) {
+                aloud(rules, state, half, said)
+            } else {
+                alone(rules, state, half, said)
+            }
+        }
+        Some(next) => {
+            if is_saying(half.verb) {
+                two_words(rules, state, half.with_verb(None), word, next)
+            } else {
+                two_words(rules, state, half, word, next)
+            }
+        }
+    }
+}
