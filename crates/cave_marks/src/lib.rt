@@ -36,8 +36,6 @@ mod placed;
 mod search;
 mod shift;
 mod stretch;
-#[cfg(test)]
-mod tests;
 
 pub use checkpoints::Checkpoints;
 pub use marks::Marks;

@@ -16,7 +16,8 @@ pub const CAVE: &[u8] =
 /// What the other shipped cave has beside the first: a room that leads to itself, gold and classes.
 pub const ROUND: &[u8] =
     b"1\n13 Round.\n-1\n3\n3 13 45\n13 13 1\n-1\n4\n45 NORTH\n1050 GOLD\n2002 DROP\n-1\n\
-5\n50 Gold\n000 Gold lies here.\n-1\n6\n1 Done.\n-1\n7\n50 9\n-1\n10\n100 Novice.\n350 Master.\n-1\n";
+5\n50 Gold\n000 Gold lies here.\n-1\n6\n1 Done.\n-1\n\
+7\n50 9\n-1\n10\n100 Novice.\n350 Master.\n-1\n";
 
 /// The first cave with some lines before its last one.
 pub fn with_lines(alloc: Global, lines: &[u8]) -> Result<Vec<u8>, AllocError> {
@@ -26,27 +27,10 @@ pub fn with_lines(alloc: Global, lines: &[u8]) -> Result<Vec<u8>, AllocError> {
     Ok(text)
 }
 
-/// The first cave with another line in the place of the one with a number, from 1.
-pub fn with_line(alloc: Global, number: usize, line: &[u8]) -> Result<Vec<u8>, AllocError> {
-    let mut text = Vec::new(alloc);
-    for (before, kept) in CAVE
-        .strip_suffix(b"\n")
-        .unwrap_or(CAVE)
-        .split(|byte| *byte == b'\n')
-        .enumerate()
-    {
-        text.extend_from_slice(if before + 1 == number { line } else { kept })?;
-        text.push(b'\n')?;
-    }
-    Ok(text)
-}
-
-/// A log that goes into the cellar.
-pub const LOG: &[u8] = b"no\nin\ndown\n";
-
-/// A log that takes the lamp there.
+/// A log that takes a lamp into the cellar.
 pub const LONG_LOG: &[u8] = b"no\nin\ntake lamp\non\ndown\n";
 
 /// What playing the long log prints.
-pub const LONG_TEXT: &str =
-    "[welcome]\n\n> no\nYou stand on a road.\n\n> in\nYou are in a hut.\nA lamp is here.\n\n> take lamp\n\n> on\n\n> down\n[dark]\n-- turns 4\n";
+pub const LONG_TEXT: &str = "[welcome]\n\n> no\nYou stand on a road.\n\n\
+> in\nYou are in a hut.\nA lamp is here.\n\n> take lamp\n[ok]\n\n\
+> on\n[lamp-on]\n\n> down\nYou are in a cellar.\n-- turns 4\n";

@@ -1,15 +1,12 @@
-//! Tests that cross the crates, and the streams that they read and write.
+//! Tests of runs that cross the crates, and the streams that they read and write.
 #![tactic(auto)]
 
 #[cfg(test)]
-mod bindings;
-pub mod caves;
+mod caves;
 #[cfg(test)]
 mod edits;
 #[cfg(test)]
 mod faults;
-#[cfg(test)]
-mod inputs;
 #[cfg(test)]
 mod limits;
 #[cfg(test)]
@@ -19,12 +16,8 @@ mod plays;
 #[cfg(test)]
 mod readers;
 #[cfg(test)]
-mod reports;
-pub mod runs;
+mod runs;
 #[cfg(test)]
-mod scripts;
-pub mod streams;
-#[cfg(test)]
-mod travels;
+mod streams;
 #[cfg(test)]
 mod writers;

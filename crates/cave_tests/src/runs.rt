@@ -14,14 +14,16 @@ pub enum Command {
     Edit,
 }
 
-/// Each command.
-pub const COMMANDS: [Command; 3] = [Command::Check, Command::Play, Command::Edit];
-
 /// Each input, in the order in which they are read.
 pub const INPUTS: [Input; 4] = [Input::Cave, Input::Bindings, Input::Log, Input::Script];
 
 /// A script of an edit, a refused one and a group.
 pub const SCRIPT: &[u8] = b"insert 2 # note\ndelete 9\nbegin\nreplace 1 IN\ndelete 3\nend\n";
+
+/// What an edit of the long log by that script prints.
+pub const EDITED_TEXT: &str = "line 1: ok\nline 2: refused 1\nline 3: ok\n[welcome]\n\n\
+> no\nYou stand on a road.\n\n> IN\nYou are in a hut.\nA lamp is here.\n\n\
+> on\n[lamp-on]\n\n> down\n[dark]\n-- turns 3\n";
 
 /// How a run ended, and what it wrote.
 #[derive(Drop)]
@@ -130,7 +132,7 @@ impl<'a> Feeds<'a> {
 
     /// Does what is asked for, into a sink that takes all.
     pub fn run(&mut self, command: Command, alloc: Global) -> Run {
-        let mut sink = Sink::new(alloc);
+        let mut sink = Sink::in_pieces(alloc, usize::MAX);
         let ended = self.run_into(command, alloc, &mut sink);
         let Sink { taken, .. } = sink;
         Run {
@@ -145,13 +147,8 @@ pub fn check(alloc: Global, cave: &[u8], bind: &[u8]) -> Run {
     Feeds::of(cave, bind, b"", b"").run(Command::Check, alloc)
 }
 
-/// Plays a log without bindings, from seed 0.
-pub fn play(alloc: Global, cave: &[u8], log: &[u8]) -> Run {
-    play_bound(alloc, cave, b"", log)
-}
-
 /// Plays a log with bindings, from seed 0.
-pub fn play_bound(alloc: Global, cave: &[u8], bind: &[u8], log: &[u8]) -> Run {
+pub fn play(alloc: Global, cave: &[u8], bind: &[u8], log: &[u8]) -> Run {
     Feeds::of(cave, bind, log, b"").run(Command::Play, alloc)
 }
 

@@ -4,7 +4,9 @@ use std::alloc::{AllocError, Global};
 use std::io;
 use std::io::{Read, Write};
 
-/// Gives its bytes in pieces, and fails at one of its asks where told so, or gives a byte at each ask without end.
+/// Gives its bytes in pieces, and fails at one of its asks where told so, or gives a byte at each
+/// ask
+/// without end.
 #[derive(Drop)]
 pub struct Source<'a> {
     /// What is left to give.
@@ -83,11 +85,6 @@ pub struct Sink {
 }
 
 impl Sink {
-    /// A sink that takes all that it is given.
-    pub fn new(alloc: Global) -> Sink {
-        Sink::in_pieces(alloc, usize::MAX)
-    }
-
     /// A sink that takes at most so many bytes at each call.
     pub fn in_pieces(alloc: Global, piece: usize) -> Sink {
         Sink::over(Vec::new(alloc), piece)

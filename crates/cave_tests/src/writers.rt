@@ -1,50 +1,78 @@
 //! Runs whose writers fail, or take little at once.
 
-use crate::runs::{COMMANDS, Command, Feeds};
+use crate::caves::LONG_TEXT;
+use crate::runs::{Command, EDITED_TEXT, Feeds};
 use crate::streams::Sink;
 use cave_play::fault::PlayFault;
 use std::alloc::Global;
-use std::test::Fail;
+use std::process::Abort;
+
+/// Each command, and what it writes over the usual inputs.
+const TEXTS: [(Command, &str); 3] = [
+    (Command::Check, "cave ok\n"),
+    (Command::Play, LONG_TEXT),
+    (Command::Edit, EDITED_TEXT),
+];
 
 /// Does what is asked for over the usual inputs.
 fn run(alloc: Global, command: Command, sink: &mut Sink) -> Result<(), PlayFault> {
     Feeds::usual().run_into(command, alloc, sink)
 }
 
-#[test]
-fn a_writer_that_takes_one_byte_at_a_time_gets_all(rt: HostRuntime) {
-    for command in COMMANDS {
-        let mut whole = Sink::new(rt.alloc());
-        let mut slow = Sink::in_pieces(rt.alloc(), 1);
-        assert_eq!(rt; run(rt.alloc(), command, &mut whole), Ok(()));
-        assert_eq!(rt; run(rt.alloc(), command, &mut slow), Ok(()));
-        assert_eq!(rt; slow.taken, whole.taken, "{command:?}");
-        assert_eq!(rt; slow.calls, whole.taken.len() as u64);
-        assert_eq!(rt; whole.calls, 1);
-    }
+/// Expects a writer that takes so many bytes at each call to get them all, in so many calls.
+fn expect_all(
+    rt: &impl Abort,
+    alloc: Global,
+    command: Command,
+    text: &[u8],
+    piece: usize,
+    calls: u64,
+) {
+    let mut sink = Sink::in_pieces(alloc, piece);
+    assert_eq!(rt; run(alloc, command, &mut sink), Ok(()));
+    assert_eq!(rt; sink.taken.as_slice(), text, "{command:?}");
+    assert_eq!(rt; sink.calls, calls);
 }
 
 #[test]
-fn a_writer_that_fails_has_all_that_came_before(rt: HostRuntime) -> Result<(), Fail> {
-    for command in COMMANDS {
-        let mut whole = Sink::new(rt.alloc());
-        assert_eq!(rt; run(rt.alloc(), command, &mut whole), Ok(()));
-        for (taken, _) in whole.taken.iter().enumerate() {
-            let mut sink = Sink::in_pieces(rt.alloc(), 1);
-            sink.failing = taken as u64 + 1;
-            assert_eq!(rt; run(rt.alloc(), command, &mut sink), Err(PlayFault::Write));
-            assert_eq!(rt; sink.taken.as_slice(), &whole.taken[..taken], "{command:?}");
+fn a_writer_gets_all_in_one_call_or_byte_by_byte(rt: HostRuntime) {
+    for &(command, text) in &TEXTS {
+        let count = text.len() as u64;
+        expect_all(&rt, rt.alloc(), command, text.as_bytes(), usize::MAX, 1);
+        expect_all(&rt, rt.alloc(), command, text.as_bytes(), 1, count);
+    }
+}
+
+/// Expects a writer that takes so many bytes at each call, and fails at one, to have these.
+fn expect_front(
+    rt: &impl Abort,
+    alloc: Global,
+    command: Command,
+    front: &[u8],
+    piece: usize,
+    failing: u64,
+) {
+    let mut sink = Sink::in_pieces(alloc, piece);
+    sink.failing = failing;
+    assert_eq!(rt; run(alloc, command, &mut sink), Err(PlayFault::Write));
+    assert_eq!(rt; sink.taken.as_slice(), front, "{command:?}");
+}
+
+#[test]
+fn a_writer_that_fails_or_takes_nothing_has_what_came_before(rt: HostRuntime) {
+    for &(command, text) in &TEXTS {
+        expect_front(&rt, rt.alloc(), command, b"", 0, 0);
+        let mut failing = 0u64;
+        for (taken, _) in text.as_bytes().iter().enumerate() {
+            failing = failing.saturating_add(1);
+            expect_front(
+                &rt,
+                rt.alloc(),
+                command,
+                &text.as_bytes()[..taken],
+                1,
+                failing,
+            );
         }
-    }
-    Ok(())
-}
-
-#[test]
-fn a_writer_that_takes_nothing_has_failed(rt: HostRuntime) {
-    for command in COMMANDS {
-        let mut sink = Sink::in_pieces(rt.alloc(), 0);
-        assert_eq!(rt; run(rt.alloc(), command, &mut sink), Err(PlayFault::Write));
-        assert!(rt; sink.taken.is_empty(), "{command:?}");
-        assert_eq!(rt; sink.calls, 1);
     }
 }

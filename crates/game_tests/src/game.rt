@@ -10,12 +10,14 @@ use cave_world::{Out, State};
 use std::alloc::Global;
 use std::test::Fail;
 
-/// The cave of a database. It promises nothing, so that what reads a cave by it is proved without the facts of `Cave::read`.
+/// The cave of a database. It promises nothing, so that what reads a cave by it is proved without
+/// the facts of `Cave::read`.
 pub fn read_cave(alloc: Global, database: &[u8], bindings: &[u8]) -> Result<Cave, CaveError> {
     Cave::read(alloc, database, bindings)
 }
 
-/// A cave with its words, the state of a game in it, and what the game printed since it was last asked.
+/// A cave with its words, the state of a game in it, and what the game printed since it was last
+/// asked.
 #[derive(Drop)]
 pub struct Game {
     cave: Cave,

@@ -1,226 +1,172 @@
 //! What lines of a log print.
 
-use crate::game::read_cave;
-use crate::hut::{HUT, told};
-use cave_data::Cave;
-use cave_text::render;
-use cave_turn::start;
-use cave_world::Out;
-use std::alloc::Global;
-use std::process::Abort;
+use crate::hands::Change;
+use crate::hut::expect_ends;
 use std::test::Fail;
 
-/// Each log prints what is wanted.
-fn print_all(rt: &impl Abort, alloc: Global, cases: &[(&str, &str)]) -> Result<(), Fail> {
-    for (log, wanted) in cases {
-        let text = told(alloc, "", "", log)?;
-        assert_eq!(rt; text.as_slice(), wanted.as_bytes(), "at {log}");
-    }
-    Ok(())
-}
-
-/// With more sections and bindings each log ends with what is wanted.
-fn end_all(rt: &impl Abort, alloc: Global, cases: &[(&str, &str, &str, &str)]) -> Result<(), Fail> {
-    for (sections, bindings, log, wanted) in cases {
-        let text = told(alloc, sections, bindings, log)?;
-        assert!(rt;
-            text.as_slice().ends_with(wanted.as_bytes()),
-            "at {sections}{log}"
-        );
-    }
-    Ok(())
-}
-
 #[test]
-fn plays_a_cave(rt: HostRuntime) -> Result<(), Fail> {
-    let cases = [
+fn a_log_prints_what_was_worked_out_by_hand(rt: HostRuntime) -> Result<(), Fail> {
+    let cases: [(&[Change], &str, &str); 9] = [
         (
-            "no/in/down",
-            "[welcome]\n?You stand on a road.\n|You are in a hut.\nA lamp is here.\n|[dark]\n",
+            &[],
+            "no\nup\nout\nin\nout\nin",
+            "[welcome]\n?You stand on a road.\n|[no-dir]\nRoad.\n|[inout]\nRoad.\n\
+             |You are in a hut.\nA lamp is here.\n|Road.\n|Hut.\nA lamp is here.\n",
         ),
         (
-            "no/up/out",
-            "[welcome]\n?You stand on a road.\n|[no-dir]\nRoad.\n|[inout]\nRoad.\n",
+            &[],
+            "no\nin\nback\nback",
+            "[welcome]\n?You stand on a road.\n|You are in a hut.\nA lamp is here.\n|Road.\n\
+             |Hut.\nA lamp is here.\n",
         ),
         (
-            "no/in/down/down/in",
-            "[welcome]\n?You stand on a road.\n|You are in a hut.\nA lamp is here.\n|[dark]\n|[no-dir]\n[pit]\n?",
+            &[],
+            "no\nlook\nlook\nlook\nlook",
+            "[welcome]\n?You stand on a road.\n|[enough]\nYou stand on a road.\n|[enough]\n\
+             You stand on a road.\n|[enough]\nYou stand on a road.\n|You stand on a road.\n",
         ),
         (
-            "no/in/back/back",
-            "[welcome]\n?You stand on a road.\n|You are in a hut.\nA lamp is here.\n|Road.\n|Hut.\nA lamp is here.\n",
-        ),
-        (
-            "no/in/out/in",
-            "[welcome]\n?You stand on a road.\n|You are in a hut.\nA lamp is here.\n|Road.\n|Hut.\nA lamp is here.\n",
-        ),
-        (
-            "no/up/out/in",
-            "[welcome]\n?You stand on a road.\n|[no-dir]\nRoad.\n|[inout]\nRoad.\n|You are in a hut.\nA lamp is here.\n",
-        ),
-        (
-            "no/enter in/enter water",
-            "[welcome]\n?You stand on a road.\n|You are in a hut.\nA lamp is here.\n|[where]\n",
-        ),
-        (
-            "no/look/look/look/look",
-            "[welcome]\n?You stand on a road.\n|[enough]\nYou stand on a road.\n|[enough]\nYou stand on a road.\n|[enough]\nYou stand on a road.\n|You stand on a road.\n",
-        ),
-    ];
-    print_all(&rt, rt.alloc(), &cases)
-}
-
-#[test]
-fn tells_words_and_lines_of_each_kind(rt: HostRuntime) -> Result<(), Fail> {
-    let cases = [
-        (
-            "maybe/YES please",
+            &[],
+            "maybe\nYES please",
             "[welcome]\n?[answer]\n[welcome]\n?[instructions]\nYou stand on a road.\n",
         ),
         (
-            "# in/ / seed 7 /no",
+            &[],
+            "# in\n \n seed 7 \nno",
             "[welcome]\n????You stand on a road.\n",
         ),
         (
-            "no/xyzzy/xyzzy/xyzzy",
+            &[],
+            "no\nxyzzy\nxyzzy\nxyzzy",
             "[welcome]\n?You stand on a road.\n|[no-word-2]\n|[no-word-2]\n|[no-word]\n",
         ),
         (
-            "no/lamp/take",
-            "[welcome]\n?You stand on a road.\n|I see no LAMP here.\n|",
+            &[],
+            "no\nlamp\ntake",
+            "[welcome]\n?You stand on a road.\n|I see no LAMP here.\n|TAKE what?\n",
+        ),
+        (&[], "no\nin\ndown\nlook", "|[dark]\n|[enough]\n[dark]\n"),
+        (
+            &[],
+            "no\nin\ndown\ndown\nin",
+            "|[dark]\n|[no-dir]\n[pit]\n?",
         ),
     ];
-    print_all(&rt, rt.alloc(), &cases)
+    expect_ends(&rt, rt.alloc(), "", "", &cases)
 }
 
 #[test]
-fn travels_by_conditions(rt: HostRuntime) -> Result<(), Fail> {
-    let cases = [
+fn a_burning_lamp_lights_the_cellar(rt: HostRuntime) -> Result<(), Fail> {
+    let cases: [(&[Change], &str, &str); 3] = [
+        (&[Change::Carried(2)], "no\nin\ndown", "|[dark]\n"),
+        (&[Change::Prop(2, 1)], "no\nin\ndown", "|[dark]\n"),
         (
-            "3\n1 999999 45\n-1\n4\n45 NORTH\n-1\n6\n499 Far.\n-1\n",
-            "",
-            "no/north",
-            "Far.\nRoad.\n",
-        ),
-        (
-            "3\n1 399003 45\n-1\n4\n45 NORTH\n-1\n",
-            "",
-            "no/north",
-            "[no-way]\nRoad.\n",
-        ),
-        (
-            "3\n1 110022 29\n1 110022 31\n1 3 40\n-1\n",
-            "",
-            "no/up",
-            "You are in a hut.\nA lamp is here.\n",
-        ),
-        (
-            "3\n1 25009 44\n1 3 44\n-1\n4\n44 WEST\n-1\n",
-            "",
-            "no/seed 221587/west",
-            "[dark]\n",
-        ),
-        (
-            "3\n1 25009 44\n1 3 44\n-1\n4\n44 WEST\n-1\n",
-            "",
-            "no/seed 629005/west",
-            "You are in a hut.\nA lamp is here.\n",
-        ),
-        ("3\n1 0 45\n-1\n4\n45 NORTH\n-1\n", "", "no/north/in", "|?"),
-        (
-            "1\n13 Round.\n-1\n3\n3 14 45\n14 13 1\n13 14 1\n-1\n4\n45 NORTH\n-1\n",
-            "",
-            "no/in/north",
-            "Round.\n[forced-limit]\n",
+            &[Change::Carried(2), Change::Prop(2, 1)],
+            "no\nin\ndown",
+            "|You are in a cellar.\n",
         ),
     ];
-    end_all(&rt, rt.alloc(), &cases)
+    expect_ends(&rt, rt.alloc(), "", "", &cases)
 }
 
 #[test]
-fn squeezes_between_two_places(rt: HostRuntime) -> Result<(), Fail> {
-    let cases = [
-        (
-            "3\n1 301 45\n3 301 45\n-1\n4\n45 NORTH\n-1\n",
-            "place.alcove 1\nplace.plover 3",
-            "no/north",
-            "You are in a hut.\nA lamp is here.\n",
-        ),
-        (
-            "3\n1 301 45\n-1\n4\n45 NORTH\n-1\n",
-            "place.alcove 1",
-            "no/north",
-            "[no-way]\nRoad.\n",
-        ),
+fn water_is_entered_by_two_words(rt: HostRuntime) -> Result<(), Fail> {
+    let sections = "4\n1005 WATER\n-1\n9\n2 1\n-1\n";
+    let cases: [(&[Change], &str, &str); 3] = [
+        (&[], "no\nenter stream", "|[feet-wet]\n"),
+        (&[], "no\nenter in", "|You are in a hut.\nA lamp is here.\n"),
+        (&[], "no\nin\nenter water", "|[where]\n"),
     ];
-    end_all(&rt, rt.alloc(), &cases)
+    expect_ends(&rt, rt.alloc(), sections, "", &cases)
 }
 
 #[test]
-fn enters_water(rt: HostRuntime) -> Result<(), Fail> {
-    let cases = [
+fn a_lake_of_oil_is_entered_as_water_where_both_are_one_object(
+    rt: HostRuntime,
+) -> Result<(), Fail> {
+    let sections = "4\n1005 WATER\n1005 OIL\n1006 BOTTL\n-1\n9\n1 1\n2 1\n-1\n";
+    let cases: [(&[Change], &str, &str); 1] = [(&[], "no\nenter water", "|[feet-wet]\n")];
+    expect_ends(&rt, rt.alloc(), sections, "", &cases)
+}
+
+#[test]
+fn verbs_and_half_commands_are_done(rt: HostRuntime) -> Result<(), Fail> {
+    let cases: [(&[Change], &str, &str); 5] = [
         (
-            "4\n1005 WATER\n-1\n9\n2 1\n-1\n",
-            "",
-            "no/enter stream",
-            "[feet-wet]\n",
+            &[],
+            "no\nin\ntake lamp\non\ndown",
+            "|[ok]\n|[lamp-on]\n|You are in a cellar.\n",
         ),
         (
-            "4\n1005 BOTTL\n1005 WATER\n-1\n9\n2 1\n-1\n",
-            "",
-            "no/enter water",
-            "[where]\n",
+            &[],
+            "no\nin\nlamp\ntake",
+            "|What do you want to do with the LAMP?\n|[ok]\n",
         ),
+        (&[], "no\nin\ntake\nin", "|[ok]\n|[inout]\nHut.\n"),
         (
-            "4\n1005 WATER\n-1\n9\n2 1\n1 1\n-1\n",
-            "",
-            "no/enter water",
-            "[where]\n",
+            &[],
+            "no\nquit\nmaybe\nn\nin",
+            "|[quit]\n?[answer]\n[quit]\n?[ok]\n|You are in a hut.\nA lamp is here.\n",
         ),
-        (
-            "4\n1005 WATER\n1005 OIL\n1006 BOTTL\n-1\n9\n2 1\n1 1\n-1\n",
-            "",
-            "no/enter water",
-            "[feet-wet]\n",
-        ),
-        (
-            "4\n1005 OIL\n1005 WATER\n1005 BOTTL\n-1\n9\n2 1\n1 1\n-1\n",
-            "",
-            "no/enter water",
-            "[where]\n",
-        ),
+        (&[], "no\nquit\ny\nin", "|[quit]\n?[ok]\n?"),
     ];
-    end_all(&rt, rt.alloc(), &cases)
+    expect_ends(&rt, rt.alloc(), "4\n2007 ON\n2018 QUIT\n-1\n", "", &cases)
 }
 
-/// What is printed as a game begins.
-fn greeting(cave: &Cave) -> Out {
-    let mut out = Out::new();
-    let _state = start(cave, 0, &mut out);
-    out
-}
+/// A barn that has light, and words.
+const BARN: &str = "1\n5 You are in a barn.\n13 Round.\n-1\n9\n0 5\n-1\n4\n44 WEST\n45 NORTH\n-1\n";
 
-/// Whether the greeting is rendered whole behind a text, or the text stays as it was.
-fn is_rendered_whole_or_not(cave: &Cave, text: &mut Vec<u8>) -> bool {
-    let out = greeting(cave);
-    match render(cave, out.as_slice(), 0, text) {
-        Ok(()) => text.as_slice() == b"before [welcome]\n".as_slice(),
-        Err(_) => text.as_slice() == b"before ".as_slice(),
+#[test]
+fn back_is_where_the_player_came_from(rt: HostRuntime) -> Result<(), Fail> {
+    for (rows, start, log, wanted) in [
+        ("", 1, "no\nback", "|[back-none]\nRoad.\n"),
+        (
+            "1 5 45\n",
+            1,
+            "no\nnorth\nback",
+            "|[back-no]\nYou are in a barn.\n",
+        ),
+        // From a place that carried the player on.
+        ("1 13 45\n13 3 1\n", 1, "no\nnorth\nback", "|Road.\n"),
+        // By a way through a place that carries on: the last one counts.
+        (
+            "5 1 11\n1 101013 45\n1 13 44\n13 5 1\n",
+            5,
+            "no\nout\nback",
+            "|Round.\nYou are in a barn.\n",
+        ),
+        (
+            "5 1 11\n1 13 44\n1 101013 45\n13 5 1\n",
+            5,
+            "no\nout\nback",
+            "|[no-way]\nRoad.\n",
+        ),
+    ] {
+        let sections = format!(in rt.alloc(); "{BARN}3\n{rows}-1\n")?;
+        let bindings = format!(in rt.alloc(); "place.start {start}")?;
+        let cases: [(&[Change], &str, &str); 1] = [(&[], log, wanted)];
+        expect_ends(
+            &rt,
+            rt.alloc(),
+            sections.as_str(),
+            bindings.as_str(),
+            &cases,
+        )?;
     }
+    Ok(())
 }
 
-/// The same in the hut's cave, where there is memory to read it.
-fn is_whole_or_nothing(alloc: Global) -> Option<bool> {
-    let database = [HUT.as_bytes(), b"0\n"].concat(alloc).ok()?;
-    let cave = read_cave(alloc, database.as_slice(), b"").ok()?;
-    let mut text = Vec::from_slice(alloc, b"before ").ok()?;
-    Some(is_rendered_whole_or_not(&cave, &mut text))
-}
-
-// It holds also where an allocation is refused, whichever it is.
 #[test]
-fn render_is_whole_or_nothing(rt: HostRuntime) {
-    if let Some(holds) = is_whole_or_nothing(rt.alloc()) {
-        assert!(rt; holds);
-    }
+fn motions_without_rows_are_refused(rt: HostRuntime) -> Result<(), Fail> {
+    let sections = "4\n43 EAST\n36 LEFT\n62 XYZZY\n17 CRAWL\n2 HILL\n67 CAVE\n21 NULL\n-1\n";
+    let cases: [(&[Change], &str, &str); 7] = [
+        (&[], "no\neast", "|[no-dir]\nRoad.\n"),
+        (&[], "no\nleft", "|[facing]\nRoad.\n"),
+        (&[], "no\nxyzzy", "|[magic]\nRoad.\n"),
+        (&[], "no\ncrawl", "|[crawl]\nRoad.\n"),
+        (&[], "no\nhill", "|[no-motion]\nRoad.\n"),
+        (&[], "no\ncave", "|[cave-out]\nRoad.\n"),
+        (&[], "no\nin\nnull", "|Hut.\nA lamp is here.\n"),
+    ];
+    expect_ends(&rt, rt.alloc(), sections, "", &cases)
 }

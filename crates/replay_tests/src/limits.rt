@@ -1,127 +1,100 @@
-//! Meters that are nearly full, and full logs.
+//! The greatest logs, lines, distances and seeds, and those that are too great.
 
-use crate::edits::{Change, flat};
+use crate::edits::{Change, edits_of, flat, letters};
 use crate::machines::counter::Counter;
 use crate::machines::counts::Counts;
-use crate::play::Counting;
-use crate::sessions::{
-    copy, expect_all_refused, expect_group, expect_group_refused, expect_refused, make_group, open,
-};
-use crate::shown::show_the_same;
-use cave_replay::{Edit, EditFault};
+use crate::play::{Counting, Play};
+use cave_replay::{EditFault, OpenFault};
 use cave_words::{Meter, Steps};
 use std::alloc::Global;
 use std::process::Abort;
 use std::test::Fail;
 
-const FIVE: &[u8] = b"no\nin\ntake lamp\non\ndown\n";
-
-/// That an edit is taken where the meter has so many steps left, and can be taken back.
-fn expect_taken(
+/// That a log isn't opened, and that no step is taken.
+fn expect_closed(
     rt: &impl Abort,
     alloc: Global,
-    session: &mut Counting<'_>,
-    change: Change<'_>,
-    left: u64,
-) -> Result<(), Fail> {
-    let mut meter = Meter::starting(u64::MAX - left);
-    let report = session.edit(&change.edit(alloc)?, &mut meter)?;
-    assert_eq!(rt; meter.left().saturating_add(u64::from(report.played)), left);
-    let _ = session.edit(&report.inverse, &mut Meter::new())?;
-    Ok(())
-}
-
-/// That an edit needs so many steps, and changes nothing where one is wanting.
-fn expect_needed(
-    rt: &impl Abort,
-    alloc: Global,
-    session: &mut Counting<'_>,
-    old: &Counting<'_>,
-    change: Change<'_>,
-    needed: u64,
-) -> Result<(), Fail> {
-    let short = needed.saturating_sub(1);
-    expect_refused(rt, alloc, session, change, short, EditFault::MeterFull)?;
-    assert!(rt; show_the_same(session, old), "{change:?}");
-    expect_taken(rt, alloc, session, change, needed)
+    seed: u32,
+    log: &[u8],
+    every: u32,
+    fault: OpenFault,
+) {
+    let counts = Counts::new();
+    let mut meter = Meter::new();
+    let opened = Play::open(alloc, Counter, &counts, seed, log, every, &mut meter);
+    assert!(rt; opened.err() == Some(fault), "{fault:?}");
+    assert_eq!(rt; meter.used(), 0);
+    assert_eq!(rt; counts.steps(), 0);
 }
 
 #[test]
-fn an_edit_wants_as_many_steps_as_the_new_log_has_lines(rt: HostRuntime) -> Result<(), Fail> {
-    let alloc = rt.alloc();
-    let counts = Counts::new();
-    let mut session = open(&rt, alloc, Counter, &counts, 0, FIVE, 1)?;
-    let old = copy(&session, &counts)?;
-    for (change, needed) in [
-        (Change::Delete(0), 4u64),
-        (Change::Reseed(0), 5),
-        (Change::Replace(4, b"up"), 5),
-        (Change::Insert(5, b"up"), 6),
+fn the_first_fault_of_an_opening_is_told(rt: HostRuntime) -> Result<(), Fail> {
+    let full = flat(rt.alloc(), 65_536)?;
+    let long = letters(rt.alloc(), 256)?;
+    for (fault, log, every) in [
+        (OpenFault::BadEvery, b"\x01".as_slice(), 0),
+        (OpenFault::BadEvery, b"\x01".as_slice(), 10_001),
+        (OpenFault::BadLine(2), b"ok\n\x01\n\x02".as_slice(), 10_000),
+        (OpenFault::BadLine(1), long.as_slice(), 1),
+        (OpenFault::LogFull, full.as_slice(), 1),
+        (OpenFault::BadSeed, b"ok".as_slice(), 1),
     ] {
-        expect_needed(&rt, alloc, &mut session, &old, change, needed)?;
+        expect_closed(&rt, rt.alloc(), 2_147_483_648, log, every, fault);
     }
     Ok(())
 }
 
-#[test]
-fn a_group_wants_as_many_steps_as_the_last_log_has_lines(rt: HostRuntime) -> Result<(), Fail> {
-    let alloc = rt.alloc();
-    let counts = Counts::new();
-    let mut session = open(&rt, alloc, Counter, &counts, 0, FIVE, 1)?;
-    let edits = [
-        Change::Insert(5, b"up"),
+/// Edits that a full log refuses, by the lowest cause.
+const REFUSED: [(Change<'static>, EditFault); 7] = [
+    (Change::Insert(0, b"b"), EditFault::LogFull),
+    (Change::Insert(65_535, b"b"), EditFault::LogFull),
+    (Change::Insert(0, b"\x7f"), EditFault::BadLine),
+    (Change::Replace(0, b"\x1f"), EditFault::BadLine),
+    (Change::Insert(65_536, b"b"), EditFault::NoSuchPlace),
+    (Change::Delete(65_535), EditFault::NoSuchPlace),
+    (Change::Reseed(2_147_483_648), EditFault::BadSeed),
+];
+
+/// That a full log takes no line more.
+fn expect_full(rt: &impl Abort, alloc: Global, session: &mut Counting<'_>) -> Result<(), Fail> {
+    for (change, fault) in REFUSED {
+        let edit = change.edit(alloc)?;
+        let answer = session.edit(&edit, &mut Meter::new());
+        assert!(rt; answer.err() == Some(fault), "{edit:?}");
+    }
+    Ok(())
+}
+
+/// Makes the greatest changes that a full log takes.
+fn change(rt: &impl Abort, alloc: Global, session: &mut Counting<'_>) -> Result<(), Fail> {
+    let longest = letters(alloc, 255)?;
+    let changes = [
         Change::Delete(0),
-        Change::Delete(0),
+        Change::Insert(65_534, longest.as_slice()),
+        Change::Reseed(2_147_483_646),
     ];
-    expect_group_refused(&rt, alloc, &mut session, &edits, 3, EditFault::MeterFull, 0)?;
-    let bad = [Change::Delete(0), Change::Delete(4)];
-    expect_group_refused(&rt, alloc, &mut session, &bad, 3, EditFault::NoSuchPlace, 1)?;
-    make_group(&rt, alloc, &mut session, &edits, 4)?;
-    assert_eq!(rt; session.lines(), 4);
-    Ok(())
-}
-
-#[test]
-fn an_empty_log_wants_no_step(rt: HostRuntime) -> Result<(), Fail> {
-    let counts = Counts::new();
-    let mut session = open(&rt, rt.alloc(), Counter, &counts, 0, b"a", 1)?;
-    let _ = session.edit(&Edit::Delete(0), &mut Meter::starting(u64::MAX))?;
-    assert_eq!(rt; session.lines(), 0);
-    Ok(())
-}
-
-#[test]
-fn a_full_log_takes_no_line_more(rt: HostRuntime) -> Result<(), Fail> {
-    let alloc = rt.alloc();
-    let counts = Counts::new();
-    let log = flat(alloc, 65_535)?;
-    let mut session = open(&rt, alloc, Counter, &counts, 0, &log, 50)?;
-    let refused = [
-        (Change::Insert(0, b"b"), EditFault::LogFull),
-        (Change::Insert(30_000, b"b"), EditFault::LogFull),
-        (Change::Insert(65_535, b"b"), EditFault::LogFull),
-        (Change::Insert(0, b"\x7f"), EditFault::BadLine),
-        (Change::Insert(65_536, b"b"), EditFault::NoSuchPlace),
-    ];
-    expect_all_refused(&rt, alloc, &mut session, 99_999, &refused)?;
-    let (early, full) = (
-        [Change::Insert(0, b"b"), Change::Delete(65_535)],
-        EditFault::LogFull,
-    );
-    expect_group_refused(&rt, alloc, &mut session, &early, 99_999, full, 0)?;
+    let report = session.edit_group(rt, &edits_of(alloc, &changes)?, &mut Meter::new())?;
+    assert_eq!(rt; report.inverse.len(), 3);
     assert_eq!(rt; session.lines(), 65_535);
+    assert_eq!(rt; session.number(), 255);
     Ok(())
 }
 
-#[test]
-fn a_full_log_can_be_changed(rt: HostRuntime) -> Result<(), Fail> {
-    let alloc = rt.alloc();
-    let counts = Counts::new();
-    let log = flat(alloc, 65_535)?;
-    let mut session = open(&rt, alloc, Counter, &counts, 0, &log, 50)?;
-    let edits = [Change::Delete(65_534), Change::Insert(0, b"bbb")];
-    let back = [Change::Delete(0), Change::Insert(65_534, b"a")];
-    expect_group(&rt, alloc, &mut session, &edits, (0, None, 65_535), &back)?;
+/// That the greatest seed and distance of checkpoints were taken.
+fn expect_greatest(rt: &impl Abort, session: &Counting<'_>) {
+    assert_eq!(rt; session.seed(), 2_147_483_647);
+    assert_eq!(rt; session.every(), 10_000);
     assert_eq!(rt; session.lines(), 65_535);
-    Ok(())
+    assert!(rt; session.checkpoints().len() >= 7);
+}
+
+#[test]
+fn the_greatest_log_is_taken_and_takes_no_line_more(rt: HostRuntime) -> Result<(), Fail> {
+    let counts = Counts::new();
+    let log = flat(rt.alloc(), 65_535)?;
+    let (seed, mut meter) = (2_147_483_647, Meter::new());
+    let mut session = Play::open(rt.alloc(), Counter, &counts, seed, &log, 10_000, &mut meter)?;
+    expect_greatest(&rt, &session);
+    expect_full(&rt, rt.alloc(), &mut session)?;
+    change(&rt, rt.alloc(), &mut session)
 }

@@ -6,4 +6,3 @@ pub(crate) mod hasher;
 pub(crate) mod rule;
 pub(crate) mod state;
 pub(crate) mod told;
-pub(crate) mod walker;

@@ -1,5 +1,5 @@
-//! Sessions of the tests, behind calls that promise nothing: the tests are proved without what a session promises, and
-//! look at what it does.
+//! Sessions of the tests, behind calls that promise nothing: the tests are proved without what a
+//! session promises, and look at what it does.
 
 use crate::machines::counter::Counter;
 use crate::machines::counts::Counts;
@@ -90,50 +90,33 @@ impl<'a, R: Rule> Play<'a, R> {
         self.session.opening().as_slice()
     }
 
-    /// How many pieces the machine said behind it.
-    pub(crate) fn pieces(&self) -> usize {
-        self.session.pieces().len()
-    }
-
     /// The number that the last state is.
     pub(crate) fn number(&self) -> usize {
         self.session.state().number
     }
 
-    /// The line at a place; an empty one at the end.
-    pub(crate) fn line(&self, place: u32) -> &[u8] {
-        if place < self.session.lines() {
-            self.session.line(place)
-        } else {
-            &[]
-        }
-    }
-
-    /// Whether the line at a place ticked; at the end none did.
-    pub(crate) fn ticked(&self, place: u32) -> bool {
-        place < self.session.lines() && self.session.ticked(place)
-    }
-
-    /// How many of the lines before a place ticked, the end at most.
-    pub(crate) fn ticks(&self, place: u32) -> u32 {
-        self.session.ticks(place.min(self.session.lines()))
-    }
-
     /// What the machine said at a place; nothing at the end.
-    pub(crate) fn piece(&self, place: u32) -> &[usize] {
+    fn piece(&self, place: u32) -> &[usize] {
         match self.session.pieces().get(place as usize) {
             Some(piece) => piece.as_slice(),
             None => &[],
         }
     }
 
-    /// All that is shown of a place.
+    /// All that is shown of a place; at the end an empty line, how many lines ticked, and nothing
+    /// else.
     pub(crate) fn row(&self, place: u32) -> Row<'_> {
+        let lines = self.session.lines();
+        let is_line = place < lines;
         Row {
-            line: self.line(place),
+            line: if is_line {
+                self.session.line(place)
+            } else {
+                &[]
+            },
             piece: self.piece(place),
-            ticked: self.ticked(place),
-            ticks: self.ticks(place),
+            ticked: is_line && self.session.ticked(place),
+            ticks: self.session.ticks(place.min(lines)),
         }
     }
 

@@ -1,12 +1,12 @@
-//! A cave with its lexicon, behind calls that promise nothing: the tests are proved without what a cave and a lexicon
+//! A cave with its lexicon, behind calls that promise nothing: the tests are proved without what a
+//! cave and a lexicon
 //! promise, and look at what they are.
 
 ghost use Rattle.cave_words.specs.Lexicon.{IsLexiconOf};
 
 use cave_data::{Cave, CaveError};
-use cave_words::{Class, Lexicon, Meaning, Named, Word, Words};
+use cave_words::{Class, Lexicon, Meaning, Named, Words};
 use std::alloc::{AllocError, Global};
-use std::test::Fail;
 
 /// A cave, and the lexicon of it.
 pub(crate) struct Known {
@@ -36,29 +36,15 @@ impl Known {
         Ok(Known { cave, lexicon })
     }
 
-    /// The cave of these inputs with its lexicon.
-    pub(crate) fn read(alloc: Global, database: &[u8], bindings: &[u8]) -> Result<Known, Fail> {
-        let known = Known::of(alloc, cave_of(alloc, database, bindings)?)?;
-        Ok(known)
-    }
-
-    /// How many letters count.
-    pub(crate) fn letters(&self) -> u8 {
-        self.lexicon.letters()
-    }
-
-    /// The first word of a line, of which as many letters count as in the cave.
-    pub(crate) fn first_word(&self, line: &[u8]) -> Option<Word> {
-        Words::of(line, self.lexicon.letters()).first
-    }
-
-    /// What a word means.
-    pub(crate) fn find(&self, word: Word) -> Option<Meaning> {
+    /// What the first word of a line means, of which as many letters count as in the cave.
+    pub(crate) fn meaning(&self, line: &[u8]) -> Option<Meaning> {
+        let word = Words::of(line, self.lexicon.letters()).first?;
         self.lexicon.find(word)
     }
 
-    /// What a word means in a class.
-    pub(crate) fn find_in(&self, word: Word, class: Class) -> Option<Meaning> {
+    /// What it means in a class.
+    pub(crate) fn meaning_in(&self, line: &[u8], class: Class) -> Option<Meaning> {
+        let word = Words::of(line, self.lexicon.letters()).first?;
         self.lexicon.find_in(word, class)
     }
 

@@ -2,7 +2,8 @@ ghost use Rattle.std.specs.Prelude.{◌%◌, length};
 
 use crate::machines::rule::Rule;
 
-/// The state is the length of the last line, at the start the seed mod 256. A line with a byte ticks.
+/// The state is the length of the last line, at the start the seed mod 256. A line with a byte
+/// ticks.
 #[derive(Default, Drop)]
 pub(crate) struct Counter;
 

@@ -1,2 +1,0 @@
-mod edits;
-mod lists;
