@@ -1,9 +1,14 @@
 -- What a game begins with: of each object what it is, and the lists.
-use Rattle.std.proofs.Common.{◌≡◌, ◌⊎◌, inl, inr, ℕ, zero, suc, ◌+◌, ◌-◌, ◌<◌, ◌≤◌, ◌||◌, ◌&&◌, Bool, true, false, cond, eqb, leb, ltb, nat_lt, List, [], ◌∷◌, ◌++◌, length, map, set, get_or, replicate, Option, Some, None, ℤ, pos, negsuc, refl, sym, ap, ◌∙◌, arith}
+use Rattle.std.proofs.Common.{◌≡◌, ◌⊎◌, inl, inr, ℕ, zero, suc, ◌+◌, ◌-◌, ◌<◌, ◌≤◌, ◌||◌, ◌&&◌}
+use Rattle.std.proofs.Common.{Bool, true, false, cond, eqb, leb, ltb, nat_lt, List, [], ◌∷◌, ◌++◌}
+use Rattle.std.proofs.Common.{length, map, set, get_or, replicate, Option, Some, None, ℤ, pos}
+use Rattle.std.proofs.Common.{negsuc, refl, sym, ap, ◌∙◌, arith}
 use Rattle.std.specs.List.{filter, flat_map, list_any, range_with_len}
-use Rattle.std.proofs.lemmas.Bool.{cases_eq, eqb-true, eq-eqb, ne_eqb, or_parts, or_from, and_right, and_left, false≢true}
+use Rattle.std.proofs.lemmas.Bool.{cases_eq, eqb-true, eq-eqb, ne_eqb, or_parts, or_from, and_right}
+use Rattle.std.proofs.lemmas.Bool.{and_left, false≢true}
 use Rattle.std.proofs.lemmas.Bool.Decides.{nat_tests}
-use Rattle.std.proofs.lemmas.List.{ext_get_or, get_or-set_same, get_or-set_other, length-set, length-replicate, get_or-replicate}
+use Rattle.std.proofs.lemmas.List.{ext_get_or, get_or-set_same, get_or-set_other, length-set}
+use Rattle.std.proofs.lemmas.List.{length-replicate, get_or-replicate}
 use Rattle.std.proofs.lemmas.List.Folds.{list_any-append}
 use Rattle.std.proofs.lemmas.List.FromFn.{length-map-range_with_len, get_or-map-range_with_len}
 use Rattle.std.proofs.lemmas.Map.Views.{any-filter_same}
@@ -22,7 +27,10 @@ use Rattle.cave_world.specs.declared.spot.Anchor.TheVariants as anchor
 use Rattle.cave_world.specs.declared.spot.Spot.TheVariants as spot
 use Rattle.cave_world.proofs.Places.{halves_at-put_first}
 use Rattle.cave_things.specs.Homes.{home, hold_of}
-use Rattle.cave_begin.specs.Begin.{is_due, all_objects, objects_due, treasures, known_treasures, start_prop, start_order, start_halves, start_list, both_halves, place_of_half, laid_out, begun_objects}
+use Rattle.cave_begin.specs.Begin.{is_due, all_objects, objects_due, start_prop, start_order}
+use Rattle.cave_begin.specs.Begin.{start_halves, start_list, both_halves, place_of_half, laid_out}
+use Rattle.cave_begin.specs.Begin.{begun_objects}
+use Rattle.cave_things.specs.Treasures.{treasures, known_treasures}
 use Rattle.cave_begin.specs.Placing.{placed, all_placed, all_hidden}
 
 -- ---- numbers in a range

@@ -6,7 +6,8 @@ use Rattle.cave_data.specs.CaveView.{CaveView, name_of}
 use Rattle.cave_world.specs.Layout.{Layout}
 use Rattle.cave_world.specs.Objects.{with_prop}
 use Rattle.cave_things.specs.Homes.{hold_of}
-use Rattle.cave_begin.specs.Begin.{is_due, all_objects, objects_due, treasures, known_treasures}
+use Rattle.cave_begin.specs.Begin.{is_due, all_objects, objects_due}
+use Rattle.cave_things.specs.Treasures.{treasures, known_treasures}
 use Rattle.cave_begin.specs.Placing.{placed, all_placed, all_hidden}
 
 -- of some objects those that are due

@@ -1,7 +1,8 @@
 -- The state that a game begins with.
-use Rattle.std.specs.Prelude.{ℕ, ℤ, pos, negsuc, ◌==◌, Bool, true, false, not, if◌then◌else◌, List, [], ◌∷◌, ◌++◌, length, map, filter, flat_map, Option, is_some, suc, zero}
+use Rattle.std.specs.Prelude.{ℕ, ℤ, pos, negsuc, ◌==◌, Bool, true, false, not, if◌then◌else◌, List}
+use Rattle.std.specs.Prelude.{[], ◌∷◌, ◌++◌, length, map, filter, flat_map, Option}
 use Rattle.std.specs.List.{list_any, range_with_len}
-use Rattle.cave_data.specs.CaveView.{CaveView, name_of, placement_of}
+use Rattle.cave_data.specs.CaveView.{CaveView}
 use Rattle.cave_data.specs.declared.place_role.PlaceRole.{PlaceRole}
 use Rattle.cave_data.specs.declared.place_role.PlaceRole.TheVariants as place
 use Rattle.cave_world.specs.Layout.{Layout}
@@ -17,18 +18,11 @@ use Rattle.cave_world.specs.declared.spot.Anchor.TheVariants as anchor
 use Rattle.cave_world.specs.declared.state.State.{State}
 use Rattle.cave_things.specs.Homes.{home, hold_of}
 use Rattle.cave_things.specs.Places.{place_named, place_or, start_place}
+use Rattle.cave_things.specs.Treasures.{known_treasures}
 
 -- the objects by their numbers
 unfoldable pub all_objects : List ℕ
 all_objects = range_with_len 1 100
-
--- the treasures by their numbers
-unfoldable pub treasures : List ℕ
-treasures = range_with_len 50 30
-
--- those that the cave knows, by their inventory texts
-unfoldable pub known_treasures : CaveView → List ℕ
-known_treasures cave = filter (λ x. is_some (name_of cave x)) treasures
 
 -- a known treasure wasn't seen yet
 abbrev pub start_prop : CaveView → ℕ → ℤ

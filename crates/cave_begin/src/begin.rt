@@ -2,7 +2,9 @@ ghost use Rattle.std.specs.Prelude.{◌≡◌, ℕ, ◌≤◌, ◌≤ℤ◌, len
 ghost use Rattle.cave_world.specs.Lists.{halves_at};
 ghost use Rattle.cave_world.specs.Objects.{moved, anchored, unplaced};
 ghost use Rattle.cave_things.specs.Homes.{anchor_by};
-ghost use Rattle.cave_begin.specs.Begin.{is_due, objects_due, known_treasures, begun_objects, dwarf_of, dwarves_placed, start_list, begun_state};
+ghost use Rattle.cave_begin.specs.Begin.{is_due, objects_due, begun_objects, dwarf_of};
+ghost use Rattle.cave_begin.specs.Begin.{dwarves_placed, start_list, begun_state};
+ghost use Rattle.cave_things.specs.Treasures.{known_treasures};
 ghost use Rattle.cave_begin.specs.Placing.{all_placed, all_hidden};
 
 use cave_data::{Cave, PlaceRole};

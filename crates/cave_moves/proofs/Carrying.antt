@@ -3,8 +3,9 @@ use Rattle.std.proofs.Common.{◌≡◌, ℕ, zero, suc, ◌-◌, ◌<◌, true,
 use Rattle.cave_data.specs.CaveView.{CaveView}
 use Rattle.cave_moves.specs.Arrival.{carried_on, shown}
 use Rattle.cave_moves.specs.Description.{Showing}
-use Rattle.cave_moves.specs.Journeys.{Journey, set_forth}
-use Rattle.cave_moves.specs.Plays.{Scene, with_left}
+use Rattle.cave_moves.specs.Journeys.{set_forth}
+use Rattle.cave_moves.specs.Ways.{Journey}
+use Rattle.cave_things.specs.Plays.{Scene, with_left}
 
 -- who isn't carried on stays
 stays : (left : ℕ) (cave : CaveView) (s : Showing) → s.is_carried_on ≡ false

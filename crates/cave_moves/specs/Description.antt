@@ -15,16 +15,21 @@ use Rattle.cave_world.specs.declared.part.Part.TheVariants as part
 use Rattle.cave_world.specs.declared.state.State.{State}
 use Rattle.cave_things.specs.Places.{place_named, is_that}
 use Rattle.cave_things.specs.Things.{thing}
+use Rattle.cave_moves.specs.Falling.{falling_here}
 use Rattle.cave_moves.specs.Objects.{objects_told}
-use Rattle.cave_moves.specs.Plays.{Scene, telling, saying, with_state, here_of, dies, after_draw, happens}
+use Rattle.cave_things.specs.Plays.{Scene, telling, saying, with_state, here_of, after_draw}
+use Rattle.cave_things.specs.Plays.{happens}
 
--- each fifth visit tells the long text, or the first alone where the player wants it brief, and so does each visit of a place with no short one
+-- each fifth visit tells the long text, or the first alone where the player wants it brief, and so
+-- does each visit of a place with no short one
 abbrev pub is_told_at_length : CaveView → State → ℕ → Bool
 is_told_at_length cave s place =
-    (if s.talk.is_brief then visits_of s place == 0 else visits_of s place % 5 == 0) || is_none (map.get cave.short place)
+    (if s.talk.is_brief then visits_of s place == 0 else visits_of s place % 5 == 0)
+    || is_none (map.get cave.short place)
 
 unfoldable pub place_text : CaveView → State → ℕ → Part
-place_text cave s place = if is_told_at_length cave s place then part.Long place else part.Short place
+place_text cave s place =
+    if is_told_at_length cave s place then part.Long place else part.Short place
 
 -- a bear that is carried is told before the text
 abbrev pub bear_told : CaveView → Scene → Scene
@@ -41,11 +46,12 @@ is_hollow cave p = is_that (here_of p) (place_named cave place.Y2) && not p.stat
 
 unfoldable pub hollow_told : CaveView → Scene → Scene
 hollow_told cave p =
-    if is_hollow cave p then (if happens 25 p then saying role.Hollow (after_draw p) else after_draw p) else p
+    if is_hollow cave p then (if happens 25 p then saying role.Hollow (after_draw p)
+    else after_draw p) else p
 
--- the player fell into a pit, and died where the player will have come from
-abbrev pub in_pit : Scene → Scene
-in_pit p = let s = p.state in let trail = s.trail in let q = saying role.Pit p in dies (with_state (record s { trail = record trail { older = trail.here } }) q)
+-- the player falls into a pit
+abbrev pub in_pit : CaveView → Scene → Scene
+in_pit cave p = falling_here cave (saying role.Pit p)
 
 -- what is told of a place where the player sees nothing
 abbrev pub darkness_told : CaveView → Scene → Scene
@@ -55,7 +61,7 @@ darkness_told cave p = hollow_told cave (saying role.Dark (bear_told cave p))
 unfoldable pub dark_described : CaveView → Scene → Scene
 dark_described cave p =
     if p.was_dark
-    then (if happens 35 p then in_pit (after_draw p) else darkness_told cave (after_draw p))
+    then (if happens 35 p then in_pit cave (after_draw p) else darkness_told cave (after_draw p))
     else darkness_told cave p
 
 -- what is told of a place that the player sees: its text, and the objects there

@@ -1,5 +1,6 @@
 -- Where a motion leads a player.
-use Rattle.std.specs.Prelude.{ℕ, ◌+◌, Bool, false, ◌==◌, ◌&&◌, ◌||◌, nat_lt, nat_le, if◌then◌else◌, List, [], ◌∷◌, length, Option, Some, None, option_map, slice_index}
+use Rattle.std.specs.Prelude.{ℕ, ◌+◌, Bool, false, ◌==◌, ◌&&◌, ◌||◌, nat_lt, nat_le, if◌then◌else◌}
+use Rattle.std.specs.Prelude.{List, [], ◌∷◌, length, Option, Some, None, option_map, slice_index}
 use Rattle.cave_data.specs.CaveView.{CaveView, Going, ways_from}
 use Rattle.cave_data.specs.declared.place_role.PlaceRole.TheVariants as place
 use Rattle.cave_data.specs.declared.role.Role.{Role}
@@ -15,20 +16,14 @@ use Rattle.cave_world.specs.declared.rows.Outcome.TheVariants as outcome
 use Rattle.cave_world.specs.declared.rows.Special.{Special}
 use Rattle.cave_world.specs.declared.rows.Special.TheVariants.{Squeeze, Bridge}
 use Rattle.cave_world.specs.declared.state.State.{State}
+use Rattle.cave_moves.specs.Bridge.{bridged}
+use Rattle.cave_moves.specs.Ways.{Journey, staying, other_end}
 use Rattle.cave_things.specs.Places.{place_named, outside_place}
 use Rattle.cave_things.specs.Things.{thing}
-use Rattle.cave_moves.specs.Plays.{Scene, telling, saying, with_state, here_of, sets_out}
+use Rattle.cave_things.specs.Plays.{Scene, telling, saying, with_state, here_of, sets_out}
 
--- a play, and the place where the player arrives next
-pub record Journey : Type 0 where
-  pub place : ℕ
-  pub scene : Scene
-
--- the player arrives where the player stands
-abbrev pub staying : Scene → Journey
-staying p = record { place = here_of p; scene = p }
-
--- what is said of a motion that no row lists: of a direction, of facing one, of in and out, of a magic word, of crawling, and of the rest
+-- what is said of a motion that no row lists: of a direction, of facing one, of in and out, of a
+-- magic word, of crawling, and of the rest
 abbrev pub refusal_of : ℕ → Role
 refusal_of motion =
     if motion == 29 || motion == 30 || (nat_le 43 motion && nat_le motion 50) then role.NoDir
@@ -37,14 +32,10 @@ refusal_of motion =
     else (if motion == 62 || motion == 65 then role.Magic
     else (if motion == 17 then role.Crawl else role.NoMotion))))
 
--- the other end of a passage between two places
-abbrev pub other_end : ℕ → Option ℕ → Option ℕ → Option ℕ
-other_end here None b = None
-other_end here (Some a) None = None
-other_end here (Some a) (Some b) = if here == a then Some b else (if here == b then Some a else None)
-
+-- the other end of the narrow passage
 unfoldable pub squeeze_end : CaveView → ℕ → Option ℕ
-squeeze_end cave here = other_end here (place_named cave place.Alcove) (place_named cave place.Plover)
+squeeze_end cave here =
+    other_end here (place_named cave place.Alcove) (place_named cave place.Plover)
 
 -- nothing is carried, or the emerald alone
 unfoldable pub is_slim : CaveView → State → Bool
@@ -62,10 +53,10 @@ squeezed_to cave (Some end) p =
 unfoldable pub squeezed : CaveView → Scene → Journey
 squeezed cave p = squeezed_to cave (squeeze_end cave (here_of p)) p
 
--- a way with rules of its own; the bridge leads nowhere
+-- a way with rules of its own
 abbrev pub led_specially : CaveView → Special → Scene → Journey
 led_specially cave Squeeze p = squeezed cave p
-led_specially cave Bridge p = staying (saying role.NoWay p)
+led_specially cave Bridge p = bridged cave p
 
 -- where the outcome of a motion leads
 abbrev pub led : CaveView → ℕ → Outcome → Scene → Journey
@@ -89,20 +80,24 @@ set_forth cave motion p = routed cave motion (sets_out p)
 abbrev pub enough_said : Scene → Scene
 enough_said p =
     let s = p.state in let talk = s.talk in
-    if nat_lt talk.details 3 then saying role.Enough (with_state (record s { talk = record talk { details = talk.details + 1 } }) p) else p
+    if nat_lt talk.details 3
+    then saying role.Enough (with_state (record s { talk = record talk { details = talk.details + 1 } }) p) else p
 
 abbrev pub unvisited : Scene → Scene
-unvisited p = let q = with_state (without_visits p.state (here_of p)) p in record q { was_dark = false }
+unvisited p =
+    let q = with_state (without_visits p.state (here_of p)) p in record q { was_dark = false }
 
 unfoldable pub looking : Scene → Journey
 looking p = staying (unvisited (enough_said p))
 
--- where the cave is, is told by whether the player is outside
+-- where the cave is, is told by whether the player stands before the last place outside it
 unfoldable pub seeking_cave : CaveView → Scene → Journey
 seeking_cave cave p =
-    if nat_lt (here_of p) (outside_place cave) then staying (saying role.CaveOut p) else staying (saying role.CaveIn p)
+    if nat_lt (here_of p) (outside_place cave) then staying (saying role.CaveOut p)
+    else staying (saying role.CaveIn p)
 
--- where the player goes who goes back: where the player came from, or from where before that if that was a place to be carried on from
+-- where the player goes who goes back: where the player came from, or from where before that if
+-- that was a place to be carried on from
 abbrev pub back_place : CaveView → State → ℕ
 back_place cave s = if is_forced cave s.trail.last then s.trail.older else s.trail.last
 
@@ -118,7 +113,8 @@ is_number n (Some m) = m == n
 -- the row leads to a place that carries the player on to the place that is sought
 abbrev pub leads_through : CaveView → ℕ → Going → Bool
 leads_through cave sought row =
-    nat_le (number_of row) 300 && is_forced cave (number_of row) && is_number sought (first_number (ways_from cave (number_of row)))
+    nat_le (number_of row) 300 && is_forced cave (number_of row)
+    && is_number sought (first_number (ways_from cave (number_of row)))
 
 abbrev pub or_row : Option Going → Option Going → Option Going
 or_row None other = other
@@ -127,12 +123,15 @@ or_row (Some row) other = Some row
 -- the first row with the number that is sought
 abbrev pub direct_row : ℕ → List Going → Option Going
 direct_row sought [] = None
-direct_row sought (row ∷ rows) = if number_of row == sought then Some row else direct_row sought rows
+direct_row sought (row ∷ rows) =
+    if number_of row == sought then Some row else direct_row sought rows
 
 -- the last row that leads through a place that carries the player on to it
 abbrev pub indirect_row : CaveView → ℕ → List Going → Option Going
 indirect_row cave sought [] = None
-indirect_row cave sought (row ∷ rows) = or_row (indirect_row cave sought rows) (if leads_through cave sought row then Some row else None)
+indirect_row cave sought (row ∷ rows) =
+    or_row (indirect_row cave sought rows) (if leads_through cave sought row then Some row
+    else None)
 
 unfoldable pub row_back : CaveView → ℕ → List Going → Option Going
 row_back cave sought rows = or_row (direct_row sought rows) (indirect_row cave sought rows)

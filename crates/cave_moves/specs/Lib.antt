@@ -1,5 +1,7 @@
-pub mod Plays
+pub mod Falling
 pub mod Objects
 pub mod Description
+pub mod Ways
+pub mod Bridge
 pub mod Journeys
 pub mod Arrival

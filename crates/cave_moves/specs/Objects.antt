@@ -1,5 +1,6 @@
 -- How the objects at a place are told.
-use Rattle.std.specs.Prelude.{ℕ, ℤ, pos, ◌-◌, Bool, ◌==◌, ◌&&◌, ◌||◌, not, int_lt, if◌then◌else◌, List, [], ◌∷◌}
+use Rattle.std.specs.Prelude.{ℕ, ℤ, pos, ◌-◌, Bool, ◌==◌, ◌&&◌, ◌||◌, not, int_lt, if◌then◌else◌}
+use Rattle.std.specs.Prelude.{List, [], ◌∷◌}
 use Rattle.std.specs.Int.{int_min}
 use Rattle.cave_data.specs.CaveView.{CaveView}
 use Rattle.cave_words.specs.declared.named.Named.TheVariants as name
@@ -10,13 +11,14 @@ use Rattle.cave_world.specs.declared.object.Half.{Half}
 use Rattle.cave_world.specs.declared.part.Part.TheVariants as part
 use Rattle.cave_world.specs.declared.state.State.{State}
 use Rattle.cave_things.specs.Things.{thing}
-use Rattle.cave_moves.specs.Plays.{Scene, telling, with_state}
+use Rattle.cave_things.specs.Plays.{Scene, telling, with_state}
 
 -- an object that the player hasn't seen yet
 abbrev pub is_unseen : State → ℕ → Bool
 is_unseen s x = int_lt (prop_of s.objects x) (pos 0)
 
--- the steps aren't told to a player who carries the gold, nor is a treasure that a closed cave hides
+-- the steps aren't told to a player who carries the gold, nor is a treasure that a closed cave
+-- hides
 unfoldable pub is_kept_back : CaveView → State → ℕ → Bool
 is_kept_back cave s x =
     (x == thing cave name.Steps && is_carried s.objects (thing cave name.Gold))
@@ -28,14 +30,16 @@ first_prop cave x = if x == thing cave name.Rug || x == thing cave name.Chain th
 
 -- one treasure less is to be seen
 abbrev pub one_less_unseen : State → State
-one_less_unseen s = let tallies = s.tallies in record s { tallies = record tallies { unseen = tallies.unseen - 1 } }
+one_less_unseen s =
+    let tallies = s.tallies in record s { tallies = record tallies { unseen = tallies.unseen - 1 } }
 
 -- where those that are left can't all be found, the lamp burns 35 turns more at most
 abbrev pub is_beyond_hope : State → Bool
 is_beyond_hope s = s.tallies.unseen == s.tallies.lost && not (s.tallies.unseen == 0)
 
 abbrev pub with_short_lamp : State → State
-with_short_lamp s = let lamp = s.lamp in record s { lamp = record lamp { charge = int_min lamp.charge (pos 35) } }
+with_short_lamp s =
+    let lamp = s.lamp in record s { lamp = record lamp { charge = int_min lamp.charge (pos 35) } }
 
 abbrev pub shortened : State → State
 shortened s = if is_beyond_hope s then with_short_lamp s else s

@@ -1,17 +1,18 @@
-ghost use Rattle.std.specs.Prelude.{◌≡◌, ◌+◌, ◌<◌, ◌≤◌, map, option_map};
-ghost use Rattle.arrayvec.specs.ArrayVec.{array_vec_len};
+ghost use Rattle.std.specs.Prelude.{◌≡◌, false, map, option_map};
 ghost use Rattle.cave_data.specs.CaveView.{ways_from};
 ghost use Rattle.cave_data.specs.Shown.{going};
 ghost use Rattle.cave_things.specs.Things.{cave_of};
+ghost use Rattle.cave_world.specs.State.{is_over};
 ghost use Rattle.cave_moves.specs.Journeys.{back_place, leads_through, direct_row, indirect_row};
 ghost use Rattle.cave_moves.specs.Journeys.{row_back, first_motion, first_number, is_number};
 ghost use Rattle.cave_moves.specs.Journeys.{going_back};
-ghost use Rattle.cave_moves.specs.Plays.{scene_of, GoesOn};
+ghost use Rattle.cave_things.specs.Bounds.{HasRoom, SaysUpTo, parts_of_journey};
+ghost use Rattle.cave_things.specs.Plays.{scene_of, GoesOn};
 
-use crate::journeys::{route, stay};
-use crate::play::Play;
+use crate::journeys::route;
+use crate::ways::stay;
 use cave_data::{Role, Row};
-use cave_things::Rules;
+use cave_things::{Play, Rules};
 use cave_world::{Place, State, is_forced};
 
 /// Where the player goes who goes back.
@@ -93,11 +94,12 @@ fn motion_back(rules: &Rules<'_>, sought: Place, here: Place) -> Option<u16>
 /// The player goes back.
 #[tactic(auto, unfolding(crate::specs::Journeys::going_back))]
 pub fn go_back(rules: &Rules<'_>, play: &mut Play<'_>) -> Place
-    requires { array_vec_len play.old.out.now < 512 }
+    requires { HasRoom parts_of_journey play.old }
     ensures journey { record { place = result; scene = scene_of play.new }
         ≡ going_back (cave_of rules.now) (scene_of play.old) }
     ensures same { GoesOn play.old play.new }
-    ensures few { array_vec_len play.new.out.now ≤ array_vec_len play.old.out.now + 1 }
+    ensures few { SaysUpTo parts_of_journey play.old play.new }
+    ensures few_on { is_over play.new.state.now ≡ false → SaysUpTo 1 play.old play.new }
 {
     let sought = back_place(rules, play.state);
     let here = play.state.trail.here;

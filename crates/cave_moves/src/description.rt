@@ -1,16 +1,16 @@
 ghost use Rattle.std.specs.Prelude.{◌≡◌, ◌+◌, ◌<◌, ◌≤◌, IsTrue};
-ghost use Rattle.arrayvec.specs.ArrayVec.{array_vec_len};
 ghost use Rattle.cave_things.specs.Things.{cave_of};
 ghost use Rattle.cave_moves.specs.Description.{is_told_at_length, place_text, bear_told, text_told};
 ghost use Rattle.cave_moves.specs.Description.{is_hollow, hollow_told, in_pit, darkness_told};
 ghost use Rattle.cave_moves.specs.Description.{dark_described, sight_described, described};
 ghost use Rattle.cave_moves.specs.Description.{seen_here};
-ghost use Rattle.cave_moves.specs.Plays.{scene_of, GoesOn};
+ghost use Rattle.cave_things.specs.Bounds.{HasRoom, SaysUpTo, parts_of_place};
+ghost use Rattle.cave_things.specs.Plays.{scene_of, GoesOn};
 
+use crate::falling::fall_here;
 use crate::objects::tell_objects;
-use crate::play::Play;
 use cave_data::{PlaceRole, Role};
-use cave_things::Rules;
+use cave_things::{Play, Rules};
 use cave_things::places::{is_that, place_named};
 use cave_words::Named;
 use cave_world::{Part, Place, State, is_forced};
@@ -40,10 +40,10 @@ fn place_text(rules: &Rules<'_>, state: &State, place: Place) -> Part
 }
 
 fn tell_bear(rules: &Rules<'_>, play: &mut Play<'_>)
-    requires { array_vec_len play.old.out.now < 512 }
+    requires { HasRoom 1 play.old }
     ensures play { scene_of play.new ≡ bear_told (cave_of rules.now) (scene_of play.old) }
     ensures same { GoesOn play.old play.new }
-    ensures few { array_vec_len play.new.out.now ≤ array_vec_len play.old.out.now + 1 }
+    ensures few { SaysUpTo 1 play.old play.new }
 {
     if play.state.toting(rules.object(Named::Bear)) {
         play.say(Role::BearFollows);
@@ -52,11 +52,11 @@ fn tell_bear(rules: &Rules<'_>, play: &mut Play<'_>)
 
 /// The text of the place where the player stands is told.
 #[tactic(auto, unfolding(crate::specs::Description::text_told))]
-fn tell_text(rules: &Rules<'_>, play: &mut Play<'_>)
-    requires { array_vec_len play.old.out.now < 511 }
+pub fn tell_text(rules: &Rules<'_>, play: &mut Play<'_>)
+    requires { HasRoom 2 play.old }
     ensures play { scene_of play.new ≡ text_told (cave_of rules.now) (scene_of play.old) }
     ensures same { GoesOn play.old play.new }
-    ensures few { array_vec_len play.new.out.now ≤ array_vec_len play.old.out.now + 2 }
+    ensures few { SaysUpTo 2 play.old play.new }
 {
     tell_bear(rules, play);
     let here = play.state.trail.here;
@@ -77,10 +77,10 @@ fn is_hollow(rules: &Rules<'_>, play: &Play<'_>) -> bool
 /// Something hollow may be heard.
 #[tactic(auto, unfolding(crate::specs::Description::hollow_told))]
 fn tell_hollow(rules: &Rules<'_>, play: &mut Play<'_>)
-    requires { array_vec_len play.old.out.now < 512 }
+    requires { HasRoom 1 play.old }
     ensures play { scene_of play.new ≡ hollow_told (cave_of rules.now) (scene_of play.old) }
     ensures same { GoesOn play.old play.new }
-    ensures few { array_vec_len play.new.out.now ≤ array_vec_len play.old.out.now + 1 }
+    ensures few { SaysUpTo 1 play.old play.new }
 {
     if !is_hollow(rules, play) {
         return;
@@ -90,23 +90,22 @@ fn tell_hollow(rules: &Rules<'_>, play: &mut Play<'_>)
     }
 }
 
-/// The player fell into a pit.
-fn fall(play: &mut Play<'_>)
-    requires { array_vec_len play.old.out.now < 512 }
-    ensures play { scene_of play.new ≡ in_pit (scene_of play.old) }
+/// The player falls into a pit.
+fn fall_into_pit(rules: &Rules<'_>, play: &mut Play<'_>)
+    requires { HasRoom 5 play.old }
+    ensures play { scene_of play.new ≡ in_pit (cave_of rules.now) (scene_of play.old) }
     ensures same { GoesOn play.old play.new }
-    ensures few { array_vec_len play.new.out.now ≤ array_vec_len play.old.out.now + 1 }
+    ensures few { SaysUpTo 5 play.old play.new }
 {
     play.say(Role::Pit);
-    play.state.trail.older = play.state.trail.here;
-    play.kill();
+    fall_here(rules, play);
 }
 
 fn tell_darkness(rules: &Rules<'_>, play: &mut Play<'_>)
-    requires { array_vec_len play.old.out.now + 3 ≤ 512 }
+    requires { HasRoom 3 play.old }
     ensures play { scene_of play.new ≡ darkness_told (cave_of rules.now) (scene_of play.old) }
     ensures same { GoesOn play.old play.new }
-    ensures few { array_vec_len play.new.out.now ≤ array_vec_len play.old.out.now + 3 }
+    ensures few { SaysUpTo 3 play.old play.new }
 {
     tell_bear(rules, play);
     play.say(Role::Dark);
@@ -116,13 +115,13 @@ fn tell_darkness(rules: &Rules<'_>, play: &mut Play<'_>)
 /// Describes a place where the player sees nothing.
 #[tactic(auto, unfolding(crate::specs::Description::dark_described))]
 fn describe_dark(rules: &Rules<'_>, play: &mut Play<'_>)
-    requires { array_vec_len play.old.out.now + 3 ≤ 512 }
+    requires { HasRoom 5 play.old }
     ensures play { scene_of play.new ≡ dark_described (cave_of rules.now) (scene_of play.old) }
     ensures same { GoesOn play.old play.new }
-    ensures few { array_vec_len play.new.out.now ≤ array_vec_len play.old.out.now + 3 }
+    ensures few { SaysUpTo 5 play.old play.new }
 {
     if play.was_dark && play.chance(35) {
-        fall(play);
+        fall_into_pit(rules, play);
         return;
     }
     tell_darkness(rules, play);
@@ -131,10 +130,10 @@ fn describe_dark(rules: &Rules<'_>, play: &mut Play<'_>)
 /// Describes a place that the player sees.
 #[tactic(auto, unfolding(crate::specs::Description::sight_described))]
 fn describe_sight(rules: &Rules<'_>, play: &mut Play<'_>)
-    requires { array_vec_len play.old.out.now + 203 ≤ 512 }
+    requires { HasRoom parts_of_place play.old }
     ensures play { scene_of play.new ≡ sight_described (cave_of rules.now) (scene_of play.old) }
     ensures same { GoesOn play.old play.new }
-    ensures few { array_vec_len play.new.out.now ≤ array_vec_len play.old.out.now + 203 }
+    ensures few { SaysUpTo parts_of_place play.old play.new }
 {
     tell_text(rules, play);
     tell_hollow(rules, play);
@@ -145,11 +144,11 @@ fn describe_sight(rules: &Rules<'_>, play: &mut Play<'_>)
 
 /// Describes the place where the player stands, from which the player isn't carried on.
 #[tactic(auto, unfolding(crate::specs::Description::described))]
-fn describe(rules: &Rules<'_>, play: &mut Play<'_>)
-    requires { array_vec_len play.old.out.now + 203 ≤ 512 }
+pub fn describe(rules: &Rules<'_>, play: &mut Play<'_>)
+    requires { HasRoom parts_of_place play.old }
     ensures play { scene_of play.new ≡ described (cave_of rules.now) (scene_of play.old) }
     ensures same { GoesOn play.old play.new }
-    ensures few { array_vec_len play.new.out.now ≤ array_vec_len play.old.out.now + 203 }
+    ensures few { SaysUpTo parts_of_place play.old play.new }
 {
     if play.state.is_dark(rules.cave, rules.object(Named::Lamp)) {
         describe_dark(rules, play);
@@ -161,13 +160,13 @@ fn describe(rules: &Rules<'_>, play: &mut Play<'_>)
 /// Tells what is seen where the player stands. Tells whether the player is carried on from there.
 #[tactic(auto, unfolding(crate::specs::Description::seen_here))]
 pub fn see_here(rules: &Rules<'_>, play: &mut Play<'_>) -> bool
-    requires { array_vec_len play.old.out.now + 203 ≤ 512 }
+    requires { HasRoom parts_of_place play.old }
     ensures showing { record { is_carried_on = result; scene = scene_of play.new }
         ≡ seen_here (cave_of rules.now) (scene_of play.old) }
     ensures same { GoesOn play.old play.new }
-    ensures few { array_vec_len play.new.out.now ≤ array_vec_len play.old.out.now + 203 }
+    ensures few { SaysUpTo parts_of_place play.old play.new }
     ensures few_on { IsTrue result
-        → array_vec_len play.new.out.now ≤ array_vec_len play.old.out.now + 2 }
+        → SaysUpTo 2 play.old play.new }
 {
     if is_forced(rules.cave, play.state.trail.here) {
         tell_text(rules, play);

@@ -1,16 +1,19 @@
-ghost use Rattle.std.specs.Prelude.{◌≡◌, ◌+◌, ◌<◌, ◌≤◌};
-ghost use Rattle.arrayvec.specs.ArrayVec.{array_vec_len};
+ghost use Rattle.std.specs.Prelude.{◌≡◌, false};
 ghost use Rattle.cave_things.specs.Things.{cave_of};
-ghost use Rattle.cave_moves.specs.Plays.{saying, scene_of, GoesOn};
-ghost use Rattle.cave_moves.specs.Journeys.{refusal_of, other_end, squeeze_end, is_slim};
+ghost use Rattle.cave_world.specs.State.{is_over};
+ghost use Rattle.cave_things.specs.Bounds.{HasRoom, SaysUpTo, parts_of_journey};
+ghost use Rattle.cave_things.specs.Plays.{saying, scene_of, GoesOn};
+ghost use Rattle.cave_moves.specs.Journeys.{refusal_of, squeeze_end, is_slim};
 ghost use Rattle.cave_moves.specs.Journeys.{squeezed_to, squeezed, led_specially, led, routed};
 ghost use Rattle.cave_moves.specs.Journeys.{set_forth, enough_said, unvisited, looking};
-ghost use Rattle.cave_moves.specs.Journeys.{seeking_cave, led_by_motion, staying};
+ghost use Rattle.cave_moves.specs.Journeys.{seeking_cave, led_by_motion};
+ghost use Rattle.cave_moves.specs.Ways.{staying};
 
 use crate::back::go_back;
-use crate::play::Play;
+use crate::bridge::cross;
+use crate::ways::{other_end, stay};
 use cave_data::{PlaceRole, Role};
-use cave_things::Rules;
+use cave_things::{Play, Rules};
 use cave_things::places::{outside_place, place_named};
 use cave_words::Named;
 use cave_world::{Outcome, Part, Place, Special, State, travel};
@@ -27,17 +30,6 @@ fn refusal_of(motion: u16) -> Role
         17 => Role::Crawl,
         _ => Role::NoMotion,
     }
-}
-
-fn other_end(here: Place, one: Option<Place>, other: Option<Place>) -> Option<Place>
-    ensures { result ≡ other_end here one other }
-{
-    let one = one?;
-    let other = other?;
-    if here == one {
-        return Some(other);
-    }
-    if here == other { Some(one) } else { None }
 }
 
 /// The other end of the narrow passage, where the player stands at one end.
@@ -58,26 +50,14 @@ fn is_slim(rules: &Rules<'_>, state: &State) -> bool
     carried == 0 || (carried == 1 && state.toting(rules.object(Named::Emerald)))
 }
 
-/// The player stays, and a role's message is said.
-pub fn stay(play: &mut Play<'_>, role: Role) -> Place
-    requires { array_vec_len play.old.out.now < 512 }
-    ensures journey { record { place = result; scene = scene_of play.new }
-        ≡ staying (saying role (scene_of play.old)) }
-    ensures same { GoesOn play.old play.new }
-    ensures few { array_vec_len play.new.out.now ≤ array_vec_len play.old.out.now + 1 }
-{
-    play.say(role);
-    play.state.trail.here
-}
-
 /// Through the narrow passage, in which nothing but the emerald may be carried.
 #[tactic(auto, unfolding(crate::specs::Journeys::squeezed))]
 fn squeeze(rules: &Rules<'_>, play: &mut Play<'_>) -> Place
-    requires { array_vec_len play.old.out.now < 512 }
+    requires { HasRoom 1 play.old }
     ensures journey { record { place = result; scene = scene_of play.new }
         ≡ squeezed (cave_of rules.now) (scene_of play.old) }
     ensures same { GoesOn play.old play.new }
-    ensures few { array_vec_len play.new.out.now ≤ array_vec_len play.old.out.now + 1 }
+    ensures few { SaysUpTo 1 play.old play.new }
 {
     match squeeze_end(rules, play.state.trail.here) {
         None => stay(play, Role::NoWay),
@@ -91,25 +71,27 @@ fn squeeze(rules: &Rules<'_>, play: &mut Play<'_>) -> Place
 }
 
 fn lead_specially(rules: &Rules<'_>, special: Special, play: &mut Play<'_>) -> Place
-    requires { array_vec_len play.old.out.now < 512 }
+    requires { HasRoom parts_of_journey play.old }
     ensures journey { record { place = result; scene = scene_of play.new }
         ≡ led_specially (cave_of rules.now) special (scene_of play.old) }
     ensures same { GoesOn play.old play.new }
-    ensures few { array_vec_len play.new.out.now ≤ array_vec_len play.old.out.now + 1 }
+    ensures few { SaysUpTo parts_of_journey play.old play.new }
+    ensures few_on { is_over play.new.state.now ≡ false → SaysUpTo 1 play.old play.new }
 {
     match special {
         Special::Squeeze => squeeze(rules, play),
-        Special::Bridge => stay(play, Role::NoWay),
+        Special::Bridge => cross(rules, play),
     }
 }
 
 /// Where the outcome of a motion leads.
 fn lead(rules: &Rules<'_>, motion: u16, outcome: Outcome, play: &mut Play<'_>) -> Place
-    requires { array_vec_len play.old.out.now < 512 }
+    requires { HasRoom parts_of_journey play.old }
     ensures journey { record { place = result; scene = scene_of play.new }
         ≡ led (cave_of rules.now) motion outcome (scene_of play.old) }
     ensures same { GoesOn play.old play.new }
-    ensures few { array_vec_len play.new.out.now ≤ array_vec_len play.old.out.now + 1 }
+    ensures few { SaysUpTo parts_of_journey play.old play.new }
+    ensures few_on { is_over play.new.state.now ≡ false → SaysUpTo 1 play.old play.new }
 {
     match outcome {
         Outcome::Go(place) => place,
@@ -126,11 +108,12 @@ fn lead(rules: &Rules<'_>, motion: u16, outcome: Outcome, play: &mut Play<'_>) -
 /// Where the rows of the place lead by a motion.
 #[tactic(auto, unfolding(crate::specs::Journeys::routed))]
 pub fn route(rules: &Rules<'_>, motion: u16, play: &mut Play<'_>) -> Place
-    requires { array_vec_len play.old.out.now < 512 }
+    requires { HasRoom parts_of_journey play.old }
     ensures journey { record { place = result; scene = scene_of play.new }
         ≡ routed (cave_of rules.now) motion (scene_of play.old) }
     ensures same { GoesOn play.old play.new }
-    ensures few { array_vec_len play.new.out.now ≤ array_vec_len play.old.out.now + 1 }
+    ensures few { SaysUpTo parts_of_journey play.old play.new }
+    ensures few_on { is_over play.new.state.now ≡ false → SaysUpTo 1 play.old play.new }
 {
     let outcome = travel(rules.cave, rules.object(Named::Emerald), play.state, motion);
     lead(rules, motion, outcome, play)
@@ -139,21 +122,22 @@ pub fn route(rules: &Rules<'_>, motion: u16, play: &mut Play<'_>) -> Place
 /// The player sets out by a motion.
 #[tactic(auto, unfolding(crate::specs::Journeys::set_forth))]
 pub fn set_forth(rules: &Rules<'_>, motion: u16, play: &mut Play<'_>) -> Place
-    requires { array_vec_len play.old.out.now < 512 }
+    requires { HasRoom parts_of_journey play.old }
     ensures journey { record { place = result; scene = scene_of play.new }
         ≡ set_forth (cave_of rules.now) motion (scene_of play.old) }
     ensures same { GoesOn play.old play.new }
-    ensures few { array_vec_len play.new.out.now ≤ array_vec_len play.old.out.now + 1 }
+    ensures few { SaysUpTo parts_of_journey play.old play.new }
+    ensures few_on { is_over play.new.state.now ≡ false → SaysUpTo 1 play.old play.new }
 {
     play.set_out();
     route(rules, motion, play)
 }
 
 fn say_enough(play: &mut Play<'_>)
-    requires { array_vec_len play.old.out.now < 512 }
+    requires { HasRoom 1 play.old }
     ensures play { scene_of play.new ≡ enough_said (scene_of play.old) }
     ensures same { GoesOn play.old play.new }
-    ensures few { array_vec_len play.new.out.now ≤ array_vec_len play.old.out.now + 1 }
+    ensures few { SaysUpTo 1 play.old play.new }
 {
     if play.state.talk.details.number() < 3 {
         play.state.talk.details = play.state.talk.details.up();
@@ -173,11 +157,11 @@ fn forget(play: &mut Play<'_>)
 /// The player looks round, and is told the place at length.
 #[tactic(auto, unfolding(crate::specs::Journeys::looking))]
 fn look(play: &mut Play<'_>) -> Place
-    requires { array_vec_len play.old.out.now < 512 }
+    requires { HasRoom 1 play.old }
     ensures journey { record { place = result; scene = scene_of play.new }
         ≡ looking (scene_of play.old) }
     ensures same { GoesOn play.old play.new }
-    ensures few { array_vec_len play.new.out.now ≤ array_vec_len play.old.out.now + 1 }
+    ensures few { SaysUpTo 1 play.old play.new }
 {
     say_enough(play);
     forget(play);
@@ -187,11 +171,11 @@ fn look(play: &mut Play<'_>) -> Place
 /// The player asks where the cave is.
 #[tactic(auto, unfolding(crate::specs::Journeys::seeking_cave))]
 fn seek_cave(rules: &Rules<'_>, play: &mut Play<'_>) -> Place
-    requires { array_vec_len play.old.out.now < 512 }
+    requires { HasRoom 1 play.old }
     ensures journey { record { place = result; scene = scene_of play.new }
         ≡ seeking_cave (cave_of rules.now) (scene_of play.old) }
     ensures same { GoesOn play.old play.new }
-    ensures few { array_vec_len play.new.out.now ≤ array_vec_len play.old.out.now + 1 }
+    ensures few { SaysUpTo 1 play.old play.new }
 {
     if play.state.trail.here.number() < outside_place(rules.cave).number() {
         stay(play, Role::CaveOut)
@@ -203,11 +187,12 @@ fn seek_cave(rules: &Rules<'_>, play: &mut Play<'_>) -> Place
 /// Where a motion that the player asks for leads.
 #[tactic(auto, unfolding(crate::specs::Journeys::led_by_motion))]
 pub fn lead_by_motion(rules: &Rules<'_>, motion: u16, play: &mut Play<'_>) -> Place
-    requires { array_vec_len play.old.out.now < 512 }
+    requires { HasRoom parts_of_journey play.old }
     ensures journey { record { place = result; scene = scene_of play.new }
         ≡ led_by_motion (cave_of rules.now) motion (scene_of play.old) }
     ensures same { GoesOn play.old play.new }
-    ensures few { array_vec_len play.new.out.now ≤ array_vec_len play.old.out.now + 1 }
+    ensures few { SaysUpTo parts_of_journey play.old play.new }
+    ensures few_on { is_over play.new.state.now ≡ false → SaysUpTo 1 play.old play.new }
 {
     match motion {
         21 => play.state.trail.here,

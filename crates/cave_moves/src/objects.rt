@@ -1,5 +1,4 @@
 ghost use Rattle.std.specs.Prelude.{◌≡◌, ◌+◌, ◌<◌, ◌≤◌, length};
-ghost use Rattle.arrayvec.specs.ArrayVec.{array_vec_len};
 ghost use Rattle.cave_world.specs.Lists.{halves_at};
 ghost use Rattle.cave_world.specs.Objects.{anchor_of};
 ghost use Rattle.cave_world.specs.Spots.{place_of_anchor, is_place};
@@ -7,10 +6,10 @@ ghost use Rattle.cave_things.specs.Things.{cave_of};
 ghost use Rattle.cave_moves.specs.Objects.{is_unseen, is_kept_back, first_prop, one_less_unseen};
 ghost use Rattle.cave_moves.specs.Objects.{shortened, found, found_if_unseen, told_prop};
 ghost use Rattle.cave_moves.specs.Objects.{object_told, objects_told};
-ghost use Rattle.cave_moves.specs.Plays.{scene_of, GoesOn};
+ghost use Rattle.cave_things.specs.Bounds.{HasRoom, SaysUpTo};
+ghost use Rattle.cave_things.specs.Plays.{scene_of, GoesOn};
 
-use crate::play::Play;
-use cave_things::Rules;
+use cave_things::{Play, Rules};
 use cave_words::Named;
 use cave_world::{Charge, Half, Object, Part, Prop, State};
 
@@ -102,11 +101,11 @@ fn is_second_here(state: &State, object: Object) -> bool
 /// An object is told, and is found if it wasn't seen before.
 #[tactic(auto, unfolding(crate::specs::Objects::object_told))]
 fn tell_object(rules: &Rules<'_>, object: Object, play: &mut Play<'_>)
-    requires { array_vec_len play.old.out.now < 512 }
+    requires { HasRoom 1 play.old }
     ensures play { scene_of play.new
         ≡ object_told (cave_of rules.now) object (scene_of play.old) }
     ensures same { GoesOn play.old play.new }
-    ensures few { array_vec_len play.new.out.now ≤ array_vec_len play.old.out.now + 1 }
+    ensures few { SaysUpTo 1 play.old play.new }
 {
     if is_kept_back(rules, play.state, object) {
         return;
@@ -117,12 +116,11 @@ fn tell_object(rules: &Rules<'_>, object: Object, play: &mut Play<'_>)
 }
 
 fn tell_all(rules: &Rules<'_>, halves: &[Half], play: &mut Play<'_>)
-    requires { array_vec_len play.old.out.now + length halves.now ≤ 512 }
+    requires { HasRoom (length halves.now) play.old }
     ensures play { scene_of play.new
         ≡ objects_told (cave_of rules.now) halves.now (scene_of play.old) }
     ensures same { GoesOn play.old play.new }
-    ensures few { array_vec_len play.new.out.now
-        ≤ array_vec_len play.old.out.now + length halves.now }
+    ensures few { SaysUpTo (length halves.now) play.old play.new }
 {
     for half in halves {
         tell_object(rules, half.object(), play);
@@ -131,12 +129,12 @@ fn tell_all(rules: &Rules<'_>, halves: &[Half], play: &mut Play<'_>)
 
 /// The objects where the player stands are told, latest first.
 pub fn tell_objects(rules: &Rules<'_>, play: &mut Play<'_>)
-    requires { array_vec_len play.old.out.now + 200 ≤ 512 }
+    requires { HasRoom 200 play.old }
     ensures play { let state = play.old.state.now in
         let halves = halves_at state.trail.here state.objects.lists in
         scene_of play.new ≡ objects_told (cave_of rules.now) halves (scene_of play.old) }
     ensures same { GoesOn play.old play.new }
-    ensures few { array_vec_len play.new.out.now ≤ array_vec_len play.old.out.now + 200 }
+    ensures few { SaysUpTo 200 play.old play.new }
 {
     let here = play.state.trail.here;
     let halves = play.state.objects_at(here);

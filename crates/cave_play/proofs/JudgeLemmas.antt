@@ -1,5 +1,5 @@
 -- The fault that the inputs of a run decide.
-use Rattle.std.proofs.Common.{◌≡◌, ℕ, ◌<◌, ◌≤◌, Bool, true, false, List, length, None, Some, Ok, Err, MatchOption, nat_lt, inl, inr, option_map, subst, sym, ap, ◌∙◌, refl, lt-ltb, le-ltb}
+use Rattle.std.proofs.Common.{◌≡◌, ℕ, ◌<◌, ◌≤◌, Bool, true, false, List, length, None, Some, Ok, Err, MatchOption, MatchResult, nat_lt, inl, inr, option_map, subst, sym, ap, ◌∙◌, refl, lt-ltb, le-ltb}
 use Rattle.std.specs.Prelude.{◌⊎◌, ◌||◌, ◌==◌, if◌then◌else◌, Result, IfErr}
 use Rattle.std.specs.declared.option.Option.{Option}
 use Rattle.std.specs.Str.Lines.{lines}
@@ -35,6 +35,12 @@ IsDecided-first first later found (inr is) = inr (ap (λ f. or_else f later) is)
 pub IsDecided-later : (first later : Option PlayFault) (found : PlayFault) → first ≡ None → IsDecided later found → IsDecided (or_else first later) found
 IsDecided-later first later found none (inl outside) = inl outside
 IsDecided-later first later found none (inr is) = inr (ap (λ f. or_else f later) none ∙ is)
+
+-- where no fault is decided and memory alone was refused, what was made is right
+pub Judges-made : {X : Type 0} (decided : Option PlayFault) (IsMade IsRight : X → Type 0) (r : Result X PlayFault) → decided ≡ None
+    → ((made : X) → IsMade made → IsRight made) → MatchResult r IsMade (λ found. found ≡ fault.Memory) → Judges decided IsRight r
+Judges-made decided IsMade IsRight (Ok made) none right is = (none, right made is)
+Judges-made decided IsMade IsRight (Err found) none right is = rw is (inl tt)
 
 -- ---- a database and its bindings
 

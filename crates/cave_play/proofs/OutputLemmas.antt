@@ -6,7 +6,7 @@ use Rattle.cave_replay.specs.Play.{game_of}
 use Rattle.cave_script.proofs.Grammar.{script_of-only}
 use Rattle.cave_script.specs.Item.{Applied}
 use Rattle.cave_script.specs.Script.{IsScript}
-use Rattle.cave_play.specs.Output.{play_text, edit_text, IsChecked, IsPlayed, IsEdited}
+use Rattle.cave_play.specs.Output.{check_text, play_text, edit_text, IsChecked, IsPlayed, IsEdited}
 use Rattle.cave_play.specs.Run.{AtMostOne}
 
 pub checked_alone : (database bindings : List ℕ) → AtMostOne (IsChecked database bindings)
@@ -14,7 +14,7 @@ checked_alone database bindings =
     λ one other first second.
     let (cave, reads, is) = first in
     let (kept, rereads, same) = second in
-    is ∙ sym same
+    is ∙ ap check_text (same_cave database bindings kept cave rereads reads) ∙ sym same
 
 pub played_alone : (database bindings log : List ℕ) (seed : ℕ) → AtMostOne (IsPlayed database bindings log seed)
 played_alone database bindings log seed =

@@ -12,6 +12,7 @@ use Rattle.cave_replay.specs.Opening.{first_bad_line}
 use Rattle.cave_replay.specs.declared.fault.TheConstants.{GREATEST_SEED, MOST_EVERY, MOST_LINES}
 use Rattle.cave_world.specs.declared.part.Part.{Part}
 use Rattle.cave_world.specs.declared.state.State.{State}
+use Rattle.cave_score.specs.Score.{score_of, max_score_of}
 use Rattle.cave_script.specs.Item.{Applied}
 use Rattle.cave_script.specs.Script.{script_of}
 use Rattle.cave_script.specs.declared.fault.ScriptFault.{ScriptFault}
@@ -30,11 +31,11 @@ use Rattle.cave_play.specs.declared.fault.PlayFault.TheVariants as fault
 -- what is told of a play of the game is what playing the game prints
 pub transcript-played : (cave kept : CaveView) (game : Game) (opening : List Part) (pieces : List (List Part)) (ticks : List Bool) (state : State)
     → kept ≡ cave → IsPlay (cave_rules kept) game opening pieces ticks state
-    → transcript (rendered cave) opening game.log pieces ticks ≡ play_text cave game
+    → transcript (rendered cave) opening game.log pieces ticks (score_of cave state) (max_score_of cave) ≡ play_text cave game
 unfolding play_text
 transcript-played cave kept game opening pieces ticks state same played =
     let here = subst (λ k. IsPlay (cave_rules k) game opening pieces ticks state) same played in
-    rw (here.opening_is, here.pieces_are, here.ticks_are) refl
+    rw (here.opening_is, here.pieces_are, here.ticks_are, here.state_is) refl
 
 -- no bytes decide that the output can't be written
 unwritten_by_inputs : (refused : Option CaveError) → option_map (λ error. fault.Cave error) refused ≡ Some fault.Write → ⊥

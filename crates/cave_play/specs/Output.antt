@@ -6,10 +6,11 @@ use Rattle.cave_data.specs.CaveView.{CaveView}
 use Rattle.cave_data.specs.Reading.{Reads}
 use Rattle.cave_replay.specs.Change.{Change, apply_all}
 use Rattle.cave_replay.specs.Faults.{group_fault}
-use Rattle.cave_replay.specs.Play.{Game, game_of, texts_of, ticks_of}
+use Rattle.cave_replay.specs.Play.{Game, game_of, texts_of, ticks_of, state_after}
 use Rattle.cave_replay.specs.declared.fault.EditFault.{EditFault}
 use Rattle.cave_replay.specs.declared.fault.EditFault.TheVariants.{NoSuchPlace, BadLine, LogFull, BadSeed, MeterFull, Memory, EmptyGroup}
 use Rattle.cave_replay.specs.declared.fault.GroupFault.{GroupFault}
+use Rattle.cave_score.specs.Score.{score_of, max_score_of}
 use Rattle.cave_script.specs.Item.{Applied, line_of}
 use Rattle.cave_script.specs.Script.{IsScript}
 use Rattle.cave_play.specs.CaveRules.{cave_rules, rendered}
@@ -20,12 +21,16 @@ use Rattle.cave_play.specs.declared.fault.PlayFault.{PlayFault}
 
 -- ---- what is checked
 
-abbrev pub check_text : List ℕ
-check_text = codes "cave ok\n"
+-- that the database is a cave, and the greatest score that it has
+abbrev pub cave_line : ℕ → List ℕ
+cave_line most = codes "cave ok, maximum " ++ (decimal most ++ codes "\n")
+
+abbrev pub check_text : CaveView → List ℕ
+check_text cave = cave_line (max_score_of cave)
 
 -- the output of a check of a database that is a cave
 abbrev pub IsChecked : List ℕ → List ℕ → List ℕ → Type 0
-IsChecked database bindings output = (cave : CaveView) × Reads database bindings cave × (output ≡ check_text)
+IsChecked database bindings output = (cave : CaveView) × Reads database bindings cave × (output ≡ check_text cave)
 
 -- ---- what is played
 
@@ -35,6 +40,7 @@ play_text cave game =
     let rules = cave_rules cave in
     let begun = rules.begun game.seed in
     transcript (rendered cave) (rules.greeting game.seed) game.log (texts_of rules begun game.log) (ticks_of rules begun game.log)
+    (score_of cave (state_after rules begun game.log)) (max_score_of cave)
 
 -- the output is what playing the log in the cave of the database and its bindings prints
 abbrev pub IsPlayed : List ℕ → List ℕ → List ℕ → ℕ → List ℕ → Type 0

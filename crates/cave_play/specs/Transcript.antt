@@ -17,9 +17,10 @@ is_shown Blank = false
 is_shown (Seed seed) = true
 is_shown Input = true
 
--- the last line of a transcript
-abbrev pub closing : ℕ → List ℕ
-closing turns = codes "-- turns " ++ (decimal turns ++ codes "\n")
+-- the last line of a transcript: the score, the greatest score of the cave, and the turns
+abbrev pub closing : ℕ → ℕ → ℕ → List ℕ
+closing score most turns =
+    codes "-- score " ++ (decimal score ++ (codes " of " ++ (decimal most ++ (codes ", turns " ++ (decimal turns ++ codes "\n")))))
 
 -- how many of the first so many lines ticked
 abbrev pub ticks : List Bool → ℕ → ℕ
@@ -34,7 +35,8 @@ module _ {Piece : Type 0} (show : Piece → ℕ → List ℕ) where
   abbrev pub told : List Bool → ℕ × (List ℕ × Piece) → List ℕ
   told ticked (place, (line, piece)) = told_at line piece (ticks ticked (place + 1))
 
-  -- the opening, then each line with what was said at it, and then how many turns were taken
-  abbrev pub transcript : Piece → List (List ℕ) → List Piece → List Bool → List ℕ
-  transcript opening log pieces ticked =
-      show opening 0 ++ (flat_map (told ticked) (enumerate_from 0 (zip log pieces)) ++ closing (ticks ticked (length log)))
+  -- the opening, then each line with what was said at it, and then the score and how many turns were taken
+  abbrev pub transcript : Piece → List (List ℕ) → List Piece → List Bool → ℕ → ℕ → List ℕ
+  transcript opening log pieces ticked score most =
+      show opening 0
+      ++ (flat_map (told ticked) (enumerate_from 0 (zip log pieces)) ++ closing score most (ticks ticked (length log)))

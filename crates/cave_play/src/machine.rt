@@ -3,11 +3,12 @@
 ghost use Rattle.std.specs.Prelude.{◌≡◌, IfOk};
 ghost use Rattle.cave_words.specs.Lexicon.{IsLexiconOf};
 ghost use Rattle.cave_world.specs.Equality.{state_equality};
+ghost use Rattle.cave_score.specs.Score.{score_of, max_score_of};
 ghost use Rattle.cave_play.specs.CaveRules.{cave_rules};
 
 use cave_data::Cave;
 use cave_replay::{Machine, Started, Stepped};
-use cave_turn::{start, turn};
+use cave_turn::{max_score, score, start, turn};
 use cave_words::{Lexicon, Meter};
 use cave_world::{Out, Part, State};
 use std::alloc::{AllocError, Global};
@@ -34,6 +35,20 @@ impl<'a> CaveMachine<'a> {
         ensures { result.now ≡ self.entry.cave.now }
     {
         self.cave
+    }
+
+    /// The score of a state.
+    pub fn score(self, state: &State) -> u32
+        ensures { result ≡ score_of self.entry.cave.now state.now }
+    {
+        score(self.cave, self.lexicon, state)
+    }
+
+    /// The greatest score that the cave has.
+    pub fn max_score(self) -> u32
+        ensures { result ≡ max_score_of self.entry.cave.now }
+    {
+        max_score(self.cave, self.lexicon)
     }
 }
 

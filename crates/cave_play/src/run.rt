@@ -8,7 +8,7 @@ ghost use Rattle.cave_data.specs.Reading.{Reads};
 ghost use Rattle.cave_replay.specs.Play.{game_of};
 ghost use Rattle.cave_play.specs.Input.{Says};
 ghost use Rattle.cave_play.specs.Judged.{seed_fault, every_fault, inputs_fault, log_fault, script_fault};
-ghost use Rattle.cave_play.specs.Output.{play_text, play_fault, edit_fault, IsChecked, IsPlayed, IsEditOf, IsEdited};
+ghost use Rattle.cave_play.specs.Output.{check_text, play_text, play_fault, edit_fault, IsChecked, IsPlayed, IsEditOf, IsEdited};
 ghost use Rattle.cave_play.specs.Run.{or_else, AtMostOne, Judges, Runs};
 
 use crate::edits::apply;
@@ -16,9 +16,10 @@ use crate::fault::PlayFault;
 use crate::judge::{check_every, check_seed, read_cave, read_log, read_script};
 use crate::machine::CaveMachine;
 use crate::output::write_output;
-use crate::transcript::tell;
+use crate::transcript::{push_maximum, tell};
 use cave_data::Cave;
 use cave_replay::Session;
+use cave_turn::max_score;
 use cave_words::Lexicon;
 use std::alloc::Global;
 use std::io::{Read, Write};
@@ -39,8 +40,8 @@ pub fn run_check<C: Read, B: Read, W: Write>(
         (W.contents output.old) (W.contents output.new) result }
     ensures alone { (database : List ℕ) → (bindings : List ℕ) → AtMostOne (IsChecked database bindings) }
 {
-    check(alloc, cave, bind)?;
-    write(output, b"cave ok\n")
+    let text = check_inputs(alloc, cave, bind)?;
+    write(output, &text)
 }
 
 /// Plays a log and writes the transcript, once it is whole.
@@ -102,14 +103,31 @@ fn write<W: Write>(output: &mut W, text: &[u8]) -> Result<(), PlayFault>
     }
 }
 
-/// Reads a cave to see whether it is one.
-fn check<C: Read, B: Read>(alloc: Global, cave: &mut C, bind: &mut B) -> Result<(), PlayFault>
+/// What is said of a cave, from readers of the inputs.
+fn check_inputs<C: Read, B: Read>(
+    alloc: Global,
+    cave: &mut C,
+    bind: &mut B,
+) -> Result<Vec<u8>, PlayFault>
     ensures judged { (database : List ℕ) × (bindings : List ℕ)
         × Says (C.remaining cave.old) database × Says (B.remaining bind.old) bindings
-        × Judges (inputs_fault database bindings) (λ _. (cave : CaveView) × Reads database bindings cave) result }
+        × Judges (inputs_fault database bindings)
+        (λ text. IsChecked database bindings text.items) result }
 {
-    let _cave = read_cave(alloc, cave, bind)?;
-    Ok(())
+    let cave = read_cave(alloc, cave, bind)?;
+    check_cave(alloc, &cave)
+}
+
+/// What is said of a cave.
+fn check_cave(alloc: Global, cave: &Cave) -> Result<Vec<u8>, PlayFault>
+    ensures told { MatchResult result (λ text. text.items ≡ check_text cave.now)
+        (λ fault. fault ≡ PlayFault.Memory) }
+{
+    let lexicon = Lexicon::build(alloc, cave)?;
+    let most = max_score(cave, &lexicon);
+    let mut text = Vec::new(alloc);
+    push_maximum(alloc, &mut text, most)?;
+    Ok(text)
 }
 
 /// The transcript of a log, from readers of the inputs.

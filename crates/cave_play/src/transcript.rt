@@ -4,7 +4,7 @@ ghost use Rattle.std.specs.Prelude.{◌≡◌, ◌++◌, OnOk};
 ghost use Rattle.cave_words.specs.LogLine.{log_line};
 ghost use Rattle.cave_play.specs.CaveRules.{rendered};
 ghost use Rattle.cave_play.specs.Transcript.{echo, is_shown, closing, told_at};
-ghost use Rattle.cave_play.specs.Output.{play_text};
+ghost use Rattle.cave_play.specs.Output.{cave_line, play_text};
 
 use crate::machine::CaveMachine;
 use cave_data::Cave;
@@ -34,11 +34,25 @@ fn push_echo(text: &mut Vec<u8>, line: &[u8]) -> Result<(), AllocError>
     text.extend_from_slice(b"\n")
 }
 
-/// Appends the line that tells how many turns were taken.
-fn push_closing(alloc: Global, text: &mut Vec<u8>, turns: u32) -> Result<(), AllocError>
-    ensures { OnOk result (text.new.items ≡ text.old.items ++ closing turns) }
+/// Appends the line that says that a database is a cave.
+pub(crate) fn push_maximum(alloc: Global, text: &mut Vec<u8>, most: u32) -> Result<(), AllocError>
+    ensures { OnOk result (text.new.items ≡ text.old.items ++ cave_line most) }
 {
-    let line = format!(in alloc; "-- turns {turns}\n")?;
+    let line = format!(in alloc; "cave ok, maximum {most}\n")?;
+    text.extend_from_slice(line.as_bytes())
+}
+
+/// Appends the line that tells the score, of the greatest one, and how many turns were taken.
+fn push_closing(
+    alloc: Global,
+    text: &mut Vec<u8>,
+    score: u32,
+    most: u32,
+    turns: u32,
+) -> Result<(), AllocError>
+    ensures { OnOk result (text.new.items ≡ text.old.items ++ closing score most turns) }
+{
+    let line = format!(in alloc; "-- score {score} of {most}, turns {turns}\n")?;
     text.extend_from_slice(line.as_bytes())
 }
 
@@ -77,5 +91,6 @@ pub(crate) fn tell(
         let line = session.line(place as u32);
         push_line(cave, text, line, &pieces[place], turns)?;
     }
-    push_closing(alloc, text, session.ticks(lines))
+    let score = machine.score(session.state());
+    push_closing(alloc, text, score, machine.max_score(), session.ticks(lines))
 }

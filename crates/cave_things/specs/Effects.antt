@@ -22,12 +22,14 @@ vessel cave s x = if is_liquid x (liquid_of cave s) then thing cave name.Bottle 
 -- the cage is put down with the bird in it
 abbrev pub with_bird_in_cage : CaveView → ℕ → State → State
 with_bird_in_cage cave x s =
-    if is_called cave x name.Cage && has_other_prop s (thing cave name.Bird) (pos 0) then with_objects (moved s.objects (thing cave name.Bird) s.trail.here) s
+    if is_called cave x name.Cage && has_other_prop s (thing cave name.Bird) (pos 0)
+    then with_objects (moved s.objects (thing cave name.Bird) s.trail.here) s
     else s
 
 -- the bird that is put down is free
 abbrev pub with_free_bird : CaveView → ℕ → State → State
-with_free_bird cave x s = if is_called cave x name.Bird then with_objects (with_prop s.objects x (pos 0)) s else s
+with_free_bird cave x s =
+    if is_called cave x name.Bird then with_objects (with_prop s.objects x (pos 0)) s else s
 
 abbrev pub put_here : ℕ → State → State
 put_here x s = with_objects (moved s.objects x s.trail.here) s
@@ -51,7 +53,9 @@ without_troll cave s =
 
 -- one treasure more is lost
 abbrev pub one_more_lost : State → State
-one_more_lost s = let tallies = s.tallies in record s { tallies = record tallies { lost = min (tallies.lost + 1) 60000 } }
+one_more_lost s =
+    let tallies = s.tallies in
+    record s { tallies = record tallies { lost = min (tallies.lost + 1) 60000 } }
 
 -- one treasure more is lost while the snake is at home
 unfoldable pub lost_to_snake : CaveView → State → State

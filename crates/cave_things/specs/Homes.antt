@@ -1,5 +1,6 @@
 -- Where objects are at home: where they stand as a game begins.
-use Rattle.std.specs.Prelude.{ℕ, ℤ, pos, negsuc, zero, suc, Bool, false, ◌==◌, ◌&&◌, not, Option, Some, None}
+use Rattle.std.specs.Prelude.{ℕ, ℤ, pos, negsuc, zero, suc, Bool, false, ◌==◌, ◌&&◌, not, Option}
+use Rattle.std.specs.Prelude.{Some, None}
 use Rattle.cave_data.specs.CaveView.{CaveView, placement_of}
 use Rattle.cave_world.specs.Objects.{spot_of}
 use Rattle.cave_world.specs.Spots.{is_place}
@@ -22,6 +23,14 @@ anchor_by (negsuc n) = anchor.Fixed
 abbrev pub hold_of : CaveView → ℕ → Anchor
 hold_of cave x = anchor_by (placement_of cave x).second
 
+-- the place of a second half; 0 where the number is no place
+abbrev pub as_place : ℤ → ℕ
+as_place (pos n) = n
+as_place (negsuc n) = 0
+
+abbrev pub second_home : CaveView → ℕ → ℕ
+second_home cave x = as_place (placement_of cave x).second
+
 -- the place of a first half, where 0 is nowhere; what is carried is at no place
 abbrev pub place_or_nowhere : Spot → Option ℕ
 place_or_nowhere spot.Away = Some 0
@@ -30,7 +39,8 @@ place_or_nowhere (spot.At place) = Some place
 
 -- the first half of an object is at home, which may be nowhere
 unfoldable pub is_at_home : CaveView → State → ℕ → Bool
-is_at_home cave s x = not (x == 0) && is_place (home cave x) (place_or_nowhere (spot_of s.objects x))
+is_at_home cave s x =
+    not (x == 0) && is_place (home cave x) (place_or_nowhere (spot_of s.objects x))
 
 -- the player stands where the object is at home
 unfoldable pub is_home_here : CaveView → State → ℕ → Bool

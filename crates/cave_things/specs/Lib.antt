@@ -1,3 +1,4 @@
+pub mod Bounds
 pub mod Conditions
 pub mod Effects
 pub mod Homes
@@ -5,6 +6,8 @@ pub mod Liquids
 pub mod Numbers
 pub mod Panic
 pub mod Places
+pub mod Plays
 pub mod Reach
 pub mod SpecialWords
 pub mod Things
+pub mod Treasures

@@ -6,5 +6,6 @@ use Rattle.cave_world.specs.declared.state.State.{State}
 abbrev pub panicking : State → State
 panicking s =
     let closing = s.closing in
-    if closing.is_panicking || closing.is_closed then record s { closing = record closing { is_panicking = true } }
+    if closing.is_panicking || closing.is_closed
+    then record s { closing = record closing { is_panicking = true } }
     else record s { closing = record closing { second_clock = pos 15; is_panicking = true } }

@@ -1,5 +1,7 @@
--- What the player can get at, and what rules ask of objects. Of an object that isn't there each test is false.
-use Rattle.std.specs.Prelude.{ℕ, ℤ, Bool, true, false, ◌==◌, ◌&&◌, ◌||◌, not, nat_le, int_le, if◌then◌else◌, take, List}
+-- What the player can get at, and what rules ask of objects. Of an object that isn't there each
+-- test is false.
+use Rattle.std.specs.Prelude.{ℕ, ℤ, Bool, true, false, ◌==◌, ◌&&◌, ◌||◌, not, nat_le, int_le}
+use Rattle.std.specs.Prelude.{if◌then◌else◌, take, List}
 use Rattle.std.specs.Ordering.{int_eq}
 use Rattle.std.specs.List.{list_any}
 use Rattle.cave_data.specs.CaveView.{CaveView}
@@ -24,7 +26,8 @@ is_one_of cave x names = list_any (is_called cave x) names
 -- an object is carried: a liquid where the bottle is carried and has it
 unfoldable pub is_toted : CaveView → State → ℕ → Bool
 is_toted cave s x =
-    if is_called cave x name.Water || is_called cave x name.Oil then is_carried s.objects (thing cave name.Bottle) && is_liquid x (liquid_of cave s)
+    if is_called cave x name.Water || is_called cave x name.Oil
+    then is_carried s.objects (thing cave name.Bottle) && is_liquid x (liquid_of cave s)
     else is_carried s.objects x
 
 -- an object is carried, or its first half stands where the player stands
@@ -50,7 +53,8 @@ is_dwarf_at place dwarf = dwarf.place == place
 
 -- one of the five dwarves, once they are angry, stands where the player stands
 unfoldable pub is_dwarf_here : State → Bool
-is_dwarf_here s = nat_le 2 s.dwarves.anger && list_any (is_dwarf_at s.trail.here) (take 5 s.dwarves.each)
+is_dwarf_here s =
+    nat_le 2 s.dwarves.anger && list_any (is_dwarf_at s.trail.here) (take 5 s.dwarves.each)
 
 abbrev pub is_held : Anchor → Bool
 is_held anchor.Loose = false

@@ -1,6 +1,7 @@
 ghost use Rattle.std.specs.Prelude.{◌≡◌};
 ghost use Rattle.cave_things.specs.Things.{cave_of};
-ghost use Rattle.cave_things.specs.Effects.{vessel, with_bird_in_cage, with_free_bird, put_down, let_go, without_troll, one_more_lost, lost_to_snake};
+ghost use Rattle.cave_things.specs.Effects.{vessel, with_bird_in_cage, with_free_bird, put_down};
+ghost use Rattle.cave_things.specs.Effects.{let_go, without_troll, one_more_lost, lost_to_snake};
 
 use crate::liquids::is_liquid;
 use crate::reach::has_other_prop;
@@ -36,7 +37,8 @@ fn free_bird(rules: &Rules<'_>, object: Object, state: &mut State)
     }
 }
 
-/// An object is put down where the player stands: a liquid in its bottle, the cage with the bird in it.
+/// An object is put down where the player stands: a liquid in its bottle, the cage with the bird in
+/// it.
 #[tactic(auto, unfolding(crate::specs::Effects::put_down))]
 pub fn put_down(rules: &Rules<'_>, object: Object, state: &mut State)
     ensures { state.new ≡ put_down (cave_of rules.now) object state.old }

@@ -1,6 +1,7 @@
 ghost use Rattle.std.specs.Prelude.{◌≡◌, ◌≤ℤ◌, pos};
 ghost use Rattle.cave_things.specs.Things.{cave_of};
-ghost use Rattle.cave_things.specs.Homes.{home, anchor_by, hold_of, is_at_home, is_home_here, is_home_elsewhere};
+ghost use Rattle.cave_things.specs.Homes.{home, anchor_by, hold_of, second_home, is_at_home};
+ghost use Rattle.cave_things.specs.Homes.{is_home_here, is_home_elsewhere};
 
 use crate::rules::Rules;
 use cave_world::{Anchor, Object, Place, Spot, State};
@@ -32,6 +33,17 @@ impl Rules<'_> {
     {
         let (_, second) = self.cave.placement(u16::from(object.number()));
         anchor_by(second)
+    }
+
+    /// Where the second half of an object stands as a game begins; place 0 where it has none.
+    pub fn second_home(&self, object: Object) -> Place
+        ensures { result ≡ second_home (cave_of self.now) object }
+    {
+        let (_, second) = self.cave.placement(u16::from(object.number()));
+        if second < 0 {
+            return Place::new(0);
+        }
+        Place::new(second as u16)
     }
 
     /// Whether the first half of an object is at home, which may be nowhere.

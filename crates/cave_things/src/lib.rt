@@ -1,4 +1,5 @@
-//! What rules name and ask: objects and places, conditions, liquids, reach, and what is done to objects.
+//! What rules name and ask: objects and places, conditions, liquids, reach, and what is done to
+//! objects.
 #![tactic(auto)]
 
 pub mod conditions;
@@ -8,8 +9,10 @@ pub mod liquids;
 pub mod numbers;
 pub mod panic;
 pub mod places;
+pub mod play;
 pub mod reach;
 pub mod rules;
+pub mod treasures;
 pub mod words;
 
 pub use conditions::Condition;
@@ -19,5 +22,7 @@ pub use numbers::or_no_object;
 pub use places::{
     building_place, deep_place, is_that, outside_place, place_named, place_or, start_place,
 };
+pub use play::Play;
 pub use reach::{has_other_prop, has_prop, has_prop_up_to, is_dwarf_here, is_fixed, is_treasure};
 pub use rules::Rules;
+pub use treasures::is_known;

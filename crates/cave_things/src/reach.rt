@@ -1,8 +1,10 @@
 ghost use Rattle.std.specs.Prelude.{◌≡◌, take};
 ghost use Rattle.std.specs.List.{list_any};
 ghost use Rattle.cave_things.specs.Things.{cave_of};
-ghost use Rattle.cave_things.specs.Reach.{is_called, is_one_of, is_toted, is_near, is_fixed, is_treasure};
-ghost use Rattle.cave_things.specs.Reach.{has_prop, has_other_prop, has_prop_up_to, is_dwarf_at, is_dwarf_here};
+ghost use Rattle.cave_things.specs.Reach.{is_called, is_one_of, is_toted, is_near, is_fixed};
+ghost use Rattle.cave_things.specs.Reach.{is_treasure};
+ghost use Rattle.cave_things.specs.Reach.{has_prop, has_other_prop, has_prop_up_to, is_dwarf_at};
+ghost use Rattle.cave_things.specs.Reach.{is_dwarf_here};
 
 use crate::liquids::is_liquid;
 use crate::rules::Rules;

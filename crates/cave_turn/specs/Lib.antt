@@ -1,6 +1,7 @@
 pub mod ObjectWords
 pub mod Reading
-pub mod Questions
+pub mod Finish
+pub mod Revival
 pub mod Commands
 pub mod Dragon
 pub mod Answers

@@ -1,5 +1,6 @@
 -- What a word says that names an object.
-use Rattle.std.specs.Prelude.{ℕ, pos, Bool, false, ◌==◌, ◌&&◌, ◌||◌, nat_le, if◌then◌else◌, List, [], ◌∷◌, Option, Some, None}
+use Rattle.std.specs.Prelude.{ℕ, pos, Bool, false, ◌==◌, ◌&&◌, ◌||◌, nat_le, if◌then◌else◌, List}
+use Rattle.std.specs.Prelude.{[], ◌∷◌, Option, Some, None}
 use Rattle.cave_data.specs.CaveView.{CaveView}
 use Rattle.cave_things.specs.Liquids.{liquid_of, lake_of, is_liquid}
 use Rattle.cave_things.specs.Reach.{is_called, is_toted, is_near, has_other_prop, is_dwarf_here}
@@ -28,13 +29,15 @@ is_below_grate here = nat_le 10 here && nat_le here 14
 -- what is in a bottle at hand, or what the lake is of
 unfoldable pub is_liquid_here : CaveView → State → ℕ → Bool
 is_liquid_here cave s k =
-    (is_liquid k (liquid_of cave s) && is_near cave s (thing cave name.Bottle)) || is_liquid k (lake_of cave s)
+    (is_liquid k (liquid_of cave s) && is_near cave s (thing cave name.Bottle))
+    || is_liquid k (lake_of cave s)
 
 -- the plant that grew stands for the plant
 unfoldable pub is_grown_plant : CaveView → State → ℕ → Bool
 is_grown_plant cave s k =
     let grown = thing cave name.SecondPlant in
-    is_called cave k name.Plant && stands_at s.objects s.trail.here grown && has_other_prop s grown (pos 0)
+    is_called cave k name.Plant && stands_at s.objects s.trail.here grown
+    && has_other_prop s grown (pos 0)
 
 abbrev pub is_knife_at : ℕ → Knife → Bool
 is_knife_at here knife.Unthrown = false
@@ -51,7 +54,8 @@ abbrev pub first_that_fits : List (Bool × ObjectWord) → ObjectWord
 first_that_fits [] = Unseen
 first_that_fits (c ∷ cases) = if c.0 then c.1 else first_that_fits cases
 
--- what the word of object k says, with the verb that was said before, and alone or with a word after it
+-- what the word of object k says, with the verb that was said before, and alone or with a word
+-- after it
 unfoldable pub object_word : CaveView → State → Option ℕ → Bool → ℕ → ObjectWord
 object_word cave s v is_alone k =
     first_that_fits (
@@ -62,6 +66,7 @@ object_word cave s v is_alone k =
     ∷ (is_liquid_here cave s k, Is k)
     ∷ (is_grown_plant cave s k, Is (thing cave name.SecondPlant))
     ∷ (is_called cave k name.Knife && is_knife_at s.trail.here s.dwarves.knife, Knives)
-    ∷ (is_called cave k name.Rod && is_near cave s (thing cave name.SecondRod), Is (thing cave name.SecondRod))
+    ∷ (is_called cave k name.Rod
+    && is_near cave s (thing cave name.SecondRod), Is (thing cave name.SecondRod))
     ∷ (is_alone && is_sought v, Is k)
     ∷ [])

@@ -1,5 +1,6 @@
 -- What the words of a line say, with what was said before.
-use Rattle.std.specs.Prelude.{ℕ, Bool, true, false, ◌==◌, ◌&&◌, ◌||◌, codes, if◌then◌else◌, List, Option, Some, None}
+use Rattle.std.specs.Prelude.{ℕ, Bool, true, false, ◌==◌, ◌&&◌, ◌||◌, codes, if◌then◌else◌, List}
+use Rattle.std.specs.Prelude.{Option, Some, None}
 use Rattle.cave_data.specs.CaveView.{CaveView}
 use Rattle.cave_data.specs.declared.role.Role.TheVariants as role
 use Rattle.cave_things.specs.Liquids.{lake_of, is_liquid}
@@ -22,7 +23,8 @@ use Rattle.cave_turn.specs.ObjectWords.{object_word}
 use Rattle.cave_turn.specs.declared.object_words.ObjectWord.{ObjectWord}
 use Rattle.cave_turn.specs.declared.object_words.ObjectWord.TheVariants as object
 use Rattle.cave_turn.specs.declared.reading.Half.{Half}
-use Rattle.cave_turn.specs.declared.reading.Reading.TheVariants.{Unknown, Motion, Tell, Knives, Act, WhatToDo}
+use Rattle.cave_turn.specs.declared.reading.Reading.TheVariants.{Unknown, Motion, Tell, Knives, Act}
+use Rattle.cave_turn.specs.declared.reading.Reading.TheVariants.{WhatToDo}
 use Rattle.cave_turn.specs.declared.reading.Said.{Said}
 use Rattle.cave_turn.specs.declared.reading.Understood.{Understood}
 use Rattle.cave_turn.specs.declared.reading.Reading.{Reading}
@@ -60,7 +62,8 @@ action_alone v half word =
 
 abbrev pub alone_by : CaveView → State → Half → List ℕ → Class → ℕ → Understood
 alone_by cave s half word class.Motion n = understood half (Motion n)
-alone_by cave s half word class.Object n = object_alone (object_word cave s half.verb true (or_no_object (Some n))) half word
+alone_by cave s half word class.Object n =
+    object_alone (object_word cave s half.verb true (or_no_object (Some n))) half word
 alone_by cave s half word class.Action n = action_alone n half word
 alone_by cave s half word class.Special n = understood half (Tell (part.Message n))
 
@@ -85,13 +88,15 @@ is_magic (Some m) = is_magic_by m.class m.number
 
 unfoldable pub aloud : CaveView → State → Half → Said → Understood
 aloud cave s half w =
-    if is_magic w.meaning then alone cave s half w else understood half (Tell (part.Word line.Okay w.word))
+    if is_magic w.meaning then alone cave s half w
+    else understood half (Tell (part.Word line.Okay w.word))
 
 abbrev pub object_before : CaveView → State → ObjectWord → Half → List ℕ → Said → Understood
 object_before cave s (object.Is x) half word next = alone cave s (with_object x half) next
 object_before cave s (object.Leads motion) half word next = understood half (Motion motion)
 object_before cave s object.Knives half word next = understood half Knives
-object_before cave s object.Unseen half word next = understood half (Tell (part.Word line.NotSeen word))
+object_before cave s object.Unseen half word next =
+    understood half (Tell (part.Word line.NotSeen word))
 
 abbrev pub action_before : CaveView → State → ℕ → Half → Said → Understood
 action_before cave s v half next =
@@ -115,20 +120,23 @@ before cave s half w next = before_as cave s half w.word w.meaning next
 -- a player who enters a stream gets wet feet if there is water
 abbrev pub wet_or_lost : CaveView → State → Half → Understood
 wet_or_lost cave s half =
-    if is_liquid (thing cave name.Water) (lake_of cave s) then understood half (Tell (part.Role role.FeetWet))
+    if is_liquid (thing cave name.Water) (lake_of cave s)
+    then understood half (Tell (part.Role role.FeetWet))
     else understood half (Tell (part.Role role.Where))
 
 -- entering anything else is that word alone
 unfoldable pub entering_into : CaveView → State → Half → List ℕ → Understood
 entering_into cave s half word =
-    if is_written (codes "STREA") word || is_written (codes "WATER") word then wet_or_lost cave s half
+    if is_written (codes "STREA") word || is_written (codes "WATER") word
+    then wet_or_lost cave s half
     else alone cave s half (said_in cave word)
 
 -- water or oil is poured over a plant or a door that stands here
 unfoldable pub is_pouring : CaveView → State → List ℕ → List ℕ → Bool
 is_pouring cave s word next =
     (is_written (codes "WATER") word || is_written (codes "OIL") word)
-    && ((is_written (codes "PLANT") next && stands_at s.objects s.trail.here (thing cave name.Plant))
+    && ((is_written (codes "PLANT") next
+    && stands_at s.objects s.trail.here (thing cave name.Plant))
     || (is_written (codes "DOOR") next && stands_at s.objects s.trail.here (thing cave name.Door)))
 
 -- POUR, whatever the cave's words say
@@ -149,9 +157,11 @@ is_saying (Some v) = v == verb.SAY
 -- after SAY alone a word is said, and of two words SAY is forgotten
 abbrev pub read_words : CaveView → State → Half → List ℕ → Option (List ℕ) → Understood
 read_words cave s half word None =
-    if is_saying half.verb then aloud cave s half (said_in cave word) else alone cave s half (said_in cave word)
+    if is_saying half.verb then aloud cave s half (said_in cave word)
+    else alone cave s half (said_in cave word)
 read_words cave s half word (Some next) =
-    if is_saying half.verb then two_words cave s (with_verb None half) word next else two_words cave s half word next
+    if is_saying half.verb then two_words cave s (with_verb None half) word next
+    else two_words cave s half word next
 
 -- the half command that the game remembers
 abbrev pub half_of : Talk → Half

@@ -1,5 +1,6 @@
 -- What a line of a log makes of a game.
-use Rattle.std.specs.Prelude.{ℕ, Bool, true, false, if◌then◌else◌, List, [], ◌∷◌, Option, Some, None}
+use Rattle.std.specs.Prelude.{ℕ, Bool, true, false, if◌then◌else◌, List, [], ◌∷◌, Option, Some}
+use Rattle.std.specs.Prelude.{None}
 use Rattle.cave_data.specs.CaveView.{CaveView}
 use Rattle.cave_data.specs.declared.role.Role.TheVariants as role
 use Rattle.cave_words.specs.LogLine.{log_line}
@@ -14,7 +15,7 @@ use Rattle.cave_world.specs.declared.state.State.{State}
 use Rattle.cave_turn.specs.Answers.{answered, answers, closed}
 use Rattle.cave_begin.specs.Begin.{begun_state}
 use Rattle.cave_turn.specs.Commands.{commanded}
-use Rattle.cave_moves.specs.Plays.{Scene}
+use Rattle.cave_things.specs.Plays.{Scene}
 
 -- the state after a line, what the line says, and whether it is a turn of the game
 pub record Turn : Type 0 where
@@ -29,11 +30,13 @@ silent s = record { state = s; parts = []; ticked = false }
 abbrev pub turn_of : Bool → Scene → Turn
 turn_of ticked p = record { state = p.state; parts = p.parts; ticked = ticked }
 
--- a line of input: nothing after the end, an answer where a question is open, and else a command, which is a turn
+-- a line of input: nothing after the end, an answer where a question is open, and else a command,
+-- which is a turn
 abbrev pub played : CaveView → List ℕ → Option Ending → Option Question → State → Turn
 played cave line (Some ending) question s = silent s
 played cave line None (Some question) s =
-    if answers cave line question then turn_of false (answered cave question line s) else turn_of true (commanded cave line (closed s))
+    if answers cave line question then turn_of false (answered cave question line s)
+    else turn_of true (commanded cave line (closed s))
 played cave line None None s = turn_of true (commanded cave line s)
 
 -- the random stream goes on from a seed
@@ -57,4 +60,5 @@ pub record Beginning : Type 0 where
 
 -- a new game asks whether the player wants instructions
 unfoldable pub begun : CaveView → ℕ → Beginning
-begun cave seed = record { state = begun_state cave (seeded seed); parts = part.Role role.Welcome ∷ [] }
+begun cave seed =
+    record { state = begun_state cave (seeded seed); parts = part.Role role.Welcome ∷ [] }

@@ -1,14 +1,21 @@
 ghost use Rattle.std.specs.Prelude.{◌≡◌, ◌+◌, ◌<◌, ◌≤◌, []};
 ghost use Rattle.arrayvec.specs.ArrayVec.{array_vec_len};
-ghost use Rattle.cave_moves.specs.Plays.{scene_of, parts_by_arrival, IsSamePlay, GoesOn};
+ghost use Rattle.cave_things.specs.Bounds.{HasRoom, SaysUpTo, parts_of_arrival, parts_of_end};
+ghost use Rattle.cave_things.specs.Bounds.{parts_of_finish, parts_of_question, parts_of_answer};
+ghost use Rattle.cave_things.specs.Plays.{scene_of, IsSamePlay, GoesOn};
 ghost use Rattle.cave_things.specs.Things.{cave_of};
-ghost use Rattle.cave_turn.specs.Answers.{answer_of, answer_in, instructed, told_of_oyster, entering, quitting, agreed, declined, asked, answered, answers, closed, is_dragon, is_yes};
+ghost use Rattle.cave_turn.specs.Answers.{answer_of, answer_in, instructed, told_of_oyster};
+ghost use Rattle.cave_turn.specs.Answers.{entering, quitting, agreed, declined, asked, is_of_hint};
+ghost use Rattle.cave_turn.specs.Answers.{concluded, answered, answers, closed, is_dragon, is_yes};
 
 use crate::dragon::fight;
-use crate::questions::say_question;
+use crate::finish::finish;
+use crate::revival::{come_back, stay_dead};
 use cave_data::Role;
-use cave_moves::{Play, arrive};
-use cave_things::{Rules, start_place};
+use cave_hints::{give, price};
+use cave_moves::arrive;
+use cave_score::{end, tell_question};
+use cave_things::{Play, Rules, start_place};
 use cave_words::Word;
 use cave_world::{Charge, Ending, Out, Question, State};
 
@@ -74,30 +81,30 @@ pub fn close(state: &mut State)
 /// The game begins at its first place.
 #[tactic(auto, unfolding(crate::specs::Answers::entering))]
 fn enter(rules: &Rules<'_>, play: &mut Play<'_>)
-    requires { parts_by_arrival play.old ≤ 512 }
+    requires { HasRoom (parts_of_arrival play.old.left) play.old }
     ensures play { scene_of play.new ≡ entering (cave_of rules.now) (scene_of play.old) }
     ensures same { IsSamePlay play.old play.new }
-    ensures few { array_vec_len play.new.out.now ≤ parts_by_arrival play.old }
+    ensures few { SaysUpTo (parts_of_arrival play.old.left) play.old play.new }
 {
     arrive(rules, start_place(rules.cave), play);
 }
 
 /// The player quits.
-fn quit(play: &mut Play<'_>)
-    requires { array_vec_len play.old.out.now < 512 }
-    ensures play { scene_of play.new ≡ quitting (scene_of play.old) }
+fn quit(rules: &Rules<'_>, play: &mut Play<'_>)
+    requires { HasRoom (1 + parts_of_end) play.old }
+    ensures play { scene_of play.new ≡ quitting (cave_of rules.now) (scene_of play.old) }
     ensures same { GoesOn play.old play.new }
-    ensures few { array_vec_len play.new.out.now ≤ array_vec_len play.old.out.now + 1 }
+    ensures few { SaysUpTo (1 + parts_of_end) play.old play.new }
 {
     play.say(Role::Ok);
-    play.state.ending = Some(Ending::Quit);
+    end(rules, Ending::Quit, play);
 }
 
 fn agree(rules: &Rules<'_>, question: &Question, play: &mut Play<'_>)
-    requires { parts_by_arrival play.old < 512 }
+    requires { HasRoom (parts_of_arrival play.old.left + 1) play.old }
     ensures play { scene_of play.new ≡ agreed (cave_of rules.now) question.now (scene_of play.old) }
     ensures same { IsSamePlay play.old play.new }
-    ensures few { array_vec_len play.new.out.now ≤ parts_by_arrival play.old + 1 }
+    ensures few { SaysUpTo (parts_of_arrival play.old.left + 1) play.old play.new }
 {
     match question {
         Question::Welcome => {
@@ -105,36 +112,43 @@ fn agree(rules: &Rules<'_>, question: &Question, play: &mut Play<'_>)
             instruct(play.state);
             enter(rules, play)
         }
-        Question::Quit | Question::ScoreQuit => quit(play),
+        Question::Quit | Question::ScoreQuit => quit(rules, play),
+        Question::Die => come_back(rules, play),
+        Question::Hint(number) => price(rules, *number, play),
+        Question::Take(number) => give(rules, *number, play),
         Question::Oyster => {
             play.say(Role::OysterHint);
             tell_of_oyster(play.state);
         }
         Question::Dragon => fight(rules, play),
-        Question::Die | Question::Hint(_) | Question::Take(_) => {}
     }
 }
 
 fn decline(rules: &Rules<'_>, question: &Question, play: &mut Play<'_>)
-    requires { parts_by_arrival play.old < 512 }
+    requires { HasRoom (parts_of_arrival play.old.left + 1) play.old }
     ensures play { scene_of play.new
         ≡ declined (cave_of rules.now) question.now (scene_of play.old) }
     ensures same { IsSamePlay play.old play.new }
-    ensures few { array_vec_len play.new.out.now ≤ parts_by_arrival play.old + 1 }
+    ensures few { SaysUpTo (parts_of_arrival play.old.left + 1) play.old play.new }
 {
     match question {
         Question::Welcome => enter(rules, play),
-        Question::Quit | Question::ScoreQuit | Question::Oyster => play.say(Role::Ok),
-        Question::Dragon | Question::Die | Question::Hint(_) | Question::Take(_) => {}
+        Question::Die => stay_dead(rules, play),
+        Question::Dragon => {}
+        Question::Quit
+        | Question::ScoreQuit
+        | Question::Hint(_)
+        | Question::Take(_)
+        | Question::Oyster => play.say(Role::Ok),
     }
 }
 
 fn take(rules: &Rules<'_>, question: &Question, answer: Answer, play: &mut Play<'_>)
-    requires { parts_by_arrival play.old < 512 }
+    requires { HasRoom (parts_of_arrival play.old.left + 1) play.old }
     ensures play { scene_of play.new
         ≡ asked (cave_of rules.now) question.now answer (scene_of play.old) }
     ensures same { IsSamePlay play.old play.new }
-    ensures few { array_vec_len play.new.out.now ≤ parts_by_arrival play.old + 1 }
+    ensures few { SaysUpTo (parts_of_arrival play.old.left + 1) play.old play.new }
 {
     match answer {
         Answer::Yes => {
@@ -147,8 +161,27 @@ fn take(rules: &Rules<'_>, question: &Question, answer: Answer, play: &mut Play<
         }
         Answer::Neither => {
             play.say(Role::Answer);
-            say_question(question, play)
+            tell_question(rules, question, play)
         }
+    }
+}
+
+fn is_of_hint(question: &Question) -> bool
+    ensures { result ≡ is_of_hint question.now }
+{
+    matches!(question, Question::Hint(_) | Question::Take(_))
+}
+
+/// The turn ends, but for an answer about a hint.
+fn conclude(rules: &Rules<'_>, question: &Question, play: &mut Play<'_>)
+    requires { HasRoom (parts_of_finish + parts_of_question) play.old }
+    ensures play { scene_of play.new
+        ≡ concluded (cave_of rules.now) question.now (scene_of play.old) }
+    ensures same { GoesOn play.old play.new }
+    ensures few { SaysUpTo parts_of_finish play.old play.new }
+{
+    if !is_of_hint(question) {
+        finish(rules, play);
     }
 }
 
@@ -166,11 +199,12 @@ pub fn take_answer(
         ≡ state.new }
     ensures parts { (answered (cave_of rules.now) question.now line.now state.old).parts
         ≡ out.new.items }
-    ensures few { array_vec_len out.new ≤ 307 }
+    ensures few { array_vec_len out.new ≤ parts_of_answer }
 {
     let answer = answer_in(rules, line);
     let mut play = Play::open(state, out, false);
     take(rules, question, answer, &mut play);
+    conclude(rules, question, &mut play);
 }
 
 /// Whether a line answers a question, and isn't a command: who is asked whether to fight the dragon

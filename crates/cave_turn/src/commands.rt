@@ -1,17 +1,25 @@
 ghost use Rattle.std.specs.Prelude.{◌≡◌, ◌+◌, ◌<◌, ◌≤◌, []};
 ghost use Rattle.arrayvec.specs.ArrayVec.{array_vec_len};
-ghost use Rattle.cave_moves.specs.Plays.{scene_of, parts_by_arrival, IsSamePlay, GoesOn};
+ghost use Rattle.cave_things.specs.Bounds.{HasRoom, SaysUpTo, parts_of_journey, parts_of_end};
+ghost use Rattle.cave_things.specs.Bounds.{parts_of_arrival, parts_of_command};
+ghost use Rattle.cave_things.specs.Plays.{scene_of, opening, IsSamePlay, GoesOn};
 ghost use Rattle.cave_things.specs.Things.{cave_of};
-ghost use Rattle.cave_turn.specs.Commands.{with_magic_waiting, knife_here, with_knife, beginning, travelling, puzzlement, puzzled, told_of_knives, following, kept_of, doing, acting, done_as, remembering, settled, carried_out, done_for, commanded};
+ghost use Rattle.cave_turn.specs.Commands.{with_magic_waiting, knife_here, with_knife, beginning};
+ghost use Rattle.cave_turn.specs.Commands.{travelling, puzzlement, puzzled, told_of_knives};
+ghost use Rattle.cave_turn.specs.Commands.{following, kept_of, doing, acting, done_as, remembering};
+ghost use Rattle.cave_turn.specs.Commands.{settled, carried_out, done_for, unread, after_clocks};
+ghost use Rattle.cave_turn.specs.Commands.{timed, commanded};
 
-use crate::questions::ask;
+use crate::finish::finish;
 use crate::reading::{Half, Reading, Understood, read_words};
 use cave_data::Role;
-use cave_moves::{Play, arrive, describe_here, lead_by_motion};
-use cave_things::Rules;
+use cave_clocks::{Clocks, run_clocks};
+use cave_moves::{arrive, describe_here, lead_by_motion};
+use cave_score::{ask, end};
+use cave_things::{Play, Rules};
 use cave_verbs::{Command, Next, act};
 use cave_words::{Named, Word, Words};
-use cave_world::{Knife, Magic, Object, Out, Part, Place, State, WordLine};
+use cave_world::{Ending, Knife, Magic, Object, Out, Part, Place, State, WordLine};
 
 /// The magic words go on from where the last command left them.
 fn wait_for_magic(state: &mut State)
@@ -49,10 +57,10 @@ fn begin(state: &mut State)
 /// The player travels by a motion.
 #[tactic(auto, unfolding(crate::specs::Commands::travelling))]
 fn travel_by(rules: &Rules<'_>, motion: u16, play: &mut Play<'_>)
-    requires { parts_by_arrival play.old < 512 }
+    requires { HasRoom (parts_of_arrival play.old.left + parts_of_journey) play.old }
     ensures play { scene_of play.new ≡ travelling (cave_of rules.now) motion (scene_of play.old) }
     ensures same { IsSamePlay play.old play.new }
-    ensures few { array_vec_len play.new.out.now ≤ parts_by_arrival play.old + 1 }
+    ensures few { SaysUpTo (parts_of_arrival play.old.left + parts_of_journey) play.old play.new }
 {
     let place = lead_by_motion(rules, motion, play);
     arrive(rules, place, play);
@@ -73,10 +81,10 @@ fn puzzlement(first: bool, second: bool) -> Role
 /// The cave doesn't have the word.
 #[tactic(auto, unfolding(crate::specs::Commands::puzzled))]
 fn puzzle(play: &mut Play<'_>)
-    requires { array_vec_len play.old.out.now < 512 }
+    requires { HasRoom 1 play.old }
     ensures play { scene_of play.new ≡ puzzled (scene_of play.old) }
     ensures same { GoesOn play.old play.new }
-    ensures few { array_vec_len play.new.out.now ≤ array_vec_len play.old.out.now + 1 }
+    ensures few { SaysUpTo 1 play.old play.new }
 {
     let first = play.chance(20);
     let second = play.chance(20);
@@ -85,10 +93,10 @@ fn puzzle(play: &mut Play<'_>)
 
 /// The player is told that the knives vanished.
 fn tell_of_knives(play: &mut Play<'_>)
-    requires { array_vec_len play.old.out.now < 512 }
+    requires { HasRoom 1 play.old }
     ensures play { scene_of play.new ≡ told_of_knives (scene_of play.old) }
     ensures same { GoesOn play.old play.new }
-    ensures few { array_vec_len play.new.out.now ≤ array_vec_len play.old.out.now + 1 }
+    ensures few { SaysUpTo 1 play.old play.new }
 {
     play.state.dwarves.knife = Knife::Vanished;
     play.say(Role::Knife);
@@ -96,17 +104,17 @@ fn tell_of_knives(play: &mut Play<'_>)
 
 /// What follows what a verb did.
 fn follow(rules: &Rules<'_>, next: &Next, play: &mut Play<'_>)
-    requires { parts_by_arrival play.old ≤ 512 }
+    requires { HasRoom (parts_of_arrival play.old.left) play.old }
     ensures play { scene_of play.new ≡ following (cave_of rules.now) next.now (scene_of play.old) }
     ensures same { IsSamePlay play.old play.new }
-    ensures few { array_vec_len play.new.out.now ≤ parts_by_arrival play.old }
+    ensures few { SaysUpTo (parts_of_arrival play.old.left) play.old play.new }
 {
     match next {
         Next::Stay | Next::Keep => {}
         Next::Describe => describe_here(rules, play),
         Next::Arrive(place) => arrive(rules, *place, play),
-        Next::Ask(question) => ask(question, play),
-        Next::End(ending) => play.state.ending = Some(*ending),
+        Next::Ask(question) => ask(rules, question, play),
+        Next::End(ending) => end(rules, *ending, play),
     }
 }
 
@@ -122,7 +130,8 @@ fn kept_of(next: &Next, verb: u16) -> Option<Half>
     }
 }
 
-/// A verb is done by the first of its rows that fits, and then what follows. Tells what is kept for the next line.
+/// A verb is done by the first of its rows that fits, and then what follows. Tells what is kept for
+/// the next line.
 #[tactic(auto, unfolding(crate::specs::Commands::acting))]
 fn do_verb(
     rules: &Rules<'_>,
@@ -131,11 +140,11 @@ fn do_verb(
     word: Word,
     play: &mut Play<'_>,
 ) -> Option<Half>
-    requires { parts_by_arrival play.old + 110 ≤ 512 }
+    requires { HasRoom (parts_of_arrival play.old.left + 110) play.old }
     ensures play { doing (scene_of play.new) result
         ≡ acting (cave_of rules.now) verb object word (scene_of play.old) }
     ensures same { IsSamePlay play.old play.new }
-    ensures few { array_vec_len play.new.out.now ≤ parts_by_arrival play.old + 10 }
+    ensures few { SaysUpTo (parts_of_arrival play.old.left + 10) play.old play.new }
 {
     let command = Command {
         verb,
@@ -150,11 +159,11 @@ fn do_verb(
 
 /// What was read is done. Tells what is kept for the next line.
 fn do_reading(rules: &Rules<'_>, understood: &Understood, play: &mut Play<'_>) -> Option<Half>
-    requires { parts_by_arrival play.old + 110 ≤ 512 }
+    requires { HasRoom (parts_of_arrival play.old.left + 110) play.old }
     ensures play { doing (scene_of play.new) result
         ≡ done_as (cave_of rules.now) understood.now.half understood.now.reading (scene_of play.old) }
     ensures same { IsSamePlay play.old play.new }
-    ensures few { array_vec_len play.new.out.now ≤ parts_by_arrival play.old + 10 }
+    ensures few { SaysUpTo (parts_of_arrival play.old.left + 10) play.old play.new }
 {
     let half = understood.half;
     match &understood.reading {
@@ -202,11 +211,11 @@ fn remember(kept: Option<Half>, object: Object, state: &mut State)
 /// What was read is carried out, and what is left of it is remembered.
 #[tactic(auto, unfolding(crate::specs::Commands::carried_out, crate::specs::Commands::settled))]
 fn carry_out(rules: &Rules<'_>, understood: &Understood, play: &mut Play<'_>)
-    requires { parts_by_arrival play.old + 110 ≤ 512 }
+    requires { HasRoom (parts_of_arrival play.old.left + 110) play.old }
     ensures play { scene_of play.new
         ≡ carried_out (cave_of rules.now) understood.now (scene_of play.old) }
     ensures same { IsSamePlay play.old play.new }
-    ensures few { array_vec_len play.new.out.now ≤ parts_by_arrival play.old + 10 }
+    ensures few { SaysUpTo (parts_of_arrival play.old.left + 10) play.old play.new }
 {
     let kept = do_reading(rules, understood, play);
     remember(kept, understood.half.object, play.state);
@@ -214,10 +223,10 @@ fn carry_out(rules: &Rules<'_>, understood: &Understood, play: &mut Play<'_>)
 
 /// Does what the words of a line say.
 fn do_words(rules: &Rules<'_>, words: Words, play: &mut Play<'_>)
-    requires { parts_by_arrival play.old + 110 ≤ 512 }
+    requires { HasRoom (parts_of_arrival play.old.left + 110) play.old }
     ensures play { scene_of play.new ≡ done_for (cave_of rules.now) words (scene_of play.old) }
     ensures same { IsSamePlay play.old play.new }
-    ensures few { array_vec_len play.new.out.now ≤ parts_by_arrival play.old + 10 }
+    ensures few { SaysUpTo (parts_of_arrival play.old.left + 10) play.old play.new }
 {
     match words.first {
         None => {}
@@ -229,17 +238,61 @@ fn do_words(rules: &Rules<'_>, words: Words, play: &mut Play<'_>)
     }
 }
 
+/// A command that isn't read leaves nothing for the next line.
+#[tactic(auto, unfolding(crate::specs::Commands::settled))]
+fn forget(play: &mut Play<'_>)
+    ensures play { scene_of play.new ≡ unread (scene_of play.old) }
+    ensures same { GoesOn play.old play.new }
+    ensures few { SaysUpTo 0 play.old play.new }
+{
+    remember(None, Object::none(), play.state);
+}
+
+/// Does what the clocks leave of a command.
+fn go_on(rules: &Rules<'_>, words: Words, clocks: Clocks, play: &mut Play<'_>)
+    requires { HasRoom (parts_of_arrival play.old.left + 110) play.old }
+    ensures play { scene_of play.new
+        ≡ after_clocks (cave_of rules.now) words clocks (scene_of play.old) }
+    ensures same { IsSamePlay play.old play.new }
+    ensures few { SaysUpTo (parts_of_arrival play.old.left + 10) play.old play.new }
+{
+    match clocks {
+        Clocks::GoOn => do_words(rules, words, play),
+        Clocks::GaveUp => {
+            end(rules, Ending::Quit, play);
+            forget(play);
+        }
+        Clocks::Closed(place) => {
+            arrive(rules, place, play);
+            forget(play);
+        }
+    }
+}
+
+/// The clocks run, and the words of the line are done.
+#[tactic(auto, unfolding(crate::specs::Commands::timed))]
+fn do_in_time(rules: &Rules<'_>, words: Words, play: &mut Play<'_>)
+    requires { HasRoom (parts_of_arrival play.old.left + 112) play.old }
+    ensures play { scene_of play.new ≡ timed (cave_of rules.now) words (scene_of play.old) }
+    ensures same { IsSamePlay play.old play.new }
+    ensures few { SaysUpTo (parts_of_arrival play.old.left + 12) play.old play.new }
+{
+    let clocks = run_clocks(rules, play);
+    go_on(rules, words, clocks, play);
+}
+
 /// Does what a line commands.
 #[tactic(auto, unfolding(crate::specs::Commands::commanded))]
 pub fn command(rules: &Rules<'_>, line: &[u8], state: &mut State, out: &mut Out)
     requires { out.old.items ≡ [] }
     ensures state { (commanded (cave_of rules.now) line.now state.old).state ≡ state.new }
     ensures parts { (commanded (cave_of rules.now) line.now state.old).parts ≡ out.new.items }
-    ensures few { array_vec_len out.new ≤ 316 }
+    ensures few { array_vec_len out.new ≤ parts_of_command }
 {
     begin(state);
     let was_dark = state.is_dark(rules.cave, rules.object(Named::Lamp));
     let words = rules.words_of(line);
     let mut play = Play::open(state, out, was_dark);
-    do_words(rules, words, &mut play);
+    do_in_time(rules, words, &mut play);
+    finish(rules, &mut play);
 }

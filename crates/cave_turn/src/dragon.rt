@@ -1,27 +1,17 @@
 ghost use Rattle.std.specs.Prelude.{◌≡◌, ◌+◌, ◌<◌, ◌≤◌};
-ghost use Rattle.arrayvec.specs.ArrayVec.{array_vec_len};
-ghost use Rattle.cave_moves.specs.Plays.{scene_of, parts_by_arrival, IsSamePlay, GoesOn};
+ghost use Rattle.cave_things.specs.Bounds.{HasRoom, SaysUpTo, parts_of_arrival};
+ghost use Rattle.cave_things.specs.Plays.{scene_of, IsSamePlay};
 ghost use Rattle.cave_things.specs.Things.{cave_of};
-ghost use Rattle.cave_turn.specs.Dragon.{second_home, between, lair, is_by_dragon, gathered, slain, dragon_told, cleared, fought};
+ghost use Rattle.cave_turn.specs.Dragon.{between, lair, is_by_dragon, gathered, slain, cleared};
+ghost use Rattle.cave_turn.specs.Dragon.{fought};
 
-use cave_moves::{Play, arrive};
-use cave_things::Rules;
+use cave_moves::arrive;
+use cave_things::{Play, Rules};
 use cave_words::Named;
-use cave_world::{Anchor, Object, Objects, Part, Place, Prop, State};
+use cave_world::{Anchor, Object, Objects, Place, Prop, State};
 
 /// The greatest number of an object.
 const LAST_OBJECT: u8 = 100;
-
-/// Where the second half of an object stands as a game begins; place 0 where it has none.
-fn second_home(rules: &Rules<'_>, object: Object) -> Place
-    ensures { result ≡ second_home (cave_of rules.now) object }
-{
-    let (_, second) = rules.cave.placement(u16::from(object.number()));
-    if second < 0 {
-        return Place::new(0);
-    }
-    Place::new(second as u16)
-}
 
 fn between(one: Place, other: Place, here: Place) -> Place
     ensures { result ≡ between one other here }
@@ -42,7 +32,7 @@ fn lair(rules: &Rules<'_>, state: &State) -> Place
     let dragon = rules.object(Named::Dragon);
     between(
         rules.home(dragon),
-        second_home(rules, dragon),
+        rules.second_home(dragon),
         state.trail.here,
     )
 }
@@ -53,7 +43,7 @@ fn is_by_dragon(rules: &Rules<'_>, objects: &Objects, object: Object) -> bool
 {
     let dragon = rules.object(Named::Dragon);
     let one = rules.home(dragon);
-    let other = second_home(rules, dragon);
+    let other = rules.second_home(dragon);
     (one.number() != 0 && objects.is_first_at(one, object))
         || (other.number() != 0 && objects.is_first_at(other, object))
 }
@@ -85,19 +75,6 @@ fn slay(rules: &Rules<'_>, place: Place, objects: &mut Objects)
     objects.move_to(rug, place);
 }
 
-/// The dragon's text is told.
-fn tell_dragon(rules: &Rules<'_>, play: &mut Play<'_>)
-    requires { array_vec_len play.old.out.now < 512 }
-    ensures play { scene_of play.new ≡ dragon_told (cave_of rules.now) (scene_of play.old) }
-    ensures same { GoesOn play.old play.new }
-    ensures few { array_vec_len play.new.out.now ≤ array_vec_len play.old.out.now + 1 }
-{
-    let dragon = rules.object(Named::Dragon);
-    if !dragon.is_none() {
-        play.tell(Part::Object(dragon, 1));
-    }
-}
-
 /// The dragon is dead, and all that was by it lies at one place.
 #[tactic(auto, unfolding(crate::specs::Dragon::cleared))]
 fn clear(rules: &Rules<'_>, place: Place, state: &mut State)
@@ -110,13 +87,13 @@ fn clear(rules: &Rules<'_>, place: Place, state: &mut State)
 /// The player fights the dragon with bare hands, and wins.
 #[tactic(auto, unfolding(crate::specs::Dragon::fought))]
 pub fn fight(rules: &Rules<'_>, play: &mut Play<'_>)
-    requires { parts_by_arrival play.old < 512 }
+    requires { HasRoom (parts_of_arrival play.old.left + 1) play.old }
     ensures play { scene_of play.new ≡ fought (cave_of rules.now) (scene_of play.old) }
     ensures same { IsSamePlay play.old play.new }
-    ensures few { array_vec_len play.new.out.now ≤ parts_by_arrival play.old + 1 }
+    ensures few { SaysUpTo (parts_of_arrival play.old.left + 1) play.old play.new }
 {
     let place = lair(rules, play.state);
-    tell_dragon(rules, play);
+    play.look(rules.object(Named::Dragon), 1);
     clear(rules, place, play.state);
     play.stand_at(place);
     arrive(rules, place, play);

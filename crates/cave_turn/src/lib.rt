@@ -4,9 +4,10 @@
 pub mod answers;
 pub mod commands;
 pub mod dragon;
+pub mod finish;
 pub mod object_words;
-pub mod questions;
 pub mod reading;
+pub mod revival;
 pub mod turns;
 
-pub use turns::{Turned, start, turn};
+pub use turns::{Turned, max_score, score, start, turn};

@@ -1,6 +1,8 @@
 ghost use Rattle.std.specs.Prelude.{◌≡◌};
 ghost use Rattle.cave_things.specs.Things.{cave_of};
-ghost use Rattle.cave_turn.specs.ObjectWords.{is_there, is_liquid_here, is_grown_plant, is_knife_at, is_sought, is_above_grate, is_below_grate, object_word};
+ghost use Rattle.cave_turn.specs.ObjectWords.{is_there, is_liquid_here, is_grown_plant};
+ghost use Rattle.cave_turn.specs.ObjectWords.{is_knife_at, is_sought, is_above_grate};
+ghost use Rattle.cave_turn.specs.ObjectWords.{is_below_grate, object_word};
 
 use cave_things::{Rules, has_other_prop, is_dwarf_here, is_liquid};
 use cave_verbs::verb::{FIND, INVENTORY};

@@ -1,6 +1,10 @@
 ghost use Rattle.std.specs.Prelude.{◌≡◌};
 ghost use Rattle.cave_things.specs.Things.{cave_of};
-ghost use Rattle.cave_turn.specs.Reading.{with_verb, with_object, said_in, done_to, object_alone, action_alone, alone_by, alone, is_magic_by, is_magic, aloud, object_before, action_before, before_by, before, wet_or_lost, entering_into, is_pouring, pour_in, two_words, is_saying, read_words, half_of, understood};
+ghost use Rattle.cave_turn.specs.Reading.{with_verb, with_object, said_in, done_to, object_alone};
+ghost use Rattle.cave_turn.specs.Reading.{action_alone, alone_by, alone, is_magic_by, is_magic};
+ghost use Rattle.cave_turn.specs.Reading.{aloud, object_before, action_before, before_by, before};
+ghost use Rattle.cave_turn.specs.Reading.{wet_or_lost, entering_into, is_pouring, pour_in};
+ghost use Rattle.cave_turn.specs.Reading.{two_words, is_saying, read_words, half_of, understood};
 
 use crate::object_words::{ObjectWord, object_word};
 use cave_data::Role;

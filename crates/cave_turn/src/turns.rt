@@ -2,6 +2,8 @@ ghost use Rattle.std.specs.Prelude.{◌≡◌, ◌+◌, ◌^◌, ◌<◌, ◌≤
 ghost use Rattle.arrayvec.specs.ArrayVec.{array_vec_len};
 ghost use Rattle.cave_words.specs.Lexicon.{IsLexiconOf};
 ghost use Rattle.cave_words.specs.Line.{is_line};
+ghost use Rattle.cave_score.specs.Score.{score_of, max_score_of};
+ghost use Rattle.cave_things.specs.Bounds.{parts_of_turn};
 ghost use Rattle.cave_things.specs.Things.{cave_of};
 ghost use Rattle.cave_turn.specs.Turn.{begun, turned, played};
 
@@ -20,6 +22,22 @@ pub struct Turned {
     pub ticked: bool,
 }
 
+/// The score of a state, by the words of its cave.
+pub fn score(cave: &Cave, lexicon: &Lexicon, state: &State) -> u32
+    requires { IsLexiconOf cave.now lexicon.now }
+    ensures { result ≡ score_of cave.now state.now }
+{
+    cave_score::score::score(&Rules::of(cave, lexicon), state)
+}
+
+/// The greatest score that a cave has.
+pub fn max_score(cave: &Cave, lexicon: &Lexicon) -> u32
+    requires { IsLexiconOf cave.now lexicon.now }
+    ensures { result ≡ max_score_of cave.now }
+{
+    cave_score::score::max_score(&Rules::of(cave, lexicon))
+}
+
 /// Begins a game.
 #[tactic(auto, unfolding(crate::specs::Turn::begun))]
 pub fn start(cave: &Cave, seed: u32, out: &mut Out) -> State
@@ -35,7 +53,7 @@ fn play(rules: &Rules<'_>, line: &[u8], state: &mut State, out: &mut Out) -> boo
     requires { out.old.items ≡ [] }
     ensures turn { record { state = state.new; parts = out.new.items; ticked = result }
         ≡ played (cave_of rules.now) line.now state.old.ending state.old.question state.old }
-    ensures few { array_vec_len out.new ≤ 316 }
+    ensures few { array_vec_len out.new ≤ parts_of_turn }
 {
     if state.ending.is_some() {
         return false;
@@ -74,7 +92,7 @@ pub fn turn(
 
     ensures turn { record { state = result.state; parts = out.new.items; ticked = result.ticked }
         ≡ turned cave.now state.now line.now }
-    ensures few { array_vec_len out.new ≤ 400 }
+    ensures few { array_vec_len out.new ≤ parts_of_turn }
     ensures counted { meter.new ≡ meter.old + 1 }
 {
     meter.tick();

@@ -1,5 +1,6 @@
 -- Where a verb goes on, the rank falls.
-use Rattle.std.proofs.Common.{◌≡◌, ℕ, ◌≤◌, zero, suc, Bool, true, false, arith, refl, sym, ◌∙◌, ◌==◌, not}
+use Rattle.std.proofs.Common.{◌≡◌, ℕ, ◌≤◌, zero, suc, Bool, true, false, arith, refl, sym, ◌∙◌}
+use Rattle.std.proofs.Common.{◌==◌, not}
 use Rattle.std.proofs.lemmas.Bool.{true≢false}
 use Rattle.std.specs.Prelude.{if◌then◌else◌, ◌||◌, ◌&&◌, Option, Some, None, option_and_then}
 use Rattle.cave_data.specs.CaveView.{CaveView}
@@ -38,12 +39,14 @@ bottle-there cave s x h = grind arith
 pub take-falls : (cave : CaveView) (s : State) (x : ℕ) → is_liquid x (liquid_of cave s) ≡ true
     → suc (take_rank cave (thing cave name.Bottle)) ≤ take_rank cave x
 take-falls cave s x h =
-    let liquid = liquid-called cave s x h in let there = bottle-there cave s x h in let water = bottle-water cave in let oil = bottle-oil cave in
+    let liquid = liquid-called cave s x h in let there = bottle-there cave s x h in
+    let water = bottle-water cave in let oil = bottle-oil cave in
     grind (arith, liquid, there, water, oil)
 
 -- an object is not the one before it
 second_differs : (o : Option ℕ)
-    → (not (or_no_object (option_and_then next_object o) == 0) && or_no_object o == or_no_object (option_and_then next_object o)) ≡ false
+    → (not (or_no_object (option_and_then next_object o) == 0)
+    && or_no_object o == or_no_object (option_and_then next_object o)) ≡ false
 second_differs None = refl
 second_differs (Some n) = grind arith
 

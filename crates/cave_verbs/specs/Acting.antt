@@ -16,7 +16,8 @@ use Rattle.cave_verbs.specs.Opening.{bare_open_rows, open_rows}
 use Rattle.cave_verbs.specs.Pouring.{pour_rows, drink_rows, bare_fill_rows, fill_rows}
 use Rattle.cave_verbs.specs.Reading.{bare_read_rows, read_rows}
 use Rattle.cave_verbs.specs.Rows.{first_fitting}
-use Rattle.cave_verbs.specs.Small.{bare_rows, other_rows, nothing_rows, bare_quit_rows, bare_score_rows, bare_brief_rows}
+use Rattle.cave_verbs.specs.Small.{bare_rows, other_rows, nothing_rows, bare_quit_rows}
+use Rattle.cave_verbs.specs.Small.{bare_score_rows, bare_brief_rows}
 use Rattle.cave_verbs.specs.Taking.{bare_take_rows, take_rows}
 use Rattle.cave_verbs.specs.Throwing.{thrown}
 use Rattle.cave_verbs.specs.Verbs as verb

@@ -9,14 +9,17 @@ use Rattle.cave_verbs.specs.Tests.{x, is, prop, closed}
 
 unfoldable pub break_rows : List Row
 break_rows =
-    row (is name.Vase ∷ prop x (pos 0) ∷ []) (lay_down x ∷ set_prop x (pos 2) ∷ fix x ∷ say role.VaseSmash ∷ [])
-    ∷ row_then (is name.Mirror ∷ closed ∷ []) (say role.MirrorBreak ∷ say role.Disturbed ∷ []) (ends ending.Killed)
+    row (is name.Vase ∷ prop x (pos 0) ∷ [])
+    (lay_down x ∷ set_prop x (pos 2) ∷ fix x ∷ say role.VaseSmash ∷ [])
+    ∷ row_then (is name.Mirror ∷ closed ∷ []) (say role.MirrorBreak ∷ say role.Disturbed ∷ [])
+    (ends ending.Killed)
     ∷ row (is name.Mirror ∷ []) (say role.MirrorNo ∷ [])
     ∷ row [] (default ∷ [])
     ∷ []
 
 unfoldable pub wake_rows : List Row
 wake_rows =
-    row_then (is name.Dwarf ∷ closed ∷ []) (say role.WakeDwarf ∷ say role.Disturbed ∷ []) (ends ending.Killed)
+    row_then (is name.Dwarf ∷ closed ∷ []) (say role.WakeDwarf ∷ say role.Disturbed ∷ [])
+    (ends ending.Killed)
     ∷ row [] (default ∷ [])
     ∷ []

@@ -4,7 +4,8 @@ use Rattle.cave_data.specs.declared.role.Role.TheVariants as role
 use Rattle.cave_words.specs.declared.named.Named.TheVariants as name
 use Rattle.cave_world.specs.declared.ending.Ending.TheVariants as ending
 use Rattle.cave_things.specs.Homes.{is_home_elsewhere}
-use Rattle.cave_verbs.specs.Effects.{say, default, ask_what, look, bring, kill, fix, set_prop, put, trolls, lost}
+use Rattle.cave_verbs.specs.Effects.{say, default, ask_what, look, bring, kill, fix, set_prop, put}
+use Rattle.cave_verbs.specs.Effects.{trolls, lost}
 use Rattle.cave_verbs.specs.Rows.{Row, Test, Thing, row, row_then, keeps, ends, goes_on}
 use Rattle.cave_verbs.specs.Verbs as verb
 use Rattle.cave_verbs.specs.Tests.{x, the, no, is, toted, near, stands, prop, closed}

@@ -8,7 +8,8 @@ use Rattle.cave_world.specs.declared.part.Part.TheVariants as part
 use Rattle.cave_world.specs.declared.part.WordLine.TheVariants as line
 use Rattle.cave_world.specs.declared.spot.Anchor.TheVariants as anchor
 use Rattle.cave_world.specs.declared.state.State.{State}
-use Rattle.cave_things.specs.Effects.{put_down, let_go, without_troll, lost_to_snake, one_more_lost, with_objects}
+use Rattle.cave_things.specs.Effects.{put_down, let_go, without_troll, lost_to_snake, one_more_lost}
+use Rattle.cave_things.specs.Effects.{with_objects}
 use Rattle.cave_verbs.specs.Deeds.{Deed}
 use Rattle.cave_verbs.specs.Rows.{Effect, Thing}
 
@@ -27,7 +28,8 @@ say role d = tell (part.Role role) d
 -- the message that the cave gives the verb is said, if there is one
 abbrev pub default : Effect
 default d =
-    if default_message d.cave d.order.verb == 0 then d else tell (part.Message (default_message d.cave d.order.verb)) d
+    if default_message d.cave d.order.verb == 0 then d
+    else tell (part.Message (default_message d.cave d.order.verb)) d
 
 -- the word that was just read is asked back
 abbrev pub ask_what : Effect

@@ -5,7 +5,8 @@ use Rattle.cave_words.specs.declared.named.Named.{Named}
 use Rattle.cave_words.specs.declared.named.Named.TheVariants as name
 use Rattle.cave_world.specs.declared.state.State.{State}
 use Rattle.cave_things.specs.Reach.{is_one_of}
-use Rattle.cave_verbs.specs.Effects.{in_state, say, default, ask_what, kill, loosen, set_prop, lose_one}
+use Rattle.cave_verbs.specs.Effects.{in_state, say, default, ask_what, kill, loosen, set_prop}
+use Rattle.cave_verbs.specs.Effects.{lose_one}
 use Rattle.cave_verbs.specs.Rows.{Row, Test, Effect, row, row_then, keeps, goes_on}
 use Rattle.cave_verbs.specs.Verbs as verb
 use Rattle.cave_verbs.specs.Tests.{x, the, no, either, is, near, prop, other_prop, closed}
@@ -16,7 +17,9 @@ is_any names d = is_one_of d.cave d.order.object names
 
 -- the dwarves are angrier by one, up to 13
 abbrev pub angrier : State → State
-angrier s = let dwarves = s.dwarves in record s { dwarves = record dwarves { anger = min (dwarves.anger + 1) 13 } }
+angrier s =
+    let dwarves = s.dwarves in
+    record s { dwarves = record dwarves { anger = min (dwarves.anger + 1) 13 } }
 
 abbrev pub anger : Effect
 anger d = in_state (angrier d.state) d
@@ -32,7 +35,8 @@ feed_rows =
     ∷ row (is name.Dwarf ∷ near (the name.Food) ∷ []) (anger ∷ say role.DwarfFeed ∷ [])
     ∷ row (is name.Dwarf ∷ []) (default ∷ [])
     ∷ row (is name.Bear ∷ near (the name.Food) ∷ [])
-    (kill (the name.Food) ∷ set_prop x (pos 1) ∷ loosen (the name.Axe) ∷ set_prop (the name.Axe) (pos 0) ∷ say role.BearFed ∷ [])
+    (kill (the name.Food) ∷ set_prop x (pos 1) ∷ loosen (the name.Axe) ∷ set_prop (the name.Axe)
+    (pos 0) ∷ say role.BearFed ∷ [])
     ∷ row (is name.Bear ∷ prop x (pos 0) ∷ []) (say role.NotHungry ∷ [])
     ∷ row (is name.Bear ∷ prop x (pos 3) ∷ []) (say role.Ridiculous ∷ [])
     ∷ row (is name.Bear ∷ []) (default ∷ [])
@@ -48,7 +52,8 @@ bare_eat_rows =
 -- who lives, and is no food
 abbrev pub living : List Named
 living =
-    name.Bird ∷ name.Snake ∷ name.Clam ∷ name.Oyster ∷ name.Dwarf ∷ name.Dragon ∷ name.Troll ∷ name.Bear ∷ []
+    name.Bird ∷ name.Snake ∷ name.Clam ∷ name.Oyster ∷ name.Dwarf ∷ name.Dragon ∷ name.Troll
+    ∷ name.Bear ∷ []
 
 unfoldable pub eat_rows : List Row
 eat_rows =

@@ -1,5 +1,6 @@
 -- FIND and INVENTORY.
-use Rattle.std.specs.Prelude.{ℕ, Bool, ◌==◌, ◌&&◌, not, if◌then◌else◌, List, [], ◌∷◌, ◌++◌, length, map, filter}
+use Rattle.std.specs.Prelude.{ℕ, Bool, ◌==◌, ◌&&◌, not, if◌then◌else◌, List, [], ◌∷◌, ◌++◌, length}
+use Rattle.std.specs.Prelude.{map, filter}
 use Rattle.std.specs.List.{range_with_len}
 use Rattle.cave_data.specs.CaveView.{CaveView}
 use Rattle.cave_data.specs.declared.role.Role.TheVariants as role
@@ -47,7 +48,9 @@ name_them d = record d { parts = d.parts ++ map part.Name (listed d) }
 
 -- it is said that the bear follows, if the player has it along
 abbrev pub told_of_bear : CaveView → State → List Part → List Part
-told_of_bear cave s parts = if is_toted cave s (thing cave name.Bear) then parts ++ part.Role role.BearFollows ∷ [] else parts
+told_of_bear cave s parts =
+    if is_toted cave s (thing cave name.Bear) then parts ++ part.Role role.BearFollows ∷ []
+    else parts
 
 abbrev pub tell_bear : Effect
 tell_bear d = record d { parts = told_of_bear d.cave d.state d.parts }

@@ -9,7 +9,8 @@ use Rattle.cave_verbs.specs.Deeds.{Deed}
 use Rattle.cave_verbs.specs.Effects.{say, default, ask_what, kill, set_prop, lost}
 use Rattle.cave_verbs.specs.Rows.{Row, Test, row, row_then, keeps, asks, ends, goes_on}
 use Rattle.cave_verbs.specs.Verbs as verb
-use Rattle.cave_verbs.specs.Tests.{x, the, no, either, both, there_is, is, near, stands, prop, dwarf, closed}
+use Rattle.cave_verbs.specs.Tests.{x, the, no, either, both, there_is, is, near, stands, prop}
+use Rattle.cave_verbs.specs.Tests.{dwarf, closed}
 
 -- the player's own verb, which may have gone on to this one
 abbrev pub typed : ℕ → Test

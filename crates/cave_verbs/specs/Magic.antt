@@ -70,7 +70,8 @@ begin_anew d = in_state (with_magic (pos 0) d.state) d
 
 -- how an object that goes home is told: where it appears, where it vanishes, or elsewhere
 abbrev pub homing_sight : CaveView → State → ℕ → ℤ
-homing_sight cave s x = if is_home_here cave s x then pos 0 else (if is_near cave s x then pos 1 else pos 2)
+homing_sight cave s x =
+    if is_home_here cave s x then pos 0 else (if is_near cave s x then pos 1 else pos 2)
 
 abbrev pub look_homing : Thing → Effect
 look_homing t d = look t (homing_sight d.cave d.state (t d)) d

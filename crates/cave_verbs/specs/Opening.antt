@@ -14,10 +14,12 @@ use Rattle.cave_things.specs.Places.{place_named}
 use Rattle.cave_things.specs.Reach.{is_near}
 use Rattle.cave_things.specs.Things.{thing}
 use Rattle.cave_verbs.specs.Deeds.{Deed}
-use Rattle.cave_verbs.specs.Effects.{in_state, say, default, ask_what, bring, kill, fix, loosen, set_prop, lay_down}
+use Rattle.cave_verbs.specs.Effects.{in_state, say, default, ask_what, bring, kill, fix, loosen}
+use Rattle.cave_verbs.specs.Effects.{set_prop, lay_down}
 use Rattle.cave_verbs.specs.Rows.{Row, Test, Effect, Thing, row, row_then, keeps}
 use Rattle.cave_verbs.specs.Verbs as verb
-use Rattle.cave_verbs.specs.Tests.{x, the, no, either, there_is, is, toted, near, prop, other_prop, closing}
+use Rattle.cave_verbs.specs.Tests.{x, the, no, either, there_is, is, toted, near, prop, other_prop}
+use Rattle.cave_verbs.specs.Tests.{closing}
 use Rattle.cave_verbs.specs.declared.next.Step.{Step}
 use Rattle.cave_verbs.specs.declared.next.Step.TheVariants.{GoOn}
 
@@ -47,7 +49,8 @@ send t role d = in_state (sent (t d) (place_named d.cave role) d.state) d
 abbrev pub goes_on_with : Thing → Deed → Step
 goes_on_with t d = GoOn d.order.verb (t d)
 
--- what is meant where the order names nothing: the grate or the door that stands here, the oyster or the clam at hand
+-- what is meant where the order names nothing: the grate or the door that stands here, the oyster
+-- or the clam at hand
 unfoldable pub lock_meant : CaveView → State → ℕ
 lock_meant cave s =
     if stands_at s.objects s.trail.here (thing cave name.Grate) then thing cave name.Grate
@@ -55,13 +58,13 @@ lock_meant cave s =
     else (if is_near cave s (thing cave name.Oyster) then thing cave name.Oyster
     else (if is_near cave s (thing cave name.Clam) then thing cave name.Clam else 0)))
 
-abbrev pub meant : Thing
-meant d = lock_meant d.cave d.state
+abbrev pub lock_at_hand : Thing
+lock_at_hand d = lock_meant d.cave d.state
 
 unfoldable pub bare_open_rows : List Row
 bare_open_rows =
-    row_then (there_is meant ∷ near (the name.Chain) ∷ []) (ask_what ∷ []) keeps
-    ∷ row_then (there_is meant ∷ []) [] (goes_on_with meant)
+    row_then (there_is lock_at_hand ∷ near (the name.Chain) ∷ []) (ask_what ∷ []) keeps
+    ∷ row_then (there_is lock_at_hand ∷ []) [] (goes_on_with lock_at_hand)
     ∷ row_then (near (the name.Chain) ∷ []) [] (goes_on_with (the name.Chain))
     ∷ row [] (say role.NoLock ∷ [])
     ∷ []
@@ -80,9 +83,11 @@ open_rows =
     ∷ row (is name.Door ∷ []) (say role.Rusty ∷ [])
     ∷ row (is name.Cage ∷ []) (say role.NoLatch ∷ [])
     ∷ row (is name.Keys ∷ []) (say role.KeysWhat ∷ [])
-    ∷ row (either (is name.Grate) (is name.Chain) ∷ no (near (the name.Keys)) ∷ []) (say role.NoKeys ∷ [])
+    ∷ row (either (is name.Grate) (is name.Chain) ∷ no (near (the name.Keys)) ∷ [])
+    (say role.NoKeys ∷ [])
     ∷ row (is name.Grate ∷ closing ∷ []) (say role.ClosingExit ∷ panic ∷ [])
-    ∷ row (is name.Grate ∷ opening ∷ prop x (pos 0) ∷ []) (set_prop x (pos 1) ∷ say role.Unlocked ∷ [])
+    ∷ row (is name.Grate ∷ opening ∷ prop x (pos 0) ∷ [])
+    (set_prop x (pos 1) ∷ say role.Unlocked ∷ [])
     ∷ row (is name.Grate ∷ opening ∷ []) (say role.WasUnlocked ∷ [])
     ∷ row (is name.Grate ∷ prop x (pos 0) ∷ []) (say role.WasLocked ∷ [])
     ∷ row (is name.Grate ∷ []) (set_prop x (pos 0) ∷ say role.Locked ∷ [])
@@ -91,7 +96,8 @@ open_rows =
     ∷ row (is name.Chain ∷ opening ∷ prop (the name.Bear) (pos 3) ∷ [])
     (set_prop x (pos 0) ∷ loosen x ∷ fix (the name.Bear) ∷ say role.ChainFree ∷ [])
     ∷ row (is name.Chain ∷ opening ∷ [])
-    (set_prop x (pos 0) ∷ loosen x ∷ set_prop (the name.Bear) (pos 2) ∷ loosen (the name.Bear) ∷ say role.ChainFree ∷ [])
+    (set_prop x (pos 0) ∷ loosen x ∷ set_prop (the name.Bear) (pos 2) ∷ loosen (the name.Bear)
+    ∷ say role.ChainFree ∷ [])
     ∷ row (is name.Chain ∷ away_from_home ∷ []) (say role.NoLockHere ∷ [])
     ∷ row (is name.Chain ∷ other_prop x (pos 0) ∷ []) (say role.WasLocked ∷ [])
     ∷ row (is name.Chain ∷ []) (lay_down x ∷ set_prop x (pos 2) ∷ fix x ∷ say role.ChainLock ∷ [])

@@ -1,5 +1,6 @@
 -- POUR, DRINK and FILL.
-use Rattle.std.specs.Prelude.{ℕ, pos, ◌+ℤ◌, int_div, ◌==◌, ◌||◌, if◌then◌else◌, List, [], ◌∷◌, unwrap_or}
+use Rattle.std.specs.Prelude.{ℕ, pos, ◌+ℤ◌, int_div, ◌==◌, ◌||◌, if◌then◌else◌, List, [], ◌∷◌}
+use Rattle.std.specs.Prelude.{unwrap_or}
 use Rattle.std.specs.Int.{int_rem_euclid}
 use Rattle.cave_data.specs.CaveView.{CaveView}
 use Rattle.cave_data.specs.declared.role.Role.TheVariants as role
@@ -12,9 +13,11 @@ use Rattle.cave_things.specs.Reach.{is_called}
 use Rattle.cave_verbs.specs.Effects.{say, default, ask_what, look, bring, fix, set_prop}
 use Rattle.cave_verbs.specs.Rows.{Row, Test, Effect, Thing, row, row_then, keeps, again, goes_on}
 use Rattle.cave_verbs.specs.Verbs as verb
-use Rattle.cave_verbs.specs.Tests.{x, the, bare, no, either, both, is, toted, near, stands, in_bottle, bottle_full, in_lake, lake}
+use Rattle.cave_verbs.specs.Tests.{x, the, bare, no, either, both, is, toted, near, stands}
+use Rattle.cave_verbs.specs.Tests.{in_bottle, bottle_full, in_lake, lake}
 
--- what is poured: what is in the bottle, where that or nothing is named; 0 for a liquid without a name
+-- what is poured: what is in the bottle, where that or nothing is named; 0 for a liquid without a
+-- name
 abbrev pub poured_of : CaveView → State → ℕ → ℕ
 poured_of cave s y =
     if y == 0 || is_called cave y name.Bottle then unwrap_or (liquid_of cave s) 0 else y
@@ -43,7 +46,9 @@ halve t of d = set_prop t (int_div (prop_of d.state.objects (of d)) (pos 2)) d
 
 -- the plant and its upper part grow with the water
 abbrev pub plant_watered : List Effect
-plant_watered = look_above (the name.Plant) ∷ grow (the name.Plant) ∷ halve (the name.SecondPlant) (the name.Plant) ∷ []
+plant_watered =
+    look_above (the name.Plant) ∷ grow (the name.Plant) ∷ halve (the name.SecondPlant)
+    (the name.Plant) ∷ []
 
 -- the bottle is at hand, and water is in it
 abbrev pub water_at_hand : Test
@@ -58,7 +63,8 @@ pour_rows =
     (empty_bottle ∷ set_prop (the name.Door) (pos 1) ∷ say role.DoorOiled ∷ [])
     ∷ row (stands (the name.Door) ∷ [])
     (empty_bottle ∷ set_prop (the name.Door) (pos 0) ∷ say role.DoorWet ∷ [])
-    ∷ row_then (stands (the name.Plant) ∷ pours name.Water ∷ []) (empty_bottle ∷ plant_watered) again
+    ∷ row_then (stands (the name.Plant) ∷ pours name.Water ∷ [])
+    (empty_bottle ∷ plant_watered) again
     ∷ row (stands (the name.Plant) ∷ []) (empty_bottle ∷ say role.PlantOil ∷ [])
     ∷ row [] (empty_bottle ∷ say role.PourGround ∷ [])
     ∷ []

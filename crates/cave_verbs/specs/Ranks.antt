@@ -1,4 +1,5 @@
--- How often a verb can go on with another verb or object: each time the rank falls, so each chain ends.
+-- How often a verb can go on with another verb or object: each time the rank falls, so each chain
+-- ends.
 use Rattle.std.specs.Prelude.{ℕ, suc, ◌==◌, ◌||◌, if◌then◌else◌}
 use Rattle.cave_data.specs.CaveView.{CaveView}
 use Rattle.cave_words.specs.declared.named.Named.TheVariants as name
@@ -10,7 +11,8 @@ use Rattle.cave_verbs.specs.declared.next.Step.TheVariants.{Done, GoOn}
 -- TAKE goes on from no object to one, and from a liquid to the bottle, or to FILL it
 abbrev pub take_rank : CaveView → ℕ → ℕ
 take_rank cave x =
-    if x == 0 then 3 else (if is_called cave x name.Water || is_called cave x name.Oil then 2 else 1)
+    if x == 0 then 3 else (if is_called cave x name.Water || is_called cave x name.Oil then 2
+    else 1)
 
 -- DROP goes on from the first rod to the second
 abbrev pub drop_rank : CaveView → ℕ → ℕ
@@ -29,7 +31,8 @@ rank cave v x =
     if v == verb.TAKE then take_rank cave x
     else (if v == verb.DROP then drop_rank cave x
     else (if v == verb.THROW then throw_rank cave x
-    else (if v == verb.OPEN || v == verb.LOCK || v == verb.KILL || v == verb.EAT || v == verb.FILL || v == verb.READ then bare_rank x
+    else (if v == verb.OPEN || v == verb.LOCK || v == verb.KILL || v == verb.EAT || v == verb.FILL
+    || v == verb.READ then bare_rank x
     else 0)))
 
 -- a verb that goes on is above what it goes on with

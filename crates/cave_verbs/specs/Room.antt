@@ -5,7 +5,8 @@ use Rattle.cave_verbs.specs.declared.next.Next.TheVariants.{Stay, Keep, Describe
 use Rattle.cave_verbs.specs.declared.next.Step.{Step}
 use Rattle.cave_verbs.specs.declared.next.Step.TheVariants.{Done, GoOn}
 
--- INVENTORY names each of 100 objects between two lines, and nothing follows it; any other verb says two parts
+-- INVENTORY names each of 100 objects between two lines, and nothing follows it; any other verb
+-- says two parts
 abbrev pub room_for : Next → ℕ
 room_for Stay = 102
 room_for _ = 2

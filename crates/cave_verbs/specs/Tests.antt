@@ -1,11 +1,13 @@
 -- What rows of verbs ask.
-use Rattle.std.specs.Prelude.{ℕ, ℤ, Bool, ◌==◌, ◌&&◌, ◌||◌, not, nat_le, int_lt, pos, length, is_some, is_none, Option, Some, None}
+use Rattle.std.specs.Prelude.{ℕ, ℤ, Bool, ◌==◌, ◌&&◌, ◌||◌, not, nat_le, int_lt, pos, length}
+use Rattle.std.specs.Prelude.{is_some, is_none, Option, Some, None}
 use Rattle.cave_words.specs.declared.named.Named.{Named}
 use Rattle.cave_words.specs.declared.named.Named.TheVariants as name
 use Rattle.cave_world.specs.Objects.{stands_at, carried_objects}
 use Rattle.cave_things.specs.Things.{thing}
 use Rattle.cave_things.specs.Liquids.{liquid_of, lake_of, is_liquid}
-use Rattle.cave_things.specs.Reach.{is_called, is_toted, is_near, has_prop, has_other_prop, has_prop_up_to, is_treasure, is_dwarf_here, is_fixed}
+use Rattle.cave_things.specs.Reach.{is_called, is_toted, is_near, has_prop, has_other_prop}
+use Rattle.cave_things.specs.Reach.{has_prop_up_to, is_treasure, is_dwarf_here, is_fixed}
 use Rattle.cave_verbs.specs.Rows.{Test, Thing}
 
 -- the order's object

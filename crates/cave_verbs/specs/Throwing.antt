@@ -1,5 +1,6 @@
 -- THROW. An axe that is thrown at a dwarf misses in one of three cases.
-use Rattle.std.specs.Prelude.{ℕ, pos, ◌+◌, false, ◌==◌, min, if◌then◌else◌, List, [], ◌∷◌, take, Option, Some, None, slice_index_or, slice_set}
+use Rattle.std.specs.Prelude.{ℕ, pos, ◌+◌, false, ◌==◌, min, if◌then◌else◌, List, [], ◌∷◌, take}
+use Rattle.std.specs.Prelude.{Option, Some, None, slice_index_or, slice_set}
 use Rattle.std.specs.List.{position}
 use Rattle.cave_data.specs.declared.role.Role.TheVariants as role
 use Rattle.cave_words.specs.Stream.{next, drawn}
@@ -9,8 +10,10 @@ use Rattle.cave_world.specs.declared.dwarves.Dwarf.{Dwarf}
 use Rattle.cave_world.specs.declared.state.State.{State}
 use Rattle.cave_things.specs.Reach.{is_dwarf_at}
 use Rattle.cave_verbs.specs.Deeds.{Deed, Outcome}
-use Rattle.cave_verbs.specs.Effects.{in_state, say, default, ask_what, bring, kill, fix, juggle, set_prop, trolls}
-use Rattle.cave_verbs.specs.Rows.{Row, Test, Effect, Thing, row, row_then, keeps, again, goes_on, fits, outcome_of, first_fitting}
+use Rattle.cave_verbs.specs.Effects.{in_state, say, default, ask_what, bring, kill, fix, juggle}
+use Rattle.cave_verbs.specs.Effects.{set_prop, trolls}
+use Rattle.cave_verbs.specs.Rows.{Row, Test, Effect, Thing, row, row_then, keeps, again, goes_on}
+use Rattle.cave_verbs.specs.Rows.{fits, outcome_of, first_fitting}
 use Rattle.cave_verbs.specs.Verbs as verb
 use Rattle.cave_verbs.specs.Tests.{x, the, no, is, toted, near, stands, prop, dwarf, treasure}
 
@@ -18,12 +21,13 @@ use Rattle.cave_verbs.specs.Tests.{x, the, no, is, toted, near, stands, prop, dw
 abbrev pub nothing : Thing
 nothing d = 0
 
-abbrev pub gone : Dwarf → Dwarf
-gone one = record one { place = 0; has_seen = false }
+abbrev pub killed_dwarf : Dwarf → Dwarf
+killed_dwarf one = record one { place = 0; has_seen = false }
 
 abbrev pub without_one : List Dwarf → Option ℕ → List Dwarf
 without_one each None = each
-without_one each (Some index) = slice_set each index (gone (slice_index_or each index nobody))
+without_one each (Some index) =
+    slice_set each index (killed_dwarf (slice_index_or each index nobody))
 
 -- of the dwarves, the first of the five that stands at a place is gone; the sixth is the pirate
 unfoldable pub without_first_at : ℕ → List Dwarf → List Dwarf

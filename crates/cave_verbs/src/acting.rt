@@ -2,7 +2,8 @@ ghost use Rattle.std.specs.Prelude.{◌≡◌, ◌+◌, ◌*◌, ◌<◌, ◌≤
 ghost use Rattle.arrayvec.specs.ArrayVec.{array_vec_len};
 ghost use Rattle.cave_things.specs.Things.{cave_of};
 ghost use Rattle.cave_verbs.specs.declared.next.Step.TheVariants.{Done};
-ghost use Rattle.cave_verbs.specs.Acting.{bare_outcome, object_outcome, outcome_once, outcome_within, acted};
+ghost use Rattle.cave_verbs.specs.Acting.{bare_outcome, object_outcome, outcome_once};
+ghost use Rattle.cave_verbs.specs.Acting.{outcome_within, acted};
 ghost use Rattle.cave_verbs.specs.Deeds.{deed, outcome};
 ghost use Rattle.cave_verbs.specs.Ranks.{rank, rank_of};
 ghost use Rattle.cave_verbs.specs.Room.{room_for, parts_by};

@@ -7,7 +7,8 @@ ghost use Rattle.cave_verbs.specs.declared.next.Next.TheVariants.{Stay};
 ghost use Rattle.cave_verbs.specs.declared.next.Step.TheVariants.{Done};
 ghost use Rattle.cave_verbs.specs.Rows.{first_fitting};
 ghost use Rattle.cave_verbs.specs.Ranks.{rank_of};
-ghost use Rattle.cave_verbs.specs.Finding.{find_rows, bare_inventory_rows, is_listed, listed_up_to, told_of_bear};
+ghost use Rattle.cave_verbs.specs.Finding.{find_rows, bare_inventory_rows, is_listed, listed_up_to};
+ghost use Rattle.cave_verbs.specs.Finding.{told_of_bear};
 
 use crate::next::{Next, Step};
 use crate::order::Order;

@@ -21,7 +21,8 @@ use cave_things::{Rules, has_other_prop, has_prop, let_go};
 use cave_words::Named;
 use cave_world::{Anchor, Object, Out, Place, Prop, State};
 
-/// What is meant where the order names nothing: the grate or the door that stands here, the oyster or the clam at hand.
+/// What is meant where the order names nothing: the grate or the door that stands here, the oyster
+/// or the clam at hand.
 #[tactic(auto, unfolding(crate::specs::Opening::lock_meant))]
 fn lock_meant(rules: &Rules<'_>, state: &State) -> Object
     ensures { result ≡ lock_meant (cave_of rules.now) state.now }

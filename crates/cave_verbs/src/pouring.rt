@@ -7,7 +7,8 @@ ghost use Rattle.cave_things.specs.Things.{cave_of};
 ghost use Rattle.cave_verbs.specs.Deeds.{deed, outcome};
 ghost use Rattle.cave_verbs.specs.Rows.{first_fitting, outcome_of, row_then, again};
 ghost use Rattle.cave_verbs.specs.Ranks.{rank_of, bare_rank};
-ghost use Rattle.cave_verbs.specs.Pouring.{poured_of, plant_watered, pour_rows, drink_rows, bare_fill_rows, fill_rows};
+ghost use Rattle.cave_verbs.specs.Pouring.{poured_of, plant_watered, pour_rows, drink_rows};
+ghost use Rattle.cave_verbs.specs.Pouring.{bare_fill_rows, fill_rows};
 
 use crate::next::{Next, Step};
 use crate::order::Order;

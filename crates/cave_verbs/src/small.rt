@@ -4,7 +4,8 @@ ghost use Rattle.cave_things.specs.Things.{cave_of};
 ghost use Rattle.cave_verbs.specs.Deeds.{deed, outcome};
 ghost use Rattle.cave_verbs.specs.Rows.{first_fitting};
 ghost use Rattle.cave_verbs.specs.Ranks.{rank_of};
-ghost use Rattle.cave_verbs.specs.Small.{bare_rows, other_rows, nothing_rows, bare_quit_rows, bare_score_rows, bare_brief_rows};
+ghost use Rattle.cave_verbs.specs.Small.{bare_rows, other_rows, nothing_rows, bare_quit_rows};
+ghost use Rattle.cave_verbs.specs.Small.{bare_score_rows, bare_brief_rows};
 
 use crate::next::{Next, Step};
 use crate::order::Order;

@@ -9,7 +9,8 @@ ghost use Rattle.cave_verbs.specs.declared.next.Next.TheVariants.{Arrive};
 ghost use Rattle.cave_verbs.specs.declared.next.Step.TheVariants.{Done};
 ghost use Rattle.cave_verbs.specs.Rows.{first_fitting};
 ghost use Rattle.cave_verbs.specs.Ranks.{rank_of, throw_rank};
-ghost use Rattle.cave_verbs.specs.Throwing.{with_one_killed, hit_rows, axe_rows, axe_thrown_at_dwarf, axe_thrown, thrown};
+ghost use Rattle.cave_verbs.specs.Throwing.{with_one_killed, hit_rows, axe_rows};
+ghost use Rattle.cave_verbs.specs.Throwing.{axe_thrown_at_dwarf, axe_thrown, thrown};
 
 use crate::next::{Next, Step};
 use crate::order::Order;

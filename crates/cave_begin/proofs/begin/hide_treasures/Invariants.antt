@@ -1,5 +1,5 @@
 use Rattle.std.proofs.Common.{◌≡◌, ◌+◌, ◌-◌, ◌≤◌, length}
-use Rattle.cave_begin.specs.Begin.{known_treasures}
+use Rattle.cave_things.specs.Treasures.{known_treasures}
 use Rattle.cave_begin.specs.Placing.{all_hidden}
 use Rattle.cave_begin.proofs.Countdown.{known_from}
 use Rattle.cave_begin.proofs.begin.hide_treasures.Given as goal

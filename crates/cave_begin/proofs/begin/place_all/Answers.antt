@@ -1,5 +1,6 @@
 use Rattle.std.proofs.Common.{true, false, sym, ap, ◌∙◌}
-use Rattle.cave_begin.specs.Begin.{known_treasures, objects_due, start_order}
+use Rattle.cave_begin.specs.Begin.{objects_due, start_order}
+use Rattle.cave_things.specs.Treasures.{known_treasures}
 use Rattle.cave_begin.specs.Placing.{all_placed, all_hidden}
 use Rattle.cave_begin.proofs.Begun.{all_placed-append, begun_is}
 use Rattle.cave_begin.proofs.begin.place_all.Goals as goal

@@ -2,7 +2,7 @@ use Rattle.std.proofs.Common.{◌≡◌, ◌+◌, ◌≤◌, drop}
 use Rattle.arrayvec.specs.ArrayVec.{array_vec_len}
 use Rattle.cave_things.specs.Things.{cave_of}
 use Rattle.cave_moves.specs.Objects.{objects_told}
-use Rattle.cave_moves.specs.Plays.{scene_of, GoesOn}
+use Rattle.cave_things.specs.Plays.{scene_of, GoesOn}
 use Rattle.cave_moves.proofs.objects.tell_all.Given as goal
 
 -- telling the rest from here is telling all, and there is room for it

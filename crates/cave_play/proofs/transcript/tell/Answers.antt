@@ -1,7 +1,8 @@
-use Rattle.std.proofs.Common.{◌≡◌, ◌+◌, ◌++◌, [], length, map, get_or, ap, sym, ◌∙◌, arith, rules}
+use Rattle.std.proofs.Common.{◌≡◌, ◌+◌, ◌++◌, [], length, map, get_or, ap, sym, refl, ◌∙◌, arith, rules}
 use Rattle.std.specs.Iterator.Adapters.{enumerate_source, enumerate_count}
 use Rattle.std.proofs.lemmas.Result.{on_ok_weaker}
 use Rattle.cave_play.specs.CaveRules.{rendered}
+use Rattle.cave_score.specs.Score.{score_of, max_score_of}
 use Rattle.cave_play.specs.Output.{play_text}
 use Rattle.cave_play.specs.Transcript.{closing, ticks}
 use Rattle.cave_play.proofs.RunLemmas.{transcript-played}
@@ -35,7 +36,7 @@ loop-place-preserved c =
       left = left;
       turns = λ k below. counts-others counts others c.in-Some.turns (ticks held.ticks) place step.0 here.turns next k step.2 below;
       told = rw step.2 (told-more (rendered c.cave-cave.result.now) (λ piece. piece.items) place c.in-Some.turns held.game.log held.pieces held.ticks c.line-line.result.now piece _ _
-          (closing (ticks held.ticks (length held.game.log))) _ (omega (arith, some, here.left)) (ap length (sym pieces.pieces) ∙ pieces.each)
+          (closing (score_of c.cave-cave.result.now held.state) (max_score_of c.cave-cave.result.now) (ticks held.ticks (length held.game.log))) _ (omega (arith, some, here.left)) (ap length (sym pieces.pieces) ∙ pieces.each)
           (c.line-line.ensures.line ∙ ap (λ p. get_or held.game.log p []) step.1) (c.index-pieces-place.is ∙ ap (λ ps. get_or ps c.in-Some.place piece) pieces.pieces ∙ ap (λ p. get_or held.pieces p piece) step.1) turns
           here.told (search rules));
     }
@@ -50,7 +51,11 @@ returns c =
     let none = ap length c.in-None.ensures.steps.0.0 in
     let ended = told_from-end (rendered cave) held.ticks place held.game.log pieces (omega (arith, none, c.loop-place.invariant.left)) in
     let played = transcript-played cave _ held.game _ pieces held.ticks _ (c.requires ∙ sym c.cave-cave.ensures) c.opening.ensures.plays in
-    let end = closing (ticks held.ticks (length held.game.log)) in
+    let end = closing (score_of cave held.state) (max_score_of cave) (ticks held.ticks (length held.game.log)) in
     let whole = ap (λ t. c.loop-place.text.items ++ (t ++ end)) (sym ended) ∙ c.loop-place.invariant.told ∙ ap (λ t. old ++ t) (played ∙ ap (λ k. play_text k held.game) c.cave-cave.ensures) in
     let turns : c.ticks.result ≡ ticks held.ticks (length held.game.log) = c.ticks.ensures ∙ ap (ticks held.ticks) c.lines-lines.ensures.lines in
-    on_ok_weaker c.push_closing.result (λ told. told ∙ ap (λ n. c.loop-place.text.items ++ closing n) turns ∙ whole) c.push_closing.ensures
+    let same = sym c.cave-cave.ensures in
+    let score = c.score-score.ensures ∙ ap (λ k. score_of k c.state.result.now) same ∙ ap (score_of cave) c.state.ensures.state in
+    let most = c.max_score.ensures ∙ ap max_score_of same in
+    let told_end : closing c.score-score.result c.max_score.result c.ticks.result ≡ end = rw (score, most, turns) refl in
+    on_ok_weaker c.push_closing.result (λ told. told ∙ ap (λ t. c.loop-place.text.items ++ t) told_end ∙ whole) c.push_closing.ensures

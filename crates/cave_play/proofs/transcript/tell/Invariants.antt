@@ -4,6 +4,7 @@ use Rattle.std.specs.Prelude.{slice_index}
 use Rattle.std.specs.Iterator.Adapters.{enumerate_source, enumerate_count}
 use Rattle.cave_play.specs.CaveRules.{rendered}
 use Rattle.cave_play.specs.Transcript.{closing, ticks, transcript}
+use Rattle.cave_score.specs.Score.{score_of, max_score_of}
 use Rattle.cave_play.proofs.TranscriptLemmas.{told_from}
 use Rattle.cave_play.proofs.transcript.tell.Given as goal
 
@@ -18,6 +19,6 @@ invariant-loop-place l =
       ends : (goal.iterator-loop-place).is_finite l.place-iterator;
       left : place + length counts ≡ length held.game.log;
       turns : (k : ℕ) → k < length counts → slice_index counts k ≡ ticks held.ticks (place + k + 1);
-      told : l.text.items ++ (told_from (rendered l.cave) held.ticks place held.game.log pieces ++ closing (ticks held.ticks (length held.game.log)))
-          ≡ l.fn.text.items ++ transcript (rendered l.cave) held.opening.items held.game.log pieces held.ticks;
+      told : l.text.items ++ (told_from (rendered l.cave) held.ticks place held.game.log pieces ++ closing (score_of l.cave held.state) (max_score_of l.cave) (ticks held.ticks (length held.game.log)))
+          ≡ l.fn.text.items ++ transcript (rendered l.cave) held.opening.items held.game.log pieces held.ticks (score_of l.cave held.state) (max_score_of l.cave);
     }

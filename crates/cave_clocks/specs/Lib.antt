@@ -1,0 +1,4 @@
+pub mod Clocks
+pub mod FirstClock
+pub mod Lamp
+pub mod Repository

@@ -1,0 +1,79 @@
+-- What the five dwarves do, one after another.
+use Rattle.std.specs.Prelude.{ℕ, zero, suc, ◌+◌, ◌-◌, ◌*◌, ◌==◌, not, nat_lt, if◌then◌else◌}
+use Rattle.cave_data.specs.CaveView.{CaveView}
+use Rattle.cave_words.specs.Stream.{drawn}
+use Rattle.cave_world.specs.declared.dwarves.Knife.{Knife}
+use Rattle.cave_world.specs.declared.dwarves.Knife.TheVariants as knife
+use Rattle.cave_world.specs.declared.state.State.{State}
+use Rattle.cave_dwarves.specs.Band.{dwarf_of, with_dwarves, drawing}
+use Rattle.cave_dwarves.specs.Moving.{moved_on}
+use Rattle.cave_dwarves.specs.declared.knives.Threat.{Threat}
+use Rattle.cave_dwarves.specs.declared.knives.Threat.TheVariants as threat
+use Rattle.cave_dwarves.specs.declared.knives.Attack.{Attack}
+
+-- what a dwarf did, and what the state is then
+pub record Act : Type 0 where
+  pub threat : Threat
+  pub state : State
+
+-- the knife once one was thrown here; one that vanished stays so
+abbrev pub fallen_knife : ℕ → Knife → Knife
+fallen_knife here knife.Unthrown = knife.At here
+fallen_knife here (knife.At place) = knife.At here
+fallen_knife here knife.Vanished = knife.Vanished
+
+-- a knife was thrown here
+unfoldable pub with_knife_here : State → State
+with_knife_here s =
+    let dwarves = s.dwarves in
+    with_dwarves (record dwarves { knife = fallen_knife s.trail.here dwarves.knife }) s
+
+-- of 1000 numbers one is drawn: a knife hits by 95 of them for each degree of anger over 2
+unfoldable pub knife_thrown : State → Act
+knife_thrown s = record {
+  threat =
+      if nat_lt (drawn 1000 s.stream) (95 * (s.dwarves.anger - 2)) then threat.Hits
+      else threat.Misses;
+  state = with_knife_here (drawing s);
+}
+
+-- a dwarf that sees the player is here, and if it was here before, it throws a knife
+unfoldable pub threatened : ℕ → State → Act
+threatened number s =
+    let dwarf = dwarf_of s number in
+    if not dwarf.has_seen then record { threat = threat.Nothing; state = s }
+    else (if dwarf.last == s.trail.here then knife_thrown s
+    else record { threat = threat.Stands; state = s })
+
+-- a dwarf moves and then threatens the player; one that is gone does nothing
+unfoldable pub acted : CaveView → ℕ → State → Act
+acted cave number s =
+    if (dwarf_of s number).place == 0 then record { threat = threat.Nothing; state = s }
+    else threatened number (moved_on cave number s)
+
+-- what a dwarf did is counted
+abbrev pub with_threat : Threat → Attack → Attack
+with_threat threat.Nothing a = a
+with_threat threat.Stands a = record a { dwarves = a.dwarves + 1 }
+with_threat threat.Misses a = record a { dwarves = a.dwarves + 1; knives = a.knives + 1 }
+with_threat threat.Hits a =
+    record { dwarves = a.dwarves + 1; knives = a.knives + 1; hits = a.hits + 1 }
+
+-- nothing is done to the player
+abbrev pub no_attack : Attack
+no_attack = record { dwarves = 0; knives = 0; hits = 0 }
+
+-- what dwarves did together, and what the state is then
+pub record Raid : Type 0 where
+  pub attack : Attack
+  pub state : State
+
+-- what one more dwarf did is added to what the others did
+abbrev pub joined : Act → Attack → Raid
+joined act attack = record { attack = with_threat act.threat attack; state = act.state }
+
+-- so many dwarves act, one after another
+unfoldable pub raided : CaveView → ℕ → State → Raid
+raided cave zero s = record { attack = no_attack; state = s }
+raided cave (suc number) s =
+    let before = raided cave number s in joined (acted cave number before.state) before.attack

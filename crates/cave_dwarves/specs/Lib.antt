@@ -1,0 +1,9 @@
+pub mod Band
+pub mod Dwarves
+pub mod Knives
+pub mod Lines
+pub mod Moving
+pub mod Pirate
+pub mod Robbing
+pub mod Waking
+pub mod Ways

@@ -1,0 +1,86 @@
+ghost use Rattle.std.specs.Prelude.{◌≡◌};
+ghost use Rattle.cave_data.specs.Shown.{going};
+ghost use Rattle.cave_things.specs.Places.{is_that};
+ghost use Rattle.cave_things.specs.Things.{cave_of};
+ghost use Rattle.cave_dwarves.specs.Ways.{is_haunt, leads_on, place_ahead, candidates};
+
+use crate::haunt::Haunt;
+use arrayvec::ArrayVec;
+use cave_data::Row;
+use cave_things::{Condition, Rules};
+use cave_world::{Dwarf, Place, is_forced};
+
+/// The most places among which a dwarf chooses.
+pub const MAX_CANDIDATES: usize = 19;
+
+/// The first of the places where dwarves go.
+const FIRST_HAUNT: u16 = 15;
+
+/// The greatest number of a place.
+const LAST_PLACE: u32 = 300;
+
+/// The condition of a row that is closed to dwarves.
+const CLOSED_TO_DWARVES: u32 = 100;
+
+/// Whether a dwarf goes to a place; the pirate keeps away from more of them.
+#[tactic(auto, unfolding(crate::specs::Ways::is_haunt))]
+fn is_haunt(rules: &Rules<'_>, is_pirate: bool, place: Place) -> bool
+    ensures { result ≡ is_haunt (cave_of rules.now) is_pirate place }
+{
+    FIRST_HAUNT <= place.number()
+        && !is_forced(rules.cave, place)
+        && !(is_pirate && rules.has(place, Condition::NoPirate))
+}
+
+/// The place to which a row leads a dwarf on.
+#[tactic(auto, unfolding(crate::specs::Ways::place_ahead, crate::specs::Ways::leads_on, crate::specs::Ways::is_haunt))]
+fn place_ahead(rules: &Rules<'_>, is_pirate: bool, dwarf: &Dwarf, row: &Row) -> Option<Place>
+    ensures { result ≡ place_ahead (cave_of rules.now) is_pirate dwarf.now (going row.now) }
+{
+    let number = row.target % 1000;
+    if row.target / 1000 == CLOSED_TO_DWARVES || number > LAST_PLACE {
+        return None;
+    }
+    let place = Place::new(number as u16);
+    if place == dwarf.last || place == dwarf.place || !is_haunt(rules, is_pirate, place) {
+        return None;
+    }
+    Some(place)
+}
+
+/// Whether a place is the last one that was kept.
+fn is_kept(place: Place, last: &Option<Place>) -> bool
+    ensures { result ≡ is_that place last.now }
+{
+    match last {
+        Some(kept) => *kept == place,
+        None => false,
+    }
+}
+
+/// The places to which the rows of a dwarf's place lead it, in the order of the rows.
+#[tactic(auto, unfolding(crate::specs::Ways::candidates))]
+pub fn candidates(
+    rules: &Rules<'_>,
+    is_pirate: bool,
+    dwarf: &Dwarf,
+) -> ArrayVec<Haunt, MAX_CANDIDATES>
+    ensures { result.items ≡ candidates (cave_of rules.now) is_pirate dwarf.now }
+{
+    let mut found = ArrayVec::new();
+    let mut last = None;
+    for row in rules.cave.travel(dwarf.place.number()) {
+        if found.len() == MAX_CANDIDATES {
+            return found;
+        }
+        let Some(place) = place_ahead(rules, is_pirate, dwarf, row) else {
+            continue;
+        };
+        if is_kept(place, &last) {
+            continue;
+        }
+        found.push(Haunt::at(place));
+        last = Some(place);
+    }
+    found
+}

@@ -1,0 +1,49 @@
+ghost use Rattle.std.specs.Prelude.{◌≡◌};
+ghost use Rattle.cave_things.specs.Bounds.{HasRoom, SaysUpTo, parts_of_dwarves};
+ghost use Rattle.cave_things.specs.Plays.{scene_of, GoesOn};
+ghost use Rattle.cave_things.specs.Things.{cave_of};
+ghost use Rattle.cave_dwarves.specs.Dwarves.{harried, dwarves_moved};
+
+use crate::knives::raid;
+use crate::lines::tell_attack;
+use crate::pirate::send_pirate;
+use crate::waking::{awake, stir};
+use cave_things::{Play, Rules};
+
+/// Dwarves that are awake act, and then the pirate. Tells whether a knife hit the player.
+#[tactic(auto, unfolding(crate::specs::Dwarves::harried))]
+fn harry(rules: &Rules<'_>, play: &mut Play<'_>) -> bool
+    requires { HasRoom parts_of_dwarves play.old }
+    ensures moves { record { is_hit = result; scene = scene_of play.new }
+        ≡ harried (cave_of rules.now) (scene_of play.old) }
+    ensures same { GoesOn play.old play.new }
+    ensures few { SaysUpTo parts_of_dwarves play.old play.new }
+{
+    let attack = raid(rules, play.state);
+    send_pirate(rules, play);
+    tell_attack(attack, play);
+    attack.hits != 0
+}
+
+/// The dwarves sleep, stir, or are awake, where the player arrives.
+/// Tells whether a knife hit the player.
+#[tactic(auto, unfolding(crate::specs::Dwarves::dwarves_moved))]
+pub fn move_dwarves(rules: &Rules<'_>, play: &mut Play<'_>) -> bool
+    requires { HasRoom parts_of_dwarves play.old }
+    ensures moves { record { is_hit = result; scene = scene_of play.new }
+        ≡ dwarves_moved (cave_of rules.now) (scene_of play.old) }
+    ensures same { GoesOn play.old play.new }
+    ensures few { SaysUpTo parts_of_dwarves play.old play.new }
+{
+    match play.state.dwarves.anger.number() {
+        0 => {
+            stir(rules, play.state);
+            false
+        }
+        1 => {
+            awake(rules, play);
+            false
+        }
+        _ => harry(rules, play),
+    }
+}

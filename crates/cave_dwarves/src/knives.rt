@@ -1,0 +1,143 @@
+ghost use Rattle.std.specs.Prelude.{◌≡◌, ◌≤◌, ◌<◌, ◌+◌};
+ghost use Rattle.cave_things.specs.Things.{cave_of};
+ghost use Rattle.cave_dwarves.specs.Knives.{fallen_knife, with_knife_here, knife_thrown};
+ghost use Rattle.cave_dwarves.specs.Knives.{threatened, acted, with_threat, no_attack, raided};
+
+use crate::band::dwarf_of;
+use crate::moving::move_on;
+use cave_things::Rules;
+use cave_world::{Knife, Place, State};
+
+/// What a dwarf does to the player.
+#[derive(Clone, Copy, Debug, PartialEq, Eq)]
+pub enum Threat {
+    /// It does nothing, and isn't seen.
+    Nothing,
+    /// It stands where the player stands.
+    Stands,
+    /// It throws a knife that misses.
+    Misses,
+    /// It throws a knife that hits.
+    Hits,
+}
+
+/// What dwarves do to the player together.
+#[derive(Clone, Copy, Debug, PartialEq, Eq)]
+pub struct Attack {
+    /// The dwarves that stand where the player stands.
+    pub dwarves: u32,
+    /// The knives that were thrown.
+    pub knives: u32,
+    /// The knives that hit.
+    pub hits: u32,
+}
+
+impl Attack {
+    /// Nothing is done to the player.
+    pub fn none() -> Attack
+        ensures { result ≡ no_attack }
+    {
+        Attack {
+            dwarves: 0,
+            knives: 0,
+            hits: 0,
+        }
+    }
+
+    /// What a dwarf does is added.
+    pub fn with(self, threat: Threat) -> Attack
+        requires dwarves { self.dwarves < 5 }
+        requires knives { self.knives < 5 }
+        requires hits { self.hits < 5 }
+        ensures value { result ≡ with_threat threat self }
+        ensures dwarf { result.dwarves ≤ self.dwarves + 1 }
+        ensures knife { result.knives ≤ self.knives + 1 }
+        ensures hit { result.hits ≤ self.hits + 1 }
+    {
+        let (dwarves, knives, hits) = match threat {
+            Threat::Nothing => (0, 0, 0),
+            Threat::Stands => (1, 0, 0),
+            Threat::Misses => (1, 1, 0),
+            Threat::Hits => (1, 1, 1),
+        };
+        Attack {
+            dwarves: self.dwarves + dwarves,
+            knives: self.knives + knives,
+            hits: self.hits + hits,
+        }
+    }
+}
+
+/// The knife once one was thrown here. One that vanished stays so.
+fn fallen_knife(here: Place, knife: Knife) -> Knife
+    ensures { result ≡ fallen_knife here knife }
+{
+    match knife {
+        Knife::Unthrown | Knife::At(_) => Knife::At(here),
+        Knife::Vanished => Knife::Vanished,
+    }
+}
+
+/// A knife was thrown here.
+#[tactic(auto, unfolding(crate::specs::Knives::with_knife_here))]
+fn drop_knife(state: &mut State)
+    ensures { state.new ≡ with_knife_here state.old }
+{
+    state.dwarves.knife = fallen_knife(state.trail.here, state.dwarves.knife);
+}
+
+/// A knife is thrown at the player. It hits the more often the angrier the dwarves are.
+#[tactic(auto, unfolding(crate::specs::Knives::knife_thrown))]
+fn throw_knife(state: &mut State) -> Threat
+    ensures { record { threat = result; state = state.new } ≡ knife_thrown state.old }
+{
+    let chances = 95 * u32::from(state.dwarves.anger.number().saturating_sub(2));
+    let is_hit = state.stream.draw(1000) < chances;
+    drop_knife(state);
+    if is_hit { Threat::Hits } else { Threat::Misses }
+}
+
+/// A dwarf that sees the player is here, and throws a knife if it was here before.
+#[tactic(auto, unfolding(crate::specs::Knives::threatened))]
+fn threaten(number: usize, state: &mut State) -> Threat
+    requires { number < 6 }
+    ensures { record { threat = result; state = state.new } ≡ threatened number state.old }
+{
+    let dwarf = dwarf_of(state, number);
+    if !dwarf.has_seen {
+        return Threat::Nothing;
+    }
+    if dwarf.last == state.trail.here {
+        return throw_knife(state);
+    }
+    Threat::Stands
+}
+
+/// A dwarf moves and then threatens the player. One that is gone does nothing.
+#[tactic(auto, unfolding(crate::specs::Knives::acted))]
+fn act(rules: &Rules<'_>, number: usize, state: &mut State) -> Threat
+    requires { number < 6 }
+    ensures { record { threat = result; state = state.new }
+        ≡ acted (cave_of rules.now) number state.old }
+{
+    if dwarf_of(state, number).place.number() == 0 {
+        return Threat::Nothing;
+    }
+    move_on(rules, number, state);
+    threaten(number, state)
+}
+
+/// The five dwarves act, one after another.
+pub fn raid(rules: &Rules<'_>, state: &mut State) -> Attack
+    ensures raid { record { attack = result; state = state.new }
+        ≡ raided (cave_of rules.now) 5 state.old }
+    ensures dwarves { result.dwarves ≤ 5 }
+    ensures knives { result.knives ≤ 5 }
+    ensures hits { result.hits ≤ 5 }
+{
+    let mut attack = Attack::none();
+    for number in 0..5 {
+        attack = attack.with(act(rules, number, state));
+    }
+    attack
+}

@@ -1,0 +1,15 @@
+//! The dwarves and the pirate: how they wake, where they go, and what they do to the player.
+#![tactic(auto)]
+
+mod band;
+mod booty;
+mod candidates;
+pub mod dwarves;
+mod haunt;
+mod knives;
+mod lines;
+mod moving;
+mod pirate;
+mod waking;
+
+pub use dwarves::move_dwarves;

@@ -1,0 +1,109 @@
+ghost use Rattle.std.specs.Prelude.{◌≡◌};
+ghost use Rattle.cave_things.specs.Bounds.{HasRoom, SaysUpTo};
+ghost use Rattle.cave_things.specs.Plays.{scene_of, GoesOn};
+ghost use Rattle.cave_dwarves.specs.Lines.{telling_number, dwarves_told, knife_told, knives_told};
+ghost use Rattle.cave_dwarves.specs.Lines.{enraged, throws_told, attack_told};
+
+use crate::knives::Attack;
+use crate::waking::anger;
+use cave_data::Role;
+use cave_things::Play;
+use cave_world::{NumberLine, Part, State};
+
+/// A line of the game's own with a number is told.
+fn tell_number(line: NumberLine, number: u32, play: &mut Play<'_>)
+    requires { HasRoom 1 play.old }
+    ensures play { scene_of play.new ≡ telling_number line number (scene_of play.old) }
+    ensures same { GoesOn play.old play.new }
+    ensures few { SaysUpTo 1 play.old play.new }
+{
+    play.tell(Part::Number(line, number, 0));
+}
+
+/// How many dwarves are here is told.
+#[tactic(auto, unfolding(crate::specs::Lines::dwarves_told))]
+fn tell_dwarves(dwarves: u32, play: &mut Play<'_>)
+    requires { HasRoom 1 play.old }
+    ensures play { scene_of play.new ≡ dwarves_told dwarves (scene_of play.old) }
+    ensures same { GoesOn play.old play.new }
+    ensures few { SaysUpTo 1 play.old play.new }
+{
+    match dwarves {
+        0 => (),
+        1 => play.say(Role::DwarfOne),
+        _ => tell_number(NumberLine::DwarvesHere, dwarves, play),
+    }
+}
+
+/// One knife is told, and whether it hit.
+#[tactic(auto, unfolding(crate::specs::Lines::knife_told))]
+fn tell_knife(hits: u32, play: &mut Play<'_>)
+    requires { HasRoom 2 play.old }
+    ensures play { scene_of play.new ≡ knife_told hits (scene_of play.old) }
+    ensures same { GoesOn play.old play.new }
+    ensures few { SaysUpTo 2 play.old play.new }
+{
+    play.say(Role::KnifeOne);
+    if hits == 0 {
+        play.say(Role::MissOne);
+    } else {
+        play.say(Role::HitOne);
+    }
+}
+
+/// Several knives are told, and how many hit.
+#[tactic(auto, unfolding(crate::specs::Lines::knives_told))]
+fn tell_knives(knives: u32, hits: u32, play: &mut Play<'_>)
+    requires { HasRoom 2 play.old }
+    ensures play { scene_of play.new ≡ knives_told knives hits (scene_of play.old) }
+    ensures same { GoesOn play.old play.new }
+    ensures few { SaysUpTo 2 play.old play.new }
+{
+    tell_number(NumberLine::KnivesThrown, knives, play);
+    match hits {
+        0 => play.say(Role::MissAll),
+        1 => play.say(Role::HitMany),
+        _ => tell_number(NumberLine::KnivesHit, hits, play),
+    }
+}
+
+/// Dwarves that threw knives for the first time are angrier from then on.
+#[tactic(auto, unfolding(crate::specs::Lines::enraged))]
+fn enrage(state: &mut State)
+    ensures { state.new ≡ enraged state.old }
+{
+    if state.dwarves.anger.number() == 2 {
+        anger(3, state);
+    }
+}
+
+/// The knives are told, if any were thrown.
+#[tactic(auto, unfolding(crate::specs::Lines::throws_told))]
+fn tell_throws(attack: Attack, play: &mut Play<'_>)
+    requires { HasRoom 2 play.old }
+    ensures play { scene_of play.new ≡ throws_told attack (scene_of play.old) }
+    ensures same { GoesOn play.old play.new }
+    ensures few { SaysUpTo 2 play.old play.new }
+{
+    if attack.knives == 0 {
+        return;
+    }
+    enrage(play.state);
+    if attack.knives == 1 {
+        tell_knife(attack.hits, play);
+    } else {
+        tell_knives(attack.knives, attack.hits, play);
+    }
+}
+
+/// The dwarves are told, and then their knives.
+#[tactic(auto, unfolding(crate::specs::Lines::attack_told))]
+pub fn tell_attack(attack: Attack, play: &mut Play<'_>)
+    requires { HasRoom 3 play.old }
+    ensures play { scene_of play.new ≡ attack_told attack (scene_of play.old) }
+    ensures same { GoesOn play.old play.new }
+    ensures few { SaysUpTo 3 play.old play.new }
+{
+    tell_dwarves(attack.dwarves, play);
+    tell_throws(attack, play);
+}

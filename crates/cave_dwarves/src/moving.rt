@@ -1,0 +1,58 @@
+ghost use Rattle.std.specs.Prelude.{◌≡◌, ◌<◌, ◌==◌};
+ghost use Rattle.cave_words.specs.Stream.{next};
+ghost use Rattle.cave_things.specs.Things.{cave_of};
+ghost use Rattle.cave_dwarves.specs.Moving.{chosen_way, sees, gone_on, moved_on};
+
+use crate::band::{PIRATE, dwarf_of, set_dwarf};
+use crate::candidates::candidates;
+use cave_things::{Rules, deep_place};
+use cave_words::Stream;
+use cave_world::{Dwarf, Place, State};
+
+/// Draws one of the ways of a dwarf, also where there is but one.
+#[tactic(auto, unfolding(crate::specs::Moving::chosen_way, crate::specs::Ways::ways_of))]
+fn choose_way(rules: &Rules<'_>, is_pirate: bool, dwarf: &Dwarf, stream: &mut Stream) -> Place
+    ensures place { result ≡ chosen_way (cave_of rules.now) is_pirate dwarf.now stream.old }
+    ensures moves_on { stream.new ≡ next stream.old }
+{
+    let candidates = candidates(rules, is_pirate, dwarf);
+    if candidates.is_empty() {
+        stream.draw(1);
+        return dwarf.last;
+    }
+    let drawn = stream.draw(candidates.len() as u32);
+    candidates[drawn as usize].place()
+}
+
+fn sees(rules: &Rules<'_>, here: Place, dwarf: &Dwarf, place: Place) -> bool
+    ensures { result ≡ sees (cave_of rules.now) here dwarf.now place }
+{
+    (dwarf.has_seen && deep_place(rules.cave).number() <= here.number())
+        || place == here
+        || dwarf.place == here
+}
+
+/// A dwarf that goes to a place, or to the player whom it sees.
+#[tactic(auto, unfolding(crate::specs::Moving::gone_on))]
+fn go_on(rules: &Rules<'_>, here: Place, dwarf: &Dwarf, place: Place) -> Dwarf
+    ensures { result ≡ gone_on (cave_of rules.now) here dwarf.now place }
+{
+    let sees = sees(rules, here, dwarf, place);
+    Dwarf {
+        place: if sees { here } else { place },
+        last: dwarf.place,
+        has_seen: sees,
+    }
+}
+
+/// The dwarf of a number moves.
+#[tactic(auto, unfolding(crate::specs::Moving::moved_on))]
+pub fn move_on(rules: &Rules<'_>, number: usize, state: &mut State)
+    requires { number < 6 }
+    ensures { state.new ≡ moved_on (cave_of rules.now) number state.old }
+{
+    let dwarf = dwarf_of(state, number);
+    let place = choose_way(rules, number == PIRATE, &dwarf, &mut state.stream);
+    let dwarf = go_on(rules, state.trail.here, &dwarf, place);
+    set_dwarf(number, dwarf, state);
+}

@@ -1,0 +1,134 @@
+ghost use Rattle.std.specs.Prelude.{◌≡◌, ◌<◌, ◌≤◌};
+ghost use Rattle.cave_things.specs.Bounds.{HasRoom, SaysUpTo};
+ghost use Rattle.cave_things.specs.Plays.{scene_of, GoesOn};
+ghost use Rattle.cave_things.specs.Things.{cave_of};
+ghost use Rattle.cave_things.specs.Effects.{put_here};
+ghost use Rattle.cave_dwarves.specs.Waking.{with_anger, stirred, without_dwarf};
+ghost use Rattle.cave_dwarves.specs.Waking.{perhaps_without_one, place_apart, dwarf_apart};
+ghost use Rattle.cave_dwarves.specs.Waking.{all_kept_apart, woken, axe_thrown, awoken};
+
+use crate::band::{dwarf_of, set_dwarf};
+use cave_data::{PlaceRole, Role};
+use cave_things::{Play, Rules, deep_place, place_named, place_or};
+use cave_words::Named;
+use cave_world::{Count, Dwarf, Place, State};
+
+/// The dwarves are so angry from now on.
+pub fn anger(degree: u16, state: &mut State)
+    requires { degree ≤ 13 }
+    ensures { state.new ≡ with_anger degree state.old }
+{
+    state.dwarves.anger = Count::new(degree);
+}
+
+/// The dwarves stir once the player comes to the depths.
+#[tactic(auto, unfolding(crate::specs::Waking::stirred))]
+pub fn stir(rules: &Rules<'_>, state: &mut State)
+    ensures { state.new ≡ stirred (cave_of rules.now) state.old }
+{
+    if deep_place(rules.cave).number() <= state.trail.here.number() {
+        anger(1, state);
+    }
+}
+
+/// A dwarf goes nowhere.
+#[tactic(auto, unfolding(crate::specs::Waking::without_dwarf))]
+fn remove_dwarf(number: usize, state: &mut State)
+    requires { number < 5 }
+    ensures { state.new ≡ without_dwarf number state.old }
+{
+    let dwarf = dwarf_of(state, number);
+    let gone = Dwarf {
+        place: Place::new(0),
+        last: dwarf.last,
+        has_seen: dwarf.has_seen,
+    };
+    set_dwarf(number, gone, state);
+}
+
+/// One of the five is drawn, and in half of the cases it is no more.
+#[tactic(auto, unfolding(crate::specs::Waking::perhaps_without_one))]
+fn perhaps_remove_one(state: &mut State)
+    ensures { state.new ≡ perhaps_without_one state.old }
+{
+    let number = state.stream.draw(5);
+    if state.stream.pct(50) {
+        remove_dwarf(number as usize, state);
+    }
+}
+
+/// Where a dwarf goes that is to be elsewhere than the player.
+fn place_apart(rules: &Rules<'_>, here: Place, place: Place) -> Place
+    ensures { result ≡ place_apart (cave_of rules.now) here place }
+{
+    if place == here {
+        place_or(place, place_named(rules.cave, PlaceRole::Dwarfalt))
+    } else {
+        place
+    }
+}
+
+#[tactic(auto, unfolding(crate::specs::Waking::dwarf_apart))]
+fn dwarf_apart(rules: &Rules<'_>, here: Place, dwarf: &Dwarf) -> Dwarf
+    ensures { result ≡ dwarf_apart (cave_of rules.now) here dwarf.now }
+{
+    let place = place_apart(rules, here, dwarf.place);
+    Dwarf {
+        place,
+        last: place,
+        has_seen: dwarf.has_seen,
+    }
+}
+
+/// The five dwarves are kept apart from the player, and forget where they came from.
+fn keep_apart(rules: &Rules<'_>, state: &mut State)
+    ensures { state.new ≡ all_kept_apart (cave_of rules.now) 5 state.old }
+{
+    for number in 0..5 {
+        let dwarf = dwarf_of(state, number);
+        let dwarf = dwarf_apart(rules, state.trail.here, &dwarf);
+        set_dwarf(number, dwarf, state);
+    }
+}
+
+/// The dwarves are awake, and two of them may be no more.
+#[tactic(auto, unfolding(crate::specs::Waking::woken))]
+fn wake(rules: &Rules<'_>, state: &mut State)
+    ensures { state.new ≡ woken (cave_of rules.now) state.old }
+{
+    anger(2, state);
+    perhaps_remove_one(state);
+    perhaps_remove_one(state);
+    keep_apart(rules, state);
+}
+
+/// The dwarves wake, and one throws its axe, which stays where the player stands.
+#[tactic(auto, unfolding(crate::specs::Waking::axe_thrown))]
+fn throw_axe(rules: &Rules<'_>, play: &mut Play<'_>)
+    requires { HasRoom 1 play.old }
+    ensures play { scene_of play.new ≡ axe_thrown (cave_of rules.now) (scene_of play.old) }
+    ensures same { GoesOn play.old play.new }
+    ensures few { SaysUpTo 1 play.old play.new }
+{
+    wake(rules, play.state);
+    play.say(Role::AxeThrown);
+    let here = play.state.trail.here;
+    play.state.move_to(rules.object(Named::Axe), here);
+}
+
+/// In the depths, dwarves that stir may wake.
+#[tactic(auto, unfolding(crate::specs::Waking::awoken))]
+pub fn awake(rules: &Rules<'_>, play: &mut Play<'_>)
+    requires { HasRoom 1 play.old }
+    ensures play { scene_of play.new ≡ awoken (cave_of rules.now) (scene_of play.old) }
+    ensures same { GoesOn play.old play.new }
+    ensures few { SaysUpTo 1 play.old play.new }
+{
+    if play.state.trail.here.number() < deep_place(rules.cave).number() {
+        return;
+    }
+    if play.chance(95) {
+        return;
+    }
+    throw_axe(rules, play);
+}

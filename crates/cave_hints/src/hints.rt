@@ -1,0 +1,252 @@
+//! Hints: one is offered to a player who stays for long where it helps, and who needs it.
+
+ghost use Rattle.std.specs.Prelude.{◌≡◌, ◌≤◌, ◌<◌, ◌+◌, ◌*◌, false, true};
+ghost use Rattle.cave_things.specs.Bounds.{HasRoom, SaysUpTo, parts_of_question};
+ghost use Rattle.cave_things.specs.Plays.{scene_of, GoesOn};
+ghost use Rattle.cave_things.specs.Things.{cave_of};
+ghost use Rattle.cave_hints.specs.Hints.{turns_near, with_turns_near, was_taken, with_hint_taken};
+ghost use Rattle.cave_hints.specs.Hints.{is_in_area, waited, is_due, is_bare, is_locked_out};
+ghost use Rattle.cave_hints.specs.Hints.{is_after_bird, is_held_by_snake, is_lost_in_maze};
+ghost use Rattle.cave_hints.specs.Hints.{is_short_of_pyramid, is_needed, put_off, offered};
+ghost use Rattle.cave_hints.specs.Hints.{considered, all_considered, priced, rewarded, given};
+ghost use Rattle.cave_world.specs.State.{is_over};
+
+use cave_data::Hint;
+use cave_score::ask;
+use cave_things::{Play, Rules, has_other_prop, has_prop};
+use cave_words::Named;
+use cave_world::{
+    Charge, Count, HintNumber, NumberLine, Part, Place, Question, State, has_condition,
+};
+
+/// The hints that are offered begin with this one.
+const FIRST_HINT: u8 = 4;
+
+/// How many hints are offered.
+const HINTS: u8 = 17;
+
+/// The hint of the bird.
+const BIRD_HINT: u8 = 5;
+
+/// How many turns the player has stayed in the area of a hint.
+fn turns_near(hint: HintNumber, state: &State) -> Count<10000>
+    ensures { result ≡ turns_near hint state.now }
+{
+    state.hints.turns[usize::from(hint.number()) - 1]
+}
+
+fn set_turns_near(hint: HintNumber, turns: Count<10000>, state: &mut State)
+    ensures { state.new ≡ with_turns_near hint turns state.old }
+{
+    state.hints.turns[usize::from(hint.number()) - 1] = turns;
+}
+
+fn was_taken(hint: HintNumber, state: &State) -> bool
+    ensures { result ≡ was_taken hint state.now }
+{
+    state.hints.is_taken[usize::from(hint.number()) - 1]
+}
+
+fn take_hint(hint: HintNumber, state: &mut State)
+    ensures { state.new ≡ with_hint_taken hint state.old }
+{
+    state.hints.is_taken[usize::from(hint.number()) - 1] = true;
+}
+
+fn is_in_area(rules: &Rules<'_>, hint: HintNumber, state: &State) -> bool
+    ensures { result ≡ is_in_area (cave_of rules.now) hint state.now }
+{
+    has_condition(rules.cave, state.trail.here, hint.number())
+}
+
+/// One turn more in the area of a hint, or none outside it.
+#[tactic(auto, unfolding(crate::specs::Hints::waited, cave_world::specs::State::is_over))]
+fn wait(rules: &Rules<'_>, hint: HintNumber, state: &mut State)
+    ensures state { state.new ≡ waited (cave_of rules.now) hint state.old }
+    ensures over { is_over state.new ≡ is_over state.old }
+{
+    let turns = if is_in_area(rules, hint, state) {
+        turns_near(hint, state).up()
+    } else {
+        Count::new(0)
+    };
+    set_turns_near(hint, turns, state);
+}
+
+/// Whether the player has stayed for long enough, and no question is open.
+#[tactic(auto, unfolding(crate::specs::Hints::is_due))]
+fn is_due(rules: &Rules<'_>, number: HintNumber, hint: &Hint, state: &State) -> bool
+    ensures { result ≡ is_due (cave_of rules.now) number hint.now state.now }
+{
+    is_in_area(rules, number, state)
+        && hint.turns <= turns_near(number, state).number()
+        && !state.is_over()
+}
+
+#[tactic(auto, unfolding(crate::specs::Hints::is_locked_out))]
+fn is_locked_out(rules: &Rules<'_>, state: &State) -> bool
+    ensures { result ≡ is_locked_out (cave_of rules.now) state.now }
+{
+    has_prop(state, rules.object(Named::Grate), 0)
+        && !rules.is_near(state, rules.object(Named::Keys))
+}
+
+#[tactic(auto, unfolding(crate::specs::Hints::is_after_bird))]
+fn is_after_bird(rules: &Rules<'_>, state: &State) -> bool
+    ensures { result ≡ is_after_bird (cave_of rules.now) state.now }
+{
+    rules.is_near(state, rules.object(Named::Bird))
+        && rules.is_toted(state, rules.object(Named::Rod))
+        && rules.is(state.talk.last, Named::Bird)
+}
+
+#[tactic(auto, unfolding(crate::specs::Hints::is_held_by_snake))]
+fn is_held_by_snake(rules: &Rules<'_>, state: &State) -> bool
+    ensures { result ≡ is_held_by_snake (cave_of rules.now) state.now }
+{
+    rules.is_near(state, rules.object(Named::Snake))
+        && !rules.is_near(state, rules.object(Named::Bird))
+}
+
+fn is_bare(place: Place, state: &State) -> bool
+    ensures { result ≡ is_bare state.now place }
+{
+    state.objects_at(place).len() == 0
+}
+
+#[tactic(auto, unfolding(crate::specs::Hints::is_lost_in_maze))]
+fn is_lost_in_maze(state: &State) -> bool
+    ensures { result ≡ is_lost_in_maze state.now }
+{
+    is_bare(state.trail.here, state)
+        && is_bare(state.trail.last, state)
+        && is_bare(state.trail.older, state)
+        && 1 < state.holding()
+}
+
+#[tactic(auto, unfolding(crate::specs::Hints::is_short_of_pyramid))]
+fn is_short_of_pyramid(rules: &Rules<'_>, state: &State) -> bool
+    ensures { result ≡ is_short_of_pyramid (cave_of rules.now) state.now }
+{
+    has_other_prop(state, rules.object(Named::Emerald), -1)
+        && has_prop(state, rules.object(Named::Pyramid), -1)
+}
+
+/// Whether the player needs a hint.
+fn is_needed(rules: &Rules<'_>, hint: HintNumber, state: &State) -> bool
+    ensures { result ≡ is_needed (cave_of rules.now) hint state.now }
+{
+    match hint.number() {
+        4 => is_locked_out(rules, state),
+        BIRD_HINT => is_after_bird(rules, state),
+        6 => is_held_by_snake(rules, state),
+        7 => is_lost_in_maze(state),
+        8 => is_short_of_pyramid(rules, state),
+        _ => true,
+    }
+}
+
+#[tactic(auto, unfolding(cave_world::specs::State::is_over))]
+fn put_off(hint: HintNumber, state: &mut State)
+    ensures state { state.new ≡ put_off hint state.old }
+    ensures over { is_over state.new ≡ is_over state.old }
+{
+    if hint.number() != BIRD_HINT {
+        set_turns_near(hint, Count::new(0), state);
+    }
+}
+
+/// A hint that is due is offered to a player who needs it.
+#[tactic(auto, unfolding(crate::specs::Hints::offered, crate::specs::Hints::is_due))]
+fn offer(rules: &Rules<'_>, number: HintNumber, hint: &Hint, play: &mut Play<'_>)
+    requires { HasRoom parts_of_question play.old }
+    ensures play { scene_of play.new
+        ≡ offered (cave_of rules.now) number hint.now (scene_of play.old) }
+    ensures same { GoesOn play.old play.new }
+    ensures few { SaysUpTo parts_of_question play.old play.new }
+    ensures few_on { is_over play.new.state.now ≡ false → SaysUpTo 0 play.old play.new }
+    ensures few_over { is_over play.old.state.now ≡ true → SaysUpTo 0 play.old play.new }
+    ensures stays { is_over play.new.state.now ≡ false → is_over play.old.state.now ≡ false }
+{
+    if !is_due(rules, number, hint, play.state) {
+        return;
+    }
+    if is_needed(rules, number, play.state) {
+        set_turns_near(number, Count::new(0), play.state);
+        ask(rules, &Question::Hint(number), play);
+        return;
+    }
+    put_off(number, play.state);
+}
+
+/// A hint that the cave has and that wasn't taken counts its turns, and is offered.
+#[tactic(auto, unfolding(crate::specs::Hints::considered))]
+fn consider(rules: &Rules<'_>, number: HintNumber, play: &mut Play<'_>)
+    requires { HasRoom parts_of_question play.old }
+    ensures play { scene_of play.new ≡ considered (cave_of rules.now) number (scene_of play.old) }
+    ensures same { GoesOn play.old play.new }
+    ensures few { SaysUpTo parts_of_question play.old play.new }
+    ensures few_on { is_over play.new.state.now ≡ false → SaysUpTo 0 play.old play.new }
+    ensures few_over { is_over play.old.state.now ≡ true → SaysUpTo 0 play.old play.new }
+    ensures stays { is_over play.new.state.now ≡ false → is_over play.old.state.now ≡ false }
+{
+    if let Some(hint) = rules.cave.hint(u16::from(number.number())) {
+        if was_taken(number, play.state) {
+            return;
+        }
+        wait(rules, number, play.state);
+        offer(rules, number, &hint, play);
+    }
+}
+
+/// The hints are considered, one after another.
+pub fn consider_all(rules: &Rules<'_>, play: &mut Play<'_>)
+    requires { HasRoom (2 * parts_of_question) play.old }
+    ensures play { scene_of play.new ≡ all_considered (cave_of rules.now) (scene_of play.old) }
+    ensures same { GoesOn play.old play.new }
+    ensures few { SaysUpTo parts_of_question play.old play.new }
+{
+    for before in 0..HINTS {
+        consider(rules, HintNumber::new(before + FIRST_HINT), play);
+    }
+}
+
+/// What a hint costs is told, and whether it is worth that is asked.
+#[tactic(auto, unfolding(crate::specs::Hints::priced))]
+pub fn price(rules: &Rules<'_>, number: HintNumber, play: &mut Play<'_>)
+    requires { HasRoom (1 + parts_of_question) play.old }
+    ensures play { scene_of play.new ≡ priced (cave_of rules.now) number (scene_of play.old) }
+    ensures same { GoesOn play.old play.new }
+    ensures few { SaysUpTo (1 + parts_of_question) play.old play.new }
+{
+    if let Some(hint) = rules.cave.hint(u16::from(number.number())) {
+        let points = u32::from(hint.points);
+        play.tell(Part::Number(NumberLine::HintCosts, points, 0));
+        ask(rules, &Question::Take(number), play);
+    }
+}
+
+/// A hint lets a lamp that isn't low burn for longer.
+fn reward(points: u16, state: &mut State)
+    ensures { state.new ≡ rewarded points state.old }
+{
+    let turns = state.lamp.charge.turns();
+    if 30 < turns {
+        state.lamp.charge = Charge::capped(turns + 30 * i32::from(points));
+    }
+}
+
+/// A hint is told.
+#[tactic(auto, unfolding(crate::specs::Hints::given))]
+pub fn give(rules: &Rules<'_>, number: HintNumber, play: &mut Play<'_>)
+    requires { HasRoom 1 play.old }
+    ensures play { scene_of play.new ≡ given (cave_of rules.now) number (scene_of play.old) }
+    ensures same { GoesOn play.old play.new }
+    ensures few { SaysUpTo 1 play.old play.new }
+{
+    if let Some(hint) = rules.cave.hint(u16::from(number.number())) {
+        play.tell(Part::Message(hint.text));
+        take_hint(number, play.state);
+        reward(hint.points, play.state);
+    }
+}

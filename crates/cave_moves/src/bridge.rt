@@ -1,0 +1,150 @@
+//! The bridge that a troll guards.
+
+ghost use Rattle.std.specs.Prelude.{◌≡◌, false, IsTrue};
+ghost use Rattle.cave_moves.specs.Bridge.{bridge_end, with_troll, stopped, let_pass};
+ghost use Rattle.cave_moves.specs.Bridge.{without_bridge, without_spices, with_broken_bridge};
+ghost use Rattle.cave_moves.specs.Bridge.{broken_through, crossed_to, bridged};
+ghost use Rattle.cave_things.specs.Bounds.{HasRoom, SaysUpTo, parts_of_journey};
+ghost use Rattle.cave_things.specs.Plays.{scene_of, GoesOn};
+ghost use Rattle.cave_things.specs.Things.{cave_of};
+ghost use Rattle.cave_world.specs.State.{is_over};
+
+use crate::falling::fall_at;
+use crate::ways::{other_end, stay};
+use cave_data::Role;
+use cave_things::{Play, Rules, has_prop, has_prop_up_to, lose_one};
+use cave_words::Named;
+use cave_world::{Anchor, Objects, Place, Prop, State};
+
+/// The other end of the bridge, if the player stands at one of its ends.
+#[tactic(auto, unfolding(crate::specs::Bridge::bridge_end))]
+fn bridge_end(rules: &Rules<'_>, here: Place) -> Option<Place>
+    ensures { result ≡ bridge_end (cave_of rules.now) here }
+{
+    let troll = rules.object(Named::Troll);
+    if troll.is_none() || rules.second_home(troll).number() == 0 {
+        return None;
+    }
+    other_end(here, Some(rules.home(troll)), Some(rules.second_home(troll)))
+}
+
+/// The troll stands at both ends of the bridge again, and its second self is gone.
+#[tactic(auto, unfolding(crate::specs::Bridge::with_troll))]
+fn bring_troll(rules: &Rules<'_>, objects: &mut Objects)
+    ensures { objects.new ≡ with_troll (cave_of rules.now) objects.old }
+{
+    let troll = rules.object(Named::Troll);
+    let second = rules.object(Named::SecondTroll);
+    objects.set_prop(troll, Prop::new(0));
+    objects.move_to(second, Place::new(0));
+    objects.anchor_to(second, Anchor::Loose);
+    objects.move_to(troll, rules.home(troll));
+    objects.anchor_to(troll, rules.hold(troll));
+    objects.juggle(rules.object(Named::Chasm));
+}
+
+/// The troll wants a treasure once more.
+#[tactic(auto, unfolding(crate::specs::Bridge::stopped))]
+fn stop(rules: &Rules<'_>, play: &mut Play<'_>)
+    requires { HasRoom 1 play.old }
+    ensures play { scene_of play.new ≡ stopped (cave_of rules.now) (scene_of play.old) }
+    ensures same { GoesOn play.old play.new }
+    ensures few { SaysUpTo 1 play.old play.new }
+{
+    play.look(rules.object(Named::Troll), 1);
+    bring_troll(rules, &mut play.state.objects);
+}
+
+/// Whom the troll lets pass it will stop the next time.
+#[tactic(auto, unfolding(crate::specs::Bridge::let_pass))]
+fn let_pass(rules: &Rules<'_>, state: &mut State)
+    ensures { state.new ≡ let_pass (cave_of rules.now) state.old }
+{
+    let troll = rules.object(Named::Troll);
+    if has_prop(state, troll, 0) {
+        state.objects.set_prop(troll, Prop::new(1));
+    }
+}
+
+/// The bridge is broken, the troll is gone for good, and the bear lies dead at the other end.
+#[tactic(auto, unfolding(crate::specs::Bridge::without_bridge))]
+fn break_bridge(rules: &Rules<'_>, end: Place, objects: &mut Objects)
+    ensures { objects.new ≡ without_bridge (cave_of rules.now) end objects.old }
+{
+    let bear = rules.object(Named::Bear);
+    objects.set_prop(rules.object(Named::Chasm), Prop::new(1));
+    objects.set_prop(rules.object(Named::Troll), Prop::new(2));
+    objects.move_to(bear, end);
+    objects.anchor_to(bear, Anchor::Fixed);
+    objects.set_prop(bear, Prop::new(3));
+}
+
+fn lose_spices(rules: &Rules<'_>, state: &mut State)
+    ensures { state.new ≡ without_spices (cave_of rules.now) state.old }
+{
+    if has_prop_up_to(state, rules.object(Named::Spices), -1) {
+        lose_one(state);
+    }
+}
+
+#[tactic(auto, unfolding(crate::specs::Bridge::with_broken_bridge))]
+fn lose_bridge(rules: &Rules<'_>, end: Place, state: &mut State)
+    ensures { state.new ≡ with_broken_bridge (cave_of rules.now) end state.old }
+{
+    break_bridge(rules, end, &mut state.objects);
+    lose_spices(rules, state);
+}
+
+/// The bridge breaks under the bear and the player.
+#[tactic(auto, unfolding(crate::specs::Bridge::broken_through))]
+fn break_through(rules: &Rules<'_>, end: Place, play: &mut Play<'_>)
+    requires { HasRoom parts_of_journey play.old }
+    ensures play { scene_of play.new ≡ broken_through (cave_of rules.now) end (scene_of play.old) }
+    ensures same { GoesOn play.old play.new }
+    ensures few { SaysUpTo parts_of_journey play.old play.new }
+    ensures over { IsTrue (is_over play.new.state.now) }
+{
+    play.say(Role::BridgeFalls);
+    lose_bridge(rules, end, play.state);
+    fall_at(rules, end, play);
+}
+
+/// Who crosses with the bear breaks through.
+#[tactic(auto, unfolding(crate::specs::Bridge::crossed_to))]
+fn cross_to(rules: &Rules<'_>, end: Place, play: &mut Play<'_>) -> Place
+    requires { HasRoom parts_of_journey play.old }
+    ensures journey { record { place = result; scene = scene_of play.new }
+        ≡ crossed_to (cave_of rules.now) end (scene_of play.old) }
+    ensures same { GoesOn play.old play.new }
+    ensures few { SaysUpTo parts_of_journey play.old play.new }
+    ensures few_on { is_over play.new.state.now ≡ false → SaysUpTo 1 play.old play.new }
+{
+    let_pass(rules, play.state);
+    if rules.is_toted(play.state, rules.object(Named::Bear)) {
+        break_through(rules, end, play);
+        return play.state.trail.here;
+    }
+    end
+}
+
+/// Where the bridge leads a player who stands at one of its ends.
+#[tactic(auto, unfolding(crate::specs::Bridge::bridged))]
+pub fn cross(rules: &Rules<'_>, play: &mut Play<'_>) -> Place
+    requires { HasRoom parts_of_journey play.old }
+    ensures journey { record { place = result; scene = scene_of play.new }
+        ≡ bridged (cave_of rules.now) (scene_of play.old) }
+    ensures same { GoesOn play.old play.new }
+    ensures few { SaysUpTo parts_of_journey play.old play.new }
+    ensures few_on { is_over play.new.state.now ≡ false → SaysUpTo 1 play.old play.new }
+{
+    match bridge_end(rules, play.state.trail.here) {
+        None => stay(play, Role::NoWay),
+        Some(end) => {
+            if has_prop(play.state, rules.object(Named::Troll), 1) {
+                stop(rules, play);
+                return play.state.trail.here;
+            }
+            cross_to(rules, end, play)
+        }
+    }
+}

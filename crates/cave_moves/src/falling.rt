@@ -1,0 +1,40 @@
+ghost use Rattle.std.specs.Prelude.{◌≡◌, IsTrue};
+ghost use Rattle.cave_moves.specs.Falling.{leaving_all_at, falling_at, falling_here};
+ghost use Rattle.cave_things.specs.Bounds.{HasRoom, SaysUpTo, parts_of_death};
+ghost use Rattle.cave_things.specs.Plays.{scene_of, GoesOn};
+ghost use Rattle.cave_things.specs.Things.{cave_of};
+ghost use Rattle.cave_world.specs.State.{is_over};
+
+use cave_score::die;
+use cave_things::{Play, Rules};
+use cave_world::{Place, State};
+
+fn leave_all_at(place: Place, state: &mut State)
+    ensures { state.new ≡ leaving_all_at place state.old }
+{
+    state.trail.older = place;
+}
+
+/// The player dies, and what is carried will lie at a place once the player comes back.
+#[tactic(auto, unfolding(crate::specs::Falling::falling_at))]
+pub fn fall_at(rules: &Rules<'_>, place: Place, play: &mut Play<'_>)
+    requires { HasRoom parts_of_death play.old }
+    ensures play { scene_of play.new ≡ falling_at (cave_of rules.now) place (scene_of play.old) }
+    ensures same { GoesOn play.old play.new }
+    ensures few { SaysUpTo parts_of_death play.old play.new }
+    ensures over { IsTrue (is_over play.new.state.now) }
+{
+    leave_all_at(place, play.state);
+    die(rules, play);
+}
+
+/// The player dies where the player stands.
+pub fn fall_here(rules: &Rules<'_>, play: &mut Play<'_>)
+    requires { HasRoom parts_of_death play.old }
+    ensures play { scene_of play.new ≡ falling_here (cave_of rules.now) (scene_of play.old) }
+    ensures same { GoesOn play.old play.new }
+    ensures few { SaysUpTo parts_of_death play.old play.new }
+{
+    let here = play.state.trail.here;
+    fall_at(rules, here, play);
+}

@@ -1,0 +1,4 @@
+pub mod Most
+pub mod Over
+pub mod Reach
+pub mod Sums

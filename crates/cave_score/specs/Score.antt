@@ -1,0 +1,100 @@
+-- The score, by a table of what counts.
+use Rattle.std.specs.Prelude.{ℕ, ◌+◌, ◌-◌, ◌*◌, Bool, false, ◌==◌, if◌then◌else◌, slice_index_or}
+use Rattle.std.specs.Prelude.{List, filter, Option, Some, None}
+use Rattle.std.specs.FinMap as map
+use Rattle.std.specs.List.{sum_by, range_with_len}
+use Rattle.cave_data.specs.CaveView.{CaveView}
+use Rattle.cave_data.specs.declared.place_role.PlaceRole.TheVariants as place
+use Rattle.cave_data.specs.declared.rows.Hint.{Hint}
+use Rattle.cave_words.specs.declared.named.Named.TheVariants as name
+use Rattle.cave_world.specs.Objects.{is_first_at}
+use Rattle.cave_world.specs.declared.ending.Ending.{Ending}
+use Rattle.cave_world.specs.declared.ending.Ending.TheVariants as ending
+use Rattle.cave_world.specs.declared.state.State.{State}
+use Rattle.cave_things.specs.Places.{place_named}
+use Rattle.cave_things.specs.Things.{thing}
+use Rattle.cave_score.specs.Treasures.{treasure_points, most_treasure_points}
+
+-- each life that is left
+abbrev pub life_points : State → ℕ
+life_points s = 10 * (3 - s.tallies.deaths)
+
+-- a game that has ended in another way than by quitting
+abbrev pub points_of_ending : Ending → ℕ
+points_of_ending ending.Quit = 0
+points_of_ending ending.Killed = 4
+points_of_ending ending.Klutz = 4
+points_of_ending ending.WrongWay = 4
+points_of_ending ending.Success = 4
+
+abbrev pub ending_points : Option Ending → ℕ
+ending_points None = 0
+ending_points (Some how) = points_of_ending how
+
+-- dwarves that are awake
+abbrev pub dwarf_points : State → ℕ
+dwarf_points s = if s.dwarves.anger == 0 then 0 else 25
+
+-- a cave that is closing
+abbrev pub closing_points : State → ℕ
+closing_points s = if s.closing.is_closing then 25 else 0
+
+-- a closed cave, by how the game ended there
+abbrev pub points_of_escape : Ending → ℕ
+points_of_escape ending.Quit = 10
+points_of_escape ending.Killed = 10
+points_of_escape ending.Klutz = 25
+points_of_escape ending.WrongWay = 30
+points_of_escape ending.Success = 45
+
+abbrev pub escape_points : Option Ending → ℕ
+escape_points None = 10
+escape_points (Some how) = points_of_escape how
+
+abbrev pub closed_points : State → ℕ
+closed_points s = if s.closing.is_closed then escape_points s.ending else 0
+
+-- an object's first half stands at a place, if the place is bound
+abbrev pub lies_at : State → ℕ → Option ℕ → Bool
+lies_at s x None = false
+lies_at s x (Some place) = is_first_at s.objects place x
+
+-- the magazine left at Witt's End
+abbrev pub magazine_points : CaveView → State → ℕ
+magazine_points cave s =
+    if lies_at s (thing cave name.Magazine) (place_named cave place.Witt) then 1 else 0
+
+-- the table without what hints cost; 2 points are always counted
+unfoldable pub points_of : CaveView → State → ℕ
+points_of cave s =
+    treasure_points cave s + life_points s + ending_points s.ending + dwarf_points s
+    + closing_points s + closed_points s + magazine_points cave s + 2
+
+-- a hint was taken
+abbrev pub is_taken : State → ℕ → Bool
+is_taken s hint = slice_index_or s.hints.is_taken (hint - 1) false
+
+-- the hints that were taken, of 20
+unfoldable pub hints_taken : State → List ℕ
+hints_taken s = filter (is_taken s) (range_with_len 1 20)
+
+-- what a hint costs
+abbrev pub price_in : Option Hint → ℕ
+price_in None = 0
+price_in (Some row) = row.points
+
+unfoldable pub price_of : CaveView → ℕ → ℕ
+price_of cave hint = price_in (map.get cave.hints hint)
+
+-- what all hints cost that were taken
+abbrev pub hint_costs : CaveView → State → ℕ
+hint_costs cave s = sum_by (price_of cave) (hints_taken s)
+
+-- the score: what counts, less what hints cost, and not below 0
+unfoldable pub score_of : CaveView → State → ℕ
+score_of cave s = points_of cave s - hint_costs cave s
+
+-- the greatest of each row of the table: treasures, lives, the ending, dwarves and closing,
+-- the closed cave, the magazine, and what always counts
+unfoldable pub max_score_of : CaveView → ℕ
+max_score_of cave = most_treasure_points cave + 30 + 4 + 50 + 45 + 1 + 2

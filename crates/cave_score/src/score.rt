@@ -1,0 +1,165 @@
+ghost use Rattle.std.specs.Prelude.{◌≡◌, ◌≤◌, ◌<◌};
+ghost use Rattle.cave_things.specs.Things.{cave_of};
+ghost use Rattle.cave_score.specs.Score.{life_points, ending_points, dwarf_points, closing_points};
+ghost use Rattle.cave_score.specs.Score.{escape_points, closed_points, lies_at, magazine_points};
+ghost use Rattle.cave_score.specs.Score.{points_of, is_taken, price_of, hint_costs};
+ghost use Rattle.cave_score.specs.Score.{score_of, max_score_of};
+
+use crate::treasures::treasure_points;
+use crate::worths::most_treasure_points;
+use cave_data::{Cave, PlaceRole};
+use cave_things::{Rules, place_named};
+use cave_words::Named;
+use cave_world::{Ending, Object, Place, State};
+
+/// The greatest number of a hint.
+const LAST_HINT: u16 = 20;
+
+fn life_points(state: &State) -> u32
+    ensures value { result ≡ life_points state.now }
+    ensures most { result ≤ 30 }
+{
+    10 * (3 - u32::from(state.tallies.deaths.number()))
+}
+
+/// What a game counts that has ended in another way than by quitting.
+fn ending_points(ending: Option<Ending>) -> u32
+    ensures value { result ≡ ending_points ending }
+    ensures most { result ≤ 4 }
+{
+    match ending {
+        None | Some(Ending::Quit) => 0,
+        Some(Ending::Killed | Ending::Klutz | Ending::WrongWay | Ending::Success) => 4,
+    }
+}
+
+fn dwarf_points(state: &State) -> u32
+    ensures value { result ≡ dwarf_points state.now }
+    ensures most { result ≤ 25 }
+{
+    if state.dwarves.anger.number() == 0 {
+        0
+    } else {
+        25
+    }
+}
+
+fn closing_points(state: &State) -> u32
+    ensures value { result ≡ closing_points state.now }
+    ensures most { result ≤ 25 }
+{
+    if state.closing.is_closing { 25 } else { 0 }
+}
+
+/// What it counts to have got out of the closed cave, or to be in it.
+fn escape_points(ending: Option<Ending>) -> u32
+    ensures value { result ≡ escape_points ending }
+    ensures most { result ≤ 45 }
+{
+    match ending {
+        Some(Ending::Success) => 45,
+        Some(Ending::WrongWay) => 30,
+        Some(Ending::Klutz) => 25,
+        None | Some(Ending::Quit | Ending::Killed) => 10,
+    }
+}
+
+fn closed_points(state: &State) -> u32
+    ensures value { result ≡ closed_points state.now }
+    ensures most { result ≤ 45 }
+{
+    if state.closing.is_closed {
+        escape_points(state.ending)
+    } else {
+        0
+    }
+}
+
+fn lies_at(state: &State, object: Object, place: Option<Place>) -> bool
+    ensures { result ≡ lies_at state.now object place }
+{
+    match place {
+        Some(place) => state.objects.is_first_at(place, object),
+        None => false,
+    }
+}
+
+fn magazine_points(rules: &Rules<'_>, state: &State) -> u32
+    ensures value { result ≡ magazine_points (cave_of rules.now) state.now }
+    ensures most { result ≤ 1 }
+{
+    let witt = place_named(rules.cave, PlaceRole::Witt);
+    if lies_at(state, rules.object(Named::Magazine), witt) {
+        1
+    } else {
+        0
+    }
+}
+
+/// What a state counts before hints are paid for.
+#[tactic(auto, unfolding(crate::specs::Score::points_of))]
+fn points(rules: &Rules<'_>, state: &State) -> u32
+    ensures value { result ≡ points_of (cave_of rules.now) state.now }
+    ensures most { result ≤ 612 }
+{
+    treasure_points(rules, state)
+        + life_points(state)
+        + ending_points(state.ending)
+        + dwarf_points(state)
+        + closing_points(state)
+        + closed_points(state)
+        + magazine_points(rules, state)
+        + 2
+}
+
+#[tactic(auto, unfolding(crate::specs::Score::price_of))]
+fn price(cave: &Cave, hint: u16) -> u32
+    ensures value { result ≡ price_of cave.now hint }
+    ensures most { result ≤ 65535 }
+{
+    match cave.hint(hint) {
+        Some(row) => u32::from(row.points),
+        None => 0,
+    }
+}
+
+fn is_taken(state: &State, hint: u16) -> bool
+    requires low { 1 ≤ hint }
+    requires high { hint ≤ 20 }
+    ensures { result ≡ is_taken state.now hint }
+{
+    state.hints.is_taken[usize::from(hint) - 1]
+}
+
+/// What the hints cost that were taken.
+#[tactic(auto, using(crate::proofs::Sums::costs))]
+fn hint_costs(cave: &Cave, state: &State) -> u32
+    ensures { result ≡ hint_costs cave.now state.now }
+{
+    let mut costs = 0;
+    for hint in 1..LAST_HINT + 1 {
+        if is_taken(state, hint) {
+            costs += price(cave, hint);
+        }
+    }
+    costs
+}
+
+/// The score of a state.
+#[tactic(auto, using(crate::proofs::Most::most), unfolding(crate::specs::Score::score_of))]
+pub fn score(rules: &Rules<'_>, state: &State) -> u32
+    ensures value { result ≡ score_of (cave_of rules.now) state.now }
+    ensures most { result ≤ max_score_of (cave_of rules.now) }
+    ensures small { result < 10000 }
+{
+    points(rules, state).saturating_sub(hint_costs(rules.cave, state))
+}
+
+/// The greatest score that a game of a cave can have.
+#[tactic(auto, unfolding(crate::specs::Score::max_score_of))]
+pub fn max_score(rules: &Rules<'_>) -> u32
+    ensures value { result ≡ max_score_of (cave_of rules.now) }
+    ensures small { result < 10000 }
+{
+    most_treasure_points(rules) + 30 + 4 + 50 + 45 + 1 + 2
+}

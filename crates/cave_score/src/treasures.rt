@@ -1,0 +1,57 @@
+ghost use Rattle.std.specs.Prelude.{◌≡◌, ◌≤◌};
+ghost use Rattle.cave_things.specs.Things.{cave_of};
+ghost use Rattle.cave_score.specs.Treasures.{is_seen, is_safe, points_of_treasure, treasure_points};
+
+use crate::worths::worth;
+use cave_things::{Rules, building_place, has_prop, is_known};
+use cave_world::{Object, State};
+
+/// The least number of a treasure.
+pub const FIRST_TREASURE: u8 = 50;
+
+/// The greatest number of a treasure.
+pub const LAST_TREASURE: u8 = 79;
+
+fn is_seen(state: &State, treasure: Object) -> bool
+    ensures { result ≡ is_seen state.now treasure }
+{
+    state.objects.prop(treasure).value() >= 0
+}
+
+fn is_safe(rules: &Rules<'_>, state: &State, treasure: Object) -> bool
+    ensures { result ≡ is_safe (cave_of rules.now) state.now treasure }
+{
+    let building = building_place(rules.cave);
+    state.objects.is_first_at(building, treasure) && has_prop(state, treasure, 0)
+}
+
+/// What a treasure counts.
+#[tactic(auto, unfolding(crate::specs::Treasures::points_of_treasure))]
+fn points_of_treasure(rules: &Rules<'_>, state: &State, treasure: Object) -> u32
+    ensures value { result ≡ points_of_treasure (cave_of rules.now) state.now treasure }
+    ensures most { result ≤ 16 }
+{
+    let seen = if is_seen(state, treasure) { 2 } else { 0 };
+    let safe = if is_safe(rules, state, treasure) {
+        worth(rules, treasure) - 2
+    } else {
+        0
+    };
+    seen + safe
+}
+
+/// What the treasures count that the cave knows.
+#[tactic(auto, using(crate::proofs::Sums::points))]
+pub fn treasure_points(rules: &Rules<'_>, state: &State) -> u32
+    ensures value { result ≡ treasure_points (cave_of rules.now) state.now }
+    ensures most { result ≤ 480 }
+{
+    let mut points = 0;
+    for number in FIRST_TREASURE..LAST_TREASURE + 1 {
+        let treasure = Object::new(number);
+        if is_known(rules.cave, treasure) {
+            points += points_of_treasure(rules, state, treasure);
+        }
+    }
+    points
+}

@@ -1,0 +1,70 @@
+-- How many parts a turn says at most.
+use Rattle.std.specs.Prelude.{ℕ, ◌+◌, ◌*◌, ◌≤◌}
+use Rattle.arrayvec.specs.ArrayVec.{array_vec_len}
+use Rattle.cave_things.specs.declared.play.Play.{Play}
+
+-- so many parts more can be said: a turn has room for 512
+abbrev pub HasRoom : ℕ → Play → Type 0
+HasRoom parts play = array_vec_len play.out.now + parts ≤ 512
+
+-- so many parts were said at most
+abbrev pub SaysUpTo : ℕ → Play → Play → Type 0
+SaysUpTo parts old new = array_vec_len new.out.now ≤ array_vec_len old.out.now + parts
+
+-- an end: the score, its class, and what is wanted for the next class
+abbrev pub parts_of_end : ℕ
+parts_of_end = 3
+
+-- a death: a question, or a line and the end
+abbrev pub parts_of_death : ℕ
+parts_of_death = 4
+
+-- a question: a line of its own, and its message
+abbrev pub parts_of_question : ℕ
+parts_of_question = 2
+
+-- the dwarves: the pirate, how many dwarves there are, how many knives, how many hit
+abbrev pub parts_of_dwarves : ℕ
+parts_of_dwarves = 4
+
+-- a place that is told: the bear, its text, something hollow, and 200 halves of objects
+abbrev pub parts_of_place : ℕ
+parts_of_place = 203
+
+-- a place from which the player is carried on: two that hold the player back, the bear, its text
+abbrev pub parts_of_passing : ℕ
+parts_of_passing = 4
+
+-- a place at which the player stays: two that hold the player back, the dwarves, the place
+abbrev pub parts_of_showing : ℕ
+parts_of_showing = 209
+
+-- a way: a line, or on the bridge a line and a death
+abbrev pub parts_of_journey : ℕ
+parts_of_journey = 5
+
+-- who is carried on is told of one way and one place for each forced motion that is left, and of
+-- the last place
+abbrev pub parts_of_carrying : ℕ → ℕ
+parts_of_carrying left = 5 * left + 209
+
+-- who arrives is told of a place, and is carried on
+abbrev pub parts_of_arrival : ℕ → ℕ
+parts_of_arrival left = 5 * left + 213
+
+-- the end of a turn: the oyster, and the question of a hint
+abbrev pub parts_of_finish : ℕ
+parts_of_finish = 3
+
+-- a command: 2 of the clocks, 10 of a verb or a way that leads on, 313 of an arrival with all its
+-- 20 forced motions, and 3 of the end of the turn; a verb that leads nowhere says 108 at most
+abbrev pub parts_of_command : ℕ
+parts_of_command = 328
+
+-- an answer: a line, 313 of an arrival with all its forced motions, 3 of the end of the turn
+abbrev pub parts_of_answer : ℕ
+parts_of_answer = 317
+
+-- a turn
+abbrev pub parts_of_turn : ℕ
+parts_of_turn = 400

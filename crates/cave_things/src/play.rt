@@ -1,0 +1,101 @@
+ghost use Rattle.std.specs.Prelude.{◌≡◌, []};
+ghost use Rattle.arrayvec.specs.ArrayVec.{array_vec_len};
+
+use cave_data::Role;
+use cave_world::{Object, Out, Part, Place, State};
+
+/// The most forced motions of a turn.
+pub const FORCED_MOTIONS: u8 = 20;
+
+/// A turn while it is played.
+#[derive(Drop)]
+pub struct Play<'a> {
+    /// What the turn changes.
+    pub state: &'a mut State,
+    /// What the turn says.
+    pub out: &'a mut Out,
+    /// Whether it was dark where the player stood as the turn began.
+    pub was_dark: bool,
+    /// The forced motions that are left in the turn.
+    pub left: u8,
+}
+
+impl<'a> Play<'a> {
+    ghost use Rattle.cave_things.specs.Bounds.{HasRoom, SaysUpTo};
+    ghost use Rattle.cave_things.specs.Plays.{scene_of, GoesOn, opening, telling, saying};
+    ghost use Rattle.cave_things.specs.Plays.{looking_at};
+    ghost use Rattle.cave_things.specs.Plays.{standing, sets_out, after_draw, happens};
+
+    /// A turn begins with nothing said, and with all its forced motions.
+    pub fn open(state: &'a mut State, out: &'a mut Out, was_dark: bool) -> Play<'a>
+        requires { out.old.items ≡ [] }
+        ensures play { scene_of result ≡ opening was_dark state.old }
+        ensures state { result.state.ghost_name ≡ state.entry.ghost_name }
+        ensures out { result.out.ghost_name ≡ out.entry.ghost_name }
+        ensures none { array_vec_len result.out.now ≡ 0 }
+    {
+        Play {
+            state,
+            out,
+            was_dark,
+            left: FORCED_MOTIONS,
+        }
+    }
+
+    /// One more part is said.
+    pub fn tell(&mut self, part: Part)
+        requires { HasRoom 1 self.old }
+        ensures play { scene_of self.new ≡ telling part (scene_of self.old) }
+        ensures same { GoesOn self.old self.new }
+        ensures few { SaysUpTo 1 self.old self.new }
+    {
+        self.out.push(part);
+    }
+
+    /// The message of a role is said.
+    pub fn say(&mut self, role: Role)
+        requires { HasRoom 1 self.old }
+        ensures play { scene_of self.new ≡ saying role (scene_of self.old) }
+        ensures same { GoesOn self.old self.new }
+        ensures few { SaysUpTo 1 self.old self.new }
+    {
+        self.tell(Part::Role(role));
+    }
+
+    /// The text of an object for a number is told, if there is the object.
+    pub fn look(&mut self, object: Object, prop: i8)
+        requires { HasRoom 1 self.old }
+        ensures play { scene_of self.new ≡ looking_at object prop (scene_of self.old) }
+        ensures same { GoesOn self.old self.new }
+        ensures few { SaysUpTo 1 self.old self.new }
+    {
+        if !object.is_none() {
+            self.tell(Part::Object(object, prop));
+        }
+    }
+
+    /// The player stands at a place.
+    pub fn stand_at(&mut self, place: Place)
+        ensures play { scene_of self.new ≡ standing place (scene_of self.old) }
+        ensures same { GoesOn self.old self.new }
+    {
+        self.state.stand_at(place);
+    }
+
+    /// The player sets out: where the player stands is where the player will have come from.
+    pub fn set_out(&mut self)
+        ensures play { scene_of self.new ≡ sets_out (scene_of self.old) }
+        ensures same { GoesOn self.old self.new }
+    {
+        self.state.set_out();
+    }
+
+    /// Draws whether something happens that happens in some of 100 cases.
+    pub fn chance(&mut self, percent: u32) -> bool
+        ensures value { result ≡ happens percent (scene_of self.old) }
+        ensures play { scene_of self.new ≡ after_draw (scene_of self.old) }
+        ensures same { GoesOn self.old self.new }
+    {
+        self.state.stream.pct(percent)
+    }
+}

@@ -1,0 +1,83 @@
+//! How a turn ends that leaves no question open.
+
+ghost use Rattle.std.specs.Prelude.{◌≡◌, ◌+◌};
+ghost use Rattle.cave_things.specs.Bounds.{HasRoom, SaysUpTo, parts_of_finish, parts_of_question};
+ghost use Rattle.cave_things.specs.Plays.{scene_of, GoesOn};
+ghost use Rattle.cave_things.specs.Things.{cave_of};
+ghost use Rattle.cave_turn.specs.Finish.{is_hidden_in_hand, oyster_shown, object_shown};
+ghost use Rattle.cave_turn.specs.Finish.{shown_up_to, hands_shown, finished};
+
+use cave_hints::consider_all;
+use cave_things::{Play, Rules};
+use cave_words::Named;
+use cave_world::object::LAST_OBJECT;
+use cave_world::{Object, Objects, Prop};
+
+/// Whether an object is carried and shows nothing yet.
+fn is_hidden_in_hand(objects: &Objects, object: Object) -> bool
+    ensures { result ≡ is_hidden_in_hand objects.now object }
+{
+    objects.is_carried(object) && objects.prop(object).value() < 0
+}
+
+/// The oyster that a player takes in a closed cave shows what is written under it.
+#[tactic(auto, unfolding(crate::specs::Finish::oyster_shown))]
+fn show_oyster(rules: &Rules<'_>, play: &mut Play<'_>)
+    requires { HasRoom 1 play.old }
+    ensures play { scene_of play.new ≡ oyster_shown (cave_of rules.now) (scene_of play.old) }
+    ensures same { GoesOn play.old play.new }
+    ensures few { SaysUpTo 1 play.old play.new }
+{
+    let oyster = rules.object(Named::Oyster);
+    if is_hidden_in_hand(&play.state.objects, oyster) {
+        play.look(oyster, 1);
+    }
+}
+
+#[tactic(auto, unfolding(crate::specs::Finish::object_shown))]
+fn show_object(object: Object, objects: &mut Objects)
+    ensures { objects.new ≡ object_shown object objects.old }
+{
+    if is_hidden_in_hand(objects, object) {
+        let prop = objects.prop(object).value();
+        objects.set_prop(object, Prop::new(-1 - prop));
+    }
+}
+
+/// All objects that are carried show themselves.
+fn show_objects(objects: &mut Objects)
+    ensures { objects.new ≡ shown_up_to 100 objects.old }
+{
+    for before in 0..LAST_OBJECT as u8 {
+        show_object(Object::new(before + 1), objects);
+    }
+}
+
+/// In a closed cave all that is carried shows itself.
+#[tactic(auto, unfolding(crate::specs::Finish::hands_shown))]
+fn show_hands(rules: &Rules<'_>, play: &mut Play<'_>)
+    requires { HasRoom 1 play.old }
+    ensures play { scene_of play.new ≡ hands_shown (cave_of rules.now) (scene_of play.old) }
+    ensures same { GoesOn play.old play.new }
+    ensures few { SaysUpTo 1 play.old play.new }
+{
+    if play.state.closing.is_closed {
+        show_oyster(rules, play);
+        show_objects(&mut play.state.objects);
+    }
+}
+
+/// A turn ends; after a question or the end of the game nothing more is done.
+#[tactic(auto, unfolding(crate::specs::Finish::finished))]
+pub fn finish(rules: &Rules<'_>, play: &mut Play<'_>)
+    requires { HasRoom (parts_of_finish + parts_of_question) play.old }
+    ensures play { scene_of play.new ≡ finished (cave_of rules.now) (scene_of play.old) }
+    ensures same { GoesOn play.old play.new }
+    ensures few { SaysUpTo parts_of_finish play.old play.new }
+{
+    if play.state.is_over() {
+        return;
+    }
+    show_hands(rules, play);
+    consider_all(rules, play);
+}

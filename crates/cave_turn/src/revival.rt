@@ -1,0 +1,130 @@
+//! How a player comes back from death.
+
+ghost use Rattle.std.specs.Prelude.{◌≡◌, ◌+◌};
+ghost use Rattle.cave_things.specs.Bounds.{HasRoom, SaysUpTo, parts_of_arrival, parts_of_end};
+ghost use Rattle.cave_things.specs.Plays.{scene_of, GoesOn, IsSamePlay};
+ghost use Rattle.cave_things.specs.Things.{cave_of};
+ghost use Rattle.cave_turn.specs.Revival.{revival_role, lamp_put_out, fallen_place};
+ghost use Rattle.cave_turn.specs.Revival.{object_fallen, fallen_from, bereft, put_at};
+ghost use Rattle.cave_turn.specs.Revival.{revived, reborn, buried};
+
+use cave_data::Role;
+use cave_moves::describe_here;
+use cave_score::{count_death, end};
+use cave_things::{Play, Rules, building_place, start_place};
+use cave_words::Named;
+use cave_world::object::LAST_OBJECT;
+use cave_world::{Ending, Object, Objects, Place, Prop, State};
+
+/// What is said of a revival, by the deaths before.
+fn revival_role(deaths: u16) -> Role
+    ensures { result ≡ revival_role deaths }
+{
+    match deaths {
+        0 => Role::Reborn1,
+        1 => Role::Reborn2,
+        _ => Role::Reborn3,
+    }
+}
+
+/// A lamp that the player carries is put out.
+#[tactic(auto, unfolding(crate::specs::Revival::lamp_put_out))]
+fn put_lamp_out(rules: &Rules<'_>, state: &mut State)
+    ensures { state.new
+        ≡ record state.old { objects = lamp_put_out (cave_of rules.now) state.old } }
+{
+    let lamp = rules.object(Named::Lamp);
+    if rules.is_toted(state, lamp) {
+        state.objects.set_prop(lamp, Prop::new(0));
+    }
+}
+
+fn fallen_place(rules: &Rules<'_>, place: Place, object: Object) -> Place
+    ensures { result ≡ fallen_place (cave_of rules.now) place object }
+{
+    if rules.is(object, Named::Lamp) {
+        start_place(rules.cave)
+    } else {
+        place
+    }
+}
+
+#[tactic(auto, unfolding(crate::specs::Revival::object_fallen))]
+fn let_fall(rules: &Rules<'_>, place: Place, object: Object, objects: &mut Objects)
+    ensures { objects.new ≡ object_fallen (cave_of rules.now) place object objects.old }
+{
+    if objects.is_carried(object) {
+        objects.move_to(object, fallen_place(rules, place, object));
+    }
+}
+
+/// What was carried falls, the last object first.
+fn let_all_fall(rules: &Rules<'_>, place: Place, objects: &mut Objects)
+    ensures { objects.new ≡ fallen_from (cave_of rules.now) place 100 objects.old }
+{
+    for before in 0..LAST_OBJECT as u8 {
+        let object = Object::new(LAST_OBJECT as u8 - before);
+        let_fall(rules, place, object, objects);
+    }
+}
+
+/// All that was carried lies where the player died.
+#[tactic(auto, unfolding(crate::specs::Revival::bereft))]
+fn bereave(rules: &Rules<'_>, state: &mut State)
+    ensures { state.new ≡ bereft (cave_of rules.now) state.old }
+{
+    put_lamp_out(rules, state);
+    let older = state.trail.older;
+    let_all_fall(rules, older, &mut state.objects);
+}
+
+fn put_at(place: Place, state: &mut State)
+    ensures { state.new ≡ put_at place state.old }
+{
+    state.trail.here = place;
+    state.trail.last = place;
+}
+
+/// The player is back, without what was carried.
+#[tactic(auto, unfolding(crate::specs::Revival::revived))]
+fn revive(rules: &Rules<'_>, play: &mut Play<'_>)
+    requires { HasRoom (parts_of_arrival play.old.left) play.old }
+    ensures play { scene_of play.new ≡ revived (cave_of rules.now) (scene_of play.old) }
+    ensures same { IsSamePlay play.old play.new }
+    ensures few { SaysUpTo (parts_of_arrival play.old.left) play.old play.new }
+{
+    bereave(rules, play.state);
+    put_at(building_place(rules.cave), play.state);
+    describe_here(rules, play);
+}
+
+/// Who wants to come back does so twice; the third death is the last.
+#[tactic(auto, unfolding(crate::specs::Revival::reborn))]
+pub fn come_back(rules: &Rules<'_>, play: &mut Play<'_>)
+    requires { HasRoom (parts_of_arrival play.old.left + 1) play.old }
+    ensures play { scene_of play.new ≡ reborn (cave_of rules.now) (scene_of play.old) }
+    ensures same { IsSamePlay play.old play.new }
+    ensures few { SaysUpTo (parts_of_arrival play.old.left + 1) play.old play.new }
+{
+    let deaths = play.state.tallies.deaths.number();
+    play.say(revival_role(deaths));
+    count_death(play.state);
+    if 3 <= play.state.tallies.deaths.number() {
+        end(rules, Ending::Killed, play);
+        return;
+    }
+    revive(rules, play);
+}
+
+/// Who doesn't want to come back is dead.
+#[tactic(auto, unfolding(crate::specs::Revival::buried))]
+pub fn stay_dead(rules: &Rules<'_>, play: &mut Play<'_>)
+    requires { HasRoom (1 + parts_of_end) play.old }
+    ensures play { scene_of play.new ≡ buried (cave_of rules.now) (scene_of play.old) }
+    ensures same { GoesOn play.old play.new }
+    ensures few { SaysUpTo (1 + parts_of_end) play.old play.new }
+{
+    play.say(Role::Ok);
+    count_death(play.state);
+    end(rules, Ending::Killed, play);
+}
