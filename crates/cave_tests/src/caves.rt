@@ -33,4 +33,4 @@ pub const LONG_LOG: &[u8] = b"no\nin\ntake lamp\non\ndown\n";
 /// What playing the long log prints.
 pub const LONG_TEXT: &str = "[welcome]\n\n> no\nYou stand on a road.\n\n\
 > in\nYou are in a hut.\nA lamp is here.\n\n> take lamp\n[ok]\n\n\
-> on\n[lamp-on]\n\n> down\nYou are in a cellar.\n-- turns 4\n";
+> on\n[lamp-on]\n\n> down\nYou are in a cellar.\n-- score 32 of 132, turns 4\n";

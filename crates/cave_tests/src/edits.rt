@@ -11,30 +11,32 @@ const EDITS: [(&[u8], &[u8], &str); 6] = [
         b"# three edits\ninsert 2 # note\n\ndelete 9\nreplace 1 IN  \n",
         "line 2: ok\nline 4: refused 1\nline 5: ok\n[welcome]\n\n> no\nYou stand on a road.\n\n\
         > IN  \nYou are in a hut.\nA lamp is here.\n\n> take lamp\n[ok]\n\n\
-        > on\n[lamp-on]\n\n> down\nYou are in a cellar.\n-- turns 4\n",
+        > on\n[lamp-on]\n\n> down\nYou are in a cellar.\n-- score 32 of 132, turns 4\n",
     ),
     (
         LONG_LOG,
         b"insert 1 on\nbegin\ninsert 3 # note\ndelete 4\nend\ndelete 5\n",
         "line 1: ok\nline 2: ok\nline 6: ok\n[welcome]\n\n> no\nYou stand on a road.\n\n\
-        > on\n\n> in\nYou are in a hut.\nA lamp is here.\n\n> on\n[lamp-on]\n-- turns 3\n",
+        > on\n\n> in\nYou are in a hut.\nA lamp is here.\n\n\
+        > on\n[lamp-on]\n-- score 32 of 132, turns 3\n",
     ),
     (
         b"no\nin\nout\nin\n",
         b"replace 1 up\n",
         "line 1: ok\n[welcome]\n\n> no\nYou stand on a road.\n\n> up\n[no-dir]\nRoad.\n\n\
-        > out\n[inout]\nRoad.\n\n> in\nYou are in a hut.\nA lamp is here.\n-- turns 3\n",
+        > out\n[inout]\nRoad.\n\n\
+        > in\nYou are in a hut.\nA lamp is here.\n-- score 32 of 132, turns 3\n",
     ),
     (
         b"no\n",
         b"delete 0\ndelete 0\n",
-        "line 1: ok\nline 2: refused 1\n[welcome]\n-- turns 0\n",
+        "line 1: ok\nline 2: refused 1\n[welcome]\n-- score 32 of 132, turns 0\n",
     ),
     (
         b"no\nxyzzy\nseed 0\nxyzzy\n",
         b"seed 1048575\n",
         "line 1: ok\n[welcome]\n\n> no\nYou stand on a road.\n\n> xyzzy\n[no-word]\n\n\
-        > seed 0\n\n> xyzzy\n[no-word-2]\n-- turns 2\n",
+        > seed 0\n\n> xyzzy\n[no-word-2]\n-- score 32 of 132, turns 2\n",
     ),
     (LONG_LOG, b"", LONG_TEXT),
 ];

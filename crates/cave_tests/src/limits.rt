@@ -50,7 +50,7 @@ fn inputs_of_the_greatest_size_are_read(rt: HostRuntime) -> Result<(), Fail> {
     let comments = filled(rt.alloc(), b"", MOST_BYTES)?;
     let mut feeds = Feeds::of(&cave, &comments, &comments, &comments);
     let run = feeds.run(Command::Edit, rt.alloc());
-    assert!(rt; run.wrote(b"[welcome]\n-- turns 0\n"));
+    assert!(rt; run.wrote(b"[welcome]\n-- score 32 of 132, turns 0\n"));
     Ok(())
 }
 

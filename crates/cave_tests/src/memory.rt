@@ -24,7 +24,7 @@ fn expect_all_or_want_of_memory(rt: &impl Abort, alloc: Global, command: Command
 
 #[test]
 fn want_of_memory_writes_nothing(rt: HostRuntime) {
-    expect_all_or_want_of_memory(&rt, rt.alloc(), Command::Check, "cave ok\n");
+    expect_all_or_want_of_memory(&rt, rt.alloc(), Command::Check, "cave ok, maximum 132\n");
     expect_all_or_want_of_memory(&rt, rt.alloc(), Command::Play, LONG_TEXT);
     expect_all_or_want_of_memory(&rt, rt.alloc(), Command::Edit, EDITED_TEXT);
 }

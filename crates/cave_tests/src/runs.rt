@@ -23,7 +23,7 @@ pub const SCRIPT: &[u8] = b"insert 2 # note\ndelete 9\nbegin\nreplace 1 IN\ndele
 /// What an edit of the long log by that script prints.
 pub const EDITED_TEXT: &str = "line 1: ok\nline 2: refused 1\nline 3: ok\n[welcome]\n\n\
 > no\nYou stand on a road.\n\n> IN\nYou are in a hut.\nA lamp is here.\n\n\
-> on\n[lamp-on]\n\n> down\n[dark]\n-- turns 3\n";
+> on\n[lamp-on]\n\n> down\n[dark]\n-- score 32 of 132, turns 3\n";
 
 /// How a run ended, and what it wrote.
 #[derive(Drop)]

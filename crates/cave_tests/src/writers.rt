@@ -9,7 +9,7 @@ use std::process::Abort;
 
 /// Each command, and what it writes over the usual inputs.
 const TEXTS: [(Command, &str); 3] = [
-    (Command::Check, "cave ok\n"),
+    (Command::Check, "cave ok, maximum 132\n"),
     (Command::Play, LONG_TEXT),
     (Command::Edit, EDITED_TEXT),
 ];

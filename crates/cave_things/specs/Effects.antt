@@ -1,5 +1,5 @@
 -- What rules do to objects. What is done to an object that isn't there does nothing.
-use Rattle.std.specs.Prelude.{ℕ, ℤ, pos, ◌+◌, ◌&&◌, Bool, if◌then◌else◌, min}
+use Rattle.std.specs.Prelude.{ℕ, pos, ◌+◌, ◌&&◌, if◌then◌else◌, min}
 use Rattle.cave_data.specs.CaveView.{CaveView}
 use Rattle.cave_words.specs.declared.named.Named.TheVariants as name
 use Rattle.cave_world.specs.Objects.{moved, anchored, juggled, with_prop}

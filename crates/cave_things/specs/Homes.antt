@@ -1,5 +1,5 @@
 -- Where objects are at home: where they stand as a game begins.
-use Rattle.std.specs.Prelude.{ℕ, ℤ, pos, negsuc, zero, suc, Bool, false, ◌==◌, ◌&&◌, not, Option}
+use Rattle.std.specs.Prelude.{ℕ, ℤ, pos, negsuc, zero, suc, Bool, ◌==◌, ◌&&◌, not, Option}
 use Rattle.std.specs.Prelude.{Some, None}
 use Rattle.cave_data.specs.CaveView.{CaveView, placement_of}
 use Rattle.cave_world.specs.Objects.{spot_of}

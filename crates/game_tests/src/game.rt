@@ -16,13 +16,15 @@ pub fn read_cave(alloc: Global, database: &[u8], bindings: &[u8]) -> Result<Cave
     Cave::read(alloc, database, bindings)
 }
 
-/// A cave with its words, the state of a game in it, and what the game printed since it was last
-/// asked.
+/// A cave with its words, the state of a game in it, the turns that were taken, how many parts the
+/// last line said, and what the game printed since it was last asked.
 #[derive(Drop)]
 pub struct Game {
     cave: Cave,
     lexicon: Lexicon,
     pub state: State,
+    turns: u32,
+    pub parts: usize,
     pub text: Vec<u8>,
     ghost words: { IsLexiconOf cave lexicon },
 }
@@ -46,6 +48,8 @@ impl Game {
             cave,
             lexicon,
             state,
+            turns: 0,
+            parts: 0,
             text,
         })
     }
@@ -64,8 +68,12 @@ impl Game {
             &mut meter,
         );
         self.state = turned.state;
+        if turned.ticked {
+            self.turns = self.turns.saturating_add(1);
+        }
+        self.parts = out.len();
         self.text.clear();
-        render(&self.cave, out.as_slice(), 0, &mut self.text)?;
+        render(&self.cave, out.as_slice(), self.turns, &mut self.text)?;
         Ok(turned.ticked)
     }
 }

@@ -1,7 +1,7 @@
 //! Somebody's hands on a state, and looks at it. They promise nothing, so that the tests that call
 //! them are proved without the facts of the state.
 
-use cave_world::{Dwarf, Object, Place, Prop, State};
+use cave_world::{Charge, Count, Dwarf, Object, Place, Prop, State};
 
 /// A change of a state by somebody's hand.
 #[derive(Clone, Copy)]
@@ -14,6 +14,10 @@ pub enum Change {
     Prop(u8, i8),
     /// The cave is closing.
     Closing,
+    /// The lamp is low.
+    Low,
+    /// The dwarves throw knives.
+    Angry,
     /// A dwarf in the cellar came from the place of the number, and has seen the player.
     Dwarf(u16),
 }
@@ -25,6 +29,8 @@ pub fn make_change(state: &mut State, change: Change) {
         Change::Moved(number, to) => state.move_to(object(number), place(to)),
         Change::Prop(number, value) => set_prop(state, number, value),
         Change::Closing => state.closing.is_closing = true,
+        Change::Low => state.lamp.charge = Charge::new(30),
+        Change::Angry => state.dwarves.anger = Count::new(2),
         Change::Dwarf(last) => state.dwarves.each[0] = dwarf(last),
     }
 }

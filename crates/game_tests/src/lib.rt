@@ -10,6 +10,8 @@ mod hands;
 #[cfg(test)]
 mod hut;
 #[cfg(test)]
+mod most;
+#[cfg(test)]
 mod rendering;
 #[cfg(test)]
 mod rows;

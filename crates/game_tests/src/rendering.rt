@@ -1,7 +1,6 @@
 //! Rendering where memory is refused.
 
 use crate::game::read_cave;
-use crate::hut::HUT;
 use cave_data::Cave;
 use cave_text::render;
 use cave_turn::start;
@@ -24,10 +23,12 @@ fn is_rendered_whole_or_not(cave: &Cave, text: &mut Vec<u8>) -> bool {
     }
 }
 
-/// The same in the hut's cave, where there is memory to read it.
+/// A cave of one place.
+const PLACE: &[u8] = b"1\n1 Road.\n-1\n0\n";
+
+/// The same in that cave, where there is memory to read it.
 fn is_whole_or_nothing(alloc: Global) -> Option<bool> {
-    let database = [HUT.as_bytes(), b"0\n"].concat(alloc).ok()?;
-    let cave = read_cave(alloc, database.as_slice(), b"").ok()?;
+    let cave = read_cave(alloc, PLACE, b"").ok()?;
     let mut text = Vec::from_slice(alloc, b"before ").ok()?;
     Some(is_rendered_whole_or_not(&cave, &mut text))
 }

@@ -49,7 +49,7 @@ fn a_log_prints_what_was_worked_out_by_hand(rt: HostRuntime) -> Result<(), Fail>
         (
             &[],
             "no\nin\ndown\ndown\nin",
-            "|[dark]\n|[no-dir]\n[pit]\n?",
+            "|[dark]\n|[no-dir]\n[pit]\n[die1]\n?[answer]\n[die1]\n",
         ),
     ];
     expect_ends(&rt, rt.alloc(), "", "", &cases)
@@ -108,7 +108,11 @@ fn verbs_and_half_commands_are_done(rt: HostRuntime) -> Result<(), Fail> {
             "no\nquit\nmaybe\nn\nin",
             "|[quit]\n?[answer]\n[quit]\n?[ok]\n|You are in a hut.\nA lamp is here.\n",
         ),
-        (&[], "no\nquit\ny\nin", "|[quit]\n?[ok]\n?"),
+        (
+            &[],
+            "no\nquit\ny\nin",
+            "|[quit]\n?[ok]\nYou scored 32 out of a possible 132, using 1 turn.\n[off-scale]\n?",
+        ),
     ];
     expect_ends(&rt, rt.alloc(), "4\n2007 ON\n2018 QUIT\n-1\n", "", &cases)
 }

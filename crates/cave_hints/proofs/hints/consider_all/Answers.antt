@@ -17,12 +17,16 @@ loop-before-preserved c =
     let here = scene_of c.loop-before.play in
     let number : c.new.result ≡ before + 4 = search rules in
     let scene =
-        c.consider.ensures.play ∙ ap (λ n. considered cave n here) number
-        ∙ ap (λ p. considered cave (before + 4) p) c.loop-before.invariant.0
-        ∙ sym (considered-more cave before (scene_of c.args.play.now)) in
+    c.consider.ensures.play ∙ ap (λ n. considered cave n here) number
+    ∙ ap (λ p. considered cave (before + 4) p) c.loop-before.invariant.0
+    ∙ sym (considered-more cave before (scene_of c.args.play.now)) in
     let here_over = is_over c.loop-before.play.state.now in
-    let few = few-asked here_over _ _ _ c.loop-before.invariant.1 c.loop-before.invariant.2 c.consider.ensures.few c.consider.ensures.few_over in
-    (scene, few, (λ on.
-        let before = c.loop-before.invariant.2 (c.consider.ensures.stays on) in
-        let now = c.consider.ensures.few_on on in
-        omega (arith, before, now)), search rules)
+    let few = few-asked here_over _ _ _ c.loop-before.invariant.1 c.loop-before.invariant.2 c.consider.ensures.few c.consider.ensures.few_over in (
+      scene,
+      few,
+      (λ on.
+          let before = c.loop-before.invariant.2 (c.consider.ensures.stays on) in
+          let now = c.consider.ensures.few_on on in
+          omega (arith, before, now)),
+      search rules,
+    )
