@@ -1,5 +1,5 @@
 -- What happens where a player arrives.
-use Rattle.std.specs.Prelude.{ℕ, pos, Bool, true, false, ◌==◌, ◌&&◌, ◌||◌, not, nat_le}
+use Rattle.std.specs.Prelude.{ℕ, Bool, true, false, ◌==◌, ◌&&◌, not, nat_le}
 use Rattle.std.specs.Prelude.{if◌then◌else◌, take, suc, zero}
 use Rattle.std.specs.List.{list_any}
 use Rattle.cave_data.specs.CaveView.{CaveView}

@@ -1,5 +1,5 @@
 -- The bridge that a troll guards.
-use Rattle.std.specs.Prelude.{ℕ, pos, negsuc, Bool, ◌==◌, ◌||◌, if◌then◌else◌, Option, Some, None}
+use Rattle.std.specs.Prelude.{ℕ, pos, negsuc, ◌==◌, ◌||◌, if◌then◌else◌, Option, Some, None}
 use Rattle.cave_data.specs.CaveView.{CaveView}
 use Rattle.cave_data.specs.declared.role.Role.TheVariants as role
 use Rattle.cave_moves.specs.Falling.{falling_at}

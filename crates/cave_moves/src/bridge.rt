@@ -25,7 +25,11 @@ fn bridge_end(rules: &Rules<'_>, here: Place) -> Option<Place>
     if troll.is_none() || rules.second_home(troll).number() == 0 {
         return None;
     }
-    other_end(here, Some(rules.home(troll)), Some(rules.second_home(troll)))
+    other_end(
+        here,
+        Some(rules.home(troll)),
+        Some(rules.second_home(troll)),
+    )
 }
 
 /// The troll stands at both ends of the bridge again, and its second self is gone.

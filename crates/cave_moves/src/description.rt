@@ -10,8 +10,8 @@ ghost use Rattle.cave_things.specs.Plays.{scene_of, GoesOn};
 use crate::falling::fall_here;
 use crate::objects::tell_objects;
 use cave_data::{PlaceRole, Role};
-use cave_things::{Play, Rules};
 use cave_things::places::{is_that, place_named};
+use cave_things::{Play, Rules};
 use cave_words::Named;
 use cave_world::{Part, Place, State, is_forced};
 

@@ -13,8 +13,8 @@ use crate::back::go_back;
 use crate::bridge::cross;
 use crate::ways::{other_end, stay};
 use cave_data::{PlaceRole, Role};
-use cave_things::{Play, Rules};
 use cave_things::places::{outside_place, place_named};
+use cave_things::{Play, Rules};
 use cave_words::Named;
 use cave_world::{Outcome, Part, Place, Special, State, travel};
 

@@ -1,5 +1,5 @@
 -- One object more falls.
-use Rattle.std.proofs.Common.{◌≡◌, ℕ, zero, suc, ◌+◌, ◌-◌, ◌<◌, refl, arith}
+use Rattle.std.proofs.Common.{◌≡◌, ℕ, zero, suc, ◌-◌, ◌<◌, refl, arith}
 use Rattle.cave_data.specs.CaveView.{CaveView}
 use Rattle.cave_turn.specs.Revival.{object_fallen, fallen_from}
 use Rattle.cave_world.specs.Layout.{Layout}

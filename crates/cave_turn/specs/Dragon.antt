@@ -1,7 +1,7 @@
 -- The dragon that is fought with bare hands.
-use Rattle.std.specs.Prelude.{ℕ, ℤ, pos, negsuc, zero, suc, ◌+◌, ◌/◌, Bool, ◌==◌, ◌&&◌, ◌||◌, not}
+use Rattle.std.specs.Prelude.{ℕ, pos, zero, suc, ◌+◌, ◌/◌, Bool, ◌==◌, ◌&&◌, ◌||◌, not}
 use Rattle.std.specs.Prelude.{if◌then◌else◌}
-use Rattle.cave_data.specs.CaveView.{CaveView, placement_of}
+use Rattle.cave_data.specs.CaveView.{CaveView}
 use Rattle.cave_moves.specs.Arrival.{arriving}
 use Rattle.cave_things.specs.Plays.{Scene, looking_at, with_state, standing}
 use Rattle.cave_things.specs.Effects.{with_objects}
@@ -10,7 +10,6 @@ use Rattle.cave_things.specs.Things.{thing}
 use Rattle.cave_words.specs.declared.named.Named.TheVariants as name
 use Rattle.cave_world.specs.Layout.{Layout}
 use Rattle.cave_world.specs.Objects.{moved, anchored, with_prop, is_first_at}
-use Rattle.cave_world.specs.declared.part.Part.TheVariants as part
 use Rattle.cave_world.specs.declared.spot.Anchor.TheVariants as anchor
 use Rattle.cave_world.specs.declared.state.State.{State}
 

@@ -1,5 +1,5 @@
 -- How a turn ends that leaves no question open.
-use Rattle.std.specs.Prelude.{ℕ, ℤ, pos, negsuc, ◌-ℤ◌, Bool, ◌&&◌, if◌then◌else◌, int_lt, suc, zero}
+use Rattle.std.specs.Prelude.{ℕ, pos, negsuc, ◌-ℤ◌, Bool, ◌&&◌, if◌then◌else◌, int_lt, suc, zero}
 use Rattle.cave_data.specs.CaveView.{CaveView}
 use Rattle.cave_things.specs.Effects.{with_objects}
 use Rattle.cave_things.specs.Plays.{Scene, looking_at, with_state}
@@ -9,7 +9,6 @@ use Rattle.cave_words.specs.declared.named.Named.TheVariants as name
 use Rattle.cave_world.specs.Layout.{Layout}
 use Rattle.cave_world.specs.Objects.{is_carried, prop_of, with_prop}
 use Rattle.cave_world.specs.State.{is_over}
-use Rattle.cave_world.specs.declared.state.State.{State}
 
 -- an object that is carried and shows nothing yet
 abbrev pub is_hidden_in_hand : Layout → ℕ → Bool

@@ -66,7 +66,10 @@ object_word cave s v is_alone k =
     ∷ (is_liquid_here cave s k, Is k)
     ∷ (is_grown_plant cave s k, Is (thing cave name.SecondPlant))
     ∷ (is_called cave k name.Knife && is_knife_at s.trail.here s.dwarves.knife, Knives)
-    ∷ (is_called cave k name.Rod
-    && is_near cave s (thing cave name.SecondRod), Is (thing cave name.SecondRod))
+    ∷ (
+      is_called cave k name.Rod
+          && is_near cave s (thing cave name.SecondRod),
+      Is (thing cave name.SecondRod),
+    )
     ∷ (is_alone && is_sought v, Is k)
     ∷ [])

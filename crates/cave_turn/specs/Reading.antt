@@ -13,7 +13,6 @@ use Rattle.cave_words.specs.declared.meaning.Class.{Class}
 use Rattle.cave_words.specs.declared.meaning.Class.TheVariants as class
 use Rattle.cave_words.specs.declared.meaning.Meaning.{Meaning}
 use Rattle.cave_words.specs.declared.named.Named.TheVariants as name
-use Rattle.cave_words.specs.declared.words.Words.{Words}
 use Rattle.cave_world.specs.Objects.{stands_at}
 use Rattle.cave_world.specs.declared.part.Part.TheVariants as part
 use Rattle.cave_world.specs.declared.part.WordLine.TheVariants as line

@@ -1,5 +1,5 @@
 -- How a player comes back from death.
-use Rattle.std.specs.Prelude.{ℕ, pos, Bool, ◌==◌, nat_le, if◌then◌else◌, suc, zero}
+use Rattle.std.specs.Prelude.{ℕ, pos, ◌==◌, nat_le, if◌then◌else◌, suc, zero}
 use Rattle.cave_data.specs.CaveView.{CaveView}
 use Rattle.cave_data.specs.declared.role.Role.{Role}
 use Rattle.cave_data.specs.declared.role.Role.TheVariants as role

@@ -12,8 +12,8 @@ ghost use Rattle.cave_turn.specs.Commands.{timed, commanded};
 
 use crate::finish::finish;
 use crate::reading::{Half, Reading, Understood, read_words};
-use cave_data::Role;
 use cave_clocks::{Clocks, run_clocks};
+use cave_data::Role;
 use cave_moves::{arrive, describe_here, lead_by_motion};
 use cave_score::{ask, end};
 use cave_things::{Play, Rules};
