@@ -1,0 +1,277 @@
+-- What the clocks and the lamp make of a claim.
+use Rattle.std.proofs.Common.{◌≡◌, ℕ, ℤ, pos, negsuc, Bool, false, true, refl, sym, ◌∙◌, ◌≤ℤ◌, inr}
+use Rattle.std.proofs.Common.{arith}
+use Rattle.std.proofs.lemmas.Bool.{true≢false}
+use Rattle.std.proofs.lemmas.Int.{ints}
+use Rattle.std.specs.Prelude.{◌&&◌, not, int_le, Option, None, Some, if◌then◌else◌, ◌-ℤ◌}
+use Rattle.std.specs.Int.{int_max}
+use Rattle.std.specs.Ordering.{int_eq}
+use Rattle.cave_data.specs.CaveView.{CaveView}
+use Rattle.cave_data.specs.declared.place_role.PlaceRole.TheVariants as place
+use Rattle.cave_data.specs.declared.role.Role.TheVariants as role
+use Rattle.cave_words.specs.declared.named.Named.TheVariants as name
+use Rattle.cave_world.specs.Objects.{moved}
+use Rattle.cave_world.specs.declared.ending.Ending.{Ending}
+use Rattle.cave_world.specs.declared.ending.Question.{Question}
+use Rattle.cave_world.specs.declared.state.State.{State}
+use Rattle.cave_things.specs.Effects.{with_objects, without_troll}
+use Rattle.cave_things.specs.Places.{place_named}
+use Rattle.cave_things.specs.Plays.{Scene, saying, with_state}
+use Rattle.cave_things.specs.Reach.{is_near, has_prop}
+use Rattle.cave_things.specs.Things.{thing}
+use Rattle.cave_clocks.specs.Clocks.{Timing, go_on_or_give_up, lamp_last, lamp_unless_closed}
+use Rattle.cave_clocks.specs.Clocks.{second_clock_and_lamp, clocks_run}
+use Rattle.cave_clocks.specs.FirstClock.{Tick, tick, is_first_clock_going, with_first_clock_down}
+use Rattle.cave_clocks.specs.FirstClock.{with_ways_barred, without_dwarves, without_bear}
+use Rattle.cave_clocks.specs.FirstClock.{cleared_cave, start_of_closing, tick_to_end}
+use Rattle.cave_clocks.specs.FirstClock.{first_clock_run}
+use Rattle.cave_clocks.specs.Lamp.{with_charge, with_lamp_burnt, can_change_batteries}
+use Rattle.cave_clocks.specs.Lamp.{with_batteries_used, change_of_batteries, with_lamp_out}
+use Rattle.cave_clocks.specs.Lamp.{lamp_going_out, is_hopeless, is_warning_due, warning_told}
+use Rattle.cave_clocks.specs.Lamp.{Burning, burning, care_of_lamp, lamp_run}
+use Rattle.cave_clocks.specs.Repository.{with_empty_hands, closed_cave, Closure, closure}
+use Rattle.cave_clocks.specs.Repository.{closure_between, closure_if_due, is_second_clock_going}
+use Rattle.cave_clocks.specs.Repository.{with_second_clock_down, second_clock_run}
+use Rattle.cave_clocks.specs.declared.clocks.Clocks.{Clocks}
+use Rattle.cave_clocks.specs.declared.clocks.Clocks.TheVariants as clocks
+use Rattle.cave_laws.proofs.Frame.{Claim, On, At, Charges, Lowers, choose, chosen, chosen_scene}
+use Rattle.cave_laws.proofs.Verbs.{let_go_kept, without_troll_kept}
+
+-- the bear goes
+bear_kept : (P : Claim) (cave : CaveView) (s : State) → On P s → On P (without_bear cave s)
+bear_kept P cave s h =
+    let bear = thing cave name.Bear in
+    chosen P (has_prop s bear (pos 3)) s (with_objects (moved s.objects bear 0) s) h h
+
+-- the cave is cleared
+cleared_kept : (P : Claim) (cave : CaveView) (s : State) → On P s → On P (cleared_cave cave s)
+unfolding cleared_cave
+cleared_kept P cave s h =
+    let shut = with_objects (with_ways_barred cave s.objects) s in
+    bear_kept P cave (without_troll cave (without_dwarves shut))
+    (without_troll_kept P cave (without_dwarves shut) h)
+
+-- the cave begins to close
+start_kept : (P : Claim) (cave : CaveView) (p : Scene) → On P p.state
+    → On P (start_of_closing cave p).state
+unfolding start_of_closing
+start_kept P cave p h = cleared_kept P cave p.state h
+
+-- the first clock goes on
+first_kept : (P : Claim) (cave : CaveView) (p : Scene) → On P p.state
+    → On P (first_clock_run cave p).scene.state
+unfolding first_clock_run
+first_kept P cave p h =
+    let q = with_state (with_first_clock_down p.state) p in
+    choose (λ (t : Tick). On P t.scene.state) (is_first_clock_going cave p.state)
+    (tick_to_end cave q)
+    (tick false p)
+    (λ _. choose (λ (t : Tick). On P t.scene.state) (int_eq q.state.closing.first_clock (pos 0))
+    (tick true (start_of_closing cave q)) (tick false q) (λ _. start_kept P cave q h) (λ _. h))
+    (λ _. h)
+
+-- what holds after the clocks: where they closed the cave, the player stands elsewhere
+abbrev pub After : Claim → ℕ → Clocks → State → Type 0
+After P before clocks.GoOn s = On P s
+After P before clocks.GaveUp s = On P s
+After P before (clocks.Closed place) s = At P before s
+
+-- what holds after the second clock
+abbrev pub AfterSecond : Claim → ℕ → Option ℕ → State → Type 0
+AfterSecond P before None s = On P s
+AfterSecond P before (Some place) s = At P before s
+
+-- the cave is closed
+closed_kept : (P : Claim) (cave : CaveView) (ne sw : ℕ) (p : Scene) → On P p.state
+    → At P p.state.trail.here (closed_cave cave ne sw p).state
+unfolding closed_cave with_empty_hands
+closed_kept P cave ne sw p h = h
+
+-- the cave is closed where both ends of a repository are known
+between_kept : (P : Claim) (cave : CaveView) (a b : Option ℕ) (p : Scene) → On P p.state
+    → AfterSecond P p.state.trail.here (closure_between cave a b p).place
+    (closure_between cave a b p).scene.state
+between_kept P cave (Some ne) (Some sw) p h = closed_kept P cave ne sw p h
+between_kept P cave (Some ne) None p h = h
+between_kept P cave None b p h = h
+
+-- the second clock goes on
+second_kept : (P : Claim) (cave : CaveView) (p : Scene) → On P p.state
+    → AfterSecond P p.state.trail.here (second_clock_run cave p).place
+    (second_clock_run cave p).scene.state
+unfolding second_clock_run closure_if_due
+second_kept P cave p h =
+    let here = p.state.trail.here in
+    let q = with_state (with_second_clock_down p.state) p in
+    let due = closure_between cave (place_named cave place.Ne) (place_named cave place.Sw) q in
+    let is_due = int_eq q.state.closing.second_clock (pos 0) && not q.state.closing.is_closed in
+    choose (λ (c : Closure). AfterSecond P here c.place c.scene.state)
+    (is_second_clock_going p.state)
+    (if is_due then due else closure None q) (closure None p)
+    (λ _. choose (λ (c : Closure). AfterSecond P here c.place c.scene.state) is_due due
+    (closure None q)
+    (λ _. between_kept P cave (place_named cave place.Ne) (place_named cave place.Sw) q h) (λ _. h))
+    (λ _. h)
+
+-- the lamp burns
+burnt_kept : (P : Claim) (k : Charges P) (cave : CaveView) (s : State) → On P s
+    → On P (with_lamp_burnt cave s)
+unfolding with_lamp_burnt
+burnt_kept P k cave s h =
+    chosen P (has_prop s (thing cave name.Lamp) (pos 1))
+    (with_charge (int_max (s.lamp.charge -ℤ pos 1) (negsuc 0)) s) s
+    (k _ s.lamp.charge _ _ _ _ h) h
+
+-- the batteries are used
+used_kept : (P : Claim) (cave : CaveView) (s : State) → On P s → On P (with_batteries_used cave s)
+unfolding with_batteries_used
+used_kept P cave s h = let_go_kept P cave _ _ h
+
+-- the batteries are replaced
+replaced_kept : (P : Claim) (k : Charges P) (cave : CaveView) (p : Scene) → On P p.state
+    → On P (change_of_batteries cave p).state
+unfolding change_of_batteries
+replaced_kept P k cave p h =
+    let used = with_batteries_used cave p.state in
+    k _ used.lamp.charge _ _ _ _ (used_kept P cave p.state h)
+
+-- the lamp goes out
+out_kept : (P : Claim) (k : Lowers P) (cave : CaveView) (s : State) → On P s
+    → On P (with_lamp_out cave s)
+unfolding with_lamp_out
+out_kept P k cave s h =
+    let none : negsuc 0 ≤ℤ pos 0 = omega (arith, ints) in
+    k _ s.lamp.charge _ _ _ _ (inr none) h
+
+-- the lamp has gone out
+going_out_kept : (P : Claim) (k : Lowers P) (cave : CaveView) (p : Scene) → On P p.state
+    → On P (lamp_going_out cave p).state
+unfolding lamp_going_out
+going_out_kept P k cave p h =
+    let q = with_state (with_lamp_out cave p.state) p in let o = out_kept P k cave p.state h in
+    chosen_scene P (is_near cave q.state (thing cave name.Lamp)) (saying role.LampDead q) q o o
+
+-- the player is warned
+warned_kept : (P : Claim) (cave : CaveView) (p : Scene) → On P p.state
+    → On P (warning_told cave p).state
+unfolding warning_told
+warned_kept P cave p h = h
+
+-- what comes of the lamp
+care_kept : (P : Claim) (k : Lowers P) (cave : CaveView) (p : Scene)
+    → (can_change_batteries cave p.state ≡ true → On P (change_of_batteries cave p).state)
+    → On P p.state → On P (care_of_lamp cave p).scene.state
+unfolding care_of_lamp
+care_kept P k cave p change h =
+    let warned = if is_warning_due cave p.state then burning false (warning_told cave p)
+    else burning false p in
+    let hopeless = if is_hopeless cave p.state then burning true (saying role.GiveUp p)
+    else warned in
+    let out = if int_eq p.state.lamp.charge (pos 0) then burning false (lamp_going_out cave p)
+    else hopeless in
+    choose (λ (r : Burning). On P r.scene.state) (can_change_batteries cave p.state)
+    (burning false (change_of_batteries cave p)) out change
+    (λ _. picked (int_eq p.state.lamp.charge (pos 0)) (burning false (lamp_going_out cave p))
+    hopeless
+    (going_out_kept P k cave p h)
+    (picked (is_hopeless cave p.state) (burning true (saying role.GiveUp p)) warned h
+    (picked (is_warning_due cave p.state) (burning false (warning_told cave p)) (burning false p)
+    (warned_kept P cave p h) h)))
+  where
+    picked : (b : Bool) (i j : Burning) → On P i.scene.state → On P j.scene.state
+        → On P (if b then i else j).scene.state
+    picked b i j one other =
+        choose (λ (r : Burning). On P r.scene.state) b i j (λ _. one) (λ _. other)
+
+-- the lamp goes on
+pub lamp_kept : (P : Claim) (k : Charges P) (cave : CaveView) (p : Scene) → On P p.state
+    → On P (lamp_run cave p).scene.state
+unfolding lamp_run
+lamp_kept P k cave p h =
+    let q = with_state (with_lamp_burnt cave p.state) p in
+    let b = burnt_kept P k cave p.state h in
+    care_kept P (λ here b c d q e _ x. k here b c d q e x) cave q (λ _. replaced_kept P k cave q b)
+    b
+
+-- the first of four tests that hold holds
+first_holds : (a b c d : Bool) → (a && b && c && d) ≡ true → a ≡ true
+first_holds true b c d h = refl
+first_holds false b c d h = h
+
+-- batteries aren't changed while the lamp isn't low
+no_change : (cave : CaveView) (s : State) → int_le s.lamp.charge (pos 30) ≡ false
+    → can_change_batteries cave s ≡ true → ⊥
+unfolding can_change_batteries
+no_change cave s high change =
+    true≢false (sym (first_holds (int_le s.lamp.charge (pos 30))
+    (is_near cave s (thing cave name.Batteries))
+    (has_prop s (thing cave name.Batteries) (pos 0)) (is_near cave s (thing cave name.Lamp)) change)
+    ∙ high)
+
+-- the lamp goes on, and isn't low once it has burnt
+pub high_lamp_kept : (P : Claim) (k : Lowers P) (cave : CaveView) (p : Scene)
+    → On P (with_lamp_burnt cave p.state)
+    → int_le (with_lamp_burnt cave p.state).lamp.charge (pos 30) ≡ false
+    → On P (lamp_run cave p).scene.state
+unfolding lamp_run
+high_lamp_kept P k cave p h high =
+    let q = with_state (with_lamp_burnt cave p.state) p in
+    care_kept P k cave q (λ change. absurd (no_change cave q.state high change)) h
+
+-- the player gives up or not
+up_kept : (P : Claim) (before : ℕ) (up : Bool) (s : State) → On P s
+    → After P before (go_on_or_give_up up) s
+up_kept P before true s h = h
+up_kept P before false s h = h
+
+-- what the lamp makes of a claim
+abbrev pub Lights : CaveView → Claim → Claim → Type 0
+Lights cave Q P = (p : Scene) → On Q p.state → On P (lamp_run cave p).scene.state
+
+-- a claim is as strong as another
+abbrev pub Implies : Claim → Claim → Type 0
+Implies Q P =
+    (h : ℕ) (c : ℤ) (d : ℕ) (q : Option Question) (e : Option Ending) → Q h c d q e → P h c d q e
+
+-- the lamp is the last
+last_kept : (Q P : Claim) (cave : CaveView) (lamp : Lights cave Q P) (before : ℕ) (p : Scene)
+    → On Q p.state → After P before (lamp_last cave p).outcome (lamp_last cave p).scene.state
+unfolding lamp_last
+last_kept Q P cave lamp before p h =
+    up_kept P before (lamp_run cave p).gives_up (lamp_run cave p).scene.state (lamp p h)
+
+-- the lamp is passed over where the cave was closed
+unless_kept : (Q P : Claim) (cave : CaveView) (weak : Implies Q P) (lamp : Lights cave Q P)
+    (before : ℕ)
+    (o : Option ℕ) (p : Scene) → AfterSecond Q before o p.state
+    → After P before (lamp_unless_closed cave o p).outcome (lamp_unless_closed cave o p).scene.state
+unless_kept Q P cave weak lamp before None p h = last_kept Q P cave lamp before p h
+unless_kept Q P cave weak lamp before (Some place) p h = weak _ _ _ _ _ h
+
+-- the second clock and the lamp
+second_lamp_kept : (Q P : Claim) (cave : CaveView) (weak : Implies Q P) (lamp : Lights cave Q P)
+    (p : Scene)
+    → On Q p.state
+    → After P p.state.trail.here (second_clock_and_lamp cave p).outcome
+    (second_clock_and_lamp cave p).scene.state
+unfolding second_clock_and_lamp
+second_lamp_kept Q P cave weak lamp p h =
+    unless_kept Q P cave weak lamp p.state.trail.here (second_clock_run cave p).place
+    (second_clock_run cave p).scene (second_kept Q cave p h)
+
+-- the clocks go on: the player stands where they say, and stood somewhere before
+pub clocks_kept : (Q P : Claim) (cave : CaveView) (weak : Implies Q P) (lamp : Lights cave Q P)
+    (p : Scene)
+    → On Q p.state
+    → (before : ℕ) × After P before (clocks_run cave p).outcome (clocks_run cave p).scene.state
+unfolding clocks_run
+clocks_kept Q P cave weak lamp p h =
+    let first = first_clock_run cave p in
+    let here = first.scene.state.trail.here in
+    let t = first_kept Q cave p h in (
+      here,
+      choose (λ (r : Timing). After P here r.outcome r.scene.state) first.has_begun
+          (lamp_last cave first.scene) (second_clock_and_lamp cave first.scene)
+          (λ _. last_kept Q P cave lamp here first.scene t)
+          (λ _. second_lamp_kept Q P cave weak lamp first.scene t),
+    )

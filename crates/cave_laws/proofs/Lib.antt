@@ -1,0 +1,11 @@
+pub mod Quiet
+pub mod Frame
+pub mod Verbs
+pub mod Scores
+pub mod Dwarves
+pub mod Moves
+pub mod Clocks
+pub mod Turns
+pub mod Lines
+pub mod Claims
+pub mod Charge

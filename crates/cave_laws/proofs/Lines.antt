@@ -1,0 +1,231 @@
+-- What a line makes of a claim.
+use Rattle.std.proofs.Common.{◌≡◌, ℕ, ◌*◌, ℤ, pos, false, true, List, refl, subst}
+use Rattle.std.proofs.lemmas.Bool.{true≢false}
+use Rattle.std.specs.Prelude.{◌&&◌, int_lt, ◌+ℤ◌, Option, None, Some}
+use Rattle.std.specs.Int.{int_min}
+use Rattle.std.specs.FinMap as map
+use Rattle.cave_data.specs.CaveView.{CaveView}
+use Rattle.cave_data.specs.declared.role.Role.TheVariants as role
+use Rattle.cave_data.specs.declared.rows.Hint.{Hint}
+use Rattle.cave_words.specs.LogLine.{log_line}
+use Rattle.cave_words.specs.declared.log_line.LogLine.{LogLine}
+use Rattle.cave_words.specs.declared.log_line.LogLine.TheVariants as kind
+use Rattle.cave_words.specs.declared.named.Named.TheVariants as name
+use Rattle.cave_world.specs.State.{standing_at}
+use Rattle.cave_world.specs.declared.ending.Ending.{Ending}
+use Rattle.cave_world.specs.declared.ending.Ending.TheVariants as ending_is
+use Rattle.cave_world.specs.declared.ending.Question.{Question}
+use Rattle.cave_world.specs.declared.ending.Question.TheVariants as question
+use Rattle.cave_world.specs.declared.part.Part.TheVariants as part
+use Rattle.cave_world.specs.declared.part.NumberLine.TheVariants.{HintCosts}
+use Rattle.cave_world.specs.declared.state.State.{State}
+use Rattle.cave_things.specs.Places.{building_place, start_place}
+use Rattle.cave_things.specs.Plays.{Scene, opening, telling, saying, looking_at, with_state}
+use Rattle.cave_things.specs.Plays.{standing}
+use Rattle.cave_things.specs.Things.{thing}
+use Rattle.cave_score.specs.Deaths.{with_one_death}
+use Rattle.cave_hints.specs.Hints.{with_hint_taken, priced_if, priced, given_if, given}
+use Rattle.cave_turn.specs.Answers.{answer_in, is_yes, closed, entering, agreed, declined, asked}
+use Rattle.cave_turn.specs.Answers.{is_of_hint, answered, answers}
+use Rattle.cave_turn.specs.Commands.{commanded}
+use Rattle.cave_turn.specs.Dragon.{lair, cleared, fought}
+use Rattle.cave_turn.specs.Finish.{finished}
+use Rattle.cave_turn.specs.Revival.{buried}
+use Rattle.cave_turn.specs.Turn.{Turn, turn_of, turned, turned_as, played}
+use Rattle.cave_turn.specs.declared.answers.Answer.{Answer}
+use Rattle.cave_turn.specs.declared.answers.Answer.TheVariants.{Yes, No, Neither}
+use Rattle.cave_laws.specs.Laws.{is_priced, pays}
+use Rattle.cave_laws.proofs.Frame.{Claim, On, Calm, Pinned, Charges, IsKept, is_die, choose, chosen}
+use Rattle.cave_laws.proofs.Frame.{chosen_scene}
+use Rattle.cave_laws.proofs.Moves.{looking_kept, arriving_kept, arriving_open}
+use Rattle.cave_laws.proofs.Scores.{ended_kept, asking_kept, question_kept}
+use Rattle.cave_laws.proofs.Turns.{asks_kept, none_on, finished_kept, command_kept, reborn_kept}
+
+-- the price of a hint is told
+priced_kept : {n : ℕ} {P : Claim} (k : IsKept n P) (cave : CaveView) (i : ℕ) (o : Option Hint)
+    (p : Scene)
+    → p.state.question ≡ None → p.state.ending ≡ None → On P p.state
+    → On P (priced_if cave i o p).state
+priced_kept k cave i None p asked goes h = h
+priced_kept {n} {P} k cave i (Some hint) p asked goes h =
+    asking_kept P cave (question.Take i) (telling (part.Number HintCosts hint.points 0) p)
+    (asks_kept k (question.Take i) _ _ _ _ _ h (asked, goes))
+
+-- a hint is given
+given_kept : {P : Claim} (pay : Charges P) (i : ℕ) (o : Option Hint) (p : Scene) → On P p.state
+    → On P (given_if i o p).state
+given_kept pay i None p h = h
+given_kept {P} pay i (Some hint) p h =
+    let s = with_hint_taken i p.state in let lamp = s.lamp in
+    chosen P (int_lt (pos 30) lamp.charge)
+    (record s {
+      lamp =
+          record lamp { charge = int_min (lamp.charge +ℤ pos (30 * hint.points)) (pos 100000) };
+    })
+    s (pay _ lamp.charge _ _ _ _ h) h
+
+-- the dragon is fought
+fought_kept : {n : ℕ} {P : Claim} (k : IsKept n P) (cave : CaveView) (p : Scene)
+    → On (Pinned P p.state.trail.here) p.state → On P (fought cave p).state
+unfolding fought cleared standing_at
+fought_kept {n} {P} k cave p h =
+    let here = p.state.trail.here in
+    let place = lair cave p.state in let q = looking_at (thing cave name.Dragon) (pos 1) p in
+    arriving_open k cave here place (standing place (with_state (cleared cave place q.state) q))
+    (looking_kept (Pinned P here) (thing cave name.Dragon) (pos 1) p h)
+
+-- yes is said to a question, which is closed
+agreed_kept : {P : Claim} (cave : CaveView) (k : IsKept (building_place cave) P) (q : Question)
+    (p : Scene)
+    → (is_priced q ≡ true → Charges P) → p.state.question ≡ None → p.state.ending ≡ None
+    → P p.state.trail.here p.state.lamp.charge p.state.tallies.deaths (Some q) None
+    → On P (agreed cave q p).state
+unfolding entering priced given
+agreed_kept {P} cave k question.Welcome p pay asked goes h =
+    arriving_kept k cave (start_place cave) _ (pay refl _ p.state.lamp.charge _ _ _ _
+    (none_on P _ _ _ p.state.question p.state.ending asked goes
+    (k.closes question.Welcome _ _ _ refl h)))
+agreed_kept {P} cave k question.Quit p pay asked goes h =
+    ended_kept P cave ending_is.Quit (saying role.Ok p)
+    (k.ends ending_is.Quit p.state.trail.here _ _ _ _ _ None h)
+agreed_kept {P} cave k question.ScoreQuit p pay asked goes h =
+    ended_kept P cave ending_is.Quit (saying role.Ok p)
+    (k.ends ending_is.Quit p.state.trail.here _ _ _ _ _ None h)
+agreed_kept cave k question.Die p pay asked goes h = reborn_kept cave k p asked goes h
+agreed_kept {P} cave k (question.Hint i) p pay asked goes h =
+    priced_kept k cave i (map.get cave.hints i) p asked goes
+    (none_on P _ _ _ p.state.question p.state.ending asked goes
+    (k.closes (question.Hint i) _ _ _ refl h))
+agreed_kept {P} cave k (question.Take i) p pay asked goes h =
+    given_kept (pay refl) i (map.get cave.hints i) p
+    (none_on P _ _ _ p.state.question p.state.ending asked goes
+    (k.closes (question.Take i) _ _ _ refl h))
+agreed_kept {P} cave k question.Oyster p pay asked goes h =
+    none_on P _ _ _ p.state.question p.state.ending asked goes
+    (k.closes question.Oyster _ _ _ refl h)
+agreed_kept {P} cave k question.Dragon p pay asked goes h =
+    fought_kept k cave p (
+      none_on P _ _ _ p.state.question p.state.ending asked goes
+          (k.closes question.Dragon _ _ _ refl h),
+      (asked, goes),
+    )
+
+-- no is said to a question, which is closed
+declined_kept : {n : ℕ} {P : Claim} (k : IsKept n P) (cave : CaveView) (q : Question) (p : Scene)
+    → p.state.question ≡ None → p.state.ending ≡ None
+    → P p.state.trail.here p.state.lamp.charge p.state.tallies.deaths (Some q) None
+    → On P (declined cave q p).state
+unfolding entering buried
+declined_kept {n} {P} k cave question.Welcome p asked goes h =
+    arriving_kept k cave (start_place cave) p
+    (none_on P _ _ _ p.state.question p.state.ending asked goes
+    (k.closes question.Welcome _ _ _ refl h))
+declined_kept {n} {P} k cave question.Quit p asked goes h =
+    none_on P _ _ _ p.state.question p.state.ending asked goes (k.closes question.Quit _ _ _ refl h)
+declined_kept {n} {P} k cave question.ScoreQuit p asked goes h =
+    none_on P _ _ _ p.state.question p.state.ending asked goes
+    (k.closes question.ScoreQuit _ _ _ refl h)
+declined_kept {n} {P} k cave question.Die p asked goes h =
+    let q = saying role.Ok p in
+    ended_kept P cave ending_is.Killed (with_state (with_one_death q.state) q)
+    (k.kills ending_is.Killed p.state.trail.here _ _ _ _ _ None h)
+declined_kept {n} {P} k cave (question.Hint i) p asked goes h =
+    none_on P _ _ _ p.state.question p.state.ending asked goes
+    (k.closes (question.Hint i) _ _ _ refl h)
+declined_kept {n} {P} k cave (question.Take i) p asked goes h =
+    none_on P _ _ _ p.state.question p.state.ending asked goes
+    (k.closes (question.Take i) _ _ _ refl h)
+declined_kept {n} {P} k cave question.Oyster p asked goes h =
+    none_on P _ _ _ p.state.question p.state.ending asked goes
+    (k.closes question.Oyster _ _ _ refl h)
+declined_kept {n} {P} k cave question.Dragon p asked goes h =
+    none_on P _ _ _ p.state.question p.state.ending asked goes
+    (k.closes question.Dragon _ _ _ refl h)
+
+-- an open question is answered, or not
+asked_kept : {P : Claim} (cave : CaveView) (k : IsKept (building_place cave) P) (q : Question)
+    (a : Answer)
+    (p : Scene) → (is_yes a && is_priced q ≡ true → Charges P) → p.state.ending ≡ None
+    → On P p.state
+    → P p.state.trail.here p.state.lamp.charge p.state.tallies.deaths (Some q) None
+    → On P (asked cave q a p).state
+asked_kept cave k q Yes p pay goes on h =
+    agreed_kept cave k q (with_state (closed p.state) p) pay refl goes h
+asked_kept cave k q No p pay goes on h =
+    declined_kept k cave q (with_state (closed p.state) p) refl goes h
+asked_kept {P} cave k q Neither p pay goes on h = question_kept P cave q (saying role.Answer p) on
+
+-- a line answers a question
+answered_kept : {P : Claim} (cave : CaveView) (k : IsKept (building_place cave) P) (q : Question)
+    (line : List ℕ) (s : State) → (pays cave line (Some q) ≡ true → Charges P) → s.ending ≡ None
+    → On P s
+    → P s.trail.here s.lamp.charge s.tallies.deaths (Some q) None
+    → On P (answered cave q line s).state
+unfolding answered
+answered_kept {P} cave k q line s pay goes on h =
+    let r = asked cave q (answer_in cave line) (opening false s) in
+    let a = asked_kept cave k q (answer_in cave line) (opening false s) pay goes on h in
+    chosen_scene P (is_of_hint q) r (finished cave r) a (finished_kept k cave r a)
+
+-- a question that a line leaves is not whether to come back
+unanswered : (cave : CaveView) (line : List ℕ) (q : Question) → answers cave line q ≡ false
+    → is_die q ≡ false
+unanswered cave line question.Welcome h = refl
+unanswered cave line question.Quit h = refl
+unanswered cave line question.ScoreQuit h = refl
+unanswered cave line question.Die h = absurd (true≢false h)
+unanswered cave line (question.Hint i) h = refl
+unanswered cave line (question.Take i) h = refl
+unanswered cave line question.Oyster h = refl
+unanswered cave line question.Dragon h = refl
+
+-- what is done with a state of a charge
+abbrev pub Commands : CaveView → List ℕ → Claim → ℤ → Type 0
+Commands cave line P c =
+    (t : State) → t.lamp.charge ≡ c → On (Calm P) t → On P (commanded cave line t).state
+
+-- input is played
+played_kept : {P : Claim} (cave : CaveView) (k : IsKept (building_place cave) P) (line : List ℕ)
+    (e : Option Ending) (q : Option Question) (s : State) → Commands cave line P s.lamp.charge
+    → (pays cave line q ≡ true → Charges P) → s.ending ≡ e → s.question ≡ q → On P s
+    → On P (played cave line e q s).state
+played_kept cave k line (Some how) q s does pay goes asked h = h
+played_kept cave k line None None s does pay goes asked h = does s refl (h, (asked, goes))
+played_kept {P} cave k line None (Some q) s does pay goes asked h =
+    let here = s.trail.here in let c = s.lamp.charge in let d = s.tallies.deaths in
+    let x : P here c d (Some q) None =
+    subst (λ (e : Option Ending). P here c d (Some q) e) goes
+    (subst (λ (o : Option Question). P here c d o s.ending) asked h) in
+    choose (λ (t : Turn). On P t.state) (answers cave line q)
+    (turn_of false (answered cave q line s))
+    (turn_of true (commanded cave line (closed s)))
+    (λ _. answered_kept cave k q line s pay goes h x)
+    (λ left. does (closed s) refl (
+      none_on P here c d None s.ending refl goes
+          (k.closes q here c d (unanswered cave line q left) x),
+      (refl, goes),
+    ))
+
+-- a line of any kind
+turned_as_kept : {P : Claim} (cave : CaveView) (k : IsKept (building_place cave) P) (line : List ℕ)
+    (l : LogLine) (s : State) → Commands cave line P s.lamp.charge
+    → (pays cave line s.question ≡ true → Charges P) → On P s → On P (turned_as cave line l s).state
+turned_as_kept cave k line kind.Comment s does pay h = h
+turned_as_kept cave k line kind.Blank s does pay h = h
+turned_as_kept cave k line (kind.Seed seed) s does pay h = h
+turned_as_kept cave k line kind.Input s does pay h =
+    played_kept cave k line s.ending s.question s does pay refl refl h
+
+-- a line keeps each claim that what happens in a game keeps, if commands and prices keep it
+pub line_kept : {P : Claim} (cave : CaveView) (k : IsKept (building_place cave) P) (s : State)
+    (line : List ℕ) → Commands cave line P s.lamp.charge
+    → (pays cave line s.question ≡ true → Charges P) → On P s → On P (turned cave s line).state
+unfolding turned
+line_kept cave k s line does pay h = turned_as_kept cave k line (log_line line) s does pay h
+
+-- a line keeps each claim that what happens in a game keeps, whatever the charge is
+pub turned_kept : {P : Claim} (cave : CaveView) (k : IsKept (building_place cave) P)
+    (charges : Charges P)
+    (s : State) (line : List ℕ) → On P s → On P (turned cave s line).state
+turned_kept cave k charges s line h =
+    line_kept cave k s line (λ t _ x. command_kept k cave charges line t x) (λ _. charges) h

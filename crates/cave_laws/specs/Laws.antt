@@ -1,0 +1,118 @@
+-- Laws of the game: each tells what a line makes of any state in any cave.
+use Rattle.std.specs.Prelude.{◌≡◌, ◌≤◌, ◌⊎◌, ℕ, pos, ◌≤ℤ◌, ◌<ℤ◌, Bool, false, true, ◌&&◌, not, List}
+use Rattle.std.specs.Prelude.{[], Option, None, Some, is_some}
+use Rattle.cave_data.specs.CaveView.{CaveView}
+use Rattle.cave_words.specs.LogLine.{IsSeedLine, log_line}
+use Rattle.cave_words.specs.declared.log_line.LogLine.{LogLine}
+use Rattle.cave_words.specs.declared.log_line.LogLine.TheVariants as kind
+use Rattle.cave_world.specs.declared.ending.Question.{Question}
+use Rattle.cave_world.specs.declared.ending.Question.TheVariants as question
+use Rattle.cave_world.specs.declared.state.State.{State}
+use Rattle.cave_things.specs.Places.{building_place, start_place}
+use Rattle.cave_turn.specs.Answers.{answer_in, is_dragon, is_yes}
+use Rattle.cave_turn.specs.Turn.{Turn, turned, begun, reseeded, silent}
+
+-- the game has ended
+abbrev pub HasEnded : State → Type 0
+HasEnded s = is_some s.ending ≡ true
+
+-- the line is no seed line
+abbrev pub IsNoSeedLine : List ℕ → Type 0
+IsNoSeedLine line = (seed : ℕ) → ¬ IsSeedLine line seed
+
+-- nothing is said, no turn passes, and nothing changes but the random stream at a seed line
+pub record IsQuiet (s : State) (line : List ℕ) (t : Turn) : Type 0 where
+  pub says_nothing : t.parts ≡ []
+  pub no_turn : t.ticked ≡ false
+  pub same : t.state ≡ record s { stream = t.state.stream }
+  pub same_stream : IsNoSeedLine line → t.state ≡ s
+
+-- after the end every line is quiet
+abbrev pub EndIsQuiet : Type 0
+EndIsQuiet =
+    (cave : CaveView) (s : State) (line : List ℕ) → HasEnded s
+    → IsQuiet s line (turned cave s line)
+
+-- a seed line changes the random stream alone, says nothing and is no turn
+abbrev pub SeedsAlone : Type 0
+SeedsAlone =
+    (cave : CaveView) (s : State) (line : List ℕ) (seed : ℕ) → IsSeedLine line seed
+    → turned cave s line ≡ silent (reseeded s seed)
+
+-- input is what is no comment, not blank and no seed line
+abbrev pub is_input_kind : LogLine → Bool
+is_input_kind kind.Comment = false
+is_input_kind kind.Blank = false
+is_input_kind (kind.Seed seed) = false
+is_input_kind kind.Input = true
+
+-- a line is input
+abbrev pub is_input : List ℕ → Bool
+is_input line = is_input_kind (log_line line)
+
+-- a line leaves a question unanswered, and is a command: anything but yes, where the player is
+-- asked whether to fight the dragon
+abbrev pub leaves : CaveView → List ℕ → Question → Bool
+leaves cave line question = is_dragon question && not (is_yes (answer_in cave line))
+
+-- no question is open that the line answers
+abbrev pub is_no_answer : CaveView → List ℕ → Option Question → Bool
+is_no_answer cave line None = true
+is_no_answer cave line (Some question) = leaves cave line question
+
+-- a command is input while the game goes on that answers no question
+abbrev pub is_command : CaveView → State → List ℕ → Bool
+is_command cave s line =
+    is_input line && not (is_some s.ending) && is_no_answer cave line s.question
+
+-- turns are counted for commands, and for nothing else
+abbrev pub CommandsTick : Type 0
+CommandsTick =
+    (cave : CaveView) (s : State) (line : List ℕ)
+    → (turned cave s line).ticked ≡ is_command cave s line
+
+-- there are at most three deaths, and after the third the game has ended
+pub record HasFewDeaths (s : State) : Type 0 where
+  pub at_most : s.tallies.deaths ≤ 3
+  pub last : s.tallies.deaths ≡ 3 → HasEnded s
+
+-- a game begins so, and each line keeps it so
+pub record FewDeaths : Type 0 where
+  pub start : (cave : CaveView) (seed : ℕ) → HasFewDeaths (begun cave seed).state
+  pub kept :
+      (cave : CaveView) (s : State) (line : List ℕ) → HasFewDeaths s
+      → HasFewDeaths (turned cave s line).state
+
+-- the player stands at place 0, which is none, only where the game has ended, or where the player
+-- died and is asked whether to come back
+abbrev pub StandsSomewhere : State → Type 0
+StandsSomewhere s = s.trail.here ≡ 0 → HasEnded s ⊎ (s.question ≡ Some question.Die)
+
+-- a game begins so in a cave where the first place isn't 0, and each line keeps it so in a cave
+-- where the building, to which the dead come back, isn't place 0
+pub record PlayerStands : Type 0 where
+  pub start :
+      (cave : CaveView) (seed : ℕ) → 1 ≤ start_place cave → StandsSomewhere (begun cave seed).state
+  pub kept :
+      (cave : CaveView) (s : State) (line : List ℕ) → 1 ≤ building_place cave → StandsSomewhere s
+      → StandsSomewhere (turned cave s line).state
+
+-- two questions are about a price that the lamp gains by: the instructions, and a hint
+abbrev pub is_priced : Question → Bool
+is_priced question.Welcome = true
+is_priced (question.Take hint) = true
+is_priced _ = false
+
+-- the player says yes to such a question
+abbrev pub pays : CaveView → List ℕ → Option Question → Bool
+pays cave line None = false
+pays cave line (Some question) = is_yes (answer_in cave line) && is_priced question
+
+-- the charge of a lamp that burns for more than 31 turns more rises by nothing but the
+-- instructions and a hint: only a lamp that burns 30 turns more at most, once a turn is burnt,
+-- gets new batteries
+abbrev pub LampBurnsDown : Type 0
+LampBurnsDown =
+    (cave : CaveView) (s : State) (line : List ℕ) → pos 31 <ℤ s.lamp.charge
+    → pays cave line s.question ≡ false
+    → (turned cave s line).state.lamp.charge ≤ℤ s.lamp.charge

@@ -1,0 +1,38 @@
+//! Laws of the game. Each is the contract of a function that does nothing.
+#![tactic(auto)]
+
+ghost use Rattle.cave_laws.specs.Laws.{CommandsTick, EndIsQuiet, FewDeaths, LampBurnsDown};
+ghost use Rattle.cave_laws.specs.Laws.{PlayerStands, SeedsAlone};
+
+/// After the end nothing is said, no turn passes, and nothing changes but the random stream at a
+/// seed line.
+pub fn end_is_quiet()
+    ensures { EndIsQuiet }
+{}
+
+/// A seed line changes the random stream alone, says nothing and is no turn.
+pub fn seeds_alone()
+    ensures { SeedsAlone }
+{}
+
+/// A line is a turn exactly where it is a command.
+pub fn commands_tick()
+    ensures { CommandsTick }
+{}
+
+/// There are at most three deaths, and after the third the game has ended.
+pub fn few_deaths()
+    ensures { FewDeaths }
+{}
+
+/// The player stands at place 0 only where the game has ended, or where the player died and is
+/// asked whether to come back.
+pub fn player_stands()
+    ensures { PlayerStands }
+{}
+
+/// The charge of a lamp that burns for more than 31 turns more rises in a turn by nothing but the
+/// instructions and a hint: new batteries are only for a lamp that is low.
+pub fn lamp_burns_down()
+    ensures { LampBurnsDown }
+{}
