@@ -48,10 +48,16 @@ fn expect_counts(
     session: &mut Session<CaveMachine<'_>>,
 ) -> Result<(), Fail> {
     let before = b"[ok]\nYou scored 32 out of a possible 132, using 2 turns.\n[off-scale]\n";
-    assert_eq!(rt; last_text(alloc, cave, session)?.as_slice(), before.as_slice());
+    assert_eq!(rt;
+        last_text(alloc, cave, session)?.as_slice(),
+        before.as_slice()
+    );
     insert_a_turn(rt, alloc, session)?;
     let after = b"[ok]\nYou scored 32 out of a possible 132, using 3 turns.\n[off-scale]\n";
-    assert_eq!(rt; last_text(alloc, cave, session)?.as_slice(), after.as_slice());
+    assert_eq!(rt;
+        last_text(alloc, cave, session)?.as_slice(),
+        after.as_slice()
+    );
     Ok(())
 }
 

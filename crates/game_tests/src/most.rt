@@ -37,12 +37,7 @@ const CHANGES: [Change; 4] = [
 fn the_longest_turn_that_was_found_says_287_parts(rt: HostRuntime) -> Result<(), Fail> {
     let database = crowded(rt.alloc())?;
     // From this seed the fortieth draw of a hundred is the first 0.
-    let mut game = Game::begin(
-        rt.alloc(),
-        database.as_bytes(),
-        BINDINGS.as_bytes(),
-        14_897,
-    )?;
+    let mut game = Game::begin(rt.alloc(), database.as_bytes(), BINDINGS.as_bytes(), 14_897)?;
     let _ = game.play(b"no")?;
     make_changes(&mut game.state, &CHANGES);
     let _ = game.play(b"look")?;
