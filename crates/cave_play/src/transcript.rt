@@ -92,5 +92,11 @@ pub(crate) fn tell(
         push_line(cave, text, line, &pieces[place], turns)?;
     }
     let score = machine.score(session.state());
-    push_closing(alloc, text, score, machine.max_score(), session.ticks(lines))
+    push_closing(
+        alloc,
+        text,
+        score,
+        machine.max_score(),
+        session.ticks(lines),
+    )
 }
