@@ -1,9 +1,9 @@
 -- What the clocks and the lamp make of a claim.
-use Rattle.std.proofs.Common.{◌≡◌, ℕ, ℤ, pos, negsuc, Bool, false, true, refl, sym, ◌∙◌, ◌≤ℤ◌, inr}
-use Rattle.std.proofs.Common.{arith}
+use Rattle.std.proofs.Common.{◌≡◌, ℕ, ℤ, pos, negsuc, Bool, false, true, refl, sym, ◌∙◌, ◌≤ℤ◌, inl}
+use Rattle.std.proofs.Common.{inr, arith}
 use Rattle.std.proofs.lemmas.Bool.{true≢false}
 use Rattle.std.proofs.lemmas.Int.{ints}
-use Rattle.std.specs.Prelude.{◌&&◌, not, int_le, Option, None, Some, if◌then◌else◌, ◌-ℤ◌}
+use Rattle.std.specs.Prelude.{◌&&◌, not, int_lt, Option, None, Some, if◌then◌else◌, ◌-ℤ◌}
 use Rattle.std.specs.Int.{int_max}
 use Rattle.std.specs.Ordering.{int_eq}
 use Rattle.cave_data.specs.CaveView.{CaveView}
@@ -11,15 +11,13 @@ use Rattle.cave_data.specs.declared.place_role.PlaceRole.TheVariants as place
 use Rattle.cave_data.specs.declared.role.Role.TheVariants as role
 use Rattle.cave_words.specs.declared.named.Named.TheVariants as name
 use Rattle.cave_world.specs.Objects.{moved}
-use Rattle.cave_world.specs.declared.ending.Ending.{Ending}
-use Rattle.cave_world.specs.declared.ending.Question.{Question}
 use Rattle.cave_world.specs.declared.state.State.{State}
 use Rattle.cave_things.specs.Effects.{with_objects, without_troll}
 use Rattle.cave_things.specs.Places.{place_named}
 use Rattle.cave_things.specs.Plays.{Scene, saying, with_state}
 use Rattle.cave_things.specs.Reach.{is_near, has_prop}
 use Rattle.cave_things.specs.Things.{thing}
-use Rattle.cave_clocks.specs.Clocks.{Timing, go_on_or_give_up, lamp_last, lamp_unless_closed}
+use Rattle.cave_clocks.specs.Clocks.{go_on_or_give_up, lamp_last, lamp_unless_closed}
 use Rattle.cave_clocks.specs.Clocks.{second_clock_and_lamp, clocks_run}
 use Rattle.cave_clocks.specs.FirstClock.{Tick, tick, is_first_clock_going, with_first_clock_down}
 use Rattle.cave_clocks.specs.FirstClock.{with_ways_barred, without_dwarves, without_bear}
@@ -34,7 +32,9 @@ use Rattle.cave_clocks.specs.Repository.{closure_between, closure_if_due, is_sec
 use Rattle.cave_clocks.specs.Repository.{with_second_clock_down, second_clock_run}
 use Rattle.cave_clocks.specs.declared.clocks.Clocks.{Clocks}
 use Rattle.cave_clocks.specs.declared.clocks.Clocks.TheVariants as clocks
-use Rattle.cave_laws.proofs.Frame.{Claim, On, At, Charges, Lowers, choose, chosen, chosen_scene}
+use Rattle.cave_laws.specs.Laws.{before_lamp, unless_closed}
+use Rattle.cave_laws.proofs.Frame.{Claim, On, At, Charges, Falls, Lowers, choose, chosen}
+use Rattle.cave_laws.proofs.Frame.{chosen_scene}
 use Rattle.cave_laws.proofs.Verbs.{let_go_kept, without_troll_kept}
 
 -- the bear goes
@@ -113,14 +113,20 @@ second_kept P cave p h =
     (λ _. between_kept P cave (place_named cave place.Ne) (place_named cave place.Sw) q h) (λ _. h))
     (λ _. h)
 
+-- a charge falls where a turn is burnt
+burnt_falls : (b : ℤ) → Falls b (int_max (b -ℤ pos 1) (negsuc 0))
+burnt_falls b =
+    choose (λ (c : ℤ). Falls b c) (int_lt (negsuc 0) (b -ℤ pos 1)) (b -ℤ pos 1) (negsuc 0)
+    (λ _. inl (omega (arith, ints))) (λ _. inr (omega (arith, ints)))
+
 -- the lamp burns
-burnt_kept : (P : Claim) (k : Charges P) (cave : CaveView) (s : State) → On P s
+burnt_kept : (P : Claim) (k : Lowers P) (cave : CaveView) (s : State) → On P s
     → On P (with_lamp_burnt cave s)
 unfolding with_lamp_burnt
 burnt_kept P k cave s h =
     chosen P (has_prop s (thing cave name.Lamp) (pos 1))
     (with_charge (int_max (s.lamp.charge -ℤ pos 1) (negsuc 0)) s) s
-    (k _ s.lamp.charge _ _ _ _ h) h
+    (k _ s.lamp.charge _ _ _ _ (burnt_falls s.lamp.charge) h) h
 
 -- the batteries are used
 used_kept : (P : Claim) (cave : CaveView) (s : State) → On P s → On P (with_batteries_used cave s)
@@ -140,7 +146,7 @@ out_kept : (P : Claim) (k : Lowers P) (cave : CaveView) (s : State) → On P s
     → On P (with_lamp_out cave s)
 unfolding with_lamp_out
 out_kept P k cave s h =
-    let none : negsuc 0 ≤ℤ pos 0 = omega (arith, ints) in
+    let none : negsuc 0 ≤ℤ negsuc 0 = omega (arith, ints) in
     k _ s.lamp.charge _ _ _ _ (inr none) h
 
 -- the lamp has gone out
@@ -189,34 +195,19 @@ pub lamp_kept : (P : Claim) (k : Charges P) (cave : CaveView) (p : Scene) → On
 unfolding lamp_run
 lamp_kept P k cave p h =
     let q = with_state (with_lamp_burnt cave p.state) p in
-    let b = burnt_kept P k cave p.state h in
-    care_kept P (λ here b c d q e _ x. k here b c d q e x) cave q (λ _. replaced_kept P k cave q b)
-    b
+    let lowers : Lowers P = λ here b c d q e _ x. k here b c d q e x in
+    let b = burnt_kept P lowers cave p.state h in
+    care_kept P lowers cave q (λ _. replaced_kept P k cave q b) b
 
--- the first of four tests that hold holds
-first_holds : (a b c d : Bool) → (a && b && c && d) ≡ true → a ≡ true
-first_holds true b c d h = refl
-first_holds false b c d h = h
-
--- batteries aren't changed while the lamp isn't low
-no_change : (cave : CaveView) (s : State) → int_le s.lamp.charge (pos 30) ≡ false
-    → can_change_batteries cave s ≡ true → ⊥
-unfolding can_change_batteries
-no_change cave s high change =
-    true≢false (sym (first_holds (int_le s.lamp.charge (pos 30))
-    (is_near cave s (thing cave name.Batteries))
-    (has_prop s (thing cave name.Batteries) (pos 0)) (is_near cave s (thing cave name.Lamp)) change)
-    ∙ high)
-
--- the lamp goes on, and isn't low once it has burnt
-pub high_lamp_kept : (P : Claim) (k : Lowers P) (cave : CaveView) (p : Scene)
-    → On P (with_lamp_burnt cave p.state)
-    → int_le (with_lamp_burnt cave p.state).lamp.charge (pos 30) ≡ false
-    → On P (lamp_run cave p).scene.state
+-- the lamp goes on, and its batteries aren't changed
+pub unchanged_kept : (P : Claim) (k : Lowers P) (cave : CaveView) (p : Scene)
+    → can_change_batteries cave (with_lamp_burnt cave p.state) ≡ false
+    → On P p.state → On P (lamp_run cave p).scene.state
 unfolding lamp_run
-high_lamp_kept P k cave p h high =
+unchanged_kept P k cave p same h =
     let q = with_state (with_lamp_burnt cave p.state) p in
-    care_kept P k cave q (λ change. absurd (no_change cave q.state high change)) h
+    care_kept P k cave q (λ change. absurd (true≢false (sym change ∙ same)))
+    (burnt_kept P k cave p.state h)
 
 -- the player gives up or not
 up_kept : (P : Claim) (before : ℕ) (up : Bool) (s : State) → On P s
@@ -224,54 +215,53 @@ up_kept : (P : Claim) (before : ℕ) (up : Bool) (s : State) → On P s
 up_kept P before true s h = h
 up_kept P before false s h = h
 
--- what the lamp makes of a claim
-abbrev pub Lights : CaveView → Claim → Claim → Type 0
-Lights cave Q P = (p : Scene) → On Q p.state → On P (lamp_run cave p).scene.state
-
--- a claim is as strong as another
-abbrev pub Implies : Claim → Claim → Type 0
-Implies Q P =
-    (h : ℕ) (c : ℤ) (d : ℕ) (q : Option Question) (e : Option Ending) → Q h c d q e → P h c d q e
+-- what the lamp makes of a claim in the scene that it gets
+abbrev pub Lights : CaveView → Claim → Option Scene → Type 0
+Lights cave P o = (p : Scene) → o ≡ Some p → On P p.state → On P (lamp_run cave p).scene.state
 
 -- the lamp is the last
-last_kept : (Q P : Claim) (cave : CaveView) (lamp : Lights cave Q P) (before : ℕ) (p : Scene)
-    → On Q p.state → After P before (lamp_last cave p).outcome (lamp_last cave p).scene.state
+last_kept : (P : Claim) (cave : CaveView) (before : ℕ) (p : Scene) → Lights cave P (Some p)
+    → On P p.state → After P before (lamp_last cave p).outcome (lamp_last cave p).scene.state
 unfolding lamp_last
-last_kept Q P cave lamp before p h =
-    up_kept P before (lamp_run cave p).gives_up (lamp_run cave p).scene.state (lamp p h)
+last_kept P cave before p lamp h =
+    up_kept P before (lamp_run cave p).gives_up (lamp_run cave p).scene.state (lamp p refl h)
 
 -- the lamp is passed over where the cave was closed
-unless_kept : (Q P : Claim) (cave : CaveView) (weak : Implies Q P) (lamp : Lights cave Q P)
-    (before : ℕ)
-    (o : Option ℕ) (p : Scene) → AfterSecond Q before o p.state
+unless_kept : (P : Claim) (cave : CaveView) (before : ℕ) (o : Option ℕ) (p : Scene)
+    → Lights cave P (unless_closed o p) → AfterSecond P before o p.state
     → After P before (lamp_unless_closed cave o p).outcome (lamp_unless_closed cave o p).scene.state
-unless_kept Q P cave weak lamp before None p h = last_kept Q P cave lamp before p h
-unless_kept Q P cave weak lamp before (Some place) p h = weak _ _ _ _ _ h
+unless_kept P cave before None p lamp h = last_kept P cave before p lamp h
+unless_kept P cave before (Some place) p lamp h = h
 
 -- the second clock and the lamp
-second_lamp_kept : (Q P : Claim) (cave : CaveView) (weak : Implies Q P) (lamp : Lights cave Q P)
-    (p : Scene)
-    → On Q p.state
+second_lamp_kept : (P : Claim) (cave : CaveView) (p : Scene)
+    → Lights cave P
+    (unless_closed (second_clock_run cave p).place (second_clock_run cave p).scene)
+    → On P p.state
     → After P p.state.trail.here (second_clock_and_lamp cave p).outcome
     (second_clock_and_lamp cave p).scene.state
 unfolding second_clock_and_lamp
-second_lamp_kept Q P cave weak lamp p h =
-    unless_kept Q P cave weak lamp p.state.trail.here (second_clock_run cave p).place
-    (second_clock_run cave p).scene (second_kept Q cave p h)
+second_lamp_kept P cave p lamp h =
+    unless_kept P cave p.state.trail.here (second_clock_run cave p).place
+    (second_clock_run cave p).scene lamp (second_kept P cave p h)
 
 -- the clocks go on: the player stands where they say, and stood somewhere before
-pub clocks_kept : (Q P : Claim) (cave : CaveView) (weak : Implies Q P) (lamp : Lights cave Q P)
-    (p : Scene)
-    → On Q p.state
+pub clocks_kept : (P : Claim) (cave : CaveView) (p : Scene) → Lights cave P (before_lamp cave p)
+    → On P p.state
     → (before : ℕ) × After P before (clocks_run cave p).outcome (clocks_run cave p).scene.state
 unfolding clocks_run
-clocks_kept Q P cave weak lamp p h =
-    let first = first_clock_run cave p in
-    let here = first.scene.state.trail.here in
-    let t = first_kept Q cave p h in (
-      here,
-      choose (λ (r : Timing). After P here r.outcome r.scene.state) first.has_begun
-          (lamp_last cave first.scene) (second_clock_and_lamp cave first.scene)
-          (λ _. last_kept Q P cave lamp here first.scene t)
-          (λ _. second_lamp_kept Q P cave weak lamp first.scene t),
+clocks_kept P cave p lamp h =
+    let first = first_clock_run cave p in (
+      first.scene.state.trail.here,
+      by_first first.has_begun first.scene lamp (first_kept P cave p h),
     )
+  where
+    by_first : (begun : Bool) (q : Scene)
+        → Lights cave P (if begun then Some q
+        else unless_closed (second_clock_run cave q).place (second_clock_run cave q).scene)
+        → On P q.state
+        → After P q.state.trail.here
+        (if begun then lamp_last cave q else second_clock_and_lamp cave q).outcome
+        (if begun then lamp_last cave q else second_clock_and_lamp cave q).scene.state
+    by_first true q light t = last_kept P cave q.state.trail.here q light t
+    by_first false q light t = second_lamp_kept P cave q light t

@@ -1,5 +1,5 @@
 -- What laws speak of in a state, and what they allow to happen to it.
-use Rattle.std.proofs.Common.{◌≡◌, ℕ, ◌+◌, ℤ, pos, ◌≤ℤ◌, ◌⊎◌, Bool, false, true, refl}
+use Rattle.std.proofs.Common.{◌≡◌, ℕ, ◌+◌, ℤ, negsuc, ◌≤ℤ◌, ◌⊎◌, Bool, false, true, refl}
 use Rattle.std.specs.Prelude.{◌==◌, Option, None, Some, min, nat_le, if◌then◌else◌}
 use Rattle.cave_world.specs.declared.ending.Ending.{Ending}
 use Rattle.cave_world.specs.declared.ending.Question.{Question}
@@ -33,9 +33,9 @@ Charges P =
     (h : ℕ) (b c : ℤ) (d : ℕ) (q : Option Question) (e : Option Ending)
     → P h b d q e → P h c d q e
 
--- a charge is at most another, or at most 0
+-- a charge is at most another, or at most -1
 abbrev pub Falls : ℤ → ℤ → Type 0
-Falls b c = (c ≤ℤ b) ⊎ (c ≤ℤ pos 0)
+Falls b c = (c ≤ℤ b) ⊎ (c ≤ℤ negsuc 0)
 
 -- a claim is kept where the lamp's charge falls
 abbrev pub Lowers : Claim → Type 0

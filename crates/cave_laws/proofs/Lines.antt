@@ -1,7 +1,7 @@
 -- What a line makes of a claim.
-use Rattle.std.proofs.Common.{◌≡◌, ℕ, ◌*◌, ℤ, pos, false, true, List, refl, subst}
+use Rattle.std.proofs.Common.{Bool, ◌≡◌, ℕ, ◌*◌, pos, false, true, List, refl, sym, ap, subst}
 use Rattle.std.proofs.lemmas.Bool.{true≢false}
-use Rattle.std.specs.Prelude.{◌&&◌, int_lt, ◌+ℤ◌, Option, None, Some}
+use Rattle.std.specs.Prelude.{◌||◌, ◌&&◌, not, int_lt, ◌+ℤ◌, Option, None, Some, is_some}
 use Rattle.std.specs.Int.{int_min}
 use Rattle.std.specs.FinMap as map
 use Rattle.cave_data.specs.CaveView.{CaveView}
@@ -25,7 +25,8 @@ use Rattle.cave_things.specs.Plays.{standing}
 use Rattle.cave_things.specs.Things.{thing}
 use Rattle.cave_score.specs.Deaths.{with_one_death}
 use Rattle.cave_hints.specs.Hints.{with_hint_taken, priced_if, priced, given_if, given}
-use Rattle.cave_turn.specs.Answers.{answer_in, is_yes, closed, entering, agreed, declined, asked}
+use Rattle.cave_turn.specs.Answers.{answer_in, is_dragon, is_yes, closed, entering, agreed}
+use Rattle.cave_turn.specs.Answers.{declined, asked}
 use Rattle.cave_turn.specs.Answers.{is_of_hint, answered, answers}
 use Rattle.cave_turn.specs.Commands.{commanded}
 use Rattle.cave_turn.specs.Dragon.{lair, cleared, fought}
@@ -34,7 +35,7 @@ use Rattle.cave_turn.specs.Revival.{buried}
 use Rattle.cave_turn.specs.Turn.{Turn, turn_of, turned, turned_as, played}
 use Rattle.cave_turn.specs.declared.answers.Answer.{Answer}
 use Rattle.cave_turn.specs.declared.answers.Answer.TheVariants.{Yes, No, Neither}
-use Rattle.cave_laws.specs.Laws.{is_priced, pays}
+use Rattle.cave_laws.specs.Laws.{is_command, is_input_kind, is_no_answer, is_priced, pays}
 use Rattle.cave_laws.proofs.Frame.{Claim, On, Calm, Pinned, Charges, IsKept, is_die, choose, chosen}
 use Rattle.cave_laws.proofs.Frame.{chosen_scene}
 use Rattle.cave_laws.proofs.Moves.{looking_kept, arriving_kept, arriving_open}
@@ -179,36 +180,53 @@ unanswered cave line (question.Take i) h = refl
 unanswered cave line question.Oyster h = refl
 unanswered cave line question.Dragon h = refl
 
--- what is done with a state of a charge
-abbrev pub Commands : CaveView → List ℕ → Claim → ℤ → Type 0
-Commands cave line P c =
-    (t : State) → t.lamp.charge ≡ c → On (Calm P) t → On P (commanded cave line t).state
+-- what a command makes of a claim; a question that its line leaves is closed
+abbrev pub Commands : CaveView → List ℕ → Claim → State → Type 0
+Commands cave line P s = On (Calm P) (closed s) → On P (commanded cave line (closed s)).state
+
+-- to close a question where none is open changes nothing
+closed_same : (s : State) → s.question ≡ None → closed s ≡ s
+closed_same s none = ap (λ (q : Option Question). record s { question = q }) (sym none)
+
+-- what answers a question is what doesn't leave it
+leaves_of : (a b : Bool) → (not a || b) ≡ false → (a && not b) ≡ true
+leaves_of true false h = refl
+leaves_of true true h = absurd (true≢false h)
+leaves_of false b h = absurd (true≢false h)
 
 -- input is played
 played_kept : {P : Claim} (cave : CaveView) (k : IsKept (building_place cave) P) (line : List ℕ)
-    (e : Option Ending) (q : Option Question) (s : State) → Commands cave line P s.lamp.charge
+    (e : Option Ending) (q : Option Question) (s : State)
+    → (not (is_some e) && is_no_answer cave line q ≡ true → Commands cave line P s)
     → (pays cave line q ≡ true → Charges P) → s.ending ≡ e → s.question ≡ q → On P s
     → On P (played cave line e q s).state
 played_kept cave k line (Some how) q s does pay goes asked h = h
-played_kept cave k line None None s does pay goes asked h = does s refl (h, (asked, goes))
+played_kept {P} cave k line None None s does pay goes asked h =
+    let here = s.trail.here in let c = s.lamp.charge in let d = s.tallies.deaths in
+    subst (λ (t : State). On P (commanded cave line t).state) (closed_same s asked)
+    (does refl (
+      subst (λ (o : Option Question). P here c d o s.ending) asked h,
+      (refl, goes),
+    ))
 played_kept {P} cave k line None (Some q) s does pay goes asked h =
     let here = s.trail.here in let c = s.lamp.charge in let d = s.tallies.deaths in
     let x : P here c d (Some q) None =
     subst (λ (e : Option Ending). P here c d (Some q) e) goes
     (subst (λ (o : Option Question). P here c d o s.ending) asked h) in
     choose (λ (t : Turn). On P t.state) (answers cave line q)
-    (turn_of false (answered cave q line s))
-    (turn_of true (commanded cave line (closed s)))
+    (turn_of false (answered cave q line s)) (turn_of true (commanded cave line (closed s)))
     (λ _. answered_kept cave k q line s pay goes h x)
-    (λ left. does (closed s) refl (
+    (λ left. does (leaves_of (is_dragon q) (is_yes (answer_in cave line)) left) (
       none_on P here c d None s.ending refl goes
           (k.closes q here c d (unanswered cave line q left) x),
       (refl, goes),
     ))
 
 -- a line of any kind
-turned_as_kept : {P : Claim} (cave : CaveView) (k : IsKept (building_place cave) P) (line : List ℕ)
-    (l : LogLine) (s : State) → Commands cave line P s.lamp.charge
+turned_as_kept : {P : Claim} (cave : CaveView) (k : IsKept (building_place cave) P)
+    (line : List ℕ) (l : LogLine) (s : State)
+    → (is_input_kind l && not (is_some s.ending) && is_no_answer cave line s.question ≡ true
+    → Commands cave line P s)
     → (pays cave line s.question ≡ true → Charges P) → On P s → On P (turned_as cave line l s).state
 turned_as_kept cave k line kind.Comment s does pay h = h
 turned_as_kept cave k line kind.Blank s does pay h = h
@@ -218,7 +236,7 @@ turned_as_kept cave k line kind.Input s does pay h =
 
 -- a line keeps each claim that what happens in a game keeps, if commands and prices keep it
 pub line_kept : {P : Claim} (cave : CaveView) (k : IsKept (building_place cave) P) (s : State)
-    (line : List ℕ) → Commands cave line P s.lamp.charge
+    (line : List ℕ) → (is_command cave s line ≡ true → Commands cave line P s)
     → (pays cave line s.question ≡ true → Charges P) → On P s → On P (turned cave s line).state
 unfolding turned
 line_kept cave k s line does pay h = turned_as_kept cave k line (log_line line) s does pay h
@@ -228,4 +246,4 @@ pub turned_kept : {P : Claim} (cave : CaveView) (k : IsKept (building_place cave
     (charges : Charges P)
     (s : State) (line : List ℕ) → On P s → On P (turned cave s line).state
 turned_kept cave k charges s line h =
-    line_kept cave k s line (λ t _ x. command_kept k cave charges line t x) (λ _. charges) h
+    line_kept cave k s line (λ _ x. command_kept k cave charges line (closed s) x) (λ _. charges) h

@@ -9,7 +9,6 @@ use Rattle.cave_data.specs.declared.rows.Hint.{Hint}
 use Rattle.cave_words.specs.Words.{words_of}
 use Rattle.cave_words.specs.declared.named.Named.TheVariants as name
 use Rattle.cave_words.specs.declared.words.Words.{Words}
-use Rattle.cave_world.specs.Sight.{is_dark}
 use Rattle.cave_world.specs.State.{is_over}
 use Rattle.cave_world.specs.declared.ending.Ending.{Ending}
 use Rattle.cave_world.specs.declared.ending.Ending.TheVariants as ending_is
@@ -18,7 +17,7 @@ use Rattle.cave_world.specs.declared.ending.Question.TheVariants as question
 use Rattle.cave_world.specs.declared.state.State.{State}
 use Rattle.cave_things.specs.Effects.{with_objects}
 use Rattle.cave_things.specs.Places.{building_place}
-use Rattle.cave_things.specs.Plays.{Scene, opening, saying, looking_at, with_state}
+use Rattle.cave_things.specs.Plays.{Scene, saying, looking_at, with_state}
 use Rattle.cave_things.specs.Things.{thing}
 use Rattle.cave_verbs.specs.Acting.{acted, next_of}
 use Rattle.cave_verbs.specs.declared.next.Next.{Next}
@@ -46,8 +45,9 @@ use Rattle.cave_turn.specs.declared.reading.Half.{Half}
 use Rattle.cave_turn.specs.declared.reading.Reading.{Reading}
 use Rattle.cave_turn.specs.declared.reading.Reading.TheVariants as reading
 use Rattle.cave_turn.specs.declared.reading.Understood.{Understood}
+use Rattle.cave_laws.specs.Laws.{before_clocks, before_lamp}
 use Rattle.cave_laws.proofs.Frame.{Claim, On, Calm, Charges, IsKept, choose, chosen, chosen_scene}
-use Rattle.cave_laws.proofs.Clocks.{After, Implies, Lights, clocks_kept, lamp_kept}
+use Rattle.cave_laws.proofs.Clocks.{After, Lights, clocks_kept, lamp_kept}
 use Rattle.cave_laws.proofs.Moves.{looking_kept, arriving_kept, arriving_open, describing_kept}
 use Rattle.cave_laws.proofs.Moves.{motion_kept}
 use Rattle.cave_laws.proofs.Scores.{ended_kept, asking_kept}
@@ -252,33 +252,31 @@ after_clocks_kept k cave words before (clocks.Closed place) p h =
     arriving_open k cave before place p h
 
 -- the clocks run, and what they leave is done
-timed_kept : {n : ℕ} {P : Claim} (k : IsKept n P) (Q : Claim) (cave : CaveView)
-    (weak : Implies (Calm Q) (Calm P)) (lamp : Lights cave (Calm Q) (Calm P)) (words : Words)
-    (p : Scene)
-    → On (Calm Q) p.state → On P (timed cave words p).state
+timed_kept : {n : ℕ} {P : Claim} (k : IsKept n P) (cave : CaveView) (words : Words) (p : Scene)
+    → Lights cave (Calm P) (before_lamp cave p) → On (Calm P) p.state
+    → On P (timed cave words p).state
 unfolding timed
-timed_kept {n} {P} k Q cave weak lamp words p h =
-    let t = clocks_run cave p in let after = clocks_kept (Calm Q) (Calm P) cave weak lamp p h in
+timed_kept {n} {P} k cave words p lamp h =
+    let t = clocks_run cave p in let after = clocks_kept (Calm P) cave p lamp h in
     after_clocks_kept k cave words after.0 t.outcome t.scene after.1
 
 -- a command is done
-pub commanded_kept : {n : ℕ} {P : Claim} (k : IsKept n P) (Q : Claim) (cave : CaveView)
-    (weak : Implies (Calm Q) (Calm P)) (lamp : Lights cave (Calm Q) (Calm P)) (line : List ℕ)
+pub commanded_kept : {n : ℕ} {P : Claim} (k : IsKept n P) (cave : CaveView) (line : List ℕ)
     (s : State)
-    → On (Calm Q) s → On P (commanded cave line s).state
+    → Lights cave (Calm P) (before_lamp cave (before_clocks cave s)) → On (Calm P) s
+    → On P (commanded cave line s).state
 unfolding commanded beginning
-commanded_kept k Q cave weak lamp line s h =
-    let t = beginning s in
-    let p = opening (is_dark cave (thing cave name.Lamp) t) t in
+commanded_kept k cave line s lamp h =
+    let p = before_clocks cave s in
     finished_kept k cave (timed cave (words_of cave.letters line) p)
-    (timed_kept k Q cave weak lamp (words_of cave.letters line) p h)
+    (timed_kept k cave (words_of cave.letters line) p lamp h)
 
 -- a command is done where any charge keeps a claim
 pub command_kept : {n : ℕ} {P : Claim} (k : IsKept n P) (cave : CaveView) (charges : Charges P)
     (line : List ℕ) (s : State) → On (Calm P) s → On P (commanded cave line s).state
 command_kept {n} {P} k cave charges line s h =
     let calm : Charges (Calm P) = λ here b c d q e x. (charges here b c d q e x.0, x.1) in
-    commanded_kept k P cave (λ _ _ _ _ _ x. x) (lamp_kept (Calm P) calm cave) line s h
+    commanded_kept k cave line s (λ p _ x. lamp_kept (Calm P) calm cave p x) h
 
 -- a claim holds where the game goes on, and no question is open
 pub none_on : (P : Claim) (h : ℕ) (c : ℤ) (d : ℕ) (q : Option Question) (e : Option Ending) → q

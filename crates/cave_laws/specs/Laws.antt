@@ -1,15 +1,23 @@
 -- Laws of the game: each tells what a line makes of any state in any cave.
-use Rattle.std.specs.Prelude.{◌≡◌, ◌≤◌, ◌⊎◌, ℕ, pos, ◌≤ℤ◌, ◌<ℤ◌, Bool, false, true, ◌&&◌, not, List}
-use Rattle.std.specs.Prelude.{[], Option, None, Some, is_some}
+use Rattle.std.specs.Prelude.{◌≡◌, ◌≤◌, ◌⊎◌, ℕ, negsuc, ◌≤ℤ◌, Bool, false, true, ◌&&◌, not, List}
+use Rattle.std.specs.Prelude.{[], Option, None, Some, is_some, if◌then◌else◌}
 use Rattle.cave_data.specs.CaveView.{CaveView}
 use Rattle.cave_words.specs.LogLine.{IsSeedLine, log_line}
 use Rattle.cave_words.specs.declared.log_line.LogLine.{LogLine}
 use Rattle.cave_words.specs.declared.log_line.LogLine.TheVariants as kind
+use Rattle.cave_words.specs.declared.named.Named.TheVariants as name
+use Rattle.cave_world.specs.Sight.{is_dark}
 use Rattle.cave_world.specs.declared.ending.Question.{Question}
 use Rattle.cave_world.specs.declared.ending.Question.TheVariants as question
 use Rattle.cave_world.specs.declared.state.State.{State}
 use Rattle.cave_things.specs.Places.{building_place, start_place}
-use Rattle.cave_turn.specs.Answers.{answer_in, is_dragon, is_yes}
+use Rattle.cave_things.specs.Plays.{Scene, opening}
+use Rattle.cave_things.specs.Things.{thing}
+use Rattle.cave_clocks.specs.FirstClock.{first_clock_run}
+use Rattle.cave_clocks.specs.Lamp.{with_lamp_burnt, can_change_batteries}
+use Rattle.cave_clocks.specs.Repository.{second_clock_run}
+use Rattle.cave_turn.specs.Answers.{answer_in, closed, is_dragon, is_yes}
+use Rattle.cave_turn.specs.Commands.{beginning}
 use Rattle.cave_turn.specs.Turn.{Turn, turned, begun, reseeded, silent}
 
 -- the game has ended
@@ -108,11 +116,41 @@ abbrev pub pays : CaveView → List ℕ → Option Question → Bool
 pays cave line None = false
 pays cave line (Some question) = is_yes (answer_in cave line) && is_priced question
 
--- the charge of a lamp that burns for more than 31 turns more rises by nothing but the
--- instructions and a hint: only a lamp that burns 30 turns more at most, once a turn is burnt,
--- gets new batteries
+-- the scene in which the clocks begin to run, in a command that begins in a state
+abbrev pub before_clocks : CaveView → State → Scene
+before_clocks cave s =
+    let t = beginning s in opening (is_dark cave (thing cave name.Lamp) t) t
+
+-- the lamp isn't reached where the second clock closed the cave
+abbrev pub unless_closed : Option ℕ → Scene → Option Scene
+unless_closed None p = Some p
+unless_closed (Some place) p = None
+
+-- the scene that the clocks leave to the lamp: after the first clock where it has the cave begin
+-- to close, and else after the second
+abbrev pub before_lamp : CaveView → Scene → Option Scene
+before_lamp cave p =
+    let first = first_clock_run cave p in
+    let second = second_clock_run cave first.scene in
+    if first.has_begun then Some first.scene else unless_closed second.place second.scene
+
+-- the lamp is reached, and its batteries are changed: they can be, once a turn is burnt
+abbrev pub is_changed : CaveView → Option Scene → Bool
+is_changed cave None = false
+is_changed cave (Some p) = can_change_batteries cave (with_lamp_burnt cave p.state)
+
+-- the lamp gets new batteries in a command that begins in a state
+abbrev pub gets_batteries : CaveView → State → Bool
+gets_batteries cave s = is_changed cave (before_lamp cave (before_clocks cave s))
+
+-- a line is a command in which the lamp gets new batteries; a question that it leaves is closed
+abbrev pub brings_batteries : CaveView → State → List ℕ → Bool
+brings_batteries cave s line = is_command cave s line && gets_batteries cave (closed s)
+
+-- a charge of at least -1 that the lamp has rises by nothing but the instructions, a hint and, in
+-- a command, new batteries
 abbrev pub LampBurnsDown : Type 0
 LampBurnsDown =
-    (cave : CaveView) (s : State) (line : List ℕ) → pos 31 <ℤ s.lamp.charge
-    → pays cave line s.question ≡ false
+    (cave : CaveView) (s : State) (line : List ℕ) → negsuc 0 ≤ℤ s.lamp.charge
+    → pays cave line s.question ≡ false → brings_batteries cave s line ≡ false
     → (turned cave s line).state.lamp.charge ≤ℤ s.lamp.charge

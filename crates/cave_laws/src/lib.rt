@@ -31,8 +31,8 @@ pub fn player_stands()
     ensures { PlayerStands }
 {}
 
-/// The charge of a lamp that burns for more than 31 turns more rises in a turn by nothing but the
-/// instructions and a hint: new batteries are only for a lamp that is low.
+/// A charge of at least -1 that the lamp has rises by nothing but the instructions, a hint and, in
+/// a command, new batteries.
 pub fn lamp_burns_down()
     ensures { LampBurnsDown }
 {}
