@@ -1,9 +1,9 @@
-.PHONY: play test install
+.PHONY: play test suite install
 
 PREFIX ?= $(HOME)/.local
 PROGRAM = crates/cave/out/cave
 SOURCES = $(shell find crates -name out -prune -o -type f \( -name '*.rt' -o -name '*.antt' \) -print) crates.txt
-FIRST_GAME = play $(CURDIR)/caves/a.txt $(CURDIR)/logs/first.log
+FIRST_GAME = play $(CURDIR)/caves/shoal.txt $(CURDIR)/logs/tour.log --bind $(CURDIR)/caves/shoal.bind --seed 3
 
 # Plays a shipped cave with a shipped log, and builds first what isn't built.
 play: $(PROGRAM)
@@ -18,6 +18,10 @@ $(PROGRAM): $(SOURCES)
 # The gate: each proof from nothing, the edits that must fail, the tests and the program.
 test:
 	rt ci
+
+# Plays each log of logs/ with the program, and compares what it says with the transcript beside it.
+suite: $(PROGRAM)
+	@logs/run $(PROGRAM)
 
 install: $(PROGRAM)
 	install -D -m 755 $(PROGRAM) $(PREFIX)/bin/cave
