@@ -35,7 +35,7 @@ use Rattle.cave_clocks.specs.declared.clocks.Clocks.TheVariants as clocks
 use Rattle.cave_laws.specs.Laws.{before_lamp, unless_closed}
 use Rattle.cave_laws.proofs.Frame.{Claim, On, At, Charges, Falls, Lowers, choose, chosen}
 use Rattle.cave_laws.proofs.Frame.{chosen_scene}
-use Rattle.cave_laws.proofs.Verbs.{let_go_kept, without_troll_kept}
+use Rattle.cave_laws.proofs.VerbEffects.{let_go_kept, without_troll_kept}
 
 -- the bear goes
 bear_kept : (P : Claim) (cave : CaveView) (s : State) → On P s → On P (without_bear cave s)

@@ -1,8 +1,12 @@
 pub mod Quiet
 pub mod Frame
+pub mod VerbEffects
+pub mod VerbRows
+pub mod MoreVerbRows
 pub mod Verbs
 pub mod Scores
 pub mod Dwarves
+pub mod Showing
 pub mod Moves
 pub mod Clocks
 pub mod Turns

@@ -4,8 +4,6 @@
 #[cfg(test)]
 mod caves;
 #[cfg(test)]
-mod edits;
-#[cfg(test)]
 mod faults;
 #[cfg(test)]
 mod kept;
@@ -13,8 +11,6 @@ mod kept;
 mod limits;
 #[cfg(test)]
 mod memory;
-#[cfg(test)]
-mod plays;
 #[cfg(test)]
 mod readers;
 #[cfg(test)]

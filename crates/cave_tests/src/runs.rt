@@ -142,11 +142,6 @@ impl<'a> Feeds<'a> {
     }
 }
 
-/// Checks a cave.
-pub fn check(alloc: Global, cave: &[u8], bind: &[u8]) -> Run {
-    Feeds::of(cave, bind, b"", b"").run(Command::Check, alloc)
-}
-
 /// Plays a log with bindings, from seed 0.
 pub fn play(alloc: Global, cave: &[u8], bind: &[u8], log: &[u8]) -> Run {
     Feeds::of(cave, bind, log, b"").run(Command::Play, alloc)

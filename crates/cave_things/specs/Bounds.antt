@@ -52,6 +52,23 @@ parts_of_carrying left = 5 * left + 209
 abbrev pub parts_of_arrival : ℕ → ℕ
 parts_of_arrival left = 5 * left + 213
 
+-- what is read is done: 10 of a verb or a way that leads on, and an arrival; a verb that leads
+-- nowhere says 108 at most
+abbrev pub parts_of_deed : ℕ → ℕ
+parts_of_deed left = 5 * left + 223
+
+-- and it has room for 110 of a verb, whichever it is, and an arrival
+abbrev pub room_of_deed : ℕ → ℕ
+room_of_deed left = 5 * left + 323
+
+-- the same after 2 of the clocks
+abbrev pub parts_of_timed_deed : ℕ → ℕ
+parts_of_timed_deed left = 5 * left + 225
+
+-- and the room for it
+abbrev pub room_of_timed_deed : ℕ → ℕ
+room_of_timed_deed left = 5 * left + 325
+
 -- the end of a turn: the oyster, and the question of a hint
 abbrev pub parts_of_finish : ℕ
 parts_of_finish = 3

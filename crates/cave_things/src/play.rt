@@ -1,4 +1,4 @@
-ghost use Rattle.std.specs.Prelude.{◌≡◌, []};
+ghost use Rattle.std.specs.Prelude.{◌≡◌, ◌+◌, []};
 ghost use Rattle.arrayvec.specs.ArrayVec.{array_vec_len};
 
 use cave_data::Role;
@@ -47,7 +47,7 @@ impl<'a> Play<'a> {
         requires { HasRoom 1 self.old }
         ensures play { scene_of self.new ≡ telling part (scene_of self.old) }
         ensures same { GoesOn self.old self.new }
-        ensures few { SaysUpTo 1 self.old self.new }
+        ensures few { array_vec_len self.new.out.now ≡ array_vec_len self.old.out.now + 1 }
     {
         self.out.push(part);
     }
@@ -57,7 +57,7 @@ impl<'a> Play<'a> {
         requires { HasRoom 1 self.old }
         ensures play { scene_of self.new ≡ saying role (scene_of self.old) }
         ensures same { GoesOn self.old self.new }
-        ensures few { SaysUpTo 1 self.old self.new }
+        ensures few { array_vec_len self.new.out.now ≡ array_vec_len self.old.out.now + 1 }
     {
         self.tell(Part::Role(role));
     }

@@ -1,7 +1,8 @@
 ghost use Rattle.std.specs.Prelude.{◌≡◌, ◌+◌, ◌<◌, ◌≤◌, []};
 ghost use Rattle.arrayvec.specs.ArrayVec.{array_vec_len};
 ghost use Rattle.cave_things.specs.Bounds.{HasRoom, SaysUpTo, parts_of_journey, parts_of_end};
-ghost use Rattle.cave_things.specs.Bounds.{parts_of_arrival, parts_of_command};
+ghost use Rattle.cave_things.specs.Bounds.{parts_of_arrival, parts_of_command, room_of_deed};
+ghost use Rattle.cave_things.specs.Bounds.{parts_of_deed, room_of_timed_deed, parts_of_timed_deed};
 ghost use Rattle.cave_things.specs.Plays.{scene_of, opening, IsSamePlay, GoesOn};
 ghost use Rattle.cave_things.specs.Things.{cave_of};
 ghost use Rattle.cave_turn.specs.Commands.{with_magic_waiting, knife_here, with_knife, beginning};
@@ -140,11 +141,11 @@ fn do_verb(
     word: Word,
     play: &mut Play<'_>,
 ) -> Option<Half>
-    requires { HasRoom (parts_of_arrival play.old.left + 110) play.old }
+    requires { HasRoom (room_of_deed play.old.left) play.old }
     ensures play { doing (scene_of play.new) result
         ≡ acting (cave_of rules.now) verb object word (scene_of play.old) }
     ensures same { IsSamePlay play.old play.new }
-    ensures few { SaysUpTo (parts_of_arrival play.old.left + 10) play.old play.new }
+    ensures few { SaysUpTo (parts_of_deed play.old.left) play.old play.new }
 {
     let command = Command {
         verb,
@@ -159,11 +160,11 @@ fn do_verb(
 
 /// What was read is done. Tells what is kept for the next line.
 fn do_reading(rules: &Rules<'_>, understood: &Understood, play: &mut Play<'_>) -> Option<Half>
-    requires { HasRoom (parts_of_arrival play.old.left + 110) play.old }
+    requires { HasRoom (room_of_deed play.old.left) play.old }
     ensures play { doing (scene_of play.new) result
         ≡ done_as (cave_of rules.now) understood.now.half understood.now.reading (scene_of play.old) }
     ensures same { IsSamePlay play.old play.new }
-    ensures few { SaysUpTo (parts_of_arrival play.old.left + 10) play.old play.new }
+    ensures few { SaysUpTo (parts_of_deed play.old.left) play.old play.new }
 {
     let half = understood.half;
     match &understood.reading {
@@ -211,11 +212,11 @@ fn remember(kept: Option<Half>, object: Object, state: &mut State)
 /// What was read is carried out, and what is left of it is remembered.
 #[tactic(auto, unfolding(crate::specs::Commands::carried_out, crate::specs::Commands::settled))]
 fn carry_out(rules: &Rules<'_>, understood: &Understood, play: &mut Play<'_>)
-    requires { HasRoom (parts_of_arrival play.old.left + 110) play.old }
+    requires { HasRoom (room_of_deed play.old.left) play.old }
     ensures play { scene_of play.new
         ≡ carried_out (cave_of rules.now) understood.now (scene_of play.old) }
     ensures same { IsSamePlay play.old play.new }
-    ensures few { SaysUpTo (parts_of_arrival play.old.left + 10) play.old play.new }
+    ensures few { SaysUpTo (parts_of_deed play.old.left) play.old play.new }
 {
     let kept = do_reading(rules, understood, play);
     remember(kept, understood.half.object, play.state);
@@ -223,10 +224,10 @@ fn carry_out(rules: &Rules<'_>, understood: &Understood, play: &mut Play<'_>)
 
 /// Does what the words of a line say.
 fn do_words(rules: &Rules<'_>, words: Words, play: &mut Play<'_>)
-    requires { HasRoom (parts_of_arrival play.old.left + 110) play.old }
+    requires { HasRoom (room_of_deed play.old.left) play.old }
     ensures play { scene_of play.new ≡ done_for (cave_of rules.now) words (scene_of play.old) }
     ensures same { IsSamePlay play.old play.new }
-    ensures few { SaysUpTo (parts_of_arrival play.old.left + 10) play.old play.new }
+    ensures few { SaysUpTo (parts_of_deed play.old.left) play.old play.new }
 {
     match words.first {
         None => {}
@@ -250,11 +251,11 @@ fn forget(play: &mut Play<'_>)
 
 /// Does what the clocks leave of a command.
 fn go_on(rules: &Rules<'_>, words: Words, clocks: Clocks, play: &mut Play<'_>)
-    requires { HasRoom (parts_of_arrival play.old.left + 110) play.old }
+    requires { HasRoom (room_of_deed play.old.left) play.old }
     ensures play { scene_of play.new
         ≡ after_clocks (cave_of rules.now) words clocks (scene_of play.old) }
     ensures same { IsSamePlay play.old play.new }
-    ensures few { SaysUpTo (parts_of_arrival play.old.left + 10) play.old play.new }
+    ensures few { SaysUpTo (parts_of_deed play.old.left) play.old play.new }
 {
     match clocks {
         Clocks::GoOn => do_words(rules, words, play),
@@ -272,10 +273,10 @@ fn go_on(rules: &Rules<'_>, words: Words, clocks: Clocks, play: &mut Play<'_>)
 /// The clocks run, and the words of the line are done.
 #[tactic(auto, unfolding(crate::specs::Commands::timed))]
 fn do_in_time(rules: &Rules<'_>, words: Words, play: &mut Play<'_>)
-    requires { HasRoom (parts_of_arrival play.old.left + 112) play.old }
+    requires { HasRoom (room_of_timed_deed play.old.left) play.old }
     ensures play { scene_of play.new ≡ timed (cave_of rules.now) words (scene_of play.old) }
     ensures same { IsSamePlay play.old play.new }
-    ensures few { SaysUpTo (parts_of_arrival play.old.left + 12) play.old play.new }
+    ensures few { SaysUpTo (parts_of_timed_deed play.old.left) play.old play.new }
 {
     let clocks = run_clocks(rules, play);
     go_on(rules, words, clocks, play);
