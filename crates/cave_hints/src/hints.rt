@@ -5,7 +5,7 @@ ghost use Rattle.cave_things.specs.Bounds.{HasRoom, SaysUpTo, parts_of_question}
 ghost use Rattle.cave_things.specs.Plays.{scene_of, GoesOn};
 ghost use Rattle.cave_things.specs.Things.{cave_of};
 ghost use Rattle.cave_hints.specs.Hints.{turns_near, with_turns_near, was_taken, with_hint_taken};
-ghost use Rattle.cave_hints.specs.Hints.{is_in_area, waited, is_due, is_bare, is_locked_out};
+ghost use Rattle.cave_hints.specs.Hints.{is_in_area, waited, is_due, is_locked_out};
 ghost use Rattle.cave_hints.specs.Hints.{is_after_bird, is_held_by_snake, is_lost_in_maze};
 ghost use Rattle.cave_hints.specs.Hints.{is_short_of_pyramid, is_needed, put_off, offered};
 ghost use Rattle.cave_hints.specs.Hints.{considered, all_considered, priced, rewarded, given};
@@ -15,9 +15,7 @@ use cave_data::Hint;
 use cave_score::ask;
 use cave_things::{Play, Rules, has_other_prop, has_prop};
 use cave_words::Named;
-use cave_world::{
-    Charge, Count, HintNumber, NumberLine, Part, Place, Question, State, has_condition,
-};
+use cave_world::{Charge, Count, HintNumber, NumberLine, Part, Question, State, has_condition};
 
 /// The hints that are offered begin with this one.
 const FIRST_HINT: u8 = 4;
@@ -108,19 +106,13 @@ fn is_held_by_snake(rules: &Rules<'_>, state: &State) -> bool
         && !rules.is_near(state, rules.object(Named::Bird))
 }
 
-fn is_bare(place: Place, state: &State) -> bool
-    ensures { result ≡ is_bare state.now place }
-{
-    state.objects_at(place).len() == 0
-}
-
 #[tactic(auto, unfolding(crate::specs::Hints::is_lost_in_maze))]
 fn is_lost_in_maze(state: &State) -> bool
     ensures { result ≡ is_lost_in_maze state.now }
 {
-    is_bare(state.trail.here, state)
-        && is_bare(state.trail.last, state)
-        && is_bare(state.trail.older, state)
+    state.is_bare(state.trail.here)
+        && state.is_bare(state.trail.last)
+        && state.is_bare(state.trail.older)
         && 1 < state.holding()
 }
 

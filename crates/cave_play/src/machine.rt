@@ -8,7 +8,7 @@ ghost use Rattle.cave_play.specs.CaveRules.{cave_rules};
 
 use cave_data::Cave;
 use cave_replay::{Machine, Started, Stepped};
-use cave_turn::{max_score, score, start, turn};
+use cave_turn::{max_score, score, start, stream_passed, turn};
 use cave_words::{Lexicon, Meter};
 use cave_world::{Out, Part, State};
 use std::alloc::{AllocError, Global};
@@ -96,6 +96,14 @@ impl<'a> Machine for CaveMachine<'a> {
         line: &[u8],
         meter: &mut Meter,
     ) -> Result<Stepped<State, Vec<Part>>, AllocError> {
+        if let Some(stream) = stream_passed(state, line) {
+            meter.tick();
+            return Ok(Stepped {
+                state: State { stream, ..*state },
+                piece: Vec::new(alloc),
+                ticked: false,
+            });
+        }
         let mut out = Out::new();
         let turned = turn(self.cave, self.lexicon, state, line, &mut out, meter);
         let piece = keep(alloc, out.as_slice())?;

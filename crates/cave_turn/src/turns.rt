@@ -2,10 +2,11 @@ ghost use Rattle.std.specs.Prelude.{◌≡◌, ◌+◌, ◌^◌, ◌<◌, ◌≤
 ghost use Rattle.arrayvec.specs.ArrayVec.{array_vec_len};
 ghost use Rattle.cave_words.specs.Lexicon.{IsLexiconOf};
 ghost use Rattle.cave_words.specs.Line.{is_line};
+ghost use Rattle.cave_words.specs.LogLine.{log_line};
 ghost use Rattle.cave_score.specs.Score.{score_of, max_score_of};
 ghost use Rattle.cave_things.specs.Bounds.{parts_of_turn};
 ghost use Rattle.cave_things.specs.Things.{cave_of};
-ghost use Rattle.cave_turn.specs.Turn.{begun, turned, played};
+ghost use Rattle.cave_turn.specs.Turn.{begun, turned, played, stream_passed};
 
 use crate::answers::{answers, close, take_answer};
 use crate::commands::command;
@@ -72,6 +73,20 @@ fn play(rules: &Rules<'_>, line: &[u8], state: &mut State, out: &mut Out) -> boo
             command(rules, line, state, out);
             true
         }
+    }
+}
+
+/// The random stream that a line leaves at which nothing is played: a comment, a blank line, a seed
+/// line, and any line after the end. None for a line that is played.
+pub fn stream_passed(state: &State, line: &[u8]) -> Option<Stream>
+    requires { IsTrue (is_line line.now) }
+    ensures { result ≡ stream_passed (log_line line.now) state.now }
+{
+    match LogLine::of(line) {
+        LogLine::Comment | LogLine::Blank => Some(state.stream),
+        LogLine::Seed(seed) => Some(Stream::seeded(seed)),
+        LogLine::Input if state.ending.is_some() => Some(state.stream),
+        LogLine::Input => None,
     }
 }
 

@@ -1,7 +1,7 @@
 -- The objects that are carried, one by one.
-use Rattle.std.proofs.Common.{◌≡◌, ℕ, ◌+◌, Bool, true, false, List, [], ◌∷◌, ◌++◌, cond, sym, ap, ◌∙◌, refl, arith}
+use Rattle.std.proofs.Common.{◌≡◌, ℕ, ◌+◌, Bool, true, false, List, [], ◌∷◌, ◌++◌, length, cond, sym, ap, ◌∙◌, refl, arith}
 use Rattle.std.specs.List.{filter, range_with_len}
-use Rattle.std.proofs.lemmas.List.{map-id, append-nil}
+use Rattle.std.proofs.lemmas.List.{map-id, append-nil, length_push}
 use Rattle.std.proofs.lemmas.List.FromFn.{filter_of_map_range_with_len_more}
 use Rattle.cave_world.specs.Layout.{Layout}
 use Rattle.cave_world.specs.Objects.{is_carried, carried_up_to}
@@ -31,3 +31,19 @@ unfolding carried_up_to
 carried_none o = refl
 
 pub ruleset carrying = (carried_one, carried_no, carried_none)
+
+-- ---- how many there are
+
+pub count_one : (o : Layout) (n x k : ℕ) (b : Bool) → k ≡ length (carried_up_to o n) → x ≡ n + 1 → b ≡ is_carried o x → b ≡ true → k + 1 ≡ length (carried_up_to o (n + 1))
+count_one o n x k b counted next is held =
+    let more = carried_one o n x (carried_up_to o n) b refl next is held in
+    omega (arith, counted, ap (λ (l : List ℕ). length l) more, length_push (carried_up_to o n) x)
+
+pub count_no : (o : Layout) (n x k : ℕ) (b : Bool) → k ≡ length (carried_up_to o n) → x ≡ n + 1 → b ≡ is_carried o x → b ≡ false → k ≡ length (carried_up_to o (n + 1))
+count_no o n x k b counted next is free =
+    counted ∙ ap (λ (l : List ℕ). length l) (carried_no o n x (carried_up_to o n) b refl next is free)
+
+pub count_none : (o : Layout) → 0 ≡ length (carried_up_to o 0)
+count_none o = sym (ap (λ (l : List ℕ). length l) (carried_none o))
+
+pub ruleset counting_carried = (count_one, count_no, count_none)

@@ -1,7 +1,11 @@
+pub mod Tests
 pub mod Moves
-pub mod Blocks
 pub mod Found
 pub mod Places
+pub mod Links
+pub mod Chains
+pub mod Relinked
+pub mod Walks
 pub mod Laid
 pub mod Ways
 pub mod Carried

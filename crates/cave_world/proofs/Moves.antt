@@ -1,7 +1,7 @@
 -- What the moves of halves make of the lists.
-use Rattle.std.proofs.Common.{◌≡◌, ℕ, suc, ◌+◌, ◌-◌, ◌<◌, ◌≤◌, ◌||◌, Bool, true, false, cond, not, List, [], ◌∷◌, ◌++◌, length, map, take, drop, replicate, nat_lt, eqb, refl, sym, ap, ◌∙◌, arith}
-use Rattle.std.specs.List.{prefix_len, IsDistinct, AllByRecursion, list_any}
-use Rattle.std.proofs.lemmas.List.{drop-replicate, length-map}
+use Rattle.std.proofs.Common.{◌≡◌, ℕ, ◌<◌, ◌≤◌, ◌||◌, Bool, true, false, cond, not, List, [], ◌∷◌, length, map, nat_lt, eqb, refl, sym, arith}
+use Rattle.std.specs.List.{IsDistinct, AllByRecursion, list_any}
+use Rattle.std.proofs.lemmas.List.{length-map}
 use Rattle.std.proofs.lemmas.Bool.Decides.{nat_tests}
 use Rattle.std.proofs.lemmas.Bool.{false≢true}
 use Rattle.std.proofs.lemmas.Map.Keys.{IsDistinct-cons}
@@ -10,28 +10,10 @@ use Rattle.cave_world.specs.declared.lists.Entry.{Entry}
 use Rattle.cave_world.specs.declared.object.Half.{Half}
 use Rattle.cave_world.specs.declared.object.Half.TheVariants.{First, Second}
 use Rattle.cave_world.specs.Halves.{object_of, half_number}
-use Rattle.cave_world.specs.Lists.{filled, no_entry, without, put_first, Lacks, StartsAt, IsEntry, AreLists, IsNew}
-
-pub filled_is : (es : List Entry) (d : Entry) → d ≡ no_entry → es ++ drop (length es) (replicate 200 d) ≡ filled es
-unfolding filled
-filled_is es d e = ap (λ (l : List Entry). es ++ l) (drop-replicate (length es) 200 d ∙ ap (λ (x : Entry). replicate (200 - length es) x) e)
-
--- where one more entry goes
-goes_behind : (b : Bool) (n : ℕ) (first e : Entry) (es put : List Entry) → put ≡ take n es ++ first ∷ drop n es
-    → cond b (e ∷ put) (first ∷ e ∷ es) ≡ take (cond b (1 + n) 0) (e ∷ es) ++ first ∷ drop (cond b (1 + n) 0) (e ∷ es)
-goes_behind true n first e es put h =
-    let more : 1 + n ≡ suc n = omega arith in rw more (ap (λ (l : List Entry). e ∷ l) h)
-goes_behind false n first e es put h = refl
-
--- the entries of earlier places stand before it
-pub put_first_is : (first : Entry) (es : List Entry) → put_first first es ≡ take (prefix_len (λ e. nat_lt e.place first.place) es) es ++ first ∷ drop (prefix_len (λ e. nat_lt e.place first.place) es) es
-unfolding put_first
-put_first_is first [] = refl
-put_first_is first (e ∷ es) =
-    goes_behind (nat_lt e.place first.place) (prefix_len (λ e'. nat_lt e'.place first.place) es) first e es (put_first first es) (put_first_is first es)
+use Rattle.cave_world.specs.Lists.{without, put_first, Lacks, StartsAt, IsEntry, AreLists}
 
 -- what holds of both choices holds of the chosen one
-either : (P : List Entry → Type 0) (b : Bool) (x y : List Entry) → (b ≡ true → P x) → (b ≡ false → P y) → P (cond b x y)
+pub either : (P : List Entry → Type 0) (b : Bool) (x y : List Entry) → (b ≡ true → P x) → (b ≡ false → P y) → P (cond b x y)
 either P true x y f g = f refl
 either P false x y f g = g refl
 
@@ -101,17 +83,6 @@ AreLists-put_first first (e ∷ es) is high l h =
     (λ t. let first_before : first.place ≤ e.place = above e.place first.place t in
     (is, (high, (l, ((first_before, StartsAt-earlier first.place e.place es first_before h.1.1.1.0), h)))))
 
-long : (b : Bool) (n : ℕ) (x y : List Entry) → length x ≡ n → length y ≡ n → length (cond b x y) ≡ n
-long true n x y h k = h
-long false n x y h k = k
-
-pub length-put_first : (first : Entry) (es : List Entry) → length (put_first first es) ≡ length es + 1
-unfolding put_first
-length-put_first first [] = refl
-length-put_first first (e ∷ es) =
-    let rest = length-put_first first es in
-    long (nat_lt e.place first.place) (length (e ∷ es) + 1) (e ∷ put_first first es) (first ∷ e ∷ es) (omega (arith, rest)) (omega arith)
-
 abbrev numbers : List Entry → List ℕ
 numbers es = map (λ (e : Entry). half_number e.half) es
 
@@ -128,7 +99,7 @@ distinct [] h = tt
 distinct (e ∷ es) h = (apart_from_Lacks (half_number e.half) es h.1.1.0, distinct es h.1.1.1.1)
 
 -- a half of an object has a number
-numbered : (half : Half) → 0 < object_of half → half_number half ≡ 0 → ⊥
+pub numbered : (half : Half) → 0 < object_of half → half_number half ≡ 0 → ⊥
 numbered (First x) low none = omega (arith, low, none)
 numbered (Second x) low none = omega (arith, none)
 
@@ -153,11 +124,3 @@ length-AreLists es h =
     (λ q t. one_of 0 q (eqb q 0) (list_any (eqb q) (numbers es)) refl (omega arith) (in_range es h q) t) in
     let same = length-map es (λ (e : Entry). half_number e.half) in
     omega (arith, count, same)
-
-pub ruleset length_AreLists = (length-AreLists)
-
--- a half that stands nowhere finds room
-pub room_for : (e : Entry) (es : List Entry) → IsNew e.half es → AreLists es → length es < 200
-room_for e es new lists =
-    let f : Entry = record { place = 1; half = e.half } in
-    omega (arith, length-put_first f es, length-AreLists (put_first f es) (AreLists-put_first f es (new.0, omega arith) new.1.0 new.1.1 lists))

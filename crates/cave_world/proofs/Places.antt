@@ -5,6 +5,7 @@ use Rattle.cave_world.specs.declared.object.Half.{Half}
 use Rattle.cave_world.specs.declared.lists.Entry.{Entry}
 use Rattle.cave_world.specs.Halves.{half_number}
 use Rattle.cave_world.specs.Lists.{halves_at, without, put_first, relisted, others, listed_at, StartsAt, AreLists}
+use Rattle.cave_world.proofs.Tests.{itself}
 
 one_more : (n q : ℕ) (e : Entry) (es kept : List Entry) (a b : Bool) → eqb e.place q ≡ a → not (eqb (half_number e.half) n) ≡ b
     → halves_at q kept ≡ others n (halves_at q es) → halves_at q (cond b (e ∷ kept) kept) ≡ others n (halves_at q (e ∷ es))
@@ -24,7 +25,7 @@ told : (first : Entry) (es : List Entry) (b : Bool) → map (λ (e : Entry). e.h
 told first es true = refl
 told first es false = refl
 
-elsewhere : (p q r : ℕ) → nat_lt p r ≡ true → eqb p q ≡ true → eqb r q ≡ false
+pub elsewhere : (p q r : ℕ) → nat_lt p r ≡ true → eqb p q ≡ true → eqb r q ≡ false
 elsewhere p q r h e = grind (arith, nat_tests)
 
 -- where an entry of an earlier place stands before the one that is put
@@ -65,9 +66,6 @@ nobody p q (e ∷ es) h s =
     unequal : (a b : ℕ) → b < a → eqb a b ≡ false
     unequal a b h = grind (arith, nat_tests)
 
-itself : (a : ℕ) → eqb a a ≡ true
-itself a = grind (arith, nat_tests)
-
 begins : (e : Entry) (es : List Entry) → halves_at e.place (e ∷ es) ≡ e.half ∷ halves_at e.place es
 begins e es = let h = itself e.place in rw h refl
 
@@ -89,17 +87,26 @@ rest_same e f es fs q true t same h =
 rest_same e f es fs q false t same h =
     let u : eqb f.place q ≡ false = rw same at t in rw (t, u) at h
 
+-- places ascend
+abbrev pub Ascend : List Entry → Type 0
+Ascend [] = Unit {0}
+Ascend (e ∷ es) = StartsAt e.place es × Ascend es
+
+pub Ascend-AreLists : (es : List Entry) → AreLists es → Ascend es
+Ascend-AreLists [] l = tt
+Ascend-AreLists (e ∷ es) l = (l.1.1.1.0, Ascend-AreLists es l.1.1.1.1)
+
 -- lists that are the same at each place are the same
-pub same_lists : (es fs : List Entry) → AreLists es → AreLists fs → ((q : ℕ) → halves_at q es ≡ halves_at q fs) → es ≡ fs
+pub same_lists : (es fs : List Entry) → Ascend es → Ascend fs → ((q : ℕ) → halves_at q es ≡ halves_at q fs) → es ≡ fs
 same_lists [] [] x y h = refl
 same_lists [] (f ∷ fs) x y h = let first = begins f fs in let at = h f.place in cc
 same_lists (e ∷ es) [] x y h = let first = begins e es in let at = h e.place in cc
 same_lists (e ∷ es) (f ∷ fs) x y h =
-    let here : e.place ≡ f.place = level e.place f.place (not_before e f es fs y.1.1.1.0 (h e.place)) (not_before f e fs es x.1.1.1.0 (sym (h f.place))) in
+    let here : e.place ≡ f.place = level e.place f.place (not_before e f es fs y.0 (h e.place)) (not_before f e fs es x.0 (sym (h f.place))) in
     let first : e.half ∷ halves_at e.place es ≡ halves_at e.place (f ∷ fs) = sym (begins e es) ∙ h e.place in
     let second : halves_at e.place (f ∷ fs) ≡ f.half ∷ halves_at e.place fs = begins_at f fs e.place here in
     let halves : e.half ≡ f.half = cc in
-    let rest = same_lists es fs x.1.1.1.1 y.1.1.1.1 (λ q. rest_same e f es fs q (eqb e.place q) refl here (h q)) in
+    let rest = same_lists es fs x.1 y.1 (λ q. rest_same e f es fs q (eqb e.place q) refl here (h q)) in
     λ i. record { place = here i; half = halves i } ∷ rest i
   where
     level : (a b : ℕ) → (a < b → ⊥) → (b < a → ⊥) → a ≡ b

@@ -1,5 +1,5 @@
 -- `==` tells exactly whether values are equal, field by field up to whole states.
-use Rattle.std.proofs.Common.{◌≡◌, Bool, List, length, take, Option, Some, None, refl, sym, ap, ◌∙◌}
+use Rattle.std.proofs.Common.{◌≡◌, Bool, List, Option, Some, None, refl, sym, ap, ◌∙◌}
 use Rattle.std.specs.Prelude.{◌↔◌, IsTrue}
 use Rattle.std.specs.Bool.{Decides}
 use Rattle.std.specs.Option.{option_eq, is_some, unwrap_or}
@@ -7,8 +7,7 @@ use Rattle.std.specs.Cmp.{unsigned_Decides, signed_Decides, booleans_Decides}
 use Rattle.std.specs.Cmp.Lexicographic.{pointwise_decides}
 use Rattle.std.proofs.lemmas.Bool.{false≢true}
 use Rattle.std.proofs.lemmas.Bool.Decides.{Decides-and, Decides-like}
-use Rattle.cave_world.specs.Lists.{filled}
-use Rattle.cave_world.specs.ListLemmas.{take-filled}
+use Rattle.cave_world.specs.Packed.{code_of_spot, spot_of_code, code_of_anchor, anchor_of_code, code_of_spot_back, code_of_anchor_back}
 use Rattle.cave_world.specs.declared.spot.Spot.{Spot}
 use Rattle.cave_world.specs.declared.spot.Anchor.{Anchor}
 use Rattle.cave_world.specs.declared.object.Half.{Half}
@@ -26,14 +25,12 @@ use Rattle.cave_world.specs.declared.dwarves.Dwarves.{Dwarves}
 use Rattle.cave_world.specs.declared.talk.Talk.{Talk}
 use Rattle.cave_world.specs.declared.hints.Hints.{Hints}
 use Rattle.cave_world.specs.declared.state.State.{State}
-use Rattle.cave_world.specs.declared.spot.Spot.TheVariants as spot
-use Rattle.cave_world.specs.declared.spot.Anchor.TheVariants as anchor
 use Rattle.cave_world.specs.declared.object.Half.TheVariants as half
 use Rattle.cave_world.specs.declared.dwarves.Knife.TheVariants as knife
 use Rattle.cave_world.specs.declared.ending.Question.TheVariants as question
 use Rattle.cave_world.specs.declared.ending.Ending.TheVariants as ending
-use Rattle.cave_world.specs.contracts.spot.SpotPartialEq.TheImpl as spot_eq
-use Rattle.cave_world.specs.contracts.spot.AnchorPartialEq.TheImpl as anchor_eq
+use Rattle.cave_world.specs.contracts.packed.PackedSpotPartialEq.TheImpl as packed_spot_eq
+use Rattle.cave_world.specs.contracts.packed.PackedAnchorPartialEq.TheImpl as packed_anchor_eq
 use Rattle.cave_world.specs.contracts.object.HalfPartialEq.TheImpl as half_eq
 use Rattle.cave_world.specs.contracts.dwarves.KnifePartialEq.TheImpl as knife_eq
 use Rattle.cave_world.specs.contracts.ending.QuestionPartialEq.TheImpl as question_eq
@@ -58,17 +55,15 @@ option_decides E d (Some x) None = (λ e. absurd (false≢true e), λ e. sym (ap
 option_decides E d (Some x) (Some y) =
     (λ e i. Some ((d x y).0 e i), λ e. (d x y).1 (ap (λ o. unwrap_or o x) e))
 
-spot_decides : (a b : Spot) → Decides (spot_eq.eq-value.it a b) (a ≡ b)
-spot_decides spot.Away spot.Away = (λ _. refl, λ _. refl)
-spot_decides spot.Carried spot.Carried = (λ _. refl, λ _. refl)
-spot_decides (spot.At x) (spot.At y) = (λ e i. spot.At ((unsigned_Decides x y).0 e i), λ e. (unsigned_Decides x y).1 cc)
-spot_decides _ _ = (λ e. absurd (false≢true e), λ e. cc)
+packed_spot_decides : (a b : Spot) → Decides (packed_spot_eq.eq-value.it a b) (a ≡ b)
+packed_spot_decides a b =
+    Decides-like _ (λ e. sym (code_of_spot_back a) ∙ (ap spot_of_code e ∙ code_of_spot_back b)) (λ e. ap code_of_spot e)
+    (unsigned_Decides (code_of_spot a) (code_of_spot b))
 
-anchor_decides : (a b : Anchor) → Decides (anchor_eq.eq-value.it a b) (a ≡ b)
-anchor_decides anchor.Loose anchor.Loose = (λ _. refl, λ _. refl)
-anchor_decides anchor.Fixed anchor.Fixed = (λ _. refl, λ _. refl)
-anchor_decides (anchor.At x) (anchor.At y) = (λ e i. anchor.At ((unsigned_Decides x y).0 e i), λ e. (unsigned_Decides x y).1 cc)
-anchor_decides _ _ = (λ e. absurd (false≢true e), λ e. cc)
+packed_anchor_decides : (a b : Anchor) → Decides (packed_anchor_eq.eq-value.it a b) (a ≡ b)
+packed_anchor_decides a b =
+    Decides-like _ (λ e. sym (code_of_anchor_back a) ∙ (ap anchor_of_code e ∙ code_of_anchor_back b)) (λ e. ap code_of_anchor e)
+    (unsigned_Decides (code_of_anchor a) (code_of_anchor b))
 
 half_decides : (a b : Half) → Decides (half_eq.eq-value.it a b) (a ≡ b)
 half_decides (half.First x) (half.First y) = (λ e i. half.First ((unsigned_Decides x y).0 e i), λ e. (unsigned_Decides x y).1 cc)
@@ -107,16 +102,13 @@ entry_decides a b =
     (Decides-and _ _ (unsigned_Decides a.place b.place) (half_decides a.half b.half))
 
 object_lists_decides : (a b : List Entry) → Decides (object_lists_eq.eq-value.it a b) (a ≡ b)
-object_lists_decides a b =
-    Decides-like _ (λ h. sym (take-filled a) ∙ (ap (λ n. take n (filled a)) h.1 ∙ (ap (λ (l : List Entry). take (length b) l) h.0 ∙ take-filled b)))
-    (λ e. (ap filled e, ap (λ (l : List Entry). length l) e))
-    (Decides-and _ _ (pointwise_decides entry_decides (filled a) (filled b)) (unsigned_Decides (length a) (length b)))
+object_lists_decides = pointwise_decides entry_decides
 
 objects_decides : (a b : Objects) → Decides (objects_eq.eq-value.it a b) (a ≡ b)
 objects_decides a b =
     Decides-like _ (λ h i. record { first = h.0 i; second = h.1.0 i; props = h.1.1.0 i; lists = h.1.1.1 i })
     (λ e. (ap (λ (s : Objects). s.first) e, (ap (λ (s : Objects). s.second) e, (ap (λ (s : Objects). s.props) e, ap (λ (s : Objects). s.lists) e))))
-    (Decides-and _ _ (pointwise_decides spot_decides a.first b.first) (Decides-and _ _ (pointwise_decides anchor_decides a.second b.second) (Decides-and _ _ (pointwise_decides signed_Decides a.props b.props) (object_lists_decides a.lists b.lists))))
+    (Decides-and _ _ (pointwise_decides packed_spot_decides a.first b.first) (Decides-and _ _ (pointwise_decides packed_anchor_decides a.second b.second) (Decides-and _ _ (pointwise_decides signed_Decides a.props b.props) (object_lists_decides a.lists b.lists))))
 
 trail_decides : (a b : Trail) → Decides (trail_eq.eq-value.it a b) (a ≡ b)
 trail_decides a b =

@@ -1,5 +1,5 @@
 -- The halves of objects.
-use Rattle.std.specs.Prelude.{ℕ, ◌+◌}
+use Rattle.std.specs.Prelude.{ℕ, ◌+◌, ◌-◌, nat_lt, if◌then◌else◌}
 use Rattle.cave_world.specs.declared.object.Half.{Half}
 use Rattle.cave_world.specs.declared.object.Half.TheVariants.{First, Second}
 
@@ -12,6 +12,10 @@ object_of (Second x) = x
 abbrev pub half_number : Half → ℕ
 half_number (First x) = x
 half_number (Second x) = 100 + x
+
+-- the half that has a number
+abbrev pub half_of : ℕ → Half
+half_of number = if nat_lt 100 number then Second (number - 100) else First number
 
 -- half of no object
 abbrev pub no_half : Half

@@ -1,7 +1,8 @@
 pub mod Halves
 pub mod Lists
-pub mod ListLemmas
+pub mod Links
 pub mod Spots
+pub mod Packed
 pub mod Layout
 pub mod Objects
 pub mod Sight

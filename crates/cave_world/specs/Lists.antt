@@ -1,8 +1,8 @@
 -- For each place the list of the halves that stand there, latest first.
-use Rattle.std.specs.Prelude.{◌≡◌, ℕ, ◌-◌, ◌<◌, ◌≤◌, ◌==◌, Bool, not, nat_lt, if◌then◌else◌, List, [], ◌∷◌, ◌++◌, length, map, filter, replicate, Option, Some, None}
+use Rattle.std.specs.Prelude.{◌≡◌, ℕ, ◌<◌, ◌≤◌, ◌==◌, Bool, not, nat_lt, if◌then◌else◌, List, [], ◌∷◌, map, filter, Option, Some, None}
 use Rattle.cave_world.specs.declared.object.Half.{Half}
 use Rattle.cave_world.specs.declared.lists.Entry.{Entry}
-use Rattle.cave_world.specs.Halves.{object_of, half_number, no_half}
+use Rattle.cave_world.specs.Halves.{object_of, half_number}
 
 -- the entries are in the order of their places, and those of one place are its list
 abbrev pub halves_at : ℕ → List Entry → List Half
@@ -40,13 +40,6 @@ listed_at q half (Some place) halves =
 -- and nothing else changed
 abbrev pub AreRelisted : List Entry → List Entry → Half → Option ℕ → Type 0
 AreRelisted old new half place = (q : ℕ) → halves_at q new ≡ listed_at q half place (halves_at q old)
-
--- what stands behind the last entry
-abbrev pub no_entry : Entry
-no_entry = record { place = 0; half = no_half }
-
-unfoldable pub filled : List Entry → List Entry
-filled entries = entries ++ replicate (200 - length entries) no_entry
 
 -- no entry has a half of this number
 abbrev pub Lacks : ℕ → List Entry → Type 0

@@ -1,5 +1,5 @@
 -- When a row of a place holds, and which row a motion takes.
-use Rattle.std.specs.Prelude.{ℕ, pos, ◌-◌, ◌/◌, ◌%◌, Bool, true, false, ◌==◌, ◌&&◌, ◌||◌, not, nat_lt, nat_le, if◌then◌else◌, List, [], ◌∷◌, length, Option, None, Some}
+use Rattle.std.specs.Prelude.{ℕ, pos, ◌-◌, ◌/◌, ◌%◌, Bool, true, ◌==◌, ◌&&◌, ◌||◌, not, nat_lt, nat_le, if◌then◌else◌, List, [], ◌∷◌, length, Option, None, Some}
 use Rattle.std.specs.Ordering.{int_eq}
 use Rattle.std.specs.List.{list_any}
 use Rattle.cave_data.specs.CaveView.{CaveView, Going, ways_from}

@@ -1,4 +1,4 @@
-ghost use Rattle.std.specs.Prelude.{◌≡◌, ℕ, ◌+◌, ◌<◌, ◌≤◌, ◌||◌, false, [], length, All, IsTrue};
+ghost use Rattle.std.specs.Prelude.{◌≡◌, ℕ, ◌+◌, ◌==◌, ◌<◌, ◌≤◌, ◌||◌, false, [], length, All, IsTrue};
 ghost use Rattle.cave_world.specs.Lists.{halves_at, AreRelisted};
 ghost use Rattle.cave_world.specs.Layout.{is_listed};
 ghost use Rattle.cave_world.specs.Halves.{object_of};
@@ -92,6 +92,13 @@ impl State {
         ensures nowhere { halves_at 0 self.now.objects.lists ≡ [] }
     {
         self.objects.at(place)
+    }
+
+    /// Whether nothing stands at a place.
+    pub fn is_bare(&self, place: Place) -> bool
+        ensures { result ≡ (length (halves_at place self.now.objects.lists) == 0) }
+    {
+        self.objects.is_bare(place)
     }
 
     /// The player takes an object, if the player doesn't carry it yet.

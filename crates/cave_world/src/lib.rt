@@ -12,6 +12,7 @@ pub mod lists;
 pub mod magic;
 pub mod object;
 pub mod objects;
+pub mod packed;
 pub mod part;
 pub mod place;
 pub mod prop;

@@ -1,12 +1,14 @@
-ghost use Rattle.std.specs.Prelude.{◌≡◌, ◌≢◌, ℕ, ◌-◌, ◌≤◌, ◌<◌, ◌==◌, ◌++◌, ◌∷◌, ◌↔◌, [], length, take, nat_lt, insert, remove, All, Some, IsTrue};
-ghost use Rattle.std.specs.List.{prefix_len, position};
+ghost use Rattle.std.specs.Prelude.{◌≡◌, ◌≢◌, ℕ, ◌-◌, ◌≤◌, ◌<◌, ◌==◌, ◌↔◌, [], length, false};
+ghost use Rattle.std.specs.Prelude.{All, Some, MatchOption, IsTrue, slice_index, slice_set};
 ghost use Rattle.cave_world.specs.Layout.{is_listed};
-ghost use Rattle.cave_world.specs.Lists.{relisted, AreRelisted, without, put_first, listed, halves_at, no_entry, AreLists, IsOnlyAt, IsNew, has_half};
+ghost use Rattle.cave_world.specs.Links.{first_of, next_of, AreWithin};
+ghost use Rattle.cave_world.specs.Lists.{relisted, AreRelisted, without, put_first, listed, halves_at};
+ghost use Rattle.cave_world.specs.Lists.{AreLists, IsOnlyAt, IsNew};
 ghost use Rattle.cave_world.specs.Spots.{is_place};
 ghost use Rattle.cave_world.specs.Halves.{object_of, half_number};
 
-use crate::object::{Half, Object};
-use crate::place::Place;
+use crate::object::Half;
+use crate::place::{LAST_PLACE, Place};
 use arrayvec::ArrayVec;
 use std::marker::Model;
 
@@ -20,90 +22,66 @@ pub struct Entry {
     pub half: Half,
 }
 
-impl Default for Entry {
-    ghost is_default = { λ e. e ≡ no_entry };
-
-    fn default() -> Entry {
-        Entry {
-            place: Place::new(0),
-            half: Half::First(Object::none()),
-        }
-    }
-}
-
 /// For each place the list of the halves that stand there, latest first.
-#[derive(Clone, Copy, Debug, PartialEq, Eq)]
+#[derive(Clone, Copy, Debug)]
 pub struct ObjectLists {
-    entries: [Entry; HALVES],
-    count: usize,
+    /// For each place, from 1 on, the number of the first half of its list, or 0.
+    first: [u8; LAST_PLACE],
+    /// For each number of a half, from 1 on, the number of the half behind it in its list, or 0.
+    next: [u8; HALVES],
 }
 
 impl Model for ObjectLists {
-    ghost use Rattle.std.specs.Prelude.{◌≡◌, ◌≤◌, List, length, take};
+    ghost use Rattle.std.specs.Prelude.{List};
     ghost use Rattle.cave_world.specs.declared.lists.Entry.{Entry};
 
     ghost Value = { List Entry };
 
-    ghost use Rattle.cave_world.specs.Lists.{filled, AreLists};
-    ghost use Rattle.cave_world.specs.ListLemmas.{filled_back};
+    ghost use Rattle.cave_world.specs.Links.{entries_of, links_of, AreLinks};
 
-    ghost view = { λ l. take l.count l.entries };
+    ghost view = { entries_of };
 
-    ghost invariant = { λ l. (l.count ≤ 200) × ((filled (take l.count l.entries) ≡ l.entries) × AreLists (take l.count l.entries)) };
+    ghost invariant = { AreLinks };
 
-    ghost inverse = { λ es. record { entries = filled es; count = length es } };
+    ghost inverse = { links_of };
 
-    ghost inverse_ok = { λ l h. filled_back l.entries l.count h.0 h.1.0 };
+    ghost inverse_ok = { λ l h. h.exact };
 }
 
-/// How many entries have places before a place.
-fn count_before(entries: &[Entry], place: Place) -> usize
-    requires { AreLists entries.now }
-    ensures value { result ≡ prefix_len (λ e. nat_lt e.place place) entries.now }
-    ensures within { result ≤ length entries.now }
-{
-    entries.partition_point(|entry| entry.place.number() < place.number())
-}
+// A derive would say of all entries, also of those that no links make up, that they are equal where
+// their links are.
+impl PartialEq for ObjectLists {
+    ghost use Rattle.std.specs.Cmp.{partial_equiv_from_equiv};
+    ghost use Rattle.std.specs.Cmp.Lexicographic.{pointwise, lists_equiv};
+    ghost use Rattle.cave_world.specs.contracts.lists.EntryEq.TheImpl.Laws.{laws-law};
 
-/// The index of the entry with the half of a number.
-fn index_of(entries: &[Entry], number: u8) -> Option<usize>
-    ensures { result ≡ position (has_half number) entries.now }
-{
-    entries
-        .iter()
-        .position(|entry| entry.half.number() == number)
-}
+    ghost eq = { pointwise ⟦<Entry as PartialEq>⟧.eq };
 
-/// The index of the entry with the half of a number, which stands nowhere but at a place.
-fn find(entries: &[Entry], number: u8, place: Place) -> Option<usize>
-    requires lists { AreLists entries.now }
-    requires only { IsOnlyAt number (Some place) entries.now }
-    ensures { result ≡ position (has_half number) entries.now }
-{
-    let before = count_before(entries, place);
-    match index_of(&entries[before..], number) {
-        Some(behind) => Some(before + behind),
-        None => None,
+    ghost laws = { partial_equiv_from_equiv (lists_equiv laws-law) };
+
+    fn eq(&self, other: &ObjectLists) -> bool {
+        self.is_same(other)
     }
 }
 
-/// Takes an entry out. Those behind it move up, and none stands at the end.
-fn take_out(entries: &mut [Entry], at: usize)
-    requires { at < length entries.old }
-    ensures { entries.new ≡ remove entries.old at ++ no_entry ∷ [] }
-{
-    let last = entries.len() - 1;
-    entries[at..].rotate_left(1);
-    entries[last] = Entry::default();
+impl Eq for ObjectLists {
+    ghost use Rattle.std.specs.Cmp.Lexicographic.{lists_equiv};
+    ghost use Rattle.cave_world.specs.contracts.lists.EntryEq.TheImpl.Laws.{laws-law};
+
+    ghost laws = { lists_equiv laws-law };
 }
 
-/// Puts an entry in. Those behind it move down, and the last one makes room.
-fn put_in(entries: &mut [Entry], at: usize, entry: Entry)
-    requires { at < length entries.old }
-    ensures { entries.new ≡ insert (take (length entries.old - 1) entries.old) at entry }
+/// Takes the link from a half away, and tells where it led.
+fn unlink(next: &mut [u8; HALVES], number: u8) -> u8
+    requires some { 0 < number }
+    requires within { number ≤ 200 }
+    ensures value { result ≡ slice_index next.old (number - 1) }
+    ensures unlinked { next.new ≡ slice_set next.old (number - 1) 0 }
 {
-    entries[at..].rotate_right(1);
-    entries[at] = entry;
+    let at = usize::from(number) - 1;
+    let behind = next[at];
+    next[at] = 0;
+    behind
 }
 
 impl ObjectLists {
@@ -112,8 +90,8 @@ impl ObjectLists {
         ensures { result ≡ [] }
     {
         ObjectLists {
-            entries: [Entry::default(); HALVES],
-            count: 0,
+            first: [0; LAST_PLACE],
+            next: [0; HALVES],
         }
     }
 
@@ -122,44 +100,106 @@ impl ObjectLists {
         ensures value { IsTrue result ↔ (self.now ≡ other.now) }
         ensures lists { IsTrue result ↔ ((q : ℕ) → halves_at q self.now ≡ halves_at q other.now) }
     {
-        self.entries() == other.entries()
+        self.first == other.first && self.next == other.next
     }
 
     /// The halves at a place, latest first. Each is of an object, and none stands at place 0.
-    #[tactic(auto, using(crate::proofs::Moves::length_AreLists))]
     pub fn at(&self, place: Place) -> ArrayVec<Half, HALVES>
         ensures value { result.items ≡ halves_at place self.now }
         ensures objects { All (λ half. 0 < object_of half) (halves_at place self.now) }
         ensures nowhere { halves_at 0 self.now ≡ [] }
     {
-        let entries = self.entries();
         let mut halves = ArrayVec::new();
-        for entry in &entries[count_before(entries, place)..] {
-            if entry.place != place {
-                break;
-            }
-            halves.push(entry.half);
+        let mut number = self.first_at(place);
+        while number != 0 {
+            halves.push(Half::numbered(number));
+            number = self.behind(number);
         }
         halves
     }
 
-    /// Takes the half of a number out of the list of the place where it stands.
-    fn remove_from(&mut self, number: u8, place: Place)
-        requires { IsOnlyAt number (Some place) self.old }
+    /// Whether nothing stands at a place.
+    pub fn is_bare(&self, place: Place) -> bool
+        ensures { result ≡ (length (halves_at place self.now) == 0) }
+    {
+        self.first_at(place) == 0
+    }
+
+    /// The number of the first half of the list of a place, or 0.
+    fn first_at(&self, place: Place) -> u8
+        ensures value { result ≡ first_of place self.now }
+        ensures lists { AreLists self.now }
+        ensures within { AreWithin self.now }
+    {
+        let first = &self.first;
+        if place.number() == 0 {
+            return 0;
+        }
+        first[usize::from(place.number()) - 1]
+    }
+
+    /// The number of the half behind another one in its list, or 0.
+    fn behind(&self, number: u8) -> u8
+        requires some { 0 < number }
+        requires within { number ≤ 200 }
+        ensures { result ≡ next_of number self.now }
+    {
+        self.next[usize::from(number) - 1]
+    }
+
+    /// The number of the half before another one in the list of a place.
+    fn before(&self, number: u8, place: Place) -> Option<u8>
+        requires later { first_of place self.now ≢ number }
+        ensures { MatchOption result (is_listed number (halves_at place self.now) ≡ false)
+            (λ before. next_of before self.now ≡ number) }
+    {
+        let mut before = self.first_at(place);
+        while before != 0 {
+            let behind = self.behind(before);
+            if behind == number {
+                return Some(before);
+            }
+            before = behind;
+        }
+        None
+    }
+
+    /// Takes the first half out of the list of a place.
+    fn remove_first(&mut self, number: u8, place: Place)
+        requires some { 0 < number }
+        requires first { first_of place self.old ≡ number }
         ensures { self.new ≡ without number self.old }
     {
-        match find(self.entries(), number, place) {
-            Some(at) => {
-                let count = self.count;
-                self.count = count - 1;
-                take_out(&mut self.entries[..count], at);
-            }
-            None => {}
+        let behind = unlink(&mut self.next, number);
+        self.first[usize::from(place.number()) - 1] = behind;
+    }
+
+    /// Takes the half behind another one out of their list.
+    fn remove_behind(&mut self, number: u8, before: u8)
+        requires some { 0 < number }
+        requires behind { next_of before self.old ≡ number }
+        ensures { self.new ≡ without number self.old }
+    {
+        let behind = unlink(&mut self.next, number);
+        self.next[usize::from(before) - 1] = behind;
+    }
+
+    /// Takes the half of a number out of the list of the place where it stands.
+    fn remove_from(&mut self, number: u8, place: Place)
+        requires some { 0 < number }
+        requires only { IsOnlyAt number (Some place) self.old }
+        ensures { self.new ≡ without number self.old }
+    {
+        if self.first_at(place) == number {
+            self.remove_first(number, place);
+        } else if let Some(before) = self.before(number, place) {
+            self.remove_behind(number, before);
         }
     }
 
     fn remove(&mut self, number: u8, from: Option<Place>)
-        requires { IsOnlyAt number from self.old }
+        requires some { 0 < number }
+        requires only { IsOnlyAt number from self.old }
         ensures { self.new ≡ without number self.old }
     {
         match from {
@@ -174,10 +214,11 @@ impl ObjectLists {
         requires somewhere { 0 < place }
         ensures { self.new ≡ put_first (record { place = place; half = half }) self.old }
     {
-        let at = count_before(self.entries(), place);
-        let count = self.count + 1;
-        self.count = count;
-        put_in(&mut self.entries[..count], at, Entry { place, half });
+        let number = half.number();
+        let at = usize::from(place.number()) - 1;
+        let behind = self.first[at];
+        self.next[usize::from(number) - 1] = behind;
+        self.first[at] = number;
     }
 
     fn put(&mut self, half: Half, to: Option<Place>)
@@ -202,12 +243,5 @@ impl ObjectLists {
     {
         self.remove(half.number(), from);
         self.put(half, to);
-    }
-
-    fn entries(&self) -> &[Entry]
-        ensures value { result.now ≡ self.now }
-        ensures lists { AreLists result.now }
-    {
-        &self.entries[..self.count]
     }
 }

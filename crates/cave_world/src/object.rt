@@ -1,5 +1,5 @@
 ghost use Rattle.std.specs.Prelude.{◌≡◌, ◌≤◌, ◌==◌};
-ghost use Rattle.cave_world.specs.Halves.{object_of, half_number};
+ghost use Rattle.cave_world.specs.Halves.{object_of, half_number, half_of};
 
 use std::marker::Model;
 
@@ -96,10 +96,23 @@ impl Half {
     pub fn number(&self) -> u8
         ensures value { result ≡ half_number self.now }
         ensures within { result ≤ 200 }
+        ensures object { object_of self.now ≤ 100 }
     {
         match self {
             Half::First(object) => object.number(),
             Half::Second(object) => 100 + object.number(),
+        }
+    }
+
+    /// The half of a number.
+    pub fn numbered(number: u8) -> Half
+        requires { number ≤ 200 }
+        ensures { result ≡ half_of number }
+    {
+        if number > 100 {
+            Half::Second(Object::new(number - 100))
+        } else {
+            Half::First(Object::new(number))
         }
     }
 }

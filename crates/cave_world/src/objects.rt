@@ -1,4 +1,4 @@
-ghost use Rattle.std.specs.Prelude.{◌≡◌, ℕ, ◌||◌, ◌+◌, ◌<◌, ◌≤◌, false, [], length, All, IsTrue};
+ghost use Rattle.std.specs.Prelude.{◌≡◌, ℕ, ◌==◌, ◌||◌, ◌+◌, ◌<◌, ◌≤◌, false, [], length, All, IsTrue};
 ghost use Rattle.cave_world.specs.Objects.{spot_of, anchor_of, prop_of, carried_objects, unplaced};
 ghost use Rattle.cave_world.specs.Objects.{is_carried, is_gone, is_first_at, stands_at, is_at_hand};
 ghost use Rattle.cave_world.specs.Objects.{brought, anchored, with_prop, moved, taken, juggled};
@@ -9,6 +9,7 @@ ghost use Rattle.cave_world.specs.Halves.{object_of};
 
 use crate::lists::{HALVES, ObjectLists};
 use crate::object::{Half, LAST_OBJECT, Object};
+use crate::packed::{PackedAnchor, PackedSpot};
 use crate::place::Place;
 use crate::prop::Prop;
 use crate::spot::{Anchor, Spot};
@@ -18,8 +19,8 @@ use std::marker::Model;
 /// Where each object is, what holds it there, its prop, and for each place the list of the halves there.
 #[derive(Clone, Copy, Debug, PartialEq, Eq)]
 pub struct Objects {
-    first: [Spot; LAST_OBJECT],
-    second: [Anchor; LAST_OBJECT],
+    first: [PackedSpot; LAST_OBJECT],
+    second: [PackedAnchor; LAST_OBJECT],
     props: [Prop; LAST_OBJECT],
     lists: ObjectLists,
 }
@@ -45,8 +46,8 @@ impl Objects {
         ensures { result ≡ unplaced }
     {
         Objects {
-            first: [Spot::Away; LAST_OBJECT],
-            second: [Anchor::Loose; LAST_OBJECT],
+            first: [PackedSpot::new(Spot::Away); LAST_OBJECT],
+            second: [PackedAnchor::new(Anchor::Loose); LAST_OBJECT],
             props: [Prop::new(0); LAST_OBJECT],
             lists: ObjectLists::empty(),
         }
@@ -61,6 +62,13 @@ impl Objects {
         self.lists.at(place)
     }
 
+    /// Whether nothing stands at a place.
+    pub fn is_bare(&self, place: Place) -> bool
+        ensures { result ≡ (length (halves_at place self.now.lists) == 0) }
+    {
+        self.lists.is_bare(place)
+    }
+
     /// Where the first half of an object is.
     #[tactic(auto, unfolding(crate::specs::Objects::spot_of))]
     pub fn spot(&self, object: Object) -> Spot
@@ -70,7 +78,7 @@ impl Objects {
         if object.is_none() {
             return Spot::Away;
         }
-        self.first[usize::from(object.number()) - 1]
+        self.first[usize::from(object.number()) - 1].spot()
     }
 
     /// What holds an object where it is.
@@ -82,7 +90,7 @@ impl Objects {
         if object.is_none() {
             return Anchor::Loose;
         }
-        self.second[usize::from(object.number()) - 1]
+        self.second[usize::from(object.number()) - 1].anchor()
     }
 
     /// The prop of an object.
@@ -167,7 +175,7 @@ impl Objects {
         }
         let was = self.spot(object).place();
         let place = spot.place();
-        self.first[usize::from(object.number()) - 1] = spot;
+        self.first[usize::from(object.number()) - 1] = PackedSpot::new(spot);
         self.lists.relist(Half::First(object), was, place);
     }
 
@@ -182,7 +190,7 @@ impl Objects {
         }
         let was = self.anchor(object).place();
         let place = anchor.place();
-        self.second[usize::from(object.number()) - 1] = anchor;
+        self.second[usize::from(object.number()) - 1] = PackedAnchor::new(anchor);
         self.lists.relist(Half::Second(object), was, place);
     }
 
@@ -233,11 +241,18 @@ impl Objects {
     }
 
     /// How many objects are carried.
+    #[tactic(auto, using(crate::proofs::Carried::counting_carried))]
     pub fn count_carried(&self) -> usize
         ensures value { result ≡ length (carried_objects self.now) }
         ensures within { result ≤ 100 }
     {
-        self.carried().len()
+        let mut count = 0;
+        for before in 0..LAST_OBJECT {
+            if self.is_carried(Object::new(before as u8 + 1)) {
+                count += 1;
+            }
+        }
+        count
     }
 
     /// The objects that are carried, ascending.

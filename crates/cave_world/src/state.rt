@@ -50,6 +50,9 @@ pub struct State {
     pub stream: Stream,
 }
 
+// A replay keeps a state at each of its checkpoints.
+const _: () = prove!(size_of::<State>() <= 1760);
+
 impl State {
     /// The state of a game in which nothing is placed yet: the player stands at a place and is greeted.
     #[tactic(auto, unfolding(crate::specs::State::starting))]

@@ -1,8 +1,13 @@
-use Rattle.std.proofs.Common.{◌≡◌, ◌≤◌, ◌++◌, length, drop}
+use Rattle.std.proofs.Common.{◌≡◌, ◌-◌, ◌++◌, List, length}
+use Rattle.cave_world.specs.declared.object.Half.{Half}
 use Rattle.cave_world.specs.Lists.{halves_at}
+use Rattle.cave_world.proofs.Walks.{IsLeft}
 use Rattle.cave_world.proofs.lists.ObjectLists.at.Given as goal
 
--- what is told and what the rest tells make up the list
-abbrev pub invariant-loop-entry : goal.invariant-loop-entry
-invariant-loop-entry l =
-    (l.halves.items ++ halves_at l.place (drop l.entry-index l.entry-items) ≡ halves_at l.place l.self) × (length l.halves.items ≤ l.entry-index)
+-- what is told and what is left make up the list
+abbrev pub invariant-loop-number : goal.invariant-loop-number
+invariant-loop-number l =
+    (rest : List Half) × ((l.halves.items ++ rest ≡ halves_at l.fn.place l.self) × IsLeft l.self l.number rest)
+
+abbrev pub decreases-loop-number : goal.decreases-loop-number
+decreases-loop-number l = length (halves_at l.fn.place l.self) - length l.halves.items

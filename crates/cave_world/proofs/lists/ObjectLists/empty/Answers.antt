@@ -1,6 +1,9 @@
-use Rattle.std.proofs.Common.{rules}
-use Rattle.cave_world.proofs.Blocks.{empty_is}
+use Rattle.std.proofs.Common.{replicate, refl}
+use Rattle.cave_world.proofs.Relinked.{emptied}
 use Rattle.cave_world.proofs.lists.ObjectLists.empty.Goals as goal
 
 pub invariant_of-result : goal.invariant_of-result
-invariant_of-result c = (search rules, (empty_is c.default.result c.default.ensures, tt))
+invariant_of-result c = (emptied (record { first = replicate 300 0; next = replicate 200 0 }) refl refl).1
+
+pub returns : goal.returns
+returns c = (emptied (record { first = replicate 300 0; next = replicate 200 0 }) refl refl).0

@@ -1,21 +1,22 @@
-use Rattle.std.proofs.Common.{List, sym, ap, ◌∙◌}
-use Rattle.std.specs.Cmp.Lexicographic.{pointwise_decides}
-use Rattle.cave_world.specs.declared.lists.Entry.{Entry}
-use Rattle.cave_world.specs.Lists.{halves_at}
-use Rattle.cave_world.specs.Equality.{entry_decides}
-use Rattle.cave_world.proofs.Places.{same_lists}
+use Rattle.std.proofs.Common.{eqb, refl}
+use Rattle.std.specs.Cmp.Lexicographic.{pointwise}
+use Rattle.cave_world.proofs.Relinked.{same_values, same_places}
 use Rattle.cave_world.proofs.lists.ObjectLists.is_same.Goals as goal
 
-pub returns-clause-value : goal.returns-clause-value
-returns-clause-value c =
-    let d = pointwise_decides entry_decides c.entries.result.now c.entries-2.result.now in (
-      λ e. sym c.entries.ensures.value ∙ (d.0 (sym c.eq.ensures ∙ e) ∙ c.entries-2.ensures.value),
-      λ e. c.eq.ensures ∙ d.1 (c.entries.ensures.value ∙ (e ∙ sym c.entries-2.ensures.value)),
-    )
+pub returns-then-eq-clause-value : goal.returns-then-eq-clause-value
+returns-then-eq-clause-value c =
+    rw c.if-eq.true at (same_values c.self.inside c.other.inside c.args.self.now c.args.other.now c.eq.result c.eq-then-eq.result c.self.invariant c.other.invariant c.self.view_is c.other.view_is c.eq.ensures c.eq-then-eq.ensures)
 
-pub returns-clause-lists : goal.returns-clause-lists
-returns-clause-lists c =
-    let same = returns-clause-value c in (
-      λ e q. ap (λ (l : List Entry). halves_at q l) (same.0 e),
-      λ h. same.1 (same_lists c.args.self.now c.args.other.now (rw (← c.entries.ensures.value) c.entries.ensures.lists) (rw (← c.entries-2.ensures.value) c.entries-2.ensures.lists) h),
-    )
+pub returns-then-eq-clause-lists : goal.returns-then-eq-clause-lists
+returns-then-eq-clause-lists c =
+    same_places c.args.self.now c.args.other.now c.eq-then-eq.result (rw c.self.view_is at c.self.invariant.lists) (rw c.other.view_is at c.other.invariant.lists)
+    (rw c.if-eq.true at (same_values c.self.inside c.other.inside c.args.self.now c.args.other.now c.eq.result c.eq-then-eq.result c.self.invariant c.other.invariant c.self.view_is c.other.view_is c.eq.ensures c.eq-then-eq.ensures))
+
+pub returns-else-eq-clause-value : goal.returns-else-eq-clause-value
+returns-else-eq-clause-value c =
+    let next = pointwise eqb c.self.inside.next c.other.inside.next in
+    rw c.if-eq.false (rw c.if-eq.false at (same_values c.self.inside c.other.inside c.args.self.now c.args.other.now c.eq.result next c.self.invariant c.other.invariant c.self.view_is c.other.view_is c.eq.ensures refl))
+
+pub returns-else-eq-clause-lists : goal.returns-else-eq-clause-lists
+returns-else-eq-clause-lists c =
+    same_places c.args.self.now c.args.other.now c.eq.result (rw c.self.view_is at c.self.invariant.lists) (rw c.other.view_is at c.other.invariant.lists) (returns-else-eq-clause-value c)

@@ -1,12 +1,18 @@
 use Rattle.cave_world.specs.Lists.{relisted}
 use Rattle.cave_world.specs.Halves.{half_number}
 use Rattle.cave_world.proofs.Found.{only_at}
+use Rattle.cave_world.proofs.Links.{low_number}
 use Rattle.cave_world.proofs.Moves.{Lacks-taken}
 use Rattle.cave_world.proofs.Places.{halves_at-relisted}
 use Rattle.cave_world.proofs.lists.ObjectLists.relist.Goals as goal
 
-pub remove-requires : goal.remove-requires
-remove-requires c = rw c.number.ensures.value (only_at (half_number c.args.half) c.args.from c.args.self.now c.requires.only)
+pub remove-requires-clause-some : goal.remove-requires-clause-some
+remove-requires-clause-some c =
+    rw c.number.ensures.value (low_number c.args.half c.requires.some)
+
+pub remove-requires-clause-only : goal.remove-requires-clause-only
+remove-requires-clause-only c =
+    rw c.number.ensures.value (only_at (half_number c.args.half) c.args.from c.args.self.now c.requires.only)
 
 pub put-requires-clause-new : goal.put-requires-clause-new
 put-requires-clause-new c =

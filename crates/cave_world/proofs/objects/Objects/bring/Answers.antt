@@ -9,7 +9,7 @@ invariant_of-self c =
     let i = c.self.inside in
     let l : Layout = record { first = i.first; second = i.second; props = i.props; lists = i.lists } in
     let low : 0 < c.args.object = grind (arith, nat_tests) in
-    rw (c.from.ensures, c.number.ensures.value)
+    rw (c.from.ensures, c.number.ensures.value, c.new.ensures)
     (IsLaid-brought l c.args.object c.args.spot c.relist.new.self c.self.invariant low (rw c.number.ensures.value at c.number.ensures.within) (rw c.place-place.ensures.value at c.relist.ensures.lists))
 
 pub relist-requires-clause-only : goal.relist-requires-clause-only

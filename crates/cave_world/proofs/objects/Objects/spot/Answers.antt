@@ -7,5 +7,5 @@ pub returns-clause-listed : goal.returns-clause-listed
 returns-clause-listed c = λ low q.
     let i = c.self.inside in
     let l : Layout = record { first = i.first; second = i.second; props = i.props; lists = i.lists } in
-    rw (← c.self.view_is)
+    rw (← c.self.view_is, c.spot.ensures)
     (spot_listed l c.args.object c.from.result c.index-self-from.result c.self.invariant (c.from.ensures ∙ c.number.ensures.value) low (rw c.number.ensures.value at c.number.ensures.within) q)

@@ -1,0 +1,15 @@
+use Rattle.std.proofs.Common.{◌≡◌, ◌≢◌, List, length}
+use Rattle.cave_world.specs.declared.object.Half.{Half}
+use Rattle.cave_world.specs.Layout.{is_listed}
+use Rattle.cave_world.specs.Lists.{halves_at}
+use Rattle.cave_world.specs.Links.{next_of, halves_along}
+use Rattle.cave_world.proofs.Walks.{IsLeft}
+use Rattle.cave_world.proofs.lists.ObjectLists.before.Given as goal
+
+-- the half is among those that are left if it is in the list, and isn't the first of them
+abbrev pub invariant-loop-before : goal.invariant-loop-before
+invariant-loop-before l =
+    (rest : List Half) × (IsLeft l.self l.before rest × ((is_listed l.number rest ≡ is_listed l.number (halves_at l.fn.place l.self)) × (l.before ≢ l.number)))
+
+abbrev pub decreases-loop-before : goal.decreases-loop-before
+decreases-loop-before l = length (halves_along (λ n. next_of n l.self) 200 l.before)
