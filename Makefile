@@ -15,11 +15,11 @@ $(PROGRAM): $(SOURCES)
 	@cd crates/cave && rt run -- $(FIRST_GAME) > out/build.log 2>&1 || { cat out/build.log >&2; exit 1; }
 	@touch $@
 
-# The gate: each proof from nothing, the edits that must fail, the tests and the program, and then the
-# suite of logs with the program that was proved.
+# What the suite of logs leaves out; then the gate: each proof from nothing, the edits that must fail,
+# the tests and the program; and then the suite with the program that was proved.
 test:
-	rt ci
 	logs/coverage
+	rt ci
 	logs/run $(PROGRAM)
 
 # Plays each log of logs/ with the program, and compares what it says with the transcript beside it.
