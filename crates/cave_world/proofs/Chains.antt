@@ -1,6 +1,9 @@
 -- The lists come back from their links.
-use Rattle.std.proofs.Common.{◌≡◌, ◌≢◌, ℕ, zero, suc, ◌+◌, ◌-◌, ◌<◌, ◌≤◌, Bool, true, false, cond, List, [], ◌∷◌, ◌++◌, length, map, filter, set, get_or, nat_lt, eqb, refl, sym, ap, ◌∙◌, arith}
-use Rattle.std.proofs.lemmas.List.{append-nil, ext_get_or, length-map, get_or-set_same, get_or-set_other}
+use Rattle.std.proofs.Common.{◌≡◌, ◌≢◌, ℕ, zero, suc, ◌+◌, ◌-◌, ◌<◌, ◌≤◌, Bool, true, false, cond}
+use Rattle.std.proofs.Common.{List, [], ◌∷◌, ◌++◌, length, map, filter, set, get_or, nat_lt, eqb}
+use Rattle.std.proofs.Common.{refl, sym, ap, ◌∙◌, arith}
+use Rattle.std.proofs.lemmas.List.{append-nil, ext_get_or, length-map, get_or-set_same}
+use Rattle.std.proofs.lemmas.List.{get_or-set_other}
 use Rattle.std.proofs.lemmas.List.FromFn.{length-map-range_with_len, get_or-map-range_with_len}
 use Rattle.std.proofs.lemmas.Bool.Decides.{nat_tests}
 use Rattle.cave_world.specs.declared.object.Half.{Half}
@@ -9,7 +12,8 @@ use Rattle.cave_world.specs.declared.lists.Entry.{Entry}
 use Rattle.cave_world.specs.declared.lists.ObjectLists.TheInside.{Inside}
 use Rattle.cave_world.specs.Halves.{object_of, half_number, half_of}
 use Rattle.cave_world.specs.Lists.{halves_at, StartsAt, Lacks, AreLists}
-use Rattle.cave_world.specs.Links.{first_of, next_of, table, told, links_of, halves_along, entries_from, entries_of, AreWithin, AreLinks}
+use Rattle.cave_world.specs.Links.{first_of, next_of, table, told, links_of, halves_along}
+use Rattle.cave_world.specs.Links.{entries_from, entries_of, AreWithin, AreLinks}
 use Rattle.cave_world.proofs.Tests.{equal, unequal, apart, itself}
 use Rattle.cave_world.proofs.Moves.{StartsAt-earlier, length-AreLists}
 use Rattle.cave_world.proofs.Places.{Ascend, Ascend-AreLists, same_lists}
@@ -28,7 +32,8 @@ told-table f most k low high =
     get_or-map-range_with_len f 1 most (k - 1) k 0 (omega arith) (omega arith)
 
 -- numbers that tell what a function does are its table
-pub table_is : (f : ℕ → ℕ) (numbers : List ℕ) (most : ℕ) → length numbers ≡ most → ((k : ℕ) → 0 < k → k ≤ most → told numbers k ≡ f k) → table f most ≡ numbers
+pub table_is : (f : ℕ → ℕ) (numbers : List ℕ) (most : ℕ) → length numbers ≡ most
+    → ((k : ℕ) → 0 < k → k ≤ most → told numbers k ≡ f k) → table f most ≡ numbers
 table_is f numbers most long tells =
     let all = length-table f most in
     ext_get_or 0 (table f most) numbers (all ∙ sym long) (λ i h. each i (omega (arith, all, h)))
@@ -36,23 +41,28 @@ table_is f numbers most long tells =
     each : (i : ℕ) → i < most → get_or (table f most) i 0 ≡ get_or numbers i 0
     each i h =
         let at : i + 1 - 1 ≡ i = omega arith in
-        let same : told (table f most) (i + 1) ≡ told numbers (i + 1) = told-table f most (i + 1) (omega arith) (omega arith) ∙ sym (tells (i + 1) (omega arith) (omega arith)) in
+        let same : told (table f most) (i + 1) ≡ told numbers (i + 1) = told-table f most (i + 1)
+        (omega arith) (omega arith) ∙ sym (tells (i + 1) (omega arith) (omega arith)) in
         rw at at same
 
 apart_less : (a b : ℕ) → 0 < a → 0 < b → eqb a b ≡ false → a - 1 ≢ b - 1
 apart_less a b x y h e = grind (arith, nat_tests)
 
 -- one number of a table is another
-pub told-set : (f : ℕ → ℕ) (numbers : List ℕ) (most k v : ℕ) → length numbers ≡ most → 0 < k → k ≤ most → v ≡ f k
+pub told-set : (f : ℕ → ℕ) (numbers : List ℕ) (most k v : ℕ) → length numbers ≡ most → 0 < k
+    → k ≤ most → v ≡ f k
     → (j : ℕ) → 0 < j → (j ≢ k → told numbers j ≡ f j) → told (set numbers (k - 1) v) j ≡ f j
 told-set f numbers most k v long low high here j low_j other = by (eqb j k) refl
   where
     by : (b : Bool) → eqb j k ≡ b → told (set numbers (k - 1) v) j ≡ f j
     by true t =
         let same : j ≡ k = equal j k t in
-        ap (λ i. told (set numbers (k - 1) v) i) same ∙ (get_or-set_same numbers (k - 1) v 0 (omega (arith, long, low, high)) ∙ (here ∙ ap f (sym same)))
+        ap (λ i. told (set numbers (k - 1) v) i) same
+        ∙ (get_or-set_same numbers (k - 1) v 0 (omega (arith, long, low, high))
+        ∙ (here ∙ ap f (sym same)))
     by false t =
-        get_or-set_other numbers (k - 1) (j - 1) v 0 (apart_less j k low_j low t) ∙ other (apart j k t)
+        get_or-set_other numbers (k - 1) (j - 1) v 0 (apart_less j k low_j low t)
+        ∙ other (apart j k t)
 
 -- ---- the halves along links
 
@@ -60,9 +70,11 @@ told-set f numbers most k v long low high here j low_j other = by (eqb j k) refl
 abbrev pub AreAlong : (ℕ → ℕ) → ℕ → List Half → Type 0
 AreAlong next number [] = number ≡ 0
 AreAlong next number (half ∷ halves) =
-    (half_number half ≡ number) × (((0 < object_of half) × (object_of half ≤ 100)) × AreAlong next (next number) halves)
+    (half_number half ≡ number)
+    × (((0 < object_of half) × (object_of half ≤ 100)) × AreAlong next (next number) halves)
 
-pub half_of_number : (half : Half) → 0 < object_of half → object_of half ≤ 100 → half_of (half_number half) ≡ half
+pub half_of_number : (half : Half) → 0 < object_of half → object_of half ≤ 100
+    → half_of (half_number half) ≡ half
 half_of_number (First x) low high =
     let first : nat_lt 100 x ≡ false = grind (arith, nat_tests) in rw first refl
 half_of_number (Second x) low high =
@@ -70,13 +82,15 @@ half_of_number (Second x) low high =
     let back : 100 + x - 100 ≡ x = omega arith in
     rw (second, back) refl
 
-some_number : (half : Half) (number : ℕ) → half_number half ≡ number → 0 < object_of half → eqb number 0 ≡ false
+some_number : (half : Half) (number : ℕ) → half_number half ≡ number → 0 < object_of half
+    → eqb number 0 ≡ false
 some_number half number same low = positive number (rw same at (low_number half low))
   where
     positive : (n : ℕ) → 0 < n → eqb n 0 ≡ false
     positive n h = grind (arith, nat_tests)
 
-pub halves_along_is : (next : ℕ → ℕ) (most number : ℕ) (halves : List Half) → AreAlong next number halves → length halves ≤ most → halves_along next most number ≡ halves
+pub halves_along_is : (next : ℕ → ℕ) (most number : ℕ) (halves : List Half)
+    → AreAlong next number halves → length halves ≤ most → halves_along next most number ≡ halves
 unfolding halves_along
 halves_along_is next zero number [] h l = refl
 halves_along_is next (suc most) number [] h l = rw h refl
@@ -92,21 +106,31 @@ abbrev pub AreLinkedBy : (ℕ → ℕ) → List Entry → Type 0
 AreLinkedBy next [] = Unit {0}
 AreLinkedBy next (e ∷ es) = (next (half_number e.half) ≡ first_of e.place es) × AreLinkedBy next es
 
-begun : (next : ℕ → ℕ) (p : ℕ) (e : Entry) (es : List Entry) (a : Bool) → eqb e.place p ≡ a → 0 < object_of e.half → object_of e.half ≤ 100 → next (half_number e.half) ≡ first_of e.place es
-    → AreAlong next (first_of p es) (halves_at p es) → AreAlong next (cond a (half_number e.half) (first_of p es)) (map (λ (x : Entry). x.half) (cond a (e ∷ filter (λ (x : Entry). eqb x.place p) es) (filter (λ (x : Entry). eqb x.place p) es)))
+begun : (next : ℕ → ℕ) (p : ℕ) (e : Entry) (es : List Entry) (a : Bool) → eqb e.place p ≡ a
+    → 0 < object_of e.half → object_of e.half ≤ 100
+    → next (half_number e.half) ≡ first_of e.place es
+    → AreAlong next (first_of p es) (halves_at p es)
+    → AreAlong next (cond a (half_number e.half) (first_of p es))
+    (map (λ (x : Entry). x.half)
+    (cond a (e ∷ filter (λ (x : Entry). eqb x.place p) es)
+    (filter (λ (x : Entry). eqb x.place p) es)))
 begun next p e es true t low high leads ih =
-    let there : next (half_number e.half) ≡ first_of p es = leads ∙ ap (λ q. first_of q es) (equal e.place p t) in
+    let there : next (half_number e.half) ≡ first_of p es = leads
+    ∙ ap (λ q. first_of q es) (equal e.place p t) in
     (refl, ((low, high), rw there ih))
 begun next p e es false t low high leads ih = ih
 
-pub AreAlong-first_of : (next : ℕ → ℕ) (p : ℕ) (es : List Entry) → AreLists es → AreWithin es → AreLinkedBy next es → AreAlong next (first_of p es) (halves_at p es)
+pub AreAlong-first_of : (next : ℕ → ℕ) (p : ℕ) (es : List Entry) → AreLists es → AreWithin es
+    → AreLinkedBy next es → AreAlong next (first_of p es) (halves_at p es)
 unfolding first_of
 AreAlong-first_of next p [] l w k = refl
 AreAlong-first_of next p (e ∷ es) l w k =
-    begun next p e es (eqb e.place p) refl l.0.0 w.0.1 k.0 (AreAlong-first_of next p es l.1.1.1.1 w.1 k.1)
+    begun next p e es (eqb e.place p) refl l.0.0 w.0.1 k.0
+    (AreAlong-first_of next p es l.1.1.1.1 w.1 k.1)
 
 -- what leads on alike from all other halves
-AreLinkedBy-like : (before after : ℕ → ℕ) (m : ℕ) (es : List Entry) → AreLists es → Lacks m es → ((n : ℕ) → 0 < n → n ≤ 200 → n ≢ m → after n ≡ before n)
+AreLinkedBy-like : (before after : ℕ → ℕ) (m : ℕ) (es : List Entry) → AreLists es → Lacks m es
+    → ((n : ℕ) → 0 < n → n ≤ 200 → n ≢ m → after n ≡ before n)
     → AreLinkedBy before es → AreLinkedBy after es
 AreLinkedBy-like before after m [] l lacks same k = tt
 AreLinkedBy-like before after m (e ∷ es) l lacks same k = (
@@ -114,32 +138,43 @@ AreLinkedBy-like before after m (e ∷ es) l lacks same k = (
   AreLinkedBy-like before after m es l.1.1.1.1 lacks.1 same k.1,
 )
 
-next_of-first : (e : Entry) (es : List Entry) → next_of (half_number e.half) (e ∷ es) ≡ first_of e.place es
+next_of-first : (e : Entry) (es : List Entry)
+    → next_of (half_number e.half) (e ∷ es) ≡ first_of e.place es
 unfolding next_of
 next_of-first e es = let here = itself (half_number e.half) in rw here refl
 
-next_of-later : (n : ℕ) (e : Entry) (es : List Entry) → n ≢ half_number e.half → next_of n (e ∷ es) ≡ next_of n es
+next_of-later : (n : ℕ) (e : Entry) (es : List Entry) → n ≢ half_number e.half
+    → next_of n (e ∷ es) ≡ next_of n es
 unfolding next_of
 next_of-later n e es other =
-    let far : eqb (half_number e.half) n ≡ false = unequal (half_number e.half) n (λ s. other (sym s)) in rw far refl
+    let far : eqb (half_number e.half) n ≡ false = unequal (half_number e.half) n
+    (λ s. other (sym s)) in rw far refl
 
 pub AreLinkedBy-next_of : (es : List Entry) → AreLists es → AreLinkedBy (λ n. next_of n es) es
 AreLinkedBy-next_of [] l = tt
 AreLinkedBy-next_of (e ∷ es) l = (
   next_of-first e es,
-  AreLinkedBy-like (λ n. next_of n es) (λ n. next_of n (e ∷ es)) (half_number e.half) es l.1.1.1.1 l.1.1.0 (λ n low high other. next_of-later n e es other) (AreLinkedBy-next_of es l.1.1.1.1),
+  AreLinkedBy-like (λ n. next_of n es) (λ n. next_of n (e ∷ es)) (half_number e.half) es l.1.1.1.1
+      l.1.1.0 (λ n low high other. next_of-later n e es other) (AreLinkedBy-next_of es l.1.1.1.1),
 )
 
-linked : (next : ℕ → ℕ) (all es : List Entry) → AreLists es → ((n : ℕ) → 0 < n → n ≤ 200 → next n ≡ next_of n all) → AreLinkedBy (λ n. next_of n all) es → AreLinkedBy next es
+linked : (next : ℕ → ℕ) (all es : List Entry) → AreLists es
+    → ((n : ℕ) → 0 < n → n ≤ 200 → next n ≡ next_of n all) → AreLinkedBy (λ n. next_of n all) es
+    → AreLinkedBy next es
 linked next all [] l tells k = tt
-linked next all (e ∷ es) l tells k =
-    (tells (half_number e.half) (low_number e.half l.0.0) l.1.0 ∙ k.0, linked next all es l.1.1.1.1 tells k.1)
+linked next all (e ∷ es) l tells k = (
+  tells (half_number e.half) (low_number e.half l.0.0) l.1.0
+      ∙ k.0,
+  linked next all es l.1.1.1.1 tells k.1,
+)
 
 -- what tells the links leads along the same halves
-pub AreLinkedBy-told : (next : ℕ → ℕ) (es : List Entry) → AreLists es → ((n : ℕ) → 0 < n → n ≤ 200 → next n ≡ next_of n es) → AreLinkedBy next es
+pub AreLinkedBy-told : (next : ℕ → ℕ) (es : List Entry) → AreLists es
+    → ((n : ℕ) → 0 < n → n ≤ 200 → next n ≡ next_of n es) → AreLinkedBy next es
 AreLinkedBy-told next es l tells = linked next es es l tells (AreLinkedBy-next_of es l)
 
-shorter : (b : Bool) (n : ℕ) (e : Entry) (es : List Entry) → length es ≤ n → length (cond b (e ∷ es) es) ≤ n + 1
+shorter : (b : Bool) (n : ℕ) (e : Entry) (es : List Entry) → length es ≤ n
+    → length (cond b (e ∷ es) es) ≤ n + 1
 shorter true n e es h = omega arith
 shorter false n e es h = omega arith
 
@@ -152,21 +187,29 @@ length-filter p (e ∷ es) =
 pub length-halves_at : (p : ℕ) (es : List Entry) → AreLists es → length (halves_at p es) ≤ 200
 length-halves_at p es l =
     let kept : List Entry = filter (λ (e : Entry). eqb e.place p) es in
-    omega (arith, length-map kept (λ (e : Entry). e.half), length-filter (λ (e : Entry). eqb e.place p) es, length-AreLists es l)
+    omega (
+      arith,
+      length-map kept (λ (e : Entry). e.half),
+      length-filter
+          (λ (e : Entry). eqb e.place p) es,
+      length-AreLists es l,
+    )
 
 -- ---- entries place by place
 
 abbrev standing : ℕ → List Half → List Entry
 standing place halves = map (λ half. record { place = place; half = half }) halves
 
-segment : (q p : ℕ) (halves : List Half) (es : List Entry) (b : Bool) → eqb p q ≡ b → halves_at q (standing p halves ++ es) ≡ cond b (halves ++ halves_at q es) (halves_at q es)
+segment : (q p : ℕ) (halves : List Half) (es : List Entry) (b : Bool) → eqb p q ≡ b
+    → halves_at q (standing p halves ++ es) ≡ cond b (halves ++ halves_at q es) (halves_at q es)
 segment q p [] es true t = refl
 segment q p [] es false t = refl
 segment q p (half ∷ halves) es true t =
     rw t (ap (λ (l : List Half). half ∷ l) (segment q p halves es true t))
 segment q p (half ∷ halves) es false t = rw t (segment q p halves es false t)
 
-outside : (lists : ℕ → List Half) (q p n : ℕ) → ((k : ℕ) → k < n → p + k ≢ q) → halves_at q (entries_from lists p n) ≡ []
+outside : (lists : ℕ → List Half) (q p n : ℕ) → ((k : ℕ) → k < n → p + k ≢ q)
+    → halves_at q (entries_from lists p n) ≡ []
 unfolding entries_from
 outside lists q p zero far = refl
 outside lists q p (suc n) far =
@@ -175,34 +218,42 @@ outside lists q p (suc n) far =
     ∙ outside lists q (p + 1) n (λ k h s. far (k + 1) (omega (arith, h)) (omega (arith, s)))
 
 from_place : (lists : ℕ → List Half) (q p n : ℕ) (b : Bool) → eqb p q ≡ b → p ≤ q → q < p + suc n
-    → (p + 1 ≤ q → halves_at q (entries_from lists (p + 1) n) ≡ lists q) → halves_at q (standing p (lists p) ++ entries_from lists (p + 1) n) ≡ lists q
+    → (p + 1 ≤ q → halves_at q (entries_from lists (p + 1) n) ≡ lists q)
+    → halves_at q (standing p (lists p) ++ entries_from lists (p + 1) n) ≡ lists q
 from_place lists q p n true t low high ih =
     let here : p ≡ q = equal p q t in
-    let none : halves_at q (entries_from lists (p + 1) n) ≡ [] = outside lists q (p + 1) n (λ k h s. absurd (omega (arith, here, s))) in
-    segment q p (lists p) (entries_from lists (p + 1) n) true t ∙ (ap (λ (l : List Half). lists p ++ l) none ∙ (append-nil (lists p) ∙ ap lists here))
+    let none : halves_at q (entries_from lists (p + 1) n) ≡ [] = outside lists q (p + 1) n
+    (λ k h s. absurd (omega (arith, here, s))) in
+    segment q p (lists p) (entries_from lists (p + 1) n) true t
+    ∙ (ap (λ (l : List Half). lists p ++ l) none ∙ (append-nil (lists p) ∙ ap lists here))
 from_place lists q p n false t low high ih =
     segment q p (lists p) (entries_from lists (p + 1) n) false t ∙ ih (above p q low t)
   where
     above : (a b : ℕ) → a ≤ b → eqb a b ≡ false → a + 1 ≤ b
     above a b h e = grind (arith, nat_tests)
 
-inside : (lists : ℕ → List Half) (q p n : ℕ) → p ≤ q → q < p + n → halves_at q (entries_from lists p n) ≡ lists q
+inside : (lists : ℕ → List Half) (q p n : ℕ) → p ≤ q → q < p + n
+    → halves_at q (entries_from lists p n) ≡ lists q
 unfolding entries_from
 inside lists q p zero low high = absurd (omega arith)
 inside lists q p (suc n) low high =
-    from_place lists q p n (eqb p q) refl low high (λ l. inside lists q (p + 1) n l (omega (arith, high)))
+    from_place lists q p n (eqb p q) refl low high
+    (λ l. inside lists q (p + 1) n l (omega (arith, high)))
 
-ascending : (p : ℕ) (halves : List Half) (es : List Entry) → StartsAt p es → Ascend es → StartsAt p (standing p halves ++ es) × Ascend (standing p halves ++ es)
+ascending : (p : ℕ) (halves : List Half) (es : List Entry) → StartsAt p es → Ascend es
+    → StartsAt p (standing p halves ++ es) × Ascend (standing p halves ++ es)
 ascending p [] es s a = (s, a)
 ascending p (half ∷ halves) es s a =
     let rest = ascending p halves es s a in ((omega arith, rest.0), (rest.0, rest.1))
 
-Ascend-entries_from : (lists : ℕ → List Half) (p n : ℕ) → StartsAt p (entries_from lists p n) × Ascend (entries_from lists p n)
+Ascend-entries_from : (lists : ℕ → List Half) (p n : ℕ) → StartsAt p (entries_from lists p n)
+    × Ascend (entries_from lists p n)
 unfolding entries_from
 Ascend-entries_from lists p zero = (tt, tt)
 Ascend-entries_from lists p (suc n) =
     let rest = Ascend-entries_from lists (p + 1) n in
-    ascending p (lists p) (entries_from lists (p + 1) n) (StartsAt-earlier p (p + 1) (entries_from lists (p + 1) n) (omega arith) rest.0) rest.1
+    ascending p (lists p) (entries_from lists (p + 1) n)
+    (StartsAt-earlier p (p + 1) (entries_from lists (p + 1) n) (omega arith) rest.0) rest.1
 
 none_past : (q : ℕ) (es : List Entry) → 300 < q → AreWithin es → halves_at q es ≡ []
 none_past q [] h w = refl
@@ -211,17 +262,22 @@ none_past q (e ∷ es) h w =
     rw far (none_past q es h w.1)
 
 -- lists of the right halves at all places are the lists
-same_from : (lists : ℕ → List Half) (es : List Entry) → AreLists es → AreWithin es → ((q : ℕ) → 0 < q → q ≤ 300 → lists q ≡ halves_at q es) → entries_from lists 1 300 ≡ es
+same_from : (lists : ℕ → List Half) (es : List Entry) → AreLists es → AreWithin es
+    → ((q : ℕ) → 0 < q → q ≤ 300 → lists q ≡ halves_at q es) → entries_from lists 1 300 ≡ es
 same_from lists es l w same =
-    same_lists (entries_from lists 1 300) es (Ascend-entries_from lists 1 300).1 (Ascend-AreLists es l) (λ q. at q (nat_lt 0 q) (nat_lt 300 q) refl refl)
+    same_lists (entries_from lists 1 300) es (Ascend-entries_from lists 1 300).1
+    (Ascend-AreLists es l) (λ q. at q (nat_lt 0 q) (nat_lt 300 q) refl refl)
   where
-    at : (q : ℕ) (a b : Bool) → nat_lt 0 q ≡ a → nat_lt 300 q ≡ b → halves_at q (entries_from lists 1 300) ≡ halves_at q es
+    at : (q : ℕ) (a b : Bool) → nat_lt 0 q ≡ a → nat_lt 300 q ≡ b
+        → halves_at q (entries_from lists 1 300) ≡ halves_at q es
     at q false b s t =
         let nowhere : q ≡ 0 = grind (arith, nat_tests) in
-        outside lists q 1 300 (λ k h e. absurd (omega (arith, nowhere, e))) ∙ (sym (none_nowhere es l) ∙ ap (λ p. halves_at p es) (sym nowhere))
+        outside lists q 1 300 (λ k h e. absurd (omega (arith, nowhere, e)))
+        ∙ (sym (none_nowhere es l) ∙ ap (λ p. halves_at p es) (sym nowhere))
     at q true true s t =
         let high : 300 < q = grind (arith, nat_tests) in
-        outside lists q 1 300 (λ k h e. absurd (omega (arith, high, h, e))) ∙ sym (none_past q es high w)
+        outside lists q 1 300 (λ k h e. absurd (omega (arith, high, h, e)))
+        ∙ sym (none_past q es high w)
     at q true false s t =
         let low : 0 < q = grind (arith, nat_tests) in
         let high : q ≤ 300 = grind (arith, nat_tests) in
@@ -229,22 +285,28 @@ same_from lists es l w same =
 
 -- ---- the lists that links make up
 
-pub entries_back : (l : Inside) (es : List Entry) → AreLists es → AreWithin es → ((p : ℕ) → 0 < p → p ≤ 300 → told l.first p ≡ first_of p es)
+pub entries_back : (l : Inside) (es : List Entry) → AreLists es → AreWithin es
+    → ((p : ℕ) → 0 < p → p ≤ 300 → told l.first p ≡ first_of p es)
     → ((n : ℕ) → 0 < n → n ≤ 200 → told l.next n ≡ next_of n es) → entries_of l ≡ es
 unfolding entries_of
 entries_back l es a w first next =
     same_from (λ p. halves_along (told l.next) 200 (told l.first p)) es a w (λ q low high.
     ap (λ n. halves_along (told l.next) 200 n) (first q low high)
-    ∙ halves_along_is (told l.next) 200 (first_of q es) (halves_at q es) (AreAlong-first_of (told l.next) q es a w (AreLinkedBy-told (told l.next) es a next)) (length-halves_at q es a))
+    ∙ halves_along_is (told l.next) 200 (first_of q es) (halves_at q es)
+    (AreAlong-first_of (told l.next) q es a w (AreLinkedBy-told (told l.next) es a next))
+    (length-halves_at q es a))
 
 -- links that tell of lists what their entries do make up those lists
-pub made : (l : Inside) (es : List Entry) → AreLists es → AreWithin es → length l.first ≡ 300 → length l.next ≡ 200 → ((p : ℕ) → 0 < p → p ≤ 300 → told l.first p ≡ first_of p es)
+pub made : (l : Inside) (es : List Entry) → AreLists es → AreWithin es → length l.first ≡ 300
+    → length l.next ≡ 200 → ((p : ℕ) → 0 < p → p ≤ 300 → told l.first p ≡ first_of p es)
     → ((n : ℕ) → 0 < n → n ≤ 200 → told l.next n ≡ next_of n es) → (entries_of l ≡ es) × AreLinks l
 unfolding links_of
 made l es a w places halves first next =
     let back : entries_of l ≡ es = entries_back l es a w first next in
-    let firsts : table (λ p. first_of p es) 300 ≡ l.first = table_is (λ p. first_of p es) l.first 300 places first in
-    let nexts : table (λ n. next_of n es) 200 ≡ l.next = table_is (λ n. next_of n es) l.next 200 halves next in
+    let firsts : table (λ p. first_of p es) 300 ≡ l.first = table_is (λ p. first_of p es) l.first
+    300 places first in
+    let nexts : table (λ n. next_of n es) 200 ≡ l.next = table_is (λ n. next_of n es) l.next 200
+    halves next in
     let same : links_of es ≡ l = λ i. record { first = firsts i; next = nexts i } in
     (back, record { lists = rw back a; within = rw back w; exact = ap links_of back ∙ same })
 
@@ -252,19 +314,25 @@ made l es a w places halves first next =
 pub length-first : (l : Inside) → AreLinks l → length l.first ≡ 300
 unfolding links_of
 length-first l k =
-    ap (λ (x : Inside). length x.first) (sym k.exact) ∙ length-table (λ p. first_of p (entries_of l)) 300
+    ap (λ (x : Inside). length x.first) (sym k.exact)
+    ∙ length-table (λ p. first_of p (entries_of l)) 300
 
 pub length-next : (l : Inside) → AreLinks l → length l.next ≡ 200
 unfolding links_of
 length-next l k =
-    ap (λ (x : Inside). length x.next) (sym k.exact) ∙ length-table (λ n. next_of n (entries_of l)) 200
+    ap (λ (x : Inside). length x.next) (sym k.exact)
+    ∙ length-table (λ n. next_of n (entries_of l)) 200
 
-pub told-first : (l : Inside) (p : ℕ) → AreLinks l → 0 < p → p ≤ 300 → told l.first p ≡ first_of p (entries_of l)
+pub told-first : (l : Inside) (p : ℕ) → AreLinks l → 0 < p → p ≤ 300
+    → told l.first p ≡ first_of p (entries_of l)
 unfolding links_of
 told-first l p k low high =
-    ap (λ (x : Inside). told x.first p) (sym k.exact) ∙ told-table (λ q. first_of q (entries_of l)) 300 p low high
+    ap (λ (x : Inside). told x.first p) (sym k.exact)
+    ∙ told-table (λ q. first_of q (entries_of l)) 300 p low high
 
-pub told-next : (l : Inside) (n : ℕ) → AreLinks l → 0 < n → n ≤ 200 → told l.next n ≡ next_of n (entries_of l)
+pub told-next : (l : Inside) (n : ℕ) → AreLinks l → 0 < n → n ≤ 200
+    → told l.next n ≡ next_of n (entries_of l)
 unfolding links_of
 told-next l n k low high =
-    ap (λ (x : Inside). told x.next n) (sym k.exact) ∙ told-table (λ m. next_of m (entries_of l)) 200 n low high
+    ap (λ (x : Inside). told x.next n) (sym k.exact)
+    ∙ told-table (λ m. next_of m (entries_of l)) 200 n low high

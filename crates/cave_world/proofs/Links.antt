@@ -1,5 +1,6 @@
 -- What the moves of halves make of the first half of each place, and of the half behind each half.
-use Rattle.std.proofs.Common.{◌≡◌, ℕ, ◌<◌, Bool, true, false, cond, not, List, [], ◌∷◌, nat_lt, eqb, refl, sym, ap, ◌∙◌, arith}
+use Rattle.std.proofs.Common.{◌≡◌, ℕ, ◌<◌, Bool, true, false, cond, not, List, [], ◌∷◌, nat_lt, eqb}
+use Rattle.std.proofs.Common.{refl, sym, ap, ◌∙◌, arith}
 use Rattle.std.proofs.lemmas.Bool.Decides.{nat_tests}
 use Rattle.cave_world.specs.declared.object.Half.{Half}
 use Rattle.cave_world.specs.declared.lists.Entry.{Entry}
@@ -31,13 +32,15 @@ pub first_absent : (m p : ℕ) (es : List Entry) → 0 < m → Lacks m es → fi
 unfolding first_of
 first_absent m p [] low l h = not_zero m low h
 first_absent m p (e ∷ es) low l h =
-    neither (eqb e.place p) (half_number e.half) (first_of p es) m l.0 (first_absent m p es low l.1) h
+    neither (eqb e.place p) (half_number e.half) (first_of p es) m l.0
+    (first_absent m p es low l.1) h
 
 pub next_absent : (m n : ℕ) (es : List Entry) → 0 < m → Lacks m es → next_of n es ≡ m → ⊥
 unfolding next_of
 next_absent m n [] low l h = not_zero m low h
 next_absent m n (e ∷ es) low l h =
-    neither (eqb (half_number e.half) n) (first_of e.place es) (next_of n es) m (first_absent m e.place es low l.1) (next_absent m n es low l.1) h
+    neither (eqb (half_number e.half) n) (first_of e.place es) (next_of n es) m
+    (first_absent m e.place es low l.1) (next_absent m n es low l.1) h
 
 -- and none leads on from it
 pub none_behind : (m : ℕ) (es : List Entry) → Lacks m es → next_of m es ≡ 0
@@ -50,59 +53,78 @@ none_behind m (e ∷ es) l =
 -- ---- one link at most leads to a half
 
 -- the links past an entry don't lead to its half
-first_past : (m p : ℕ) (e : Entry) (es : List Entry) → AreLists (e ∷ es) → half_number e.half ≡ m → first_of p es ≡ m → ⊥
+first_past : (m p : ℕ) (e : Entry) (es : List Entry) → AreLists (e ∷ es) → half_number e.half ≡ m
+    → first_of p es ≡ m → ⊥
 first_past m p e es l s h =
     first_absent (half_number e.half) p es (low_number e.half l.0.0) l.1.1.0 (h ∙ sym s)
 
-next_past : (m n : ℕ) (e : Entry) (es : List Entry) → AreLists (e ∷ es) → half_number e.half ≡ m → next_of n es ≡ m → ⊥
+next_past : (m n : ℕ) (e : Entry) (es : List Entry) → AreLists (e ∷ es) → half_number e.half ≡ m
+    → next_of n es ≡ m → ⊥
 next_past m n e es l s h =
     next_absent (half_number e.half) n es (low_number e.half l.0.0) l.1.1.0 (h ∙ sym s)
 
-one_place : (m p q : ℕ) (e : Entry) (es : List Entry) (a b : Bool) → AreLists (e ∷ es) → eqb e.place p ≡ a → eqb e.place q ≡ b
+one_place : (m p q : ℕ) (e : Entry) (es : List Entry) (a b : Bool) → AreLists (e ∷ es)
+    → eqb e.place p ≡ a → eqb e.place q ≡ b
     → (first_of p es ≡ m → first_of q es ≡ m → p ≡ q)
-    → cond a (half_number e.half) (first_of p es) ≡ m → cond b (half_number e.half) (first_of q es) ≡ m → p ≡ q
+    → cond a (half_number e.half) (first_of p es) ≡ m
+    → cond b (half_number e.half) (first_of q es) ≡ m → p ≡ q
 one_place m p q e es true true l s t ih u v = sym (equal e.place p s) ∙ equal e.place q t
 one_place m p q e es true false l s t ih u v = absurd (first_past m q e es l u v)
 one_place m p q e es false true l s t ih u v = absurd (first_past m p e es l v u)
 one_place m p q e es false false l s t ih u v = ih u v
 
-pub first_from_one : (m p q : ℕ) (es : List Entry) → 0 < m → AreLists es → first_of p es ≡ m → first_of q es ≡ m → p ≡ q
+pub first_from_one : (m p q : ℕ) (es : List Entry) → 0 < m → AreLists es → first_of p es ≡ m
+    → first_of q es ≡ m → p ≡ q
 unfolding first_of
 first_from_one m p q [] low l u v = absurd (not_zero m low u)
 first_from_one m p q (e ∷ es) low l u v =
-    one_place m p q e es (eqb e.place p) (eqb e.place q) l refl refl (first_from_one m p q es low l.1.1.1.1) u v
+    one_place m p q e es (eqb e.place p) (eqb e.place q) l refl refl
+    (first_from_one m p q es low l.1.1.1.1) u v
 
-first_or_next : (m p n : ℕ) (e : Entry) (es : List Entry) (a b : Bool) → 0 < m → AreLists (e ∷ es) → eqb e.place p ≡ a
+first_or_next : (m p n : ℕ) (e : Entry) (es : List Entry) (a b : Bool) → 0 < m → AreLists (e ∷ es)
+    → eqb e.place p ≡ a
     → (first_of p es ≡ m → next_of n es ≡ m → ⊥)
-    → cond a (half_number e.half) (first_of p es) ≡ m → cond b (first_of e.place es) (next_of n es) ≡ m → ⊥
+    → cond a (half_number e.half) (first_of p es) ≡ m
+    → cond b (first_of e.place es) (next_of n es) ≡ m → ⊥
 first_or_next m p n e es true true low l s ih u v = first_past m e.place e es l u v
 first_or_next m p n e es true false low l s ih u v = next_past m n e es l u v
-first_or_next m p n e es false true low l s ih u v = apart e.place p s (first_from_one m e.place p es low l.1.1.1.1 v u)
+first_or_next m p n e es false true low l s ih u v = apart e.place p s
+    (first_from_one m e.place p es low l.1.1.1.1 v u)
 first_or_next m p n e es false false low l s ih u v = ih u v
 
 -- the first half of a place is behind none
-pub first_behind_none : (m p n : ℕ) (es : List Entry) → 0 < m → AreLists es → first_of p es ≡ m → next_of n es ≡ m → ⊥
+pub first_behind_none : (m p n : ℕ) (es : List Entry) → 0 < m → AreLists es → first_of p es ≡ m
+    → next_of n es ≡ m → ⊥
 unfolding first_of next_of
 first_behind_none m p n [] low l u v = not_zero m low u
 first_behind_none m p n (e ∷ es) low l u v =
-    first_or_next m p n e es (eqb e.place p) (eqb (half_number e.half) n) low l refl (first_behind_none m p n es low l.1.1.1.1) u v
+    first_or_next m p n e es (eqb e.place p) (eqb (half_number e.half) n) low l refl
+    (first_behind_none m p n es low l.1.1.1.1) u v
 
-one_before : (m i j : ℕ) (e : Entry) (es : List Entry) (a b : Bool) → 0 < m → AreLists (e ∷ es) → eqb (half_number e.half) i ≡ a → eqb (half_number e.half) j ≡ b
+one_before : (m i j : ℕ) (e : Entry) (es : List Entry) (a b : Bool) → 0 < m → AreLists (e ∷ es)
+    → eqb (half_number e.half) i ≡ a → eqb (half_number e.half) j ≡ b
     → (next_of i es ≡ m → next_of j es ≡ m → i ≡ j)
-    → cond a (first_of e.place es) (next_of i es) ≡ m → cond b (first_of e.place es) (next_of j es) ≡ m → i ≡ j
-one_before m i j e es true true low l s t ih u v = sym (equal (half_number e.half) i s) ∙ equal (half_number e.half) j t
-one_before m i j e es true false low l s t ih u v = absurd (first_behind_none m e.place j es low l.1.1.1.1 u v)
-one_before m i j e es false true low l s t ih u v = absurd (first_behind_none m e.place i es low l.1.1.1.1 v u)
+    → cond a (first_of e.place es) (next_of i es) ≡ m
+    → cond b (first_of e.place es) (next_of j es) ≡ m → i ≡ j
+one_before m i j e es true true low l s t ih u v = sym (equal (half_number e.half) i s)
+    ∙ equal (half_number e.half) j t
+one_before m i j e es true false low l s t ih u v = absurd
+    (first_behind_none m e.place j es low l.1.1.1.1 u v)
+one_before m i j e es false true low l s t ih u v = absurd
+    (first_behind_none m e.place i es low l.1.1.1.1 v u)
 one_before m i j e es false false low l s t ih u v = ih u v
 
 -- a half is behind one at most
-pub next_from_one : (m i j : ℕ) (es : List Entry) → 0 < m → AreLists es → next_of i es ≡ m → next_of j es ≡ m → i ≡ j
+pub next_from_one : (m i j : ℕ) (es : List Entry) → 0 < m → AreLists es → next_of i es ≡ m
+    → next_of j es ≡ m → i ≡ j
 unfolding next_of
 next_from_one m i j [] low l u v = absurd (not_zero m low u)
 next_from_one m i j (e ∷ es) low l u v =
-    one_before m i j e es (eqb (half_number e.half) i) (eqb (half_number e.half) j) low l refl refl (next_from_one m i j es low l.1.1.1.1) u v
+    one_before m i j e es (eqb (half_number e.half) i) (eqb (half_number e.half) j) low l refl refl
+    (next_from_one m i j es low l.1.1.1.1) u v
 
-behind_other : (n : ℕ) (e : Entry) (es : List Entry) (b : Bool) → AreLists (e ∷ es) → eqb (half_number e.half) n ≡ b
+behind_other : (n : ℕ) (e : Entry) (es : List Entry) (b : Bool) → AreLists (e ∷ es)
+    → eqb (half_number e.half) n ≡ b
     → (next_of n es ≡ n → ⊥) → cond b (first_of e.place es) (next_of n es) ≡ n → ⊥
 behind_other n e es true l t ih h = first_past n e.place e es l (equal (half_number e.half) n t) h
 behind_other n e es false l t ih h = ih h
@@ -116,18 +138,25 @@ next_differs n (e ∷ es) low l h =
 
 -- ---- a half taken out: what led to it leads to the half behind it
 
-absent : (m : ℕ) (e : Entry) (es : List Entry) → AreLists (e ∷ es) → half_number e.half ≡ m → without m es ≡ es
+absent : (m : ℕ) (e : Entry) (es : List Entry) → AreLists (e ∷ es) → half_number e.half ≡ m
+    → without m es ≡ es
 absent m e es l s = rw (← s) (without_absent (half_number e.half) es l.1.1.0)
 
-first_left : (m p : ℕ) (e : Entry) (es kept : List Entry) (s a : Bool) → AreLists (e ∷ es) → (half_number e.half ≡ m → kept ≡ es) → eqb (half_number e.half) m ≡ s → eqb e.place p ≡ a
+first_left : (m p : ℕ) (e : Entry) (es kept : List Entry) (s a : Bool) → AreLists (e ∷ es)
+    → (half_number e.half ≡ m → kept ≡ es) → eqb (half_number e.half) m ≡ s → eqb e.place p ≡ a
     → first_of p kept ≡ cond (eqb (first_of p es) m) (next_of m es) (first_of p es)
-    → first_of p (cond (not s) (e ∷ kept) kept) ≡ cond (eqb (cond a (half_number e.half) (first_of p es)) m) (cond s (first_of e.place es) (next_of m es)) (cond a (half_number e.half) (first_of p es))
+    → first_of p (cond (not s) (e ∷ kept) kept) ≡ cond
+    (eqb (cond a (half_number e.half) (first_of p es)) m)
+    (cond s (first_of e.place es) (next_of m es))
+    (cond a (half_number e.half) (first_of p es))
 unfolding first_of
 first_left m p e es kept true true l same t u ih =
-    rw t (ap (λ (x : List Entry). first_of p x) (same (equal (half_number e.half) m t)) ∙ ap (λ q. first_of q es) (sym (equal e.place p u)))
+    rw t (ap (λ (x : List Entry). first_of p x) (same (equal (half_number e.half) m t))
+    ∙ ap (λ q. first_of q es) (sym (equal e.place p u)))
 first_left m p e es kept true false l same t u ih =
     let here : half_number e.half ≡ m = equal (half_number e.half) m t in
-    let far : eqb (first_of p es) m ≡ false = unequal (first_of p es) m (first_past m p e es l here) in
+    let far : eqb (first_of p es) m ≡ false = unequal (first_of p es) m
+    (first_past m p e es l here) in
     rw far (ap (λ (x : List Entry). first_of p x) (same here))
 first_left m p e es kept false true l same t u ih = rw (t, u) refl
 first_left m p e es kept false false l same t u ih = rw u ih
@@ -136,21 +165,30 @@ unled : (a : Bool) → ◌≡◌ {A = ℕ} 0 (cond a 0 0)
 unled true = refl
 unled false = refl
 
-pub first_of-without : (m p : ℕ) (es : List Entry) → AreLists es → first_of p (without m es) ≡ cond (eqb (first_of p es) m) (next_of m es) (first_of p es)
+pub first_of-without : (m p : ℕ) (es : List Entry) → AreLists es
+    → first_of p (without m es) ≡ cond (eqb (first_of p es) m) (next_of m es) (first_of p es)
 unfolding first_of next_of without
 first_of-without m p [] l = unled (eqb 0 m)
 first_of-without m p (e ∷ es) l =
-    first_left m p e es (without m es) (eqb (half_number e.half) m) (eqb e.place p) l (absent m e es l) refl refl (first_of-without m p es l.1.1.1.1)
+    first_left m p e es (without m es) (eqb (half_number e.half) m) (eqb e.place p) l
+    (absent m e es l) refl refl (first_of-without m p es l.1.1.1.1)
 
-next_left : (m n : ℕ) (e : Entry) (es kept : List Entry) (s t c : Bool) → AreLists (e ∷ es) → (half_number e.half ≡ m → kept ≡ es)
+next_left : (m n : ℕ) (e : Entry) (es kept : List Entry) (s t c : Bool) → AreLists (e ∷ es)
+    → (half_number e.half ≡ m → kept ≡ es)
     → eqb (half_number e.half) m ≡ s → eqb (half_number e.half) n ≡ t → eqb n m ≡ c
-    → first_of e.place kept ≡ cond (eqb (first_of e.place es) m) (next_of m es) (first_of e.place es)
+    → first_of e.place kept ≡ cond (eqb (first_of e.place es) m) (next_of m es)
+    (first_of e.place es)
     → next_of n kept ≡ cond c 0 (cond (eqb (next_of n es) m) (next_of m es) (next_of n es))
-    → next_of n (cond (not s) (e ∷ kept) kept) ≡ cond c 0 (cond (eqb (cond t (first_of e.place es) (next_of n es)) m) (cond s (first_of e.place es) (next_of m es)) (cond t (first_of e.place es) (next_of n es)))
+    → next_of n (cond (not s) (e ∷ kept) kept) ≡ cond c 0
+    (cond (eqb (cond t (first_of e.place es) (next_of n es)) m)
+    (cond s (first_of e.place es) (next_of m es))
+    (cond t (first_of e.place es) (next_of n es)))
 unfolding next_of
 next_left m n e es kept true t true l same u v w ahead ih =
     let here : half_number e.half ≡ m = equal (half_number e.half) m u in
-    ap (λ (x : List Entry). next_of n x) (same here) ∙ (ap (λ k. next_of k es) (equal n m w ∙ sym here) ∙ none_behind (half_number e.half) es l.1.1.0)
+    ap (λ (x : List Entry). next_of n x) (same here)
+    ∙ (ap (λ k. next_of k es) (equal n m w ∙ sym here)
+    ∙ none_behind (half_number e.half) es l.1.1.0)
 next_left m n e es kept true true false l same u v w ahead ih =
     absurd (apart n m w (sym (equal (half_number e.half) n v) ∙ equal (half_number e.half) m u))
 next_left m n e es kept true false false l same u v w ahead ih =
@@ -162,48 +200,67 @@ next_left m n e es kept false true true l same u v w ahead ih =
 next_left m n e es kept false true false l same u v w ahead ih = rw v ahead
 next_left m n e es kept false false c l same u v w ahead ih = rw v ih
 
-pub next_of-without : (m n : ℕ) (es : List Entry) → AreLists es → next_of n (without m es) ≡ cond (eqb n m) 0 (cond (eqb (next_of n es) m) (next_of m es) (next_of n es))
+pub next_of-without : (m n : ℕ) (es : List Entry) → AreLists es
+    → next_of n (without m es) ≡ cond (eqb n m) 0
+    (cond (eqb (next_of n es) m) (next_of m es) (next_of n es))
 unfolding next_of without
 next_of-without m n [] l = unled (eqb n m) ∙ ap (λ x. cond (eqb n m) 0 x) (unled (eqb 0 m))
 next_of-without m n (e ∷ es) l =
-    next_left m n e es (without m es) (eqb (half_number e.half) m) (eqb (half_number e.half) n) (eqb n m) l (absent m e es l) refl refl refl
+    next_left m n e es (without m es) (eqb (half_number e.half) m) (eqb (half_number e.half) n)
+    (eqb n m) l (absent m e es l) refl refl refl
     (first_of-without m e.place es l.1.1.1.1) (next_of-without m n es l.1.1.1.1)
 
 -- ---- a half put at the front of the list of a place
 
-first_right : (p : ℕ) (first e : Entry) (es put : List Entry) (b a : Bool) → nat_lt e.place first.place ≡ b → eqb e.place p ≡ a
+first_right : (p : ℕ) (first e : Entry) (es put : List Entry) (b a : Bool)
+    → nat_lt e.place first.place ≡ b → eqb e.place p ≡ a
     → first_of p put ≡ cond (eqb first.place p) (half_number first.half) (first_of p es)
-    → first_of p (cond b (e ∷ put) (first ∷ e ∷ es)) ≡ cond (eqb first.place p) (half_number first.half) (cond a (half_number e.half) (first_of p es))
+    → first_of p (cond b (e ∷ put) (first ∷ e ∷ es)) ≡ cond (eqb first.place p)
+    (half_number first.half) (cond a (half_number e.half) (first_of p es))
 unfolding first_of
 first_right p first e es put true true h u ih =
     let far : eqb first.place p ≡ false = elsewhere e.place p first.place h u in rw (u, far) refl
 first_right p first e es put true false h u ih = rw u ih
 first_right p first e es put false a h u ih = rw u refl
 
-pub first_of-put_first : (p : ℕ) (first : Entry) (es : List Entry) → first_of p (put_first first es) ≡ cond (eqb first.place p) (half_number first.half) (first_of p es)
+pub first_of-put_first : (p : ℕ) (first : Entry) (es : List Entry)
+    → first_of p (put_first first es) ≡ cond (eqb first.place p) (half_number first.half)
+    (first_of p es)
 unfolding first_of put_first
 first_of-put_first p first [] = refl
 first_of-put_first p first (e ∷ es) =
-    first_right p first e es (put_first first es) (nat_lt e.place first.place) (eqb e.place p) refl refl (first_of-put_first p first es)
+    first_right p first e es (put_first first es) (nat_lt e.place first.place) (eqb e.place p) refl
+    refl (first_of-put_first p first es)
 
 earlier : (p q : ℕ) → nat_lt p q ≡ true → eqb p q ≡ false
 earlier p q h = grind (arith, nat_tests)
 
-next_right : (n : ℕ) (first e : Entry) (es put : List Entry) (b t : Bool) → nat_lt e.place first.place ≡ b → eqb (half_number e.half) n ≡ t → (half_number e.half ≡ half_number first.half → ⊥)
-    → first_of e.place put ≡ cond (eqb first.place e.place) (half_number first.half) (first_of e.place es)
+next_right : (n : ℕ) (first e : Entry) (es put : List Entry) (b t : Bool)
+    → nat_lt e.place first.place ≡ b → eqb (half_number e.half) n ≡ t
+    → (half_number e.half ≡ half_number first.half → ⊥)
+    → first_of e.place put ≡ cond (eqb first.place e.place) (half_number first.half)
+    (first_of e.place es)
     → next_of n put ≡ cond (eqb (half_number first.half) n) (first_of first.place es) (next_of n es)
-    → next_of n (cond b (e ∷ put) (first ∷ e ∷ es)) ≡ cond (eqb (half_number first.half) n) (first_of first.place (e ∷ es)) (cond t (first_of e.place es) (next_of n es))
+    → next_of n (cond b (e ∷ put) (first ∷ e ∷ es)) ≡ cond (eqb (half_number first.half) n)
+    (first_of first.place (e ∷ es)) (cond t (first_of e.place es) (next_of n es))
 unfolding first_of next_of
 next_right n first e es put true true h v new ahead ih =
-    let other : eqb (half_number first.half) n ≡ false = unequal (half_number first.half) n (λ s. new (equal (half_number e.half) n v ∙ sym s)) in
-    let far : eqb first.place e.place ≡ false = elsewhere e.place e.place first.place h (itself e.place) in
+    let other : eqb (half_number first.half) n ≡ false = unequal (half_number first.half) n
+    (λ s. new (equal (half_number e.half) n v ∙ sym s)) in
+    let far : eqb first.place e.place ≡ false = elsewhere e.place e.place first.place h
+    (itself e.place) in
     rw (v, other) (rw far at ahead)
 next_right n first e es put true false h v new ahead ih =
     let back : eqb e.place first.place ≡ false = earlier e.place first.place h in rw (v, back) ih
 next_right n first e es put false t h v new ahead ih = rw v refl
 
-pub next_of-put_first : (n : ℕ) (first : Entry) (es : List Entry) → Lacks (half_number first.half) es → next_of n (put_first first es) ≡ cond (eqb (half_number first.half) n) (first_of first.place es) (next_of n es)
+pub next_of-put_first : (n : ℕ) (first : Entry) (es : List Entry)
+    → Lacks (half_number first.half) es
+    → next_of n (put_first first es) ≡ cond (eqb (half_number first.half) n)
+    (first_of first.place es) (next_of n es)
 unfolding next_of put_first
 next_of-put_first n first [] l = refl
 next_of-put_first n first (e ∷ es) l =
-    next_right n first e es (put_first first es) (nat_lt e.place first.place) (eqb (half_number e.half) n) refl refl l.0 (first_of-put_first e.place first es) (next_of-put_first n first es l.1)
+    next_right n first e es (put_first first es) (nat_lt e.place first.place)
+    (eqb (half_number e.half) n) refl refl l.0 (first_of-put_first e.place first es)
+    (next_of-put_first n first es l.1)

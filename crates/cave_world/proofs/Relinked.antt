@@ -1,5 +1,7 @@
 -- The links once a half was taken out of its list or put into one.
-use Rattle.std.proofs.Common.{◌≡◌, ◌≢◌, ℕ, ◌-◌, ◌<◌, ◌≤◌, ◌&&◌, Bool, true, false, cond, not, List, [], ◌∷◌, length, set, nat_lt, eqb, refl, sym, ap, ◌∙◌, length-set, replicate, arith}
+use Rattle.std.proofs.Common.{◌≡◌, ◌≢◌, ℕ, ◌-◌, ◌<◌, ◌≤◌, ◌&&◌, Bool, true, false, cond, not, List}
+use Rattle.std.proofs.Common.{[], ◌∷◌, length, set, nat_lt, eqb, refl, sym, ap, ◌∙◌, length-set}
+use Rattle.std.proofs.Common.{replicate, arith}
 use Rattle.std.specs.Bool.{Decides}
 use Rattle.std.specs.Cmp.Lexicographic.{pointwise, bytes_decides}
 use Rattle.std.proofs.lemmas.List.{length-replicate, get_or-replicate}
@@ -9,12 +11,16 @@ use Rattle.cave_world.specs.declared.lists.Entry.{Entry}
 use Rattle.cave_world.specs.declared.lists.ObjectLists.TheInside.{Inside}
 use Rattle.cave_world.specs.Halves.{object_of, half_number}
 use Rattle.cave_world.specs.Lists.{halves_at, without, put_first, AreLists, IsNew}
-use Rattle.cave_world.specs.Links.{first_of, next_of, told, links_of, entries_of, AreWithin, AreLinks}
+use Rattle.cave_world.specs.Links.{first_of, next_of, told, links_of, entries_of, AreWithin}
+use Rattle.cave_world.specs.Links.{AreLinks}
 use Rattle.cave_world.proofs.Tests.{equal, unequal, itself}
 use Rattle.cave_world.proofs.Moves.{either, AreLists-without, AreLists-put_first}
-use Rattle.cave_world.proofs.Links.{first_of-without, next_of-without, first_of-put_first, next_of-put_first, first_from_one, first_behind_none, next_from_one, next_differs, low_number}
+use Rattle.cave_world.proofs.Links.{first_of-without, next_of-without, first_of-put_first}
+use Rattle.cave_world.proofs.Links.{next_of-put_first, first_from_one, first_behind_none}
+use Rattle.cave_world.proofs.Links.{next_from_one, next_differs, low_number}
 use Rattle.cave_world.proofs.Places.{Ascend-AreLists, same_lists}
-use Rattle.cave_world.proofs.Chains.{told-set, made, length-first, length-next, told-first, told-next}
+use Rattle.cave_world.proofs.Chains.{told-set, made, length-first, length-next, told-first}
+use Rattle.cave_world.proofs.Chains.{told-next}
 
 -- ---- where entries have places and halves that there are, links lead to numbers that there are
 
@@ -23,29 +29,35 @@ unfolding without
 AreWithin-without n [] w = tt
 AreWithin-without n (e ∷ es) w =
     let rest = AreWithin-without n es w.1 in
-    either AreWithin (not (eqb (half_number e.half) n)) (e ∷ without n es) (without n es) (λ _. (w.0, rest)) (λ _. rest)
+    either AreWithin (not (eqb (half_number e.half) n)) (e ∷ without n es) (without n es)
+    (λ _. (w.0, rest)) (λ _. rest)
 
-AreWithin-put_first : (first : Entry) (es : List Entry) → first.place ≤ 300 → object_of first.half ≤ 100 → AreWithin es → AreWithin (put_first first es)
+AreWithin-put_first : (first : Entry) (es : List Entry) → first.place ≤ 300
+    → object_of first.half ≤ 100 → AreWithin es → AreWithin (put_first first es)
 unfolding put_first
 AreWithin-put_first first [] p o w = ((p, o), tt)
 AreWithin-put_first first (e ∷ es) p o w =
-    either AreWithin (nat_lt e.place first.place) (e ∷ put_first first es) (first ∷ e ∷ es) (λ _. (w.0, AreWithin-put_first first es p o w.1)) (λ _. ((p, o), w))
+    either AreWithin (nat_lt e.place first.place) (e ∷ put_first first es) (first ∷ e ∷ es)
+    (λ _. (w.0, AreWithin-put_first first es p o w.1)) (λ _. ((p, o), w))
 
 pub record IsPlace (p : ℕ) : Type 0 where
   pub low : 0 < p
   pub high : p ≤ 300
 
-place_in : (p m : ℕ) (e : Entry) (fp : ℕ) (b : Bool) → eqb e.place p ≡ b → 0 < e.place → e.place ≤ 300 → (fp ≡ m → IsPlace p) → cond b (half_number e.half) fp ≡ m → IsPlace p
+place_in : (p m : ℕ) (e : Entry) (fp : ℕ) (b : Bool) → eqb e.place p ≡ b → 0 < e.place
+    → e.place ≤ 300 → (fp ≡ m → IsPlace p) → cond b (half_number e.half) fp ≡ m → IsPlace p
 place_in p m e fp true t low high ih h =
     let same : e.place ≡ p = equal e.place p t in record { low = omega arith; high = omega arith }
 place_in p m e fp false t low high ih h = ih h
 
 -- a half stands first at a place
-pub is_place : (p m : ℕ) (es : List Entry) → 0 < m → AreLists es → AreWithin es → first_of p es ≡ m → IsPlace p
+pub is_place : (p m : ℕ) (es : List Entry) → 0 < m → AreLists es → AreWithin es → first_of p es ≡ m
+    → IsPlace p
 unfolding first_of
 is_place p m [] low l w h = absurd (omega arith)
 is_place p m (e ∷ es) low l w h =
-    place_in p m e (first_of p es) (eqb e.place p) refl l.0.1 w.0.0 (is_place p m es low l.1.1.1.1 w.1) h
+    place_in p m e (first_of p es) (eqb e.place p) refl l.0.1 w.0.0
+    (is_place p m es low l.1.1.1.1 w.1) h
 
 -- no half stands at place 0
 pub first_nowhere : (es : List Entry) → AreLists es → first_of 0 es ≡ 0
@@ -59,9 +71,12 @@ pub record IsNumber (n : ℕ) : Type 0 where
   pub low : 0 < n
   pub high : n ≤ 200
 
-number_in : (n m : ℕ) (e : Entry) (x y : ℕ) (b : Bool) → eqb (half_number e.half) n ≡ b → 0 < half_number e.half → half_number e.half ≤ 200 → (y ≡ m → IsNumber n) → cond b x y ≡ m → IsNumber n
+number_in : (n m : ℕ) (e : Entry) (x y : ℕ) (b : Bool) → eqb (half_number e.half) n ≡ b
+    → 0 < half_number e.half → half_number e.half ≤ 200 → (y ≡ m → IsNumber n) → cond b x y ≡ m
+    → IsNumber n
 number_in n m e x y true t low high ih h =
-    let same : half_number e.half ≡ n = equal (half_number e.half) n t in record { low = omega arith; high = omega arith }
+    let same : half_number e.half ≡ n = equal (half_number e.half) n t in record
+    { low = omega arith; high = omega arith }
 number_in n m e x y false t low high ih h = ih h
 
 -- a half with another behind it has a number
@@ -69,33 +84,41 @@ pub is_number : (n m : ℕ) (es : List Entry) → 0 < m → AreLists es → next
 unfolding next_of
 is_number n m [] low l h = absurd (omega arith)
 is_number n m (e ∷ es) low l h =
-    number_in n m e (first_of e.place es) (next_of n es) (eqb (half_number e.half) n) refl (low_number e.half l.0.0) l.1.0 (is_number n m es low l.1.1.1.1) h
+    number_in n m e (first_of e.place es) (next_of n es) (eqb (half_number e.half) n) refl
+    (low_number e.half l.0.0) l.1.0 (is_number n m es low l.1.1.1.1) h
 
-led_in : (m : ℕ) (e : Entry) (y : ℕ) (b : Bool) → 0 < half_number e.half → half_number e.half ≤ 200 → (y ≡ m → IsNumber m) → cond b (half_number e.half) y ≡ m → IsNumber m
+led_in : (m : ℕ) (e : Entry) (y : ℕ) (b : Bool) → 0 < half_number e.half → half_number e.half ≤ 200
+    → (y ≡ m → IsNumber m) → cond b (half_number e.half) y ≡ m → IsNumber m
 led_in m e y true low high ih h = record { low = omega arith; high = omega arith }
 led_in m e y false low high ih h = ih h
 
 -- what stands first has a number
-pub first_is_number : (p m : ℕ) (es : List Entry) → 0 < m → AreLists es → first_of p es ≡ m → IsNumber m
+pub first_is_number : (p m : ℕ) (es : List Entry) → 0 < m → AreLists es → first_of p es ≡ m
+    → IsNumber m
 unfolding first_of
 first_is_number p m [] low l h = absurd (omega arith)
 first_is_number p m (e ∷ es) low l h =
-    led_in m e (first_of p es) (eqb e.place p) (low_number e.half l.0.0) l.1.0 (first_is_number p m es low l.1.1.1.1) h
+    led_in m e (first_of p es) (eqb e.place p) (low_number e.half l.0.0) l.1.0
+    (first_is_number p m es low l.1.1.1.1) h
 
-behind_in : (m : ℕ) (x y : ℕ) (b : Bool) → (x ≡ m → IsNumber m) → (y ≡ m → IsNumber m) → cond b x y ≡ m → IsNumber m
+behind_in : (m : ℕ) (x y : ℕ) (b : Bool) → (x ≡ m → IsNumber m) → (y ≡ m → IsNumber m)
+    → cond b x y ≡ m → IsNumber m
 behind_in m x y true f g h = f h
 behind_in m x y false f g h = g h
 
 -- and what stands behind another
-pub next_is_number : (n m : ℕ) (es : List Entry) → 0 < m → AreLists es → next_of n es ≡ m → IsNumber m
+pub next_is_number : (n m : ℕ) (es : List Entry) → 0 < m → AreLists es → next_of n es ≡ m
+    → IsNumber m
 unfolding next_of
 next_is_number n m [] low l h = absurd (omega arith)
 next_is_number n m (e ∷ es) low l h =
-    behind_in m (first_of e.place es) (next_of n es) (eqb (half_number e.half) n) (first_is_number e.place m es low l.1.1.1.1) (next_is_number n m es low l.1.1.1.1) h
+    behind_in m (first_of e.place es) (next_of n es) (eqb (half_number e.half) n)
+    (first_is_number e.place m es low l.1.1.1.1) (next_is_number n m es low l.1.1.1.1) h
 
 -- ---- nothing stands anywhere
 
-blank : (numbers : List ℕ) (most : ℕ) → numbers ≡ replicate most 0 → (length numbers ≡ most) × ((k : ℕ) → 0 < k → k ≤ most → told numbers k ≡ 0)
+blank : (numbers : List ℕ) (most : ℕ) → numbers ≡ replicate most 0 → (length numbers ≡ most)
+    × ((k : ℕ) → 0 < k → k ≤ most → told numbers k ≡ 0)
 blank numbers most is = (
   ap (λ (l : List ℕ). length l) is ∙ length-replicate most 0,
   λ k low high. ap (λ (l : List ℕ). told l k) is ∙ get_or-replicate most (k - 1) 0 0 (omega arith),
@@ -109,109 +132,157 @@ nothing_next : (n : ℕ) → 0 ≡ next_of n []
 unfolding next_of
 nothing_next n = refl
 
-pub emptied : (l : Inside) → l.first ≡ replicate 300 0 → l.next ≡ replicate 200 0 → (entries_of l ≡ []) × AreLinks l
+pub emptied : (l : Inside) → l.first ≡ replicate 300 0 → l.next ≡ replicate 200 0
+    → (entries_of l ≡ []) × AreLinks l
 emptied l first next =
     let places = blank l.first 300 first in
     let halves = blank l.next 200 next in
-    made l [] tt tt places.0 halves.0 (λ p low high. places.1 p low high ∙ nothing_first p) (λ n low high. halves.1 n low high ∙ nothing_next n)
+    made l [] tt tt places.0 halves.0 (λ p low high. places.1 p low high ∙ nothing_first p)
+    (λ n low high. halves.1 n low high ∙ nothing_next n)
 
 -- ---- a half taken out
 
-first_same : (m p : ℕ) (es : List Entry) → AreLists es → first_of p es ≢ m → first_of p es ≡ first_of p (without m es)
+first_same : (m p : ℕ) (es : List Entry) → AreLists es → first_of p es ≢ m
+    → first_of p es ≡ first_of p (without m es)
 first_same m p es l other =
     let far : eqb (first_of p es) m ≡ false = unequal (first_of p es) m other in
     sym (first_of-without m p es l ∙ ap (λ b. cond b (next_of m es) (first_of p es)) far)
 
-first_led : (m p : ℕ) (es : List Entry) → AreLists es → first_of p es ≡ m → next_of m es ≡ first_of p (without m es)
+first_led : (m p : ℕ) (es : List Entry) → AreLists es → first_of p es ≡ m
+    → next_of m es ≡ first_of p (without m es)
 first_led m p es l here =
     let near : eqb (first_of p es) m ≡ true = ap (λ n. eqb n m) here ∙ itself m in
     sym (first_of-without m p es l ∙ ap (λ b. cond b (next_of m es) (first_of p es)) near)
 
 next_none : (m : ℕ) (es : List Entry) → AreLists es → 0 ≡ next_of m (without m es)
 next_none m es l =
-    sym (next_of-without m m es l ∙ ap (λ b. cond b 0 (cond (eqb (next_of m es) m) (next_of m es) (next_of m es))) (itself m))
+    sym (next_of-without m m es l
+    ∙ ap (λ b. cond b 0 (cond (eqb (next_of m es) m) (next_of m es) (next_of m es))) (itself m))
 
-next_same : (m n : ℕ) (es : List Entry) → AreLists es → n ≢ m → next_of n es ≢ m → next_of n es ≡ next_of n (without m es)
+next_same : (m n : ℕ) (es : List Entry) → AreLists es → n ≢ m → next_of n es ≢ m
+    → next_of n es ≡ next_of n (without m es)
 next_same m n es l far other =
     let apart : eqb n m ≡ false = unequal n m far in
     let unled : eqb (next_of n es) m ≡ false = unequal (next_of n es) m other in
-    sym (next_of-without m n es l ∙ (λ i. cond (apart i) 0 (cond (unled i) (next_of m es) (next_of n es))))
+    sym (next_of-without m n es l
+    ∙ (λ i. cond (apart i) 0 (cond (unled i) (next_of m es) (next_of n es))))
 
-next_led : (m n : ℕ) (es : List Entry) → AreLists es → n ≢ m → next_of n es ≡ m → next_of m es ≡ next_of n (without m es)
+next_led : (m n : ℕ) (es : List Entry) → AreLists es → n ≢ m → next_of n es ≡ m
+    → next_of m es ≡ next_of n (without m es)
 next_led m n es l far here =
     let apart : eqb n m ≡ false = unequal n m far in
     let led : eqb (next_of n es) m ≡ true = ap (λ k. eqb k m) here ∙ itself m in
-    sym (next_of-without m n es l ∙ (λ i. cond (apart i) 0 (cond (led i) (next_of m es) (next_of n es))))
+    sym (next_of-without m n es l
+    ∙ (λ i. cond (apart i) 0 (cond (led i) (next_of m es) (next_of n es))))
 
 -- it was the first one of a place
 pub removed_first : (l : Inside) (m p : ℕ) → AreLinks l → 0 < m → first_of p (entries_of l) ≡ m
-    → (let n : Inside = record { first = set l.first (p - 1) (told l.next m); next = set l.next (m - 1) 0 } in (entries_of n ≡ without m (entries_of l)) × AreLinks n)
+    → (let n : Inside = record
+    { first = set l.first (p - 1) (told l.next m); next = set l.next (m - 1) 0 } in
+    (entries_of n ≡ without m (entries_of l)) × AreLinks n)
 removed_first l m p k low here =
     let es = entries_of l in
     let place = is_place p m es low k.lists k.within here in
     let number = first_is_number p m es low k.lists here in
     let firsts = length-first l k in
     let nexts = length-next l k in
-    made (record { first = set l.first (p - 1) (told l.next m); next = set l.next (m - 1) 0 }) (without m es) (AreLists-without m es k.lists) (AreWithin-without m es k.within)
+    made (record { first = set l.first (p - 1) (told l.next m); next = set l.next (m - 1) 0 })
+    (without m es) (AreLists-without m es k.lists) (AreWithin-without m es k.within)
     (length-set l.first (p - 1) (told l.next m) ∙ firsts) (length-set l.next (m - 1) 0 ∙ nexts)
-    (λ q low_q high_q. told-set (λ q. first_of q (without m es)) l.first 300 p (told l.next m) firsts place.low place.high
+    (λ q low_q high_q. told-set (λ q. first_of q (without m es)) l.first 300 p (told l.next m)
+    firsts place.low place.high
     (told-next l m k low number.high ∙ first_led m p es k.lists here) q low_q
-    (λ other. told-first l q k low_q high_q ∙ first_same m q es k.lists (λ s. other (first_from_one m q p es low k.lists s here))))
-    (λ n low_n high_n. told-set (λ n. next_of n (without m es)) l.next 200 m 0 nexts low number.high (next_none m es k.lists) n low_n
-    (λ other. told-next l n k low_n high_n ∙ next_same m n es k.lists other (λ s. first_behind_none m p n es low k.lists here s)))
+    (λ other. told-first l q k low_q high_q
+    ∙ first_same m q es k.lists (λ s. other (first_from_one m q p es low k.lists s here))))
+    (λ n low_n high_n. told-set (λ n. next_of n (without m es)) l.next 200 m 0 nexts low
+    number.high (next_none m es k.lists) n low_n
+    (λ other. told-next l n k low_n high_n
+    ∙ next_same m n es k.lists other (λ s. first_behind_none m p n es low k.lists here s)))
 
 -- it was behind another
 pub removed_behind : (l : Inside) (m b : ℕ) → AreLinks l → 0 < m → next_of b (entries_of l) ≡ m
-    → (let n : Inside = record { first = l.first; next = set (set l.next (m - 1) 0) (b - 1) (told l.next m) } in (entries_of n ≡ without m (entries_of l)) × AreLinks n)
+    → (let n : Inside = record
+    { first = l.first; next = set (set l.next (m - 1) 0) (b - 1) (told l.next m) } in
+    (entries_of n ≡ without m (entries_of l)) × AreLinks n)
 removed_behind l m b k low here =
     let es = entries_of l in
     let before = is_number b m es low k.lists here in
     let number = next_is_number b m es low k.lists here in
     let firsts = length-first l k in
     let nexts = length-next l k in
-    let differ : b ≢ m = λ s. next_differs m es low k.lists (ap (λ x. next_of x es) (sym s) ∙ here) in
-    made (record { first = l.first; next = set (set l.next (m - 1) 0) (b - 1) (told l.next m) }) (without m es) (AreLists-without m es k.lists) (AreWithin-without m es k.within)
-    firsts (length-set (set l.next (m - 1) 0) (b - 1) (told l.next m) ∙ (length-set l.next (m - 1) 0 ∙ nexts))
-    (λ q low_q high_q. told-first l q k low_q high_q ∙ first_same m q es k.lists (λ s. first_behind_none m q b es low k.lists s here))
-    (λ n low_n high_n. told-set (λ n. next_of n (without m es)) (set l.next (m - 1) 0) 200 b (told l.next m) (length-set l.next (m - 1) 0 ∙ nexts) before.low before.high
+    let differ : b ≢ m = λ s. next_differs m es low k.lists (ap (λ x. next_of x es) (sym s) ∙ here)
+    in
+    made (record { first = l.first; next = set (set l.next (m - 1) 0) (b - 1) (told l.next m) })
+    (without m es) (AreLists-without m es k.lists) (AreWithin-without m es k.within)
+    firsts (length-set (set l.next (m - 1) 0) (b - 1) (told l.next m)
+    ∙ (length-set l.next (m - 1) 0 ∙ nexts))
+    (λ q low_q high_q. told-first l q k low_q high_q
+    ∙ first_same m q es k.lists (λ s. first_behind_none m q b es low k.lists s here))
+    (λ n low_n high_n. told-set (λ n. next_of n (without m es)) (set l.next (m - 1) 0) 200 b
+    (told l.next m) (length-set l.next (m - 1) 0 ∙ nexts) before.low before.high
     (told-next l m k low number.high ∙ next_led m b es k.lists differ here) n low_n
-    (λ other. told-set (λ n. next_of n (without m es)) l.next 200 m 0 nexts low number.high (next_none m es k.lists) n low_n
-    (λ far. told-next l n k low_n high_n ∙ next_same m n es k.lists far (λ s. other (next_from_one m n b es low k.lists s here)))))
+    (λ other. told-set (λ n. next_of n (without m es)) l.next 200 m 0 nexts low number.high
+    (next_none m es k.lists) n low_n
+    (λ far. told-next l n k low_n high_n
+    ∙ next_same m n es k.lists far (λ s. other (next_from_one m n b es low k.lists s here)))))
 
 -- ---- a half put at the front of a list
 
-pub put_at_front : (l : Inside) (half : Half) (p : ℕ) → AreLinks l → IsNew half (entries_of l) → object_of half ≤ 100 → 0 < p → p ≤ 300
-    → (let n : Inside = record { first = set l.first (p - 1) (half_number half); next = set l.next (half_number half - 1) (told l.first p) } in
-    let e : Entry = record { place = p; half = half } in (entries_of n ≡ put_first e (entries_of l)) × AreLinks n)
+pub put_at_front : (l : Inside) (half : Half) (p : ℕ) → AreLinks l → IsNew half (entries_of l)
+    → object_of half ≤ 100 → 0 < p → p ≤ 300
+    → (let n : Inside = record {
+      first = set l.first (p - 1) (half_number half);
+      next = set l.next (half_number half - 1)
+          (told l.first p);
+    } in
+    let e : Entry = record { place = p; half = half } in
+    (entries_of n ≡ put_first e (entries_of l)) × AreLinks n)
 put_at_front l half p k new high low_p high_p =
     let es = entries_of l in
     let e : Entry = record { place = p; half = half } in
     let m = half_number half in
     let firsts = length-first l k in
     let nexts = length-next l k in
-    made (record { first = set l.first (p - 1) m; next = set l.next (m - 1) (told l.first p) }) (put_first e es) (AreLists-put_first e es (new.0, low_p) new.1.0 new.1.1 k.lists) (AreWithin-put_first e es high_p high k.within)
+    made (record { first = set l.first (p - 1) m; next = set l.next (m - 1) (told l.first p) })
+    (put_first e es) (AreLists-put_first e es (new.0, low_p) new.1.0 new.1.1 k.lists)
+    (AreWithin-put_first e es high_p high k.within)
     (length-set l.first (p - 1) m ∙ firsts) (length-set l.next (m - 1) (told l.first p) ∙ nexts)
-    (λ q low_q high_q. told-set (λ q. first_of q (put_first e es)) l.first 300 p m firsts low_p high_p
+    (λ q low_q high_q. told-set (λ q. first_of q (put_first e es)) l.first 300 p m firsts low_p
+    high_p
     (sym (first_of-put_first p e es ∙ ap (λ b. cond b m (first_of p es)) (itself p))) q low_q
-    (λ other. told-first l q k low_q high_q ∙ sym (first_of-put_first q e es ∙ ap (λ b. cond b m (first_of q es)) (unequal p q (λ s. other (sym s))))))
-    (λ n low_n high_n. told-set (λ n. next_of n (put_first e es)) l.next 200 m (told l.first p) nexts (low_number half new.0) new.1.0
-    (told-first l p k low_p high_p ∙ sym (next_of-put_first m e es new.1.1 ∙ ap (λ b. cond b (first_of p es) (next_of m es)) (itself m))) n low_n
-    (λ other. told-next l n k low_n high_n ∙ sym (next_of-put_first n e es new.1.1 ∙ ap (λ b. cond b (first_of p es) (next_of n es)) (unequal m n (λ s. other (sym s))))))
+    (λ other. told-first l q k low_q high_q
+    ∙ sym (first_of-put_first q e es
+    ∙ ap (λ b. cond b m (first_of q es)) (unequal p q (λ s. other (sym s))))))
+    (λ n low_n high_n. told-set (λ n. next_of n (put_first e es)) l.next 200 m (told l.first p)
+    nexts (low_number half new.0) new.1.0
+    (told-first l p k low_p high_p
+    ∙ sym (next_of-put_first m e es new.1.1
+    ∙ ap (λ b. cond b (first_of p es) (next_of m es)) (itself m))) n low_n
+    (λ other. told-next l n k low_n high_n
+    ∙ sym (next_of-put_first n e es new.1.1
+    ∙ ap (λ b. cond b (first_of p es) (next_of n es)) (unequal m n (λ s. other (sym s))))))
 
 -- ---- equal links are those of equal lists
 
-pub same_values : (l m : Inside) (es fs : List Entry) (x y : Bool) → AreLinks l → AreLinks m → entries_of l ≡ es → entries_of m ≡ fs → x ≡ pointwise eqb l.first m.first → y ≡ pointwise eqb l.next m.next
+pub same_values : (l m : Inside) (es fs : List Entry) (x y : Bool) → AreLinks l → AreLinks m
+    → entries_of l ≡ es → entries_of m ≡ fs → x ≡ pointwise eqb l.first m.first
+    → y ≡ pointwise eqb l.next m.next
     → Decides (x && y) (es ≡ fs)
 same_values l m es fs x y k j v w first next =
     Decides-like (x && y) (λ h. sym v ∙ (ap entries_of (both l m h.0 h.1) ∙ w))
-    (λ e. let same : l ≡ m = sym k.exact ∙ (ap links_of (v ∙ (e ∙ sym w)) ∙ j.exact) in (ap (λ (i : Inside). i.first) same, ap (λ (i : Inside). i.next) same))
-    (Decides-and x y (Decides-at x (pointwise eqb l.first m.first) first (bytes_decides l.first m.first)) (Decides-at y (pointwise eqb l.next m.next) next (bytes_decides l.next m.next)))
+    (λ e. let same : l ≡ m = sym k.exact
+    ∙ (ap links_of (v ∙ (e ∙ sym w)) ∙ j.exact) in
+    (ap (λ (i : Inside). i.first) same, ap (λ (i : Inside). i.next) same))
+    (Decides-and x y
+    (Decides-at x (pointwise eqb l.first m.first) first (bytes_decides l.first m.first))
+    (Decides-at y (pointwise eqb l.next m.next) next (bytes_decides l.next m.next)))
   where
     both : (l m : Inside) → l.first ≡ m.first → l.next ≡ m.next → l ≡ m
     both l m f n = λ i. record { first = f i; next = n i }
 
 -- and equal lists are the same at each place
-pub same_places : (es fs : List Entry) (b : Bool) → AreLists es → AreLists fs → Decides b (es ≡ fs) → Decides b ((q : ℕ) → halves_at q es ≡ halves_at q fs)
+pub same_places : (es fs : List Entry) (b : Bool) → AreLists es → AreLists fs → Decides b (es ≡ fs)
+    → Decides b ((q : ℕ) → halves_at q es ≡ halves_at q fs)
 same_places es fs b k j d = (
   λ t q. ap (λ (l : List Entry). halves_at q l) (d.0 t),
   λ h. d.1 (same_lists es fs (Ascend-AreLists es k) (Ascend-AreLists fs j) h),

@@ -1,5 +1,7 @@
 -- Steps along the links of a list.
-use Rattle.std.proofs.Common.{◌≡◌, ◌≢◌, ℕ, suc, ◌<◌, ◌≤◌, Bool, false, List, [], ◌∷◌, ◌++◌, length, eqb, refl, sym, ap, ◌∙◌, append_assoc, append-nil, length-append, arith}
+use Rattle.std.proofs.Common.{◌≡◌, ◌≢◌, ℕ, suc, ◌<◌, ◌≤◌, Bool, false, List, [], ◌∷◌, ◌++◌, length}
+use Rattle.std.proofs.Common.{eqb, refl, sym, ap, ◌∙◌, append_assoc, append-nil, length-append}
+use Rattle.std.proofs.Common.{arith}
 use Rattle.cave_world.specs.declared.object.Half.{Half}
 use Rattle.cave_world.specs.declared.object.Half.TheVariants.{First, Second}
 use Rattle.cave_world.specs.declared.lists.Entry.{Entry}
@@ -10,7 +12,8 @@ use Rattle.cave_world.specs.Links.{first_of, next_of, halves_along, AreWithin}
 use Rattle.cave_world.proofs.Tests.{unequal}
 use Rattle.cave_world.proofs.Moves.{numbered}
 use Rattle.cave_world.proofs.Links.{low_number}
-use Rattle.cave_world.proofs.Chains.{AreAlong, AreAlong-first_of, AreLinkedBy-next_of, half_of_number, halves_along_is, length-halves_at}
+use Rattle.cave_world.proofs.Chains.{AreAlong, AreAlong-first_of, AreLinkedBy-next_of}
+use Rattle.cave_world.proofs.Chains.{half_of_number, halves_along_is, length-halves_at}
 
 high_number : (half : Half) → object_of half ≤ 100 → half_number half ≤ 200
 high_number (First x) high = omega (arith, high)
@@ -30,13 +33,15 @@ pub record IsStep (es : List Entry) (number : ℕ) (rest : List Half) : Type 0 w
   pub itself : half_number (half_of number) ≡ number
   pub left : IsLeft es (next_of number es) behind
 
-pub IsLeft-first_of : (p : ℕ) (es : List Entry) → AreLists es → AreWithin es → IsLeft es (first_of p es) (halves_at p es)
+pub IsLeft-first_of : (p : ℕ) (es : List Entry) → AreLists es → AreWithin es
+    → IsLeft es (first_of p es) (halves_at p es)
 IsLeft-first_of p es l w = record {
   along = AreAlong-first_of (λ n. next_of n es) p es l w (AreLinkedBy-next_of es l);
   few = length-halves_at p es l;
 }
 
-pub step : (es : List Entry) (number : ℕ) (rest : List Half) → IsLeft es number rest → number ≢ 0 → IsStep es number rest
+pub step : (es : List Entry) (number : ℕ) (rest : List Half) → IsLeft es number rest → number ≢ 0
+    → IsStep es number rest
 step es number [] h some = absurd (some h.along)
 step es number (half ∷ behind) h some =
     let low : 0 < object_of half = h.along.1.0.0 in
@@ -53,25 +58,31 @@ step es number (half ∷ behind) h some =
     }
 
 -- at 0 nothing is left
-pub ended : (es : List Entry) (number : ℕ) (rest : List Half) → IsLeft es number rest → number ≡ 0 → rest ≡ []
+pub ended : (es : List Entry) (number : ℕ) (rest : List Half) → IsLeft es number rest → number ≡ 0
+    → rest ≡ []
 ended es number [] h none = refl
 ended es number (half ∷ behind) h none =
     absurd (numbered half h.along.1.0.0 (h.along.0 ∙ none))
 
 -- and only there
-pub is_ended : (es : List Entry) (number : ℕ) (rest : List Half) → IsLeft es number rest → eqb number 0 ≡ eqb (length rest) 0
+pub is_ended : (es : List Entry) (number : ℕ) (rest : List Half) → IsLeft es number rest
+    → eqb number 0 ≡ eqb (length rest) 0
 is_ended es number [] h = rw h.along refl
 is_ended es number (half ∷ behind) h =
-    let some : eqb number 0 ≡ false = unequal number 0 (λ none. numbered half h.along.1.0.0 (h.along.0 ∙ none)) in
+    let some : eqb number 0 ≡ false = unequal number 0
+    (λ none. numbered half h.along.1.0.0 (h.along.0 ∙ none)) in
     some ∙ sym (unequal (suc (length behind)) 0 (λ none. absurd (omega (arith, none))))
 
 -- how many are left
-pub left_length : (es : List Entry) (number : ℕ) (rest : List Half) → IsLeft es number rest → length (halves_along (λ n. next_of n es) 200 number) ≡ length rest
+pub left_length : (es : List Entry) (number : ℕ) (rest : List Half) → IsLeft es number rest
+    → length (halves_along (λ n. next_of n es) 200 number) ≡ length rest
 left_length es number rest h =
-    ap (λ (l : List Half). length l) (halves_along_is (λ n. next_of n es) 200 number rest h.along h.few)
+    ap (λ (l : List Half). length l)
+    (halves_along_is (λ n. next_of n es) 200 number rest h.along h.few)
 
 -- a half that is left isn't the one that is looked for
-pub passed_over : (m : ℕ) (half : Half) (halves : List Half) → half_number half ≢ m → is_listed m (half ∷ halves) ≡ is_listed m halves
+pub passed_over : (m : ℕ) (half : Half) (halves : List Half) → half_number half ≢ m
+    → is_listed m (half ∷ halves) ≡ is_listed m halves
 unfolding is_listed
 passed_over m half halves other =
     let far : eqb (half_number half) m ≡ false = unequal (half_number half) m other in rw far refl
@@ -82,15 +93,24 @@ none_listed m = refl
 
 -- ---- what was told so far, and what is left
 
-pub longer : (told rest all behind : List Half) (half : Half) → told ++ rest ≡ all → rest ≡ half ∷ behind → length told < length all
+pub longer : (told rest all behind : List Half) (half : Half) → told ++ rest ≡ all
+    → rest ≡ half ∷ behind → length told < length all
 longer told rest all behind half whole splits =
-    omega (arith, ap (λ (l : List Half). length l) whole, length-append told rest, ap (λ (l : List Half). length l) splits)
+    omega (
+      arith,
+      ap (λ (l : List Half). length l) whole,
+      length-append told rest,
+      ap
+          (λ (l : List Half). length l) splits,
+    )
 
 -- one more is told
-pub told_on : (told now rest all behind : List Half) (half h : Half) → told ++ rest ≡ all → rest ≡ half ∷ behind → now ≡ told ++ h ∷ [] → h ≡ half → now ++ behind ≡ all
+pub told_on : (told now rest all behind : List Half) (half h : Half) → told ++ rest ≡ all
+    → rest ≡ half ∷ behind → now ≡ told ++ h ∷ [] → h ≡ half → now ++ behind ≡ all
 told_on told now rest all behind half h whole splits is same =
     ap (λ (l : List Half). l ++ behind) (is ∙ ap (λ (x : Half). told ++ x ∷ []) same)
-    ∙ (append_assoc told (half ∷ []) behind ∙ (ap (λ (l : List Half). told ++ l) (sym splits) ∙ whole))
+    ∙ (append_assoc told (half ∷ []) behind
+    ∙ (ap (λ (l : List Half). told ++ l) (sym splits) ∙ whole))
 
 pub told_all : (told rest all : List Half) → told ++ rest ≡ all → rest ≡ [] → told ≡ all
 told_all told rest all whole none =
@@ -98,11 +118,21 @@ told_all told rest all whole none =
 
 -- ---- a half that is looked for
 
-pub fewer : (es : List Entry) (number next : ℕ) (rest : List Half) → IsLeft es number rest → (s : IsStep es number rest) → next ≡ next_of number es
-    → length (halves_along (λ n. next_of n es) 200 next) < length (halves_along (λ n. next_of n es) 200 number)
+pub fewer : (es : List Entry) (number next : ℕ) (rest : List Half) → IsLeft es number rest
+    → (s : IsStep es number rest) → next ≡ next_of number es
+    → length (halves_along (λ n. next_of n es) 200 next) < length
+    (halves_along (λ n. next_of n es) 200 number)
 fewer es number next rest h s is =
-    omega (arith, left_length es number rest h, left_length es next s.behind (rw is s.left), ap (λ (l : List Half). length l) s.splits)
+    omega (
+      arith,
+      left_length es number rest h,
+      left_length es next s.behind (rw is s.left),
+      ap
+          (λ (l : List Half). length l) s.splits,
+    )
 
-pub listed_on : (es : List Entry) (m number : ℕ) (rest : List Half) (b : Bool) → (s : IsStep es number rest) → is_listed m rest ≡ b → number ≢ m → is_listed m s.behind ≡ b
+pub listed_on : (es : List Entry) (m number : ℕ) (rest : List Half) (b : Bool)
+    → (s : IsStep es number rest) → is_listed m rest ≡ b → number ≢ m → is_listed m s.behind ≡ b
 listed_on es m number rest b s is other =
-    sym (passed_over m (half_of number) s.behind (λ e. other (sym s.itself ∙ e))) ∙ (ap (λ (l : List Half). is_listed m l) (sym s.splits) ∙ is)
+    sym (passed_over m (half_of number) s.behind (λ e. other (sym s.itself ∙ e)))
+    ∙ (ap (λ (l : List Half). is_listed m l) (sym s.splits) ∙ is)

@@ -1,4 +1,5 @@
--- Spots and anchors as numbers: two are for what stands at no place, and each further one is for a place.
+-- Spots and anchors as numbers: two are for what stands at no place, and each further one is for a
+-- place.
 use Rattle.std.specs.Prelude.{◌≡◌, ◌≢◌, ℕ, zero, suc, ◌≤◌, refl}
 use Rattle.cave_world.specs.declared.spot.Spot.{Spot}
 use Rattle.cave_world.specs.declared.spot.Spot.TheVariants as spot

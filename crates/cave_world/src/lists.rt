@@ -2,8 +2,8 @@ ghost use Rattle.std.specs.Prelude.{◌≡◌, ◌≢◌, ℕ, ◌-◌, ◌≤�
 ghost use Rattle.std.specs.Prelude.{All, Some, MatchOption, IsTrue, slice_index, slice_set};
 ghost use Rattle.cave_world.specs.Layout.{is_listed};
 ghost use Rattle.cave_world.specs.Links.{first_of, next_of, AreWithin};
-ghost use Rattle.cave_world.specs.Lists.{relisted, AreRelisted, without, put_first, listed, halves_at};
-ghost use Rattle.cave_world.specs.Lists.{AreLists, IsOnlyAt, IsNew};
+ghost use Rattle.cave_world.specs.Lists.{relisted, AreRelisted, halves_at};
+ghost use Rattle.cave_world.specs.Lists.{without, put_first, listed, AreLists, IsOnlyAt, IsNew};
 ghost use Rattle.cave_world.specs.Spots.{is_place};
 ghost use Rattle.cave_world.specs.Halves.{object_of, half_number};
 

@@ -1,4 +1,5 @@
-ghost use Rattle.std.specs.Prelude.{◌≡◌, ℕ, ◌==◌, ◌||◌, ◌+◌, ◌<◌, ◌≤◌, false, [], length, All, IsTrue};
+ghost use Rattle.std.specs.Prelude.{◌≡◌, ℕ, ◌==◌, ◌||◌, ◌+◌, ◌<◌, ◌≤◌};
+ghost use Rattle.std.specs.Prelude.{false, [], length, All, IsTrue};
 ghost use Rattle.cave_world.specs.Objects.{spot_of, anchor_of, prop_of, carried_objects, unplaced};
 ghost use Rattle.cave_world.specs.Objects.{is_carried, is_gone, is_first_at, stands_at, is_at_hand};
 ghost use Rattle.cave_world.specs.Objects.{brought, anchored, with_prop, moved, taken, juggled};

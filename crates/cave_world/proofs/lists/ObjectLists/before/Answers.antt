@@ -8,27 +8,46 @@ use Rattle.cave_world.proofs.lists.ObjectLists.before.Goals as goal
 pub loop-before-init : goal.loop-before-init
 loop-before-init c = (
   halves_at c.args.place c.args.self.now,
-  (rw c.first_at-before.ensures.value (IsLeft-first_of c.args.place c.args.self.now c.first_at-before.ensures.lists c.first_at-before.ensures.within), (refl, λ s. c.requires.later (sym c.first_at-before.ensures.value ∙ s))),
+  (
+    rw c.first_at-before.ensures.value
+        (IsLeft-first_of c.args.place c.args.self.now c.first_at-before.ensures.lists
+        c.first_at-before.ensures.within),
+    (refl, λ s. c.requires.later (sym c.first_at-before.ensures.value ∙ s)),
+  ),
 )
 
 pub behind-behind-requires-clause-within : goal.behind-behind-requires-clause-within
-behind-behind-requires-clause-within c = (step c.args.self.now c.loop-before.before c.loop-before.invariant.0 c.loop-before.invariant.1.0 c.loop-before-test.true).high
+behind-behind-requires-clause-within c =
+    (step c.args.self.now c.loop-before.before c.loop-before.invariant.0
+    c.loop-before.invariant.1.0 c.loop-before-test.true).high
 
 pub loop-before-smaller : goal.loop-before-smaller
 loop-before-smaller c =
     let rest = c.loop-before.invariant.0 in
-    let s = step c.args.self.now c.loop-before.before rest c.loop-before.invariant.1.0 c.loop-before-test.true in
-    fewer c.args.self.now c.loop-before.before c.behind-behind.result rest c.loop-before.invariant.1.0 s c.behind-behind.ensures
+    let s = step c.args.self.now c.loop-before.before rest c.loop-before.invariant.1.0
+    c.loop-before-test.true in
+    fewer c.args.self.now c.loop-before.before c.behind-behind.result rest
+    c.loop-before.invariant.1.0 s c.behind-behind.ensures
 
 pub loop-before-preserved : goal.loop-before-preserved
 loop-before-preserved c =
     let rest = c.loop-before.invariant.0 in
-    let s = step c.args.self.now c.loop-before.before rest c.loop-before.invariant.1.0 c.loop-before-test.true in (
+    let s = step c.args.self.now c.loop-before.before rest c.loop-before.invariant.1.0
+    c.loop-before-test.true in (
       s.behind,
-      (rw c.behind-behind.ensures s.left, (listed_on c.args.self.now c.args.number c.loop-before.before rest _ s c.loop-before.invariant.1.1.0 c.loop-before.invariant.1.1.1, c.if-behind-number.false)),
+      (
+        rw c.behind-behind.ensures s.left,
+        (
+          listed_on c.args.self.now c.args.number c.loop-before.before rest _ s
+              c.loop-before.invariant.1.1.0 c.loop-before.invariant.1.1.1,
+          c.if-behind-number.false,
+        ),
+      ),
     )
 
 pub returns : goal.returns
 returns c =
-    let none = ended c.args.self.now c.loop-before.before c.loop-before.invariant.0 c.loop-before.invariant.1.0 c.loop-before-test.false in
-    sym c.loop-before.invariant.1.1.0 ∙ (ap (λ (l : List Half). is_listed c.args.number l) none ∙ none_listed c.args.number)
+    let none = ended c.args.self.now c.loop-before.before c.loop-before.invariant.0
+    c.loop-before.invariant.1.0 c.loop-before-test.false in
+    sym c.loop-before.invariant.1.1.0
+    ∙ (ap (λ (l : List Half). is_listed c.args.number l) none ∙ none_listed c.args.number)

@@ -5,4 +5,6 @@ use Rattle.cave_world.proofs.lists.ObjectLists.behind.Goals as goal
 
 pub returns : goal.returns
 returns c =
-    rw c.from.ensures (told-next c.self.inside c.args.number c.self.invariant c.requires.some c.requires.within ∙ ap (λ es. next_of c.args.number es) c.self.view_is)
+    rw c.from.ensures
+    (told-next c.self.inside c.args.number c.self.invariant c.requires.some c.requires.within
+    ∙ ap (λ es. next_of c.args.number es) c.self.view_is)

@@ -12,13 +12,21 @@ remove-requires-clause-some c =
 
 pub remove-requires-clause-only : goal.remove-requires-clause-only
 remove-requires-clause-only c =
-    rw c.number.ensures.value (only_at (half_number c.args.half) c.args.from c.args.self.now c.requires.only)
+    rw c.number.ensures.value
+    (only_at (half_number c.args.half) c.args.from c.args.self.now c.requires.only)
 
 pub put-requires-clause-new : goal.put-requires-clause-new
 put-requires-clause-new c =
-    rw (c.remove.ensures, c.number.ensures.value)
-    (c.requires.some, (rw c.number.ensures.value at c.number.ensures.within, Lacks-taken (half_number c.args.half) c.args.self.now))
+    rw (c.remove.ensures, c.number.ensures.value) (
+      c.requires.some,
+      (
+        rw c.number.ensures.value at c.number.ensures.within,
+        Lacks-taken
+            (half_number c.args.half) c.args.self.now,
+      ),
+    )
 
 pub returns-clause-lists : goal.returns-clause-lists
 unfolding relisted
-returns-clause-lists c = λ q. rw (c.put.ensures, c.remove.ensures, c.number.ensures.value) (halves_at-relisted c.args.half c.args.to c.args.self.now q)
+returns-clause-lists c = λ q. rw (c.put.ensures, c.remove.ensures, c.number.ensures.value)
+    (halves_at-relisted c.args.half c.args.to c.args.self.now q)

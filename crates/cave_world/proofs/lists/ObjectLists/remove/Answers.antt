@@ -4,4 +4,5 @@ use Rattle.cave_world.proofs.lists.ObjectLists.remove.Goals as goal
 
 pub returns-in-None : goal.returns-in-None
 returns-in-None c =
-    sym (without_absent c.args.number c.args.self.now (Lacks_nowhere c.args.number c.args.self.now (rw c.in-None.is at c.requires.only)))
+    sym (without_absent c.args.number c.args.self.now
+    (Lacks_nowhere c.args.number c.args.self.now (rw c.in-None.is at c.requires.only)))

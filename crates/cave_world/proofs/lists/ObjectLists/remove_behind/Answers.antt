@@ -6,26 +6,31 @@ use Rattle.cave_world.proofs.lists.ObjectLists.remove_behind.Goals as goal
 
 pub unlink-behind-requires-clause-within : goal.unlink-behind-requires-clause-within
 unlink-behind-requires-clause-within c =
-    (next_is_number c.args.before c.args.number c.args.self.now c.requires.some (rw c.self.view_is at c.self.invariant.lists) c.requires.behind).high
+    (next_is_number c.args.before c.args.number c.args.self.now c.requires.some
+    (rw c.self.view_is at c.self.invariant.lists) c.requires.behind).high
 
 pub overflow_sub-self : goal.overflow_sub-self
 overflow_sub-self c =
-    let number = is_number c.args.before c.args.number c.args.self.now c.requires.some (rw c.self.view_is at c.self.invariant.lists) c.requires.behind in
+    let number = is_number c.args.before c.args.number c.args.self.now c.requires.some
+    (rw c.self.view_is at c.self.invariant.lists) c.requires.behind in
     omega (arith, c.from.ensures, number.low)
 
 pub bounds-self-inside-from : goal.bounds-self-inside-from
 bounds-self-inside-from c =
-    let number = is_number c.args.before c.args.number c.args.self.now c.requires.some (rw c.self.view_is at c.self.invariant.lists) c.requires.behind in
+    let number = is_number c.args.before c.args.number c.args.self.now c.requires.some
+    (rw c.self.view_is at c.self.invariant.lists) c.requires.behind in
     omega (arith, c.from.ensures, number.low, number.high)
 
 pub invariant_of-self : goal.invariant_of-self
 invariant_of-self c =
     let here = ap (λ es. next_of c.args.before es) c.self.view_is ∙ c.requires.behind in
     rw (c.from.ensures, c.unlink-behind.ensures.value, c.unlink-behind.ensures.unlinked)
-    (removed_behind c.self.inside c.args.number c.args.before c.self.invariant c.requires.some here).1
+    (removed_behind c.self.inside c.args.number c.args.before c.self.invariant c.requires.some
+    here).1
 
 pub returns : goal.returns
 returns c =
     let here = ap (λ es. next_of c.args.before es) c.self.view_is ∙ c.requires.behind in
     rw (c.from.ensures, c.unlink-behind.ensures.value, c.unlink-behind.ensures.unlinked)
-    ((removed_behind c.self.inside c.args.number c.args.before c.self.invariant c.requires.some here).0 ∙ ap (λ es. without c.args.number es) c.self.view_is)
+    ((removed_behind c.self.inside c.args.number c.args.before c.self.invariant c.requires.some
+    here).0 ∙ ap (λ es. without c.args.number es) c.self.view_is)

@@ -6,21 +6,35 @@ use Rattle.cave_world.proofs.lists.ObjectLists.remove_first.Goals as goal
 
 pub unlink-behind-requires-clause-within : goal.unlink-behind-requires-clause-within
 unlink-behind-requires-clause-within c =
-    (first_is_number c.args.place c.args.number c.args.self.now c.requires.some (rw c.self.view_is at c.self.invariant.lists) c.requires.first).high
+    (first_is_number c.args.place c.args.number c.args.self.now c.requires.some
+    (rw c.self.view_is at c.self.invariant.lists) c.requires.first).high
 
 pub overflow_sub-self : goal.overflow_sub-self
 overflow_sub-self c =
-    let place = is_place c.args.place c.args.number c.args.self.now c.requires.some (rw c.self.view_is at c.self.invariant.lists) (rw c.self.view_is at c.self.invariant.within) c.requires.first in
+    let place = is_place c.args.place c.args.number c.args.self.now c.requires.some
+    (rw c.self.view_is at c.self.invariant.lists)
+    (rw c.self.view_is at c.self.invariant.within) c.requires.first in
     omega (arith, c.from.ensures, c.number.ensures.value, place.low)
 
 pub invariant_of-self : goal.invariant_of-self
 invariant_of-self c =
     let here = ap (λ es. first_of c.args.place es) c.self.view_is ∙ c.requires.first in
-    rw (c.from.ensures, c.number.ensures.value, c.unlink-behind.ensures.value, c.unlink-behind.ensures.unlinked)
+    rw (
+      c.from.ensures,
+      c.number.ensures.value,
+      c.unlink-behind.ensures.value,
+      c.unlink-behind.ensures.unlinked,
+    )
     (removed_first c.self.inside c.args.number c.args.place c.self.invariant c.requires.some here).1
 
 pub returns : goal.returns
 returns c =
     let here = ap (λ es. first_of c.args.place es) c.self.view_is ∙ c.requires.first in
-    rw (c.from.ensures, c.number.ensures.value, c.unlink-behind.ensures.value, c.unlink-behind.ensures.unlinked)
-    ((removed_first c.self.inside c.args.number c.args.place c.self.invariant c.requires.some here).0 ∙ ap (λ es. without c.args.number es) c.self.view_is)
+    rw (
+      c.from.ensures,
+      c.number.ensures.value,
+      c.unlink-behind.ensures.value,
+      c.unlink-behind.ensures.unlinked,
+    )
+    ((removed_first c.self.inside c.args.number c.args.place c.self.invariant c.requires.some
+    here).0 ∙ ap (λ es. without c.args.number es) c.self.view_is)
