@@ -1,31 +1,55 @@
-.PHONY: play test suite install
+.PHONY: try play test suite install
 
 PREFIX ?= $(HOME)/.local
 PROGRAM = crates/cave/out/cave
 SOURCES = $(shell find crates -name out -prune -o -type f \( -name '*.rt' -o -name '*.antt' \) -print) crates.txt
 FIRST_GAME = play $(CURDIR)/caves/shoal.txt $(CURDIR)/logs/tour.log --bind $(CURDIR)/caves/shoal.bind --seed 3
 
-# Plays a shipped cave with a shipped log, and builds first what isn't built.
+# Plays a shipped cave with a shipped log by the program as it is written, before any proof of it.
+# `rt try` runs it in a folder of its own, so its files are handed over, and their names are bare.
+TRY_FILES = --data shoal.txt=$(CURDIR)/caves/shoal.txt --data shoal.bind=$(CURDIR)/caves/shoal.bind \
+	--data tour.log=$(CURDIR)/logs/tour.log
+TRY_GAME = play shoal.txt tour.log --bind shoal.bind --seed 3
+try:
+	@echo "Unproved: the program is compiled and run as it is written. This takes a minute or two."
+	@mkdir -p out
+	@cd crates/cave && rt try --seconds 900 $(TRY_FILES) -- $(TRY_GAME) 2> ../../out/try.log \
+		|| { cat ../../out/try.log >&2; exit 1; }
+	@echo
+	@echo "That was unproved, and is kept nowhere. \`make play\` proves it all and plays the same."
+
+# Plays the same with the program that was proved, and proves and builds first what isn't built.
 play: $(PROGRAM)
 	@$(PROGRAM) $(FIRST_GAME)
 
-# Proves the program with all that it stands on, and builds it. What was said stands in build.log.
+# Proves the program with all that it is built on, and builds it. What was said is in out/build.log.
 $(PROGRAM): $(SOURCES)
 	@mkdir -p crates/cave/out
-	@cd crates/cave && rt run -- $(FIRST_GAME) > out/build.log 2>&1 || { cat out/build.log >&2; exit 1; }
+	@echo "Proving and building. What is said goes into out/build.log."
+	@cd crates/cave && ../../bench/progress cave ../../out/build.log rt run -- $(FIRST_GAME)
 	@touch $@
 
-# What the suite of logs leaves out; then the gate: each proof from nothing, the edits that must fail,
-# the tests and the program; and then the suite with the program that was proved.
+# The lines that must not compile, and what the documents show; then the gate: each proof from
+# nothing, the edits that must fail, the tests and the program; and then the suite with the program
+# that was proved, and what the suite leaves out.
 test:
-	logs/coverage
-	rt ci
+	bench/snippets
+	logs/documents
+	bench/progress all out/test.log rt ci
+	@tail -n 1 out/test.log
 	logs/run $(PROGRAM)
+	logs/large $(PROGRAM)
+	logs/coverage $(PROGRAM)
 
 # Plays each log of logs/ with the program, and compares what it says with the transcript beside it.
 suite: $(PROGRAM)
-	@logs/coverage
+	@logs/documents
 	@logs/run $(PROGRAM)
+	@logs/large $(PROGRAM)
+	@logs/coverage $(PROGRAM)
 
 install: $(PROGRAM)
 	install -D -m 755 $(PROGRAM) $(PREFIX)/bin/cave
+	@mkdir -p out
+	bench/manual docs/PROGRAM.md > out/cave.1
+	install -D -m 644 out/cave.1 $(PREFIX)/share/man/man1/cave.1

@@ -1,7 +1,9 @@
-//! Checks databases of caves, plays logs in them, and edits logs by scripts.
+//! Checks databases of caves, plays logs in them, edits logs by scripts, and tells which texts logs never show.
 #![tactic(auto)]
 
 use cave_command::{Files, Line, command_line};
+use cave_cover::fault::CoverFault;
+use cave_cover::run::run_cover;
 use cave_play::bindings::Bindings;
 use cave_play::fault::{Complaint, Input, PlayFault, Unopened};
 use cave_play::run::{run_check, run_edit, run_play};
@@ -21,6 +23,15 @@ struct Names<'a> {
 }
 
 impl<'a> Names<'a> {
+    /// The files of a cave, without a log or a script.
+    fn of_cave(files: Files<'a>) -> Names<'a> {
+        Names {
+            files,
+            log: None,
+            script: None,
+        }
+    }
+
     /// The file of an input, where one is named.
     fn of(self, input: Input) -> Option<&'a str> {
         match input {
@@ -38,6 +49,8 @@ enum Failure<'a> {
     /// The file of the input can't be opened, for a reason of the system's.
     Unopened(Input, &'a str, io::Error),
     Run(PlayFault),
+    /// A fault that is met at the log of this file, one of several.
+    AtLog(PlayFault, &'a str),
 }
 
 impl<'a> From<PlayFault> for Failure<'a> {
@@ -122,6 +135,48 @@ fn edit<'a>(
     Ok(())
 }
 
+/// Opens the files of logs, in their order.
+fn open_logs<'a>(rt: &HostRuntime, logs: &[&'a str]) -> Result<Vec<File>, Failure<'a>> {
+    let mut opened = Vec::new(rt.alloc());
+    for log in logs {
+        if opened.push(open(rt, Input::Log, *log)?).is_err() {
+            return Err(Failure::Run(PlayFault::Memory));
+        }
+    }
+    Ok(opened)
+}
+
+/// The failure of a run over these logs.
+fn failure_of<'a>(found: CoverFault, logs: &[&'a str]) -> Failure<'a> {
+    match found.log.and_then(|place| logs.get(place).copied()) {
+        Some(log) => Failure::AtLog(found.fault, log),
+        None => Failure::Run(found.fault),
+    }
+}
+
+fn cover<'a>(
+    rt: &HostRuntime,
+    files: Files<'a>,
+    logs: &[&'a str],
+    seed: u32,
+) -> Result<(), Failure<'a>> {
+    let mut cave = open(rt, Input::Cave, files.cave)?;
+    let mut bind = open_bindings(rt, files)?;
+    let mut opened = open_logs(rt, logs)?;
+    let mut output = io::writer(rt);
+    match run_cover(
+        rt.alloc(),
+        &mut cave,
+        &mut bind,
+        opened.as_mut_slice(),
+        seed,
+        &mut output,
+    ) {
+        Ok(()) => Ok(()),
+        Err(found) => Err(failure_of(found, logs)),
+    }
+}
+
 /// Tells a fault in one line, and gives the status that goes with it.
 fn fail(rt: &HostRuntime, fault: PlayFault, file: Option<&str>) -> ExitCode {
     let _ = eprintln!(rt; "{}", Complaint { fault, file });
@@ -137,6 +192,14 @@ fn tell(rt: &HostRuntime, names: Names<'_>, ended: Result<(), Failure<'_>>) -> E
             fault,
             fault.input().and_then(|input| names.of(input)),
         ),
+        Err(Failure::AtLog(fault, log)) => {
+            let names = Names {
+                log: Some(log),
+                ..names
+            };
+            let input = fault.input();
+            fail(rt, fault, input.and_then(|input| names.of(input)))
+        }
         Err(Failure::Unopened(input, file, reason)) => {
             let reason = &reason;
             let _ = eprintln!(rt; "{}", Unopened { file, reason });
@@ -148,19 +211,11 @@ fn tell(rt: &HostRuntime, names: Names<'_>, ended: Result<(), Failure<'_>>) -> E
 /// Does what a command line asks for.
 fn run(rt: &HostRuntime, line: Line<'_>) -> ExitCode {
     match line {
-        Line::Check { files } => {
-            let names = Names {
-                files,
-                log: None,
-                script: None,
-            };
-            tell(rt, names, check(rt, files))
-        }
+        Line::Check { files } => tell(rt, Names::of_cave(files), check(rt, files)),
         Line::Play { files, log, seed } => {
             let names = Names {
-                files,
                 log: Some(log),
-                script: None,
+                ..Names::of_cave(files)
             };
             tell(rt, names, play(rt, files, log, seed))
         }
@@ -177,6 +232,10 @@ fn run(rt: &HostRuntime, line: Line<'_>) -> ExitCode {
                 script: Some(script),
             };
             tell(rt, names, edit(rt, files, log, script, seed, every))
+        }
+        Line::Cover { files, logs, seed } => {
+            let covered = cover(rt, files, logs.as_slice(), seed);
+            tell(rt, Names::of_cave(files), covered)
         }
         Line::Text(text) => match rt.print(&text) {
             Ok(()) => ExitCode::SUCCESS,

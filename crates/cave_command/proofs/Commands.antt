@@ -8,7 +8,7 @@ use Rattle.clap.specs.declared.error.kind.ErrorKind.TheVariants.{OutOfMemory}
 use Rattle.clap.specs.declared.parser.matches.ArgMatches.{ArgMatches}
 use Rattle.clap.proofs.OnLiterals.{clap_on_literals}
 use Rattle.cave_command.specs.App.{cave_app}
-use Rattle.cave_command.specs.Line.{IsAsked, IsLine, IsLineMet, IsRefusal, IsRefused, IsRequest, IsWrong, Met}
+use Rattle.cave_command.specs.Line.{IsAsked, IsLine, IsLineMet, IsRefusal, IsRefused, IsRequest, IsUnmade, IsWrong, Met}
 use Rattle.cave_command.specs.Parse.{IsParse}
 use Rattle.cave_command.specs.declared.fault.LineFault.{LineFault}
 use Rattle.cave_command.specs.declared.fault.LineFault.TheVariants.{Usage, Incomplete, BadSeed, BadEvery, Memory}
@@ -41,12 +41,13 @@ parse_is command words answer same has fails = parse_of (app_of command) words a
 -- ---- what the run that was found comes to
 
 abbrev pub Reads : Met → Result Line LineFault → Type 0
-Reads met answer = MatchResult answer (IsLineMet met) (IsWrong met)
+Reads met answer = MatchResult answer (IsLineMet met) (IsUnmade met)
 
 pub found_line : (met : Met) (answer : Result Line LineFault) → Reads met answer → IfOk answer (IsLine met)
 found_line met (Ok (line.Check files)) is = is
 found_line met (Ok (line.Play files log seed)) is = is
 found_line met (Ok (line.Edit files log script seed every)) is = is
+found_line met (Ok (line.Cover files logs seed)) is = is
 found_line met (Ok (line.Text error)) is = tt
 found_line met (Err fault) is = tt
 
@@ -58,6 +59,7 @@ pub found_asked : (kinds : Kinds) (met : Met) (answer : Result Line LineFault) �
 found_asked kinds met (Ok (line.Check files)) none is = none
 found_asked kinds met (Ok (line.Play files log seed)) none is = none
 found_asked kinds met (Ok (line.Edit files log script seed every)) none is = none
+found_asked kinds met (Ok (line.Cover files logs seed)) none is = none
 found_asked kinds met (Ok (line.Text error)) none is = absurd (no_text met error is)
 found_asked kinds met (Err fault) none is = tt
 

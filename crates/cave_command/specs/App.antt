@@ -1,6 +1,7 @@
 -- The commands and their arguments.
 use Rattle.std.specs.Prelude.{◌≡◌, true, false, Some, codes}
 use Rattle.clap.specs.Words.{App, Rule, app_of, new_app, new_rule, with_rule, with_subcommand}
+use Rattle.clap.specs.declared.builder.action.ArgAction.TheVariants.{Append}
 use Rattle.clap.specs.declared.builder.command.Command.{Command}
 use Rattle.clap.specs.declared.builder.command.Command.TheViews.{out-Command}
 
@@ -14,6 +15,10 @@ cave_rule = record (new_rule (codes "cave")) { required = true; value_names = 1 
 
 abbrev pub log_rule : Rule
 log_rule = record (new_rule (codes "log")) { required = true; value_names = 1 }
+
+-- one log or more
+abbrev pub logs_rule : Rule
+logs_rule = record (new_rule (codes "log")) { required = true; value_names = 1; action = Some Append }
 
 abbrev pub script_rule : Rule
 script_rule = record (new_rule (codes "script")) { required = true; value_names = 1 }
@@ -46,6 +51,9 @@ play_app = with_options (with_game (new_app (codes "play")))
 abbrev pub edit_app : App
 edit_app = with_rule (with_options (with_rule (with_game (new_app (codes "edit"))) script_rule)) every_rule
 
+abbrev pub cover_app : App
+cover_app = with_options (with_rule (with_rule (new_app (codes "cover")) cave_rule) logs_rule)
+
 -- the program, which wants one of the commands
 abbrev pub plain_app : App
 plain_app = record {
@@ -53,5 +61,9 @@ plain_app = record {
   subs = (new_app (codes "cave")).subs;
 }
 
+-- the program with the commands that check a cave and play a log
+abbrev pub playing_app : App
+playing_app = with_subcommand (with_subcommand plain_app check_app.top) play_app.top
+
 abbrev pub cave_app : App
-cave_app = with_subcommand (with_subcommand (with_subcommand plain_app check_app.top) play_app.top) edit_app.top
+cave_app = with_subcommand (with_subcommand playing_app edit_app.top) cover_app.top

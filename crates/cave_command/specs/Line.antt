@@ -1,6 +1,6 @@
 -- Which run the words ask for.
-use Rattle.std.specs.Prelude.{◌≡◌, ◌≢◌, ◌⊎◌, ◌&&◌, ◌||◌, ℕ, Bool, false, bytes_eq, is_some, List, [], Option, Some, None, option_map, codes}
-use Rattle.clap.specs.Words.{IsAmong, Kinds, Row, first_of, found_of, kind_of, rows_of}
+use Rattle.std.specs.Prelude.{◌≡◌, ◌≢◌, ◌⊎◌, ◌&&◌, ◌||◌, ℕ, Bool, false, bytes_eq, is_some, List, [], Option, Some, None, option_map, map, codes}
+use Rattle.clap.specs.Words.{IsAmong, Kinds, Row, all_of, first_of, found_of, kind_of, rows_of}
 use Rattle.clap.specs.declared.error.Error.{Error}
 use Rattle.clap.specs.declared.error.kind.ErrorKind.{ErrorKind}
 use Rattle.clap.specs.declared.error.kind.ErrorKind.TheVariants.{DisplayHelp, DisplayVersion, OutOfMemory}
@@ -10,8 +10,8 @@ use Rattle.cave_command.specs.declared.fault.LineFault.{LineFault}
 use Rattle.cave_command.specs.declared.fault.LineFault.TheVariants.{Usage, Incomplete, BadSeed, BadEvery, Memory}
 use Rattle.cave_command.specs.declared.line.Files.{Files}
 use Rattle.cave_command.specs.declared.line.Line.{Line}
-use Rattle.cave_command.specs.declared.line.Line.TheVariants.{Check, Play, Edit, Text}
-use Rattle.cave_command.specs.declared.number.TheConstants.{GREATEST_SEED, MOST_EVERY}
+use Rattle.cave_command.specs.declared.line.Line.TheVariants.{Check, Play, Edit, Cover, Text}
+use Rattle.limits.specs.Limits.{max_seed, max_every}
 
 -- a command that was met, with what was found for its arguments
 abbrev pub Met : Type 0
@@ -28,11 +28,11 @@ pub record IsFiles (rows : List Row) (files : Files) : Type 0 where
 
 -- a seed is what was found for it, or 0
 abbrev pub IsSeed : List Row → ℕ → Type 0
-IsSeed rows seed = IsNumber 0 GREATEST_SEED 0 (first_of (codes "seed") rows) seed
+IsSeed rows seed = IsNumber 0 max_seed 0 (first_of (codes "seed") rows) seed
 
 -- a distance of checkpoints is what was found for it, or 50
 abbrev pub IsEvery : List Row → ℕ → Type 0
-IsEvery rows every = IsNumber 1 MOST_EVERY 50 (first_of (codes "every") rows) every
+IsEvery rows every = IsNumber 1 max_every 50 (first_of (codes "every") rows) every
 
 -- the line is what was found for the command of this name
 abbrev pub IsLineOf : List ℕ → List Row → Line → Type 0
@@ -42,6 +42,8 @@ IsLineOf name rows (Play files log seed) =
 IsLineOf name rows (Edit files log script seed every) =
     (name ≡ codes "edit") × IsFiles rows files × (first_of (codes "log") rows ≡ Some log.now)
     × (first_of (codes "script") rows ≡ Some script.now) × IsSeed rows seed × IsEvery rows every
+IsLineOf name rows (Cover files logs seed) =
+    (name ≡ codes "cover") × IsFiles rows files × (all_of (codes "log") rows ≡ Some (map (λ log. log.now) logs.items)) × IsSeed rows seed
 IsLineOf name rows (Text error) = ⊥
 
 abbrev pub IsLineMet : Met → Line → Type 0
@@ -67,6 +69,7 @@ abbrev pub has_files : List ℕ → List Row → Bool
 has_files name rows =
     is_some (first_of (codes "cave") rows)
     && (bytes_eq name (codes "check")
+    || (bytes_eq name (codes "cover") && is_some (all_of (codes "log") rows))
     || (is_some (first_of (codes "log") rows) && (bytes_eq name (codes "play") || (bytes_eq name (codes "edit") && is_some (first_of (codes "script") rows)))))
 
 abbrev pub is_complete : Met → Bool
@@ -75,12 +78,12 @@ is_complete (Some found) = has_files found.0 found.1
 
 -- what was found for the seed is no seed
 abbrev pub IsBadSeed : List Row → LineFault → Type 0
-IsBadSeed rows (BadSeed text) = (first_of (codes "seed") rows ≡ Some text.now) × (number_in 0 GREATEST_SEED text.now ≡ None)
+IsBadSeed rows (BadSeed text) = (first_of (codes "seed") rows ≡ Some text.now) × (number_in 0 max_seed text.now ≡ None)
 IsBadSeed rows _ = ⊥
 
 -- what was found for the distance of checkpoints is none
 abbrev pub IsBadEvery : List Row → LineFault → Type 0
-IsBadEvery rows (BadEvery text) = (first_of (codes "every") rows ≡ Some text.now) × (number_in 1 MOST_EVERY text.now ≡ None)
+IsBadEvery rows (BadEvery text) = (first_of (codes "every") rows ≡ Some text.now) × (number_in 1 max_every text.now ≡ None)
 IsBadEvery rows _ = ⊥
 
 -- what is wrong with what was found
@@ -88,6 +91,11 @@ abbrev pub IsWrong : Met → LineFault → Type 0
 IsWrong met Incomplete = is_complete met ≡ false
 IsWrong None fault = ⊥
 IsWrong (Some found) fault = IsBadSeed found.1 fault ⊎ IsBadEvery found.1 fault
+
+-- why a line isn't made of what was found: what is wrong with it, unless memory ran out
+abbrev pub IsUnmade : Met → LineFault → Type 0
+IsUnmade met Memory = Unit {0}
+IsUnmade met fault = IsWrong met fault
 
 -- the parser's error, as a fault
 abbrev pub IsRefusal : Error → LineFault → Type 0

@@ -2,11 +2,11 @@
 use Rattle.std.specs.Prelude.{◌≡◌, ℕ, Bool, ◌&&◌, nat_lt, nat_le, List, length, Option, Some, None, if◌then◌else◌}
 use Rattle.std.specs.List.{list_all}
 use Rattle.cave_words.specs.Bytes.{is_digit, number_of}
-use Rattle.cave_command.specs.declared.number.TheConstants.{MOST_DIGITS}
+use Rattle.limits.specs.Limits.{max_digits}
 
 -- 1 to 10 digits and nothing else
 abbrev pub is_number : List ℕ → Bool
-is_number text = nat_lt 0 (length text) && nat_le (length text) MOST_DIGITS && list_all is_digit text
+is_number text = nat_lt 0 (length text) && nat_le (length text) max_digits && list_all is_digit text
 
 -- the number that the text writes, if it lies from `least` to `most`
 unfoldable pub number_in : ℕ → ℕ → List ℕ → Option ℕ

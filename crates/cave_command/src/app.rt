@@ -3,10 +3,11 @@
 ghost use Rattle.std.specs.Prelude.{◌≡◌, IfOk, false};
 ghost use Rattle.clap.specs.Words.{app_of};
 ghost use Rattle.clap.specs.declared.builder.command.Command.TheViews.{out-Command};
-ghost use Rattle.cave_command.specs.App.{IsLocal, cave_app, check_app, edit_app, plain_app, play_app, with_game, with_options};
+ghost use Rattle.cave_command.specs.App.{IsLocal, cave_app, check_app, cover_app, edit_app, plain_app, play_app, playing_app, with_game, with_options};
 
 use crate::arguments::{
-    bind_argument, cave_argument, every_argument, log_argument, script_argument, seed_argument,
+    bind_argument, cave_argument, every_argument, log_argument, logs_argument, script_argument,
+    seed_argument,
 };
 use clap::Command;
 use std::alloc::{AllocError, Global};
@@ -68,24 +69,43 @@ fn edit_command<'a>(alloc: Global) -> Result<Command<'a>, AllocError>
     with_options(alloc, command)?.arg(every_argument(alloc))
 }
 
-/// The program's command, with its three subcommands.
+fn cover_command<'a>(alloc: Global) -> Result<Command<'a>, AllocError>
+    ensures { IfOk result (IsLocal cover_app) }
+{
+    let command = Command::new(alloc, "cover")
+        .about("Plays logs and prints which texts of the cave none of them shows")
+        .after_help("Example: cave cover caves/a.txt logs/first.log logs/road.log");
+    let command = command
+        .arg(cave_argument(alloc))?
+        .arg(logs_argument(alloc))?;
+    with_options(alloc, command)
+}
+
+/// The program's command, with its four subcommands.
 pub fn cave_command<'a>(alloc: Global) -> Result<Command<'a>, AllocError>
     ensures { IfOk result (λ command. app_of command ≡ cave_app) }
 {
+    let edit = edit_command(alloc)?;
+    let cover = cover_command(alloc)?;
+    playing_command(alloc)?.subcommand(edit)?.subcommand(cover)
+}
+
+/// The program's command with the two subcommands that check a cave and play a log.
+fn playing_command<'a>(alloc: Global) -> Result<Command<'a>, AllocError>
+    ensures { IfOk result (λ command. app_of command ≡ playing_app) }
+{
     let check = check_command(alloc)?;
     let play = play_command(alloc)?;
-    let edit = edit_command(alloc)?;
-    plain_command(alloc)
-        .subcommand(check)?
-        .subcommand(play)?
-        .subcommand(edit)
+    plain_command(alloc).subcommand(check)?.subcommand(play)
 }
 
 fn plain_command<'a>(alloc: Global) -> Command<'a>
     ensures { app_of result ≡ plain_app }
 {
     Command::new(alloc, "cave")
-        .about("Plays logs of a text adventure, and edits and replays them")
+        .about(
+            "Plays logs of a text adventure, edits and replays them, and tells what they never show",
+        )
         .version("1.0")
         .subcommand_required(true)
         .arg_required_else_help(true)

@@ -2,9 +2,9 @@
 
 ghost use Rattle.std.specs.Prelude.{◌≡◌, false};
 ghost use Rattle.clap.specs.Words.{rule_of};
-ghost use Rattle.cave_command.specs.App.{bind_rule, cave_rule, every_rule, log_rule, script_rule, seed_rule};
+ghost use Rattle.cave_command.specs.App.{bind_rule, cave_rule, every_rule, log_rule, logs_rule, script_rule, seed_rule};
 
-use clap::Arg;
+use clap::{Arg, ArgAction};
 use std::alloc::Global;
 
 pub(crate) fn cave_argument<'a>(alloc: Global) -> Arg<'a>
@@ -25,6 +25,17 @@ pub(crate) fn log_argument<'a>(alloc: Global) -> Arg<'a>
         .required(true)
         .value_name("LOG")
         .help("The log of the game: what the player says, line by line")
+}
+
+pub(crate) fn logs_argument<'a>(alloc: Global) -> Arg<'a>
+    ensures rule { rule_of result ≡ logs_rule }
+    ensures local { result.global ≡ false }
+{
+    Arg::new(alloc, "log")
+        .required(true)
+        .action(ArgAction::Append)
+        .value_name("LOG")
+        .help("The logs, each of which is played by itself from its first line")
 }
 
 pub(crate) fn script_argument<'a>(alloc: Global) -> Arg<'a>

@@ -26,6 +26,11 @@ pub enum Line<'a> {
         seed: u32,
         every: u32,
     },
+    Cover {
+        files: Files<'a>,
+        logs: Vec<&'a str>,
+        seed: u32,
+    },
     /// Help or the version: the text to print.
     Text(Error),
 }

@@ -6,15 +6,7 @@ ghost use Rattle.cave_words.specs.Bytes.{is_digit};
 ghost use Rattle.cave_command.specs.Number.{number_in};
 
 use cave_words::bytes::number_of;
-
-/// The most digits of a number.
-pub const MOST_DIGITS: usize = 10;
-
-/// The greatest seed.
-pub const GREATEST_SEED: u32 = 2_147_483_647;
-
-/// The greatest distance of checkpoints.
-pub const MOST_EVERY: u32 = 10_000;
+use limits::is_long_number;
 
 fn is_all_digits(text: &[u8]) -> bool
     ensures { result ≡ list_all is_digit text.now }
@@ -28,7 +20,7 @@ pub(crate) fn number_in(least: u32, most: u32, text: &str) -> Option<u32>
     ensures { result ≡ number_in least most text.now }
 {
     let digits = text.as_bytes();
-    if digits.is_empty() || digits.len() > MOST_DIGITS || !is_all_digits(digits) {
+    if digits.is_empty() || is_long_number(digits.len()) || !is_all_digits(digits) {
         return None;
     }
     let number = number_of(digits);

@@ -1,17 +1,18 @@
 //! Which run the words ask for.
 
-ghost use Rattle.std.specs.Prelude.{◌≡◌, IfOk, IfErr, MatchOption, MatchResult, None, Some, codes, map};
-ghost use Rattle.clap.specs.Words.{fault_of, first_of, kind_of, subcommand_of, subcommand_rows_of};
+ghost use Rattle.std.specs.Prelude.{◌≡◌, IfOk, IfErr, MatchOption, MatchResult, None, Some, codes, map, option_map};
+ghost use Rattle.clap.specs.Words.{all_of, fault_of, first_of, kind_of, subcommand_of, subcommand_rows_of};
 ghost use Rattle.cave_command.specs.App.{cave_app};
 ghost use Rattle.cave_command.specs.Parse.{IsParse};
-ghost use Rattle.cave_command.specs.Line.{IsAsked, IsBadEvery, IsBadSeed, IsEvery, IsFiles, IsLine, IsLineMet, IsLineOf, IsRefusal, IsRefused, IsRequest, IsSeed, IsWrong, rows_in};
+ghost use Rattle.cave_command.specs.Line.{IsAsked, IsBadEvery, IsBadSeed, IsEvery, IsFiles, IsLine, IsLineMet, IsLineOf, IsRefusal, IsRefused, IsRequest, IsSeed, IsUnmade, IsWrong, rows_in};
 
 use crate::app::cave_command;
 use crate::fault::LineFault;
 use crate::line::{Files, Line};
-use crate::number::{GREATEST_SEED, MOST_EVERY, number_in};
+use crate::number::number_in;
 use clap::error::ErrorKind;
 use clap::{ArgMatches, Error};
+use limits::{MAX_EVERY, MAX_SEED};
 use std::alloc::Global;
 use std::convert::AsStr;
 
@@ -29,7 +30,7 @@ pub fn command_line<'a, S: AsStr>(alloc: Global, words: &'a [S]) -> Result<Line<
         IfErr result (IsRefused (fault_of cave_app given) (subcommand_of cave_app given)) }
 {
     match parse(alloc, words) {
-        Ok(matches) => line_met(&matches),
+        Ok(matches) => line_met(alloc, &matches),
         Err(error) => answer_to(error),
     }
 }
@@ -55,26 +56,29 @@ fn answer_to<'a>(error: Error) -> Result<Line<'a>, LineFault<'a>>
 }
 
 /// The run of the command that was met.
-fn line_met<'a>(matches: &ArgMatches<'a>) -> Result<Line<'a>, LineFault<'a>>
+fn line_met<'a>(alloc: Global, matches: &ArgMatches<'a>) -> Result<Line<'a>, LineFault<'a>>
     ensures { MatchResult result (IsLineMet (subcommand_rows_of matches.now))
-        (IsWrong (subcommand_rows_of matches.now)) }
+        (IsUnmade (subcommand_rows_of matches.now)) }
 {
     let Some((name, found)) = matches.subcommand() else {
         return Err(LineFault::Incomplete);
     };
-    line_of(name, found)
+    line_of(alloc, name, found)
 }
 
 /// The run of a command.
-fn line_of<'a>(name: &str, found: &ArgMatches<'a>) -> Result<Line<'a>, LineFault<'a>>
+fn line_of<'a>(alloc: Global, name: &str, found: &ArgMatches<'a>) -> Result<Line<'a>, LineFault<'a>>
     ensures { MatchResult result (IsLineOf name.now (rows_in found.now))
-        (IsWrong (Some (name.now, rows_in found.now))) }
+        (IsUnmade (Some (name.now, rows_in found.now))) }
 {
     let Some(files) = files_in(found) else {
         return Err(LineFault::Incomplete);
     };
     if name == "check" {
         return Ok(Line::Check { files });
+    }
+    if name == "cover" {
+        return cover_of(alloc, files, found);
     }
     let Some(log) = value_in(found, "log") else {
         return Err(LineFault::Incomplete);
@@ -96,6 +100,32 @@ fn line_of<'a>(name: &str, found: &ArgMatches<'a>) -> Result<Line<'a>, LineFault
         seed: seed_in(found)?,
         every: every_in(found)?,
     })
+}
+
+/// The run of `cover`, whose cave has these files.
+fn cover_of<'a>(
+    alloc: Global,
+    files: Files<'a>,
+    found: &ArgMatches<'a>,
+) -> Result<Line<'a>, LineFault<'a>>
+    requires { IsFiles (rows_in found.now) files }
+    ensures { MatchResult result (IsLineOf (codes "cover") (rows_in found.now))
+        (IsUnmade (Some (codes "cover", rows_in found.now))) }
+{
+    let Some(logs) = values_in(found, "log") else {
+        return Err(LineFault::Incomplete);
+    };
+    let seed = seed_in(found)?;
+    let logs = Vec::from_slice(alloc, logs)?;
+    Ok(Line::Cover { files, logs, seed })
+}
+
+/// All that was found for an argument.
+#[tactic(auto, using(crate::proofs::Values::values))]
+fn values_in<'a, 'm>(found: &'m ArgMatches<'a>, id: &str) -> Option<&'m [&'a str]>
+    ensures { option_map (λ texts. map (λ text. text.now) texts.now) result ≡ all_of id.now (rows_in found.now) }
+{
+    found.get_strs(id)
 }
 
 /// What was found for an argument.
@@ -124,7 +154,7 @@ fn seed_in<'a>(found: &ArgMatches<'a>) -> Result<u32, LineFault<'a>>
 {
     match value_in(found, "seed") {
         None => Ok(USUAL_SEED),
-        Some(text) => number_in(0, GREATEST_SEED, text).ok_or(LineFault::BadSeed(text)),
+        Some(text) => number_in(0, MAX_SEED, text).ok_or(LineFault::BadSeed(text)),
     }
 }
 
@@ -133,6 +163,6 @@ fn every_in<'a>(found: &ArgMatches<'a>) -> Result<u32, LineFault<'a>>
 {
     match value_in(found, "every") {
         None => Ok(USUAL_EVERY),
-        Some(text) => number_in(1, MOST_EVERY, text).ok_or(LineFault::BadEvery(text)),
+        Some(text) => number_in(1, MAX_EVERY, text).ok_or(LineFault::BadEvery(text)),
     }
 }

@@ -1,16 +1,12 @@
--- What a cave's tables show, and the places that have a role where bindings say nothing.
-use Rattle.std.proofs.Common.{◌≡◌, ◌⊎◌, inl, inr, ℕ, ◌+◌, ◌<◌, cond, eqb, leb, ltb, ◌-◌, Vec, List, [], ◌∷◌, length, map, drop, get_or, Option, Some, None, option_map, is_some, refl, sym, ap, ◌∙◌, arith}
-use Rattle.std.specs.declared.alloc.Global.{Global}
+-- What the texts of a cave show, and the places that have a role where bindings say nothing.
+use Rattle.std.proofs.Common.{◌≡◌, ◌⊎◌, inl, inr, ℕ, Bool, true, false, cond, eqb, List, [], ◌∷◌, map, Option, Some, None, option_map, is_some, refl, sym, ap, ◌∙◌}
 use Rattle.std.specs.Option.{option_or}
 use Rattle.std.specs.Ordering.{nat_cmp, eq_by_cmp}
 use Rattle.std.specs.Cmp.{nat_cmp_total}
 use Rattle.std.specs.FinMap as fin
 use Rattle.std.proofs.lemmas.Bool.{cases_eq, eq-eqb, ne_eqb}
-use Rattle.std.proofs.lemmas.Bool.Decides.{nat_tests}
-use Rattle.std.proofs.lemmas.List.{at_drop_more, length-drop, length-map}
-use Rattle.cave_data.specs.declared.rows.ClassRow.{ClassRow}
-use Rattle.cave_data.specs.CaveView.{class_from}
-use Rattle.cave_data.specs.Shown.{shown, shown_text, raw_text, raw_class, shown_class, class_entry}
+use Rattle.cave_data.specs.CaveView.{Texts}
+use Rattle.cave_data.specs.Shown.{shown, shown_texts}
 use Rattle.cave_data.specs.Bindings.{default_place}
 use Rattle.cave_data.specs.DefaultPlaces.{or_default, with_defaults}
 use Rattle.cave_data.proofs.SlotLemmas.{get-by_number}
@@ -73,26 +69,17 @@ get-with_defaults m q =
     ∙ ap (defaulted q 0 1) (get-or_default 1 3 (or_default 2 8 (or_default 3 15 m)) q ∙ ap (defaulted q 1 3) (get-or_default 2 8 (or_default 3 15 m) q ∙ ap (defaulted q 2 8) (get-or_default 3 15 m q)))
     ∙ chain q (fin.get m q)
 
--- texts as they are printed, from texts as they are kept
-pub shown_raw : (o : Option (Vec ℕ Global)) → option_map shown_text o ≡ option_map shown (option_map raw_text o)
-shown_raw None = refl
-shown_raw (Some text) = refl
+shown_where : (b : Bool) (text : List ℕ) (o p : Option (List ℕ)) → p ≡ option_map shown o → cond b (Some (shown text)) p ≡ option_map shown (cond b (Some text) o)
+shown_where true text o p e = refl
+shown_where false text o p e = e
 
-pub classes_raw : (rows : List ClassRow) → map class_entry rows ≡ map shown_class (map raw_class rows)
-classes_raw [] = refl
-classes_raw (row ∷ rows) = ap (λ cs. class_entry row ∷ cs) (classes_raw rows)
+find-shown : (n : ℕ) (es : List (ℕ × List ℕ)) → fin.find nat_cmp n (map (λ (e : ℕ × List ℕ). (e.0, shown e.1)) es) ≡ option_map shown (fin.find nat_cmp n es)
+find-shown n [] = refl
+find-shown n (e ∷ es) = shown_where (eq_by_cmp nat_cmp n e.0) e.1 (fin.find nat_cmp n es) _ (find-shown n es)
 
-followed : (n count rest : ℕ) → n < count → rest ≡ count - (n + 1) → ltb 0 rest ≡ ltb (n + 1) count
-followed n count rest h e = grind (arith, nat_tests)
+-- the texts of a map as they are printed
+pub get-shown_texts : (m : Texts) (n : ℕ) → fin.get (shown_texts m) n ≡ option_map shown (fin.get m n)
+unfolding shown_texts
+get-shown_texts m n = fin.get-from_entries nat_cmp_total _ n ∙ find-shown n (fin.entries m) ∙ ap (option_map shown) (sym (fin.get-entries m n))
 
--- the row at a place is the class of the score, or those behind it are searched
-pub class_here : (rows : List ClassRow) (n score : ℕ) (d : ClassRow) → n < length rows
-    → class_from (n + 1) score (map class_entry (drop n rows))
-    ≡ cond (leb score (get_or rows n d).bound) (Some (record { row = n + 1; bound = (get_or rows n d).bound; text = shown (get_or rows n d).text.items; is_followed = ltb (n + 1) (length rows) })) (class_from (n + 1 + 1) score (map class_entry (drop (n + 1) rows)))
-class_here rows n score d h =
-    let behind : length (map class_entry (drop (n + 1) rows)) ≡ length rows - (n + 1) = length-map (drop (n + 1) rows) class_entry ∙ length-drop (n + 1) rows in
-    at_drop_more (λ (xs : List ClassRow). class_from (n + 1) score (map class_entry xs)) rows n d h
-    ∙ ap (λ b. cond (leb score (get_or rows n d).bound) (Some (record { row = n + 1; bound = (get_or rows n d).bound; text = shown (get_or rows n d).text.items; is_followed = b })) (class_from (n + 1 + 1) score (map class_entry (drop (n + 1) rows))))
-    (followed n (length rows) _ h behind)
-
-pub ruleset gets = (get-by_number, get-with_defaults)
+pub ruleset gets = (get-by_number, get-with_defaults, get-shown_texts)

@@ -4,10 +4,15 @@ pub mod FieldLemmas
 pub mod Fronts
 pub mod SlotLemmas
 pub mod SlotChanges
-pub mod TableLemmas
+pub mod SpanLemmas
+pub mod TextTables
+pub mod ClassLemmas
 pub mod FoldLemmas
 pub mod TextLemmas
 pub mod RowLemmas
+pub mod ListLemmas
+pub mod ByPlace
+pub mod WayLemmas
 pub mod PartLemmas
 pub mod StepLemmas
 pub mod DatabaseLemmas

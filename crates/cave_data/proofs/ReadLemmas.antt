@@ -8,6 +8,7 @@ use Rattle.std.specs.Cmp.{nat_cmp_total}
 use Rattle.std.specs.FinMap as fin
 use Rattle.std.proofs.lemmas.Bool.{ltb-false, le-ltb}
 use Rattle.std.proofs.lemmas.List.{append_assoc, append-nil}
+use Rattle.limits.specs.Limits.{max_input_bytes}
 use Rattle.cave_data.specs.declared.error.Cause.{Cause}
 use Rattle.cave_data.specs.declared.error.Cause.TheVariants.{NoEnd}
 use Rattle.cave_data.specs.declared.error.Spot.TheVariants as spot
@@ -121,7 +122,7 @@ holds rows b c made = record {
   hints = λ n. ap (λ m. fin.get m n) made.hints ∙ hints_behind rows n;
 }
 
-pub made_reads : (database bindings : List ℕ) (t : Tables) (b : Bindings) (c : CaveView) → ltb 1048576 (length database) ≡ false → ltb 1048576 (length bindings) ≡ false
+pub made_reads : (database bindings : List ℕ) (t : Tables) (b : Bindings) (c : CaveView) → ltb max_input_bytes (length database) ≡ false → ltb max_input_bytes (length bindings) ≡ false
     → first_fault [] (lines database) ≡ None → t ≡ tables_of (entries (lines database)) → first_binding_fault [] (lines bindings) ≡ None → b ≡ bound (bindings_of (lines bindings)) → Finished t b c → Reads database bindings c
 made_reads database bindings t b c small bindings_small right tables bindings_are_right are made =
     let made_of = subst (λ t'. Finished t' b c) tables made in
@@ -179,32 +180,32 @@ same_cave database bindings c d rc rd =
 
 -- Faults.
 
-pub fault_database_large : (database bindings : List ℕ) → ltb 1048576 (length database) ≡ true → fault database bindings ≡ Some (too_large spot.Database)
+pub fault_database_large : (database bindings : List ℕ) → ltb max_input_bytes (length database) ≡ true → fault database bindings ≡ Some (too_large spot.Database)
 unfolding fault
 fault_database_large database bindings e =
-    ap (λ b. cond b (Some (too_large spot.Database)) (cond (ltb 1048576 (length bindings)) (Some (too_large spot.Bindings)) (option_or (first_fault [] (lines database)) (first_binding_fault [] (lines bindings))))) e
+    ap (λ b. cond b (Some (too_large spot.Database)) (cond (ltb max_input_bytes (length bindings)) (Some (too_large spot.Bindings)) (option_or (first_fault [] (lines database)) (first_binding_fault [] (lines bindings))))) e
 
-small_fault : (database bindings : List ℕ) → ltb 1048576 (length database) ≡ false
-    → fault database bindings ≡ cond (ltb 1048576 (length bindings)) (Some (too_large spot.Bindings)) (option_or (first_fault [] (lines database)) (first_binding_fault [] (lines bindings)))
+small_fault : (database bindings : List ℕ) → ltb max_input_bytes (length database) ≡ false
+    → fault database bindings ≡ cond (ltb max_input_bytes (length bindings)) (Some (too_large spot.Bindings)) (option_or (first_fault [] (lines database)) (first_binding_fault [] (lines bindings)))
 unfolding fault
 small_fault database bindings e =
-    ap (λ b. cond b (Some (too_large spot.Database)) (cond (ltb 1048576 (length bindings)) (Some (too_large spot.Bindings)) (option_or (first_fault [] (lines database)) (first_binding_fault [] (lines bindings))))) e
+    ap (λ b. cond b (Some (too_large spot.Database)) (cond (ltb max_input_bytes (length bindings)) (Some (too_large spot.Bindings)) (option_or (first_fault [] (lines database)) (first_binding_fault [] (lines bindings))))) e
 
-pub fault_bindings_large : (database bindings : List ℕ) → ltb 1048576 (length database) ≡ false → ltb 1048576 (length bindings) ≡ true → fault database bindings ≡ Some (too_large spot.Bindings)
+pub fault_bindings_large : (database bindings : List ℕ) → ltb max_input_bytes (length database) ≡ false → ltb max_input_bytes (length bindings) ≡ true → fault database bindings ≡ Some (too_large spot.Bindings)
 fault_bindings_large database bindings e b =
     small_fault database bindings e ∙ ap (λ v. cond v (Some (too_large spot.Bindings)) (option_or (first_fault [] (lines database)) (first_binding_fault [] (lines bindings)))) b
 
-both_small : (database bindings : List ℕ) → ltb 1048576 (length database) ≡ false → ltb 1048576 (length bindings) ≡ false
+both_small : (database bindings : List ℕ) → ltb max_input_bytes (length database) ≡ false → ltb max_input_bytes (length bindings) ≡ false
     → fault database bindings ≡ option_or (first_fault [] (lines database)) (first_binding_fault [] (lines bindings))
 both_small database bindings e b =
     small_fault database bindings e ∙ ap (λ v. cond v (Some (too_large spot.Bindings)) (option_or (first_fault [] (lines database)) (first_binding_fault [] (lines bindings)))) b
 
-pub fault_in_database : (database bindings : List ℕ) (e : CaveError) → ltb 1048576 (length database) ≡ false → ltb 1048576 (length bindings) ≡ false
+pub fault_in_database : (database bindings : List ℕ) (e : CaveError) → ltb max_input_bytes (length database) ≡ false → ltb max_input_bytes (length bindings) ≡ false
     → FaultIs e (first_fault [] (lines database)) → FaultIs e (fault database bindings)
 fault_in_database database bindings e s b (inl h) = inl h
 fault_in_database database bindings e s b (inr h) = inr (both_small database bindings s b ∙ ap (λ o. option_or o (first_binding_fault [] (lines bindings))) h)
 
-pub fault_in_bindings : (database bindings : List ℕ) (e : CaveError) → ltb 1048576 (length database) ≡ false → ltb 1048576 (length bindings) ≡ false → first_fault [] (lines database) ≡ None
+pub fault_in_bindings : (database bindings : List ℕ) (e : CaveError) → ltb max_input_bytes (length database) ≡ false → ltb max_input_bytes (length bindings) ≡ false → first_fault [] (lines database) ≡ None
     → FaultIs e (first_binding_fault [] (lines bindings)) → FaultIs e (fault database bindings)
 fault_in_bindings database bindings e s b right (inl h) = inl h
 fault_in_bindings database bindings e s b right (inr h) =
@@ -216,8 +217,8 @@ right_faultless database bindings right =
     ∙ ap (λ o. option_or o (first_binding_fault [] (lines bindings))) (database_faultless (lines database) right.is_database) ∙ bindings_faultless (lines bindings) right.are_bindings
 
 faultless_right : (database bindings : List ℕ) → fault database bindings ≡ None → AreRight database bindings
-faultless_right database bindings e = large (ltb 1048576 (length database)) refl (ltb 1048576 (length bindings)) refl where
-  large : (v : Bool) → ltb 1048576 (length database) ≡ v → (w : Bool) → ltb 1048576 (length bindings) ≡ w → AreRight database bindings
+faultless_right database bindings e = large (ltb max_input_bytes (length database)) refl (ltb max_input_bytes (length bindings)) refl where
+  large : (v : Bool) → ltb max_input_bytes (length database) ≡ v → (w : Bool) → ltb max_input_bytes (length bindings) ≡ w → AreRight database bindings
   large true is w are = let told = fault_database_large database bindings is in cc
   large false is true are = let told = fault_bindings_large database bindings is are in cc
   large false is false are =

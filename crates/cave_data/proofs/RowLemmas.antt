@@ -51,7 +51,7 @@ behind_ways-more : (gs : List Going) (going : Going) (goings : List Going) → b
 behind_ways-more gs going [] = refl
 behind_ways-more gs going (g ∷ goings) = ap Some (append_assoc gs (going ∷ []) (g ∷ goings))
 
-abbrev goings_of : ℕ → List (ℕ × Going) → List Going
+abbrev pub goings_of : ℕ → List (ℕ × Going) → List Going
 goings_of place rows = map (λ row. row.1) (filter (λ row. row.0 == place) rows)
 
 way_more : (t : WaysSoFar) (place p : ℕ) (going : Going) (goings : List Going)

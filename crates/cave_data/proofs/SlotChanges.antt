@@ -27,6 +27,10 @@ module _ {X Y : Type 0} (view : X → Y) where
   by_number-replace old mid new n x taken put =
       by_number-put old new n x (record { changed = put.changed; others = λ q ne. put.others q ne ∙ taken.others q ne })
 
+-- two views that show the same of each slot show the same map
+pub by_number-shows : {X Y : Type 0} (f g : X → Y) (xs : List (Option X)) → ((n : ℕ) → option_map f (slot xs n) ≡ option_map g (slot xs n)) → by_number f xs ≡ by_number g xs
+by_number-shows f g xs same = map.same_map nat_cmp_total map.nat_cmp-IsAntisymmetric _ _ (λ q. get-by_number f xs q ∙ same q ∙ sym (get-by_number g xs q))
+
 pub by_number-none : {X Y : Type 0} (view : X → Y) (xs : List (Option X)) → xs ≡ [] → by_number view xs ≡ map.empty
 unfolding by_number
 by_number-none view xs e = ap (by_number view) e

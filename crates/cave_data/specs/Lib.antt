@@ -4,10 +4,13 @@ pub mod Gives
 pub mod PlaceRole
 pub mod Role
 pub mod Rows
+pub mod Lists
 pub mod Shown
 pub mod Slots
+pub mod Spans
 pub mod RowViews
 pub mod Tables
+pub mod Ways
 pub mod Grammar
 pub mod SectionRows
 pub mod FirstFault

@@ -3,6 +3,7 @@ use Rattle.std.specs.Prelude.{◌≡◌, ◌⊎◌, ◌≤◌, ℕ, true, nat_lt
 use Rattle.std.specs.Option.{option_or}
 use Rattle.std.specs.Str.Lines.{lines}
 use Rattle.std.specs.FinMap.{get}
+use Rattle.limits.specs.Limits.{max_input_bytes}
 use Rattle.cave_data.specs.declared.error.Cause.TheVariants.{TooLarge}
 use Rattle.cave_data.specs.declared.error.Spot.{Spot}
 use Rattle.cave_data.specs.declared.error.Spot.TheVariants as spot
@@ -32,8 +33,8 @@ pub record AreBindings (ls : List (List ℕ)) : Type 0 where
 
 -- The inputs are a database and bindings.
 pub record AreRight (database bindings : List ℕ) : Type 0 where
-  pub small : length database ≤ 1048576
-  pub bindings_small : length bindings ≤ 1048576
+  pub small : length database ≤ max_input_bytes
+  pub bindings_small : length bindings ≤ max_input_bytes
   pub is_database : IsDatabase (lines database)
   pub are_bindings : AreBindings (lines bindings)
 
@@ -48,8 +49,14 @@ pub record Reads (database bindings : List ℕ) (c : CaveView) : Type 0 where
 abbrev pub too_large : Spot → CaveError
 too_large place = record { cause = TooLarge; line = 0; spot = place }
 
+-- the fault of a size, which is decided before memory is asked for
+abbrev pub size_fault : List ℕ → List ℕ → Option CaveError
+size_fault database bindings =
+    if nat_lt max_input_bytes (length database) then Some (too_large spot.Database)
+    else (if nat_lt max_input_bytes (length bindings) then Some (too_large spot.Bindings) else None)
+
 -- the first fault: a size, else a line of the database, else a line of the bindings
 unfoldable pub fault : List ℕ → List ℕ → Option CaveError
 fault database bindings =
-    if nat_lt 1048576 (length database) then Some (too_large spot.Database)
-    else (if nat_lt 1048576 (length bindings) then Some (too_large spot.Bindings) else option_or (first_fault [] (lines database)) (first_binding_fault [] (lines bindings)))
+    if nat_lt max_input_bytes (length database) then Some (too_large spot.Database)
+    else (if nat_lt max_input_bytes (length bindings) then Some (too_large spot.Bindings) else option_or (first_fault [] (lines database)) (first_binding_fault [] (lines bindings)))

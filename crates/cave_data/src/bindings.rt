@@ -11,8 +11,15 @@ use crate::binding::{Binding, Key, binding_row, is_skipped};
 use crate::database::told;
 use crate::error::{BindingFlaw, Cause, CaveError, Spot};
 use crate::lines::split_line;
+use crate::place_role::PLACE_NAMES;
+use crate::role::ROLE_NAMES;
 use crate::tables::Table;
 use std::alloc::Global;
+
+/// The last number of a role.
+const LAST_ROLE: u16 = ROLE_NAMES.len() as u16 - 1;
+/// The last number of a place's role.
+const LAST_PLACE_ROLE: u16 = PLACE_NAMES.len() as u16 - 1;
 
 /// What bindings say.
 #[derive(Drop)]
@@ -28,8 +35,8 @@ impl Bindings {
         ensures { result ≡ no_bindings }
     {
         Self {
-            roles: Table::new(alloc),
-            places: Table::new(alloc),
+            roles: Table::with_room(alloc, LAST_ROLE),
+            places: Table::with_room(alloc, LAST_PLACE_ROLE),
             letters: None,
         }
     }

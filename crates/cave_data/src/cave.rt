@@ -1,6 +1,7 @@
 //! A cave: the tables of a database and what its bindings say.
-ghost use Rattle.std.specs.Prelude.{◌≡◌, All, option_map, map, length, nat_lt, IfOk, IfErr, IfSome, MatchResult, None, unwrap_or};
+ghost use Rattle.std.specs.Prelude.{◌≡◌, All, option_map, map, length, nat_lt, IfOk, IfErr, IfSome, MatchOption, MatchResult, None, unwrap_or};
 ghost use Rattle.std.specs.FinMap.{get};
+ghost use Rattle.limits.specs.Limits.{max_input_bytes};
 ghost use Rattle.cave_data.specs.CaveView.{name_of, look_of, ways_from, conditions_of, placement_of, default_message, CaveView, class_of};
 ghost use Rattle.cave_data.specs.Bindings.{default_place};
 ghost use Rattle.cave_data.specs.Faults.{FaultIs, no_memory};
@@ -9,43 +10,46 @@ ghost use Rattle.cave_data.specs.Ranges.{IsLetters, IsMessage, IsPlace, IsStandi
 ghost use Rattle.cave_data.specs.Grammar.{entries};
 ghost use Rattle.cave_data.specs.Laws.{Laws};
 ghost use Rattle.cave_data.specs.LowestCause.{TellsLowest};
-ghost use Rattle.cave_data.specs.Reading.{AreRight, Reads, fault};
+ghost use Rattle.cave_data.specs.Reading.{AreRight, Reads, fault, size_fault};
 ghost use Rattle.std.specs.Str.Lines.{lines};
 ghost use Rattle.cave_data.specs.RowViews.{rating};
-ghost use Rattle.cave_data.specs.Shown.{going, word_entry};
+ghost use Rattle.cave_data.specs.Shown.{going};
 ghost use Rattle.cave_data.specs.Role.{role_number};
 ghost use Rattle.cave_data.specs.PlaceRole.{place_number};
 
 use crate::bindings::{Bindings, read_bindings};
+use crate::classes::Classes;
 use crate::database::read_database;
 use crate::error::{Cause, CaveError, Spot};
 use crate::place_role::PlaceRole;
 use crate::reader::{LAST_NAMED, Tables};
 use crate::role::Role;
-use crate::rows::{ClassRow, Hint, Placement, Rating, Row, WordRow};
-use crate::slots::{Slots, printed, text_at};
+use crate::rows::{Hint, Placement, Rating, Row};
+use crate::slots::Slots;
 use crate::tables::Table;
+use crate::texts::Texts;
+use crate::ways::Ways;
+use crate::words::Words;
+use limits::is_large_input;
 use std::alloc::Global;
 use std::marker::Model;
 
-/// The greatest size of an input.
-const MAX_SIZE: usize = 1_048_576;
 /// The last prop that may have a text.
 const LAST_PROP: u16 = 99;
 
 /// A cave that was read from a database and its bindings.
 #[derive(Drop)]
 pub struct Cave {
-    long: Slots<Vec<u8>>,
-    short: Slots<Vec<u8>>,
-    travel: Slots<Vec<Row>>,
-    words: Vec<WordRow>,
-    objects: Slots<Vec<u8>>,
-    messages: Slots<Vec<u8>>,
+    long: Texts,
+    short: Texts,
+    travel: Ways,
+    words: Words,
+    objects: Texts,
+    messages: Texts,
     placements: Table<Placement>,
     defaults: Table<u16>,
     conditions: Table<u32>,
-    classes: Vec<ClassRow>,
+    classes: Classes,
     hints: Table<Hint>,
     roles: Table<u16>,
     places: Table<u16>,
@@ -70,7 +74,7 @@ impl Model for Cave {
     ghost use Rattle.std.specs.Prelude.{map};
     ghost use Rattle.cave_data.specs.CaveView.{CaveView, cave_code};
     ghost use Rattle.cave_data.specs.Slots.{by_number};
-    ghost use Rattle.cave_data.specs.Shown.{RowsAtPlaces, shown_text, goings, word_entry, class_entry};
+    ghost use Rattle.cave_data.specs.Shown.{shown_texts, shown_class};
     ghost use Rattle.cave_data.specs.DefaultPlaces.{with_defaults};
     ghost use Rattle.cave_data.specs.Ranges.{IsLetters, IsMessage, IsPlace, IsStanding, HasOnly};
 
@@ -79,16 +83,16 @@ impl Model for Cave {
     ghost coded = { cave_code };
 
     ghost view = { λ c. record {
-      long = by_number shown_text c.long.items.items;
-      short = by_number shown_text c.short.items.items;
-      travel = by_number goings c.travel.items.items;
-      words = map word_entry c.words.items;
-      objects = by_number shown_text c.objects.items.items;
-      messages = by_number shown_text c.messages.items.items;
+      long = shown_texts c.long.texts;
+      short = shown_texts c.short.texts;
+      travel = c.travel.ways;
+      words = c.words;
+      objects = shown_texts c.objects.texts;
+      messages = shown_texts c.messages.texts;
       placements = c.placements;
       defaults = c.defaults;
       conditions = c.conditions;
-      classes = map class_entry c.classes.items;
+      classes = map shown_class c.classes;
       hints = c.hints;
       roles = c.roles;
       places = with_defaults c.places;
@@ -96,7 +100,6 @@ impl Model for Cave {
     } };
 
     ghost invariant = { λ c. IsLetters c.letters
-        × RowsAtPlaces c.travel.items.items
         × HasOnly IsMessage c.roles
         × HasOnly IsPlace c.places
         × HasOnly IsStanding c.placements };
@@ -104,9 +107,9 @@ impl Model for Cave {
 
 /// Whether an input is too large.
 fn is_too_large(input: &[u8]) -> bool
-    ensures { result ≡ nat_lt 1048576 (length input.now) }
+    ensures { result ≡ nat_lt max_input_bytes (length input.now) }
 {
-    input.len() > MAX_SIZE
+    is_large_input(input.len())
 }
 
 /// How many letters count.
@@ -128,16 +131,16 @@ fn finish(tables: Tables, bindings: Bindings) -> Cave
     ensures { Finished tables bindings result }
 {
     Cave {
-        long: tables.long.into_slots(),
-        short: tables.short.into_slots(),
-        travel: tables.ways.into_slots(),
-        words: tables.words.into_rows(),
-        objects: tables.objects.into_slots(),
-        messages: tables.messages.into_slots(),
+        long: tables.long,
+        short: tables.short,
+        travel: tables.ways,
+        words: tables.words,
+        objects: tables.objects,
+        messages: tables.messages,
         placements: tables.placements,
         defaults: tables.defaults,
         conditions: tables.conditions,
-        classes: tables.classes.into_rows(),
+        classes: tables.classes,
         hints: tables.hints,
         roles: bindings.roles,
         places: bindings.places,
@@ -147,6 +150,8 @@ fn finish(tables: Tables, bindings: Bindings) -> Cave
 
 /// The cave, or the first fault.
 fn read_cave(alloc: Global, database: &[u8], bindings: &[u8]) -> Result<Cave, CaveError>
+    ensures size { MatchOption (size_fault database.now bindings.now) (Unit {0})
+        (λ e. result ≡ Err e) }
     ensures found { IfOk result (λ c. Reads database.now bindings.now c) }
     ensures fault { IfErr result (λ e. FaultIs e (fault database.now bindings.now)) }
 {
@@ -174,6 +179,9 @@ impl Cave {
     /// Reads a cave from its database and its bindings, or tells the first fault: a size over
     /// 1,048,576 bytes, then the first faulty line, the database's before the bindings'.
     pub fn read(alloc: Global, database: &[u8], bindings: &[u8]) -> Result<Cave, CaveError>
+        // A size over the limit is told whatever memory there is.
+        ensures size { MatchOption (size_fault database.now bindings.now) (Unit {0})
+            (λ e. result ≡ Err e) }
         ensures found { IfOk result (λ c. Reads database.now bindings.now c) }
         ensures fault { IfErr result (λ e. FaultIs e (fault database.now bindings.now)) }
         // Where a line of the database has several faults, the one with the lowest number is its cause.
@@ -193,21 +201,21 @@ impl Cave {
     pub fn long(&self, place: u16) -> Option<&[u8]>
         ensures { option_map (λ x. x.now) result ≡ get self.now.long place }
     {
-        text_at(&self.long, place)
+        self.long.printed(place)
     }
 
     /// The short text of the place.
     pub fn short(&self, place: u16) -> Option<&[u8]>
         ensures { option_map (λ x. x.now) result ≡ get self.now.short place }
     {
-        text_at(&self.short, place)
+        self.short.printed(place)
     }
 
     /// The message of the number.
     pub fn message(&self, number: u16) -> Option<&[u8]>
         ensures { option_map (λ x. x.now) result ≡ get self.now.messages number }
     {
-        text_at(&self.messages, number)
+        self.messages.printed(number)
     }
 
     /// The inventory text of the object.
@@ -217,7 +225,7 @@ impl Cave {
         if object > LAST_NAMED {
             return None;
         }
-        text_at(&self.objects, object)
+        self.objects.printed(object)
     }
 
     /// The text of the object as it lies there with that prop.
@@ -227,7 +235,7 @@ impl Cave {
         if object == 0 || object > LAST_NAMED || prop > LAST_PROP {
             return None;
         }
-        text_at(&self.objects, 100 * object + prop)
+        self.objects.printed(100 * object + prop)
     }
 
     /// The ways out of the place, in the order of the file.
@@ -235,10 +243,7 @@ impl Cave {
         ensures value { map going result.now ≡ ways_from self.now place }
         ensures place { All (λ row. row.place ≡ place) result.now }
     {
-        match self.travel.get(place) {
-            Some(rows) => rows.as_slice(),
-            None => &[],
-        }
+        self.travel.at(place)
     }
 
     /// The bits that are set for the place, as the bits of a number.
@@ -291,28 +296,17 @@ impl Cave {
     }
 
     /// The words in the order of the file.
-    pub fn words(&self) -> &[WordRow]
-        ensures { map word_entry result.now ≡ self.now.words }
+    pub fn words(&self) -> &Words
+        ensures { result.now ≡ self.now.words }
     {
-        self.words.as_slice()
+        &self.words
     }
 
     /// The class of the score: the first row whose bound is not below it.
     pub fn class_of(&self, score: u32) -> Option<Rating<'_>>
         ensures { option_map rating result ≡ class_of self.now score }
     {
-        let count = self.classes.len();
-        for (number, class) in self.classes.iter().enumerate() {
-            if score <= u32::from(class.bound) {
-                return Some(Rating {
-                    row: number + 1,
-                    bound: class.bound,
-                    text: printed(class.text.as_slice()),
-                    is_followed: number + 1 < count,
-                });
-            }
-        }
-        None
+        self.classes.class_of(score)
     }
 
     /// How many letters of a word count.

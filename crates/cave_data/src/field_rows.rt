@@ -2,19 +2,19 @@
 ghost use Rattle.std.specs.Prelude.{◌≡◌, ◌≤◌, ◌<◌, [], ◌∷◌, length, MatchOption, IfOk, IfSome, IsTrue};
 ghost use Rattle.cave_data.specs.Fields.{fields};
 ghost use Rattle.cave_data.specs.Gives.{Gives};
+ghost use Rattle.cave_data.specs.Lists.{listed, with_number, list_within, some_listed};
 ghost use Rattle.cave_data.specs.RowViews.{text_shown};
-ghost use Rattle.cave_data.specs.Rows.{number_in, within, is_zero, list_in, all_within, text_in, text_line, object_or_prop, object_line, way_row, is_word_number, word_number, word_in, word_row, number_or_zero, some_of, few_of, second_place, placement_row, default_row, condition_row, hint_row};
+ghost use Rattle.cave_data.specs.Rows.{number_in, within, is_zero, text_in, text_line, object_or_prop, object_line, way_row, is_word_number, word_number, word_in, word_row, number_or_zero, second_place, placement_row, default_row, condition_row, hint_row};
 ghost use Rattle.cave_data.specs.Shown.{going, word_entry};
 
 use crate::error::Cause;
 use crate::number::{Number, after_blanks, number_at, number_of, split_field};
-use crate::rows::{Hint, Placement, Row, WordRow};
+use crate::rows::{Hint, MAX_LIST, Placement, Row, WordRow};
+use arrayvec::ArrayVec;
 use std::alloc::Global;
 
 /// The greatest length of a line of a text.
 const MAX_TEXT: usize = 255;
-/// The most motions or places in a row.
-const MAX_LIST: usize = 40;
 
 /// The first field and what follows it.
 #[tactic(auto, using(crate::proofs::FieldLemmas::fields_of_first))]
@@ -65,34 +65,39 @@ fn is_zero(number: Number) -> bool
     matches!(number, Number::Natural(0))
 }
 
-/// The numbers up to a 0 or to the end of the line.
-fn list_in(alloc: Global, bytes: &[u8]) -> Result<Vec<Number>, Cause>
-    ensures { Gives (λ ns. ns.items) result (list_in bytes.now) }
+/// The numbers of a list, or what is wrong with them: one is out of range, or they are too many.
+type List = Result<ArrayVec<u16, MAX_LIST>, Cause>;
+
+/// The list with one more number. A number that is out of range is told before too many of them.
+fn with_number(list: List, number: Result<u16, Cause>) -> List
+    ensures { listed result ≡ with_number (listed list) number }
 {
-    let mut numbers = Vec::new(alloc);
+    let number = number?;
+    let mut numbers = list?;
+    if numbers.is_full() {
+        return Err(Cause::TooManyRows);
+    }
+    numbers.push(number);
+    Ok(numbers)
+}
+
+/// The numbers up to a 0 or to the end of the line, each of which is to be in the range.
+fn list_in(bytes: &[u8], low: u16, high: u16) -> Result<List, Cause>
+    ensures { Gives listed result (list_within low high bytes.now) }
+{
+    let mut list = Ok(ArrayVec::new());
     let mut rest = bytes;
     while let Some((field, after)) = next_field(rest) {
         let Some(number) = number_of(field) else {
             return Err(Cause::BadNumber);
         };
         if is_zero(number) {
-            return Ok(numbers);
+            return Ok(list);
         }
-        numbers.push(number)?;
+        list = with_number(list, within(number, low, high));
         rest = after;
     }
-    Ok(numbers)
-}
-
-/// The numbers, if each is in the range.
-fn all_within(alloc: Global, numbers: &[Number], low: u16, high: u16) -> Result<Vec<u16>, Cause>
-    ensures { Gives (λ ns. ns.items) result (all_within low high numbers.now) }
-{
-    let mut all = Vec::new(alloc);
-    for number in numbers {
-        all.push(within(*number, low, high)?)?;
-    }
-    Ok(all)
+    Ok(list)
 }
 
 /// The text behind a number: what follows one blank.
@@ -144,45 +149,28 @@ pub fn object_line(line: &[u8]) -> Result<(u16, &[u8]), Cause>
     Ok((number, text))
 }
 
-/// The numbers, if there are not too many.
-fn few_of(numbers: Vec<u16>) -> Result<Vec<u16>, Cause>
-    ensures { Gives (λ ns. ns.items) result (few_of numbers.items) }
+/// The list, if it has any number.
+fn some_of(list: List) -> Result<List, Cause>
+    ensures { Gives listed result (some_listed (listed list)) }
 {
-    if numbers.len() <= MAX_LIST {
-        Ok(numbers)
-    } else {
-        Err(Cause::TooManyRows)
-    }
-}
-
-/// The numbers, if there are any.
-fn some_of(numbers: Vec<Number>) -> Result<Vec<Number>, Cause>
-    ensures { Gives (λ ns. ns.items) result (some_of numbers.items) }
-{
-    if numbers.is_empty() {
-        Err(Cause::BadNumber)
-    } else {
-        Ok(numbers)
+    match list {
+        Ok(numbers) if numbers.is_empty() => Err(Cause::BadNumber),
+        _ => Ok(list),
     }
 }
 
 /// A row of the ways out of places.
 #[tactic(auto, unfolding(crate::specs::Rows::way_row))]
-pub fn way_row(alloc: Global, line: &[u8]) -> Result<Row, Cause>
+pub fn way_row(line: &[u8]) -> Result<Row, Cause>
     ensures { Gives (λ row. (row.place, going row)) result (way_row line.now) }
 {
     let (place, rest) = number_in(line)?;
     let (target, rest) = number_in(rest)?;
-    let list = list_in(alloc, rest)?;
-    let motions = some_of(list)?;
-    let place = within(place, 1, 300)?;
-    let target = wide_within(target, 0, 999_999)?;
-    let motions = all_within(alloc, motions.as_slice(), 1, 999)?;
-    let motions = few_of(motions)?;
+    let motions = some_of(list_in(rest, 1, 999)?)?;
     Ok(Row {
-        place,
-        target,
-        motions,
+        place: within(place, 1, 300)?,
+        target: wide_within(target, 0, 999_999)?,
+        motions: motions?,
     })
 }
 
@@ -222,13 +210,12 @@ fn word_in(bytes: &[u8]) -> Result<&[u8], Cause>
 
 /// A row of the words.
 #[tactic(auto, unfolding(crate::specs::Rows::word_row))]
-pub fn word_row(alloc: Global, line: &[u8]) -> Result<WordRow, Cause>
+pub fn word_row(line: &[u8]) -> Result<WordRow<'_>, Cause>
     ensures { Gives word_entry result (word_row line.now) }
 {
     let (number, rest) = number_in(line)?;
     let word = word_in(rest)?;
     let number = word_number(number)?;
-    let word = word.to_vec(alloc)?;
     Ok(WordRow { number, word })
 }
 
@@ -282,16 +269,14 @@ pub fn default_row(line: &[u8]) -> Result<(u16, u16), Cause>
 
 /// A row of the places' bits.
 #[tactic(auto, unfolding(crate::specs::Rows::condition_row))]
-pub fn condition_row(alloc: Global, line: &[u8]) -> Result<(u16, Vec<u16>), Cause>
+pub fn condition_row(line: &[u8]) -> Result<(u16, ArrayVec<u16, MAX_LIST>), Cause>
     ensures value { Gives (λ row. (row.0, row.1.items)) result (condition_row line.now) }
     ensures range { IfOk result (λ row. row.0 ≤ 20) }
 {
     let (bit, rest) = number_in(line)?;
-    let places = list_in(alloc, rest)?;
+    let places = list_in(rest, 1, 300)?;
     let bit = within(bit, 0, 20)?;
-    let places = all_within(alloc, places.as_slice(), 1, 300)?;
-    let places = few_of(places)?;
-    Ok((bit, places))
+    Ok((bit, places?))
 }
 
 /// A row of the hints.

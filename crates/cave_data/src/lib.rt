@@ -4,6 +4,7 @@
 mod binding;
 mod bindings;
 pub mod cave;
+mod classes;
 mod database;
 pub mod error;
 mod explain;
@@ -15,7 +16,12 @@ mod reader;
 pub mod role;
 pub mod rows;
 mod slots;
+mod span;
+mod store;
 mod tables;
+mod texts;
+mod ways;
+mod words;
 
 pub use cave::Cave;
 pub use error::{BindingFlaw, Cause, CaveError, Section, Spot};
@@ -24,3 +30,4 @@ pub use lines::split_line;
 pub use place_role::PlaceRole;
 pub use role::Role;
 pub use rows::{Hint, Rating, Row, WordRow};
+pub use words::Words;

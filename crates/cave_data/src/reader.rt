@@ -4,21 +4,33 @@ ghost use Rattle.cave_data.specs.Gives.{Leaves};
 ghost use Rattle.cave_data.specs.Grammar.{section_of, headed, closes};
 ghost use Rattle.cave_data.specs.Steps.{row_step, advance, no_tables};
 
+use crate::classes::{Classes, MAX_CLASSES};
 use crate::error::{Cause, Section};
 use crate::field_rows::{
     condition_row, default_row, hint_row, object_line, placement_row, text_line, way_row, word_row,
 };
 use crate::number::{Number, is_blank_line, number_at};
 use crate::rows::{Hint, Placement};
-use crate::tables::{Classes, Table, Texts, Ways, Words, mark};
+use crate::tables::{Table, mark};
+use crate::texts::Texts;
+use crate::ways::Ways;
+use crate::words::{MAX_WORDS, Words};
 use std::alloc::Global;
 
 /// The most ways out of places.
 const MAX_WAYS: usize = 2000;
-/// The most words.
-const MAX_WORDS: usize = 1000;
-/// The most classes.
-const MAX_CLASSES: usize = 50;
+/// The last place.
+const LAST_PLACE: u16 = 300;
+/// The last number that a text of an object may have: a hundred times the object, and a prop.
+const LAST_OBJECT_TEXT: u16 = 100 * LAST_NAMED + 99;
+/// The last message.
+const LAST_MESSAGE: u16 = 499;
+/// The last object.
+const LAST_OBJECT: u16 = 100;
+/// The last action.
+const LAST_ACTION: u16 = 99;
+/// The last hint.
+const LAST_HINT: u16 = 20;
 /// The last object that may have texts.
 pub const LAST_NAMED: u16 = 99;
 
@@ -109,52 +121,52 @@ impl Tables {
         ensures { result ≡ no_tables }
     {
         Self {
-            long: Texts::new(alloc),
-            short: Texts::new(alloc),
+            long: Texts::with_room(alloc, LAST_PLACE),
+            short: Texts::with_room(alloc, LAST_PLACE),
             ways: Ways::new(alloc),
             words: Words::new(alloc),
-            objects: Texts::new(alloc),
+            objects: Texts::with_room(alloc, LAST_OBJECT_TEXT),
             object: 0,
-            messages: Texts::new(alloc),
-            placements: Table::new(alloc),
-            defaults: Table::new(alloc),
-            conditions: Table::new(alloc),
+            messages: Texts::with_room(alloc, LAST_MESSAGE),
+            placements: Table::with_room(alloc, LAST_OBJECT),
+            defaults: Table::with_room(alloc, LAST_ACTION),
+            conditions: Table::with_room(alloc, LAST_PLACE),
             classes: Classes::new(alloc),
-            hints: Table::new(alloc),
+            hints: Table::with_room(alloc, LAST_HINT),
         }
     }
 
-    fn add_long_line(&mut self, alloc: Global, line: &[u8]) -> Result<(), Cause>
+    fn add_long_line(&mut self, line: &[u8]) -> Result<(), Cause>
         ensures { Leaves result self.new (row_step self.old Section.LongTexts line.now) }
     {
         let (place, text) = text_line(line, 1, 300)?;
-        self.long.add_line(alloc, place, text)?;
+        self.long.add_line(place, text)?;
         Ok(())
     }
 
-    fn add_short_line(&mut self, alloc: Global, line: &[u8]) -> Result<(), Cause>
+    fn add_short_line(&mut self, line: &[u8]) -> Result<(), Cause>
         ensures { Leaves result self.new (row_step self.old Section.ShortTexts line.now) }
     {
         let (place, text) = text_line(line, 1, 300)?;
-        self.short.add_line(alloc, place, text)?;
+        self.short.add_line(place, text)?;
         Ok(())
     }
 
-    fn add_way(&mut self, alloc: Global, line: &[u8]) -> Result<(), Cause>
+    fn add_way(&mut self, line: &[u8]) -> Result<(), Cause>
         ensures { Leaves result self.new (row_step self.old Section.Travel line.now) }
     {
-        let row = way_row(alloc, line)?;
+        let row = way_row(line)?;
         if self.ways.count() >= MAX_WAYS {
             return Err(Cause::TooManyRows);
         }
-        self.ways.push(alloc, row)?;
+        self.ways.push(row)?;
         Ok(())
     }
 
-    fn add_word(&mut self, alloc: Global, line: &[u8]) -> Result<(), Cause>
+    fn add_word(&mut self, line: &[u8]) -> Result<(), Cause>
         ensures { Leaves result self.new (row_step self.old Section.Words line.now) }
     {
-        let row = word_row(alloc, line)?;
+        let row = word_row(line)?;
         if self.words.len() >= MAX_WORDS {
             return Err(Cause::TooManyRows);
         }
@@ -162,27 +174,27 @@ impl Tables {
         Ok(())
     }
 
-    fn add_object_line(&mut self, alloc: Global, line: &[u8]) -> Result<(), Cause>
+    fn add_object_line(&mut self, line: &[u8]) -> Result<(), Cause>
         ensures { Leaves result self.new (row_step self.old Section.Objects line.now) }
     {
         let (number, text) = object_line(line)?;
         if names_object(number) {
-            self.objects.add_line(alloc, number, text)?;
+            self.objects.add_line(number, text)?;
             self.object = number as u8;
         } else if self.object == 0 {
             return Err(Cause::OutOfRange);
         } else {
             let key = 100 * u16::from(self.object) + number / 100;
-            self.objects.add_line(alloc, key, text)?;
+            self.objects.add_line(key, text)?;
         }
         Ok(())
     }
 
-    fn add_message_line(&mut self, alloc: Global, line: &[u8]) -> Result<(), Cause>
+    fn add_message_line(&mut self, line: &[u8]) -> Result<(), Cause>
         ensures { Leaves result self.new (row_step self.old Section.Messages line.now) }
     {
         let (number, text) = text_line(line, 1, 499)?;
-        self.messages.add_line(alloc, number, text)?;
+        self.messages.add_line(number, text)?;
         Ok(())
     }
 
@@ -202,22 +214,22 @@ impl Tables {
         Ok(())
     }
 
-    fn add_condition(&mut self, alloc: Global, line: &[u8]) -> Result<(), Cause>
+    fn add_condition(&mut self, line: &[u8]) -> Result<(), Cause>
         ensures { Leaves result self.new (row_step self.old Section.Conditions line.now) }
     {
-        let (bit, places) = condition_row(alloc, line)?;
+        let (bit, places) = condition_row(line)?;
         mark(&mut self.conditions, bit, places.as_slice())?;
         Ok(())
     }
 
-    fn add_class_line(&mut self, alloc: Global, line: &[u8]) -> Result<(), Cause>
+    fn add_class_line(&mut self, line: &[u8]) -> Result<(), Cause>
         ensures { Leaves result self.new (row_step self.old Section.Classes line.now) }
     {
         let (bound, text) = text_line(line, 0, 9999)?;
         if self.classes.len() >= MAX_CLASSES {
             return Err(Cause::TooManyRows);
         }
-        self.classes.push(alloc, bound, text)?;
+        self.classes.push(bound, text)?;
         Ok(())
     }
 
@@ -243,16 +255,16 @@ impl Tables {
         ensures { Leaves result self.new (row_step self.old section line.now) }
     {
         match section {
-            Section::LongTexts => self.add_long_line(alloc, line),
-            Section::ShortTexts => self.add_short_line(alloc, line),
-            Section::Travel => self.add_way(alloc, line),
-            Section::Words => self.add_word(alloc, line),
-            Section::Objects => self.add_object_line(alloc, line),
-            Section::Messages => self.add_message_line(alloc, line),
+            Section::LongTexts => self.add_long_line(line),
+            Section::ShortTexts => self.add_short_line(line),
+            Section::Travel => self.add_way(line),
+            Section::Words => self.add_word(line),
+            Section::Objects => self.add_object_line(line),
+            Section::Messages => self.add_message_line(line),
             Section::Placements => self.add_placement(line),
             Section::Defaults => self.add_default(line),
-            Section::Conditions => self.add_condition(alloc, line),
-            Section::Classes => self.add_class_line(alloc, line),
+            Section::Conditions => self.add_condition(line),
+            Section::Classes => self.add_class_line(line),
             Section::Hints => self.add_hint(line),
             Section::Magic => self.pass_magic_line(line),
         }

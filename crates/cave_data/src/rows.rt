@@ -1,18 +1,23 @@
 //! Rows of a database, as getters show them.
 
+use arrayvec::ArrayVec;
+
+/// The most numbers in the list of a row: the motions of a way, or the places that have a bit.
+pub const MAX_LIST: usize = 40;
+
 /// A way out of a place: where to, and the motions that take it.
 #[derive(Debug, Drop)]
 pub struct Row {
     pub place: u16,
     pub target: u32,
-    pub motions: Vec<u16>,
+    pub motions: ArrayVec<u16, MAX_LIST>,
 }
 
 /// A word with its number, as written.
-#[derive(Debug, Drop)]
-pub struct WordRow {
+#[derive(Clone, Copy, Debug)]
+pub struct WordRow<'a> {
     pub number: u16,
-    pub word: Vec<u8>,
+    pub word: &'a [u8],
 }
 
 /// Where an object stands as a play begins: its first place, or 0, and its second place, 0 or -1.
@@ -29,13 +34,6 @@ pub struct Hint {
     pub points: u16,
     pub question: u16,
     pub text: u16,
-}
-
-/// A class of players: the greatest score in it, and its text.
-#[derive(Debug, Drop)]
-pub struct ClassRow {
-    pub bound: u16,
-    pub text: Vec<u8>,
 }
 
 /// The class of a score: the number of its row from 1, its bound, its text, and whether a row follows.

@@ -1,14 +1,14 @@
 //! A table with a slot for each number, in which looking up takes one step.
 ghost use Rattle.std.specs.Prelude.{◌≡◌, ◌<◌, [], None, Some, option_map, OnOk, OnErr, vec_len};
 ghost use Rattle.cave_data.specs.Slots.{slot, SameSlots, ChangesSlot};
-ghost use Rattle.cave_data.specs.Shown.{shown, shown_text};
 
 use std::alloc::{AllocError, Global};
 
-/// Values by number.
+/// Values by number, and for how many numbers it takes room as the first value comes.
 #[derive(Drop)]
 pub struct Slots<T> {
     pub items: Vec<Option<T>>,
+    room: usize,
 }
 
 impl<T: Drop> Slots<T> {
@@ -18,6 +18,17 @@ impl<T: Drop> Slots<T> {
     {
         Self {
             items: Vec::new(alloc),
+            room: 0,
+        }
+    }
+
+    /// A table with nothing in it, which takes room for the numbers up to the last at once.
+    pub fn with_room(alloc: Global, last: u16) -> Self
+        ensures { result.items.items ≡ [] }
+    {
+        Self {
+            items: Vec::new(alloc),
+            room: last as usize + 1,
         }
     }
 
@@ -36,6 +47,9 @@ impl<T: Drop> Slots<T> {
         ensures same { SameSlots self.old.items.items self.new.items.items }
         ensures room { OnOk result (number < vec_len self.new.items) }
     {
+        if self.items.is_empty() {
+            self.items.reserve_exact(self.room)?;
+        }
         while self.items.len() <= number as usize {
             self.items.push(None)?;
         }
@@ -61,26 +75,5 @@ impl<T: Drop> Slots<T> {
         self.reach(number)?;
         self.items[number as usize] = Some(value);
         Ok(())
-    }
-}
-
-/// A text as it is printed.
-#[tactic(auto, unfolding(crate::specs::Shown::shown))]
-pub fn printed(text: &[u8]) -> &[u8]
-    ensures { result.now ≡ shown text.now }
-{
-    if text == NOTHING { &[] } else { text }
-}
-
-/// The text that stands for printing nothing.
-const NOTHING: &[u8] = b">$<\n";
-
-/// The text at the number, as it is printed.
-pub fn text_at(texts: &Slots<Vec<u8>>, number: u16) -> Option<&[u8]>
-    ensures { option_map (λ x. x.now) result ≡ option_map shown_text (slot texts.now.items.items number) }
-{
-    match texts.get(number) {
-        Some(text) => Some(printed(text.as_slice())),
-        None => None,
     }
 }

@@ -10,7 +10,7 @@ module _ {S T : Type 0} (meaning : S → T) (at : ℕ → T) where
   before_by true places states next state kept last = map_push meaning states state ∙ ap (λ list. list ++ meaning state ∷ []) kept ∙ ap (λ value. map at places ++ value ∷ []) last ∙ sym (map_push at places next)
   before_by false places states next state kept last = kept
 
-  -- after `offer`, and what `meet` keeps of the marks
+  -- after `advance`, and what `meet` keeps of the marks
   pub states_before_follow : (marks : Thinned S) (place : ℕ) → map meaning marks.states ≡ map at marks.places → meaning marks.state ≡ at marks.next → map meaning (states_before marks place) ≡ map at (places_before marks place)
   states_before_follow marks place kept last = before_by (is_far marks.every marks.places place) marks.places marks.states marks.next marks.state kept last
 

@@ -1,3 +1,4 @@
+pub mod Contents
 pub mod Counts
 pub mod Following
 pub mod Joined

@@ -1,4 +1,4 @@
--- What an offered place makes of marks.
+-- What going on to a place makes of marks.
 use Rattle.std.proofs.Common.{◌≡◌, ℕ, ◌+◌, ◌-◌, ◌<◌, ◌≤◌, Bool, true, false, List, [], ◌∷◌, ◌++◌, length, arith, refl, ap}
 use Rattle.std.specs.Prelude.{slice_index, if◌then◌else◌}
 use borrow.Author.Tests.{ltb-true, ltb-false}
@@ -27,8 +27,9 @@ before_at start from every places next place t up near false test places' p =
 pub thinned_before : (start from every : ℕ) (places : List ℕ) (next place : ℕ) → IsThinned start from every places next → next ≤ place → place ≤ next + every → (places' : List ℕ) → places' ≡ (if is_far every places place then places ++ next ∷ [] else places) → IsThinned start from every places' place
 thinned_before start from every places next place t up near places' p = before_at start from every places next place t up near (is_far every places place) refl places' p
 
-offered_at : {S : Type 0} (every end from : ℕ) (places : List ℕ) (states : List S) (next : ℕ) (state : S) (room place : ℕ) (places' : List ℕ) (states' : List S) (room' : ℕ) → IsSound every end from places (length states) next room → next ≤ place → place ≤ next + every → place ≤ end → (far : Bool) → is_far every places place ≡ far → places' ≡ (if far then places ++ next ∷ [] else places) → states' ≡ (if far then states ++ state ∷ [] else states) → length places' < room' → IsSound every end from places' (length states') place room'
-offered_at every end from places states next state room place places' states' room' sound up near within true test p s enough =
+-- marks stay sound where the open place is kept, with room for the next one
+pub sound_kept : {S : Type 0} (every end from : ℕ) (places : List ℕ) (states : List S) (next : ℕ) (state : S) (room place : ℕ) (places' : List ℕ) (states' : List S) (room' : ℕ) → IsSound every end from places (length states) next room → next ≤ place → place ≤ next + every → place ≤ end → is_far every places place ≡ true → places' ≡ places ++ next ∷ [] → states' ≡ states ++ state ∷ [] → length places + 2 ≤ room' → IsSound every end from places' (length states') place room'
+sound_kept every end from places states next state room place places' states' room' sound up near within test p s enough =
     let far : slice_index places (length places - 1) + every < place = ltb-true _ _ test in
     let start = slice_index places 0 in
     let same : slice_index (places ++ next ∷ []) 0 ≡ start = at_left places (next ∷ []) 0 sound.thinned.spaced.some in
@@ -37,26 +38,16 @@ offered_at every end from places states next state room place places' states' ro
       thinned = rw same thinned;
       within = within;
       even = omega (arith, length_push places next, length_push states state, sound.even);
-      enough = rw p at enough;
+      enough = omega (arith, length_push places next);
     })
-offered_at every end from places states next state room place places' states' room' sound up near within false test p s enough =
+
+-- marks stay sound where the open place is passed
+pub sound_passed : (every end from : ℕ) (places : List ℕ) (states next room place : ℕ) → IsSound every end from places states next room → next ≤ place → place ≤ end → is_far every places place ≡ false → IsSound every end from places states place room
+sound_passed every end from places states next room place sound up within test =
     let close : place ≤ slice_index places (length places - 1) + every = ltb-false _ _ test in
-    rw (p, s) (record {
+    record {
       thinned = thinned_pass (slice_index places 0) from every places next place sound.thinned (λ i e. omega (arith, last_at places i e)) up;
       within = within;
       even = sound.even;
-      enough = rw p at enough;
-    })
-
--- marks stay sound as they are offered the next place
-pub offered : {S : Type 0} (every end from : ℕ) (places : List ℕ) (states : List S) (next : ℕ) (state : S) (room place : ℕ) (places' : List ℕ) (states' : List S) (room' : ℕ) → IsSound every end from places (length states) next room → next ≤ place → place ≤ next + every → place ≤ end → places' ≡ (if is_far every places place then places ++ next ∷ [] else places) → states' ≡ (if is_far every places place then states ++ state ∷ [] else states) → length places' < room' → IsSound every end from places' (length states') place room'
-offered every end from places states next state room place places' states' room' sound up near within p s enough =
-    offered_at every end from places states next state room place places' states' room' sound up near within (is_far every places place) refl p s enough
-
-room_by : (places : List ℕ) (next room : ℕ) (places' : List ℕ) (far : Bool) → places' ≡ (if far then places ++ next ∷ [] else places) → length places + 2 ≤ room → length places' < room
-room_by places next room places' true p enough = rw p (omega (arith, length_push places next))
-room_by places next room places' false p enough = rw p (omega arith)
-
--- room for two more is room for the place that was open and the one that is now
-pub room_after : (every : ℕ) (places : List ℕ) (next place room room' : ℕ) (places' : List ℕ) → places' ≡ (if is_far every places place then places ++ next ∷ [] else places) → length places + 2 ≤ room → room' ≡ room → length places' < room'
-room_after every places next place room room' places' p enough same = rw same (room_by places next room places' (is_far every places place) p enough)
+      enough = sound.enough;
+    }

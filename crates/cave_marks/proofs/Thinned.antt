@@ -34,7 +34,7 @@ one_run K place = record {
   apart = λ i h. absurd (omega arith);
 }
 
--- the place offered last is kept, since the next one lies too far behind the last place kept
+-- the place reached last is kept, since the next one lies too far behind the last place kept
 pub thinned_keep : (start from K : ℕ) (places : List ℕ) (next place : ℕ) → IsThinned start from K places next → ((i : ℕ) → i + 1 ≡ length places → slice_index places i + K < place) → next ≤ place → place ≤ next + K → IsThinned start from K (places ++ next ∷ []) place
 thinned_keep start from K places next place t due up near =
     let total = length_push places next in
@@ -60,7 +60,7 @@ thinned_keep start from K places next place t due up near =
       reached = omega (arith, t.reached);
     }
 
--- the place offered last is passed over, since the next one is near enough
+-- the place reached last is passed over, since the next one is near enough
 pub thinned_pass : (start from K : ℕ) (places : List ℕ) (next place : ℕ) → IsThinned start from K places next → ((i : ℕ) → i + 1 ≡ length places → place ≤ slice_index places i + K) → next ≤ place → IsThinned start from K places place
 thinned_pass start from K places next place t near up = record {
   spaced = record {

@@ -22,6 +22,10 @@ pub record Spaced (S : Type 0) : Type 0 where
   pub states : List S
   pub room : ℕ
 
+-- marks whose open place has another state
+abbrev pub with_state : {S : Type 0} → Thinned S → S → Thinned S
+with_state marks state = record marks { state = state }
+
 -- does `place` lie too far behind the last of the places?
 abbrev pub is_far : ℕ → List ℕ → ℕ → Bool
 is_far every places place = nat_lt (slice_index places (length places - 1) + every) place
@@ -35,7 +39,7 @@ abbrev pub states_before : {S : Type 0} → Thinned S → ℕ → List S
 states_before marks place =
     if is_far marks.every marks.places place then marks.states ++ marks.state ∷ [] else marks.states
 
--- what marks keep true as they are offered more
+-- what marks keep true as they go on
 pub record IsSound (every end from : ℕ) (places : List ℕ) (states next room : ℕ) : Type 0 where
   pub thinned : IsThinned (slice_index places 0) from every places next
   pub within : next ≤ end

@@ -35,7 +35,7 @@ impl<S: Copy> Model for Checkpoints<S> {
 }
 
 impl<S: Copy> Checkpoints<S> {
-    /// Those of a log whose last place was offered last.
+    /// Those of a log whose last place was reached last.
     pub fn of(marks: Marks<S>) -> Self
         requires begun { slice_index marks.places 0 ≡ 0 }
         requires done { marks.next ≡ marks.end }

@@ -1,15 +1,18 @@
 ghost use Rattle.std.specs.Prelude.{◌≡◌, ℕ, ◌+◌, ◌-◌, ◌<◌, ◌≤◌, ◌^◌, [], ◌∷◌, ◌++◌, length, slice_index, IfOk, OnOk, OnErr};
 ghost use Rattle.cave_marks.specs.Marks.{places_before, states_before};
+ghost use Rattle.cave_marks.specs.Spacing.{most_spaced};
 ghost use Rattle.cave_marks.specs.Thinning.{IsThinned};
 
 use crate::placed::PlacedStates;
 use std::alloc::{AllocError, Global};
 use std::marker::Model;
+use std::mem::replace;
 
-/// Places that are offered in rising order, of which those are kept that a log's checkpoints need.
+/// Places in rising order, of which those are kept that a log's checkpoints need.
 ///
-/// The place offered last stays open: it is kept only where the next one lies more than `every`
-/// past the last one kept. Room is taken as places are offered, and there is always room to keep the open one.
+/// The place reached last stays open: it is kept only where the next one lies more than `every`
+/// past the last one kept, and its state then stays where it is. There is always room to keep the
+/// open one.
 #[derive(Drop)]
 pub struct Marks<S: Copy> {
     every: u32,
@@ -17,7 +20,7 @@ pub struct Marks<S: Copy> {
     from: u32,
     kept: PlacedStates<S>,
     next: u32,
-    state: S,
+    state: Box<S>,
 }
 
 impl<S: Copy> Model for Marks<S> {
@@ -33,7 +36,7 @@ impl<S: Copy> Model for Marks<S> {
       places = m.kept.places;
       states = m.kept.states;
       next = m.next;
-      state = m.state;
+      state = m.state.value;
     } };
 
     ghost invariant = { λ m.
@@ -41,7 +44,11 @@ impl<S: Copy> Model for Marks<S> {
 }
 
 impl<S: Copy> Marks<S> {
-    /// Begins with the start of a log of `end` lines.
+    ghost use Rattle.std.specs.Borrow.{Lends, sem};
+    ghost use Rattle.cave_marks.specs.contracts.marks.Marks.{the_row};
+    ghost use Rattle.cave_marks.specs.Marks.{with_state};
+
+    /// Begins with the start of a log of `end` lines, with room for all the places that it can keep.
     pub fn open(alloc: Global, every: u32, end: u32, state: S) -> Result<Self, AllocError>
         ensures settings { IfOk result (λ marks. (marks.every ≡ every) × (marks.end ≡ end)) }
         ensures begins { IfOk result (λ marks. (marks.from ≡ 0) × (marks.next ≡ 0)
@@ -49,7 +56,16 @@ impl<S: Copy> Marks<S> {
         ensures kept { IfOk result (λ marks. (marks.places ≡ 0 ∷ [])
             × (marks.states ≡ state ∷ [])) }
     {
-        Marks::begin(alloc, every, end, 0, state, 0, state)
+        let mut kept = PlacedStates::with_room(alloc, most_spaced(every, end))?;
+        kept.push(0, Box::new(alloc, state)?);
+        Ok(Marks {
+            every,
+            end,
+            from: 0,
+            kept,
+            next: 0,
+            state: Box::new(alloc, state)?,
+        })
     }
 
     /// Begins with a checkpoint that is kept, at `start`, and the one after it, at `from`, which is
@@ -73,36 +89,48 @@ impl<S: Copy> Marks<S> {
             × (marks.states ≡ start_state ∷ [])) }
     {
         let mut kept = PlacedStates::with_room(alloc, 2)?;
-        kept.push(start, start_state);
+        kept.push(start, Box::new(alloc, start_state)?);
         Ok(Marks {
             every,
             end,
             from,
             kept,
             next: from,
-            state,
+            state: Box::new(alloc, state)?,
         })
     }
 
-    /// Offers the next place. The one before it, which was open till now, is kept if it has to be.
-    pub fn offer(&mut self, place: u32, state: S) -> Result<(), AllocError>
+    /// Goes on to the next place. The one before it, which was open till now, is kept if it has to
+    /// be; its state is also the one that the caller finds at the next place, to change it there.
+    pub fn advance(&mut self, place: u32) -> Result<(), AllocError>
         requires later { self.old.next < place }
         requires near { place ≤ self.old.next + self.old.every }
         requires within { place ≤ self.old.end }
         ensures places { OnOk result (self.new.places ≡ places_before self.old place) }
         ensures states { OnOk result (self.new.states ≡ states_before self.old place) }
         ensures start { slice_index self.new.places 0 ≡ slice_index self.old.places 0 }
-        ensures open { OnOk result ((self.new.next ≡ place) × (self.new.state ≡ state)) }
+        ensures open { OnOk result (self.new.next ≡ place) }
+        ensures state { self.new.state ≡ self.old.state }
         ensures settings { (self.new.every ≡ self.old.every) × (self.new.end ≡ self.old.end)
             × (self.new.from ≡ self.old.from) }
         ensures refused { OnErr result (self.new ≡ self.old) }
     {
-        self.kept.reserve(2)?;
-        self.kept
-            .push_before(self.next, self.state, self.every, place);
+        if self.kept.is_far(self.every, place) {
+            let opened = Box::new(*Box::allocator(&self.state), *self.state)?;
+            self.kept.reserve(2)?;
+            let open = replace(&mut self.state, opened);
+            self.kept.push(self.next, open);
+        }
         self.next = place;
-        self.state = state;
         Ok(())
+    }
+
+    /// The state at the place reached last, to be changed there.
+    pub fn state_mut(&mut self) -> &mut S
+        ensures* lends { sem 𝓛 (Lends (the_row S.row) S.row self.entry result (with_state self.old)) }
+        ensures value { result.now ≡ self.old.state }
+    {
+        &mut self.state
     }
 
     /// How many are kept, without the open one.
@@ -113,7 +141,7 @@ impl<S: Copy> Marks<S> {
         self.kept.len()
     }
 
-    /// The place offered last.
+    /// The place reached last.
     pub fn next(&self) -> u32
         ensures next { result ≡ self.now.next }
         ensures within { result ≤ self.now.end }
@@ -121,7 +149,7 @@ impl<S: Copy> Marks<S> {
         self.next
     }
 
-    /// The state at the place offered last.
+    /// The state at the place reached last.
     pub fn state(&self) -> &S
         ensures { result.now ≡ self.now.state }
     {
@@ -183,4 +211,11 @@ impl<S: Copy> Marks<S> {
         } = self;
         kept
     }
+}
+
+/// As many places as spacing leaves room for in a log of `end` lines.
+fn most_spaced(every: u32, end: u32) -> usize
+    ensures { result ≡ most_spaced every end }
+{
+    2 * (end as usize / (every as usize + 1)) + 2
 }

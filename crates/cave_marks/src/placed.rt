@@ -1,6 +1,7 @@
 ghost use Rattle.std.specs.Prelude.{◌≡◌, ◌+◌, ◌-◌, ℕ, ◌<◌, ◌≤◌, ◌^◌, [], ◌∷◌, ◌++◌, if◌then◌else◌, length, take, slice_index, slice_get, Some, IfOk, OnOk, OnErr};
 ghost use Rattle.std.specs.List.{splice};
 ghost use Rattle.cave_marks.specs.Marks.{is_far};
+ghost use Rattle.cave_marks.specs.Placed.{contents};
 ghost use Rattle.cave_marks.specs.Thinning.{moved};
 
 use crate::shift::shift_from;
@@ -8,22 +9,22 @@ use crate::stretch::splice;
 use std::alloc::{AllocError, Global};
 use std::marker::Model;
 
-/// Places, and the state at each of them.
+/// Places, and the state at each of them, which stays where it is as others come and go.
 #[derive(Drop)]
 pub struct PlacedStates<S: Copy> {
     places: Vec<u32>,
-    states: Vec<S>,
+    states: Vec<Box<S>>,
 }
 
 impl<S: Copy> Model for PlacedStates<S> {
     ghost use Rattle.std.specs.Prelude.{◌≡◌, length, min, vec_capacity};
-    ghost use Rattle.cave_marks.specs.Placed.{Placed};
+    ghost use Rattle.cave_marks.specs.Placed.{Placed, contents};
 
     ghost Value = { Placed S };
 
     ghost view = { λ p. record {
       places = p.places.items;
-      states = p.states.items;
+      states = contents p.states.items;
       room = min (vec_capacity p.places) (vec_capacity p.states);
     } };
 
@@ -83,18 +84,28 @@ impl<S: Copy> PlacedStates<S> {
         Ok(())
     }
 
-    pub fn push(&mut self, place: u32, state: S)
+    pub fn push(&mut self, place: u32, state: Box<S>)
         requires { length self.old.places < self.old.room }
         ensures places { self.new.places ≡ self.old.places ++ place ∷ [] }
-        ensures states { self.new.states ≡ self.old.states ++ state ∷ [] }
+        ensures states { self.new.states ≡ self.old.states ++ state.value ∷ [] }
         ensures room { self.new.room ≡ self.old.room }
     {
         self.places.push_reserved(place);
         self.states.push_reserved(state);
     }
 
+    /// Whether `following` lies more than `every` past the last place here.
+    pub fn is_far(&self, every: u32, following: u32) -> bool
+        requires some { 0 < length self.now.places }
+        requires ordered { slice_index self.now.places (length self.now.places - 1) ≤ following }
+        ensures { result ≡ is_far every self.now.places following }
+    {
+        let last = self.place(self.len() - 1);
+        following - last > every
+    }
+
     /// Adds this place if `following` lies more than `every` past the last one here.
-    pub fn push_before(&mut self, place: u32, state: S, every: u32, following: u32)
+    pub fn push_before(&mut self, place: u32, state: Box<S>, every: u32, following: u32)
         requires some { 0 < length self.old.places }
         requires ordered { slice_index self.old.places (length self.old.places - 1) ≤ following }
         requires room { slice_index self.old.places (length self.old.places - 1) + every < following
@@ -102,11 +113,10 @@ impl<S: Copy> PlacedStates<S> {
         ensures places { self.new.places ≡ (if is_far every self.old.places following
             then self.old.places ++ place ∷ [] else self.old.places) }
         ensures states { self.new.states ≡ (if is_far every self.old.places following
-            then self.old.states ++ state ∷ [] else self.old.states) }
+            then self.old.states ++ state.value ∷ [] else self.old.states) }
         ensures room { self.new.room ≡ self.old.room }
     {
-        let last = self.place(self.len() - 1);
-        if following - last > every {
+        if self.is_far(every, following) {
             self.push(place, state);
         }
     }
@@ -146,7 +156,18 @@ impl<S: Copy> PlacedStates<S> {
     {
         Ok(PlacedStates {
             places: Vec::from_slice(alloc, self.places.as_slice())?,
-            states: Vec::from_slice(alloc, self.states.as_slice())?,
+            states: copy_states(alloc, &self.states)?,
         })
     }
+}
+
+/// A copy of states, each in a Box of its own.
+fn copy_states<S: Copy>(alloc: Global, states: &[Box<S>]) -> Result<Vec<Box<S>>, AllocError>
+    ensures { IfOk result (λ copy. contents copy.items ≡ contents states.now) }
+{
+    let mut copy = Vec::with_capacity(alloc, states.len())?;
+    for state in states {
+        copy.push(Box::new(alloc, **state)?)?;
+    }
+    Ok(copy)
 }

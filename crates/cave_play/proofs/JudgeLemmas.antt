@@ -1,82 +1,118 @@
--- The fault that the inputs of a run decide.
-use Rattle.std.proofs.Common.{◌≡◌, ℕ, ◌<◌, ◌≤◌, Bool, true, false, List, length, None, Some, Ok, Err, MatchOption, MatchResult, nat_lt, inl, inr, option_map, subst, sym, ap, ◌∙◌, refl, lt-ltb, le-ltb}
+-- The faults that are found while the inputs of a run are read.
+use Rattle.std.proofs.Common.{◌≡◌, ℕ, ◌<◌, ◌≤◌, Bool, true, false, List, [], ◌∷◌, length, None, Some, Ok, Err, MatchOption, nat_lt, inl, inr, option_map, subst, sym, ap, ◌∙◌, refl, lt-ltb, le-ltb}
 use Rattle.std.specs.Prelude.{◌⊎◌, ◌||◌, ◌==◌, if◌then◌else◌, Result, IfErr}
+use Rattle.std.specs.Option.{option_or}
 use Rattle.std.specs.declared.option.Option.{Option}
 use Rattle.std.specs.Str.Lines.{lines}
 use Rattle.std.proofs.lemmas.Result.{IfErr-at_err}
-use Rattle.cave_data.proofs.ReadLemmas.{right_exactly, fault_database_large, fault_bindings_large}
+use Rattle.cave_data.proofs.ReadLemmas.{right_exactly}
+use Rattle.cave_data.specs.BindingFault.{first_binding_fault}
 use Rattle.cave_data.specs.CaveView.{CaveView}
-use Rattle.cave_data.specs.Reading.{Reads}
+use Rattle.cave_data.specs.FirstFault.{first_fault}
+use Rattle.cave_data.specs.Reading.{Reads, fault as cave_fault, too_large as cave_too_large}
+use Rattle.cave_data.specs.declared.error.CaveError.{CaveError}
+use Rattle.cave_data.specs.declared.error.Spot.TheVariants as spot
 use Rattle.cave_replay.specs.Opening.{open_fault, first_bad_line, or_size_fault}
 use Rattle.cave_replay.specs.declared.fault.OpenFault.{OpenFault}
 use Rattle.cave_replay.specs.declared.fault.OpenFault.TheVariants as session
-use Rattle.cave_replay.specs.declared.fault.TheConstants.{GREATEST_SEED, MOST_EVERY, MOST_LINES}
+use Rattle.limits.specs.Limits.{max_seed, max_every, max_log_lines, max_input_bytes}
 use Rattle.cave_script.specs.Item.{Applied}
 use Rattle.cave_script.specs.Script.{script_of}
 use Rattle.cave_script.specs.Shown.{IsFaultOf}
 use Rattle.cave_script.specs.declared.fault.ScriptFault.{ScriptFault}
 use Rattle.cave_script.specs.declared.fault.ScriptFault.TheVariants.{Malformed, Memory}
-use Rattle.cave_play.specs.Judged.{seed_fault, every_fault, inputs_fault, lines_fault, log_fault, script_fault, first_malformed, script_refusal, or_too_many, opening_fault}
-use Rattle.cave_play.specs.Run.{or_else, too_large, IsOutside, IsDecided, Judges}
-use Rattle.cave_play.specs.declared.input.TheConstants.{MOST_BYTES}
+use Rattle.cave_play.proofs.StageLemmas.{Judges-read}
+use Rattle.cave_play.specs.Judged.{seed_fault, every_fault, too_large, input_size_fault, inputs_fault, lines_fault, log_fault, script_fault, first_malformed, script_refusal, or_too_many, opening_fault}
+use Rattle.cave_play.specs.Run.{Judges}
+use Rattle.cave_play.specs.Stage.{reading, judging, first_decided, IsOutsideOf, IsFoundAt, IsFoundIn}
+use Rattle.cave_play.specs.Stages.{cave_stages, log_stage, script_stage}
+use Rattle.cave_play.specs.declared.fault.Input.{Input}
 use Rattle.cave_play.specs.declared.fault.Input.TheVariants as input
 use Rattle.cave_play.specs.declared.fault.LogFault.TheVariants as log
 use Rattle.cave_play.specs.declared.fault.PlayFault.{PlayFault}
 use Rattle.cave_play.specs.declared.fault.PlayFault.TheVariants as fault
 
--- ---- one input and the next
+-- ---- the size of an input
 
--- a fault that the first of two decides is the one that both decide
-pub IsDecided-first : (first later : Option PlayFault) (found : PlayFault) → IsDecided first found → IsDecided (or_else first later) found
-IsDecided-first first later found (inl outside) = inl outside
-IsDecided-first first later found (inr is) = inr (ap (λ f. or_else f later) is)
+-- a reading failed, or the input is too large
+abbrev pub IsRefused : Input → List ℕ → PlayFault → Type 0
+IsRefused from bytes found =
+    IsOutsideOf (Some from) found ⊎ ((max_input_bytes < length bytes) × (found ≡ too_large from))
 
--- where the first decides none, it is the later one's
-pub IsDecided-later : (first later : Option PlayFault) (found : PlayFault) → first ≡ None → IsDecided later found → IsDecided (or_else first later) found
-IsDecided-later first later found none (inl outside) = inl outside
-IsDecided-later first later found none (inr is) = inr (ap (λ f. or_else f later) none ∙ is)
+input_size_fault-large : (from : Input) (bytes : List ℕ) (found : PlayFault)
+    → max_input_bytes < length bytes → found ≡ too_large from → input_size_fault from bytes ≡ Some found
+input_size_fault-large from bytes found large is = rw (lt-ltb max_input_bytes (length bytes) large, is) refl
 
--- where no fault is decided and memory alone was refused, what was made is right
-pub Judges-made : {X : Type 0} (decided : Option PlayFault) (IsMade IsRight : X → Type 0) (r : Result X PlayFault) → decided ≡ None
-    → ((made : X) → IsMade made → IsRight made) → MatchResult r IsMade (λ found. found ≡ fault.Memory) → Judges decided IsRight r
-Judges-made decided IsMade IsRight (Ok made) none right is = (none, right made is)
-Judges-made decided IsMade IsRight (Err found) none right is = rw is (inl tt)
+input_size_fault-fits : (from : Input) (bytes : List ℕ)
+    → length bytes ≤ max_input_bytes → input_size_fault from bytes ≡ None
+input_size_fault-fits from bytes fits = rw (le-ltb max_input_bytes (length bytes) fits) refl
 
 -- ---- a database and its bindings
 
 -- an input that couldn't be had
-pub IsDecided-database : (database bindings : List ℕ) (found : PlayFault) → IsOutside found ⊎ ((MOST_BYTES < length database) × (found ≡ too_large input.Cave))
-    → IsDecided (inputs_fault database bindings) found
-IsDecided-database database bindings found (inl outside) = inl outside
-IsDecided-database database bindings found (inr (large, is)) =
-    inr (ap (option_map (λ error. fault.Cave error)) (fault_database_large database bindings (lt-ltb MOST_BYTES (length database) large)) ∙ ap (λ f. Some f) (sym is))
+pub IsFoundIn-database : (database bindings : List ℕ) (found : PlayFault)
+    → IsRefused input.Cave database found → IsFoundIn (cave_stages database bindings) found
+IsFoundIn-database database bindings found (inl outside) = inl (inl outside)
+IsFoundIn-database database bindings found (inr (large, is)) =
+    inl (inr (input_size_fault-large input.Cave database found large is))
 
-pub IsDecided-bindings : (database bindings : List ℕ) (found : PlayFault) → length database ≤ MOST_BYTES → IsOutside found ⊎ ((MOST_BYTES < length bindings) × (found ≡ too_large input.Bindings))
-    → IsDecided (inputs_fault database bindings) found
-IsDecided-bindings database bindings found fits (inl outside) = inl outside
-IsDecided-bindings database bindings found fits (inr (large, is)) =
-    inr (ap (option_map (λ error. fault.Cave error)) (fault_bindings_large database bindings (le-ltb MOST_BYTES (length database) fits) (lt-ltb MOST_BYTES (length bindings) large)) ∙ ap (λ f. Some f) (sym is))
+pub IsFoundIn-bindings : (database bindings : List ℕ) (found : PlayFault)
+    → length database ≤ max_input_bytes → IsRefused input.Bindings bindings found
+    → IsFoundIn (cave_stages database bindings) found
+IsFoundIn-bindings database bindings found fits (inl outside) =
+    inr (input_size_fault-fits input.Cave database fits, inl (inl outside))
+IsFoundIn-bindings database bindings found fits (inr (large, is)) =
+    let here = input_size_fault-large input.Bindings bindings found large is in
+    inr (input_size_fault-fits input.Cave database fits, inl (inr here))
+
+judged_whole : (large larger : Bool) (lines_fault : Option CaveError)
+    → option_or (if large then Some (too_large input.Cave) else None)
+    (option_or (if larger then Some (too_large input.Bindings) else None)
+    (option_or (option_map (λ error. fault.Cave error)
+    (if large then Some (cave_too_large spot.Database) else (if larger then Some (cave_too_large spot.Bindings) else lines_fault))) None))
+    ≡ option_map (λ error. fault.Cave error)
+    (if large then Some (cave_too_large spot.Database) else (if larger then Some (cave_too_large spot.Bindings) else lines_fault))
+judged_whole true larger lines_fault = refl
+judged_whole false true lines_fault = refl
+judged_whole false false None = refl
+judged_whole false false (Some error) = refl
+
+pub caves_are_judged_whole : (database bindings : List ℕ)
+    → first_decided (cave_stages database bindings) ≡ inputs_fault database bindings
+unfolding cave_fault
+caves_are_judged_whole database bindings =
+    judged_whole (nat_lt max_input_bytes (length database)) (nat_lt max_input_bytes (length bindings))
+    (option_or (first_fault [] (lines database)) (first_binding_fault [] (lines bindings)))
 
 -- a database and bindings that describe a cave have no fault
-pub inputs_fault-read : (database bindings : List ℕ) (cave : CaveView) → Reads database bindings cave → inputs_fault database bindings ≡ None
+inputs_fault-read : (database bindings : List ℕ) (cave : CaveView) → Reads database bindings cave → inputs_fault database bindings ≡ None
 inputs_fault-read database bindings cave reads = ap (option_map (λ error. fault.Cave error)) ((right_exactly database bindings).0 reads.right)
+
+pub cave_stages-read : (database bindings : List ℕ) (cave : CaveView) → Reads database bindings cave
+    → first_decided (cave_stages database bindings) ≡ None
+cave_stages-read database bindings cave reads =
+    caves_are_judged_whole database bindings ∙ inputs_fault-read database bindings cave reads
 
 -- ---- a log
 
-pub IsDecided-log : (bytes : List ℕ) (found : PlayFault) → IsOutside found ⊎ ((MOST_BYTES < length bytes) × (found ≡ too_large input.Log)) → IsDecided (log_fault bytes) found
+pub IsFoundIn-log : (bytes : List ℕ) (found : PlayFault)
+    → IsRefused input.Log bytes found → IsFoundIn (log_stage bytes ∷ []) found
 unfolding log_fault
-IsDecided-log bytes found (inl outside) = inl outside
-IsDecided-log bytes found (inr (large, is)) = inr (rw (lt-ltb MOST_BYTES (length bytes) large, is) refl)
+IsFoundIn-log bytes found (inl outside) = inl (inl outside)
+IsFoundIn-log bytes found (inr (large, is)) =
+    inl (inr (rw (lt-ltb max_input_bytes (length bytes) large, is) refl))
 
 -- a log that isn't too large is judged by its lines
-pub log_fault-lines : (bytes : List ℕ) → length bytes ≤ MOST_BYTES → log_fault bytes ≡ lines_fault (lines bytes)
+pub log_fault-lines : (bytes : List ℕ) → length bytes ≤ max_input_bytes → log_fault bytes ≡ lines_fault (lines bytes)
 unfolding log_fault
-log_fault-lines bytes fits = rw (le-ltb MOST_BYTES (length bytes) fits) refl
+log_fault-lines bytes fits = rw (le-ltb max_input_bytes (length bytes) fits) refl
 
-pub Judges-log : {X : Type 0} (P : List (List ℕ) → X → Type 0) (bytes text : List ℕ) (r : Result X PlayFault) → text ≡ bytes → length bytes ≤ MOST_BYTES
-    → Judges (lines_fault (lines text)) (P (lines text)) r → Judges (log_fault bytes) (P (lines bytes)) r
+pub Judges-log : {X : Type 0} (P : List (List ℕ) → X → Type 0) (bytes text : List ℕ) (r : Result X PlayFault) → text ≡ bytes → length bytes ≤ max_input_bytes
+    → Judges (judging (lines_fault (lines text)) ∷ []) (P (lines text)) r → Judges (log_stage bytes ∷ []) (P (lines bytes)) r
 Judges-log P bytes text r is fits judged =
-    subst (λ d. Judges d (P (lines bytes)) r) (sym (log_fault-lines bytes fits)) (subst (λ t. Judges (lines_fault (lines t)) (P (lines t)) r) is judged)
+    let here = subst (λ t. Judges (judging (lines_fault (lines t)) ∷ []) (P (lines t)) r) is judged in
+    Judges-read input.Log (log_fault bytes) (P (lines bytes)) r
+    (subst (λ d. Judges (judging d ∷ []) (P (lines bytes)) r) (sym (log_fault-lines bytes fits)) here)
 
 -- what is wrong with a game whose seed fits is wrong with its log
 too_many_or_seed : (many great : Bool) (found : OpenFault) → (if great then Some fault.Seed else None) ≡ None
@@ -93,11 +129,11 @@ too_many_or_none true great is = cc
 too_many_or_none false great is = refl
 
 or_size_fault-fits : (bad : Option ℕ) (game : List (List ℕ)) (seed : ℕ) (found : OpenFault) → seed_fault seed ≡ None → or_size_fault bad game seed ≡ Some found → or_too_many bad (length game) ≡ Some (opening_fault found)
-or_size_fault-fits None game seed found fits is = too_many_or_seed (nat_lt MOST_LINES (length game)) (nat_lt GREATEST_SEED seed) found fits is
+or_size_fault-fits None game seed found fits is = too_many_or_seed (nat_lt max_log_lines (length game)) (nat_lt max_seed seed) found fits is
 or_size_fault-fits (Some number) game seed found fits is = ap (option_map opening_fault) is
 
 or_size_fault-none : (bad : Option ℕ) (game : List (List ℕ)) (seed : ℕ) → or_size_fault bad game seed ≡ None → or_too_many bad (length game) ≡ None
-or_size_fault-none None game seed is = too_many_or_none (nat_lt MOST_LINES (length game)) (nat_lt GREATEST_SEED seed) is
+or_size_fault-none None game seed is = too_many_or_none (nat_lt max_log_lines (length game)) (nat_lt max_seed seed) is
 or_size_fault-none (Some number) game seed is = cc
 
 -- the distance of checkpoints aside, a session is refused for its game
@@ -106,7 +142,7 @@ by_game true other fits = absurd (cc)
 by_game false other fits = refl
 
 open_fault-fits : (every : ℕ) (game : List (List ℕ)) (seed : ℕ) → every_fault every ≡ None → open_fault every game seed ≡ or_size_fault (first_bad_line game 1) game seed
-open_fault-fits every game seed fits = by_game (every == 0 || nat_lt MOST_EVERY every) (or_size_fault (first_bad_line game 1) game seed) fits
+open_fault-fits every game seed fits = by_game (every == 0 || nat_lt max_every every) (or_size_fault (first_bad_line game 1) game seed) fits
 
 -- a session that was opened has no fault
 opened_without : {S : Type 0} (decided : Option OpenFault) (s : S) (r : Result S OpenFault) → r ≡ Ok s
@@ -131,41 +167,43 @@ lines_fault-some : (every : ℕ) (game : List (List ℕ)) (seed : ℕ) (found : 
 unfolding lines_fault
 lines_fault-some every game seed found fits near is = or_size_fault-fits (first_bad_line game 1) game seed found fits (sym (open_fault-fits every game seed near) ∙ is)
 
-decided_by : (every : ℕ) (game : List (List ℕ)) (seed : ℕ) (found : OpenFault) → seed_fault seed ≡ None → every_fault every ≡ None
-    → (found ≡ session.Memory) ⊎ (open_fault every game seed ≡ Some found) → IsDecided (lines_fault game) (opening_fault found)
-decided_by every game seed found fits near (inl none) = rw none (inl tt)
-decided_by every game seed found fits near (inr is) = inr (lines_fault-some every game seed found fits near is)
+found_by : (every : ℕ) (game : List (List ℕ)) (seed : ℕ) (found : OpenFault) → seed_fault seed ≡ None → every_fault every ≡ None
+    → (found ≡ session.Memory) ⊎ (open_fault every game seed ≡ Some found) → IsFoundIn (judging (lines_fault game) ∷ []) (opening_fault found)
+found_by every game seed found fits near (inl memory) = rw memory (inl (inl tt))
+found_by every game seed found fits near (inr is) = inl (inr (lines_fault-some every game seed found fits near is))
 
 -- a session that wasn't opened
-pub IsDecided-opened : {S : Type 0} (every : ℕ) (game : List (List ℕ)) (seed : ℕ) (found : OpenFault) (r : Result S OpenFault) → seed_fault seed ≡ None → every_fault every ≡ None → r ≡ Err found
-    → MatchOption (open_fault every game seed) (IfErr r (λ f. f ≡ session.Memory)) (λ f. r ≡ Err f) → IsDecided (lines_fault game) (opening_fault found)
-IsDecided-opened every game seed found r fits near is h = decided_by every game seed found fits near (refused_for _ found r is h)
+pub IsFoundIn-opened : {S : Type 0} (every : ℕ) (game : List (List ℕ)) (seed : ℕ) (found : OpenFault) (r : Result S OpenFault) → seed_fault seed ≡ None → every_fault every ≡ None → r ≡ Err found
+    → MatchOption (open_fault every game seed) (IfErr r (λ f. f ≡ session.Memory)) (λ f. r ≡ Err f) → IsFoundIn (judging (lines_fault game) ∷ []) (opening_fault found)
+IsFoundIn-opened every game seed found r fits near is h = found_by every game seed found fits near (refused_for _ found r is h)
 
 -- ---- a script
 
-pub IsDecided-script : (bytes : List ℕ) (found : PlayFault) → IsOutside found ⊎ ((MOST_BYTES < length bytes) × (found ≡ too_large input.Script)) → IsDecided (script_fault bytes) found
+pub IsFoundIn-script : (bytes : List ℕ) (found : PlayFault)
+    → IsRefused input.Script bytes found → IsFoundIn (script_stage bytes ∷ []) found
 unfolding script_fault
-IsDecided-script bytes found (inl outside) = inl outside
-IsDecided-script bytes found (inr (large, is)) = inr (rw (lt-ltb MOST_BYTES (length bytes) large, is) refl)
+IsFoundIn-script bytes found (inl outside) = inl (inl outside)
+IsFoundIn-script bytes found (inr (large, is)) =
+    inl (inr (rw (lt-ltb max_input_bytes (length bytes) large, is) refl))
 
 -- a script that isn't too large is judged by its first malformed line
-pub script_fault-lines : (bytes : List ℕ) → length bytes ≤ MOST_BYTES → script_fault bytes ≡ first_malformed (script_of bytes)
+pub script_fault-lines : (bytes : List ℕ) → length bytes ≤ max_input_bytes → script_fault bytes ≡ first_malformed (script_of bytes)
 unfolding script_fault
-script_fault-lines bytes fits = rw (le-ltb MOST_BYTES (length bytes) fits) refl
+script_fault-lines bytes fits = rw (le-ltb max_input_bytes (length bytes) fits) refl
 
-pub script_fault-none : (bytes : List ℕ) (items : List Applied) → length bytes ≤ MOST_BYTES → script_of bytes ≡ Ok items → script_fault bytes ≡ None
+pub script_fault-none : (bytes : List ℕ) (items : List Applied) → length bytes ≤ max_input_bytes → script_of bytes ≡ Ok items → script_fault bytes ≡ None
 script_fault-none bytes items fits is = script_fault-lines bytes fits ∙ ap first_malformed is
 
 -- a script that was refused
-refused_by : (answer : Result (List Applied) ScriptFault) (found : ScriptFault) → IsFaultOf found answer → IsDecided (first_malformed answer) (script_refusal found)
+refused_by : (answer : Result (List Applied) ScriptFault) (found : ScriptFault) → IsFaultOf found answer
+    → IsFoundAt (reading input.Script (first_malformed answer)) (script_refusal found)
 refused_by answer Memory is = inl tt
 refused_by answer (Malformed line flaw) is = inr (ap first_malformed is)
 
-pub IsDecided-refused : (bytes text : List ℕ) (found : ScriptFault) → length bytes ≤ MOST_BYTES → text ≡ bytes → IsFaultOf found (script_of text) → IsDecided (script_fault bytes) (script_refusal found)
-IsDecided-refused bytes text found fits is refused =
-    subst (λ d. IsDecided d (script_refusal found)) (sym (script_fault-lines bytes fits)) (subst (λ t. IsDecided (first_malformed (script_of t)) (script_refusal found)) is (refused_by (script_of text) found refused))
-
--- what is right where a later fault is judged is right where both are, if the first is none
-pub Judges-later : {X : Type 0} (first later : Option PlayFault) (P Q : X → Type 0) (r : Result X PlayFault) → first ≡ None → ((x : X) → P x → Q x) → Judges later P r → Judges (or_else first later) Q r
-Judges-later first later P Q (Ok x) none gives judged = (ap (λ f. or_else f later) none ∙ judged.0, gives x judged.1)
-Judges-later first later P Q (Err found) none gives judged = IsDecided-later first later found none judged
+pub IsFoundIn-refused : (bytes text : List ℕ) (found : ScriptFault) → length bytes ≤ max_input_bytes
+    → text ≡ bytes → IsFaultOf found (script_of text) → IsFoundIn (script_stage bytes ∷ []) (script_refusal found)
+IsFoundIn-refused bytes text found fits is refused =
+    let told = script_refusal found in
+    let here = subst (λ t. IsFoundAt (reading input.Script (first_malformed (script_of t))) told)
+    is (refused_by (script_of text) found refused) in
+    inl (subst (λ d. IsFoundAt (reading input.Script d) told) (sym (script_fault-lines bytes fits)) here)

@@ -1,7 +1,7 @@
 mod EditLemmas
-mod InputLemmas
+pub mod InputLemmas
 mod JudgeLemmas
-mod OutputLemmas
 mod RunLemmas
 mod ScriptLemmas
+pub mod StageLemmas
 mod TranscriptLemmas

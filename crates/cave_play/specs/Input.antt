@@ -1,7 +1,7 @@
 -- What is known of an input before it is read, and what a reading of it answers.
 use Rattle.std.specs.Prelude.{◌≡◌, ℕ, ◌+◌, ◌<◌, ⊤, Bool, true, false, List, ◌++◌, length, Option, None, Some}
 use Rattle.std.specs.Io.KnownBytes.{Consumes, IsAtEnd}
-use Rattle.cave_play.specs.declared.input.TheConstants.{MOST_BYTES}
+use Rattle.limits.specs.Limits.{max_input_bytes}
 use Rattle.cave_play.specs.declared.input.InputFault.{InputFault}
 use Rattle.cave_play.specs.declared.input.InputFault.TheVariants.{Unreadable, TooLarge, Memory}
 
@@ -13,7 +13,7 @@ Says (Some known) bytes = bytes ≡ known
 -- an input is too large only where it has more bytes than an input may have
 abbrev pub IsInputFault : List ℕ → InputFault → Type 0
 IsInputFault bytes Unreadable = ⊤
-IsInputFault bytes TooLarge = MOST_BYTES < length bytes
+IsInputFault bytes TooLarge = max_input_bytes < length bytes
 IsInputFault bytes Memory = ⊤
 
 -- one reading added some bytes to the input, or came to the reader's end
@@ -24,4 +24,4 @@ pub record Gives (old new : Option (List ℕ)) (before after : List ℕ) (some :
 
 -- one reading that failed took the bytes that it found too many, if it found so
 pub record Exceeds (old new : Option (List ℕ)) (before : List ℕ) (fault : InputFault) : Type 0 where
-  pub over : fault ≡ TooLarge → (given : List ℕ) × Consumes old new given × (MOST_BYTES < length before + length given)
+  pub over : fault ≡ TooLarge → (given : List ℕ) × Consumes old new given × (max_input_bytes < length before + length given)

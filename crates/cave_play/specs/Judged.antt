@@ -2,15 +2,18 @@
 use Rattle.std.specs.Prelude.{ℕ, List, length, nat_lt, ◌||◌, ◌==◌, if◌then◌else◌, Option, None, Some, option_map, Result, Err}
 use Rattle.std.specs.Str.Lines.{lines}
 use Rattle.cave_data.specs.Reading.{fault as cave_fault}
+use Rattle.cave_data.specs.declared.error.Cause.TheVariants as cause
+use Rattle.cave_data.specs.declared.error.Spot.TheVariants as spot
 use Rattle.cave_replay.specs.Opening.{first_bad_line}
-use Rattle.cave_replay.specs.declared.fault.TheConstants.{GREATEST_SEED, MOST_EVERY, MOST_LINES}
+use Rattle.limits.specs.Limits.{max_seed, max_every, max_log_lines, max_input_bytes}
 use Rattle.cave_replay.specs.declared.fault.OpenFault.{OpenFault}
 use Rattle.cave_replay.specs.declared.fault.OpenFault.TheVariants as session
 use Rattle.cave_script.specs.Item.{Applied}
 use Rattle.cave_script.specs.Script.{script_of}
 use Rattle.cave_script.specs.declared.fault.ScriptFault.{ScriptFault}
 use Rattle.cave_script.specs.declared.fault.ScriptFault.TheVariants.{Malformed, Memory}
-use Rattle.cave_play.specs.declared.input.TheConstants.{MOST_BYTES}
+use Rattle.cave_play.specs.declared.fault.Input.{Input}
+use Rattle.cave_play.specs.declared.fault.Input.TheVariants as input
 use Rattle.cave_play.specs.declared.fault.LogFault.TheVariants as log
 use Rattle.cave_play.specs.declared.fault.ScriptFault.TheVariants as script
 use Rattle.cave_play.specs.declared.fault.PlayFault.{PlayFault}
@@ -18,11 +21,24 @@ use Rattle.cave_play.specs.declared.fault.PlayFault.TheVariants as fault
 
 -- the fault of a seed
 abbrev pub seed_fault : ℕ → Option PlayFault
-seed_fault seed = if nat_lt GREATEST_SEED seed then Some fault.Seed else None
+seed_fault seed = if nat_lt max_seed seed then Some fault.Seed else None
 
 -- the fault of a distance of checkpoints
 abbrev pub every_fault : ℕ → Option PlayFault
-every_fault every = if every == 0 || nat_lt MOST_EVERY every then Some fault.Every else None
+every_fault every = if every == 0 || nat_lt max_every every then Some fault.Every else None
+
+-- the fault of an input that has too many bytes
+abbrev pub too_large : Input → PlayFault
+too_large input.Cave =
+    fault.Cave (record { cause = cause.TooLarge; line = 0; spot = spot.Database })
+too_large input.Bindings =
+    fault.Cave (record { cause = cause.TooLarge; line = 0; spot = spot.Bindings })
+too_large input.Log = fault.Log log.TooLarge
+too_large input.Script = fault.Script script.TooLarge
+
+-- the fault of an input's size
+abbrev pub input_size_fault : Input → List ℕ → Option PlayFault
+input_size_fault from bytes = if nat_lt max_input_bytes (length bytes) then Some (too_large from) else None
 
 -- the first fault of a database and its bindings
 abbrev pub inputs_fault : List ℕ → List ℕ → Option PlayFault
@@ -30,7 +46,7 @@ inputs_fault database bindings = option_map (λ error. fault.Cave error) (cave_f
 
 abbrev pub or_too_many : Option ℕ → ℕ → Option PlayFault
 or_too_many (Some number) count = Some (fault.Log (log.BadLine number))
-or_too_many None count = if nat_lt MOST_LINES count then Some (fault.Log log.Full) else None
+or_too_many None count = if nat_lt max_log_lines count then Some (fault.Log log.Full) else None
 
 -- the first fault of the lines of a log
 unfoldable pub lines_fault : List (List ℕ) → Option PlayFault
@@ -38,7 +54,7 @@ lines_fault log = or_too_many (first_bad_line log 1) (length log)
 
 -- the first fault of a log
 unfoldable pub log_fault : List ℕ → Option PlayFault
-log_fault bytes = if nat_lt MOST_BYTES (length bytes) then Some (fault.Log log.TooLarge) else lines_fault (lines bytes)
+log_fault bytes = if nat_lt max_input_bytes (length bytes) then Some (fault.Log log.TooLarge) else lines_fault (lines bytes)
 
 -- the first malformed line of a script, if it has one
 abbrev pub first_malformed : Result (List Applied) ScriptFault → Option PlayFault
@@ -47,7 +63,7 @@ first_malformed _ = None
 
 -- the first fault of a script
 unfoldable pub script_fault : List ℕ → Option PlayFault
-script_fault bytes = if nat_lt MOST_BYTES (length bytes) then Some (fault.Script script.TooLarge) else first_malformed (script_of bytes)
+script_fault bytes = if nat_lt max_input_bytes (length bytes) then Some (fault.Script script.TooLarge) else first_malformed (script_of bytes)
 
 -- the fault of a run in which a session couldn't be opened
 abbrev pub opening_fault : OpenFault → PlayFault

@@ -1,9 +1,13 @@
 pub mod Input
 pub mod Fault
-pub mod Run
 pub mod Judged
+pub mod Stage
+pub mod Stages
+pub mod Laws
+pub mod Run
 pub mod Transcript
 pub mod CaveRules
 pub mod Holds
 pub mod Output
 pub mod Bindings
+pub mod OneOutput

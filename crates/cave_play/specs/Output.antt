@@ -1,4 +1,4 @@
--- What a run writes, and the fault that its bytes decide.
+-- What a run writes.
 use Rattle.std.specs.Prelude.{◌≡◌, ℕ, ◌-◌, ◌^◌, List, [], ◌∷◌, ◌++◌, codes, Option, None, Some}
 use Rattle.std.specs.Fmt.{decimal}
 use Rattle.std.specs.Str.Lines.{lines}
@@ -14,10 +14,7 @@ use Rattle.cave_score.specs.Score.{score_of, max_score_of}
 use Rattle.cave_script.specs.Item.{Applied, line_of}
 use Rattle.cave_script.specs.Script.{IsScript}
 use Rattle.cave_play.specs.CaveRules.{cave_rules, rendered}
-use Rattle.cave_play.specs.Judged.{seed_fault, every_fault, inputs_fault, log_fault, script_fault}
-use Rattle.cave_play.specs.Run.{or_else}
 use Rattle.cave_play.specs.Transcript.{transcript}
-use Rattle.cave_play.specs.declared.fault.PlayFault.{PlayFault}
 
 -- ---- what is checked
 
@@ -46,10 +43,6 @@ play_text cave game =
 abbrev pub IsPlayed : List ℕ → List ℕ → List ℕ → ℕ → List ℕ → Type 0
 IsPlayed database bindings log seed output =
     (cave : CaveView) × Reads database bindings cave × (output ≡ play_text cave (game_of seed (lines log)))
-
--- the first fault of a play, in the order in which its inputs are judged
-abbrev pub play_fault : List ℕ → List ℕ → List ℕ → ℕ → Option PlayFault
-play_fault database bindings log seed = or_else (seed_fault seed) (or_else (inputs_fault database bindings) (log_fault log))
 
 -- ---- what is edited
 
@@ -104,8 +97,3 @@ IsEditOf cave game script text = (items : List Applied) × IsScript 1 (lines scr
 abbrev pub IsEdited : List ℕ → List ℕ → List ℕ → List ℕ → ℕ → List ℕ → Type 0
 IsEdited database bindings log script seed output =
     (cave : CaveView) × Reads database bindings cave × IsEditOf cave (game_of seed (lines log)) script output
-
--- the first fault of an edit, in the order in which its inputs are judged
-abbrev pub edit_fault : List ℕ → List ℕ → List ℕ → List ℕ → ℕ → ℕ → Option PlayFault
-edit_fault database bindings log script seed every =
-    or_else (seed_fault seed) (or_else (every_fault every) (or_else (inputs_fault database bindings) (or_else (log_fault log) (script_fault script))))

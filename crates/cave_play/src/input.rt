@@ -2,18 +2,17 @@
 
 ghost use Rattle.std.specs.Prelude.{◌≡◌, ℕ, ◌<◌, ◌≤◌, ◌+◌, ◌++◌, List, length, true, false, IfOk, IfErr, MatchResult, vec_len};
 ghost use Rattle.std.specs.Io.KnownBytes.{Consumes, IsAtEnd, Keeps};
+ghost use Rattle.limits.specs.Limits.{max_input_bytes};
 ghost use Rattle.cave_play.specs.declared.input.InputFault.TheVariants.{Memory};
 ghost use Rattle.cave_play.specs.Input.{Says, IsInputFault, Gives, Exceeds};
 
+use limits::MAX_INPUT_BYTES;
 use std::alloc::{AllocError, Global};
 use std::io::Read;
 use thiserror::Error;
 
-/// How many bytes an input may have.
-pub const MOST_BYTES: usize = 1_048_576;
-
-/// How many bytes are asked for at once.
-const PIECE_BYTES: usize = 65_536;
+/// How many bytes are asked for at once: few, since they are filled before the first reading.
+const PIECE_BYTES: usize = 2_048;
 
 /// Why an input couldn't be had.
 #[derive(Clone, Copy, Debug, PartialEq, Eq, Error)]
@@ -41,7 +40,7 @@ impl From<AllocError> for InputFault {
 pub fn read_input<R: Read>(alloc: Global, reader: &mut R) -> Result<Vec<u8>, InputFault>
     ensures read { (bytes : List ℕ) × Says (R.remaining reader.old) bytes
         × MatchResult result
-        (λ input. (input.items ≡ bytes) × (length bytes ≤ MOST_BYTES))
+        (λ input. (input.items ≡ bytes) × (length bytes ≤ max_input_bytes))
         (IsInputFault bytes) }
 {
     let Ok(mut piece) = zeros(alloc, PIECE_BYTES) else {
@@ -71,16 +70,16 @@ fn read_more<R: Read>(
     input: &mut Vec<u8>,
 ) -> Result<bool, InputFault>
     requires room { 0 < length piece.old }
-    requires within { vec_len input.old ≤ MOST_BYTES }
+    requires within { vec_len input.old ≤ max_input_bytes }
     ensures given { IfOk result (Gives (R.remaining reader.old) (R.remaining reader.new) input.old.items input.new.items) }
-    ensures within { IfOk result (λ _. vec_len input.new ≤ MOST_BYTES) }
+    ensures within { IfOk result (λ _. vec_len input.new ≤ max_input_bytes) }
     ensures over { IfErr result (Exceeds (R.remaining reader.old) (R.remaining reader.new) input.old.items) }
 {
     let count = match reader.read(piece) {
         Ok(count) => count,
         Err(_) => return Err(InputFault::Unreadable),
     };
-    if count > MOST_BYTES - input.len() {
+    if count > MAX_INPUT_BYTES - input.len() {
         return Err(InputFault::TooLarge);
     }
     input.extend_from_slice(&piece[..count])?;

@@ -1,6 +1,6 @@
 //! Reading the inputs of a run, each of which is judged before the next.
 
-ghost use Rattle.std.specs.Prelude.{◌≡◌, ℕ, ◌^◌, ◌<◌, List, None, Ok, All, vec_len};
+ghost use Rattle.std.specs.Prelude.{◌≡◌, ℕ, ◌^◌, ◌<◌, List, [], ◌∷◌, None, Ok, All, vec_len};
 ghost use Rattle.std.specs.Str.Lines.{lines};
 ghost use Rattle.cave_data.specs.Reading.{Reads};
 ghost use Rattle.cave_words.specs.Lexicon.{IsLexiconOf};
@@ -8,25 +8,29 @@ ghost use Rattle.cave_replay.specs.Play.{game_of};
 ghost use Rattle.cave_script.specs.Script.{IsScript};
 ghost use Rattle.cave_script.specs.Shown.{items_of};
 ghost use Rattle.cave_play.specs.Input.{Says};
-ghost use Rattle.cave_play.specs.Judged.{seed_fault, every_fault, inputs_fault, lines_fault, log_fault, script_fault, script_refusal, opening_fault};
+ghost use Rattle.cave_play.specs.Judged.{seed_fault, every_fault, lines_fault};
+ghost use Rattle.cave_play.specs.Judged.{script_refusal, opening_fault};
 ghost use Rattle.cave_play.specs.Holds.{Holds};
 ghost use Rattle.cave_play.specs.Run.{Judges};
+ghost use Rattle.cave_play.specs.Stage.{judging};
+ghost use Rattle.cave_play.specs.Stages.{cave_stages, log_stage, script_stage};
 
 use crate::fault::{Input, LogFault, PlayFault, ScriptFault};
 use crate::machine::CaveMachine;
 use crate::read::read;
 use cave_data::{Cause, Cave};
-use cave_replay::{GREATEST_SEED, MOST_EVERY, OpenFault, Session};
+use cave_replay::{OpenFault, Session};
 use cave_script::Script;
 use cave_words::{Lexicon, Meter};
+use limits::{is_bad_every, is_large_seed};
 use std::alloc::Global;
 use std::io::Read;
 
 /// Whether a game may begin with the seed.
-pub(crate) fn check_seed(seed: u32) -> Result<(), PlayFault>
-    ensures { Judges (seed_fault seed) (λ _. Unit {0}) result }
+pub fn check_seed(seed: u32) -> Result<(), PlayFault>
+    ensures { Judges (judging (seed_fault seed) ∷ []) (λ _. Unit {0}) result }
 {
-    if seed > GREATEST_SEED {
+    if is_large_seed(u64::from(seed)) {
         return Err(PlayFault::Seed);
     }
     Ok(())
@@ -34,23 +38,23 @@ pub(crate) fn check_seed(seed: u32) -> Result<(), PlayFault>
 
 /// Whether checkpoints may be so far apart.
 pub(crate) fn check_every(every: u32) -> Result<(), PlayFault>
-    ensures { Judges (every_fault every) (λ _. Unit {0}) result }
+    ensures { Judges (judging (every_fault every) ∷ []) (λ _. Unit {0}) result }
 {
-    if every == 0 || every > MOST_EVERY {
+    if is_bad_every(every) {
         return Err(PlayFault::Every);
     }
     Ok(())
 }
 
 /// Reads a database and its bindings.
-pub(crate) fn read_cave<C: Read, B: Read>(
+pub fn read_cave<C: Read, B: Read>(
     alloc: Global,
     cave: &mut C,
     bind: &mut B,
 ) -> Result<Cave, PlayFault>
     ensures judged { (database : List ℕ) × (bindings : List ℕ)
         × Says (C.remaining cave.old) database × Says (B.remaining bind.old) bindings
-        × Judges (inputs_fault database bindings) (Reads database bindings) result }
+        × Judges (cave_stages database bindings) (Reads database bindings) result }
 {
     let database = read(alloc, Input::Cave, cave)?;
     let bindings = read(alloc, Input::Bindings, bind)?;
@@ -84,7 +88,8 @@ fn open_log<'a>(
 ) -> Result<Session<CaveMachine<'a>>, PlayFault>
     requires seed_fits { seed_fault seed ≡ None }
     requires every_fits { every_fault every ≡ None }
-    ensures judged { Judges (lines_fault (lines log.now)) (Holds machine.entry.cave.now (game_of seed (lines log.now))) result }
+    ensures judged { Judges (judging (lines_fault (lines log.now)) ∷ [])
+        (Holds machine.entry.cave.now (game_of seed (lines log.now))) result }
 {
     let mut meter = Meter::new();
     match Session::open(alloc, machine, seed, log, every, &mut meter) {
@@ -94,7 +99,7 @@ fn open_log<'a>(
 }
 
 /// Reads a log and plays it in a cave.
-pub(crate) fn read_log<'a, L: Read>(
+pub fn read_log<'a, L: Read>(
     alloc: Global,
     machine: CaveMachine<'a>,
     log: &mut L,
@@ -104,7 +109,8 @@ pub(crate) fn read_log<'a, L: Read>(
     requires seed_fits { seed_fault seed ≡ None }
     requires every_fits { every_fault every ≡ None }
     ensures judged { (bytes : List ℕ) × Says (L.remaining log.old) bytes
-        × Judges (log_fault bytes) (Holds machine.entry.cave.now (game_of seed (lines bytes))) result }
+        × Judges (log_stage bytes ∷ [])
+        (Holds machine.entry.cave.now (game_of seed (lines bytes))) result }
 {
     let log = read(alloc, Input::Log, log)?;
     open_log(alloc, machine, &log, seed, every)
@@ -113,7 +119,8 @@ pub(crate) fn read_log<'a, L: Read>(
 /// Reads a script.
 pub(crate) fn read_script<S: Read>(alloc: Global, script: &mut S) -> Result<Script, PlayFault>
     ensures judged { (bytes : List ℕ) × Says (S.remaining script.old) bytes
-        × Judges (script_fault bytes) (λ script. IsScript 1 (lines bytes) (items_of script.items)
+        × Judges (script_stage bytes ∷ [])
+        (λ script. IsScript 1 (lines bytes) (items_of script.items)
         × All (λ item. vec_len item.edits < 2 ^ 32) script.items.items) result }
 {
     let text = read(alloc, Input::Script, script)?;

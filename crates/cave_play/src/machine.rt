@@ -8,7 +8,7 @@ ghost use Rattle.cave_play.specs.CaveRules.{cave_rules};
 
 use cave_data::Cave;
 use cave_replay::{Machine, Started, Stepped};
-use cave_turn::{max_score, score, start, stream_passed, turn};
+use cave_turn::{max_score, score, start, stream_passed, take_line};
 use cave_words::{Lexicon, Meter};
 use cave_world::{Out, Part, State};
 use std::alloc::{AllocError, Global};
@@ -92,26 +92,22 @@ impl<'a> Machine for CaveMachine<'a> {
     fn step(
         &self,
         alloc: Global,
-        state: &State,
+        state: &mut State,
         line: &[u8],
         meter: &mut Meter,
-    ) -> Result<Stepped<State, Vec<Part>>, AllocError> {
+    ) -> Result<Stepped<Vec<Part>>, AllocError> {
         if let Some(stream) = stream_passed(state, line) {
             meter.tick();
+            state.stream = stream;
             return Ok(Stepped {
-                state: State { stream, ..*state },
                 piece: Vec::new(alloc),
                 ticked: false,
             });
         }
         let mut out = Out::new();
-        let turned = turn(self.cave, self.lexicon, state, line, &mut out, meter);
+        let ticked = take_line(self.cave, self.lexicon, state, line, &mut out, meter);
         let piece = keep(alloc, out.as_slice())?;
-        Ok(Stepped {
-            state: turned.state,
-            piece,
-            ticked: turned.ticked,
-        })
+        Ok(Stepped { piece, ticked })
     }
 
     fn copy_piece(&self, alloc: Global, piece: &Vec<Part>) -> Result<Vec<Part>, AllocError> {

@@ -1,11 +1,13 @@
 //! Reading the inputs of a run.
 
-ghost use Rattle.std.specs.Prelude.{◌≡◌, ℕ, ◌≤◌, ◌<◌, ◌⊎◌, List, length, MatchResult};
+ghost use Rattle.std.specs.Prelude.{◌≡◌, ℕ, ◌≤◌, ◌<◌, ◌⊎◌, List, length, Some, MatchResult};
+ghost use Rattle.limits.specs.Limits.{max_input_bytes};
 ghost use Rattle.cave_play.specs.Input.{Says};
-ghost use Rattle.cave_play.specs.Run.{IsOutside, too_large};
+ghost use Rattle.cave_play.specs.Judged.{too_large};
+ghost use Rattle.cave_play.specs.Stage.{IsOutsideOf};
 
 use crate::fault::{Input, LogFault, PlayFault, ScriptFault};
-use crate::input::{InputFault, MOST_BYTES, read_input};
+use crate::input::{InputFault, read_input};
 use cave_data::{Cause, CaveError, Spot};
 use std::alloc::Global;
 use std::io::Read;
@@ -36,8 +38,9 @@ fn too_large_at(spot: Spot) -> PlayFault
 pub fn read<R: Read>(alloc: Global, input: Input, reader: &mut R) -> Result<Vec<u8>, PlayFault>
     ensures read { (bytes : List ℕ) × Says (R.remaining reader.old) bytes
         × MatchResult result
-        (λ text. (text.items ≡ bytes) × (length bytes ≤ MOST_BYTES))
-        (λ found. IsOutside found ⊎ ((MOST_BYTES < length bytes) × (found ≡ too_large input))) }
+        (λ text. (text.items ≡ bytes) × (length bytes ≤ max_input_bytes))
+        (λ found. IsOutsideOf (Some input) found
+        ⊎ ((max_input_bytes < length bytes) × (found ≡ too_large input))) }
 {
     match read_input(alloc, reader) {
         Ok(text) => Ok(text),

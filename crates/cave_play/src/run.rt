@@ -1,15 +1,18 @@
 //! Runs: from readers of the inputs to a writer of the output.
 
-ghost use Rattle.std.specs.Prelude.{◌≡◌, ℕ, List, None, take, MatchResult};
+ghost use Rattle.std.specs.Prelude.{◌≡◌, ℕ, List, [], ◌∷◌, None, take, MatchResult};
 ghost use Rattle.std.specs.Io.KnownBytes.{Appends};
 ghost use Rattle.std.specs.Str.Lines.{lines};
 ghost use Rattle.cave_data.specs.CaveView.{CaveView};
 ghost use Rattle.cave_data.specs.Reading.{Reads};
 ghost use Rattle.cave_replay.specs.Play.{game_of};
 ghost use Rattle.cave_play.specs.Input.{Says};
-ghost use Rattle.cave_play.specs.Judged.{seed_fault, every_fault, inputs_fault, log_fault, script_fault};
-ghost use Rattle.cave_play.specs.Output.{check_text, play_text, play_fault, edit_fault, IsChecked, IsPlayed, IsEditOf, IsEdited};
-ghost use Rattle.cave_play.specs.Run.{or_else, AtMostOne, Judges, Runs};
+ghost use Rattle.cave_play.specs.Judged.{seed_fault, every_fault};
+ghost use Rattle.cave_play.specs.Output.{check_text, play_text};
+ghost use Rattle.cave_play.specs.Output.{IsChecked, IsPlayed, IsEditOf, IsEdited};
+ghost use Rattle.cave_play.specs.Run.{Judges, Runs};
+ghost use Rattle.cave_play.specs.Stages.{cave_stages, log_stage, script_stage};
+ghost use Rattle.cave_play.specs.Stages.{play_stages, edit_stages};
 
 use crate::edits::apply;
 use crate::fault::PlayFault;
@@ -27,7 +30,8 @@ use std::io::{Read, Write};
 /// How far apart checkpoints may be where nothing else is asked.
 pub const EVERY: u32 = 50;
 
-/// Checks a database and its bindings, and says so where they are a cave.
+/// Checks a database and its bindings, and says so where they are a cave. What it writes is determined
+/// by its inputs: see `one_checked_output` in specs/OneOutput.antt, as of the other runs.
 pub fn run_check<C: Read, B: Read, W: Write>(
     alloc: Global,
     cave: &mut C,
@@ -36,9 +40,8 @@ pub fn run_check<C: Read, B: Read, W: Write>(
 ) -> Result<(), PlayFault>
     ensures runs { (database : List ℕ) × (bindings : List ℕ)
         × Says (C.remaining cave.old) database × Says (B.remaining bind.old) bindings
-        × Runs (inputs_fault database bindings) (IsChecked database bindings)
+        × Runs (cave_stages database bindings) (IsChecked database bindings)
         (W.contents output.old) (W.contents output.new) result }
-    ensures alone { (database : List ℕ) → (bindings : List ℕ) → AtMostOne (IsChecked database bindings) }
 {
     let text = check_inputs(alloc, cave, bind)?;
     write(output, &text)
@@ -55,12 +58,8 @@ pub fn run_play<C: Read, B: Read, L: Read, W: Write>(
 ) -> Result<(), PlayFault>
     ensures runs { (database : List ℕ) × (bindings : List ℕ) × (moves : List ℕ)
         × Says (C.remaining cave.old) database × Says (B.remaining bind.old) bindings × Says (L.remaining log.old) moves
-        × Runs (play_fault database bindings moves seed) (IsPlayed database bindings moves seed)
+        × Runs (play_stages database bindings moves seed) (IsPlayed database bindings moves seed)
         (W.contents output.old) (W.contents output.new) result }
-
-    // The inputs and the seed determine what is written.
-    ensures alone { (database : List ℕ) → (bindings : List ℕ) → (moves : List ℕ)
-        → AtMostOne (IsPlayed database bindings moves seed) }
 {
     let text = play_inputs(alloc, cave, bind, log, seed)?;
     write(output, &text)
@@ -80,12 +79,9 @@ pub fn run_edit<C: Read, B: Read, L: Read, S: Read, W: Write>(
     ensures runs { (database : List ℕ) × (bindings : List ℕ) × (moves : List ℕ) × (edits : List ℕ)
         × Says (C.remaining cave.old) database × Says (B.remaining bind.old) bindings
         × Says (L.remaining log.old) moves × Says (S.remaining script.old) edits
-        × Runs (edit_fault database bindings moves edits seed every) (IsEdited database bindings moves edits seed)
+        × Runs (edit_stages database bindings moves edits seed every)
+        (IsEdited database bindings moves edits seed)
         (W.contents output.old) (W.contents output.new) result }
-
-    // The inputs and the seed determine what is written, so that the distance of checkpoints doesn't show in it.
-    ensures alone { (database : List ℕ) → (bindings : List ℕ) → (moves : List ℕ) → (edits : List ℕ)
-        → AtMostOne (IsEdited database bindings moves edits seed) }
 {
     let text = edit_inputs(alloc, cave, bind, log, script, seed, every)?;
     write(output, &text)
@@ -111,7 +107,7 @@ fn check_inputs<C: Read, B: Read>(
 ) -> Result<Vec<u8>, PlayFault>
     ensures judged { (database : List ℕ) × (bindings : List ℕ)
         × Says (C.remaining cave.old) database × Says (B.remaining bind.old) bindings
-        × Judges (inputs_fault database bindings)
+        × Judges (cave_stages database bindings)
         (λ text. IsChecked database bindings text.items) result }
 {
     let cave = read_cave(alloc, cave, bind)?;
@@ -140,7 +136,8 @@ fn play_inputs<C: Read, B: Read, L: Read>(
 ) -> Result<Vec<u8>, PlayFault>
     ensures judged { (database : List ℕ) × (bindings : List ℕ) × (moves : List ℕ)
         × Says (C.remaining cave.old) database × Says (B.remaining bind.old) bindings × Says (L.remaining log.old) moves
-        × Judges (play_fault database bindings moves seed) (λ text. IsPlayed database bindings moves seed text.items) result }
+        × Judges (play_stages database bindings moves seed)
+        (λ text. IsPlayed database bindings moves seed text.items) result }
 {
     check_seed(seed)?;
     let cave = read_cave(alloc, cave, bind)?;
@@ -156,7 +153,8 @@ fn play_in_cave<L: Read>(
 ) -> Result<Vec<u8>, PlayFault>
     requires { seed_fault seed ≡ None }
     ensures judged { (moves : List ℕ) × Says (L.remaining log.old) moves
-        × Judges (log_fault moves) (λ text. text.items ≡ play_text cave.now (game_of seed (lines moves))) result }
+        × Judges (log_stage moves ∷ [])
+        (λ text. text.items ≡ play_text cave.now (game_of seed (lines moves))) result }
 {
     let lexicon = Lexicon::build(alloc, cave)?;
     play_by_machine(alloc, CaveMachine::new(cave, &lexicon), log, seed)
@@ -171,7 +169,8 @@ fn play_by_machine<L: Read>(
 ) -> Result<Vec<u8>, PlayFault>
     requires { seed_fault seed ≡ None }
     ensures judged { (moves : List ℕ) × Says (L.remaining log.old) moves
-        × Judges (log_fault moves) (λ text. text.items ≡ play_text machine.entry.cave.now (game_of seed (lines moves))) result }
+        × Judges (log_stage moves ∷ [])
+        (λ text. text.items ≡ play_text machine.entry.cave.now (game_of seed (lines moves))) result }
 {
     let session = read_log(alloc, machine, log, seed, EVERY)?;
     let text = transcript_of(alloc, machine, &session);
@@ -207,7 +206,8 @@ fn edit_inputs<C: Read, B: Read, L: Read, S: Read>(
     ensures judged { (database : List ℕ) × (bindings : List ℕ) × (moves : List ℕ) × (edits : List ℕ)
         × Says (C.remaining cave.old) database × Says (B.remaining bind.old) bindings
         × Says (L.remaining log.old) moves × Says (S.remaining script.old) edits
-        × Judges (edit_fault database bindings moves edits seed every) (λ text. IsEdited database bindings moves edits seed text.items) result }
+        × Judges (edit_stages database bindings moves edits seed every)
+        (λ text. IsEdited database bindings moves edits seed text.items) result }
 {
     check_seed(seed)?;
     check_every(every)?;
@@ -228,7 +228,7 @@ fn edit_in_cave<L: Read, S: Read>(
     requires every_fits { every_fault every ≡ None }
     ensures judged { (moves : List ℕ) × (edits : List ℕ)
         × Says (L.remaining log.old) moves × Says (S.remaining script.old) edits
-        × Judges (or_else (log_fault moves) (script_fault edits))
+        × Judges (log_stage moves ∷ script_stage edits ∷ [])
         (λ text. IsEditOf cave.now (game_of seed (lines moves)) edits text.items) result }
 {
     let lexicon = Lexicon::build(alloc, cave)?;
@@ -255,7 +255,7 @@ fn edit_by_machine<L: Read, S: Read>(
     requires every_fits { every_fault every ≡ None }
     ensures judged { (moves : List ℕ) × (edits : List ℕ)
         × Says (L.remaining log.old) moves × Says (S.remaining script.old) edits
-        × Judges (or_else (log_fault moves) (script_fault edits))
+        × Judges (log_stage moves ∷ script_stage edits ∷ [])
         (λ text. IsEditOf machine.entry.cave.now (game_of seed (lines moves)) edits text.items) result }
 {
     let mut session = read_log(alloc, machine, log, seed, every)?;
@@ -273,7 +273,8 @@ fn edit_session<S: Read>(
 ) -> Result<Vec<u8>, PlayFault>
     requires { session.old.machine.cave.now ≡ machine.cave.now }
     ensures judged { (edits : List ℕ) × Says (S.remaining script.old) edits
-        × Judges (script_fault edits) (λ text. IsEditOf machine.entry.cave.now session.old.game edits text.items) result }
+        × Judges (script_stage edits ∷ [])
+        (λ text. IsEditOf machine.entry.cave.now session.old.game edits text.items) result }
 {
     let script = read_script(alloc, script)?;
     let mut text = Vec::new(alloc);

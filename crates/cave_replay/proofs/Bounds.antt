@@ -6,7 +6,7 @@ use Rattle.cave_marks.specs.Spacing.{IsSpaced}
 use Rattle.cave_marks.proofs.Counts.{place_within}
 use Rattle.cave_replay.specs.Rules.{Rules}
 use Rattle.cave_replay.specs.Play.{Game}
-use Rattle.cave_replay.specs.Agreement.{IsAgreement, NoneMeetsBefore, IsBounded}
+use Rattle.cave_replay.specs.Agreement.{AgreesAt, image, NoneMeetsBefore, IsBounded}
 use Rattle.cave_replay.specs.Replay.{IsShift, IsUnderway}
 use Rattle.cave_replay.proofs.Shifts.{agrees_later}
 
@@ -37,31 +37,23 @@ near_after K C n spaced positive i =
 pub contains_at : (C : List ℕ) (k : ℕ) → k < length C → Contains C (slice_index C k)
 contains_at C k below = (k, below, get_or_default C k (slice_index C k) 0 below)
 
--- what is before every checkpoint that agrees is at most K past the first agreement
+-- what is before every checkpoint that agrees is at most K past any place that agrees
 pub near_agreement : {S T : Type 0} (rules : Rules S T) (old new : Game) (head tail : ℕ) → IsShift old new head tail → (K : ℕ) (C : List ℕ) → IsSpaced K C (length old.log) → 0 < K
     → (limit : ℕ) → limit ≤ length new.log → NoneMeetsBefore rules old new tail C limit
-    → (agreement : ℕ) → IsAgreement rules old new tail agreement → limit ≤ agreement + K
-near_agreement rules old new head tail shift K C spaced positive limit within none agreement agrees =
-    elim (cases_lt agreement (length new.log)) [
-      | inr past ↦ omega arith
-      | inl short ↦
-          let found = agrees.agrees short in
-          let place = found.0 in
-          let here = found.1 in
-          let late = here.late in
-          let inside = shift.within_old in
-          let inside_new = shift.within_new in
-          let is_image = found.2 in
-          elim (near_after K C (length old.log) spaced positive place) [
-            | inr far ↦ omega arith
-            | inl near ↦
-                let k = near.0 in
-                let within_log : slice_index C k ≤ length old.log = place_within 0 K C (length old.log) spaced k near.1 in
-                let later = agrees_later rules old new head tail shift place (slice_index C k) here near.2 within_log in
-                let before = none (slice_index C k) (contains_at C k near.1) later in
-                let close = near.3 in
-                omega arith
-          ]
+    → (place : ℕ) → AgreesAt rules old new tail place → limit ≤ image old new place + K
+near_agreement rules old new head tail shift K C spaced positive limit within none place here =
+    let late = here.late in
+    let inside = shift.within_old in
+    let inside_new = shift.within_new in
+    elim (near_after K C (length old.log) spaced positive place) [
+      | inr far ↦ omega arith
+      | inl near ↦
+          let k = near.0 in
+          let within_log : slice_index C k ≤ length old.log = place_within 0 K C (length old.log) spaced k near.1 in
+          let later = agrees_later rules old new head tail shift place (slice_index C k) here near.2 within_log in
+          let before = none (slice_index C k) (contains_at C k near.1) later in
+          let close = near.3 in
+          omega arith
     ]
 
 -- the last checkpoint that isn't after a place is at most K before it
@@ -81,9 +73,13 @@ near_last K C n spaced at p among after within =
 pub bounded_to : {S T : Type 0} (rules : Rules S T) (old new : Game) (head tail : ℕ) → IsShift old new head tail → (K : ℕ) (C : List ℕ) → IsSpaced K C (length old.log) → 0 < K
     → (from : ℕ) → head ≤ from + K → (limit : ℕ) → limit ≤ length new.log → NoneMeetsBefore rules old new tail C limit
     → (steps : ℕ) → steps + from ≤ limit → IsBounded rules old new head tail K steps
-bounded_to rules old new head tail shift K C spaced positive from near limit within none steps few agreement agrees =
-    let end = near_agreement rules old new head tail shift K C spaced positive limit within none agreement agrees in
-    omega arith
+bounded_to rules old new head tail shift K C spaced positive from near limit within none steps few =
+    record {
+      agreement = λ place here.
+          let end = near_agreement rules old new head tail shift K C spaced positive limit within none place here in
+          omega arith;
+      end = omega arith;
+    }
 
 -- underway, no checkpoint that agrees is passed
 pub underway_none : {S T : Type 0} (rules : Rules S T) (old new : Game) (tail : ℕ) (C : List ℕ) (index place : ℕ) → IsUnderway rules old new tail C index place → NoneMeetsBefore rules old new tail C place

@@ -8,7 +8,7 @@ use Rattle.cave_words.specs.Line.{is_line}
 use Rattle.cave_replay.specs.declared.fault.EditFault.{EditFault}
 use Rattle.cave_replay.specs.declared.fault.EditFault.TheVariants.{NoSuchPlace, BadLine, LogFull, BadSeed, MeterFull}
 use Rattle.cave_replay.specs.declared.fault.GroupFault.{GroupFault}
-use Rattle.cave_replay.specs.declared.fault.TheConstants.{MOST_LINES, GREATEST_SEED}
+use Rattle.limits.specs.Limits.{max_log_lines, max_seed}
 use Rattle.cave_replay.specs.Play.{Game, game_of}
 use Rattle.cave_replay.specs.Change.{Change, inserts, deletes, replaces, reseeds, line_at, log_after, seed_after, seed_after_all, apply, apply_all, inverse_of, undone, inverses_of}
 use Rattle.cave_replay.specs.Faults.{fault_of, added_fault, replaced_fault, fault_of_all, or_meter_full, group_fault, log_after_all}
@@ -86,11 +86,11 @@ insert-remove log at below =
     rw (front, back, ← more) (take-append-drop at log)
 
 -- what a change's freedom of faults says
-pub insert_within : (at : ℕ) (line : List ℕ) (log : List (List ℕ)) → fault_of (inserts at line) log ≡ None → (at ≤ length log) × (is_line line ≡ true) × (length log < MOST_LINES)
+pub insert_within : (at : ℕ) (line : List ℕ) (log : List (List ℕ)) → fault_of (inserts at line) log ≡ None → (at ≤ length log) × (is_line line ≡ true) × (length log < max_log_lines)
 insert_within at line log free =
     let first = free_choice (ltb (length log) at) NoSuchPlace (added_fault line log) free in
     let second = free_choice (not (is_line line)) BadLine _ first.1 in
-    let third = free_choice (leb MOST_LINES (length log)) LogFull None second.1 in
+    let third = free_choice (leb max_log_lines (length log)) LogFull None second.1 in
     (ltb-false _ _ first.0, good_line _ second.0, leb-false _ _ third.0)
 
 pub delete_within : (at : ℕ) (log : List (List ℕ)) → fault_of (deletes at) log ≡ None → at < length log
@@ -101,8 +101,8 @@ replace_within at line log free =
     let first = free_choice (leb (length log) at) NoSuchPlace (replaced_fault line) free in
     (leb-false _ _ first.0, good_choice (is_line line) BadLine first.1)
 
-reseed_within : (seed : ℕ) (log : List (List ℕ)) → fault_of (reseeds seed) log ≡ None → seed ≤ GREATEST_SEED
-reseed_within seed log free = ltb-false _ _ (free_choice (ltb GREATEST_SEED seed) BadSeed None free).0
+reseed_within : (seed : ℕ) (log : List (List ℕ)) → fault_of (reseeds seed) log ≡ None → seed ≤ max_seed
+reseed_within seed log free = ltb-false _ _ (free_choice (ltb max_seed seed) BadSeed None free).0
 
 -- a change and its inverse leave the game
 pub apply-inverse_of : (change : Change) (game : Game) → fault_of change game.log ≡ None → apply (inverse_of change game) (apply change game) ≡ game
@@ -169,13 +169,13 @@ fault_of-inverse_of (deletes at) game good free =
     let below = delete_within at game.log free in
     let shorter : length (remove game.log at) + 1 ≡ length game.log = length-remove game.log at below in
     let few = good.few in
-    rw (le-ltb (length (remove game.log at)) at (omega arith), All-get_or P game.log at [] below good.lines, lt-leb MOST_LINES (length (remove game.log at)) (omega arith)) refl
+    rw (le-ltb (length (remove game.log at)) at (omega arith), All-get_or P game.log at [] below good.lines, lt-leb max_log_lines (length (remove game.log at)) (omega arith)) refl
 fault_of-inverse_of (replaces at line) game good free =
     let P : List ℕ → Type 0 = λ l. IsTrue (is_line l) in
     let said = replace_within at line game.log free in
     let below = said.0 in
     rw (lt-leb (length (set game.log at line)) at (rw (length-set game.log at line) below), All-get_or P game.log at [] below good.lines) refl
-fault_of-inverse_of (reseeds seed) game good free = rw (le-ltb GREATEST_SEED game.seed good.seed_fits) refl
+fault_of-inverse_of (reseeds seed) game good free = rw (le-ltb max_seed game.seed good.seed_fits) refl
 
 pub IsFree-inverses_of : (changes : List Change) (game : Game) → IsGame game → IsFree changes game.log → IsFree (inverses_of changes game) (log_after_all changes game.log)
 IsFree-inverses_of [] game good free = tt

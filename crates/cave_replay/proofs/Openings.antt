@@ -5,7 +5,7 @@ use Rattle.std.proofs.lemmas.Bool.{eqb-false, ltb-false}
 use Rattle.cave_words.specs.Line.{is_line}
 use Rattle.cave_replay.specs.declared.fault.OpenFault.{OpenFault}
 use Rattle.cave_replay.specs.declared.fault.OpenFault.TheVariants.{BadEvery, LogFull, BadSeed}
-use Rattle.cave_replay.specs.declared.fault.TheConstants.{MOST_LINES, GREATEST_SEED, MOST_EVERY}
+use Rattle.limits.specs.Limits.{max_log_lines, max_seed, max_every}
 use Rattle.cave_replay.specs.Play.{game_of}
 use Rattle.cave_replay.specs.Opening.{first_bad_line, size_fault, or_size_fault, open_fault}
 use Rattle.cave_replay.specs.Held.{IsGame, IsEvery}
@@ -36,15 +36,15 @@ no_bad_line (Some number) log seed free = cc
 -- where no fault is met, the distance and the game are good
 pub IsEvery-from_no_fault : (every : ℕ) (log : List (List ℕ)) (seed : ℕ) → open_fault every log seed ≡ None → IsEvery every
 IsEvery-from_no_fault every log seed free =
-    let first = free_choice (eqb every 0 || ltb MOST_EVERY every) BadEvery (or_size_fault (first_bad_line log 1) log seed) free in
-    let both = neither (eqb every 0) (ltb MOST_EVERY every) first.0 in
+    let first = free_choice (eqb every 0 || ltb max_every every) BadEvery (or_size_fault (first_bad_line log 1) log seed) free in
+    let both = neither (eqb every 0) (ltb max_every every) first.0 in
     let some = eqb-false every 0 both.0 in
-    record { some = omega arith; few = ltb-false MOST_EVERY every both.1 }
+    record { some = omega arith; few = ltb-false max_every every both.1 }
 
 pub IsGame-from_no_fault : (every : ℕ) (log : List (List ℕ)) (seed : ℕ) → open_fault every log seed ≡ None → IsGame (game_of seed log)
 IsGame-from_no_fault every log seed free =
-    let first = free_choice (eqb every 0 || ltb MOST_EVERY every) BadEvery (or_size_fault (first_bad_line log 1) log seed) free in
+    let first = free_choice (eqb every 0 || ltb max_every every) BadEvery (or_size_fault (first_bad_line log 1) log seed) free in
     let second = no_bad_line (first_bad_line log 1) log seed first.1 in
-    let third = free_choice (ltb MOST_LINES (length log)) LogFull _ second.1 in
-    let fourth = free_choice (ltb GREATEST_SEED seed) BadSeed None third.1 in
-    record { lines = good_lines log 1 second.0; few = ltb-false MOST_LINES (length log) third.0; seed_fits = ltb-false GREATEST_SEED seed fourth.0 }
+    let third = free_choice (ltb max_log_lines (length log)) LogFull _ second.1 in
+    let fourth = free_choice (ltb max_seed seed) BadSeed None third.1 in
+    record { lines = good_lines log 1 second.0; few = ltb-false max_log_lines (length log) third.0; seed_fits = ltb-false max_seed seed fourth.0 }

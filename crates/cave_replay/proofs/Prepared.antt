@@ -53,7 +53,8 @@ room_of changes log seed left new none game =
 
 -- a meter that stands still is within every bound
 pub no_steps : {S T F : Type 0} (rules : Rules S T) (changes : List Change) (old : Game) (every : ℕ) (fault : Option F) (count : ℕ) → AreStepsBounded rules changes old every fault count count
-no_steps rules changes old every None count = (omega arith, λ agreement agrees. omega arith)
+no_steps rules changes old every None count =
+    (omega arith, record { agreement = λ place agrees. omega arith; end = omega arith })
 no_steps rules changes old every (Some fault) count = refl
 
 -- the steps of a replay, by the changes that it is of

@@ -1,4 +1,6 @@
 use Rattle.std.specs.Prelude.{◌≡◌, ℕ, ◌+◌, ◌-◌, ◌*◌, ◌<◌, ◌≤◌, List, length, take, Contains, Option, None, Some}
+use Rattle.std.proofs.Common.{◌⊎◌, inl, inr, arith}
+use Rattle.std.proofs.lemmas.Bool.{cases_lt}
 use Rattle.cave_replay.specs.Rules.{Rules}
 use Rattle.cave_replay.specs.Play.{Game, state_after}
 
@@ -46,8 +48,28 @@ pub record IsLastTo (checkpoints : List ℕ) (limit from : ℕ) : Type 0 where
   pub within : from ≤ limit
   pub greatest : (place : ℕ) → Contains checkpoints place → place ≤ limit → place ≤ from
 
--- So many steps are within the bound: those from the first changed place to any first agreement, and twice the
--- distance of checkpoints.
-abbrev pub IsBounded : {S T : Type 0} → Rules S T → Game → Game → ℕ → ℕ → ℕ → ℕ → Type 0
-IsBounded rules old new head tail every steps =
-    (agreement : ℕ) → IsAgreement rules old new tail agreement → steps ≤ (agreement - head) + 2 * every
+-- So many steps are within the bound: those from the first changed place to any place at which the
+-- plays agree, and to the end, each with twice the distance of checkpoints.
+pub record IsBounded {S T : Type 0} (rules : Rules S T) (old new : Game)
+    (head tail every steps : ℕ) : Type 0 where
+  pub agreement : (place : ℕ) → AgreesAt rules old new tail place
+      → steps ≤ (image old new place - head) + 2 * every
+  pub end : steps ≤ (length new.log - head) + 2 * every
+
+-- so they are within the bound of the first agreement
+pub bounded_by_first : {S T : Type 0} (rules : Rules S T) (old new : Game) (head tail every steps : ℕ)
+    → IsBounded rules old new head tail every steps
+    → (agreement : ℕ) → IsAgreement rules old new tail agreement
+    → steps ≤ (agreement - head) + 2 * every
+bounded_by_first rules old new head tail every steps bounded agreement is =
+    elim (cases_lt agreement (length new.log)) [
+      | inl before ↦
+          let found = is.agrees before in
+          let bound = bounded.agreement found.0 found.1 in
+          let same = found.2 in
+          omega arith
+      | inr past ↦
+          let bound = bounded.end in
+          let short = is.short in
+          omega arith
+    ]

@@ -3,12 +3,12 @@ use Rattle.cave_words.specs.Line.{is_line}
 use Rattle.cave_replay.specs.declared.fault.EditFault.{EditFault}
 use Rattle.cave_replay.specs.declared.fault.EditFault.TheVariants.{NoSuchPlace, BadLine, LogFull, BadSeed, MeterFull, EmptyGroup, Memory}
 use Rattle.cave_replay.specs.declared.fault.GroupFault.{GroupFault}
-use Rattle.cave_replay.specs.declared.fault.TheConstants.{MOST_LINES, GREATEST_SEED}
+use Rattle.limits.specs.Limits.{max_log_lines, max_seed}
 use Rattle.cave_replay.specs.Change.{Change, inserts, deletes, replaces, reseeds, log_after}
 
 -- a fault of a seed
 abbrev pub seed_fault : ℕ → Option EditFault
-seed_fault seed = if nat_lt GREATEST_SEED seed then Some BadSeed else None
+seed_fault seed = if nat_lt max_seed seed then Some BadSeed else None
 
 -- the first fault of a line that comes in the place of another
 abbrev pub replaced_fault : List ℕ → Option EditFault
@@ -18,7 +18,7 @@ replaced_fault line = if is_line line then None else Some BadLine
 abbrev pub added_fault : List ℕ → List (List ℕ) → Option EditFault
 added_fault line log =
     if not (is_line line) then Some BadLine
-    else (if nat_le MOST_LINES (length log) then Some LogFull else None)
+    else (if nat_le max_log_lines (length log) then Some LogFull else None)
 
 -- the first fault that a change meets in a log, memory and the meter aside
 abbrev pub fault_of : Change → List (List ℕ) → Option EditFault

@@ -5,7 +5,7 @@ use Rattle.cave_replay.specs.Play.{Game, IsPlay}
 use Rattle.cave_marks.specs.Marks.{Spaced}
 use Rattle.cave_replay.specs.Agreement.{state_at}
 use Rattle.cave_replay.specs.Replay.{AreStates}
-use Rattle.cave_replay.specs.declared.fault.TheConstants.{MOST_LINES, GREATEST_SEED, MOST_EVERY}
+use Rattle.limits.specs.Limits.{max_log_lines, max_seed, max_every}
 
 -- what a session shows: its machine, the game, the distance of its checkpoints, and the play of the game
 pub record Held (Machine Piece State : Type 0) : Type 0 where
@@ -21,13 +21,13 @@ pub record Held (Machine Piece State : Type 0) : Type 0 where
 -- a game that a session may hold
 pub record IsGame (game : Game) : Type 0 where
   pub lines : All (λ line. IsTrue (is_line line)) game.log
-  pub few : length game.log ≤ MOST_LINES
-  pub seed_fits : game.seed ≤ GREATEST_SEED
+  pub few : length game.log ≤ max_log_lines
+  pub seed_fits : game.seed ≤ max_seed
 
 -- a distance that checkpoints may have
 pub record IsEvery (every : ℕ) : Type 0 where
   pub some : 0 < every
-  pub few : every ≤ MOST_EVERY
+  pub few : every ≤ max_every
 
 -- what is held is the play of the held game, by what its pieces say and its state means
 abbrev pub HoldsPlay : {M P S Text Meaning : Type 0} → (M → Rules Meaning Text) → (P → Text) → (S → Meaning) → Held M P S → Type 0

@@ -12,7 +12,7 @@ pub record IsWithin (old new most : ℕ) : Type 0 where
 
 -- The replay of changes began at the last checkpoint that isn't after the first change, met the old play at the first
 -- checkpoint at which the plays agree, if there is one, and played what lies between that or the end and its start:
--- no more than from the first change to any first agreement, and twice the distance of checkpoints.
+-- no more than from the first change to any agreement or to the end, and twice the distance of checkpoints.
 pub record IsReport {S T : Type 0} (rules : Rules S T) (changes : List Change) (old : Game) (every : ℕ) (checkpoints : List ℕ) (from : ℕ) (met : Option ℕ) (played : ℕ) : Type 0 where
   pub from_is : IsLastTo checkpoints (span_of changes old.log).head from
   pub met_is : IsMeet rules old (apply_all changes old) (span_of changes old.log).tail checkpoints met

@@ -1,7 +1,15 @@
 -- What one change alone leaves alone of a log, told by its kind.
-use Rattle.std.specs.Prelude.{◌≡◌, ℕ, ◌+◌, ◌-◌, ◌≤◌, [], ◌∷◌, length}
+use Rattle.std.proofs.Common.{refl, arith}
+use Rattle.std.proofs.lemmas.Bool.{ltb-false, leb-false}
+use Rattle.std.proofs.lemmas.List.{length-set}
+use Rattle.std.proofs.lemmas.List.Edits.{length-insert, length-remove}
+use Rattle.std.specs.Prelude.{◌≡◌, ℕ, ◌+◌, ◌-◌, ◌<◌, ◌≤◌, Bool, true, false, nat_lt, nat_le}
+use Rattle.std.specs.Prelude.{[], ◌∷◌, length, Option, Some, None, if◌then◌else◌}
+use Rattle.cave_replay.specs.declared.fault.EditFault.{EditFault}
+use Rattle.cave_replay.specs.declared.fault.EditFault.TheVariants.{NoSuchPlace}
 use Rattle.cave_replay.specs.Play.{Game}
 use Rattle.cave_replay.specs.Change.{Change, inserts, deletes, replaces, reseeds, apply}
+use Rattle.cave_replay.specs.Faults.{fault_of, added_fault, replaced_fault}
 use Rattle.cave_replay.specs.Span.{span_of}
 use Rattle.cave_replay.specs.Agreement.{image}
 
@@ -31,3 +39,46 @@ pub record IsByTable (change : Change) (game : Game) : Type 0 where
   pub first : (span_of (change ∷ []) game.log).head ≡ first_changed change
   pub rest : length game.log - (span_of (change ∷ []) game.log).tail ≡ rest_from change
   pub moved : (place : ℕ) → rest_from change ≤ place → place ≤ length game.log → image game (apply change game) place ≡ moved_by change place
+
+-- a change that meets no fault of its place has that place in the log
+untold : (test : Bool) (rest : Option EditFault)
+    → (if test then Some NoSuchPlace else rest) ≡ None → test ≡ false
+untold true rest free = cc
+untold false rest free = refl
+
+-- so it is of every change that meets no fault
+pub by_table : (change : Change) (game : Game) → fault_of change game.log ≡ None
+    → IsByTable change game
+by_table (inserts at line) game free =
+    let here : at ≤ length game.log =
+    ltb-false _ _ (untold (nat_lt (length game.log) at) (added_fault line game.log) free) in
+    let longer = length-insert game.log at line here in
+    record {
+      first = omega arith;
+      rest = omega arith;
+      moved = λ place from within. omega (arith, longer);
+    }
+by_table (deletes at) game free =
+    let here : at < length game.log =
+    leb-false _ _ (untold (nat_le (length game.log) at) None free) in
+    let shorter = length-remove game.log at here in
+    record {
+      first = omega arith;
+      rest = omega arith;
+      moved = λ place from within. omega (arith, shorter);
+    }
+by_table (replaces at line) game free =
+    let here : at < length game.log =
+    leb-false _ _ (untold (nat_le (length game.log) at) (replaced_fault line) free) in
+    let same = length-set game.log at line in
+    record {
+      first = omega arith;
+      rest = omega arith;
+      moved = λ place from within. omega (arith, same);
+    }
+by_table (reseeds seed) game free =
+    record {
+      first = omega arith;
+      rest = omega arith;
+      moved = λ place from within. omega arith;
+    }

@@ -1,15 +1,6 @@
 use std::fmt;
 use thiserror::Error;
 
-/// The most lines that a log has.
-pub const MOST_LINES: u32 = 65_535;
-
-/// The greatest seed.
-pub const GREATEST_SEED: u32 = 2_147_483_647;
-
-/// The greatest distance of checkpoints.
-pub const MOST_EVERY: u32 = 10_000;
-
 /// Why a session couldn't be opened. The first of these that holds is answered.
 #[derive(Clone, Copy, Debug, Drop, PartialEq, Eq, Error)]
 pub enum OpenFault {

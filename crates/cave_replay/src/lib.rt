@@ -19,7 +19,7 @@ mod span;
 mod tick_counts;
 
 pub use edit::Edit;
-pub use fault::{EditFault, GREATEST_SEED, GroupFault, MOST_EVERY, MOST_LINES, OpenFault};
+pub use fault::{EditFault, GroupFault, OpenFault};
 pub use log::split_line;
 pub use machine::{Machine, Started, Stepped};
 pub use report::{GroupReport, Report};

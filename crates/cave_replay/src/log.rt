@@ -5,8 +5,9 @@ ghost use Rattle.cave_words.specs.Line.{is_line};
 ghost use Rattle.cave_replay.specs.Log.{log_of};
 ghost use Rattle.cave_replay.specs.Opening.{first_bad_line, open_fault};
 
-use crate::fault::{GREATEST_SEED, MOST_EVERY, MOST_LINES, OpenFault};
+use crate::fault::OpenFault;
 use cave_words::check_line;
+use limits::{is_bad_every, is_large_seed, is_long_log};
 use std::alloc::{AllocError, Global};
 
 /// Where the first line feed of a log stands.
@@ -86,17 +87,17 @@ pub(crate) fn copy_lines(
 pub(crate) fn check_game(every: u32, log: &[u8], seed: u32) -> Result<usize, OpenFault>
     ensures { MatchResult result (λ count. (open_fault every (lines log.now) seed ≡ None) × (count ≡ length (lines log.now))) (λ fault. open_fault every (lines log.now) seed ≡ Some fault) }
 {
-    if every == 0 || every > MOST_EVERY {
+    if is_bad_every(every) {
         return Err(OpenFault::BadEvery);
     }
     let count = match count_lines(log) {
         Ok(count) => count,
         Err(number) => return Err(OpenFault::BadLine(number)),
     };
-    if count > MOST_LINES as usize {
+    if is_long_log(count) {
         return Err(OpenFault::LogFull);
     }
-    if seed > GREATEST_SEED {
+    if is_large_seed(u64::from(seed)) {
         return Err(OpenFault::BadSeed);
     }
     Ok(count)

@@ -1,4 +1,4 @@
-ghost use Rattle.std.specs.Prelude.{◌≡◌, ℕ, ◌+◌, ◌^◌, ◌<◌, ◌↔◌, IfOk, IsTrue};
+ghost use Rattle.std.specs.Prelude.{◌≡◌, ℕ, ◌+◌, ◌^◌, ◌<◌, ◌↔◌, IfOk, OnOk, IsTrue};
 ghost use Rattle.cave_words.specs.Line.{is_line};
 ghost use Rattle.cave_replay.specs.Rules.{Rules};
 
@@ -12,10 +12,9 @@ pub struct Started<S, P> {
     pub piece: P,
 }
 
-/// What a machine makes of one line: the state after it, the piece that it says, and whether the line ticked.
+/// What a machine tells of one line: the piece that it says, and whether the line ticked.
 #[derive(Drop)]
-pub struct Stepped<S, P> {
-    pub state: S,
+pub struct Stepped<P> {
     pub piece: P,
     pub ticked: bool,
 }
@@ -52,22 +51,26 @@ pub trait Machine: Drop {
         ensures state { IfOk result (λ made. meaning made.state ≡ (rules self.now).begun seed) }
         ensures piece { IfOk result (λ made. text made.piece ≡ (rules self.now).greeting seed) };
 
-    /// One line played. The meter counts it, also where memory is refused.
+    /// Plays one line in the state itself, so that no state is copied for it. The meter counts the
+    /// line, also where memory is refused; then the state is one that its owner lets go.
     fn step(
         &self,
         alloc: Global,
-        state: &Self::State,
+        state: &mut Self::State,
         line: &[u8],
         meter: &mut Self::Meter,
-    ) -> Result<Stepped<Self::State, Self::Piece>, AllocError>
-        requires known { is_state state.now }
+    ) -> Result<Stepped<Self::Piece>, AllocError>
+        requires known { is_state state.old }
         requires line { IsTrue (is_line line.now) }
         requires room { Self.Meter.count meter.old + 1 < 2 ^ 64 }
         ensures counted { Self.Meter.count meter.new ≡ Self.Meter.count meter.old + 1 }
-        ensures made { IfOk result (λ made. is_state made.state) }
-        ensures state { IfOk result (λ made. meaning made.state ≡ (rules self.now).after (meaning state.now) line.now) }
-        ensures piece { IfOk result (λ made. text made.piece ≡ (rules self.now).said (meaning state.now) line.now) }
-        ensures ticked { IfOk result (λ made. made.ticked ≡ (rules self.now).ticked (meaning state.now) line.now) };
+        ensures made { OnOk result (is_state state.new) }
+        ensures state { OnOk result (meaning state.new
+            ≡ (rules self.now).after (meaning state.old) line.now) }
+        ensures piece { IfOk result (λ made. text made.piece
+            ≡ (rules self.now).said (meaning state.old) line.now) }
+        ensures ticked { IfOk result (λ made. made.ticked
+            ≡ (rules self.now).ticked (meaning state.old) line.now) };
 
     /// A piece that says the same.
     fn copy_piece(&self, alloc: Global, piece: &Self::Piece) -> Result<Self::Piece, AllocError>

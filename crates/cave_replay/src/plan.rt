@@ -4,9 +4,10 @@ ghost use Rattle.cave_replay.specs.Faults.{fault_of, fault_of_all, group_fault, 
 ghost use Rattle.cave_replay.specs.Span.{span_after, span_of};
 
 use crate::edit::Edit;
-use crate::fault::{EditFault, GREATEST_SEED, GroupFault, MOST_LINES};
+use crate::fault::{EditFault, GroupFault};
 use crate::span::Span;
 use cave_words::check_line;
+use limits::{is_full_log, is_large_seed};
 
 /// How many lines a log of `lines` lines has after the edit, or the first fault that the edit meets there.
 fn lines_after(edit: &Edit, lines: usize) -> Result<usize, EditFault>
@@ -20,7 +21,7 @@ fn lines_after(edit: &Edit, lines: usize) -> Result<usize, EditFault>
             if check_line(line).is_err() {
                 return Err(EditFault::BadLine);
             }
-            if lines >= MOST_LINES as usize {
+            if is_full_log(lines) {
                 return Err(EditFault::LogFull);
             }
             Ok(lines + 1)
@@ -41,7 +42,7 @@ fn lines_after(edit: &Edit, lines: usize) -> Result<usize, EditFault>
             Ok(lines)
         }
         Edit::Reseed(seed) => {
-            if *seed > GREATEST_SEED {
+            if is_large_seed(u64::from(*seed)) {
                 return Err(EditFault::BadSeed);
             }
             Ok(lines)

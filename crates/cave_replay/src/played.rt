@@ -3,7 +3,8 @@ ghost use Rattle.cave_words.specs.Line.{is_line};
 ghost use Rattle.cave_replay.specs.Log.{log_of};
 ghost use Rattle.cave_replay.specs.ReadyEdits.{edited, replay_of, IsReady};
 ghost use Rattle.cave_replay.specs.Replay.{AreStates, IsMarking, StandsAndAgrees, Passes, SaysNew, TicksNew, states_of_old, states_of_new, HasMet, NoneMetBefore, IsWithinBound};
-ghost use Rattle.cave_replay.specs.declared.fault.TheConstants.{MOST_LINES};
+ghost use Rattle.cave_replay.specs.Report.{IsWithin};
+ghost use Rattle.limits.specs.Limits.{max_log_lines};
 
 use crate::machine::Machine;
 use crate::ready_edits::ReadyEdits;
@@ -33,9 +34,10 @@ pub(crate) fn play_line<M: Machine>(
     requires line { IsTrue (is_line line.now) }
     requires room { M.Meter.count meter.old + 1 < 2 ^ 64 }
     requires inside { played.old.marks.next < played.old.marks.end }
-    requires few { played.old.marks.end ≤ MOST_LINES }
+    requires few { played.old.marks.end ≤ max_log_lines }
     requires apart { 0 < played.old.marks.every }
-    ensures counted { M.Meter.count meter.new ≡ M.Meter.count meter.old + 1 }
+    ensures counted { OnOk result (M.Meter.count meter.new ≡ M.Meter.count meter.old + 1) }
+    ensures risen { IsWithin (M.Meter.count meter.old) (M.Meter.count meter.new) 1 }
     ensures pieces { OnOk result (map M.text played.new.pieces.items ≡ map M.text played.old.pieces.items ++ (M.rules machine.now).said (M.meaning played.old.marks.state) line.now ∷ []) }
     ensures ticked { OnOk result (played.new.ticked.items ≡ played.old.ticked.items ++ (M.rules machine.now).ticked (M.meaning played.old.marks.state) line.now ∷ []) }
     ensures next { OnOk result (played.new.marks.next ≡ played.old.marks.next + 1) }
@@ -44,18 +46,18 @@ pub(crate) fn play_line<M: Machine>(
     ensures start { OnOk result (slice_index played.new.marks.places 0 ≡ slice_index played.old.marks.places 0) }
     ensures met { OnOk result (played.new.met ≡ played.old.met) }
 {
-    let stepped = machine.step(alloc, played.marks.state(), line, meter)?;
+    let place = played.marks.next() + 1;
+    played.marks.advance(place)?;
+    let stepped = machine.step(alloc, played.marks.state_mut(), line, meter)?;
     played.pieces.push(stepped.piece)?;
     played.ticked.push(stepped.ticked)?;
-    let place = played.marks.next() + 1;
-    played.marks.offer(place, stepped.state)?;
     Ok(())
 }
 
 /// Whether the old checkpoint of this index stands at the new place, where the old place `old` stands at `new`.
 fn stands_at(places: &[u32], index: usize, old: usize, new: usize, place: usize) -> bool
     requires behind { index < length places.now → old ≤ slice_index places.now index }
-    requires few { new ≤ MOST_LINES }
+    requires few { new ≤ max_log_lines }
     ensures { IsTrue result ↔ ((index < length places.now) × (slice_index places.now index - old + new ≡ place)) }
 {
     index < places.len() && places[index] as usize - old + new == place
@@ -83,7 +85,7 @@ fn pass<M: Machine>(
     marks: &Marks<M::State>,
 ) -> Option<usize>
     requires behind { index < length checkpoints.now.places → old ≤ slice_index checkpoints.now.places index }
-    requires few { new ≤ MOST_LINES }
+    requires few { new ≤ max_log_lines }
     ensures { (old_at new_at : ℕ → M.Meaning) → AreStates M.meaning M.is_state old_at checkpoints.now.places checkpoints.now.states → IsMarking M.meaning M.is_state new_at marks.now → MatchOption result (StandsAndAgrees old_at new_at checkpoints.now.places index old new marks.now.next) (Passes old_at new_at checkpoints.now.places index old new marks.now.next) }
 {
     let place = marks.next() as usize;
@@ -109,7 +111,7 @@ pub(crate) fn play_changed<M: Machine>(
     meter: &mut M::Meter,
 ) -> Result<Played<M>, AllocError>
     requires ready { IsReady seed log.now ready.now }
-    requires few { length log.now ≤ MOST_LINES }
+    requires few { length log.now ≤ max_log_lines }
     requires old_lines { checkpoints.now.lines ≡ length log.now }
     requires old_states { let replay = replay_of (M.rules machine.now) seed log.now ready.now in
         AreStates M.meaning M.is_state (states_of_old replay) checkpoints.now.places checkpoints.now.states }

@@ -5,7 +5,7 @@ ghost use Rattle.cave_replay.specs.Change.{change_of, changes_of, own_line, line
 ghost use Rattle.cave_replay.specs.Faults.{fault_of, fault_of_all, log_after_all};
 ghost use Rattle.cave_replay.specs.ReadyEdits.{edited, new_game};
 ghost use Rattle.cave_replay.specs.Replay.{IsShift};
-ghost use Rattle.cave_replay.specs.declared.fault.TheConstants.{MOST_LINES};
+ghost use Rattle.limits.specs.Limits.{max_log_lines};
 
 use crate::copies::copy_edits;
 use crate::edit::Edit;
@@ -150,7 +150,7 @@ impl ReadyEdits {
     pub(crate) fn line<'a>(&'a self, log: &'a [Vec<u8>], place: usize) -> &'a [u8]
         requires free { fault_of_all (changes_of self.now.edits.items) (log_of log.now) 0 ≡ None }
         requires lines { self.now.lines ≡ length (edited self.now (log_of log.now)) }
-        requires few { self.now.lines ≤ MOST_LINES }
+        requires few { self.now.lines ≤ max_log_lines }
         requires within { self.now.behind ≤ length log.now }
         requires shift { IsShift (game_of self.now.seed (log_of log.now)) (new_game self.now (log_of log.now)) self.now.head (length log.now - self.now.behind) }
         requires place { place < self.now.lines }

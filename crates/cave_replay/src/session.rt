@@ -9,8 +9,7 @@ ghost use Rattle.cave_replay.specs.Faults.{fault_of, fault_of_all, edit_fault, g
 ghost use Rattle.cave_replay.specs.Opening.{open_fault};
 ghost use Rattle.cave_replay.specs.Held.{IsGame, HoldsPlay};
 ghost use Rattle.cave_replay.specs.Report.{IsWithin, IsReport, AreStepsBounded};
-ghost use Rattle.cave_replay.specs.Table.{IsByTable};
-ghost use Rattle.cave_replay.specs.declared.fault.TheConstants.{MOST_LINES};
+ghost use Rattle.limits.specs.Limits.{max_log_lines};
 
 use crate::copies::copy_kept;
 use crate::edit::Edit;
@@ -149,7 +148,7 @@ impl<M: Machine> Session<M> {
         every: u32,
         meter: &mut M::Meter,
     ) -> Result<Session<M>, OpenFault>
-        requires { M.Meter.count meter.old + MOST_LINES < 2 ^ 64 }
+        requires { M.Meter.count meter.old + max_log_lines < 2 ^ 64 }
 
         ensures game { IfOk result (λ session. session.game ≡ game_of seed (lines log.now)) }
         ensures kept { IfOk result (λ session. (session.machine ≡ machine) × (session.every ≡ every)) }
@@ -201,7 +200,8 @@ impl<M: Machine> Session<M> {
         edit_kept(self.alloc, &self.machine, &mut self.kept, edits, meter)
     }
 
-    /// Edits the held game, and plays it. It is the group of this edit alone.
+    /// Edits the held game, and plays it. It is the group of this edit alone. What such a group
+    /// leaves alone is told by the kind of its edit: `by_table` in specs/Table.antt.
     pub fn edit(&mut self, edit: &Edit, meter: &mut M::Meter) -> Result<Report, EditFault>
         ensures game { OnOk result (self.new.game ≡ apply (change_of edit.now) self.old.game) }
         ensures kept { OnOk result ((self.new.machine ≡ self.old.machine) × (self.new.every ≡ self.old.every)) }
@@ -217,9 +217,6 @@ impl<M: Machine> Session<M> {
         ensures report { IfOk result (λ report. IsReport (M.rules self.old.machine) (change_of edit.now ∷ []) self.old.game self.old.every self.old.checkpoints report.from report.met report.played) }
         ensures steps { IfOk result (λ report. M.Meter.count meter.new ≡ M.Meter.count meter.old + report.played) }
         ensures bounded { AreStepsBounded (M.rules self.old.machine) (change_of edit.now ∷ []) self.old.game self.old.every (edit_fault (change_of edit.now) self.old.game.log (2 ^ 64 - 1 - M.Meter.count meter.old)) (M.Meter.count meter.old) (M.Meter.count meter.new) }
-
-        // What such a group leaves alone is told by the kind of its edit.
-        ensures table { fault_of (change_of edit.now) self.old.game.log ≡ None → IsByTable (change_of edit.now) self.old.game }
     {
         match self.edit_group(slice::from_ref(edit), meter) {
             Ok(mut report) => match report.inverse.pop() {

@@ -4,7 +4,7 @@ use Rattle.std.specs.List.{list_all}
 use Rattle.cave_words.specs.Bytes.{is_blank, is_digit, in_front, behind, number_of}
 use Rattle.cave_words.specs.LogLine.{is_comment, is_blank_line}
 use Rattle.cave_replay.specs.Change.{Change, inserts, deletes, replaces, reseeds}
-use Rattle.cave_script.specs.declared.line.TheConstants.{MOST_DIGITS, GREATEST_NUMBER}
+use Rattle.limits.specs.Limits.{max_digits, max_script_number}
 
 -- ---- the grammar of a line
 
@@ -26,8 +26,8 @@ pub record IsNumbered (word line : List ℕ) (number : ℕ) (rest : List ℕ) : 
   pub is_blank_byte : IsTrue (is_blank blank)
   pub all_digits : IsTrue (list_all is_digit digits)
   pub some_digits : 1 ≤ length digits
-  pub few_digits : length digits ≤ MOST_DIGITS
-  pub value : number ≡ min (number_of digits) GREATEST_NUMBER
+  pub few_digits : length digits ≤ max_digits
+  pub value : number ≡ min (number_of digits) max_script_number
 
 -- nothing, or one blank and the text
 abbrev pub IsText : List ℕ → List ℕ → Type 0
@@ -65,8 +65,8 @@ is_word word line = bytes_eq (take (length word) line) word && list_all is_blank
 -- the number that digits write, and the rest behind them
 abbrev pub number_in : List ℕ → List ℕ → Option (ℕ × List ℕ)
 number_in digits rest =
-    if nat_lt 0 (length digits) && nat_le (length digits) MOST_DIGITS
-    then Some (min (number_of digits) GREATEST_NUMBER, rest) else None
+    if nat_lt 0 (length digits) && nat_le (length digits) max_digits
+    then Some (min (number_of digits) max_script_number, rest) else None
 
 -- the number behind one blank, and the rest behind it
 abbrev pub number_behind_blank : List ℕ → Option (ℕ × List ℕ)

@@ -1,7 +1,8 @@
 //! One line of a script.
 
-ghost use Rattle.std.specs.Prelude.{◌≡◌, ◌+◌, ◌-◌, ◌*◌, IfOk, MatchOption, None, Some, option_map, min};
+ghost use Rattle.std.specs.Prelude.{◌≡◌, IfOk, MatchOption, None, Some, option_map, min};
 ghost use Rattle.std.specs.List.{list_all};
+ghost use Rattle.limits.specs.Limits.{max_script_number};
 ghost use Rattle.cave_words.specs.Bytes.{is_blank, is_digit, number_of};
 ghost use Rattle.cave_replay.specs.Change.{change_of};
 ghost use Rattle.cave_script.specs.Line.{is_skipped, is_word, number_in, number_after, text_in, edit_of, kind_of};
@@ -9,16 +10,11 @@ ghost use Rattle.cave_script.specs.Said.{kind_said};
 
 use cave_replay::Edit;
 use cave_words::bytes::{is_all_blank, is_blank, split_digits};
+use limits::{is_long_number, with_digit};
 use std::alloc::{AllocError, Global};
 
 /// The byte that begins a comment.
 pub const COMMENT_MARK: u8 = b'#';
-
-/// The most digits of a number.
-pub const MOST_DIGITS: usize = 10;
-
-/// The greatest number. One that is written greater is taken as this.
-pub const GREATEST_NUMBER: u32 = 4_294_967_295;
 
 /// What a line says.
 #[derive(Drop)]
@@ -48,19 +44,10 @@ fn is_word(word: &[u8], line: &[u8]) -> bool
     }
 }
 
-/// A number with one more digit, as long as it doesn't pass the greatest.
-fn with_digit(number: u32, digit: u8) -> u32
-    ensures { result ≡ min (10 * number + (digit - 48)) GREATEST_NUMBER }
-{
-    number
-        .saturating_mul(10)
-        .saturating_add(u32::from(digit.saturating_sub(b'0')))
-}
-
 /// The number that digits write, or the greatest.
 #[tactic(auto, using(crate::proofs::Numbers::number_capped))]
 fn number_of(digits: &[u8]) -> u32
-    ensures { result ≡ min (number_of digits.now) GREATEST_NUMBER }
+    ensures { result ≡ min (number_of digits.now) max_script_number }
 {
     digits
         .iter()
@@ -78,7 +65,7 @@ fn number_after<'a>(word: &[u8], line: &'a [u8]) -> Option<(u32, &'a [u8])>
         return None;
     }
     let (digits, rest) = split_digits(rest);
-    if digits.is_empty() || digits.len() > MOST_DIGITS {
+    if digits.is_empty() || is_long_number(digits.len()) {
         return None;
     }
     Some((number_of(digits), rest))

@@ -5,7 +5,7 @@ use crate::runs::{Command, Feeds, INPUTS, edit, play};
 use crate::streams::Source;
 use cave_data::{Cause, CaveError, Spot};
 use cave_play::fault::{Input, LogFault, PlayFault, ScriptFault};
-use cave_play::input::MOST_BYTES;
+use limits::MAX_INPUT_BYTES;
 use std::alloc::{AllocError, Global};
 use std::process::Abort;
 use std::test::Fail;
@@ -46,8 +46,8 @@ fn filled(alloc: Global, text: &[u8], size: usize) -> Result<Vec<u8>, AllocError
 
 #[test]
 fn inputs_of_the_greatest_size_are_read(rt: HostRuntime) -> Result<(), Fail> {
-    let cave = filled(rt.alloc(), CAVE, MOST_BYTES)?;
-    let comments = filled(rt.alloc(), b"", MOST_BYTES)?;
+    let cave = filled(rt.alloc(), CAVE, MAX_INPUT_BYTES)?;
+    let comments = filled(rt.alloc(), b"", MAX_INPUT_BYTES)?;
     let mut feeds = Feeds::of(&cave, &comments, &comments, &comments);
     let run = feeds.run(Command::Edit, rt.alloc());
     assert!(rt; run.wrote(b"[welcome]\n-- score 32 of 132, turns 0\n"));

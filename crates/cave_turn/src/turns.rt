@@ -90,8 +90,38 @@ pub fn stream_passed(state: &State, line: &[u8]) -> Option<Stream>
     }
 }
 
-/// Plays a line of a log.
+/// Plays a line of a log in the state itself. Tells whether it is a turn of the game.
 #[tactic(auto, unfolding(crate::specs::Turn::turned))]
+pub fn take_line(
+    cave: &Cave,
+    lexicon: &Lexicon,
+    state: &mut State,
+    line: &[u8],
+    out: &mut Out,
+    meter: &mut Meter,
+) -> bool
+    requires lexicon { IsLexiconOf cave.now lexicon.now }
+    requires line { IsTrue (is_line line.now) }
+    requires empty { out.old.items ≡ [] }
+    requires room { meter.old + 1 < 2 ^ 64 }
+
+    ensures turn { record { state = state.new; parts = out.new.items; ticked = result }
+        ≡ turned cave.now state.old line.now }
+    ensures few { array_vec_len out.new ≤ parts_of_turn }
+    ensures counted { meter.new ≡ meter.old + 1 }
+{
+    meter.tick();
+    match LogLine::of(line) {
+        LogLine::Comment | LogLine::Blank => false,
+        LogLine::Seed(seed) => {
+            state.stream = Stream::seeded(seed);
+            false
+        }
+        LogLine::Input => play(&Rules::of(cave, lexicon), line, state, out),
+    }
+}
+
+/// Plays a line of a log in a copy of the state.
 pub fn turn(
     cave: &Cave,
     lexicon: &Lexicon,
@@ -110,16 +140,7 @@ pub fn turn(
     ensures few { array_vec_len out.new ≤ parts_of_turn }
     ensures counted { meter.new ≡ meter.old + 1 }
 {
-    meter.tick();
-    let rules = Rules::of(cave, lexicon);
-    let mut turned = Turned {
-        state: *state,
-        ticked: false,
-    };
-    match LogLine::of(line) {
-        LogLine::Comment | LogLine::Blank => {}
-        LogLine::Seed(seed) => turned.state.stream = Stream::seeded(seed),
-        LogLine::Input => turned.ticked = play(&rules, line, &mut turned.state, out),
-    }
-    turned
+    let mut state = *state;
+    let ticked = take_line(cave, lexicon, &mut state, line, out, meter);
+    Turned { state, ticked }
 }

@@ -1,12 +1,12 @@
 -- What the rows of a word leave of its meanings, and what lookups then find.
-use Rattle.std.proofs.Common.{◌≡◌, ℕ, ◌+◌, ◌<◌, Bool, true, false, cond, ◌&&◌, List, [], ◌∷◌, ◌++◌, length, take, get_or, map, Option, Some, None, option_map, option_and_then, find, fold, bytes_eq, refl, sym, ap, ◌∙◌}
+use Rattle.std.proofs.Common.{◌≡◌, ℕ, ◌+◌, ◌<◌, Bool, true, false, cond, ◌&&◌, List, [], ◌∷◌, ◌++◌, length, take, Option, Some, None, option_map, option_and_then, find, fold, bytes_eq, refl, sym, ap, ◌∙◌}
 use Rattle.std.specs.Option.{option_or}
-use Rattle.std.proofs.lemmas.List.{take_more, map-append}
+use Rattle.std.proofs.lemmas.List.{take_more}
+use Rattle.std.specs.List.{slice_get}
+use Rattle.std.proofs.lemmas.Option.{get_or_from_slice_get, slice_get_within}
 use Rattle.std.proofs.lemmas.List.Sums.{fold_push}
 use Rattle.std.proofs.lemmas.Slice.Eq.{bytes_eq-Decides}
 use Rattle.cave_data.specs.CaveView.{WordEntry}
-use Rattle.cave_data.specs.Shown.{word_entry}
-use Rattle.cave_data.specs.declared.rows.WordRow.{WordRow}
 use Rattle.cave_words.specs.Index.{Index, looked_up}
 use Rattle.cave_words.specs.Meaning.{meaning_of, same_class, is_word, is_word_in, first_meaning}
 use Rattle.cave_words.specs.Meanings.{meaning_in_class, with_in_class, with_meaning, with_row, only_first, meanings_of}
@@ -107,12 +107,13 @@ pub in_class-meanings_of : (letters : ℕ) (rows : List WordEntry) (word : List 
 unfolding meanings_of
 in_class-meanings_of letters rows word class = in_class-meanings_from letters word class rows None
 
-meanings_of_more : (letters i : ℕ) (rows : List WordRow) (row : WordRow) (word : List ℕ) → i < length rows → row ≡ get_or rows i row
-    → meanings_of letters (map word_entry (take (i + 1) rows)) word ≡ with_row letters word (meanings_of letters (map word_entry (take i rows)) word) (word_entry row)
+meanings_of_more : (letters i : ℕ) (rows : List WordEntry) (row : WordEntry) (word : List ℕ) → slice_get rows i ≡ Some row
+    → meanings_of letters (take (i + 1) rows) word ≡ with_row letters word (meanings_of letters (take i rows) word) row
 unfolding meanings_of
-meanings_of_more letters i rows row word within is =
-    let last : take (i + 1) rows ≡ take i rows ++ row ∷ [] = take_more rows i row within ∙ ap (λ (r : WordRow). take i rows ++ r ∷ []) (sym is) in
-    rw (last, map-append word_entry (take i rows) (row ∷ [])) (fold_push (with_row letters word) None (map word_entry (take i rows)) (word_entry row))
+meanings_of_more letters i rows row word is =
+    let within : i < length rows = slice_get_within rows i row is in
+    let last : take (i + 1) rows ≡ take i rows ++ row ∷ [] = take_more rows i row within ∙ ap (λ (r : WordEntry). take i rows ++ r ∷ []) (get_or_from_slice_get rows i row row is) in
+    rw last (fold_push (with_row letters word) None (take i rows) row)
 
 known_step : (hit : Bool) (key word : List ℕ) (m : Meaning) (old : Index) → bytes_eq key word ≡ hit
     → cond hit (Some (with_meaning (looked_up old key) m)) (looked_up old word) ≡ cond hit (Some (with_meaning (looked_up old word) m)) (looked_up old word)
@@ -120,12 +121,12 @@ known_step true key word m old is = ap (λ (w : List ℕ). Some (with_meaning (l
 known_step false key word m old is = refl
 
 -- a lookup after one more row
-pub index_more : (letters i : ℕ) (rows : List WordRow) (row : WordRow) (old new : Index) → i < length rows → row ≡ get_or rows i row
-    → ((word : List ℕ) → looked_up old word ≡ meanings_of letters (map word_entry (take i rows)) word)
-    → ((word : List ℕ) → looked_up new word ≡ cond (bytes_eq (word_of letters row.word.items) word) (Some (with_meaning (looked_up old (word_of letters row.word.items)) (meaning_of row.number))) (looked_up old word))
-    → (word : List ℕ) → looked_up new word ≡ meanings_of letters (map word_entry (take (i + 1) rows)) word
-index_more letters i rows row old new within is before after word =
+pub index_more : (letters i : ℕ) (rows : List WordEntry) (row : WordEntry) (old new : Index) → slice_get rows i ≡ Some row
+    → ((word : List ℕ) → looked_up old word ≡ meanings_of letters (take i rows) word)
+    → ((word : List ℕ) → looked_up new word ≡ cond (bytes_eq (word_of letters row.word) word) (Some (with_meaning (looked_up old (word_of letters row.word)) (meaning_of row.number))) (looked_up old word))
+    → (word : List ℕ) → looked_up new word ≡ meanings_of letters (take (i + 1) rows) word
+index_more letters i rows row old new is before after word =
     after word
-    ∙ known_step (is_word letters word (word_entry row)) (word_of letters row.word.items) word (meaning_of row.number) old refl
-    ∙ ap (λ (known : Option Meanings). with_row letters word known (word_entry row)) (before word)
-    ∙ sym (meanings_of_more letters i rows row word within is)
+    ∙ known_step (is_word letters word row) (word_of letters row.word) word (meaning_of row.number) old refl
+    ∙ ap (λ (known : Option Meanings). with_row letters word known row) (before word)
+    ∙ sym (meanings_of_more letters i rows row word is)

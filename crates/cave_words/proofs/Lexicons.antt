@@ -2,12 +2,15 @@ use Rattle.std.proofs.Common.{◌≡◌, ℕ, List, map, get_or, ap, ◌∙◌, 
 use Rattle.std.proofs.Common.{Option, None, option_map, option_and_then}
 use Rattle.cave_data.specs.CaveView.{CaveView}
 use Rattle.cave_words.proofs.Indexes.{first-meanings_of, in_class-meanings_of}
-use Rattle.cave_words.specs.Index.{LexiconView, looked_up}
+use Rattle.cave_words.specs.Index.{Index, LexiconView, IsIndexOf, looked_up}
 use Rattle.cave_words.specs.Lexicon.{IsLexiconOf, found, found_in, found_object}
 use Rattle.cave_words.specs.Meaning.{meaning, meaning_in}
-use Rattle.cave_words.specs.Meanings.{meaning_in_class, meanings_of}
-use Rattle.cave_words.specs.Named.{name_number, object_named}
+use Rattle.cave_words.specs.Meanings.{meaning_in_class}
+use Rattle.cave_words.specs.Named.{name_number, object_of_word, object_named}
+use Rattle.cave_words.specs.Word.{word_of}
 use Rattle.cave_words.specs.declared.meaning.Class.{Class}
+use Rattle.cave_words.specs.declared.meaning.Class.TheVariants.{Object}
+use Rattle.cave_words.specs.declared.meaning.Meaning.{Meaning}
 use Rattle.cave_words.specs.declared.meanings.Meanings.{Meanings}
 use Rattle.cave_words.specs.declared.named.Named.{Named}
 use Rattle.cave_words.specs.declared.named.Named.TheVariants as name
@@ -23,6 +26,14 @@ pub found_object_means : (cave : CaveView) (lexicon : LexiconView) (name : Named
     → IsLexiconOf cave lexicon → found_object lexicon name ≡ object_named cave name
 found_object_means cave lexicon name is = is.finds_objects name
 
+-- the first object of a word of five letters is the object that the word names
+pub object_of_word_means : (cave : CaveView) (index : Index) (written : List ℕ) → IsIndexOf 5 cave.words index
+    → option_map (λ (m : Meaning). m.number) (option_and_then (meaning_in_class Object) (looked_up index (word_of 5 written))) ≡ object_of_word cave written
+unfolding object_of_word
+object_of_word_means cave index written is =
+    ap (λ known. option_map (λ (m : Meaning). m.number) (option_and_then (meaning_in_class Object) known)) (is (word_of 5 written))
+    ∙ ap (option_map (λ (m : Meaning). m.number)) (in_class-meanings_of 5 cave.words (word_of 5 written) Object)
+
 -- what is told of each name stands at the name's number
 at_number : {K : Type 0} (f : Named → K) (d : K) (n : Named)
     → get_or (map f EACH_NAME) (name_number n) d ≡ f n
@@ -31,7 +42,7 @@ at_number f d _ = refl
 
 -- lookups in what is kept of the rows are those of the cave
 pub lexicon_of : (cave : CaveView) (lexicon : LexiconView) → lexicon.letters ≡ cave.letters
-    → ((word : List ℕ) → looked_up lexicon.words word ≡ meanings_of cave.letters cave.words word)
+    → IsIndexOf cave.letters cave.words lexicon.words
     → lexicon.names ≡ map (object_named cave) EACH_NAME
     → IsLexiconOf cave lexicon
 unfolding found found_in meaning meaning_in

@@ -6,6 +6,7 @@ use Rattle.std.proofs.lemmas.List.{append-nil, take-append-drop}
 use Rattle.std.proofs.lemmas.List.Folds.{list_all-append}
 use Rattle.std.proofs.lemmas.Slice.Eq.{bytes_eq-Decides}
 use Rattle.std.proofs.Math.Bool.{and-false}
+use Rattle.limits.specs.Limits.{max_digits, max_seed}
 use Rattle.cave_words.proofs.Fronts.{in_front-append-behind, list_all-in_front, behind-append, in_front-append}
 use Rattle.cave_words.specs.Bytes.{is_blank, is_digit, in_front, behind, number_of}
 use Rattle.cave_words.specs.LogLine.{IsLogLine, IsSeedLine, log_line, is_comment, is_blank_line, seed_of, seed_in, seed_or_input}
@@ -37,31 +38,31 @@ all_behind_digits (byte ∷ bytes) blank =
 -- what makes digits and the bytes behind them the end of a seed line
 record EndsSeedLine (digits after : List ℕ) (seed : ℕ) : Type 0 where
   pub some_digits : 1 ≤ length digits
-  pub few_digits : length digits ≤ 10
+  pub few_digits : length digits ≤ max_digits
   pub blank_after : IsTrue (list_all is_blank after)
   pub value : number_of digits ≡ seed
-  pub in_range : seed ≤ 2147483647
+  pub in_range : seed ≤ max_seed
 
 seed_in-from_end : (digits after : List ℕ) (seed : ℕ) → EndsSeedLine digits after seed → seed_in digits after ≡ Some seed
 unfolding seed_in
 seed_in-from_end digits after seed is =
     let some : nat_lt 0 (length digits) ≡ true = grind (arith, nat_tests, is.some_digits) in
-    let few : nat_le (length digits) 10 ≡ true = grind (arith, nat_tests, is.few_digits) in
+    let few : nat_le (length digits) max_digits ≡ true = grind (arith, nat_tests, is.few_digits) in
     let blank = is.blank_after in
     let value = is.value in
-    let small : nat_le seed 2147483647 ≡ true = grind (arith, nat_tests, is.in_range) in
+    let small : nat_le seed max_seed ≡ true = grind (arith, nat_tests, is.in_range) in
     rw (value, some, few, blank, small) refl
 
 end_from_seed_in : (digits after : List ℕ) (seed : ℕ) → seed_in digits after ≡ Some seed → EndsSeedLine digits after seed
 unfolding seed_in
-end_from_seed_in digits after seed is = ends (nat_lt 0 (length digits) && nat_le (length digits) 10 && list_all is_blank after && nat_le (number_of digits) 2147483647) refl is
+end_from_seed_in digits after seed is = ends (nat_lt 0 (length digits) && nat_le (length digits) max_digits && list_all is_blank after && nat_le (number_of digits) max_seed) refl is
   where
-    ends : (all : Bool) → (nat_lt 0 (length digits) && nat_le (length digits) 10 && list_all is_blank after && nat_le (number_of digits) 2147483647) ≡ all → cond all (Some (number_of digits)) None ≡ Some seed → EndsSeedLine digits after seed
+    ends : (all : Bool) → (nat_lt 0 (length digits) && nat_le (length digits) max_digits && list_all is_blank after && nat_le (number_of digits) max_seed) ≡ all → cond all (Some (number_of digits)) None ≡ Some seed → EndsSeedLine digits after seed
     ends false e h = cc
     ends true e h =
-        let small = and_parts (nat_lt 0 (length digits) && nat_le (length digits) 10 && list_all is_blank after) (nat_le (number_of digits) 2147483647) e in
-        let blank = and_parts (nat_lt 0 (length digits) && nat_le (length digits) 10) (list_all is_blank after) small.0 in
-        let count = and_parts (nat_lt 0 (length digits)) (nat_le (length digits) 10) blank.0 in
+        let small = and_parts (nat_lt 0 (length digits) && nat_le (length digits) max_digits && list_all is_blank after) (nat_le (number_of digits) max_seed) e in
+        let blank = and_parts (nat_lt 0 (length digits) && nat_le (length digits) max_digits) (list_all is_blank after) small.0 in
+        let count = and_parts (nat_lt 0 (length digits)) (nat_le (length digits) max_digits) blank.0 in
         let value : number_of digits ≡ seed = cc in
         record {
           some_digits = grind (arith, nat_tests, count.0);

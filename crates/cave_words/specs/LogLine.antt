@@ -1,5 +1,6 @@
 use Rattle.std.specs.Prelude.{ℕ, Bool, false, ◌≡◌, ◌≤◌, ◌==◌, ◌&&◌, ◌++◌, ◌∷◌, nat_lt, nat_le, bytes_eq, List, [], Option, Some, None, length, take, drop, codes, if◌then◌else◌, IsTrue}
 use Rattle.std.specs.List.{list_all}
+use Rattle.limits.specs.Limits.{max_digits, max_seed}
 use Rattle.cave_words.specs.Bytes.{is_blank, is_digit, in_front, behind, number_of}
 use Rattle.cave_words.specs.declared.log_line.LogLine.{LogLine}
 use Rattle.cave_words.specs.declared.log_line.LogLine.TheVariants.{Comment, Blank, Seed, Input}
@@ -13,7 +14,7 @@ is_comment (byte ∷ bytes) = byte == 35
 abbrev pub is_blank_line : List ℕ → Bool
 is_blank_line line = list_all is_blank line
 
--- blanks, the word `seed`, one space, 1 to 10 digits that write the seed, and blanks
+-- blanks, the word `seed`, one space, a few digits that write the seed, and blanks
 pub record IsSeedLine (line : List ℕ) (seed : ℕ) : Type 0 where
   pub before : List ℕ
   pub digits : List ℕ
@@ -23,9 +24,9 @@ pub record IsSeedLine (line : List ℕ) (seed : ℕ) : Type 0 where
   pub all_digits : IsTrue (list_all is_digit digits)
   pub blank_after : IsTrue (list_all is_blank after)
   pub some_digits : 1 ≤ length digits
-  pub few_digits : length digits ≤ 10
+  pub few_digits : length digits ≤ max_digits
   pub value : number_of digits ≡ seed
-  pub in_range : seed ≤ 2147483647
+  pub in_range : seed ≤ max_seed
 
 -- the line is of this kind
 abbrev pub IsLogLine : List ℕ → LogLine → Type 0
@@ -37,7 +38,7 @@ IsLogLine line Input = (¬ IsTrue (is_comment line)) × (¬ IsTrue (is_blank_lin
 -- the seed that digits and the blanks behind them name
 unfoldable pub seed_in : List ℕ → List ℕ → Option ℕ
 seed_in digits after =
-    if nat_lt 0 (length digits) && nat_le (length digits) 10 && list_all is_blank after && nat_le (number_of digits) 2147483647
+    if nat_lt 0 (length digits) && nat_le (length digits) max_digits && list_all is_blank after && nat_le (number_of digits) max_seed
     then Some (number_of digits) else None
 
 -- the seed that the line names, if it is a seed line

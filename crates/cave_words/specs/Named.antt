@@ -1,7 +1,7 @@
 use Rattle.std.specs.Prelude.{ℕ, ◌+◌, Bool, true, false, nat_lt, if◌then◌else◌}
 use Rattle.std.specs.Prelude.{List, [], ◌∷◌, codes, slice_index_or}
 use Rattle.std.specs.Prelude.{Option, Some, None, option_map, option_and_then}
-use Rattle.cave_data.specs.CaveView.{CaveView, WordEntry}
+use Rattle.cave_data.specs.CaveView.{CaveView}
 use Rattle.cave_words.specs.Meaning.{first_meaning, is_word_in}
 use Rattle.cave_words.specs.Word.{word_of}
 use Rattle.cave_words.specs.declared.meaning.Class.TheVariants.{Object}
@@ -80,14 +80,10 @@ is_second _ = false
 unfoldable pub name_of : Named → List ℕ
 name_of name = slice_index_or names (name_number name) []
 
--- the row is of this word of five letters, and means an object
-abbrev pub is_object_word : List ℕ → WordEntry → Bool
-is_object_word word row = is_word_in 5 word Object row
-
 -- the object that a word names in a cave, by the word's first five letters
 unfoldable pub object_of_word : CaveView → List ℕ → Option ℕ
 object_of_word cave word =
-    let object = first_meaning (is_object_word (word_of 5 word)) cave.words in
+    let object = first_meaning (is_word_in 5 (word_of 5 word) Object) cave.words in
     option_map (λ meaning. meaning.number) object
 
 -- the object after, if there may be one

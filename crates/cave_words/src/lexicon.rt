@@ -1,17 +1,15 @@
 //! The words of a cave with what they mean, for lookups that neither walk the rows nor take memory.
-ghost use Rattle.std.specs.Prelude.{◌≡◌, ℕ, ◌≤◌, List, map, IfOk};
+ghost use Rattle.std.specs.Prelude.{◌≡◌, ℕ, ◌≤◌, map, IfOk};
 ghost use Rattle.cave_data.specs.CaveView.{CaveView};
-ghost use Rattle.cave_data.specs.Shown.{word_entry};
 ghost use Rattle.cave_words.specs.Meaning.{meaning, meaning_in};
-ghost use Rattle.cave_words.specs.Meanings.{meanings_of};
-ghost use Rattle.cave_words.specs.Index.{looked_up};
-ghost use Rattle.cave_words.specs.Named.{is_object_word, object_of_word, object_named};
+ghost use Rattle.cave_words.specs.Index.{looked_up, IsIndexOf};
+ghost use Rattle.cave_words.specs.Named.{object_of_word, object_named};
 
 use crate::meaning::{Class, Meaning};
 use crate::meanings::Meanings;
 use crate::named::{EACH_NAME, NAME_COUNT, Named};
 use crate::word::Word;
-use cave_data::{Cave, WordRow};
+use cave_data::{Cave, Words};
 use indexmap::IndexMap;
 use std::alloc::{AllocError, Global};
 use std::marker::Model;
@@ -51,7 +49,11 @@ impl Lexicon {
         let letters = cave.letters();
         let rows = cave.words();
         let words = index(alloc, rows, letters)?;
-        let names = objects_of_names(cave);
+        let names = if letters == NAME_LETTERS {
+            objects_of_names(&words)
+        } else {
+            objects_of_names(&index(alloc, rows, NAME_LETTERS)?)
+        };
         Ok(Lexicon {
             letters,
             words,
@@ -97,35 +99,24 @@ impl Lexicon {
     }
 }
 
-/// Whether a row is of a word that means an object, where the letters of names count.
-fn is_object_word(row: &WordRow, word: Word) -> bool
-    ensures { result ≡ is_object_word word (word_entry row.now) }
-{
-    matches!(Meaning::of(row.number).class, Class::Object)
-        && Word::of(row.word.as_slice(), NAME_LETTERS) == word
-}
-
-/// The object that a word names in a cave, by its first five letters.
-#[tactic(auto, unfolding(crate::specs::Named::object_of_word))]
-fn object_of_word(cave: &Cave, written: &[u8]) -> Option<u16>
-    ensures { result ≡ object_of_word cave.now written.now }
+/// The object that a word names, by its first five letters. The index has words of so many letters.
+#[tactic(auto, using(crate::proofs::Lexicons::object_of_word_means))]
+fn object_of_word(index: &IndexMap<Word, Meanings>, written: &[u8]) -> Option<u16>
+    ensures { (cave : CaveView) → IsIndexOf 5 cave.words index.now.entries
+        → result ≡ object_of_word cave written.now }
 {
     let word = Word::of(written, NAME_LETTERS);
-    let rows = cave.words();
-    for row in rows {
-        if is_object_word(row, word) {
-            return Some(Meaning::of(row.number).number);
-        }
-    }
-    None
+    let object = look_up(index, word)?.in_class(Class::Object)?;
+    Some(object.number)
 }
 
-/// The object of a name in a cave.
+/// The object of a name. The index has words of five letters.
 #[tactic(auto, unfolding(crate::specs::Named::object_named))]
-fn object_named(cave: &Cave, name: Named) -> Option<u16>
-    ensures { result ≡ object_named cave.now name }
+fn object_named(index: &IndexMap<Word, Meanings>, name: Named) -> Option<u16>
+    ensures { (cave : CaveView) → IsIndexOf 5 cave.words index.now.entries
+        → result ≡ object_named cave name }
 {
-    let object = object_of_word(cave, name.word())?;
+    let object = object_of_word(index, name.word())?;
     if !name.is_second() {
         return Some(object);
     }
@@ -136,13 +127,14 @@ fn object_named(cave: &Cave, name: Named) -> Option<u16>
     }
 }
 
-/// The object of each name in a cave, by the numbers of the names.
-fn objects_of_names(cave: &Cave) -> [Option<u16>; NAME_COUNT]
-    ensures { result ≡ map (object_named cave.now) EACH_NAME }
+/// The object of each name, by the numbers of the names. The index has words of five letters.
+fn objects_of_names(index: &IndexMap<Word, Meanings>) -> [Option<u16>; NAME_COUNT]
+    ensures { (cave : CaveView) → IsIndexOf 5 cave.words index.now.entries
+        → result ≡ map (object_named cave) EACH_NAME }
 {
     let mut objects = [None; NAME_COUNT];
     for (i, &name) in EACH_NAME.iter().enumerate() {
-        objects[i] = object_named(cave, name);
+        objects[i] = object_named(index, name);
     }
     objects
 }
@@ -154,18 +146,16 @@ fn look_up(index: &IndexMap<Word, Meanings>, word: Word) -> Option<Meanings>
     index.get(&word).copied()
 }
 
-/// The meanings of the words of some rows, where so many letters count.
-fn index(
-    alloc: Global,
-    rows: &[WordRow],
-    letters: u8,
-) -> Result<IndexMap<Word, Meanings>, AllocError>
+/// The meanings of some words, where so many letters count.
+fn index(alloc: Global, words: &Words, letters: u8) -> Result<IndexMap<Word, Meanings>, AllocError>
     requires { letters ≤ 8 }
-    ensures { IfOk result (λ index. (word : List ℕ) → looked_up index.entries word ≡ meanings_of letters (map word_entry rows.now) word) }
+    ensures { IfOk result (λ index. IsIndexOf letters words.now index.entries) }
 {
-    let mut index = IndexMap::new(alloc);
-    for row in rows {
-        let word = Word::of(row.word.as_slice(), letters);
+    let count = words.len();
+    let mut index = IndexMap::with_capacity(alloc, count)?;
+    for i in 0..count {
+        let row = words.row(i);
+        let word = Word::of(row.word, letters);
         let known = look_up(&index, word);
         let meanings = Meanings::with(known, Meaning::of(row.number));
         index.insert(word, meanings)?;

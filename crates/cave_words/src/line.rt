@@ -2,10 +2,8 @@ ghost use Rattle.std.specs.Prelude.{◌≡◌, ◌↔◌, None, Some, IsTrue, Is
 ghost use Rattle.std.specs.List.{list_all};
 ghost use Rattle.cave_words.specs.Line.{line_fault, is_line, may_stand};
 
+use limits::is_long_line;
 use thiserror::Error;
-
-/// The most bytes that a line of a log has.
-pub const LONGEST_LINE: usize = 255;
 
 /// Why a line can't stand in a log.
 #[derive(Clone, Copy, Debug, PartialEq, Eq, Error)]
@@ -34,7 +32,7 @@ pub fn check_line(line: &[u8]) -> Result<(), LineFault>
     ensures fault { MatchResult result (λ _. line_fault line.now ≡ None) (λ fault. line_fault line.now ≡ Some fault) }
     ensures ok { IsOk result ↔ IsTrue (is_line line.now) }
 {
-    if line.len() > LONGEST_LINE {
+    if is_long_line(line.len()) {
         return Err(LineFault::TooLong);
     }
     if !all_may_stand(line) {

@@ -4,15 +4,10 @@ ghost use Rattle.cave_words.specs.Bytes.{is_digit};
 ghost use Rattle.cave_words.specs.LogLine.{log_line, is_comment, seed_of, seed_in, IsLogLine};
 
 use crate::bytes::{behind_blanks, is_all_blank, number_of, split_digits};
+use limits::{is_large_seed, is_long_number};
 
 /// The byte that begins a comment.
 pub const COMMENT_MARK: u8 = b'#';
-
-/// The largest seed that a seed line may name.
-pub const LARGEST_SEED: u64 = 2_147_483_647;
-
-/// The most digits of a seed.
-pub const SEED_DIGITS: usize = 10;
 
 /// What a line of a log is.
 #[derive(Clone, Copy, Debug, PartialEq, Eq)]
@@ -77,11 +72,11 @@ fn seed_in(digits: &[u8], after: &[u8]) -> Option<u32>
     requires { IsTrue (list_all is_digit digits.now) }
     ensures { result ≡ seed_in digits.now after.now }
 {
-    if digits.is_empty() || digits.len() > SEED_DIGITS || !is_all_blank(after) {
+    if digits.is_empty() || is_long_number(digits.len()) || !is_all_blank(after) {
         return None;
     }
     let number = number_of(digits);
-    if number > LARGEST_SEED {
+    if is_large_seed(number) {
         return None;
     }
     Some(number as u32)

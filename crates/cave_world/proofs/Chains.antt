@@ -16,7 +16,7 @@ use Rattle.cave_world.specs.Links.{first_of, next_of, table, told, links_of, hal
 use Rattle.cave_world.specs.Links.{entries_from, entries_of, AreWithin, AreLinks}
 use Rattle.cave_world.proofs.Tests.{equal, unequal, apart, itself}
 use Rattle.cave_world.proofs.Moves.{StartsAt-earlier, length-AreLists}
-use Rattle.cave_world.proofs.Places.{Ascend, Ascend-AreLists, same_lists}
+use Rattle.cave_world.specs.SameLists.{Ascend, Ascend-AreLists, same_lists}
 use Rattle.cave_world.proofs.Standing.{none_nowhere}
 use Rattle.cave_world.proofs.Links.{low_number}
 
@@ -101,7 +101,7 @@ halves_along_is next (suc most) number (half ∷ halves) h l =
     let rest = halves_along_is next most (next number) halves h.1.1 (omega (arith, l)) in
     rw some (λ i. here i ∷ rest i)
 
--- each entry's half leads to the first half of its place behind it
+-- each entry's half leads to the first half of its place after it
 abbrev pub AreLinkedBy : (ℕ → ℕ) → List Entry → Type 0
 AreLinkedBy next [] = Unit {0}
 AreLinkedBy next (e ∷ es) = (next (half_number e.half) ≡ first_of e.place es) × AreLinkedBy next es

@@ -14,7 +14,7 @@ unfolding without
 kept n e es true h f ih = absurd (false≢true (sym f))
 kept n e es false h f ih = rw h (ap (λ (l : List Entry). e ∷ l) ih)
 
--- taking out a half that stands nowhere leaves all
+-- taking out a half that is nowhere leaves all
 pub without_absent : (n : ℕ) (es : List Entry) → Lacks n es → without n es ≡ es
 unfolding without
 without_absent n [] l = refl
@@ -50,7 +50,7 @@ only_at n from (e ∷ es) h = (
   only_at n from es (λ q t. h q (listed_more n q e es (eqb e.place q) (has_half n e) refl refl t)),
 )
 
--- a half that isn't in the list of the one place where it could stand stands nowhere
+-- a half that isn't in the list of the one place where it could be is nowhere
 pub Lacks_unlisted : (n p : ℕ) (es : List Entry) → IsOnlyAt n (Some p) es → is_listed n (halves_at p es) ≡ false → Lacks n es
 Lacks_unlisted n p [] only none = tt
 Lacks_unlisted n p (e ∷ es) only none = (

@@ -71,7 +71,7 @@ IsLaid-brought l x s lists laid low high re = record {
   firsts = λ y q h. ap (is_listed (1 + y)) (re q) ∙ (is_listed-listed_at (1 + y) q (First x) (place_of_spot s) (halves_at q l.lists)
       ∙ told_at place_of_spot (eqb (1 + y) x) q (x - 1) y s spot.Away l.first (is_listed (1 + y) (halves_at q l.lists)) (λ e. same x y e) (λ e. other x y e low) (omega (arith, laid.all_first)) (laid.firsts y q h));
   seconds = λ y q h. ap (is_listed (101 + y)) (re q) ∙ (is_listed-listed_at (101 + y) q (First x) (place_of_spot s) (halves_at q l.lists)
-      ∙ untouched (eqb (101 + y) x) (is_place q (place_of_spot s)) (is_listed (101 + y) (halves_at q l.lists)) (is_place q (place_of_anchor (get_or l.second y anchor.Loose))) (behind x y high) (laid.seconds y q h));
+      ∙ untouched (eqb (101 + y) x) (is_place q (place_of_spot s)) (is_listed (101 + y) (halves_at q l.lists)) (is_place q (place_of_anchor (get_or l.second y anchor.Loose))) (after x y high) (laid.seconds y q h));
   all_first = length-set l.first (x - 1) s ∙ laid.all_first;
   all_second = laid.all_second;
 }
@@ -82,8 +82,8 @@ IsLaid-brought l x s lists laid low high re = record {
     other : (x y : ℕ) → eqb (1 + y) x ≡ false → 0 < x → y ≢ x - 1
     other x y e low = grind (arith, nat_tests)
 
-    behind : (x y : ℕ) → x ≤ 100 → eqb (101 + y) x ≡ false
-    behind x y h = grind (arith, nat_tests)
+    after : (x y : ℕ) → x ≤ 100 → eqb (101 + y) x ≡ false
+    after x y h = grind (arith, nat_tests)
 
 pub IsLaid-anchored : (l : Layout) (x : ℕ) (a : Anchor) (lists : List Entry) → IsLaid l → 0 < x → x ≤ 100 → AreRelisted l.lists lists (Second x) (place_of_anchor a)
     → (let m : Layout = record { first = l.first; second = set l.second (x - 1) a; props = l.props; lists = lists } in IsLaid m)

@@ -1,4 +1,4 @@
--- What the moves of halves make of the first half of each place, and of the half behind each half.
+-- What the moves of halves make of the first half of each place, and of the half after each half.
 use Rattle.std.proofs.Common.{◌≡◌, ℕ, ◌<◌, Bool, true, false, cond, not, List, [], ◌∷◌, nat_lt, eqb}
 use Rattle.std.proofs.Common.{refl, sym, ap, ◌∙◌, arith}
 use Rattle.std.proofs.lemmas.Bool.Decides.{nat_tests}
@@ -26,7 +26,7 @@ neither false x y m f g h = g h
 not_zero : (m : ℕ) → 0 < m → 0 ≡ m → ⊥
 not_zero m low h = absurd (omega arith)
 
--- ---- no link leads to a half that stands nowhere
+-- ---- no link leads to a half that is nowhere
 
 pub first_absent : (m p : ℕ) (es : List Entry) → 0 < m → Lacks m es → first_of p es ≡ m → ⊥
 unfolding first_of
@@ -43,12 +43,12 @@ next_absent m n (e ∷ es) low l h =
     (first_absent m e.place es low l.1) (next_absent m n es low l.1) h
 
 -- and none leads on from it
-pub none_behind : (m : ℕ) (es : List Entry) → Lacks m es → next_of m es ≡ 0
+pub none_after : (m : ℕ) (es : List Entry) → Lacks m es → next_of m es ≡ 0
 unfolding next_of
-none_behind m [] l = refl
-none_behind m (e ∷ es) l =
+none_after m [] l = refl
+none_after m (e ∷ es) l =
     let far : eqb (half_number e.half) m ≡ false = unequal (half_number e.half) m l.0 in
-    rw far (none_behind m es l.1)
+    rw far (none_after m es l.1)
 
 -- ---- one link at most leads to a half
 
@@ -92,14 +92,14 @@ first_or_next m p n e es false true low l s ih u v = apart e.place p s
     (first_from_one m e.place p es low l.1.1.1.1 v u)
 first_or_next m p n e es false false low l s ih u v = ih u v
 
--- the first half of a place is behind none
-pub first_behind_none : (m p n : ℕ) (es : List Entry) → 0 < m → AreLists es → first_of p es ≡ m
+-- the first half of a place is after none
+pub first_after_none : (m p n : ℕ) (es : List Entry) → 0 < m → AreLists es → first_of p es ≡ m
     → next_of n es ≡ m → ⊥
 unfolding first_of next_of
-first_behind_none m p n [] low l u v = not_zero m low u
-first_behind_none m p n (e ∷ es) low l u v =
+first_after_none m p n [] low l u v = not_zero m low u
+first_after_none m p n (e ∷ es) low l u v =
     first_or_next m p n e es (eqb e.place p) (eqb (half_number e.half) n) low l refl
-    (first_behind_none m p n es low l.1.1.1.1) u v
+    (first_after_none m p n es low l.1.1.1.1) u v
 
 one_before : (m i j : ℕ) (e : Entry) (es : List Entry) (a b : Bool) → 0 < m → AreLists (e ∷ es)
     → eqb (half_number e.half) i ≡ a → eqb (half_number e.half) j ≡ b
@@ -109,12 +109,12 @@ one_before : (m i j : ℕ) (e : Entry) (es : List Entry) (a b : Bool) → 0 < m 
 one_before m i j e es true true low l s t ih u v = sym (equal (half_number e.half) i s)
     ∙ equal (half_number e.half) j t
 one_before m i j e es true false low l s t ih u v = absurd
-    (first_behind_none m e.place j es low l.1.1.1.1 u v)
+    (first_after_none m e.place j es low l.1.1.1.1 u v)
 one_before m i j e es false true low l s t ih u v = absurd
-    (first_behind_none m e.place i es low l.1.1.1.1 v u)
+    (first_after_none m e.place i es low l.1.1.1.1 v u)
 one_before m i j e es false false low l s t ih u v = ih u v
 
--- a half is behind one at most
+-- a half is after one at most
 pub next_from_one : (m i j : ℕ) (es : List Entry) → 0 < m → AreLists es → next_of i es ≡ m
     → next_of j es ≡ m → i ≡ j
 unfolding next_of
@@ -123,20 +123,20 @@ next_from_one m i j (e ∷ es) low l u v =
     one_before m i j e es (eqb (half_number e.half) i) (eqb (half_number e.half) j) low l refl refl
     (next_from_one m i j es low l.1.1.1.1) u v
 
-behind_other : (n : ℕ) (e : Entry) (es : List Entry) (b : Bool) → AreLists (e ∷ es)
+after_other : (n : ℕ) (e : Entry) (es : List Entry) (b : Bool) → AreLists (e ∷ es)
     → eqb (half_number e.half) n ≡ b
     → (next_of n es ≡ n → ⊥) → cond b (first_of e.place es) (next_of n es) ≡ n → ⊥
-behind_other n e es true l t ih h = first_past n e.place e es l (equal (half_number e.half) n t) h
-behind_other n e es false l t ih h = ih h
+after_other n e es true l t ih h = first_past n e.place e es l (equal (half_number e.half) n t) h
+after_other n e es false l t ih h = ih h
 
--- no half is behind itself
+-- no half is after itself
 pub next_differs : (n : ℕ) (es : List Entry) → 0 < n → AreLists es → next_of n es ≡ n → ⊥
 unfolding next_of
 next_differs n [] low l h = not_zero n low h
 next_differs n (e ∷ es) low l h =
-    behind_other n e es (eqb (half_number e.half) n) l refl (next_differs n es low l.1.1.1.1) h
+    after_other n e es (eqb (half_number e.half) n) l refl (next_differs n es low l.1.1.1.1) h
 
--- ---- a half taken out: what led to it leads to the half behind it
+-- ---- a half taken out: what led to it leads to the half after it
 
 absent : (m : ℕ) (e : Entry) (es : List Entry) → AreLists (e ∷ es) → half_number e.half ≡ m
     → without m es ≡ es
@@ -188,7 +188,7 @@ next_left m n e es kept true t true l same u v w ahead ih =
     let here : half_number e.half ≡ m = equal (half_number e.half) m u in
     ap (λ (x : List Entry). next_of n x) (same here)
     ∙ (ap (λ k. next_of k es) (equal n m w ∙ sym here)
-    ∙ none_behind (half_number e.half) es l.1.1.0)
+    ∙ none_after (half_number e.half) es l.1.1.0)
 next_left m n e es kept true true false l same u v w ahead ih =
     absurd (apart n m w (sym (equal (half_number e.half) n v) ∙ equal (half_number e.half) m u))
 next_left m n e es kept true false false l same u v w ahead ih =

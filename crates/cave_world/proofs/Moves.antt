@@ -116,7 +116,7 @@ in_range [] h q t = absurd (false≢true t)
 in_range (e ∷ es) h q t =
     one_of (half_number e.half) q (eqb q (half_number e.half)) (list_any (eqb q) (numbers es)) refl (omega (arith, h.1.0)) (in_range es h.1.1.1.1 q) t
 
--- each half stands once, so there is room for all of them
+-- each half is listed once, so there is room for all of them
 pub length-AreLists : (es : List Entry) → AreLists es → length es ≤ 200
 length-AreLists es h =
     let all = IsDistinct-cons eqb 0 (numbers es) (apart_from_Lacks 0 es (Lacks-none es h)) (distinct es h) in

@@ -16,9 +16,9 @@ use Rattle.cave_world.specs.Links.{AreLinks}
 use Rattle.cave_world.proofs.Tests.{equal, unequal, itself}
 use Rattle.cave_world.proofs.Moves.{either, AreLists-without, AreLists-put_first}
 use Rattle.cave_world.proofs.Links.{first_of-without, next_of-without, first_of-put_first}
-use Rattle.cave_world.proofs.Links.{next_of-put_first, first_from_one, first_behind_none}
+use Rattle.cave_world.proofs.Links.{next_of-put_first, first_from_one, first_after_none}
 use Rattle.cave_world.proofs.Links.{next_from_one, next_differs, low_number}
-use Rattle.cave_world.proofs.Places.{Ascend-AreLists, same_lists}
+use Rattle.cave_world.specs.SameLists.{Ascend-AreLists, same_lists}
 use Rattle.cave_world.proofs.Chains.{told-set, made, length-first, length-next, told-first}
 use Rattle.cave_world.proofs.Chains.{told-next}
 
@@ -50,7 +50,7 @@ place_in p m e fp true t low high ih h =
     let same : e.place ≡ p = equal e.place p t in record { low = omega arith; high = omega arith }
 place_in p m e fp false t low high ih h = ih h
 
--- a half stands first at a place
+-- a half is first at a place
 pub is_place : (p m : ℕ) (es : List Entry) → 0 < m → AreLists es → AreWithin es → first_of p es ≡ m
     → IsPlace p
 unfolding first_of
@@ -59,7 +59,7 @@ is_place p m (e ∷ es) low l w h =
     place_in p m e (first_of p es) (eqb e.place p) refl l.0.1 w.0.0
     (is_place p m es low l.1.1.1.1 w.1) h
 
--- no half stands at place 0
+-- no half is at place 0
 pub first_nowhere : (es : List Entry) → AreLists es → first_of 0 es ≡ 0
 unfolding first_of
 first_nowhere [] l = refl
@@ -79,7 +79,7 @@ number_in n m e x y true t low high ih h =
     { low = omega arith; high = omega arith }
 number_in n m e x y false t low high ih h = ih h
 
--- a half with another behind it has a number
+-- a half with another after it has a number
 pub is_number : (n m : ℕ) (es : List Entry) → 0 < m → AreLists es → next_of n es ≡ m → IsNumber n
 unfolding next_of
 is_number n m [] low l h = absurd (omega arith)
@@ -92,7 +92,7 @@ led_in : (m : ℕ) (e : Entry) (y : ℕ) (b : Bool) → 0 < half_number e.half �
 led_in m e y true low high ih h = record { low = omega arith; high = omega arith }
 led_in m e y false low high ih h = ih h
 
--- what stands first has a number
+-- what is first has a number
 pub first_is_number : (p m : ℕ) (es : List Entry) → 0 < m → AreLists es → first_of p es ≡ m
     → IsNumber m
 unfolding first_of
@@ -101,21 +101,21 @@ first_is_number p m (e ∷ es) low l h =
     led_in m e (first_of p es) (eqb e.place p) (low_number e.half l.0.0) l.1.0
     (first_is_number p m es low l.1.1.1.1) h
 
-behind_in : (m : ℕ) (x y : ℕ) (b : Bool) → (x ≡ m → IsNumber m) → (y ≡ m → IsNumber m)
+after_in : (m : ℕ) (x y : ℕ) (b : Bool) → (x ≡ m → IsNumber m) → (y ≡ m → IsNumber m)
     → cond b x y ≡ m → IsNumber m
-behind_in m x y true f g h = f h
-behind_in m x y false f g h = g h
+after_in m x y true f g h = f h
+after_in m x y false f g h = g h
 
--- and what stands behind another
+-- and what is after another
 pub next_is_number : (n m : ℕ) (es : List Entry) → 0 < m → AreLists es → next_of n es ≡ m
     → IsNumber m
 unfolding next_of
 next_is_number n m [] low l h = absurd (omega arith)
 next_is_number n m (e ∷ es) low l h =
-    behind_in m (first_of e.place es) (next_of n es) (eqb (half_number e.half) n)
+    after_in m (first_of e.place es) (next_of n es) (eqb (half_number e.half) n)
     (first_is_number e.place m es low l.1.1.1.1) (next_is_number n m es low l.1.1.1.1) h
 
--- ---- nothing stands anywhere
+-- ---- nothing is anywhere
 
 blank : (numbers : List ℕ) (most : ℕ) → numbers ≡ replicate most 0 → (length numbers ≡ most)
     × ((k : ℕ) → 0 < k → k ≤ most → told numbers k ≡ 0)
@@ -197,14 +197,14 @@ removed_first l m p k low here =
     (λ n low_n high_n. told-set (λ n. next_of n (without m es)) l.next 200 m 0 nexts low
     number.high (next_none m es k.lists) n low_n
     (λ other. told-next l n k low_n high_n
-    ∙ next_same m n es k.lists other (λ s. first_behind_none m p n es low k.lists here s)))
+    ∙ next_same m n es k.lists other (λ s. first_after_none m p n es low k.lists here s)))
 
--- it was behind another
-pub removed_behind : (l : Inside) (m b : ℕ) → AreLinks l → 0 < m → next_of b (entries_of l) ≡ m
+-- it was after another
+pub removed_after : (l : Inside) (m b : ℕ) → AreLinks l → 0 < m → next_of b (entries_of l) ≡ m
     → (let n : Inside = record
     { first = l.first; next = set (set l.next (m - 1) 0) (b - 1) (told l.next m) } in
     (entries_of n ≡ without m (entries_of l)) × AreLinks n)
-removed_behind l m b k low here =
+removed_after l m b k low here =
     let es = entries_of l in
     let before = is_number b m es low k.lists here in
     let number = next_is_number b m es low k.lists here in
@@ -217,7 +217,7 @@ removed_behind l m b k low here =
     firsts (length-set (set l.next (m - 1) 0) (b - 1) (told l.next m)
     ∙ (length-set l.next (m - 1) 0 ∙ nexts))
     (λ q low_q high_q. told-first l q k low_q high_q
-    ∙ first_same m q es k.lists (λ s. first_behind_none m q b es low k.lists s here))
+    ∙ first_same m q es k.lists (λ s. first_after_none m q b es low k.lists s here))
     (λ n low_n high_n. told-set (λ n. next_of n (without m es)) (set l.next (m - 1) 0) 200 b
     (told l.next m) (length-set l.next (m - 1) 0 ∙ nexts) before.low before.high
     (told-next l m k low number.high ∙ next_led m b es k.lists differ here) n low_n

@@ -1,4 +1,4 @@
--- What stands anywhere is a half of an object, and nothing stands at place 0.
+-- Whatever is at a place is a half of an object, and nothing is at place 0.
 use Rattle.std.proofs.Common.{◌≡◌, ℕ, ◌<◌, ◌==◌, List, [], ◌∷◌, refl, arith}
 use Rattle.std.specs.List.{All}
 use Rattle.std.proofs.lemmas.List.Elements.{All-nil, All-cons, All-filter, All-map}
@@ -6,7 +6,7 @@ use Rattle.cave_world.specs.declared.object.Half.{Half}
 use Rattle.cave_world.specs.declared.lists.Entry.{Entry}
 use Rattle.cave_world.specs.Halves.{object_of}
 use Rattle.cave_world.specs.Lists.{halves_at, AreLists}
-use Rattle.cave_world.proofs.Places.{nobody}
+use Rattle.cave_world.specs.SameLists.{nobody}
 
 abbrev IsOfObject : Half → Type 0
 IsOfObject half = 0 < object_of half

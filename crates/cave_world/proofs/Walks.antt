@@ -26,12 +26,12 @@ pub record IsLeft (es : List Entry) (number : ℕ) (rest : List Half) : Type 0 w
 
 -- at a half: it is the first of what is left
 pub record IsStep (es : List Entry) (number : ℕ) (rest : List Half) : Type 0 where
-  pub behind : List Half
-  pub splits : rest ≡ half_of number ∷ behind
+  pub after : List Half
+  pub splits : rest ≡ half_of number ∷ after
   pub low : 0 < number
   pub high : number ≤ 200
   pub itself : half_number (half_of number) ≡ number
-  pub left : IsLeft es (next_of number es) behind
+  pub left : IsLeft es (next_of number es) after
 
 pub IsLeft-first_of : (p : ℕ) (es : List Entry) → AreLists es → AreWithin es
     → IsLeft es (first_of p es) (halves_at p es)
@@ -43,14 +43,14 @@ IsLeft-first_of p es l w = record {
 pub step : (es : List Entry) (number : ℕ) (rest : List Half) → IsLeft es number rest → number ≢ 0
     → IsStep es number rest
 step es number [] h some = absurd (some h.along)
-step es number (half ∷ behind) h some =
+step es number (half ∷ after) h some =
     let low : 0 < object_of half = h.along.1.0.0 in
     let high : object_of half ≤ 100 = h.along.1.0.1 in
     let same : half_number half ≡ number = h.along.0 in
     let here : half ≡ half_of number = sym (half_of_number half low high) ∙ ap half_of same in
     record {
-      behind = behind;
-      splits = ap (λ (x : Half). x ∷ behind) here;
+      after = after;
+      splits = ap (λ (x : Half). x ∷ after) here;
       low = rw (← same) (low_number half low);
       high = rw (← same) (high_number half high);
       itself = ap half_number (sym here) ∙ same;
@@ -61,17 +61,17 @@ step es number (half ∷ behind) h some =
 pub ended : (es : List Entry) (number : ℕ) (rest : List Half) → IsLeft es number rest → number ≡ 0
     → rest ≡ []
 ended es number [] h none = refl
-ended es number (half ∷ behind) h none =
+ended es number (half ∷ after) h none =
     absurd (numbered half h.along.1.0.0 (h.along.0 ∙ none))
 
 -- and only there
 pub is_ended : (es : List Entry) (number : ℕ) (rest : List Half) → IsLeft es number rest
     → eqb number 0 ≡ eqb (length rest) 0
 is_ended es number [] h = rw h.along refl
-is_ended es number (half ∷ behind) h =
+is_ended es number (half ∷ after) h =
     let some : eqb number 0 ≡ false = unequal number 0
     (λ none. numbered half h.along.1.0.0 (h.along.0 ∙ none)) in
-    some ∙ sym (unequal (suc (length behind)) 0 (λ none. absurd (omega (arith, none))))
+    some ∙ sym (unequal (suc (length after)) 0 (λ none. absurd (omega (arith, none))))
 
 -- how many are left
 pub left_length : (es : List Entry) (number : ℕ) (rest : List Half) → IsLeft es number rest
@@ -93,9 +93,9 @@ none_listed m = refl
 
 -- ---- what was told so far, and what is left
 
-pub longer : (told rest all behind : List Half) (half : Half) → told ++ rest ≡ all
-    → rest ≡ half ∷ behind → length told < length all
-longer told rest all behind half whole splits =
+pub longer : (told rest all after : List Half) (half : Half) → told ++ rest ≡ all
+    → rest ≡ half ∷ after → length told < length all
+longer told rest all after half whole splits =
     omega (
       arith,
       ap (λ (l : List Half). length l) whole,
@@ -105,11 +105,11 @@ longer told rest all behind half whole splits =
     )
 
 -- one more is told
-pub told_on : (told now rest all behind : List Half) (half h : Half) → told ++ rest ≡ all
-    → rest ≡ half ∷ behind → now ≡ told ++ h ∷ [] → h ≡ half → now ++ behind ≡ all
-told_on told now rest all behind half h whole splits is same =
-    ap (λ (l : List Half). l ++ behind) (is ∙ ap (λ (x : Half). told ++ x ∷ []) same)
-    ∙ (append_assoc told (half ∷ []) behind
+pub told_on : (told now rest all after : List Half) (half h : Half) → told ++ rest ≡ all
+    → rest ≡ half ∷ after → now ≡ told ++ h ∷ [] → h ≡ half → now ++ after ≡ all
+told_on told now rest all after half h whole splits is same =
+    ap (λ (l : List Half). l ++ after) (is ∙ ap (λ (x : Half). told ++ x ∷ []) same)
+    ∙ (append_assoc told (half ∷ []) after
     ∙ (ap (λ (l : List Half). told ++ l) (sym splits) ∙ whole))
 
 pub told_all : (told rest all : List Half) → told ++ rest ≡ all → rest ≡ [] → told ≡ all
@@ -126,13 +126,13 @@ fewer es number next rest h s is =
     omega (
       arith,
       left_length es number rest h,
-      left_length es next s.behind (rw is s.left),
+      left_length es next s.after (rw is s.left),
       ap
           (λ (l : List Half). length l) s.splits,
     )
 
 pub listed_on : (es : List Entry) (m number : ℕ) (rest : List Half) (b : Bool)
-    → (s : IsStep es number rest) → is_listed m rest ≡ b → number ≢ m → is_listed m s.behind ≡ b
+    → (s : IsStep es number rest) → is_listed m rest ≡ b → number ≢ m → is_listed m s.after ≡ b
 listed_on es m number rest b s is other =
-    sym (passed_over m (half_of number) s.behind (λ e. other (sym s.itself ∙ e)))
+    sym (passed_over m (half_of number) s.after (λ e. other (sym s.itself ∙ e)))
     ∙ (ap (λ (l : List Half). is_listed m l) (sym s.splits) ∙ is)

@@ -7,6 +7,8 @@ use Rattle.std.specs.Cmp.{unsigned_Decides, signed_Decides, booleans_Decides}
 use Rattle.std.specs.Cmp.Lexicographic.{pointwise_decides}
 use Rattle.std.proofs.lemmas.Bool.{false≢true}
 use Rattle.std.proofs.lemmas.Bool.Decides.{Decides-and, Decides-like}
+use Rattle.cave_world.specs.Lists.{AreLists}
+use Rattle.cave_world.specs.SameGame.{IsSameGame, same_state}
 use Rattle.cave_world.specs.Packed.{code_of_spot, spot_of_code, code_of_anchor, anchor_of_code, code_of_spot_back, code_of_anchor_back}
 use Rattle.cave_world.specs.declared.spot.Spot.{Spot}
 use Rattle.cave_world.specs.declared.spot.Anchor.{Anchor}
@@ -167,3 +169,12 @@ state_decides a b =
 -- `==` holds of two states exactly where they are equal in every field
 pub state_equality : (a b : State) → IsTrue (state_eq.eq-value.it a b) ↔ (a ≡ b)
 state_equality = state_decides
+
+-- `==` holds of two states exactly where everything but the lists of objects is equal, and the list
+-- of each place; the lists of every state that a program makes are in order
+pub same_game : (a b : State) → AreLists a.objects.lists → AreLists b.objects.lists
+    → IsTrue (state_eq.eq-value.it a b) ↔ IsSameGame a b
+same_game a b first second =
+    let equal = state_equality a b in
+    let same = same_state a b first second in
+    (λ e. same.0 (equal.0 e), λ s. equal.1 (same.1 s))

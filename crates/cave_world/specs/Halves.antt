@@ -8,7 +8,7 @@ abbrev pub object_of : Half → ℕ
 object_of (First x) = x
 object_of (Second x) = x
 
--- first halves have the numbers of their objects, second ones stand behind them
+-- first halves have the numbers of their objects, second ones come after them
 abbrev pub half_number : Half → ℕ
 half_number (First x) = x
 half_number (Second x) = 100 + x

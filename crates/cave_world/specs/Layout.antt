@@ -11,7 +11,7 @@ use Rattle.cave_world.specs.Halves.{half_number}
 use Rattle.cave_world.specs.Lists.{halves_at}
 use Rattle.cave_world.specs.Spots.{place_of_spot, place_of_anchor, is_place}
 
--- object 1 stands at index 0 of the first three lists
+-- object 1 is at index 0 of the first three lists
 pub record Layout : Type 0 where
   pub first : List Spot
   pub second : List Anchor

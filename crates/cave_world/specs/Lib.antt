@@ -10,4 +10,6 @@ pub mod Travel
 pub mod Fresh
 pub mod State
 pub mod Parts
+pub mod SameLists
+pub mod SameGame
 pub mod Equality

@@ -1,5 +1,5 @@
 -- The lists as they are kept: for each place the number of the first half there, and for each half
--- the number of the one behind it. Where there is none, the number is 0.
+-- the number of the one after it. Where there is none, the number is 0.
 use Rattle.std.specs.Prelude.{◌≡◌, ℕ, zero, suc, ◌+◌, ◌-◌, ◌≤◌, ◌==◌, if◌then◌else◌}
 use Rattle.std.specs.Prelude.{List, [], ◌∷◌, ◌++◌, map, slice_index}
 use Rattle.std.specs.List.{range_with_len}
@@ -14,7 +14,7 @@ unfoldable pub first_of : ℕ → List Entry → ℕ
 first_of place [] = 0
 first_of place (e ∷ es) = if e.place == place then half_number e.half else first_of place es
 
--- the number of the half behind the one of a number, at the same place
+-- the number of the half after the one of a number, at the same place
 unfoldable pub next_of : ℕ → List Entry → ℕ
 next_of number [] = 0
 next_of number (e ∷ es) =

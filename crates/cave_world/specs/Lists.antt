@@ -1,4 +1,4 @@
--- For each place the list of the halves that stand there, latest first.
+-- For each place the list of the halves that are there, latest first.
 use Rattle.std.specs.Prelude.{◌≡◌, ℕ, ◌<◌, ◌≤◌, ◌==◌, Bool, not, nat_lt, if◌then◌else◌, List, [], ◌∷◌, map, filter, Option, Some, None}
 use Rattle.cave_world.specs.declared.object.Half.{Half}
 use Rattle.cave_world.specs.declared.lists.Entry.{Entry}
@@ -22,7 +22,7 @@ abbrev pub listed : Half → Option ℕ → List Entry → List Entry
 listed half None lists = lists
 listed half (Some place) lists = put_first (record { place = place; half = half }) lists
 
--- the same, once it was taken from the list in which it stood
+-- the same, once it was taken from the list in which it was
 unfoldable pub relisted : Half → Option ℕ → List Entry → List Entry
 relisted half place lists = listed half place (without (half_number half) lists)
 
@@ -51,7 +51,7 @@ abbrev pub StartsAt : ℕ → List Entry → Type 0
 StartsAt place [] = Unit {0}
 StartsAt place (e ∷ es) = (place ≤ e.place) × StartsAt place es
 
--- an entry has a half of an object, and a place where it can stand
+-- an entry has a half of an object, and a place where it can be
 abbrev pub IsEntry : Entry → Type 0
 IsEntry e = (0 < object_of e.half) × (0 < e.place)
 
@@ -61,12 +61,12 @@ AreLists [] = Unit {0}
 AreLists (e ∷ es) =
     IsEntry e × ((half_number e.half ≤ 200) × (Lacks (half_number e.half) es × (StartsAt e.place es × AreLists es)))
 
--- the half of a number stands nowhere but at the place
+-- the half of a number is nowhere but at the place
 abbrev pub IsOnlyAt : ℕ → Option ℕ → List Entry → Type 0
 IsOnlyAt number from [] = Unit {0}
 IsOnlyAt number from (e ∷ es) = (half_number e.half ≡ number → from ≡ Some e.place) × IsOnlyAt number from es
 
--- a half of an object, which stands nowhere
+-- a half of an object, which is nowhere
 abbrev pub IsNew : Half → List Entry → Type 0
 IsNew half es = (0 < object_of half) × ((half_number half ≤ 200) × Lacks (half_number half) es)
 

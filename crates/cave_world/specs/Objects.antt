@@ -31,15 +31,15 @@ is_carried o x = is_carried_spot (spot_of o x)
 unfoldable pub is_gone : Layout → ℕ → Bool
 is_gone o x = not (x == 0) && is_away_spot (spot_of o x)
 
--- its first half stands at the place
+-- its first half is at the place
 unfoldable pub is_first_at : Layout → ℕ → ℕ → Bool
 is_first_at o place x = is_place place (place_of_spot (spot_of o x))
 
--- one of its halves stands at the place
+-- one of its halves is at the place
 unfoldable pub stands_at : Layout → ℕ → ℕ → Bool
 stands_at o place x = is_first_at o place x || is_place place (place_of_anchor (anchor_of o x))
 
--- it is carried, or its first half stands at the place
+-- it is carried, or its first half is at the place
 unfoldable pub is_at_hand : Layout → ℕ → ℕ → Bool
 is_at_hand o place x = is_carried o x || is_first_at o place x
 

@@ -1,4 +1,4 @@
--- Spots and anchors as numbers: two are for what stands at no place, and each further one is for a
+-- Spots and anchors as numbers: two are for what is at no place, and each further one is for a
 -- place.
 use Rattle.std.specs.Prelude.{◌≡◌, ◌≢◌, ℕ, zero, suc, ◌≤◌, refl}
 use Rattle.cave_world.specs.declared.spot.Spot.{Spot}
@@ -26,7 +26,7 @@ anchor_of_code zero = anchor.Loose
 anchor_of_code (suc zero) = anchor.Fixed
 anchor_of_code (suc (suc place)) = anchor.At place
 
--- a code is of a place where something can stand, or of no place
+-- a code is of a place where something can be, or of no place
 abbrev pub IsCode : ℕ → Type 0
 IsCode code = (code ≤ 302) × (code ≢ 2)
 

@@ -5,7 +5,7 @@ use Rattle.cave_world.specs.declared.spot.Spot.TheVariants as spot
 use Rattle.cave_world.specs.declared.spot.Anchor.{Anchor}
 use Rattle.cave_world.specs.declared.spot.Anchor.TheVariants as anchor
 
--- where something can stand: at any place but 0
+-- where something can be: at any place but 0
 abbrev pub site_at : ℕ → Option ℕ
 site_at place = if place == 0 then None else Some place
 
@@ -13,7 +13,7 @@ site_at place = if place == 0 then None else Some place
 abbrev pub spot_at : ℕ → Spot
 spot_at place = if place == 0 then spot.Away else spot.At place
 
--- the place where a first half stands
+-- the place where a first half is
 abbrev pub place_of_spot : Spot → Option ℕ
 place_of_spot spot.Away = None
 place_of_spot spot.Carried = None
@@ -29,11 +29,11 @@ is_away_spot spot.Away = true
 is_away_spot spot.Carried = false
 is_away_spot (spot.At place) = false
 
--- the anchor of an object whose second half stands at a place; at place 0 there is none
+-- the anchor of an object whose second half is at a place; at place 0 there is none
 abbrev pub anchor_at : ℕ → Anchor
 anchor_at place = if place == 0 then anchor.Loose else anchor.At place
 
--- the place where a second half stands
+-- the place where a second half is
 abbrev pub place_of_anchor : Anchor → Option ℕ
 place_of_anchor anchor.Loose = None
 place_of_anchor anchor.Fixed = None

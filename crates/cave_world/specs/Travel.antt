@@ -19,14 +19,14 @@ pub record Journey : Type 0 where
 abbrev pub lists : ℕ → Going → Bool
 lists motion row = list_any (λ m. m == motion || m == 1) row.motions
 
--- the condition of a row and the number behind it
+-- the condition of a row and the number after it
 abbrev pub condition_of : Going → ℕ
 condition_of row = row.target / 1000
 
 abbrev pub number_of : Going → ℕ
 number_of row = row.target % 1000
 
--- a condition over 100: an object is carried, is carried or stands here, or has another prop
+-- a condition over 100: an object is carried, is carried or here, or has another prop
 unfoldable pub allows : ℕ → State → Bool
 allows m s =
     if nat_le m 200 then is_carried s.objects (m - 100)

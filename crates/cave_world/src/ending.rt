@@ -15,7 +15,7 @@ pub enum Question {
     Hint(HintNumber),
     /// Whether the hint is worth its cost.
     Take(HintNumber),
-    /// Whether what stands under the oyster is worth its cost.
+    /// Whether what is written under the oyster is worth its cost.
     Oyster,
     /// Whether to fight a dragon with bare hands.
     Dragon,

@@ -53,7 +53,7 @@ impl State {
         self.objects.is_carried(object)
     }
 
-    /// Whether a half of an object stands where the player stands.
+    /// Whether a half of an object is where the player is.
     pub fn at(&self, object: Object) -> bool
         ensures value { result ≡ stands_at self.now.objects self.now.trail.here object }
         ensures listed { let halves = halves_at self.now.trail.here self.now.objects.lists in
@@ -62,7 +62,7 @@ impl State {
         self.objects.stands_at(self.trail.here, object)
     }
 
-    /// Whether the player carries an object, or its first half stands where the player stands.
+    /// Whether the player carries an object, or its first half is where the player is.
     pub fn here(&self, object: Object) -> bool
         ensures value { result ≡ is_at_hand self.now.objects self.now.trail.here object }
         ensures listed { let halves = halves_at self.now.trail.here self.now.objects.lists in
@@ -86,7 +86,7 @@ impl State {
         self.objects.carried()
     }
 
-    /// The halves that stand at a place, latest first. Each is of an object, and none stands at place 0.
+    /// The halves that are at a place, latest first. Each is of an object, and none is at place 0.
     pub fn objects_at(&self, place: Place) -> ArrayVec<Half, HALVES>
         ensures value { result.items ≡ halves_at place self.now.objects.lists }
         ensures objects { All (λ half. 0 < object_of half) (halves_at place self.now.objects.lists) }
@@ -95,7 +95,7 @@ impl State {
         self.objects.at(place)
     }
 
-    /// Whether nothing stands at a place.
+    /// Whether nothing is at a place.
     pub fn is_bare(&self, place: Place) -> bool
         ensures { result ≡ (length (halves_at place self.now.objects.lists) == 0) }
     {

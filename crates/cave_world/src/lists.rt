@@ -12,22 +12,22 @@ use crate::place::{LAST_PLACE, Place};
 use arrayvec::ArrayVec;
 use std::marker::Model;
 
-/// The most halves that can stand somewhere.
+/// The most halves that can be somewhere.
 pub const HALVES: usize = 200;
 
-/// A half and the place where it stands.
+/// A half and the place where it is.
 #[derive(Clone, Copy, Debug, PartialEq, Eq)]
 pub struct Entry {
     pub place: Place,
     pub half: Half,
 }
 
-/// For each place the list of the halves that stand there, latest first.
+/// For each place the list of the halves that are there, latest first.
 #[derive(Clone, Copy, Debug)]
 pub struct ObjectLists {
     /// For each place, from 1 on, the number of the first half of its list, or 0.
     first: [u8; LAST_PLACE],
-    /// For each number of a half, from 1 on, the number of the half behind it in its list, or 0.
+    /// For each number of a half, from 1 on, the number of the half after it in its list, or 0.
     next: [u8; HALVES],
 }
 
@@ -79,13 +79,13 @@ fn unlink(next: &mut [u8; HALVES], number: u8) -> u8
     ensures unlinked { next.new ≡ slice_set next.old (number - 1) 0 }
 {
     let at = usize::from(number) - 1;
-    let behind = next[at];
+    let after = next[at];
     next[at] = 0;
-    behind
+    after
 }
 
 impl ObjectLists {
-    /// Lists in which nothing stands.
+    /// Lists that hold nothing.
     pub fn empty() -> ObjectLists
         ensures { result ≡ [] }
     {
@@ -103,7 +103,15 @@ impl ObjectLists {
         self.first == other.first && self.next == other.next
     }
 
-    /// The halves at a place, latest first. Each is of an object, and none stands at place 0.
+    /// The lists are in the order of their places, and no half is in them twice. It is a law, so
+    /// nothing is done.
+    pub fn are_in_order(&self)
+        ensures { AreLists self.now }
+    {
+        let _ = &self.first;
+    }
+
+    /// The halves at a place, latest first. Each is of an object, and none is at place 0.
     pub fn at(&self, place: Place) -> ArrayVec<Half, HALVES>
         ensures value { result.items ≡ halves_at place self.now }
         ensures objects { All (λ half. 0 < object_of half) (halves_at place self.now) }
@@ -113,12 +121,12 @@ impl ObjectLists {
         let mut number = self.first_at(place);
         while number != 0 {
             halves.push(Half::numbered(number));
-            number = self.behind(number);
+            number = self.after(number);
         }
         halves
     }
 
-    /// Whether nothing stands at a place.
+    /// Whether nothing is at a place.
     pub fn is_bare(&self, place: Place) -> bool
         ensures { result ≡ (length (halves_at place self.now) == 0) }
     {
@@ -138,8 +146,8 @@ impl ObjectLists {
         first[usize::from(place.number()) - 1]
     }
 
-    /// The number of the half behind another one in its list, or 0.
-    fn behind(&self, number: u8) -> u8
+    /// The number of the half after another one in its list, or 0.
+    fn after(&self, number: u8) -> u8
         requires some { 0 < number }
         requires within { number ≤ 200 }
         ensures { result ≡ next_of number self.now }
@@ -155,11 +163,11 @@ impl ObjectLists {
     {
         let mut before = self.first_at(place);
         while before != 0 {
-            let behind = self.behind(before);
-            if behind == number {
+            let after = self.after(before);
+            if after == number {
                 return Some(before);
             }
-            before = behind;
+            before = after;
         }
         None
     }
@@ -170,21 +178,21 @@ impl ObjectLists {
         requires first { first_of place self.old ≡ number }
         ensures { self.new ≡ without number self.old }
     {
-        let behind = unlink(&mut self.next, number);
-        self.first[usize::from(place.number()) - 1] = behind;
+        let after = unlink(&mut self.next, number);
+        self.first[usize::from(place.number()) - 1] = after;
     }
 
-    /// Takes the half behind another one out of their list.
-    fn remove_behind(&mut self, number: u8, before: u8)
+    /// Takes the half after another one out of their list.
+    fn remove_after(&mut self, number: u8, before: u8)
         requires some { 0 < number }
-        requires behind { next_of before self.old ≡ number }
+        requires after { next_of before self.old ≡ number }
         ensures { self.new ≡ without number self.old }
     {
-        let behind = unlink(&mut self.next, number);
-        self.next[usize::from(before) - 1] = behind;
+        let after = unlink(&mut self.next, number);
+        self.next[usize::from(before) - 1] = after;
     }
 
-    /// Takes the half of a number out of the list of the place where it stands.
+    /// Takes the half of a number out of the list of the place where it is.
     fn remove_from(&mut self, number: u8, place: Place)
         requires some { 0 < number }
         requires only { IsOnlyAt number (Some place) self.old }
@@ -193,7 +201,7 @@ impl ObjectLists {
         if self.first_at(place) == number {
             self.remove_first(number, place);
         } else if let Some(before) = self.before(number, place) {
-            self.remove_behind(number, before);
+            self.remove_after(number, before);
         }
     }
 
@@ -208,7 +216,7 @@ impl ObjectLists {
         }
     }
 
-    /// Puts a half that stands nowhere at the front of the list of a place.
+    /// Puts a half that is nowhere at the front of the list of a place.
     fn put_at(&mut self, half: Half, place: Place)
         requires new { IsNew half self.old }
         requires somewhere { 0 < place }
@@ -216,8 +224,8 @@ impl ObjectLists {
     {
         let number = half.number();
         let at = usize::from(place.number()) - 1;
-        let behind = self.first[at];
-        self.next[usize::from(number) - 1] = behind;
+        let after = self.first[at];
+        self.next[usize::from(number) - 1] = after;
         self.first[at] = number;
     }
 
@@ -232,7 +240,8 @@ impl ObjectLists {
         }
     }
 
-    /// Moves a half from the place where it stands to the front of the list of another, or out of its list.
+    /// Moves a half from the place where it is to the front of the list of another, or out of its
+    /// list.
     #[tactic(auto, unfolding(crate::specs::Lists::relisted))]
     pub fn relist(&mut self, half: Half, from: Option<Place>, to: Option<Place>)
         requires some { 0 < object_of half }

@@ -4,7 +4,7 @@ ghost use Rattle.cave_world.specs.Objects.{spot_of, anchor_of, prop_of, carried_
 ghost use Rattle.cave_world.specs.Objects.{is_carried, is_gone, is_first_at, stands_at, is_at_hand};
 ghost use Rattle.cave_world.specs.Objects.{brought, anchored, with_prop, moved, taken, juggled};
 ghost use Rattle.cave_world.specs.Spots.{place_of_spot, place_of_anchor, spot_at, is_place};
-ghost use Rattle.cave_world.specs.Lists.{halves_at, AreRelisted};
+ghost use Rattle.cave_world.specs.Lists.{halves_at, AreLists, AreRelisted};
 ghost use Rattle.cave_world.specs.Layout.{is_listed};
 ghost use Rattle.cave_world.specs.Halves.{object_of};
 
@@ -54,7 +54,7 @@ impl Objects {
         }
     }
 
-    /// The halves that stand at a place, latest first. Each is of an object, and none stands at place 0.
+    /// The halves that are at a place, latest first. Each is of an object, and none is at place 0.
     pub fn at(&self, place: Place) -> ArrayVec<Half, HALVES>
         ensures value { result.items ≡ halves_at place self.now.lists }
         ensures objects { All (λ half. 0 < object_of half) (halves_at place self.now.lists) }
@@ -63,11 +63,19 @@ impl Objects {
         self.lists.at(place)
     }
 
-    /// Whether nothing stands at a place.
+    /// Whether nothing is at a place.
     pub fn is_bare(&self, place: Place) -> bool
         ensures { result ≡ (length (halves_at place self.now.lists) == 0) }
     {
         self.lists.is_bare(place)
+    }
+
+    /// The lists are in the order of their places, and no half is in them twice. It is a law, so
+    /// nothing is done.
+    pub fn lists_are_in_order(&self)
+        ensures { AreLists self.now.lists }
+    {
+        self.lists.are_in_order();
     }
 
     /// Where the first half of an object is.
@@ -122,7 +130,7 @@ impl Objects {
         !object.is_none() && self.spot(object).is_away()
     }
 
-    /// Whether the first half of an object stands at a place.
+    /// Whether the first half of an object is at a place.
     #[tactic(auto, unfolding(crate::specs::Objects::is_first_at))]
     pub fn is_first_at(&self, place: Place, object: Object) -> bool
         ensures value { result ≡ is_first_at self.now place object }
@@ -144,7 +152,7 @@ impl Objects {
         }
     }
 
-    /// Whether a half of an object stands at a place.
+    /// Whether a half of an object is at a place.
     #[tactic(auto, unfolding(crate::specs::Objects::stands_at))]
     pub fn stands_at(&self, place: Place, object: Object) -> bool
         ensures value { result ≡ stands_at self.now place object }
@@ -154,7 +162,7 @@ impl Objects {
         self.is_first_at(place, object) || self.is_second_at(place, object)
     }
 
-    /// Whether an object is carried, or its first half stands at a place.
+    /// Whether an object is carried, or its first half is at a place.
     #[tactic(auto, unfolding(crate::specs::Objects::is_at_hand))]
     pub fn is_at_hand(&self, place: Place, object: Object) -> bool
         ensures value { result ≡ is_at_hand self.now place object }

@@ -34,7 +34,7 @@ pub enum Part {
     Long(u16),
     /// The short text of a place.
     Short(u16),
-    /// The message that stands for a role.
+    /// The message of a role.
     Role(Role),
     /// The text of an object for a number, as a prop is one.
     Object(Object, i8),

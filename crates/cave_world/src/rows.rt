@@ -31,7 +31,7 @@ pub enum Outcome {
     NoWay,
 }
 
-/// What stands in the number of a way that leaves a jewel behind and goes on with the next way.
+/// The number of a way that leaves a jewel behind and goes on with the next way.
 const LEAVES_EMERALD: u16 = 302;
 
 fn lists(row: &Row, motion: u16) -> bool

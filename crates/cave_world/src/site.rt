@@ -4,7 +4,7 @@ ghost use Rattle.cave_world.specs.Spots.{site_at};
 use crate::place::Place;
 use std::marker::Model;
 
-/// A place where something can stand: any but 0.
+/// A place where something can be: any but 0.
 #[derive(Clone, Copy, Debug, PartialEq, Eq)]
 pub struct Site {
     number: u16,

@@ -24,7 +24,7 @@ impl Spot {
         }
     }
 
-    /// The place where the half stands.
+    /// The place where the half is.
     pub fn place(&self) -> Option<Place>
         ensures value { result ≡ place_of_spot self.now }
         ensures somewhere { result ≢ Some 0 }
@@ -59,7 +59,7 @@ impl Spot {
     }
 }
 
-/// What holds an object where it is: nothing, its nature, or a second half that stands at a place too.
+/// What holds an object where it is: nothing, its nature, or a second half that is at a place too.
 #[derive(Clone, Copy, Debug, PartialEq, Eq)]
 pub enum Anchor {
     Loose,
@@ -68,7 +68,7 @@ pub enum Anchor {
 }
 
 impl Anchor {
-    /// The anchor of an object whose second half stands at a place; at place 0 there is none.
+    /// The anchor of an object whose second half is at a place; at place 0 there is none.
     pub fn at(place: Place) -> Anchor
         ensures { result ≡ anchor_at place }
     {
@@ -78,7 +78,7 @@ impl Anchor {
         }
     }
 
-    /// The place where the second half stands.
+    /// The place where the second half is.
     pub fn place(&self) -> Option<Place>
         ensures value { result ≡ place_of_anchor self.now }
         ensures somewhere { result ≢ Some 0 }

@@ -1,4 +1,5 @@
 ghost use Rattle.std.specs.Prelude.{◌≡◌, ◌↔◌, IsTrue};
+ghost use Rattle.cave_world.specs.SameGame.{IsSameGame};
 ghost use Rattle.cave_world.specs.State.{starting, is_over, standing_at, setting_out};
 
 use crate::closing::Closing;
@@ -108,11 +109,15 @@ impl State {
         self.trail.last = self.trail.here;
     }
 
-    /// Tells whether two states are the same state, as `==` does.
+    /// Tells whether two states are the same state, as `==` does: each field is the same, and of the
+    /// lists of halves the list of each place.
     pub fn is_same(&self, other: &State) -> bool
         ensures value { IsTrue result ↔ (self.now ≡ other.now) }
         ensures equality { result ≡ ⟦<State as PartialEq>⟧.eq self.now other.now }
+        ensures lists { IsTrue result ↔ IsSameGame self.now other.now }
     {
+        self.objects.lists_are_in_order();
+        other.objects.lists_are_in_order();
         self == other
     }
 }

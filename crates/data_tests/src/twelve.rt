@@ -44,10 +44,8 @@ fn names_agree(cave: &Cave) -> bool {
 
 /// Whether the words are those of the database.
 fn words_agree(cave: &Cave) -> bool {
-    match cave.words() {
-        [word, lamp] => word.word.as_slice() == b"in".as_slice() && lamp.number == 1002,
-        _ => false,
-    }
+    let words = cave.words();
+    words.len() == 2 && words.row(0).word == b"in".as_slice() && words.row(1).number == 1002
 }
 
 /// Whether the way out of the first place is that of the database.

@@ -21,7 +21,7 @@ fn shown(alloc: Global, words: &[&str]) -> Result<String, AllocError> {
 }
 
 /// Words, and what the answer to them says.
-const ANSWERS: [(&[&str], &str); 18] = [
+const ANSWERS: [(&[&str], &str); 20] = [
     (
         &["cave", "check", "a"],
         "Check { files: Files { cave: \"a\", bind: None } }",
@@ -55,7 +55,15 @@ const ANSWERS: [(&[&str], &str); 18] = [
     (&["cave", "help", "edit"], "text DisplayHelp"),
     (&["cave", "-V"], "text DisplayVersion"),
     (&[], "2 DisplayHelpOnMissingArgumentOrSubcommand"),
+    (
+        &[
+            "cave", "cover", "a", "b", "--seed=7", "c", "--bind", "d", "e",
+        ],
+        "Cover { files: Files { cave: \"a\", bind: Some(\"d\") }, logs: [\"b\", \"c\", \"e\"], \
+        seed: 7 }",
+    ),
     (&["cave", "play", "a"], "2 MissingRequiredArgument"),
+    (&["cave", "cover", "a"], "2 MissingRequiredArgument"),
     (&["cave", "play", "a", "b", "--seed"], "2 InvalidValue"),
     (&["cave", "sing"], "2 InvalidSubcommand"),
     (&["cave", "check", "a", "--seed", "7"], "2 UnknownArgument"),
@@ -103,7 +111,7 @@ fn printed(alloc: Global, words: &[&str]) -> Result<String, AllocError> {
 }
 
 /// Words, and a part of the text that is printed for them.
-const TEXTS: [(&[&str], &str); 11] = [
+const TEXTS: [(&[&str], &str); 12] = [
     (
         &["cave", "check", "-h"],
         "Usage: cave check [OPTIONS] <CAVE>",
@@ -112,6 +120,10 @@ const TEXTS: [(&[&str], &str); 11] = [
     (
         &["cave", "edit", "--help"],
         "Usage: cave edit [OPTIONS] <CAVE> <LOG> <SCRIPT>",
+    ),
+    (
+        &["cave", "cover", "--help"],
+        "Usage: cave cover [OPTIONS] <CAVE> <LOG>...",
     ),
     (&["cave", "-V"], "cave 1.0"),
     (&["cave"], "Usage: cave <COMMAND>"),

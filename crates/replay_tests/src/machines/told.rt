@@ -51,23 +51,17 @@ impl<'a, R: Rule> Machine for Told<'a, R> {
     fn step(
         &self,
         alloc: Global,
-        state: &State<'a>,
+        state: &mut State<'a>,
         line: &[u8],
         meter: &mut Meter,
-    ) -> Result<Stepped<State<'a>, Vec<usize>>, AllocError> {
+    ) -> Result<Stepped<Vec<usize>>, AllocError> {
         meter.tick();
         self.counts.count_step();
-        let number = R::after(state.number, line);
+        let ticked = R::ticked(state.number, line);
+        state.number = R::after(state.number, line);
         let mut piece = Vec::new(alloc);
-        piece.push(number)?;
-        Ok(Stepped {
-            state: State {
-                number,
-                counts: self.counts,
-            },
-            piece,
-            ticked: R::ticked(state.number, line),
-        })
+        piece.push(state.number)?;
+        Ok(Stepped { piece, ticked })
     }
 
     fn copy_piece(&self, alloc: Global, piece: &Vec<usize>) -> Result<Vec<usize>, AllocError> {

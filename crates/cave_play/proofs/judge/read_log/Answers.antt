@@ -2,14 +2,14 @@ use Rattle.std.proofs.Common.{◌∙◌}
 use Rattle.std.proofs.lemmas.Result.{err_from_is_err_and}
 use Rattle.cave_replay.specs.Play.{game_of}
 use Rattle.cave_play.specs.Holds.{Holds}
-use Rattle.cave_play.proofs.JudgeLemmas.{IsDecided-log, Judges-log}
+use Rattle.cave_play.proofs.JudgeLemmas.{IsFoundIn-log, Judges-log}
 use Rattle.cave_play.proofs.judge.read_log.Goals as goal
 
 pub returns-in_err-log : goal.returns-in_err-log
 returns-in_err-log g c =
     let exit = err_from_is_err_and c.from_residual.result c.from_residual.ensures.1 in
     let (bytes, said, refused) = c.in_err-log.ensures.read in
-    rw (exit.1, exit.2) (record { judged = (bytes, said, IsDecided-log bytes _ refused) })
+    rw (exit.1, exit.2) (record { judged = (bytes, said, IsFoundIn-log bytes _ refused) })
 
 pub returns : goal.returns
 returns g c =

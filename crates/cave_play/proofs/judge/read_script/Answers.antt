@@ -3,15 +3,17 @@ use Rattle.std.specs.Str.Lines.{lines}
 use Rattle.std.proofs.lemmas.Result.{err_from_is_err_and}
 use Rattle.cave_script.specs.Script.{IsScript, script_of}
 use Rattle.cave_script.specs.Shown.{items_of}
+use Rattle.cave_play.specs.Stages.{script_stage}
 use Rattle.cave_play.proofs.ScriptLemmas.{few_edits}
-use Rattle.cave_play.proofs.JudgeLemmas.{IsDecided-script, script_fault-none, IsDecided-refused}
+use Rattle.cave_play.proofs.StageLemmas.{first_decided-one}
+use Rattle.cave_play.proofs.JudgeLemmas.{IsFoundIn-script, script_fault-none, IsFoundIn-refused}
 use Rattle.cave_play.proofs.judge.read_script.Goals as goal
 
 pub returns-in_err-text : goal.returns-in_err-text
 returns-in_err-text g c =
     let exit = err_from_is_err_and c.from_residual.result c.from_residual.ensures.1 in
     let (bytes, said, refused) = c.in_err-text.ensures.read in
-    rw (exit.1, exit.2) (record { judged = (bytes, said, IsDecided-script bytes _ refused) })
+    rw (exit.1, exit.2) (record { judged = (bytes, said, IsFoundIn-script bytes _ refused) })
 
 pub returns-in-Ok : goal.returns-in-Ok
 returns-in-Ok g c =
@@ -20,9 +22,9 @@ returns-in-Ok g c =
     let same = c.deref.ensures.value ∙ read.0 in
     let is = ap script_of (sym same) ∙ c.in-Ok.ensures.script in
     let spelled = subst (λ t. IsScript 1 (lines t) (items_of items)) same c.in-Ok.ensures.grammar in
-    record { judged = (bytes, said, (script_fault-none bytes _ read.1 is, (spelled, few_edits items _ bytes c.in-Ok.ensures.grammar same read.1))) }
+    record { judged = (bytes, said, (first_decided-one (script_stage bytes) (script_fault-none bytes _ read.1 is), (spelled, few_edits items _ bytes c.in-Ok.ensures.grammar same read.1))) }
 
 pub returns : goal.returns
 returns g c =
     let (bytes, said, read) = c.in_ok-text.ensures.read in
-    rw c.script_refusal.ensures (record { judged = (bytes, said, IsDecided-refused bytes _ c.in-Err.fault read.1 (c.deref.ensures.value ∙ read.0) c.in-Err.ensures.script) })
+    rw c.script_refusal.ensures (record { judged = (bytes, said, IsFoundIn-refused bytes _ c.in-Err.fault read.1 (c.deref.ensures.value ∙ read.0) c.in-Err.ensures.script) })

@@ -1,20 +1,20 @@
-use Rattle.std.proofs.Common.{ℕ, subst}
+use Rattle.std.proofs.Common.{ℕ, [], ◌∷◌, subst}
 use Rattle.std.specs.Global.{Vec}
 use Rattle.std.specs.Str.Lines.{lines}
 use Rattle.std.proofs.lemmas.Result.{err_from_is_err_and}
-use Rattle.cave_play.specs.Judged.{log_fault, script_fault}
+use Rattle.cave_play.specs.Stages.{log_stage, script_stage}
 use Rattle.cave_play.specs.Output.{IsEditOf}
 use Rattle.cave_replay.specs.Play.{game_of}
 use Rattle.cave_play.proofs.InputLemmas.{Says-some}
-use Rattle.cave_play.proofs.JudgeLemmas.{IsDecided-first, Judges-later}
+use Rattle.cave_play.proofs.StageLemmas.{IsFoundIn-first, Judges-later}
 use Rattle.cave_play.proofs.run.edit_by_machine.Goals as goal
 
 pub returns-in_err-session : goal.returns-in_err-session
 returns-in_err-session g c =
     let exit = err_from_is_err_and c.from_residual.result c.from_residual.ensures.1 in
-    let (moves, said, decided) = c.in_err-session.ensures.judged in
+    let (moves, said, found) = c.in_err-session.ensures.judged in
     let (edits, others) = Says-some (g.S.Read.remaining c.args.script.now) in
-    rw (exit.1, exit.2) (record { judged = (moves, edits, said, others, IsDecided-first (log_fault moves) _ _ decided) })
+    rw (exit.1, exit.2) (record { judged = (moves, edits, said, others, IsFoundIn-first (log_stage moves ∷ []) (script_stage edits ∷ []) _ found) })
 
 pub returns : goal.returns
 returns g c =
@@ -22,4 +22,4 @@ returns g c =
     let (edits, others, edited) = c.edit_session-text.ensures.judged in
     let right = λ (text : Vec ℕ). IsEditOf c.args.machine.cave.now (game_of c.args.seed (lines moves)) edits text.items in
     let gives = λ (text : Vec ℕ). subst (λ game. IsEditOf c.args.machine.cave.now game edits text.items) made.1.game_is in
-    record { judged = (moves, edits, said, others, Judges-later (log_fault moves) (script_fault edits) _ right _ made.0 gives edited) }
+    record { judged = (moves, edits, said, others, Judges-later (log_stage moves ∷ []) (script_stage edits ∷ []) _ right _ made.0 gives edited) }

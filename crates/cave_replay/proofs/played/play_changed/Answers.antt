@@ -227,7 +227,8 @@ returns-in_err-play_line-clause-bounded g c =
     old_is new_is at.underway (c.in-Some.ensures (state_at rules old) (state_at rules new) c.requires.old_states at.marking) in
     let place = c.next-place.ensures.next in
     let below : c.lines.played.marks.next < length new.log = omega (arith, c.if-place-end.false, c.requires.ready.lines, at.within, c.requires.end) in
-    let counted = c.in_err-play_line.ensures.counted in
+    let risen = c.in_err-play_line.ensures.risen.risen in
+    let counted = c.in_err-play_line.ensures.risen.bounded in
     let apart = c.requires.apart in
     let end = c.requires.end in
     let every = c.requires.every in
@@ -236,4 +237,4 @@ returns-in_err-play_line-clause-bounded g c =
     let steps = at.counted in
     let forward = at.forward in
     rw every
-    (bounded_to rules old new c.args.ready.now.head tail c.requires.ready.shift K C spaced (omega arith) c.args.marks.next (omega arith) (c.lines.played.marks.next + 1) (omega arith) (underway_none rules old new tail C c.in-Some.further (c.lines.played.marks.next + 1) further) (g.M.Meter.Steps.count c.play_line.new.meter - g.M.Meter.Steps.count c.args.meter.now) (omega (arith, steps, forward, counted)))
+    (bounded_to rules old new c.args.ready.now.head tail c.requires.ready.shift K C spaced (omega arith) c.args.marks.next (omega arith) (c.lines.played.marks.next + 1) (omega arith) (underway_none rules old new tail C c.in-Some.further (c.lines.played.marks.next + 1) further) (g.M.Meter.Steps.count c.play_line.new.meter - g.M.Meter.Steps.count c.args.meter.now) (omega (arith, steps, forward, risen, counted)))

@@ -28,7 +28,7 @@ push-requires c =
     let s = step c.args.self.now c.loop-number.number rest c.loop-number.invariant.1.1
     c.loop-number-test.true in
     let more = longer c.loop-number.halves.items rest (halves_at c.args.place c.args.self.now)
-    s.behind (half_of c.loop-number.number) c.loop-number.invariant.1.0 s.splits in (
+    s.after (half_of c.loop-number.number) c.loop-number.invariant.1.0 s.splits in (
       search rules,
       omega (
         arith,
@@ -44,7 +44,7 @@ loop-number-smaller c =
     let s = step c.args.self.now c.loop-number.number rest c.loop-number.invariant.1.1
     c.loop-number-test.true in
     let more = longer c.loop-number.halves.items rest (halves_at c.args.place c.args.self.now)
-    s.behind (half_of c.loop-number.number) c.loop-number.invariant.1.0 s.splits in
+    s.after (half_of c.loop-number.number) c.loop-number.invariant.1.0 s.splits in
     omega (arith, more, c.push.ensures.len)
 
 pub loop-number-preserved : goal.loop-number-preserved
@@ -52,13 +52,13 @@ loop-number-preserved c =
     let rest = c.loop-number.invariant.0 in
     let s = step c.args.self.now c.loop-number.number rest c.loop-number.invariant.1.1
     c.loop-number-test.true in (
-      s.behind,
+      s.after,
       (
         told_on c.loop-number.halves.items c.push.new.self.items rest
-            (halves_at c.args.place c.args.self.now) s.behind (half_of c.loop-number.number)
+            (halves_at c.args.place c.args.self.now) s.after (half_of c.loop-number.number)
             c.numbered.result c.loop-number.invariant.1.0 s.splits c.push.ensures.items
             c.numbered.ensures,
-        rw c.behind-number.ensures s.left,
+        rw c.after-number.ensures s.left,
       ),
     )
 

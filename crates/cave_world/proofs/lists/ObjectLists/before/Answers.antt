@@ -16,8 +16,8 @@ loop-before-init c = (
   ),
 )
 
-pub behind-behind-requires-clause-within : goal.behind-behind-requires-clause-within
-behind-behind-requires-clause-within c =
+pub after-after-requires-clause-within : goal.after-after-requires-clause-within
+after-after-requires-clause-within c =
     (step c.args.self.now c.loop-before.before c.loop-before.invariant.0
     c.loop-before.invariant.1.0 c.loop-before-test.true).high
 
@@ -26,21 +26,21 @@ loop-before-smaller c =
     let rest = c.loop-before.invariant.0 in
     let s = step c.args.self.now c.loop-before.before rest c.loop-before.invariant.1.0
     c.loop-before-test.true in
-    fewer c.args.self.now c.loop-before.before c.behind-behind.result rest
-    c.loop-before.invariant.1.0 s c.behind-behind.ensures
+    fewer c.args.self.now c.loop-before.before c.after-after.result rest
+    c.loop-before.invariant.1.0 s c.after-after.ensures
 
 pub loop-before-preserved : goal.loop-before-preserved
 loop-before-preserved c =
     let rest = c.loop-before.invariant.0 in
     let s = step c.args.self.now c.loop-before.before rest c.loop-before.invariant.1.0
     c.loop-before-test.true in (
-      s.behind,
+      s.after,
       (
-        rw c.behind-behind.ensures s.left,
+        rw c.after-after.ensures s.left,
         (
           listed_on c.args.self.now c.args.number c.loop-before.before rest _ s
               c.loop-before.invariant.1.1.0 c.loop-before.invariant.1.1.1,
-          c.if-behind-number.false,
+          c.if-after-number.false,
         ),
       ),
     )

@@ -4,8 +4,8 @@ use Rattle.cave_world.specs.Links.{first_of}
 use Rattle.cave_world.proofs.Relinked.{removed_first, is_place, first_is_number}
 use Rattle.cave_world.proofs.lists.ObjectLists.remove_first.Goals as goal
 
-pub unlink-behind-requires-clause-within : goal.unlink-behind-requires-clause-within
-unlink-behind-requires-clause-within c =
+pub unlink-after-requires-clause-within : goal.unlink-after-requires-clause-within
+unlink-after-requires-clause-within c =
     (first_is_number c.args.place c.args.number c.args.self.now c.requires.some
     (rw c.self.view_is at c.self.invariant.lists) c.requires.first).high
 
@@ -22,8 +22,8 @@ invariant_of-self c =
     rw (
       c.from.ensures,
       c.number.ensures.value,
-      c.unlink-behind.ensures.value,
-      c.unlink-behind.ensures.unlinked,
+      c.unlink-after.ensures.value,
+      c.unlink-after.ensures.unlinked,
     )
     (removed_first c.self.inside c.args.number c.args.place c.self.invariant c.requires.some here).1
 
@@ -33,8 +33,8 @@ returns c =
     rw (
       c.from.ensures,
       c.number.ensures.value,
-      c.unlink-behind.ensures.value,
-      c.unlink-behind.ensures.unlinked,
+      c.unlink-after.ensures.value,
+      c.unlink-after.ensures.unlinked,
     )
     ((removed_first c.self.inside c.args.number c.args.place c.self.invariant c.requires.some
     here).0 ∙ ap (λ es. without c.args.number es) c.self.view_is)

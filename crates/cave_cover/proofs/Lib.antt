@@ -1,0 +1,7 @@
+pub mod Noting
+pub mod Agreeing
+pub mod LawLemmas
+pub mod FaultLemmas
+pub mod Progress
+pub mod Telling
+pub mod PlayLemmas

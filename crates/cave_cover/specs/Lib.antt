@@ -1,0 +1,6 @@
+pub mod Texts
+pub mod Marks
+pub mod Report
+pub mod Plays
+pub mod Laws
+pub mod Faults

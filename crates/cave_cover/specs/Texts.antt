@@ -1,0 +1,83 @@
+-- The texts of a cave, each by its kind and its number, and which of them a part says.
+use Rattle.std.specs.Prelude.{ℕ, ◌+◌, ◌*◌, ◌/◌, ◌%◌, ℤ, pos, negsuc}
+use Rattle.std.specs.Prelude.{Bool, false, ◌==◌, nat_lt, ◌&&◌, is_some, if◌then◌else◌}
+use Rattle.std.specs.Prelude.{List, [], ◌∷◌, length, Option, Some, None}
+use Rattle.std.specs.List.{list_any, flat_map}
+use Rattle.std.specs.FinMap as map
+use Rattle.cave_data.specs.CaveView.{CaveView, Rated, class_of, look_of, name_of}
+use Rattle.cave_data.specs.Role.{role_names, role_number}
+use Rattle.cave_world.specs.declared.part.Part.{Part}
+use Rattle.cave_world.specs.declared.part.Part.TheVariants as part
+use Rattle.cave_cover.specs.declared.text.Kind.{Kind}
+use Rattle.cave_cover.specs.declared.text.Kind.TheVariants as kind
+use Rattle.cave_cover.specs.declared.text.Text.{Text}
+
+abbrev pub kind_number : Kind → ℕ
+kind_number kind.Long = 0
+kind_number kind.Short = 1
+kind_number kind.Look = 2
+kind_number kind.Name = 3
+kind_number kind.Message = 4
+kind_number kind.Role = 5
+kind_number kind.Class = 6
+
+-- a text by its kind and its number
+abbrev pub text : Kind → ℕ → Text
+text kind number = record { kind = kind; number = number }
+
+abbrev pub is_same : Text → Text → Bool
+is_same one other = kind_number one.kind == kind_number other.kind && one.number == other.number
+
+abbrev pub is_among : Text → List Text → Bool
+is_among one texts = list_any (is_same one) texts
+
+-- ---- which texts a cave has
+
+-- the class is one with that bound
+abbrev pub has_bound : Option Rated → ℕ → Bool
+has_bound None bound = false
+has_bound (Some rated) bound = rated.bound == bound
+
+-- whether the cave has the text; a class that no score belongs to is none of its texts
+abbrev pub has : CaveView → Kind → ℕ → Bool
+has cave kind.Long number = is_some (map.get cave.long number)
+has cave kind.Short number = is_some (map.get cave.short number)
+has cave kind.Look number = is_some (look_of cave (number / 100) (number % 100))
+has cave kind.Name number = is_some (name_of cave number)
+has cave kind.Message number = is_some (map.get cave.messages number)
+has cave kind.Role number = nat_lt number (length role_names)
+has cave kind.Class number = has_bound (class_of cave number) number
+
+-- ---- which texts a part says
+
+-- a role that is bound says its message too
+abbrev pub message_said : Option ℕ → List Text
+message_said None = []
+message_said (Some number) = text kind.Message number ∷ []
+
+abbrev pub class_said : Option Rated → List Text
+class_said None = []
+class_said (Some rated) = text kind.Class rated.bound ∷ []
+
+abbrev pub look_said : CaveView → ℕ → ℤ → List Text
+look_said cave object (pos prop) =
+    if is_some (look_of cave object prop) then text kind.Look (100 * object + prop) ∷ [] else []
+look_said cave object (negsuc n) = []
+
+-- the texts that a part says; the game's own lines are none of the cave's
+unfoldable pub said_by : CaveView → Part → List Text
+said_by cave (part.Long place) = text kind.Long place ∷ []
+said_by cave (part.Short place) = text kind.Short place ∷ []
+said_by cave (part.Object object prop) = look_said cave object prop
+said_by cave (part.Name object) = text kind.Name object ∷ []
+said_by cave (part.Message number) = text kind.Message number ∷ []
+said_by cave (part.Role role) =
+    text kind.Role (role_number role) ∷ message_said (map.get cave.roles (role_number role))
+said_by cave (part.Class score) = class_said (class_of cave score)
+said_by cave (part.Number form number most) = []
+said_by cave (part.Word form word) = []
+said_by cave (part.Turns score most) = []
+
+-- the texts that several parts say
+abbrev pub said_by_all : CaveView → List Part → List Text
+said_by_all cave parts = flat_map (said_by cave) parts

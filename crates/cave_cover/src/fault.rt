@@ -1,0 +1,34 @@
+//! Why the plays of logs aren't told.
+
+ghost use Rattle.std.specs.Prelude.{◌≡◌, None};
+ghost use Rattle.cave_cover.specs.Faults.{at_none};
+ghost use Rattle.cave_play.specs.declared.fault.PlayFault.TheVariants.{Memory};
+
+use cave_play::fault::PlayFault;
+use std::alloc::AllocError;
+
+/// A fault of a run over several logs, and the log at which it is met, from 0, if it is met at one.
+#[derive(Clone, Copy, Debug, PartialEq, Eq)]
+pub struct CoverFault {
+    pub fault: PlayFault,
+    pub log: Option<usize>,
+}
+
+impl From<PlayFault> for CoverFault {
+    ghost from_gives = { λ fault found. found ≡ at_none fault };
+
+    fn from(fault: PlayFault) -> CoverFault {
+        CoverFault { fault, log: None }
+    }
+}
+
+impl From<AllocError> for CoverFault {
+    ghost from_gives = { λ _ found. found ≡ at_none Memory };
+
+    fn from(_: AllocError) -> CoverFault {
+        CoverFault {
+            fault: PlayFault::Memory,
+            log: None,
+        }
+    }
+}

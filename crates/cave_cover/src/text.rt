@@ -1,0 +1,56 @@
+//! The texts of a cave, each by its kind and its number.
+
+ghost use Rattle.std.specs.Prelude.{◌≡◌, ◌<◌};
+ghost use Rattle.cave_cover.specs.Texts.{kind_number};
+
+/// One more than the greatest number that a text may have.
+pub const NUMBERS: usize = 10_000;
+
+/// A kind of text.
+#[derive(Clone, Copy, Debug, PartialEq, Eq)]
+pub enum Kind {
+    /// The long text of a place.
+    Long,
+    /// The short text of a place.
+    Short,
+    /// The text of an object at a prop.
+    Look,
+    /// The inventory text of an object.
+    Name,
+    /// A message.
+    Message,
+    /// A message that the rules name by its role.
+    Role,
+    /// A class of players.
+    Class,
+}
+
+/// The kinds in the order of the sections.
+pub const KINDS: [Kind; 7] = [
+    Kind::Long,
+    Kind::Short,
+    Kind::Look,
+    Kind::Name,
+    Kind::Message,
+    Kind::Role,
+    Kind::Class,
+];
+
+impl Kind {
+    /// Its place among the kinds, from 0.
+    pub fn number(self) -> usize
+        ensures value { result ≡ kind_number self }
+        ensures within { result < 7 }
+    {
+        self as usize
+    }
+}
+
+/// A text of a cave. It has the number of its place, its object, its message or its role, and a
+/// class that of its greatest score. The text of an object at a prop has a hundred times the number
+/// of the object and the prop, as in a database.
+#[derive(Clone, Copy, Debug, PartialEq, Eq)]
+pub struct Text {
+    pub kind: Kind,
+    pub number: u16,
+}

@@ -1,0 +1,34 @@
+//! Where texts are in a store.
+ghost use Rattle.std.specs.Prelude.{◌≡◌, ◌++◌, ◌∷◌, [], OnOk, OnErr};
+
+use std::alloc::AllocError;
+
+/// Where a text is in the store that has it.
+#[derive(Clone, Copy)]
+pub struct Span {
+    pub start: u32,
+    pub len: u32,
+}
+
+/// A number, and where its text is.
+#[derive(Clone, Copy)]
+pub struct NumberedSpan {
+    pub number: u16,
+    pub span: Span,
+}
+
+/// Adds a row at the end. The first row takes room for so many.
+pub fn add_row(
+    rows: &mut Vec<NumberedSpan>,
+    room: usize,
+    row: NumberedSpan,
+) -> Result<(), AllocError>
+    ensures ok { OnOk result (rows.new.items ≡ rows.old.items ++ row ∷ []) }
+    ensures err { OnErr result (rows.new.items ≡ rows.old.items) }
+{
+    if rows.is_empty() {
+        rows.reserve_exact(room)?;
+    }
+    rows.push(row)?;
+    Ok(())
+}

@@ -1,0 +1,79 @@
+//! The words of a database: a store of bytes, and the rows in the order of the file.
+ghost use Rattle.std.specs.Prelude.{◌≡◌, ◌<◌, ◌++◌, ◌∷◌, [], OnOk, Some, length, slice_get};
+ghost use Rattle.cave_data.specs.Shown.{word_entry};
+
+use crate::rows::WordRow;
+use crate::span::{NumberedSpan, add_row};
+use crate::store::Store;
+use std::alloc::{AllocError, Global};
+use std::marker::Model;
+
+/// The most words.
+pub const MAX_WORDS: usize = 1000;
+
+/// Words with their numbers in the order of the file.
+#[derive(Drop)]
+pub struct Words {
+    store: Store,
+    rows: Vec<NumberedSpan>,
+}
+
+impl Model for Words {
+    ghost use Rattle.std.specs.Prelude.{List, map, All};
+    ghost use Rattle.std.specs.Coded.{coded_list};
+    ghost use Rattle.cave_data.specs.CaveView.{WordEntry, word_code};
+
+    ghost Value = { List WordEntry };
+
+    ghost coded = { coded_list word_code };
+
+    ghost use Rattle.cave_data.specs.Spans.{word_in, RowWithin};
+
+    ghost view = { λ w. map (word_in w.store) w.rows.items };
+
+    ghost invariant = { λ w. All (RowWithin w.store) w.rows.items };
+}
+
+impl Words {
+    /// No words.
+    pub(crate) fn new(alloc: Global) -> Self
+        ensures { result ≡ [] }
+    {
+        Self {
+            store: Store::new(alloc),
+            rows: Vec::new(alloc),
+        }
+    }
+
+    /// How many there are.
+    pub fn len(&self) -> usize
+        ensures { result ≡ length self.now }
+    {
+        self.rows.len()
+    }
+
+    /// Adds a word.
+    pub(crate) fn push(&mut self, row: WordRow<'_>) -> Result<(), AllocError>
+        ensures { OnOk result (self.new ≡ self.old ++ word_entry row.entry ∷ []) }
+    {
+        let span = self.store.add(row.word)?;
+        let added = NumberedSpan {
+            number: row.number,
+            span,
+        };
+        add_row(&mut self.rows, MAX_WORDS, added)?;
+        Ok(())
+    }
+
+    /// The word of the row, from 0 in the order of the file.
+    pub fn row(&self, index: usize) -> WordRow<'_>
+        requires { index < length self.now }
+        ensures { slice_get self.now index ≡ Some (word_entry result) }
+    {
+        let row = self.rows[index];
+        WordRow {
+            number: row.number,
+            word: self.store.text(row.span),
+        }
+    }
+}

@@ -1,0 +1,115 @@
+-- Where a fault is found, and what is made, at some stages and then at later ones.
+use Rattle.std.proofs.Common.{◌≡◌, List, [], ◌∷◌, ◌++◌, None, Some, Ok, Err, MatchResult}
+use Rattle.std.proofs.Common.{inl, inr, ap, ◌∙◌, refl}
+use Rattle.std.specs.Prelude.{Result}
+use Rattle.std.specs.Option.{option_or}
+use Rattle.std.specs.declared.option.Option.{Option}
+use Rattle.cave_play.specs.Stage.{Stage, reading, judging, first_decided, IsOutsideOf, IsFoundIn}
+use Rattle.cave_play.specs.Laws.{IsOutside, IsDecided}
+use Rattle.cave_play.specs.Run.{Judges}
+use Rattle.cave_play.specs.declared.fault.Input.{Input}
+use Rattle.cave_play.specs.declared.fault.PlayFault.{PlayFault}
+use Rattle.cave_play.specs.declared.fault.PlayFault.TheVariants as fault
+
+-- memory can be refused at any time
+pub IsFoundIn-memory : (stages : List Stage) → IsFoundIn stages fault.Memory
+IsFoundIn-memory [] = refl
+IsFoundIn-memory (stage ∷ stages) = inl (inl tt)
+
+-- a fault that is found at the first of two runs of stages is found at both
+pub IsFoundIn-first : (stages later : List Stage) (found : PlayFault)
+    → IsFoundIn stages found → IsFoundIn (stages ++ later) found
+IsFoundIn-first [] later found memory = rw memory (IsFoundIn-memory later)
+IsFoundIn-first (stage ∷ stages) later found (inl here) = inl here
+IsFoundIn-first (stage ∷ stages) later found (inr (none, there)) =
+    inr (none, IsFoundIn-first stages later found there)
+
+neither : (first later : Option PlayFault)
+    → option_or first later ≡ None → (first ≡ None) × (later ≡ None)
+neither None later none = (refl, none)
+neither (Some first) later none = cc
+
+-- where the first decide none, so is one that is found at the later ones
+pub IsFoundIn-later : (stages later : List Stage) (found : PlayFault)
+    → first_decided stages ≡ None → IsFoundIn later found → IsFoundIn (stages ++ later) found
+IsFoundIn-later [] later found none there = there
+IsFoundIn-later (stage ∷ stages) later found none there =
+    let (here, rest) = neither stage.decides (first_decided stages) none in
+    inr (here, IsFoundIn-later stages later found rest there)
+
+-- one stage that decides no fault
+pub first_decided-one : (stage : Stage) → stage.decides ≡ None → first_decided (stage ∷ []) ≡ None
+first_decided-one stage none = ap (λ f. option_or f None) none
+
+first_decided-later : (stages later : List Stage)
+    → first_decided stages ≡ None → first_decided (stages ++ later) ≡ first_decided later
+first_decided-later [] later none = refl
+first_decided-later (stage ∷ stages) later none =
+    let (here, rest) = neither stage.decides (first_decided stages) none in
+    ap (λ f. option_or f (first_decided (stages ++ later))) here
+    ∙ first_decided-later stages later rest
+
+-- what is right at later stages is right at both, if the first decide no fault
+pub Judges-later : {X : Type 0} (stages later : List Stage) (P Q : X → Type 0)
+    (r : Result X PlayFault) → first_decided stages ≡ None → ((x : X) → P x → Q x)
+    → Judges later P r → Judges (stages ++ later) Q r
+Judges-later stages later P Q (Ok x) none gives judged =
+    (first_decided-later stages later none ∙ judged.0, gives x judged.1)
+Judges-later stages later P Q (Err found) none gives judged =
+    IsFoundIn-later stages later found none judged
+
+-- where no fault is decided and memory alone was refused, what was made is right
+pub Judges-made : {X : Type 0} (stages : List Stage) (IsMade IsRight : X → Type 0)
+    (r : Result X PlayFault) → first_decided stages ≡ None → ((made : X) → IsMade made → IsRight made)
+    → MatchResult r IsMade (λ found. found ≡ fault.Memory) → Judges stages IsRight r
+Judges-made stages IsMade IsRight (Ok made) none right is = (none, right made is)
+Judges-made stages IsMade IsRight (Err found) none right is = rw is (IsFoundIn-memory stages)
+
+-- where nothing is read, only memory is refused from outside
+outside_unread : (input : Input) (found : PlayFault)
+    → IsOutsideOf None found → IsOutsideOf (Some input) found
+outside_unread input fault.Memory outside = tt
+outside_unread input (fault.Read from) outside = cc
+outside_unread input (fault.Cave error) outside = absurd outside
+outside_unread input fault.Seed outside = absurd outside
+outside_unread input fault.Every outside = absurd outside
+outside_unread input (fault.Log refused) outside = absurd outside
+outside_unread input (fault.Script refused) outside = absurd outside
+outside_unread input fault.Write outside = absurd outside
+
+-- what is right of an input that was read is right of the reading too
+pub Judges-read : {X : Type 0} (input : Input) (decides : Option PlayFault) (P : X → Type 0)
+    (r : Result X PlayFault) → Judges (judging decides ∷ []) P r → Judges (reading input decides ∷ []) P r
+Judges-read input decides P (Ok x) judged = judged
+Judges-read input decides P (Err found) (inl (inl outside)) =
+    inl (inl (outside_unread input found outside))
+Judges-read input decides P (Err found) (inl (inr is)) = inl (inr is)
+Judges-read input decides P (Err found) (inr rest) = inr rest
+
+-- ---- laws
+
+outside_of : (reads : Option Input) (found : PlayFault) → IsOutsideOf reads found → IsOutside found
+outside_of reads fault.Memory outside = tt
+outside_of reads (fault.Read from) outside = tt
+outside_of reads (fault.Cave error) outside = absurd outside
+outside_of reads fault.Seed outside = absurd outside
+outside_of reads fault.Every outside = absurd outside
+outside_of reads (fault.Log refused) outside = absurd outside
+outside_of reads (fault.Script refused) outside = absurd outside
+outside_of reads fault.Write outside = absurd outside
+
+decided_after : (stage : Stage) (stages : List Stage) (found : PlayFault)
+    → stage.decides ≡ None → IsDecided stages found → IsDecided (stage ∷ stages) found
+decided_after stage stages found none (inl outside) = inl outside
+decided_after stage stages found none (inr is) =
+    inr (ap (λ f. option_or f (first_decided stages)) none ∙ is)
+
+pub first_is_found : (stages : List Stage) (found : PlayFault)
+    → IsFoundIn stages found → IsDecided stages found
+first_is_found [] found memory = rw memory (inl tt)
+first_is_found (stage ∷ stages) found (inl (inl outside)) =
+    inl (outside_of stage.reads found outside)
+first_is_found (stage ∷ stages) found (inl (inr is)) =
+    inr (ap (λ f. option_or f (first_decided stages)) is)
+first_is_found (stage ∷ stages) found (inr (none, there)) =
+    decided_after stage stages found none (first_is_found stages found there)

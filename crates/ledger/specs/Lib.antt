@@ -1,0 +1,4 @@
+pub mod Account
+pub mod Entry
+pub mod Ledger
+pub mod SameAccounts

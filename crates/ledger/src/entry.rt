@@ -1,0 +1,65 @@
+ghost use Rattle.std.specs.Prelude.{◌≡◌};
+ghost use Rattle.std.specs.List.{list_all};
+ghost use Rattle.cave_words.specs.Bytes.{is_digit};
+ghost use Rattle.ledger.specs.Entry.{amount_after, entry_of, is_payment, booked};
+
+use cave_words::bytes::number_of;
+
+/// What a line of a ledger says.
+#[derive(Clone, Copy)]
+pub enum Entry {
+    /// `in N`: so much is paid in.
+    In(u64),
+    /// `out N`: so much is paid out.
+    Out(u64),
+    /// Any other line.
+    Comment,
+}
+
+fn are_digits(bytes: &[u8]) -> bool
+    ensures { result ≡ list_all is_digit bytes.now }
+{
+    bytes.iter().all(|byte| byte.is_ascii_digit())
+}
+
+/// The amount after a word, written in one to ten digits.
+#[tactic(auto, unfolding(crate::specs::Entry::amount_after))]
+fn amount_after(word: &[u8], line: &[u8]) -> Option<u64>
+    ensures { result ≡ amount_after word.now line.now }
+{
+    let digits = line.strip_prefix(word)?;
+    if digits.is_empty() || digits.len() > 10 || !are_digits(digits) {
+        return None;
+    }
+    Some(number_of(digits))
+}
+
+impl Entry {
+    /// Reads a line.
+    pub fn of(line: &[u8]) -> Entry
+        ensures { result ≡ entry_of line.now }
+    {
+        amount_after(b"in ", line)
+            .map(Entry::In)
+            .or_else(|| amount_after(b"out ", line).map(Entry::Out))
+            .unwrap_or(Entry::Comment)
+    }
+
+    /// Whether it asks for a payment.
+    pub fn is_payment(self) -> bool
+        ensures { result ≡ is_payment self }
+    {
+        !matches!(self, Entry::Comment)
+    }
+
+    /// The balance that it makes of one, or `None` where the payment is refused.
+    pub fn booked(self, balance: u64) -> Option<u64>
+        ensures { result ≡ booked self balance }
+    {
+        match self {
+            Entry::In(amount) => balance.checked_add(amount),
+            Entry::Out(amount) => balance.checked_sub(amount),
+            Entry::Comment => Some(balance),
+        }
+    }
+}
