@@ -1,6 +1,5 @@
 pub mod Noting
 pub mod Agreeing
-pub mod LawLemmas
 pub mod FaultLemmas
 pub mod Progress
 pub mod Telling

@@ -1,17 +1,16 @@
 -- A mark for each text, and what noting texts makes of the marks.
 use Rattle.std.specs.Prelude.{◌≡◌, ℕ, ◌+◌, ◌*◌, ◌<◌, ◌||◌, Bool, false, List, slice_index_or}
 use Rattle.cave_cover.specs.Texts.{is_among, kind_number}
-use Rattle.cave_cover.specs.declared.text.TheConstants.{NUMBERS}
 use Rattle.cave_cover.specs.declared.text.Text.{Text}
 
 -- where the mark of a text is
 abbrev pub place_of : Text → ℕ
-place_of text = NUMBERS * kind_number text.kind + text.number
+place_of text = 10000 * kind_number text.kind + text.number
 
 abbrev pub is_marked : List Bool → Text → Bool
 is_marked marks text = slice_index_or marks (place_of text) false
 
 -- the texts were noted: a text is marked now if it is one of them or was marked before
 pub record Notes (texts : List Text) (old new : List Bool) : Type 0 where
-  pub is : (text : Text) → text.number < NUMBERS
+  pub is : (text : Text) → text.number < 10000
       → is_marked new text ≡ (is_among text texts || is_marked old text)

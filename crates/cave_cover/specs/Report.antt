@@ -6,14 +6,13 @@ use Rattle.std.specs.List.{filter, flat_map, range_with_len, sum_by}
 use Rattle.cave_data.specs.CaveView.{CaveView}
 use Rattle.cave_data.specs.Role.{role_names}
 use Rattle.cave_cover.specs.Texts.{has, text}
-use Rattle.cave_cover.specs.declared.text.TheConstants.{NUMBERS}
 use Rattle.cave_cover.specs.declared.text.Kind.{Kind}
 use Rattle.cave_cover.specs.declared.text.Kind.TheVariants as kind
 use Rattle.cave_cover.specs.declared.text.Text.{Text}
 
 -- the numbers that a text may have, in ascending order
 unfoldable pub numbers : List ℕ
-numbers = range_with_len 0 NUMBERS
+numbers = range_with_len 0 10000
 
 -- the kinds in the order of the sections
 abbrev pub kinds : List Kind

@@ -50,7 +50,7 @@ fn is_missing(cave: &Cave, said: &Said, kind: Kind, number: u16) -> bool
 #[tactic(auto, unfolding(crate::specs::Report::present, crate::specs::Report::numbers))]
 fn count_present(cave: &Cave, kind: Kind) -> usize
     ensures value { result ≡ length (present cave.now kind) }
-    ensures within { result ≤ NUMBERS }
+    ensures within { result ≤ 10000 }
 {
     (0..NUMBERS as u16)
         .filter(|number| has(cave, kind, *number))
@@ -61,7 +61,7 @@ fn count_present(cave: &Cave, kind: Kind) -> usize
 #[tactic(auto, unfolding(crate::specs::Report::shown, crate::specs::Report::numbers))]
 fn count_shown(cave: &Cave, said: &Said, kind: Kind) -> usize
     ensures value { result ≡ length (shown cave.now (is_marked said.now) kind) }
-    ensures within { result ≤ NUMBERS }
+    ensures within { result ≤ 10000 }
 {
     (0..NUMBERS as u16)
         .filter(|number| is_shown(cave, said, kind, *number))

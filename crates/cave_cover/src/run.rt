@@ -4,11 +4,9 @@ ghost use Rattle.std.specs.Prelude.{◌≡◌, ℕ, List, [], None, map, take, M
 ghost use Rattle.std.specs.List.{AllZip};
 ghost use Rattle.std.specs.Io.KnownBytes.{Appends};
 ghost use Rattle.cave_cover.specs.Faults.{Judges, Runs, at_none, first_stages};
-ghost use Rattle.cave_cover.specs.Laws.{AgainIsNothing, OrderIsNothing};
 ghost use Rattle.cave_cover.specs.Plays.{IsCovered, cover_text};
 ghost use Rattle.cave_play.specs.Input.{Says};
 ghost use Rattle.cave_play.specs.Judged.{seed_fault};
-ghost use Rattle.cave_play.specs.Run.{AtMostOne};
 
 use crate::fault::CoverFault;
 use crate::plays::note_logs;
@@ -38,15 +36,6 @@ pub fn run_cover<C: Read, B: Read, L: Read, W: Write>(
         × AllZip Says (map L.remaining logs.old) moves
         × Runs (first_stages database bindings seed) moves (IsCovered database bindings moves seed)
         (W.contents output.old) (W.contents output.new) result }
-
-    // The inputs and the seed determine what is written.
-    ensures alone { (database : List ℕ) → (bindings : List ℕ) → (moves : List (List ℕ))
-        → AtMostOne (IsCovered database bindings moves seed) }
-
-    // The order of the logs changes no byte, and a log that is given once more changes nothing but
-    // the number of logs.
-    ensures order { OrderIsNothing seed }
-    ensures again { AgainIsNothing seed }
 {
     let text = cover_inputs(alloc, cave, bind, logs, seed)?;
     write(output, &text)

@@ -30,7 +30,7 @@ impl Model for Said {
 /// Where the mark of a text is.
 fn place_of(text: Text) -> usize
     ensures value { result ≡ place_of text }
-    ensures within { text.number < NUMBERS → result < 70000 }
+    ensures within { text.number < 10000 → result < 70000 }
 {
     NUMBERS * text.kind.number() + text.number as usize
 }

@@ -3,7 +3,7 @@ ghost use Rattle.std.specs.Prelude.{◌≡◌, ◌<◌, ◌^◌, nat_eq, map, dr
 ghost use Rattle.std.specs.List.{starts_with};
 ghost use Rattle.cave_data.specs.Bindings.{is_skipped, two_fields, bound_within, name_number, binding_of, binding_row, role_binding, place_binding, letters_binding, starts_comment};
 ghost use Rattle.cave_data.specs.Fields.{fields};
-ghost use Rattle.cave_data.specs.Gives.{Gives};
+ghost use Rattle.cave_data.specs.Gives.{Answers};
 
 use crate::error::{BindingFlaw, Cause};
 use crate::field_rows::next_field;
@@ -43,7 +43,7 @@ fn starts_comment(line: &[u8]) -> bool
 
 /// The two fields of a line that has two.
 fn two_fields(line: &[u8]) -> Result<(&[u8], &[u8]), Cause>
-    ensures { Gives (λ pair. (pair.0.now, pair.1.now)) result (two_fields (fields line.now)) }
+    ensures { Answers (λ pair. (pair.0.now, pair.1.now)) result (two_fields (fields line.now)) }
 {
     let Some((key, rest)) = next_field(line) else {
         return Err(Cause::BadBinding(BindingFlaw::Malformed));
@@ -93,7 +93,7 @@ fn after_prefix<'a>(key: &'a [u8], prefix: &[u8]) -> Option<&'a [u8]>
 }
 
 fn role_binding(name: &[u8], n: u32) -> Result<Binding, Cause>
-    ensures { Gives (λ binding. binding) result (role_binding name.now n) }
+    ensures { Answers (λ binding. binding) result (role_binding name.now n) }
 {
     let value = bound_within(n, 1, 499)?;
     let number = name_number(&ROLE_NAMES, name).ok_or(Cause::UnknownRole)?;
@@ -104,7 +104,7 @@ fn role_binding(name: &[u8], n: u32) -> Result<Binding, Cause>
 }
 
 fn place_binding(name: &[u8], n: u32) -> Result<Binding, Cause>
-    ensures { Gives (λ binding. binding) result (place_binding name.now n) }
+    ensures { Answers (λ binding. binding) result (place_binding name.now n) }
 {
     let value = bound_within(n, 1, 300)?;
     let number = name_number(&PLACE_NAMES, name).ok_or(Cause::UnknownRole)?;
@@ -115,7 +115,7 @@ fn place_binding(name: &[u8], n: u32) -> Result<Binding, Cause>
 }
 
 fn letters_binding(n: u32) -> Result<Binding, Cause>
-    ensures { Gives (λ binding. binding) result (letters_binding n) }
+    ensures { Answers (λ binding. binding) result (letters_binding n) }
 {
     let value = bound_within(n, 5, 8)?;
     Ok(Binding {
@@ -126,7 +126,7 @@ fn letters_binding(n: u32) -> Result<Binding, Cause>
 
 /// What a key and a number bind.
 fn binding_of(key: &[u8], n: u32) -> Result<Binding, Cause>
-    ensures { Gives (λ binding. binding) result (binding_of key.now n) }
+    ensures { Answers (λ binding. binding) result (binding_of key.now n) }
 {
     if let Some(name) = after_prefix(key, b"msg.") {
         role_binding(name, n)
@@ -142,7 +142,7 @@ fn binding_of(key: &[u8], n: u32) -> Result<Binding, Cause>
 /// The binding that a line is.
 #[tactic(auto, unfolding(crate::specs::Bindings::binding_row))]
 pub fn binding_row(line: &[u8]) -> Result<Binding, Cause>
-    ensures { Gives (λ binding. binding) result (binding_row line.now) }
+    ensures { Answers (λ binding. binding) result (binding_row line.now) }
 {
     let (key, value) = two_fields(line)?;
     let n = natural(value).ok_or(Cause::BadBinding(BindingFlaw::Malformed))?;

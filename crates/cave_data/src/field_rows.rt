@@ -1,7 +1,7 @@
 //! Rows of a section, read from the fields of a line.
 ghost use Rattle.std.specs.Prelude.{◌≡◌, ◌≤◌, ◌<◌, [], ◌∷◌, length, MatchOption, IfOk, IfSome, IsTrue};
 ghost use Rattle.cave_data.specs.Fields.{fields};
-ghost use Rattle.cave_data.specs.Gives.{Gives};
+ghost use Rattle.cave_data.specs.Gives.{Answers};
 ghost use Rattle.cave_data.specs.Lists.{listed, with_number, list_within, some_listed};
 ghost use Rattle.cave_data.specs.RowViews.{text_shown};
 ghost use Rattle.cave_data.specs.Rows.{number_in, within, is_zero, text_in, text_line, object_or_prop, object_line, way_row, is_word_number, word_number, word_in, word_row, number_or_zero, second_place, placement_row, default_row, condition_row, hint_row};
@@ -32,7 +32,7 @@ pub fn next_field(bytes: &[u8]) -> Option<(&[u8], &[u8])>
 
 /// The number in the first field and what follows it.
 fn number_in(bytes: &[u8]) -> Result<(Number, &[u8]), Cause>
-    ensures { Gives (λ found. (found.0, found.1.now)) result (number_in bytes.now) }
+    ensures { Answers (λ found. (found.0, found.1.now)) result (number_in bytes.now) }
 {
     number_at(bytes).ok_or(Cause::BadNumber)
 }
@@ -83,7 +83,7 @@ fn with_number(list: List, number: Result<u16, Cause>) -> List
 
 /// The numbers up to a 0 or to the end of the line, each of which is to be in the range.
 fn list_in(bytes: &[u8], low: u16, high: u16) -> Result<List, Cause>
-    ensures { Gives listed result (list_within low high bytes.now) }
+    ensures { Answers listed result (list_within low high bytes.now) }
 {
     let mut list = Ok(ArrayVec::new());
     let mut rest = bytes;
@@ -102,7 +102,7 @@ fn list_in(bytes: &[u8], low: u16, high: u16) -> Result<List, Cause>
 
 /// The text behind a number: what follows one blank.
 fn text_in(bytes: &[u8]) -> Result<&[u8], Cause>
-    ensures { Gives (λ text. text.now) result (text_in bytes.now) }
+    ensures { Answers (λ text. text.now) result (text_in bytes.now) }
 {
     let text = match bytes {
         [_, text @ ..] => text,
@@ -118,7 +118,7 @@ fn text_in(bytes: &[u8]) -> Result<&[u8], Cause>
 /// A line of a text under a number in the range.
 #[tactic(auto, unfolding(crate::specs::Rows::text_line))]
 pub fn text_line(line: &[u8], low: u16, high: u16) -> Result<(u16, &[u8]), Cause>
-    ensures { Gives text_shown result (text_line low high line.now) }
+    ensures { Answers text_shown result (text_line low high line.now) }
 {
     let (number, rest) = number_in(line)?;
     let number = within(number, low, high)?;
@@ -140,7 +140,7 @@ fn object_or_prop(number: Number) -> Result<u16, Cause>
 /// A line of a text of an object.
 #[tactic(auto, unfolding(crate::specs::Rows::object_line))]
 pub fn object_line(line: &[u8]) -> Result<(u16, &[u8]), Cause>
-    ensures value { Gives text_shown result (object_line line.now) }
+    ensures value { Answers text_shown result (object_line line.now) }
     ensures range { IfOk result (λ row. row.0 ≤ 9900) }
 {
     let (number, rest) = number_in(line)?;
@@ -151,7 +151,7 @@ pub fn object_line(line: &[u8]) -> Result<(u16, &[u8]), Cause>
 
 /// The list, if it has any number.
 fn some_of(list: List) -> Result<List, Cause>
-    ensures { Gives listed result (some_listed (listed list)) }
+    ensures { Answers listed result (some_listed (listed list)) }
 {
     match list {
         Ok(numbers) if numbers.is_empty() => Err(Cause::BadNumber),
@@ -162,7 +162,7 @@ fn some_of(list: List) -> Result<List, Cause>
 /// A row of the ways out of places.
 #[tactic(auto, unfolding(crate::specs::Rows::way_row))]
 pub fn way_row(line: &[u8]) -> Result<Row, Cause>
-    ensures { Gives (λ row. (row.place, going row)) result (way_row line.now) }
+    ensures { Answers (λ row. (row.place, going row)) result (way_row line.now) }
 {
     let (place, rest) = number_in(line)?;
     let (target, rest) = number_in(rest)?;
@@ -198,7 +198,7 @@ fn word_number(number: Number) -> Result<u16, Cause>
 
 /// The first field that is left.
 fn word_in(bytes: &[u8]) -> Result<&[u8], Cause>
-    ensures { Gives (λ word. word.now) result (word_in bytes.now) }
+    ensures { Answers (λ word. word.now) result (word_in bytes.now) }
 {
     let (word, _) = split_field(after_blanks(bytes));
     if word.is_empty() {
@@ -211,7 +211,7 @@ fn word_in(bytes: &[u8]) -> Result<&[u8], Cause>
 /// A row of the words.
 #[tactic(auto, unfolding(crate::specs::Rows::word_row))]
 pub fn word_row(line: &[u8]) -> Result<WordRow<'_>, Cause>
-    ensures { Gives word_entry result (word_row line.now) }
+    ensures { Answers word_entry result (word_row line.now) }
 {
     let (number, rest) = number_in(line)?;
     let word = word_in(rest)?;
@@ -221,7 +221,7 @@ pub fn word_row(line: &[u8]) -> Result<WordRow<'_>, Cause>
 
 /// The next number, where 0 stands for one that is left out.
 fn number_or_zero(bytes: &[u8]) -> Result<(Number, &[u8]), Cause>
-    ensures { Gives (λ found. (found.0, found.1.now)) result (number_or_zero bytes.now) }
+    ensures { Answers (λ found. (found.0, found.1.now)) result (number_or_zero bytes.now) }
 {
     if after_blanks(bytes).is_empty() {
         Ok((Number::Natural(0), &[]))
@@ -244,7 +244,7 @@ fn second_place(number: Number) -> Result<i16, Cause>
 /// A row of the objects' places.
 #[tactic(auto, unfolding(crate::specs::Rows::placement_row))]
 pub fn placement_row(line: &[u8]) -> Result<(u16, Placement), Cause>
-    ensures { Gives (λ row. row) result (placement_row line.now) }
+    ensures { Answers (λ row. row) result (placement_row line.now) }
 {
     let (object, rest) = number_in(line)?;
     let (first, rest) = number_or_zero(rest)?;
@@ -258,7 +258,7 @@ pub fn placement_row(line: &[u8]) -> Result<(u16, Placement), Cause>
 /// A row of the actions' messages.
 #[tactic(auto, unfolding(crate::specs::Rows::default_row))]
 pub fn default_row(line: &[u8]) -> Result<(u16, u16), Cause>
-    ensures { Gives (λ row. row) result (default_row line.now) }
+    ensures { Answers (λ row. row) result (default_row line.now) }
 {
     let (action, rest) = number_in(line)?;
     let (message, _) = number_in(rest)?;
@@ -270,7 +270,7 @@ pub fn default_row(line: &[u8]) -> Result<(u16, u16), Cause>
 /// A row of the places' bits.
 #[tactic(auto, unfolding(crate::specs::Rows::condition_row))]
 pub fn condition_row(line: &[u8]) -> Result<(u16, ArrayVec<u16, MAX_LIST>), Cause>
-    ensures value { Gives (λ row. (row.0, row.1.items)) result (condition_row line.now) }
+    ensures value { Answers (λ row. (row.0, row.1.items)) result (condition_row line.now) }
     ensures range { IfOk result (λ row. row.0 ≤ 20) }
 {
     let (bit, rest) = number_in(line)?;
@@ -282,7 +282,7 @@ pub fn condition_row(line: &[u8]) -> Result<(u16, ArrayVec<u16, MAX_LIST>), Caus
 /// A row of the hints.
 #[tactic(auto, unfolding(crate::specs::Rows::hint_row))]
 pub fn hint_row(line: &[u8]) -> Result<(u16, Hint), Cause>
-    ensures { Gives (λ row. row) result (hint_row line.now) }
+    ensures { Answers (λ row. row) result (hint_row line.now) }
 {
     let (hint, rest) = number_in(line)?;
     let (turns, rest) = number_in(rest)?;

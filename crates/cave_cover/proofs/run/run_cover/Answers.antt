@@ -4,7 +4,6 @@ use Rattle.std.proofs.KnownBytes.{Keeps-refl}
 use Rattle.cave_cover.specs.Faults.{first_stages}
 use Rattle.cave_cover.specs.Plays.{IsCovered}
 use Rattle.cave_cover.proofs.FaultLemmas.{Runs-written}
-use Rattle.cave_cover.proofs.LawLemmas.{again_is_nothing, covered_alone, order_is_nothing}
 use Rattle.cave_cover.proofs.run.run_cover.Goals as goal
 
 pub returns-in_err-text : goal.returns-in_err-text
@@ -12,10 +11,7 @@ returns-in_err-text g c =
     let exit = err_from_is_err_and c.from_residual.result c.from_residual.ensures.1 in
     let (database, bindings, moves, said, others, last, decided) = c.in_err-text.ensures.judged in
     rw (exit.1, exit.2) (record {
-      runs = (database, bindings, moves, said, others, last, inr (decided, Keeps-refl _));
-      alone = λ database bindings moves. covered_alone database bindings moves c.args.seed;
-      order = order_is_nothing c.args.seed;
-      again = again_is_nothing c.args.seed;
+      runs = (database, bindings, moves, said, others, last, inr (decided, Keeps-refl _))
     })
 
 pub returns : goal.returns
@@ -24,7 +20,4 @@ returns g c =
     let output = subst (IsCovered database bindings moves c.args.seed) (sym c.deref.ensures.value) made.2 in
     record {
       runs = (database, bindings, moves, said, others, last, Runs-written (first_stages database bindings c.args.seed) moves (IsCovered database bindings moves c.args.seed) _ _ _ _ made.0 made.1 output c.write.ensures.written);
-      alone = λ database bindings moves. covered_alone database bindings moves c.args.seed;
-      order = order_is_nothing c.args.seed;
-      again = again_is_nothing c.args.seed;
     }
