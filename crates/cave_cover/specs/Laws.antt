@@ -37,9 +37,9 @@ order_is_nothing cave seed logs others shuffled =
     let of_logs = λ text. is_among text (said_in_all cave seed logs) in
     let of_others = λ text. is_among text (said_in_all cave seed others) in
     let agree = λ (text : Text) (below : text.number < 10000).
-      among_all cave seed others text
-      ∙ sym (list_any-IsPermutation (says cave seed text) logs others shuffled)
-      ∙ sym (among_all cave seed logs text) in
+    among_all cave seed others text
+    ∙ sym (list_any-IsPermutation (says cave seed text) logs others shuffled)
+    ∙ sym (among_all cave seed logs text) in
     ap (told cave seed others) (length_permutation logs others shuffled)
     ∙ agree_report cave of_others of_logs agree (length logs)
 
@@ -59,9 +59,9 @@ again_is_nothing cave seed logs log given count =
     let of_logs = λ text. is_among text (said_in_all cave seed logs) in
     let of_more = λ text. is_among text (said_in_all cave seed (log ∷ logs)) in
     let agree = λ (text : Text) (below : text.number < 10000).
-      among_all cave seed (log ∷ logs) text
-      ∙ said_once (says cave seed text) logs log given
-      ∙ sym (among_all cave seed logs text) in
+    among_all cave seed (log ∷ logs) text
+    ∙ said_once (says cave seed text) logs log given
+    ∙ sym (among_all cave seed logs text) in
     agree_report cave of_more of_logs agree count
 
 -- a database with its bindings, logs and a seed have one output at most

@@ -4,11 +4,13 @@
 #[cfg(test)]
 mod caves;
 #[cfg(test)]
+mod each_limit;
+#[cfg(test)]
+mod equal_lists;
+#[cfg(test)]
 mod faults;
 #[cfg(test)]
 mod kept;
-#[cfg(test)]
-mod limits;
 #[cfg(test)]
 mod memory;
 #[cfg(test)]

@@ -2,9 +2,9 @@
 #![tactic(auto)]
 
 #[cfg(test)]
-mod faults;
+mod each_limit;
 #[cfg(test)]
-mod limits;
+mod faults;
 #[cfg(test)]
 mod reading;
 #[cfg(test)]

@@ -8,11 +8,11 @@ mod costs;
 #[cfg(test)]
 mod dice;
 #[cfg(test)]
+mod each_limit;
+#[cfg(test)]
 mod edits;
 #[cfg(test)]
 mod games;
-#[cfg(test)]
-mod limits;
 #[cfg(test)]
 mod machines;
 #[cfg(test)]

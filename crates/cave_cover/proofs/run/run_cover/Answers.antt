@@ -11,7 +11,7 @@ returns-in_err-text g c =
     let exit = err_from_is_err_and c.from_residual.result c.from_residual.ensures.1 in
     let (database, bindings, moves, said, others, last, decided) = c.in_err-text.ensures.judged in
     rw (exit.1, exit.2) (record {
-      runs = (database, bindings, moves, said, others, last, inr (decided, Keeps-refl _))
+      runs = (database, bindings, moves, said, others, last, inr (decided, Keeps-refl _));
     })
 
 pub returns : goal.returns
