@@ -1,6 +1,6 @@
 -- The cause that a line has is its lowest.
 use Rattle.std.proofs.Common.{◌≡◌, ◌⊎◌, inl, inr, ℕ, Bool, true, false, cond, List, [], ◌∷◌, length, Option, Some, None, Result, Ok, Err, refl, sym, subst}
-use Rattle.std.specs.Prelude.{ℤ, nat_lt, IfErr, is_some, option_to_list}
+use Rattle.std.specs.Prelude.{nat_lt, IfErr, is_some, option_to_list}
 use Rattle.std.specs.Option.{ok_or, option_or}
 use Rattle.std.specs.Result.{is_ok, result_ok, result_err}
 use Rattle.cave_data.specs.declared.error.Cause.{Cause}
@@ -13,9 +13,9 @@ use Rattle.cave_data.specs.declared.reader.Place.{Place}
 use Rattle.cave_data.specs.declared.reader.Place.TheVariants.{Outside, Inside, After}
 use Rattle.cave_data.specs.CaveView.{Going}
 use Rattle.cave_data.specs.Fields.{number_at, is_blank_line, fields}
-use Rattle.cave_data.specs.Rows.{◌>>=◌, Entry, LongLine, ShortLine, Way, Word, ObjectLine, MessageLine, Placed, Says, Marks, ClassLine, HintOf, MagicLine, number_in, numbers_to_zero, list_in, some_of, few_of, word_in, word_number, number_or_zero, within, all_within, text_in, object_or_prop, second_place, text_line, object_line, way_row, word_row, placement_row, default_row, condition_row, hint_row, entry_in}
+use Rattle.cave_data.specs.Rows.{◌>>=◌, Entry, LongLine, ShortLine, Way, Word, ObjectLine, MessageLine, Placed, Says, Marks, ClassLine, HintOf, MagicLine, number_in, numbers_to_zero, list_in, few_of, word_in, word_number, number_or_zero, within, all_within, text_in, object_or_prop, second_place, text_line, object_line, way_row, word_row, placement_row, default_row, condition_row, hint_row, entry_in}
 use Rattle.cave_data.specs.Grammar.{headed, closes, stands, entry_here, entry_at, entries}
-use Rattle.cave_data.specs.FirstFault.{shape_here, shape_cause, at_most, limit_cause, first_limit, line_cause}
+use Rattle.cave_data.specs.FirstFault.{shape_here, shape_cause, limit_cause, first_limit, line_cause}
 use Rattle.cave_data.specs.LowestCause.{has_parts, is_in_range, IsLowest, IsLowestAt, TellsLowest}
 
 -- what reading a row tells of its parts and ranges

@@ -1,8 +1,7 @@
 -- What the rows that a cave keeps show of themselves.
-use Rattle.std.specs.Prelude.{ℕ, List, [], ◌∷◌, Vec, map, if◌then◌else◌}
+use Rattle.std.specs.Prelude.{ℕ, List, [], ◌∷◌, map, if◌then◌else◌}
 use Rattle.std.specs.FinMap as fin
 use Rattle.std.specs.Str.{bytes_eq}
-use Rattle.std.specs.declared.alloc.Global.{Global}
 use Rattle.cave_data.specs.declared.rows.Row.{Row}
 use Rattle.cave_data.specs.declared.rows.WordRow.{WordRow}
 use Rattle.cave_data.specs.CaveView.{Going, Texts, WordEntry, ClassEntry}

@@ -1,6 +1,6 @@
 //! Reading a database line by line.
 ghost use Rattle.std.specs.Prelude.{◌≡◌, ◌&&◌, nat_lt, nat_le};
-ghost use Rattle.cave_data.specs.Gives.{Leaves};
+ghost use Rattle.cave_data.specs.Gives.{Answers, Leaves};
 ghost use Rattle.cave_data.specs.Grammar.{section_of, headed, closes};
 ghost use Rattle.cave_data.specs.Steps.{row_step, advance, no_tables};
 
@@ -241,8 +241,8 @@ impl Tables {
         Ok(())
     }
 
-    fn pass_magic_line(&mut self, line: &[u8]) -> Result<(), Cause>
-        ensures { Leaves result self.new (row_step self.old Section.Magic line.now) }
+    fn pass_magic_line(&self, line: &[u8]) -> Result<(), Cause>
+        ensures { Answers (λ _. self.now) result (row_step self.now Section.Magic line.now) }
     {
         text_line(line, 1, 499)?;
         Ok(())

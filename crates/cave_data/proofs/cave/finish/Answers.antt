@@ -1,5 +1,4 @@
 use Rattle.std.proofs.Common.{refl}
-use Rattle.cave_data.proofs.SlotLemmas.{get-by_number}
 use Rattle.cave_data.proofs.CaveLemmas.{get-shown_texts}
 use Rattle.cave_data.proofs.cave.finish.Goals as goal
 
