@@ -12,6 +12,7 @@ use Rattle.cave_data.specs.FirstFault.{first_fault}
 use Rattle.cave_data.specs.Reading.{Reads, fault as cave_fault, too_large as cave_too_large}
 use Rattle.cave_data.specs.declared.error.CaveError.{CaveError}
 use Rattle.cave_data.specs.declared.error.Spot.TheVariants as spot
+use Rattle.cave_words.specs.declared.line_flaw.LineFlaw.{LineFlaw}
 use Rattle.cave_replay.specs.Opening.{open_fault, first_bad_line, or_size_fault}
 use Rattle.cave_replay.specs.declared.fault.OpenFault.{OpenFault}
 use Rattle.cave_replay.specs.declared.fault.OpenFault.TheVariants as session
@@ -128,13 +129,13 @@ too_many_or_none : (many great : Bool)
 too_many_or_none true great is = cc
 too_many_or_none false great is = refl
 
-or_size_fault-fits : (bad : Option ℕ) (game : List (List ℕ)) (seed : ℕ) (found : OpenFault) → seed_fault seed ≡ None → or_size_fault bad game seed ≡ Some found → or_too_many bad (length game) ≡ Some (opening_fault found)
+or_size_fault-fits : (bad : Option (ℕ × LineFlaw)) (game : List (List ℕ)) (seed : ℕ) (found : OpenFault) → seed_fault seed ≡ None → or_size_fault bad game seed ≡ Some found → or_too_many bad (length game) ≡ Some (opening_fault found)
 or_size_fault-fits None game seed found fits is = too_many_or_seed (nat_lt max_log_lines (length game)) (nat_lt max_seed seed) found fits is
-or_size_fault-fits (Some number) game seed found fits is = ap (option_map opening_fault) is
+or_size_fault-fits (Some (number, flaw)) game seed found fits is = ap (option_map opening_fault) is
 
-or_size_fault-none : (bad : Option ℕ) (game : List (List ℕ)) (seed : ℕ) → or_size_fault bad game seed ≡ None → or_too_many bad (length game) ≡ None
+or_size_fault-none : (bad : Option (ℕ × LineFlaw)) (game : List (List ℕ)) (seed : ℕ) → or_size_fault bad game seed ≡ None → or_too_many bad (length game) ≡ None
 or_size_fault-none None game seed is = too_many_or_none (nat_lt max_log_lines (length game)) (nat_lt max_seed seed) is
-or_size_fault-none (Some number) game seed is = cc
+or_size_fault-none (Some (number, flaw)) game seed is = cc
 
 -- the distance of checkpoints aside, a session is refused for its game
 by_game : (far : Bool) (other : Option OpenFault) → (if far then Some fault.Every else None) ≡ None → (if far then Some session.BadEvery else other) ≡ other

@@ -9,6 +9,7 @@ use Rattle.cave_data.specs.CaveView.{CaveView}
 use Rattle.cave_data.specs.Reading.{fault as cave_fault}
 use Rattle.cave_data.specs.declared.error.CaveError.{CaveError}
 use Rattle.cave_replay.specs.Play.{Game, IsPlay}
+use Rattle.cave_words.specs.declared.line_flaw.LineFlaw.{LineFlaw}
 use Rattle.cave_replay.specs.Opening.{first_bad_line}
 use Rattle.limits.specs.Limits.{max_seed, max_every, max_log_lines, max_input_bytes}
 use Rattle.cave_world.specs.declared.part.Part.{Part}
@@ -71,8 +72,8 @@ unwritten_by_size input.Bindings bytes = unwritten_by_test (nat_lt max_input_byt
 unwritten_by_size input.Log bytes = unwritten_by_test (nat_lt max_input_bytes (length bytes)) (too_large input.Log) (λ found. cc)
 unwritten_by_size input.Script bytes = unwritten_by_test (nat_lt max_input_bytes (length bytes)) (too_large input.Script) (λ found. cc)
 
-unwritten_by_lines : (bad : Option ℕ) (count : ℕ) → or_too_many bad count ≡ Some fault.Write → ⊥
-unwritten_by_lines (Some number) count found = cc
+unwritten_by_lines : (bad : Option (ℕ × LineFlaw)) (count : ℕ) → or_too_many bad count ≡ Some fault.Write → ⊥
+unwritten_by_lines (Some (number, flaw)) count found = cc
 unwritten_by_lines None count found = unwritten_by_test (nat_lt max_log_lines count) (fault.Log log.Full) (λ is. cc) found
 
 unwritten_by_either : (large : Bool) (first : PlayFault) (later : Option PlayFault) → (Some first ≡ Some fault.Write → ⊥) → (later ≡ Some fault.Write → ⊥)

@@ -36,7 +36,7 @@ input_of (fault.Read from) = Some from
 input_of _ = None
 
 abbrev pub log_line_of : LogFault → Option ℕ
-log_line_of (log.BadLine line) = Some line
+log_line_of (log.BadLine line flaw) = Some line
 log_line_of _ = None
 
 abbrev pub script_line_of : ScriptFault → Option ℕ

@@ -5,6 +5,7 @@ use Rattle.cave_data.specs.Reading.{fault as cave_fault}
 use Rattle.cave_data.specs.declared.error.Cause.TheVariants as cause
 use Rattle.cave_data.specs.declared.error.Spot.TheVariants as spot
 use Rattle.cave_replay.specs.Opening.{first_bad_line}
+use Rattle.cave_words.specs.declared.line_flaw.LineFlaw.{LineFlaw}
 use Rattle.limits.specs.Limits.{max_seed, max_every, max_log_lines, max_input_bytes}
 use Rattle.cave_replay.specs.declared.fault.OpenFault.{OpenFault}
 use Rattle.cave_replay.specs.declared.fault.OpenFault.TheVariants as session
@@ -44,8 +45,8 @@ input_size_fault from bytes = if nat_lt max_input_bytes (length bytes) then Some
 abbrev pub inputs_fault : List ℕ → List ℕ → Option PlayFault
 inputs_fault database bindings = option_map (λ error. fault.Cave error) (cave_fault database bindings)
 
-abbrev pub or_too_many : Option ℕ → ℕ → Option PlayFault
-or_too_many (Some number) count = Some (fault.Log (log.BadLine number))
+abbrev pub or_too_many : Option (ℕ × LineFlaw) → ℕ → Option PlayFault
+or_too_many (Some (number, flaw)) count = Some (fault.Log (log.BadLine number flaw))
 or_too_many None count = if nat_lt max_log_lines count then Some (fault.Log log.Full) else None
 
 -- the first fault of the lines of a log
@@ -68,7 +69,7 @@ script_fault bytes = if nat_lt max_input_bytes (length bytes) then Some (fault.S
 -- the fault of a run in which a session couldn't be opened
 abbrev pub opening_fault : OpenFault → PlayFault
 opening_fault session.BadEvery = fault.Every
-opening_fault (session.BadLine number) = fault.Log (log.BadLine number)
+opening_fault (session.BadLine number flaw) = fault.Log (log.BadLine number flaw)
 opening_fault session.LogFull = fault.Log log.Full
 opening_fault session.BadSeed = fault.Seed
 opening_fault session.Memory = fault.Memory

@@ -6,6 +6,7 @@ ghost use Rattle.cave_play.specs.Fault.{status_of, input_of, line_of};
 
 use cave_data::{CaveError, Expected, Spot};
 use cave_script::Flaw;
+use cave_words::LineFlaw;
 use std::alloc::AllocError;
 use std::{fmt, io};
 use thiserror::Error;
@@ -26,8 +27,8 @@ pub enum LogFault {
     #[error("the log is larger than 1,048,576 bytes")]
     TooLarge,
     /// The line with this number, from 1, can't stand in a log.
-    #[error("a line of a log has at most 255 bytes, each of them printable ASCII or a tab")]
-    BadLine(usize),
+    #[error("{1}")]
+    BadLine(usize, LineFlaw),
     /// It has more lines than a log may have.
     #[error("the log has more than 65,535 lines")]
     Full,
@@ -117,7 +118,7 @@ impl PlayFault {
     {
         match self {
             PlayFault::Cave(error) if error.line > 0 => Some(error.line),
-            PlayFault::Log(LogFault::BadLine(line)) => Some(line),
+            PlayFault::Log(LogFault::BadLine(line, _)) => Some(line),
             PlayFault::Script(ScriptFault::Malformed(line, _)) => Some(line),
             _ => None,
         }

@@ -71,7 +71,7 @@ fn opening_fault(fault: OpenFault) -> PlayFault
 {
     match fault {
         OpenFault::BadEvery => PlayFault::Every,
-        OpenFault::BadLine(line) => PlayFault::Log(LogFault::BadLine(line)),
+        OpenFault::BadLine(line, flaw) => PlayFault::Log(LogFault::BadLine(line, flaw)),
         OpenFault::LogFull => PlayFault::Log(LogFault::Full),
         OpenFault::BadSeed => PlayFault::Seed,
         OpenFault::Memory => PlayFault::Memory,

@@ -2,7 +2,8 @@
 use Rattle.std.proofs.Common.{◌≡◌, ℕ, ◌+◌, List, [], ◌∷◌, length, refl, arith, Option, Some, None, Bool, true, false, cond, All, IsTrue, eqb, ltb, ◌||◌}
 use Rattle.std.proofs.lemmas.List.Elements.{All-nil, All-cons}
 use Rattle.std.proofs.lemmas.Bool.{eqb-false, ltb-false}
-use Rattle.cave_words.specs.Line.{is_line}
+use Rattle.cave_words.specs.Line.{is_line, flaw_of}
+use Rattle.cave_words.specs.declared.line_flaw.LineFlaw.{LineFlaw}
 use Rattle.cave_replay.specs.declared.fault.OpenFault.{OpenFault}
 use Rattle.cave_replay.specs.declared.fault.OpenFault.TheVariants.{BadEvery, LogFull, BadSeed}
 use Rattle.limits.specs.Limits.{max_log_lines, max_seed, max_every}
@@ -18,20 +19,21 @@ neither : (a b : Bool) → (a || b) ≡ false → (a ≡ false) × (b ≡ false)
 neither true b h = cc
 neither false b h = (refl, h)
 
-line_choice : (b : Bool) (number : ℕ) (rest : Option ℕ) → cond b rest (Some number) ≡ None → (b ≡ true) × (rest ≡ None)
-line_choice true number rest free = (refl, free)
-line_choice false number rest free = cc
+line_choice : {A : Type 0} (b : Bool) (bad : A) (rest : Option A) → cond b rest (Some bad) ≡ None
+    → (b ≡ true) × (rest ≡ None)
+line_choice true bad rest free = (refl, free)
+line_choice false bad rest free = cc
 
 good_lines : (log : List (List ℕ)) (number : ℕ) → first_bad_line log number ≡ None → All (λ line. IsTrue (is_line line)) log
 good_lines [] number free = let P : List ℕ → Type 0 = λ l. IsTrue (is_line l) in All-nil P
 good_lines (line ∷ lines) number free =
     let P : List ℕ → Type 0 = λ l. IsTrue (is_line l) in
-    let both = line_choice (is_line line) number (first_bad_line lines (number + 1)) free in
+    let both = line_choice (is_line line) (number, flaw_of line) (first_bad_line lines (number + 1)) free in
     All-cons P line lines both.0 (good_lines lines (number + 1) both.1)
 
-no_bad_line : (bad : Option ℕ) (log : List (List ℕ)) (seed : ℕ) → or_size_fault bad log seed ≡ None → (bad ≡ None) × (size_fault log seed ≡ None)
+no_bad_line : (bad : Option (ℕ × LineFlaw)) (log : List (List ℕ)) (seed : ℕ) → or_size_fault bad log seed ≡ None → (bad ≡ None) × (size_fault log seed ≡ None)
 no_bad_line None log seed free = (refl, free)
-no_bad_line (Some number) log seed free = cc
+no_bad_line (Some (number, flaw)) log seed free = cc
 
 -- where no fault is met, the distance and the game are good
 pub IsEvery-from_no_fault : (every : ℕ) (log : List (List ℕ)) (seed : ℕ) → open_fault every log seed ≡ None → IsEvery every

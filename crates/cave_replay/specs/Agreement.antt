@@ -1,5 +1,5 @@
 use Rattle.std.specs.Prelude.{◌≡◌, ℕ, ◌+◌, ◌-◌, ◌*◌, ◌<◌, ◌≤◌, List, length, take, Contains, Option, None, Some}
-use Rattle.std.proofs.Common.{◌⊎◌, inl, inr, arith}
+use Rattle.std.proofs.Common.{inl, inr, arith}
 use Rattle.std.proofs.lemmas.Bool.{cases_lt}
 use Rattle.cave_replay.specs.Rules.{Rules}
 use Rattle.cave_replay.specs.Play.{Game, state_after}

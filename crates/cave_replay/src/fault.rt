@@ -1,3 +1,4 @@
+use cave_words::LineFlaw;
 use std::fmt;
 use thiserror::Error;
 
@@ -6,8 +7,8 @@ use thiserror::Error;
 pub enum OpenFault {
     #[error("the distance of checkpoints is not from 1 to 10000")]
     BadEvery,
-    #[error("line {0} of the log is over 255 bytes or has a byte that is neither printable ASCII nor a tab")]
-    BadLine(usize),
+    #[error("line {0} of the log can't be played: {1}")]
+    BadLine(usize, LineFlaw),
     #[error("the log has more than 65535 lines")]
     LogFull,
     #[error("the seed is over 2147483647")]

@@ -6,7 +6,7 @@ ghost use Rattle.cave_replay.specs.Log.{log_of};
 ghost use Rattle.cave_replay.specs.Opening.{first_bad_line, open_fault};
 
 use crate::fault::OpenFault;
-use cave_words::check_line;
+use cave_words::{LineFlaw, check_line, flaw_of};
 use limits::{is_bad_every, is_large_seed, is_long_log};
 use std::alloc::{AllocError, Global};
 
@@ -48,9 +48,12 @@ pub fn split_line(log: &[u8]) -> (&[u8], &[u8])
     }
 }
 
-/// How many lines a log has, or else the number, from 1, of the first that can't stand in one.
-pub(crate) fn count_lines(log: &[u8]) -> Result<usize, usize>
-    ensures { MatchResult result (λ count. (count ≡ length (lines log.now)) × (first_bad_line (lines log.now) 1 ≡ None)) (λ number. first_bad_line (lines log.now) 1 ≡ Some number) }
+/// How many lines a log has, or else the number, from 1, of the first that can't stand in one, and
+/// what is wrong with it.
+pub(crate) fn count_lines(log: &[u8]) -> Result<usize, (usize, LineFlaw)>
+    ensures { MatchResult result
+        (λ count. (count ≡ length (lines log.now)) × (first_bad_line (lines log.now) 1 ≡ None))
+        (λ bad. first_bad_line (lines log.now) 1 ≡ Some bad) }
 {
     let mut rest = log;
     let mut count = 0;
@@ -58,7 +61,7 @@ pub(crate) fn count_lines(log: &[u8]) -> Result<usize, usize>
         let (line, more) = split_line(rest);
         count += 1;
         if check_line(line).is_err() {
-            return Err(count);
+            return Err((count, flaw_of(line)));
         }
         rest = more;
     }
@@ -92,7 +95,7 @@ pub(crate) fn check_game(every: u32, log: &[u8], seed: u32) -> Result<usize, Ope
     }
     let count = match count_lines(log) {
         Ok(count) => count,
-        Err(number) => return Err(OpenFault::BadLine(number)),
+        Err((number, flaw)) => return Err(OpenFault::BadLine(number, flaw)),
     };
     if is_long_log(count) {
         return Err(OpenFault::LogFull);

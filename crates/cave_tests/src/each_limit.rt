@@ -5,6 +5,7 @@ use crate::runs::{Command, Feeds, INPUTS, edit, play};
 use crate::streams::Source;
 use cave_data::{Cause, CaveError, Spot};
 use cave_play::fault::{Input, LogFault, PlayFault, ScriptFault};
+use cave_words::LineFlaw;
 use limits::MAX_INPUT_BYTES;
 use std::alloc::{AllocError, Global};
 use std::process::Abort;
@@ -84,7 +85,7 @@ fn a_line_of_a_log_has_at_most_255_bytes(rt: HostRuntime) -> Result<(), Fail> {
     script.extend_from_slice(&[b'#'; 254])?;
     let want = format!(in rt.alloc(); "line 1: ok\nline 2: refused 2\n{LONG_TEXT}")?;
     assert!(rt; edit(rt.alloc(), CAVE, LONG_LOG, &script, 50).wrote(want.as_bytes()));
-    let bad = PlayFault::Log(LogFault::BadLine(1));
+    let bad = PlayFault::Log(LogFault::BadLine(1, LineFlaw::Long(256)));
     assert!(rt; play(rt.alloc(), CAVE, b"", &[b'#'; 256]).failed(bad));
     Ok(())
 }

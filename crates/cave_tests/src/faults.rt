@@ -5,6 +5,7 @@ use crate::runs::play;
 use cave_data::{Cause, CaveError, Spot};
 use cave_play::fault::{Complaint, Input, LogFault, PlayFault, ScriptFault, Unopened};
 use cave_script::Flaw;
+use cave_words::LineFlaw;
 use std::alloc::{AllocError, Global};
 use std::io;
 use std::test::Fail;
@@ -44,10 +45,10 @@ const FAULTS: [(PlayFault, u8, &str); 12] = [
         "cave: a.log: the log is larger than 1,048,576 bytes",
     ),
     (
-        PlayFault::Log(LogFault::BadLine(7)),
+        PlayFault::Log(LogFault::BadLine(7, LineFlaw::Byte(127, 3))),
         3,
-        "cave: a.log:7: a line of a log has at most 255 bytes, each of them printable ASCII or a \
-        tab",
+        "cave: a.log:7: the byte in column 3 is 127, and a line of a log has printable ASCII, 32 \
+        to 126, and tabs",
     ),
     (
         PlayFault::Log(LogFault::Full),
@@ -131,8 +132,8 @@ const REFUSED: [(&[u8], &[u8], &[u8], &str); 4] = [
         CAVE,
         b"",
         b"no\ni\x7f\n",
-        "cave: a.log:2: a line of a log has at most 255 bytes, each of them printable ASCII or a \
-        tab",
+        "cave: a.log:2: the byte in column 2 is 127, and a line of a log has printable ASCII, 32 \
+        to 126, and tabs",
     ),
 ];
 

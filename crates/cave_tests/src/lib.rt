@@ -4,6 +4,8 @@
 #[cfg(test)]
 mod caves;
 #[cfg(test)]
+mod covers;
+#[cfg(test)]
 mod each_limit;
 #[cfg(test)]
 mod equal_lists;

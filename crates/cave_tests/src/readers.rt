@@ -6,6 +6,7 @@ use crate::streams::Source;
 use cave_data::{Cause, CaveError, Spot};
 use cave_play::fault::{Input, LogFault, PlayFault, ScriptFault};
 use cave_script::Flaw;
+use cave_words::LineFlaw;
 use std::alloc::Global;
 use std::process::Abort;
 use std::test::Fail;
@@ -72,7 +73,7 @@ const JUDGED: [(Input, &[u8], Input, PlayFault); 5] = [
         Input::Log,
         b"no\n\x7f",
         Input::Script,
-        PlayFault::Log(LogFault::BadLine(2)),
+        PlayFault::Log(LogFault::BadLine(2, LineFlaw::Byte(127, 1))),
     ),
     (
         Input::Script,

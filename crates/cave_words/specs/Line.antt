@@ -1,8 +1,11 @@
-use Rattle.std.specs.Prelude.{ℕ, Bool, ◌==◌, ◌&&◌, ◌||◌, nat_lt, nat_le, if◌then◌else◌, is_none, List, length, Option, None, Some}
-use Rattle.std.specs.List.{list_all}
+use Rattle.std.specs.Prelude.{ℕ, Bool, ◌==◌, ◌&&◌, ◌||◌, ◌+◌, nat_lt, nat_le, if◌then◌else◌, is_none}
+use Rattle.std.specs.Prelude.{List, length, slice_index_or, Option, None, Some}
+use Rattle.std.specs.List.{list_all, prefix_len}
 use Rattle.limits.specs.Limits.{max_line_bytes}
 use Rattle.cave_words.specs.declared.line.LineFault.{LineFault}
 use Rattle.cave_words.specs.declared.line.LineFault.TheVariants.{TooLong, BadByte}
+use Rattle.cave_words.specs.declared.line_flaw.LineFlaw.{LineFlaw}
+use Rattle.cave_words.specs.declared.line_flaw.LineFlaw.TheVariants.{Long, Byte}
 
 -- printable ASCII, or a tab
 abbrev pub may_stand : ℕ → Bool
@@ -17,3 +20,14 @@ line_fault line =
 -- nothing is wrong with a line
 unfoldable pub is_line : List ℕ → Bool
 is_line line = is_none (line_fault line)
+
+-- the byte at a place, and its column, from 1
+abbrev pub byte_at : List ℕ → ℕ → LineFlaw
+byte_at line place = Byte (slice_index_or line place 0) (place + 1)
+
+-- what is wrong with a line that can't stand in a log: how many bytes it has where they are too many,
+-- else the first byte that may not stand there
+unfoldable pub flaw_of : List ℕ → LineFlaw
+flaw_of line =
+    if nat_lt max_line_bytes (length line) then Long (length line)
+    else byte_at line (prefix_len may_stand line)

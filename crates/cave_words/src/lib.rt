@@ -4,6 +4,7 @@
 pub mod bytes;
 pub mod lexicon;
 pub mod line;
+pub mod line_flaw;
 pub mod log_line;
 pub mod meaning;
 mod meanings;
@@ -15,6 +16,7 @@ pub mod words;
 
 pub use lexicon::Lexicon;
 pub use line::{LineFault, check_line};
+pub use line_flaw::{LineFlaw, flaw_of};
 pub use log_line::LogLine;
 pub use meaning::{Class, Meaning};
 pub use meter::{Meter, Steps};

@@ -14,7 +14,7 @@ pub enum LineFault {
     BadByte,
 }
 
-fn may_stand(byte: u8) -> bool
+pub(crate) fn may_stand(byte: u8) -> bool
     ensures { result ≡ may_stand byte }
 {
     matches!(byte, b' '..=b'~' | b'\t')

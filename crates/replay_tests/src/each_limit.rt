@@ -5,7 +5,7 @@ use crate::machines::counter::Counter;
 use crate::machines::counts::Counts;
 use crate::play::{Counting, Play};
 use cave_replay::{EditFault, OpenFault};
-use cave_words::{Meter, Steps};
+use cave_words::{LineFlaw, Meter, Steps};
 use std::alloc::Global;
 use std::process::Abort;
 use std::test::Fail;
@@ -34,8 +34,16 @@ fn the_first_fault_of_an_opening_is_told(rt: HostRuntime) -> Result<(), Fail> {
     for (fault, log, every) in [
         (OpenFault::BadEvery, b"\x01".as_slice(), 0),
         (OpenFault::BadEvery, b"\x01".as_slice(), 10_001),
-        (OpenFault::BadLine(2), b"ok\n\x01\n\x02".as_slice(), 10_000),
-        (OpenFault::BadLine(1), long.as_slice(), 1),
+        (
+            OpenFault::BadLine(2, LineFlaw::Byte(1, 1)),
+            b"ok\n\x01\n\x02".as_slice(),
+            10_000,
+        ),
+        (
+            OpenFault::BadLine(1, LineFlaw::Long(256)),
+            long.as_slice(),
+            1,
+        ),
         (OpenFault::LogFull, full.as_slice(), 1),
         (OpenFault::BadSeed, b"ok".as_slice(), 1),
     ] {

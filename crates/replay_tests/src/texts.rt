@@ -1,6 +1,7 @@
 //! What faults say.
 
 use cave_replay::{EditFault, GroupFault, OpenFault};
+use cave_words::LineFlaw;
 use std::test::Fail;
 
 #[test]
@@ -11,8 +12,9 @@ fn faults_of_an_opening_say_what_is_wrong(rt: HostRuntime) -> Result<(), Fail> {
             "the distance of checkpoints is not from 1 to 10000",
         ),
         (
-            OpenFault::BadLine(12),
-            "line 12 of the log is over 255 bytes or has a byte that is neither printable ASCII nor a tab",
+            OpenFault::BadLine(12, LineFlaw::Long(256)),
+            "line 12 of the log can't be played: the line has 256 bytes, and a line of a log has at \
+            most 255",
         ),
         (OpenFault::LogFull, "the log has more than 65535 lines"),
         (OpenFault::BadSeed, "the seed is over 2147483647"),
