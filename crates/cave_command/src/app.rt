@@ -12,16 +12,38 @@ use crate::arguments::{
 use clap::Command;
 use std::alloc::{AllocError, Global};
 
-/// What stands under the help of `edit`.
+/// The version of the program, which no other place tells.
+const VERSION: &str = "1.0";
+
+/// What is under the help of the program.
+const STATUSES: &str = "Exit status:
+  0  done, also where edits were refused
+  1  the cave or its bindings are refused
+  2  the command line is wrong
+  3  the log is refused
+  4  the script is refused
+  5  a file can't be opened or read
+  6  the output can't be written
+  7  memory ran out";
+
+/// What is under the help of `edit`.
 const EDIT_EXAMPLE: &str = "Example: cave edit caves/a.txt logs/first.log logs/edits.script
 
-A script has lines as these:
+A script has lines as these, whose places count the lines of the log from 0:
 
   insert 2 take lamp
   begin
   replace 3 out
   seed 7
-  end";
+  end
+
+An edit that is refused is reported by a number:
+
+  1  no such place: the log has no line there
+  2  bad line: too long, or with a byte that no line may have
+  3  log full: it has as many lines as it may
+  4  bad seed: it is too large
+  7  empty group: nothing is between begin and end";
 
 fn check_command<'a>(alloc: Global) -> Result<Command<'a>, AllocError>
     ensures { IfOk result (IsLocal check_app) }
@@ -106,7 +128,8 @@ fn plain_command<'a>(alloc: Global) -> Command<'a>
         .about(
             "Plays logs of a text adventure, edits and replays them, and tells what they never show",
         )
-        .version("1.0")
+        .version(VERSION)
+        .after_help(STATUSES)
         .subcommand_required(true)
         .arg_required_else_help(true)
 }

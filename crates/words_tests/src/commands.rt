@@ -111,7 +111,7 @@ fn printed(alloc: Global, words: &[&str]) -> Result<String, AllocError> {
 }
 
 /// Words, and a part of the text that is printed for them.
-const TEXTS: [(&[&str], &str); 12] = [
+const TEXTS: [(&[&str], &str); 14] = [
     (
         &["cave", "check", "-h"],
         "Usage: cave check [OPTIONS] <CAVE>",
@@ -125,6 +125,11 @@ const TEXTS: [(&[&str], &str); 12] = [
         &["cave", "cover", "--help"],
         "Usage: cave cover [OPTIONS] <CAVE> <LOG>...",
     ),
+    (
+        &["cave", "edit", "-h"],
+        "  1  no such place: the log has no line there\n",
+    ),
+    (&["cave", "-h"], "  7  memory ran out\n"),
     (&["cave", "-V"], "cave 1.0"),
     (&["cave"], "Usage: cave <COMMAND>"),
     (&["cave", "sing"], "error: unrecognized subcommand 'sing'"),
