@@ -1,5 +1,6 @@
 -- Reports on texts by tests that agree are the same.
-use Rattle.std.proofs.Common.{◌≡◌, ℕ, zero, suc, ◌+◌, ◌<◌, ◌≤◌, Bool, cond, not, ◌&&◌, List, [], ◌∷◌, ◌++◌, length, refl, sym, ap, ap₂, ◌∙◌, arith}
+use Rattle.std.proofs.Common.{◌≡◌, ℕ, zero, suc, ◌+◌, ◌<◌, ◌≤◌, Bool, cond, not, ◌&&◌, List, []}
+use Rattle.std.proofs.Common.{◌∷◌, ◌++◌, length, refl, sym, ap, ap₂, ◌∙◌, arith}
 use Rattle.std.specs.List.{filter, flat_map, range_with_len, sum_by}
 use Rattle.std.proofs.lemmas.List.Sums.{sum_by-cons}
 use Rattle.cave_data.specs.CaveView.{CaveView}
@@ -8,25 +9,30 @@ use Rattle.cave_cover.specs.Texts.{has, text}
 use Rattle.cave_cover.specs.declared.text.Kind.{Kind}
 use Rattle.cave_cover.specs.declared.text.Text.{Text}
 
-agree_cons : (n : ℕ) (p q : Bool) (ns ms : List ℕ) → p ≡ q → ns ≡ ms → cond p (n ∷ ns) ns ≡ cond q (n ∷ ms) ms
+agree_cons : (n : ℕ) (p q : Bool) (ns ms : List ℕ) → p ≡ q → ns ≡ ms
+    → cond p (n ∷ ns) ns ≡ cond q (n ∷ ms) ms
 agree_cons n p q ns ms same others = ap₂ (λ b rest. cond b (n ∷ rest) rest) same others
 
 -- tests that agree below a number keep the same numbers below it
-agree_range : (p q : ℕ → Bool) (most first count : ℕ) → ((n : ℕ) → n < most → p n ≡ q n) → first + count ≤ most
+agree_range : (p q : ℕ → Bool) (most first count : ℕ) → ((n : ℕ) → n < most → p n ≡ q n)
+    → first + count ≤ most
     → filter p (range_with_len first count) ≡ filter q (range_with_len first count)
 agree_range p q most first zero agree within = refl
 agree_range p q most first (suc count) agree within =
     agree_cons first (p first) (q first) _ _ (agree first (omega arith)) (agree_range p q most (first + 1) count agree (omega arith))
 
-agree_numbers : (p q : ℕ → Bool) → ((n : ℕ) → n < 10000 → p n ≡ q n) → filter p numbers ≡ filter q numbers
+agree_numbers : (p q : ℕ → Bool) → ((n : ℕ) → n < 10000 → p n ≡ q n)
+    → filter p numbers ≡ filter q numbers
 unfolding numbers
 agree_numbers p q agree = agree_range p q 10000 0 10000 agree (omega arith)
 
-agree_flat : {X A : Type 0} (f g : X → List A) (xs : List X) → ((x : X) → f x ≡ g x) → flat_map f xs ≡ flat_map g xs
+agree_flat : {X A : Type 0} (f g : X → List A) (xs : List X) → ((x : X) → f x ≡ g x)
+    → flat_map f xs ≡ flat_map g xs
 agree_flat f g [] agree = refl
 agree_flat f g (x ∷ xs) agree = ap₂ (λ here rest. here ++ rest) (agree x) (agree_flat f g xs agree)
 
-agree_sum : {X : Type 0} (f g : X → ℕ) (xs : List X) → ((x : X) → f x ≡ g x) → sum_by f xs ≡ sum_by g xs
+agree_sum : {X : Type 0} (f g : X → ℕ) (xs : List X) → ((x : X) → f x ≡ g x)
+    → sum_by f xs ≡ sum_by g xs
 agree_sum f g [] agree = refl
 agree_sum f g (x ∷ xs) agree = sum_by-cons f x xs ∙ ap₂ (λ here rest. here + rest) (agree x) (agree_sum f g xs agree) ∙ sym (sum_by-cons g x xs)
 

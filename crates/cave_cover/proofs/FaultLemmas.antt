@@ -1,5 +1,7 @@
 -- Where the fault of several logs is found.
-use Rattle.std.proofs.Common.{◌≡◌, ℕ, suc, ◌+◌, List, [], ◌∷◌, ◌++◌, length, take, Option, Some, None, Result, Ok, Err, MatchResult, inl, inr, refl, sym, ap, ◌∙◌, subst, arith}
+use Rattle.std.proofs.Common.{◌≡◌, ℕ, suc, ◌+◌, List, [], ◌∷◌, ◌++◌, length, take, Option, Some}
+use Rattle.std.proofs.Common.{None, Result, Ok, Err, MatchResult, inl, inr, refl, sym, ap, ◌∙◌}
+use Rattle.std.proofs.Common.{subst, arith}
 use Rattle.std.specs.Io.KnownBytes.{Appends}
 use Rattle.std.specs.List.{AllZip}
 use Rattle.std.specs.Option.{option_or}
@@ -17,20 +19,23 @@ use Rattle.cave_cover.specs.declared.fault.CoverFault.{CoverFault}
 
 -- ---- bytes of several readers
 
-pub AllZip-append : {A B : Type 0} (R : A → B → Type 0) (xs us : List A) (ys vs : List B) → AllZip R xs ys → AllZip R us vs → AllZip R (xs ++ us) (ys ++ vs)
+pub AllZip-append : {A B : Type 0} (R : A → B → Type 0) (xs us : List A) (ys vs : List B)
+    → AllZip R xs ys → AllZip R us vs → AllZip R (xs ++ us) (ys ++ vs)
 AllZip-append R [] us [] vs none more = more
 AllZip-append R [] us (y ∷ ys) vs none more = absurd none
 AllZip-append R (x ∷ xs) us [] vs none more = absurd none
 AllZip-append R (x ∷ xs) us (y ∷ ys) vs all more = (all.0, AllZip-append R xs us ys vs all.1 more)
 
-pub AllZip-length : {A B : Type 0} (R : A → B → Type 0) (xs : List A) (ys : List B) → AllZip R xs ys → length xs ≡ length ys
+pub AllZip-length : {A B : Type 0} (R : A → B → Type 0) (xs : List A) (ys : List B) → AllZip R xs ys
+    → length xs ≡ length ys
 AllZip-length R [] [] none = refl
 AllZip-length R [] (y ∷ ys) none = absurd none
 AllZip-length R (x ∷ xs) [] none = absurd none
 AllZip-length R (x ∷ xs) (y ∷ ys) all = ap (λ n. suc n) (AllZip-length R xs ys all.1)
 
 -- some bytes that readers have
-pub AllSay-some : (known : List (Option (List ℕ))) → (bytes : List (List ℕ)) × AllZip Says known bytes
+pub AllSay-some : (known : List (Option (List ℕ)))
+    → (bytes : List (List ℕ)) × AllZip Says known bytes
 AllSay-some [] = ([], tt)
 AllSay-some (first ∷ others) =
     let here = Says-some first in
@@ -49,19 +54,23 @@ pub log_right : (log : List ℕ) → first_decided (log_stage log ∷ []) ≡ No
 log_right log none = sym (decides_alone (log_fault log)) ∙ none
 
 -- the fault of the first of some logs; memory may be refused there
-pub IsFoundFrom-here : (place : ℕ) (log : List ℕ) (logs : List (List ℕ)) (found : PlayFault) → stage.IsFoundIn (log_stage log ∷ []) found → IsFoundFrom place (log ∷ logs) (at_log place found)
+pub IsFoundFrom-here : (place : ℕ) (log : List ℕ) (logs : List (List ℕ)) (found : PlayFault)
+    → stage.IsFoundIn (log_stage log ∷ []) found
+    → IsFoundFrom place (log ∷ logs) (at_log place found)
 IsFoundFrom-here place log logs found (inl here) = inl (refl, here)
 IsFoundFrom-here place log logs found (inr (none, memory)) = inl (refl, inl (rw memory tt))
 
 -- ---- several logs
 
 -- one more log without a fault
-pub AreRight-more : (logs : List (List ℕ)) (log : List ℕ) → AreRight logs → log_fault log ≡ None → AreRight (logs ++ log ∷ [])
+pub AreRight-more : (logs : List (List ℕ)) (log : List ℕ) → AreRight logs → log_fault log ≡ None
+    → AreRight (logs ++ log ∷ [])
 AreRight-more [] log right none = (none, tt)
 AreRight-more (first ∷ logs) log right none = (right.0, AreRight-more logs log right.1 none)
 
 -- a fault that is found after logs without one
-pub IsFoundFrom-later : (place : ℕ) (logs more : List (List ℕ)) (found : CoverFault) → AreRight logs → IsFoundFrom (place + length logs) more found → IsFoundFrom place (logs ++ more) found
+pub IsFoundFrom-later : (place : ℕ) (logs more : List (List ℕ)) (found : CoverFault) → AreRight logs
+    → IsFoundFrom (place + length logs) more found → IsFoundFrom place (logs ++ more) found
 IsFoundFrom-later place [] more found right there =
     let same : place + 0 ≡ place = omega arith in
     subst (λ n. IsFoundFrom n more found) same there
@@ -72,7 +81,8 @@ IsFoundFrom-later place (log ∷ logs) more found right there =
 -- ---- the first stages, and then the logs
 
 -- what is right where the logs alone are judged is right after first stages that decide no fault
-pub Judges-after : {X : Type 0} (first : List Stage) (logs : List (List ℕ)) (P Q : X → Type 0) (r : Result X CoverFault) → first_decided first ≡ None → ((x : X) → P x → Q x)
+pub Judges-after : {X : Type 0} (first : List Stage) (logs : List (List ℕ)) (P Q : X → Type 0) (r : Result X CoverFault)
+    → first_decided first ≡ None → ((x : X) → P x → Q x)
     → Judges [] logs P r → Judges first logs Q r
 Judges-after first logs P Q (Ok x) none gives judged = (none, judged.1, gives x judged.2)
 Judges-after first logs P Q (Err found) none gives (inl (at, memory)) = inl (at, subst (stage.IsFoundIn first) (sym memory) (IsFoundIn-memory first))

@@ -13,7 +13,8 @@ use Rattle.cave_cover.specs.Plays.{said_in}
 use Rattle.cave_cover.specs.Texts.{said_by_all}
 use Rattle.cave_cover.proofs.Noting.{Notes-append}
 
-pub noted-played : (cave kept : CaveView) (game : Game) (opening : List Part) (pieces : List (Vec Part)) (ticks : List Bool) (state : State) (old between new : List Bool) → kept ≡ cave
+pub noted-played : (cave kept : CaveView) (game : Game) (opening : List Part) (pieces : List (Vec Part)) (ticks : List Bool) (state : State) (old between new : List Bool)
+    → kept ≡ cave
     → IsPlay (cave_rules kept) game opening (map (λ piece. piece.items) pieces) ticks state
     → Notes (said_by_all cave opening) old between → Notes (flat_map (λ piece. said_by_all cave piece.items) pieces) between new → Notes (said_in cave game) old new
 unfolding said_in

@@ -1,8 +1,11 @@
 -- How far several logs are read.
-use Rattle.std.proofs.Common.{◌≡◌, ℕ, ◌+◌, ◌<◌, ◌≤◌, Bool, List, [], ◌∷◌, ◌++◌, length, map, take, drop, set, get_or, Option, None, inr, refl, sym, ap, ◌∙◌, subst, arith, append-nil}
+use Rattle.std.proofs.Common.{◌≡◌, ℕ, ◌+◌, ◌<◌, ◌≤◌, Bool, List, [], ◌∷◌, ◌++◌, length, map, take}
+use Rattle.std.proofs.Common.{drop, set, get_or, Option, None, inr, refl, sym, ap, ◌∙◌, subst}
+use Rattle.std.proofs.Common.{arith, append-nil}
 use Rattle.std.specs.List.{AllZip}
 use Rattle.std.proofs.lemmas.Grind.{drop_more_same, flat_map-append}
-use Rattle.std.proofs.lemmas.List.{drop-set-lt, drop_more, get_or-drop, length-map, length-take-le, map-append, take-append-drop, take_all, take_more}
+use Rattle.std.proofs.lemmas.List.{drop-set-lt, drop_more, get_or-drop, length-map, length-take-le}
+use Rattle.std.proofs.lemmas.List.{map-append, take-append-drop, take_all, take_more}
 use Rattle.cave_data.specs.CaveView.{CaveView}
 use Rattle.cave_play.specs.Input.{Says}
 use Rattle.cave_play.specs.Judged.{log_fault}
@@ -12,7 +15,8 @@ use Rattle.cave_play.specs.declared.fault.PlayFault.{PlayFault}
 use Rattle.cave_cover.specs.Faults.{AreRight, IsFoundFrom, IsFoundIn, at_log}
 use Rattle.cave_cover.specs.Marks.{Notes}
 use Rattle.cave_cover.specs.Plays.{said_in_all, said_in_log}
-use Rattle.cave_cover.proofs.FaultLemmas.{AllSay-some, AllZip-append, AllZip-length, AreRight-more, IsFoundFrom-here, IsFoundFrom-later}
+use Rattle.cave_cover.proofs.FaultLemmas.{AllSay-some, AllZip-append, AllZip-length, AreRight-more}
+use Rattle.cave_cover.proofs.FaultLemmas.{IsFoundFrom-here, IsFoundFrom-later}
 use Rattle.cave_cover.proofs.Noting.{Notes-append, Notes-none}
 
 -- the logs that readers had were read, and none of them has a fault
@@ -22,7 +26,8 @@ pub record HasRead (known : List (Option (List ℕ))) (cave : CaveView) (seed : 
   pub noted : Notes (said_in_all cave seed read) old new
 
 -- none is read yet
-pub HasRead-none : (cave : CaveView) (seed : ℕ) (marks : List Bool) → HasRead [] cave seed marks marks []
+pub HasRead-none : (cave : CaveView) (seed : ℕ) (marks : List Bool)
+    → HasRead [] cave seed marks marks []
 HasRead-none cave seed marks = record { says = tt; right = tt; noted = Notes-none marks }
 
 module _ {L : Type 0} (remaining : L → Option (List ℕ)) (logs : List L) (place : ℕ) (log : L) (inside : place < length logs) (is : log ≡ get_or logs place log) where
@@ -39,7 +44,8 @@ module _ {L : Type 0} (remaining : L → Option (List ℕ)) (logs : List L) (pla
 
   module _ (cave : CaveView) (seed : ℕ) (old between : List Bool) (read : List (List ℕ)) (moves : List ℕ) (before : HasRead (map remaining (take place logs)) cave seed old between read) (said : Says (remaining log) moves) where
     -- one more log is read
-    pub HasRead-more : (new : List Bool) → log_fault moves ≡ None → Notes (said_in_log cave seed moves) between new
+    pub HasRead-more : (new : List Bool) → log_fault moves ≡ None
+        → Notes (said_in_log cave seed moves) between new
         → HasRead (map remaining (take (place + 1) logs)) cave seed old new (read ++ moves ∷ [])
     HasRead-more new right noted =
         let texts : said_in_all cave seed (read ++ moves ∷ []) ≡ said_in_all cave seed read ++ said_in_log cave seed moves =
@@ -66,18 +72,22 @@ module _ {L : Type 0} (remaining : L → Option (List ℕ)) (logs : List L) (pla
         )
 
 -- all logs are read
-pub HasRead-all : {L : Type 0} (remaining : L → Option (List ℕ)) (logs : List L) (place : ℕ) (cave : CaveView) (seed : ℕ) (old new : List Bool) (read : List (List ℕ)) → length logs ≤ place
+pub HasRead-all : {L : Type 0} (remaining : L → Option (List ℕ)) (logs : List L) (place : ℕ) (cave : CaveView) (seed : ℕ) (old new : List Bool) (read : List (List ℕ))
+    → length logs ≤ place
     → HasRead (map remaining (take place logs)) cave seed old new read → HasRead (map remaining logs) cave seed old new read
 HasRead-all remaining logs place cave seed old new read past has = subst (λ ls. HasRead (map remaining ls) cave seed old new read) (take_all place logs past) has
 
 -- the reader at a place is as it was, where no later one was used
-pub same_reader : {L : Type 0} (now logs : List L) (place : ℕ) (log : L) → drop place now ≡ drop place logs → log ≡ get_or now place log → log ≡ get_or logs place log
+pub same_reader : {L : Type 0} (now logs : List L) (place : ℕ) (log : L)
+    → drop place now ≡ drop place logs → log ≡ get_or now place log → log ≡ get_or logs place log
 same_reader now logs place log same is =
     let at : place + 0 ≡ place = omega arith in
     is ∙ sym (get_or-drop place now 0 log ∙ ap (λ n. get_or now n log) at) ∙ ap (λ ls. get_or ls 0 log) same ∙ get_or-drop place logs 0 log ∙ ap (λ n. get_or logs n log) at
 
 -- the later readers are as they were after this one was used
-pub same_later : {L : Type 0} (now logs : List L) (place : ℕ) (log : L) → drop place now ≡ drop place logs → drop (place + 1) (set now place log) ≡ drop (place + 1) logs
+pub same_later : {L : Type 0} (now logs : List L) (place : ℕ) (log : L)
+    → drop place now ≡ drop place logs
+    → drop (place + 1) (set now place log) ≡ drop (place + 1) logs
 same_later now logs place log same =
     let past : place < place + 1 = omega arith in
     drop-set-lt (place + 1) now place log past ∙ drop_more_same now logs place same

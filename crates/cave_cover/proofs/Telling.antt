@@ -13,7 +13,8 @@ or_false : (b : Bool) → (b || false) ≡ b
 or_false true = refl
 or_false false = refl
 
-pub told_by_marks : (cave : CaveView) (seed : ℕ) (logs : List (List ℕ)) (old new : List Bool) (count : ℕ) → ((text : Text) → is_marked old text ≡ false)
+pub told_by_marks : (cave : CaveView) (seed : ℕ) (logs : List (List ℕ)) (old new : List Bool) (count : ℕ)
+    → ((text : Text) → is_marked old text ≡ false)
     → Notes (said_in_all cave seed logs) old new → count ≡ length logs → report cave (is_marked new) count ≡ cover_text cave seed logs
 told_by_marks cave seed logs old new count none noted many =
     let agree = λ (text : Text) (below : text.number < 10000).
