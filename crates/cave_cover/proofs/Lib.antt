@@ -1,5 +1,4 @@
 pub mod Noting
-pub mod Agreeing
 pub mod FaultLemmas
 pub mod Progress
 pub mod Telling

@@ -1,11 +1,11 @@
 -- What is noted of a play is what playing its game says.
-use Rattle.std.proofs.Common.{◌≡◌, ℕ, Bool, List, map, sym, subst}
+use Rattle.std.proofs.Common.{◌≡◌, Bool, List, map, sym, subst}
 use Rattle.std.specs.Global.{Vec}
 use Rattle.std.specs.List.{flat_map}
 use Rattle.std.proofs.lemmas.List.Folds.{flat_map-map}
 use Rattle.cave_data.specs.CaveView.{CaveView}
 use Rattle.cave_play.specs.CaveRules.{cave_rules}
-use Rattle.cave_replay.specs.Play.{Game, IsPlay, texts_of}
+use Rattle.cave_replay.specs.Play.{Game, IsPlay}
 use Rattle.cave_world.specs.declared.part.Part.{Part}
 use Rattle.cave_world.specs.declared.state.State.{State}
 use Rattle.cave_cover.specs.Marks.{Notes}

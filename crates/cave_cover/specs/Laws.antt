@@ -13,7 +13,7 @@ use Rattle.cave_play.specs.Run.{AtMostOne}
 use Rattle.cave_cover.specs.Plays.{IsCovered, cover_text, said_in_all, said_in_log, told}
 use Rattle.cave_cover.specs.Texts.{is_among, is_same}
 use Rattle.cave_cover.specs.declared.text.Text.{Text}
-use Rattle.cave_cover.proofs.Agreeing.{agree_report}
+use Rattle.cave_cover.specs.Agreeing.{agree_report}
 
 -- whether a log says a text
 abbrev says : CaveView → ℕ → Text → List ℕ → Bool
@@ -34,8 +34,8 @@ among_all cave seed logs text = any_flat (is_same text) (said_in_log cave seed) 
 pub order_is_nothing : (cave : CaveView) (seed : ℕ) (logs others : List (List ℕ))
     → IsPermutation logs others → cover_text cave seed others ≡ cover_text cave seed logs
 order_is_nothing cave seed logs others shuffled =
-    let of_logs = λ text. is_among text (said_in_all cave seed logs) in
-    let of_others = λ text. is_among text (said_in_all cave seed others) in
+    let of_logs = λ (text : Text). is_among text (said_in_all cave seed logs) in
+    let of_others = λ (text : Text). is_among text (said_in_all cave seed others) in
     let agree = λ (text : Text) (below : text.number < 10000).
     among_all cave seed others text
     ∙ sym (list_any-IsPermutation (says cave seed text) logs others shuffled)
@@ -56,8 +56,8 @@ pub again_is_nothing : (cave : CaveView) (seed : ℕ) (logs : List (List ℕ)) (
     → Contains logs log → (count : ℕ)
     → told cave seed (log ∷ logs) count ≡ told cave seed logs count
 again_is_nothing cave seed logs log given count =
-    let of_logs = λ text. is_among text (said_in_all cave seed logs) in
-    let of_more = λ text. is_among text (said_in_all cave seed (log ∷ logs)) in
+    let of_logs = λ (text : Text). is_among text (said_in_all cave seed logs) in
+    let of_more = λ (text : Text). is_among text (said_in_all cave seed (log ∷ logs)) in
     let agree = λ (text : Text) (below : text.number < 10000).
     among_all cave seed (log ∷ logs) text
     ∙ said_once (says cave seed text) logs log given

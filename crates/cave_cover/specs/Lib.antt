@@ -2,5 +2,6 @@ pub mod Texts
 pub mod Marks
 pub mod Report
 pub mod Plays
+pub mod Agreeing
 pub mod Laws
 pub mod Faults
