@@ -4,6 +4,7 @@
 use cave_command::{Files, Line, command_line};
 use cave_cover::fault::CoverFault;
 use cave_cover::run::run_cover;
+use cave_editing::Editing;
 use cave_play::bindings::Bindings;
 use cave_play::fault::{Complaint, Input, PlayFault, Unopened};
 use cave_play::run::{run_check, run_edit, run_play};
@@ -114,8 +115,7 @@ fn edit<'a>(
     files: Files<'a>,
     log: &'a str,
     script: &'a str,
-    seed: u32,
-    every: u32,
+    editing: Editing,
 ) -> Result<(), Failure<'a>> {
     let mut cave = open(rt, Input::Cave, files.cave)?;
     let mut bind = open_bindings(rt, files)?;
@@ -128,8 +128,7 @@ fn edit<'a>(
         &mut bind,
         &mut log,
         &mut script,
-        seed,
-        every,
+        editing,
         &mut output,
     )?;
     Ok(())
@@ -223,15 +222,14 @@ fn run(rt: &HostRuntime, line: Line<'_>) -> ExitCode {
             files,
             log,
             script,
-            seed,
-            every,
+            editing,
         } => {
             let names = Names {
                 files,
                 log: Some(log),
                 script: Some(script),
             };
-            tell(rt, names, edit(rt, files, log, script, seed, every))
+            tell(rt, names, edit(rt, files, log, script, editing))
         }
         Line::Cover { files, logs, seed } => {
             let covered = cover(rt, files, logs.as_slice(), seed);

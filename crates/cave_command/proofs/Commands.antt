@@ -11,7 +11,7 @@ use Rattle.cave_command.specs.App.{cave_app}
 use Rattle.cave_command.specs.Line.{IsAsked, IsLine, IsLineMet, IsRefusal, IsRefused, IsRequest, IsUnmade, IsWrong, Met}
 use Rattle.cave_command.specs.Parse.{IsParse}
 use Rattle.cave_command.specs.declared.fault.LineFault.{LineFault}
-use Rattle.cave_command.specs.declared.fault.LineFault.TheVariants.{Usage, Incomplete, BadSeed, BadEvery, Memory}
+use Rattle.cave_command.specs.declared.fault.LineFault.TheVariants.{Usage, Incomplete, BadSeed, BadEvery, BadView, Memory}
 use Rattle.cave_command.specs.declared.line.Line.{Line}
 use Rattle.cave_command.specs.declared.line.Line.TheVariants as line
 
@@ -46,7 +46,7 @@ Reads met answer = MatchResult answer (IsLineMet met) (IsUnmade met)
 pub found_line : (met : Met) (answer : Result Line LineFault) → Reads met answer → IfOk answer (IsLine met)
 found_line met (Ok (line.Check files)) is = is
 found_line met (Ok (line.Play files log seed)) is = is
-found_line met (Ok (line.Edit files log script seed every)) is = is
+found_line met (Ok (line.Edit files log script editing)) is = is
 found_line met (Ok (line.Cover files logs seed)) is = is
 found_line met (Ok (line.Text error)) is = tt
 found_line met (Err fault) is = tt
@@ -58,14 +58,16 @@ no_text (Some found) error is = is
 pub found_asked : (kinds : Kinds) (met : Met) (answer : Result Line LineFault) → kinds ≡ [] → Reads met answer → IfOk answer (IsAsked kinds)
 found_asked kinds met (Ok (line.Check files)) none is = none
 found_asked kinds met (Ok (line.Play files log seed)) none is = none
-found_asked kinds met (Ok (line.Edit files log script seed every)) none is = none
+found_asked kinds met (Ok (line.Edit files log script editing)) none is = none
 found_asked kinds met (Ok (line.Cover files logs seed)) none is = none
 found_asked kinds met (Ok (line.Text error)) none is = absurd (no_text met error is)
 found_asked kinds met (Err fault) none is = tt
 
 no_usage : (met : Met) (error : Error) → IsWrong met (Usage error) → ⊥
 no_usage None error is = is
-no_usage (Some found) error is = elim is [ inl bad ↦ bad | inr bad ↦ bad ]
+no_usage (Some found) error (inl bad) = bad
+no_usage (Some found) error (inr (inl bad)) = bad
+no_usage (Some found) error (inr (inr bad)) = bad
 
 pub found_refused : (kinds : Kinds) (met : Met) (answer : Result Line LineFault) → kinds ≡ [] → Reads met answer → IfErr answer (IsRefused kinds met)
 found_refused kinds met (Ok found) none is = tt
@@ -73,6 +75,7 @@ found_refused kinds met (Err (Usage error)) none is = absurd (no_usage met error
 found_refused kinds met (Err Incomplete) none is = (none, is)
 found_refused kinds met (Err (BadSeed text)) none is = (none, is)
 found_refused kinds met (Err (BadEvery text)) none is = (none, is)
+found_refused kinds met (Err (BadView name)) none is = (none, is)
 found_refused kinds met (Err Memory) none is = tt
 
 -- ---- what an error comes to
@@ -94,4 +97,5 @@ error_refused kinds met error (Usage given) has (same, asks, memory) =
 error_refused kinds met error Incomplete has is = absurd is
 error_refused kinds met error (BadSeed text) has is = absurd is
 error_refused kinds met error (BadEvery text) has is = absurd is
+error_refused kinds met error (BadView name) has is = absurd is
 error_refused kinds met error Memory has is = tt

@@ -33,6 +33,9 @@ seed_rule = record (new_rule (codes "seed")) { long = Some (codes "seed"); value
 abbrev pub every_rule : Rule
 every_rule = record (new_rule (codes "every")) { long = Some (codes "every"); value_names = 1 }
 
+abbrev pub print_rule : Rule
+print_rule = record (new_rule (codes "print")) { long = Some (codes "print"); value_names = 1 }
+
 -- the commands
 abbrev pub check_app : App
 check_app = with_rule (with_rule (new_app (codes "check")) cave_rule) bind_rule
@@ -45,11 +48,15 @@ with_game app = with_rule (with_rule app cave_rule) log_rule
 abbrev pub with_options : App → App
 with_options app = with_rule (with_rule app bind_rule) seed_rule
 
+-- a command with the options of an edit alone
+abbrev pub with_view : App → App
+with_view app = with_rule (with_rule app every_rule) print_rule
+
 abbrev pub play_app : App
 play_app = with_options (with_game (new_app (codes "play")))
 
 abbrev pub edit_app : App
-edit_app = with_rule (with_options (with_rule (with_game (new_app (codes "edit"))) script_rule)) every_rule
+edit_app = with_view (with_options (with_rule (with_game (new_app (codes "edit"))) script_rule))
 
 abbrev pub cover_app : App
 cover_app = with_options (with_rule (with_rule (new_app (codes "cover")) cave_rule) logs_rule)

@@ -6,8 +6,12 @@ use Rattle.clap.specs.declared.error.kind.ErrorKind.{ErrorKind}
 use Rattle.clap.specs.declared.error.kind.ErrorKind.TheVariants.{DisplayHelp, DisplayVersion, OutOfMemory}
 use Rattle.clap.specs.declared.parser.matches.ArgMatches.{ArgMatches}
 use Rattle.cave_command.specs.Number.{IsNumber, number_in}
+use Rattle.cave_editing.specs.Views.{view_named}
+use Rattle.cave_editing.specs.declared.editing.Editing.{Editing}
+use Rattle.cave_editing.specs.declared.editing.View.{View}
+use Rattle.cave_editing.specs.declared.editing.View.TheVariants.{Transcript}
 use Rattle.cave_command.specs.declared.fault.LineFault.{LineFault}
-use Rattle.cave_command.specs.declared.fault.LineFault.TheVariants.{Usage, Incomplete, BadSeed, BadEvery, Memory}
+use Rattle.cave_command.specs.declared.fault.LineFault.TheVariants.{Usage, Incomplete, BadSeed, BadEvery, BadView, Memory}
 use Rattle.cave_command.specs.declared.line.Files.{Files}
 use Rattle.cave_command.specs.declared.line.Line.{Line}
 use Rattle.cave_command.specs.declared.line.Line.TheVariants.{Check, Play, Edit, Cover, Text}
@@ -34,14 +38,29 @@ IsSeed rows seed = IsNumber 0 max_seed 0 (first_of (codes "seed") rows) seed
 abbrev pub IsEvery : List Row → ℕ → Type 0
 IsEvery rows every = IsNumber 1 max_every 50 (first_of (codes "every") rows) every
 
+-- what an edit prints, where this was found for it, or else the transcript
+abbrev pub IsViewOf : Option (List ℕ) → View → Type 0
+IsViewOf None view = view ≡ Transcript
+IsViewOf (Some name) view = view_named name ≡ Some view
+
+-- what an edit prints is what was found for it, or the transcript
+abbrev pub IsView : List Row → View → Type 0
+IsView rows view = IsViewOf (first_of (codes "print") rows) view
+
+-- an edit is what was found for its options
+pub record IsEditing (rows : List Row) (editing : Editing) : Type 0 where
+  pub seed : IsSeed rows editing.seed
+  pub every : IsEvery rows editing.every
+  pub view : IsView rows editing.view
+
 -- the line is what was found for the command of this name
 abbrev pub IsLineOf : List ℕ → List Row → Line → Type 0
 IsLineOf name rows (Check files) = (name ≡ codes "check") × IsFiles rows files
 IsLineOf name rows (Play files log seed) =
     (name ≡ codes "play") × IsFiles rows files × (first_of (codes "log") rows ≡ Some log.now) × IsSeed rows seed
-IsLineOf name rows (Edit files log script seed every) =
+IsLineOf name rows (Edit files log script editing) =
     (name ≡ codes "edit") × IsFiles rows files × (first_of (codes "log") rows ≡ Some log.now)
-    × (first_of (codes "script") rows ≡ Some script.now) × IsSeed rows seed × IsEvery rows every
+    × (first_of (codes "script") rows ≡ Some script.now) × IsEditing rows editing
 IsLineOf name rows (Cover files logs seed) =
     (name ≡ codes "cover") × IsFiles rows files × (all_of (codes "log") rows ≡ Some (map (λ log. log.now) logs.items)) × IsSeed rows seed
 IsLineOf name rows (Text error) = ⊥
@@ -86,11 +105,20 @@ abbrev pub IsBadEvery : List Row → LineFault → Type 0
 IsBadEvery rows (BadEvery text) = (first_of (codes "every") rows ≡ Some text.now) × (number_in 1 max_every text.now ≡ None)
 IsBadEvery rows _ = ⊥
 
+-- what was found for what an edit prints names nothing that it may print
+abbrev pub IsBadView : List Row → LineFault → Type 0
+IsBadView rows (BadView name) = (first_of (codes "print") rows ≡ Some name.now) × (view_named name.now ≡ None)
+IsBadView rows _ = ⊥
+
+-- what is wrong with the options of an edit
+abbrev pub IsBadEditing : List Row → LineFault → Type 0
+IsBadEditing rows fault = IsBadSeed rows fault ⊎ (IsBadEvery rows fault ⊎ IsBadView rows fault)
+
 -- what is wrong with what was found
 abbrev pub IsWrong : Met → LineFault → Type 0
 IsWrong met Incomplete = is_complete met ≡ false
 IsWrong None fault = ⊥
-IsWrong (Some found) fault = IsBadSeed found.1 fault ⊎ IsBadEvery found.1 fault
+IsWrong (Some found) fault = IsBadEditing found.1 fault
 
 -- why a line isn't made of what was found: what is wrong with it, unless memory ran out
 abbrev pub IsUnmade : Met → LineFault → Type 0

@@ -3,11 +3,11 @@
 ghost use Rattle.std.specs.Prelude.{◌≡◌, IfOk, false};
 ghost use Rattle.clap.specs.Words.{app_of};
 ghost use Rattle.clap.specs.declared.builder.command.Command.TheViews.{out-Command};
-ghost use Rattle.cave_command.specs.App.{IsLocal, cave_app, check_app, cover_app, edit_app, plain_app, play_app, playing_app, with_game, with_options};
+ghost use Rattle.cave_command.specs.App.{IsLocal, cave_app, check_app, cover_app, edit_app, plain_app, play_app, playing_app, with_game, with_options, with_view};
 
 use crate::arguments::{
-    bind_argument, cave_argument, every_argument, log_argument, logs_argument, script_argument,
-    seed_argument,
+    bind_argument, cave_argument, every_argument, log_argument, logs_argument, print_argument,
+    script_argument, seed_argument,
 };
 use clap::Command;
 use std::alloc::{AllocError, Global};
@@ -70,6 +70,16 @@ fn with_options<'a>(alloc: Global, command: Command<'a>) -> Result<Command<'a>, 
     command.arg(bind_argument(alloc))?.arg(seed_argument(alloc))
 }
 
+/// Adds the options of an edit alone: the distance of checkpoints, and what is printed.
+fn with_view<'a>(alloc: Global, command: Command<'a>) -> Result<Command<'a>, AllocError>
+    requires { (out-Command command).has_globals ≡ false }
+    ensures { IfOk result (IsLocal (with_view (app_of command.entry))) }
+{
+    command
+        .arg(every_argument(alloc))?
+        .arg(print_argument(alloc))
+}
+
 fn play_command<'a>(alloc: Global) -> Result<Command<'a>, AllocError>
     ensures { IfOk result (IsLocal play_app) }
 {
@@ -88,7 +98,7 @@ fn edit_command<'a>(alloc: Global) -> Result<Command<'a>, AllocError>
         )
         .after_help(EDIT_EXAMPLE);
     let command = with_game(alloc, command)?.arg(script_argument(alloc))?;
-    with_options(alloc, command)?.arg(every_argument(alloc))
+    with_view(alloc, with_options(alloc, command)?)
 }
 
 fn cover_command<'a>(alloc: Global) -> Result<Command<'a>, AllocError>

@@ -2,7 +2,7 @@
 
 ghost use Rattle.std.specs.Prelude.{◌≡◌, false};
 ghost use Rattle.clap.specs.Words.{rule_of};
-ghost use Rattle.cave_command.specs.App.{bind_rule, cave_rule, every_rule, log_rule, logs_rule, script_rule, seed_rule};
+ghost use Rattle.cave_command.specs.App.{bind_rule, cave_rule, every_rule, log_rule, logs_rule, print_rule, script_rule, seed_rule};
 
 use clap::{Arg, ArgAction};
 use std::alloc::Global;
@@ -75,4 +75,16 @@ pub(crate) fn every_argument<'a>(alloc: Global) -> Arg<'a>
     Arg::new(alloc, "every").long("every").value_name("K").help(
         "The most lines between two checkpoints, from 1 to 10000: the fewer, the less an edit replays and the more is kept [default: 50]",
     )
+}
+
+pub(crate) fn print_argument<'a>(alloc: Global) -> Arg<'a>
+    ensures rule { rule_of result ≡ print_rule }
+    ensures local { result.global ≡ false }
+{
+    Arg::new(alloc, "print")
+        .long("print")
+        .value_name("WHAT")
+        .help(
+            "What is printed: `transcript`, what the game says, `log`, the lines of the edited log, or `reports`, what each edit replayed [default: transcript]",
+        )
 }

@@ -19,6 +19,8 @@ pub enum LineFault<'a> {
     BadSeed(&'a str),
     #[error("error: invalid value '{0}' for '--every <K>': wanted are 1 to 10 digits, from 1 to 10000\n\nFor more information, try '--help'.\n")]
     BadEvery(&'a str),
+    #[error("error: invalid value '{0}' for '--print <WHAT>': wanted is transcript, log or reports\n\nFor more information, try '--help'.\n")]
+    BadView(&'a str),
     #[error("cave: there isn't enough memory\n")]
     Memory,
 }

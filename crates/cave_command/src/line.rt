@@ -1,3 +1,4 @@
+use cave_editing::Editing;
 use clap::Error;
 
 /// The files of a cave.
@@ -23,8 +24,7 @@ pub enum Line<'a> {
         files: Files<'a>,
         log: &'a str,
         script: &'a str,
-        seed: u32,
-        every: u32,
+        editing: Editing,
     },
     Cover {
         files: Files<'a>,

@@ -4,12 +4,13 @@ ghost use Rattle.std.specs.Prelude.{◌≡◌, IfOk, IfErr, MatchOption, MatchRe
 ghost use Rattle.clap.specs.Words.{all_of, fault_of, first_of, kind_of, subcommand_of, subcommand_rows_of};
 ghost use Rattle.cave_command.specs.App.{cave_app};
 ghost use Rattle.cave_command.specs.Parse.{IsParse};
-ghost use Rattle.cave_command.specs.Line.{IsAsked, IsBadEvery, IsBadSeed, IsEvery, IsFiles, IsLine, IsLineMet, IsLineOf, IsRefusal, IsRefused, IsRequest, IsSeed, IsUnmade, IsWrong, rows_in};
+ghost use Rattle.cave_command.specs.Line.{IsAsked, IsBadEditing, IsBadEvery, IsBadSeed, IsBadView, IsEditing, IsEvery, IsFiles, IsLine, IsLineMet, IsLineOf, IsRefusal, IsRefused, IsRequest, IsSeed, IsUnmade, IsView, IsWrong, rows_in};
 
 use crate::app::cave_command;
 use crate::fault::LineFault;
 use crate::line::{Files, Line};
 use crate::number::number_in;
+use cave_editing::{Editing, View};
 use clap::error::ErrorKind;
 use clap::{ArgMatches, Error};
 use limits::{MAX_EVERY, MAX_SEED};
@@ -21,6 +22,9 @@ const USUAL_SEED: u32 = 0;
 
 /// The distance of checkpoints where none is given.
 const USUAL_EVERY: u32 = 50;
+
+/// What an edit prints where nothing is asked for.
+const USUAL_VIEW: View = View::Transcript;
 
 /// What the words of a command line ask for. The first word is the program's name.
 pub fn command_line<'a, S: AsStr>(alloc: Global, words: &'a [S]) -> Result<Line<'a>, LineFault<'a>>
@@ -97,8 +101,7 @@ fn line_of<'a>(alloc: Global, name: &str, found: &ArgMatches<'a>) -> Result<Line
         files,
         log,
         script,
-        seed: seed_in(found)?,
-        every: every_in(found)?,
+        editing: editing_in(found)?,
     })
 }
 
@@ -165,4 +168,24 @@ fn every_in<'a>(found: &ArgMatches<'a>) -> Result<u32, LineFault<'a>>
         None => Ok(USUAL_EVERY),
         Some(text) => number_in(1, MAX_EVERY, text).ok_or(LineFault::BadEvery(text)),
     }
+}
+
+fn view_in<'a>(found: &ArgMatches<'a>) -> Result<View, LineFault<'a>>
+    ensures { MatchResult result (IsView (rows_in found.now)) (IsBadView (rows_in found.now)) }
+{
+    match value_in(found, "print") {
+        None => Ok(USUAL_VIEW),
+        Some(name) => View::named(name).ok_or(LineFault::BadView(name)),
+    }
+}
+
+/// How a log is to be edited.
+fn editing_in<'a>(found: &ArgMatches<'a>) -> Result<Editing, LineFault<'a>>
+    ensures { MatchResult result (IsEditing (rows_in found.now)) (IsBadEditing (rows_in found.now)) }
+{
+    Ok(Editing {
+        seed: seed_in(found)?,
+        every: every_in(found)?,
+        view: view_in(found)?,
+    })
 }

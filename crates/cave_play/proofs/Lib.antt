@@ -1,7 +1,9 @@
 mod EditLemmas
 pub mod InputLemmas
 mod JudgeLemmas
+mod LogLemmas
 mod RunLemmas
 mod ScriptLemmas
 pub mod StageLemmas
 mod TranscriptLemmas
+mod ViewLemmas

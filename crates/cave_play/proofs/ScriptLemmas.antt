@@ -33,6 +33,14 @@ few_in_items most (groups {first = opens} {last = closes} {body = body} {rest = 
     let whole = length-append body (closes ∷ rest) in
     All-cons (IsFew most) _ _ (omega (arith, few_changes inside, whole)) (few_in_items most later (omega (arith, whole)))
 
+-- a script has no more items than lines
+few_groups : {number : ℕ} {script : List (List ℕ)} {items : List Applied} → IsScript number script items → length items ≤ length script
+few_groups done = omega arith
+few_groups (skips skipped rest) = omega (arith, few_groups rest)
+few_groups (spells spelled rest) = omega (arith, few_groups rest)
+few_groups (groups {first = opens} {last = closes} {body = body} {rest = rest} first inside last later) =
+    omega (arith, few_groups later, length-append body (closes ∷ rest))
+
 length-lines_of_parts : (parts : List (List ℕ)) → length (lines_of_parts parts) ≤ length parts
 length-lines_of_parts [] = omega arith
 length-lines_of_parts (x ∷ []) = go (length x == 0)
@@ -58,3 +66,9 @@ few_edits items text bytes script same fits =
     let bound = few k (applied item) (simp length-map inside) in
     let edits : length (map change_of here.edits.items) ≡ length here.edits.items = simp length-map in
     omega (arith, bound, ap (λ (a : Applied). length a.changes) shown, edits, here.edits.ok.0)
+
+-- a script has few items
+pub few_items : (items : Vec Item) (text bytes : List ℕ) → IsScript 1 (lines text) (items_of items) → text ≡ bytes → length bytes ≤ 1048576 → length items.items < 2 ^ 32
+few_items items text bytes script same fits =
+    let shown : length (map applied items.items) ≡ length items.items = simp length-map in
+    omega (arith, few_groups script, shown, length-lines text, ap length same)

@@ -9,5 +9,8 @@ pub mod Transcript
 pub mod CaveRules
 pub mod Holds
 pub mod Output
+pub mod Outcomes
+pub mod Views
+pub mod Applying
 pub mod Bindings
 pub mod OneOutput

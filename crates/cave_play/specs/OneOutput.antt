@@ -1,14 +1,19 @@
--- The inputs of a run and its seed determine what it writes. So the distance of checkpoints doesn't
--- show in what an edit writes.
-use Rattle.std.proofs.Common.{◌≡◌, ℕ, List, sym, ap, ◌∙◌}
+-- The inputs of a run and its seed determine what it writes, but where an edit tells what it
+-- replayed. So the distance of checkpoints shows there alone.
+use Rattle.std.proofs.Common.{◌≡◌, ℕ, List, subst, sym, ap, ◌∙◌}
+use Rattle.std.specs.Prelude.{⊤}
 use Rattle.std.specs.Str.Lines.{lines}
+use Rattle.cave_data.specs.CaveView.{CaveView}
 use Rattle.cave_data.proofs.ReadLemmas.{same_cave}
-use Rattle.cave_replay.specs.Play.{game_of}
+use Rattle.cave_editing.specs.declared.editing.View.{View}
+use Rattle.cave_editing.specs.declared.editing.View.TheVariants.{Transcript, Log, Reports}
+use Rattle.cave_replay.specs.Play.{Game, game_of}
 use Rattle.cave_script.proofs.Grammar.{script_of-only}
 use Rattle.cave_script.specs.Item.{Applied}
 use Rattle.cave_script.specs.Script.{IsScript}
-use Rattle.cave_play.specs.Output.{check_text, play_text, edit_text, IsChecked, IsPlayed, IsEdited}
+use Rattle.cave_play.specs.Output.{check_text, play_text, IsChecked, IsPlayed}
 use Rattle.cave_play.specs.Run.{AtMostOne}
+use Rattle.cave_play.specs.Views.{IsEdited, IsViewOf}
 
 -- a database and its bindings have one output of a check at most
 pub one_checked_output : (database bindings : List ℕ) → AtMostOne (IsChecked database bindings)
@@ -36,13 +41,34 @@ same_items script items others spelled respelled =
     let second = script_of-only script others respelled in
     cc
 
--- with a log, a script and a seed, one output of an edit
-pub one_edited_output : (database bindings log script : List ℕ) (seed : ℕ)
-    → AtMostOne (IsEdited database bindings log script seed)
-one_edited_output database bindings log script seed =
+-- what is asked for knows nothing of checkpoints
+abbrev pub KnowsNoCheckpoints : View → Type 0
+KnowsNoCheckpoints Transcript = ⊤
+KnowsNoCheckpoints Log = ⊤
+KnowsNoCheckpoints Reports = ⊥
+
+-- so of the same items in the same cave it is the same text, however far apart checkpoints are
+one_view : (view : View) (cave : CaveView) (game : Game) (items : List Applied) (near far : ℕ)
+    (one other : List ℕ) → KnowsNoCheckpoints view → IsViewOf view cave near game items one
+    → IsViewOf view cave far game items other → one ≡ other
+one_view Transcript cave game items near far one other free is same = is ∙ sym same
+one_view Log cave game items near far one other free is same = is.written ∙ sym same.written
+one_view Reports cave game items near far one other free is same = absurd free
+
+-- with a log, a script and a seed, one output of an edit, of the transcript and of the edited log
+pub one_edited_output : (database bindings log script : List ℕ) (seed near far : ℕ) (view : View)
+    → KnowsNoCheckpoints view
+    → (one other : List ℕ)
+    → IsEdited database bindings log script (record { seed = seed; every = near; view = view }) one
+    → IsEdited database bindings log script (record { seed = seed; every = far; view = view }) other
+    → one ≡ other
+one_edited_output database bindings log script seed near far view free =
     λ one other first second.
     let (cave, reads, (items, spelled, is)) = first in
     let (kept, rereads, (others, respelled, same)) = second in
     let game = game_of seed (lines log) in
-    let caves = ap (λ c. edit_text c game items) (same_cave database bindings kept cave rereads reads) in
-    is ∙ caves ∙ ap (edit_text kept game) (same_items script items others spelled respelled) ∙ sym same
+    let caves = same_cave database bindings kept cave rereads reads in
+    let here = subst (λ k. IsViewOf view k near game items one) caves is in
+    let spells = same_items script items others spelled respelled in
+    let there = subst (λ l. IsViewOf view kept near game l one) spells here in
+    one_view view kept game others near far one other free there same

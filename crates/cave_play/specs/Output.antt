@@ -12,7 +12,6 @@ use Rattle.cave_replay.specs.declared.fault.EditFault.TheVariants.{NoSuchPlace, 
 use Rattle.cave_replay.specs.declared.fault.GroupFault.{GroupFault}
 use Rattle.cave_score.specs.Score.{score_of, max_score_of}
 use Rattle.cave_script.specs.Item.{Applied, line_of}
-use Rattle.cave_script.specs.Script.{IsScript}
 use Rattle.cave_play.specs.CaveRules.{cave_rules, rendered}
 use Rattle.cave_play.specs.Transcript.{transcript}
 
@@ -88,12 +87,3 @@ edited_all (item ∷ items) game = edited_all items (edited item game)
 -- the reports on the items of a script, and then what playing the log that they leave prints
 abbrev pub edit_text : CaveView → Game → List Applied → List ℕ
 edit_text cave game items = reports items game ++ play_text cave (edited_all items game)
-
--- the text is what the items that the script spells make of the game in the cave
-abbrev pub IsEditOf : CaveView → Game → List ℕ → List ℕ → Type 0
-IsEditOf cave game script text = (items : List Applied) × IsScript 1 (lines script) items × (text ≡ edit_text cave game items)
-
--- the output is what the items of the script make of the log in the cave of the database and its bindings
-abbrev pub IsEdited : List ℕ → List ℕ → List ℕ → List ℕ → ℕ → List ℕ → Type 0
-IsEdited database bindings log script seed output =
-    (cave : CaveView) × Reads database bindings cave × IsEditOf cave (game_of seed (lines log)) script output

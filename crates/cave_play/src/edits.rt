@@ -1,54 +1,45 @@
-//! Applying a script to a session, with a report on each of its items.
+//! Applying a script to a session, with what comes of each of its items.
 
-ghost use Rattle.std.specs.Prelude.{◌≡◌, ◌++◌, None, Some, ◌<◌, ◌^◌, vec_len, All, IfOk, IfErr, IsTrue, OnOk, ◌↔◌};
-ghost use Rattle.cave_replay.specs.Change.{changes_of};
+ghost use Rattle.std.specs.Prelude.{◌≡◌, ◌+◌, ◌++◌, ◌<◌, ◌≤◌, ◌^◌, length, vec_len, All, IfOk, IfErr, IsTrue, OnOk, ◌↔◌};
+ghost use Rattle.cave_marks.specs.Spacing.{IsSpaced};
 ghost use Rattle.cave_script.specs.Shown.{applied, items_of};
+ghost use Rattle.cave_play.specs.Applying.{Applies, IsApplied, told_by};
 ghost use Rattle.cave_play.specs.Holds.{Holds};
-ghost use Rattle.cave_play.specs.Output.{report, report_by, reports, edited, edited_all, refusal_number, refusal_of};
+ghost use Rattle.cave_play.specs.Outcomes.{lines_in, played_in};
+ghost use Rattle.cave_play.specs.Output.{edited_all};
 
 use crate::fault::PlayFault;
 use crate::machine::CaveMachine;
-use cave_replay::{EditFault, GroupFault, Session};
+use crate::outcome::{Outcome, Replay};
+use crate::reports::push_outcome;
+use cave_editing::View;
+use cave_replay::{EditFault, GroupReport, Session};
 use cave_script::{Item, Script};
 use cave_words::Meter;
-use std::alloc::{AllocError, Global};
+use std::alloc::Global;
 
-/// The number by which a report names a refusal.
-fn refusal_number(fault: EditFault) -> u8
-    ensures { result ≡ refusal_number fault }
-{
-    match fault {
-        EditFault::NoSuchPlace => 1,
-        EditFault::BadLine => 2,
-        EditFault::LogFull => 3,
-        EditFault::BadSeed => 4,
-        EditFault::MeterFull => 5,
-        EditFault::Memory => 6,
-        EditFault::EmptyGroup => 7,
-    }
+/// How many lines were played for items, and how many lines the logs had that they left.
+#[derive(Clone, Copy, Debug, PartialEq, Eq)]
+pub(crate) struct Totals {
+    pub(crate) played: u64,
+    pub(crate) lines: u64,
 }
 
-/// Reports on an item: that it was accepted, or why it was refused.
-fn push_report(
-    alloc: Global,
-    text: &mut Vec<u8>,
-    item: &Item,
-    refusal: Option<GroupFault>,
-) -> Result<(), AllocError>
-    ensures { OnOk result (text.new.items ≡ text.old.items ++ report_by (applied item.now) refusal) }
-{
-    let report = match refusal {
-        None => {
-            let line = item.line;
-            format!(in alloc; "line {line}: ok\n")?
+impl Totals {
+    /// The totals with those of one item more.
+    fn with(self, outcome: Outcome) -> Totals
+        requires played_fits { self.played + 2 ^ 32 ≤ 2 ^ 64 }
+        requires lines_fit { self.lines + 2 ^ 32 ≤ 2 ^ 64 }
+        ensures played { result.played ≡ self.played + played_in outcome }
+        ensures lines { result.lines ≡ self.lines + lines_in outcome }
+        ensures played_rises { result.played < self.played + 2 ^ 32 }
+        ensures lines_rise { result.lines < self.lines + 2 ^ 32 }
+    {
+        Totals {
+            played: self.played + u64::from(outcome.played()),
+            lines: self.lines + u64::from(outcome.lines()),
         }
-        Some(fault) => {
-            let line = item.line_of(fault.at as usize);
-            let number = refusal_number(fault.cause);
-            format!(in alloc; "line {line}: refused {number}\n")?
-        }
-    };
-    text.extend_from_slice(report.as_bytes())
+    }
 }
 
 /// Whether memory was refused.
@@ -58,59 +49,88 @@ fn is_memory(fault: EditFault) -> bool
     matches!(fault, EditFault::Memory)
 }
 
-/// Applies an item to the held game, all of it or nothing, and tells why it was refused, if it was.
-fn edit(
-    session: &mut Session<CaveMachine<'_>>,
-    item: &Item,
-) -> Result<Option<GroupFault>, PlayFault>
+/// What a report says of a replay, with the lines of the log that the session then holds.
+fn replay_of(session: &Session<CaveMachine<'_>>, report: &GroupReport) -> Replay
+    ensures from { result.from ≡ report.now.from }
+    ensures met { result.met ≡ report.now.met }
+    ensures played { result.played ≡ report.now.played }
+    ensures lines { result.lines ≡ length session.now.game.log }
+    ensures spaced { IsSpaced session.now.every session.now.checkpoints
+        (length session.now.game.log) }
+{
+    // The contract of this call tells how the checkpoints are spaced.
+    let _places = session.checkpoints();
+    Replay {
+        from: report.from,
+        met: report.met,
+        played: report.played,
+        lines: session.lines(),
+    }
+}
+
+/// Applies an item to the held game, all of it or nothing, and tells what came of it.
+fn edit(session: &mut Session<CaveMachine<'_>>, item: &Item) -> Result<Outcome, PlayFault>
     requires { vec_len item.now.edits < 2 ^ 32 }
-    ensures refusal { IfOk result (λ refusal. refusal ≡ refusal_of (applied item.now).changes session.old.game.log) }
-    ensures held { OnOk result (Holds session.old.machine.cave.now (edited (applied item.now) session.old.game) session.new) }
+    ensures applies { IfOk result (Applies (applied item.now) session.old session.new) }
     ensures memory { IfErr result (λ found. found ≡ PlayFault.Memory) }
 {
     let mut meter = Meter::new();
     let fault = match session.edit_group(&item.edits, &mut meter) {
-        Ok(_) => return Ok(None),
+        Ok(report) => return Ok(Outcome::Replayed(replay_of(session, &report))),
         Err(fault) => fault,
     };
     if is_memory(fault.cause) {
         return Err(PlayFault::Memory);
     }
-    Ok(Some(fault))
+    Ok(Outcome::Refused(fault))
 }
 
-/// Applies an item to the held game, and reports on it.
-#[tactic(auto, unfolding(crate::specs::Output::report))]
+/// Applies an item to the held game, and tells of it what is asked for.
 fn apply_item(
     alloc: Global,
     session: &mut Session<CaveMachine<'_>>,
     item: &Item,
+    view: View,
     text: &mut Vec<u8>,
-) -> Result<(), PlayFault>
+) -> Result<Outcome, PlayFault>
     requires { vec_len item.now.edits < 2 ^ 32 }
-    ensures reported { OnOk result (text.new.items ≡ text.old.items ++ report (applied item.now) session.old.game) }
-    ensures held { OnOk result (Holds session.old.machine.cave.now (edited (applied item.now) session.old.game) session.new) }
+    ensures applies { IfOk result (Applies (applied item.now) session.old session.new) }
+    ensures told { IfOk result (λ outcome.
+        text.new.items ≡ text.old.items ++ told_by view (applied item.now) outcome) }
     ensures memory { IfErr result (λ found. found ≡ PlayFault.Memory) }
 {
-    let refusal = edit(session, item)?;
-    push_report(alloc, text, item, refusal)?;
-    Ok(())
+    let outcome = edit(session, item)?;
+    push_outcome(alloc, text, item, view, outcome)?;
+    Ok(outcome)
 }
 
-/// Applies the items of a script to the held game, and reports on each.
+/// Applies the items of a script to the held game, and tells of each what is asked for.
 pub(crate) fn apply(
     alloc: Global,
     session: &mut Session<CaveMachine<'_>>,
     script: &Script,
+    view: View,
     text: &mut Vec<u8>,
-) -> Result<(), PlayFault>
-    requires { All (λ item. vec_len item.edits < 2 ^ 32) script.now.items.items }
-    ensures reported { OnOk result (text.new.items ≡ text.old.items ++ reports (items_of script.now.items) session.old.game) }
-    ensures held { OnOk result (Holds session.old.machine.cave.now (edited_all (items_of script.now.items) session.old.game) session.new) }
+) -> Result<Totals, PlayFault>
+    requires few_edits { All (λ item. vec_len item.edits < 2 ^ 32) script.now.items.items }
+    requires few_items { length script.now.items.items < 2 ^ 32 }
+    ensures spaced { IsSpaced session.old.every session.old.checkpoints
+        (length session.old.game.log) }
+    ensures held { OnOk result (Holds session.old.machine.cave.now
+        (edited_all (items_of script.now.items) session.old.game) session.new) }
+    ensures applied { IfOk result (λ totals. IsApplied view (items_of script.now.items) session.old
+        text.old.items text.new.items totals.played totals.lines) }
     ensures memory { IfErr result (λ found. found ≡ PlayFault.Memory) }
 {
+    // As in `replay_of`, for the checkpoints before the first item.
+    let _places = session.checkpoints();
+    let mut totals = Totals {
+        played: 0,
+        lines: 0,
+    };
     for item in &script.items {
-        apply_item(alloc, session, item, text)?;
+        let outcome = apply_item(alloc, session, item, view, text)?;
+        totals = totals.with(outcome);
     }
-    Ok(())
+    Ok(totals)
 }

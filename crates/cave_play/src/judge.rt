@@ -1,6 +1,6 @@
 //! Reading the inputs of a run, each of which is judged before the next.
 
-ghost use Rattle.std.specs.Prelude.{◌≡◌, ℕ, ◌^◌, ◌<◌, List, [], ◌∷◌, None, Ok, All, vec_len};
+ghost use Rattle.std.specs.Prelude.{◌≡◌, ℕ, ◌^◌, ◌<◌, List, [], ◌∷◌, None, Ok, All, IfOk, length, vec_len};
 ghost use Rattle.std.specs.Str.Lines.{lines};
 ghost use Rattle.cave_data.specs.Reading.{Reads};
 ghost use Rattle.cave_words.specs.Lexicon.{IsLexiconOf};
@@ -90,6 +90,7 @@ fn open_log<'a>(
     requires every_fits { every_fault every ≡ None }
     ensures judged { Judges (judging (lines_fault (lines log.now)) ∷ [])
         (Holds machine.entry.cave.now (game_of seed (lines log.now))) result }
+    ensures every { IfOk result (λ session. session.every ≡ every) }
 {
     let mut meter = Meter::new();
     match Session::open(alloc, machine, seed, log, every, &mut meter) {
@@ -111,6 +112,7 @@ pub fn read_log<'a, L: Read>(
     ensures judged { (bytes : List ℕ) × Says (L.remaining log.old) bytes
         × Judges (log_stage bytes ∷ [])
         (Holds machine.entry.cave.now (game_of seed (lines bytes))) result }
+    ensures every { IfOk result (λ session. session.every ≡ every) }
 {
     let log = read(alloc, Input::Log, log)?;
     open_log(alloc, machine, &log, seed, every)
@@ -121,7 +123,8 @@ pub(crate) fn read_script<S: Read>(alloc: Global, script: &mut S) -> Result<Scri
     ensures judged { (bytes : List ℕ) × Says (S.remaining script.old) bytes
         × Judges (script_stage bytes ∷ [])
         (λ script. IsScript 1 (lines bytes) (items_of script.items)
-        × All (λ item. vec_len item.edits < 2 ^ 32) script.items.items) result }
+        × All (λ item. vec_len item.edits < 2 ^ 32) script.items.items
+        × (length script.items.items < 2 ^ 32)) result }
 {
     let text = read(alloc, Input::Script, script)?;
     match Script::read(alloc, &text) {

@@ -2,13 +2,16 @@
 #![tactic(auto)]
 
 pub mod bindings;
+mod edited_log;
 mod edits;
 pub mod fault;
 pub mod input;
 pub mod judge;
 pub mod laws;
 pub mod machine;
+pub mod outcome;
 pub mod output;
 mod read;
+mod reports;
 pub mod run;
 mod transcript;

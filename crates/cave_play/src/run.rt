@@ -1,6 +1,6 @@
 //! Runs: from readers of the inputs to a writer of the output.
 
-ghost use Rattle.std.specs.Prelude.{◌≡◌, ℕ, List, [], ◌∷◌, None, take, MatchResult};
+ghost use Rattle.std.specs.Prelude.{◌≡◌, ℕ, List, [], ◌∷◌, ◌++◌, None, take, MatchResult, OnOk};
 ghost use Rattle.std.specs.Io.KnownBytes.{Appends};
 ghost use Rattle.std.specs.Str.Lines.{lines};
 ghost use Rattle.cave_data.specs.CaveView.{CaveView};
@@ -9,29 +9,34 @@ ghost use Rattle.cave_replay.specs.Play.{game_of};
 ghost use Rattle.cave_play.specs.Input.{Says};
 ghost use Rattle.cave_play.specs.Judged.{seed_fault, every_fault};
 ghost use Rattle.cave_play.specs.Output.{check_text, play_text};
-ghost use Rattle.cave_play.specs.Output.{IsChecked, IsPlayed, IsEditOf, IsEdited};
+ghost use Rattle.cave_play.specs.Output.{IsChecked, IsPlayed};
 ghost use Rattle.cave_play.specs.Run.{Judges, Runs};
 ghost use Rattle.cave_play.specs.Stages.{cave_stages, log_stage, script_stage};
 ghost use Rattle.cave_play.specs.Stages.{play_stages, edit_stages};
+ghost use Rattle.cave_play.specs.Views.{IsEditOf, IsEdited};
+ghost use Rattle.cave_play.specs.Applying.{ReadsBack, ending};
 
-use crate::edits::apply;
+use crate::edited_log::push_log;
+use crate::edits::{Totals, apply};
 use crate::fault::PlayFault;
 use crate::judge::{check_every, check_seed, read_cave, read_log, read_script};
 use crate::machine::CaveMachine;
 use crate::output::write_output;
+use crate::reports::push_totals;
 use crate::transcript::{push_maximum, tell};
 use cave_data::Cave;
+use cave_editing::{Editing, View};
 use cave_replay::Session;
 use cave_turn::max_score;
 use cave_words::Lexicon;
-use std::alloc::Global;
+use std::alloc::{AllocError, Global};
 use std::io::{Read, Write};
 
 /// How far apart checkpoints may be where nothing else is asked.
 pub const EVERY: u32 = 50;
 
 /// Checks a database and its bindings, and says so where they are a cave. What it writes is determined
-/// by its inputs: see `one_checked_output` in specs/OneOutput.antt, as of the other runs.
+/// by its inputs: see `one_checked_output` in specs/OneOutput.antt, which has the same of other runs.
 pub fn run_check<C: Read, B: Read, W: Write>(
     alloc: Global,
     cave: &mut C,
@@ -65,25 +70,25 @@ pub fn run_play<C: Read, B: Read, L: Read, W: Write>(
     write(output, &text)
 }
 
-/// Plays a log that a script edits, and writes a report on each item of the script and then the transcript, once both are whole.
+/// Edits a log by a script, and writes what is asked for, once it is whole: a report on each item
+/// of the script and then the transcript of the edited log, that log, or what each item replayed.
 pub fn run_edit<C: Read, B: Read, L: Read, S: Read, W: Write>(
     alloc: Global,
     cave: &mut C,
     bind: &mut B,
     log: &mut L,
     script: &mut S,
-    seed: u32,
-    every: u32,
+    editing: Editing,
     output: &mut W,
 ) -> Result<(), PlayFault>
     ensures runs { (database : List ℕ) × (bindings : List ℕ) × (moves : List ℕ) × (edits : List ℕ)
         × Says (C.remaining cave.old) database × Says (B.remaining bind.old) bindings
         × Says (L.remaining log.old) moves × Says (S.remaining script.old) edits
-        × Runs (edit_stages database bindings moves edits seed every)
-        (IsEdited database bindings moves edits seed)
+        × Runs (edit_stages database bindings moves edits editing.seed editing.every)
+        (IsEdited database bindings moves edits editing)
         (W.contents output.old) (W.contents output.new) result }
 {
-    let text = edit_inputs(alloc, cave, bind, log, script, seed, every)?;
+    let text = edit_inputs(alloc, cave, bind, log, script, editing)?;
     write(output, &text)
 }
 
@@ -193,43 +198,42 @@ fn transcript_of(
     Ok(text)
 }
 
-/// The reports on a script and the transcript of the log that it leaves, from readers of the inputs.
+/// What is asked for of a script, from readers of the inputs.
 fn edit_inputs<C: Read, B: Read, L: Read, S: Read>(
     alloc: Global,
     cave: &mut C,
     bind: &mut B,
     log: &mut L,
     script: &mut S,
-    seed: u32,
-    every: u32,
+    editing: Editing,
 ) -> Result<Vec<u8>, PlayFault>
     ensures judged { (database : List ℕ) × (bindings : List ℕ) × (moves : List ℕ) × (edits : List ℕ)
         × Says (C.remaining cave.old) database × Says (B.remaining bind.old) bindings
         × Says (L.remaining log.old) moves × Says (S.remaining script.old) edits
-        × Judges (edit_stages database bindings moves edits seed every)
-        (λ text. IsEdited database bindings moves edits seed text.items) result }
+        × Judges (edit_stages database bindings moves edits editing.seed editing.every)
+        (λ text. IsEdited database bindings moves edits editing text.items) result }
 {
-    check_seed(seed)?;
-    check_every(every)?;
+    check_seed(editing.seed)?;
+    check_every(editing.every)?;
     let cave = read_cave(alloc, cave, bind)?;
-    edit_in_cave(alloc, &cave, log, script, seed, every)
+    edit_in_cave(alloc, &cave, log, script, editing)
 }
 
-/// The reports on a script in a cave, and the transcript of the log that it leaves.
+/// What is asked for of a script in a cave.
 fn edit_in_cave<L: Read, S: Read>(
     alloc: Global,
     cave: &Cave,
     log: &mut L,
     script: &mut S,
-    seed: u32,
-    every: u32,
+    editing: Editing,
 ) -> Result<Vec<u8>, PlayFault>
-    requires seed_fits { seed_fault seed ≡ None }
-    requires every_fits { every_fault every ≡ None }
+    requires seed_fits { seed_fault editing.seed ≡ None }
+    requires every_fits { every_fault editing.every ≡ None }
     ensures judged { (moves : List ℕ) × (edits : List ℕ)
         × Says (L.remaining log.old) moves × Says (S.remaining script.old) edits
         × Judges (log_stage moves ∷ script_stage edits ∷ [])
-        (λ text. IsEditOf cave.now (game_of seed (lines moves)) edits text.items) result }
+        (λ text. IsEditOf editing.view cave.now editing.every
+        (game_of editing.seed (lines moves)) edits text.items) result }
 {
     let lexicon = Lexicon::build(alloc, cave)?;
     edit_by_machine(
@@ -237,48 +241,70 @@ fn edit_in_cave<L: Read, S: Read>(
         CaveMachine::new(cave, &lexicon),
         log,
         script,
-        seed,
-        every,
+        editing,
     )
 }
 
-/// The reports on a script for a log that a machine plays, and the transcript of the log that it leaves.
+/// What is asked for of a script for a log that a machine plays.
 fn edit_by_machine<L: Read, S: Read>(
     alloc: Global,
     machine: CaveMachine<'_>,
     log: &mut L,
     script: &mut S,
-    seed: u32,
-    every: u32,
+    editing: Editing,
 ) -> Result<Vec<u8>, PlayFault>
-    requires seed_fits { seed_fault seed ≡ None }
-    requires every_fits { every_fault every ≡ None }
+    requires seed_fits { seed_fault editing.seed ≡ None }
+    requires every_fits { every_fault editing.every ≡ None }
     ensures judged { (moves : List ℕ) × (edits : List ℕ)
         × Says (L.remaining log.old) moves × Says (S.remaining script.old) edits
         × Judges (log_stage moves ∷ script_stage edits ∷ [])
-        (λ text. IsEditOf machine.entry.cave.now (game_of seed (lines moves)) edits text.items) result }
+        (λ text. IsEditOf editing.view machine.entry.cave.now editing.every
+        (game_of editing.seed (lines moves)) edits text.items) result }
 {
-    let mut session = read_log(alloc, machine, log, seed, every)?;
-    let text = edit_session(alloc, machine, &mut session, script);
+    let mut session = read_log(alloc, machine, log, editing.seed, editing.every)?;
+    let text = edit_session(alloc, machine, &mut session, script, editing.view);
     drop(session);
     text
 }
 
-/// The reports on a script that is applied to a session of the machine, and the transcript of the log that it leaves.
+/// What is asked for of a script that is applied to a session of the machine.
 fn edit_session<S: Read>(
     alloc: Global,
     machine: CaveMachine<'_>,
     session: &mut Session<CaveMachine<'_>>,
     script: &mut S,
+    view: View,
 ) -> Result<Vec<u8>, PlayFault>
     requires { session.old.machine.cave.now ≡ machine.cave.now }
     ensures judged { (edits : List ℕ) × Says (S.remaining script.old) edits
         × Judges (script_stage edits ∷ [])
-        (λ text. IsEditOf machine.entry.cave.now session.old.game edits text.items) result }
+        (λ text. IsEditOf view machine.entry.cave.now session.old.every session.old.game edits
+        text.items) result }
 {
     let script = read_script(alloc, script)?;
     let mut text = Vec::new(alloc);
-    apply(alloc, session, &script, &mut text)?;
-    tell(alloc, machine, session, &mut text)?;
+    let totals = apply(alloc, session, &script, view, &mut text)?;
+    push_end(alloc, machine, session, view, totals, &mut text)?;
     Ok(text)
+}
+
+/// Appends what is told behind all items of a script.
+fn push_end(
+    alloc: Global,
+    machine: CaveMachine<'_>,
+    session: &Session<CaveMachine<'_>>,
+    view: View,
+    totals: Totals,
+    text: &mut Vec<u8>,
+) -> Result<(), AllocError>
+    requires { session.now.machine.cave.now ≡ machine.cave.now }
+    ensures told { OnOk result (text.new.items ≡ text.old.items
+        ++ ending view machine.entry.cave.now session.now.game totals.played totals.lines) }
+    ensures reads_back { OnOk result (ReadsBack view session.now.game.log) }
+{
+    match view {
+        View::Transcript => tell(alloc, machine, session, text),
+        View::Log => push_log(session, text),
+        View::Reports => push_totals(alloc, text, totals),
+    }
 }

@@ -2,6 +2,7 @@
 
 use crate::caves::{CAVE, LONG_LOG};
 use crate::streams::{Sink, Source};
+use cave_editing::{Editing, View};
 use cave_play::fault::{Input, PlayFault};
 use cave_play::run::{run_check, run_edit, run_play};
 use std::alloc::Global;
@@ -123,8 +124,11 @@ impl<'a> Feeds<'a> {
                 &mut self.bind,
                 &mut self.log,
                 &mut self.script,
-                self.seed,
-                self.every,
+                Editing {
+                    seed: self.seed,
+                    every: self.every,
+                    view: View::Transcript,
+                },
                 sink,
             ),
         }

@@ -1,6 +1,7 @@
 //! Words of a command line, right and wrong, with what they ask for.
 
 use cave_command::{Line, LineFault, command_line};
+use cave_editing::{Editing, View};
 use std::alloc::{AllocError, Global};
 use std::test::Fail;
 
@@ -21,7 +22,7 @@ fn shown(alloc: Global, words: &[&str]) -> Result<String, AllocError> {
 }
 
 /// Words, and what the answer to them says.
-const ANSWERS: [(&[&str], &str); 20] = [
+const ANSWERS: [(&[&str], &str); 24] = [
     (
         &["cave", "check", "a"],
         "Check { files: Files { cave: \"a\", bind: None } }",
@@ -36,8 +37,8 @@ const ANSWERS: [(&[&str], &str); 20] = [
     ),
     (
         &["cave", "edit", "a", "b", "c"],
-        "Edit { files: Files { cave: \"a\", bind: None }, log: \"b\", script: \"c\", seed: 0, \
-        every: 50 }",
+        "Edit { files: Files { cave: \"a\", bind: None }, log: \"b\", script: \"c\", \
+        editing: Editing { seed: 0, every: 50, view: Transcript } }",
     ),
     (
         &[
@@ -49,8 +50,18 @@ const ANSWERS: [(&[&str], &str); 20] = [
             "b",
             "c",
         ],
-        "Edit { files: Files { cave: \"a\", bind: None }, log: \"b\", script: \"c\", seed: 3, \
-        every: 10000 }",
+        "Edit { files: Files { cave: \"a\", bind: None }, log: \"b\", script: \"c\", \
+        editing: Editing { seed: 3, every: 10000, view: Transcript } }",
+    ),
+    (
+        &["cave", "edit", "a", "--print", "log", "b", "c"],
+        "Edit { files: Files { cave: \"a\", bind: None }, log: \"b\", script: \"c\", \
+        editing: Editing { seed: 0, every: 50, view: Log } }",
+    ),
+    (
+        &["cave", "edit", "a", "b", "c", "--print=reports"],
+        "Edit { files: Files { cave: \"a\", bind: None }, log: \"b\", script: \"c\", \
+        editing: Editing { seed: 0, every: 50, view: Reports } }",
     ),
     (&["cave", "help", "edit"], "text DisplayHelp"),
     (&["cave", "-V"], "text DisplayVersion"),
@@ -91,6 +102,14 @@ const ANSWERS: [(&[&str], &str); 20] = [
         &["cave", "edit", "a", "b", "c", "--every", "00000000001"],
         "2 BadEvery(\"00000000001\")",
     ),
+    (
+        &["cave", "edit", "a", "b", "c", "--print", "Log"],
+        "2 BadView(\"Log\")",
+    ),
+    (
+        &["cave", "play", "a", "b", "--print", "log"],
+        "2 UnknownArgument",
+    ),
 ];
 
 #[test]
@@ -111,7 +130,7 @@ fn printed(alloc: Global, words: &[&str]) -> Result<String, AllocError> {
 }
 
 /// Words, and a part of the text that is printed for them.
-const TEXTS: [(&[&str], &str); 14] = [
+const TEXTS: [(&[&str], &str); 15] = [
     (
         &["cave", "check", "-h"],
         "Usage: cave check [OPTIONS] <CAVE>",
@@ -154,6 +173,10 @@ const TEXTS: [(&[&str], &str); 14] = [
         &["cave", "edit", "a", "b", "c", "--every="],
         "error: invalid value '' for '--every <K>': wanted are 1 to 10 digits, from 1 to 10000",
     ),
+    (
+        &["cave", "edit", "a", "b", "c", "--print", "text"],
+        "error: invalid value 'text' for '--print <WHAT>': wanted is transcript, log or reports",
+    ),
 ];
 
 #[test]
@@ -174,8 +197,11 @@ fn refused_memory_is_no_other_fault(rt: HostRuntime) {
             matches!(
                 &line,
                 Line::Edit {
-                    seed: 3,
-                    every: 7,
+                    editing: Editing {
+                        seed: 3,
+                        every: 7,
+                        view: View::Transcript,
+                    },
                     ..
                 }
             )

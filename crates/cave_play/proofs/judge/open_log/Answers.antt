@@ -15,10 +15,12 @@ returns-in-Ok c =
         first_decided-one (judging (lines_fault game)) none,
         record { cave_is = ap (λ m. m.cave.now) c.in-Ok.ensures.kept.0; game_is = c.in-Ok.ensures.game },
       );
+      every = c.in-Ok.ensures.kept.1;
     }
 
 pub returns-in-Err : goal.returns-in-Err
 returns-in-Err c =
     rw c.opening_fault.ensures (record {
       judged = IsFoundIn-opened c.args.every (lines c.args.log.now) c.args.seed c.in-Err.fault _ c.requires.seed_fits c.requires.every_fits c.in-Err.is c.open.ensures.faults;
+      every = tt;
     })

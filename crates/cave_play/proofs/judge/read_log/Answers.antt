@@ -9,9 +9,9 @@ pub returns-in_err-log : goal.returns-in_err-log
 returns-in_err-log g c =
     let exit = err_from_is_err_and c.from_residual.result c.from_residual.ensures.1 in
     let (bytes, said, refused) = c.in_err-log.ensures.read in
-    rw (exit.1, exit.2) (record { judged = (bytes, said, IsFoundIn-log bytes _ refused) })
+    rw (exit.1, exit.2) (record { judged = (bytes, said, IsFoundIn-log bytes _ refused); every = tt })
 
 pub returns : goal.returns
 returns g c =
     let (bytes, said, read) = c.in_ok-log.ensures.read in
-    record { judged = (bytes, said, Judges-log (λ log. Holds c.args.machine.cave.now (game_of c.args.seed log)) bytes _ _ (c.deref.ensures.value ∙ read.0) read.1 c.open_log.ensures.judged) }
+    record { judged = (bytes, said, Judges-log (λ log. Holds c.args.machine.cave.now (game_of c.args.seed log)) bytes _ _ (c.deref.ensures.value ∙ read.0) read.1 c.open_log.ensures.judged); every = c.open_log.ensures.every }

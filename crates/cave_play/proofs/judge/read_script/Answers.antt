@@ -4,7 +4,7 @@ use Rattle.std.proofs.lemmas.Result.{err_from_is_err_and}
 use Rattle.cave_script.specs.Script.{IsScript, script_of}
 use Rattle.cave_script.specs.Shown.{items_of}
 use Rattle.cave_play.specs.Stages.{script_stage}
-use Rattle.cave_play.proofs.ScriptLemmas.{few_edits}
+use Rattle.cave_play.proofs.ScriptLemmas.{few_edits, few_items}
 use Rattle.cave_play.proofs.StageLemmas.{first_decided-one}
 use Rattle.cave_play.proofs.JudgeLemmas.{IsFoundIn-script, script_fault-none, IsFoundIn-refused}
 use Rattle.cave_play.proofs.judge.read_script.Goals as goal
@@ -22,7 +22,7 @@ returns-in-Ok g c =
     let same = c.deref.ensures.value ∙ read.0 in
     let is = ap script_of (sym same) ∙ c.in-Ok.ensures.script in
     let spelled = subst (λ t. IsScript 1 (lines t) (items_of items)) same c.in-Ok.ensures.grammar in
-    record { judged = (bytes, said, (first_decided-one (script_stage bytes) (script_fault-none bytes _ read.1 is), (spelled, few_edits items _ bytes c.in-Ok.ensures.grammar same read.1))) }
+    record { judged = (bytes, said, (first_decided-one (script_stage bytes) (script_fault-none bytes _ read.1 is), (spelled, few_edits items _ bytes c.in-Ok.ensures.grammar same read.1, few_items items _ bytes c.in-Ok.ensures.grammar same read.1))) }
 
 pub returns : goal.returns
 returns g c =

@@ -4,7 +4,7 @@ use Rattle.std.specs.Str.Lines.{lines}
 use Rattle.std.proofs.lemmas.Result.{err_from_is_err_and}
 use Rattle.cave_data.specs.CaveView.{CaveView}
 use Rattle.cave_replay.specs.Play.{game_of}
-use Rattle.cave_play.specs.Output.{IsEditOf}
+use Rattle.cave_play.specs.Views.{IsEditOf}
 use Rattle.cave_play.specs.Run.{Judges}
 use Rattle.cave_play.specs.Stages.{log_stage, script_stage}
 use Rattle.cave_play.proofs.InputLemmas.{Says-some}
@@ -21,5 +21,5 @@ returns-in_err-lexicon g c =
 pub returns : goal.returns
 returns g c =
     let (moves, edits, said, others, judged) = c.edit_by_machine.ensures.judged in
-    let here = λ (cave : CaveView). Judges (log_stage moves ∷ script_stage edits ∷ []) (λ (text : Vec ℕ). IsEditOf cave (game_of c.args.seed (lines moves)) edits text.items) c.edit_by_machine.result in
+    let here = λ (cave : CaveView). Judges (log_stage moves ∷ script_stage edits ∷ []) (λ (text : Vec ℕ). IsEditOf c.args.editing.view cave c.args.editing.every (game_of c.args.editing.seed (lines moves)) edits text.items) c.edit_by_machine.result in
     record { judged = (moves, edits, said, others, subst here c.new.ensures judged) }

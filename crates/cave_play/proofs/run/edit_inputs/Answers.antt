@@ -2,7 +2,7 @@ use Rattle.std.proofs.Common.{ℕ, List, [], ◌∷◌, ◌++◌}
 use Rattle.std.specs.Global.{Vec}
 use Rattle.std.proofs.lemmas.Result.{err_from_is_err_and}
 use Rattle.cave_play.specs.Judged.{seed_fault, every_fault}
-use Rattle.cave_play.specs.Output.{IsEdited}
+use Rattle.cave_play.specs.Views.{IsEdited}
 use Rattle.cave_play.specs.Stage.{Stage, judging}
 use Rattle.cave_play.specs.Stages.{cave_stages, log_stage, script_stage}
 use Rattle.cave_play.proofs.InputLemmas.{Says-some}
@@ -24,8 +24,8 @@ returns-in_err-check_seed g c =
     let (bindings, others) = Says-some (g.B.Read.remaining c.args.bind.now) in
     let (lines, third) = Says-some (g.L.Read.remaining c.args.log.now) in
     let (edits, last) = Says-some (g.S.Read.remaining c.args.script.now) in
-    let later = after_seed database bindings lines edits c.args.every in
-    let found = IsFoundIn-first (judging (seed_fault c.args.seed) ∷ []) later _ c.in_err-check_seed.ensures in
+    let later = after_seed database bindings lines edits c.args.editing.every in
+    let found = IsFoundIn-first (judging (seed_fault c.args.editing.seed) ∷ []) later _ c.in_err-check_seed.ensures in
     rw (exit.1, exit.2) (record { judged = (database, bindings, lines, edits, said, others, third, last, found) })
 
 pub returns-in_err-check_every : goal.returns-in_err-check_every
@@ -36,8 +36,8 @@ returns-in_err-check_every g c =
     let (lines, third) = Says-some (g.L.Read.remaining c.args.log.now) in
     let (edits, last) = Says-some (g.S.Read.remaining c.args.script.now) in
     let later = after_every database bindings lines edits in
-    let there = IsFoundIn-first (judging (every_fault c.args.every) ∷ []) later _ c.in_err-check_every.ensures in
-    let found = IsFoundIn-later (judging (seed_fault c.args.seed) ∷ []) (after_seed database bindings lines edits c.args.every) _ c.in_ok-check_seed.ensures.0 there in
+    let there = IsFoundIn-first (judging (every_fault c.args.editing.every) ∷ []) later _ c.in_err-check_every.ensures in
+    let found = IsFoundIn-later (judging (seed_fault c.args.editing.seed) ∷ []) (after_seed database bindings lines edits c.args.editing.every) _ c.in_ok-check_seed.ensures.0 there in
     rw (exit.1, exit.2) (record { judged = (database, bindings, lines, edits, said, others, third, last, found) })
 
 pub returns-in_err-cave : goal.returns-in_err-cave
@@ -48,17 +48,17 @@ returns-in_err-cave g c =
     let (edits, last) = Says-some (g.S.Read.remaining c.args.script.now) in
     let later = after_every database bindings lines edits in
     let here = IsFoundIn-first (cave_stages database bindings) (log_stage lines ∷ script_stage edits ∷ []) _ refused in
-    let there = IsFoundIn-later (judging (every_fault c.args.every) ∷ []) later _ c.in_ok-check_every.ensures.0 here in
-    let found = IsFoundIn-later (judging (seed_fault c.args.seed) ∷ []) (after_seed database bindings lines edits c.args.every) _ c.in_ok-check_seed.ensures.0 there in
+    let there = IsFoundIn-later (judging (every_fault c.args.editing.every) ∷ []) later _ c.in_ok-check_every.ensures.0 here in
+    let found = IsFoundIn-later (judging (seed_fault c.args.editing.seed) ∷ []) (after_seed database bindings lines edits c.args.editing.every) _ c.in_ok-check_seed.ensures.0 there in
     rw (exit.1, exit.2) (record { judged = (database, bindings, lines, edits, said, others, third, last, found) })
 
 pub returns : goal.returns
 returns g c =
     let (database, bindings, said, others, made) = c.in_ok-cave.ensures.judged in
     let (lines, edits, third, last, edited) = c.edit_in_cave.ensures.judged in
-    let right = λ (text : Vec ℕ). IsEdited database bindings lines edits c.args.seed text.items in
+    let right = λ (text : Vec ℕ). IsEdited database bindings lines edits c.args.editing text.items in
     let later = after_every database bindings lines edits in
     let judged = Judges-later (cave_stages database bindings) (log_stage lines ∷ script_stage edits ∷ []) _ right _ made.0 (λ text is. (c.in_ok-cave.cave, made.1, is)) edited in
-    let near = Judges-later (judging (every_fault c.args.every) ∷ []) later right right _ c.in_ok-check_every.ensures.0 (λ text is. is) judged in
-    let whole = Judges-later (judging (seed_fault c.args.seed) ∷ []) (after_seed database bindings lines edits c.args.every) right right _ c.in_ok-check_seed.ensures.0 (λ text is. is) near in
+    let near = Judges-later (judging (every_fault c.args.editing.every) ∷ []) later right right _ c.in_ok-check_every.ensures.0 (λ text is. is) judged in
+    let whole = Judges-later (judging (seed_fault c.args.editing.seed) ∷ []) (after_seed database bindings lines edits c.args.editing.every) right right _ c.in_ok-check_seed.ensures.0 (λ text is. is) near in
     record { judged = (database, bindings, lines, edits, said, others, third, last, whole) }

@@ -1,0 +1,7 @@
+//! What may be asked of an edit of a log, for the command line, which asks it, and for the run,
+//! which does it.
+#![tactic(auto)]
+
+pub mod editing;
+
+pub use editing::{Editing, View};

@@ -1,0 +1,106 @@
+-- What an edit of a log writes, by what is asked for.
+use Rattle.std.specs.Prelude.{◌≡◌, ℕ, List, [], ◌∷◌, ◌++◌, length, codes, Option, None, Some}
+use Rattle.std.specs.Fmt.{decimal}
+use Rattle.std.specs.List.{flat_map, sum_by}
+use Rattle.std.specs.Str.Lines.{lines}
+use Rattle.cave_data.specs.CaveView.{CaveView}
+use Rattle.cave_data.specs.Reading.{Reads}
+use Rattle.cave_editing.specs.declared.editing.Editing.{Editing}
+use Rattle.cave_editing.specs.declared.editing.View.{View}
+use Rattle.cave_editing.specs.declared.editing.View.TheVariants.{Transcript, Log, Reports}
+use Rattle.cave_marks.specs.Spacing.{IsSpaced}
+use Rattle.cave_replay.specs.Play.{Game, game_of}
+use Rattle.cave_replay.specs.declared.fault.EditFault.{EditFault}
+use Rattle.cave_replay.specs.declared.fault.EditFault.TheVariants.{NoSuchPlace, BadLine, LogFull, BadSeed, MeterFull, Memory, EmptyGroup}
+use Rattle.cave_script.specs.Item.{Applied, line_of}
+use Rattle.cave_script.specs.Script.{IsScript}
+use Rattle.cave_play.specs.Outcomes.{AreOutcomes, lines_in, played_in}
+use Rattle.cave_play.specs.Output.{edit_text, edited_all, refusal_number}
+use Rattle.cave_play.specs.declared.outcome.Outcome.{Outcome}
+use Rattle.cave_play.specs.declared.outcome.Outcome.TheVariants.{Refused, Replayed}
+
+-- ---- the edited log
+
+-- a log as a file, each line with a line feed behind it
+abbrev pub log_text : List (List ℕ) → List ℕ
+log_text log = flat_map (λ line. line ++ codes "\n") log
+
+-- the text is the log of the game, and reads back as that log
+pub record IsLogOf (game : Game) (text : List ℕ) : Type 0 where
+  pub written : text ≡ log_text game.log
+  pub reads_back : lines text ≡ game.log
+
+-- ---- what each item replayed
+
+-- what is said beside the number of a refusal
+abbrev pub refusal_words : EditFault → List ℕ
+refusal_words NoSuchPlace = codes "no such line"
+refusal_words BadLine = codes "a bad line"
+refusal_words LogFull = codes "a full log"
+refusal_words BadSeed = codes "a bad seed"
+refusal_words MeterFull = codes "a full meter"
+refusal_words Memory = codes "no memory"
+refusal_words EmptyGroup = codes "an empty group"
+
+-- the place at which a replay met the old play, if it did
+abbrev pub met_text : Option ℕ → List ℕ
+met_text None = codes "none"
+met_text (Some place) = decimal place
+
+-- what is told of an item: where its replay began and met the old play, and how many of the lines
+-- it played; or why it was refused
+abbrev pub account : Applied → Outcome → List ℕ
+account item (Refused fault) =
+    codes "line " ++ (decimal (line_of item fault.at) ++ (codes ": refused "
+    ++ (decimal (refusal_number fault.cause) ++ (codes ", " ++ (refusal_words fault.cause ++ codes "\n")))))
+account item (Replayed replay) =
+    codes "line " ++ (decimal item.line ++ (codes ": ok, from " ++ (decimal replay.from
+    ++ (codes ", met " ++ (met_text replay.met ++ (codes ", played " ++ (decimal replay.played
+    ++ (codes " of " ++ (decimal replay.lines ++ codes "\n")))))))))
+
+-- what is told of items, one after another
+abbrev pub told_of : (Applied → Outcome → List ℕ) → List Applied → List Outcome → List ℕ
+told_of tell [] outcomes = []
+told_of tell (item ∷ items) [] = []
+told_of tell (item ∷ items) (outcome ∷ outcomes) = tell item outcome ++ told_of tell items outcomes
+
+-- the last line: how many lines were played, and how many would have been, had each accepted item
+-- played its log from the first line
+abbrev pub totals_line : ℕ → ℕ → List ℕ
+totals_line played lines =
+    codes "played " ++ (decimal played ++ (codes " lines; from the start it would have been "
+    ++ (decimal lines ++ codes "\n")))
+
+abbrev pub accounts : List Applied → List Outcome → List ℕ
+accounts items outcomes =
+    told_of account items outcomes
+    ++ totals_line (sum_by played_in outcomes) (sum_by lines_in outcomes)
+
+-- the text tells what came of the items in the game, whose play was opened with checkpoints so far
+-- apart
+abbrev pub IsAccount : CaveView → ℕ → Game → List Applied → List ℕ → Type 0
+IsAccount cave every game items text =
+    (checkpoints : List ℕ) × IsSpaced every checkpoints (length game.log)
+    × ((outcomes : List Outcome) × AreOutcomes cave every items game checkpoints outcomes
+    × (text ≡ accounts items outcomes))
+
+-- ---- what is written
+
+-- the text is what was asked for of the items that edit the game in the cave
+abbrev pub IsViewOf : View → CaveView → ℕ → Game → List Applied → List ℕ → Type 0
+IsViewOf Transcript cave every game items text = text ≡ edit_text cave game items
+IsViewOf Log cave every game items text = IsLogOf (edited_all items game) text
+IsViewOf Reports cave every game items text = IsAccount cave every game items text
+
+-- the same of the items that the script spells
+abbrev pub IsEditOf : View → CaveView → ℕ → Game → List ℕ → List ℕ → Type 0
+IsEditOf view cave every game script text =
+    (items : List Applied) × IsScript 1 (lines script) items
+    × IsViewOf view cave every game items text
+
+-- the output is what was asked for of the script that edits the log in the cave of the database
+-- and its bindings
+abbrev pub IsEdited : List ℕ → List ℕ → List ℕ → List ℕ → Editing → List ℕ → Type 0
+IsEdited database bindings log script editing output =
+    (cave : CaveView) × Reads database bindings cave
+    × IsEditOf editing.view cave editing.every (game_of editing.seed (lines log)) script output

@@ -1,0 +1,58 @@
+//! What comes of the items of a script.
+
+ghost use Rattle.std.specs.Prelude.{◌≡◌};
+ghost use Rattle.cave_play.specs.Outcomes.{lines_in, played_in, refusal_in};
+
+use cave_replay::GroupFault;
+
+/// How far the replay of an accepted item went.
+#[derive(Clone, Copy, Debug, PartialEq, Eq)]
+pub struct Replay {
+    /// The place that it began at.
+    pub from: u32,
+    /// The place at which it met the old play, if it did.
+    pub met: Option<u32>,
+    /// How many lines it played.
+    pub played: u32,
+    /// How many lines the edited log has.
+    pub lines: u32,
+}
+
+/// What came of an item of a script.
+#[derive(Clone, Copy, Debug, PartialEq, Eq)]
+pub enum Outcome {
+    Refused(GroupFault),
+    Replayed(Replay),
+}
+
+impl Outcome {
+    /// Why the item was refused, if it was.
+    pub fn refusal(self) -> Option<GroupFault>
+        ensures { result ≡ refusal_in self }
+    {
+        match self {
+            Outcome::Refused(fault) => Some(fault),
+            Outcome::Replayed(_) => None,
+        }
+    }
+
+    /// How many lines were played for the item.
+    pub fn played(self) -> u32
+        ensures { result ≡ played_in self }
+    {
+        match self {
+            Outcome::Refused(_) => 0,
+            Outcome::Replayed(replay) => replay.played,
+        }
+    }
+
+    /// How many lines playing the edited log from its first line would have played.
+    pub fn lines(self) -> u32
+        ensures { result ≡ lines_in self }
+    {
+        match self {
+            Outcome::Refused(_) => 0,
+            Outcome::Replayed(replay) => replay.lines,
+        }
+    }
+}

@@ -1,0 +1,150 @@
+//! What is told of the items of a script.
+
+ghost use Rattle.std.specs.Prelude.{◌≡◌, ◌++◌, IfOk, OnOk, string_bytes};
+ghost use Rattle.cave_script.specs.Shown.{applied};
+ghost use Rattle.cave_play.specs.Applying.{told_by};
+ghost use Rattle.cave_play.specs.Output.{refusal_number, report_by};
+ghost use Rattle.cave_play.specs.Views.{account, met_text, refusal_words, totals_line};
+ghost use Rattle.cave_play.specs.declared.outcome.Outcome.TheVariants.{Replayed};
+
+use crate::edits::Totals;
+use crate::outcome::{Outcome, Replay};
+use cave_editing::View;
+use cave_replay::{EditFault, GroupFault};
+use cave_script::Item;
+use std::alloc::{AllocError, Global};
+
+/// The number by which a report names a refusal.
+fn refusal_number(fault: EditFault) -> u8
+    ensures { result ≡ refusal_number fault }
+{
+    match fault {
+        EditFault::NoSuchPlace => 1,
+        EditFault::BadLine => 2,
+        EditFault::LogFull => 3,
+        EditFault::BadSeed => 4,
+        EditFault::MeterFull => 5,
+        EditFault::Memory => 6,
+        EditFault::EmptyGroup => 7,
+    }
+}
+
+/// What is said beside the number of a refusal.
+fn refusal_words(fault: EditFault) -> &'static str
+    ensures { result.now ≡ refusal_words fault }
+{
+    match fault {
+        EditFault::NoSuchPlace => "no such line",
+        EditFault::BadLine => "a bad line",
+        EditFault::LogFull => "a full log",
+        EditFault::BadSeed => "a bad seed",
+        EditFault::MeterFull => "a full meter",
+        EditFault::Memory => "no memory",
+        EditFault::EmptyGroup => "an empty group",
+    }
+}
+
+/// Reports on an item: that it was accepted, or why it was refused.
+fn push_report(
+    alloc: Global,
+    text: &mut Vec<u8>,
+    item: &Item,
+    refusal: Option<GroupFault>,
+) -> Result<(), AllocError>
+    ensures { OnOk result
+        (text.new.items ≡ text.old.items ++ report_by (applied item.now) refusal) }
+{
+    let report = match refusal {
+        None => {
+            let line = item.line;
+            format!(in alloc; "line {line}: ok\n")?
+        }
+        Some(fault) => {
+            let line = item.line_of(fault.at as usize);
+            let number = refusal_number(fault.cause);
+            format!(in alloc; "line {line}: refused {number}\n")?
+        }
+    };
+    text.extend_from_slice(report.as_bytes())
+}
+
+/// The place at which a replay met the old play, as it is told.
+fn met_text(alloc: Global, met: Option<u32>) -> Result<String, AllocError>
+    ensures { IfOk result (λ told. string_bytes told ≡ met_text met) }
+{
+    match met {
+        None => String::from_str(alloc, "none"),
+        Some(place) => format!(in alloc; "{place}"),
+    }
+}
+
+/// The line of an item that was replayed.
+fn account_of(alloc: Global, item: &Item, replay: Replay) -> Result<String, AllocError>
+    ensures { IfOk result (λ told.
+        string_bytes told ≡ account (applied item.now) (Replayed replay)) }
+{
+    let line = item.line;
+    let Replay {
+        from,
+        met,
+        played,
+        lines,
+    } = replay;
+    let met = met_text(alloc, met)?;
+    format!(in alloc; "line {line}: ok, from {from}, met {met}, played {played} of {lines}\n")
+}
+
+/// Tells what an item replayed, or why it was refused.
+fn push_account(
+    alloc: Global,
+    text: &mut Vec<u8>,
+    item: &Item,
+    outcome: Outcome,
+) -> Result<(), AllocError>
+    ensures { OnOk result (text.new.items ≡ text.old.items ++ account (applied item.now) outcome) }
+{
+    let told = match outcome {
+        Outcome::Refused(fault) => {
+            let line = item.line_of(fault.at as usize);
+            let number = refusal_number(fault.cause);
+            let words = refusal_words(fault.cause);
+            format!(in alloc; "line {line}: refused {number}, {words}\n")?
+        }
+        Outcome::Replayed(replay) => account_of(alloc, item, replay)?,
+    };
+    text.extend_from_slice(told.as_bytes())
+}
+
+/// Tells of an item what is asked for.
+pub(crate) fn push_outcome(
+    alloc: Global,
+    text: &mut Vec<u8>,
+    item: &Item,
+    view: View,
+    outcome: Outcome,
+) -> Result<(), AllocError>
+    ensures { OnOk result
+        (text.new.items ≡ text.old.items ++ told_by view (applied item.now) outcome) }
+{
+    match view {
+        View::Transcript => push_report(alloc, text, item, outcome.refusal()),
+        View::Log => Ok(()),
+        View::Reports => push_account(alloc, text, item, outcome),
+    }
+}
+
+/// Tells how many lines were played for all items.
+pub(crate) fn push_totals(
+    alloc: Global,
+    text: &mut Vec<u8>,
+    totals: Totals,
+) -> Result<(), AllocError>
+    ensures { OnOk result
+        (text.new.items ≡ text.old.items ++ totals_line totals.played totals.lines) }
+{
+    let Totals { played, lines } = totals;
+    let told = format!(in alloc;
+        "played {played} lines; from the start it would have been {lines}\n"
+    )?;
+    text.extend_from_slice(told.as_bytes())
+}
