@@ -39,11 +39,11 @@ A script has lines as these, whose places count the lines of the log from 0:
 
 An edit that is refused is reported by a number:
 
-  1  no such place: the log has no line there
-  2  bad line: too long, or with a byte that no line may have
-  3  log full: it has as many lines as it may
-  4  bad seed: it is too large
-  7  empty group: nothing is between begin and end";
+  1  no such line: the log has none at that place
+  2  a bad line: too long, or with a byte that no line may have
+  3  a full log: it has as many lines as it may
+  4  a bad seed: it is too large
+  7  an empty group: nothing is between begin and end";
 
 fn check_command<'a>(alloc: Global) -> Result<Command<'a>, AllocError>
     ensures { IfOk result (IsLocal check_app) }

@@ -43,7 +43,7 @@ pub record IsApplied (view : View) (items : List Applied)
   pub played_is : played ≡ sum_by played_in outcomes
   pub lines_are : lines ≡ sum_by lines_in outcomes
 
--- what is told behind all items, by what is asked for
+-- what is told after all items, by what is asked for
 abbrev pub ending : View → CaveView → Game → ℕ → ℕ → List ℕ
 ending Transcript cave game played lines = play_text cave game
 ending Log cave game played lines = log_text game.log

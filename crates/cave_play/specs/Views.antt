@@ -21,7 +21,7 @@ use Rattle.cave_play.specs.declared.outcome.Outcome.TheVariants.{Refused, Replay
 
 -- ---- the edited log
 
--- a log as a file, each line with a line feed behind it
+-- a log as a file, each line with a line feed after it
 abbrev pub log_text : List (List ℕ) → List ℕ
 log_text log = flat_map (λ line. line ++ codes "\n") log
 

@@ -288,7 +288,7 @@ fn edit_session<S: Read>(
     Ok(text)
 }
 
-/// Appends what is told behind all items of a script.
+/// Appends what is told after all items of a script.
 fn push_end(
     alloc: Global,
     machine: CaveMachine<'_>,

@@ -146,7 +146,7 @@ const TEXTS: [(&[&str], &str); 15] = [
     ),
     (
         &["cave", "edit", "-h"],
-        "  1  no such place: the log has no line there\n",
+        "  1  no such line: the log has none at that place\n",
     ),
     (&["cave", "-h"], "  7  memory ran out\n"),
     (&["cave", "-V"], "cave 1.0"),
