@@ -3,16 +3,32 @@
 use crate::caves::LONG_TEXT;
 use crate::runs::{Command, EDITED_TEXT, Feeds};
 use crate::streams::Sink;
+use cave_editing::View;
 use cave_play::fault::PlayFault;
 use std::alloc::Global;
 use std::process::Abort;
 
+/// The long log as the usual script edits it.
+const EDITED_LOG: &str = "no\nIN\n# note\non\ndown\n";
+
+/// What that script replays, with a checkpoint at each line.
+const REPORTS: &str = "line 1: ok, from 2, met 3, played 1 of 6\nline 2: refused 1, no such line\n\
+line 3: ok, from 1, met none, played 4 of 5\nplayed 5 lines; from the start it would have been 11\n";
+
 /// Does a run into a writer that needs no memory any more, so that want of memory is the run's own.
-fn expect_all_or_want_of_memory(rt: &impl Abort, alloc: Global, command: Command, all: &str) {
+fn expect_all_or_want_of_memory(
+    rt: &impl Abort,
+    alloc: Global,
+    command: Command,
+    view: View,
+    all: &str,
+) {
     let Ok(mut sink) = Sink::with_room(alloc, 4_096) else {
         return;
     };
-    match Feeds::usual().run_into(command, alloc, &mut sink) {
+    let mut feeds = Feeds::usual();
+    feeds.view = view;
+    match feeds.run_into(command, alloc, &mut sink) {
         Ok(()) => assert_eq!(rt; sink.taken.as_slice(), all.as_bytes()),
         Err(fault) => {
             assert_eq!(rt; fault, PlayFault::Memory);
@@ -24,7 +40,13 @@ fn expect_all_or_want_of_memory(rt: &impl Abort, alloc: Global, command: Command
 
 #[test]
 fn want_of_memory_writes_nothing(rt: HostRuntime) {
-    expect_all_or_want_of_memory(&rt, rt.alloc(), Command::Check, "cave ok, maximum 132\n");
-    expect_all_or_want_of_memory(&rt, rt.alloc(), Command::Play, LONG_TEXT);
-    expect_all_or_want_of_memory(&rt, rt.alloc(), Command::Edit, EDITED_TEXT);
+    for (command, view, all) in [
+        (Command::Check, View::Transcript, "cave ok, maximum 132\n"),
+        (Command::Play, View::Transcript, LONG_TEXT),
+        (Command::Edit, View::Transcript, EDITED_TEXT),
+        (Command::Edit, View::Log, EDITED_LOG),
+        (Command::Edit, View::Reports, REPORTS),
+    ] {
+        expect_all_or_want_of_memory(&rt, rt.alloc(), command, view, all);
+    }
 }

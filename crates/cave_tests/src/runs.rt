@@ -54,6 +54,7 @@ pub struct Feeds<'a> {
     pub script: Source<'a>,
     pub seed: u32,
     pub every: u32,
+    pub view: View,
 }
 
 impl<'a> Feeds<'a> {
@@ -66,6 +67,7 @@ impl<'a> Feeds<'a> {
             script: Source::of(script),
             seed: 0,
             every: 1,
+            view: View::Transcript,
         }
     }
 
@@ -127,7 +129,7 @@ impl<'a> Feeds<'a> {
                 Editing {
                     seed: self.seed,
                     every: self.every,
-                    view: View::Transcript,
+                    view: self.view,
                 },
                 sink,
             ),

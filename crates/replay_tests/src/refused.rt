@@ -133,15 +133,22 @@ fn a_refused_copy_is_want_of_memory(rt: HostRuntime) -> Result<(), Fail> {
 #[test]
 fn a_refused_edit_changes_nothing(rt: HostRuntime) -> Result<(), Fail> {
     edit_at_each_place(&rt, rt.alloc(), 1)?;
-    edit_at_each_place(&rt, rt.alloc(), 4)
+    edit_at_each_place(&rt, rt.alloc(), 4)?;
+    edit_at_each_place(&rt, rt.alloc(), 50)
+}
+
+/// Edits of each kind at a place, as one group, with checkpoints so far apart.
+fn edit_group_at(rt: &impl Abort, alloc: Global, every: u32, at: u32) -> Result<(), Fail> {
+    let counts = Counts::new();
+    let mut session = open(rt, alloc, &counts, every)?;
+    let old = copy(&session, &counts)?;
+    edit_group(rt, &mut session, &old, &edits_at(alloc, at)?)?;
+    Ok(())
 }
 
 #[test]
 fn a_refused_group_changes_nothing(rt: HostRuntime) -> Result<(), Fail> {
-    let counts = Counts::new();
-    let mut session = open(&rt, rt.alloc(), &counts, 4)?;
-    let old = copy(&session, &counts)?;
-    let edits = edits_at(rt.alloc(), 5)?;
-    edit_group(&rt, &mut session, &old, &edits)?;
-    Ok(())
+    edit_group_at(&rt, rt.alloc(), 1, 0)?;
+    edit_group_at(&rt, rt.alloc(), 4, 5)?;
+    edit_group_at(&rt, rt.alloc(), 50, 9)
 }
