@@ -35,6 +35,8 @@ $(PROGRAM): $(SOURCES)
 test:
 	bench/snippets
 	logs/documents
+	@mkdir -p out
+	bench/manual docs/PROGRAM.md > out/cave.1
 	bench/progress all out/test.log rt ci
 	@tail -n 1 out/test.log
 	logs/run $(PROGRAM)
