@@ -85,6 +85,6 @@ pub(crate) fn print_argument<'a>(alloc: Global) -> Arg<'a>
         .long("print")
         .value_name("WHAT")
         .help(
-            "What is printed: `transcript`, what the game says, `log`, the lines of the edited log, or `reports`, what each edit replayed [default: transcript]",
+            "What is printed: `transcript`, the reports and what the game says, `log`, the edited log without its seed, or `reports`, what each edit replayed [default: transcript]",
         )
 }
