@@ -4,11 +4,7 @@
 #[cfg(test)]
 mod caves;
 #[cfg(test)]
-mod covers;
-#[cfg(test)]
 mod each_limit;
-#[cfg(test)]
-mod equal_lists;
 #[cfg(test)]
 mod faults;
 #[cfg(test)]

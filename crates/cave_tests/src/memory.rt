@@ -40,13 +40,10 @@ fn expect_all_or_want_of_memory(
 
 #[test]
 fn want_of_memory_writes_nothing(rt: HostRuntime) {
-    for (command, view, all) in [
-        (Command::Check, View::Transcript, "cave ok, maximum 132\n"),
-        (Command::Play, View::Transcript, LONG_TEXT),
-        (Command::Edit, View::Transcript, EDITED_TEXT),
-        (Command::Edit, View::Log, EDITED_LOG),
-        (Command::Edit, View::Reports, REPORTS),
-    ] {
-        expect_all_or_want_of_memory(&rt, rt.alloc(), command, view, all);
-    }
+    let (alloc, shown) = (rt.alloc(), View::Transcript);
+    expect_all_or_want_of_memory(&rt, alloc, Command::Check, shown, "cave ok, maximum 132\n");
+    expect_all_or_want_of_memory(&rt, alloc, Command::Play, shown, LONG_TEXT);
+    expect_all_or_want_of_memory(&rt, alloc, Command::Edit, shown, EDITED_TEXT);
+    expect_all_or_want_of_memory(&rt, alloc, Command::Edit, View::Log, EDITED_LOG);
+    expect_all_or_want_of_memory(&rt, alloc, Command::Edit, View::Reports, REPORTS);
 }
