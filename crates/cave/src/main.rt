@@ -1,13 +1,14 @@
-//! Checks databases of caves, plays logs in them, edits logs by scripts, and tells which texts logs never show.
+//! Checks databases of caves, plays logs in them, edits logs by scripts, and lists the texts that
+//! logs never show.
 #![tactic(auto)]
 
 use cave_command::{Files, Line, command_line};
 use cave_cover::fault::CoverFault;
 use cave_cover::run::run_cover;
-use cave_editing::Editing;
-use cave_play::bindings::Bindings;
+use cave_play::bindings::{BindingsReader, CaveReaders};
 use cave_play::fault::{Complaint, Input, PlayFault, Unopened};
 use cave_play::run::{run_check, run_edit, run_play};
+use edit_options::Editing;
 use std::fs::File;
 use std::process::ExitCode;
 use std::{env, io};
@@ -47,7 +48,7 @@ impl<'a> Names<'a> {
 /// Why a run wasn't done.
 #[derive(Drop)]
 enum Failure<'a> {
-    /// The file of the input can't be opened, for a reason of the system's.
+    /// The system can't open the file of the input, for this reason.
     Unopened(Input, &'a str, io::Error),
     Run(PlayFault),
     /// A fault that is met at the log of this file, one of several.
@@ -73,19 +74,23 @@ fn open<'a>(rt: &HostRuntime, input: Input, file: &'a str) -> Result<File, Failu
     }
 }
 
-/// Opens the bindings, where there are any.
-fn open_bindings<'a>(rt: &HostRuntime, files: Files<'a>) -> Result<Bindings<File>, Failure<'a>> {
-    match files.bind {
-        Some(file) => Ok(Bindings::Given(open(rt, Input::Bindings, file)?)),
-        None => Ok(Bindings::Absent),
-    }
+/// Opens the files of a cave: its database, and its bindings, where there are any.
+fn open_cave<'a>(
+    rt: &HostRuntime,
+    files: Files<'a>,
+) -> Result<CaveReaders<File, BindingsReader<File>>, Failure<'a>> {
+    let database = open(rt, Input::Cave, files.cave)?;
+    let bindings = match files.bind {
+        Some(file) => BindingsReader::Given(open(rt, Input::Bindings, file)?),
+        None => BindingsReader::Absent,
+    };
+    Ok(CaveReaders { database, bindings })
 }
 
 fn check<'a>(rt: &HostRuntime, files: Files<'a>) -> Result<(), Failure<'a>> {
-    let mut cave = open(rt, Input::Cave, files.cave)?;
-    let mut bind = open_bindings(rt, files)?;
+    let mut cave = open_cave(rt, files)?;
     let mut output = io::writer(rt);
-    run_check(rt.alloc(), &mut cave, &mut bind, &mut output)?;
+    run_check(rt.alloc(), &mut cave, &mut output)?;
     Ok(())
 }
 
@@ -95,18 +100,10 @@ fn play<'a>(
     log: &'a str,
     seed: u32,
 ) -> Result<(), Failure<'a>> {
-    let mut cave = open(rt, Input::Cave, files.cave)?;
-    let mut bind = open_bindings(rt, files)?;
+    let mut cave = open_cave(rt, files)?;
     let mut log = open(rt, Input::Log, log)?;
     let mut output = io::writer(rt);
-    run_play(
-        rt.alloc(),
-        &mut cave,
-        &mut bind,
-        &mut log,
-        seed,
-        &mut output,
-    )?;
+    run_play(rt.alloc(), &mut cave, &mut log, seed, &mut output)?;
     Ok(())
 }
 
@@ -117,15 +114,13 @@ fn edit<'a>(
     script: &'a str,
     editing: Editing,
 ) -> Result<(), Failure<'a>> {
-    let mut cave = open(rt, Input::Cave, files.cave)?;
-    let mut bind = open_bindings(rt, files)?;
+    let mut cave = open_cave(rt, files)?;
     let mut log = open(rt, Input::Log, log)?;
     let mut script = open(rt, Input::Script, script)?;
     let mut output = io::writer(rt);
     run_edit(
         rt.alloc(),
         &mut cave,
-        &mut bind,
         &mut log,
         &mut script,
         editing,
@@ -159,14 +154,12 @@ fn cover<'a>(
     logs: &[&'a str],
     seed: u32,
 ) -> Result<(), Failure<'a>> {
-    let mut cave = open(rt, Input::Cave, files.cave)?;
-    let mut bind = open_bindings(rt, files)?;
+    let mut cave = open_cave(rt, files)?;
     let mut opened = open_logs(rt, logs)?;
     let mut output = io::writer(rt);
     match run_cover(
         rt.alloc(),
         &mut cave,
-        &mut bind,
         opened.as_mut_slice(),
         seed,
         &mut output,
@@ -176,13 +169,13 @@ fn cover<'a>(
     }
 }
 
-/// Tells a fault in one line, and gives the status that goes with it.
+/// Prints a fault in one line, and returns the status that goes with it.
 fn fail(rt: &HostRuntime, fault: PlayFault, file: Option<&str>) -> ExitCode {
     let _ = eprintln!(rt; "{}", Complaint { fault, file });
     ExitCode::from(fault.status())
 }
 
-/// Tells how a run ended, and gives the status that goes with it.
+/// Prints how a run ended, and returns the status that goes with it.
 fn tell(rt: &HostRuntime, names: Names<'_>, ended: Result<(), Failure<'_>>) -> ExitCode {
     match ended {
         Ok(()) => ExitCode::SUCCESS,

@@ -13,25 +13,26 @@ use Rattle.std.proofs.lemmas.List.Folds.{list_any-append}
 use Rattle.std.proofs.lemmas.List.FromFn.{length-map-range_with_len, get_or-map-range_with_len}
 use Rattle.std.proofs.lemmas.Map.Views.{any-filter_same}
 use Rattle.std.specs.Prelude.{is_some}
-use Rattle.cave_data.specs.CaveView.{CaveView, name_of}
-use Rattle.cave_world.specs.Halves.{half_number}
-use Rattle.cave_world.specs.Layout.{Layout}
-use Rattle.cave_world.specs.Lists.{halves_at, has_half, listed, put_first, relisted, without}
-use Rattle.cave_world.specs.Objects.{anchored, brought, moved, unplaced, with_prop}
-use Rattle.cave_world.specs.Spots.{is_place, spot_at}
-use Rattle.cave_world.specs.declared.lists.Entry.{Entry}
-use Rattle.cave_world.specs.declared.object.Half.{Half}
-use Rattle.cave_world.specs.declared.object.Half.TheVariants.{First, Second}
-use Rattle.cave_world.specs.declared.spot.Anchor.{Anchor}
-use Rattle.cave_world.specs.declared.spot.Anchor.TheVariants as anchor
-use Rattle.cave_world.specs.declared.spot.Spot.TheVariants as spot
-use Rattle.cave_world.proofs.Places.{halves_at-put_first}
+use Rattle.cave_data.specs.CaveView.{CaveView, inventory_text}
+use Rattle.cave_objects.specs.Halves.{half_number}
+use Rattle.cave_objects.specs.Layout.{Layout}
+use Rattle.cave_objects.specs.Lists.{halves_at, has_half, with_half, put_first, with_half_moved}
+use Rattle.cave_objects.specs.Lists.{without}
+use Rattle.cave_objects.specs.Objects.{anchored_to, brought_to, moved_to, without_places, with_prop}
+use Rattle.cave_objects.specs.Spots.{is_place, spot_at}
+use Rattle.cave_objects.specs.declared.lists.PlacedHalf.{PlacedHalf}
+use Rattle.cave_objects.specs.declared.object.Half.{Half}
+use Rattle.cave_objects.specs.declared.object.Half.TheVariants.{First, Second}
+use Rattle.cave_objects.specs.declared.spot.Anchor.{Anchor}
+use Rattle.cave_objects.specs.declared.spot.Anchor.TheVariants as anchor
+use Rattle.cave_objects.specs.declared.spot.Spot.TheVariants as spot
+use Rattle.cave_objects.proofs.Places.{halves_at-put_first}
 use Rattle.cave_things.specs.Homes.{home, hold_of}
-use Rattle.cave_begin.specs.Begin.{is_due, all_objects, objects_due, start_prop, start_order}
+use Rattle.cave_begin.specs.Begin.{is_placed_now, all_objects, objects_due, start_prop, start_order}
 use Rattle.cave_begin.specs.Begin.{start_halves, start_list, both_halves, place_of_half, laid_out}
 use Rattle.cave_begin.specs.Begin.{begun_objects}
 use Rattle.cave_things.specs.Treasures.{treasures, known_treasures}
-use Rattle.cave_begin.specs.Placing.{placed, all_placed, all_hidden}
+use Rattle.cave_begin.specs.Placing.{after_placing, all_placed, all_hidden}
 
 -- ---- numbers in a range
 in_range : (a n k : ℕ) → list_any (eqb k) (range_with_len a n) ≡ (leb a k && ltb k (a + n))
@@ -42,7 +43,8 @@ in_range a (suc n) k = rw (in_range (a + 1) n k) more where
   more : (eqb k a || (leb (a + 1) k && ltb k (a + 1 + n))) ≡ (leb a k && ltb k (a + suc n))
   more = grind (arith, nat_tests)
 
-among : (p : ℕ → Bool) (xs : List ℕ) (k : ℕ) → list_any (eqb k) (filter p xs) ≡ (p k && list_any (eqb k) xs)
+among : (p : ℕ → Bool) (xs : List ℕ) (k : ℕ)
+    → list_any (eqb k) (filter p xs) ≡ (p k && list_any (eqb k) xs)
 among p xs k = any-filter_same (eqb k) p (p k) (λ x t. ap p (sym (eqb-true k x t))) xs
 
 -- ---- each number is that of an object, and none comes twice
@@ -50,28 +52,35 @@ abbrev IsOrder : List ℕ → Type 0
 IsOrder [] = Unit {0}
 IsOrder (x ∷ xs) = (0 < x) × ((x ≤ 100) × ((list_any (eqb x) xs ≡ false) × IsOrder xs))
 
-order_next : (p : ℕ → Bool) (a n : ℕ) (b : Bool) → 0 < a → a ≤ 100 → IsOrder (filter p (range_with_len (a + 1) n))
-    → IsOrder (cond b (a ∷ filter p (range_with_len (a + 1) n)) (filter p (range_with_len (a + 1) n)))
+order_next : (p : ℕ → Bool) (a n : ℕ) (b : Bool) → 0 < a → a ≤ 100
+    → IsOrder (filter p (range_with_len (a + 1) n))
+    → IsOrder
+    (cond b (a ∷ filter p (range_with_len (a + 1) n)) (filter p (range_with_len (a + 1) n)))
 order_next p a n true low high rest = (low, (high, (later, rest))) where
   none : (leb (a + 1) a && ltb a (a + 1 + n)) ≡ false
   none = grind (arith, nat_tests)
 
   later : list_any (eqb a) (filter p (range_with_len (a + 1) n)) ≡ false
-  later = among p (range_with_len (a + 1) n) a ∙ (ap (λ b. p a && b) (in_range (a + 1) n a ∙ none) ∙ and_right (p a) false refl)
+  later = among p (range_with_len (a + 1) n) a
+      ∙ (ap (λ b. p a && b) (in_range (a + 1) n a ∙ none) ∙ and_right (p a) false refl)
 order_next p a n false low high rest = rest
 
-order_kept : (p : ℕ → Bool) (a n : ℕ) → 0 < a → a + n ≤ 101 → IsOrder (filter p (range_with_len a n))
+order_kept : (p : ℕ → Bool) (a n : ℕ) → 0 < a → a + n ≤ 101
+    → IsOrder (filter p (range_with_len a n))
 order_kept p a zero low high = tt
-order_kept p a (suc n) low high = order_next p a n (p a) low (omega arith) (order_kept p (a + 1) n (omega arith) (omega arith))
+order_kept p a (suc n) low high =
+    order_next p a n (p a) low (omega arith) (order_kept p (a + 1) n (omega arith) (omega arith))
 
-order_joined : (xs ys : List ℕ) → IsOrder xs → IsOrder ys → ((k : ℕ) → list_any (eqb k) xs ≡ true → list_any (eqb k) ys ≡ false) → IsOrder (xs ++ ys)
+order_joined : (xs ys : List ℕ) → IsOrder xs → IsOrder ys
+    → ((k : ℕ) → list_any (eqb k) xs ≡ true → list_any (eqb k) ys ≡ false) → IsOrder (xs ++ ys)
 order_joined [] ys one two apart = two
 order_joined (x ∷ xs) ys one two apart = (
   one.0,
   (
     one.1.0,
     (
-      list_any-append (eqb x) xs ys ∙ or_from _ _ one.1.1.0 (apart x (ap (λ b. b || list_any (eqb x) xs) (eq-eqb x x refl))),
+      list_any-append (eqb x) xs ys
+          ∙ or_from _ _ one.1.1.0 (apart x (ap (λ b. b || list_any (eqb x) xs) (eq-eqb x x refl))),
       order_joined xs ys one.1.1.1 two (λ k t. apart k (later (eqb k x) (list_any (eqb k) xs) t)),
     ),
   ),
@@ -81,7 +90,8 @@ order_joined (x ∷ xs) ys one two apart = (
     later true b t = refl
     later false b t = t
 
-either_due : (a : Anchor) → (is_due false a ≡ true → is_due true a ≡ false) × ((is_due false a || is_due true a) ≡ true)
+either_due : (a : Anchor) → (is_placed_now false a ≡ true → is_placed_now true a ≡ false)
+    × ((is_placed_now false a || is_placed_now true a) ≡ true)
 either_due anchor.Loose = (λ t. refl, refl)
 either_due anchor.Fixed = (λ t. refl, refl)
 either_due (anchor.At place) = (λ t. absurd (false≢true t), refl)
@@ -97,11 +107,13 @@ objects_kept p = order_kept p 1 100 (omega arith) (omega arith)
 
 due_kept : (cave : CaveView) (twice : Bool) → IsOrder (objects_due cave twice)
 unfolding objects_due
-due_kept cave twice = objects_kept (λ x. is_due twice (hold_of cave x))
+due_kept cave twice = objects_kept (λ x. is_placed_now twice (hold_of cave x))
 
-in_due : (cave : CaveView) (twice : Bool) (k : ℕ) → list_any (eqb k) (objects_due cave twice) ≡ (is_due twice (hold_of cave k) && list_any (eqb k) all_objects)
+in_due : (cave : CaveView) (twice : Bool) (k : ℕ)
+    → list_any (eqb k) (objects_due cave twice)
+    ≡ (is_placed_now twice (hold_of cave k) && list_any (eqb k) all_objects)
 unfolding objects_due
-in_due cave twice k = among (λ x. is_due twice (hold_of cave x)) all_objects k
+in_due cave twice k = among (λ x. is_placed_now twice (hold_of cave x)) all_objects k
 
 both_true : (a b : Bool) → (a && b) ≡ true → a ≡ true
 both_true true b t = refl
@@ -109,23 +121,33 @@ both_true false b t = t
 
 start_is_order : (cave : CaveView) → IsOrder (start_order cave)
 unfolding start_order
-start_is_order cave = order_joined (objects_due cave false) (objects_due cave true) (due_kept cave false) (due_kept cave true) apart where
-  apart : (k : ℕ) → list_any (eqb k) (objects_due cave false) ≡ true → list_any (eqb k) (objects_due cave true) ≡ false
-  apart k t =
-      let single : is_due false (hold_of cave k) ≡ true = both_true (is_due false (hold_of cave k)) (list_any (eqb k) all_objects) (sym (in_due cave false k) ∙ t) in
-      in_due cave true k ∙ and_left (is_due true (hold_of cave k)) (list_any (eqb k) all_objects) ((either_due (hold_of cave k)).0 single)
+start_is_order cave =
+    order_joined (objects_due cave false) (objects_due cave true) (due_kept cave false)
+    (due_kept cave true) apart where
+      apart : (k : ℕ) → list_any (eqb k) (objects_due cave false) ≡ true
+          → list_any (eqb k) (objects_due cave true) ≡ false
+      apart k t =
+          let single : is_placed_now false (hold_of cave k) ≡ true =
+          both_true (is_placed_now false (hold_of cave k)) (list_any (eqb k) all_objects)
+          (sym (in_due cave false k) ∙ t) in
+          in_due cave true k
+          ∙ and_left (is_placed_now true (hold_of cave k)) (list_any (eqb k) all_objects)
+          ((either_due (hold_of cave k)).0 single)
 
 both_cases : (a b c : Bool) → c ≡ true → (a || b) ≡ true → ((a && c) || (b && c)) ≡ true
 both_cases true b c e t = rw e refl
 both_cases false true c e t = e
 both_cases false false c e t = t
 
-each_in_order : (cave : CaveView) (k : ℕ) → k < 100 → list_any (eqb (k + 1)) (start_order cave) ≡ true
+each_in_order : (cave : CaveView) (k : ℕ) → k < 100
+    → list_any (eqb (k + 1)) (start_order cave) ≡ true
 unfolding start_order
 each_in_order cave k h =
     list_any-append (eqb (k + 1)) (objects_due cave false) (objects_due cave true)
     ∙ rw (in_due cave false (k + 1), in_due cave true (k + 1))
-    (both_cases (is_due false (hold_of cave (k + 1))) (is_due true (hold_of cave (k + 1))) (list_any (eqb (k + 1)) all_objects) (in_objects (k + 1) ∙ inside) (either_due (hold_of cave (k + 1))).1) where
+    (both_cases (is_placed_now false (hold_of cave (k + 1)))
+    (is_placed_now true (hold_of cave (k + 1))) (list_any (eqb (k + 1)) all_objects)
+    (in_objects (k + 1) ∙ inside) (either_due (hold_of cave (k + 1))).1) where
       inside : (leb 1 (k + 1) && ltb (k + 1) (1 + 100)) ≡ true
       inside = grind (arith, nat_tests)
 
@@ -138,9 +160,11 @@ length-sets : {X : Type 0} (f : ℕ → X) (xs : List ℕ) (l : List X) → leng
 length-sets f [] l = refl
 length-sets f (x ∷ xs) l = length-set (sets f xs l) (x - 1) (f x) ∙ length-sets f xs l
 
-get-set : {X : Type 0} (f : ℕ → X) (x : ℕ) (l : List X) (k : ℕ) (d : X) → 0 < x → k < length l → get_or (set l (x - 1) (f x)) k d ≡ cond (eqb (k + 1) x) (f (k + 1)) (get_or l k d)
+get-set : {X : Type 0} (f : ℕ → X) (x : ℕ) (l : List X) (k : ℕ) (d : X) → 0 < x → k < length l
+    → get_or (set l (x - 1) (f x)) k d ≡ cond (eqb (k + 1) x) (f (k + 1)) (get_or l k d)
 get-set f x l k d low h = at (cases_eq (k + 1) x) where
-  at : (k + 1 ≡ x) ⊎ (k + 1 ≡ x → ⊥) → get_or (set l (x - 1) (f x)) k d ≡ cond (eqb (k + 1) x) (f (k + 1)) (get_or l k d)
+  at : (k + 1 ≡ x) ⊎ (k + 1 ≡ x → ⊥)
+      → get_or (set l (x - 1) (f x)) k d ≡ cond (eqb (k + 1) x) (f (k + 1)) (get_or l k d)
   at (inl e) =
       let here : x - 1 ≡ k = omega arith in
       rw (here, eq-eqb (k + 1) x e) (get_or-set_same l k (f x) d h ∙ ap f (sym e))
@@ -148,75 +172,102 @@ get-set f x l k d low h = at (cases_eq (k + 1) x) where
       let there : k ≡ x - 1 → ⊥ = λ e. ne (omega (arith, e)) in
       rw (ne_eqb (k + 1) x ne) (get_or-set_other l (x - 1) k (f x) d there)
 
-get-sets : {X : Type 0} (f : ℕ → X) (xs : List ℕ) (l : List X) (k : ℕ) (d : X) → IsOrder xs → k < length l
+get-sets : {X : Type 0} (f : ℕ → X) (xs : List ℕ) (l : List X) (k : ℕ) (d : X) → IsOrder xs
+    → k < length l
     → get_or (sets f xs l) k d ≡ cond (list_any (eqb (k + 1)) xs) (f (k + 1)) (get_or l k d)
 get-sets f [] l k d o h = refl
 get-sets {X} f (x ∷ xs) l k d o h =
     get-set f x (sets f xs l) k d o.0 (omega (arith, length-sets f xs l))
-    ∙ rw (get-sets f xs l k d o.1.1.1 h) (either (eqb (k + 1) x) (list_any (eqb (k + 1)) xs) (f (k + 1)) (get_or l k d)) where
+    ∙ rw (get-sets f xs l k d o.1.1.1 h)
+    (either (eqb (k + 1) x) (list_any (eqb (k + 1)) xs) (f (k + 1)) (get_or l k d)) where
       either : (a b : Bool) (v w : X) → cond a v (cond b v w) ≡ cond (a || b) v w
       either true b v w = refl
       either false b v w = refl
 
 -- a list of 100 that has at each place what belongs to the object of the next number
-each_in_range : {X : Type 0} (g : ℕ → X) (n : ℕ) (l : List X) (d : X) → length l ≡ n → ((k : ℕ) → k < n → get_or l k d ≡ g (k + 1)) → l ≡ map g (range_with_len 1 n)
+each_in_range : {X : Type 0} (g : ℕ → X) (n : ℕ) (l : List X) (d : X) → length l ≡ n
+    → ((k : ℕ) → k < n → get_or l k d ≡ g (k + 1)) → l ≡ map g (range_with_len 1 n)
 each_in_range g n l d long h =
     ext_get_or d l (map g (range_with_len 1 n)) (long ∙ sym (length-map-range_with_len g 1 n))
-    (λ k b. h k (omega arith) ∙ sym (get_or-map-range_with_len g 1 n k (k + 1) d (omega arith) (omega arith)))
+    (λ k b. h k (omega arith)
+    ∙ sym (get_or-map-range_with_len g 1 n k (k + 1) d (omega arith) (omega arith)))
 
-each_is : {X : Type 0} (g : ℕ → X) (l : List X) (d : X) → length l ≡ 100 → ((k : ℕ) → k < 100 → get_or l k d ≡ g (k + 1)) → l ≡ map g all_objects
+each_is : {X : Type 0} (g : ℕ → X) (l : List X) (d : X) → length l ≡ 100
+    → ((k : ℕ) → k < 100 → get_or l k d ≡ g (k + 1)) → l ≡ map g all_objects
 unfolding all_objects
 each_is g l d long h = each_in_range g 100 l d long h
 
-all_set : {X : Type 0} (f : ℕ → X) (xs : List ℕ) (l : List X) (d : X) → IsOrder xs → length l ≡ 100 → ((k : ℕ) → k < 100 → list_any (eqb (k + 1)) xs ≡ true) → sets f xs l ≡ map f all_objects
+all_set : {X : Type 0} (f : ℕ → X) (xs : List ℕ) (l : List X) (d : X) → IsOrder xs → length l ≡ 100
+    → ((k : ℕ) → k < 100 → list_any (eqb (k + 1)) xs ≡ true) → sets f xs l ≡ map f all_objects
 all_set f xs l d o long all =
     each_is f (sets f xs l) d (length-sets f xs l ∙ long)
-    (λ k h. get-sets f xs l k d o (omega arith) ∙ ap (λ b. cond b (f (k + 1)) (get_or l k d)) (all k h))
+    (λ k h. get-sets f xs l k d o (omega arith)
+    ∙ ap (λ b. cond b (f (k + 1)) (get_or l k d)) (all k h))
 
 -- ---- lists of halves
-lacking : (n : ℕ) (es : List Entry) → list_any (has_half n) es ≡ false → without n es ≡ es
+lacking : (n : ℕ) (es : List PlacedHalf) → list_any (has_half n) es ≡ false → without n es ≡ es
 unfolding without
 lacking n [] h = refl
 lacking n (e ∷ es) h =
     let parts = or_parts (has_half n e) (list_any (has_half n) es) h in
-    rw parts.0 (ap (λ (l : List Entry). e ∷ l) (lacking n es parts.1))
+    rw parts.0 (ap (λ (l : List PlacedHalf). e ∷ l) (lacking n es parts.1))
 
-none_in : (p : Entry → Bool) (first e : Entry) (es put : List Entry) (b : Bool) → p first ≡ false → (p e || list_any p es) ≡ false → list_any p put ≡ false
+none_in : (p : PlacedHalf → Bool) (first e : PlacedHalf) (es put : List PlacedHalf) (b : Bool)
+    → p first ≡ false
+    → (p e || list_any p es) ≡ false → list_any p put ≡ false
     → list_any p (cond b (e ∷ put) (first ∷ e ∷ es)) ≡ false
-none_in p first e es put true h none rest = or_from (p e) (list_any p put) (or_parts (p e) (list_any p es) none).0 rest
+none_in p first e es put true h none rest =
+    or_from (p e) (list_any p put) (or_parts (p e) (list_any p es) none).0 rest
 none_in p first e es put false h none rest = or_from (p first) (p e || list_any p es) h none
 
-any-put_first : (p : Entry → Bool) (first : Entry) (es : List Entry) → p first ≡ false → list_any p es ≡ false → list_any p (put_first first es) ≡ false
+any-put_first : (p : PlacedHalf → Bool) (first : PlacedHalf) (es : List PlacedHalf)
+    → p first ≡ false
+    → list_any p es ≡ false → list_any p (put_first first es) ≡ false
 unfolding put_first
 any-put_first p first [] h none = or_from (p first) false h refl
 any-put_first p first (e ∷ es) h none =
-    none_in p first e es (put_first first es) (nat_lt e.place first.place) h none (any-put_first p first es h (or_parts (p e) (list_any p es) none).1)
+    none_in p first e es (put_first first es) (nat_lt e.place first.place) h none
+    (any-put_first p first es h (or_parts (p e) (list_any p es) none).1)
 
-any-listed : (n : ℕ) (half : Half) (place : Option ℕ) (es : List Entry) → eqb (half_number half) n ≡ false → list_any (has_half n) es ≡ false → list_any (has_half n) (listed half place es) ≡ false
-any-listed n half None es h none = none
-any-listed n half (Some place) es h none = any-put_first (has_half n) (record { place = place; half = half }) es h none
+any-with_half : (n : ℕ) (half : Half) (place : Option ℕ) (es : List PlacedHalf)
+    → eqb (half_number half) n ≡ false → list_any (has_half n) es ≡ false
+    → list_any (has_half n) (with_half half place es) ≡ false
+any-with_half n half None es h none = none
+any-with_half n half (Some place) es h none =
+    any-put_first (has_half n) (record { place = place; half = half }) es h none
 
-any-laid_out : (cave : CaveView) (n : ℕ) (halves : List Half) → list_any (λ (h : Half). eqb (half_number h) n) halves ≡ false → list_any (has_half n) (laid_out cave halves) ≡ false
+any-laid_out : (cave : CaveView) (n : ℕ) (halves : List Half)
+    → list_any (λ (h : Half). eqb (half_number h) n) halves ≡ false
+    → list_any (has_half n) (laid_out cave halves) ≡ false
 any-laid_out cave n [] none = refl
 any-laid_out cave n (half ∷ halves) none =
-    let parts = or_parts (eqb (half_number half) n) (list_any (λ (h : Half). eqb (half_number h) n) halves) none in
-    any-listed n half (place_of_half cave half) (laid_out cave halves) parts.0 (any-laid_out cave n halves parts.1)
+    let parts =
+    or_parts (eqb (half_number half) n) (list_any (λ (h : Half). eqb (half_number h) n) halves)
+    none in
+    any-with_half n half (place_of_half cave half) (laid_out cave halves) parts.0
+    (any-laid_out cave n halves parts.1)
 
-relisted_new : (half : Half) (place : Option ℕ) (es : List Entry) → list_any (has_half (half_number half)) es ≡ false → relisted half place es ≡ listed half place es
-unfolding relisted
-relisted_new half place es h = ap (λ l. listed half place l) (lacking (half_number half) es h)
+relisted_new : (half : Half) (place : Option ℕ) (es : List PlacedHalf)
+    → list_any (has_half (half_number half)) es ≡ false
+    → with_half_moved half place es ≡ with_half half place es
+unfolding with_half_moved
+relisted_new half place es h = ap (λ l. with_half half place l) (lacking (half_number half) es h)
 
 -- neither half of an object is among those of others
 apart : (x : ℕ) (xs : List ℕ) → 0 < x → x ≤ 100 → list_any (eqb x) xs ≡ false → IsOrder xs
-    → (list_any (λ (h : Half). eqb (half_number h) x) (flat_map both_halves xs) ≡ false) × (list_any (λ (h : Half). eqb (half_number h) (100 + x)) (flat_map both_halves xs) ≡ false)
+    → (list_any (λ (h : Half). eqb (half_number h) x) (flat_map both_halves xs) ≡ false)
+    × (list_any (λ (h : Half). eqb (half_number h) (100 + x)) (flat_map both_halves xs) ≡ false)
 apart x [] low high none o = (refl, refl)
 apart x (y ∷ ys) low high none o =
     let parts = or_parts (eqb x y) (list_any (eqb x) ys) none in
     let rest = apart x ys low high parts.1 o.1.1.1 in
     let first : eqb y x ≡ false = sym (turned x y) ∙ parts.0 in
-    let second : eqb (100 + y) x ≡ false = ne_eqb (100 + y) x (λ e. absurd (omega (arith, e, high, o.0))) in
-    let third : eqb y (100 + x) ≡ false = ne_eqb y (100 + x) (λ e. absurd (omega (arith, e, low, o.1.0))) in
-    let fourth : eqb (100 + y) (100 + x) ≡ false = ne_eqb (100 + y) (100 + x) (λ e. both (eqb y x) first (eq-eqb y x (omega (arith, e)))) in
+    let second : eqb (100 + y) x ≡ false =
+    ne_eqb (100 + y) x (λ e. absurd (omega (arith, e, high, o.0))) in
+    let third : eqb y (100 + x) ≡ false =
+    ne_eqb y (100 + x) (λ e. absurd (omega (arith, e, low, o.1.0))) in
+    let fourth : eqb (100 + y) (100 + x) ≡ false =
+    ne_eqb (100 + y) (100 + x) (λ e. both (eqb y x) first (eq-eqb y x (omega (arith, e)))) in
     (rw (first, second) rest.0, rw (third, fourth) rest.1)
   where
     turned : (a b : ℕ) → eqb a b ≡ eqb b a
@@ -225,17 +276,19 @@ apart x (y ∷ ys) low high none o =
     both : (b : Bool) → b ≡ false → b ≡ true → ⊥
     both b f t = false≢true (sym f ∙ t)
 
--- ---- objects that are put where they stand
+-- ---- objects that are put where they belong
 placed_is : (cave : CaveView) (x : ℕ) (o : Layout) → 0 < x
-    → placed cave x o
+    → after_placing cave x o
     ≡ record {
       first = set o.first (x - 1) (spot_at (home cave x));
       second = set o.second (x - 1) (hold_of cave x);
       props = o.props;
-      lists = relisted (First x) (place_of_half cave (First x)) (relisted (Second x) (place_of_half cave (Second x)) o.lists);
+      lists = with_half_moved (First x) (place_of_half cave (First x))
+          (with_half_moved (Second x) (place_of_half cave (Second x)) o.lists);
     }
-unfolding placed moved brought anchored
-placed_is cave x o h = let some : eqb x 0 ≡ false = ne_eqb x 0 (λ e. absurd (omega (arith, e))) in rw some refl
+unfolding after_placing moved_to brought_to anchored_to
+placed_is cave x o h =
+    let some : eqb x 0 ≡ false = ne_eqb x 0 (λ e. absurd (omega (arith, e))) in rw some refl
 
 -- what the objects of a list are once they were put, of which none was anywhere
 abbrev standing : CaveView → List ℕ → Layout → Layout
@@ -247,25 +300,34 @@ standing cave xs o = record {
 }
 
 next_lists : (cave : CaveView) (x : ℕ) (xs : List ℕ) → IsOrder (x ∷ xs)
-    → relisted (First x) (place_of_half cave (First x)) (relisted (Second x) (place_of_half cave (Second x)) (laid_out cave (flat_map both_halves xs)))
+    → with_half_moved (First x) (place_of_half cave (First x))
+    (with_half_moved (Second x) (place_of_half cave (Second x))
+    (laid_out cave (flat_map both_halves xs)))
     ≡ laid_out cave (flat_map both_halves (x ∷ xs))
 next_lists cave x xs o =
-    let es : List Entry = laid_out cave (flat_map both_halves xs) in
+    let es : List PlacedHalf = laid_out cave (flat_map both_halves xs) in
     let free = apart x xs o.0 o.1.0 o.1.1.0 o.1.1.1 in
-    let none : list_any (has_half (100 + x)) es ≡ false = any-laid_out cave (100 + x) (flat_map both_halves xs) free.1 in
-    let none_first : list_any (has_half x) es ≡ false = any-laid_out cave x (flat_map both_halves xs) free.0 in
+    let none : list_any (has_half (100 + x)) es ≡ false =
+    any-laid_out cave (100 + x) (flat_map both_halves xs) free.1 in
+    let none_first : list_any (has_half x) es ≡ false =
+    any-laid_out cave x (flat_map both_halves xs) free.0 in
     let differs : eqb (100 + x) x ≡ false = ne_eqb (100 + x) x (λ e. absurd (omega (arith, e))) in
     let second = relisted_new (Second x) (place_of_half cave (Second x)) es none in
-    let still : list_any (has_half x) (listed (Second x) (place_of_half cave (Second x)) es) ≡ false = any-listed x (Second x) (place_of_half cave (Second x)) es differs none_first in
-    ap (λ l. relisted (First x) (place_of_half cave (First x)) l) second
-    ∙ relisted_new (First x) (place_of_half cave (First x)) (listed (Second x) (place_of_half cave (Second x)) es) still
+    let still : list_any (has_half x) (with_half (Second x) (place_of_half cave (Second x)) es)
+    ≡ false =
+    any-with_half x (Second x) (place_of_half cave (Second x)) es differs none_first in
+    ap (λ l. with_half_moved (First x) (place_of_half cave (First x)) l) second
+    ∙ relisted_new (First x) (place_of_half cave (First x))
+    (with_half (Second x) (place_of_half cave (Second x)) es) still
 
-all_stand : (cave : CaveView) (xs : List ℕ) (o : Layout) → IsOrder xs → o.lists ≡ [] → all_placed cave xs o ≡ standing cave xs o
-all_stand cave [] o order none = λ i. record { first = o.first; second = o.second; props = o.props; lists = none i }
+all_stand : (cave : CaveView) (xs : List ℕ) (o : Layout) → IsOrder xs → o.lists ≡ []
+    → all_placed cave xs o ≡ standing cave xs o
+all_stand cave [] o order none =
+    λ i. record { first = o.first; second = o.second; props = o.props; lists = none i }
 all_stand cave (x ∷ xs) o order none =
     let before = all_stand cave xs o order.1.1.1 none in
     let lists = next_lists cave x xs order in
-    ap (λ l. placed cave x l) before
+    ap (λ l. after_placing cave x l) before
     ∙ (placed_is cave x (standing cave xs o) order.0
     ∙ (λ i. record {
       first = sets (λ x. spot_at (home cave x)) (x ∷ xs) o.first;
@@ -274,9 +336,11 @@ all_stand cave (x ∷ xs) o order none =
       lists = lists i;
     }))
 
-pub all_placed-append : (cave : CaveView) (xs ys : List ℕ) (o : Layout) → all_placed cave (xs ++ ys) o ≡ all_placed cave xs (all_placed cave ys o)
+pub all_placed-append : (cave : CaveView) (xs ys : List ℕ) (o : Layout)
+    → all_placed cave (xs ++ ys) o ≡ all_placed cave xs (all_placed cave ys o)
 all_placed-append cave [] ys o = refl
-all_placed-append cave (x ∷ xs) ys o = ap (λ l. placed cave x l) (all_placed-append cave xs ys o)
+all_placed-append cave (x ∷ xs) ys o =
+    ap (λ l. after_placing cave x l) (all_placed-append cave xs ys o)
 
 -- ---- treasures that are hidden
 abbrev hides : List ℕ → List ℤ → List ℤ
@@ -285,20 +349,26 @@ hides (x ∷ xs) l = hides xs (set l (x - 1) (negsuc 0))
 
 length-hides : (xs : List ℕ) (l : List ℤ) → length (hides xs l) ≡ length l
 length-hides [] l = refl
-length-hides (x ∷ xs) l = length-hides xs (set l (x - 1) (negsuc 0)) ∙ length-set l (x - 1) (negsuc 0)
+length-hides (x ∷ xs) l = length-hides xs (set l (x - 1) (negsuc 0))
+    ∙ length-set l (x - 1) (negsuc 0)
 
 get-hides : (xs : List ℕ) (l : List ℤ) (k : ℕ) (d : ℤ) → IsOrder xs → k < length l
     → get_or (hides xs l) k d ≡ cond (list_any (eqb (k + 1)) xs) (negsuc 0) (get_or l k d)
 get-hides [] l k d o h = refl
 get-hides (x ∷ xs) l k d o h =
-    get-hides xs (set l (x - 1) (negsuc 0)) k d o.1.1.1 (omega (arith, length-set l (x - 1) (negsuc 0)))
-    ∙ rw (get-set (λ _. negsuc 0) x l k d o.0 h) (either (eqb (k + 1) x) (list_any (eqb (k + 1)) xs)) where
-      either : (a b : Bool) → cond b (negsuc 0) (cond a (negsuc 0) (get_or l k d)) ≡ cond (a || b) (negsuc 0) (get_or l k d)
+    get-hides xs (set l (x - 1) (negsuc 0)) k d o.1.1.1
+    (omega (arith, length-set l (x - 1) (negsuc 0)))
+    ∙ rw (get-set (λ _. negsuc 0) x l k d o.0 h)
+    (either (eqb (k + 1) x) (list_any (eqb (k + 1)) xs)) where
+      either : (a b : Bool)
+          → cond b (negsuc 0) (cond a (negsuc 0) (get_or l k d))
+          ≡ cond (a || b) (negsuc 0) (get_or l k d)
       either true true = refl
       either true false = refl
       either false b = refl
 
-all_hidden_is : (xs : List ℕ) (o : Layout) → IsOrder xs → all_hidden xs o ≡ record o { props = hides xs o.props }
+all_hidden_is : (xs : List ℕ) (o : Layout) → IsOrder xs
+    → all_hidden xs o ≡ record o { props = hides xs o.props }
 unfolding with_prop
 all_hidden_is [] o h = refl
 all_hidden_is (x ∷ xs) o h =
@@ -311,42 +381,69 @@ treasures_kept p = order_kept p 50 30 (omega arith) (omega arith)
 
 treasures_are_order : (cave : CaveView) → IsOrder (known_treasures cave)
 unfolding known_treasures
-treasures_are_order cave = treasures_kept (λ x. is_some (name_of cave x))
+treasures_are_order cave = treasures_kept (λ x. is_some (inventory_text cave x))
 
-props_begin : (cave : CaveView) → hides (known_treasures cave) (replicate 100 (pos 0)) ≡ map (start_prop cave) all_objects
+props_begin : (cave : CaveView)
+    → hides (known_treasures cave) (replicate 100 (pos 0)) ≡ map (start_prop cave) all_objects
 props_begin cave =
     each_is (start_prop cave) (hides (known_treasures cave) (replicate 100 (pos 0))) (pos 0)
     (length-hides (known_treasures cave) (replicate 100 (pos 0)) ∙ length-replicate 100 (pos 0))
     (λ k h.
-    get-hides (known_treasures cave) (replicate 100 (pos 0)) k (pos 0) (treasures_are_order cave) (omega (arith, length-replicate 100 (pos 0)))
-    ∙ ap (λ z. cond (list_any (eqb (k + 1)) (known_treasures cave)) (negsuc 0) z) (get_or-replicate 100 k (pos 0) (pos 0) h))
+    get-hides (known_treasures cave) (replicate 100 (pos 0)) k (pos 0) (treasures_are_order cave)
+    (omega (arith, length-replicate 100 (pos 0)))
+    ∙ ap (λ z. cond (list_any (eqb (k + 1)) (known_treasures cave)) (negsuc 0) z)
+    (get_or-replicate 100 k (pos 0) (pos 0) h))
 
 -- ---- the start
-pub begun_is : (cave : CaveView) → all_placed cave (start_order cave) (all_hidden (known_treasures cave) unplaced) ≡ begun_objects cave
-unfolding begun_objects unplaced
+pub begun_is : (cave : CaveView)
+    → all_placed cave (start_order cave) (all_hidden (known_treasures cave) without_places)
+    ≡ begun_objects cave
+unfolding begun_objects without_places
 begun_is cave =
-    let hidden = all_hidden_is (known_treasures cave) unplaced (treasures_are_order cave) in
-    let o : Layout = record { first = replicate 100 spot.Away; second = replicate 100 anchor.Loose; props = hides (known_treasures cave) (replicate 100 (pos 0)); lists = [] } in
+    let hidden = all_hidden_is (known_treasures cave) without_places (treasures_are_order cave) in
+    let o : Layout =
+    record {
+      first = replicate 100 spot.Away;
+      second = replicate 100 anchor.Loose;
+      props = hides (known_treasures cave) (replicate 100 (pos 0));
+      lists = [];
+    } in
     let order = start_is_order cave in
-    let first = all_set (λ x. spot_at (home cave x)) (start_order cave) (replicate 100 spot.Away) spot.Away order (length-replicate 100 spot.Away) (each_in_order cave) in
-    let second = all_set (hold_of cave) (start_order cave) (replicate 100 anchor.Loose) anchor.Loose order (length-replicate 100 anchor.Loose) (each_in_order cave) in
+    let first =
+    all_set (λ x. spot_at (home cave x)) (start_order cave) (replicate 100 spot.Away) spot.Away
+    order (length-replicate 100 spot.Away) (each_in_order cave) in
+    let second =
+    all_set (hold_of cave) (start_order cave) (replicate 100 anchor.Loose) anchor.Loose order
+    (length-replicate 100 anchor.Loose) (each_in_order cave) in
     let props = props_begin cave in
     ap (λ l. all_placed cave (start_order cave) l) hidden
     ∙ (all_stand cave (start_order cave) o order refl
-    ∙ (λ i. record { first = first i; second = second i; props = props i; lists = laid_out cave (start_halves cave) }))
+    ∙ (λ i. record {
+      first = first i;
+      second = second i;
+      props = props i;
+      lists = laid_out cave (start_halves cave);
+    }))
 
 -- ---- the list of each place
-one_more : (q : ℕ) (half : Half) (es : List Entry) (told : List Half) (p : Option ℕ) → halves_at q es ≡ told
-    → halves_at q (listed half p es) ≡ cond (is_place q p) (half ∷ told) told
+one_more : (q : ℕ) (half : Half) (es : List PlacedHalf) (told : List Half) (p : Option ℕ)
+    → halves_at q es ≡ told
+    → halves_at q (with_half half p es) ≡ cond (is_place q p) (half ∷ told) told
 one_more q half es told None h = h
 one_more q half es told (Some p) h =
-    halves_at-put_first q (record { place = p; half = half }) es ∙ ap (λ (l : List Half). cond (eqb p q) (half ∷ l) l) h
+    halves_at-put_first q (record { place = p; half = half }) es
+    ∙ ap (λ (l : List Half). cond (eqb p q) (half ∷ l) l) h
 
-list_of : (cave : CaveView) (q : ℕ) (halves : List Half) → halves_at q (laid_out cave halves) ≡ filter (λ half. is_place q (place_of_half cave half)) halves
+list_of : (cave : CaveView) (q : ℕ) (halves : List Half)
+    → halves_at q (laid_out cave halves)
+    ≡ filter (λ half. is_place q (place_of_half cave half)) halves
 list_of cave q [] = refl
 list_of cave q (half ∷ halves) =
-    one_more q half (laid_out cave halves) (filter (λ (half : Half). is_place q (place_of_half cave half)) halves) (place_of_half cave half) (list_of cave q halves)
+    one_more q half (laid_out cave halves)
+    (filter (λ (half : Half). is_place q (place_of_half cave half)) halves)
+    (place_of_half cave half) (list_of cave q halves)
 
-pub start_lists : (cave : CaveView) (q : ℕ) → halves_at q (begun_objects cave).lists ≡ start_list cave q
+pub start_lists : (cave : CaveView) (q : ℕ)
+    → halves_at q (begun_objects cave).lists ≡ start_list cave q
 unfolding begun_objects
 start_lists cave q = list_of cave q (start_halves cave)

@@ -3,18 +3,18 @@ use Rattle.std.specs.Prelude.{ℕ, ℤ, pos, negsuc, ◌==◌, Bool, true, false
 use Rattle.std.specs.Prelude.{[], ◌∷◌, ◌++◌, length, map, filter, flat_map, Option}
 use Rattle.std.specs.List.{list_any, range_with_len}
 use Rattle.cave_data.specs.CaveView.{CaveView}
-use Rattle.cave_data.specs.declared.place_role.PlaceRole.{PlaceRole}
-use Rattle.cave_data.specs.declared.place_role.PlaceRole.TheVariants as place
-use Rattle.cave_world.specs.Layout.{Layout}
-use Rattle.cave_world.specs.Lists.{listed}
-use Rattle.cave_world.specs.Spots.{spot_at, place_of_spot, place_of_anchor, is_place}
-use Rattle.cave_world.specs.State.{starting}
+use Rattle.cave_rows.specs.declared.place_role.PlaceRole.{PlaceRole}
+use Rattle.cave_rows.specs.declared.place_role.PlaceRole.TheVariants as place
+use Rattle.cave_objects.specs.Layout.{Layout}
+use Rattle.cave_objects.specs.Lists.{with_half}
+use Rattle.cave_objects.specs.Spots.{spot_at, place_of_spot, place_of_anchor, is_place}
+use Rattle.cave_world.specs.State.{starting_state}
 use Rattle.cave_world.specs.declared.dwarves.Dwarf.{Dwarf}
-use Rattle.cave_world.specs.declared.lists.Entry.{Entry}
-use Rattle.cave_world.specs.declared.object.Half.{Half}
-use Rattle.cave_world.specs.declared.object.Half.TheVariants.{First, Second}
-use Rattle.cave_world.specs.declared.spot.Anchor.{Anchor}
-use Rattle.cave_world.specs.declared.spot.Anchor.TheVariants as anchor
+use Rattle.cave_objects.specs.declared.lists.PlacedHalf.{PlacedHalf}
+use Rattle.cave_objects.specs.declared.object.Half.{Half}
+use Rattle.cave_objects.specs.declared.object.Half.TheVariants.{First, Second}
+use Rattle.cave_objects.specs.declared.spot.Anchor.{Anchor}
+use Rattle.cave_objects.specs.declared.spot.Anchor.TheVariants as anchor
 use Rattle.cave_world.specs.declared.state.State.{State}
 use Rattle.cave_things.specs.Homes.{home, hold_of}
 use Rattle.cave_things.specs.Places.{place_named, place_or, start_place}
@@ -29,41 +29,43 @@ abbrev pub start_prop : CaveView → ℕ → ℤ
 start_prop cave x = if list_any (λ t. x == t) (known_treasures cave) then negsuc 0 else pos 0
 
 -- an object belongs to those with two places, or to the others
-abbrev pub is_due : Bool → Anchor → Bool
-is_due twice anchor.Loose = not twice
-is_due twice anchor.Fixed = not twice
-is_due twice (anchor.At place) = twice
+abbrev pub is_placed_now : Bool → Anchor → Bool
+is_placed_now twice anchor.Loose = not twice
+is_placed_now twice anchor.Fixed = not twice
+is_placed_now twice (anchor.At place) = twice
 
 unfoldable pub objects_due : CaveView → Bool → List ℕ
-objects_due cave twice = filter (λ x. is_due twice (hold_of cave x)) all_objects
+objects_due cave twice = filter (λ x. is_placed_now twice (hold_of cave x)) all_objects
 
--- in a list those with one place stand before those with two, and each of either before those of higher numbers
+-- in a list those with one place come before those with two, and each of either before those of
+-- higher numbers
 unfoldable pub start_order : CaveView → List ℕ
 start_order cave = objects_due cave false ++ objects_due cave true
 
--- the first half of an object stands before the second
+-- the first half of an object comes before the second
 abbrev pub both_halves : ℕ → List Half
 both_halves x = First x ∷ Second x ∷ []
 
--- all halves in the order in which they stand in lists, the latest first
+-- all halves in the order in which lists have them, the latest first
 abbrev pub start_halves : CaveView → List Half
 start_halves cave = flat_map both_halves (start_order cave)
 
--- the place of a half, if it stands anywhere
+-- the place of a half, if it is anywhere
 abbrev pub place_of_half : CaveView → Half → Option ℕ
 place_of_half cave (First x) = place_of_spot (spot_at (home cave x))
 place_of_half cave (Second x) = place_of_anchor (hold_of cave x)
 
--- halves in the lists of their places, each in front of those that come after it
-abbrev pub laid_out : CaveView → List Half → List Entry
+-- halves in the lists of their places, each before those that come after it
+abbrev pub laid_out : CaveView → List Half → List PlacedHalf
 laid_out cave [] = []
-laid_out cave (half ∷ halves) = listed half (place_of_half cave half) (laid_out cave halves)
+laid_out cave (half ∷ halves) = with_half half (place_of_half cave half) (laid_out cave halves)
 
 -- the list of a place at the start
 abbrev pub start_list : CaveView → ℕ → List Half
-start_list cave place = filter (λ half. is_place place (place_of_half cave half)) (start_halves cave)
+start_list cave place =
+    filter (λ half. is_place place (place_of_half cave half)) (start_halves cave)
 
--- each object where it stands, held by what holds it, with its prop
+-- each object where it is, held by what holds it, with its prop
 unfoldable pub begun_objects : CaveView → Layout
 begun_objects cave = record {
   first = map (λ x. spot_at (home cave x)) all_objects;
@@ -76,17 +78,20 @@ begun_objects cave = record {
 abbrev pub dwarf_at : ℕ → Dwarf
 dwarf_at place = record { place = place; last = place; has_seen = false }
 
-unfoldable pub dwarf_of : CaveView → PlaceRole → Dwarf
-dwarf_of cave role = dwarf_at (place_or 0 (place_named cave role))
+unfoldable pub dwarf_by_role : CaveView → PlaceRole → Dwarf
+dwarf_by_role cave role = dwarf_at (place_or 0 (place_named cave role))
 
 unfoldable pub dwarves_placed : CaveView → List Dwarf
 dwarves_placed cave =
-    dwarf_of cave place.Dwarf1 ∷ dwarf_of cave place.Dwarf2 ∷ dwarf_of cave place.Dwarf3 ∷ dwarf_of cave place.Dwarf4 ∷ dwarf_of cave place.Dwarf5 ∷ dwarf_of cave place.Chest ∷ []
+    dwarf_by_role cave place.Dwarf1 ∷ dwarf_by_role cave place.Dwarf2
+    ∷ dwarf_by_role cave place.Dwarf3 ∷ dwarf_by_role cave place.Dwarf4
+    ∷ dwarf_by_role cave place.Dwarf5 ∷ dwarf_by_role cave place.Chest ∷ []
 
--- the state at the start: what isn't told here is as in a game in which nothing is placed yet
+-- the state at the start: what isn't named here is as in a game in which nothing is placed yet
 unfoldable pub begun_state : CaveView → ℕ → State
 begun_state cave x =
-    let s = starting (start_place cave) x in let tallies = s.tallies in let dwarves = s.dwarves in
+    let s = starting_state (start_place cave) x in let tallies = s.tallies in
+    let dwarves = s.dwarves in
     record s {
       objects = begun_objects cave;
       tallies = record tallies { unseen = length (known_treasures cave) };

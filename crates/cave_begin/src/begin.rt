@@ -1,30 +1,26 @@
 ghost use Rattle.std.specs.Prelude.{◌≡◌, ℕ, ◌≤◌, ◌≤ℤ◌, length, pos};
-ghost use Rattle.cave_world.specs.Lists.{halves_at};
-ghost use Rattle.cave_world.specs.Objects.{moved, anchored, unplaced};
+ghost use Rattle.cave_objects.specs.Lists.{halves_at};
+ghost use Rattle.cave_objects.specs.Objects.{moved_to, anchored_to, without_places};
 ghost use Rattle.cave_things.specs.Homes.{anchor_by};
-ghost use Rattle.cave_begin.specs.Begin.{is_due, objects_due, begun_objects, dwarf_of};
+ghost use Rattle.cave_begin.specs.Begin.{is_placed_now, objects_due, begun_objects, dwarf_by_role};
 ghost use Rattle.cave_begin.specs.Begin.{dwarves_placed, start_list, begun_state};
 ghost use Rattle.cave_things.specs.Treasures.{known_treasures};
 ghost use Rattle.cave_begin.specs.Placing.{all_placed, all_hidden};
 
-use cave_data::{Cave, PlaceRole};
+use cave_data::Cave;
+use cave_objects::object::LAST_OBJECT;
+use cave_objects::{Anchor, Object, Objects, Place, Prop};
+use cave_rows::PlaceRole;
 use cave_things::homes::anchor_by;
 use cave_things::places::{place_named, place_or, start_place};
+use cave_things::treasures::{FIRST_TREASURE, LAST_TREASURE};
 use cave_words::Stream;
-use cave_world::{Anchor, Count, Dwarf, Object, Objects, Place, Prop, State};
-
-/// The treasures are the objects from one to another.
-const FIRST_TREASURE: u8 = 50;
-
-const LAST_TREASURE: u8 = 79;
-
-/// The greatest number of an object.
-const LAST_OBJECT: u8 = 100;
+use cave_world::{Count, Dwarf, State};
 
 /// Whether an object is put with those that have two places, or with the others.
 fn is_due(twice: bool, second: i16) -> bool
     requires { second ≤ℤ pos 300 }
-    ensures { result ≡ is_due twice (anchor_by second) }
+    ensures { result ≡ is_placed_now twice (anchor_by second) }
 {
     match anchor_by(second) {
         Anchor::At(_) => twice,
@@ -36,19 +32,20 @@ fn is_due(twice: bool, second: i16) -> bool
 fn place_object(object: Object, home: u16, second: i16, objects: &mut Objects)
     requires first { home ≤ 300 }
     requires second { second ≤ℤ pos 300 }
-    ensures { objects.new ≡ moved (anchored objects.old object (anchor_by second)) object home }
+    ensures { objects.new
+        ≡ moved_to (anchored_to objects.old object (anchor_by second)) object home }
 {
     objects.anchor_to(object, anchor_by(second));
     objects.move_to(object, Place::new(home));
 }
 
 /// Places the objects that have two places, or the others, from the last down.
-#[tactic(auto, using(crate::proofs::Countdown::placing), unfolding(crate::specs::Placing::placed))]
+#[tactic(auto, using(crate::proofs::Countdown::placing), unfolding(crate::specs::Placing::after_placing))]
 fn place_down(cave: &Cave, twice: bool, objects: &mut Objects)
     ensures { objects.new ≡ all_placed cave.now (objects_due cave.now twice) objects.old }
 {
-    for i in 0..LAST_OBJECT {
-        let object = Object::new(LAST_OBJECT - i);
+    for i in 0..LAST_OBJECT as u8 {
+        let object = Object::new(LAST_OBJECT as u8 - i);
         let (home, second) = cave.placement(u16::from(object.number()));
         if is_due(twice, second) {
             place_object(object, home, second, objects);
@@ -56,7 +53,7 @@ fn place_down(cave: &Cave, twice: bool, objects: &mut Objects)
     }
 }
 
-/// The known treasures weren't seen yet. Tells how many they are.
+/// The known treasures weren't seen yet. Returns how many they are.
 #[tactic(auto, using(crate::proofs::Countdown::hiding))]
 fn hide_treasures(cave: &Cave, objects: &mut Objects) -> Count<30>
     ensures objects { objects.new ≡ all_hidden (known_treasures cave.now) objects.old }
@@ -72,9 +69,9 @@ fn hide_treasures(cave: &Cave, objects: &mut Objects) -> Count<30>
     hidden
 }
 
-/// Puts the objects where they stand as a game begins. Tells how many treasures weren't seen yet.
+/// Puts the objects where they are as a game begins. Returns how many treasures weren't seen yet.
 fn place_all(cave: &Cave, objects: &mut Objects) -> Count<30>
-    requires { objects.old ≡ unplaced }
+    requires { objects.old ≡ without_places }
     ensures objects { objects.new ≡ begun_objects cave.now }
     ensures hidden { result ≡ length (known_treasures cave.now) }
 {
@@ -84,9 +81,9 @@ fn place_all(cave: &Cave, objects: &mut Objects) -> Count<30>
     hidden
 }
 
-#[tactic(auto, unfolding(crate::specs::Begin::dwarf_of))]
+#[tactic(auto, unfolding(crate::specs::Begin::dwarf_by_role))]
 fn dwarf_of(cave: &Cave, role: PlaceRole) -> Dwarf
-    ensures { result ≡ dwarf_of cave.now role }
+    ensures { result ≡ dwarf_by_role cave.now role }
 {
     let place = place_or(Place::new(0), place_named(cave, role));
     Dwarf {
@@ -111,7 +108,7 @@ fn place_dwarves(cave: &Cave) -> [Dwarf; 6]
 }
 
 /// The state that a game begins with.
-#[tactic(auto, unfolding(crate::specs::Begin::begun_state, cave_world::specs::State::starting))]
+#[tactic(auto, unfolding(crate::specs::Begin::begun_state, cave_world::specs::State::starting_state))]
 pub fn begun_state(cave: &Cave, stream: Stream) -> State
     ensures state { result ≡ begun_state cave.now stream }
     ensures lists { (q : ℕ) → halves_at q result.objects.lists ≡ start_list cave.now q }

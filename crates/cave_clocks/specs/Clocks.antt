@@ -14,29 +14,29 @@ pub record Timing : Type 0 where
   pub scene : Scene
 
 -- what follows, and what they have come to
-abbrev pub timing : Clocks → Scene → Timing
-timing outcome p = record { outcome = outcome; scene = p }
+abbrev pub timing_of : Clocks → Scene → Timing
+timing_of outcome p = record { outcome = outcome; scene = p }
 
 -- the command follows, unless the player gives up
 abbrev pub go_on_or_give_up : Bool → Clocks
 go_on_or_give_up gives_up = if gives_up then GaveUp else GoOn
 
--- the lamp is the last
 unfoldable pub lamp_last : CaveView → Scene → Timing
 lamp_last cave p =
-    let lamp = lamp_run cave p in timing (go_on_or_give_up lamp.gives_up) lamp.scene
+    let lamp = lamp_run cave p in timing_of (go_on_or_give_up lamp.gives_up) lamp.scene
 
 -- where the cave was closed the lamp is passed over
 abbrev pub lamp_unless_closed : CaveView → Option ℕ → Scene → Timing
 lamp_unless_closed cave None p = lamp_last cave p
-lamp_unless_closed cave (Some place) p = timing (Closed place) p
+lamp_unless_closed cave (Some place) p = timing_of (Closed place) p
 
 -- the second clock, and then the lamp
 unfoldable pub second_clock_and_lamp : CaveView → Scene → Timing
 second_clock_and_lamp cave p =
     let second = second_clock_run cave p in lamp_unless_closed cave second.place second.scene
 
--- the first clock, the second, and the lamp; as the cave begins to close the second stands still
+-- the first clock, the second, and the lamp; the second doesn't go in the turn in which the cave
+-- begins to close
 unfoldable pub clocks_run : CaveView → Scene → Timing
 clocks_run cave p =
     let first = first_clock_run cave p in

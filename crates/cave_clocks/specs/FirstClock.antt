@@ -1,19 +1,20 @@
 -- The first clock, and how the cave begins to close where it runs out.
+use Rattle.cave_objects.specs.Spots.{is_place}
 use Rattle.std.specs.Prelude.{ℕ, pos, negsuc, ◌-ℤ◌, nat_le, int_lt, map}
 use Rattle.std.specs.Prelude.{Bool, true, false, ◌==◌, ◌&&◌, not, if◌then◌else◌}
 use Rattle.std.specs.Ordering.{int_eq}
 use Rattle.cave_data.specs.CaveView.{CaveView}
-use Rattle.cave_data.specs.declared.place_role.PlaceRole.TheVariants as place
-use Rattle.cave_data.specs.declared.role.Role.TheVariants as role
+use Rattle.cave_rows.specs.declared.place_role.PlaceRole.TheVariants as place
+use Rattle.cave_rows.specs.declared.role.Role.TheVariants as role
 use Rattle.cave_words.specs.declared.named.Named.TheVariants as name
-use Rattle.cave_world.specs.Layout.{Layout}
-use Rattle.cave_world.specs.Objects.{moved, anchored, with_prop}
+use Rattle.cave_objects.specs.Layout.{Layout}
+use Rattle.cave_objects.specs.Objects.{moved_to, anchored_to, with_prop}
 use Rattle.cave_world.specs.declared.dwarves.Dwarf.{Dwarf}
-use Rattle.cave_world.specs.declared.spot.Anchor.TheVariants as anchor
+use Rattle.cave_objects.specs.declared.spot.Anchor.TheVariants as anchor
 use Rattle.cave_world.specs.declared.state.State.{State}
 use Rattle.cave_things.specs.Effects.{with_objects, without_troll}
-use Rattle.cave_things.specs.Places.{place_named, is_that, deep_place}
-use Rattle.cave_things.specs.Plays.{Scene, saying, with_state}
+use Rattle.cave_things.specs.Places.{place_named, deep_place}
+use Rattle.cave_things.specs.Plays.{Scene, after_saying, with_state}
 use Rattle.cave_things.specs.Reach.{has_prop}
 use Rattle.cave_things.specs.Things.{thing}
 
@@ -21,7 +22,7 @@ use Rattle.cave_things.specs.Things.{thing}
 unfoldable pub is_first_clock_going : CaveView → State → Bool
 is_first_clock_going cave s =
     s.tallies.unseen == 0 && nat_le (deep_place cave) s.trail.here
-    && not (is_that s.trail.here (place_named cave place.Y2))
+    && not (is_place s.trail.here (place_named cave place.Y2))
     && int_lt (pos 0) s.closing.first_clock
 
 -- a turn less is left until the cave begins to close
@@ -47,18 +48,18 @@ without_dwarves s = let dwarves = s.dwarves in
 -- the bear is gone, unless it is dead
 abbrev pub without_bear : CaveView → State → State
 without_bear cave s = let bear = thing cave name.Bear in
-    if has_prop s bear (pos 3) then s else with_objects (moved s.objects bear 0) s
+    if has_prop s bear (pos 3) then s else with_objects (moved_to s.objects bear 0) s
 
 -- an object has prop 0, and nothing holds it
 abbrev pub with_loose : ℕ → Layout → Layout
-with_loose x o = anchored (with_prop o x (pos 0)) x anchor.Loose
+with_loose x o = anchored_to (with_prop o x (pos 0)) x anchor.Loose
 
 -- the chain is loose, and then the axe
 unfoldable pub with_chain_and_axe_loose : CaveView → Layout → Layout
 with_chain_and_axe_loose cave o =
     with_loose (thing cave name.Axe) (with_loose (thing cave name.Chain) o)
 
--- the ways are barred, dwarves, troll and bear are gone, and the chain and the axe lie loose
+-- the ways are barred, dwarves, troll and bear are gone, and nothing holds the chain and the axe
 unfoldable pub cleared_cave : CaveView → State → State
 cleared_cave cave s =
     let shut = with_objects (with_ways_barred cave s.objects) s in
@@ -73,7 +74,7 @@ with_closing_begun s = let closing = s.closing in
 -- the cave begins to close
 unfoldable pub start_of_closing : CaveView → Scene → Scene
 start_of_closing cave p =
-    let told = saying role.Closing (with_state (cleared_cave cave p.state) p) in
+    let told = after_saying role.Closing (with_state (cleared_cave cave p.state) p) in
     with_state (with_closing_begun told.state) told
 
 -- what a turn of the first clock has come to, and whether the cave began to close in it

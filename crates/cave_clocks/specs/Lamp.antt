@@ -4,18 +4,17 @@ use Rattle.std.specs.Prelude.{Bool, true, false, ◌&&◌, not, if◌then◌else
 use Rattle.std.specs.Int.{int_min, int_max}
 use Rattle.std.specs.Ordering.{int_eq}
 use Rattle.cave_data.specs.CaveView.{CaveView}
-use Rattle.cave_data.specs.declared.role.Role.{Role}
-use Rattle.cave_data.specs.declared.role.Role.TheVariants as role
+use Rattle.cave_rows.specs.declared.role.Role.{Role}
+use Rattle.cave_rows.specs.declared.role.Role.TheVariants as role
 use Rattle.cave_words.specs.declared.named.Named.TheVariants as name
-use Rattle.cave_world.specs.Objects.{is_gone, with_prop}
+use Rattle.cave_objects.specs.Objects.{is_gone, with_prop}
 use Rattle.cave_world.specs.declared.state.State.{State}
 use Rattle.cave_things.specs.Effects.{with_objects, let_go}
 use Rattle.cave_things.specs.Places.{outside_place}
-use Rattle.cave_things.specs.Plays.{Scene, saying, with_state}
+use Rattle.cave_things.specs.Plays.{Scene, after_saying, with_state}
 use Rattle.cave_things.specs.Reach.{is_near, has_prop}
 use Rattle.cave_things.specs.Things.{thing}
 
--- another charge
 abbrev pub with_charge : ℤ → State → State
 with_charge turns s = let lamp = s.lamp in record s { lamp = record lamp { charge = turns } }
 
@@ -47,10 +46,9 @@ unfoldable pub with_batteries_used : CaveView → State → State
 with_batteries_used cave s = let batteries = thing cave name.Batteries in
     let_go cave batteries (with_objects (with_prop s.objects batteries (pos 1)) s)
 
--- the batteries are replaced
 unfoldable pub change_of_batteries : CaveView → Scene → Scene
 change_of_batteries cave p =
-    let told = saying role.Replaced p in
+    let told = after_saying role.Replaced p in
     with_state (with_new_charge (with_batteries_used cave told.state)) told
 
 -- the lamp has gone out: it can't be lit again
@@ -59,12 +57,11 @@ with_lamp_out cave s =
     let out = with_charge (negsuc 0) s in
     with_objects (with_prop out.objects (thing cave name.Lamp) (pos 0)) out
 
--- it is told where the lamp is at hand
+-- that it is dead is said, if it is at hand
 abbrev pub told_of_dead_lamp : CaveView → Scene → Scene
 told_of_dead_lamp cave p =
-    if is_near cave p.state (thing cave name.Lamp) then saying role.LampDead p else p
+    if is_near cave p.state (thing cave name.Lamp) then after_saying role.LampDead p else p
 
--- the lamp goes out
 unfoldable pub lamp_going_out : CaveView → Scene → Scene
 lamp_going_out cave p = told_of_dead_lamp cave (with_state (with_lamp_out cave p.state) p)
 
@@ -82,14 +79,12 @@ warning cave s = let batteries = thing cave name.Batteries in
     if has_prop s batteries (pos 1) then role.LampLowUsed
     else (if is_gone s.objects batteries then role.LampLowFind else role.LampLow)
 
--- the player was warned
 abbrev pub with_warning : State → State
 with_warning s = let lamp = s.lamp in record s { lamp = record lamp { is_warned = true } }
 
--- the player is warned
 unfoldable pub warning_told : CaveView → Scene → Scene
 warning_told cave p =
-    let q = with_state (with_warning p.state) p in saying (warning cave q.state) q
+    let q = with_state (with_warning p.state) p in after_saying (warning cave q.state) q
 
 -- what has become of the lamp in a turn, and whether the player gives up
 pub record Burning : Type 0 where
@@ -97,17 +92,17 @@ pub record Burning : Type 0 where
   pub scene : Scene
 
 -- what has become of it
-abbrev pub burning : Bool → Scene → Burning
-burning up p = record { gives_up = up; scene = p }
+abbrev pub burning_of : Bool → Scene → Burning
+burning_of up p = record { gives_up = up; scene = p }
 
 -- what comes of the lamp: the first case that holds
 unfoldable pub care_of_lamp : CaveView → Scene → Burning
 care_of_lamp cave p =
-    if can_change_batteries cave p.state then burning false (change_of_batteries cave p)
-    else (if int_eq p.state.lamp.charge (pos 0) then burning false (lamp_going_out cave p)
-    else (if is_hopeless cave p.state then burning true (saying role.GiveUp p)
-    else (if is_warning_due cave p.state then burning false (warning_told cave p)
-    else burning false p)))
+    if can_change_batteries cave p.state then burning_of false (change_of_batteries cave p)
+    else (if int_eq p.state.lamp.charge (pos 0) then burning_of false (lamp_going_out cave p)
+    else (if is_hopeless cave p.state then burning_of true (after_saying role.GiveUp p)
+    else (if is_warning_due cave p.state then burning_of false (warning_told cave p)
+    else burning_of false p)))
 
 -- the lamp burns a turn, if it is lit, and what comes of it
 unfoldable pub lamp_run : CaveView → Scene → Burning

@@ -4,17 +4,17 @@ use Rattle.std.specs.Prelude.{Bool, true, ◌&&◌, not, if◌then◌else◌}
 use Rattle.std.specs.Prelude.{List, [], ◌∷◌, Option, Some, None}
 use Rattle.std.specs.Ordering.{int_eq}
 use Rattle.cave_data.specs.CaveView.{CaveView}
-use Rattle.cave_data.specs.declared.place_role.PlaceRole.TheVariants as place
-use Rattle.cave_data.specs.declared.role.Role.TheVariants as role
+use Rattle.cave_rows.specs.declared.place_role.PlaceRole.TheVariants as place
+use Rattle.cave_rows.specs.declared.role.Role.TheVariants as role
 use Rattle.cave_words.specs.declared.named.Named.{Named}
 use Rattle.cave_words.specs.declared.named.Named.TheVariants as name
-use Rattle.cave_world.specs.Layout.{Layout}
-use Rattle.cave_world.specs.Objects.{moved, anchored, with_prop, carried_objects}
-use Rattle.cave_world.specs.Spots.{anchor_at}
+use Rattle.cave_objects.specs.Layout.{Layout}
+use Rattle.cave_objects.specs.Objects.{moved_to, anchored_to, with_prop, carried_objects}
+use Rattle.cave_objects.specs.Spots.{anchor_at}
 use Rattle.cave_world.specs.declared.state.State.{State}
 use Rattle.cave_things.specs.Effects.{with_objects}
 use Rattle.cave_things.specs.Places.{place_named}
-use Rattle.cave_things.specs.Plays.{Scene, saying, with_state}
+use Rattle.cave_things.specs.Plays.{Scene, after_saying, with_state}
 use Rattle.cave_things.specs.Things.{thing}
 
 -- what is put into the repository, and the prop that it gets once the player has carried it there
@@ -23,34 +23,34 @@ pub record Stored : Type 0 where
   pub text : ℕ
 
 -- a thing of a name, and its prop once it was carried
-abbrev pub stored : Named → ℕ → Stored
-stored n v = record { name = n; text = v }
+abbrev pub stored_thing : Named → ℕ → Stored
+stored_thing n v = record { name = n; text = v }
 
--- what stands at the northeast end
+-- what is put at the northeast end
 unfoldable pub northeast_things : List Stored
 northeast_things =
-    stored name.Bottle 1
-    ∷ stored name.Plant 0
-    ∷ stored name.Oyster 0
-    ∷ stored name.Lamp 0
-    ∷ stored name.Rod 0
-    ∷ stored name.Dwarf 0
+    stored_thing name.Bottle 1
+    ∷ stored_thing name.Plant 0
+    ∷ stored_thing name.Oyster 0
+    ∷ stored_thing name.Lamp 0
+    ∷ stored_thing name.Rod 0
+    ∷ stored_thing name.Dwarf 0
     ∷ []
 
--- what stands at the southwest end
+-- what is put at the southwest end
 unfoldable pub southwest_things : List Stored
 southwest_things =
-    stored name.Grate 0
-    ∷ stored name.Snake 1
-    ∷ stored name.Bird 1
-    ∷ stored name.Cage 0
-    ∷ stored name.SecondRod 0
-    ∷ stored name.Pillow 0
+    stored_thing name.Grate 0
+    ∷ stored_thing name.Snake 1
+    ∷ stored_thing name.Bird 1
+    ∷ stored_thing name.Cage 0
+    ∷ stored_thing name.SecondRod 0
+    ∷ stored_thing name.Pillow 0
     ∷ []
 
 -- the object of a name is put at a place, with a prop
 abbrev pub with_thing : CaveView → ℕ → Named → ℤ → Layout → Layout
-with_thing cave place n v o = with_prop (moved o (thing cave n) place) (thing cave n) v
+with_thing cave place n v o = with_prop (moved_to o (thing cave n) place) (thing cave n) v
 
 -- until it was carried, the prop of what is stored is -1 less the prop that it then gets
 abbrev pub with_stored : CaveView → ℕ → Stored → Layout → Layout
@@ -62,13 +62,12 @@ with_all_stored cave place [] o = o
 with_all_stored cave place (t ∷ things) o =
     with_all_stored cave place things (with_stored cave place t o)
 
--- the mirror stands at both ends
+-- the mirror is at both ends
 unfoldable pub with_mirror : CaveView → ℕ → ℕ → Layout → Layout
 with_mirror cave ne sw o =
-    let at_one = with_stored cave ne (stored name.Mirror 0) o in
-    anchored at_one (thing cave name.Mirror) (anchor_at sw)
+    let at_one = with_stored cave ne (stored_thing name.Mirror 0) o in
+    anchored_to at_one (thing cave name.Mirror) (anchor_at sw)
 
--- the repository is furnished
 unfoldable pub furnished_repository : CaveView → ℕ → ℕ → Layout → Layout
 furnished_repository cave ne sw o =
     let northeast = with_all_stored cave ne northeast_things o in
@@ -77,9 +76,9 @@ furnished_repository cave ne sw o =
 -- objects are nowhere from now on
 abbrev pub without_all : List ℕ → Layout → Layout
 without_all [] o = o
-without_all (x ∷ xs) o = without_all xs (moved o x 0)
+without_all (x ∷ xs) o = without_all xs (moved_to o x 0)
 
--- the player stands at a place, and has come from there
+-- the player is at a place, and has come from there
 abbrev pub with_player_at : ℕ → State → State
 with_player_at place s = let trail = s.trail in
     record s { trail = record trail { here = place; last = place } }
@@ -93,12 +92,12 @@ abbrev pub with_cave_closed : State → State
 with_cave_closed s = let closing = s.closing in
     record s { closing = record closing { is_closed = true } }
 
--- the cave is closed: the player stands at the northeast end of the repository
+-- the cave is closed: the player is at the northeast end of the repository
 unfoldable pub closed_cave : CaveView → ℕ → ℕ → Scene → Scene
 closed_cave cave ne sw p =
     let stores = with_objects (furnished_repository cave ne sw p.state.objects) p.state in
     let left = with_empty_hands (with_player_at ne stores) in
-    let told = saying role.Repository (with_state left p) in
+    let told = after_saying role.Repository (with_state left p) in
     with_state (with_cave_closed told.state) told
 
 -- what a turn of the second clock has come to, and where the player goes on if it closed the cave

@@ -2,13 +2,13 @@ ghost use Rattle.std.specs.Prelude.{◌≡◌};
 ghost use Rattle.cave_things.specs.Things.{cave_of};
 ghost use Rattle.cave_things.specs.Bounds.{HasRoom, SaysUpTo};
 ghost use Rattle.cave_things.specs.Plays.{scene_of, GoesOn};
-ghost use Rattle.cave_clocks.specs.Clocks.{timing, lamp_last, second_clock_and_lamp, clocks_run};
+ghost use Rattle.cave_clocks.specs.Clocks.{timing_of, lamp_last, second_clock_and_lamp, clocks_run};
 
 use crate::first_clock::run_first_clock;
 use crate::lamp::run_lamp;
 use crate::repository::run_second_clock;
+use cave_objects::Place;
 use cave_things::{Play, Rules};
-use cave_world::Place;
 
 /// What follows once the clocks and the lamp have gone on by a turn.
 #[derive(Clone, Copy, Debug, PartialEq, Eq)]
@@ -21,11 +21,10 @@ pub enum Clocks {
     Closed(Place),
 }
 
-/// The lamp is the last.
 #[tactic(auto, unfolding(crate::specs::Clocks::lamp_last))]
 fn finish_with_lamp(rules: &Rules<'_>, play: &mut Play<'_>) -> Clocks
     requires { HasRoom 1 play.old }
-    ensures clocks { timing result (scene_of play.new)
+    ensures clocks { timing_of result (scene_of play.new)
         ≡ lamp_last (cave_of rules.now) (scene_of play.old) }
     ensures same { GoesOn play.old play.new }
     ensures few { SaysUpTo 1 play.old play.new }
@@ -40,7 +39,7 @@ fn finish_with_lamp(rules: &Rules<'_>, play: &mut Play<'_>) -> Clocks
 #[tactic(auto, unfolding(crate::specs::Clocks::second_clock_and_lamp))]
 fn run_second_clock_and_lamp(rules: &Rules<'_>, play: &mut Play<'_>) -> Clocks
     requires { HasRoom 1 play.old }
-    ensures clocks { timing result (scene_of play.new)
+    ensures clocks { timing_of result (scene_of play.new)
         ≡ second_clock_and_lamp (cave_of rules.now) (scene_of play.old) }
     ensures same { GoesOn play.old play.new }
     ensures few { SaysUpTo 1 play.old play.new }
@@ -51,11 +50,11 @@ fn run_second_clock_and_lamp(rules: &Rules<'_>, play: &mut Play<'_>) -> Clocks
     }
 }
 
-/// The clocks and the lamp go on by a turn. Tells what follows.
+/// The clocks and the lamp go on by a turn. Returns what follows.
 #[tactic(auto, unfolding(crate::specs::Clocks::clocks_run))]
 pub fn run_clocks(rules: &Rules<'_>, play: &mut Play<'_>) -> Clocks
     requires { HasRoom 2 play.old }
-    ensures clocks { timing result (scene_of play.new)
+    ensures clocks { timing_of result (scene_of play.new)
         ≡ clocks_run (cave_of rules.now) (scene_of play.old) }
     ensures same { GoesOn play.old play.new }
     ensures few { SaysUpTo 2 play.old play.new }

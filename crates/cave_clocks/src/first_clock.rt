@@ -8,12 +8,13 @@ ghost use Rattle.cave_clocks.specs.FirstClock.{with_loose, with_chain_and_axe_lo
 ghost use Rattle.cave_clocks.specs.FirstClock.{with_closing_begun, start_of_closing};
 ghost use Rattle.cave_clocks.specs.FirstClock.{tick, parts_of_beginning, first_clock_run};
 
-use cave_data::{PlaceRole, Role};
-use cave_things::{Play, Rules, deep_place, has_prop, is_that, pay_troll, place_named};
+use cave_objects::{Anchor, Object, Objects, Place, Prop};
+use cave_rows::{PlaceRole, Role};
+use cave_things::{Play, Rules, deep_place, has_prop, is_place, pay_troll, place_named};
 use cave_words::Named;
-use cave_world::{Anchor, Dwarf, Object, Objects, Place, Prop, State};
+use cave_world::{Dwarf, State};
 
-/// Whether the first clock goes. It stands still at y2.
+/// Whether the first clock goes. It doesn't go at y2.
 #[tactic(auto, unfolding(crate::specs::FirstClock::is_first_clock_going))]
 fn is_going(rules: &Rules<'_>, state: &State) -> bool
     ensures value { result ≡ is_first_clock_going (cave_of rules.now) state.now }
@@ -22,7 +23,7 @@ fn is_going(rules: &Rules<'_>, state: &State) -> bool
     let here = state.trail.here;
     state.tallies.unseen.number() == 0
         && deep_place(rules.cave).number() <= here.number()
-        && !is_that(here, place_named(rules.cave, PlaceRole::Y2))
+        && !is_place(here, place_named(rules.cave, PlaceRole::Y2))
         && 0 < state.closing.first_clock
 }
 
@@ -81,7 +82,7 @@ fn loosen_chain_and_axe(rules: &Rules<'_>, objects: &mut Objects)
     loosen(rules.object(Named::Axe), objects);
 }
 
-/// The ways are barred, dwarves, troll and bear are gone, and the chain and the axe lie loose.
+/// The ways are barred, dwarves, troll and bear are gone, and nothing holds the chain and the axe.
 #[tactic(auto, unfolding(crate::specs::FirstClock::cleared_cave))]
 fn clear_cave(rules: &Rules<'_>, state: &mut State)
     ensures { state.new ≡ cleared_cave (cave_of rules.now) state.old }
@@ -100,7 +101,6 @@ fn set_closing(state: &mut State)
     state.closing.is_closing = true;
 }
 
-/// The cave begins to close.
 #[tactic(auto, unfolding(crate::specs::FirstClock::start_of_closing))]
 fn begin_closing(rules: &Rules<'_>, play: &mut Play<'_>)
     requires { HasRoom 1 play.old }
@@ -113,7 +113,7 @@ fn begin_closing(rules: &Rules<'_>, play: &mut Play<'_>)
     set_closing(play.state);
 }
 
-/// The first clock goes on by a turn, if it goes. Tells whether the cave began to close in it.
+/// The first clock goes on by a turn, if it goes. Returns whether the cave began to close in it.
 #[tactic(auto, unfolding(crate::specs::FirstClock::first_clock_run))]
 pub fn run_first_clock(rules: &Rules<'_>, play: &mut Play<'_>) -> bool
     requires { HasRoom 1 play.old }

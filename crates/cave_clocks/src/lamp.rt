@@ -6,17 +6,17 @@ ghost use Rattle.cave_clocks.specs.Lamp.{with_lamp_burnt, is_low, can_change_bat
 ghost use Rattle.cave_clocks.specs.Lamp.{with_new_charge, with_batteries_used, change_of_batteries};
 ghost use Rattle.cave_clocks.specs.Lamp.{with_lamp_out, lamp_going_out, is_hopeless};
 ghost use Rattle.cave_clocks.specs.Lamp.{is_warning_due, warning, with_warning, warning_told};
-ghost use Rattle.cave_clocks.specs.Lamp.{burning, care_of_lamp, lamp_run};
+ghost use Rattle.cave_clocks.specs.Lamp.{burning_of, care_of_lamp, lamp_run};
 
-use cave_data::Role;
+use cave_objects::Prop;
+use cave_rows::Role;
 use cave_things::{Play, Rules, has_prop, let_go, outside_place};
 use cave_words::Named;
-use cave_world::{Charge, Prop, State};
+use cave_world::{Charge, State};
 
 /// The most turns for which a lamp is low.
 const LOW: i32 = 30;
 
-/// The turns that new batteries last.
 const BATTERY_TURNS: i32 = 2500;
 
 /// A lamp that is lit burns a turn.
@@ -66,7 +66,6 @@ fn use_batteries(rules: &Rules<'_>, state: &mut State)
     let_go(rules, batteries, state);
 }
 
-/// The batteries are replaced.
 #[tactic(auto, unfolding(crate::specs::Lamp::change_of_batteries))]
 fn change_batteries(rules: &Rules<'_>, play: &mut Play<'_>)
     requires { HasRoom 1 play.old }
@@ -90,7 +89,6 @@ fn put_out(rules: &Rules<'_>, state: &mut State)
         .set_prop(rules.object(Named::Lamp), Prop::new(0));
 }
 
-/// The lamp goes out.
 #[tactic(auto, unfolding(crate::specs::Lamp::lamp_going_out))]
 fn go_out(rules: &Rules<'_>, play: &mut Play<'_>)
     requires { HasRoom 1 play.old }
@@ -141,7 +139,6 @@ fn set_warned(state: &mut State)
     state.lamp.is_warned = true;
 }
 
-/// The player is warned.
 #[tactic(auto, unfolding(crate::specs::Lamp::warning_told))]
 fn warn(rules: &Rules<'_>, play: &mut Play<'_>)
     requires { HasRoom 1 play.old }
@@ -154,11 +151,11 @@ fn warn(rules: &Rules<'_>, play: &mut Play<'_>)
     play.say(warning);
 }
 
-/// What comes of a lamp that is low. Tells whether the player gives up.
+/// What comes of a lamp that is low. Returns whether the player gives up.
 #[tactic(auto, unfolding(crate::specs::Lamp::care_of_lamp))]
 fn care_for_lamp(rules: &Rules<'_>, play: &mut Play<'_>) -> bool
     requires { HasRoom 1 play.old }
-    ensures play { burning result (scene_of play.new)
+    ensures play { burning_of result (scene_of play.new)
         ≡ care_of_lamp (cave_of rules.now) (scene_of play.old) }
     ensures same { GoesOn play.old play.new }
     ensures few { SaysUpTo 1 play.old play.new }
@@ -181,11 +178,11 @@ fn care_for_lamp(rules: &Rules<'_>, play: &mut Play<'_>) -> bool
     false
 }
 
-/// The lamp burns a turn, if it is lit, and what comes of it. Tells whether the player gives up.
+/// The lamp burns a turn, if it is lit, and what comes of it. Returns whether the player gives up.
 #[tactic(auto, unfolding(crate::specs::Lamp::lamp_run))]
 pub fn run_lamp(rules: &Rules<'_>, play: &mut Play<'_>) -> bool
     requires { HasRoom 1 play.old }
-    ensures play { burning result (scene_of play.new)
+    ensures play { burning_of result (scene_of play.new)
         ≡ lamp_run (cave_of rules.now) (scene_of play.old) }
     ensures same { GoesOn play.old play.new }
     ensures few { SaysUpTo 1 play.old play.new }

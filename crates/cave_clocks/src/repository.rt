@@ -10,10 +10,11 @@ ghost use Rattle.cave_clocks.specs.Repository.{closure, closure_if_due};
 ghost use Rattle.cave_clocks.specs.Repository.{parts_of_closure, is_second_clock_going};
 ghost use Rattle.cave_clocks.specs.Repository.{second_clock_run};
 
-use cave_data::{PlaceRole, Role};
+use cave_objects::{Anchor, Object, Objects, Place, Prop};
+use cave_rows::{PlaceRole, Role};
 use cave_things::{Play, Rules, place_named};
 use cave_words::Named;
-use cave_world::{Anchor, Object, Objects, Place, Prop, State};
+use cave_world::State;
 
 /// A thing is put at a place, with its prop.
 fn put_in(rules: &Rules<'_>, name: Named, prop: Prop, place: Place, objects: &mut Objects)
@@ -24,7 +25,7 @@ fn put_in(rules: &Rules<'_>, name: Named, prop: Prop, place: Place, objects: &mu
     objects.set_prop(object, prop);
 }
 
-/// What stands at the northeast end is put there.
+/// What belongs at the northeast end is put there.
 #[tactic(auto, unfolding(crate::specs::Repository::northeast_things))]
 fn furnish_northeast(rules: &Rules<'_>, place: Place, objects: &mut Objects)
     ensures { objects.new ≡ with_all_stored (cave_of rules.now) place northeast_things objects.old }
@@ -37,7 +38,7 @@ fn furnish_northeast(rules: &Rules<'_>, place: Place, objects: &mut Objects)
     put_in(rules, Named::Dwarf, Prop::new(-1), place, objects);
 }
 
-/// What stands at the southwest end is put there.
+/// What belongs at the southwest end is put there.
 #[tactic(auto, unfolding(crate::specs::Repository::southwest_things))]
 fn furnish_southwest(rules: &Rules<'_>, place: Place, objects: &mut Objects)
     ensures { objects.new ≡ with_all_stored (cave_of rules.now) place southwest_things objects.old }
@@ -59,7 +60,6 @@ fn hang_mirror(rules: &Rules<'_>, northeast: Place, southwest: Place, objects: &
     objects.anchor_to(rules.object(Named::Mirror), Anchor::at(southwest));
 }
 
-/// The repository is furnished.
 #[tactic(auto, unfolding(crate::specs::Repository::furnished_repository))]
 fn furnish(rules: &Rules<'_>, northeast: Place, southwest: Place, objects: &mut Objects)
     ensures { objects.new
@@ -100,7 +100,7 @@ fn set_closed(state: &mut State)
     state.closing.is_closed = true;
 }
 
-/// The cave is closed, and the player stands at the northeast end of the repository.
+/// The cave is closed, and the player is at the northeast end of the repository.
 #[tactic(auto, unfolding(crate::specs::Repository::closed_cave))]
 fn close_cave(rules: &Rules<'_>, northeast: Place, southwest: Place, play: &mut Play<'_>)
     requires { HasRoom 1 play.old }
@@ -116,7 +116,7 @@ fn close_cave(rules: &Rules<'_>, northeast: Place, southwest: Place, play: &mut 
     set_closed(play.state);
 }
 
-/// The cave is closed where the clock has come to 0. Tells where the player then goes on.
+/// The cave is closed where the clock has come to 0. Returns where the player then goes on.
 #[tactic(auto, unfolding(crate::specs::Repository::closure_if_due))]
 fn close_if_due(rules: &Rules<'_>, play: &mut Play<'_>) -> Option<Place>
     requires { HasRoom 1 play.old }
@@ -140,7 +140,8 @@ fn is_going(state: &State) -> bool
     state.closing.first_clock == -1 && 0 <= state.closing.second_clock
 }
 
-/// The second clock goes on by a turn, if it goes. Tells where the player is if it closed the cave.
+/// The second clock goes on by a turn, if it goes. Returns where the player is if it closed the
+/// cave.
 #[tactic(auto, unfolding(crate::specs::Repository::second_clock_run))]
 pub fn run_second_clock(rules: &Rules<'_>, play: &mut Play<'_>) -> Option<Place>
     requires { HasRoom 1 play.old }

@@ -18,7 +18,8 @@ log_rule = record (new_rule (codes "log")) { required = true; value_names = 1 }
 
 -- one log or more
 abbrev pub logs_rule : Rule
-logs_rule = record (new_rule (codes "log")) { required = true; value_names = 1; action = Some Append }
+logs_rule =
+    record (new_rule (codes "log")) { required = true; value_names = 1; action = Some Append }
 
 abbrev pub script_rule : Rule
 script_rule = record (new_rule (codes "script")) { required = true; value_names = 1 }
@@ -61,10 +62,14 @@ edit_app = with_view (with_options (with_rule (with_game (new_app (codes "edit")
 abbrev pub cover_app : App
 cover_app = with_options (with_rule (with_rule (new_app (codes "cover")) cave_rule) logs_rule)
 
--- the program, which wants one of the commands
+-- the program, which requires one of the commands
 abbrev pub plain_app : App
 plain_app = record {
-  top = record (new_app (codes "cave")).top { has_version = true; subcommand_required = true; arg_required_else_help = true };
+  top = record (new_app (codes "cave")).top {
+    has_version = true;
+    subcommand_required = true;
+    arg_required_else_help = true;
+  };
   subs = (new_app (codes "cave")).subs;
 }
 

@@ -1,25 +1,28 @@
 -- Which run the words ask for.
-use Rattle.std.specs.Prelude.{◌≡◌, ◌≢◌, ◌⊎◌, ◌&&◌, ◌||◌, ℕ, Bool, false, bytes_eq, is_some, List, [], Option, Some, None, option_map, map, codes}
+use Rattle.std.specs.Prelude.{◌≡◌, ◌≢◌, ◌⊎◌, ◌&&◌, ◌||◌, ℕ, Bool, false, bytes_eq, is_some, List}
+use Rattle.std.specs.Prelude.{[], Option, Some, None, option_map, map, codes}
 use Rattle.clap.specs.Words.{IsAmong, Kinds, Row, all_of, first_of, found_of, kind_of, rows_of}
 use Rattle.clap.specs.declared.error.Error.{Error}
 use Rattle.clap.specs.declared.error.kind.ErrorKind.{ErrorKind}
-use Rattle.clap.specs.declared.error.kind.ErrorKind.TheVariants.{DisplayHelp, DisplayVersion, OutOfMemory}
+use Rattle.clap.specs.declared.error.kind.ErrorKind.TheVariants.{DisplayHelp, DisplayVersion}
+use Rattle.clap.specs.declared.error.kind.ErrorKind.TheVariants.{OutOfMemory}
 use Rattle.clap.specs.declared.parser.matches.ArgMatches.{ArgMatches}
-use Rattle.cave_command.specs.Number.{IsNumber, number_in}
-use Rattle.cave_editing.specs.Views.{view_named}
-use Rattle.cave_editing.specs.declared.editing.Editing.{Editing}
-use Rattle.cave_editing.specs.declared.editing.View.{View}
-use Rattle.cave_editing.specs.declared.editing.View.TheVariants.{Transcript}
-use Rattle.cave_command.specs.declared.fault.LineFault.{LineFault}
-use Rattle.cave_command.specs.declared.fault.LineFault.TheVariants.{Usage, Incomplete, BadSeed, BadEvery, BadView, Memory}
+use Rattle.cave_command.specs.Number.{IsNumber, option_number}
+use Rattle.edit_options.specs.Views.{view_named}
+use Rattle.edit_options.specs.declared.editing.Editing.{Editing}
+use Rattle.edit_options.specs.declared.editing.View.{View}
+use Rattle.edit_options.specs.declared.editing.View.TheVariants.{Transcript}
+use Rattle.cave_command.specs.declared.fault.CommandFault.{CommandFault}
+use Rattle.cave_command.specs.declared.fault.CommandFault.TheVariants.{Usage, Incomplete, BadSeed}
+use Rattle.cave_command.specs.declared.fault.CommandFault.TheVariants.{BadEvery, BadView, Memory}
 use Rattle.cave_command.specs.declared.line.Files.{Files}
 use Rattle.cave_command.specs.declared.line.Line.{Line}
 use Rattle.cave_command.specs.declared.line.Line.TheVariants.{Check, Play, Edit, Cover, Text}
 use Rattle.limits.specs.Limits.{max_seed, max_every}
 
 -- a command that was met, with what was found for its arguments
-abbrev pub Met : Type 0
-Met = Option (List ℕ × List Row)
+abbrev pub MetCommand : Type 0
+MetCommand = Option (List ℕ × List Row)
 
 -- what was found for the arguments of a command
 abbrev pub rows_in : ArgMatches → List Row
@@ -35,42 +38,44 @@ abbrev pub IsSeed : List Row → ℕ → Type 0
 IsSeed rows seed = IsNumber 0 max_seed 0 (first_of (codes "seed") rows) seed
 
 -- a distance of checkpoints is what was found for it, or 50
-abbrev pub IsEvery : List Row → ℕ → Type 0
-IsEvery rows every = IsNumber 1 max_every 50 (first_of (codes "every") rows) every
+abbrev pub IsEveryGiven : List Row → ℕ → Type 0
+IsEveryGiven rows every = IsNumber 1 max_every 50 (first_of (codes "every") rows) every
 
 -- what an edit prints, where this was found for it, or else the transcript
-abbrev pub IsViewOf : Option (List ℕ) → View → Type 0
-IsViewOf None view = view ≡ Transcript
-IsViewOf (Some name) view = view_named name ≡ Some view
+abbrev pub IsViewGiven : Option (List ℕ) → View → Type 0
+IsViewGiven None view = view ≡ Transcript
+IsViewGiven (Some name) view = view_named name ≡ Some view
 
 -- what an edit prints is what was found for it, or the transcript
 abbrev pub IsView : List Row → View → Type 0
-IsView rows view = IsViewOf (first_of (codes "print") rows) view
+IsView rows view = IsViewGiven (first_of (codes "print") rows) view
 
 -- an edit is what was found for its options
 pub record IsEditing (rows : List Row) (editing : Editing) : Type 0 where
   pub seed : IsSeed rows editing.seed
-  pub every : IsEvery rows editing.every
+  pub every : IsEveryGiven rows editing.every
   pub view : IsView rows editing.view
 
 -- the line is what was found for the command of this name
 abbrev pub IsLineOf : List ℕ → List Row → Line → Type 0
 IsLineOf name rows (Check files) = (name ≡ codes "check") × IsFiles rows files
 IsLineOf name rows (Play files log seed) =
-    (name ≡ codes "play") × IsFiles rows files × (first_of (codes "log") rows ≡ Some log.now) × IsSeed rows seed
+    (name ≡ codes "play") × IsFiles rows files × (first_of (codes "log") rows ≡ Some log.now)
+    × IsSeed rows seed
 IsLineOf name rows (Edit files log script editing) =
     (name ≡ codes "edit") × IsFiles rows files × (first_of (codes "log") rows ≡ Some log.now)
     × (first_of (codes "script") rows ≡ Some script.now) × IsEditing rows editing
 IsLineOf name rows (Cover files logs seed) =
-    (name ≡ codes "cover") × IsFiles rows files × (all_of (codes "log") rows ≡ Some (map (λ log. log.now) logs.items)) × IsSeed rows seed
+    (name ≡ codes "cover") × IsFiles rows files
+    × (all_of (codes "log") rows ≡ Some (map (λ log. log.now) logs.items)) × IsSeed rows seed
 IsLineOf name rows (Text error) = ⊥
 
-abbrev pub IsLineMet : Met → Line → Type 0
+abbrev pub IsLineMet : MetCommand → Line → Type 0
 IsLineMet None line = ⊥
 IsLineMet (Some found) line = IsLineOf found.0 found.1 line
 
 -- a run is what was found for its command
-abbrev pub IsLine : Met → Line → Type 0
+abbrev pub IsLine : MetCommand → Line → Type 0
 IsLine met (Text error) = Unit {0}
 IsLine met line = IsLineMet met line
 
@@ -78,7 +83,8 @@ IsLine met line = IsLineMet met line
 abbrev pub IsRequest : ErrorKind → Type 0
 IsRequest kind = (kind ≡ DisplayHelp) ⊎ (kind ≡ DisplayVersion)
 
--- a text is printed where help or the version is what the words come to, and a run is made where nothing is wrong with them
+-- a text is printed where help or the version is what the words come to, and a run is made where
+-- nothing is wrong with them
 abbrev pub IsAsked : Kinds → Line → Type 0
 IsAsked kinds (Text error) = IsRequest (kind_of error) × IsAmong (kind_of error) kinds
 IsAsked kinds line = kinds ≡ []
@@ -89,50 +95,56 @@ has_files name rows =
     is_some (first_of (codes "cave") rows)
     && (bytes_eq name (codes "check")
     || (bytes_eq name (codes "cover") && is_some (all_of (codes "log") rows))
-    || (is_some (first_of (codes "log") rows) && (bytes_eq name (codes "play") || (bytes_eq name (codes "edit") && is_some (first_of (codes "script") rows)))))
+    || (is_some (first_of (codes "log") rows)
+    && (bytes_eq name (codes "play")
+    || (bytes_eq name (codes "edit") && is_some (first_of (codes "script") rows)))))
 
-abbrev pub is_complete : Met → Bool
+abbrev pub is_complete : MetCommand → Bool
 is_complete None = false
 is_complete (Some found) = has_files found.0 found.1
 
 -- what was found for the seed is no seed
-abbrev pub IsBadSeed : List Row → LineFault → Type 0
-IsBadSeed rows (BadSeed text) = (first_of (codes "seed") rows ≡ Some text.now) × (number_in 0 max_seed text.now ≡ None)
+abbrev pub IsBadSeed : List Row → CommandFault → Type 0
+IsBadSeed rows (BadSeed text) = (first_of (codes "seed") rows ≡ Some text.now)
+    × (option_number 0 max_seed text.now ≡ None)
 IsBadSeed rows _ = ⊥
 
 -- what was found for the distance of checkpoints is none
-abbrev pub IsBadEvery : List Row → LineFault → Type 0
-IsBadEvery rows (BadEvery text) = (first_of (codes "every") rows ≡ Some text.now) × (number_in 1 max_every text.now ≡ None)
+abbrev pub IsBadEvery : List Row → CommandFault → Type 0
+IsBadEvery rows (BadEvery text) = (first_of (codes "every") rows ≡ Some text.now)
+    × (option_number 1 max_every text.now ≡ None)
 IsBadEvery rows _ = ⊥
 
 -- what was found for what an edit prints names nothing that it may print
-abbrev pub IsBadView : List Row → LineFault → Type 0
-IsBadView rows (BadView name) = (first_of (codes "print") rows ≡ Some name.now) × (view_named name.now ≡ None)
+abbrev pub IsBadView : List Row → CommandFault → Type 0
+IsBadView rows (BadView name) = (first_of (codes "print") rows ≡ Some name.now)
+    × (view_named name.now ≡ None)
 IsBadView rows _ = ⊥
 
 -- what is wrong with the options of an edit
-abbrev pub IsBadEditing : List Row → LineFault → Type 0
+abbrev pub IsBadEditing : List Row → CommandFault → Type 0
 IsBadEditing rows fault = IsBadSeed rows fault ⊎ (IsBadEvery rows fault ⊎ IsBadView rows fault)
 
 -- what is wrong with what was found
-abbrev pub IsWrong : Met → LineFault → Type 0
+abbrev pub IsWrong : MetCommand → CommandFault → Type 0
 IsWrong met Incomplete = is_complete met ≡ false
 IsWrong None fault = ⊥
 IsWrong (Some found) fault = IsBadEditing found.1 fault
 
 -- why a line isn't made of what was found: what is wrong with it, unless memory ran out
-abbrev pub IsUnmade : Met → LineFault → Type 0
+abbrev pub IsUnmade : MetCommand → CommandFault → Type 0
 IsUnmade met Memory = Unit {0}
 IsUnmade met fault = IsWrong met fault
 
 -- the parser's error, as a fault
-abbrev pub IsRefusal : Error → LineFault → Type 0
+abbrev pub IsRefusal : Error → CommandFault → Type 0
 IsRefusal error Memory = kind_of error ≡ OutOfMemory
-IsRefusal error (Usage given) = (given ≡ error) × (¬ IsRequest (kind_of error)) × (kind_of error ≢ OutOfMemory)
+IsRefusal error (Usage given) = (given ≡ error) × (¬ IsRequest (kind_of error))
+    × (kind_of error ≢ OutOfMemory)
 IsRefusal error _ = ⊥
 
 -- the words are refused for what is wrong with them, unless memory ran out
-abbrev pub IsRefused : Kinds → Met → LineFault → Type 0
+abbrev pub IsRefused : Kinds → MetCommand → CommandFault → Type 0
 IsRefused kinds met Memory = Unit {0}
 IsRefused kinds met (Usage error) = (¬ IsRequest (kind_of error)) × IsAmong (kind_of error) kinds
 IsRefused kinds met fault = (kinds ≡ []) × IsWrong met fault

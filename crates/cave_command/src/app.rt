@@ -3,7 +3,9 @@
 ghost use Rattle.std.specs.Prelude.{◌≡◌, IfOk, false};
 ghost use Rattle.clap.specs.Words.{app_of};
 ghost use Rattle.clap.specs.declared.builder.command.Command.TheViews.{out-Command};
-ghost use Rattle.cave_command.specs.App.{IsLocal, cave_app, check_app, cover_app, edit_app, plain_app, play_app, playing_app, with_game, with_options, with_view};
+ghost use Rattle.cave_command.specs.App.{IsLocal, cave_app, check_app, cover_app, edit_app};
+ghost use Rattle.cave_command.specs.App.{plain_app, play_app, playing_app, with_game, with_options};
+ghost use Rattle.cave_command.specs.App.{with_view};
 
 use crate::arguments::{
     bind_argument, cave_argument, every_argument, log_argument, logs_argument, print_argument,
@@ -12,7 +14,7 @@ use crate::arguments::{
 use clap::Command;
 use std::alloc::{AllocError, Global};
 
-/// The version of the program, which no other place tells.
+/// The version of the program. It is written here alone.
 const VERSION: &str = "1.0";
 
 /// What is under the help of the program.

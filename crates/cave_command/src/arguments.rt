@@ -2,7 +2,8 @@
 
 ghost use Rattle.std.specs.Prelude.{◌≡◌, false};
 ghost use Rattle.clap.specs.Words.{rule_of};
-ghost use Rattle.cave_command.specs.App.{bind_rule, cave_rule, every_rule, log_rule, logs_rule, print_rule, script_rule, seed_rule};
+ghost use Rattle.cave_command.specs.App.{bind_rule, cave_rule, every_rule, log_rule, logs_rule};
+ghost use Rattle.cave_command.specs.App.{print_rule, script_rule, seed_rule};
 
 use clap::{Arg, ArgAction};
 use std::alloc::Global;
@@ -46,7 +47,8 @@ pub(crate) fn script_argument<'a>(alloc: Global) -> Arg<'a>
         .required(true)
         .value_name("SCRIPT")
         .help(
-            "The edits of the log: lines `insert N TEXT`, `delete N`, `replace N TEXT`, `seed N`, and groups from `begin` to `end`",
+            "The edits of the log: lines `insert N TEXT`, `delete N`, `replace N TEXT`, \
+             `seed N`, and groups from `begin` to `end`",
         )
 }
 
@@ -73,7 +75,8 @@ pub(crate) fn every_argument<'a>(alloc: Global) -> Arg<'a>
     ensures local { result.global ≡ false }
 {
     Arg::new(alloc, "every").long("every").value_name("K").help(
-        "The most lines between two checkpoints, from 1 to 10000: the fewer, the less an edit replays and the more is kept [default: 50]",
+        "The most lines between two checkpoints, from 1 to 10000: the fewer, the less an \
+         edit replays and the more is kept [default: 50]",
     )
 }
 
@@ -85,6 +88,8 @@ pub(crate) fn print_argument<'a>(alloc: Global) -> Arg<'a>
         .long("print")
         .value_name("WHAT")
         .help(
-            "What is printed: `transcript`, the reports and what the game says, `log`, the edited log without its seed, or `reports`, what each edit replayed [default: transcript]",
+            "What is printed: `transcript`, the reports and what the game says, `log`, the \
+             edited log without its seed, or `reports`, what each edit replayed \
+             [default: transcript]",
         )
 }

@@ -1,6 +1,6 @@
 ghost use Rattle.std.specs.Prelude.{◌≡◌};
-ghost use Rattle.cave_command.specs.Status.{status_of};
-ghost use Rattle.cave_command.specs.declared.fault.LineFault.TheVariants.{Memory};
+ghost use Rattle.cave_command.specs.Status.{status_of_command};
+ghost use Rattle.cave_command.specs.declared.fault.CommandFault.TheVariants.{Memory};
 
 use clap::Error as ParseError;
 use std::alloc::{AllocError, AllocFailed};
@@ -8,47 +8,53 @@ use thiserror::Error;
 
 /// Why a command line asks for no run. Its text is whole lines, for standard error.
 #[derive(Debug, Drop, Error)]
-pub enum LineFault<'a> {
+pub enum CommandFault<'a> {
     /// The parser refused the words.
     #[error("{0}")]
     Usage(ParseError),
     /// The words name no command or not all of its files.
     #[error("error: a command and its files are wanted\n\nFor more information, try '--help'.\n")]
     Incomplete,
-    #[error("error: invalid value '{0}' for '--seed <N>': wanted are 1 to 10 digits, from 0 to 2147483647\n\nFor more information, try '--help'.\n")]
+    #[error("error: invalid value '{0}' for '--seed <N>': wanted are 1 to 10 digits, \
+        from 0 to 2147483647\n\n\
+        For more information, try '--help'.\n")]
     BadSeed(&'a str),
-    #[error("error: invalid value '{0}' for '--every <K>': wanted are 1 to 10 digits, from 1 to 10000\n\nFor more information, try '--help'.\n")]
+    #[error("error: invalid value '{0}' for '--every <K>': wanted are 1 to 10 digits, \
+        from 1 to 10000\n\n\
+        For more information, try '--help'.\n")]
     BadEvery(&'a str),
-    #[error("error: invalid value '{0}' for '--print <WHAT>': wanted is transcript, log or reports\n\nFor more information, try '--help'.\n")]
+    #[error("error: invalid value '{0}' for '--print <WHAT>': wanted is transcript, \
+        log or reports\n\n\
+        For more information, try '--help'.\n")]
     BadView(&'a str),
     #[error("cave: there isn't enough memory\n")]
     Memory,
 }
 
-impl LineFault<'_> {
+impl CommandFault<'_> {
     /// The status with which the program ends.
     pub fn status(&self) -> u8
-        ensures { result ≡ status_of self.now }
+        ensures { result ≡ status_of_command self.now }
     {
         match self {
-            LineFault::Memory => 7,
+            CommandFault::Memory => 7,
             _ => 2,
         }
     }
 }
 
-impl From<AllocError> for LineFault<'_> {
+impl From<AllocError> for CommandFault<'_> {
     ghost from_gives = { λ _ fault. fault ≡ Memory };
 
     fn from(_: AllocError) -> Self {
-        LineFault::Memory
+        CommandFault::Memory
     }
 }
 
-impl<T: Drop> From<AllocFailed<T>> for LineFault<'_> {
+impl<T: Drop> From<AllocFailed<T>> for CommandFault<'_> {
     ghost from_gives = { λ _ fault. fault ≡ Memory };
 
     fn from(_: AllocFailed<T>) -> Self {
-        LineFault::Memory
+        CommandFault::Memory
     }
 }

@@ -8,6 +8,6 @@ pub mod line;
 mod number;
 mod read;
 
-pub use fault::LineFault;
+pub use fault::CommandFault;
 pub use line::{Files, Line};
 pub use read::command_line;

@@ -1,5 +1,5 @@
-use cave_editing::Editing;
 use clap::Error;
+use edit_options::Editing;
 
 /// The files of a cave.
 #[derive(Clone, Copy, Debug, PartialEq, Eq)]

@@ -2,11 +2,11 @@
 
 ghost use Rattle.std.specs.Prelude.{◌≡◌, ◌<◌, ◌^◌};
 ghost use Rattle.std.specs.List.{list_all};
-ghost use Rattle.cave_words.specs.Bytes.{is_digit};
-ghost use Rattle.cave_command.specs.Number.{number_in};
+ghost use Rattle.log_lines.specs.Bytes.{is_digit};
+ghost use Rattle.cave_command.specs.Number.{option_number};
 
-use cave_words::bytes::number_of;
 use limits::is_long_number;
+use log_lines::bytes::number_of;
 
 fn is_all_digits(text: &[u8]) -> bool
     ensures { result ≡ list_all is_digit text.now }
@@ -14,10 +14,10 @@ fn is_all_digits(text: &[u8]) -> bool
     text.iter().all(|byte| byte.is_ascii_digit())
 }
 
-/// The number that a text writes in 1 to 10 digits, if it lies from `least` to `most`.
-#[tactic(auto, unfolding(crate::specs::Number::number_in))]
+/// The number that a text writes in 1 to 10 digits, if it is from `least` to `most`.
+#[tactic(auto, unfolding(crate::specs::Number::option_number))]
 pub(crate) fn number_in(least: u32, most: u32, text: &str) -> Option<u32>
-    ensures { result ≡ number_in least most text.now }
+    ensures { result ≡ option_number least most text.now }
 {
     let digits = text.as_bytes();
     if digits.is_empty() || is_long_number(digits.len()) || !is_all_digits(digits) {

@@ -1,33 +1,38 @@
 //! Which run the words ask for.
 
-ghost use Rattle.std.specs.Prelude.{◌≡◌, IfOk, IfErr, MatchOption, MatchResult, None, Some, codes, map, option_map};
-ghost use Rattle.clap.specs.Words.{all_of, fault_of, first_of, kind_of, subcommand_of, subcommand_rows_of};
+ghost use Rattle.std.specs.Prelude.{◌≡◌, IfOk, IfErr, MatchOption, MatchResult, None, Some, codes};
+ghost use Rattle.std.specs.Prelude.{map, option_map};
+ghost use Rattle.clap.specs.Words.{all_of, fault_of, first_of, kind_of, subcommand_of};
+ghost use Rattle.clap.specs.Words.{subcommand_rows_of};
 ghost use Rattle.cave_command.specs.App.{cave_app};
 ghost use Rattle.cave_command.specs.Parse.{IsParse};
-ghost use Rattle.cave_command.specs.Line.{IsAsked, IsBadEditing, IsBadEvery, IsBadSeed, IsBadView, IsEditing, IsEvery, IsFiles, IsLine, IsLineMet, IsLineOf, IsRefusal, IsRefused, IsRequest, IsSeed, IsUnmade, IsView, IsWrong, rows_in};
+ghost use Rattle.cave_command.specs.Line.{IsAsked, IsBadEditing, IsBadEvery, IsBadSeed, IsBadView};
+ghost use Rattle.cave_command.specs.Line.{IsEditing, IsEveryGiven, IsFiles, IsLine, IsLineMet};
+ghost use Rattle.cave_command.specs.Line.{IsLineOf, IsRefusal, IsRefused, IsRequest, IsSeed};
+ghost use Rattle.cave_command.specs.Line.{IsUnmade, IsView, IsWrong, rows_in};
 
 use crate::app::cave_command;
-use crate::fault::LineFault;
+use crate::fault::CommandFault;
 use crate::line::{Files, Line};
 use crate::number::number_in;
-use cave_editing::{Editing, View};
 use clap::error::ErrorKind;
 use clap::{ArgMatches, Error};
-use limits::{MAX_EVERY, MAX_SEED};
+use edit_options::{Editing, View};
+use limits::{MAX_EVERY, MAX_SEED, USUAL_EVERY};
 use std::alloc::Global;
 use std::convert::AsStr;
 
 /// The seed where none is given.
 const USUAL_SEED: u32 = 0;
 
-/// The distance of checkpoints where none is given.
-const USUAL_EVERY: u32 = 50;
-
 /// What an edit prints where nothing is asked for.
 const USUAL_VIEW: View = View::Transcript;
 
 /// What the words of a command line ask for. The first word is the program's name.
-pub fn command_line<'a, S: AsStr>(alloc: Global, words: &'a [S]) -> Result<Line<'a>, LineFault<'a>>
+pub fn command_line<'a, S: AsStr>(
+    alloc: Global,
+    words: &'a [S],
+) -> Result<Line<'a>, CommandFault<'a>>
     ensures found { IfOk result (IsLine (subcommand_of cave_app (map S.text words.entry.now))) }
     ensures asked { IfOk result (IsAsked (fault_of cave_app (map S.text words.entry.now))) }
     ensures refused { let given = map S.text words.entry.now in
@@ -48,35 +53,39 @@ fn parse<'a, S: AsStr>(alloc: Global, words: &'a [S]) -> Result<ArgMatches<'a>, 
 }
 
 /// What an error of the parser comes to: a text to print, or a fault.
-fn answer_to<'a>(error: Error) -> Result<Line<'a>, LineFault<'a>>
+fn answer_to<'a>(error: Error) -> Result<Line<'a>, CommandFault<'a>>
     ensures ok { IfOk result (λ line. (line ≡ Line.Text error) × IsRequest (kind_of error)) }
     ensures err { IfErr result (λ fault. IsRefusal error fault) }
 {
     match error.kind() {
         ErrorKind::DisplayHelp | ErrorKind::DisplayVersion => Ok(Line::Text(error)),
-        ErrorKind::OutOfMemory => Err(LineFault::Memory),
-        _ => Err(LineFault::Usage(error)),
+        ErrorKind::OutOfMemory => Err(CommandFault::Memory),
+        _ => Err(CommandFault::Usage(error)),
     }
 }
 
 /// The run of the command that was met.
-fn line_met<'a>(alloc: Global, matches: &ArgMatches<'a>) -> Result<Line<'a>, LineFault<'a>>
+fn line_met<'a>(alloc: Global, matches: &ArgMatches<'a>) -> Result<Line<'a>, CommandFault<'a>>
     ensures { MatchResult result (IsLineMet (subcommand_rows_of matches.now))
         (IsUnmade (subcommand_rows_of matches.now)) }
 {
     let Some((name, found)) = matches.subcommand() else {
-        return Err(LineFault::Incomplete);
+        return Err(CommandFault::Incomplete);
     };
     line_of(alloc, name, found)
 }
 
 /// The run of a command.
-fn line_of<'a>(alloc: Global, name: &str, found: &ArgMatches<'a>) -> Result<Line<'a>, LineFault<'a>>
+fn line_of<'a>(
+    alloc: Global,
+    name: &str,
+    found: &ArgMatches<'a>,
+) -> Result<Line<'a>, CommandFault<'a>>
     ensures { MatchResult result (IsLineOf name.now (rows_in found.now))
         (IsUnmade (Some (name.now, rows_in found.now))) }
 {
     let Some(files) = files_in(found) else {
-        return Err(LineFault::Incomplete);
+        return Err(CommandFault::Incomplete);
     };
     if name == "check" {
         return Ok(Line::Check { files });
@@ -85,17 +94,17 @@ fn line_of<'a>(alloc: Global, name: &str, found: &ArgMatches<'a>) -> Result<Line
         return cover_of(alloc, files, found);
     }
     let Some(log) = value_in(found, "log") else {
-        return Err(LineFault::Incomplete);
+        return Err(CommandFault::Incomplete);
     };
     if name == "play" {
         let seed = seed_in(found)?;
         return Ok(Line::Play { files, log, seed });
     }
     let Some(script) = value_in(found, "script") else {
-        return Err(LineFault::Incomplete);
+        return Err(CommandFault::Incomplete);
     };
     if name != "edit" {
-        return Err(LineFault::Incomplete);
+        return Err(CommandFault::Incomplete);
     }
     Ok(Line::Edit {
         files,
@@ -110,13 +119,13 @@ fn cover_of<'a>(
     alloc: Global,
     files: Files<'a>,
     found: &ArgMatches<'a>,
-) -> Result<Line<'a>, LineFault<'a>>
+) -> Result<Line<'a>, CommandFault<'a>>
     requires { IsFiles (rows_in found.now) files }
     ensures { MatchResult result (IsLineOf (codes "cover") (rows_in found.now))
         (IsUnmade (Some (codes "cover", rows_in found.now))) }
 {
     let Some(logs) = values_in(found, "log") else {
-        return Err(LineFault::Incomplete);
+        return Err(CommandFault::Incomplete);
     };
     let seed = seed_in(found)?;
     let logs = Vec::from_slice(alloc, logs)?;
@@ -126,7 +135,8 @@ fn cover_of<'a>(
 /// All that was found for an argument.
 #[tactic(auto, using(crate::proofs::Values::values))]
 fn values_in<'a, 'm>(found: &'m ArgMatches<'a>, id: &str) -> Option<&'m [&'a str]>
-    ensures { option_map (λ texts. map (λ text. text.now) texts.now) result ≡ all_of id.now (rows_in found.now) }
+    ensures { option_map (λ texts. map (λ text. text.now) texts.now) result
+        ≡ all_of id.now (rows_in found.now) }
 {
     found.get_strs(id)
 }
@@ -152,36 +162,38 @@ fn files_in<'a>(found: &ArgMatches<'a>) -> Option<Files<'a>>
     })
 }
 
-fn seed_in<'a>(found: &ArgMatches<'a>) -> Result<u32, LineFault<'a>>
+fn seed_in<'a>(found: &ArgMatches<'a>) -> Result<u32, CommandFault<'a>>
     ensures { MatchResult result (IsSeed (rows_in found.now)) (IsBadSeed (rows_in found.now)) }
 {
     match value_in(found, "seed") {
         None => Ok(USUAL_SEED),
-        Some(text) => number_in(0, MAX_SEED, text).ok_or(LineFault::BadSeed(text)),
+        Some(text) => number_in(0, MAX_SEED, text).ok_or(CommandFault::BadSeed(text)),
     }
 }
 
-fn every_in<'a>(found: &ArgMatches<'a>) -> Result<u32, LineFault<'a>>
-    ensures { MatchResult result (IsEvery (rows_in found.now)) (IsBadEvery (rows_in found.now)) }
+fn every_in<'a>(found: &ArgMatches<'a>) -> Result<u32, CommandFault<'a>>
+    ensures { MatchResult result (IsEveryGiven (rows_in found.now))
+        (IsBadEvery (rows_in found.now)) }
 {
     match value_in(found, "every") {
         None => Ok(USUAL_EVERY),
-        Some(text) => number_in(1, MAX_EVERY, text).ok_or(LineFault::BadEvery(text)),
+        Some(text) => number_in(1, MAX_EVERY, text).ok_or(CommandFault::BadEvery(text)),
     }
 }
 
-fn view_in<'a>(found: &ArgMatches<'a>) -> Result<View, LineFault<'a>>
+fn view_in<'a>(found: &ArgMatches<'a>) -> Result<View, CommandFault<'a>>
     ensures { MatchResult result (IsView (rows_in found.now)) (IsBadView (rows_in found.now)) }
 {
     match value_in(found, "print") {
         None => Ok(USUAL_VIEW),
-        Some(name) => View::named(name).ok_or(LineFault::BadView(name)),
+        Some(name) => View::named(name).ok_or(CommandFault::BadView(name)),
     }
 }
 
 /// How a log is to be edited.
-fn editing_in<'a>(found: &ArgMatches<'a>) -> Result<Editing, LineFault<'a>>
-    ensures { MatchResult result (IsEditing (rows_in found.now)) (IsBadEditing (rows_in found.now)) }
+fn editing_in<'a>(found: &ArgMatches<'a>) -> Result<Editing, CommandFault<'a>>
+    ensures { MatchResult result (IsEditing (rows_in found.now))
+        (IsBadEditing (rows_in found.now)) }
 {
     Ok(Editing {
         seed: seed_in(found)?,

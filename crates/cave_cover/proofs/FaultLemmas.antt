@@ -6,7 +6,7 @@ use Rattle.std.specs.Io.KnownBytes.{Appends}
 use Rattle.std.specs.List.{AllZip}
 use Rattle.std.specs.Option.{option_or}
 use Rattle.cave_play.specs.Input.{Says}
-use Rattle.cave_play.specs.Judged.{log_fault}
+use Rattle.cave_play.specs.Judge.{log_fault}
 use Rattle.cave_play.specs.Stage.{Stage, first_decided}
 use Rattle.cave_play.specs.Stage as stage
 use Rattle.cave_play.specs.Stages.{log_stage}
@@ -14,7 +14,8 @@ use Rattle.cave_play.specs.declared.fault.PlayFault.{PlayFault}
 use Rattle.cave_play.specs.declared.fault.PlayFault.TheVariants as fault
 use Rattle.cave_play.proofs.InputLemmas.{Says-some}
 use Rattle.cave_play.proofs.StageLemmas.{IsFoundIn-memory}
-use Rattle.cave_cover.specs.Faults.{AreRight, IsFoundFrom, Judges, Runs, at_log, at_none}
+use Rattle.cave_cover.specs.Faults.{AreValidLogs, IsFoundFrom, JudgesLogs, RunsCover, at_log}
+use Rattle.cave_cover.specs.Faults.{at_none}
 use Rattle.cave_cover.specs.declared.fault.CoverFault.{CoverFault}
 
 -- ---- bytes of several readers
@@ -63,34 +64,47 @@ IsFoundFrom-here place log logs found (inr (none, memory)) = inl (refl, inl (rw 
 -- ---- several logs
 
 -- one more log without a fault
-pub AreRight-more : (logs : List (List ℕ)) (log : List ℕ) → AreRight logs → log_fault log ≡ None
-    → AreRight (logs ++ log ∷ [])
-AreRight-more [] log right none = (none, tt)
-AreRight-more (first ∷ logs) log right none = (right.0, AreRight-more logs log right.1 none)
+pub AreValidLogs-more : (logs : List (List ℕ)) (log : List ℕ) → AreValidLogs logs
+    → log_fault log ≡ None
+    → AreValidLogs (logs ++ log ∷ [])
+AreValidLogs-more [] log right none = (none, tt)
+AreValidLogs-more (first ∷ logs) log right none = (right.0, AreValidLogs-more logs log right.1 none)
 
 -- a fault that is found after logs without one
-pub IsFoundFrom-later : (place : ℕ) (logs more : List (List ℕ)) (found : CoverFault) → AreRight logs
+pub IsFoundFrom-later : (place : ℕ) (logs more : List (List ℕ)) (found : CoverFault)
+    → AreValidLogs logs
     → IsFoundFrom (place + length logs) more found → IsFoundFrom place (logs ++ more) found
 IsFoundFrom-later place [] more found right there =
     let same : place + 0 ≡ place = omega arith in
     subst (λ n. IsFoundFrom n more found) same there
 IsFoundFrom-later place (log ∷ logs) more found right there =
     let same : place + length (log ∷ logs) ≡ place + 1 + length logs = omega arith in
-    inr (right.0, IsFoundFrom-later (place + 1) logs more found right.1 (subst (λ n. IsFoundFrom n more found) same there))
+    inr (
+      right.0,
+      IsFoundFrom-later (place + 1) logs more found right.1
+          (subst (λ n. IsFoundFrom n more found) same there),
+    )
 
 -- ---- the first stages, and then the logs
 
 -- what is right where the logs alone are judged is right after first stages that decide no fault
-pub Judges-after : {X : Type 0} (first : List Stage) (logs : List (List ℕ)) (P Q : X → Type 0) (r : Result X CoverFault)
+pub JudgesLogs-after : {X : Type 0} (first : List Stage) (logs : List (List ℕ)) (P Q : X → Type 0)
+    (r : Result X CoverFault)
     → first_decided first ≡ None → ((x : X) → P x → Q x)
-    → Judges [] logs P r → Judges first logs Q r
-Judges-after first logs P Q (Ok x) none gives judged = (none, judged.1, gives x judged.2)
-Judges-after first logs P Q (Err found) none gives (inl (at, memory)) = inl (at, subst (stage.IsFoundIn first) (sym memory) (IsFoundIn-memory first))
-Judges-after first logs P Q (Err found) none gives (inr (nothing, there)) = inr (none, there)
+    → JudgesLogs [] logs P r → JudgesLogs first logs Q r
+JudgesLogs-after first logs P Q (Ok x) none gives judged = (none, judged.1, gives x judged.2)
+JudgesLogs-after first logs P Q (Err found) none gives (inl (at, memory)) =
+    inl (at, subst (stage.IsFoundIn first) (sym memory) (IsFoundIn-memory first))
+JudgesLogs-after first logs P Q (Err found) none gives (inr (nothing, there)) = inr (none, there)
 
 -- a run that wrote, or failed while it wrote
-pub Runs-written : (first : List Stage) (logs : List (List ℕ)) (IsOutput : List ℕ → Type 0) (old new : Option (List ℕ)) (output : List ℕ) (r : Result (Unit {0}) CoverFault)
-    → first_decided first ≡ None → AreRight logs → IsOutput output
-    → MatchResult r (λ _. Appends old new output) (λ found. (found ≡ at_none fault.Write) × ((n : ℕ) × Appends old new (take n output))) → Runs first logs IsOutput old new r
-Runs-written first logs IsOutput old new output (Ok done) none right is written = (none, right, (output, is, written))
-Runs-written first logs IsOutput old new output (Err found) none right is written = inl (written.0, none, right, (output, is, written.1))
+pub RunsCover-written : (first : List Stage) (logs : List (List ℕ)) (IsOutput : List ℕ → Type 0)
+    (old new : Option (List ℕ)) (output : List ℕ) (r : Result (Unit {0}) CoverFault)
+    → first_decided first ≡ None → AreValidLogs logs → IsOutput output
+    → MatchResult r (λ _. Appends old new output)
+    (λ found. (found ≡ at_none fault.Write) × ((n : ℕ) × Appends old new (take n output)))
+    → RunsCover first logs IsOutput old new r
+RunsCover-written first logs IsOutput old new output (Ok done) none right is written =
+    (none, right, (output, is, written))
+RunsCover-written first logs IsOutput old new output (Err found) none right is written =
+    inl (written.0, none, right, (output, is, written.1))

@@ -4,23 +4,33 @@ use Rattle.std.specs.Global.{Vec}
 use Rattle.std.specs.List.{flat_map}
 use Rattle.std.proofs.lemmas.List.Folds.{flat_map-map}
 use Rattle.cave_data.specs.CaveView.{CaveView}
-use Rattle.cave_play.specs.CaveRules.{cave_rules}
-use Rattle.cave_replay.specs.Play.{Game, IsPlay}
+use Rattle.cave_play.specs.Machine.{cave_rules}
+use Rattle.log_replay.specs.Play.{Game, IsPlay}
 use Rattle.cave_world.specs.declared.part.Part.{Part}
 use Rattle.cave_world.specs.declared.state.State.{State}
 use Rattle.cave_cover.specs.Marks.{Notes}
-use Rattle.cave_cover.specs.Plays.{said_in}
+use Rattle.cave_cover.specs.Plays.{texts_said_in}
 use Rattle.cave_cover.specs.Texts.{said_by_all}
 use Rattle.cave_cover.proofs.Noting.{Notes-append}
 
-pub noted-played : (cave kept : CaveView) (game : Game) (opening : List Part) (pieces : List (Vec Part)) (ticks : List Bool) (state : State) (old between new : List Bool)
+pub noted-played : (cave kept : CaveView) (game : Game) (opening : List Part)
+    (pieces : List (Vec Part)) (ticks : List Bool) (state : State) (old between new : List Bool)
     → kept ≡ cave
     → IsPlay (cave_rules kept) game opening (map (λ piece. piece.items) pieces) ticks state
-    → Notes (said_by_all cave opening) old between → Notes (flat_map (λ piece. said_by_all cave piece.items) pieces) between new → Notes (said_in cave game) old new
-unfolding said_in
+    → Notes (said_by_all cave opening) old between
+    → Notes (flat_map (λ piece. said_by_all cave piece.items) pieces) between new
+    → Notes (texts_said_in cave game) old new
+unfolding texts_said_in
 noted-played cave kept game opening pieces ticks state old between new same played first later =
-    let here = subst (λ k. IsPlay (cave_rules k) game opening (map (λ (piece : Vec Part). piece.items) pieces) ticks state) same played in
-    let greeted = subst (λ parts. Notes (said_by_all cave parts) old between) here.opening_is first in
-    let lists = subst (λ t. Notes t between new) (sym (flat_map-map (said_by_all cave) (λ (piece : Vec Part). piece.items) pieces)) later in
-    let told = subst (λ parts. Notes (flat_map (said_by_all cave) parts) between new) here.pieces_are lists in
+    let here =
+    subst (λ k. IsPlay (cave_rules k) game opening
+    (map (λ (piece : Vec Part). piece.items) pieces) ticks state) same played in
+    let greeted =
+    subst (λ parts. Notes (said_by_all cave parts) old between) here.opening_is first in
+    let lists =
+    subst (λ t. Notes t between new)
+    (sym (flat_map-map (said_by_all cave) (λ (piece : Vec Part). piece.items) pieces)) later in
+    let told =
+    subst (λ parts. Notes (flat_map (said_by_all cave) parts) between new) here.pieces_are
+    lists in
     Notes-append _ _ old between new greeted told

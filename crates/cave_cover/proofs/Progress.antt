@@ -8,21 +8,23 @@ use Rattle.std.proofs.lemmas.List.{drop-set-lt, drop_more, get_or-drop, length-m
 use Rattle.std.proofs.lemmas.List.{map-append, take-append-drop, take_all, take_more}
 use Rattle.cave_data.specs.CaveView.{CaveView}
 use Rattle.cave_play.specs.Input.{Says}
-use Rattle.cave_play.specs.Judged.{log_fault}
+use Rattle.cave_play.specs.Judge.{log_fault}
 use Rattle.cave_play.specs.Stage as stage
 use Rattle.cave_play.specs.Stages.{log_stage}
 use Rattle.cave_play.specs.declared.fault.PlayFault.{PlayFault}
-use Rattle.cave_cover.specs.Faults.{AreRight, IsFoundFrom, IsFoundIn, at_log}
+use Rattle.cave_cover.specs.Faults.{AreValidLogs, IsFoundFrom, IsFoundInLogs, at_log}
 use Rattle.cave_cover.specs.Marks.{Notes}
 use Rattle.cave_cover.specs.Plays.{said_in_all, said_in_log}
-use Rattle.cave_cover.proofs.FaultLemmas.{AllSay-some, AllZip-append, AllZip-length, AreRight-more}
+use Rattle.cave_cover.proofs.FaultLemmas.{AllSay-some, AllZip-append, AllZip-length}
+use Rattle.cave_cover.proofs.FaultLemmas.{AreValidLogs-more}
 use Rattle.cave_cover.proofs.FaultLemmas.{IsFoundFrom-here, IsFoundFrom-later}
 use Rattle.cave_cover.proofs.Noting.{Notes-append, Notes-none}
 
 -- the logs that readers had were read, and none of them has a fault
-pub record HasRead (known : List (Option (List ℕ))) (cave : CaveView) (seed : ℕ) (old new : List Bool) (read : List (List ℕ)) : Type 0 where
+pub record HasRead (known : List (Option (List ℕ))) (cave : CaveView) (seed : ℕ)
+    (old new : List Bool) (read : List (List ℕ)) : Type 0 where
   pub says : AllZip Says known read
-  pub right : AreRight read
+  pub right : AreValidLogs read
   pub noted : Notes (said_in_all cave seed read) old new
 
 -- none is read yet
@@ -30,59 +32,91 @@ pub HasRead-none : (cave : CaveView) (seed : ℕ) (marks : List Bool)
     → HasRead [] cave seed marks marks []
 HasRead-none cave seed marks = record { says = tt; right = tt; noted = Notes-none marks }
 
-module _ {L : Type 0} (remaining : L → Option (List ℕ)) (logs : List L) (place : ℕ) (log : L) (inside : place < length logs) (is : log ≡ get_or logs place log) where
-  known_more : map remaining (take (place + 1) logs) ≡ map remaining (take place logs) ++ remaining log ∷ []
+module _ {L : Type 0} (remaining : L → Option (List ℕ)) (logs : List L) (place : ℕ) (log : L)
+    (inside : place < length logs) (is : log ≡ get_or logs place log) where
+  known_more : map remaining (take (place + 1) logs) ≡ map remaining (take place logs)
+      ++ remaining log ∷ []
   known_more =
-      ap (map remaining) (take_more logs place log inside) ∙ map-append remaining (take place logs) (get_or logs place log ∷ [])
+      ap (map remaining) (take_more logs place log inside)
+      ∙ map-append remaining (take place logs) (get_or logs place log ∷ [])
       ∙ ap (λ l. map remaining (take place logs) ++ remaining l ∷ []) (sym is)
 
-  known_all : map remaining logs ≡ map remaining (take place logs) ++ (remaining log ∷ map remaining (drop (place + 1) logs))
+  known_all : map remaining logs ≡ map remaining (take place logs)
+      ++ (remaining log ∷ map remaining (drop (place + 1) logs))
   known_all =
-      ap (map remaining) (sym (take-append-drop place logs)) ∙ map-append remaining (take place logs) (drop place logs)
-      ∙ ap (λ rest. map remaining (take place logs) ++ map remaining rest) (drop_more logs place log inside)
-      ∙ ap (λ l. map remaining (take place logs) ++ (remaining l ∷ map remaining (drop (place + 1) logs))) (sym is)
+      ap (map remaining) (sym (take-append-drop place logs))
+      ∙ map-append remaining (take place logs) (drop place logs)
+      ∙ ap (λ rest. map remaining (take place logs) ++ map remaining rest)
+      (drop_more logs place log inside)
+      ∙ ap (λ l. map remaining (take place logs)
+      ++ (remaining l ∷ map remaining (drop (place + 1) logs))) (sym is)
 
-  module _ (cave : CaveView) (seed : ℕ) (old between : List Bool) (read : List (List ℕ)) (moves : List ℕ) (before : HasRead (map remaining (take place logs)) cave seed old between read) (said : Says (remaining log) moves) where
+  module _ (cave : CaveView) (seed : ℕ) (old between : List Bool) (read : List (List ℕ))
+      (moves : List ℕ)
+      (before : HasRead (map remaining (take place logs)) cave seed old between read)
+      (said : Says (remaining log) moves) where
     -- one more log is read
     pub HasRead-more : (new : List Bool) → log_fault moves ≡ None
         → Notes (said_in_log cave seed moves) between new
         → HasRead (map remaining (take (place + 1) logs)) cave seed old new (read ++ moves ∷ [])
     HasRead-more new right noted =
-        let texts : said_in_all cave seed (read ++ moves ∷ []) ≡ said_in_all cave seed read ++ said_in_log cave seed moves =
-        flat_map-append (said_in_log cave seed) read (moves ∷ []) ∙ ap (λ t. said_in_all cave seed read ++ t) (append-nil (said_in_log cave seed moves)) in
+        let texts : said_in_all cave seed (read ++ moves ∷ []) ≡ said_in_all cave seed read
+        ++ said_in_log cave seed moves =
+        flat_map-append (said_in_log cave seed) read (moves ∷ [])
+        ∙ ap (λ t. said_in_all cave seed read ++ t)
+        (append-nil (said_in_log cave seed moves)) in
         record {
-          says = subst (λ known. AllZip Says known (read ++ moves ∷ [])) (sym known_more) (AllZip-append Says (map remaining (take place logs)) (remaining log ∷ []) read (moves ∷ []) before.says (said, tt));
-          right = AreRight-more read moves before.right right;
-          noted = subst (λ t. Notes t old new) (sym texts) (Notes-append (said_in_all cave seed read) (said_in_log cave seed moves) old between new before.noted noted);
+          says = subst (λ known. AllZip Says known (read ++ moves ∷ [])) (sym known_more)
+              (AllZip-append Says (map remaining (take place logs)) (remaining log ∷ []) read
+              (moves ∷ []) before.says (said, tt));
+          right = AreValidLogs-more read moves before.right right;
+          noted = subst (λ t. Notes t old new) (sym texts)
+              (Notes-append (said_in_all cave seed read) (said_in_log cave seed moves) old between
+              new before.noted noted);
         }
 
     -- one more log is refused
     pub HasRead-refused : (found : PlayFault) → stage.IsFoundIn (log_stage moves ∷ []) found
-        → (bytes : List (List ℕ)) × AllZip Says (map remaining logs) bytes × IsFoundIn [] bytes (at_log place found)
+        → (bytes : List (List ℕ)) × AllZip Says (map remaining logs) bytes
+        × IsFoundInLogs [] bytes (at_log place found)
     HasRead-refused found decided =
         let rest = AllSay-some (map remaining (drop (place + 1) logs)) in
         let bytes = read ++ (moves ∷ rest.0) in
         let many : length read ≡ place =
-        sym (AllZip-length Says (map remaining (take place logs)) read before.says) ∙ length-map (take place logs) remaining ∙ length-take-le place logs (omega arith) in
+        sym (AllZip-length Says (map remaining (take place logs)) read before.says)
+        ∙ length-map (take place logs) remaining ∙ length-take-le place logs (omega arith) in
         let here : place ≡ 0 + length read = omega (arith, many) in
-        let found_at = subst (λ n. IsFoundFrom n (moves ∷ rest.0) (at_log place found)) here (IsFoundFrom-here place moves rest.0 found decided) in (
+        let found_at =
+        subst (λ n. IsFoundFrom n (moves ∷ rest.0) (at_log place found)) here
+        (IsFoundFrom-here place moves rest.0 found decided) in (
           bytes,
-          subst (λ known. AllZip Says known bytes) (sym known_all) (AllZip-append Says (map remaining (take place logs)) (remaining log ∷ map remaining (drop (place + 1) logs)) read (moves ∷ rest.0) before.says (said, rest.1)),
-          inr (refl, IsFoundFrom-later 0 read (moves ∷ rest.0) (at_log place found) before.right found_at),
+          subst (λ known. AllZip Says known bytes) (sym known_all)
+              (AllZip-append Says (map remaining (take place logs))
+              (remaining log ∷ map remaining (drop (place + 1) logs)) read (moves ∷ rest.0)
+              before.says (said, rest.1)),
+          inr (
+            refl,
+            IsFoundFrom-later 0 read (moves ∷ rest.0) (at_log place found) before.right found_at,
+          ),
         )
 
 -- all logs are read
-pub HasRead-all : {L : Type 0} (remaining : L → Option (List ℕ)) (logs : List L) (place : ℕ) (cave : CaveView) (seed : ℕ) (old new : List Bool) (read : List (List ℕ))
+pub HasRead-all : {L : Type 0} (remaining : L → Option (List ℕ)) (logs : List L) (place : ℕ)
+    (cave : CaveView) (seed : ℕ) (old new : List Bool) (read : List (List ℕ))
     → length logs ≤ place
-    → HasRead (map remaining (take place logs)) cave seed old new read → HasRead (map remaining logs) cave seed old new read
-HasRead-all remaining logs place cave seed old new read past has = subst (λ ls. HasRead (map remaining ls) cave seed old new read) (take_all place logs past) has
+    → HasRead (map remaining (take place logs)) cave seed old new read
+    → HasRead (map remaining logs) cave seed old new read
+HasRead-all remaining logs place cave seed old new read past has =
+    subst (λ ls. HasRead (map remaining ls) cave seed old new read) (take_all place logs past) has
 
 -- the reader at a place is as it was, where no later one was used
 pub same_reader : {L : Type 0} (now logs : List L) (place : ℕ) (log : L)
     → drop place now ≡ drop place logs → log ≡ get_or now place log → log ≡ get_or logs place log
 same_reader now logs place log same is =
     let at : place + 0 ≡ place = omega arith in
-    is ∙ sym (get_or-drop place now 0 log ∙ ap (λ n. get_or now n log) at) ∙ ap (λ ls. get_or ls 0 log) same ∙ get_or-drop place logs 0 log ∙ ap (λ n. get_or logs n log) at
+    is ∙ sym (get_or-drop place now 0 log ∙ ap (λ n. get_or now n log) at)
+    ∙ ap (λ ls. get_or ls 0 log) same ∙ get_or-drop place logs 0 log
+    ∙ ap (λ n. get_or logs n log) at
 
 -- the later readers are as they were after this one was used
 pub same_later : {L : Type 0} (now logs : List L) (place : ℕ) (log : L)

@@ -4,8 +4,9 @@ use Rattle.std.proofs.Common.{◌∷◌, ◌++◌, length, refl, sym, ap, ap₂,
 use Rattle.std.specs.List.{filter, flat_map, range_with_len, sum_by}
 use Rattle.std.proofs.lemmas.List.Sums.{sum_by-cons}
 use Rattle.cave_data.specs.CaveView.{CaveView}
-use Rattle.cave_cover.specs.Report.{closing, kinds, line, missing, numbers, report, shown}
-use Rattle.cave_cover.specs.Texts.{has, text}
+use Rattle.cave_cover.specs.Report.{sums_line, kinds, line, numbers_missing, numbers, report}
+use Rattle.cave_cover.specs.Report.{numbers_shown}
+use Rattle.cave_cover.specs.Texts.{has_text, text}
 use Rattle.cave_cover.specs.declared.text.Kind.{Kind}
 use Rattle.cave_cover.specs.declared.text.Text.{Text}
 
@@ -19,7 +20,8 @@ agree_range : (p q : ℕ → Bool) (most first count : ℕ) → ((n : ℕ) → n
     → filter p (range_with_len first count) ≡ filter q (range_with_len first count)
 agree_range p q most first zero agree within = refl
 agree_range p q most first (suc count) agree within =
-    agree_cons first (p first) (q first) _ _ (agree first (omega arith)) (agree_range p q most (first + 1) count agree (omega arith))
+    agree_cons first (p first) (q first) _ _ (agree first (omega arith))
+    (agree_range p q most (first + 1) count agree (omega arith))
 
 agree_numbers : (p q : ℕ → Bool) → ((n : ℕ) → n < 10000 → p n ≡ q n)
     → filter p numbers ≡ filter q numbers
@@ -34,23 +36,34 @@ agree_flat f g (x ∷ xs) agree = ap₂ (λ here rest. here ++ rest) (agree x) (
 agree_sum : {X : Type 0} (f g : X → ℕ) (xs : List X) → ((x : X) → f x ≡ g x)
     → sum_by f xs ≡ sum_by g xs
 agree_sum f g [] agree = refl
-agree_sum f g (x ∷ xs) agree = sum_by-cons f x xs ∙ ap₂ (λ here rest. here + rest) (agree x) (agree_sum f g xs agree) ∙ sym (sum_by-cons g x xs)
+agree_sum f g (x ∷ xs) agree = sum_by-cons f x xs
+    ∙ ap₂ (λ here rest. here + rest) (agree x) (agree_sum f g xs agree) ∙ sym (sum_by-cons g x xs)
 
-module _ (cave : CaveView) (is_said is_told : Text → Bool) (agree : (text : Text) → text.number < 10000 → is_said text ≡ is_told text) where
-  agree_shown : (kind : Kind) → shown cave is_said kind ≡ shown cave is_told kind
-  unfolding shown
-  agree_shown kind = agree_numbers _ _ (λ n below. ap (λ b. has cave kind n && b) (agree (text kind n) below))
+module _ (cave : CaveView) (is_said is_told : Text → Bool) (agree : (text : Text)
+    → text.number < 10000 → is_said text ≡ is_told text) where
+  agree_shown : (kind : Kind) → numbers_shown cave is_said kind ≡ numbers_shown cave is_told kind
+  unfolding numbers_shown
+  agree_shown kind =
+      agree_numbers _ _ (λ n below. ap (λ b. has_text cave kind n && b) (agree (text kind n) below))
 
-  agree_missing : (kind : Kind) → missing cave is_said kind ≡ missing cave is_told kind
-  unfolding missing
-  agree_missing kind = agree_numbers _ _ (λ n below. ap (λ b. has cave kind n && not b) (agree (text kind n) below))
+  agree_missing : (kind : Kind)
+      → numbers_missing cave is_said kind ≡ numbers_missing cave is_told kind
+  unfolding numbers_missing
+  agree_missing kind =
+      agree_numbers
+      _ _ (λ n below. ap (λ b. has_text cave kind n && not b) (agree (text kind n) below))
 
   agree_line : (kind : Kind) → line cave is_said kind ≡ line cave is_told kind
   agree_line kind = rw (agree_shown kind, agree_missing kind) refl
 
-  agree_closing : (logs : ℕ) → closing cave is_said logs ≡ closing cave is_told logs
-  agree_closing logs = rw (agree_sum (λ kind. length (shown cave is_said kind)) (λ kind. length (shown cave is_told kind)) kinds (λ kind. ap length (agree_shown kind))) refl
+  agree_closing : (logs : ℕ) → sums_line cave is_said logs ≡ sums_line cave is_told logs
+  agree_closing logs =
+      rw (agree_sum (λ kind. length (numbers_shown cave is_said kind))
+      (λ kind. length (numbers_shown cave is_told kind)) kinds
+      (λ kind. ap length (agree_shown kind))) refl
 
   pub agree_report : (logs : ℕ) → report cave is_said logs ≡ report cave is_told logs
   unfolding report
-  agree_report logs = ap₂ (λ lines end. lines ++ end) (agree_flat (line cave is_said) (line cave is_told) kinds agree_line) (agree_closing logs)
+  agree_report logs =
+      ap₂ (λ lines end. lines ++ end)
+      (agree_flat (line cave is_said) (line cave is_told) kinds agree_line) (agree_closing logs)

@@ -1,10 +1,10 @@
--- Where the fault of a run over several logs is found, and what a run leaves behind.
+-- Where the fault of a run over several logs is found, and what a run has written when it ends.
 use Rattle.std.specs.Prelude.{◌≡◌, ℕ, ◌+◌, ◌⊎◌, ⊤, List, [], ◌∷◌}
 use Rattle.std.specs.Prelude.{Option, Some, None, Result, Ok, Err}
 use Rattle.std.specs.Io.KnownBytes.{Appends, Keeps}
-use Rattle.cave_play.specs.Judged.{log_fault, seed_fault}
-use Rattle.cave_play.specs.Run.{WritesFront}
-use Rattle.cave_play.specs.Stage.{Stage, IsFoundAt, first_decided, judging}
+use Rattle.cave_play.specs.Judge.{log_fault, large_seed}
+use Rattle.cave_play.specs.Run.{WritesPrefix}
+use Rattle.cave_play.specs.Stage.{Stage, IsFoundAt, first_decided, judging_stage}
 use Rattle.cave_play.specs.Stage as stage
 use Rattle.cave_play.specs.Stages.{cave_stages, log_stage}
 use Rattle.cave_play.specs.declared.fault.PlayFault.{PlayFault}
@@ -21,12 +21,13 @@ at_log place found = record { fault = found; log = Some place }
 
 -- first the seed is judged, then the cave
 abbrev pub first_stages : List ℕ → List ℕ → ℕ → List Stage
-first_stages database bindings seed = judging (seed_fault seed) ∷ cave_stages database bindings
+first_stages database bindings seed =
+    judging_stage (large_seed seed) ∷ cave_stages database bindings
 
 -- no log has a fault
-abbrev pub AreRight : List (List ℕ) → Type 0
-AreRight [] = ⊤
-AreRight (log ∷ logs) = (log_fault log ≡ None) × AreRight logs
+abbrev pub AreValidLogs : List (List ℕ) → Type 0
+AreValidLogs [] = ⊤
+AreValidLogs (log ∷ logs) = (log_fault log ≡ None) × AreValidLogs logs
 
 -- the fault is found at a log, and none before it has one; after the last, memory may run out.
 -- The first log has that place
@@ -37,31 +38,31 @@ IsFoundFrom place (log ∷ logs) found =
     ⊎ ((log_fault log ≡ None) × IsFoundFrom (place + 1) logs found)
 
 -- the fault is found at the first stages, or at the logs that are read after them
-abbrev pub IsFoundIn : List Stage → List (List ℕ) → CoverFault → Type 0
-IsFoundIn first logs found =
+abbrev pub IsFoundInLogs : List Stage → List (List ℕ) → CoverFault → Type 0
+IsFoundInLogs first logs found =
     ((found.log ≡ None) × stage.IsFoundIn first found.fault)
     ⊎ ((first_decided first ≡ None) × IsFoundFrom 0 logs found)
 
 -- where neither the first stages nor the logs decide a fault, what was made is right, and else the
 -- fault is found in them
-abbrev pub Judges : {X : Type 0} → List Stage → List (List ℕ) → (X → Type 0)
+abbrev pub JudgesLogs : {X : Type 0} → List Stage → List (List ℕ) → (X → Type 0)
     → Result X CoverFault → Type 0
-Judges first logs P (Ok made) = (first_decided first ≡ None) × AreRight logs × P made
-Judges first logs P (Err found) = IsFoundIn first logs found
+JudgesLogs first logs P (Ok made) = (first_decided first ≡ None) × AreValidLogs logs × P made
+JudgesLogs first logs P (Err found) = IsFoundInLogs first logs found
 
--- a failing writer got a front of a right output, or a fault was found in the inputs and nothing is
--- written
-abbrev pub EndsBy : CoverFault → List Stage → List (List ℕ) → (List ℕ → Type 0)
+-- a failing writer got a prefix of a right output, or a fault was found in the inputs and nothing
+-- is written
+abbrev pub EndsCoverBy : CoverFault → List Stage → List (List ℕ) → (List ℕ → Type 0)
     → Option (List ℕ) → Option (List ℕ) → Type 0
-EndsBy found first logs IsOutput old new =
-    ((found ≡ at_none fault.Write) × (first_decided first ≡ None) × AreRight logs
-    × WritesFront IsOutput old new)
-    ⊎ (IsFoundIn first logs found × Keeps old new)
+EndsCoverBy found first logs IsOutput old new =
+    ((found ≡ at_none fault.Write) × (first_decided first ≡ None) × AreValidLogs logs
+    × WritesPrefix IsOutput old new)
+    ⊎ (IsFoundInLogs first logs found × Keeps old new)
 
 -- what a run leaves: a right output, where no fault is decided, or what its fault leaves
-abbrev pub Runs : List Stage → List (List ℕ) → (List ℕ → Type 0)
+abbrev pub RunsCover : List Stage → List (List ℕ) → (List ℕ → Type 0)
     → Option (List ℕ) → Option (List ℕ) → Result (Unit {0}) CoverFault → Type 0
-Runs first logs IsOutput old new (Ok done) =
-    (first_decided first ≡ None) × AreRight logs
+RunsCover first logs IsOutput old new (Ok done) =
+    (first_decided first ≡ None) × AreValidLogs logs
     × ((output : List ℕ) × IsOutput output × Appends old new output)
-Runs first logs IsOutput old new (Err found) = EndsBy found first logs IsOutput old new
+RunsCover first logs IsOutput old new (Err found) = EndsCoverBy found first logs IsOutput old new

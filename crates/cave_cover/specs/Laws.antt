@@ -10,7 +10,7 @@ use Rattle.std.proofs.lemmas.List.Sorted.{length_permutation, list_any-IsPermuta
 use Rattle.cave_data.specs.CaveView.{CaveView}
 use Rattle.cave_data.proofs.ReadLemmas.{same_cave}
 use Rattle.cave_play.specs.Run.{AtMostOne}
-use Rattle.cave_cover.specs.Plays.{IsCovered, cover_text, said_in_all, said_in_log, told}
+use Rattle.cave_cover.specs.Plays.{IsCovered, cover_text, said_in_all, said_in_log, report_of_logs}
 use Rattle.cave_cover.specs.Texts.{is_among, is_same}
 use Rattle.cave_cover.specs.declared.text.Text.{Text}
 use Rattle.cave_cover.specs.Agreeing.{agree_report}
@@ -40,7 +40,7 @@ order_is_nothing cave seed logs others shuffled =
     among_all cave seed others text
     ∙ sym (list_any-IsPermutation (says cave seed text) logs others shuffled)
     ∙ sym (among_all cave seed logs text) in
-    ap (told cave seed others) (length_permutation logs others shuffled)
+    ap (report_of_logs cave seed others) (length_permutation logs others shuffled)
     ∙ agree_report cave of_others of_logs agree (length logs)
 
 said_once : (says : List ℕ → Bool) (logs : List (List ℕ)) (log : List ℕ) → Contains logs log
@@ -54,7 +54,7 @@ said_once says logs log (place, below, is) = go (says log) refl
 -- a log that is given once more changes nothing but the number of logs
 pub again_is_nothing : (cave : CaveView) (seed : ℕ) (logs : List (List ℕ)) (log : List ℕ)
     → Contains logs log → (count : ℕ)
-    → told cave seed (log ∷ logs) count ≡ told cave seed logs count
+    → report_of_logs cave seed (log ∷ logs) count ≡ report_of_logs cave seed logs count
 again_is_nothing cave seed logs log given count =
     let of_logs = λ (text : Text). is_among text (said_in_all cave seed logs) in
     let of_more = λ (text : Text). is_among text (said_in_all cave seed (log ∷ logs)) in

@@ -1,14 +1,14 @@
--- A mark for each text, and what noting texts makes of the marks.
+-- A mark for each text, and the marks after texts were noted.
 use Rattle.std.specs.Prelude.{◌≡◌, ℕ, ◌+◌, ◌*◌, ◌<◌, ◌||◌, Bool, false, List, slice_index_or}
 use Rattle.cave_cover.specs.Texts.{is_among, kind_number}
 use Rattle.cave_cover.specs.declared.text.Text.{Text}
 
 -- where the mark of a text is
-abbrev pub place_of : Text → ℕ
-place_of text = 10000 * kind_number text.kind + text.number
+abbrev pub place_of_mark : Text → ℕ
+place_of_mark text = 10000 * kind_number text.kind + text.number
 
 abbrev pub is_marked : List Bool → Text → Bool
-is_marked marks text = slice_index_or marks (place_of text) false
+is_marked marks text = slice_index_or marks (place_of_mark text) false
 
 -- the texts were noted: a text is marked now if it is one of them or was marked before
 pub record Notes (texts : List Text) (old new : List Bool) : Type 0 where

@@ -1,39 +1,40 @@
--- Which texts the plays of logs say, and what is told of them.
+-- Which texts the plays of logs say, and what is reported of them.
 use Rattle.std.specs.Prelude.{◌≡◌, ℕ, List, ◌++◌, length}
 use Rattle.std.specs.List.{flat_map}
 use Rattle.std.specs.Str.Lines.{lines}
 use Rattle.cave_data.specs.CaveView.{CaveView}
-use Rattle.cave_data.specs.Reading.{Reads}
-use Rattle.cave_play.specs.CaveRules.{cave_rules}
-use Rattle.cave_replay.specs.Play.{Game, game_of, texts_of}
+use Rattle.cave_data.specs.Reads.{Reads}
+use Rattle.cave_play.specs.Machine.{cave_rules}
+use Rattle.log_replay.specs.Play.{Game, game_of, texts_of}
 use Rattle.cave_cover.specs.Report.{report}
 use Rattle.cave_cover.specs.Texts.{is_among, said_by_all}
 use Rattle.cave_cover.specs.declared.text.Text.{Text}
 
 -- the texts that playing a game says, from its first line to its last
-unfoldable pub said_in : CaveView → Game → List Text
-said_in cave game =
+unfoldable pub texts_said_in : CaveView → Game → List Text
+texts_said_in cave game =
     let rules = cave_rules cave in
     said_by_all cave (rules.greeting game.seed)
     ++ flat_map (said_by_all cave) (texts_of rules (rules.begun game.seed) game.log)
 
 -- the texts that playing a log says
 abbrev pub said_in_log : CaveView → ℕ → List ℕ → List Text
-said_in_log cave seed log = said_in cave (game_of seed (lines log))
+said_in_log cave seed log = texts_said_in cave (game_of seed (lines log))
 
 -- the texts that are said where each log is played by itself
 abbrev pub said_in_all : CaveView → ℕ → List (List ℕ) → List Text
 said_in_all cave seed logs = flat_map (said_in_log cave seed) logs
 
--- what is told of logs, where so many are counted
-abbrev pub told : CaveView → ℕ → List (List ℕ) → ℕ → List ℕ
-told cave seed logs count = report cave (λ text. is_among text (said_in_all cave seed logs)) count
+-- the report on logs, where so many are counted
+abbrev pub report_of_logs : CaveView → ℕ → List (List ℕ) → ℕ → List ℕ
+report_of_logs cave seed logs count =
+    report cave (λ text. is_among text (said_in_all cave seed logs)) count
 
--- what is told of logs
+-- the report on logs
 abbrev pub cover_text : CaveView → ℕ → List (List ℕ) → List ℕ
-cover_text cave seed logs = told cave seed logs (length logs)
+cover_text cave seed logs = report_of_logs cave seed logs (length logs)
 
--- the output is what is told of the logs in the cave of the database and its bindings
+-- the output is the report on the logs in the cave of the database and its bindings
 abbrev pub IsCovered : List ℕ → List ℕ → List (List ℕ) → ℕ → List ℕ → Type 0
 IsCovered database bindings logs seed output =
     (cave : CaveView) × Reads database bindings cave × (output ≡ cover_text cave seed logs)

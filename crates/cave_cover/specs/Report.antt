@@ -4,8 +4,8 @@ use Rattle.std.specs.Prelude.{List, [], ◌∷◌, ◌++◌, length, slice_index
 use Rattle.std.specs.Fmt.{decimal}
 use Rattle.std.specs.List.{filter, flat_map, range_with_len, sum_by}
 use Rattle.cave_data.specs.CaveView.{CaveView}
-use Rattle.cave_data.specs.Role.{role_names}
-use Rattle.cave_cover.specs.Texts.{has, text}
+use Rattle.cave_rows.specs.Role.{role_names}
+use Rattle.cave_cover.specs.Texts.{has_text, text}
 use Rattle.cave_cover.specs.declared.text.Kind.{Kind}
 use Rattle.cave_cover.specs.declared.text.Kind.TheVariants as kind
 use Rattle.cave_cover.specs.declared.text.Text.{Text}
@@ -18,14 +18,14 @@ numbers = range_with_len 0 10000
 abbrev pub kinds : List Kind
 kinds = kind.Long ∷ kind.Short ∷ kind.Look ∷ kind.Name ∷ kind.Message ∷ kind.Role ∷ kind.Class ∷ []
 
-abbrev pub heading : Kind → List ℕ
-heading kind.Long = codes "long texts"
-heading kind.Short = codes "short texts"
-heading kind.Look = codes "object texts"
-heading kind.Name = codes "inventory texts"
-heading kind.Message = codes "messages"
-heading kind.Role = codes "roles"
-heading kind.Class = codes "classes"
+abbrev pub heading_of_kind : Kind → List ℕ
+heading_of_kind kind.Long = codes "long texts"
+heading_of_kind kind.Short = codes "short texts"
+heading_of_kind kind.Look = codes "object texts"
+heading_of_kind kind.Name = codes "inventory texts"
+heading_of_kind kind.Message = codes "messages"
+heading_of_kind kind.Role = codes "roles"
+heading_of_kind kind.Class = codes "classes"
 
 -- how a text of a kind is named
 abbrev pub name : Kind → ℕ → List ℕ
@@ -34,41 +34,43 @@ name kind.Role number = slice_index_or role_names number []
 name _ number = decimal number
 
 -- names of texts, each after a blank
-abbrev pub names : Kind → List ℕ → List ℕ
-names kind numbers = flat_map (λ number. codes " " ++ name kind number) numbers
+abbrev pub names_of_texts : Kind → List ℕ → List ℕ
+names_of_texts kind numbers = flat_map (λ number. codes " " ++ name kind number) numbers
 
 -- the names of the texts that were never said, if there are any
 abbrev pub never : Kind → List ℕ → List ℕ
 never kind [] = []
-never kind (first ∷ others) = codes ", never" ++ names kind (first ∷ others)
+never kind (first ∷ others) = codes ", never" ++ names_of_texts kind (first ∷ others)
 
 -- the texts of a kind that the cave has, in ascending order
 unfoldable pub present : CaveView → Kind → List ℕ
-present cave kind = filter (has cave kind) numbers
+present cave kind = filter (has_text cave kind) numbers
 
 module _ (cave : CaveView) (is_said : Text → Bool) where
-  -- those of them that were said, and those that never were
+  -- the numbers of a kind's texts that were said
+  unfoldable pub numbers_shown : Kind → List ℕ
+  numbers_shown kind =
+      filter (λ number. has_text cave kind number && is_said (text kind number)) numbers
 
-  unfoldable pub shown : Kind → List ℕ
-  shown kind = filter (λ number. has cave kind number && is_said (text kind number)) numbers
-
-  unfoldable pub missing : Kind → List ℕ
-  missing kind = filter (λ number. has cave kind number && not (is_said (text kind number))) numbers
+  -- and of those that never were
+  unfoldable pub numbers_missing : Kind → List ℕ
+  numbers_missing kind =
+      filter (λ number. has_text cave kind number && not (is_said (text kind number))) numbers
 
   -- the line of a kind
   abbrev pub line : Kind → List ℕ
   line kind =
-      heading kind ++ (codes ": " ++ (decimal (length (shown kind))
+      heading_of_kind kind ++ (codes ": " ++ (decimal (length (numbers_shown kind))
       ++ (codes " of " ++ (decimal (length (present cave kind))
-      ++ (never kind (missing kind) ++ codes "\n")))))
+      ++ (never kind (numbers_missing kind) ++ codes "\n")))))
 
   -- the line that sums up
-  abbrev pub closing : ℕ → List ℕ
-  closing logs =
-      codes "-- " ++ (decimal (sum_by (λ kind. length (shown kind)) kinds)
+  abbrev pub sums_line : ℕ → List ℕ
+  sums_line logs =
+      codes "-- " ++ (decimal (sum_by (λ kind. length (numbers_shown kind)) kinds)
       ++ (codes " of " ++ (decimal (sum_by (λ kind. length (present cave kind)) kinds)
       ++ (codes " texts in " ++ (decimal logs ++ codes " logs\n")))))
 
   -- a line for each kind, and the sum
   unfoldable pub report : ℕ → List ℕ
-  report logs = flat_map line kinds ++ closing logs
+  report logs = flat_map line kinds ++ sums_line logs

@@ -4,8 +4,8 @@ use Rattle.std.specs.Prelude.{Bool, false, ◌==◌, nat_lt, ◌&&◌, is_some, 
 use Rattle.std.specs.Prelude.{List, [], ◌∷◌, length, Option, Some, None}
 use Rattle.std.specs.List.{list_any, flat_map}
 use Rattle.std.specs.FinMap as map
-use Rattle.cave_data.specs.CaveView.{CaveView, Rated, class_of, look_of, name_of}
-use Rattle.cave_data.specs.Role.{role_names, role_number}
+use Rattle.cave_data.specs.CaveView.{CaveView, Rated, rating_of_score, look_of, inventory_text}
+use Rattle.cave_rows.specs.Role.{role_names, role_number}
 use Rattle.cave_world.specs.declared.part.Part.{Part}
 use Rattle.cave_world.specs.declared.part.Part.TheVariants as part
 use Rattle.cave_cover.specs.declared.text.Kind.{Kind}
@@ -39,14 +39,14 @@ has_bound None bound = false
 has_bound (Some rated) bound = rated.bound == bound
 
 -- whether the cave has the text; a class that no score belongs to is none of its texts
-abbrev pub has : CaveView → Kind → ℕ → Bool
-has cave kind.Long number = is_some (map.get cave.long number)
-has cave kind.Short number = is_some (map.get cave.short number)
-has cave kind.Look number = is_some (look_of cave (number / 100) (number % 100))
-has cave kind.Name number = is_some (name_of cave number)
-has cave kind.Message number = is_some (map.get cave.messages number)
-has cave kind.Role number = nat_lt number (length role_names)
-has cave kind.Class number = has_bound (class_of cave number) number
+abbrev pub has_text : CaveView → Kind → ℕ → Bool
+has_text cave kind.Long number = is_some (map.get cave.long number)
+has_text cave kind.Short number = is_some (map.get cave.short number)
+has_text cave kind.Look number = is_some (look_of cave (number / 100) (number % 100))
+has_text cave kind.Name number = is_some (inventory_text cave number)
+has_text cave kind.Message number = is_some (map.get cave.messages number)
+has_text cave kind.Role number = nat_lt number (length role_names)
+has_text cave kind.Class number = has_bound (rating_of_score cave number) number
 
 -- ---- which texts a part says
 
@@ -73,7 +73,7 @@ said_by cave (part.Name object) = text kind.Name object ∷ []
 said_by cave (part.Message number) = text kind.Message number ∷ []
 said_by cave (part.Role role) =
     text kind.Role (role_number role) ∷ message_said (map.get cave.roles (role_number role))
-said_by cave (part.Class score) = class_said (class_of cave score)
+said_by cave (part.Class score) = class_said (rating_of_score cave score)
 said_by cave (part.Number form number most) = []
 said_by cave (part.Word form word) = []
 said_by cave (part.Turns score most) = []

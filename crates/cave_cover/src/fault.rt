@@ -1,4 +1,4 @@
-//! Why the plays of logs aren't told.
+//! Why there is no report on the plays of logs.
 
 ghost use Rattle.std.specs.Prelude.{◌≡◌, None};
 ghost use Rattle.cave_cover.specs.Faults.{at_none};

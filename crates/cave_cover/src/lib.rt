@@ -2,9 +2,9 @@
 #![tactic(auto)]
 
 pub mod fault;
+pub mod marks;
 pub mod parts;
 pub mod plays;
 pub mod report;
 pub mod run;
-pub mod said;
 pub mod text;

@@ -2,26 +2,28 @@
 
 ghost use Rattle.std.specs.Prelude.{◌∷◌, []};
 ghost use Rattle.std.specs.FinMap.{get};
-ghost use Rattle.cave_data.specs.CaveView.{class_of};
-ghost use Rattle.cave_data.specs.Role.{role_number};
+ghost use Rattle.cave_data.specs.CaveView.{rating_of_score};
+ghost use Rattle.cave_rows.specs.Role.{role_number};
 ghost use Rattle.cave_cover.specs.Marks.{Notes};
 ghost use Rattle.cave_cover.specs.Texts.{class_said, look_said, message_said, text};
 ghost use Rattle.cave_cover.specs.Texts.{said_by, said_by_all};
 
-use crate::said::Said;
+use crate::marks::SaidTexts;
 use crate::text::{Kind, Text};
-use cave_data::{Cave, Role};
-use cave_world::{Object, Part};
+use cave_data::Cave;
+use cave_objects::Object;
+use cave_rows::Role;
+use cave_world::Part;
 
 /// Notes the text of a kind that has a number.
-fn note(said: &mut Said, kind: Kind, number: u16)
+fn note(said: &mut SaidTexts, kind: Kind, number: u16)
     ensures { Notes (text kind number ∷ []) said.old said.new }
 {
     said.note(Text { kind, number });
 }
 
 /// Notes a role, and the message that is bound to it.
-fn note_role(said: &mut Said, cave: &Cave, role: Role)
+fn note_role(said: &mut SaidTexts, cave: &Cave, role: Role)
     ensures { Notes (text Kind.Role (role_number role)
         ∷ message_said (get cave.now.roles (role_number role))) said.old said.new }
 {
@@ -32,7 +34,7 @@ fn note_role(said: &mut Said, cave: &Cave, role: Role)
 }
 
 /// Notes the text of an object at a prop, if it has one.
-fn note_look(said: &mut Said, cave: &Cave, object: Object, prop: i8)
+fn note_look(said: &mut SaidTexts, cave: &Cave, object: Object, prop: i8)
     ensures { Notes (look_said cave.now object prop) said.old said.new }
 {
     if prop < 0 {
@@ -45,17 +47,16 @@ fn note_look(said: &mut Said, cave: &Cave, object: Object, prop: i8)
 }
 
 /// Notes the class that a score belongs to, if it belongs to one.
-fn note_class(said: &mut Said, cave: &Cave, score: u32)
-    ensures { Notes (class_said (class_of cave.now score)) said.old said.new }
+fn note_class(said: &mut SaidTexts, cave: &Cave, score: u32)
+    ensures { Notes (class_said (rating_of_score cave.now score)) said.old said.new }
 {
     if let Some(rating) = cave.class_of(score) {
         note(said, Kind::Class, rating.bound);
     }
 }
 
-/// Notes what a part says.
 #[tactic(auto, unfolding(crate::specs::Texts::said_by))]
-fn note_part(said: &mut Said, cave: &Cave, part: Part)
+fn note_part(said: &mut SaidTexts, cave: &Cave, part: Part)
     ensures { Notes (said_by cave.now part) said.old said.new }
 {
     match part {
@@ -71,7 +72,7 @@ fn note_part(said: &mut Said, cave: &Cave, part: Part)
 }
 
 /// Notes what parts say.
-pub fn note_parts(said: &mut Said, cave: &Cave, parts: &[Part])
+pub fn note_parts(said: &mut SaidTexts, cave: &Cave, parts: &[Part])
     ensures { Notes (said_by_all cave.now parts.now) said.old said.new }
 {
     for part in parts {

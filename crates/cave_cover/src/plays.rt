@@ -2,30 +2,30 @@
 
 ghost use Rattle.std.specs.Prelude.{◌≡◌, ℕ, List, [], ◌∷◌, None, map};
 ghost use Rattle.std.specs.List.{AllZip, flat_map};
-ghost use Rattle.cave_cover.specs.Faults.{Judges as JudgesAll};
+ghost use Rattle.cave_cover.specs.Faults.{JudgesLogs as JudgesAll};
 ghost use Rattle.cave_cover.specs.Marks.{Notes};
-ghost use Rattle.cave_cover.specs.Plays.{said_in, said_in_all, said_in_log};
+ghost use Rattle.cave_cover.specs.Plays.{texts_said_in, said_in_all, said_in_log};
 ghost use Rattle.cave_cover.specs.Texts.{said_by_all};
 ghost use Rattle.cave_play.specs.Input.{Says};
-ghost use Rattle.cave_play.specs.Judged.{seed_fault};
+ghost use Rattle.cave_play.specs.Judge.{large_seed};
 ghost use Rattle.cave_play.specs.Run.{Judges};
 ghost use Rattle.cave_play.specs.Stages.{log_stage};
 
 use crate::fault::CoverFault;
+use crate::marks::SaidTexts;
 use crate::parts::note_parts;
-use crate::said::Said;
 use cave_data::Cave;
 use cave_play::fault::PlayFault;
 use cave_play::judge::read_log;
 use cave_play::machine::CaveMachine;
-use cave_play::run::EVERY;
-use cave_replay::Session;
 use cave_world::Part;
+use limits::USUAL_EVERY;
+use log_replay::Session;
 use std::alloc::Global;
 use std::io::Read;
 
 /// Notes what was said at each line.
-fn note_pieces(said: &mut Said, cave: &Cave, pieces: &[Vec<Part>])
+fn note_pieces(said: &mut SaidTexts, cave: &Cave, pieces: &[Vec<Part>])
     ensures { Notes (flat_map (λ piece. said_by_all cave.now piece.items) pieces.now)
         said.old said.new }
 {
@@ -35,9 +35,9 @@ fn note_pieces(said: &mut Said, cave: &Cave, pieces: &[Vec<Part>])
 }
 
 /// Notes what the play that a session holds says.
-fn note_session(said: &mut Said, cave: &Cave, session: &Session<CaveMachine<'_>>)
+fn note_session(said: &mut SaidTexts, cave: &Cave, session: &Session<CaveMachine<'_>>)
     requires { session.now.machine.cave.now ≡ cave.now }
-    ensures { Notes (said_in cave.now session.now.game) said.old said.new }
+    ensures { Notes (texts_said_in cave.now session.now.game) said.old said.new }
 {
     note_parts(said, cave, session.opening());
     note_pieces(said, cave, session.pieces());
@@ -49,16 +49,16 @@ fn note_log<L: Read>(
     machine: CaveMachine<'_>,
     log: &mut L,
     seed: u32,
-    said: &mut Said,
+    said: &mut SaidTexts,
 ) -> Result<(), PlayFault>
-    requires { seed_fault seed ≡ None }
+    requires { large_seed seed ≡ None }
     ensures judged { (moves : List ℕ) × Says (L.remaining log.old) moves
         × Judges (log_stage moves ∷ [])
         (λ _. Notes (said_in_log machine.entry.cave.now seed moves) said.old said.new) result }
 {
-    let session = read_log(alloc, machine, log, seed, EVERY)?;
+    let session = read_log(alloc, machine, log, seed, USUAL_EVERY)?;
     note_session(said, machine.cave(), &session);
-    // The check knows no way to let go of a session over a borrowed machine at the end of a block.
+    // The checker can't drop a session over a borrowed machine at the end of a block.
     drop(session);
     Ok(())
 }
@@ -69,9 +69,9 @@ pub fn note_logs<L: Read>(
     machine: CaveMachine<'_>,
     logs: &mut [L],
     seed: u32,
-    said: &mut Said,
+    said: &mut SaidTexts,
 ) -> Result<(), CoverFault>
-    requires { seed_fault seed ≡ None }
+    requires { large_seed seed ≡ None }
     ensures judged { (moves : List (List ℕ)) × AllZip Says (map L.remaining logs.old) moves
         × JudgesAll [] moves
         (λ _. Notes (said_in_all machine.entry.cave.now seed moves) said.old said.new) result }

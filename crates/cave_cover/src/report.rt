@@ -4,19 +4,20 @@ ghost use Rattle.std.specs.Prelude.{◌≡◌, ◌&&◌, not, codes, ◌++◌, �
 ghost use Rattle.std.specs.Prelude.{OnOk, IfOk, slice_index_or};
 ghost use Rattle.std.specs.List.{flat_map, sum_by};
 ghost use Rattle.cave_cover.specs.Marks.{is_marked};
-ghost use Rattle.cave_cover.specs.Report.{closing, heading, kinds, line, name, names, never};
-ghost use Rattle.cave_cover.specs.Report.{missing, present, report, shown};
-ghost use Rattle.cave_cover.specs.Texts.{has, text};
+ghost use Rattle.cave_cover.specs.Report.{sums_line, heading_of_kind, kinds, line, name};
+ghost use Rattle.cave_cover.specs.Report.{names_of_texts, never};
+ghost use Rattle.cave_cover.specs.Report.{numbers_missing, present, report, numbers_shown};
+ghost use Rattle.cave_cover.specs.Texts.{has_text, text};
 
-use crate::said::Said;
+use crate::marks::SaidTexts;
 use crate::text::{KINDS, Kind, NUMBERS, Text};
 use cave_data::Cave;
-use cave_data::role::ROLE_NAMES;
+use cave_rows::role::ROLE_NAMES;
 use std::alloc::{AllocError, Global};
 
 /// Whether a cave has a text.
 fn has(cave: &Cave, kind: Kind, number: u16) -> bool
-    ensures { result ≡ has cave.now kind number }
+    ensures { result ≡ has_text cave.now kind number }
 {
     match kind {
         Kind::Long => cave.long(number).is_some(),
@@ -33,15 +34,16 @@ fn has(cave: &Cave, kind: Kind, number: u16) -> bool
 }
 
 /// Whether a text that the cave has was said.
-fn is_shown(cave: &Cave, said: &Said, kind: Kind, number: u16) -> bool
-    ensures { result ≡ (has cave.now kind number && is_marked said.now (text kind number)) }
+fn is_shown(cave: &Cave, said: &SaidTexts, kind: Kind, number: u16) -> bool
+    ensures { result ≡ (has_text cave.now kind number && is_marked said.now (text kind number)) }
 {
     has(cave, kind, number) && said.contains(Text { kind, number })
 }
 
 /// Whether a text that the cave has was never said.
-fn is_missing(cave: &Cave, said: &Said, kind: Kind, number: u16) -> bool
-    ensures { result ≡ (has cave.now kind number && not (is_marked said.now (text kind number))) }
+fn is_missing(cave: &Cave, said: &SaidTexts, kind: Kind, number: u16) -> bool
+    ensures { result
+        ≡ (has_text cave.now kind number && not (is_marked said.now (text kind number))) }
 {
     has(cave, kind, number) && !said.contains(Text { kind, number })
 }
@@ -58,9 +60,9 @@ fn count_present(cave: &Cave, kind: Kind) -> usize
 }
 
 /// How many of them were said.
-#[tactic(auto, unfolding(crate::specs::Report::shown, crate::specs::Report::numbers))]
-fn count_shown(cave: &Cave, said: &Said, kind: Kind) -> usize
-    ensures value { result ≡ length (shown cave.now (is_marked said.now) kind) }
+#[tactic(auto, unfolding(crate::specs::Report::numbers_shown, crate::specs::Report::numbers))]
+fn count_shown(cave: &Cave, said: &SaidTexts, kind: Kind) -> usize
+    ensures value { result ≡ length (numbers_shown cave.now (is_marked said.now) kind) }
     ensures within { result ≤ 10000 }
 {
     (0..NUMBERS as u16)
@@ -69,9 +71,10 @@ fn count_shown(cave: &Cave, said: &Said, kind: Kind) -> usize
 }
 
 /// Those that were never said.
-#[tactic(auto, unfolding(crate::specs::Report::missing, crate::specs::Report::numbers))]
-fn missing(alloc: Global, cave: &Cave, said: &Said, kind: Kind) -> Result<Vec<u16>, AllocError>
-    ensures { IfOk result (λ texts. texts.items ≡ missing cave.now (is_marked said.now) kind) }
+#[tactic(auto, unfolding(crate::specs::Report::numbers_missing, crate::specs::Report::numbers))]
+fn missing(alloc: Global, cave: &Cave, said: &SaidTexts, kind: Kind) -> Result<Vec<u16>, AllocError>
+    ensures { IfOk result
+        (λ texts. texts.items ≡ numbers_missing cave.now (is_marked said.now) kind) }
 {
     (0..NUMBERS as u16)
         .filter(|number| is_missing(cave, said, kind, *number))
@@ -80,7 +83,7 @@ fn missing(alloc: Global, cave: &Cave, said: &Said, kind: Kind) -> Result<Vec<u1
 
 /// How the line of a kind begins.
 fn heading(kind: Kind) -> &'static str
-    ensures { result.now ≡ heading kind }
+    ensures { result.now ≡ heading_of_kind kind }
 {
     match kind {
         Kind::Long => "long texts",
@@ -137,14 +140,13 @@ fn push_never(
     push_names(alloc, kind, missing, text)
 }
 
-/// Appends the names of texts.
 fn push_names(
     alloc: Global,
     kind: Kind,
     numbers: &[u16],
     text: &mut Vec<u8>,
 ) -> Result<(), AllocError>
-    ensures { OnOk result (text.new.items ≡ text.old.items ++ names kind numbers.now) }
+    ensures { OnOk result (text.new.items ≡ text.old.items ++ names_of_texts kind numbers.now) }
 {
     for number in numbers {
         push_name(alloc, kind, *number, text)?;
@@ -152,11 +154,10 @@ fn push_names(
     Ok(())
 }
 
-/// Appends the line of a kind.
 fn push_line(
     alloc: Global,
     cave: &Cave,
-    said: &Said,
+    said: &SaidTexts,
     kind: Kind,
     text: &mut Vec<u8>,
 ) -> Result<(), AllocError>
@@ -174,10 +175,10 @@ fn push_line(
 }
 
 /// The sums of what the lines of kinds count: the texts that were said, and all that the cave has.
-fn totals(cave: &Cave, said: &Said, kinds: &[Kind]) -> (usize, usize)
+fn totals(cave: &Cave, said: &SaidTexts, kinds: &[Kind]) -> (usize, usize)
     requires { length kinds.now ≤ 7 }
     ensures shown { result.0
-        ≡ sum_by (λ kind. length (shown cave.now (is_marked said.now) kind)) kinds.now }
+        ≡ sum_by (λ kind. length (numbers_shown cave.now (is_marked said.now) kind)) kinds.now }
     ensures present { result.1 ≡ sum_by (λ kind. length (present cave.now kind)) kinds.now }
 {
     let (mut shown, mut present) = (0, 0);
@@ -188,11 +189,10 @@ fn totals(cave: &Cave, said: &Said, kinds: &[Kind]) -> (usize, usize)
     (shown, present)
 }
 
-/// Appends the lines of kinds.
 fn push_lines(
     alloc: Global,
     cave: &Cave,
-    said: &Said,
+    said: &SaidTexts,
     kinds: &[Kind],
     text: &mut Vec<u8>,
 ) -> Result<(), AllocError>
@@ -209,12 +209,12 @@ fn push_lines(
 fn push_closing(
     alloc: Global,
     cave: &Cave,
-    said: &Said,
+    said: &SaidTexts,
     logs: usize,
     text: &mut Vec<u8>,
 ) -> Result<(), AllocError>
     ensures { OnOk result (text.new.items
-        ≡ text.old.items ++ closing cave.now (is_marked said.now) logs) }
+        ≡ text.old.items ++ sums_line cave.now (is_marked said.now) logs) }
 {
     let (shown, present) = totals(cave, said, &KINDS);
     let closing = format!(in alloc; "-- {shown} of {present} texts in {logs} logs\n")?;
@@ -226,7 +226,7 @@ fn push_closing(
 pub fn push_report(
     alloc: Global,
     cave: &Cave,
-    said: &Said,
+    said: &SaidTexts,
     logs: usize,
     text: &mut Vec<u8>,
 ) -> Result<(), AllocError>

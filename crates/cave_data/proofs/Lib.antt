@@ -1,7 +1,3 @@
-pub mod LineLemmas
-pub mod NumberLemmas
-pub mod FieldLemmas
-pub mod Fronts
 pub mod SlotLemmas
 pub mod SlotChanges
 pub mod SpanLemmas
@@ -10,7 +6,6 @@ pub mod ClassLemmas
 pub mod FoldLemmas
 pub mod TextLemmas
 pub mod RowLemmas
-pub mod ListLemmas
 pub mod ByPlace
 pub mod WayLemmas
 pub mod PartLemmas
@@ -18,7 +13,6 @@ pub mod StepLemmas
 pub mod DatabaseLemmas
 pub mod RightLemmas
 pub mod LawLemmas
-pub mod NameLemmas
 pub mod BindingLemmas
 pub mod CaveLemmas
 pub mod RangeLemmas

@@ -1,24 +1,35 @@
 -- The cause that a line has is its lowest.
-use Rattle.std.proofs.Common.{◌≡◌, ◌⊎◌, inl, inr, ℕ, Bool, true, false, cond, List, [], ◌∷◌, length, Option, Some, None, Result, Ok, Err, refl, sym, subst}
+use Rattle.std.proofs.Common.{◌≡◌, ◌⊎◌, inl, inr, ℕ, Bool, true, false, cond, List, [], ◌∷◌, length}
+use Rattle.std.proofs.Common.{Option, Some, None, Result, Ok, Err, refl, sym, subst}
 use Rattle.std.specs.Prelude.{nat_lt, IfErr, is_some, option_to_list}
 use Rattle.std.specs.Option.{ok_or, option_or}
 use Rattle.std.specs.Result.{is_ok, result_ok, result_err}
-use Rattle.cave_data.specs.declared.error.Cause.{Cause}
-use Rattle.cave_data.specs.declared.error.Cause.TheVariants.{BadSection, BadNumber, OutOfRange, TooManyRows}
-use Rattle.cave_data.specs.declared.error.Section.{Section}
-use Rattle.cave_data.specs.declared.error.Section.TheVariants as section
-use Rattle.cave_data.specs.declared.number.Number.{Number}
-use Rattle.cave_data.specs.declared.number.Number.TheVariants.{Natural, Negative}
-use Rattle.cave_data.specs.declared.reader.Place.{Place}
-use Rattle.cave_data.specs.declared.reader.Place.TheVariants.{Outside, Inside, After}
-use Rattle.cave_data.specs.CaveView.{Going}
-use Rattle.cave_data.specs.Fields.{number_at, is_blank_line, fields}
-use Rattle.cave_data.specs.Rows.{◌>>=◌, Entry, LongLine, ShortLine, Way, Word, ObjectLine, MessageLine, Placed, Says, Marks, ClassLine, HintOf, MagicLine, number_in, numbers_to_zero, list_in, few_of, word_in, word_number, number_or_zero, within, all_within, text_in, object_or_prop, second_place, text_line, object_line, way_row, word_row, placement_row, default_row, condition_row, hint_row, entry_in}
-use Rattle.cave_data.specs.Grammar.{headed, closes, stands, entry_here, entry_at, entries}
-use Rattle.cave_data.specs.FirstFault.{shape_here, shape_cause, limit_cause, first_limit, line_cause}
-use Rattle.cave_data.specs.LowestCause.{has_parts, is_in_range, IsLowest, IsLowestAt, TellsLowest}
+use Rattle.cave_rows.specs.declared.error.Cause.{Cause}
+use Rattle.cave_rows.specs.declared.error.Cause.TheVariants.{BadSection, BadNumber, OutOfRange}
+use Rattle.cave_rows.specs.declared.error.Cause.TheVariants.{TooManyRows}
+use Rattle.cave_rows.specs.declared.error.Section.{Section}
+use Rattle.cave_rows.specs.declared.error.Section.TheVariants as section
+use Rattle.cave_rows.specs.declared.number.Number.{Number}
+use Rattle.cave_rows.specs.declared.number.Number.TheVariants.{Natural, Negative}
+use Rattle.cave_rows.specs.declared.position.Position.{Position}
+use Rattle.cave_rows.specs.declared.position.Position.TheVariants.{Outside, Inside, After}
+use Rattle.cave_rows.specs.Rows.{Going}
+use Rattle.log_lines.specs.Bytes.{is_all_blank}
+use Rattle.cave_rows.specs.Fields.{number_at, fields}
+use Rattle.cave_rows.specs.Rows.{◌>>=◌, Entry, LongLine, ShortLine, Way, Word, ObjectLine}
+use Rattle.cave_rows.specs.Rows.{MessageLine, PlacementRow, DefaultRow, ConditionRow, ClassLine, HintRow, MagicLine}
+use Rattle.cave_rows.specs.Rows.{number_or_cause, numbers_to_zero, list_in, few_of, word_or_cause}
+use Rattle.cave_rows.specs.Rows.{word_number, number_or_zero, within, all_within, text_or_cause}
+use Rattle.cave_rows.specs.Rows.{object_or_prop, second_place, text_line, object_line, way_row}
+use Rattle.cave_rows.specs.Rows.{word_row, placement_row, default_row, condition_row, hint_row}
+use Rattle.cave_rows.specs.Rows.{entry_in}
+use Rattle.cave_rows.specs.Grammar.{position_after_heading, closes, position_after, entry_here}
+use Rattle.cave_rows.specs.Grammar.{entry_at, entries}
+use Rattle.cave_data.specs.FirstFault.{shape_here, shape_cause, limit_cause, first_limit}
+use Rattle.cave_data.specs.FirstFault.{line_cause}
+use Rattle.cave_data.specs.LowestCause.{has_parts, is_in_range, IsLowest, IsLowestAt, ReportsLowest}
 
--- what reading a row tells of its parts and ranges
+-- what reading a row says of its parts and ranges
 abbrev Judged : {X : Type 0} → Result X Cause → Bool → Bool → Type 0
 Judged (Ok x) parts ranges = (parts ≡ true) × (ranges ≡ true)
 Judged (Err cause) parts ranges = IsLowest cause parts ranges
@@ -26,7 +37,8 @@ Judged (Err cause) parts ranges = IsLowest cause parts ranges
 -- the same of a row without a list, which is never too long
 abbrev Simple : {X : Type 0} → Result X Cause → Bool → Type 0
 Simple (Ok x) parts = parts ≡ true
-Simple (Err cause) parts = ((cause ≡ BadNumber) × (parts ≡ false)) ⊎ ((cause ≡ OutOfRange) × (parts ≡ true))
+Simple (Err cause) parts = ((cause ≡ BadNumber) × (parts ≡ false))
+    ⊎ ((cause ≡ OutOfRange) × (parts ≡ true))
 
 -- A step fails by one cause only.
 
@@ -41,15 +53,18 @@ chosen : {X : Type 0} (only : Cause) (b : Bool) (x : X) → OnlyErr only (cond b
 chosen only true x = tt
 chosen only false x = refl
 
-then_ok : {X Y : Type 0} (only : Cause) (r : Result X Cause) (f : X → Y) → OnlyErr only r → OnlyErr only (r >>= λ x. Ok (f x))
+then_ok : {X Y : Type 0} (only : Cause) (r : Result X Cause) (f : X → Y) → OnlyErr only r
+    → OnlyErr only (r >>= λ x. Ok (f x))
 then_ok only (Ok x) f h = tt
 then_ok only (Err cause) f h = h
 
-bound : {X Y : Type 0} (only : Cause) (r : Result X Cause) (f : X → Result Y Cause) → OnlyErr only r → ((x : X) → OnlyErr only (f x)) → OnlyErr only (r >>= f)
+bound : {X Y : Type 0} (only : Cause) (r : Result X Cause) (f : X → Result Y Cause) → OnlyErr only r
+    → ((x : X) → OnlyErr only (f x)) → OnlyErr only (r >>= f)
 bound only (Ok x) f h more = more x
 bound only (Err cause) f h more = h
 
-maybe_zero : {X : Type 0} (b : Bool) (x : X) (r : Result X Cause) → OnlyErr BadNumber r → OnlyErr BadNumber (cond b (Ok x) r)
+maybe_zero : {X : Type 0} (b : Bool) (x : X) (r : Result X Cause) → OnlyErr BadNumber r
+    → OnlyErr BadNumber (cond b (Ok x) r)
 maybe_zero true x r h = tt
 maybe_zero false x r h = h
 
@@ -59,7 +74,9 @@ within_only low high (Negative n) = refl
 
 all_within_only : (low high : ℕ) (ns : List Number) → OnlyErr OutOfRange (all_within low high ns)
 all_within_only low high [] = tt
-all_within_only low high (n ∷ ns) = bound OutOfRange (within low high n) _ (within_only low high n) (λ v. then_ok OutOfRange (all_within low high ns) _ (all_within_only low high ns))
+all_within_only low high (n ∷ ns) =
+    bound OutOfRange (within low high n) _ (within_only low high n)
+    (λ v. then_ok OutOfRange (all_within low high ns) _ (all_within_only low high ns))
 
 object_only : (n : Number) → OnlyErr OutOfRange (object_or_prop n)
 object_only (Natural n) = chosen OutOfRange _ n
@@ -84,134 +101,166 @@ exceeds cause ranges e = subst (λ (c : Cause). IsLowest c true ranges) (sym e) 
 is_long : (cause : Cause) → cause ≡ TooManyRows → IsLowest cause true true
 is_long cause e = subst (λ (c : Cause). IsLowest c true true) (sym e) (refl, refl)
 
-part : {A B C : Type 0} (r : Result A Cause) (f : A → Result B Cause) (g : A → Result C Cause) → OnlyErr BadNumber r → ((a : A) → Simple (f a) (is_ok (g a))) → Simple (r >>= f) (is_ok (r >>= g))
+part : {A B C : Type 0} (r : Result A Cause) (f : A → Result B Cause) (g : A → Result C Cause)
+    → OnlyErr BadNumber r → ((a : A) → Simple (f a) (is_ok (g a)))
+    → Simple (r >>= f) (is_ok (r >>= g))
 part (Ok a) f g h more = more a
 part (Err cause) f g h more = inl (h, refl)
 
-last_part : {A B : Type 0} (r : Result A Cause) (f : A → Result B Cause) → OnlyErr BadNumber r → ((a : A) → Simple (f a) true) → Simple (r >>= f) (is_ok r)
+last_part : {A B : Type 0} (r : Result A Cause) (f : A → Result B Cause) → OnlyErr BadNumber r
+    → ((a : A) → Simple (f a) true) → Simple (r >>= f) (is_ok r)
 last_part (Ok a) f h more = more a
 last_part (Err cause) f h more = inl (h, refl)
 
-ranged : {A B : Type 0} (r : Result A Cause) (f : A → Result B Cause) → OnlyErr OutOfRange r → ((a : A) → Simple (f a) true) → Simple (r >>= f) true
+ranged : {A B : Type 0} (r : Result A Cause) (f : A → Result B Cause) → OnlyErr OutOfRange r
+    → ((a : A) → Simple (f a) true) → Simple (r >>= f) true
 ranged (Ok a) f h more = more a
 ranged (Err cause) f h more = inr (h, refl)
 
 -- the same where the ranges of what follows are judged too
-listed : {A B C D : Type 0} (r : Result A Cause) (f : A → Result B Cause) (g : A → Result C Cause) (k : A → Result D Cause) → OnlyErr BadNumber r
-    → ((a : A) → Judged (f a) (is_ok (g a)) (is_ok (k a))) → Judged (r >>= f) (is_ok (r >>= g)) (is_ok (r >>= k))
+listed : {A B C D : Type 0} (r : Result A Cause) (f : A → Result B Cause) (g : A → Result C Cause)
+    (k : A → Result D Cause) → OnlyErr BadNumber r
+    → ((a : A) → Judged (f a) (is_ok (g a)) (is_ok (k a)))
+    → Judged (r >>= f) (is_ok (r >>= g)) (is_ok (r >>= k))
 listed (Ok a) f g k h more = more a
 listed (Err cause) f g k h more = lacks cause false h
 
-last_listed : {A B D : Type 0} (r : Result A Cause) (f : A → Result B Cause) (k : A → Result D Cause) → OnlyErr BadNumber r
+last_listed : {A B D : Type 0} (r : Result A Cause) (f : A → Result B Cause) (k : A
+    → Result D Cause) → OnlyErr BadNumber r
     → ((a : A) → Judged (f a) true (is_ok (k a))) → Judged (r >>= f) (is_ok r) (is_ok (r >>= k))
 last_listed (Ok a) f k h more = more a
 last_listed (Err cause) f k h more = lacks cause false h
 
-in_ranges : {A B D : Type 0} (r : Result A Cause) (f : A → Result B Cause) (k : A → Result D Cause) → OnlyErr OutOfRange r → ((a : A) → Judged (f a) true (is_ok (k a))) → Judged (r >>= f) true (is_ok (r >>= k))
+in_ranges : {A B D : Type 0} (r : Result A Cause) (f : A → Result B Cause) (k : A → Result D Cause)
+    → OnlyErr OutOfRange r → ((a : A) → Judged (f a) true (is_ok (k a)))
+    → Judged (r >>= f) true (is_ok (r >>= k))
 in_ranges (Ok a) f k h more = more a
 in_ranges (Err cause) f k h more = exceeds cause false h
 
-last_range : {A B : Type 0} (r : Result A Cause) (f : A → Result B Cause) → OnlyErr OutOfRange r → ((a : A) → Judged (f a) true true) → Judged (r >>= f) true (is_ok r)
+last_range : {A B : Type 0} (r : Result A Cause) (f : A → Result B Cause) → OnlyErr OutOfRange r
+    → ((a : A) → Judged (f a) true true) → Judged (r >>= f) true (is_ok r)
 last_range (Ok a) f h more = more a
 last_range (Err cause) f h more = exceeds cause false h
 
-short : {A B : Type 0} (r : Result A Cause) (f : A → B) → OnlyErr TooManyRows r → Judged (r >>= λ a. Ok (f a)) true true
+short : {A B : Type 0} (r : Result A Cause) (f : A → B) → OnlyErr TooManyRows r
+    → Judged (r >>= λ a. Ok (f a)) true true
 short (Ok a) f h = (refl, refl)
 short (Err cause) f h = is_long cause h
 
-entered : {A B : Type 0} (r : Result A Cause) (f : A → B) (parts ranges : Bool) → Judged r parts ranges → Judged (r >>= λ a. Ok (f a)) parts ranges
+entered : {A B : Type 0} (r : Result A Cause) (f : A → B) (parts ranges : Bool)
+    → Judged r parts ranges → Judged (r >>= λ a. Ok (f a)) parts ranges
 entered (Ok a) f parts ranges h = h
 entered (Err cause) f parts ranges h = h
 
-judged : {A B : Type 0} (r : Result A Cause) (f : A → B) (parts : Bool) → Simple r parts → Judged (r >>= λ a. Ok (f a)) parts (is_ok (r >>= λ a. Ok (f a)))
+judged : {A B : Type 0} (r : Result A Cause) (f : A → B) (parts : Bool) → Simple r parts
+    → Judged (r >>= λ a. Ok (f a)) parts (is_ok (r >>= λ a. Ok (f a)))
 judged (Ok a) f parts h = (h, refl)
 judged (Err cause) f parts (inl h) = subst (λ (c : Cause). IsLowest c parts false) (sym h.0) h.1
 judged (Err cause) f parts (inr h) = subst (λ (c : Cause). IsLowest c parts false) (sym h.0) h.1
 
 -- Rows.
 
-number_only : (bytes : List ℕ) → OnlyErr BadNumber (number_in bytes)
+number_only : (bytes : List ℕ) → OnlyErr BadNumber (number_or_cause bytes)
 number_only bytes = none_missing BadNumber (number_at bytes)
 
 zero_only : (bytes : List ℕ) → OnlyErr BadNumber (number_or_zero bytes)
-zero_only bytes = maybe_zero _ _ (number_in bytes) (number_only bytes)
+zero_only bytes = maybe_zero _ _ (number_or_cause bytes) (number_only bytes)
 
 list_only : (bytes : List ℕ) → OnlyErr BadNumber (list_in bytes)
 list_only bytes = none_missing BadNumber (numbers_to_zero (fields bytes))
 
-text_judged : (low high : ℕ) (line : List ℕ) → Simple (text_line low high line) (is_ok (number_in line))
+text_judged : (low high : ℕ) (line : List ℕ)
+    → Simple (text_line low high line) (is_ok (number_or_cause line))
 unfolding text_line
 text_judged low high line =
-    last_part (number_in line) _ (number_only line) (λ n.
-    ranged (within low high n.0) _ (within_only low high n.0) (λ number. ranged (text_in n.1) _ (chosen OutOfRange _ _) (λ text. refl)))
+    last_part (number_or_cause line) _ (number_only line) (λ n.
+    ranged (within low high n.0) _ (within_only low high n.0)
+    (λ number. ranged (text_or_cause n.1) _ (chosen OutOfRange _ _) (λ text. refl)))
 
-object_judged : (line : List ℕ) → Simple (object_line line) (is_ok (number_in line))
+object_judged : (line : List ℕ) → Simple (object_line line) (is_ok (number_or_cause line))
 unfolding object_line
 object_judged line =
-    last_part (number_in line) _ (number_only line) (λ n.
-    ranged (object_or_prop n.0) _ (object_only n.0) (λ number. ranged (text_in n.1) _ (chosen OutOfRange _ _) (λ text. refl)))
+    last_part (number_or_cause line) _ (number_only line) (λ n.
+    ranged (object_or_prop n.0) _ (object_only n.0)
+    (λ number. ranged (text_or_cause n.1) _ (chosen OutOfRange _ _) (λ text. refl)))
 
 word_judged : (line : List ℕ) → Simple (word_row line) (has_parts section.Words line)
 unfolding word_row
 word_judged line =
-    part (number_in line) _ _ (number_only line) (λ n.
-    last_part (word_in n.1) _ (chosen BadNumber _ _) (λ word. ranged (word_number n.0) _ (word_only n.0) (λ number. refl)))
+    part (number_or_cause line) _ _ (number_only line) (λ n.
+    last_part (word_or_cause n.1) _ (chosen BadNumber _ _)
+    (λ word. ranged (word_number n.0) _ (word_only n.0) (λ number. refl)))
 
 placement_judged : (line : List ℕ) → Simple (placement_row line) (has_parts section.Placements line)
 unfolding placement_row
 placement_judged line =
-    part (number_in line) _ _ (number_only line) (λ x.
+    part (number_or_cause line) _ _ (number_only line) (λ x.
     part (number_or_zero x.1) _ _ (zero_only x.1) (λ p.
     last_part (number_or_zero p.1) _ (zero_only p.1) (λ q.
     ranged (within 1 100 x.0) _ (within_only 1 100 x.0) (λ object.
-    ranged (within 0 300 p.0) _ (within_only 0 300 p.0) (λ first. ranged (second_place q.0) _ (second_only q.0) (λ second. refl))))))
+    ranged (within 0 300 p.0) _ (within_only 0 300 p.0)
+    (λ first. ranged (second_place q.0) _ (second_only q.0) (λ second. refl))))))
 
 default_judged : (line : List ℕ) → Simple (default_row line) (has_parts section.Defaults line)
 unfolding default_row
 default_judged line =
-    part (number_in line) _ _ (number_only line) (λ a.
-    last_part (number_in a.1) _ (number_only a.1) (λ m.
-    ranged (within 1 99 a.0) _ (within_only 1 99 a.0) (λ action. ranged (within 0 499 m.0) _ (within_only 0 499 m.0) (λ message. refl))))
+    part (number_or_cause line) _ _ (number_only line) (λ a.
+    last_part (number_or_cause a.1) _ (number_only a.1) (λ m.
+    ranged (within 1 99 a.0) _ (within_only 1 99 a.0)
+    (λ action. ranged (within 0 499 m.0) _ (within_only 0 499 m.0) (λ message. refl))))
 
 hint_judged : (line : List ℕ) → Simple (hint_row line) (has_parts section.Hints line)
 unfolding hint_row
 hint_judged line =
-    part (number_in line) _ _ (number_only line) (λ h.
-    part (number_in h.1) _ _ (number_only h.1) (λ t.
-    part (number_in t.1) _ _ (number_only t.1) (λ p.
-    part (number_in p.1) _ _ (number_only p.1) (λ q.
-    last_part (number_in q.1) _ (number_only q.1) (λ x.
+    part (number_or_cause line) _ _ (number_only line) (λ h.
+    part (number_or_cause h.1) _ _ (number_only h.1) (λ t.
+    part (number_or_cause t.1) _ _ (number_only t.1) (λ p.
+    part (number_or_cause p.1) _ _ (number_only p.1) (λ q.
+    last_part (number_or_cause q.1) _ (number_only q.1) (λ x.
     ranged (within 1 20 h.0) _ (within_only 1 20 h.0) (λ hint.
     ranged (within 0 9999 t.0) _ (within_only 0 9999 t.0) (λ turns.
     ranged (within 0 100 p.0) _ (within_only 0 100 p.0) (λ points.
-    ranged (within 0 499 q.0) _ (within_only 0 499 q.0) (λ question. ranged (within 0 499 x.0) _ (within_only 0 499 x.0) (λ text. refl))))))))))
+    ranged (within 0 499 q.0) _ (within_only 0 499 q.0)
+    (λ question. ranged (within 0 499 x.0) _ (within_only 0 499 x.0) (λ text. refl))))))))))
 
-condition_judged : (line : List ℕ) → Judged (condition_row line) (has_parts section.Conditions line) (is_in_range section.Conditions line)
+condition_judged : (line : List ℕ)
+    → Judged (condition_row line) (has_parts section.Conditions line)
+    (is_in_range section.Conditions line)
 unfolding condition_row
 condition_judged line =
-    listed (number_in line) _ _ _ (number_only line) (λ b.
+    listed (number_or_cause line) _ _ _ (number_only line) (λ b.
     last_listed (list_in b.1) _ _ (list_only b.1) (λ ns.
-    in_ranges (within 0 20 b.0) _ _ (within_only 0 20 b.0) (λ bit. last_range (all_within 1 300 ns) _ (all_within_only 1 300 ns) (λ all. short (few_of all) _ (chosen TooManyRows _ all)))))
+    in_ranges (within 0 20 b.0) _ _ (within_only 0 20 b.0)
+    (λ bit. last_range (all_within 1 300 ns) _ (all_within_only 1 300 ns)
+    (λ all. short (few_of all) _ (chosen TooManyRows _ all)))))
 
 abbrev some_if : Bool → List Number → Result (List Number) Cause
 some_if some list = cond some (Ok list) (Err BadNumber)
 
-way_judged : (line : List ℕ) → Judged (way_row line) (has_parts section.Travel line) (is_in_range section.Travel line)
+way_judged : (line : List ℕ)
+    → Judged (way_row line) (has_parts section.Travel line) (is_in_range section.Travel line)
 unfolding way_row
 way_judged line =
-    listed (number_in line) _ _ _ (number_only line) (λ x.
-    listed (number_in x.1) _ _ _ (number_only x.1) (λ y.
+    listed (number_or_cause line) _ _ _ (number_only line) (λ x.
+    listed (number_or_cause x.1) _ _ _ (number_only x.1) (λ y.
     listed (list_in y.1) _ _ _ (list_only y.1) (λ list. at x y list (nat_lt 0 (length list)))))
   where
     at : (x y : Number × List ℕ) (list : List Number) (some : Bool)
-        → Judged {X = ℕ × Going} (some_if some list >>= λ ns. within 1 300 x.0 >>= λ place. within 0 999999 y.0 >>= λ target. all_within 1 999 ns >>= λ all. few_of all >>= λ motions. Ok (place, record { target = target; motions = motions })) (is_ok (some_if some list)) (is_ok (within 1 300 x.0 >>= λ place. within 0 999999 y.0 >>= λ target. all_within 1 999 list))
+        → Judged {X = ℕ × Going} (some_if some list >>= λ ns. within 1 300 x.0
+        >>= λ place. within 0 999999 y.0 >>= λ target. all_within 1 999 ns >>= λ all. few_of all
+        >>= λ motions. Ok (place, record { target = target; motions = motions }))
+        (is_ok (some_if some list))
+        (is_ok (within 1 300 x.0 >>= λ place. within 0 999999 y.0
+        >>= λ target. all_within 1 999 list))
     at x y list false = refl
     at x y list true =
         in_ranges (within 1 300 x.0) _ _ (within_only 1 300 x.0) (λ place.
         in_ranges (within 0 999999 y.0) _ _ (within_only 0 999999 y.0) (λ target.
-        last_range (all_within 1 999 list) _ (all_within_only 1 999 list) (λ all. short (few_of all) _ (chosen TooManyRows _ all))))
+        last_range (all_within 1 999 list) _ (all_within_only 1 999 list)
+        (λ all. short (few_of all) _ (chosen TooManyRows _ all))))
 
-row_judged : (s : Section) (line : List ℕ) → Judged (entry_in s line) (has_parts s line) (is_in_range s line)
+row_judged : (s : Section) (line : List ℕ)
+    → Judged (entry_in s line) (has_parts s line) (is_in_range s line)
 row_judged section.LongTexts line = judged (text_line 1 300 line) _ _ (text_judged 1 300 line)
 row_judged section.ShortTexts line = judged (text_line 1 300 line) _ _ (text_judged 1 300 line)
 row_judged section.Travel line = entered (way_row line) _ _ _ (way_judged line)
@@ -235,42 +284,55 @@ met : (b : Bool) (only cause : Cause) → cond b (Some only) None ≡ Some cause
 met true only cause e = cc
 met false only cause e = cc
 
-limit_lowest : (before : List Entry) (entry : Entry) (cause : Cause) → limit_cause before entry ≡ Some cause → IsLowest cause true true
+limit_lowest : (before : List Entry) (entry : Entry) (cause : Cause)
+    → limit_cause before entry ≡ Some cause → IsLowest cause true true
 limit_lowest before (LongLine line) cause e = cc
 limit_lowest before (ShortLine line) cause e = cc
 limit_lowest before (Way place going) cause e = is_long cause (missed _ TooManyRows cause e)
 limit_lowest before (Word word) cause e = is_long cause (missed _ TooManyRows cause e)
 limit_lowest before (ObjectLine line) cause e = exceeds cause true (met _ OutOfRange cause e)
 limit_lowest before (MessageLine line) cause e = cc
-limit_lowest before (Placed object placement) cause e = cc
-limit_lowest before (Says action message) cause e = cc
-limit_lowest before (Marks bit places) cause e = cc
+limit_lowest before (PlacementRow object placement) cause e = cc
+limit_lowest before (DefaultRow action message) cause e = cc
+limit_lowest before (ConditionRow bit places) cause e = cc
 limit_lowest before (ClassLine line) cause e = is_long cause (missed _ TooManyRows cause e)
-limit_lowest before (HintOf number hint) cause e = cc
+limit_lowest before (HintRow number hint) cause e = cc
 limit_lowest before (MagicLine line) cause e = cc
 
 -- Lines.
 
-row_lowest : (r : Result Entry Cause) (parts ranges : Bool) (rows : List Entry) (cause : Cause) → Judged r parts ranges
-    → option_or (result_err r) (first_limit rows (option_to_list (result_ok r))) ≡ Some cause → IsLowest cause parts ranges
+row_lowest : (r : Result Entry Cause) (parts ranges : Bool) (rows : List Entry) (cause : Cause)
+    → Judged r parts ranges
+    → option_or (result_err r) (first_limit rows (option_to_list (result_ok r))) ≡ Some cause
+    → IsLowest cause parts ranges
 row_lowest (Ok entry) parts ranges rows cause judged e =
-    subst (λ p. IsLowest cause p ranges) (sym judged.0) (subst (λ p. IsLowest cause true p) (sym judged.1) (limit_lowest rows entry cause e))
-row_lowest (Err other) parts ranges rows cause judged e = let same : other ≡ cause = cc in subst (λ (c : Cause). IsLowest c parts ranges) same judged
+    subst (λ p. IsLowest cause p ranges) (sym judged.0)
+    (subst (λ p. IsLowest cause true p) (sym judged.1) (limit_lowest rows entry cause e))
+row_lowest (Err other) parts ranges rows cause judged e =
+    let same : other ≡ cause = cc in subst (λ (c : Cause). IsLowest c parts ranges) same judged
 
-here_lowest : (place : Place) (line : List ℕ) (rows : List Entry) (cause : Cause) → option_or (shape_here place line) (first_limit rows (entry_here place line)) ≡ Some cause → IsLowestAt place line cause
-here_lowest Outside line rows cause e = at (is_some (headed line)) e where
+here_lowest : (position : Position) (line : List ℕ) (rows : List Entry) (cause : Cause)
+    → option_or (shape_here position line) (first_limit rows (entry_here position line))
+    ≡ Some cause → IsLowestAt position line cause
+here_lowest Outside line rows cause e = at (is_some (position_after_heading line)) e where
   at : (b : Bool) → option_or (cond b None (Some BadSection)) None ≡ Some cause → cause ≡ BadSection
   at true e = cc
   at false e = cc
 here_lowest (Inside s) line rows cause e = at (closes line) e where
-  at : (b : Bool) → option_or (cond b None (result_err (entry_in s line))) (first_limit rows (cond b [] (option_to_list (result_ok (entry_in s line))))) ≡ Some cause → IsLowest cause (has_parts s line) (is_in_range s line)
+  at : (b : Bool)
+      → option_or (cond b None (result_err (entry_in s line)))
+      (first_limit rows (cond b [] (option_to_list (result_ok (entry_in s line))))) ≡ Some cause
+      → IsLowest cause (has_parts s line) (is_in_range s line)
   at true e = cc
   at false e = row_lowest (entry_in s line) _ _ rows cause (row_judged s line) e
 here_lowest After line rows cause e = cc
 
-pub tells_lowest : TellsLowest
+pub tells_lowest : ReportsLowest
 unfolding line_cause shape_cause entry_at
-tells_lowest before line cause e = at (is_blank_line line) e where
-  at : (b : Bool) → option_or (cond b None (shape_here (stands before) line)) (first_limit (entries before) (cond b [] (entry_here (stands before) line))) ≡ Some cause → IsLowestAt (stands before) line cause
+tells_lowest before line cause e = at (is_all_blank line) e where
+  at : (b : Bool)
+      → option_or (cond b None (shape_here (position_after before) line))
+      (first_limit (entries before) (cond b [] (entry_here (position_after before) line)))
+      ≡ Some cause → IsLowestAt (position_after before) line cause
   at true e = cc
-  at false e = here_lowest (stands before) line (entries before) cause e
+  at false e = here_lowest (position_after before) line (entries before) cause e

@@ -1,5 +1,7 @@
 -- A cave that was made of tables and bindings is the one that the inputs describe, and no other is.
-use Rattle.std.proofs.Common.{◌≡◌, inl, inr, ℕ, suc, Bool, true, false, cond, ltb, List, [], ◌∷◌, ◌++◌, length, map, Option, Some, None, Result, Ok, Err, option_map, unwrap_or, refl, sym, ap, subst, ◌∙◌}
+use Rattle.std.proofs.Common.{◌≡◌, inl, inr, ℕ, suc, Bool, true, false, cond, ltb, List, [], ◌∷◌}
+use Rattle.std.proofs.Common.{◌++◌, length, map, Option, Some, None, Result, Ok, Err, option_map}
+use Rattle.std.proofs.Common.{unwrap_or, refl, sym, ap, subst, ◌∙◌}
 use Rattle.std.specs.Option.{option_or}
 use Rattle.std.specs.Result.{IfOk, IfErr, MatchResult}
 use Rattle.std.specs.Str.Lines.{lines}
@@ -9,121 +11,160 @@ use Rattle.std.specs.FinMap as fin
 use Rattle.std.proofs.lemmas.Bool.{ltb-false, le-ltb}
 use Rattle.std.proofs.lemmas.List.{append_assoc, append-nil}
 use Rattle.limits.specs.Limits.{max_input_bytes}
-use Rattle.cave_data.specs.declared.error.Cause.{Cause}
-use Rattle.cave_data.specs.declared.error.Cause.TheVariants.{NoEnd}
-use Rattle.cave_data.specs.declared.error.Spot.TheVariants as spot
-use Rattle.cave_data.specs.declared.error.CaveError.{CaveError}
-use Rattle.cave_data.specs.declared.reader.Place.{Place}
-use Rattle.cave_data.specs.declared.reader.Place.TheVariants.{Outside, Inside, After}
+use Rattle.cave_rows.specs.declared.error.Cause.{Cause}
+use Rattle.cave_rows.specs.declared.error.Cause.TheVariants.{NoEnd}
+use Rattle.cave_rows.specs.declared.error.FaultSite.TheVariants as site
+use Rattle.cave_rows.specs.declared.error.CaveError.{CaveError}
+use Rattle.cave_rows.specs.declared.position.Position.{Position}
+use Rattle.cave_rows.specs.declared.position.Position.TheVariants.{Outside, Inside, After}
 use Rattle.cave_data.specs.declared.reader.Tables.{Tables}
 use Rattle.cave_data.specs.declared.bindings.Bindings.{Bindings}
 use Rattle.cave_data.specs.CaveView.{CaveView}
-use Rattle.cave_data.specs.Shown.{shown_class}
-use Rattle.cave_data.specs.Rows.{Entry, TextLine}
-use Rattle.cave_data.specs.Grammar.{stands, entries}
-use Rattle.cave_data.specs.FirstFault.{spot_of, line_cause, fault_behind, is_after, end_fault, first_told, first_fault}
-use Rattle.cave_data.specs.Reads.{class_of_line, MayStandTogether, IsDatabase, Holds}
-use Rattle.cave_data.specs.Bindings.{bindings_of, default_place}
+use Rattle.cave_data.specs.Printing.{printed_class}
+use Rattle.cave_rows.specs.Rows.{Entry, TextLine}
+use Rattle.cave_rows.specs.Grammar.{position_after, entries}
+use Rattle.cave_data.specs.FirstFault.{site_of_fault, line_cause, fault_after, is_after, end_fault}
+use Rattle.cave_data.specs.FirstFault.{first_fault_by, first_fault}
+use Rattle.cave_data.specs.Database.{printed_class_of_line, AreValidTogether, IsDatabase, Holds}
+use Rattle.cave_rows.specs.BindingLines.{bindings_of}
+use Rattle.cave_data.specs.Bindings.{default_place}
 use Rattle.cave_data.specs.BindingFault.{binding_cause, binding_fault, first_binding_fault}
-use Rattle.cave_data.specs.BindingSteps.{bound}
-use Rattle.cave_data.specs.Steps.{tables_of, class_entry_of}
+use Rattle.cave_data.specs.BindingSteps.{bindings_from}
+use Rattle.cave_data.specs.Steps.{tables_of, class_of_line}
 use Rattle.cave_data.specs.Faults.{FaultIs, no_memory}
-use Rattle.cave_data.specs.Finished.{Finished}
-use Rattle.cave_data.specs.Reading.{AreBindings, AreRight, Reads, fault, too_large}
-use Rattle.cave_data.proofs.PartLemmas.{long_behind, short_behind, messages_behind, objects_behind, travel_behind, words_behind, classes_behind, placements_behind, defaults_behind, conditions_behind, hints_behind}
+use Rattle.cave_data.specs.Cave.{Finished}
+use Rattle.cave_data.specs.Reads.{AreBindings, AreValidInputs, Reads, fault, too_large_input}
+use Rattle.cave_data.proofs.PartLemmas.{long_after, short_after, messages_after, objects_after}
+use Rattle.cave_data.proofs.PartLemmas.{travel_after, words_after, classes_after, placements_after}
+use Rattle.cave_data.proofs.PartLemmas.{defaults_after, conditions_after, hints_after}
 use Rattle.cave_data.proofs.BindingLemmas.{roles_bound, places_bound, letters_bound}
 use Rattle.cave_data.proofs.CaveLemmas.{get-with_defaults}
 use Rattle.cave_data.specs.Laws.{Laws}
 use Rattle.cave_data.proofs.LawLemmas.{laws_hold}
-use Rattle.cave_data.proofs.RightLemmas.{neither, line_right, line_together, none_together, line_fine, binding_right, binding_fine}
+use Rattle.cave_data.proofs.RightLemmas.{neither, line_right, line_together, none_together}
+use Rattle.cave_data.proofs.RightLemmas.{line_fine, binding_right, binding_fine}
 
 -- Lines of which none is at fault.
 
-none_parts : (o : Option Cause) (tell : Cause → CaveError) (rest : Option CaveError) → option_or (option_map tell o) rest ≡ None → (o ≡ None) × (rest ≡ None)
+none_parts : (o : Option Cause) (tell : Cause → CaveError) (rest : Option CaveError)
+    → option_or (option_map tell o) rest ≡ None → (o ≡ None) × (rest ≡ None)
 none_parts None tell rest e = (refl, e)
 none_parts (Some cause) tell rest e = cc
 
-module _ (cause : List (List ℕ) → List ℕ → Option Cause) (tell : List (List ℕ) → Cause → CaveError) (ending : List (List ℕ) → Option CaveError) where
+module _ (cause : List (List ℕ) → List ℕ → Option Cause) (tell : List (List ℕ) → Cause → CaveError)
+    (ending : List (List ℕ) → Option CaveError) where
   abbrev Right : List (List ℕ) → List (List ℕ) → Type 0
-  Right before ls = (mid : List (List ℕ)) (line : List ℕ) (later : List (List ℕ)) → ls ≡ mid ++ line ∷ later → cause (before ++ mid) line ≡ None
+  Right before ls = (mid : List (List ℕ)) (line : List ℕ) (later : List (List ℕ))
+      → ls ≡ mid ++ line ∷ later → cause (before ++ mid) line ≡ None
 
-  right_each : (before ls : List (List ℕ)) → first_told cause tell ending before ls ≡ None → Right before ls
+  right_each : (before ls : List (List ℕ)) → first_fault_by cause tell ending before ls ≡ None
+      → Right before ls
   right_each before [] e [] line later same = cc
   right_each before [] e (x ∷ mid) line later same = cc
   right_each before (l ∷ ls) e [] line later same =
       let this : l ≡ line = cc in
-      ap (λ b. cause b line) (append-nil before) ∙ ap (cause before) (sym this) ∙ (none_parts (cause before l) (tell before) _ e).0
+      ap (λ b. cause b line) (append-nil before) ∙ ap (cause before) (sym this)
+      ∙ (none_parts (cause before l) (tell before) _ e).0
   right_each before (l ∷ ls) e (x ∷ mid) line later same =
       let this : l ≡ x = cc in
       let others : ls ≡ mid ++ line ∷ later = cc in
-      ap (λ b. cause b line) (ap (λ k. before ++ k ∷ mid) (sym this) ∙ sym (append_assoc before (l ∷ []) mid))
-      ∙ right_each (before ++ l ∷ []) ls (none_parts (cause before l) (tell before) _ e).1 mid line later others
+      ap (λ b. cause b line) (ap (λ k. before ++ k ∷ mid) (sym this)
+      ∙ sym (append_assoc before (l ∷ []) mid))
+      ∙ right_each (before ++ l ∷ []) ls (none_parts (cause before l) (tell before) _ e).1 mid line
+      later others
 
-  right_end : (before ls : List (List ℕ)) → first_told cause tell ending before ls ≡ None → ending (before ++ ls) ≡ None
+  right_end : (before ls : List (List ℕ)) → first_fault_by cause tell ending before ls ≡ None
+      → ending (before ++ ls) ≡ None
   right_end before [] e = ap ending (append-nil before) ∙ e
-  right_end before (l ∷ ls) e = ap ending (sym (append_assoc before (l ∷ []) ls)) ∙ right_end (before ++ l ∷ []) ls (none_parts (cause before l) (tell before) _ e).1
+  right_end before (l ∷ ls) e = ap ending (sym (append_assoc before (l ∷ []) ls))
+      ∙ right_end (before ++ l ∷ []) ls (none_parts (cause before l) (tell before) _ e).1
 
-  none_told : (before ls : List (List ℕ)) → Right before ls → ending (before ++ ls) ≡ None → first_told cause tell ending before ls ≡ None
+  none_told : (before ls : List (List ℕ)) → Right before ls → ending (before ++ ls) ≡ None
+      → first_fault_by cause tell ending before ls ≡ None
   none_told before [] right e = ap ending (sym (append-nil before)) ∙ e
   none_told before (l ∷ ls) right e =
-      let here : cause before l ≡ None = ap (λ b. cause b l) (sym (append-nil before)) ∙ right [] l ls refl in
-      ap (λ o. option_or (option_map (tell before) o) (first_told cause tell ending (before ++ l ∷ []) ls)) here
-      ∙ none_told (before ++ l ∷ []) ls (λ mid line later same. ap (λ b. cause b line) (append_assoc before (l ∷ []) mid) ∙ right (l ∷ mid) line later (ap (λ k. l ∷ k) same))
+      let here : cause before l ≡ None = ap (λ b. cause b l) (sym (append-nil before))
+      ∙ right [] l ls refl in
+      ap (λ o. option_or (option_map (tell before) o)
+      (first_fault_by cause tell ending (before ++ l ∷ []) ls)) here
+      ∙ none_told (before ++ l ∷ []) ls
+      (λ mid line later same. ap (λ b. cause b line) (append_assoc before (l ∷ []) mid)
+      ∙ right (l ∷ mid) line later (ap (λ k. l ∷ k) same))
       (ap ending (append_assoc before (l ∷ []) ls) ∙ e)
 
-at_after : (p : Place) (x : CaveError) → cond (is_after p) None (Some x) ≡ None → p ≡ After
+at_after : (p : Position) (x : CaveError) → cond (is_after p) None (Some x) ≡ None → p ≡ After
 at_after Outside x e = cc
 at_after (Inside s) x e = cc
 at_after After x e = refl
 
--- rows that may stand together still may behind lines that have no cause
-together_behind : (before ls : List (List ℕ)) → first_fault before ls ≡ None → MayStandTogether (entries before) → MayStandTogether (entries (before ++ ls))
-together_behind before [] e may = subst (λ b. MayStandTogether (entries b)) (sym (append-nil before)) may
-together_behind before (line ∷ ls) e may =
-    let parts = none_parts (line_cause before line) (fault_behind before) _ e in
-    subst (λ b. MayStandTogether (entries b)) (append_assoc before (line ∷ []) ls) (together_behind (before ++ line ∷ []) ls parts.1 (line_together before line parts.0 may))
+-- rows that are valid together stay so with lines after them that have no cause
+together_after : (before ls : List (List ℕ)) → first_fault before ls ≡ None
+    → AreValidTogether (entries before) → AreValidTogether (entries (before ++ ls))
+together_after before [] e may =
+    subst (λ b. AreValidTogether (entries b)) (sym (append-nil before)) may
+together_after before (line ∷ ls) e may =
+    let parts = none_parts (line_cause before line) (fault_after before) _ e in
+    subst (λ b. AreValidTogether (entries b)) (append_assoc before (line ∷ []) ls)
+    (together_after (before ++ line ∷ []) ls parts.1 (line_together before line parts.0 may))
 
 database_right : (ls : List (List ℕ)) → first_fault [] ls ≡ None → IsDatabase ls
 database_right ls e = record {
-  each = λ before line later same. line_right before line (right_each line_cause fault_behind end_fault [] ls e before line later same);
-  together = together_behind [] ls e none_together;
-  ended = at_after (stands ls) _ (right_end line_cause fault_behind end_fault [] ls e);
+  each = λ before line later same. line_right before line
+      (right_each line_cause fault_after end_fault [] ls e before line later same);
+  together = together_after [] ls e none_together;
+  ended = at_after (position_after ls) _ (right_end line_cause fault_after end_fault [] ls e);
 }
 
 database_faultless : (ls : List (List ℕ)) → IsDatabase ls → first_fault [] ls ≡ None
 database_faultless ls is =
-    none_told line_cause fault_behind end_fault [] ls (λ before line later same. line_fine before line later (is.each before line later same) (subst (λ xs. MayStandTogether (entries xs)) same is.together))
-    (ap (λ p. cond (is_after p) None (Some (record { cause = NoEnd; line = suc (length ls); spot = spot_of p }))) is.ended)
+    none_told line_cause fault_after end_fault [] ls
+    (λ before line later same. line_fine before line later (is.each before line later same)
+    (subst (λ xs. AreValidTogether (entries xs)) same is.together))
+    (ap (λ p.
+    cond (is_after p) None
+    (Some (record { cause = NoEnd; line = suc (length ls); site = site_of_fault p }))) is.ended)
 
 bindings_right : (ls : List (List ℕ)) → first_binding_fault [] ls ≡ None → AreBindings ls
-bindings_right ls e = record { each = λ before line later same. binding_right before line (right_each binding_cause binding_fault (λ before. None) [] ls e before line later same) }
+bindings_right ls e =
+    record {
+      each =
+          λ before line later same. binding_right before line
+          (right_each binding_cause binding_fault (λ before. None) [] ls e before line later same);
+    }
 
 bindings_faultless : (ls : List (List ℕ)) → AreBindings ls → first_binding_fault [] ls ≡ None
-bindings_faultless ls are = none_told binding_cause binding_fault (λ before. None) [] ls (λ before line later same. binding_fine before line (are.each before line later same)) refl
+bindings_faultless ls are =
+    none_told binding_cause binding_fault (λ before. None) [] ls
+    (λ before line later same. binding_fine before line (are.each before line later same)) refl
 
 -- The cave that was made.
 
-classes_shown : (ls : List TextLine) → map shown_class (map class_entry_of ls) ≡ map class_of_line ls
+classes_shown : (ls : List TextLine)
+    → map printed_class (map class_of_line ls) ≡ map printed_class_of_line ls
 classes_shown [] = refl
-classes_shown (line ∷ ls) = ap (λ cs. class_of_line line ∷ cs) (classes_shown ls)
+classes_shown (line ∷ ls) = ap (λ cs. printed_class_of_line line ∷ cs) (classes_shown ls)
 
-holds : (rows : List Entry) (b : Bindings) (c : CaveView) → Finished (tables_of rows) b c → Holds rows c
+holds : (rows : List Entry) (b : Bindings) (c : CaveView) → Finished (tables_of rows) b c
+    → Holds rows c
 holds rows b c made = record {
-  long = λ n. made.long n ∙ long_behind rows n;
-  short = λ n. made.short n ∙ short_behind rows n;
-  travel = λ n. made.travel n ∙ travel_behind rows n;
-  words = made.words ∙ words_behind rows;
-  objects = λ n. made.objects n ∙ objects_behind rows n;
-  messages = λ n. made.messages n ∙ messages_behind rows n;
-  placements = λ n. ap (λ m. fin.get m n) made.placements ∙ placements_behind rows n;
-  defaults = λ n. ap (λ m. fin.get m n) made.defaults ∙ defaults_behind rows n;
-  conditions = λ n. ap (λ m. fin.get m n) made.conditions ∙ conditions_behind rows n;
-  classes = made.classes ∙ ap (map shown_class) (classes_behind rows) ∙ classes_shown _;
-  hints = λ n. ap (λ m. fin.get m n) made.hints ∙ hints_behind rows n;
+  long = λ n. made.long n ∙ long_after rows n;
+  short = λ n. made.short n ∙ short_after rows n;
+  travel = λ n. made.travel n ∙ travel_after rows n;
+  words = made.words ∙ words_after rows;
+  objects = λ n. made.objects n ∙ objects_after rows n;
+  messages = λ n. made.messages n ∙ messages_after rows n;
+  placements = λ n. ap (λ m. fin.get m n) made.placements ∙ placements_after rows n;
+  defaults = λ n. ap (λ m. fin.get m n) made.defaults ∙ defaults_after rows n;
+  conditions = λ n. ap (λ m. fin.get m n) made.conditions ∙ conditions_after rows n;
+  classes = made.classes ∙ ap (map printed_class) (classes_after rows) ∙ classes_shown _;
+  hints = λ n. ap (λ m. fin.get m n) made.hints ∙ hints_after rows n;
 }
 
-pub made_reads : (database bindings : List ℕ) (t : Tables) (b : Bindings) (c : CaveView) → ltb max_input_bytes (length database) ≡ false → ltb max_input_bytes (length bindings) ≡ false
-    → first_fault [] (lines database) ≡ None → t ≡ tables_of (entries (lines database)) → first_binding_fault [] (lines bindings) ≡ None → b ≡ bound (bindings_of (lines bindings)) → Finished t b c → Reads database bindings c
+pub made_reads : (database bindings : List ℕ) (t : Tables) (b : Bindings) (c : CaveView)
+    → ltb max_input_bytes (length database) ≡ false → ltb max_input_bytes (length bindings) ≡ false
+    → first_fault [] (lines database) ≡ None → t ≡ tables_of (entries (lines database))
+    → first_binding_fault [] (lines bindings) ≡ None
+    → b ≡ bindings_from (bindings_of (lines bindings)) → Finished t b c → Reads database bindings c
 made_reads database bindings t b c small bindings_small right tables bindings_are_right are made =
     let made_of = subst (λ t'. Finished t' b c) tables made in
     record {
@@ -134,10 +175,15 @@ made_reads database bindings t b c small bindings_small right tables bindings_ar
         are_bindings = bindings_right (lines bindings) bindings_are_right;
       };
       holds = holds (entries (lines database)) b c made_of;
-      roles = λ n. ap (λ m. fin.get m n) (made.roles ∙ ap (λ x. x.roles) are) ∙ roles_bound (bindings_of (lines bindings)) n;
-      places = λ n. ap (λ m. fin.get m n) made.places ∙ get-with_defaults b.places n ∙ ap (λ m. option_or (fin.get m n) (default_place n)) (ap (λ x. x.places) are)
+      roles = λ n. ap (λ m. fin.get m n) (made.roles ∙ ap (λ x. x.roles) are)
+          ∙ roles_bound (bindings_of (lines bindings)) n;
+      places = λ n. ap (λ m. fin.get m n) made.places ∙ get-with_defaults b.places n
+          ∙ ap (λ m. option_or (fin.get m n) (default_place n)) (ap (λ x. x.places) are)
           ∙ ap (λ o. option_or o (default_place n)) (places_bound (bindings_of (lines bindings)) n);
-      letters = made.letters ∙ ap (λ o. unwrap_or o 5) (ap (λ x. x.letters) are ∙ letters_bound (bindings_of (lines bindings)));
+      letters =
+          made.letters
+          ∙ ap (λ o. unwrap_or o 5) (ap (λ x. x.letters) are
+          ∙ letters_bound (bindings_of (lines bindings)));
     }
 
 -- One cave at most is described.
@@ -145,17 +191,22 @@ made_reads database bindings t b c small bindings_small right tables bindings_ar
 same : {X : Type 0} (m n : fin.FinMap nat_cmp X) → ((q : ℕ) → fin.get m q ≡ fin.get n q) → m ≡ n
 same m n alike = fin.same_map nat_cmp_total fin.nat_cmp-IsAntisymmetric m n alike
 
-pub same_cave : (database bindings : List ℕ) (c d : CaveView) → Reads database bindings c → Reads database bindings d → d ≡ c
+pub same_cave : (database bindings : List ℕ) (c d : CaveView) → Reads database bindings c
+    → Reads database bindings d → d ≡ c
 same_cave database bindings c d rc rd =
     let long = same d.long c.long (λ n. rd.holds.long n ∙ sym (rc.holds.long n)) in
     let short = same d.short c.short (λ n. rd.holds.short n ∙ sym (rc.holds.short n)) in
     let travel = same d.travel c.travel (λ n. rd.holds.travel n ∙ sym (rc.holds.travel n)) in
     let words = rd.holds.words ∙ sym rc.holds.words in
     let objects = same d.objects c.objects (λ n. rd.holds.objects n ∙ sym (rc.holds.objects n)) in
-    let messages = same d.messages c.messages (λ n. rd.holds.messages n ∙ sym (rc.holds.messages n)) in
-    let placements = same d.placements c.placements (λ n. rd.holds.placements n ∙ sym (rc.holds.placements n)) in
-    let defaults = same d.defaults c.defaults (λ n. rd.holds.defaults n ∙ sym (rc.holds.defaults n)) in
-    let conditions = same d.conditions c.conditions (λ n. rd.holds.conditions n ∙ sym (rc.holds.conditions n)) in
+    let messages =
+    same d.messages c.messages (λ n. rd.holds.messages n ∙ sym (rc.holds.messages n)) in
+    let placements =
+    same d.placements c.placements (λ n. rd.holds.placements n ∙ sym (rc.holds.placements n)) in
+    let defaults =
+    same d.defaults c.defaults (λ n. rd.holds.defaults n ∙ sym (rc.holds.defaults n)) in
+    let conditions =
+    same d.conditions c.conditions (λ n. rd.holds.conditions n ∙ sym (rc.holds.conditions n)) in
     let classes = rd.holds.classes ∙ sym rc.holds.classes in
     let hints = same d.hints c.hints (λ n. rd.holds.hints n ∙ sym (rc.holds.hints n)) in
     let roles = same d.roles c.roles (λ n. rd.roles n ∙ sym (rc.roles n)) in
@@ -180,71 +231,119 @@ same_cave database bindings c d rc rd =
 
 -- Faults.
 
-pub fault_database_large : (database bindings : List ℕ) → ltb max_input_bytes (length database) ≡ true → fault database bindings ≡ Some (too_large spot.Database)
+-- the first fault of lines, where both inputs are small enough
+abbrev fault_of_lines : List ℕ → List ℕ → Option CaveError
+fault_of_lines database bindings =
+    option_or (first_fault [] (lines database)) (first_binding_fault [] (lines bindings))
+
+abbrev bindings_size_fault : Bool → Option CaveError
+bindings_size_fault large = cond large (Some (too_large_input site.Bindings)) None
+
+pub fault_database_large : (database bindings : List ℕ)
+    → ltb max_input_bytes (length database) ≡ true
+    → fault database bindings ≡ Some (too_large_input site.Database)
 unfolding fault
 fault_database_large database bindings e =
-    ap (λ b. cond b (Some (too_large spot.Database)) (cond (ltb max_input_bytes (length bindings)) (Some (too_large spot.Bindings)) (option_or (first_fault [] (lines database)) (first_binding_fault [] (lines bindings))))) e
+    let later = bindings_size_fault (ltb max_input_bytes (length bindings)) in
+    ap (λ b. option_or (cond b (Some (too_large_input site.Database)) later)
+    (fault_of_lines database bindings)) e
 
 small_fault : (database bindings : List ℕ) → ltb max_input_bytes (length database) ≡ false
-    → fault database bindings ≡ cond (ltb max_input_bytes (length bindings)) (Some (too_large spot.Bindings)) (option_or (first_fault [] (lines database)) (first_binding_fault [] (lines bindings)))
+    → fault database bindings
+    ≡ option_or (bindings_size_fault (ltb max_input_bytes (length bindings)))
+    (fault_of_lines database bindings)
 unfolding fault
 small_fault database bindings e =
-    ap (λ b. cond b (Some (too_large spot.Database)) (cond (ltb max_input_bytes (length bindings)) (Some (too_large spot.Bindings)) (option_or (first_fault [] (lines database)) (first_binding_fault [] (lines bindings))))) e
+    let later = bindings_size_fault (ltb max_input_bytes (length bindings)) in
+    ap (λ b. option_or (cond b (Some (too_large_input site.Database)) later)
+    (fault_of_lines database bindings)) e
 
-pub fault_bindings_large : (database bindings : List ℕ) → ltb max_input_bytes (length database) ≡ false → ltb max_input_bytes (length bindings) ≡ true → fault database bindings ≡ Some (too_large spot.Bindings)
+pub fault_bindings_large : (database bindings : List ℕ)
+    → ltb max_input_bytes (length database) ≡ false → ltb max_input_bytes (length bindings) ≡ true
+    → fault database bindings ≡ Some (too_large_input site.Bindings)
 fault_bindings_large database bindings e b =
-    small_fault database bindings e ∙ ap (λ v. cond v (Some (too_large spot.Bindings)) (option_or (first_fault [] (lines database)) (first_binding_fault [] (lines bindings)))) b
+    small_fault database bindings e
+    ∙ ap (λ v. option_or (bindings_size_fault v) (fault_of_lines database bindings)) b
 
-both_small : (database bindings : List ℕ) → ltb max_input_bytes (length database) ≡ false → ltb max_input_bytes (length bindings) ≡ false
-    → fault database bindings ≡ option_or (first_fault [] (lines database)) (first_binding_fault [] (lines bindings))
+both_small : (database bindings : List ℕ) → ltb max_input_bytes (length database) ≡ false
+    → ltb max_input_bytes (length bindings) ≡ false
+    → fault database bindings
+    ≡ option_or (first_fault [] (lines database)) (first_binding_fault [] (lines bindings))
 both_small database bindings e b =
-    small_fault database bindings e ∙ ap (λ v. cond v (Some (too_large spot.Bindings)) (option_or (first_fault [] (lines database)) (first_binding_fault [] (lines bindings)))) b
+    small_fault database bindings e
+    ∙ ap (λ v. option_or (bindings_size_fault v) (fault_of_lines database bindings)) b
 
-pub fault_in_database : (database bindings : List ℕ) (e : CaveError) → ltb max_input_bytes (length database) ≡ false → ltb max_input_bytes (length bindings) ≡ false
+pub fault_in_database : (database bindings : List ℕ) (e : CaveError)
+    → ltb max_input_bytes (length database) ≡ false → ltb max_input_bytes (length bindings) ≡ false
     → FaultIs e (first_fault [] (lines database)) → FaultIs e (fault database bindings)
 fault_in_database database bindings e s b (inl h) = inl h
-fault_in_database database bindings e s b (inr h) = inr (both_small database bindings s b ∙ ap (λ o. option_or o (first_binding_fault [] (lines bindings))) h)
+fault_in_database database bindings e s b (inr h) =
+    inr (both_small database bindings s b
+    ∙ ap (λ o. option_or o (first_binding_fault [] (lines bindings))) h)
 
-pub fault_in_bindings : (database bindings : List ℕ) (e : CaveError) → ltb max_input_bytes (length database) ≡ false → ltb max_input_bytes (length bindings) ≡ false → first_fault [] (lines database) ≡ None
+pub fault_in_bindings : (database bindings : List ℕ) (e : CaveError)
+    → ltb max_input_bytes (length database) ≡ false → ltb max_input_bytes (length bindings) ≡ false
+    → first_fault [] (lines database) ≡ None
     → FaultIs e (first_binding_fault [] (lines bindings)) → FaultIs e (fault database bindings)
 fault_in_bindings database bindings e s b right (inl h) = inl h
 fault_in_bindings database bindings e s b right (inr h) =
-    inr (both_small database bindings s b ∙ ap (λ o. option_or o (first_binding_fault [] (lines bindings))) right ∙ h)
+    inr (both_small database bindings s b
+    ∙ ap (λ o. option_or o (first_binding_fault [] (lines bindings))) right ∙ h)
 
-right_faultless : (database bindings : List ℕ) → AreRight database bindings → fault database bindings ≡ None
+right_faultless : (database bindings : List ℕ) → AreValidInputs database bindings
+    → fault database bindings ≡ None
 right_faultless database bindings right =
     both_small database bindings (le-ltb _ _ right.small) (le-ltb _ _ right.bindings_small)
-    ∙ ap (λ o. option_or o (first_binding_fault [] (lines bindings))) (database_faultless (lines database) right.is_database) ∙ bindings_faultless (lines bindings) right.are_bindings
+    ∙ ap (λ o. option_or o (first_binding_fault [] (lines bindings)))
+    (database_faultless (lines database) right.is_database)
+    ∙ bindings_faultless (lines bindings) right.are_bindings
 
-faultless_right : (database bindings : List ℕ) → fault database bindings ≡ None → AreRight database bindings
-faultless_right database bindings e = large (ltb max_input_bytes (length database)) refl (ltb max_input_bytes (length bindings)) refl where
-  large : (v : Bool) → ltb max_input_bytes (length database) ≡ v → (w : Bool) → ltb max_input_bytes (length bindings) ≡ w → AreRight database bindings
-  large true is w are = let told = fault_database_large database bindings is in cc
-  large false is true are = let told = fault_bindings_large database bindings is are in cc
-  large false is false are =
-      let parts = neither (first_fault [] (lines database)) (first_binding_fault [] (lines bindings)) (sym (both_small database bindings is are) ∙ e) in
-      record {
-        small = ltb-false _ _ is;
-        bindings_small = ltb-false _ _ are;
-        is_database = database_right (lines database) parts.0;
-        are_bindings = bindings_right (lines bindings) parts.1;
-      }
+faultless_right : (database bindings : List ℕ) → fault database bindings ≡ None
+    → AreValidInputs database bindings
+faultless_right database bindings e =
+    large (ltb max_input_bytes (length database)) refl (ltb max_input_bytes (length bindings))
+    refl where
+      large : (v : Bool) → ltb max_input_bytes (length database) ≡ v → (w : Bool)
+          → ltb max_input_bytes (length bindings) ≡ w → AreValidInputs database bindings
+      large true is w are = let told = fault_database_large database bindings is in cc
+      large false is true are = let told = fault_bindings_large database bindings is are in cc
+      large false is false are =
+          let parts =
+          neither (first_fault [] (lines database)) (first_binding_fault [] (lines bindings))
+          (sym (both_small database bindings is are) ∙ e) in
+          record {
+            small = ltb-false _ _ is;
+            bindings_small = ltb-false _ _ are;
+            is_database = database_right (lines database) parts.0;
+            are_bindings = bindings_right (lines bindings) parts.1;
+          }
 
 -- the inputs are right exactly where no line of theirs, and no size, is at fault
-pub right_exactly : (database bindings : List ℕ) → (AreRight database bindings → fault database bindings ≡ None) × (fault database bindings ≡ None → AreRight database bindings)
-right_exactly database bindings = (right_faultless database bindings, faultless_right database bindings)
+pub right_exactly : (database bindings : List ℕ)
+    → (AreValidInputs database bindings → fault database bindings ≡ None)
+    × (fault database bindings ≡ None → AreValidInputs database bindings)
+right_exactly database bindings =
+    (right_faultless database bindings, faultless_right database bindings)
 
--- where a cave is described, only memory can be wanting
-pub only_memory : (database bindings : List ℕ) (c : CaveView) (e : CaveError) → Reads database bindings c → FaultIs e (fault database bindings) → e ≡ no_memory
+-- where a cave is described, nothing can fail but memory
+pub only_memory : (database bindings : List ℕ) (c : CaveView) (e : CaveError)
+    → Reads database bindings c → FaultIs e (fault database bindings) → e ≡ no_memory
 only_memory database bindings c e reads (inl h) = h
-only_memory database bindings c e reads (inr h) = let none = right_faultless database bindings reads.right in cc
+only_memory database bindings c e reads (inr h) =
+    let none = right_faultless database bindings reads.right in cc
 
--- what reading tells is what the relation asks
-pub read_decides : (database bindings : List ℕ) (r : Result CaveView CaveError) (c : CaveView) → IfOk r (λ d. Reads database bindings d) → IfErr r (λ e. FaultIs e (fault database bindings)) → Reads database bindings c
+-- what reading reports is what the relation asks
+pub read_decides : (database bindings : List ℕ) (r : Result CaveView CaveError) (c : CaveView)
+    → IfOk r (λ d. Reads database bindings d) → IfErr r (λ e. FaultIs e (fault database bindings))
+    → Reads database bindings c
     → MatchResult r (λ d. d ≡ c) (λ e. e ≡ no_memory)
-read_decides database bindings (Ok d) c found told reads = same_cave database bindings c d reads found
-read_decides database bindings (Err e) c found told reads = only_memory database bindings c e reads told
+read_decides database bindings (Ok d) c found told reads =
+    same_cave database bindings c d reads found
+read_decides database bindings (Err e) c found told reads =
+    only_memory database bindings c e reads told
 
-pub read_laws : (database bindings : List ℕ) (r : Result CaveView CaveError) → IfOk r (λ c. Reads database bindings c) → IfOk r (λ c. Laws (entries (lines database)) c)
-read_laws database bindings (Ok c) reads = laws_hold (entries (lines database)) c reads.right.is_database.together.objects reads.holds
+pub read_laws : (database bindings : List ℕ) (r : Result CaveView CaveError)
+    → IfOk r (λ c. Reads database bindings c) → IfOk r (λ c. Laws (entries (lines database)) c)
+read_laws database bindings (Ok c) reads =
+    laws_hold (entries (lines database)) c reads.right.is_database.together.objects reads.holds
 read_laws database bindings (Err e) reads = tt

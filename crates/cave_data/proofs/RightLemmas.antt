@@ -1,27 +1,35 @@
 -- The inputs are a database and bindings exactly where no line of them has a cause.
-use Rattle.std.proofs.Common.{◌≡◌, ◌⊎◌, inl, inr, ℕ, ◌+◌, ◌<◌, ◌≤◌, Bool, true, false, cond, leb, ltb, eqb, List, [], ◌∷◌, ◌++◌, length, fold, Option, Some, None, option_to_list, is_some, Result, Ok, Err, refl, sym, ap, subst, ◌∙◌, arith}
+use Rattle.std.proofs.Common.{◌≡◌, ◌⊎◌, inl, inr, ℕ, ◌+◌, ◌<◌, ◌≤◌, Bool, true, false, cond, leb}
+use Rattle.std.proofs.Common.{ltb, eqb, List, [], ◌∷◌, ◌++◌, length, fold, Option, Some, None}
+use Rattle.std.proofs.Common.{option_to_list, is_some, Result, Ok, Err, refl, sym, ap, subst, ◌∙◌}
+use Rattle.std.proofs.Common.{arith}
 use Rattle.std.specs.Option.{option_or}
 use Rattle.std.specs.Result.{result_ok, result_err}
 use Rattle.std.specs.List.{filter_map}
 use Rattle.std.proofs.lemmas.Bool.{ltb-true, lt-ltb, ne_eqb, and_parts}
 use Rattle.std.proofs.lemmas.List.{append_assoc, append-nil, length-append}
 use Rattle.std.proofs.lemmas.List.Elements.{filter_map-append}
-use Rattle.cave_data.specs.declared.error.Cause.{Cause}
-use Rattle.cave_data.specs.declared.error.BindingFlaw.TheVariants.{Repeated}
-use Rattle.cave_data.specs.declared.error.Cause.TheVariants.{BadSection, OutOfRange, TooManyRows, BadBinding}
-use Rattle.cave_data.specs.declared.reader.Place.{Place}
-use Rattle.cave_data.specs.declared.reader.Place.TheVariants.{Outside, Inside, After}
-use Rattle.cave_data.specs.declared.binding.Binding.{Binding}
-use Rattle.cave_data.specs.Fields.{is_blank_line}
-use Rattle.cave_data.specs.Rows.{Entry, TextLine, Way, Word, ObjectLine, ClassLine, entry_in}
-use Rattle.cave_data.specs.Texts.{names_object, object_behind, object_of}
-use Rattle.cave_data.specs.Grammar.{headed, closes, stands, IsRow, MayStand, IsRight, entry_here, entry_at, entries}
-use Rattle.cave_data.specs.SectionRows.{way_of, word_of, class_line_of, object_line_of}
-use Rattle.cave_data.specs.FirstFault.{shape_here, shape_cause, at_most, limit_cause, first_limit, line_cause}
-use Rattle.cave_data.specs.Bindings.{is_skipped, binding_row, binding_at, bindings_of, value_of}
+use Rattle.cave_rows.specs.declared.error.Cause.{Cause}
+use Rattle.cave_rows.specs.declared.error.BindingFlaw.TheVariants.{Repeated}
+use Rattle.cave_rows.specs.declared.error.Cause.TheVariants.{BadSection, OutOfRange, TooManyRows}
+use Rattle.cave_rows.specs.declared.error.Cause.TheVariants.{BadBinding}
+use Rattle.cave_rows.specs.declared.position.Position.{Position}
+use Rattle.cave_rows.specs.declared.position.Position.TheVariants.{Outside, Inside, After}
+use Rattle.cave_rows.specs.declared.binding.Binding.{Binding}
+use Rattle.log_lines.specs.Bytes.{is_all_blank}
+use Rattle.cave_rows.specs.Rows.{Entry, TextLine, Way, Word, ObjectLine, ClassLine, entry_in}
+use Rattle.cave_data.specs.Texts.{names_object, object_after, object_after_lines}
+use Rattle.cave_rows.specs.Grammar.{position_after_heading, closes, position_after, IsRow, IsValidAt}
+use Rattle.cave_rows.specs.Grammar.{IsValidLine, entry_here, entry_at, entries}
+use Rattle.cave_rows.specs.SectionRows.{way_of, word_entry_of, class_line_of, object_line_of}
+use Rattle.cave_data.specs.FirstFault.{shape_here, shape_cause, at_most, limit_cause, first_limit}
+use Rattle.cave_data.specs.FirstFault.{line_cause}
+use Rattle.log_lines.specs.LogLine.{is_skipped}
+use Rattle.cave_rows.specs.BindingLines.{binding_row, binding_at, bindings_of}
+use Rattle.cave_data.specs.Bindings.{value_of}
 use Rattle.cave_data.specs.BindingFault.{repeat_cause, binding_cause}
-use Rattle.cave_data.specs.Reads.{BeginWithObject, MayStandTogether}
-use Rattle.cave_data.specs.Reading.{BindsAnew, IsRightBinding}
+use Rattle.cave_data.specs.Database.{BeginWithObject, AreValidTogether}
+use Rattle.cave_data.specs.Reads.{BindsAnew, IsValidBindingLine}
 use Rattle.cave_data.proofs.StepLemmas.{entries-append, entries_push}
 
 -- neither is there where their choice isn't
@@ -29,56 +37,66 @@ pub neither : {X : Type 0} (a b : Option X) → option_or a b ≡ None → (a �
 neither None b e = (refl, e)
 neither (Some x) b e = cc
 
--- What a line is where it stands.
+-- What a line is at its place in the database.
 
 row_of : (r : Result Entry Cause) → result_err r ≡ None → (entry : Entry) × (r ≡ Ok entry)
 row_of (Ok entry) e = (entry, refl)
 row_of (Err cause) e = cc
 
-place_of : (o : Option Place) → cond (is_some o) None (Some BadSection) ≡ None → (place : Place) × (o ≡ Some place)
-place_of None e = cc
-place_of (Some place) e = (place, refl)
+position_of : (o : Option Position) → cond (is_some o) None (Some BadSection) ≡ None
+    → (position : Position) × (o ≡ Some position)
+position_of None e = cc
+position_of (Some position) e = (position, refl)
 
-stands_here : (place : Place) (line : List ℕ) → shape_here place line ≡ None → MayStand place line
-stands_here Outside line e = place_of (headed line) e
+stands_here : (position : Position) (line : List ℕ) → shape_here position line ≡ None
+    → IsValidAt position line
+stands_here Outside line e = position_of (position_after_heading line) e
 stands_here (Inside s) line e = at (closes line) refl e where
-  at : (b : Bool) → closes line ≡ b → cond b None (result_err (entry_in s line)) ≡ None → (closes line ≡ true) ⊎ IsRow s line
+  at : (b : Bool) → closes line ≡ b → cond b None (result_err (entry_in s line)) ≡ None
+      → (closes line ≡ true) ⊎ IsRow s line
   at true is none = inl is
   at false is none = inr (row_of (entry_in s line) none)
 stands_here After line e = tt
 
-fine_here : (place : Place) (line : List ℕ) → MayStand place line → shape_here place line ≡ None
+fine_here : (position : Position) (line : List ℕ) → IsValidAt position line
+    → shape_here position line ≡ None
 fine_here Outside line may = ap (λ o. cond (is_some o) None (Some BadSection)) may.1
 fine_here (Inside s) line (inl closed) = ap (λ b. cond b None (result_err (entry_in s line))) closed
-fine_here (Inside s) line (inr row) = ap (λ r. cond (closes line) None (result_err r)) row.1 ∙ at (closes line) where
-  at : (b : Bool) → cond b None (result_err {E = Cause} (Ok row.0)) ≡ None
-  at true = refl
-  at false = refl
+fine_here (Inside s) line (inr row) = ap (λ r. cond (closes line) None (result_err r)) row.1
+    ∙ at (closes line) where
+      at : (b : Bool) → cond b None (result_err {E = Cause} (Ok row.0)) ≡ None
+      at true = refl
+      at false = refl
 fine_here After line may = refl
 
-stands_right : (place : Place) (line : List ℕ) → shape_cause place line ≡ None → (is_blank_line line ≡ true) ⊎ MayStand place line
+stands_right : (position : Position) (line : List ℕ) → shape_cause position line ≡ None
+    → (is_all_blank line ≡ true) ⊎ IsValidAt position line
 unfolding shape_cause
-stands_right place line e = at (is_blank_line line) refl e where
-  at : (b : Bool) → is_blank_line line ≡ b → cond b None (shape_here place line) ≡ None → (is_blank_line line ≡ true) ⊎ MayStand place line
+stands_right position line e = at (is_all_blank line) refl e where
+  at : (b : Bool) → is_all_blank line ≡ b → cond b None (shape_here position line) ≡ None
+      → (is_all_blank line ≡ true) ⊎ IsValidAt position line
   at true is none = inl is
-  at false is none = inr (stands_here place line none)
+  at false is none = inr (stands_here position line none)
 
-fine_shape : (place : Place) (line : List ℕ) → (is_blank_line line ≡ true) ⊎ MayStand place line → shape_cause place line ≡ None
+fine_shape : (position : Position) (line : List ℕ)
+    → (is_all_blank line ≡ true) ⊎ IsValidAt position line → shape_cause position line ≡ None
 unfolding shape_cause
-fine_shape place line (inl blank) = ap (λ b. cond b None (shape_here place line)) blank
-fine_shape place line (inr may) = at (is_blank_line line) where
-  at : (b : Bool) → cond b None (shape_here place line) ≡ None
+fine_shape position line (inl blank) = ap (λ b. cond b None (shape_here position line)) blank
+fine_shape position line (inr may) = at (is_all_blank line) where
+  at : (b : Bool) → cond b None (shape_here position line) ≡ None
   at true = refl
-  at false = fine_here place line may
+  at false = fine_here position line may
 
 -- A row more.
 
 count : {R : Type 0} → (Entry → Option R) → List Entry → ℕ
 count pick rows = length (filter_map pick rows)
 
-count-append : {R : Type 0} (pick : Entry → Option R) (rows more : List Entry) → count pick (rows ++ more) ≡ count pick rows + count pick more
+count-append : {R : Type 0} (pick : Entry → Option R) (rows more : List Entry)
+    → count pick (rows ++ more) ≡ count pick rows + count pick more
 unfolding count
-count-append pick rows more = ap length (filter_map-append pick rows more) ∙ length-append (filter_map pick rows) (filter_map pick more)
+count-append pick rows more = ap length (filter_map-append pick rows more)
+    ∙ length-append (filter_map pick rows) (filter_map pick more)
 
 at_most_none : (limit n : ℕ) → at_most limit n ≡ None → n < limit
 at_most_none limit n e = at (ltb n limit) refl e where
@@ -89,42 +107,60 @@ at_most_none limit n e = at (ltb n limit) refl e where
 at_most_below : (limit n : ℕ) → n < limit → at_most limit n ≡ None
 at_most_below limit n h = ap (λ b. cond b None (Some TooManyRows)) (lt-ltb n limit h)
 
-ways_more : (rows : List Entry) (e : Entry) → limit_cause rows e ≡ None → count way_of rows ≤ 2000 → count way_of (rows ++ e ∷ []) ≤ 2000
+ways_more : (rows : List Entry) (e : Entry) → limit_cause rows e ≡ None → count way_of rows ≤ 2000
+    → count way_of (rows ++ e ∷ []) ≤ 2000
 unfolding count
-ways_more rows (Way place going) none few = let below = at_most_none 2000 (count way_of rows) none in omega (arith, count-append way_of rows (Way place going ∷ []))
+ways_more rows (Way place going) none few =
+    let below = at_most_none 2000 (count way_of rows) none in
+    omega (arith, count-append way_of rows (Way place going ∷ []))
 ways_more rows e none few = omega (arith, count-append way_of rows (e ∷ []), few)
 
-words_more : (rows : List Entry) (e : Entry) → limit_cause rows e ≡ None → count word_of rows ≤ 1000 → count word_of (rows ++ e ∷ []) ≤ 1000
+words_more : (rows : List Entry) (e : Entry) → limit_cause rows e ≡ None
+    → count word_entry_of rows ≤ 1000 → count word_entry_of (rows ++ e ∷ []) ≤ 1000
 unfolding count
-words_more rows (Word word) none few = let below = at_most_none 1000 (count word_of rows) none in omega (arith, count-append word_of rows (Word word ∷ []))
-words_more rows e none few = omega (arith, count-append word_of rows (e ∷ []), few)
+words_more rows (Word word) none few =
+    let below = at_most_none 1000 (count word_entry_of rows) none in
+    omega (arith, count-append word_entry_of rows (Word word ∷ []))
+words_more rows e none few = omega (arith, count-append word_entry_of rows (e ∷ []), few)
 
-classes_more : (rows : List Entry) (e : Entry) → limit_cause rows e ≡ None → count class_line_of rows ≤ 50 → count class_line_of (rows ++ e ∷ []) ≤ 50
+classes_more : (rows : List Entry) (e : Entry) → limit_cause rows e ≡ None
+    → count class_line_of rows ≤ 50 → count class_line_of (rows ++ e ∷ []) ≤ 50
 unfolding count
-classes_more rows (ClassLine line) none few = let below = at_most_none 50 (count class_line_of rows) none in omega (arith, count-append class_line_of rows (ClassLine line ∷ []))
+classes_more rows (ClassLine line) none few =
+    let below = at_most_none 50 (count class_line_of rows) none in
+    omega (arith, count-append class_line_of rows (ClassLine line ∷ []))
 classes_more rows e none few = omega (arith, count-append class_line_of rows (e ∷ []), few)
 
--- the first line that comes behind no object is an object's
-names_first : (line : TextLine) → cond (eqb (object_behind 0 line) 0) (Some OutOfRange) None ≡ None → names_object line ≡ true
+-- the first line that comes after no object is an object's
+names_first : (line : TextLine) → cond (eqb (object_after 0 line) 0) (Some OutOfRange) None ≡ None
+    → names_object line ≡ true
 names_first line e = at (names_object line) refl e where
-  at : (b : Bool) → names_object line ≡ b → cond (eqb (cond b line.number 0) 0) (Some OutOfRange) None ≡ None → names_object line ≡ true
+  at : (b : Bool) → names_object line ≡ b
+      → cond (eqb (cond b line.number 0) 0) (Some OutOfRange) None ≡ None → names_object line ≡ true
   at true is none = is
   at false is none = cc
 
-begin_more : (lines : List TextLine) (line : TextLine) → cond (eqb (object_behind (object_of lines) line) 0) (Some OutOfRange) None ≡ None → BeginWithObject lines → BeginWithObject (lines ++ line ∷ [])
+begin_more : (lines : List TextLine) (line : TextLine)
+    → cond (eqb (object_after (object_after_lines lines) line) 0) (Some OutOfRange) None ≡ None
+    → BeginWithObject lines → BeginWithObject (lines ++ line ∷ [])
 begin_more [] line e begin = names_first line e
 begin_more (first ∷ lines) line e begin = begin
 
-objects_more : (rows : List Entry) (e : Entry) → limit_cause rows e ≡ None → BeginWithObject (filter_map object_line_of rows) → BeginWithObject (filter_map object_line_of (rows ++ e ∷ []))
-objects_more rows e none begin = subst BeginWithObject (sym (filter_map-append object_line_of rows (e ∷ []))) (at e none) where
-  same : BeginWithObject (filter_map object_line_of rows ++ [])
-  same = subst BeginWithObject (sym (append-nil (filter_map object_line_of rows))) begin
+objects_more : (rows : List Entry) (e : Entry) → limit_cause rows e ≡ None
+    → BeginWithObject (filter_map object_line_of rows)
+    → BeginWithObject (filter_map object_line_of (rows ++ e ∷ []))
+objects_more rows e none begin =
+    subst BeginWithObject (sym (filter_map-append object_line_of rows (e ∷ []))) (at e none) where
+      same : BeginWithObject (filter_map object_line_of rows ++ [])
+      same = subst BeginWithObject (sym (append-nil (filter_map object_line_of rows))) begin
 
-  at : (e : Entry) → limit_cause rows e ≡ None → BeginWithObject (filter_map object_line_of rows ++ filter_map object_line_of (e ∷ []))
-  at (ObjectLine line) none = begin_more (filter_map object_line_of rows) line none begin
-  at e none = same
+      at : (e : Entry) → limit_cause rows e ≡ None
+          → BeginWithObject (filter_map object_line_of rows ++ filter_map object_line_of (e ∷ []))
+      at (ObjectLine line) none = begin_more (filter_map object_line_of rows) line none begin
+      at e none = same
 
-one_more : (rows : List Entry) (e : Entry) → limit_cause rows e ≡ None → MayStandTogether rows → MayStandTogether (rows ++ e ∷ [])
+one_more : (rows : List Entry) (e : Entry) → limit_cause rows e ≡ None → AreValidTogether rows
+    → AreValidTogether (rows ++ e ∷ [])
 unfolding count
 one_more rows e none may = record {
   ways = ways_more rows e none may.ways;
@@ -133,130 +169,196 @@ one_more rows e none may = record {
   objects = objects_more rows e none may.objects;
 }
 
-fewer : {R : Type 0} (pick : Entry → Option R) (limit : ℕ) (rows more : List Entry) → count pick (rows ++ more) ≤ limit → count pick rows ≤ limit
+fewer : {R : Type 0} (pick : Entry → Option R) (limit : ℕ) (rows more : List Entry)
+    → count pick (rows ++ more) ≤ limit → count pick rows ≤ limit
 fewer pick limit rows more few = omega (arith, count-append pick rows more, few)
 
 begin_less : (lines more : List TextLine) → BeginWithObject (lines ++ more) → BeginWithObject lines
 begin_less [] more begin = tt
 begin_less (line ∷ lines) more begin = begin
 
--- the first rows of those that may stand together may
-some_less : (rows more : List Entry) → MayStandTogether (rows ++ more) → MayStandTogether rows
+-- a prefix of rows that are valid together is valid
+some_less : (rows more : List Entry) → AreValidTogether (rows ++ more) → AreValidTogether rows
 unfolding count
 some_less rows more may = record {
   ways = fewer way_of 2000 rows more may.ways;
-  words = fewer word_of 1000 rows more may.words;
+  words = fewer word_entry_of 1000 rows more may.words;
   classes = fewer class_line_of 50 rows more may.classes;
-  objects = begin_less (filter_map object_line_of rows) (filter_map object_line_of more) (subst BeginWithObject (filter_map-append object_line_of rows more) may.objects);
+  objects =
+      begin_less (filter_map object_line_of rows) (filter_map object_line_of more)
+      (subst BeginWithObject (filter_map-append object_line_of rows more) may.objects);
 }
 
 pub is_object : (line : TextLine) → names_object line ≡ true → 1 ≤ line.number
 is_object line e = ltb-true 0 line.number (and_parts (ltb 0 line.number) (leb line.number 99) e).0
 
--- behind an object there is one
-pub stays_object : (object : ℕ) (line : TextLine) → 1 ≤ object → 1 ≤ object_behind object line
+-- after an object there is one
+pub stays_object : (object : ℕ) (line : TextLine) → 1 ≤ object → 1 ≤ object_after object line
 stays_object object line h = at (names_object line) refl where
   at : (b : Bool) → names_object line ≡ b → 1 ≤ cond b line.number object
   at true e = is_object line e
   at false e = h
 
-stay_object : (object : ℕ) (lines : List TextLine) → 1 ≤ object → 1 ≤ fold object_behind object lines
+stay_object : (object : ℕ) (lines : List TextLine) → 1 ≤ object → 1 ≤ fold object_after object lines
 stay_object object [] h = h
-stay_object object (line ∷ lines) h = stay_object (object_behind object line) lines (stays_object object line h)
+stay_object object (line ∷ lines) h =
+    stay_object (object_after object line) lines (stays_object object line h)
 
 has_object : (object : ℕ) → 1 ≤ object → cond (eqb object 0) (Some OutOfRange) None ≡ None
-has_object object h = ap (λ b. cond b (Some OutOfRange) None) (ne_eqb object 0 (λ e. omega (arith, e)))
+has_object object h =
+    ap (λ b. cond b (Some OutOfRange) None) (ne_eqb object 0 (λ e. omega (arith, e)))
 
-first_object : (line : TextLine) → names_object line ≡ true → 1 ≤ object_behind 0 line
+first_object : (line : TextLine) → names_object line ≡ true → 1 ≤ object_after 0 line
 first_object line e = rw e (is_object line e)
 
-begins_fine : (lines : List TextLine) (line : TextLine) → BeginWithObject (lines ++ line ∷ []) → cond (eqb (object_behind (object_of lines) line) 0) (Some OutOfRange) None ≡ None
-begins_fine [] line begin = has_object (object_behind 0 line) (first_object line begin)
-begins_fine (first ∷ lines) line begin = has_object _ (stays_object (object_of (first ∷ lines)) line (stay_object (object_behind 0 first) lines (first_object first begin)))
+begins_fine : (lines : List TextLine) (line : TextLine) → BeginWithObject (lines ++ line ∷ [])
+    → cond (eqb (object_after (object_after_lines lines) line) 0) (Some OutOfRange) None ≡ None
+begins_fine [] line begin = has_object (object_after 0 line) (first_object line begin)
+begins_fine (first ∷ lines) line begin =
+    has_object
+    _ (stays_object (object_after_lines (first ∷ lines)) line
+    (stay_object (object_after 0 first) lines (first_object first begin)))
 
-count_one : {R : Type 0} (pick : Entry → Option R) (limit : ℕ) (rows : List Entry) (e : Entry) → count pick (e ∷ []) ≡ 1 → count pick (rows ++ e ∷ []) ≤ limit → at_most limit (count pick rows) ≡ None
-count_one pick limit rows e one few = at_most_below limit (count pick rows) (omega (arith, count-append pick rows (e ∷ []), one, few))
+count_one : {R : Type 0} (pick : Entry → Option R) (limit : ℕ) (rows : List Entry) (e : Entry)
+    → count pick (e ∷ []) ≡ 1 → count pick (rows ++ e ∷ []) ≤ limit
+    → at_most limit (count pick rows) ≡ None
+count_one pick limit rows e one few =
+    at_most_below limit (count pick rows) (omega (arith, count-append pick rows (e ∷ []), one, few))
 
-fine_row : (rows : List Entry) (e : Entry) → MayStandTogether (rows ++ e ∷ []) → limit_cause rows e ≡ None
+fine_row : (rows : List Entry) (e : Entry) → AreValidTogether (rows ++ e ∷ [])
+    → limit_cause rows e ≡ None
 unfolding count
 fine_row rows (Way place going) may = count_one way_of 2000 rows (Way place going) refl may.ways
-fine_row rows (Word word) may = count_one word_of 1000 rows (Word word) refl may.words
-fine_row rows (ClassLine line) may = count_one class_line_of 50 rows (ClassLine line) refl may.classes
-fine_row rows (ObjectLine line) may = begins_fine (filter_map object_line_of rows) line (subst BeginWithObject (filter_map-append object_line_of rows (ObjectLine line ∷ [])) may.objects)
+fine_row rows (Word word) may = count_one word_entry_of 1000 rows (Word word) refl may.words
+fine_row rows (ClassLine line) may =
+    count_one class_line_of 50 rows (ClassLine line) refl may.classes
+fine_row rows (ObjectLine line) may =
+    begins_fine (filter_map object_line_of rows) line
+    (subst BeginWithObject (filter_map-append object_line_of rows (ObjectLine line ∷ []))
+    may.objects)
 fine_row rows e may = refl
 
 -- A line has one row or none.
 
-one_or_none : (r : Result Entry Cause) (rows : List Entry) → first_limit rows (option_to_list (result_ok r)) ≡ None → MayStandTogether rows → MayStandTogether (rows ++ option_to_list (result_ok r))
+one_or_none : (r : Result Entry Cause) (rows : List Entry)
+    → first_limit rows (option_to_list (result_ok r)) ≡ None → AreValidTogether rows
+    → AreValidTogether (rows ++ option_to_list (result_ok r))
 one_or_none (Ok e) rows none may = one_more rows e none may
-one_or_none (Err cause) rows none may = subst MayStandTogether (sym (append-nil rows)) may
+one_or_none (Err cause) rows none may = subst AreValidTogether (sym (append-nil rows)) may
 
-no_row : (rows : List Entry) → MayStandTogether rows → MayStandTogether (rows ++ [])
-no_row rows may = subst MayStandTogether (sym (append-nil rows)) may
+no_row : (rows : List Entry) → AreValidTogether rows → AreValidTogether (rows ++ [])
+no_row rows may = subst AreValidTogether (sym (append-nil rows)) may
 
-row_here : (place : Place) (line : List ℕ) (rows : List Entry) → first_limit rows (entry_here place line) ≡ None → MayStandTogether rows → MayStandTogether (rows ++ entry_here place line)
+row_here : (position : Position) (line : List ℕ) (rows : List Entry)
+    → first_limit rows (entry_here position line) ≡ None → AreValidTogether rows
+    → AreValidTogether (rows ++ entry_here position line)
 row_here Outside line rows none may = no_row rows may
 row_here (Inside s) line rows none may = at (closes line) none where
-  at : (b : Bool) → first_limit rows (cond b [] (option_to_list (result_ok (entry_in s line)))) ≡ None → MayStandTogether (rows ++ cond b [] (option_to_list (result_ok (entry_in s line))))
+  at : (b : Bool)
+      → first_limit rows (cond b [] (option_to_list (result_ok (entry_in s line)))) ≡ None
+      → AreValidTogether (rows ++ cond b [] (option_to_list (result_ok (entry_in s line))))
   at true none = no_row rows may
   at false none = one_or_none (entry_in s line) rows none may
 row_here After line rows none may = no_row rows may
 
-row_at : (place : Place) (line : List ℕ) (rows : List Entry) → first_limit rows (entry_at place line) ≡ None → MayStandTogether rows → MayStandTogether (rows ++ entry_at place line)
+row_at : (position : Position) (line : List ℕ) (rows : List Entry)
+    → first_limit rows (entry_at position line) ≡ None → AreValidTogether rows
+    → AreValidTogether (rows ++ entry_at position line)
 unfolding entry_at
-row_at place line rows none may = at (is_blank_line line) none where
-  at : (b : Bool) → first_limit rows (cond b [] (entry_here place line)) ≡ None → MayStandTogether (rows ++ cond b [] (entry_here place line))
+row_at position line rows none may = at (is_all_blank line) none where
+  at : (b : Bool) → first_limit rows (cond b [] (entry_here position line)) ≡ None
+      → AreValidTogether (rows ++ cond b [] (entry_here position line))
   at true none = no_row rows may
-  at false none = row_here place line rows none may
+  at false none = row_here position line rows none may
 
--- the first of more rows is fine where they all may stand together
-first_fine : (rows more : List Entry) → MayStandTogether (rows ++ more) → first_limit rows more ≡ None
+-- the first of more rows has no fault where all are valid together
+first_fine : (rows more : List Entry) → AreValidTogether (rows ++ more)
+    → first_limit rows more ≡ None
 first_fine rows [] may = refl
-first_fine rows (e ∷ more) may = fine_row rows e (some_less (rows ++ e ∷ []) more (subst MayStandTogether (sym (append_assoc rows (e ∷ []) more)) may))
+first_fine rows (e ∷ more) may =
+    fine_row rows e
+    (some_less (rows ++ e ∷ []) more
+    (subst AreValidTogether (sym (append_assoc rows (e ∷ []) more)) may))
 
 -- Lines.
 
-pub line_right : (before : List (List ℕ)) (line : List ℕ) → line_cause before line ≡ None → IsRight before line
+pub line_right : (before : List (List ℕ)) (line : List ℕ) → line_cause before line ≡ None
+    → IsValidLine before line
 unfolding line_cause
-line_right before line e = stands_right (stands before) line (neither (shape_cause (stands before) line) (first_limit (entries before) (entry_at (stands before) line)) e).0
+line_right before line e =
+    stands_right (position_after before) line
+    (neither (shape_cause (position_after before) line)
+    (first_limit (entries before) (entry_at (position_after before) line)) e).0
 
-pub line_together : (before : List (List ℕ)) (line : List ℕ) → line_cause before line ≡ None → MayStandTogether (entries before) → MayStandTogether (entries (before ++ line ∷ []))
+pub line_together : (before : List (List ℕ)) (line : List ℕ) → line_cause before line ≡ None
+    → AreValidTogether (entries before) → AreValidTogether (entries (before ++ line ∷ []))
 unfolding line_cause
 line_together before line e may =
-    subst MayStandTogether (sym (entries_push before line))
-    (row_at (stands before) line (entries before) (neither (shape_cause (stands before) line) (first_limit (entries before) (entry_at (stands before) line)) e).1 may)
+    subst AreValidTogether (sym (entries_push before line))
+    (row_at (position_after before) line (entries before)
+    (neither (shape_cause (position_after before) line)
+    (first_limit (entries before) (entry_at (position_after before) line)) e).1 may)
 
-pub none_together : MayStandTogether []
-none_together = record { ways = omega arith; words = omega arith; classes = omega arith; objects = tt }
+pub none_together : AreValidTogether []
+none_together =
+    record { ways = omega arith; words = omega arith; classes = omega arith; objects = tt }
 
-pub line_fine : (before : List (List ℕ)) (line : List ℕ) (later : List (List ℕ)) → IsRight before line → MayStandTogether (entries (before ++ line ∷ later)) → line_cause before line ≡ None
+pub line_fine : (before : List (List ℕ)) (line : List ℕ) (later : List (List ℕ))
+    → IsValidLine before line → AreValidTogether (entries (before ++ line ∷ later))
+    → line_cause before line ≡ None
 unfolding line_cause
 line_fine before line later right may =
-    ap (λ o. option_or o (first_limit (entries before) (entry_at (stands before) line))) (fine_shape (stands before) line right)
-    ∙ first_fine (entries before) (entry_at (stands before) line) (subst MayStandTogether (entries_push before line) (some_less (entries (before ++ line ∷ [])) _ (subst MayStandTogether (ap entries (sym (append_assoc before (line ∷ []) later)) ∙ entries-append Outside (before ++ line ∷ []) later) may)))
+    ap (λ o. option_or o (first_limit (entries before) (entry_at (position_after before) line)))
+    (fine_shape (position_after before) line right)
+    ∙ first_fine (entries before) (entry_at (position_after before) line)
+    (subst AreValidTogether (entries_push before line)
+    (some_less (entries (before ++ line ∷ []))
+    _ (subst AreValidTogether (ap entries (sym (append_assoc before (line ∷ []) later))
+    ∙ entries-append Outside (before ++ line ∷ []) later) may)))
 
 -- Bindings.
 
-anew_one : (before : List (List ℕ)) (line : List ℕ) (r : Result Binding Cause) → binding_row line ≡ r → option_or (result_err r) (repeat_cause (bindings_of before) (option_to_list (result_ok r))) ≡ None → BindsAnew before line
-anew_one before line (Ok binding) is e = record { binding = binding; is = is; anew = free (value_of binding.key (bindings_of before)) e } where
-  free : (o : Option ℕ) → cond (is_some o) (Some (BadBinding Repeated)) None ≡ None → o ≡ None
-  free None e = refl
-  free (Some n) e = cc
+anew_one : (before : List (List ℕ)) (line : List ℕ) (r : Result Binding Cause)
+    → binding_row line ≡ r
+    → option_or (result_err r) (repeat_cause (bindings_of before) (option_to_list (result_ok r)))
+    ≡ None → BindsAnew before line
+anew_one before line (Ok binding) is e =
+    record {
+      binding = binding;
+      is = is;
+      anew = free (value_of binding.key (bindings_of before)) e;
+    } where
+      free : (o : Option ℕ) → cond (is_some o) (Some (BadBinding Repeated)) None ≡ None → o ≡ None
+      free None e = refl
+      free (Some n) e = cc
 anew_one before line (Err cause) is e = cc
 
-pub binding_right : (before : List (List ℕ)) (line : List ℕ) → binding_cause before line ≡ None → IsRightBinding before line
+pub binding_right : (before : List (List ℕ)) (line : List ℕ) → binding_cause before line ≡ None
+    → IsValidBindingLine before line
 unfolding binding_cause binding_at
 binding_right before line e = at (is_skipped line) refl e where
-  at : (b : Bool) → is_skipped line ≡ b → option_or (cond b None (result_err (binding_row line))) (repeat_cause (bindings_of before) (cond b [] (option_to_list (result_ok (binding_row line))))) ≡ None → IsRightBinding before line
+  at : (b : Bool) → is_skipped line ≡ b
+      → option_or (cond b None (result_err (binding_row line)))
+      (repeat_cause (bindings_of before)
+      (cond b [] (option_to_list (result_ok (binding_row line))))) ≡ None
+      → IsValidBindingLine before line
   at true is none = inl is
   at false is none = inr (anew_one before line (binding_row line) refl none)
 
-pub binding_fine : (before : List (List ℕ)) (line : List ℕ) → IsRightBinding before line → binding_cause before line ≡ None
+pub binding_fine : (before : List (List ℕ)) (line : List ℕ) → IsValidBindingLine before line
+    → binding_cause before line ≡ None
 unfolding binding_cause binding_at
 binding_fine before line (inl skipped) =
-    ap (λ b. option_or (cond b None (result_err (binding_row line))) (repeat_cause (bindings_of before) (cond b [] (option_to_list (result_ok (binding_row line)))))) skipped
+    ap (λ b. option_or (cond b None (result_err (binding_row line)))
+    (repeat_cause (bindings_of before)
+    (cond b [] (option_to_list (result_ok (binding_row line)))))) skipped
 binding_fine before line (inr binds) =
-    ap (λ r. option_or (cond (is_skipped line) None (result_err r)) (repeat_cause (bindings_of before) (cond (is_skipped line) [] (option_to_list (result_ok r))))) binds.is ∙ at (is_skipped line) where
-      at : (b : Bool) → option_or (cond b None (result_err {E = Cause} (Ok binds.binding))) (repeat_cause (bindings_of before) (cond b [] (binds.binding ∷ []))) ≡ None
+    ap (λ r. option_or (cond (is_skipped line) None (result_err r))
+    (repeat_cause (bindings_of before)
+    (cond (is_skipped line) [] (option_to_list (result_ok r))))) binds.is
+    ∙ at (is_skipped line) where
+      at : (b : Bool)
+          → option_or (cond b None (result_err {E = Cause} (Ok binds.binding)))
+          (repeat_cause (bindings_of before) (cond b [] (binds.binding ∷ []))) ≡ None
       at true = refl
       at false = ap (λ o. cond (is_some o) (Some (BadBinding Repeated)) None) binds.anew

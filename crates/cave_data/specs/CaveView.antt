@@ -1,20 +1,12 @@
 -- What a cave is to those who use one: finite maps by number, and rows in the order of the file.
-use Rattle.std.specs.Prelude.{ℕ, ℤ, pos, ◌+◌, ◌*◌, Bool, ◌&&◌, nat_lt, nat_le, if◌then◌else◌, List, [], ◌∷◌, length, Option, Some, None, unwrap_or, refl}
+use Rattle.std.specs.Prelude.{ℕ, ℤ, pos, ◌+◌, ◌*◌, Bool, ◌&&◌, nat_lt, nat_le, if◌then◌else◌, List}
+use Rattle.std.specs.Prelude.{[], ◌∷◌, length, Option, Some, None, unwrap_or, refl}
 use Rattle.std.specs.Coded.{Coded, code_by, coded×, coded_ℕ, coded_ℤ, coded_list}
 use Rattle.std.specs.Ordering.{nat_cmp}
 use Rattle.std.specs.FinMap as map
-use Rattle.cave_data.specs.declared.rows.Placement.{Placement}
-use Rattle.cave_data.specs.declared.rows.Hint.{Hint}
-
--- a way out of a place: where to, and the motions that take it
-pub record Going : Type 0 where
-  pub target : ℕ
-  pub motions : List ℕ
-
--- a word and its number
-pub record WordEntry : Type 0 where
-  pub number : ℕ
-  pub word : List ℕ
+use Rattle.cave_rows.specs.declared.rows.Placement.{Placement}
+use Rattle.cave_rows.specs.declared.rows.Hint.{Hint}
+use Rattle.cave_rows.specs.Rows.{Going, WordEntry}
 
 -- a class of players: its greatest score and its text
 pub record ClassEntry : Type 0 where
@@ -43,20 +35,29 @@ pub record CaveView : Type 0 where
   pub letters : ℕ
 
 abbrev pub going_code : Coded Going
-going_code = code_by (ℕ × List ℕ) (coded× coded_ℕ (coded_list coded_ℕ)) (λ x. (x.target, x.motions)) (λ p. record { target = p.0; motions = p.1 }) (λ _. refl)
+going_code =
+    code_by (ℕ × List ℕ) (coded× coded_ℕ (coded_list coded_ℕ)) (λ x. (x.target, x.motions))
+    (λ p. record { target = p.0; motions = p.1 }) (λ _. refl)
 
 abbrev pub word_code : Coded WordEntry
-word_code = code_by (ℕ × List ℕ) (coded× coded_ℕ (coded_list coded_ℕ)) (λ x. (x.number, x.word)) (λ p. record { number = p.0; word = p.1 }) (λ _. refl)
+word_code =
+    code_by (ℕ × List ℕ) (coded× coded_ℕ (coded_list coded_ℕ)) (λ x. (x.number, x.word))
+    (λ p. record { number = p.0; word = p.1 }) (λ _. refl)
 
 abbrev pub placement_code : Coded Placement
-placement_code = code_by (ℕ × ℤ) (coded× coded_ℕ coded_ℤ) (λ x. (x.first, x.second)) (λ p. record { first = p.0; second = p.1 }) (λ _. refl)
+placement_code =
+    code_by (ℕ × ℤ) (coded× coded_ℕ coded_ℤ) (λ x. (x.first, x.second))
+    (λ p. record { first = p.0; second = p.1 }) (λ _. refl)
 
 abbrev pub class_code : Coded ClassEntry
-class_code = code_by (ℕ × List ℕ) (coded× coded_ℕ (coded_list coded_ℕ)) (λ x. (x.bound, x.text)) (λ p. record { bound = p.0; text = p.1 }) (λ _. refl)
+class_code =
+    code_by (ℕ × List ℕ) (coded× coded_ℕ (coded_list coded_ℕ)) (λ x. (x.bound, x.text))
+    (λ p. record { bound = p.0; text = p.1 }) (λ _. refl)
 
 abbrev pub hint_code : Coded Hint
 hint_code =
-    code_by ((ℕ × ℕ) × (ℕ × ℕ)) (coded× (coded× coded_ℕ coded_ℕ) (coded× coded_ℕ coded_ℕ)) (λ x. ((x.turns, x.points), (x.question, x.text)))
+    code_by ((ℕ × ℕ) × (ℕ × ℕ)) (coded× (coded× coded_ℕ coded_ℕ) (coded× coded_ℕ coded_ℕ))
+    (λ x. ((x.turns, x.points), (x.question, x.text)))
     (λ p. record { turns = p.0.0; points = p.0.1; question = p.1.0; text = p.1.1 }) (λ _. refl)
 
 abbrev pub texts_code : Coded Texts
@@ -67,18 +68,30 @@ numbers_code = map.code coded_ℕ coded_ℕ
 
 -- the parts of a cave, in pairs
 abbrev pub Parts : Type 0
-Parts = ((Texts × Texts) × (map.FinMap nat_cmp (List Going) × List WordEntry)) × (((Texts × Texts) × (map.FinMap nat_cmp Placement × map.FinMap nat_cmp ℕ)) × (((map.FinMap nat_cmp ℕ × List ClassEntry) × map.FinMap nat_cmp Hint) × ((map.FinMap nat_cmp ℕ × map.FinMap nat_cmp ℕ) × ℕ)))
+Parts = ((Texts × Texts) × (map.FinMap nat_cmp (List Going) × List WordEntry))
+    × (((Texts × Texts) × (map.FinMap nat_cmp Placement × map.FinMap nat_cmp ℕ))
+    × (((map.FinMap nat_cmp ℕ × List ClassEntry) × map.FinMap nat_cmp Hint)
+    × ((map.FinMap nat_cmp ℕ × map.FinMap nat_cmp ℕ) × ℕ)))
 
 abbrev pub parts_code : Coded Parts
 parts_code =
-    coded× (coded× (coded× texts_code texts_code) (coded× (map.code coded_ℕ (coded_list going_code)) (coded_list word_code)))
-    (coded× (coded× (coded× texts_code texts_code) (coded× (map.code coded_ℕ placement_code) numbers_code))
-    (coded× (coded× (coded× numbers_code (coded_list class_code)) (map.code coded_ℕ hint_code)) (coded× (coded× numbers_code numbers_code) coded_ℕ)))
+    coded× (coded× (coded× texts_code texts_code)
+    (coded× (map.code coded_ℕ (coded_list going_code)) (coded_list word_code)))
+    (coded× (coded× (coded× texts_code texts_code)
+    (coded× (map.code coded_ℕ placement_code) numbers_code))
+    (coded× (coded× (coded× numbers_code (coded_list class_code)) (map.code coded_ℕ hint_code))
+    (coded× (coded× numbers_code numbers_code) coded_ℕ)))
 
 abbrev pub cave_code : Coded CaveView
 cave_code =
     code_by Parts parts_code
-    (λ c. (((c.long, c.short), (c.travel, c.words)), (((c.objects, c.messages), (c.placements, c.defaults)), (((c.conditions, c.classes), c.hints), ((c.roles, c.places), c.letters)))))
+    (λ c. (
+      ((c.long, c.short), (c.travel, c.words)),
+      (
+        ((c.objects, c.messages), (c.placements, c.defaults)),
+        (((c.conditions, c.classes), c.hints), ((c.roles, c.places), c.letters)),
+      ),
+    ))
     (λ p. record {
       long = p.0.0.0;
       short = p.0.0.1;
@@ -98,12 +111,13 @@ cave_code =
     (λ _. refl)
 
 -- the inventory text of an object
-abbrev pub name_of : CaveView → ℕ → Option (List ℕ)
-name_of c object = if nat_le object 99 then map.get c.objects object else None
+abbrev pub inventory_text : CaveView → ℕ → Option (List ℕ)
+inventory_text c object = if nat_le object 99 then map.get c.objects object else None
 
 -- the text of an object as it lies there with that prop
 abbrev pub look_of : CaveView → ℕ → ℕ → Option (List ℕ)
-look_of c object prop = if nat_lt 0 object && nat_le object 99 && nat_le prop 99 then map.get c.objects (100 * object + prop) else None
+look_of c object prop = if nat_lt 0 object && nat_le object 99 && nat_le prop 99
+    then map.get c.objects (100 * object + prop) else None
 
 -- the ways out of a place, in the order of the file
 abbrev pub ways_from : CaveView → ℕ → List Going
@@ -113,28 +127,37 @@ ways_from c place = unwrap_or (map.get c.travel place) []
 abbrev pub conditions_of : CaveView → ℕ → ℕ
 conditions_of c place = unwrap_or (map.get c.conditions place) 0
 
--- where an object stands first; nowhere where no row says so
+-- where both halves of an object are at first: nowhere, where no row says so
 abbrev pub placement_of : CaveView → ℕ → Placement
-placement_of c object = unwrap_or (map.get c.placements object) (record { first = 0; second = pos 0 })
+placement_of c object =
+    unwrap_or (map.get c.placements object) (record { first = 0; second = pos 0 })
 
 -- the message that an action prints where no rule says more, or 0
 abbrev pub default_message : CaveView → ℕ → ℕ
 default_message c action = unwrap_or (map.get c.defaults action) 0
 
--- the class of a score: the number of its row from 1, its bound, its text, and whether a row follows
+-- the class of a score: the number of its row from 1, its bound, its text, and whether a row
+-- follows
 pub record Rated : Type 0 where
   pub row : ℕ
   pub bound : ℕ
   pub text : List ℕ
   pub is_followed : Bool
 
-abbrev pub rated : ℕ → ClassEntry → List ClassEntry → Rated
-rated row class classes = record { row = row; bound = class.bound; text = class.text; is_followed = nat_lt 0 (length classes) }
+abbrev pub rating_at_row : ℕ → ClassEntry → List ClassEntry → Rated
+rating_at_row row class classes =
+    record {
+      row = row;
+      bound = class.bound;
+      text = class.text;
+      is_followed = nat_lt 0 (length classes);
+    }
 
 -- the first row from this one on whose bound is not below the score
 abbrev pub class_from : ℕ → ℕ → List ClassEntry → Option Rated
 class_from row score [] = None
-class_from row score (class ∷ classes) = if nat_le score class.bound then Some (rated row class classes) else class_from (row + 1) score classes
+class_from row score (class ∷ classes) = if nat_le score class.bound
+    then Some (rating_at_row row class classes) else class_from (row + 1) score classes
 
-abbrev pub class_of : CaveView → ℕ → Option Rated
-class_of c score = class_from 1 score c.classes
+abbrev pub rating_of_score : CaveView → ℕ → Option Rated
+rating_of_score c score = class_from 1 score c.classes

@@ -1,20 +1,20 @@
--- The fault that is told.
+-- The fault that is reported.
 use Rattle.std.specs.Prelude.{◌≡◌, ◌⊎◌, ℕ, Option, Some}
-use Rattle.cave_data.specs.declared.error.Cause.{Cause}
-use Rattle.cave_data.specs.declared.error.Cause.TheVariants.{Memory}
-use Rattle.cave_data.specs.declared.error.Spot.{Spot}
-use Rattle.cave_data.specs.declared.error.Spot.TheVariants as spot
-use Rattle.cave_data.specs.declared.error.CaveError.{CaveError}
+use Rattle.cave_rows.specs.declared.error.Cause.{Cause}
+use Rattle.cave_rows.specs.declared.error.Cause.TheVariants.{Memory}
+use Rattle.cave_rows.specs.declared.error.FaultSite.{FaultSite}
+use Rattle.cave_rows.specs.declared.error.FaultSite.TheVariants as site
+use Rattle.cave_rows.specs.declared.error.CaveError.{CaveError}
 
--- want of memory, which no line is to blame for
+-- out of memory, which is no line's fault
 abbrev pub no_memory : CaveError
-no_memory = record { cause = Memory; line = 0; spot = spot.Database }
+no_memory = record { cause = Memory; line = 0; site = site.Database }
 
--- what is told is this fault, or want of memory
+-- what is reported is this fault, or out of memory
 abbrev pub FaultIs : CaveError → Option CaveError → Type 0
 FaultIs e fault = (e ≡ no_memory) ⊎ (fault ≡ Some e)
 
--- a cause at a line, but no line for want of memory
-abbrev pub told : Cause → ℕ → Spot → CaveError
-told Memory line place = no_memory
-told cause line place = record { cause = cause; line = line; spot = place }
+-- a cause at a line; out of memory names no line
+abbrev pub error_at : Cause → ℕ → FaultSite → CaveError
+error_at Memory line site = no_memory
+error_at cause line site = record { cause = cause; line = line; site = site }

@@ -1,27 +1,32 @@
--- What the texts, the ways and the treasures of a cave have to do with the rows of its database.
-use Rattle.std.specs.Prelude.{◌≡◌, ℕ, ◌≤◌, ◌<◌, Bool, false, true, ◌==◌, List, [], ◌∷◌, ◌++◌, length, map, filter, Some, None, is_some}
+-- How the texts, ways and treasures of a cave follow from the rows of its database.
+use Rattle.std.specs.Prelude.{◌≡◌, ℕ, ◌≤◌, ◌<◌, Bool, false, true, ◌==◌, List, [], ◌∷◌, ◌++◌}
+use Rattle.std.specs.Prelude.{length, map, filter, Some, None, is_some}
 use Rattle.std.specs.List.{filter_map, flat_map, list_all, list_any}
 use Rattle.std.specs.FinMap.{get}
-use Rattle.cave_data.specs.CaveView.{CaveView, Texts, name_of, ways_from}
-use Rattle.cave_data.specs.Shown.{shown}
-use Rattle.cave_data.specs.Rows.{Entry, TextLine}
+use Rattle.cave_data.specs.CaveView.{CaveView, Texts, inventory_text, ways_from}
+use Rattle.cave_data.specs.Printing.{printed_text}
+use Rattle.cave_rows.specs.Rows.{Entry, TextLine}
 use Rattle.cave_data.specs.Texts.{line_text, by_object}
-use Rattle.cave_data.specs.SectionRows.{way_of, object_line_of, long_line_of, short_line_of, message_line_of}
+use Rattle.cave_rows.specs.SectionRows.{way_of, object_line_of, long_line_of, short_line_of}
+use Rattle.cave_rows.specs.SectionRows.{message_line_of}
 
 abbrev pub has_number : ℕ → TextLine → Bool
 has_number n line = line.number == n
 
--- The lines of a number that stand together behind all others of it: none comes later, and the one before them has another.
+-- The last run of lines of a number: no line of it comes later, and the line before the run has
+-- another number.
 pub record IsLastRun (n : ℕ) (lines before run later : List TextLine) : Type 0 where
   pub all : lines ≡ before ++ (run ++ later)
   pub some : 0 < length run
   pub same : list_all (has_number n) run ≡ true
   pub last : list_any (has_number n) later ≡ false
-  pub apart : (front : List TextLine) (line : TextLine) → before ≡ front ++ line ∷ [] → has_number n line ≡ false
+  pub apart : (front : List TextLine) (line : TextLine) → before ≡ front ++ line ∷ []
+      → has_number n line ≡ false
 
 -- The text of a number is its last run; without a line there is none.
 pub record AreLastRuns (texts : Texts) (lines : List TextLine) : Type 0 where
-  pub run : (n : ℕ) (before run later : List TextLine) → IsLastRun n lines before run later → get texts n ≡ Some (shown (flat_map line_text run))
+  pub run : (n : ℕ) (before run later : List TextLine) → IsLastRun n lines before run later
+      → get texts n ≡ Some (printed_text (flat_map line_text run))
   pub none : (n : ℕ) → list_any (has_number n) lines ≡ false → get texts n ≡ None
 
 pub record Laws (rows : List Entry) (c : CaveView) : Type 0 where
@@ -30,6 +35,10 @@ pub record Laws (rows : List Entry) (c : CaveView) : Type 0 where
   pub messages : AreLastRuns c.messages (filter_map message_line_of rows)
   pub objects : AreLastRuns c.objects (by_object 0 (filter_map object_line_of rows))
   -- the ways out of a place are the rows of section 3 that have it, in the order of the file
-  pub travel : (place : ℕ) → ways_from c place ≡ map (λ row. row.1) (filter (λ row. row.0 == place) (filter_map way_of rows))
+  pub travel : (place : ℕ)
+      → ways_from c place
+      ≡ map (λ row. row.1) (filter (λ row. row.0 == place) (filter_map way_of rows))
   -- an object, and so a treasure, is known exactly where a row of section 5 has its number
-  pub known : (object : ℕ) → 1 ≤ object → object ≤ 99 → is_some (name_of c object) ≡ list_any (has_number object) (filter_map object_line_of rows)
+  pub known : (object : ℕ) → 1 ≤ object → object ≤ 99
+      → is_some (inventory_text c object)
+      ≡ list_any (has_number object) (filter_map object_line_of rows)

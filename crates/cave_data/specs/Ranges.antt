@@ -1,8 +1,8 @@
--- The ranges of what bindings bind and of where objects stand.
+-- The ranges of what bindings bind and of the places of objects.
 use Rattle.std.specs.Prelude.{ℕ, ◌≤◌, pos, negsuc, ◌≤ℤ◌, IfSome}
 use Rattle.std.specs.Ordering.{nat_cmp}
 use Rattle.std.specs.FinMap as map
-use Rattle.cave_data.specs.declared.rows.Placement.{Placement}
+use Rattle.cave_rows.specs.declared.rows.Placement.{Placement}
 use Rattle.cave_data.specs.declared.bindings.Bindings.{Bindings}
 
 abbrev pub IsPlace : ℕ → Type 0
@@ -15,8 +15,8 @@ IsMessage n = (1 ≤ n) × (n ≤ 499)
 abbrev pub IsLetters : ℕ → Type 0
 IsLetters n = (5 ≤ n) × (n ≤ 8)
 
--- a first place, or 0, and a second place, or 0 or -1
-pub record IsStanding (p : Placement) : Type 0 where
+-- a first place, or 0, and a second place, or 0, or -1 for an object that can't be moved
+pub record IsPlacementInRange (p : Placement) : Type 0 where
   pub first : p.first ≤ 300
   pub low : negsuc 0 ≤ℤ p.second
   pub high : p.second ≤ℤ pos 300

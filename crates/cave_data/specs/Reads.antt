@@ -1,67 +1,69 @@
--- The relation of a database and a cave.
-use Rattle.std.specs.Prelude.{◌≡◌, ℕ, ◌^◌, ◌≤◌, Bool, true, ◌==◌, List, [], ◌∷◌, ◌++◌, length, map, reverse, fold, filter, Option, option_map, bit_or}
-use Rattle.std.specs.List.{filter_map, find, list_any}
+-- The relation of a database and bindings to the cave that they describe, and their first fault.
+use Rattle.std.specs.Prelude.{◌≡◌, ◌⊎◌, ◌≤◌, ℕ, true, nat_lt, if◌then◌else◌, List, [], ◌∷◌, ◌++◌}
+use Rattle.std.specs.Prelude.{length, Option, Some, None, Ok, unwrap_or}
+use Rattle.std.specs.Option.{option_or}
+use Rattle.std.specs.Str.Lines.{lines}
 use Rattle.std.specs.FinMap.{get}
-use Rattle.cave_data.specs.declared.reader.Place.TheVariants.{After}
-use Rattle.cave_data.specs.CaveView.{CaveView, Going, ClassEntry}
-use Rattle.cave_data.specs.Shown.{shown}
-use Rattle.cave_data.specs.Rows.{Entry, TextLine}
-use Rattle.cave_data.specs.Texts.{line_text, nonempty, text_of, names_object, by_object}
-use Rattle.cave_data.specs.Grammar.{IsRight, stands, entries}
-use Rattle.cave_data.specs.SectionRows.{way_of, word_of, class_line_of, object_line_of, long_line_of, short_line_of, message_line_of, placement_of_row, default_of_row, marks_of_row, hint_of_row}
+use Rattle.limits.specs.Limits.{max_input_bytes}
+use Rattle.cave_rows.specs.declared.error.Cause.TheVariants.{TooLarge}
+use Rattle.cave_rows.specs.declared.error.FaultSite.{FaultSite}
+use Rattle.cave_rows.specs.declared.error.FaultSite.TheVariants as site
+use Rattle.cave_rows.specs.declared.error.CaveError.{CaveError}
+use Rattle.cave_rows.specs.declared.binding.Key.TheVariants.{RoleKey, PlaceKey, LettersKey}
+use Rattle.cave_data.specs.CaveView.{CaveView}
+use Rattle.cave_rows.specs.Grammar.{entries}
+use Rattle.cave_data.specs.FirstFault.{first_fault}
+use Rattle.cave_data.specs.Database.{IsDatabase, Holds}
+use Rattle.cave_rows.specs.declared.binding.Binding.{Binding}
+use Rattle.log_lines.specs.LogLine.{is_skipped}
+use Rattle.cave_rows.specs.BindingLines.{binding_row, bindings_of}
+use Rattle.cave_data.specs.Bindings.{value_of, default_place}
+use Rattle.cave_data.specs.BindingFault.{first_binding_fault}
 
--- What the rows of a section say of a number.
+-- The line binds a key that no line before it binds.
+pub record BindsAnew (before : List (List ℕ)) (line : List ℕ) : Type 0 where
+  pub binding : Binding
+  pub is : binding_row line ≡ Ok binding
+  pub anew : value_of binding.key (bindings_of before) ≡ None
 
--- what the last row of the number says
-abbrev pub last_of : {X : Type 0} → ℕ → List (ℕ × X) → Option X
-last_of n rows = option_map (λ row. row.1) (find (λ row. row.0 == n) (reverse rows))
+-- the line after these lines binds nothing, or binds what they don't
+abbrev pub IsValidBindingLine : List (List ℕ) → List ℕ → Type 0
+IsValidBindingLine before line = (is_skipped line ≡ true) ⊎ BindsAnew before line
 
--- the ways out of a place, in their order
-abbrev pub goings_from : ℕ → List (ℕ × Going) → Option (List Going)
-goings_from place rows = nonempty (map (λ row. row.1) (filter (λ row. row.0 == place) rows))
+-- Each line binds nothing, or binds what no line before it does.
+pub record AreBindings (ls : List (List ℕ)) : Type 0 where
+  pub each : (before : List (List ℕ)) (line : List ℕ) (later : List (List ℕ))
+      → ls ≡ before ++ line ∷ later → IsValidBindingLine before line
 
-abbrev pub lists : ℕ → (ℕ × List ℕ) → Bool
-lists place row = list_any (λ p. p == place) row.1
+-- Both inputs are small enough and valid.
+pub record AreValidInputs (database bindings : List ℕ) : Type 0 where
+  pub small : length database ≤ max_input_bytes
+  pub bindings_small : length bindings ≤ max_input_bytes
+  pub is_database : IsDatabase (lines database)
+  pub are_bindings : AreBindings (lines bindings)
 
-abbrev pub with_bit_of : ℕ → (ℕ × List ℕ) → ℕ
-with_bit_of bits row = bit_or bits (2 ^ row.0)
+-- The database and the bindings describe the cave.
+pub record Reads (database bindings : List ℕ) (c : CaveView) : Type 0 where
+  pub right : AreValidInputs database bindings
+  pub holds : Holds (entries (lines database)) c
+  pub roles : (n : ℕ) → get c.roles n ≡ value_of (RoleKey n) (bindings_of (lines bindings))
+  pub places : (n : ℕ)
+      → get c.places n
+      ≡ option_or (value_of (PlaceKey n) (bindings_of (lines bindings))) (default_place n)
+  pub letters : c.letters ≡ unwrap_or (value_of LettersKey (bindings_of (lines bindings))) 5
 
--- the bits of the rows that list a place
-abbrev pub bits_of : ℕ → List (ℕ × List ℕ) → Option ℕ
-bits_of place rows = option_map (fold with_bit_of 0) (nonempty (filter (lists place) rows))
+abbrev pub too_large_input : FaultSite → CaveError
+too_large_input site = record { cause = TooLarge; line = 0; site = site }
 
--- a class has one line of text
-abbrev pub class_of_line : TextLine → ClassEntry
-class_of_line line = record { bound = line.number; text = shown (line_text line) }
+-- the fault of a size, which is decided before memory is asked for
+abbrev pub size_fault : List ℕ → List ℕ → Option CaveError
+size_fault database bindings =
+    if nat_lt max_input_bytes (length database) then Some (too_large_input site.Database)
+    else (if nat_lt max_input_bytes (length bindings) then Some (too_large_input site.Bindings)
+    else None)
 
--- each prop of section 5 has an object before it: the first row is an object's
-abbrev pub BeginWithObject : List TextLine → Type 0
-BeginWithObject [] = Unit {0}
-BeginWithObject (line ∷ lines) = names_object line ≡ true
-
--- The rows may stand together.
-pub record MayStandTogether (rows : List Entry) : Type 0 where
-  pub ways : length (filter_map way_of rows) ≤ 2000
-  pub words : length (filter_map word_of rows) ≤ 1000
-  pub classes : length (filter_map class_line_of rows) ≤ 50
-  pub objects : BeginWithObject (filter_map object_line_of rows)
-
--- The lines are those of a database: each may stand where it does, so may their rows together, and the 0 is there.
-pub record IsDatabase (ls : List (List ℕ)) : Type 0 where
-  pub each : (before : List (List ℕ)) (line : List ℕ) (later : List (List ℕ)) → ls ≡ before ++ line ∷ later → IsRight before line
-  pub together : MayStandTogether (entries ls)
-  pub ended : stands ls ≡ After
-
--- The cave has what these rows say.
-pub record Holds (rows : List Entry) (c : CaveView) : Type 0 where
-  pub long : (place : ℕ) → get c.long place ≡ text_of place (filter_map long_line_of rows)
-  pub short : (place : ℕ) → get c.short place ≡ text_of place (filter_map short_line_of rows)
-  pub travel : (place : ℕ) → get c.travel place ≡ goings_from place (filter_map way_of rows)
-  pub words : c.words ≡ filter_map word_of rows
-  pub objects : (key : ℕ) → get c.objects key ≡ text_of key (by_object 0 (filter_map object_line_of rows))
-  pub messages : (n : ℕ) → get c.messages n ≡ text_of n (filter_map message_line_of rows)
-  pub placements : (object : ℕ) → get c.placements object ≡ last_of object (filter_map placement_of_row rows)
-  pub defaults : (action : ℕ) → get c.defaults action ≡ last_of action (filter_map default_of_row rows)
-  pub conditions : (place : ℕ) → get c.conditions place ≡ bits_of place (filter_map marks_of_row rows)
-  pub classes : c.classes ≡ map class_of_line (filter_map class_line_of rows)
-  pub hints : (n : ℕ) → get c.hints n ≡ last_of n (filter_map hint_of_row rows)
+-- the first fault: a size, else a line of the database, else a line of the bindings
+unfoldable pub fault : List ℕ → List ℕ → Option CaveError
+fault database bindings =
+    option_or (size_fault database bindings)
+    (option_or (first_fault [] (lines database)) (first_binding_fault [] (lines bindings)))

@@ -1,5 +1,6 @@
--- Tables with a slot for each number: what stands at a number, and the finite map that this is.
-use Rattle.std.specs.Prelude.{◌≡◌, ◌≢◌, ℕ, suc, List, [], ◌∷◌, Option, Some, None, option_and_then, slice_get}
+-- Tables with a slot for each number: what is at a number, and the finite map that this is.
+use Rattle.std.specs.Prelude.{◌≡◌, ◌≢◌, ℕ, suc, List, [], ◌∷◌, Option, Some, None, option_and_then}
+use Rattle.std.specs.Prelude.{slice_get}
 use Rattle.std.specs.Ordering.{nat_cmp}
 use Rattle.std.specs.FinMap as map
 
@@ -8,20 +9,21 @@ abbrev pub slot : {X : Type 0} → List (Option X) → ℕ → Option X
 slot xs n = option_and_then (λ x. x) (slice_get xs n)
 
 -- the numbers whose slots are filled, from the number of the first slot on
-abbrev pub filled : {X Y : Type 0} → (X → Y) → ℕ → List (Option X) → List (ℕ × Y)
-filled view n [] = []
-filled view n (None ∷ xs) = filled view (suc n) xs
-filled view n (Some x ∷ xs) = (n, view x) ∷ filled view (suc n) xs
+abbrev pub numbered_items : {X Y : Type 0} → (X → Y) → ℕ → List (Option X) → List (ℕ × Y)
+numbered_items view n [] = []
+numbered_items view n (None ∷ xs) = numbered_items view (suc n) xs
+numbered_items view n (Some x ∷ xs) = (n, view x) ∷ numbered_items view (suc n) xs
 
 -- the map from a number to what its slot shows
 unfoldable pub by_number : {X Y : Type 0} → (X → Y) → List (Option X) → map.FinMap nat_cmp Y
-by_number view xs = map.from_entries (filled view 0 xs)
+by_number view xs = map.from_entries (numbered_items view 0 xs)
 
 -- no slot shows anything else than before
 abbrev pub SameSlots : {X : Type 0} → List (Option X) → List (Option X) → Type 0
 SameSlots old new = (n : ℕ) → slot new n ≡ slot old n
 
 -- the slot of the number shows this now, and every other shows what it showed
-pub record ChangesSlot {X : Type 0} (old new : List (Option X)) (number : ℕ) (shows : Option X) : Type 0 where
+pub record ChangesSlot {X : Type 0} (old new : List (Option X)) (number : ℕ)
+    (shows : Option X) : Type 0 where
   pub changed : slot new number ≡ shows
   pub others : (n : ℕ) → n ≢ number → slot new n ≡ slot old n

@@ -1,33 +1,34 @@
 -- Texts in a store of bytes, each known by its span.
 use Rattle.std.specs.Prelude.{◌≡◌, ℕ, ◌+◌, ◌≤◌, IfSome, List, length, take, drop, Option}
-use Rattle.cave_data.specs.declared.span.Span.{Span}
+use Rattle.cave_data.specs.declared.span.TextSpan.{TextSpan}
 use Rattle.cave_data.specs.declared.span.NumberedSpan.{NumberedSpan}
-use Rattle.cave_data.specs.CaveView.{WordEntry, ClassEntry}
+use Rattle.cave_rows.specs.Rows.{WordEntry}
+use Rattle.cave_data.specs.CaveView.{ClassEntry}
 use Rattle.cave_data.specs.Slots.{slot}
 
--- the text that a span tells of
-abbrev pub text_in : List ℕ → Span → List ℕ
-text_in bytes span = take span.len (drop span.start bytes)
+-- the text that a span refers to
+abbrev pub text_of_span : List ℕ → TextSpan → List ℕ
+text_of_span bytes span = take span.len (drop span.start bytes)
 
 -- a span ends within the bytes
-abbrev pub IsWithin : List ℕ → Span → Type 0
+abbrev pub IsWithin : List ℕ → TextSpan → Type 0
 IsWithin bytes span = span.start + span.len ≤ length bytes
 
 -- a span ends where the bytes end
-abbrev pub IsLast : List ℕ → Span → Type 0
+abbrev pub IsLast : List ℕ → TextSpan → Type 0
 IsLast bytes span = span.start + span.len ≡ length bytes
 
 -- a span goes from a place to the end of the bytes
-pub record IsFrom (bytes : List ℕ) (start : ℕ) (span : Span) : Type 0 where
+pub record IsFrom (bytes : List ℕ) (start : ℕ) (span : TextSpan) : Type 0 where
   pub start_is : span.start ≡ start
   pub last : IsLast bytes span
 
 -- each span in a table by number ends within the bytes
-abbrev pub AreWithin : List ℕ → List (Option Span) → Type 0
+abbrev pub AreWithin : List ℕ → List (Option TextSpan) → Type 0
 AreWithin bytes spans = (n : ℕ) → IfSome (slot spans n) (IsWithin bytes)
 
 -- the span of the last number ends where the bytes end
-abbrev pub LastEnds : List ℕ → List (Option Span) → Option ℕ → Type 0
+abbrev pub LastEnds : List ℕ → List (Option TextSpan) → Option ℕ → Type 0
 LastEnds bytes spans last = IfSome last (λ n. IfSome (slot spans n) (IsLast bytes))
 
 -- a span with a number ends within the bytes
@@ -35,9 +36,9 @@ abbrev pub RowWithin : List ℕ → NumberedSpan → Type 0
 RowWithin bytes row = IsWithin bytes row.span
 
 -- a word and its number
-abbrev pub word_in : List ℕ → NumberedSpan → WordEntry
-word_in bytes row = record { number = row.number; word = text_in bytes row.span }
+abbrev pub word_of_span : List ℕ → NumberedSpan → WordEntry
+word_of_span bytes row = record { number = row.number; word = text_of_span bytes row.span }
 
 -- a class whose bound is the number
-abbrev pub class_in : List ℕ → NumberedSpan → ClassEntry
-class_in bytes row = record { bound = row.number; text = text_in bytes row.span }
+abbrev pub class_of_span : List ℕ → NumberedSpan → ClassEntry
+class_of_span bytes row = record { bound = row.number; text = text_of_span bytes row.span }

@@ -2,23 +2,23 @@
 ghost use Rattle.std.specs.Prelude.{◌≡◌, [], None, IfOk, IfErr};
 ghost use Rattle.std.specs.Str.Lines.{lines};
 ghost use Rattle.cave_data.specs.BindingFault.{first_binding_fault};
-ghost use Rattle.cave_data.specs.Bindings.{bindings_of};
-ghost use Rattle.cave_data.specs.BindingSteps.{bound_to, bind_new, bind_line, no_bindings, bound};
+ghost use Rattle.cave_rows.specs.BindingLines.{bindings_of};
+ghost use Rattle.cave_data.specs.BindingSteps.{bound_to, bind_new, bind_line, no_bindings};
+ghost use Rattle.cave_data.specs.BindingSteps.{bindings_from};
 ghost use Rattle.cave_data.specs.Faults.{FaultIs};
-ghost use Rattle.cave_data.specs.Gives.{Leaves};
+ghost use Rattle.cave_rows.specs.Answers.{Leaves};
 
-use crate::binding::{Binding, Key, binding_row, is_skipped};
 use crate::database::told;
-use crate::error::{BindingFlaw, Cause, CaveError, Spot};
-use crate::lines::split_line;
-use crate::place_role::PLACE_NAMES;
-use crate::role::ROLE_NAMES;
 use crate::tables::Table;
+use cave_rows::binding::{Binding, Key, binding_row};
+use cave_rows::place_role::PLACE_NAMES;
+use cave_rows::role::ROLE_NAMES;
+use cave_rows::{BindingFlaw, Cause, CaveError, FaultSite};
+use log_lines::{is_skipped, split_line};
 use std::alloc::Global;
 
-/// The last number of a role.
 const LAST_ROLE: u16 = ROLE_NAMES.len() as u16 - 1;
-/// The last number of a place's role.
+
 const LAST_PLACE_ROLE: u16 = PLACE_NAMES.len() as u16 - 1;
 
 /// What bindings say.
@@ -91,7 +91,8 @@ impl Bindings {
 /// What bindings say.
 pub fn read_bindings(alloc: Global, text: &[u8]) -> Result<Bindings, CaveError>
     ensures right { IfOk result (λ _. first_binding_fault [] (lines text.now) ≡ None) }
-    ensures found { IfOk result (λ bindings. bindings ≡ bound (bindings_of (lines text.now))) }
+    ensures found { IfOk result
+        (λ bindings. bindings ≡ bindings_from (bindings_of (lines text.now))) }
     ensures fault { IfErr result (λ e. FaultIs e (first_binding_fault [] (lines text.now))) }
 {
     let mut bindings = Bindings::new(alloc);
@@ -100,7 +101,7 @@ pub fn read_bindings(alloc: Global, text: &[u8]) -> Result<Bindings, CaveError>
     while let Some((line, after)) = split_line(rest) {
         match bindings.take_line(line) {
             Ok(()) => {}
-            Err(cause) => return Err(told(cause, count + 1, Spot::Bindings)),
+            Err(cause) => return Err(told(cause, count + 1, FaultSite::Bindings)),
         }
         count += 1;
         rest = after;

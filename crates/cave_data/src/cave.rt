@@ -1,35 +1,37 @@
 //! A cave: the tables of a database and what its bindings say.
-ghost use Rattle.std.specs.Prelude.{◌≡◌, All, option_map, map, length, nat_lt, IfOk, IfErr, IfSome, MatchOption, MatchResult, None, unwrap_or};
+ghost use Rattle.std.specs.Prelude.{◌≡◌, All, option_map, map, length, nat_lt, IfOk, IfErr, IfSome};
+ghost use Rattle.std.specs.Prelude.{MatchOption, MatchResult, None, unwrap_or};
 ghost use Rattle.std.specs.FinMap.{get};
 ghost use Rattle.limits.specs.Limits.{max_input_bytes};
-ghost use Rattle.cave_data.specs.CaveView.{name_of, look_of, ways_from, conditions_of, placement_of, default_message, CaveView, class_of};
+ghost use Rattle.cave_data.specs.CaveView.{inventory_text, look_of, ways_from, conditions_of};
+ghost use Rattle.cave_data.specs.CaveView.{placement_of, default_message, CaveView};
+ghost use Rattle.cave_data.specs.CaveView.{rating_of_score};
 ghost use Rattle.cave_data.specs.Bindings.{default_place};
 ghost use Rattle.cave_data.specs.Faults.{FaultIs, no_memory};
-ghost use Rattle.cave_data.specs.Finished.{Finished};
-ghost use Rattle.cave_data.specs.Ranges.{IsLetters, IsMessage, IsPlace, IsStanding, HasOnly, AreInRange};
-ghost use Rattle.cave_data.specs.Grammar.{entries};
+ghost use Rattle.cave_data.specs.Cave.{Finished};
+ghost use Rattle.cave_data.specs.Ranges.{IsLetters, IsMessage, IsPlace, IsPlacementInRange, HasOnly};
+ghost use Rattle.cave_data.specs.Ranges.{AreInRange};
+ghost use Rattle.cave_rows.specs.Grammar.{entries};
 ghost use Rattle.cave_data.specs.Laws.{Laws};
-ghost use Rattle.cave_data.specs.LowestCause.{TellsLowest};
-ghost use Rattle.cave_data.specs.Reading.{AreRight, Reads, fault, size_fault};
+ghost use Rattle.cave_data.specs.LowestCause.{ReportsLowest};
+ghost use Rattle.cave_data.specs.Reads.{AreValidInputs, Reads, fault, size_fault};
 ghost use Rattle.std.specs.Str.Lines.{lines};
-ghost use Rattle.cave_data.specs.RowViews.{rating};
-ghost use Rattle.cave_data.specs.Shown.{going};
-ghost use Rattle.cave_data.specs.Role.{role_number};
-ghost use Rattle.cave_data.specs.PlaceRole.{place_number};
+ghost use Rattle.cave_data.specs.Printing.{rating};
+ghost use Rattle.cave_rows.specs.RowViews.{going};
+ghost use Rattle.cave_rows.specs.Role.{role_number};
+ghost use Rattle.cave_rows.specs.PlaceRole.{place_number};
 
 use crate::bindings::{Bindings, read_bindings};
-use crate::classes::Classes;
+use crate::classes::{Classes, Rating};
 use crate::database::read_database;
-use crate::error::{Cause, CaveError, Spot};
-use crate::place_role::PlaceRole;
 use crate::reader::{LAST_NAMED, Tables};
-use crate::role::Role;
-use crate::rows::{Hint, Placement, Rating, Row};
 use crate::slots::Slots;
 use crate::tables::Table;
 use crate::texts::Texts;
 use crate::ways::Ways;
-use crate::words::Words;
+use crate::words::WordTable;
+use cave_rows::rows::Placement;
+use cave_rows::{Cause, CaveError, FaultSite, Hint, PlaceRole, Role, Row};
 use limits::is_large_input;
 use std::alloc::Global;
 use std::marker::Model;
@@ -43,7 +45,7 @@ pub struct Cave {
     long: Texts,
     short: Texts,
     travel: Ways,
-    words: Words,
+    words: WordTable,
     objects: Texts,
     messages: Texts,
     placements: Table<Placement>,
@@ -74,25 +76,25 @@ impl Model for Cave {
     ghost use Rattle.std.specs.Prelude.{map};
     ghost use Rattle.cave_data.specs.CaveView.{CaveView, cave_code};
     ghost use Rattle.cave_data.specs.Slots.{by_number};
-    ghost use Rattle.cave_data.specs.Shown.{shown_texts, shown_class};
-    ghost use Rattle.cave_data.specs.DefaultPlaces.{with_defaults};
-    ghost use Rattle.cave_data.specs.Ranges.{IsLetters, IsMessage, IsPlace, IsStanding, HasOnly};
+    ghost use Rattle.cave_data.specs.Printing.{printed_texts, printed_class};
+    ghost use Rattle.cave_data.specs.Bindings.{with_defaults};
+    ghost use Rattle.cave_data.specs.Ranges.{IsLetters, IsMessage, IsPlace, IsPlacementInRange, HasOnly};
 
     ghost Value = { CaveView };
 
     ghost coded = { cave_code };
 
     ghost view = { λ c. record {
-      long = shown_texts c.long.texts;
-      short = shown_texts c.short.texts;
+      long = printed_texts c.long.texts;
+      short = printed_texts c.short.texts;
       travel = c.travel.ways;
       words = c.words;
-      objects = shown_texts c.objects.texts;
-      messages = shown_texts c.messages.texts;
+      objects = printed_texts c.objects.texts;
+      messages = printed_texts c.messages.texts;
       placements = c.placements;
       defaults = c.defaults;
       conditions = c.conditions;
-      classes = map shown_class c.classes;
+      classes = map printed_class c.classes;
       hints = c.hints;
       roles = c.roles;
       places = with_defaults c.places;
@@ -102,10 +104,9 @@ impl Model for Cave {
     ghost invariant = { λ c. IsLetters c.letters
         × HasOnly IsMessage c.roles
         × HasOnly IsPlace c.places
-        × HasOnly IsStanding c.placements };
+        × HasOnly IsPlacementInRange c.placements };
 }
 
-/// Whether an input is too large.
 fn is_too_large(input: &[u8]) -> bool
     ensures { result ≡ nat_lt max_input_bytes (length input.now) }
 {
@@ -127,7 +128,7 @@ fn letters_of(bound: Option<u16>) -> u8
 /// The cave of tables and bindings.
 fn finish(tables: Tables, bindings: Bindings) -> Cave
     requires bindings { AreInRange bindings }
-    requires standing { HasOnly IsStanding tables.placements }
+    requires standing { HasOnly IsPlacementInRange tables.placements }
     ensures { Finished tables bindings result }
 {
     Cave {
@@ -159,14 +160,14 @@ fn read_cave(alloc: Global, database: &[u8], bindings: &[u8]) -> Result<Cave, Ca
         return Err(CaveError {
             cause: Cause::TooLarge,
             line: 0,
-            spot: Spot::Database,
+            site: FaultSite::Database,
         });
     }
     if is_too_large(bindings) {
         return Err(CaveError {
             cause: Cause::TooLarge,
             line: 0,
-            spot: Spot::Bindings,
+            site: FaultSite::Bindings,
         });
     }
     let tables = read_database(alloc, database)?;
@@ -176,21 +177,23 @@ fn read_cave(alloc: Global, database: &[u8], bindings: &[u8]) -> Result<Cave, Ca
 
 #[tactic(auto, using(crate::proofs::CaveLemmas::gets))]
 impl Cave {
-    /// Reads a cave from its database and its bindings, or tells the first fault: a size over
+    /// Reads a cave from its database and its bindings, or returns the first fault: a size over
     /// 1,048,576 bytes, then the first faulty line, the database's before the bindings'.
     pub fn read(alloc: Global, database: &[u8], bindings: &[u8]) -> Result<Cave, CaveError>
-        // A size over the limit is told whatever memory there is.
+        // A size over the limit is reported whatever memory there is.
         ensures size { MatchOption (size_fault database.now bindings.now) (Unit {0})
             (λ e. result ≡ Err e) }
         ensures found { IfOk result (λ c. Reads database.now bindings.now c) }
         ensures fault { IfErr result (λ e. FaultIs e (fault database.now bindings.now)) }
-        // Where a line of the database has several faults, the one with the lowest number is its cause.
-        ensures lowest { TellsLowest }
+        // Where a line of the database has several faults, the one with the lowest number is its
+        // cause.
+        ensures lowest { ReportsLowest }
         // There is no fault exactly where the inputs are a database and bindings.
-        ensures right { (AreRight database.now bindings.now → fault database.now bindings.now ≡ None)
-            × (fault database.now bindings.now ≡ None → AreRight database.now bindings.now) }
+        ensures right { (AreValidInputs database.now bindings.now
+            → fault database.now bindings.now ≡ None)
+            × (fault database.now bindings.now ≡ None → AreValidInputs database.now bindings.now) }
         ensures laws { IfOk result (λ c. Laws (entries (lines database.now)) c) }
-        // Where a cave is described, it is read, unless memory is wanting.
+        // Where a cave is described, it is read, unless memory runs out.
         ensures only { (c : CaveView) → Reads database.now bindings.now c
             → MatchResult result (λ d. d ≡ c) (λ e. e ≡ no_memory) }
     {
@@ -220,7 +223,7 @@ impl Cave {
 
     /// The inventory text of the object.
     pub fn name(&self, object: u16) -> Option<&[u8]>
-        ensures { option_map (λ x. x.now) result ≡ name_of self.now object }
+        ensures { option_map (λ x. x.now) result ≡ inventory_text self.now object }
     {
         if object > LAST_NAMED {
             return None;
@@ -247,17 +250,17 @@ impl Cave {
     }
 
     /// The bits that are set for the place, as the bits of a number.
-    pub fn cond(&self, place: u16) -> u32
+    pub fn conditions(&self, place: u16) -> u32
         ensures { result ≡ conditions_of self.now place }
     {
         self.conditions.get(place).unwrap_or(0)
     }
 
-    /// Where the object stands first, its first place and its second, and (0, 0) where no row says so.
+    /// The first place of the object and its second, and (0, 0) where no row says so.
     pub fn placement(&self, object: u16) -> (u16, i16)
         ensures first { result.0 ≡ (placement_of self.now object).first }
         ensures second { result.1 ≡ (placement_of self.now object).second }
-        ensures within { IsStanding (record { first = result.0; second = result.1 }) }
+        ensures within { IsPlacementInRange (record { first = result.0; second = result.1 }) }
     {
         match self.placements.get(object) {
             Some(placement) => (placement.first, placement.second),
@@ -296,7 +299,7 @@ impl Cave {
     }
 
     /// The words in the order of the file.
-    pub fn words(&self) -> &Words
+    pub fn words(&self) -> &WordTable
         ensures { result.now ≡ self.now.words }
     {
         &self.words
@@ -304,7 +307,7 @@ impl Cave {
 
     /// The class of the score: the first row whose bound is not below it.
     pub fn class_of(&self, score: u32) -> Option<Rating<'_>>
-        ensures { option_map rating result ≡ class_of self.now score }
+        ensures { option_map rating result ≡ rating_of_score self.now score }
     {
         self.classes.class_of(score)
     }

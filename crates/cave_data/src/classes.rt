@@ -1,10 +1,9 @@
 //! The classes of a database: a store of bytes, and the rows in the order of the file.
 ghost use Rattle.std.specs.Prelude.{◌≡◌, ◌++◌, ◌∷◌, [], OnOk, length, map, option_map};
 ghost use Rattle.cave_data.specs.CaveView.{class_from};
-ghost use Rattle.cave_data.specs.RowViews.{rating};
-ghost use Rattle.cave_data.specs.Shown.{shown_class};
+ghost use Rattle.cave_data.specs.Printing.{rating};
+ghost use Rattle.cave_data.specs.Printing.{printed_class};
 
-use crate::rows::Rating;
 use crate::span::{NumberedSpan, add_row};
 use crate::store::Store;
 use crate::texts::printed;
@@ -13,6 +12,16 @@ use std::marker::Model;
 
 /// The most classes.
 pub const MAX_CLASSES: usize = 50;
+
+/// The class of a score: the number of its row from 1, its bound, its text, and whether a row
+/// follows.
+#[derive(Clone, Copy, Debug)]
+pub struct Rating<'a> {
+    pub row: usize,
+    pub bound: u16,
+    pub text: &'a [u8],
+    pub is_followed: bool,
+}
 
 /// Classes in the order of the file: the bound of each, and its text.
 #[derive(Drop)]
@@ -30,9 +39,9 @@ impl Model for Classes {
 
     ghost coded = { coded_list class_code };
 
-    ghost use Rattle.cave_data.specs.Spans.{class_in, RowWithin};
+    ghost use Rattle.cave_data.specs.Spans.{class_of_span, RowWithin};
 
-    ghost view = { λ c. map (class_in c.store) c.rows.items };
+    ghost view = { λ c. map (class_of_span c.store) c.rows.items };
 
     ghost invariant = { λ c. All (RowWithin c.store) c.rows.items };
 }
@@ -72,7 +81,7 @@ impl Classes {
 
     /// The class of the score: the first row whose bound is not below it.
     pub fn class_of(&self, score: u32) -> Option<Rating<'_>>
-        ensures { option_map rating result ≡ class_from 1 score (map shown_class self.now) }
+        ensures { option_map rating result ≡ class_from 1 score (map printed_class self.now) }
     {
         let count = self.rows.len();
         for (number, row) in self.rows.iter().enumerate() {

@@ -1,46 +1,37 @@
 //! Reading a database line by line.
 ghost use Rattle.std.specs.Prelude.{◌≡◌, ◌&&◌, nat_lt, nat_le};
-ghost use Rattle.cave_data.specs.Gives.{Answers, Leaves};
-ghost use Rattle.cave_data.specs.Grammar.{section_of, headed, closes};
+ghost use Rattle.cave_rows.specs.Answers.{Answers, Leaves};
 ghost use Rattle.cave_data.specs.Steps.{row_step, advance, no_tables};
 
 use crate::classes::{Classes, MAX_CLASSES};
-use crate::error::{Cause, Section};
-use crate::field_rows::{
-    condition_row, default_row, hint_row, object_line, placement_row, text_line, way_row, word_row,
-};
-use crate::number::{Number, is_blank_line, number_at};
-use crate::rows::{Hint, Placement};
 use crate::tables::{Table, mark};
 use crate::texts::Texts;
 use crate::ways::Ways;
-use crate::words::{MAX_WORDS, Words};
+use crate::words::{MAX_WORDS, WordTable};
+use cave_rows::field_rows::{
+    condition_row, default_row, hint_row, object_line, placement_row, text_line, way_row, word_row,
+};
+use cave_rows::position::{closes, headed};
+use cave_rows::rows::Placement;
+use cave_rows::{Cause, Hint, Position, Section};
+use log_lines::bytes::is_all_blank;
 use std::alloc::Global;
 
-/// The most ways out of places.
 const MAX_WAYS: usize = 2000;
-/// The last place.
+
 const LAST_PLACE: u16 = 300;
 /// The last number that a text of an object may have: a hundred times the object, and a prop.
 const LAST_OBJECT_TEXT: u16 = 100 * LAST_NAMED + 99;
-/// The last message.
+
 const LAST_MESSAGE: u16 = 499;
-/// The last object.
+
 const LAST_OBJECT: u16 = 100;
-/// The last action.
+
 const LAST_ACTION: u16 = 99;
-/// The last hint.
+
 const LAST_HINT: u16 = 20;
 /// The last object that may have texts.
 pub const LAST_NAMED: u16 = 99;
-
-/// Where a line stands.
-#[derive(Clone, Copy, Debug, PartialEq, Eq)]
-pub enum Place {
-    Outside,
-    Inside(Section),
-    After,
-}
 
 /// The tables of the rows so far, and the object whose texts come, or 0.
 #[derive(Drop)]
@@ -48,7 +39,7 @@ pub struct Tables {
     pub long: Texts,
     pub short: Texts,
     pub ways: Ways,
-    pub words: Words,
+    pub words: WordTable,
     pub objects: Texts,
     pub object: u8,
     pub messages: Texts,
@@ -59,52 +50,11 @@ pub struct Tables {
     pub hints: Table<Hint>,
 }
 
-/// Where the next line stands, and the tables of the rows so far.
+/// Where the next line is, and the tables of the rows so far.
 #[derive(Drop)]
-pub struct Reader {
-    pub place: Place,
+pub struct DatabaseReader {
+    pub position: Position,
     pub tables: Tables,
-}
-
-/// The section of the number.
-fn section_of(number: u32) -> Option<Section>
-    ensures { result ≡ section_of number }
-{
-    match number {
-        1 => Some(Section::LongTexts),
-        2 => Some(Section::ShortTexts),
-        3 => Some(Section::Travel),
-        4 => Some(Section::Words),
-        5 => Some(Section::Objects),
-        6 => Some(Section::Messages),
-        7 => Some(Section::Placements),
-        8 => Some(Section::Defaults),
-        9 => Some(Section::Conditions),
-        10 => Some(Section::Classes),
-        11 => Some(Section::Hints),
-        12 => Some(Section::Magic),
-        _ => None,
-    }
-}
-
-/// What a line outside every section opens.
-#[tactic(auto, unfolding(crate::specs::Grammar::headed))]
-fn headed(line: &[u8]) -> Option<Place>
-    ensures { result ≡ headed line.now }
-{
-    match number_at(line) {
-        Some((Number::Natural(0), _)) => Some(Place::After),
-        Some((Number::Natural(n), _)) => section_of(n).map(Place::Inside),
-        _ => None,
-    }
-}
-
-/// Whether the line ends a section.
-#[tactic(auto, unfolding(crate::specs::Grammar::closes))]
-fn closes(line: &[u8]) -> bool
-    ensures { result ≡ closes line.now }
-{
-    matches!(number_at(line), Some((Number::Negative(1), _)))
 }
 
 /// Whether a line of this number is of an object's inventory text.
@@ -124,7 +74,7 @@ impl Tables {
             long: Texts::with_room(alloc, LAST_PLACE),
             short: Texts::with_room(alloc, LAST_PLACE),
             ways: Ways::new(alloc),
-            words: Words::new(alloc),
+            words: WordTable::new(alloc),
             objects: Texts::with_room(alloc, LAST_OBJECT_TEXT),
             object: 0,
             messages: Texts::with_room(alloc, LAST_MESSAGE),
@@ -250,7 +200,6 @@ impl Tables {
 }
 
 impl Tables {
-    /// Adds a row of the section.
     fn add_row(&mut self, alloc: Global, section: Section, line: &[u8]) -> Result<(), Cause>
         ensures { Leaves result self.new (row_step self.old section line.now) }
     {
@@ -271,13 +220,13 @@ impl Tables {
     }
 }
 
-impl Reader {
+impl DatabaseReader {
     /// Before the first line.
     pub fn new(alloc: Global) -> Self
-        ensures { result ≡ record { place = Place.Outside; tables = no_tables } }
+        ensures { result ≡ record { position = Position.Outside; tables = no_tables } }
     {
         Self {
-            place: Place::Outside,
+            position: Position::Outside,
             tables: Tables::new(alloc),
         }
     }
@@ -287,20 +236,20 @@ impl Reader {
     pub fn take_line(&mut self, alloc: Global, line: &[u8]) -> Result<(), Cause>
         ensures { Leaves result self.new (advance self.old line.now) }
     {
-        if is_blank_line(line) {
+        if is_all_blank(line) {
             return Ok(());
         }
-        match self.place {
-            Place::Outside => {
-                self.place = headed(line).ok_or(Cause::BadSection)?;
+        match self.position {
+            Position::Outside => {
+                self.position = headed(line).ok_or(Cause::BadSection)?;
                 Ok(())
             }
-            Place::Inside(_) if closes(line) => {
-                self.place = Place::Outside;
+            Position::Inside(_) if closes(line) => {
+                self.position = Position::Outside;
                 Ok(())
             }
-            Place::Inside(section) => self.tables.add_row(alloc, section, line),
-            Place::After => Ok(()),
+            Position::Inside(section) => self.tables.add_row(alloc, section, line),
+            Position::After => Ok(()),
         }
     }
 }

@@ -32,7 +32,7 @@ impl<T: Drop> Slots<T> {
         }
     }
 
-    /// What stands at the number.
+    /// The value at the number.
     pub fn get(&self, number: u16) -> Option<&T>
         ensures { option_map (λ x. x.now) result ≡ slot self.now.items.items number }
     {
@@ -56,7 +56,7 @@ impl<T: Drop> Slots<T> {
         Ok(())
     }
 
-    /// Takes out what stands at the number.
+    /// Takes out the value at the number.
     pub fn take(&mut self, number: u16) -> Option<T>
         ensures value { result ≡ slot self.old.items.items number }
         ensures change { ChangesSlot self.old.items.items self.new.items.items number None }
@@ -67,9 +67,10 @@ impl<T: Drop> Slots<T> {
         self.items[number as usize].take()
     }
 
-    /// Puts the value in place of what stands at the number.
+    /// Replaces the value at the number.
     pub fn put(&mut self, number: u16, value: T) -> Result<(), AllocError>
-        ensures ok { OnOk result (ChangesSlot self.old.items.items self.new.items.items number (Some value)) }
+        ensures ok { OnOk result
+            (ChangesSlot self.old.items.items self.new.items.items number (Some value)) }
         ensures err { OnErr result (SameSlots self.old.items.items self.new.items.items) }
     {
         self.reach(number)?;

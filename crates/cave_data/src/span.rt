@@ -5,7 +5,7 @@ use std::alloc::AllocError;
 
 /// Where a text is in the store that has it.
 #[derive(Clone, Copy)]
-pub struct Span {
+pub struct TextSpan {
     pub start: u32,
     pub len: u32,
 }
@@ -14,7 +14,7 @@ pub struct Span {
 #[derive(Clone, Copy)]
 pub struct NumberedSpan {
     pub number: u16,
-    pub span: Span,
+    pub span: TextSpan,
 }
 
 /// Adds a row at the end. The first row takes room for so many.

@@ -1,15 +1,15 @@
 //! A store of bytes that has many texts, one after another.
 ghost use Rattle.std.specs.Prelude.{◌≡◌, ◌≤◌, ◌++◌, ◌∷◌, [], IfOk, OnOk, length};
-ghost use Rattle.cave_data.specs.Spans.{text_in, IsWithin, IsFrom};
+ghost use Rattle.cave_data.specs.Spans.{text_of_span, IsWithin, IsFrom};
 
-use crate::span::Span;
+use crate::span::TextSpan;
 use std::alloc::{AllocError, Global};
 use std::marker::Model;
 
 /// The room that a store takes first.
 const FIRST_ROOM: usize = 4096;
 
-/// The most bytes that spans can tell of.
+/// The most bytes that spans can refer to.
 const MOST_BYTES: usize = u32::MAX as usize;
 
 /// Bytes of texts, one after another.
@@ -43,17 +43,17 @@ impl Store {
         self.bytes.len()
     }
 
-    /// The text that the span tells of.
-    pub fn text(&self, span: Span) -> &[u8]
+    /// The text that the span refers to.
+    pub fn text(&self, span: TextSpan) -> &[u8]
         requires { IsWithin self.now span }
-        ensures { result.now ≡ text_in self.now span }
+        ensures { result.now ≡ text_of_span self.now span }
     {
         let start = span.start as usize;
         &self.bytes.as_slice()[start..start + span.len as usize]
     }
 
     /// The span from a place to the end.
-    fn span_from(&self, start: usize) -> Result<Span, AllocError>
+    fn span_from(&self, start: usize) -> Result<TextSpan, AllocError>
         requires { start ≤ length self.now }
         ensures { IfOk result (IsFrom self.now start) }
     {
@@ -61,7 +61,7 @@ impl Store {
         if end > MOST_BYTES {
             return Err(AllocError);
         }
-        Ok(Span {
+        Ok(TextSpan {
             start: start as u32,
             len: (end - start) as u32,
         })
@@ -77,8 +77,8 @@ impl Store {
         Ok(())
     }
 
-    /// Adds a word at the end, and tells where it is.
-    pub fn add(&mut self, word: &[u8]) -> Result<Span, AllocError>
+    /// Adds a word at the end, and returns where it is.
+    pub fn add(&mut self, word: &[u8]) -> Result<TextSpan, AllocError>
         ensures grows { length self.old ≤ length self.new }
         ensures bytes { OnOk result (self.new ≡ self.old ++ word.now) }
         ensures span { IfOk result (IsFrom self.new (length self.old)) }
@@ -90,7 +90,7 @@ impl Store {
     }
 
     /// Adds a line, with its line feed, to the text that begins at the start and goes to the end.
-    pub fn add_line(&mut self, start: usize, line: &[u8]) -> Result<Span, AllocError>
+    pub fn add_line(&mut self, start: usize, line: &[u8]) -> Result<TextSpan, AllocError>
         requires { start ≤ length self.old }
         ensures grows { length self.old ≤ length self.new }
         ensures bytes { OnOk result (self.new ≡ self.old ++ (line.now ++ 10 ∷ [])) }

@@ -39,14 +39,14 @@ impl<T: Copy> Table<T> {
         }
     }
 
-    /// What stands at the number.
+    /// The value at the number.
     pub fn get(&self, number: u16) -> Option<T>
         ensures { result ≡ get self.now number }
     {
         self.slots.get(number).copied()
     }
 
-    /// Puts the value in place of what stands at the number.
+    /// Replaces the value at the number.
     pub fn put(&mut self, number: u16, value: T) -> Result<(), AllocError>
         ensures { OnOk result (self.new ≡ insert self.old number value) }
     {

@@ -2,11 +2,11 @@
 ghost use Rattle.std.specs.Prelude.{◌≡◌, ◌≤◌, None, OnOk, IfSome, option_map, unwrap_or};
 ghost use Rattle.std.specs.Prelude.{if◌then◌else◌};
 ghost use Rattle.std.specs.FinMap.{get, empty};
-ghost use Rattle.cave_data.specs.Shown.{shown};
-ghost use Rattle.cave_data.specs.Tables.{is_number, with_line};
+ghost use Rattle.cave_data.specs.Printing.{printed_text};
+ghost use Rattle.cave_data.specs.Tables.{is_same_number, with_line};
 
 use crate::slots::Slots;
-use crate::span::Span;
+use crate::span::TextSpan;
 use crate::store::Store;
 use std::alloc::{AllocError, Global};
 use std::marker::Model;
@@ -15,7 +15,7 @@ use std::marker::Model;
 #[derive(Drop)]
 pub struct Texts {
     store: Store,
-    spans: Slots<Span>,
+    spans: Slots<TextSpan>,
     last: Option<u16>,
 }
 
@@ -27,10 +27,10 @@ impl Model for Texts {
 
     ghost coded = { texts_so_far_code };
 
-    ghost use Rattle.cave_data.specs.Spans.{text_in, AreWithin, LastEnds};
+    ghost use Rattle.cave_data.specs.Spans.{text_of_span, AreWithin, LastEnds};
 
     ghost view = { λ t. record {
-      texts = by_number (text_in t.store) t.spans.items.items;
+      texts = by_number (text_of_span t.store) t.spans.items.items;
       last = t.last;
     } };
 
@@ -40,7 +40,7 @@ impl Model for Texts {
 
 /// Whether the last line had the number.
 fn is_last(last: Option<u16>, number: u16) -> bool
-    ensures { result ≡ is_number last number }
+    ensures { result ≡ is_same_number last number }
 {
     match last {
         Some(last) => last == number,
@@ -49,7 +49,7 @@ fn is_last(last: Option<u16>, number: u16) -> bool
 }
 
 /// Where the text begins that a line is added to, in a store of so many bytes.
-fn start_of(span: Option<Span>, continues: bool, end: usize) -> usize
+fn start_of(span: Option<TextSpan>, continues: bool, end: usize) -> usize
     requires { IfSome span (λ span. span.start ≤ end) }
     ensures value { result ≡ (if continues
         then unwrap_or (option_map (λ span. span.start) span) end
@@ -63,14 +63,14 @@ fn start_of(span: Option<Span>, continues: bool, end: usize) -> usize
 }
 
 /// A text as it is printed.
-#[tactic(auto, unfolding(crate::specs::Shown::shown))]
+#[tactic(auto, unfolding(crate::specs::Printing::printed_text))]
 pub fn printed(text: &[u8]) -> &[u8]
-    ensures { result.now ≡ shown text.now }
+    ensures { result.now ≡ printed_text text.now }
 {
     if text == NOTHING { &[] } else { text }
 }
 
-/// The text that stands for printing nothing.
+/// The text that means that nothing is printed.
 const NOTHING: &[u8] = b">$<\n";
 
 impl Texts {
@@ -102,7 +102,8 @@ impl Texts {
 
     /// The text of the number, as it is printed.
     pub fn printed(&self, number: u16) -> Option<&[u8]>
-        ensures { option_map (λ x. x.now) result ≡ option_map shown (get self.now.texts number) }
+        ensures { option_map (λ x. x.now) result
+            ≡ option_map printed_text (get self.now.texts number) }
     {
         match self.spans.get(number) {
             Some(span) => Some(printed(self.store.text(*span))),

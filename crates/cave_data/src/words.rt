@@ -1,40 +1,41 @@
 //! The words of a database: a store of bytes, and the rows in the order of the file.
 ghost use Rattle.std.specs.Prelude.{◌≡◌, ◌<◌, ◌++◌, ◌∷◌, [], OnOk, Some, length, slice_get};
-ghost use Rattle.cave_data.specs.Shown.{word_entry};
+ghost use Rattle.cave_rows.specs.RowViews.{word_entry};
 
-use crate::rows::WordRow;
 use crate::span::{NumberedSpan, add_row};
 use crate::store::Store;
+use cave_rows::WordRow;
 use std::alloc::{AllocError, Global};
 use std::marker::Model;
 
 /// The most words.
 pub const MAX_WORDS: usize = 1000;
 
-/// Words with their numbers in the order of the file.
+/// Words with their numbers, in the order of the file.
 #[derive(Drop)]
-pub struct Words {
+pub struct WordTable {
     store: Store,
     rows: Vec<NumberedSpan>,
 }
 
-impl Model for Words {
+impl Model for WordTable {
     ghost use Rattle.std.specs.Prelude.{List, map, All};
     ghost use Rattle.std.specs.Coded.{coded_list};
-    ghost use Rattle.cave_data.specs.CaveView.{WordEntry, word_code};
+    ghost use Rattle.cave_rows.specs.Rows.{WordEntry};
+    ghost use Rattle.cave_data.specs.CaveView.{word_code};
 
     ghost Value = { List WordEntry };
 
     ghost coded = { coded_list word_code };
 
-    ghost use Rattle.cave_data.specs.Spans.{word_in, RowWithin};
+    ghost use Rattle.cave_data.specs.Spans.{word_of_span, RowWithin};
 
-    ghost view = { λ w. map (word_in w.store) w.rows.items };
+    ghost view = { λ w. map (word_of_span w.store) w.rows.items };
 
     ghost invariant = { λ w. All (RowWithin w.store) w.rows.items };
 }
 
-impl Words {
+impl WordTable {
     /// No words.
     pub(crate) fn new(alloc: Global) -> Self
         ensures { result ≡ [] }

@@ -3,10 +3,10 @@ use Rattle.std.proofs.Common.{◌≡◌, ℕ, ◌≤◌, List, ◌++◌, Option,
 use Rattle.std.proofs.Common.{sym, ap, ◌∙◌}
 use Rattle.std.proofs.lemmas.List.{take_at, take_all, drop_all, append-nil}
 use Rattle.std.specs.List.{filter_map}
-use Rattle.cave_data.specs.CaveView.{Going}
-use Rattle.cave_data.specs.Shown.{going}
-use Rattle.cave_data.specs.declared.rows.Row.{Row}
-use Rattle.cave_dwarves.specs.Ways.{without_repeats}
+use Rattle.cave_rows.specs.Rows.{Going}
+use Rattle.cave_rows.specs.RowViews.{going}
+use Rattle.cave_rows.specs.declared.rows.Row.{Row}
+use Rattle.cave_dwarves.specs.Candidates.{without_repeats}
 
 -- where 19 were found, they are the first
 pub full : (xs ys all : List ℕ) → length xs ≡ 19 → take 19 (xs ++ ys) ≡ take 19 all
@@ -19,6 +19,7 @@ pub short : (xs all : List ℕ) (last : Option ℕ) (lead : Going → Option ℕ
     → take 19 (xs ++ without_repeats last (filter_map lead (map going (drop i rows)))) ≡ take 19 all
     → xs ≡ take 19 all
 short xs all last lead rows i none few same =
-    let ahead : List Row → List ℕ = λ left. without_repeats last (filter_map lead (map going left)) in
+    let ahead : List Row → List ℕ =
+    λ left. without_repeats last (filter_map lead (map going left)) in
     let rest = ap (λ (left : List Row). take 19 (xs ++ ahead left)) (drop_all i rows none) in
     sym (take_all 19 xs few) ∙ (ap (λ l. take 19 l) (sym (append-nil xs)) ∙ (sym rest ∙ same))

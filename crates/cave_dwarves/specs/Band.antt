@@ -1,18 +1,16 @@
 -- The six dwarves by their numbers from 0. The last is the pirate.
 use Rattle.std.specs.Prelude.{ℕ, slice_index_or, slice_set}
 use Rattle.cave_words.specs.Stream.{next}
-use Rattle.cave_world.specs.Fresh.{nobody}
+use Rattle.cave_world.specs.Fresh.{no_dwarf}
 use Rattle.cave_world.specs.declared.dwarves.Dwarf.{Dwarf}
 use Rattle.cave_world.specs.declared.dwarves.Dwarves.{Dwarves}
 use Rattle.cave_world.specs.declared.state.State.{State}
 
--- the pirate's number
 abbrev pub pirate : ℕ
 pirate = 5
 
--- the dwarf of a number
 unfoldable pub dwarf_of : State → ℕ → Dwarf
-dwarf_of s number = slice_index_or s.dwarves.each number nobody
+dwarf_of s number = slice_index_or s.dwarves.each number no_dwarf
 
 -- the dwarves in another state
 abbrev pub with_dwarves : Dwarves → State → State
@@ -25,5 +23,5 @@ with_dwarf number dwarf s =
     with_dwarves (record dwarves { each = slice_set dwarves.each number dwarf }) s
 
 -- the random stream goes on after a draw
-abbrev pub drawing : State → State
-drawing s = record s { stream = next s.stream }
+abbrev pub state_after_draw : State → State
+state_after_draw s = record s { stream = next s.stream }

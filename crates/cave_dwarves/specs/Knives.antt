@@ -1,12 +1,12 @@
 -- What the five dwarves do, one after another.
 use Rattle.std.specs.Prelude.{ℕ, zero, suc, ◌+◌, ◌-◌, ◌*◌, ◌==◌, not, nat_lt, if◌then◌else◌}
 use Rattle.cave_data.specs.CaveView.{CaveView}
-use Rattle.cave_words.specs.Stream.{drawn}
+use Rattle.cave_words.specs.Stream.{number_drawn}
 use Rattle.cave_world.specs.declared.dwarves.Knife.{Knife}
 use Rattle.cave_world.specs.declared.dwarves.Knife.TheVariants as knife
 use Rattle.cave_world.specs.declared.state.State.{State}
-use Rattle.cave_dwarves.specs.Band.{dwarf_of, with_dwarves, drawing}
-use Rattle.cave_dwarves.specs.Moving.{moved_on}
+use Rattle.cave_dwarves.specs.Band.{dwarf_of, with_dwarves, state_after_draw}
+use Rattle.cave_dwarves.specs.Moving.{after_dwarf_move}
 use Rattle.cave_dwarves.specs.declared.knives.Threat.{Threat}
 use Rattle.cave_dwarves.specs.declared.knives.Threat.TheVariants as threat
 use Rattle.cave_dwarves.specs.declared.knives.Attack.{Attack}
@@ -32,24 +32,24 @@ with_knife_here s =
 unfoldable pub knife_thrown : State → Act
 knife_thrown s = record {
   threat =
-      if nat_lt (drawn 1000 s.stream) (95 * (s.dwarves.anger - 2)) then threat.Hits
+      if nat_lt (number_drawn 1000 s.stream) (95 * (s.dwarves.anger - 2)) then threat.Hits
       else threat.Misses;
-  state = with_knife_here (drawing s);
+  state = with_knife_here (state_after_draw s);
 }
 
 -- a dwarf that sees the player is here, and if it was here before, it throws a knife
-unfoldable pub threatened : ℕ → State → Act
-threatened number s =
+unfoldable pub threatening_act : ℕ → State → Act
+threatening_act number s =
     let dwarf = dwarf_of s number in
     if not dwarf.has_seen then record { threat = threat.Nothing; state = s }
     else (if dwarf.last == s.trail.here then knife_thrown s
     else record { threat = threat.Stands; state = s })
 
 -- a dwarf moves and then threatens the player; one that is gone does nothing
-unfoldable pub acted : CaveView → ℕ → State → Act
-acted cave number s =
+unfoldable pub act_of_dwarf : CaveView → ℕ → State → Act
+act_of_dwarf cave number s =
     if (dwarf_of s number).place == 0 then record { threat = threat.Nothing; state = s }
-    else threatened number (moved_on cave number s)
+    else threatening_act number (after_dwarf_move cave number s)
 
 -- what a dwarf did is counted
 abbrev pub with_threat : Threat → Attack → Attack
@@ -69,11 +69,12 @@ pub record Raid : Type 0 where
   pub state : State
 
 -- what one more dwarf did is added to what the others did
-abbrev pub joined : Act → Attack → Raid
-joined act attack = record { attack = with_threat act.threat attack; state = act.state }
+abbrev pub with_act : Act → Attack → Raid
+with_act act attack = record { attack = with_threat act.threat attack; state = act.state }
 
 -- so many dwarves act, one after another
-unfoldable pub raided : CaveView → ℕ → State → Raid
-raided cave zero s = record { attack = no_attack; state = s }
-raided cave (suc number) s =
-    let before = raided cave number s in joined (acted cave number before.state) before.attack
+unfoldable pub raid_of : CaveView → ℕ → State → Raid
+raid_of cave zero s = record { attack = no_attack; state = s }
+raid_of cave (suc number) s =
+    let before = raid_of cave number s in
+    with_act (act_of_dwarf cave number before.state) before.attack

@@ -4,6 +4,6 @@ pub mod Knives
 pub mod Lines
 pub mod Moving
 pub mod Pirate
-pub mod Robbing
+pub mod Booty
 pub mod Waking
-pub mod Ways
+pub mod Candidates

@@ -1,36 +1,37 @@
 -- How the dwarves wake.
 use Rattle.std.specs.Prelude.{ℕ, zero, suc, ◌==◌, nat_lt, nat_le, if◌then◌else◌}
 use Rattle.cave_data.specs.CaveView.{CaveView}
-use Rattle.cave_data.specs.declared.place_role.PlaceRole.TheVariants as landmark
-use Rattle.cave_data.specs.declared.role.Role.TheVariants as role
-use Rattle.cave_words.specs.Stream.{drawn, is_within_percent}
+use Rattle.cave_rows.specs.declared.place_role.PlaceRole.TheVariants as landmark
+use Rattle.cave_rows.specs.declared.role.Role.TheVariants as role
+use Rattle.cave_words.specs.Stream.{number_drawn, is_within_percent}
 use Rattle.cave_words.specs.declared.named.Named.TheVariants as name
 use Rattle.cave_world.specs.declared.dwarves.Dwarf.{Dwarf}
 use Rattle.cave_world.specs.declared.state.State.{State}
 use Rattle.cave_things.specs.Effects.{put_here}
 use Rattle.cave_things.specs.Places.{place_named, place_or, deep_place}
-use Rattle.cave_things.specs.Plays.{Scene, with_state, here_of, saying, after_draw, happens}
+use Rattle.cave_things.specs.Plays.{Scene, with_state, here_of, after_saying, after_draw, happens}
 use Rattle.cave_things.specs.Things.{thing}
-use Rattle.cave_dwarves.specs.Band.{dwarf_of, with_dwarf, with_dwarves, drawing}
+use Rattle.cave_dwarves.specs.Band.{dwarf_of, with_dwarf, with_dwarves, state_after_draw}
 
 -- another anger of the dwarves
 abbrev pub with_anger : ℕ → State → State
 with_anger anger s = let dwarves = s.dwarves in with_dwarves (record dwarves { anger = anger }) s
 
 -- the dwarves stir once the player comes to the depths
-unfoldable pub stirred : CaveView → State → State
-stirred cave s = if nat_le (deep_place cave) s.trail.here then with_anger 1 s else s
+unfoldable pub after_stirring : CaveView → State → State
+after_stirring cave s = if nat_le (deep_place cave) s.trail.here then with_anger 1 s else s
 
 -- a dwarf goes nowhere
 unfoldable pub without_dwarf : ℕ → State → State
 without_dwarf number s =
     let dwarf = dwarf_of s number in with_dwarf number (record dwarf { place = 0 }) s
 
--- one of the five is drawn, and in half of the cases it is no more
+-- one of the five is drawn, and in half of the cases it is gone
 unfoldable pub perhaps_without_one : State → State
 perhaps_without_one s =
-    let one = drawn 5 s.stream in let t = drawing s in
-    if is_within_percent 50 t.stream then without_dwarf one (drawing t) else drawing t
+    let one = number_drawn 5 s.stream in let t = state_after_draw s in
+    if is_within_percent 50 t.stream then without_dwarf one (state_after_draw t)
+    else state_after_draw t
 
 -- a dwarf that is where the player is goes to another place, if one is named for it
 abbrev pub place_apart : CaveView → ℕ → ℕ → ℕ
@@ -43,24 +44,25 @@ dwarf_apart cave here dwarf =
     let place = place_apart cave here dwarf.place in record dwarf { place = place; last = place }
 
 -- so many dwarves are kept apart from the player
-unfoldable pub all_kept_apart : CaveView → ℕ → State → State
-all_kept_apart cave zero s = s
-all_kept_apart cave (suc number) s =
-    let before = all_kept_apart cave number s in
+unfoldable pub with_dwarves_apart : CaveView → ℕ → State → State
+with_dwarves_apart cave zero s = s
+with_dwarves_apart cave (suc number) s =
+    let before = with_dwarves_apart cave number s in
     with_dwarf number (dwarf_apart cave before.trail.here (dwarf_of before number)) before
 
--- the dwarves are awake, and two of them may be no more
-unfoldable pub woken : CaveView → State → State
-woken cave s = all_kept_apart cave 5 (perhaps_without_one (perhaps_without_one (with_anger 2 s)))
+-- the dwarves are awake, and two of them may be gone
+unfoldable pub after_waking : CaveView → State → State
+after_waking cave s =
+    with_dwarves_apart cave 5 (perhaps_without_one (perhaps_without_one (with_anger 2 s)))
 
--- a dwarf throws its axe, which stays where the player stands
-unfoldable pub axe_thrown : CaveView → Scene → Scene
-axe_thrown cave p =
-    let q = saying role.AxeThrown (with_state (woken cave p.state) p) in
+-- a dwarf throws its axe, which stays at the player's place
+unfoldable pub axe_scene : CaveView → Scene → Scene
+axe_scene cave p =
+    let q = after_saying role.AxeThrown (with_state (after_waking cave p.state) p) in
     with_state (put_here (thing cave name.Axe) q.state) q
 
 -- in the depths dwarves that stir wake in 5 of 100 cases
-unfoldable pub awoken : CaveView → Scene → Scene
-awoken cave p =
+unfoldable pub waking_scene : CaveView → Scene → Scene
+waking_scene cave p =
     if nat_lt (here_of p) (deep_place cave) then p
-    else (if happens 95 p then after_draw p else axe_thrown cave (after_draw p))
+    else (if happens 95 p then after_draw p else axe_scene cave (after_draw p))

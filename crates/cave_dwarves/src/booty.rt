@@ -2,25 +2,23 @@
 
 ghost use Rattle.std.specs.Prelude.{◌≡◌};
 ghost use Rattle.cave_things.specs.Things.{cave_of};
-ghost use Rattle.cave_dwarves.specs.Robbing.{moved_to_named, is_fair, is_carried_booty, is_booty};
-ghost use Rattle.cave_dwarves.specs.Robbing.{stolen, all_stolen, carries_booty, is_treasure_near};
-ghost use Rattle.cave_dwarves.specs.Robbing.{with_chest, with_chest_at_first, with_message};
-ghost use Rattle.cave_dwarves.specs.Robbing.{with_pirate_home, robbed, with_hidden_chest};
+ghost use Rattle.cave_dwarves.specs.Booty.{moved_to_named, pirate_wants, is_carried_booty, is_booty};
+ghost use Rattle.cave_dwarves.specs.Booty.{after_theft, after_thefts, carries_booty};
+ghost use Rattle.cave_dwarves.specs.Booty.{is_treasure_near};
+ghost use Rattle.cave_dwarves.specs.Booty.{with_chest, with_chest_at_first, with_message};
+ghost use Rattle.cave_dwarves.specs.Booty.{with_pirate_home, after_robbery, with_hidden_chest};
 ghost use Rattle.cave_things.specs.Treasures.{treasures};
 
 use crate::band::{PIRATE, dwarf_of, set_dwarf};
-use cave_data::PlaceRole;
+use cave_objects::{Object, Place};
+use cave_rows::PlaceRole;
+use cave_things::treasures::{FIRST_TREASURE, LAST_TREASURE};
 use cave_things::{Rules, is_fixed, place_named, place_or};
 use cave_words::Named;
-use cave_world::{Dwarf, Object, Place, State};
-
-/// The treasures are the objects from one to another.
-const FIRST_TREASURE: u8 = 50;
-
-const LAST_TREASURE: u8 = 79;
+use cave_world::{Dwarf, State};
 
 /// An object is moved to the place that is named, if one is.
-#[tactic(auto, unfolding(crate::specs::Robbing::moved_to_named))]
+#[tactic(auto, unfolding(crate::specs::Booty::moved_to_named))]
 fn move_to_named(object: Object, named: Option<Place>, state: &mut State)
     ensures { state.new ≡ moved_to_named object named state.old }
 {
@@ -30,9 +28,9 @@ fn move_to_named(object: Object, named: Option<Place>, state: &mut State)
 }
 
 /// Whether the pirate takes a treasure: any but the pyramid where it or the emerald is at home.
-#[tactic(auto, unfolding(crate::specs::Robbing::is_fair))]
-fn is_fair(rules: &Rules<'_>, state: &State, object: Object) -> bool
-    ensures { result ≡ is_fair (cave_of rules.now) state.now object }
+#[tactic(auto, unfolding(crate::specs::Booty::pirate_wants))]
+fn pirate_wants(rules: &Rules<'_>, state: &State, object: Object) -> bool
+    ensures { result ≡ pirate_wants (cave_of rules.now) state.now object }
 {
     !(rules.is(object, Named::Pyramid)
         && (rules.is_home_here(state, rules.object(Named::Pyramid))
@@ -40,26 +38,26 @@ fn is_fair(rules: &Rules<'_>, state: &State, object: Object) -> bool
 }
 
 /// Whether the player carries a treasure that the pirate takes.
-#[tactic(auto, unfolding(crate::specs::Robbing::is_carried_booty))]
+#[tactic(auto, unfolding(crate::specs::Booty::is_carried_booty))]
 fn is_carried_booty(rules: &Rules<'_>, state: &State, object: Object) -> bool
     ensures { result ≡ is_carried_booty (cave_of rules.now) state.now object }
 {
-    is_fair(rules, state, object) && rules.is_toted(state, object)
+    pirate_wants(rules, state, object) && rules.is_in_hand(state, object)
 }
 
 /// Whether the pirate takes a treasure that is carried, or is here and loose.
-#[tactic(auto, unfolding(crate::specs::Robbing::is_booty))]
+#[tactic(auto, unfolding(crate::specs::Booty::is_booty))]
 fn is_booty(rules: &Rules<'_>, state: &State, object: Object) -> bool
     ensures { result ≡ is_booty (cave_of rules.now) state.now object }
 {
-    is_fair(rules, state, object)
-        && (rules.is_toted(state, object) || (state.at(object) && !is_fixed(state, object)))
+    pirate_wants(rules, state, object)
+        && (rules.is_in_hand(state, object) || (state.at(object) && !is_fixed(state, object)))
 }
 
 /// The pirate brings a treasure to its chest, if it takes it.
-#[tactic(auto, unfolding(crate::specs::Robbing::stolen))]
+#[tactic(auto, unfolding(crate::specs::Booty::after_theft))]
 fn steal(rules: &Rules<'_>, object: Object, state: &mut State)
-    ensures { state.new ≡ stolen (cave_of rules.now) object state.old }
+    ensures { state.new ≡ after_theft (cave_of rules.now) object state.old }
 {
     if is_booty(rules, state, object) {
         let chest = place_named(rules.cave, PlaceRole::Chest);
@@ -70,7 +68,7 @@ fn steal(rules: &Rules<'_>, object: Object, state: &mut State)
 /// The pirate takes all that it can get, one treasure after another.
 #[tactic(auto, using(crate::proofs::Treasures::walking))]
 fn steal_all(rules: &Rules<'_>, state: &mut State)
-    ensures { state.new ≡ all_stolen (cave_of rules.now) treasures state.old }
+    ensures { state.new ≡ after_thefts (cave_of rules.now) treasures state.old }
 {
     for number in FIRST_TREASURE..LAST_TREASURE + 1 {
         steal(rules, Object::new(number), state);
@@ -78,7 +76,7 @@ fn steal_all(rules: &Rules<'_>, state: &mut State)
 }
 
 /// Whether the player carries something that the pirate takes.
-#[tactic(auto, using(crate::proofs::Treasures::walking), unfolding(crate::specs::Robbing::carries_booty))]
+#[tactic(auto, using(crate::proofs::Treasures::walking), unfolding(crate::specs::Booty::carries_booty))]
 pub fn carries_booty(rules: &Rules<'_>, state: &State) -> bool
     ensures { result ≡ carries_booty (cave_of rules.now) state.now }
 {
@@ -91,7 +89,7 @@ pub fn carries_booty(rules: &Rules<'_>, state: &State) -> bool
 }
 
 /// Whether a treasure is at hand.
-#[tactic(auto, using(crate::proofs::Treasures::walking), unfolding(crate::specs::Robbing::is_treasure_near))]
+#[tactic(auto, using(crate::proofs::Treasures::walking), unfolding(crate::specs::Booty::is_treasure_near))]
 pub fn is_treasure_near(rules: &Rules<'_>, state: &State) -> bool
     ensures { result ≡ is_treasure_near (cave_of rules.now) state.now }
 {
@@ -104,7 +102,7 @@ pub fn is_treasure_near(rules: &Rules<'_>, state: &State) -> bool
 }
 
 /// The chest is put at the place that is named for it.
-#[tactic(auto, unfolding(crate::specs::Robbing::with_chest))]
+#[tactic(auto, unfolding(crate::specs::Booty::with_chest))]
 fn put_chest(rules: &Rules<'_>, state: &mut State)
     ensures { state.new ≡ with_chest (cave_of rules.now) state.old }
 {
@@ -113,7 +111,7 @@ fn put_chest(rules: &Rules<'_>, state: &mut State)
 }
 
 /// The chest is put there if the pirate left no message yet.
-#[tactic(auto, unfolding(crate::specs::Robbing::with_chest_at_first))]
+#[tactic(auto, unfolding(crate::specs::Booty::with_chest_at_first))]
 fn put_chest_at_first(rules: &Rules<'_>, state: &mut State)
     ensures { state.new ≡ with_chest_at_first (cave_of rules.now) state.old }
 {
@@ -122,8 +120,7 @@ fn put_chest_at_first(rules: &Rules<'_>, state: &mut State)
     }
 }
 
-/// The pirate leaves its message.
-#[tactic(auto, unfolding(crate::specs::Robbing::with_message))]
+#[tactic(auto, unfolding(crate::specs::Booty::with_message))]
 fn leave_message(rules: &Rules<'_>, state: &mut State)
     ensures { state.new ≡ with_message (cave_of rules.now) state.old }
 {
@@ -131,8 +128,8 @@ fn leave_message(rules: &Rules<'_>, state: &mut State)
     move_to_named(rules.object(Named::Message), place, state);
 }
 
-/// The pirate goes home to its chest, and sees the player no more.
-#[tactic(auto, unfolding(crate::specs::Robbing::with_pirate_home))]
+/// The pirate goes home to its chest, and no longer sees the player.
+#[tactic(auto, unfolding(crate::specs::Booty::with_pirate_home))]
 fn send_pirate_home(rules: &Rules<'_>, state: &mut State)
     ensures { state.new ≡ with_pirate_home (cave_of rules.now) state.old }
 {
@@ -146,9 +143,9 @@ fn send_pirate_home(rules: &Rules<'_>, state: &mut State)
 }
 
 /// The pirate robs the player, and goes home with what it took.
-#[tactic(auto, unfolding(crate::specs::Robbing::robbed))]
+#[tactic(auto, unfolding(crate::specs::Booty::after_robbery))]
 pub fn rob(rules: &Rules<'_>, state: &mut State)
-    ensures { state.new ≡ robbed (cave_of rules.now) state.old }
+    ensures { state.new ≡ after_robbery (cave_of rules.now) state.old }
 {
     put_chest_at_first(rules, state);
     leave_message(rules, state);
@@ -157,7 +154,7 @@ pub fn rob(rules: &Rules<'_>, state: &mut State)
 }
 
 /// The pirate hides its chest, and goes home.
-#[tactic(auto, unfolding(crate::specs::Robbing::with_hidden_chest))]
+#[tactic(auto, unfolding(crate::specs::Booty::with_hidden_chest))]
 pub fn hide_chest(rules: &Rules<'_>, state: &mut State)
     ensures { state.new ≡ with_hidden_chest (cave_of rules.now) state.old }
 {

@@ -1,14 +1,16 @@
+ghost use Rattle.cave_objects.specs.Spots.{is_place};
 ghost use Rattle.std.specs.Prelude.{◌≡◌};
-ghost use Rattle.cave_data.specs.Shown.{going};
-ghost use Rattle.cave_things.specs.Places.{is_that};
+ghost use Rattle.cave_rows.specs.RowViews.{going};
 ghost use Rattle.cave_things.specs.Things.{cave_of};
-ghost use Rattle.cave_dwarves.specs.Ways.{is_haunt, leads_on, place_ahead, candidates};
+ghost use Rattle.cave_dwarves.specs.Candidates.{is_haunt, leads_dwarf_on, place_ahead, candidates};
 
 use crate::haunt::Haunt;
 use arrayvec::ArrayVec;
-use cave_data::Row;
+use cave_objects::Place;
+use cave_objects::place::LAST_PLACE;
+use cave_rows::Row;
 use cave_things::{Condition, Rules};
-use cave_world::{Dwarf, Place, is_forced};
+use cave_world::{Dwarf, is_forced};
 
 /// The most places among which a dwarf chooses.
 pub const MAX_CANDIDATES: usize = 19;
@@ -16,14 +18,11 @@ pub const MAX_CANDIDATES: usize = 19;
 /// The first of the places where dwarves go.
 const FIRST_HAUNT: u16 = 15;
 
-/// The greatest number of a place.
-const LAST_PLACE: u32 = 300;
-
 /// The condition of a row that is closed to dwarves.
 const CLOSED_TO_DWARVES: u32 = 100;
 
 /// Whether a dwarf goes to a place; the pirate keeps away from more of them.
-#[tactic(auto, unfolding(crate::specs::Ways::is_haunt))]
+#[tactic(auto, unfolding(crate::specs::Candidates::is_haunt))]
 fn is_haunt(rules: &Rules<'_>, is_pirate: bool, place: Place) -> bool
     ensures { result ≡ is_haunt (cave_of rules.now) is_pirate place }
 {
@@ -33,15 +32,14 @@ fn is_haunt(rules: &Rules<'_>, is_pirate: bool, place: Place) -> bool
 }
 
 /// The place to which a row leads a dwarf on.
-#[tactic(auto, unfolding(crate::specs::Ways::place_ahead, crate::specs::Ways::leads_on, crate::specs::Ways::is_haunt))]
+#[tactic(auto, unfolding(crate::specs::Candidates::place_ahead, crate::specs::Candidates::leads_dwarf_on, crate::specs::Candidates::is_haunt))]
 fn place_ahead(rules: &Rules<'_>, is_pirate: bool, dwarf: &Dwarf, row: &Row) -> Option<Place>
     ensures { result ≡ place_ahead (cave_of rules.now) is_pirate dwarf.now (going row.now) }
 {
-    let number = row.target % 1000;
-    if row.target / 1000 == CLOSED_TO_DWARVES || number > LAST_PLACE {
+    if row.condition() == CLOSED_TO_DWARVES || row.number() > LAST_PLACE as u16 {
         return None;
     }
-    let place = Place::new(number as u16);
+    let place = Place::new(row.number());
     if place == dwarf.last || place == dwarf.place || !is_haunt(rules, is_pirate, place) {
         return None;
     }
@@ -50,7 +48,7 @@ fn place_ahead(rules: &Rules<'_>, is_pirate: bool, dwarf: &Dwarf, row: &Row) -> 
 
 /// Whether a place is the last one that was kept.
 fn is_kept(place: Place, last: &Option<Place>) -> bool
-    ensures { result ≡ is_that place last.now }
+    ensures { result ≡ is_place place last.now }
 {
     match last {
         Some(kept) => *kept == place,
@@ -59,7 +57,7 @@ fn is_kept(place: Place, last: &Option<Place>) -> bool
 }
 
 /// The places to which the rows of a dwarf's place lead it, in the order of the rows.
-#[tactic(auto, unfolding(crate::specs::Ways::candidates))]
+#[tactic(auto, unfolding(crate::specs::Candidates::candidates))]
 pub fn candidates(
     rules: &Rules<'_>,
     is_pirate: bool,

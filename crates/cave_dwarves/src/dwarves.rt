@@ -2,7 +2,7 @@ ghost use Rattle.std.specs.Prelude.{◌≡◌};
 ghost use Rattle.cave_things.specs.Bounds.{HasRoom, SaysUpTo, parts_of_dwarves};
 ghost use Rattle.cave_things.specs.Plays.{scene_of, GoesOn};
 ghost use Rattle.cave_things.specs.Things.{cave_of};
-ghost use Rattle.cave_dwarves.specs.Dwarves.{harried, dwarves_moved};
+ghost use Rattle.cave_dwarves.specs.Dwarves.{encounter_of, dwarves_moved};
 
 use crate::knives::raid;
 use crate::lines::tell_attack;
@@ -10,12 +10,12 @@ use crate::pirate::send_pirate;
 use crate::waking::{awake, stir};
 use cave_things::{Play, Rules};
 
-/// Dwarves that are awake act, and then the pirate. Tells whether a knife hit the player.
-#[tactic(auto, unfolding(crate::specs::Dwarves::harried))]
+/// Dwarves that are awake act, and then the pirate. Returns whether a knife hit the player.
+#[tactic(auto, unfolding(crate::specs::Dwarves::encounter_of))]
 fn harry(rules: &Rules<'_>, play: &mut Play<'_>) -> bool
     requires { HasRoom parts_of_dwarves play.old }
     ensures moves { record { is_hit = result; scene = scene_of play.new }
-        ≡ harried (cave_of rules.now) (scene_of play.old) }
+        ≡ encounter_of (cave_of rules.now) (scene_of play.old) }
     ensures same { GoesOn play.old play.new }
     ensures few { SaysUpTo parts_of_dwarves play.old play.new }
 {
@@ -25,8 +25,8 @@ fn harry(rules: &Rules<'_>, play: &mut Play<'_>) -> bool
     attack.hits != 0
 }
 
-/// The dwarves sleep, stir, or are awake, where the player arrives.
-/// Tells whether a knife hit the player.
+/// The dwarves sleep, stir, or are awake, where the player arrives. Returns whether a knife hit the
+/// player.
 #[tactic(auto, unfolding(crate::specs::Dwarves::dwarves_moved))]
 pub fn move_dwarves(rules: &Rules<'_>, play: &mut Play<'_>) -> bool
     requires { HasRoom parts_of_dwarves play.old }

@@ -1,6 +1,6 @@
 ghost use Rattle.std.specs.Prelude.{◌≡◌};
 
-use cave_world::Place;
+use cave_objects::Place;
 use std::marker::Model;
 
 /// A place where a dwarf may go.

@@ -1,19 +1,21 @@
 ghost use Rattle.std.specs.Prelude.{◌≡◌, ◌≤◌, ◌<◌, ◌+◌};
 ghost use Rattle.cave_things.specs.Things.{cave_of};
 ghost use Rattle.cave_dwarves.specs.Knives.{fallen_knife, with_knife_here, knife_thrown};
-ghost use Rattle.cave_dwarves.specs.Knives.{threatened, acted, with_threat, no_attack, raided};
+ghost use Rattle.cave_dwarves.specs.Knives.{threatening_act, act_of_dwarf, with_threat, no_attack};
+ghost use Rattle.cave_dwarves.specs.Knives.{raid_of};
 
 use crate::band::dwarf_of;
 use crate::moving::move_on;
+use cave_objects::Place;
 use cave_things::Rules;
-use cave_world::{Knife, Place, State};
+use cave_world::{Knife, State};
 
 /// What a dwarf does to the player.
 #[derive(Clone, Copy, Debug, PartialEq, Eq)]
 pub enum Threat {
     /// It does nothing, and isn't seen.
     Nothing,
-    /// It stands where the player stands.
+    /// It is where the player is.
     Stands,
     /// It throws a knife that misses.
     Misses,
@@ -24,7 +26,7 @@ pub enum Threat {
 /// What dwarves do to the player together.
 #[derive(Clone, Copy, Debug, PartialEq, Eq)]
 pub struct Attack {
-    /// The dwarves that stand where the player stands.
+    /// The dwarves at the player's place.
     pub dwarves: u32,
     /// The knives that were thrown.
     pub knives: u32,
@@ -98,10 +100,10 @@ fn throw_knife(state: &mut State) -> Threat
 }
 
 /// A dwarf that sees the player is here, and throws a knife if it was here before.
-#[tactic(auto, unfolding(crate::specs::Knives::threatened))]
+#[tactic(auto, unfolding(crate::specs::Knives::threatening_act))]
 fn threaten(number: usize, state: &mut State) -> Threat
     requires { number < 6 }
-    ensures { record { threat = result; state = state.new } ≡ threatened number state.old }
+    ensures { record { threat = result; state = state.new } ≡ threatening_act number state.old }
 {
     let dwarf = dwarf_of(state, number);
     if !dwarf.has_seen {
@@ -114,11 +116,11 @@ fn threaten(number: usize, state: &mut State) -> Threat
 }
 
 /// A dwarf moves and then threatens the player. One that is gone does nothing.
-#[tactic(auto, unfolding(crate::specs::Knives::acted))]
+#[tactic(auto, unfolding(crate::specs::Knives::act_of_dwarf))]
 fn act(rules: &Rules<'_>, number: usize, state: &mut State) -> Threat
     requires { number < 6 }
     ensures { record { threat = result; state = state.new }
-        ≡ acted (cave_of rules.now) number state.old }
+        ≡ act_of_dwarf (cave_of rules.now) number state.old }
 {
     if dwarf_of(state, number).place.number() == 0 {
         return Threat::Nothing;
@@ -130,7 +132,7 @@ fn act(rules: &Rules<'_>, number: usize, state: &mut State) -> Threat
 /// The five dwarves act, one after another.
 pub fn raid(rules: &Rules<'_>, state: &mut State) -> Attack
     ensures raid { record { attack = result; state = state.new }
-        ≡ raided (cave_of rules.now) 5 state.old }
+        ≡ raid_of (cave_of rules.now) 5 state.old }
     ensures dwarves { result.dwarves ≤ 5 }
     ensures knives { result.knives ≤ 5 }
     ensures hits { result.hits ≤ 5 }

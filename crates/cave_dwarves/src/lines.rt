@@ -1,16 +1,16 @@
 ghost use Rattle.std.specs.Prelude.{◌≡◌};
 ghost use Rattle.cave_things.specs.Bounds.{HasRoom, SaysUpTo};
 ghost use Rattle.cave_things.specs.Plays.{scene_of, GoesOn};
-ghost use Rattle.cave_dwarves.specs.Lines.{telling_number, dwarves_told, knife_told, knives_told};
-ghost use Rattle.cave_dwarves.specs.Lines.{enraged, throws_told, attack_told};
+ghost use Rattle.cave_dwarves.specs.Lines.{telling_number, after_dwarf_count, after_one_knife, after_some_knives};
+ghost use Rattle.cave_dwarves.specs.Lines.{after_first_knives, after_throws, after_attack};
 
 use crate::knives::Attack;
 use crate::waking::anger;
-use cave_data::Role;
+use cave_rows::Role;
 use cave_things::Play;
 use cave_world::{NumberLine, Part, State};
 
-/// A line of the game's own with a number is told.
+/// A line of the game's own with a number is printed.
 fn tell_number(line: NumberLine, number: u32, play: &mut Play<'_>)
     requires { HasRoom 1 play.old }
     ensures play { scene_of play.new ≡ telling_number line number (scene_of play.old) }
@@ -20,11 +20,11 @@ fn tell_number(line: NumberLine, number: u32, play: &mut Play<'_>)
     play.tell(Part::Number(line, number, 0));
 }
 
-/// How many dwarves are here is told.
-#[tactic(auto, unfolding(crate::specs::Lines::dwarves_told))]
+/// How many dwarves are here is printed.
+#[tactic(auto, unfolding(crate::specs::Lines::after_dwarf_count))]
 fn tell_dwarves(dwarves: u32, play: &mut Play<'_>)
     requires { HasRoom 1 play.old }
-    ensures play { scene_of play.new ≡ dwarves_told dwarves (scene_of play.old) }
+    ensures play { scene_of play.new ≡ after_dwarf_count dwarves (scene_of play.old) }
     ensures same { GoesOn play.old play.new }
     ensures few { SaysUpTo 1 play.old play.new }
 {
@@ -35,11 +35,11 @@ fn tell_dwarves(dwarves: u32, play: &mut Play<'_>)
     }
 }
 
-/// One knife is told, and whether it hit.
-#[tactic(auto, unfolding(crate::specs::Lines::knife_told))]
+/// The line of one knife is printed, and whether it hit.
+#[tactic(auto, unfolding(crate::specs::Lines::after_one_knife))]
 fn tell_knife(hits: u32, play: &mut Play<'_>)
     requires { HasRoom 2 play.old }
-    ensures play { scene_of play.new ≡ knife_told hits (scene_of play.old) }
+    ensures play { scene_of play.new ≡ after_one_knife hits (scene_of play.old) }
     ensures same { GoesOn play.old play.new }
     ensures few { SaysUpTo 2 play.old play.new }
 {
@@ -51,11 +51,11 @@ fn tell_knife(hits: u32, play: &mut Play<'_>)
     }
 }
 
-/// Several knives are told, and how many hit.
-#[tactic(auto, unfolding(crate::specs::Lines::knives_told))]
+/// The line of several knives is printed, and how many hit.
+#[tactic(auto, unfolding(crate::specs::Lines::after_some_knives))]
 fn tell_knives(knives: u32, hits: u32, play: &mut Play<'_>)
     requires { HasRoom 2 play.old }
-    ensures play { scene_of play.new ≡ knives_told knives hits (scene_of play.old) }
+    ensures play { scene_of play.new ≡ after_some_knives knives hits (scene_of play.old) }
     ensures same { GoesOn play.old play.new }
     ensures few { SaysUpTo 2 play.old play.new }
 {
@@ -68,20 +68,20 @@ fn tell_knives(knives: u32, hits: u32, play: &mut Play<'_>)
 }
 
 /// Dwarves that threw knives for the first time are angrier from then on.
-#[tactic(auto, unfolding(crate::specs::Lines::enraged))]
+#[tactic(auto, unfolding(crate::specs::Lines::after_first_knives))]
 fn enrage(state: &mut State)
-    ensures { state.new ≡ enraged state.old }
+    ensures { state.new ≡ after_first_knives state.old }
 {
     if state.dwarves.anger.number() == 2 {
         anger(3, state);
     }
 }
 
-/// The knives are told, if any were thrown.
-#[tactic(auto, unfolding(crate::specs::Lines::throws_told))]
+/// The lines of the knives are printed, if any were thrown.
+#[tactic(auto, unfolding(crate::specs::Lines::after_throws))]
 fn tell_throws(attack: Attack, play: &mut Play<'_>)
     requires { HasRoom 2 play.old }
-    ensures play { scene_of play.new ≡ throws_told attack (scene_of play.old) }
+    ensures play { scene_of play.new ≡ after_throws attack (scene_of play.old) }
     ensures same { GoesOn play.old play.new }
     ensures few { SaysUpTo 2 play.old play.new }
 {
@@ -96,11 +96,11 @@ fn tell_throws(attack: Attack, play: &mut Play<'_>)
     }
 }
 
-/// The dwarves are told, and then their knives.
-#[tactic(auto, unfolding(crate::specs::Lines::attack_told))]
+/// The line of the dwarves is printed, and then those of their knives.
+#[tactic(auto, unfolding(crate::specs::Lines::after_attack))]
 pub fn tell_attack(attack: Attack, play: &mut Play<'_>)
     requires { HasRoom 3 play.old }
-    ensures play { scene_of play.new ≡ attack_told attack (scene_of play.old) }
+    ensures play { scene_of play.new ≡ after_attack attack (scene_of play.old) }
     ensures same { GoesOn play.old play.new }
     ensures few { SaysUpTo 3 play.old play.new }
 {

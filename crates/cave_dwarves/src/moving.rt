@@ -1,16 +1,17 @@
 ghost use Rattle.std.specs.Prelude.{◌≡◌, ◌<◌, ◌==◌};
 ghost use Rattle.cave_words.specs.Stream.{next};
 ghost use Rattle.cave_things.specs.Things.{cave_of};
-ghost use Rattle.cave_dwarves.specs.Moving.{chosen_way, sees, gone_on, moved_on};
+ghost use Rattle.cave_dwarves.specs.Moving.{chosen_way, sees, dwarf_after_move, after_dwarf_move};
 
 use crate::band::{PIRATE, dwarf_of, set_dwarf};
 use crate::candidates::candidates;
+use cave_objects::Place;
 use cave_things::{Rules, deep_place};
 use cave_words::Stream;
-use cave_world::{Dwarf, Place, State};
+use cave_world::{Dwarf, State};
 
 /// Draws one of the ways of a dwarf, also where there is but one.
-#[tactic(auto, unfolding(crate::specs::Moving::chosen_way, crate::specs::Ways::ways_of))]
+#[tactic(auto, unfolding(crate::specs::Moving::chosen_way, crate::specs::Candidates::ways_of_dwarf))]
 fn choose_way(rules: &Rules<'_>, is_pirate: bool, dwarf: &Dwarf, stream: &mut Stream) -> Place
     ensures place { result ≡ chosen_way (cave_of rules.now) is_pirate dwarf.now stream.old }
     ensures moves_on { stream.new ≡ next stream.old }
@@ -33,9 +34,9 @@ fn sees(rules: &Rules<'_>, here: Place, dwarf: &Dwarf, place: Place) -> bool
 }
 
 /// A dwarf that goes to a place, or to the player whom it sees.
-#[tactic(auto, unfolding(crate::specs::Moving::gone_on))]
+#[tactic(auto, unfolding(crate::specs::Moving::dwarf_after_move))]
 fn go_on(rules: &Rules<'_>, here: Place, dwarf: &Dwarf, place: Place) -> Dwarf
-    ensures { result ≡ gone_on (cave_of rules.now) here dwarf.now place }
+    ensures { result ≡ dwarf_after_move (cave_of rules.now) here dwarf.now place }
 {
     let sees = sees(rules, here, dwarf, place);
     Dwarf {
@@ -46,10 +47,10 @@ fn go_on(rules: &Rules<'_>, here: Place, dwarf: &Dwarf, place: Place) -> Dwarf
 }
 
 /// The dwarf of a number moves.
-#[tactic(auto, unfolding(crate::specs::Moving::moved_on))]
+#[tactic(auto, unfolding(crate::specs::Moving::after_dwarf_move))]
 pub fn move_on(rules: &Rules<'_>, number: usize, state: &mut State)
     requires { number < 6 }
-    ensures { state.new ≡ moved_on (cave_of rules.now) number state.old }
+    ensures { state.new ≡ after_dwarf_move (cave_of rules.now) number state.old }
 {
     let dwarf = dwarf_of(state, number);
     let place = choose_way(rules, number == PIRATE, &dwarf, &mut state.stream);

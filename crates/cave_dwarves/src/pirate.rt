@@ -3,18 +3,18 @@ ghost use Rattle.cave_things.specs.Bounds.{HasRoom, SaysUpTo};
 ghost use Rattle.cave_things.specs.Plays.{scene_of, GoesOn};
 ghost use Rattle.cave_things.specs.Things.{cave_of};
 ghost use Rattle.cave_dwarves.specs.Pirate.{is_chest_seen, is_after_player, hides_chest};
-ghost use Rattle.cave_dwarves.specs.Pirate.{is_pirate_new, rustled, met, met_if_after_player};
-ghost use Rattle.cave_dwarves.specs.Pirate.{pirate_acted};
+ghost use Rattle.cave_dwarves.specs.Pirate.{is_pirate_new, rustling_scene, pirate_scene};
+ghost use Rattle.cave_dwarves.specs.Pirate.{after_pirate_meeting};
+ghost use Rattle.cave_dwarves.specs.Pirate.{after_pirate};
 
 use crate::band::{PIRATE, dwarf_of};
 use crate::booty::{carries_booty, hide_chest, is_treasure_near, rob};
 use crate::moving::move_on;
-use cave_data::{PlaceRole, Role};
-use cave_things::{Play, Rules, has_prop, is_that, place_named};
+use cave_rows::{PlaceRole, Role};
+use cave_things::{Play, Rules, has_prop, is_place, place_named};
 use cave_words::Named;
 use cave_world::State;
 
-/// Whether the chest was seen.
 #[tactic(auto, unfolding(crate::specs::Pirate::is_chest_seen))]
 fn is_chest_seen(rules: &Rules<'_>, state: &State) -> bool
     ensures { result ≡ is_chest_seen (cave_of rules.now) state.now }
@@ -29,7 +29,7 @@ fn is_after_player(rules: &Rules<'_>, state: &State) -> bool
     ensures { result ≡ is_after_player (cave_of rules.now) state.now }
 {
     dwarf_of(state, PIRATE).has_seen
-        && !is_that(state.trail.here, place_named(rules.cave, PlaceRole::Chest))
+        && !is_place(state.trail.here, place_named(rules.cave, PlaceRole::Chest))
         && !is_chest_seen(rules, state)
 }
 
@@ -56,10 +56,10 @@ fn is_pirate_new(state: &State) -> bool
 }
 
 /// The player may hear the pirate who follows.
-#[tactic(auto, unfolding(crate::specs::Pirate::rustled))]
+#[tactic(auto, unfolding(crate::specs::Pirate::rustling_scene))]
 fn rustle(play: &mut Play<'_>)
     requires { HasRoom 1 play.old }
-    ensures play { scene_of play.new ≡ rustled (scene_of play.old) }
+    ensures play { scene_of play.new ≡ rustling_scene (scene_of play.old) }
     ensures same { GoesOn play.old play.new }
     ensures few { SaysUpTo 1 play.old play.new }
 {
@@ -72,10 +72,10 @@ fn rustle(play: &mut Play<'_>)
 }
 
 /// The pirate who is after the player robs, or hides its chest, or follows.
-#[tactic(auto, unfolding(crate::specs::Pirate::met))]
+#[tactic(auto, unfolding(crate::specs::Pirate::pirate_scene))]
 fn meet(rules: &Rules<'_>, play: &mut Play<'_>)
     requires { HasRoom 1 play.old }
-    ensures play { scene_of play.new ≡ met (cave_of rules.now) (scene_of play.old) }
+    ensures play { scene_of play.new ≡ pirate_scene (cave_of rules.now) (scene_of play.old) }
     ensures same { GoesOn play.old play.new }
     ensures few { SaysUpTo 1 play.old play.new }
 {
@@ -92,11 +92,11 @@ fn meet(rules: &Rules<'_>, play: &mut Play<'_>)
     rustle(play);
 }
 
-#[tactic(auto, unfolding(crate::specs::Pirate::met_if_after_player))]
+#[tactic(auto, unfolding(crate::specs::Pirate::after_pirate_meeting))]
 fn meet_if_after_player(rules: &Rules<'_>, play: &mut Play<'_>)
     requires { HasRoom 1 play.old }
     ensures play { scene_of play.new
-        ≡ met_if_after_player (cave_of rules.now) (scene_of play.old) }
+        ≡ after_pirate_meeting (cave_of rules.now) (scene_of play.old) }
     ensures same { GoesOn play.old play.new }
     ensures few { SaysUpTo 1 play.old play.new }
 {
@@ -106,10 +106,10 @@ fn meet_if_after_player(rules: &Rules<'_>, play: &mut Play<'_>)
 }
 
 /// The pirate moves like a dwarf, and may meet the player.
-#[tactic(auto, unfolding(crate::specs::Pirate::pirate_acted))]
+#[tactic(auto, unfolding(crate::specs::Pirate::after_pirate))]
 pub fn send_pirate(rules: &Rules<'_>, play: &mut Play<'_>)
     requires { HasRoom 1 play.old }
-    ensures play { scene_of play.new ≡ pirate_acted (cave_of rules.now) (scene_of play.old) }
+    ensures play { scene_of play.new ≡ after_pirate (cave_of rules.now) (scene_of play.old) }
     ensures same { GoesOn play.old play.new }
     ensures few { SaysUpTo 1 play.old play.new }
 {

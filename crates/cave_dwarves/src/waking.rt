@@ -3,15 +3,16 @@ ghost use Rattle.cave_things.specs.Bounds.{HasRoom, SaysUpTo};
 ghost use Rattle.cave_things.specs.Plays.{scene_of, GoesOn};
 ghost use Rattle.cave_things.specs.Things.{cave_of};
 ghost use Rattle.cave_things.specs.Effects.{put_here};
-ghost use Rattle.cave_dwarves.specs.Waking.{with_anger, stirred, without_dwarf};
+ghost use Rattle.cave_dwarves.specs.Waking.{with_anger, after_stirring, without_dwarf};
 ghost use Rattle.cave_dwarves.specs.Waking.{perhaps_without_one, place_apart, dwarf_apart};
-ghost use Rattle.cave_dwarves.specs.Waking.{all_kept_apart, woken, axe_thrown, awoken};
+ghost use Rattle.cave_dwarves.specs.Waking.{with_dwarves_apart, after_waking, axe_scene, waking_scene};
 
 use crate::band::{dwarf_of, set_dwarf};
-use cave_data::{PlaceRole, Role};
+use cave_objects::Place;
+use cave_rows::{PlaceRole, Role};
 use cave_things::{Play, Rules, deep_place, place_named, place_or};
 use cave_words::Named;
-use cave_world::{Count, Dwarf, Place, State};
+use cave_world::{Count, Dwarf, State};
 
 /// The dwarves are so angry from now on.
 pub fn anger(degree: u16, state: &mut State)
@@ -22,9 +23,9 @@ pub fn anger(degree: u16, state: &mut State)
 }
 
 /// The dwarves stir once the player comes to the depths.
-#[tactic(auto, unfolding(crate::specs::Waking::stirred))]
+#[tactic(auto, unfolding(crate::specs::Waking::after_stirring))]
 pub fn stir(rules: &Rules<'_>, state: &mut State)
-    ensures { state.new ≡ stirred (cave_of rules.now) state.old }
+    ensures { state.new ≡ after_stirring (cave_of rules.now) state.old }
 {
     if deep_place(rules.cave).number() <= state.trail.here.number() {
         anger(1, state);
@@ -46,7 +47,7 @@ fn remove_dwarf(number: usize, state: &mut State)
     set_dwarf(number, gone, state);
 }
 
-/// One of the five is drawn, and in half of the cases it is no more.
+/// One of the five is drawn, and in half of the cases it is gone.
 #[tactic(auto, unfolding(crate::specs::Waking::perhaps_without_one))]
 fn perhaps_remove_one(state: &mut State)
     ensures { state.new ≡ perhaps_without_one state.old }
@@ -82,7 +83,7 @@ fn dwarf_apart(rules: &Rules<'_>, here: Place, dwarf: &Dwarf) -> Dwarf
 
 /// The five dwarves are kept apart from the player, and forget where they came from.
 fn keep_apart(rules: &Rules<'_>, state: &mut State)
-    ensures { state.new ≡ all_kept_apart (cave_of rules.now) 5 state.old }
+    ensures { state.new ≡ with_dwarves_apart (cave_of rules.now) 5 state.old }
 {
     for number in 0..5 {
         let dwarf = dwarf_of(state, number);
@@ -91,10 +92,10 @@ fn keep_apart(rules: &Rules<'_>, state: &mut State)
     }
 }
 
-/// The dwarves are awake, and two of them may be no more.
-#[tactic(auto, unfolding(crate::specs::Waking::woken))]
+/// The dwarves are awake, and two of them may be gone.
+#[tactic(auto, unfolding(crate::specs::Waking::after_waking))]
 fn wake(rules: &Rules<'_>, state: &mut State)
-    ensures { state.new ≡ woken (cave_of rules.now) state.old }
+    ensures { state.new ≡ after_waking (cave_of rules.now) state.old }
 {
     anger(2, state);
     perhaps_remove_one(state);
@@ -102,11 +103,11 @@ fn wake(rules: &Rules<'_>, state: &mut State)
     keep_apart(rules, state);
 }
 
-/// The dwarves wake, and one throws its axe, which stays where the player stands.
-#[tactic(auto, unfolding(crate::specs::Waking::axe_thrown))]
+/// The dwarves wake, and one throws its axe, which stays at the player's place.
+#[tactic(auto, unfolding(crate::specs::Waking::axe_scene))]
 fn throw_axe(rules: &Rules<'_>, play: &mut Play<'_>)
     requires { HasRoom 1 play.old }
-    ensures play { scene_of play.new ≡ axe_thrown (cave_of rules.now) (scene_of play.old) }
+    ensures play { scene_of play.new ≡ axe_scene (cave_of rules.now) (scene_of play.old) }
     ensures same { GoesOn play.old play.new }
     ensures few { SaysUpTo 1 play.old play.new }
 {
@@ -117,10 +118,10 @@ fn throw_axe(rules: &Rules<'_>, play: &mut Play<'_>)
 }
 
 /// In the depths, dwarves that stir may wake.
-#[tactic(auto, unfolding(crate::specs::Waking::awoken))]
+#[tactic(auto, unfolding(crate::specs::Waking::waking_scene))]
 pub fn awake(rules: &Rules<'_>, play: &mut Play<'_>)
     requires { HasRoom 1 play.old }
-    ensures play { scene_of play.new ≡ awoken (cave_of rules.now) (scene_of play.old) }
+    ensures play { scene_of play.new ≡ waking_scene (cave_of rules.now) (scene_of play.old) }
     ensures same { GoesOn play.old play.new }
     ensures few { SaysUpTo 1 play.old play.new }
 {

@@ -5,16 +5,16 @@ use Rattle.std.specs.Prelude.{None, slice_index_or, slice_set, suc, zero}
 use Rattle.std.specs.FinMap as map
 use Rattle.std.specs.Int.{int_min}
 use Rattle.cave_data.specs.CaveView.{CaveView}
-use Rattle.cave_data.specs.declared.rows.Hint.{Hint}
-use Rattle.cave_score.specs.Questions.{asking}
-use Rattle.cave_things.specs.Plays.{Scene, telling, with_state}
-use Rattle.cave_things.specs.Reach.{is_called, is_near, is_toted, has_prop, has_other_prop}
+use Rattle.cave_rows.specs.declared.rows.Hint.{Hint}
+use Rattle.cave_score.specs.Questions.{asking_scene}
+use Rattle.cave_things.specs.Plays.{Scene, after_telling, with_state}
+use Rattle.cave_things.specs.Reach.{is_called, is_near, is_in_hand, has_prop, has_other_prop}
 use Rattle.cave_things.specs.Things.{thing}
 use Rattle.cave_words.specs.declared.named.Named.TheVariants as name
-use Rattle.cave_world.specs.Lists.{halves_at}
-use Rattle.cave_world.specs.Objects.{carried_objects}
+use Rattle.cave_objects.specs.Lists.{halves_at}
+use Rattle.cave_objects.specs.Objects.{carried_objects}
 use Rattle.cave_world.specs.Sight.{has_condition}
-use Rattle.cave_world.specs.State.{is_over}
+use Rattle.cave_world.specs.State.{takes_no_command}
 use Rattle.cave_world.specs.declared.ending.Question.TheVariants as question
 use Rattle.cave_world.specs.declared.part.NumberLine.TheVariants.{HintCosts}
 use Rattle.cave_world.specs.declared.part.Part.TheVariants as part
@@ -42,15 +42,15 @@ abbrev pub is_in_area : CaveView → ℕ → State → Bool
 is_in_area cave h s = has_condition cave s.trail.here h
 
 -- one turn more in the area, or none outside it
-unfoldable pub waited : CaveView → ℕ → State → State
-waited cave h s =
+unfoldable pub after_turn_near : CaveView → ℕ → State → State
+after_turn_near cave h s =
     if is_in_area cave h s then with_turns_near h (min (turns_near h s + 1) 10000) s
     else with_turns_near h 0 s
 
 -- the player has stayed for long enough, and no question is open
 unfoldable pub is_due : CaveView → ℕ → Hint → State → Bool
 is_due cave h hint s =
-    is_in_area cave h s && nat_le hint.turns (turns_near h s) && not (is_over s)
+    is_in_area cave h s && nat_le hint.turns (turns_near h s) && not (takes_no_command s)
 
 -- the grate is locked, and the keys aren't at hand
 unfoldable pub is_locked_out : CaveView → State → Bool
@@ -60,7 +60,7 @@ is_locked_out cave s =
 -- the bird is at hand, which flees from the rod that the player carries, and it was the last object
 unfoldable pub is_after_bird : CaveView → State → Bool
 is_after_bird cave s =
-    is_near cave s (thing cave name.Bird) && is_toted cave s (thing cave name.Rod)
+    is_near cave s (thing cave name.Bird) && is_in_hand cave s (thing cave name.Rod)
     && is_called cave s.talk.last name.Bird
 
 -- the snake is here, and the bird isn't at hand
@@ -83,7 +83,7 @@ is_short_of_pyramid cave s =
     has_other_prop s (thing cave name.Emerald) (negsuc 0)
     && has_prop s (thing cave name.Pyramid) (negsuc 0)
 
--- five hints ask whether the player needs them, and the others help whoever stays
+-- five hints ask whether the player needs them, and the others help any player who stays
 abbrev pub is_needed : CaveView → ℕ → State → Bool
 is_needed cave h s =
     if h == 4 then is_locked_out cave s
@@ -92,16 +92,16 @@ is_needed cave h s =
     else (if h == 7 then is_lost_in_maze s
     else (if h == 8 then is_short_of_pyramid cave s else true))))
 
--- a hint that isn't needed is waited for anew, but for that of the bird
+-- the turns of a hint that isn't needed are counted from 0 again, except those of the bird's hint
 abbrev pub put_off : ℕ → State → State
 put_off h s = if h == 5 then s else with_turns_near h 0 s
 
--- a hint that is due is offered to who needs it
-unfoldable pub offered : CaveView → ℕ → Hint → Scene → Scene
-offered cave h hint p =
+-- a hint that is due is offered to a player who needs it
+unfoldable pub offer_scene : CaveView → ℕ → Hint → Scene → Scene
+offer_scene cave h hint p =
     if is_due cave h hint p.state
     then (if is_needed cave h p.state
-    then asking cave (question.Hint h) (with_state (with_turns_near h 0 p.state) p)
+    then asking_scene cave (question.Hint h) (with_state (with_turns_near h 0 p.state) p)
     else with_state (put_off h p.state) p)
     else p
 
@@ -110,43 +110,44 @@ abbrev pub considered_if : CaveView → ℕ → Option Hint → Scene → Scene
 considered_if cave h None p = p
 considered_if cave h (Some hint) p =
     if was_taken h p.state then p
-    else offered cave h hint (with_state (waited cave h p.state) p)
+    else offer_scene cave h hint (with_state (after_turn_near cave h p.state) p)
 
-unfoldable pub considered : CaveView → ℕ → Scene → Scene
-considered cave h p = considered_if cave h (map.get cave.hints h) p
+unfoldable pub after_considering : CaveView → ℕ → Scene → Scene
+after_considering cave h p = considered_if cave h (map.get cave.hints h) p
 
 -- so many hints from the fourth on are considered, one after another
 unfoldable pub considered_up_to : CaveView → ℕ → Scene → Scene
 considered_up_to cave zero p = p
-considered_up_to cave (suc n) p = considered cave (n + 4) (considered_up_to cave n p)
+considered_up_to cave (suc n) p = after_considering cave (n + 4) (considered_up_to cave n p)
 
 -- the hints from 4 to 20
-abbrev pub all_considered : CaveView → Scene → Scene
-all_considered cave p = considered_up_to cave 17 p
+abbrev pub after_hints : CaveView → Scene → Scene
+after_hints cave p = considered_up_to cave 17 p
 
--- what a hint costs is told, and whether it is worth that is asked
+-- what a hint costs is said, and whether it is worth that is asked
 abbrev pub priced_if : CaveView → ℕ → Option Hint → Scene → Scene
 priced_if cave h None p = p
 priced_if cave h (Some hint) p =
-    asking cave (question.Take h) (telling (part.Number HintCosts hint.points 0) p)
+    asking_scene cave (question.Take h) (after_telling (part.Number HintCosts hint.points 0) p)
 
-unfoldable pub priced : CaveView → ℕ → Scene → Scene
-priced cave h p = priced_if cave h (map.get cave.hints h) p
+unfoldable pub price_scene : CaveView → ℕ → Scene → Scene
+price_scene cave h p = priced_if cave h (map.get cave.hints h) p
 
 -- a hint lets a lamp that isn't low burn 30 turns more for each point that it costs, up to 100,000
-abbrev pub rewarded : ℕ → State → State
-rewarded points s =
+abbrev pub after_reward : ℕ → State → State
+after_reward points s =
     let lamp = s.lamp in
     if int_lt (pos 30) lamp.charge
-    then record s { lamp = record lamp { charge = int_min (lamp.charge +ℤ pos (30 * points)) (pos 100000) } }
+    then record s
+    { lamp = record lamp { charge = int_min (lamp.charge +ℤ pos (30 * points)) (pos 100000) } }
     else s
 
--- a hint is told
+-- a hint is given
 abbrev pub given_if : ℕ → Option Hint → Scene → Scene
 given_if h None p = p
 given_if h (Some hint) p =
-    let q = telling (part.Message hint.text) p in
-    with_state (rewarded hint.points (with_hint_taken h q.state)) q
+    let q = after_telling (part.Message hint.text) p in
+    with_state (after_reward hint.points (with_hint_taken h q.state)) q
 
-unfoldable pub given : CaveView → ℕ → Scene → Scene
-given cave h p = given_if h (map.get cave.hints h) p
+unfoldable pub hint_scene : CaveView → ℕ → Scene → Scene
+hint_scene cave h p = given_if h (map.get cave.hints h) p

@@ -5,13 +5,14 @@ ghost use Rattle.cave_things.specs.Bounds.{HasRoom, SaysUpTo, parts_of_question}
 ghost use Rattle.cave_things.specs.Plays.{scene_of, GoesOn};
 ghost use Rattle.cave_things.specs.Things.{cave_of};
 ghost use Rattle.cave_hints.specs.Hints.{turns_near, with_turns_near, was_taken, with_hint_taken};
-ghost use Rattle.cave_hints.specs.Hints.{is_in_area, waited, is_due, is_locked_out};
+ghost use Rattle.cave_hints.specs.Hints.{is_in_area, after_turn_near, is_due, is_locked_out};
 ghost use Rattle.cave_hints.specs.Hints.{is_after_bird, is_held_by_snake, is_lost_in_maze};
-ghost use Rattle.cave_hints.specs.Hints.{is_short_of_pyramid, is_needed, put_off, offered};
-ghost use Rattle.cave_hints.specs.Hints.{considered, all_considered, priced, rewarded, given};
-ghost use Rattle.cave_world.specs.State.{is_over};
+ghost use Rattle.cave_hints.specs.Hints.{is_short_of_pyramid, is_needed, put_off, offer_scene};
+ghost use Rattle.cave_hints.specs.Hints.{after_considering, after_hints, price_scene};
+ghost use Rattle.cave_hints.specs.Hints.{after_reward, hint_scene};
+ghost use Rattle.cave_world.specs.State.{takes_no_command};
 
-use cave_data::Hint;
+use cave_rows::Hint;
 use cave_score::ask;
 use cave_things::{Play, Rules, has_other_prop, has_prop};
 use cave_words::Named;
@@ -23,8 +24,20 @@ const FIRST_HINT: u8 = 4;
 /// How many hints are offered.
 const HINTS: u8 = 17;
 
-/// The hint of the bird.
+/// Asks how to come through the grate.
+const GRATE_HINT: u8 = 4;
+
+/// Asks how to catch the bird.
 const BIRD_HINT: u8 = 5;
+
+/// Asks how to pass the snake.
+const SNAKE_HINT: u8 = 6;
+
+/// Asks how to leave the maze.
+const MAZE_HINT: u8 = 7;
+
+/// Asks how to take the pyramid out.
+const PYRAMID_HINT: u8 = 8;
 
 /// How many turns the player has stayed in the area of a hint.
 fn turns_near(hint: HintNumber, state: &State) -> Count<10000>
@@ -58,10 +71,10 @@ fn is_in_area(rules: &Rules<'_>, hint: HintNumber, state: &State) -> bool
 }
 
 /// One turn more in the area of a hint, or none outside it.
-#[tactic(auto, unfolding(crate::specs::Hints::waited, cave_world::specs::State::is_over))]
+#[tactic(auto, unfolding(crate::specs::Hints::after_turn_near, cave_world::specs::State::takes_no_command))]
 fn wait(rules: &Rules<'_>, hint: HintNumber, state: &mut State)
-    ensures state { state.new ≡ waited (cave_of rules.now) hint state.old }
-    ensures over { is_over state.new ≡ is_over state.old }
+    ensures state { state.new ≡ after_turn_near (cave_of rules.now) hint state.old }
+    ensures over { takes_no_command state.new ≡ takes_no_command state.old }
 {
     let turns = if is_in_area(rules, hint, state) {
         turns_near(hint, state).up()
@@ -78,7 +91,7 @@ fn is_due(rules: &Rules<'_>, number: HintNumber, hint: &Hint, state: &State) -> 
 {
     is_in_area(rules, number, state)
         && hint.turns <= turns_near(number, state).number()
-        && !state.is_over()
+        && !state.takes_no_command()
 }
 
 #[tactic(auto, unfolding(crate::specs::Hints::is_locked_out))]
@@ -94,7 +107,7 @@ fn is_after_bird(rules: &Rules<'_>, state: &State) -> bool
     ensures { result ≡ is_after_bird (cave_of rules.now) state.now }
 {
     rules.is_near(state, rules.object(Named::Bird))
-        && rules.is_toted(state, rules.object(Named::Rod))
+        && rules.is_in_hand(state, rules.object(Named::Rod))
         && rules.is(state.talk.last, Named::Bird)
 }
 
@@ -124,24 +137,23 @@ fn is_short_of_pyramid(rules: &Rules<'_>, state: &State) -> bool
         && has_prop(state, rules.object(Named::Pyramid), -1)
 }
 
-/// Whether the player needs a hint.
 fn is_needed(rules: &Rules<'_>, hint: HintNumber, state: &State) -> bool
     ensures { result ≡ is_needed (cave_of rules.now) hint state.now }
 {
     match hint.number() {
-        4 => is_locked_out(rules, state),
+        GRATE_HINT => is_locked_out(rules, state),
         BIRD_HINT => is_after_bird(rules, state),
-        6 => is_held_by_snake(rules, state),
-        7 => is_lost_in_maze(state),
-        8 => is_short_of_pyramid(rules, state),
+        SNAKE_HINT => is_held_by_snake(rules, state),
+        MAZE_HINT => is_lost_in_maze(state),
+        PYRAMID_HINT => is_short_of_pyramid(rules, state),
         _ => true,
     }
 }
 
-#[tactic(auto, unfolding(cave_world::specs::State::is_over))]
+#[tactic(auto, unfolding(cave_world::specs::State::takes_no_command))]
 fn put_off(hint: HintNumber, state: &mut State)
     ensures state { state.new ≡ put_off hint state.old }
-    ensures over { is_over state.new ≡ is_over state.old }
+    ensures over { takes_no_command state.new ≡ takes_no_command state.old }
 {
     if hint.number() != BIRD_HINT {
         set_turns_near(hint, Count::new(0), state);
@@ -149,16 +161,17 @@ fn put_off(hint: HintNumber, state: &mut State)
 }
 
 /// A hint that is due is offered to a player who needs it.
-#[tactic(auto, unfolding(crate::specs::Hints::offered, crate::specs::Hints::is_due))]
+#[tactic(auto, unfolding(crate::specs::Hints::offer_scene, crate::specs::Hints::is_due))]
 fn offer(rules: &Rules<'_>, number: HintNumber, hint: &Hint, play: &mut Play<'_>)
     requires { HasRoom parts_of_question play.old }
     ensures play { scene_of play.new
-        ≡ offered (cave_of rules.now) number hint.now (scene_of play.old) }
+        ≡ offer_scene (cave_of rules.now) number hint.now (scene_of play.old) }
     ensures same { GoesOn play.old play.new }
     ensures few { SaysUpTo parts_of_question play.old play.new }
-    ensures few_on { is_over play.new.state.now ≡ false → SaysUpTo 0 play.old play.new }
-    ensures few_over { is_over play.old.state.now ≡ true → SaysUpTo 0 play.old play.new }
-    ensures stays { is_over play.new.state.now ≡ false → is_over play.old.state.now ≡ false }
+    ensures few_on { takes_no_command play.new.state.now ≡ false → SaysUpTo 0 play.old play.new }
+    ensures few_over { takes_no_command play.old.state.now ≡ true → SaysUpTo 0 play.old play.new }
+    ensures stays { takes_no_command play.new.state.now ≡ false
+        → takes_no_command play.old.state.now ≡ false }
 {
     if !is_due(rules, number, hint, play.state) {
         return;
@@ -172,15 +185,17 @@ fn offer(rules: &Rules<'_>, number: HintNumber, hint: &Hint, play: &mut Play<'_>
 }
 
 /// A hint that the cave has and that wasn't taken counts its turns, and is offered.
-#[tactic(auto, unfolding(crate::specs::Hints::considered))]
+#[tactic(auto, unfolding(crate::specs::Hints::after_considering))]
 fn consider(rules: &Rules<'_>, number: HintNumber, play: &mut Play<'_>)
     requires { HasRoom parts_of_question play.old }
-    ensures play { scene_of play.new ≡ considered (cave_of rules.now) number (scene_of play.old) }
+    ensures play { scene_of play.new
+        ≡ after_considering (cave_of rules.now) number (scene_of play.old) }
     ensures same { GoesOn play.old play.new }
     ensures few { SaysUpTo parts_of_question play.old play.new }
-    ensures few_on { is_over play.new.state.now ≡ false → SaysUpTo 0 play.old play.new }
-    ensures few_over { is_over play.old.state.now ≡ true → SaysUpTo 0 play.old play.new }
-    ensures stays { is_over play.new.state.now ≡ false → is_over play.old.state.now ≡ false }
+    ensures few_on { takes_no_command play.new.state.now ≡ false → SaysUpTo 0 play.old play.new }
+    ensures few_over { takes_no_command play.old.state.now ≡ true → SaysUpTo 0 play.old play.new }
+    ensures stays { takes_no_command play.new.state.now ≡ false
+        → takes_no_command play.old.state.now ≡ false }
 {
     if let Some(hint) = rules.cave.hint(u16::from(number.number())) {
         if was_taken(number, play.state) {
@@ -194,7 +209,7 @@ fn consider(rules: &Rules<'_>, number: HintNumber, play: &mut Play<'_>)
 /// The hints are considered, one after another.
 pub fn consider_all(rules: &Rules<'_>, play: &mut Play<'_>)
     requires { HasRoom (2 * parts_of_question) play.old }
-    ensures play { scene_of play.new ≡ all_considered (cave_of rules.now) (scene_of play.old) }
+    ensures play { scene_of play.new ≡ after_hints (cave_of rules.now) (scene_of play.old) }
     ensures same { GoesOn play.old play.new }
     ensures few { SaysUpTo parts_of_question play.old play.new }
 {
@@ -203,11 +218,11 @@ pub fn consider_all(rules: &Rules<'_>, play: &mut Play<'_>)
     }
 }
 
-/// What a hint costs is told, and whether it is worth that is asked.
-#[tactic(auto, unfolding(crate::specs::Hints::priced))]
+/// What a hint costs is said, and whether it is worth that is asked.
+#[tactic(auto, unfolding(crate::specs::Hints::price_scene))]
 pub fn price(rules: &Rules<'_>, number: HintNumber, play: &mut Play<'_>)
     requires { HasRoom (1 + parts_of_question) play.old }
-    ensures play { scene_of play.new ≡ priced (cave_of rules.now) number (scene_of play.old) }
+    ensures play { scene_of play.new ≡ price_scene (cave_of rules.now) number (scene_of play.old) }
     ensures same { GoesOn play.old play.new }
     ensures few { SaysUpTo (1 + parts_of_question) play.old play.new }
 {
@@ -220,7 +235,7 @@ pub fn price(rules: &Rules<'_>, number: HintNumber, play: &mut Play<'_>)
 
 /// A hint lets a lamp that isn't low burn for longer.
 fn reward(points: u16, state: &mut State)
-    ensures { state.new ≡ rewarded points state.old }
+    ensures { state.new ≡ after_reward points state.old }
 {
     let turns = state.lamp.charge.turns();
     if 30 < turns {
@@ -228,11 +243,11 @@ fn reward(points: u16, state: &mut State)
     }
 }
 
-/// A hint is told.
-#[tactic(auto, unfolding(crate::specs::Hints::given))]
+/// A hint is given.
+#[tactic(auto, unfolding(crate::specs::Hints::hint_scene))]
 pub fn give(rules: &Rules<'_>, number: HintNumber, play: &mut Play<'_>)
     requires { HasRoom 1 play.old }
-    ensures play { scene_of play.new ≡ given (cave_of rules.now) number (scene_of play.old) }
+    ensures play { scene_of play.new ≡ hint_scene (cave_of rules.now) number (scene_of play.old) }
     ensures same { GoesOn play.old play.new }
     ensures few { SaysUpTo 1 play.old play.new }
 {

@@ -7,7 +7,7 @@ use Rattle.std.specs.Prelude.{◌&&◌, Option}
 use Rattle.cave_data.specs.CaveView.{CaveView}
 use Rattle.cave_things.specs.Places.{building_place}
 use Rattle.cave_things.specs.Plays.{Scene}
-use Rattle.cave_turn.specs.Answers.{closed}
+use Rattle.cave_turn.specs.Answers.{without_question}
 use Rattle.cave_laws.specs.Laws.{LampBurnsDown, before_clocks, before_lamp, gets_batteries}
 use Rattle.cave_laws.specs.Laws.{is_changed, is_command}
 use Rattle.cave_laws.proofs.Clocks.{Lights, unchanged_kept}
@@ -56,7 +56,8 @@ lamp_burns_down cave s line low free same =
     let a = s.lamp.charge in
     let k = least_kept (building_place cave) a low in
     line_kept {P = Least a} cave k s line
-    (λ command h. commanded_kept k cave line (closed s)
-    (lamp_falls cave a low (before_lamp cave (before_clocks cave (closed s)))
-    (second_fails (is_command cave s line) (gets_batteries cave (closed s)) command same)) h)
+    (λ command h. commanded_kept k cave line (without_question s)
+    (lamp_falls cave a low (before_lamp cave (before_clocks cave (without_question s)))
+    (second_fails (is_command cave s line) (gets_batteries cave (without_question s)) command same))
+    h)
     (λ paid. absurd (true≢false (sym paid ∙ free))) (omega (arith, ints))

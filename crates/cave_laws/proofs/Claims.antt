@@ -4,14 +4,14 @@ use Rattle.std.proofs.Common.{◌∙◌, arith}
 use Rattle.std.proofs.lemmas.Bool.{true≢false}
 use Rattle.std.specs.Prelude.{◌==◌, Option, None, Some, is_some, min, nat_le}
 use Rattle.cave_data.specs.CaveView.{CaveView}
-use Rattle.cave_world.specs.State.{starting}
+use Rattle.cave_world.specs.State.{starting_state}
 use Rattle.cave_world.specs.declared.ending.Ending.{Ending}
 use Rattle.cave_world.specs.declared.ending.Question.{Question}
 use Rattle.cave_world.specs.declared.ending.Question.TheVariants as question
 use Rattle.cave_world.specs.declared.state.State.{State}
 use Rattle.cave_things.specs.Places.{building_place, start_place}
 use Rattle.cave_begin.specs.Begin.{begun_state}
-use Rattle.cave_turn.specs.Turn.{begun, turned}
+use Rattle.cave_turn.specs.Turn.{game_beginning, turn_on_line}
 use Rattle.cave_laws.proofs.Frame.{Claim, IsKept, is_die}
 use Rattle.cave_laws.proofs.Lines.{turned_kept}
 use Rattle.cave_laws.specs.Laws.{HasFewDeaths, FewDeaths, StandsSomewhere, PlayerStands}
@@ -43,15 +43,15 @@ deaths_kept n = record {
 
 -- each line keeps the deaths few
 few_after : (cave : CaveView) (s : State) (line : List ℕ) → HasFewDeaths s
-    → HasFewDeaths (turned cave s line).state
+    → HasFewDeaths (turn_on_line cave s line).state
 few_after cave s line h =
     let t = turned_kept {P = Deaths} cave (deaths_kept (building_place cave))
     (λ _ _ _ _ _ _ x. x) s line (h.at_most, h.last) in
     record { at_most = t.0; last = t.1 }
 
 -- no deaths are few
-few_first : (cave : CaveView) (seed : ℕ) → HasFewDeaths (begun cave seed).state
-unfolding begun begun_state starting
+few_first : (cave : CaveView) (seed : ℕ) → HasFewDeaths (game_beginning cave seed).state
+unfolding game_beginning begun_state starting_state
 few_first cave seed =
     record { at_most = omega arith; last = λ three. absurd (omega (arith, three)) }
 
@@ -63,7 +63,7 @@ few_deaths = record { start = few_first; kept = few_after }
 abbrev Excused : Option Question → Option Ending → Type 0
 Excused q e = (is_some e ≡ true) ⊎ (q ≡ Some question.Die)
 
--- the player stands at place 0 only in the end, or where the player died
+-- the player is at place 0 only in the end, or where the player died
 abbrev Stands : Claim
 Stands = λ h c d q e. h ≡ 0 → Excused q e
 
@@ -106,17 +106,17 @@ stands_kept n one = record {
 -- each line keeps the player somewhere
 stands_after : (cave : CaveView) (s : State) (line : List ℕ) → 1 ≤ building_place cave
     → StandsSomewhere s
-    → StandsSomewhere (turned cave s line).state
+    → StandsSomewhere (turn_on_line cave s line).state
 stands_after cave s line one h =
     turned_kept {P = Stands} cave (stands_kept (building_place cave) one)
     (λ _ _ _ _ _ _ x. x) s line h
 
 -- the player begins somewhere
 stands_first : (cave : CaveView) (seed : ℕ) → 1 ≤ start_place cave
-    → StandsSomewhere (begun cave seed).state
-unfolding begun begun_state starting
+    → StandsSomewhere (game_beginning cave seed).state
+unfolding game_beginning begun_state starting_state
 stands_first cave seed one none = absurd (from_one (start_place cave) one none)
 
--- the player stands somewhere at first, and stays so
+-- the player is somewhere at first, and stays so
 pub player_stands : PlayerStands
 player_stands = record { start = stands_first; kept = stands_after }

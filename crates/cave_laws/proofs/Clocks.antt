@@ -7,14 +7,14 @@ use Rattle.std.specs.Prelude.{◌&&◌, not, int_lt, Option, None, Some, if◌th
 use Rattle.std.specs.Int.{int_max}
 use Rattle.std.specs.Ordering.{int_eq}
 use Rattle.cave_data.specs.CaveView.{CaveView}
-use Rattle.cave_data.specs.declared.place_role.PlaceRole.TheVariants as place
-use Rattle.cave_data.specs.declared.role.Role.TheVariants as role
+use Rattle.cave_rows.specs.declared.place_role.PlaceRole.TheVariants as place
+use Rattle.cave_rows.specs.declared.role.Role.TheVariants as role
 use Rattle.cave_words.specs.declared.named.Named.TheVariants as name
-use Rattle.cave_world.specs.Objects.{moved}
+use Rattle.cave_objects.specs.Objects.{moved_to}
 use Rattle.cave_world.specs.declared.state.State.{State}
 use Rattle.cave_things.specs.Effects.{with_objects, without_troll}
 use Rattle.cave_things.specs.Places.{place_named}
-use Rattle.cave_things.specs.Plays.{Scene, saying, with_state}
+use Rattle.cave_things.specs.Plays.{Scene, after_saying, with_state}
 use Rattle.cave_things.specs.Reach.{is_near, has_prop}
 use Rattle.cave_things.specs.Things.{thing}
 use Rattle.cave_clocks.specs.Clocks.{go_on_or_give_up, lamp_last, lamp_unless_closed}
@@ -26,7 +26,7 @@ use Rattle.cave_clocks.specs.FirstClock.{first_clock_run}
 use Rattle.cave_clocks.specs.Lamp.{with_charge, with_lamp_burnt, can_change_batteries}
 use Rattle.cave_clocks.specs.Lamp.{with_batteries_used, change_of_batteries, with_lamp_out}
 use Rattle.cave_clocks.specs.Lamp.{lamp_going_out, is_hopeless, is_warning_due, warning_told}
-use Rattle.cave_clocks.specs.Lamp.{Burning, burning, care_of_lamp, lamp_run}
+use Rattle.cave_clocks.specs.Lamp.{Burning, burning_of, care_of_lamp, lamp_run}
 use Rattle.cave_clocks.specs.Repository.{with_empty_hands, closed_cave, Closure, closure}
 use Rattle.cave_clocks.specs.Repository.{closure_between, closure_if_due, is_second_clock_going}
 use Rattle.cave_clocks.specs.Repository.{with_second_clock_down, second_clock_run}
@@ -37,13 +37,11 @@ use Rattle.cave_laws.proofs.Frame.{Claim, On, At, Charges, Falls, Lowers, choose
 use Rattle.cave_laws.proofs.Frame.{chosen_scene}
 use Rattle.cave_laws.proofs.VerbEffects.{let_go_kept, without_troll_kept}
 
--- the bear goes
 bear_kept : (P : Claim) (cave : CaveView) (s : State) → On P s → On P (without_bear cave s)
 bear_kept P cave s h =
     let bear = thing cave name.Bear in
-    chosen P (has_prop s bear (pos 3)) s (with_objects (moved s.objects bear 0) s) h h
+    chosen P (has_prop s bear (pos 3)) s (with_objects (moved_to s.objects bear 0) s) h h
 
--- the cave is cleared
 cleared_kept : (P : Claim) (cave : CaveView) (s : State) → On P s → On P (cleared_cave cave s)
 unfolding cleared_cave
 cleared_kept P cave s h =
@@ -51,13 +49,11 @@ cleared_kept P cave s h =
     bear_kept P cave (without_troll cave (without_dwarves shut))
     (without_troll_kept P cave (without_dwarves shut) h)
 
--- the cave begins to close
 start_kept : (P : Claim) (cave : CaveView) (p : Scene) → On P p.state
     → On P (start_of_closing cave p).state
 unfolding start_of_closing
 start_kept P cave p h = cleared_kept P cave p.state h
 
--- the first clock goes on
 first_kept : (P : Claim) (cave : CaveView) (p : Scene) → On P p.state
     → On P (first_clock_run cave p).scene.state
 unfolding first_clock_run
@@ -70,7 +66,7 @@ first_kept P cave p h =
     (tick true (start_of_closing cave q)) (tick false q) (λ _. start_kept P cave q h) (λ _. h))
     (λ _. h)
 
--- what holds after the clocks: where they closed the cave, the player stands elsewhere
+-- what holds after the clocks: where they closed the cave, the player is elsewhere
 abbrev pub After : Claim → ℕ → Clocks → State → Type 0
 After P before clocks.GoOn s = On P s
 After P before clocks.GaveUp s = On P s
@@ -81,7 +77,6 @@ abbrev pub AfterSecond : Claim → ℕ → Option ℕ → State → Type 0
 AfterSecond P before None s = On P s
 AfterSecond P before (Some place) s = At P before s
 
--- the cave is closed
 closed_kept : (P : Claim) (cave : CaveView) (ne sw : ℕ) (p : Scene) → On P p.state
     → At P p.state.trail.here (closed_cave cave ne sw p).state
 unfolding closed_cave with_empty_hands
@@ -95,7 +90,6 @@ between_kept P cave (Some ne) (Some sw) p h = closed_kept P cave ne sw p h
 between_kept P cave (Some ne) None p h = h
 between_kept P cave None b p h = h
 
--- the second clock goes on
 second_kept : (P : Claim) (cave : CaveView) (p : Scene) → On P p.state
     → AfterSecond P p.state.trail.here (second_clock_run cave p).place
     (second_clock_run cave p).scene.state
@@ -119,7 +113,6 @@ burnt_falls b =
     choose (λ (c : ℤ). Falls b c) (int_lt (negsuc 0) (b -ℤ pos 1)) (b -ℤ pos 1) (negsuc 0)
     (λ _. inl (omega (arith, ints))) (λ _. inr (omega (arith, ints)))
 
--- the lamp burns
 burnt_kept : (P : Claim) (k : Lowers P) (cave : CaveView) (s : State) → On P s
     → On P (with_lamp_burnt cave s)
 unfolding with_lamp_burnt
@@ -128,12 +121,10 @@ burnt_kept P k cave s h =
     (with_charge (int_max (s.lamp.charge -ℤ pos 1) (negsuc 0)) s) s
     (k _ s.lamp.charge _ _ _ _ (burnt_falls s.lamp.charge) h) h
 
--- the batteries are used
 used_kept : (P : Claim) (cave : CaveView) (s : State) → On P s → On P (with_batteries_used cave s)
 unfolding with_batteries_used
 used_kept P cave s h = let_go_kept P cave _ _ h
 
--- the batteries are replaced
 replaced_kept : (P : Claim) (k : Charges P) (cave : CaveView) (p : Scene) → On P p.state
     → On P (change_of_batteries cave p).state
 unfolding change_of_batteries
@@ -141,7 +132,6 @@ replaced_kept P k cave p h =
     let used = with_batteries_used cave p.state in
     k _ used.lamp.charge _ _ _ _ (used_kept P cave p.state h)
 
--- the lamp goes out
 out_kept : (P : Claim) (k : Lowers P) (cave : CaveView) (s : State) → On P s
     → On P (with_lamp_out cave s)
 unfolding with_lamp_out
@@ -149,39 +139,38 @@ out_kept P k cave s h =
     let none : negsuc 0 ≤ℤ negsuc 0 = omega (arith, ints) in
     k _ s.lamp.charge _ _ _ _ (inr none) h
 
--- the lamp has gone out
 going_out_kept : (P : Claim) (k : Lowers P) (cave : CaveView) (p : Scene) → On P p.state
     → On P (lamp_going_out cave p).state
 unfolding lamp_going_out
 going_out_kept P k cave p h =
     let q = with_state (with_lamp_out cave p.state) p in let o = out_kept P k cave p.state h in
-    chosen_scene P (is_near cave q.state (thing cave name.Lamp)) (saying role.LampDead q) q o o
+    chosen_scene P (is_near cave q.state (thing cave name.Lamp)) (after_saying role.LampDead q) q o
+    o
 
--- the player is warned
 warned_kept : (P : Claim) (cave : CaveView) (p : Scene) → On P p.state
     → On P (warning_told cave p).state
 unfolding warning_told
 warned_kept P cave p h = h
 
--- what comes of the lamp
 care_kept : (P : Claim) (k : Lowers P) (cave : CaveView) (p : Scene)
     → (can_change_batteries cave p.state ≡ true → On P (change_of_batteries cave p).state)
     → On P p.state → On P (care_of_lamp cave p).scene.state
 unfolding care_of_lamp
 care_kept P k cave p change h =
-    let warned = if is_warning_due cave p.state then burning false (warning_told cave p)
-    else burning false p in
-    let hopeless = if is_hopeless cave p.state then burning true (saying role.GiveUp p)
+    let warned = if is_warning_due cave p.state then burning_of false (warning_told cave p)
+    else burning_of false p in
+    let hopeless = if is_hopeless cave p.state then burning_of true (after_saying role.GiveUp p)
     else warned in
-    let out = if int_eq p.state.lamp.charge (pos 0) then burning false (lamp_going_out cave p)
+    let out = if int_eq p.state.lamp.charge (pos 0) then burning_of false (lamp_going_out cave p)
     else hopeless in
     choose (λ (r : Burning). On P r.scene.state) (can_change_batteries cave p.state)
-    (burning false (change_of_batteries cave p)) out change
-    (λ _. picked (int_eq p.state.lamp.charge (pos 0)) (burning false (lamp_going_out cave p))
+    (burning_of false (change_of_batteries cave p)) out change
+    (λ _. picked (int_eq p.state.lamp.charge (pos 0)) (burning_of false (lamp_going_out cave p))
     hopeless
     (going_out_kept P k cave p h)
-    (picked (is_hopeless cave p.state) (burning true (saying role.GiveUp p)) warned h
-    (picked (is_warning_due cave p.state) (burning false (warning_told cave p)) (burning false p)
+    (picked (is_hopeless cave p.state) (burning_of true (after_saying role.GiveUp p)) warned h
+    (picked (is_warning_due cave p.state) (burning_of false (warning_told cave p))
+    (burning_of false p)
     (warned_kept P cave p h) h)))
   where
     picked : (b : Bool) (i j : Burning) → On P i.scene.state → On P j.scene.state
@@ -189,7 +178,6 @@ care_kept P k cave p change h =
     picked b i j one other =
         choose (λ (r : Burning). On P r.scene.state) b i j (λ _. one) (λ _. other)
 
--- the lamp goes on
 pub lamp_kept : (P : Claim) (k : Charges P) (cave : CaveView) (p : Scene) → On P p.state
     → On P (lamp_run cave p).scene.state
 unfolding lamp_run
@@ -219,7 +207,6 @@ up_kept P before false s h = h
 abbrev pub Lights : CaveView → Claim → Option Scene → Type 0
 Lights cave P o = (p : Scene) → o ≡ Some p → On P p.state → On P (lamp_run cave p).scene.state
 
--- the lamp is the last
 last_kept : (P : Claim) (cave : CaveView) (before : ℕ) (p : Scene) → Lights cave P (Some p)
     → On P p.state → After P before (lamp_last cave p).outcome (lamp_last cave p).scene.state
 unfolding lamp_last
@@ -245,7 +232,7 @@ second_lamp_kept P cave p lamp h =
     unless_kept P cave p.state.trail.here (second_clock_run cave p).place
     (second_clock_run cave p).scene lamp (second_kept P cave p h)
 
--- the clocks go on: the player stands where they say, and stood somewhere before
+-- the clocks go on: the player is where they say, and was somewhere before
 pub clocks_kept : (P : Claim) (cave : CaveView) (p : Scene) → Lights cave P (before_lamp cave p)
     → On P p.state
     → (before : ℕ) × After P before (clocks_run cave p).outcome (clocks_run cave p).scene.state

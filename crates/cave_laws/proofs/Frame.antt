@@ -7,7 +7,7 @@ use Rattle.cave_world.specs.declared.ending.Question.TheVariants as question
 use Rattle.cave_world.specs.declared.state.State.{State}
 use Rattle.cave_things.specs.Plays.{Scene}
 
--- a claim of where the player stands, the lamp's charge, the deaths, the question and the ending
+-- a claim about the player's place, the lamp's charge, the deaths, the question and the ending
 abbrev pub Claim : Type 1
 Claim = ℕ → ℤ → ℕ → Option Question → Option Ending → Type 0
 
@@ -15,7 +15,7 @@ Claim = ℕ → ℤ → ℕ → Option Question → Option Ending → Type 0
 abbrev pub On : Claim → State → Type 0
 On P s = P s.trail.here s.lamp.charge s.tallies.deaths s.question s.ending
 
--- a claim would hold of a state if the player stood at a place
+-- a claim would hold of a state if the player were at a place
 abbrev pub At : Claim → ℕ → State → Type 0
 At P here s = P here s.lamp.charge s.tallies.deaths s.question s.ending
 
@@ -23,7 +23,7 @@ At P here s = P here s.lamp.charge s.tallies.deaths s.question s.ending
 abbrev pub Calm : Claim → Claim
 Calm P = λ here c d q e. P here c d q e × ((q ≡ None) × (e ≡ None))
 
--- a claim would hold if the player stood at a place, and commands can follow
+-- a claim would hold if the player were at a place, and commands can follow
 abbrev pub Pinned : Claim → ℕ → Claim
 Pinned P place = λ here c d q e. P place c d q e × ((q ≡ None) × (e ≡ None))
 
@@ -61,7 +61,7 @@ pub record IsKept (home : ℕ) (P : Claim) : Type 0 where
       → P h c d q e → P i c d (Some question.Die) e
   -- the player is asked something else
   pub asks : (a : Question) (h : ℕ) (c : ℤ) (d : ℕ) → P h c d None None → P h c d (Some a) None
-  -- the player stands somewhere
+  -- the player is somewhere
   pub stands : (h i : ℕ) (c : ℤ) (d : ℕ) (q : Option Question) (e : Option Ending)
       → (i == 0) ≡ false → P h c d q e → P i c d q e
   -- a question is answered

@@ -6,7 +6,7 @@ pub mod MoreVerbRows
 pub mod Verbs
 pub mod Scores
 pub mod Dwarves
-pub mod Showing
+pub mod Stop
 pub mod Moves
 pub mod Clocks
 pub mod Turns

@@ -14,12 +14,10 @@ use Rattle.cave_laws.proofs.VerbEffects.{default_kept}
 use Rattle.cave_laws.proofs.VerbEffects.{let_go_kept, without_troll_kept}
 use Rattle.cave_laws.proofs.VerbEffects.{panicking_kept, sent_kept}
 
--- the rows `bare_open` keep a claim
 pub bare_open_rows_kept : (P : Claim) → KeepsRows P bare_open_rows
 unfolding bare_open_rows
 bare_open_rows_kept P = ((λ d h. h), ((λ d h. h), ((λ d h. h), ((λ d h. h), tt))))
 
--- the rows `open` keep a claim
 pub open_rows_kept : (P : Claim) → KeepsRows P open_rows
 unfolding open_rows
 open_rows_kept P = (
@@ -68,7 +66,10 @@ open_rows_kept P = (
                                             (λ d h. h),
                                             (
                                               (λ d h. h),
-                                              ((λ d h. let_go_kept P _ _ _ h), ((λ d h. default_kept P d h), tt)),
+                                              (
+                                                (λ d h. let_go_kept P _ _ _ h),
+                                                ((λ d h. default_kept P d h), tt),
+                                              ),
                                             ),
                                           ),
                                         ),
@@ -93,7 +94,6 @@ open_rows_kept P = (
   ),
 )
 
--- the rows `pour` keep a claim
 pub pour_rows_kept : (P : Claim) → KeepsRows P pour_rows
 unfolding pour_rows
 pour_rows_kept P = (
@@ -116,17 +116,14 @@ pour_rows_kept P = (
   ),
 )
 
--- the rows `drink` keep a claim
 pub drink_rows_kept : (P : Claim) → KeepsRows P drink_rows
 unfolding drink_rows
 drink_rows_kept P = ((λ d h. h), ((λ d h. h), ((λ d h. h), ((λ d h. default_kept P d h), tt))))
 
--- the rows `bare_fill` keep a claim
 pub bare_fill_rows_kept : (P : Claim) → KeepsRows P bare_fill_rows
 unfolding bare_fill_rows
 bare_fill_rows_kept P = ((λ d h. h), ((λ d h. h), tt))
 
--- the rows `fill` keep a claim
 pub fill_rows_kept : (P : Claim) → KeepsRows P fill_rows
 unfolding fill_rows
 fill_rows_kept P = (
@@ -149,12 +146,10 @@ fill_rows_kept P = (
   ),
 )
 
--- the rows `bare_read` keep a claim
 pub bare_read_rows_kept : (P : Claim) → KeepsRows P bare_read_rows
 unfolding bare_read_rows
 bare_read_rows_kept P = ((λ d h. h), ((λ d h. h), tt))
 
--- the rows `read` keep a claim
 pub read_rows_kept : (P : Claim) → KeepsRows P read_rows
 unfolding read_rows
 read_rows_kept P = (
@@ -177,42 +172,34 @@ read_rows_kept P = (
   ),
 )
 
--- the rows `bare` keep a claim
 pub bare_rows_kept : (P : Claim) → KeepsRows P bare_rows
 unfolding bare_rows
 bare_rows_kept P = ((λ d h. h), tt)
 
--- the rows `other` keep a claim
 pub other_rows_kept : (P : Claim) → KeepsRows P other_rows
 unfolding other_rows
 other_rows_kept P = ((λ d h. default_kept P d h), tt)
 
--- the rows `nothing` keep a claim
 pub nothing_rows_kept : (P : Claim) → KeepsRows P nothing_rows
 unfolding nothing_rows
 nothing_rows_kept P = ((λ d h. h), tt)
 
--- the rows `bare_quit` keep a claim
 pub bare_quit_rows_kept : (P : Claim) → KeepsRows P bare_quit_rows
 unfolding bare_quit_rows
 bare_quit_rows_kept P = ((λ d h. h), tt)
 
--- the rows `bare_score` keep a claim
 pub bare_score_rows_kept : (P : Claim) → KeepsRows P bare_score_rows
 unfolding bare_score_rows
 bare_score_rows_kept P = ((λ d h. h), tt)
 
--- the rows `bare_brief` keep a claim
 pub bare_brief_rows_kept : (P : Claim) → KeepsRows P bare_brief_rows
 unfolding bare_brief_rows
 bare_brief_rows_kept P = ((λ d h. h), tt)
 
--- the rows `bare_take` keep a claim
 pub bare_take_rows_kept : (P : Claim) → KeepsRows P bare_take_rows
 unfolding bare_take_rows
 bare_take_rows_kept P = ((λ d h. h), ((λ d h. h), tt))
 
--- the rows `take` keep a claim
 pub take_rows_kept : (P : Claim) → KeepsRows P take_rows
 unfolding take_rows
 take_rows_kept P = (
@@ -256,7 +243,6 @@ take_rows_kept P = (
   ),
 )
 
--- the rows `throw` keep a claim
 pub throw_rows_kept : (P : Claim) → KeepsRows P throw_rows
 unfolding throw_rows
 throw_rows_kept P = (
@@ -273,27 +259,22 @@ throw_rows_kept P = (
   ),
 )
 
--- the rows `miss` keep a claim
 pub miss_rows_kept : (P : Claim) → KeepsRows P miss_rows
 unfolding miss_rows
 miss_rows_kept P = ((λ d h. h), tt)
 
--- the rows `hit` keep a claim
 pub hit_rows_kept : (P : Claim) → KeepsRows P hit_rows
 unfolding hit_rows
 hit_rows_kept P = ((λ d h. h), ((λ d h. h), tt))
 
--- the rows `axe` keep a claim
 pub axe_rows_kept : (P : Claim) → KeepsRows P axe_rows
 unfolding axe_rows
 axe_rows_kept P = ((λ d h. h), ((λ d h. h), ((λ d h. h), ((λ d h. h), tt))))
 
--- the rows `wave` keep a claim
 pub wave_rows_kept : (P : Claim) → KeepsRows P wave_rows
 unfolding wave_rows
 wave_rows_kept P = ((λ d h. h), ((λ d h. h), ((λ d h. default_kept P d h), tt)))
 
--- the rows `rub` keep a claim
 pub rub_rows_kept : (P : Claim) → KeepsRows P rub_rows
 unfolding rub_rows
 rub_rows_kept P = ((λ d h. default_kept P d h), ((λ d h. h), tt))

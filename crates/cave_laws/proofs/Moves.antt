@@ -3,56 +3,61 @@ use Rattle.std.proofs.Common.{ℕ, zero, suc, ◌+◌, ◌-◌, pos, negsuc, ℤ
 use Rattle.std.proofs.Common.{[], ◌∷◌}
 use Rattle.std.specs.Prelude.{◌==◌, ◌&&◌, nat_lt, Option, None, Some}
 use Rattle.std.specs.Prelude.{if◌then◌else◌, length, slice_set, option_map}
-use Rattle.cave_data.specs.CaveView.{CaveView, Going, ways_from}
-use Rattle.cave_data.specs.declared.role.Role.TheVariants as role
+use Rattle.cave_rows.specs.Rows.{Going}
+use Rattle.cave_data.specs.CaveView.{CaveView, ways_from}
+use Rattle.cave_rows.specs.declared.role.Role.TheVariants as role
 use Rattle.cave_words.specs.declared.named.Named.TheVariants as name
 use Rattle.cave_words.specs.Stream.{next}
-use Rattle.cave_world.specs.Objects.{moved, with_prop}
+use Rattle.cave_objects.specs.Objects.{moved_to, with_prop}
 use Rattle.cave_world.specs.State.{without_visits}
-use Rattle.cave_world.specs.State.{setting_out}
-use Rattle.cave_world.specs.Travel.{Journey, travelled, way_along, first_way, ends_or, tried}
-use Rattle.cave_world.specs.Travel.{from_listed, after_row, tested, row_outcome, holds}
-use Rattle.cave_world.specs.Travel.{condition_of, number_of}
+use Rattle.cave_world.specs.State.{state_after_setting_out}
+use Rattle.cave_world.specs.Travel.{TravelResult, travel_by_motion, travel_by_rows, first_way, outcome_or}
+use Rattle.cave_world.specs.Travel.{rows_to_try}
+use Rattle.cave_world.specs.Travel.{from_listed, after_row, after_condition, row_outcome, holds}
+use Rattle.cave_world.specs.Travel.{row_condition, row_number}
 use Rattle.cave_world.specs.declared.part.Part.TheVariants as part
-use Rattle.cave_world.specs.declared.rows.Outcome.{Outcome}
-use Rattle.cave_world.specs.declared.rows.Outcome.TheVariants as outcome
-use Rattle.cave_world.specs.declared.rows.Special.TheVariants.{Squeeze, Bridge}
+use Rattle.cave_world.specs.declared.travel.TravelOutcome.{TravelOutcome}
+use Rattle.cave_world.specs.declared.travel.TravelOutcome.TheVariants as outcome
+use Rattle.cave_world.specs.declared.travel.Special.TheVariants.{Squeeze, Bridge}
 use Rattle.cave_world.specs.declared.state.State.{State}
 use Rattle.cave_things.specs.Effects.{with_objects, one_more_lost}
 use Rattle.cave_things.specs.Places.{outside_place}
-use Rattle.cave_things.specs.Plays.{Scene, telling, saying, looking_at, with_state, with_left}
-use Rattle.cave_things.specs.Plays.{here_of, sets_out}
-use Rattle.cave_things.specs.Reach.{is_toted, has_prop, has_prop_up_to}
+use Rattle.cave_things.specs.Plays.{Scene, after_telling, after_saying, after_look_at, with_state}
+use Rattle.cave_things.specs.Plays.{with_left}
+use Rattle.cave_things.specs.Plays.{here_of, after_setting_out}
+use Rattle.cave_things.specs.Reach.{is_in_hand, has_prop, has_prop_up_to}
 use Rattle.cave_things.specs.Things.{thing}
-use Rattle.cave_moves.specs.Arrival.{shown, carried_on, arriving, describing}
-use Rattle.cave_moves.specs.Bridge.{bridge_end, stopped, let_pass, without_bridge}
-use Rattle.cave_moves.specs.Bridge.{with_broken_bridge, broken_through, crossed_to, bridged_to}
-use Rattle.cave_moves.specs.Bridge.{bridged}
-use Rattle.cave_moves.specs.Description.{Showing}
-use Rattle.cave_moves.specs.Description.{seen_here}
-use Rattle.cave_moves.specs.Journeys.{squeeze_end, is_slim, squeezed_to, squeezed, led, routed}
-use Rattle.cave_moves.specs.Journeys.{set_forth, enough_said, looking, seeking_cave, back_place}
-use Rattle.cave_moves.specs.Journeys.{first_motion, row_back, back_by, going_back, led_by_motion}
+use Rattle.cave_moves.specs.Arrival.{stop_at, after_forced_motions, arrival_scene, description_anew}
+use Rattle.cave_moves.specs.Bridge.{bridge_end, toll_scene, let_pass, without_bridge}
+use Rattle.cave_moves.specs.Bridge.{with_broken_bridge, broken_bridge_scene, journey_across, journey_over_bridge}
+use Rattle.cave_moves.specs.Bridge.{journey_by_bridge}
+use Rattle.cave_moves.specs.Description.{Stop}
+use Rattle.cave_moves.specs.Description.{stop_here}
+use Rattle.cave_moves.specs.Journeys.{squeeze_end, is_slim, journey_through_squeeze, journey_by_squeeze}
+use Rattle.cave_moves.specs.Journeys.{journey_of_outcome, journey_by_rows}
+use Rattle.cave_moves.specs.Journeys.{set_forth, after_enough, journey_of_look, journey_of_seeking}
+use Rattle.cave_moves.specs.Journeys.{back_place}
+use Rattle.cave_moves.specs.Journeys.{first_motion, row_back, journey_by_motion_back, journey_back, journey_by_request}
 use Rattle.cave_moves.specs.Ways as ways
-use Rattle.cave_moves.specs.Ways.{staying}
+use Rattle.cave_moves.specs.Ways.{journey_here}
 use Rattle.cave_laws.proofs.Frame.{Claim, On, Pinned, IsKept, choose, chosen}
 use Rattle.cave_laws.proofs.Frame.{chosen_scene}
 use Rattle.cave_laws.proofs.Scores.{falling_kept}
-use Rattle.cave_laws.proofs.Showing.{seen_kept, shown_kept, shown_open}
+use Rattle.cave_laws.proofs.Stop.{seen_kept, shown_kept, shown_open}
 
--- a row that is tried
 row_kept : (P : Claim) (emerald : ℕ) (s : State) (row : Going) → On P s
     → On P (after_row emerald s row)
-unfolding after_row tested
+unfolding after_row after_condition
 row_kept P emerald s row h =
-    let m = condition_of row in let t = tested m s in
+    let m = row_condition row in let t = after_condition m s in
     let k = chosen P (nat_lt 0 m && nat_lt m 100) (record s { stream = next s.stream }) s h h in
-    chosen P (holds m s && number_of row == 302)
-    (record t { objects = moved t.objects emerald t.trail.here }) t k k
+    chosen P (holds m s && row_number row == 302)
+    (record t { objects = moved_to t.objects emerald t.trail.here }) t k k
 
 -- a journey that ends or goes on
-ends_kept : (P : Claim) (o : Option Outcome) (s : State) (j : Journey) → On P s → On P j.state
-    → On P (ends_or o s j).state
+ends_kept : (P : Claim) (o : Option TravelOutcome) (s : State) (j : TravelResult) → On P s
+    → On P j.state
+    → On P (outcome_or o s j).state
 ends_kept P None s j h later = later
 ends_kept P (Some outcome) s j h later = h
 
@@ -65,33 +70,30 @@ way_kept P emerald s (row ∷ rows) h =
     ends_kept P (row_outcome s row) t (first_way emerald t rows) (row_kept P emerald s row h)
     (way_kept P emerald t rows (row_kept P emerald s row h))
 
--- where a motion leads
 travelled_kept : (P : Claim) (cave : CaveView) (emerald motion : ℕ) (s : State) → On P s
-    → On P (travelled cave emerald motion s).state
-unfolding travelled way_along
+    → On P (travel_by_motion cave emerald motion s).state
+unfolding travel_by_motion travel_by_rows
 travelled_kept P cave emerald motion s h =
     let listed = from_listed motion (ways_from cave s.trail.here) in
-    choose (λ (j : Journey). On P j.state) (length listed == 0)
-    (record { state = s; outcome = outcome.NoMotion }) (first_way emerald s (tried listed))
-    (λ _. h) (λ _. way_kept P emerald s (tried listed) h)
+    choose (λ (j : TravelResult). On P j.state) (length listed == 0)
+    (record { state = s; outcome = outcome.NoMotion }) (first_way emerald s (rows_to_try listed))
+    (λ _. h) (λ _. way_kept P emerald s (rows_to_try listed) h)
 
--- through a narrow passage
 squeezed_kept : (P : Claim) (cave : CaveView) (o : Option ℕ) (p : Scene) → On P p.state
-    → On P (squeezed_to cave o p).scene.state
+    → On P (journey_through_squeeze cave o p).scene.state
 squeezed_kept P cave None p h = h
 squeezed_kept P cave (Some end) p h =
     choose (λ (j : ways.Journey). On P j.scene.state) (is_slim cave p.state)
-    (record { place = end; scene = p }) (staying (saying role.TooTight p)) (λ _. h) (λ _. h)
+    (record { place = end; scene = p }) (journey_here (after_saying role.TooTight p)) (λ _. h)
+    (λ _. h)
 
--- an object is looked at
 pub looking_kept : (P : Claim) (x : ℕ) (v : ℤ) (p : Scene) → On P p.state
-    → On P (looking_at x v p).state
-looking_kept P x v p h = chosen_scene P (x == 0) p (telling (part.Object x v) p) h h
+    → On P (after_look_at x v p).state
+looking_kept P x v p h = chosen_scene P (x == 0) p (after_telling (part.Object x v) p) h h
 
--- the troll stops the player
 stopped_kept : (P : Claim) (cave : CaveView) (p : Scene) → On P p.state
-    → On P (stopped cave p).state
-unfolding stopped
+    → On P (toll_scene cave p).state
+unfolding toll_scene
 stopped_kept P cave p h = looking_kept P (thing cave name.Troll) (pos 1) p h
 
 -- the troll lets the player pass
@@ -101,7 +103,6 @@ pass_kept P cave s h =
     let troll = thing cave name.Troll in
     chosen P (has_prop s troll (pos 0)) (with_objects (with_prop s.objects troll (pos 1)) s) s h h
 
--- the bridge breaks
 bridge_kept : (P : Claim) (cave : CaveView) (end : ℕ) (s : State) → On P s
     → On P (with_broken_bridge cave end s)
 unfolding with_broken_bridge
@@ -109,40 +110,38 @@ bridge_kept P cave end s h =
     let t = with_objects (without_bridge cave end s.objects) s in
     chosen P (has_prop_up_to t (thing cave name.Spices) (negsuc 0)) (one_more_lost t) t h h
 
--- the player breaks through
 broken_kept : {n : ℕ} {P : Claim} (k : IsKept n P) (cave : CaveView) (end : ℕ) (p : Scene)
-    → On P p.state → On P (broken_through cave end p).state
-unfolding broken_through
+    → On P p.state → On P (broken_bridge_scene cave end p).state
+unfolding broken_bridge_scene
 broken_kept {n} {P} k cave end p h =
-    let q = saying role.BridgeFalls p in
+    let q = after_saying role.BridgeFalls p in
     falling_kept k cave end (with_state (with_broken_bridge cave end q.state) q)
     (bridge_kept P cave end q.state h)
 
--- the player crosses
 crossed_kept : {n : ℕ} {P : Claim} (k : IsKept n P) (cave : CaveView) (end : ℕ) (p : Scene)
-    → On P p.state → On P (crossed_to cave end p).scene.state
-unfolding crossed_to
+    → On P p.state → On P (journey_across cave end p).scene.state
+unfolding journey_across
 crossed_kept {n} {P} k cave end p h =
     let q = with_state (let_pass cave p.state) p in
-    choose (λ (j : ways.Journey). On P j.scene.state) (is_toted cave q.state (thing cave name.Bear))
-    (staying (broken_through cave end q)) (record { place = end; scene = q })
+    choose (λ (j : ways.Journey). On P j.scene.state)
+    (is_in_hand cave q.state (thing cave name.Bear))
+    (journey_here (broken_bridge_scene cave end q)) (record { place = end; scene = q })
     (λ _. broken_kept k cave end q (pass_kept P cave p.state h)) (λ _. pass_kept P cave p.state h)
 
 -- the player comes to the bridge
 bridged_kept : {n : ℕ} {P : Claim} (k : IsKept n P) (cave : CaveView) (o : Option ℕ) (p : Scene)
-    → On P p.state → On P (bridged_to cave o p).scene.state
+    → On P p.state → On P (journey_over_bridge cave o p).scene.state
 bridged_kept k cave None p h = h
 bridged_kept {n} {P} k cave (Some end) p h =
     choose (λ (j : ways.Journey). On P j.scene.state)
     (has_prop p.state (thing cave name.Troll) (pos 1))
-    (staying (stopped cave p)) (crossed_to cave end p)
+    (journey_here (toll_scene cave p)) (journey_across cave end p)
     (λ _. stopped_kept P cave p h) (λ _. crossed_kept k cave end p h)
 
--- where an outcome leads
-led_kept : {n : ℕ} {P : Claim} (k : IsKept n P) (cave : CaveView) (motion : ℕ) (o : Outcome)
+led_kept : {n : ℕ} {P : Claim} (k : IsKept n P) (cave : CaveView) (motion : ℕ) (o : TravelOutcome)
     (p : Scene)
-    → On P p.state → On P (led cave motion o p).scene.state
-unfolding squeezed bridged
+    → On P p.state → On P (journey_of_outcome cave motion o p).scene.state
+unfolding journey_by_squeeze journey_by_bridge
 led_kept k cave motion (outcome.Go place) p h = h
 led_kept {n} {P} k cave motion (outcome.Special Squeeze) p h =
     squeezed_kept P cave (squeeze_end cave (here_of p)) p h
@@ -152,110 +151,102 @@ led_kept k cave motion (outcome.Say message) p h = h
 led_kept k cave motion outcome.NoMotion p h = h
 led_kept k cave motion outcome.NoWay p h = h
 
--- where the rows lead
 routed_kept : {n : ℕ} {P : Claim} (k : IsKept n P) (cave : CaveView) (motion : ℕ) (p : Scene)
-    → On P p.state → On P (routed cave motion p).scene.state
-unfolding routed
+    → On P p.state → On P (journey_by_rows cave motion p).scene.state
+unfolding journey_by_rows
 routed_kept {n} {P} k cave motion p h =
-    let j = travelled cave (thing cave name.Emerald) motion p.state in
+    let j = travel_by_motion cave (thing cave name.Emerald) motion p.state in
     led_kept k cave motion j.outcome (with_state j.state p)
     (travelled_kept P cave (thing cave name.Emerald) motion p.state h)
 
--- the player sets out
 forth_kept : {n : ℕ} {P : Claim} (k : IsKept n P) (cave : CaveView) (motion : ℕ) (p : Scene)
     → On P p.state → On P (set_forth cave motion p).scene.state
-unfolding set_forth setting_out
-forth_kept k cave motion p h = routed_kept k cave motion (sets_out p) h
+unfolding set_forth state_after_setting_out
+forth_kept k cave motion p h = routed_kept k cave motion (after_setting_out p) h
 
--- the player is carried on
-carried_kept : {n : ℕ} {P : Claim} (k : IsKept n P) (left : ℕ) (cave : CaveView) (s : Showing)
-    → On P s.scene.state → On P (carried_on left cave s).state
-unfolding carried_on
+-- the player is moved on by a forced motion
+carried_kept : {n : ℕ} {P : Claim} (k : IsKept n P) (left : ℕ) (cave : CaveView) (s : Stop)
+    → On P s.scene.state → On P (after_forced_motions left cave s).state
+unfolding after_forced_motions
 carried_kept {n} {P} k zero cave s h =
-    chosen_scene P s.is_carried_on (saying role.ForcedLimit s.scene) s.scene h h
+    chosen_scene P s.is_moved_on (after_saying role.ForcedLimit s.scene) s.scene h h
 carried_kept {n} {P} k (suc left) cave s h =
     let j = set_forth cave 1 (with_left left s.scene) in
-    chosen_scene P s.is_carried_on (carried_on left cave (shown cave j.place j.scene)) s.scene
-    (carried_kept k left cave (shown cave j.place j.scene)
+    chosen_scene P s.is_moved_on
+    (after_forced_motions left cave (stop_at cave j.place j.scene)) s.scene
+    (carried_kept k left cave (stop_at cave j.place j.scene)
     (shown_kept k cave j.place j.scene (forth_kept k cave 1 (with_left left s.scene) h))) h
 
--- the player arrives
 pub arriving_kept : {n : ℕ} {P : Claim} (k : IsKept n P) (cave : CaveView) (new : ℕ) (p : Scene)
-    → On P p.state → On P (arriving cave new p).state
+    → On P p.state → On P (arrival_scene cave new p).state
 arriving_kept k cave new p h =
-    carried_kept k p.left cave (shown cave new p) (shown_kept k cave new p h)
+    carried_kept k p.left cave (stop_at cave new p) (shown_kept k cave new p h)
 
--- the player arrives, and stood elsewhere before
+-- the player arrives, and was elsewhere before
 pub arriving_open : {n : ℕ} {P : Claim} (k : IsKept n P) (cave : CaveView) (before new : ℕ)
     (p : Scene)
-    → On (Pinned P before) p.state → On P (arriving cave new p).state
+    → On (Pinned P before) p.state → On P (arrival_scene cave new p).state
 arriving_open k cave before new p h =
-    carried_kept k p.left cave (shown cave new p) (shown_open k cave before new p h)
+    carried_kept k p.left cave (stop_at cave new p) (shown_open k cave before new p h)
 
--- the player is told anew
 pub describing_kept : {n : ℕ} {P : Claim} (k : IsKept n P) (cave : CaveView) (p : Scene)
-    → On P p.state → On P (describing cave p).state
-describing_kept k cave p h = carried_kept k p.left cave (seen_here cave p) (seen_kept k cave p h)
+    → On P p.state → On P (description_anew cave p).state
+describing_kept k cave p h = carried_kept k p.left cave (stop_here cave p) (seen_kept k cave p h)
 
--- enough is said
-enough_kept : (P : Claim) (p : Scene) → On P p.state → On P (enough_said p).state
+enough_kept : (P : Claim) (p : Scene) → On P p.state → On P (after_enough p).state
 enough_kept P p h =
     let s = p.state in let talk = s.talk in
     chosen_scene P (nat_lt talk.details 3)
-    (saying role.Enough
+    (after_saying role.Enough
     (with_state (record s { talk = record talk { details = talk.details + 1 } }) p)) p
     h h
 
--- visits are forgotten
 forgotten_kept : (P : Claim) (s : State) (place : ℕ) → On P s → On P (without_visits s place)
 unfolding without_visits
 forgotten_kept P s place h =
     chosen P (place == 0) s (record s { visits = slice_set s.visits (place - 1) 0 }) h h
 
--- the player looks round
-looking_round_kept : (P : Claim) (p : Scene) → On P p.state → On P (looking p).scene.state
-unfolding looking
+looking_round_kept : (P : Claim) (p : Scene) → On P p.state → On P (journey_of_look p).scene.state
+unfolding journey_of_look
 looking_round_kept P p h =
-    let q = enough_said p in forgotten_kept P q.state (here_of q) (enough_kept P p h)
+    let q = after_enough p in forgotten_kept P q.state (here_of q) (enough_kept P p h)
 
 -- the player asks where the cave is
 seeking_kept : (P : Claim) (cave : CaveView) (p : Scene) → On P p.state
-    → On P (seeking_cave cave p).scene.state
-unfolding seeking_cave
+    → On P (journey_of_seeking cave p).scene.state
+unfolding journey_of_seeking
 seeking_kept P cave p h =
     choose (λ (j : ways.Journey). On P j.scene.state) (nat_lt (here_of p) (outside_place cave))
-    (staying (saying role.CaveOut p)) (staying (saying role.CaveIn p)) (λ _. h) (λ _. h)
+    (journey_here (after_saying role.CaveOut p)) (journey_here (after_saying role.CaveIn p))
+    (λ _. h) (λ _. h)
 
--- a motion leads back
 back_by_kept : {n : ℕ} {P : Claim} (k : IsKept n P) (cave : CaveView) (o : Option ℕ) (p : Scene)
-    → On P p.state → On P (back_by cave o p).scene.state
+    → On P p.state → On P (journey_by_motion_back cave o p).scene.state
 back_by_kept k cave None p h = h
 back_by_kept k cave (Some motion) p h = routed_kept k cave motion p h
 
--- the player goes back
 back_kept : {n : ℕ} {P : Claim} (k : IsKept n P) (cave : CaveView) (p : Scene)
-    → On P p.state → On P (going_back cave p).scene.state
-unfolding going_back setting_out
+    → On P p.state → On P (journey_back cave p).scene.state
+unfolding journey_back state_after_setting_out
 back_kept {n} {P} k cave p h =
-    let sought = back_place cave p.state in let here = here_of p in let q = sets_out p in
+    let sought = back_place cave p.state in let here = here_of p in let q = after_setting_out p in
     let way = option_map first_motion (row_back cave sought (ways_from cave here)) in
     choose (λ (j : ways.Journey). On P j.scene.state) (sought == here)
-    (staying (saying role.BackNone q))
-    (back_by cave way q) (λ _. h) (λ _. back_by_kept k cave way q h)
+    (journey_here (after_saying role.BackNone q))
+    (journey_by_motion_back cave way q) (λ _. h) (λ _. back_by_kept k cave way q h)
 
--- a motion leads somewhere
 pub motion_kept : {n : ℕ} {P : Claim} (k : IsKept n P) (cave : CaveView) (motion : ℕ) (p : Scene)
-    → On P p.state → On P (led_by_motion cave motion p).scene.state
-unfolding led_by_motion
+    → On P p.state → On P (journey_by_request cave motion p).scene.state
+unfolding journey_by_request
 motion_kept {n} {P} k cave motion p h =
     let forth = set_forth cave motion p in
-    let back = if motion == 8 then going_back cave p else forth in
-    let seek = if motion == 67 then seeking_cave cave p else back in
-    let look = if motion == 57 then looking p else seek in
-    picked (motion == 21) (staying p) look h
-    (picked (motion == 57) (looking p) seek (looking_round_kept P p h)
-    (picked (motion == 67) (seeking_cave cave p) back (seeking_kept P cave p h)
-    (picked (motion == 8) (going_back cave p) forth (back_kept k cave p h)
+    let back = if motion == 8 then journey_back cave p else forth in
+    let seek = if motion == 67 then journey_of_seeking cave p else back in
+    let look = if motion == 57 then journey_of_look p else seek in
+    picked (motion == 21) (journey_here p) look h
+    (picked (motion == 57) (journey_of_look p) seek (looking_round_kept P p h)
+    (picked (motion == 67) (journey_of_seeking cave p) back (seeking_kept P cave p h)
+    (picked (motion == 8) (journey_back cave p) forth (back_kept k cave p h)
     (forth_kept k cave motion p h))))
   where
     picked : (b : Bool) (i j : ways.Journey) → On P i.scene.state → On P j.scene.state

@@ -2,9 +2,9 @@
 use Rattle.std.proofs.Common.{ℕ, pos, true, List, [], ◌∷◌}
 use Rattle.std.specs.Prelude.{◌==◌, ◌&&◌, ◌||◌, Option, None, Some}
 use Rattle.cave_data.specs.CaveView.{CaveView, default_message}
-use Rattle.cave_data.specs.declared.role.Role.TheVariants as role
+use Rattle.cave_rows.specs.declared.role.Role.TheVariants as role
 use Rattle.cave_words.specs.declared.named.Named.TheVariants as name
-use Rattle.cave_world.specs.Objects.{moved, with_prop}
+use Rattle.cave_objects.specs.Objects.{moved_to, with_prop}
 use Rattle.cave_world.specs.Sight.{is_dark}
 use Rattle.cave_world.specs.declared.part.Part.TheVariants as part
 use Rattle.cave_world.specs.declared.state.State.{State}
@@ -12,8 +12,8 @@ use Rattle.cave_things.specs.Effects.{put_down, let_go, without_troll, lost_to_s
 use Rattle.cave_things.specs.Effects.{with_objects, put_here, vessel, with_free_bird}
 use Rattle.cave_things.specs.Effects.{with_bird_in_cage}
 use Rattle.cave_things.specs.Homes.{is_at_home}
-use Rattle.cave_things.specs.Panic.{panicking}
-use Rattle.cave_things.specs.Reach.{is_called, is_toted, has_other_prop}
+use Rattle.cave_things.specs.Panic.{after_panic}
+use Rattle.cave_things.specs.Reach.{is_called, is_in_hand, has_other_prop}
 use Rattle.cave_things.specs.Things.{thing}
 use Rattle.cave_verbs.specs.Acting.{Rule}
 use Rattle.cave_verbs.specs.Deeds.{Deed, Outcome, deed}
@@ -21,7 +21,7 @@ use Rattle.cave_verbs.specs.Effects.{default, tell, say}
 use Rattle.cave_verbs.specs.Rows.{Effect, Row, first_fitting, fits, after_all, outcome_of}
 use Rattle.cave_verbs.specs.Tests.{the}
 use Rattle.cave_verbs.specs.Light.{say_dark}
-use Rattle.cave_verbs.specs.Opening.{sent}
+use Rattle.cave_verbs.specs.Opening.{after_sending}
 use Rattle.cave_verbs.specs.Throwing.{first_fitting_or}
 use Rattle.cave_laws.proofs.Frame.{Claim, On, choose, chosen}
 
@@ -49,7 +49,7 @@ default_kept P d h =
     choose (λ (e : Deed). On P e.state) (default_message d.cave d.order.verb == 0) d
     (tell (part.Message (default_message d.cave d.order.verb)) d) (λ _. h) (λ _. h)
 
--- to be told that it is dark keeps a claim
+-- saying that it is dark keeps a claim
 pub say_dark_kept : (P : Claim) (d : Deed) → On P d.state → On P (say_dark d).state
 say_dark_kept P d h =
     choose (λ (e : Deed). On P e.state) (is_dark d.cave (thing d.cave name.Lamp) d.state)
@@ -66,7 +66,7 @@ pub cage_kept : (P : Claim) (cave : CaveView) (x : ℕ) (s : State) → On P s
     → On P (with_bird_in_cage cave x s)
 cage_kept P cave x s h =
     chosen P (is_called cave x name.Cage && has_other_prop s (thing cave name.Bird) (pos 0))
-    (with_objects (moved s.objects (thing cave name.Bird) s.trail.here) s) s h h
+    (with_objects (moved_to s.objects (thing cave name.Bird) s.trail.here) s) s h h
 
 -- to put an object down keeps a claim
 pub put_down_kept : (P : Claim) (cave : CaveView) (x : ℕ) (s : State) → On P s
@@ -80,7 +80,7 @@ put_down_kept P cave x s h =
 pub let_go_kept : (P : Claim) (cave : CaveView) (x : ℕ) (s : State) → On P s
     → On P (let_go cave x s)
 unfolding let_go
-let_go_kept P cave x s h = chosen P (is_toted cave s x) (put_here x s) s h h
+let_go_kept P cave x s h = chosen P (is_in_hand cave s x) (put_here x s) s h h
 
 -- a troll that goes keeps a claim
 pub without_troll_kept : (P : Claim) (cave : CaveView) (s : State) → On P s
@@ -93,8 +93,7 @@ pub lost_kept : (P : Claim) (cave : CaveView) (s : State) → On P s → On P (l
 unfolding lost_to_snake
 lost_kept P cave s h = chosen P (is_at_home cave s (thing cave name.Snake)) (one_more_lost s) s h h
 
--- panic keeps a claim
-pub panicking_kept : (P : Claim) (s : State) → On P s → On P (panicking s)
+pub panicking_kept : (P : Claim) (s : State) → On P s → On P (after_panic s)
 panicking_kept P s h =
     let closing = s.closing in
     chosen P (closing.is_panicking || closing.is_closed)
@@ -102,12 +101,13 @@ panicking_kept P s h =
     (record s { closing = record closing { second_clock = pos 15; is_panicking = true } }) h h
 
 -- an object that is sent to a place keeps a claim
-pub sent_kept : (P : Claim) (x : ℕ) (o : Option ℕ) (s : State) → On P s → On P (sent x o s)
+pub sent_kept : (P : Claim) (x : ℕ) (o : Option ℕ) (s : State) → On P s → On P (after_sending x o s)
 sent_kept P x None s h = h
 sent_kept P x (Some place) s h = h
 
 -- the first row that fits keeps a claim
-pub first_kept : (P : Claim) (rows : List Row) → KeepsRows P rows → KeepsOutcome P (first_fitting rows)
+pub first_kept : (P : Claim) (rows : List Row) → KeepsRows P rows
+    → KeepsOutcome P (first_fitting rows)
 first_kept P [] k d h = h
 first_kept P (r ∷ rows) k d h =
     choose (λ (o : Outcome). On P o.state) (fits r.tests d) (outcome_of r d) (first_fitting rows d)

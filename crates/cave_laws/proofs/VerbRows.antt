@@ -1,6 +1,6 @@
 -- The rows of verbs, from BLAST to FOO, keep each claim.
 use Rattle.std.proofs.Common.{pos}
-use Rattle.cave_data.specs.declared.role.Role.TheVariants as role
+use Rattle.cave_rows.specs.declared.role.Role.TheVariants as role
 use Rattle.cave_words.specs.declared.named.Named.TheVariants as name
 use Rattle.cave_verbs.specs.Effects.{set_prop, say}
 use Rattle.cave_verbs.specs.Tests.{the}
@@ -17,7 +17,6 @@ use Rattle.cave_laws.proofs.VerbEffects.{KeepsRows}
 use Rattle.cave_laws.proofs.VerbEffects.{default_kept, say_dark_kept}
 use Rattle.cave_laws.proofs.VerbEffects.{put_down_kept, let_go_kept, without_troll_kept, lost_kept}
 
--- the rows `blast` keep a claim
 pub blast_rows_kept : (P : Claim) → KeepsRows P blast_rows
 unfolding blast_rows
 blast_rows_kept P = (
@@ -34,18 +33,15 @@ blast_rows_kept P = (
   ),
 )
 
--- the rows `break` keep a claim
 pub break_rows_kept : (P : Claim) → KeepsRows P break_rows
 unfolding break_rows
 break_rows_kept P =
     ((λ d h. let_go_kept P _ _ _ h), ((λ d h. h), ((λ d h. h), ((λ d h. default_kept P d h), tt))))
 
--- the rows `wake` keep a claim
 pub wake_rows_kept : (P : Claim) → KeepsRows P wake_rows
 unfolding wake_rows
 wake_rows_kept P = ((λ d h. h), ((λ d h. default_kept P d h), tt))
 
--- the rows `drop` keep a claim
 pub drop_rows_kept : (P : Claim) → KeepsRows P drop_rows
 unfolding drop_rows
 drop_rows_kept P = (
@@ -77,7 +73,6 @@ drop_rows_kept P = (
   ),
 )
 
--- the rows `feed` keep a claim
 pub feed_rows_kept : (P : Claim) → KeepsRows P feed_rows
 unfolding feed_rows
 feed_rows_kept P = (
@@ -112,17 +107,14 @@ feed_rows_kept P = (
   ),
 )
 
--- the rows `bare_eat` keep a claim
 pub bare_eat_rows_kept : (P : Claim) → KeepsRows P bare_eat_rows
 unfolding bare_eat_rows
 bare_eat_rows_kept P = ((λ d h. h), ((λ d h. h), tt))
 
--- the rows `eat` keep a claim
 pub eat_rows_kept : (P : Claim) → KeepsRows P eat_rows
 unfolding eat_rows
 eat_rows_kept P = ((λ d h. h), ((λ d h. h), ((λ d h. default_kept P d h), tt)))
 
--- the rows `find` keep a claim
 pub find_rows_kept : (P : Claim) → KeepsRows P find_rows
 unfolding find_rows
 find_rows_kept P = (
@@ -145,17 +137,14 @@ find_rows_kept P = (
   ),
 )
 
--- the rows `bare_inventory` keep a claim
 pub bare_inventory_rows_kept : (P : Claim) → KeepsRows P bare_inventory_rows
 unfolding bare_inventory_rows
 bare_inventory_rows_kept P = ((λ d h. h), ((λ d h. h), tt))
 
--- the rows `bare_kill` keep a claim
 pub bare_kill_rows_kept : (P : Claim) → KeepsRows P bare_kill_rows
 unfolding bare_kill_rows
 bare_kill_rows_kept P = ((λ d h. h), ((λ d h. h), ((λ d h. h), ((λ d h. h), ((λ d h. h), tt)))))
 
--- the rows `kill` keep a claim
 pub kill_rows_kept : (P : Claim) → KeepsRows P kill_rows
 unfolding kill_rows
 kill_rows_kept P = (
@@ -196,12 +185,10 @@ kill_rows_kept P = (
   ),
 )
 
--- the rows `on` keep a claim
 pub on_rows_kept : (P : Claim) → KeepsRows P on_rows
 unfolding on_rows
 on_rows_kept P = ((λ d h. default_kept P d h), ((λ d h. h), ((λ d h. h), ((λ d h. h), tt))))
 
--- the rows `off` keep a claim
 pub off_rows_kept : (P : Claim) → KeepsRows P off_rows
 unfolding off_rows
 off_rows_kept P = (
@@ -209,7 +196,6 @@ off_rows_kept P = (
   ((λ d h. say_dark_kept P (say role.LampOff (set_prop (the name.Lamp) (pos 0) d)) h), tt),
 )
 
--- the rows `bare_foo` keep a claim
 pub bare_foo_rows_kept : (P : Claim) → KeepsRows P bare_foo_rows
 unfolding bare_foo_rows
 bare_foo_rows_kept P = (

@@ -3,11 +3,12 @@
 use Rattle.std.proofs.Common.{ℕ, zero, suc, List, [], ◌∷◌}
 use Rattle.std.specs.Prelude.{◌==◌}
 use Rattle.cave_data.specs.CaveView.{CaveView}
-use Rattle.cave_words.specs.Stream.{drawn}
+use Rattle.cave_words.specs.Stream.{number_drawn}
 use Rattle.cave_world.specs.declared.part.Part.{Part}
 use Rattle.cave_world.specs.declared.state.State.{State}
 use Rattle.cave_verbs.specs.Acting.{Rule, outcome_by, bare_rules, object_rules, bare_outcome}
-use Rattle.cave_verbs.specs.Acting.{object_outcome, outcome_once, outcome_within, acted, going_on}
+use Rattle.cave_verbs.specs.Acting.{object_outcome, outcome_once, outcome_within}
+use Rattle.cave_verbs.specs.Acting.{outcome_of_command, going_on}
 use Rattle.cave_verbs.specs.Deeds.{Outcome, deed}
 use Rattle.cave_verbs.specs.Rows.{first_fitting}
 use Rattle.cave_verbs.specs.Tests.{the, dwarf}
@@ -16,7 +17,8 @@ use Rattle.cave_verbs.specs.declared.next.Step.TheVariants.{Done, GoOn}
 use Rattle.cave_verbs.specs.declared.order.Command.{Command}
 use Rattle.cave_verbs.specs.Small.{other_rows}
 use Rattle.cave_verbs.specs.Throwing.{throw_rows, miss_rows, hit_rows, axe_rows}
-use Rattle.cave_verbs.specs.Throwing.{axe_thrown_at_dwarf, axe_thrown, thrown, after_draw}
+use Rattle.cave_verbs.specs.Throwing.{axe_thrown_at_dwarf, axe_outcome, throw_outcome}
+use Rattle.cave_verbs.specs.Throwing.{after_one_draw}
 use Rattle.cave_laws.proofs.Frame.{Claim, On, choose}
 use Rattle.cave_laws.proofs.VerbEffects.{KeepsOutcome, KeepsRules}
 use Rattle.cave_laws.proofs.VerbEffects.{first_kept, first_or_kept}
@@ -38,23 +40,23 @@ use Rattle.cave_laws.proofs.MoreVerbRows.{wave_rows_kept, rub_rows_kept}
 pub at_dwarf_kept : (P : Claim) → KeepsOutcome P axe_thrown_at_dwarf
 unfolding axe_thrown_at_dwarf
 at_dwarf_kept P d h =
-    choose (λ (o : Outcome). On P o.state) (drawn 3 d.state.stream == 0)
-    (first_fitting miss_rows (after_draw d)) (first_fitting hit_rows (after_draw d))
-    (λ _. first_kept P miss_rows (miss_rows_kept P) (after_draw d) h)
-    (λ _. first_kept P hit_rows (hit_rows_kept P) (after_draw d) h)
+    choose (λ (o : Outcome). On P o.state) (number_drawn 3 d.state.stream == 0)
+    (first_fitting miss_rows (after_one_draw d)) (first_fitting hit_rows (after_one_draw d))
+    (λ _. first_kept P miss_rows (miss_rows_kept P) (after_one_draw d) h)
+    (λ _. first_kept P hit_rows (hit_rows_kept P) (after_one_draw d) h)
 
 -- an axe that is thrown keeps a claim
-pub axe_kept : (P : Claim) → KeepsOutcome P axe_thrown
-unfolding axe_thrown
+pub axe_kept : (P : Claim) → KeepsOutcome P axe_outcome
+unfolding axe_outcome
 axe_kept P d h =
     choose (λ (o : Outcome). On P o.state) (dwarf d) (axe_thrown_at_dwarf d)
     (first_fitting axe_rows d)
     (λ _. at_dwarf_kept P d h) (λ _. first_kept P axe_rows (axe_rows_kept P) d h)
 
 -- what is thrown keeps a claim
-pub thrown_kept : (P : Claim) → KeepsOutcome P thrown
-unfolding thrown
-thrown_kept P d h = first_or_kept P throw_rows axe_thrown (throw_rows_kept P) (axe_kept P) d h
+pub thrown_kept : (P : Claim) → KeepsOutcome P throw_outcome
+unfolding throw_outcome
+thrown_kept P d h = first_or_kept P throw_rows axe_outcome (throw_rows_kept P) (axe_kept P) d h
 
 -- the rules of verbs keep a claim
 pub by_kept : (P : Claim) (rules : List Rule) → KeepsRules P rules → (v : ℕ)
@@ -257,8 +259,8 @@ within_kept P (suc left) d h =
 
 -- what is commanded keeps a claim
 pub acted_kept : (P : Claim) (cave : CaveView) (command : Command) (s : State) (parts : List Part)
-    → On P s → On P (acted cave command s parts).state
-unfolding acted
+    → On P s → On P (outcome_of_command cave command s parts).state
+unfolding outcome_of_command
 acted_kept P cave command s parts h =
     within_kept P 3 (deed cave
     (record { verb = command.verb; object = command.object; command = command }) s parts) h

@@ -1,30 +1,28 @@
--- Laws of the game: each tells what a line makes of any state in any cave.
+-- Laws of the game: each says what a line makes of any state in any cave.
 use Rattle.std.specs.Prelude.{◌≡◌, ◌≤◌, ◌⊎◌, ℕ, negsuc, ◌≤ℤ◌, Bool, false, true, ◌&&◌, not, List}
 use Rattle.std.specs.Prelude.{[], Option, None, Some, is_some, if◌then◌else◌}
 use Rattle.cave_data.specs.CaveView.{CaveView}
-use Rattle.cave_words.specs.LogLine.{IsSeedLine, log_line}
-use Rattle.cave_words.specs.declared.log_line.LogLine.{LogLine}
-use Rattle.cave_words.specs.declared.log_line.LogLine.TheVariants as kind
+use Rattle.log_lines.specs.LogLine.{IsSeedLine, log_line}
+use Rattle.log_lines.specs.declared.log_line.LogLine.{LogLine}
+use Rattle.log_lines.specs.declared.log_line.LogLine.TheVariants as kind
 use Rattle.cave_words.specs.declared.named.Named.TheVariants as name
 use Rattle.cave_world.specs.Sight.{is_dark}
 use Rattle.cave_world.specs.declared.ending.Question.{Question}
 use Rattle.cave_world.specs.declared.ending.Question.TheVariants as question
 use Rattle.cave_world.specs.declared.state.State.{State}
 use Rattle.cave_things.specs.Places.{building_place, start_place}
-use Rattle.cave_things.specs.Plays.{Scene, opening}
+use Rattle.cave_things.specs.Plays.{Scene, scene_at_start}
 use Rattle.cave_things.specs.Things.{thing}
 use Rattle.cave_clocks.specs.FirstClock.{first_clock_run}
 use Rattle.cave_clocks.specs.Lamp.{with_lamp_burnt, can_change_batteries}
 use Rattle.cave_clocks.specs.Repository.{second_clock_run}
-use Rattle.cave_turn.specs.Answers.{answer_in, closed, is_dragon, is_yes}
-use Rattle.cave_turn.specs.Commands.{beginning}
-use Rattle.cave_turn.specs.Turn.{Turn, turned, begun, reseeded, silent}
+use Rattle.cave_turn.specs.Answers.{answer_in, without_question, is_dragon, is_yes}
+use Rattle.cave_turn.specs.Commands.{after_beginning}
+use Rattle.cave_turn.specs.Turn.{Turn, turn_on_line, game_beginning, with_seed, silent_turn}
 
--- the game has ended
 abbrev pub HasEnded : State → Type 0
 HasEnded s = is_some s.ending ≡ true
 
--- the line is no seed line
 abbrev pub IsNoSeedLine : List ℕ → Type 0
 IsNoSeedLine line = (seed : ℕ) → ¬ IsSeedLine line seed
 
@@ -39,22 +37,21 @@ pub record IsQuiet (s : State) (line : List ℕ) (t : Turn) : Type 0 where
 abbrev pub EndIsQuiet : Type 0
 EndIsQuiet =
     (cave : CaveView) (s : State) (line : List ℕ) → HasEnded s
-    → IsQuiet s line (turned cave s line)
+    → IsQuiet s line (turn_on_line cave s line)
 
 -- a seed line changes the random stream alone, says nothing and is no turn
 abbrev pub SeedsAlone : Type 0
 SeedsAlone =
     (cave : CaveView) (s : State) (line : List ℕ) (seed : ℕ) → IsSeedLine line seed
-    → turned cave s line ≡ silent (reseeded s seed)
+    → turn_on_line cave s line ≡ silent_turn (with_seed s seed)
 
--- input is what is no comment, not blank and no seed line
+-- input is any line that is not a comment, not blank and not a seed line
 abbrev pub is_input_kind : LogLine → Bool
 is_input_kind kind.Comment = false
 is_input_kind kind.Blank = false
 is_input_kind (kind.Seed seed) = false
 is_input_kind kind.Input = true
 
--- a line is input
 abbrev pub is_input : List ℕ → Bool
 is_input line = is_input_kind (log_line line)
 
@@ -77,7 +74,7 @@ is_command cave s line =
 abbrev pub CommandsTick : Type 0
 CommandsTick =
     (cave : CaveView) (s : State) (line : List ℕ)
-    → (turned cave s line).ticked ≡ is_command cave s line
+    → (turn_on_line cave s line).ticked ≡ is_command cave s line
 
 -- there are at most three deaths, and after the third the game has ended
 pub record HasFewDeaths (s : State) : Type 0 where
@@ -86,13 +83,13 @@ pub record HasFewDeaths (s : State) : Type 0 where
 
 -- a game begins so, and each line keeps it so
 pub record FewDeaths : Type 0 where
-  pub start : (cave : CaveView) (seed : ℕ) → HasFewDeaths (begun cave seed).state
+  pub start : (cave : CaveView) (seed : ℕ) → HasFewDeaths (game_beginning cave seed).state
   pub kept :
       (cave : CaveView) (s : State) (line : List ℕ) → HasFewDeaths s
-      → HasFewDeaths (turned cave s line).state
+      → HasFewDeaths (turn_on_line cave s line).state
 
--- the player stands at place 0, which is none, only where the game has ended, or where the player
--- died and is asked whether to come back
+-- the player is at place 0, which is none, only where the game has ended, or where the player died
+-- and is asked whether to come back
 abbrev pub StandsSomewhere : State → Type 0
 StandsSomewhere s = s.trail.here ≡ 0 → HasEnded s ⊎ (s.question ≡ Some question.Die)
 
@@ -100,10 +97,11 @@ StandsSomewhere s = s.trail.here ≡ 0 → HasEnded s ⊎ (s.question ≡ Some q
 -- where the building, to which the dead come back, isn't place 0
 pub record PlayerStands : Type 0 where
   pub start :
-      (cave : CaveView) (seed : ℕ) → 1 ≤ start_place cave → StandsSomewhere (begun cave seed).state
+      (cave : CaveView) (seed : ℕ) → 1 ≤ start_place cave
+      → StandsSomewhere (game_beginning cave seed).state
   pub kept :
       (cave : CaveView) (s : State) (line : List ℕ) → 1 ≤ building_place cave → StandsSomewhere s
-      → StandsSomewhere (turned cave s line).state
+      → StandsSomewhere (turn_on_line cave s line).state
 
 -- two questions are about a price that the lamp gains by: the instructions, and a hint
 abbrev pub is_priced : Question → Bool
@@ -119,7 +117,7 @@ pays cave line (Some question) = is_yes (answer_in cave line) && is_priced quest
 -- the scene in which the clocks begin to run, in a command that begins in a state
 abbrev pub before_clocks : CaveView → State → Scene
 before_clocks cave s =
-    let t = beginning s in opening (is_dark cave (thing cave name.Lamp) t) t
+    let t = after_beginning s in scene_at_start (is_dark cave (thing cave name.Lamp) t) t
 
 -- the lamp isn't reached where the second clock closed the cave
 abbrev pub unless_closed : Option ℕ → Scene → Option Scene
@@ -145,7 +143,7 @@ gets_batteries cave s = is_changed cave (before_lamp cave (before_clocks cave s)
 
 -- a line is a command in which the lamp gets new batteries; a question that it leaves is closed
 abbrev pub brings_batteries : CaveView → State → List ℕ → Bool
-brings_batteries cave s line = is_command cave s line && gets_batteries cave (closed s)
+brings_batteries cave s line = is_command cave s line && gets_batteries cave (without_question s)
 
 -- a charge of at least -1 that the lamp has rises by nothing but the instructions, a hint and, in
 -- a command, new batteries
@@ -153,4 +151,4 @@ abbrev pub LampBurnsDown : Type 0
 LampBurnsDown =
     (cave : CaveView) (s : State) (line : List ℕ) → negsuc 0 ≤ℤ s.lamp.charge
     → pays cave line s.question ≡ false → brings_batteries cave s line ≡ false
-    → (turned cave s line).state.lamp.charge ≤ℤ s.lamp.charge
+    → (turn_on_line cave s line).state.lamp.charge ≤ℤ s.lamp.charge

@@ -25,8 +25,8 @@ pub fn few_deaths()
     ensures { FewDeaths }
 {}
 
-/// The player stands at place 0 only where the game has ended, or where the player died and is
-/// asked whether to come back.
+/// The player is at place 0 only where the game has ended, or where the player died and is asked
+/// whether to come back.
 pub fn player_stands()
     ensures { PlayerStands }
 {}

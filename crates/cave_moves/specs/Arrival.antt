@@ -3,31 +3,32 @@ use Rattle.std.specs.Prelude.{ℕ, Bool, true, false, ◌==◌, ◌&&◌, not, n
 use Rattle.std.specs.Prelude.{if◌then◌else◌, take, suc, zero}
 use Rattle.std.specs.List.{list_any}
 use Rattle.cave_data.specs.CaveView.{CaveView}
-use Rattle.cave_data.specs.declared.role.Role.TheVariants as role
+use Rattle.cave_rows.specs.declared.role.Role.TheVariants as role
 use Rattle.cave_world.specs.Sight.{is_forced}
-use Rattle.cave_world.specs.State.{is_over}
+use Rattle.cave_world.specs.State.{takes_no_command}
 use Rattle.cave_world.specs.declared.dwarves.Dwarf.{Dwarf}
 use Rattle.cave_world.specs.declared.state.State.{State}
-use Rattle.cave_things.specs.Conditions.{has}
-use Rattle.cave_things.specs.Panic.{panicking}
+use Rattle.cave_things.specs.Conditions.{meets_condition}
+use Rattle.cave_things.specs.Panic.{after_panic}
 use Rattle.cave_things.specs.Places.{outside_place}
 use Rattle.cave_things.specs.declared.conditions.Condition.TheVariants.{NoPirate}
-use Rattle.cave_dwarves.specs.Dwarves.{Harrying, dwarves_moved}
-use Rattle.cave_score.specs.Deaths.{dying}
-use Rattle.cave_moves.specs.Description.{Showing, described, seen_here, text_told}
+use Rattle.cave_dwarves.specs.Dwarves.{Encounter, dwarves_moved}
+use Rattle.cave_score.specs.Deaths.{death_scene}
+use Rattle.cave_moves.specs.Description.{Stop, description_scene, stop_here, after_text}
 use Rattle.cave_moves.specs.Falling.{falling_here}
 use Rattle.cave_moves.specs.Journeys.{set_forth}
-use Rattle.cave_moves.specs.Ways.{Journey, staying}
-use Rattle.cave_things.specs.Plays.{Scene, saying, with_state, with_left, standing, here_of}
+use Rattle.cave_moves.specs.Ways.{Journey, journey_here}
+use Rattle.cave_things.specs.Plays.{Scene, after_saying, with_state, with_left, scene_at_place}
+use Rattle.cave_things.specs.Plays.{here_of}
 
 -- a cave that is closing has no way out
 unfoldable pub is_shut : CaveView → ℕ → State → Bool
 is_shut cave new s = s.closing.is_closing && nat_le 1 new && nat_le new (outside_place cave)
 
-unfoldable pub kept_in : CaveView → ℕ → Scene → Journey
-kept_in cave new p =
+unfoldable pub journey_unless_shut : CaveView → ℕ → Scene → Journey
+journey_unless_shut cave new p =
     if is_shut cave new p.state
-    then staying (saying role.ClosingExit (with_state (panicking p.state) p))
+    then journey_here (after_saying role.ClosingExit (with_state (after_panic p.state) p))
     else record { place = new; scene = p }
 
 -- a dwarf that has seen the player comes from the place
@@ -38,51 +39,55 @@ comes_from new dwarf = dwarf.has_seen && dwarf.last == new
 unfoldable pub is_barred : CaveView → ℕ → State → Bool
 is_barred cave new s =
     not (new == s.trail.here) && not (is_forced cave s.trail.here)
-    && not (has cave s.trail.here NoPirate) && list_any (comes_from new) (take 5 s.dwarves.each)
+    && not (meets_condition cave s.trail.here NoPirate)
+    && list_any (comes_from new) (take 5 s.dwarves.each)
 
-unfoldable pub held_back : CaveView → ℕ → Scene → Journey
-held_back cave new p =
-    if is_barred cave new p.state then staying (saying role.Blocked p)
+unfoldable pub journey_unless_barred : CaveView → ℕ → Scene → Journey
+journey_unless_barred cave new p =
+    if is_barred cave new p.state then journey_here (after_saying role.Blocked p)
     else record { place = new; scene = p }
 
 -- a dwarf's knife kills, and else the place is described
-abbrev pub after_dwarves : CaveView → Harrying → Scene
-after_dwarves cave h = if h.is_hit then falling_here cave h.scene else described cave h.scene
+abbrev pub after_dwarves : CaveView → Encounter → Scene
+after_dwarves cave h = if h.is_hit then falling_here cave h.scene
+    else description_scene cave h.scene
 
--- the dwarves move before a place is described, but for one to which the pirate doesn't come
-unfoldable pub met : CaveView → Scene → Scene
-met cave p =
-    if has cave (here_of p) NoPirate then described cave p
+-- the dwarves move before a place is described, except at one to which the pirate doesn't come
+unfoldable pub meeting_scene : CaveView → Scene → Scene
+meeting_scene cave p =
+    if meets_condition cave (here_of p) NoPirate then description_scene cave p
     else after_dwarves cave (dwarves_moved cave p)
 
--- the player comes to a place: 0 is death, a place that carries the player on is told by its text,
+-- the player comes to a place: 0 is death, of a place of forced motion the text alone is printed,
 -- and at any other there may be dwarves
-unfoldable pub come_to : CaveView → ℕ → Scene → Showing
+unfoldable pub come_to : CaveView → ℕ → Scene → Stop
 come_to cave new p =
-    let q = standing new p in
-    if new == 0 then record { is_carried_on = false; scene = dying cave q }
-    else (if is_forced cave new then record { is_carried_on = true; scene = text_told cave q }
-    else record { is_carried_on = false; scene = met cave q })
+    let q = scene_at_place new p in
+    if new == 0 then record { is_moved_on = false; scene = death_scene cave q }
+    else (if is_forced cave new then record { is_moved_on = true; scene = after_text cave q }
+    else record { is_moved_on = false; scene = meeting_scene cave q })
 
 -- the player arrives at a place, if nothing is in the way; after a death on the way no one arrives
-unfoldable pub shown : CaveView → ℕ → Scene → Showing
-shown cave new p =
-    if is_over p.state then record { is_carried_on = false; scene = p }
-    else (let once = kept_in cave new p in
-    let twice = held_back cave once.place once.scene in
+unfoldable pub stop_at : CaveView → ℕ → Scene → Stop
+stop_at cave new p =
+    if takes_no_command p.state then record { is_moved_on = false; scene = p }
+    else (let once = journey_unless_shut cave new p in
+    let twice = journey_unless_barred cave once.place once.scene in
     come_to cave twice.place twice.scene)
 
--- who is carried on sets out by motion 1 and is shown the next place, while forced motions are left
-unfoldable pub carried_on : ℕ → CaveView → Showing → Scene
-carried_on zero cave s = if s.is_carried_on then saying role.ForcedLimit s.scene else s.scene
-carried_on (suc left) cave s =
+-- a player who is moved on by a forced motion sets out by motion 1 and is shown the next place,
+-- while forced motions are left
+unfoldable pub after_forced_motions : ℕ → CaveView → Stop → Scene
+after_forced_motions zero cave s =
+    if s.is_moved_on then after_saying role.ForcedLimit s.scene else s.scene
+after_forced_motions (suc left) cave s =
     let j = set_forth cave 1 (with_left left s.scene) in
-    if s.is_carried_on then carried_on left cave (shown cave j.place j.scene) else s.scene
+    if s.is_moved_on then after_forced_motions left cave (stop_at cave j.place j.scene) else s.scene
 
 -- the player arrives at a place; the forced motions that are left are those of the whole turn
-abbrev pub arriving : CaveView → ℕ → Scene → Scene
-arriving cave new p = carried_on p.left cave (shown cave new p)
+abbrev pub arrival_scene : CaveView → ℕ → Scene → Scene
+arrival_scene cave new p = after_forced_motions p.left cave (stop_at cave new p)
 
--- the player is told anew where the player stands, without arriving there
-abbrev pub describing : CaveView → Scene → Scene
-describing cave p = carried_on p.left cave (seen_here cave p)
+-- the player's place is described anew, without an arrival
+abbrev pub description_anew : CaveView → Scene → Scene
+description_anew cave p = after_forced_motions p.left cave (stop_here cave p)

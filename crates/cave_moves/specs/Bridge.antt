@@ -1,18 +1,18 @@
 -- The bridge that a troll guards.
 use Rattle.std.specs.Prelude.{ℕ, pos, negsuc, ◌==◌, ◌||◌, if◌then◌else◌, Option, Some, None}
 use Rattle.cave_data.specs.CaveView.{CaveView}
-use Rattle.cave_data.specs.declared.role.Role.TheVariants as role
+use Rattle.cave_rows.specs.declared.role.Role.TheVariants as role
 use Rattle.cave_moves.specs.Falling.{falling_at}
-use Rattle.cave_moves.specs.Ways.{Journey, staying, other_end}
+use Rattle.cave_moves.specs.Ways.{Journey, journey_here, other_end}
 use Rattle.cave_things.specs.Effects.{with_objects, one_more_lost}
 use Rattle.cave_things.specs.Homes.{home, hold_of, second_home}
-use Rattle.cave_things.specs.Plays.{Scene, saying, looking_at, with_state, here_of}
-use Rattle.cave_things.specs.Reach.{is_toted, has_prop, has_prop_up_to}
+use Rattle.cave_things.specs.Plays.{Scene, after_saying, after_look_at, with_state, here_of}
+use Rattle.cave_things.specs.Reach.{is_in_hand, has_prop, has_prop_up_to}
 use Rattle.cave_things.specs.Things.{thing}
 use Rattle.cave_words.specs.declared.named.Named.TheVariants as name
-use Rattle.cave_world.specs.Layout.{Layout}
-use Rattle.cave_world.specs.Objects.{moved, anchored, juggled, with_prop}
-use Rattle.cave_world.specs.declared.spot.Anchor.TheVariants as anchor
+use Rattle.cave_objects.specs.Layout.{Layout}
+use Rattle.cave_objects.specs.Objects.{moved_to, anchored_to, put_anew, with_prop}
+use Rattle.cave_objects.specs.declared.spot.Anchor.TheVariants as anchor
 use Rattle.cave_world.specs.declared.state.State.{State}
 
 -- the bridge leads from one of the two places where the troll is at home to the other
@@ -22,34 +22,34 @@ bridge_end cave here =
     if troll == 0 || second_home cave troll == 0 then None
     else other_end here (Some (home cave troll)) (Some (second_home cave troll))
 
--- the troll stands at both ends of the bridge again, and its second self is gone
+-- the troll is at both ends of the bridge again, and its second self is gone
 unfoldable pub with_troll : CaveView → Layout → Layout
 with_troll cave o =
     let troll = thing cave name.Troll in let second = thing cave name.SecondTroll in
     let free = with_prop o troll (pos 0) in
-    let alone = anchored (moved free second 0) second anchor.Loose in
-    let there = anchored (moved alone troll (home cave troll)) troll (hold_of cave troll) in
-    juggled there (thing cave name.Chasm)
+    let alone = anchored_to (moved_to free second 0) second anchor.Loose in
+    let there = anchored_to (moved_to alone troll (home cave troll)) troll (hold_of cave troll) in
+    put_anew there (thing cave name.Chasm)
 
--- the troll wants a treasure once more
-unfoldable pub stopped : CaveView → Scene → Scene
-stopped cave p =
-    let q = looking_at (thing cave name.Troll) (pos 1) p in
+-- the troll asks for a treasure once more
+unfoldable pub toll_scene : CaveView → Scene → Scene
+toll_scene cave p =
+    let q = after_look_at (thing cave name.Troll) (pos 1) p in
     with_state (with_objects (with_troll cave q.state.objects) q.state) q
 
--- whom the troll lets pass it will stop the next time
+-- a player whom the troll lets pass is stopped the next time
 unfoldable pub let_pass : CaveView → State → State
 let_pass cave s =
     let troll = thing cave name.Troll in
     if has_prop s troll (pos 0) then with_objects (with_prop s.objects troll (pos 1)) s else s
 
--- the bridge is broken, the troll is gone for good, and the bear lies dead at the other end
+-- the bridge is broken, the troll is gone for good, and the bear is dead at the other end
 unfoldable pub without_bridge : CaveView → ℕ → Layout → Layout
 without_bridge cave end o =
     let bear = thing cave name.Bear in
     let broken = with_prop o (thing cave name.Chasm) (pos 1) in
     let free = with_prop broken (thing cave name.Troll) (pos 2) in
-    let fallen = anchored (moved free bear end) bear anchor.Fixed in
+    let fallen = anchored_to (moved_to free bear end) bear anchor.Fixed in
     with_prop fallen bear (pos 3)
 
 -- the spices can't be found any more, if they weren't seen yet
@@ -62,25 +62,26 @@ with_broken_bridge cave end s =
     without_spices cave (with_objects (without_bridge cave end s.objects) s)
 
 -- the bridge breaks under the bear and the player
-unfoldable pub broken_through : CaveView → ℕ → Scene → Scene
-broken_through cave end p =
-    let q = saying role.BridgeFalls p in
+unfoldable pub broken_bridge_scene : CaveView → ℕ → Scene → Scene
+broken_bridge_scene cave end p =
+    let q = after_saying role.BridgeFalls p in
     falling_at cave end (with_state (with_broken_bridge cave end q.state) q)
 
--- who crosses with the bear breaks through
-unfoldable pub crossed_to : CaveView → ℕ → Scene → Journey
-crossed_to cave end p =
+-- a player who crosses with the bear breaks the bridge
+unfoldable pub journey_across : CaveView → ℕ → Scene → Journey
+journey_across cave end p =
     let q = with_state (let_pass cave p.state) p in
-    if is_toted cave q.state (thing cave name.Bear) then staying (broken_through cave end q)
+    if is_in_hand cave q.state (thing cave name.Bear)
+    then journey_here (broken_bridge_scene cave end q)
     else record { place = end; scene = q }
 
 -- the troll stops a player whom it let pass before
-abbrev pub bridged_to : CaveView → Option ℕ → Scene → Journey
-bridged_to cave None p = staying (saying role.NoWay p)
-bridged_to cave (Some end) p =
-    if has_prop p.state (thing cave name.Troll) (pos 1) then staying (stopped cave p)
-    else crossed_to cave end p
+abbrev pub journey_over_bridge : CaveView → Option ℕ → Scene → Journey
+journey_over_bridge cave None p = journey_here (after_saying role.NoWay p)
+journey_over_bridge cave (Some end) p =
+    if has_prop p.state (thing cave name.Troll) (pos 1) then journey_here (toll_scene cave p)
+    else journey_across cave end p
 
--- where the bridge leads a player who stands at one of its ends
-unfoldable pub bridged : CaveView → Scene → Journey
-bridged cave p = bridged_to cave (bridge_end cave (here_of p)) p
+-- where the bridge leads a player at one of its ends
+unfoldable pub journey_by_bridge : CaveView → Scene → Journey
+journey_by_bridge cave p = journey_over_bridge cave (bridge_end cave (here_of p)) p

@@ -2,14 +2,14 @@
 use Rattle.std.specs.Prelude.{ℕ, ◌==◌, if◌then◌else◌, Option, Some, None}
 use Rattle.cave_things.specs.Plays.{Scene, here_of}
 
--- a play, and the place where the player arrives next
+-- a scene, and the place where the player arrives next
 pub record Journey : Type 0 where
   pub place : ℕ
   pub scene : Scene
 
--- the player arrives where the player stands
-abbrev pub staying : Scene → Journey
-staying p = record { place = here_of p; scene = p }
+-- the player arrives at the place where the player is
+abbrev pub journey_here : Scene → Journey
+journey_here p = record { place = here_of p; scene = p }
 
 -- the other end of a passage between two places
 abbrev pub other_end : ℕ → Option ℕ → Option ℕ → Option ℕ

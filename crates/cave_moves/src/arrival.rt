@@ -1,26 +1,27 @@
 ghost use Rattle.std.specs.Prelude.{◌≡◌, ◌+◌, true, false, IsTrue, take};
 ghost use Rattle.std.specs.List.{list_any};
 ghost use Rattle.cave_things.specs.Things.{cave_of};
-ghost use Rattle.cave_world.specs.State.{is_over};
-ghost use Rattle.cave_moves.specs.Arrival.{is_shut, kept_in, comes_from, is_barred, met};
-ghost use Rattle.cave_moves.specs.Arrival.{held_back, come_to, shown, carried_on};
-ghost use Rattle.cave_moves.specs.Arrival.{arriving, describing};
+ghost use Rattle.cave_world.specs.State.{takes_no_command};
+ghost use Rattle.cave_moves.specs.Arrival.{is_shut, journey_unless_shut, comes_from, is_barred, meeting_scene};
+ghost use Rattle.cave_moves.specs.Arrival.{journey_unless_barred, come_to, stop_at, after_forced_motions};
+ghost use Rattle.cave_moves.specs.Arrival.{arrival_scene, description_anew};
 ghost use Rattle.cave_things.specs.Bounds.{HasRoom, SaysUpTo, parts_of_dwarves, parts_of_place};
-ghost use Rattle.cave_things.specs.Bounds.{parts_of_passing, parts_of_showing};
-ghost use Rattle.cave_things.specs.Bounds.{parts_of_carrying, parts_of_arrival};
+ghost use Rattle.cave_things.specs.Bounds.{parts_of_passing, parts_of_stop};
+ghost use Rattle.cave_things.specs.Bounds.{parts_of_forced_motions, parts_of_arrival};
 ghost use Rattle.cave_things.specs.Plays.{scene_of, GoesOn, IsSamePlay};
 
 use crate::description::{describe, see_here, tell_text};
 use crate::falling::fall_here;
 use crate::journeys::set_forth;
 use crate::ways::stay;
-use cave_data::Role;
 use cave_dwarves::move_dwarves;
+use cave_objects::Place;
+use cave_rows::Role;
 use cave_score::die;
 use cave_things::panic::panic;
 use cave_things::places::outside_place;
 use cave_things::{Condition, Play, Rules};
-use cave_world::{Dwarf, Place, State, is_forced};
+use cave_world::{Dwarf, State, is_forced, motion};
 
 /// Whether a cave that is closing keeps the player from a place.
 #[tactic(auto, unfolding(crate::specs::Arrival::is_shut))]
@@ -32,11 +33,11 @@ fn is_shut(rules: &Rules<'_>, place: Place, state: &State) -> bool
         && place.number() <= outside_place(rules.cave).number()
 }
 
-#[tactic(auto, unfolding(crate::specs::Arrival::kept_in))]
+#[tactic(auto, unfolding(crate::specs::Arrival::journey_unless_shut))]
 fn keep_in(rules: &Rules<'_>, place: Place, play: &mut Play<'_>) -> Place
     requires { HasRoom 1 play.old }
     ensures journey { record { place = result; scene = scene_of play.new }
-        ≡ kept_in (cave_of rules.now) place (scene_of play.old) }
+        ≡ journey_unless_shut (cave_of rules.now) place (scene_of play.old) }
     ensures same { GoesOn play.old play.new }
     ensures few { SaysUpTo 1 play.old play.new }
 {
@@ -71,11 +72,11 @@ fn is_barred(rules: &Rules<'_>, place: Place, state: &State) -> bool
         && some_comes_from(place, &state.dwarves.each[..5])
 }
 
-#[tactic(auto, unfolding(crate::specs::Arrival::held_back))]
+#[tactic(auto, unfolding(crate::specs::Arrival::journey_unless_barred))]
 fn hold_back(rules: &Rules<'_>, place: Place, play: &mut Play<'_>) -> Place
     requires { HasRoom 1 play.old }
     ensures journey { record { place = result; scene = scene_of play.new }
-        ≡ held_back (cave_of rules.now) place (scene_of play.old) }
+        ≡ journey_unless_barred (cave_of rules.now) place (scene_of play.old) }
     ensures same { GoesOn play.old play.new }
     ensures few { SaysUpTo 1 play.old play.new }
 {
@@ -85,11 +86,11 @@ fn hold_back(rules: &Rules<'_>, place: Place, play: &mut Play<'_>) -> Place
     place
 }
 
-/// The dwarves move, and a player who isn't killed by them is told the place.
-#[tactic(auto, unfolding(crate::specs::Arrival::met))]
+/// The dwarves move, and if the player survives them the place is described.
+#[tactic(auto, unfolding(crate::specs::Arrival::meeting_scene))]
 fn meet(rules: &Rules<'_>, play: &mut Play<'_>)
     requires { HasRoom (parts_of_dwarves + parts_of_place) play.old }
-    ensures play { scene_of play.new ≡ met (cave_of rules.now) (scene_of play.old) }
+    ensures play { scene_of play.new ≡ meeting_scene (cave_of rules.now) (scene_of play.old) }
     ensures same { GoesOn play.old play.new }
     ensures few { SaysUpTo (parts_of_dwarves + parts_of_place) play.old play.new }
 {
@@ -104,17 +105,17 @@ fn meet(rules: &Rules<'_>, play: &mut Play<'_>)
     }
 }
 
-/// The player comes to a place. Tells whether the player is carried on from there.
+/// The player comes to a place. Returns whether a forced motion moves the player on from there.
 #[tactic(auto, unfolding(crate::specs::Arrival::come_to))]
 fn come_to(rules: &Rules<'_>, place: Place, play: &mut Play<'_>) -> bool
     requires { HasRoom (parts_of_dwarves + parts_of_place) play.old }
-    ensures showing { record { is_carried_on = result; scene = scene_of play.new }
+    ensures showing { record { is_moved_on = result; scene = scene_of play.new }
         ≡ come_to (cave_of rules.now) place (scene_of play.old) }
     ensures same { GoesOn play.old play.new }
     ensures few { SaysUpTo (parts_of_dwarves + parts_of_place) play.old play.new }
     ensures few_on { IsTrue result → SaysUpTo 2 play.old play.new }
 {
-    play.stand_at(place);
+    play.put_player_at(place);
     if place.number() == 0 {
         die(rules, play);
         return false;
@@ -127,18 +128,19 @@ fn come_to(rules: &Rules<'_>, place: Place, play: &mut Play<'_>) -> bool
     false
 }
 
-/// The player arrives at a place, if nothing is in the way. Tells whether the player is carried on.
-#[tactic(auto, unfolding(crate::specs::Arrival::shown))]
+/// The player arrives at a place, if nothing is in the way. Returns whether a forced motion moves
+/// the player on.
+#[tactic(auto, unfolding(crate::specs::Arrival::stop_at))]
 fn show(rules: &Rules<'_>, place: Place, play: &mut Play<'_>) -> bool
-    requires { HasRoom parts_of_showing play.old }
-    ensures showing { record { is_carried_on = result; scene = scene_of play.new }
-        ≡ shown (cave_of rules.now) place (scene_of play.old) }
+    requires { HasRoom parts_of_stop play.old }
+    ensures showing { record { is_moved_on = result; scene = scene_of play.new }
+        ≡ stop_at (cave_of rules.now) place (scene_of play.old) }
     ensures same { GoesOn play.old play.new }
-    ensures few { SaysUpTo parts_of_showing play.old play.new }
+    ensures few { SaysUpTo parts_of_stop play.old play.new }
     ensures few_on { IsTrue result → SaysUpTo parts_of_passing play.old play.new }
-    ensures alive { IsTrue result → is_over play.old.state.now ≡ false }
+    ensures alive { IsTrue result → takes_no_command play.old.state.now ≡ false }
 {
-    if play.state.is_over() {
+    if play.state.takes_no_command() {
         return false;
     }
     let place = keep_in(rules, place, play);
@@ -146,48 +148,48 @@ fn show(rules: &Rules<'_>, place: Place, play: &mut Play<'_>) -> bool
     come_to(rules, place, play)
 }
 
-/// The player is carried on from where the player stands, while forced motions are left.
-#[tactic(auto, unfolding(crate::specs::Arrival::carried_on))]
-fn carry_on(rules: &Rules<'_>, play: &mut Play<'_>)
-    requires { HasRoom (parts_of_carrying play.old.left) play.old }
-    ensures play { scene_of play.new ≡ carried_on play.old.left (cave_of rules.now)
-        (record { is_carried_on = true; scene = scene_of play.old }) }
+/// Forced motions move the player on, while any are left.
+#[tactic(auto, unfolding(crate::specs::Arrival::after_forced_motions))]
+fn follow_forced_motions(rules: &Rules<'_>, play: &mut Play<'_>)
+    requires { HasRoom (parts_of_forced_motions play.old.left) play.old }
+    ensures play { scene_of play.new ≡ after_forced_motions play.old.left (cave_of rules.now)
+        (record { is_moved_on = true; scene = scene_of play.old }) }
     ensures same { IsSamePlay play.old play.new }
-    ensures few { SaysUpTo (parts_of_carrying play.old.left) play.old play.new }
+    ensures few { SaysUpTo (parts_of_forced_motions play.old.left) play.old play.new }
 {
     if play.left == 0 {
         play.say(Role::ForcedLimit);
         return;
     }
     play.left -= 1;
-    let next = set_forth(rules, 1, play);
+    let next = set_forth(rules, motion::ANY, play);
     if show(rules, next, play) {
-        carry_on(rules, play);
+        follow_forced_motions(rules, play);
     }
 }
 
-/// The player arrives at a place, and is carried on from there while forced motions are left.
-#[tactic(auto, unfolding(crate::specs::Arrival::carried_on))]
+/// The player arrives at a place, and is moved on from there while forced motions are left.
+#[tactic(auto, unfolding(crate::specs::Arrival::after_forced_motions))]
 pub fn arrive(rules: &Rules<'_>, place: Place, play: &mut Play<'_>)
     requires { HasRoom (parts_of_arrival play.old.left) play.old }
-    ensures play { scene_of play.new ≡ arriving (cave_of rules.now) place (scene_of play.old) }
+    ensures play { scene_of play.new ≡ arrival_scene (cave_of rules.now) place (scene_of play.old) }
     ensures same { IsSamePlay play.old play.new }
     ensures few { SaysUpTo (parts_of_arrival play.old.left) play.old play.new }
 {
     if show(rules, place, play) {
-        carry_on(rules, play);
+        follow_forced_motions(rules, play);
     }
 }
 
-/// The player is told anew where the player stands, and is carried on from there in the same way.
-#[tactic(auto, unfolding(crate::specs::Arrival::carried_on))]
+/// The player's place is described anew, and forced motions move the player on in the same way.
+#[tactic(auto, unfolding(crate::specs::Arrival::after_forced_motions))]
 pub fn describe_here(rules: &Rules<'_>, play: &mut Play<'_>)
     requires { HasRoom (parts_of_arrival play.old.left) play.old }
-    ensures play { scene_of play.new ≡ describing (cave_of rules.now) (scene_of play.old) }
+    ensures play { scene_of play.new ≡ description_anew (cave_of rules.now) (scene_of play.old) }
     ensures same { IsSamePlay play.old play.new }
     ensures few { SaysUpTo (parts_of_arrival play.old.left) play.old play.new }
 {
     if see_here(rules, play) {
-        carry_on(rules, play);
+        follow_forced_motions(rules, play);
     }
 }

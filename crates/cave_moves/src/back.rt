@@ -1,21 +1,24 @@
+ghost use Rattle.cave_objects.specs.Spots.{is_place};
 ghost use Rattle.std.specs.Prelude.{◌≡◌, false, map, option_map};
 ghost use Rattle.cave_data.specs.CaveView.{ways_from};
-ghost use Rattle.cave_data.specs.Shown.{going};
+ghost use Rattle.cave_rows.specs.RowViews.{going};
 ghost use Rattle.cave_things.specs.Things.{cave_of};
-ghost use Rattle.cave_world.specs.State.{is_over};
+ghost use Rattle.cave_world.specs.State.{takes_no_command};
 ghost use Rattle.cave_moves.specs.Journeys.{back_place, leads_through, direct_row, indirect_row};
-ghost use Rattle.cave_moves.specs.Journeys.{row_back, first_motion, first_number, is_number};
-ghost use Rattle.cave_moves.specs.Journeys.{going_back};
+ghost use Rattle.cave_moves.specs.Journeys.{row_back, first_motion, first_number};
+ghost use Rattle.cave_moves.specs.Journeys.{journey_back};
 ghost use Rattle.cave_things.specs.Bounds.{HasRoom, SaysUpTo, parts_of_journey};
 ghost use Rattle.cave_things.specs.Plays.{scene_of, GoesOn};
 
 use crate::journeys::route;
 use crate::ways::stay;
-use cave_data::{Role, Row};
+use cave_objects::Place;
+use cave_objects::place::LAST_PLACE;
+use cave_rows::{Role, Row};
 use cave_things::{Play, Rules};
-use cave_world::{Place, State, is_forced};
+use cave_world::{State, is_forced};
 
-/// Where the player goes who goes back.
+/// Where a player who goes back goes.
 fn back_place(rules: &Rules<'_>, state: &State) -> Place
     ensures { result ≡ back_place (cave_of rules.now) state.now }
 {
@@ -26,23 +29,22 @@ fn back_place(rules: &Rules<'_>, state: &State) -> Place
     }
 }
 
-/// Whether a row leads to a place that carries the player on to the place that is sought.
+/// Whether a row leads to a place whose forced motion leads to the place that is sought.
 fn leads_through(rules: &Rules<'_>, sought: Place, row: &Row) -> bool
     ensures { result ≡ leads_through (cave_of rules.now) sought (going row.now) }
 {
-    let number = row.target % 1000;
-    if number > 300 {
+    if row.number() > LAST_PLACE as u16 {
         return false;
     }
-    let place = Place::new(number as u16);
+    let place = Place::new(row.number());
     is_forced(rules.cave, place) && is_first_number(sought, rules.cave.travel(place.number()))
 }
 
 fn is_first_number(sought: Place, rows: &[Row]) -> bool
-    ensures { result ≡ is_number sought (first_number (map going rows.now)) }
+    ensures { result ≡ is_place sought (first_number (map going rows.now)) }
 {
     match rows {
-        [row, ..] => row.target % 1000 == u32::from(sought.number()),
+        [row, ..] => row.number() == sought.number(),
         [] => false,
     }
 }
@@ -51,7 +53,7 @@ fn direct_row(sought: Place, rows: &[Row]) -> Option<&Row>
     ensures { option_map (λ row. going row.now) result ≡ direct_row sought (map going rows.now) }
 {
     for row in rows {
-        if row.target % 1000 == u32::from(sought.number()) {
+        if row.number() == sought.number() {
             return Some(row);
         }
     }
@@ -71,7 +73,7 @@ fn indirect_row<'a>(rules: &Rules<'_>, sought: Place, rows: &'a [Row]) -> Option
     last
 }
 
-/// The row that leads back, or through a place that carries the player on.
+/// The row that leads back, at once or through a place of forced motion.
 #[tactic(auto, unfolding(crate::specs::Journeys::row_back))]
 fn row_back<'a>(rules: &Rules<'_>, sought: Place, rows: &'a [Row]) -> Option<&'a Row>
     ensures { option_map (λ row. going row.now) result
@@ -92,14 +94,14 @@ fn motion_back(rules: &Rules<'_>, sought: Place, here: Place) -> Option<u16>
 }
 
 /// The player goes back.
-#[tactic(auto, unfolding(crate::specs::Journeys::going_back))]
+#[tactic(auto, unfolding(crate::specs::Journeys::journey_back))]
 pub fn go_back(rules: &Rules<'_>, play: &mut Play<'_>) -> Place
     requires { HasRoom parts_of_journey play.old }
     ensures journey { record { place = result; scene = scene_of play.new }
-        ≡ going_back (cave_of rules.now) (scene_of play.old) }
+        ≡ journey_back (cave_of rules.now) (scene_of play.old) }
     ensures same { GoesOn play.old play.new }
     ensures few { SaysUpTo parts_of_journey play.old play.new }
-    ensures few_on { is_over play.new.state.now ≡ false → SaysUpTo 1 play.old play.new }
+    ensures few_on { takes_no_command play.new.state.now ≡ false → SaysUpTo 1 play.old play.new }
 {
     let sought = back_place(rules, play.state);
     let here = play.state.trail.here;

@@ -1,22 +1,23 @@
 //! The bridge that a troll guards.
 
 ghost use Rattle.std.specs.Prelude.{◌≡◌, false, IsTrue};
-ghost use Rattle.cave_moves.specs.Bridge.{bridge_end, with_troll, stopped, let_pass};
+ghost use Rattle.cave_moves.specs.Bridge.{bridge_end, with_troll, toll_scene, let_pass};
 ghost use Rattle.cave_moves.specs.Bridge.{without_bridge, without_spices, with_broken_bridge};
-ghost use Rattle.cave_moves.specs.Bridge.{broken_through, crossed_to, bridged};
+ghost use Rattle.cave_moves.specs.Bridge.{broken_bridge_scene, journey_across, journey_by_bridge};
 ghost use Rattle.cave_things.specs.Bounds.{HasRoom, SaysUpTo, parts_of_journey};
 ghost use Rattle.cave_things.specs.Plays.{scene_of, GoesOn};
 ghost use Rattle.cave_things.specs.Things.{cave_of};
-ghost use Rattle.cave_world.specs.State.{is_over};
+ghost use Rattle.cave_world.specs.State.{takes_no_command};
 
 use crate::falling::fall_at;
 use crate::ways::{other_end, stay};
-use cave_data::Role;
+use cave_objects::{Anchor, Objects, Place, Prop};
+use cave_rows::Role;
 use cave_things::{Play, Rules, has_prop, has_prop_up_to, lose_one};
 use cave_words::Named;
-use cave_world::{Anchor, Objects, Place, Prop, State};
+use cave_world::State;
 
-/// The other end of the bridge, if the player stands at one of its ends.
+/// The other end of the bridge, if the player is at one of its ends.
 #[tactic(auto, unfolding(crate::specs::Bridge::bridge_end))]
 fn bridge_end(rules: &Rules<'_>, here: Place) -> Option<Place>
     ensures { result ≡ bridge_end (cave_of rules.now) here }
@@ -32,7 +33,7 @@ fn bridge_end(rules: &Rules<'_>, here: Place) -> Option<Place>
     )
 }
 
-/// The troll stands at both ends of the bridge again, and its second self is gone.
+/// The troll is at both ends of the bridge again, and its second self is gone.
 #[tactic(auto, unfolding(crate::specs::Bridge::with_troll))]
 fn bring_troll(rules: &Rules<'_>, objects: &mut Objects)
     ensures { objects.new ≡ with_troll (cave_of rules.now) objects.old }
@@ -47,11 +48,11 @@ fn bring_troll(rules: &Rules<'_>, objects: &mut Objects)
     objects.juggle(rules.object(Named::Chasm));
 }
 
-/// The troll wants a treasure once more.
-#[tactic(auto, unfolding(crate::specs::Bridge::stopped))]
+/// The troll asks for a treasure once more.
+#[tactic(auto, unfolding(crate::specs::Bridge::toll_scene))]
 fn stop(rules: &Rules<'_>, play: &mut Play<'_>)
     requires { HasRoom 1 play.old }
-    ensures play { scene_of play.new ≡ stopped (cave_of rules.now) (scene_of play.old) }
+    ensures play { scene_of play.new ≡ toll_scene (cave_of rules.now) (scene_of play.old) }
     ensures same { GoesOn play.old play.new }
     ensures few { SaysUpTo 1 play.old play.new }
 {
@@ -59,7 +60,7 @@ fn stop(rules: &Rules<'_>, play: &mut Play<'_>)
     bring_troll(rules, &mut play.state.objects);
 }
 
-/// Whom the troll lets pass it will stop the next time.
+/// A player whom the troll lets pass is stopped the next time.
 #[tactic(auto, unfolding(crate::specs::Bridge::let_pass))]
 fn let_pass(rules: &Rules<'_>, state: &mut State)
     ensures { state.new ≡ let_pass (cave_of rules.now) state.old }
@@ -70,7 +71,7 @@ fn let_pass(rules: &Rules<'_>, state: &mut State)
     }
 }
 
-/// The bridge is broken, the troll is gone for good, and the bear lies dead at the other end.
+/// The bridge is broken, the troll is gone for good, and the bear is dead at the other end.
 #[tactic(auto, unfolding(crate::specs::Bridge::without_bridge))]
 fn break_bridge(rules: &Rules<'_>, end: Place, objects: &mut Objects)
     ensures { objects.new ≡ without_bridge (cave_of rules.now) end objects.old }
@@ -100,46 +101,47 @@ fn lose_bridge(rules: &Rules<'_>, end: Place, state: &mut State)
 }
 
 /// The bridge breaks under the bear and the player.
-#[tactic(auto, unfolding(crate::specs::Bridge::broken_through))]
+#[tactic(auto, unfolding(crate::specs::Bridge::broken_bridge_scene))]
 fn break_through(rules: &Rules<'_>, end: Place, play: &mut Play<'_>)
     requires { HasRoom parts_of_journey play.old }
-    ensures play { scene_of play.new ≡ broken_through (cave_of rules.now) end (scene_of play.old) }
+    ensures play { scene_of play.new
+        ≡ broken_bridge_scene (cave_of rules.now) end (scene_of play.old) }
     ensures same { GoesOn play.old play.new }
     ensures few { SaysUpTo parts_of_journey play.old play.new }
-    ensures over { IsTrue (is_over play.new.state.now) }
+    ensures over { IsTrue (takes_no_command play.new.state.now) }
 {
     play.say(Role::BridgeFalls);
     lose_bridge(rules, end, play.state);
     fall_at(rules, end, play);
 }
 
-/// Who crosses with the bear breaks through.
-#[tactic(auto, unfolding(crate::specs::Bridge::crossed_to))]
+/// A player who crosses with the bear breaks the bridge.
+#[tactic(auto, unfolding(crate::specs::Bridge::journey_across))]
 fn cross_to(rules: &Rules<'_>, end: Place, play: &mut Play<'_>) -> Place
     requires { HasRoom parts_of_journey play.old }
     ensures journey { record { place = result; scene = scene_of play.new }
-        ≡ crossed_to (cave_of rules.now) end (scene_of play.old) }
+        ≡ journey_across (cave_of rules.now) end (scene_of play.old) }
     ensures same { GoesOn play.old play.new }
     ensures few { SaysUpTo parts_of_journey play.old play.new }
-    ensures few_on { is_over play.new.state.now ≡ false → SaysUpTo 1 play.old play.new }
+    ensures few_on { takes_no_command play.new.state.now ≡ false → SaysUpTo 1 play.old play.new }
 {
     let_pass(rules, play.state);
-    if rules.is_toted(play.state, rules.object(Named::Bear)) {
+    if rules.is_in_hand(play.state, rules.object(Named::Bear)) {
         break_through(rules, end, play);
         return play.state.trail.here;
     }
     end
 }
 
-/// Where the bridge leads a player who stands at one of its ends.
-#[tactic(auto, unfolding(crate::specs::Bridge::bridged))]
+/// Where the bridge leads a player at one of its ends.
+#[tactic(auto, unfolding(crate::specs::Bridge::journey_by_bridge))]
 pub fn cross(rules: &Rules<'_>, play: &mut Play<'_>) -> Place
     requires { HasRoom parts_of_journey play.old }
     ensures journey { record { place = result; scene = scene_of play.new }
-        ≡ bridged (cave_of rules.now) (scene_of play.old) }
+        ≡ journey_by_bridge (cave_of rules.now) (scene_of play.old) }
     ensures same { GoesOn play.old play.new }
     ensures few { SaysUpTo parts_of_journey play.old play.new }
-    ensures few_on { is_over play.new.state.now ≡ false → SaysUpTo 1 play.old play.new }
+    ensures few_on { takes_no_command play.new.state.now ≡ false → SaysUpTo 1 play.old play.new }
 {
     match bridge_end(rules, play.state.trail.here) {
         None => stay(play, Role::NoWay),

@@ -1,38 +1,41 @@
 ghost use Rattle.std.specs.Prelude.{◌≡◌, false};
 ghost use Rattle.cave_things.specs.Things.{cave_of};
-ghost use Rattle.cave_world.specs.State.{is_over};
+ghost use Rattle.cave_world.specs.State.{takes_no_command};
 ghost use Rattle.cave_things.specs.Bounds.{HasRoom, SaysUpTo, parts_of_journey};
-ghost use Rattle.cave_things.specs.Plays.{saying, scene_of, GoesOn};
-ghost use Rattle.cave_moves.specs.Journeys.{refusal_of, squeeze_end, is_slim};
-ghost use Rattle.cave_moves.specs.Journeys.{squeezed_to, squeezed, led_specially, led, routed};
-ghost use Rattle.cave_moves.specs.Journeys.{set_forth, enough_said, unvisited, looking};
-ghost use Rattle.cave_moves.specs.Journeys.{seeking_cave, led_by_motion};
-ghost use Rattle.cave_moves.specs.Ways.{staying};
+ghost use Rattle.cave_things.specs.Plays.{after_saying, scene_of, GoesOn};
+ghost use Rattle.cave_moves.specs.Journeys.{refusal_role, squeeze_end, is_slim};
+ghost use Rattle.cave_moves.specs.Journeys.{journey_through_squeeze, journey_by_squeeze, journey_by_special};
+ghost use Rattle.cave_moves.specs.Journeys.{journey_of_outcome, journey_by_rows};
+ghost use Rattle.cave_moves.specs.Journeys.{set_forth, after_enough, without_visits_here};
+ghost use Rattle.cave_moves.specs.Journeys.{journey_of_look};
+ghost use Rattle.cave_moves.specs.Journeys.{journey_of_seeking, journey_by_request};
+ghost use Rattle.cave_moves.specs.Ways.{journey_here};
 
 use crate::back::go_back;
 use crate::bridge::cross;
 use crate::ways::{other_end, stay};
-use cave_data::{PlaceRole, Role};
+use cave_objects::Place;
+use cave_rows::{PlaceRole, Role};
 use cave_things::places::{outside_place, place_named};
 use cave_things::{Play, Rules};
 use cave_words::Named;
-use cave_world::{Outcome, Part, Place, Special, State, travel};
+use cave_world::{Part, Special, State, TravelOutcome, motion, travel_by_motion};
 
 /// What is said of a motion that no row lists.
 fn refusal_of(motion: u16) -> Role
-    ensures { result ≡ refusal_of motion }
+    ensures { result ≡ refusal_role motion }
 {
     match motion {
-        29 | 30 | 43..=50 => Role::NoDir,
-        7 | 36 | 37 => Role::Facing,
-        11 | 19 => Role::Inout,
-        62 | 65 => Role::Magic,
-        17 => Role::Crawl,
+        motion::UP | motion::DOWN | motion::EAST..=motion::NORTHWEST => Role::NoDir,
+        motion::FORWARD | motion::LEFT | motion::RIGHT => Role::Facing,
+        motion::OUT | motion::INSIDE => Role::Inout,
+        motion::XYZZY | motion::PLUGH => Role::Magic,
+        motion::CRAWL => Role::Crawl,
         _ => Role::NoMotion,
     }
 }
 
-/// The other end of the narrow passage, where the player stands at one end.
+/// The other end of the narrow passage, where the player is at one end.
 #[tactic(auto, unfolding(crate::specs::Journeys::squeeze_end))]
 fn squeeze_end(rules: &Rules<'_>, here: Place) -> Option<Place>
     ensures { result ≡ squeeze_end (cave_of rules.now) here }
@@ -47,15 +50,15 @@ fn is_slim(rules: &Rules<'_>, state: &State) -> bool
     ensures { result ≡ is_slim (cave_of rules.now) state.now }
 {
     let carried = state.holding();
-    carried == 0 || (carried == 1 && state.toting(rules.object(Named::Emerald)))
+    carried == 0 || (carried == 1 && state.is_carrying(rules.object(Named::Emerald)))
 }
 
 /// Through the narrow passage, in which nothing but the emerald may be carried.
-#[tactic(auto, unfolding(crate::specs::Journeys::squeezed))]
+#[tactic(auto, unfolding(crate::specs::Journeys::journey_by_squeeze))]
 fn squeeze(rules: &Rules<'_>, play: &mut Play<'_>) -> Place
     requires { HasRoom 1 play.old }
     ensures journey { record { place = result; scene = scene_of play.new }
-        ≡ squeezed (cave_of rules.now) (scene_of play.old) }
+        ≡ journey_by_squeeze (cave_of rules.now) (scene_of play.old) }
     ensures same { GoesOn play.old play.new }
     ensures few { SaysUpTo 1 play.old play.new }
 {
@@ -73,10 +76,10 @@ fn squeeze(rules: &Rules<'_>, play: &mut Play<'_>) -> Place
 fn lead_specially(rules: &Rules<'_>, special: Special, play: &mut Play<'_>) -> Place
     requires { HasRoom parts_of_journey play.old }
     ensures journey { record { place = result; scene = scene_of play.new }
-        ≡ led_specially (cave_of rules.now) special (scene_of play.old) }
+        ≡ journey_by_special (cave_of rules.now) special (scene_of play.old) }
     ensures same { GoesOn play.old play.new }
     ensures few { SaysUpTo parts_of_journey play.old play.new }
-    ensures few_on { is_over play.new.state.now ≡ false → SaysUpTo 1 play.old play.new }
+    ensures few_on { takes_no_command play.new.state.now ≡ false → SaysUpTo 1 play.old play.new }
 {
     match special {
         Special::Squeeze => squeeze(rules, play),
@@ -85,37 +88,37 @@ fn lead_specially(rules: &Rules<'_>, special: Special, play: &mut Play<'_>) -> P
 }
 
 /// Where the outcome of a motion leads.
-fn lead(rules: &Rules<'_>, motion: u16, outcome: Outcome, play: &mut Play<'_>) -> Place
+fn lead(rules: &Rules<'_>, motion: u16, outcome: TravelOutcome, play: &mut Play<'_>) -> Place
     requires { HasRoom parts_of_journey play.old }
     ensures journey { record { place = result; scene = scene_of play.new }
-        ≡ led (cave_of rules.now) motion outcome (scene_of play.old) }
+        ≡ journey_of_outcome (cave_of rules.now) motion outcome (scene_of play.old) }
     ensures same { GoesOn play.old play.new }
     ensures few { SaysUpTo parts_of_journey play.old play.new }
-    ensures few_on { is_over play.new.state.now ≡ false → SaysUpTo 1 play.old play.new }
+    ensures few_on { takes_no_command play.new.state.now ≡ false → SaysUpTo 1 play.old play.new }
 {
     match outcome {
-        Outcome::Go(place) => place,
-        Outcome::Special(special) => lead_specially(rules, special, play),
-        Outcome::Say(message) => {
+        TravelOutcome::Go(place) => place,
+        TravelOutcome::Special(special) => lead_specially(rules, special, play),
+        TravelOutcome::Say(message) => {
             play.tell(Part::Message(message));
             play.state.trail.here
         }
-        Outcome::NoMotion => stay(play, refusal_of(motion)),
-        Outcome::NoWay => stay(play, Role::NoWay),
+        TravelOutcome::NoMotion => stay(play, refusal_of(motion)),
+        TravelOutcome::NoWay => stay(play, Role::NoWay),
     }
 }
 
 /// Where the rows of the place lead by a motion.
-#[tactic(auto, unfolding(crate::specs::Journeys::routed))]
+#[tactic(auto, unfolding(crate::specs::Journeys::journey_by_rows))]
 pub fn route(rules: &Rules<'_>, motion: u16, play: &mut Play<'_>) -> Place
     requires { HasRoom parts_of_journey play.old }
     ensures journey { record { place = result; scene = scene_of play.new }
-        ≡ routed (cave_of rules.now) motion (scene_of play.old) }
+        ≡ journey_by_rows (cave_of rules.now) motion (scene_of play.old) }
     ensures same { GoesOn play.old play.new }
     ensures few { SaysUpTo parts_of_journey play.old play.new }
-    ensures few_on { is_over play.new.state.now ≡ false → SaysUpTo 1 play.old play.new }
+    ensures few_on { takes_no_command play.new.state.now ≡ false → SaysUpTo 1 play.old play.new }
 {
-    let outcome = travel(rules.cave, rules.object(Named::Emerald), play.state, motion);
+    let outcome = travel_by_motion(rules.cave, rules.object(Named::Emerald), play.state, motion);
     lead(rules, motion, outcome, play)
 }
 
@@ -127,7 +130,7 @@ pub fn set_forth(rules: &Rules<'_>, motion: u16, play: &mut Play<'_>) -> Place
         ≡ set_forth (cave_of rules.now) motion (scene_of play.old) }
     ensures same { GoesOn play.old play.new }
     ensures few { SaysUpTo parts_of_journey play.old play.new }
-    ensures few_on { is_over play.new.state.now ≡ false → SaysUpTo 1 play.old play.new }
+    ensures few_on { takes_no_command play.new.state.now ≡ false → SaysUpTo 1 play.old play.new }
 {
     play.set_out();
     route(rules, motion, play)
@@ -135,7 +138,7 @@ pub fn set_forth(rules: &Rules<'_>, motion: u16, play: &mut Play<'_>) -> Place
 
 fn say_enough(play: &mut Play<'_>)
     requires { HasRoom 1 play.old }
-    ensures play { scene_of play.new ≡ enough_said (scene_of play.old) }
+    ensures play { scene_of play.new ≡ after_enough (scene_of play.old) }
     ensures same { GoesOn play.old play.new }
     ensures few { SaysUpTo 1 play.old play.new }
 {
@@ -146,7 +149,7 @@ fn say_enough(play: &mut Play<'_>)
 }
 
 fn forget(play: &mut Play<'_>)
-    ensures play { scene_of play.new ≡ unvisited (scene_of play.old) }
+    ensures play { scene_of play.new ≡ without_visits_here (scene_of play.old) }
     ensures same { GoesOn play.old play.new }
 {
     let here = play.state.trail.here;
@@ -154,12 +157,12 @@ fn forget(play: &mut Play<'_>)
     play.was_dark = false;
 }
 
-/// The player looks round, and is told the place at length.
-#[tactic(auto, unfolding(crate::specs::Journeys::looking))]
+/// The player looks round, and the place is described at length.
+#[tactic(auto, unfolding(crate::specs::Journeys::journey_of_look))]
 fn look(play: &mut Play<'_>) -> Place
     requires { HasRoom 1 play.old }
     ensures journey { record { place = result; scene = scene_of play.new }
-        ≡ looking (scene_of play.old) }
+        ≡ journey_of_look (scene_of play.old) }
     ensures same { GoesOn play.old play.new }
     ensures few { SaysUpTo 1 play.old play.new }
 {
@@ -169,11 +172,11 @@ fn look(play: &mut Play<'_>) -> Place
 }
 
 /// The player asks where the cave is.
-#[tactic(auto, unfolding(crate::specs::Journeys::seeking_cave))]
+#[tactic(auto, unfolding(crate::specs::Journeys::journey_of_seeking))]
 fn seek_cave(rules: &Rules<'_>, play: &mut Play<'_>) -> Place
     requires { HasRoom 1 play.old }
     ensures journey { record { place = result; scene = scene_of play.new }
-        ≡ seeking_cave (cave_of rules.now) (scene_of play.old) }
+        ≡ journey_of_seeking (cave_of rules.now) (scene_of play.old) }
     ensures same { GoesOn play.old play.new }
     ensures few { SaysUpTo 1 play.old play.new }
 {
@@ -185,20 +188,20 @@ fn seek_cave(rules: &Rules<'_>, play: &mut Play<'_>) -> Place
 }
 
 /// Where a motion that the player asks for leads.
-#[tactic(auto, unfolding(crate::specs::Journeys::led_by_motion))]
+#[tactic(auto, unfolding(crate::specs::Journeys::journey_by_request))]
 pub fn lead_by_motion(rules: &Rules<'_>, motion: u16, play: &mut Play<'_>) -> Place
     requires { HasRoom parts_of_journey play.old }
     ensures journey { record { place = result; scene = scene_of play.new }
-        ≡ led_by_motion (cave_of rules.now) motion (scene_of play.old) }
+        ≡ journey_by_request (cave_of rules.now) motion (scene_of play.old) }
     ensures same { GoesOn play.old play.new }
     ensures few { SaysUpTo parts_of_journey play.old play.new }
-    ensures few_on { is_over play.new.state.now ≡ false → SaysUpTo 1 play.old play.new }
+    ensures few_on { takes_no_command play.new.state.now ≡ false → SaysUpTo 1 play.old play.new }
 {
     match motion {
-        21 => play.state.trail.here,
-        57 => look(play),
-        67 => seek_cave(rules, play),
-        8 => go_back(rules, play),
+        motion::NOWHERE => play.state.trail.here,
+        motion::LOOK => look(play),
+        motion::CAVE => seek_cave(rules, play),
+        motion::BACK => go_back(rules, play),
         _ => set_forth(rules, motion, play),
     }
 }

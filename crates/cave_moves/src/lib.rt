@@ -1,4 +1,4 @@
-//! Moves: where a motion leads, the bridge, arrival among dwarves, and what is told of a place.
+//! Moves: where a motion leads, the bridge, arrival among dwarves, and how a place is described.
 #![tactic(auto)]
 
 pub mod arrival;

@@ -1,17 +1,19 @@
 ghost use Rattle.std.specs.Prelude.{◌≡◌, ◌+◌, ◌<◌, ◌≤◌, length};
-ghost use Rattle.cave_world.specs.Lists.{halves_at};
-ghost use Rattle.cave_world.specs.Objects.{anchor_of};
-ghost use Rattle.cave_world.specs.Spots.{place_of_anchor, is_place};
+ghost use Rattle.cave_objects.specs.Lists.{halves_at};
+ghost use Rattle.cave_objects.specs.Objects.{anchor_of};
+ghost use Rattle.cave_objects.specs.Spots.{place_of_anchor, is_place};
 ghost use Rattle.cave_things.specs.Things.{cave_of};
 ghost use Rattle.cave_moves.specs.Objects.{is_unseen, is_kept_back, first_prop, one_less_unseen};
-ghost use Rattle.cave_moves.specs.Objects.{shortened, found, found_if_unseen, told_prop};
-ghost use Rattle.cave_moves.specs.Objects.{object_told, objects_told};
+ghost use Rattle.cave_moves.specs.Objects.{with_lamp_of_hopeless, after_find, found_if_unseen};
+ghost use Rattle.cave_moves.specs.Objects.{described_prop};
+ghost use Rattle.cave_moves.specs.Objects.{after_object, after_objects};
 ghost use Rattle.cave_things.specs.Bounds.{HasRoom, SaysUpTo};
 ghost use Rattle.cave_things.specs.Plays.{scene_of, GoesOn};
 
+use cave_objects::{Half, Object, Prop};
 use cave_things::{Play, Rules};
 use cave_words::Named;
-use cave_world::{Charge, Half, Object, Part, Prop, State};
+use cave_world::{Charge, Part, State};
 
 /// The most turns for which the lamp burns once the treasures that are left can't all be found.
 const SHORT_LAMP: i32 = 35;
@@ -22,12 +24,12 @@ fn is_unseen(state: &State, object: Object) -> bool
     state.objects.prop(object).value() < 0
 }
 
-/// Whether an object isn't told though it is there.
+/// Whether an object isn't described though it is there.
 #[tactic(auto, unfolding(crate::specs::Objects::is_kept_back))]
 fn is_kept_back(rules: &Rules<'_>, state: &State, object: Object) -> bool
     ensures { result ≡ is_kept_back (cave_of rules.now) state.now object }
 {
-    (object == rules.object(Named::Steps) && state.toting(rules.object(Named::Gold)))
+    (object == rules.object(Named::Steps) && state.is_carrying(rules.object(Named::Gold)))
         || (is_unseen(state, object) && state.closing.is_closed)
 }
 
@@ -48,7 +50,7 @@ fn count_one_less(state: &mut State)
 }
 
 fn shorten_lamp(state: &mut State)
-    ensures { state.new ≡ shortened state.old }
+    ensures { state.new ≡ with_lamp_of_hopeless state.old }
 {
     let unseen = state.tallies.unseen.number();
     let lost = state.tallies.lost.number();
@@ -59,9 +61,9 @@ fn shorten_lamp(state: &mut State)
 }
 
 /// A treasure is seen for the first time.
-#[tactic(auto, unfolding(crate::specs::Objects::found))]
+#[tactic(auto, unfolding(crate::specs::Objects::after_find))]
 fn find(rules: &Rules<'_>, object: Object, state: &mut State)
-    ensures { state.new ≡ found (cave_of rules.now) object state.old }
+    ensures { state.new ≡ after_find (cave_of rules.now) object state.old }
 {
     state.objects.set_prop(object, first_prop(rules, object));
     count_one_less(state);
@@ -76,10 +78,10 @@ fn find_if_unseen(rules: &Rules<'_>, object: Object, state: &mut State)
     }
 }
 
-/// The prop for which an object is told.
-#[tactic(auto, unfolding(crate::specs::Objects::told_prop))]
-fn told_prop(rules: &Rules<'_>, state: &State, object: Object) -> Prop
-    ensures { result ≡ told_prop (cave_of rules.now) state.now object }
+/// The prop for which an object is described.
+#[tactic(auto, unfolding(crate::specs::Objects::described_prop))]
+fn described_prop(rules: &Rules<'_>, state: &State, object: Object) -> Prop
+    ensures { result ≡ described_prop (cave_of rules.now) state.now object }
 {
     if object == rules.object(Named::Steps) && is_second_here(state, object) {
         Prop::new(1)
@@ -98,12 +100,12 @@ fn is_second_here(state: &State, object: Object) -> bool
     }
 }
 
-/// An object is told, and is found if it wasn't seen before.
-#[tactic(auto, unfolding(crate::specs::Objects::object_told))]
+/// An object is described, and is found if it wasn't seen before.
+#[tactic(auto, unfolding(crate::specs::Objects::after_object))]
 fn tell_object(rules: &Rules<'_>, object: Object, play: &mut Play<'_>)
     requires { HasRoom 1 play.old }
     ensures play { scene_of play.new
-        ≡ object_told (cave_of rules.now) object (scene_of play.old) }
+        ≡ after_object (cave_of rules.now) object (scene_of play.old) }
     ensures same { GoesOn play.old play.new }
     ensures few { SaysUpTo 1 play.old play.new }
 {
@@ -111,14 +113,14 @@ fn tell_object(rules: &Rules<'_>, object: Object, play: &mut Play<'_>)
         return;
     }
     find_if_unseen(rules, object, play.state);
-    let prop = told_prop(rules, play.state, object);
+    let prop = described_prop(rules, play.state, object);
     play.tell(Part::Object(object, prop.value()));
 }
 
 fn tell_all(rules: &Rules<'_>, halves: &[Half], play: &mut Play<'_>)
     requires { HasRoom (length halves.now) play.old }
     ensures play { scene_of play.new
-        ≡ objects_told (cave_of rules.now) halves.now (scene_of play.old) }
+        ≡ after_objects (cave_of rules.now) halves.now (scene_of play.old) }
     ensures same { GoesOn play.old play.new }
     ensures few { SaysUpTo (length halves.now) play.old play.new }
 {
@@ -127,12 +129,12 @@ fn tell_all(rules: &Rules<'_>, halves: &[Half], play: &mut Play<'_>)
     }
 }
 
-/// The objects where the player stands are told, latest first.
+/// The objects at the player's place are described, latest first.
 pub fn tell_objects(rules: &Rules<'_>, play: &mut Play<'_>)
     requires { HasRoom 200 play.old }
     ensures play { let state = play.old.state.now in
         let halves = halves_at state.trail.here state.objects.lists in
-        scene_of play.new ≡ objects_told (cave_of rules.now) halves (scene_of play.old) }
+        scene_of play.new ≡ after_objects (cave_of rules.now) halves (scene_of play.old) }
     ensures same { GoesOn play.old play.new }
     ensures few { SaysUpTo 200 play.old play.new }
 {

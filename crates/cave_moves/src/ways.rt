@@ -1,11 +1,11 @@
 ghost use Rattle.std.specs.Prelude.{◌≡◌};
-ghost use Rattle.cave_moves.specs.Ways.{staying, other_end};
+ghost use Rattle.cave_moves.specs.Ways.{journey_here, other_end};
 ghost use Rattle.cave_things.specs.Bounds.{HasRoom, SaysUpTo};
-ghost use Rattle.cave_things.specs.Plays.{saying, scene_of, GoesOn};
+ghost use Rattle.cave_things.specs.Plays.{after_saying, scene_of, GoesOn};
 
-use cave_data::Role;
+use cave_objects::Place;
+use cave_rows::Role;
 use cave_things::Play;
-use cave_world::Place;
 
 /// The other end of a passage between two places, from one of its ends.
 pub fn other_end(here: Place, one: Option<Place>, other: Option<Place>) -> Option<Place>
@@ -23,7 +23,7 @@ pub fn other_end(here: Place, one: Option<Place>, other: Option<Place>) -> Optio
 pub fn stay(play: &mut Play<'_>, role: Role) -> Place
     requires { HasRoom 1 play.old }
     ensures journey { record { place = result; scene = scene_of play.new }
-        ≡ staying (saying role (scene_of play.old)) }
+        ≡ journey_here (after_saying role (scene_of play.old)) }
     ensures same { GoesOn play.old play.new }
     ensures few { SaysUpTo 1 play.old play.new }
 {

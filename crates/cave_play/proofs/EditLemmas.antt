@@ -1,109 +1,178 @@
 -- The items of a script, one after another.
-use Rattle.std.proofs.Common.{◌≡◌, ℕ, ◌-◌, ◌^◌, None, Some, Ok, Err, MatchOption, ◌+◌, ◌<◌, ◌≤◌, List, [], ◌∷◌, ◌++◌, length, map, get_or, drop, append-nil, append_assoc, subst, sym, ap, ◌∙◌, refl, arith}
+use Rattle.std.proofs.Common.{◌≡◌, ℕ, ◌-◌, ◌^◌, None, Some, Ok, Err, MatchOption, ◌+◌, ◌<◌, ◌≤◌}
+use Rattle.std.proofs.Common.{List, [], ◌∷◌, ◌++◌, length, map, get_or, drop, append-nil}
+use Rattle.std.proofs.Common.{append_assoc, subst, sym, ap, ◌∙◌, refl, arith}
 use Rattle.std.proofs.lemmas.List.{drop_more, drop_all}
 use Rattle.std.specs.Prelude.{Result, IfErr}
 use Rattle.std.specs.declared.option.Option.{Option}
 use Rattle.std.proofs.lemmas.Result.{IfErr-at_err}
-use Rattle.cave_replay.specs.Change.{Change, apply_all}
-use Rattle.cave_replay.specs.Faults.{group_fault}
-use Rattle.cave_replay.specs.declared.fault.EditFault.TheVariants as cause
-use Rattle.cave_replay.specs.declared.fault.GroupFault.{GroupFault}
-use Rattle.cave_replay.specs.Play.{Game}
-use Rattle.cave_replay.specs.Report.{IsReport}
-use Rattle.cave_replay.specs.Rules.{Rules}
-use Rattle.cave_script.specs.Item.{Applied}
-use Rattle.cave_script.specs.Shown.{applied}
-use Rattle.cave_script.specs.declared.script.Item.{Item}
+use Rattle.log_replay.specs.Change.{Change, apply_all}
+use Rattle.log_replay.specs.Faults.{group_fault}
+use Rattle.log_replay.specs.declared.fault.EditFault.TheVariants as cause
+use Rattle.log_replay.specs.declared.fault.GroupFault.{GroupFault}
+use Rattle.log_replay.specs.Play.{Game}
+use Rattle.log_replay.specs.Report.{IsReport}
+use Rattle.log_replay.specs.Machine.{MachineRules}
+use Rattle.edit_scripts.specs.Item.{Applied}
+use Rattle.edit_scripts.specs.Views.{applied_item}
+use Rattle.edit_scripts.specs.declared.script.Item.{Item}
 use Rattle.std.specs.Global.{Vec}
 use Rattle.std.specs.List.{sum_by}
 use Rattle.std.proofs.lemmas.List.Sums.{sum_by-cons}
 use Rattle.cave_data.specs.CaveView.{CaveView}
-use Rattle.cave_editing.specs.declared.editing.View.{View}
-use Rattle.cave_replay.specs.Held.{Held}
+use Rattle.edit_options.specs.declared.editing.View.{View}
+use Rattle.log_replay.specs.Session.{SessionView}
 use Rattle.cave_world.specs.declared.part.Part.{Part}
 use Rattle.cave_world.specs.declared.state.State.{State}
-use Rattle.cave_play.specs.Applying.{Applies, IsApplied, told_by}
-use Rattle.cave_play.specs.Outcomes.{AreLeft, AreOutcomes, IsOutcome, lines_in, played_in}
-use Rattle.cave_play.specs.Output.{edited, edited_all, game_by, refusal_of}
-use Rattle.cave_play.specs.Views.{told_of}
+use Rattle.cave_play.specs.Edits.{Applies, IsApplied, text_of_item}
+use Rattle.cave_play.specs.Outcome.{AreLeft, AreOutcomes, IsOutcome, lines_in, played_in}
+use Rattle.cave_play.specs.Output.{game_after_item, game_after_items, game_by, group_refusal}
+use Rattle.cave_play.specs.Views.{text_of_items}
 use Rattle.cave_play.specs.declared.machine.CaveMachine.{CaveMachine}
-use Rattle.cave_play.specs.declared.outcome.Outcome.{Outcome}
+use Rattle.cave_play.specs.declared.outcome.ItemOutcome.{ItemOutcome}
 
--- the items from a place on: the one there, and those behind it
-applied-drop : (items : List Item) (place : ℕ) (item : Item) → place < length items → item ≡ get_or items place item
-    → map applied (drop place items) ≡ applied item ∷ map applied (drop (place + 1) items)
-applied-drop items place item inside is = rw (drop_more items place item inside, ← is) refl
+-- the items from a place on: the one there, and those after it
+applied_item-drop : (items : List Item) (place : ℕ) (item : Item) → place < length items
+    → item ≡ get_or items place item
+    → map applied_item (drop place items) ≡ applied_item item
+    ∷ map applied_item (drop (place + 1) items)
+applied_item-drop items place item inside is = rw (drop_more items place item inside, ← is) refl
 
 -- one more item was applied
-pub edited_all-more : (items : List Item) (place : ℕ) (item : Item) (game next whole : Game) → place < length items → item ≡ get_or items place item
-    → next ≡ edited (applied item) game → edited_all (map applied (drop place items)) game ≡ whole → edited_all (map applied (drop (place + 1) items)) next ≡ whole
-edited_all-more items place item game next whole inside is after done =
-    ap (edited_all (map applied (drop (place + 1) items))) after ∙ ap (λ left. edited_all left game) (sym (applied-drop items place item inside is)) ∙ done
+pub game_after_items-more : (items : List Item) (place : ℕ) (item : Item) (game next whole : Game)
+    → place < length items → item ≡ get_or items place item
+    → next ≡ game_after_item (applied_item item) game
+    → game_after_items (map applied_item (drop place items)) game ≡ whole
+    → game_after_items (map applied_item (drop (place + 1) items)) next ≡ whole
+game_after_items-more items place item game next whole inside is after done =
+    ap (game_after_items (map applied_item (drop (place + 1) items))) after
+    ∙ ap (λ left. game_after_items left game)
+    (sym (applied_item-drop items place item inside is)) ∙ done
 
 -- no item is left
-pub edited_all-end : (items : List Item) (place : ℕ) (game : Game) → length items ≤ place → edited_all (map applied (drop place items)) game ≡ game
-edited_all-end items place game past = rw (drop_all place items past) refl
+pub game_after_items-end : (items : List Item) (place : ℕ) (game : Game) → length items ≤ place
+    → game_after_items (map applied_item (drop place items)) game ≡ game
+game_after_items-end items place game past = rw (drop_all place items past) refl
 
 -- ---- what came of several items
 
--- What came of the items so far, with what is to come of those that are left, is what comes of all; and so are the text and
--- the totals.
-pub record Completes (view : View) (cave : CaveView) (every : ℕ) (all left : List Applied) (first now : Game) (opened here before text : List ℕ) (played lines : ℕ) : Type 0 where
-  pub complete : List Outcome → List Outcome
-  pub came : (rest : List Outcome) → AreOutcomes cave every left now here rest → AreOutcomes cave every all first opened (complete rest)
-  pub told : (rest : List Outcome) → before ++ told_of (told_by view) all (complete rest) ≡ text ++ told_of (told_by view) left rest
-  pub played_is : (rest : List Outcome) → sum_by played_in (complete rest) ≡ played + sum_by played_in rest
-  pub lines_are : (rest : List Outcome) → sum_by lines_in (complete rest) ≡ lines + sum_by lines_in rest
+-- What came of the items so far, with what is to come of those that are left, is what comes of all;
+-- and so are the text and the totals.
+pub record Completes (view : View) (cave : CaveView) (every : ℕ) (all left : List Applied)
+    (first now : Game) (opened here before text : List ℕ) (played lines : ℕ) : Type 0 where
+  pub complete : List ItemOutcome → List ItemOutcome
+  pub came : (rest : List ItemOutcome) → AreOutcomes cave every left now here rest
+      → AreOutcomes cave every all first opened (complete rest)
+  pub told : (rest : List ItemOutcome)
+      → before ++ text_of_items (text_of_item view) all (complete rest) ≡ text
+      ++ text_of_items (text_of_item view) left rest
+  pub played_is : (rest : List ItemOutcome)
+      → sum_by played_in (complete rest) ≡ played + sum_by played_in rest
+  pub lines_are : (rest : List ItemOutcome)
+      → sum_by lines_in (complete rest) ≡ lines + sum_by lines_in rest
 
 -- nothing is done yet
-pub Completes-none : (view : View) (cave : CaveView) (every : ℕ) (all : List Applied) (first : Game) (opened before : List ℕ)
+pub Completes-none : (view : View) (cave : CaveView) (every : ℕ) (all : List Applied) (first : Game)
+    (opened before : List ℕ)
     → Completes view cave every all all first first opened opened before before 0 0
 Completes-none view cave every all first opened before =
-    record { complete = λ rest. rest; came = λ rest is. is; told = λ rest. refl; played_is = λ rest. omega arith; lines_are = λ rest. omega arith }
+    record {
+      complete = λ rest. rest;
+      came = λ rest is. is;
+      told = λ rest. refl;
+      played_is = λ rest. omega arith;
+      lines_are = λ rest. omega arith;
+    }
 
 -- one more item was applied
-module _ (view : View) (cave : CaveView) (every : ℕ) (all left : List Applied) (item : Applied) (outcome : Outcome) (first now next : Game)
+module _ (view : View) (cave : CaveView) (every : ℕ) (all left : List Applied) (item : Applied)
+    (outcome : ItemOutcome) (first now next : Game)
     (opened here after before text longer : List ℕ) (played lines more_played more_lines : ℕ) where
-  one-more : IsOutcome cave every item now here outcome → AreLeft every outcome here next after → next ≡ edited item now
-      → longer ≡ text ++ told_by view item outcome → more_played ≡ played + played_in outcome → more_lines ≡ lines + lines_in outcome
+  one-more : IsOutcome cave every item now here outcome → AreLeft every outcome here next after
+      → next ≡ game_after_item item now
+      → longer ≡ text ++ text_of_item view item outcome → more_played ≡ played + played_in outcome
+      → more_lines ≡ lines + lines_in outcome
       → Completes view cave every all (item ∷ left) first now opened here before text played lines
-      → Completes view cave every all left first next opened after before longer more_played more_lines
+      → Completes view cave every all left first next opened after before longer more_played
+      more_lines
   one-more is remains made grown plays counts so_far =
-      let told = told_of (told_by view) left in
+      let told = text_of_items (text_of_item view) left in
       record {
         complete = λ rest. so_far.complete (outcome ∷ rest);
-        came = λ rest others. so_far.came (outcome ∷ rest)
-            (is, (after, subst (λ g. AreLeft every outcome here g after) made remains, subst (λ g. AreOutcomes cave every left g after rest) made others));
-        told = λ rest. so_far.told (outcome ∷ rest) ∙ sym (append_assoc text (told_by view item outcome) (told rest)) ∙ ap (λ t. t ++ told rest) (sym grown);
-        played_is = λ rest. omega (arith, so_far.played_is (outcome ∷ rest), sum_by-cons played_in outcome rest, plays);
-        lines_are = λ rest. omega (arith, so_far.lines_are (outcome ∷ rest), sum_by-cons lines_in outcome rest, counts);
+        came = λ rest others. so_far.came (outcome ∷ rest) (
+          is,
+          (
+            after,
+            subst (λ g. AreLeft every outcome here g after) made remains,
+            subst (λ g. AreOutcomes cave every left g after rest) made others,
+          ),
+        );
+        told = λ rest. so_far.told (outcome ∷ rest)
+            ∙ sym (append_assoc text (text_of_item view item outcome) (told rest))
+            ∙ ap (λ t. t ++ told rest) (sym grown);
+        played_is =
+            λ rest. omega (
+              arith,
+              so_far.played_is (outcome ∷ rest),
+              sum_by-cons played_in outcome rest,
+              plays,
+            );
+        lines_are =
+            λ rest. omega (
+              arith,
+              so_far.lines_are (outcome ∷ rest),
+              sum_by-cons lines_in outcome rest,
+              counts,
+            );
       }
 
 -- the same, by places
-pub Completes-more : (view : View) (cave : CaveView) (every : ℕ) (items : List Item) (place : ℕ) (item : Item) (outcome : Outcome) (first : Game)
-    (opened before text longer : List ℕ) (played lines more_played more_lines : ℕ) (old new : Held CaveMachine (Vec Part) State)
-    → place < length items → item ≡ get_or items place item → old.machine.cave.now ≡ cave → old.every ≡ every → Applies (applied item) old new outcome
-    → longer ≡ text ++ told_by view (applied item) outcome → more_played ≡ played + played_in outcome → more_lines ≡ lines + lines_in outcome
-    → Completes view cave every (map applied items) (map applied (drop place items)) first old.game opened old.checkpoints before text played lines
-    → Completes view cave every (map applied items) (map applied (drop (place + 1) items)) first new.game opened new.checkpoints before longer more_played more_lines
-Completes-more view cave every items place item outcome first opened before text longer played lines more_played more_lines old new inside is cave_is every_is applies grown plays counts so_far =
-    let left = map applied (drop (place + 1) items) in
-    let came = subst (λ e. IsOutcome cave e (applied item) old.game old.checkpoints outcome) every_is
-    (subst (λ k. IsOutcome k old.every (applied item) old.game old.checkpoints outcome) cave_is applies.came) in
-    let remains = subst (λ e. AreLeft e outcome old.checkpoints new.game new.checkpoints) every_is applies.left in
-    let here = subst (λ items_left. Completes view cave every (map applied items) items_left first old.game opened old.checkpoints before text played lines) (applied-drop items place item inside is) so_far in
-    one-more view cave every (map applied items) left (applied item) outcome first old.game new.game opened old.checkpoints new.checkpoints before text longer played lines more_played more_lines
+pub Completes-more : (view : View) (cave : CaveView) (every : ℕ) (items : List Item) (place : ℕ)
+    (item : Item) (outcome : ItemOutcome) (first : Game)
+    (opened before text longer : List ℕ) (played lines more_played more_lines : ℕ)
+    (old new : SessionView CaveMachine (Vec Part) State)
+    → place < length items → item ≡ get_or items place item → old.machine.cave.now ≡ cave
+    → old.every ≡ every → Applies (applied_item item) old new outcome
+    → longer ≡ text ++ text_of_item view (applied_item item) outcome
+    → more_played ≡ played + played_in outcome → more_lines ≡ lines + lines_in outcome
+    → Completes view cave every (map applied_item items) (map applied_item (drop place items)) first
+    old.game opened old.checkpoints before text played lines
+    → Completes view cave every (map applied_item items) (map applied_item (drop (place + 1) items))
+    first new.game opened new.checkpoints before longer more_played more_lines
+Completes-more view cave every items place item outcome first opened before text longer played lines
+    more_played more_lines old new inside is cave_is every_is applies grown plays counts so_far =
+    let left = map applied_item (drop (place + 1) items) in
+    let came =
+    subst (λ e. IsOutcome cave e (applied_item item) old.game old.checkpoints outcome) every_is
+    (subst (λ k. IsOutcome k old.every (applied_item item) old.game old.checkpoints outcome) cave_is
+    applies.came) in
+    let remains =
+    subst (λ e. AreLeft e outcome old.checkpoints new.game new.checkpoints) every_is
+    applies.left in
+    let here =
+    subst (λ items_left. Completes view cave every (map applied_item items) items_left first
+    old.game opened old.checkpoints before text played lines)
+    (applied_item-drop items place item inside is) so_far in
+    one-more view cave every (map applied_item items) left (applied_item item) outcome first
+    old.game new.game opened old.checkpoints new.checkpoints before text longer played lines
+    more_played more_lines
     came remains applies.holds.game_is grown plays counts here
 
 -- no item is left
-pub IsApplied-whole : (view : View) (items : List Item) (place : ℕ) (old : Held CaveMachine (Vec Part) State) (now : Game) (here before text : List ℕ) (played lines : ℕ)
+pub IsApplied-whole : (view : View) (items : List Item) (place : ℕ)
+    (old : SessionView CaveMachine (Vec Part) State) (now : Game) (here before text : List ℕ)
+    (played lines : ℕ)
     → length items ≤ place
-    → Completes view old.machine.cave.now old.every (map applied items) (map applied (drop place items)) old.game now old.checkpoints here before text played lines
-    → IsApplied view (map applied items) old before text played lines
+    → Completes view old.machine.cave.now old.every (map applied_item items)
+    (map applied_item (drop place items)) old.game now old.checkpoints here before text played
+    lines
+    → IsApplied view (map applied_item items) old before text played lines
 IsApplied-whole view items place old now here before text played lines past so_far =
     let cave = old.machine.cave.now in
-    let none : map applied (drop place items) ≡ [] = rw (drop_all place items past) refl in
-    let whole = subst (λ left. Completes view cave old.every (map applied items) left old.game now old.checkpoints here before text played lines) none so_far in
+    let none : map applied_item (drop place items) ≡ [] = rw (drop_all place items past) refl in
+    let whole =
+    subst (λ left. Completes view cave old.every (map applied_item items) left old.game now
+    old.checkpoints here before text played lines) none so_far in
     record {
       outcomes = whole.complete [];
       came = whole.came [] tt;
@@ -115,33 +184,49 @@ IsApplied-whole view items place old now here before text played lines past so_f
 -- ---- one item
 
 -- why a group is refused where the meter has counted no step
-pub refusal_of-fresh : (changes same : List Change) (log : List (List ℕ)) (used : ℕ) → changes ≡ same → used ≡ 0 → group_fault changes log (2 ^ 64 - 1 - used) ≡ refusal_of same log
-unfolding refusal_of
-refusal_of-fresh changes same log used is none = rw (is, none) refl
+pub group_refusal-fresh : (changes same : List Change) (log : List (List ℕ)) (used : ℕ)
+    → changes ≡ same → used ≡ 0
+    → group_fault changes log (2 ^ 64 - 1 - used) ≡ group_refusal same log
+unfolding group_refusal
+group_refusal-fresh changes same log used is none = rw (is, none) refl
 
 -- a group that was accepted has no fault
-pub accepted_without : {R : Type 0} (decided : Option GroupFault) (report : R) (r : Result R GroupFault) → r ≡ Ok report
-    → MatchOption decided (IfErr r (λ f. f ≡ record { cause = cause.Memory; at = 0 })) (λ f. r ≡ Err f) → decided ≡ None
+pub accepted_without : {R : Type 0} (decided : Option GroupFault) (report : R)
+    (r : Result R GroupFault) → r ≡ Ok report
+    → MatchOption decided (IfErr r (λ f. f ≡ record { cause = cause.Memory; at = 0 }))
+    (λ f. r ≡ Err f) → decided ≡ None
 accepted_without None report r is h = refl
 accepted_without (Some fault) report r is h = cc
 
--- a group that was refused, and not for want of memory, was refused for its fault
-pub refused_by : {R : Type 0} (decided : Option GroupFault) (fault : GroupFault) (r : Result R GroupFault) → r ≡ Err fault → (fault.cause ≡ cause.Memory → ⊥)
-    → MatchOption decided (IfErr r (λ f. f ≡ record { cause = cause.Memory; at = 0 })) (λ f. r ≡ Err f) → decided ≡ Some fault
-refused_by None fault r is other h = absurd (other (ap (λ (f : GroupFault). f.cause) (IfErr-at_err (λ f. f ≡ record { cause = cause.Memory; at = 0 }) is h)))
+-- a group that was refused, and not because memory ran out, was refused for its fault
+pub refused_by : {R : Type 0} (decided : Option GroupFault) (fault : GroupFault)
+    (r : Result R GroupFault) → r ≡ Err fault → (fault.cause ≡ cause.Memory → ⊥)
+    → MatchOption decided (IfErr r (λ f. f ≡ record { cause = cause.Memory; at = 0 }))
+    (λ f. r ≡ Err f) → decided ≡ Some fault
+refused_by None fault r is other h =
+    absurd (other
+    (ap (λ (f : GroupFault). f.cause)
+    (IfErr-at_err (λ f. f ≡ record { cause = cause.Memory; at = 0 }) is h)))
 refused_by (Some first) fault r is other h = cc
 
-pub edited-accepted : (item : Applied) (game : Game) → refusal_of item.changes game.log ≡ None → edited item game ≡ apply_all item.changes game
-unfolding edited
-edited-accepted item game none = ap (λ refusal. game_by item refusal game) none
+pub game_after_item-accepted : (item : Applied) (game : Game)
+    → group_refusal item.changes game.log ≡ None
+    → game_after_item item game ≡ apply_all item.changes game
+unfolding game_after_item
+game_after_item-accepted item game none = ap (λ refusal. game_by item refusal game) none
 
-pub edited-refused : (item : Applied) (game : Game) (fault : GroupFault) → refusal_of item.changes game.log ≡ Some fault → edited item game ≡ game
-unfolding edited
-edited-refused item game fault some = ap (λ refusal. game_by item refusal game) some
+pub game_after_item-refused : (item : Applied) (game : Game) (fault : GroupFault)
+    → group_refusal item.changes game.log ≡ Some fault → game_after_item item game ≡ game
+unfolding game_after_item
+game_after_item-refused item game fault some = ap (λ refusal. game_by item refusal game) some
 
 -- what a report says of a replay, in other words
-pub IsReport-same : {S T : Type 0} (rules : Rules S T) (changes same : List Change) (old : Game) (every : ℕ) (checkpoints : List ℕ) (from begun : ℕ) (met at : Option ℕ) (played steps : ℕ)
+pub IsReport-same : {S T : Type 0} (rules : MachineRules S T) (changes same : List Change)
+    (old : Game)
+    (every : ℕ) (checkpoints : List ℕ) (from begun : ℕ) (met at : Option ℕ) (played steps : ℕ)
     → changes ≡ same → begun ≡ from → at ≡ met → steps ≡ played
-    → IsReport rules changes old every checkpoints from met played → IsReport rules same old every checkpoints begun at steps
-IsReport-same rules changes same old every checkpoints from begun met at played steps is from_is met_is played_is report =
+    → IsReport rules changes old every checkpoints from met played
+    → IsReport rules same old every checkpoints begun at steps
+IsReport-same rules changes same old every checkpoints from begun met at played steps is from_is
+    met_is played_is report =
     rw (from_is, met_is, played_is, ← is) report

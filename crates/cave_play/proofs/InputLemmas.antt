@@ -1,5 +1,6 @@
--- The bytes of an input, where only a front of them was read.
-use Rattle.std.proofs.Common.{ℕ, ◌≤◌, List, [], ◌++◌, length, None, Some, sym, ap, ◌∙◌, refl, arith, append-nil, length-append, le_refl}
+-- The bytes of an input, where only a prefix of them was read.
+use Rattle.std.proofs.Common.{ℕ, ◌≤◌, List, [], ◌++◌, length, None, Some, sym, ap, ◌∙◌, refl, arith}
+use Rattle.std.proofs.Common.{append-nil, length-append, le_refl}
 use Rattle.std.specs.declared.option.Option.{Option}
 use Rattle.std.specs.Io.KnownBytes.{Consumes, IsAtEnd}
 use Rattle.std.proofs.KnownBytes.{Consumes-trans}
@@ -8,16 +9,20 @@ use Rattle.cave_play.specs.declared.input.InputFault.{InputFault}
 use Rattle.cave_play.specs.declared.input.InputFault.TheVariants.{Unreadable, TooLarge, Memory}
 
 -- a reader that came to its end had what it gave
-pub Says-whole : (old new : Option (List ℕ)) (bytes : List ℕ) → Consumes old new bytes → IsAtEnd new → Says old bytes
+pub Says-whole : (old new : Option (List ℕ)) (bytes : List ℕ) → Consumes old new bytes → IsAtEnd new
+    → Says old bytes
 Says-whole None new bytes taken end = tt
 Says-whole (Some known) None bytes taken end = absurd taken
-Says-whole (Some known) (Some rest) bytes taken end = sym (append-nil bytes) ∙ ap (λ l. bytes ++ l) (sym end) ∙ sym taken
+Says-whole (Some known) (Some rest) bytes taken end = sym (append-nil bytes)
+    ∙ ap (λ l. bytes ++ l) (sym end) ∙ sym taken
 
--- some bytes that a reader has, where it gave a front of them
-pub Says-front : (old new : Option (List ℕ)) (front : List ℕ) → Consumes old new front → (bytes : List ℕ) × Says old bytes × (length front ≤ length bytes)
+-- some bytes that a reader has, where it gave a prefix of them
+pub Says-front : (old new : Option (List ℕ)) (front : List ℕ) → Consumes old new front
+    → (bytes : List ℕ) × Says old bytes × (length front ≤ length bytes)
 Says-front None new front taken = (front, tt, le_refl _)
 Says-front (Some known) None front taken = absurd taken
-Says-front (Some known) (Some rest) front taken = (known, refl, omega (arith, ap length taken, length-append front rest))
+Says-front (Some known) (Some rest) front taken =
+    (known, refl, omega (arith, ap length taken, length-append front rest))
 
 -- some bytes that a reader has
 pub Says-some : (old : Option (List ℕ)) → (bytes : List ℕ) × Says old bytes
@@ -25,11 +30,16 @@ Says-some None = ([], tt)
 Says-some (Some known) = (known, refl)
 
 -- a reading that failed is a fault of the input
-pub IsInputFault-from : (first old new : Option (List ℕ)) (before : List ℕ) (fault : InputFault) → Consumes first old before → Exceeds old new before fault
+pub IsInputFault-from : (first old new : Option (List ℕ)) (before : List ℕ) (fault : InputFault)
+    → Consumes first old before → Exceeds old new before fault
     → (bytes : List ℕ) × Says first bytes × IsInputFault bytes fault
-IsInputFault-from first old new before Unreadable taken over = let some = Says-some first in (some.0, some.1, tt)
-IsInputFault-from first old new before Memory taken over = let some = Says-some first in (some.0, some.1, tt)
+IsInputFault-from first old new before Unreadable taken over =
+    let some = Says-some first in (some.0, some.1, tt)
+IsInputFault-from first old new before Memory taken over =
+    let some = Says-some first in (some.0, some.1, tt)
 IsInputFault-from first old new before TooLarge taken over =
     let (given, more, long) = over.over refl in
-    let (bytes, said, front) = Says-front first new (before ++ given) (Consumes-trans first old new before given taken more) in
+    let (bytes, said, front) =
+    Says-front first new (before ++ given)
+    (Consumes-trans first old new before given taken more) in
     (bytes, said, omega (arith, length-append before given))

@@ -1,5 +1,7 @@
 -- The faults that are found while the inputs of a run are read.
-use Rattle.std.proofs.Common.{◌≡◌, ℕ, ◌<◌, ◌≤◌, Bool, true, false, List, [], ◌∷◌, length, None, Some, Ok, Err, MatchOption, nat_lt, inl, inr, option_map, subst, sym, ap, ◌∙◌, refl, lt-ltb, le-ltb}
+use Rattle.std.proofs.Common.{◌≡◌, ℕ, ◌<◌, ◌≤◌, Bool, true, false, List, [], ◌∷◌, length, None}
+use Rattle.std.proofs.Common.{Some, Ok, Err, MatchOption, nat_lt, inl, inr, option_map, subst, sym}
+use Rattle.std.proofs.Common.{ap, ◌∙◌, refl, lt-ltb, le-ltb}
 use Rattle.std.specs.Prelude.{◌⊎◌, ◌||◌, ◌==◌, if◌then◌else◌, Result, IfErr}
 use Rattle.std.specs.Option.{option_or}
 use Rattle.std.specs.declared.option.Option.{Option}
@@ -9,23 +11,27 @@ use Rattle.cave_data.proofs.ReadLemmas.{right_exactly}
 use Rattle.cave_data.specs.BindingFault.{first_binding_fault}
 use Rattle.cave_data.specs.CaveView.{CaveView}
 use Rattle.cave_data.specs.FirstFault.{first_fault}
-use Rattle.cave_data.specs.Reading.{Reads, fault as cave_fault, too_large as cave_too_large}
-use Rattle.cave_data.specs.declared.error.CaveError.{CaveError}
-use Rattle.cave_data.specs.declared.error.Spot.TheVariants as spot
-use Rattle.cave_words.specs.declared.line_flaw.LineFlaw.{LineFlaw}
-use Rattle.cave_replay.specs.Opening.{open_fault, first_bad_line, or_size_fault}
-use Rattle.cave_replay.specs.declared.fault.OpenFault.{OpenFault}
-use Rattle.cave_replay.specs.declared.fault.OpenFault.TheVariants as session
+use Rattle.cave_data.specs.Reads.{Reads, fault as cave_fault, too_large_input as cave_too_large}
+use Rattle.cave_rows.specs.declared.error.CaveError.{CaveError}
+use Rattle.cave_rows.specs.declared.error.FaultSite.TheVariants as site
+use Rattle.log_lines.specs.declared.line_flaw.LineFlaw.{LineFlaw}
+use Rattle.log_replay.specs.Opening.{open_fault, first_bad_line, or_game_fault}
+use Rattle.log_replay.specs.declared.fault.OpenFault.{OpenFault}
+use Rattle.log_replay.specs.declared.fault.OpenFault.TheVariants as session
 use Rattle.limits.specs.Limits.{max_seed, max_every, max_log_lines, max_input_bytes}
-use Rattle.cave_script.specs.Item.{Applied}
-use Rattle.cave_script.specs.Script.{script_of}
-use Rattle.cave_script.specs.Shown.{IsFaultOf}
-use Rattle.cave_script.specs.declared.fault.ScriptFault.{ScriptFault}
-use Rattle.cave_script.specs.declared.fault.ScriptFault.TheVariants.{Malformed, Memory}
+use Rattle.edit_scripts.specs.Item.{Applied}
+use Rattle.edit_scripts.specs.Script.{script_of}
+use Rattle.edit_scripts.specs.Views.{IsFaultOf}
+use Rattle.edit_scripts.specs.declared.fault.ScriptRefusal.{ScriptRefusal}
+use Rattle.edit_scripts.specs.declared.fault.ScriptRefusal.TheVariants.{Malformed, Memory}
 use Rattle.cave_play.proofs.StageLemmas.{Judges-read}
-use Rattle.cave_play.specs.Judged.{seed_fault, every_fault, too_large, input_size_fault, inputs_fault, lines_fault, log_fault, script_fault, first_malformed, script_refusal, or_too_many, opening_fault}
+use Rattle.cave_play.specs.Judge.{large_seed, every_fault, too_large, input_size_fault}
+use Rattle.cave_play.specs.Judge.{inputs_fault, lines_fault, log_fault, script_fault}
+use Rattle.cave_play.specs.Judge.{first_malformed, script_refusal, or_too_many, opening_fault}
 use Rattle.cave_play.specs.Run.{Judges}
-use Rattle.cave_play.specs.Stage.{reading, judging, first_decided, IsOutsideOf, IsFoundAt, IsFoundIn}
+use Rattle.cave_play.specs.Stage.{reading_stage, judging_stage, first_decided, IsOutsideOf}
+use Rattle.cave_play.specs.Stage.{IsFoundAt}
+use Rattle.cave_play.specs.Stage.{IsFoundIn}
 use Rattle.cave_play.specs.Stages.{cave_stages, log_stage, script_stage}
 use Rattle.cave_play.specs.declared.fault.Input.{Input}
 use Rattle.cave_play.specs.declared.fault.Input.TheVariants as input
@@ -41,8 +47,10 @@ IsRefused from bytes found =
     IsOutsideOf (Some from) found ⊎ ((max_input_bytes < length bytes) × (found ≡ too_large from))
 
 input_size_fault-large : (from : Input) (bytes : List ℕ) (found : PlayFault)
-    → max_input_bytes < length bytes → found ≡ too_large from → input_size_fault from bytes ≡ Some found
-input_size_fault-large from bytes found large is = rw (lt-ltb max_input_bytes (length bytes) large, is) refl
+    → max_input_bytes < length bytes → found ≡ too_large from
+    → input_size_fault from bytes ≡ Some found
+input_size_fault-large from bytes found large is =
+    rw (lt-ltb max_input_bytes (length bytes) large, is) refl
 
 input_size_fault-fits : (from : Input) (bytes : List ℕ)
     → length bytes ≤ max_input_bytes → input_size_fault from bytes ≡ None
@@ -70,9 +78,11 @@ judged_whole : (large larger : Bool) (lines_fault : Option CaveError)
     → option_or (if large then Some (too_large input.Cave) else None)
     (option_or (if larger then Some (too_large input.Bindings) else None)
     (option_or (option_map (λ error. fault.Cave error)
-    (if large then Some (cave_too_large spot.Database) else (if larger then Some (cave_too_large spot.Bindings) else lines_fault))) None))
+    (if large then Some (cave_too_large site.Database)
+    else (if larger then Some (cave_too_large site.Bindings) else lines_fault))) None))
     ≡ option_map (λ error. fault.Cave error)
-    (if large then Some (cave_too_large spot.Database) else (if larger then Some (cave_too_large spot.Bindings) else lines_fault))
+    (if large then Some (cave_too_large site.Database)
+    else (if larger then Some (cave_too_large site.Bindings) else lines_fault))
 judged_whole true larger lines_fault = refl
 judged_whole false true lines_fault = refl
 judged_whole false false None = refl
@@ -82,12 +92,15 @@ pub caves_are_judged_whole : (database bindings : List ℕ)
     → first_decided (cave_stages database bindings) ≡ inputs_fault database bindings
 unfolding cave_fault
 caves_are_judged_whole database bindings =
-    judged_whole (nat_lt max_input_bytes (length database)) (nat_lt max_input_bytes (length bindings))
+    judged_whole (nat_lt max_input_bytes (length database))
+    (nat_lt max_input_bytes (length bindings))
     (option_or (first_fault [] (lines database)) (first_binding_fault [] (lines bindings)))
 
 -- a database and bindings that describe a cave have no fault
-inputs_fault-read : (database bindings : List ℕ) (cave : CaveView) → Reads database bindings cave → inputs_fault database bindings ≡ None
-inputs_fault-read database bindings cave reads = ap (option_map (λ error. fault.Cave error)) ((right_exactly database bindings).0 reads.right)
+inputs_fault-read : (database bindings : List ℕ) (cave : CaveView) → Reads database bindings cave
+    → inputs_fault database bindings ≡ None
+inputs_fault-read database bindings cave reads =
+    ap (option_map (λ error. fault.Cave error)) ((right_exactly database bindings).0 reads.right)
 
 pub cave_stages-read : (database bindings : List ℕ) (cave : CaveView) → Reads database bindings cave
     → first_decided (cave_stages database bindings) ≡ None
@@ -104,20 +117,28 @@ IsFoundIn-log bytes found (inr (large, is)) =
     inl (inr (rw (lt-ltb max_input_bytes (length bytes) large, is) refl))
 
 -- a log that isn't too large is judged by its lines
-pub log_fault-lines : (bytes : List ℕ) → length bytes ≤ max_input_bytes → log_fault bytes ≡ lines_fault (lines bytes)
+pub log_fault-lines : (bytes : List ℕ) → length bytes ≤ max_input_bytes
+    → log_fault bytes ≡ lines_fault (lines bytes)
 unfolding log_fault
 log_fault-lines bytes fits = rw (le-ltb max_input_bytes (length bytes) fits) refl
 
-pub Judges-log : {X : Type 0} (P : List (List ℕ) → X → Type 0) (bytes text : List ℕ) (r : Result X PlayFault) → text ≡ bytes → length bytes ≤ max_input_bytes
-    → Judges (judging (lines_fault (lines text)) ∷ []) (P (lines text)) r → Judges (log_stage bytes ∷ []) (P (lines bytes)) r
+pub Judges-log : {X : Type 0} (P : List (List ℕ) → X → Type 0) (bytes text : List ℕ)
+    (r : Result X PlayFault) → text ≡ bytes → length bytes ≤ max_input_bytes
+    → Judges (judging_stage (lines_fault (lines text)) ∷ []) (P (lines text)) r
+    → Judges (log_stage bytes ∷ []) (P (lines bytes)) r
 Judges-log P bytes text r is fits judged =
-    let here = subst (λ t. Judges (judging (lines_fault (lines t)) ∷ []) (P (lines t)) r) is judged in
+    let here =
+    subst (λ t. Judges (judging_stage (lines_fault (lines t)) ∷ []) (P (lines t)) r) is judged in
     Judges-read input.Log (log_fault bytes) (P (lines bytes)) r
-    (subst (λ d. Judges (judging d ∷ []) (P (lines bytes)) r) (sym (log_fault-lines bytes fits)) here)
+    (subst (λ d. Judges (judging_stage d ∷ []) (P (lines bytes)) r)
+    (sym (log_fault-lines bytes fits))
+    here)
 
 -- what is wrong with a game whose seed fits is wrong with its log
-too_many_or_seed : (many great : Bool) (found : OpenFault) → (if great then Some fault.Seed else None) ≡ None
-    → (if many then Some session.LogFull else (if great then Some session.BadSeed else None)) ≡ Some found
+too_many_or_seed : (many great : Bool) (found : OpenFault)
+    → (if great then Some fault.Seed else None) ≡ None
+    → (if many then Some session.LogFull else (if great then Some session.BadSeed else None))
+    ≡ Some found
     → (if many then Some (fault.Log log.Full) else None) ≡ Some (opening_fault found)
 too_many_or_seed true great found fits is = ap (option_map opening_fault) is
 too_many_or_seed false true found fits is = absurd (cc)
@@ -129,54 +150,79 @@ too_many_or_none : (many great : Bool)
 too_many_or_none true great is = cc
 too_many_or_none false great is = refl
 
-or_size_fault-fits : (bad : Option (ℕ × LineFlaw)) (game : List (List ℕ)) (seed : ℕ) (found : OpenFault) → seed_fault seed ≡ None → or_size_fault bad game seed ≡ Some found → or_too_many bad (length game) ≡ Some (opening_fault found)
-or_size_fault-fits None game seed found fits is = too_many_or_seed (nat_lt max_log_lines (length game)) (nat_lt max_seed seed) found fits is
-or_size_fault-fits (Some (number, flaw)) game seed found fits is = ap (option_map opening_fault) is
+or_game_fault-fits : (bad : Option (ℕ × LineFlaw)) (game : List (List ℕ)) (seed : ℕ)
+    (found : OpenFault) → large_seed seed ≡ None → or_game_fault bad game seed ≡ Some found
+    → or_too_many bad (length game) ≡ Some (opening_fault found)
+or_game_fault-fits None game seed found fits is =
+    too_many_or_seed (nat_lt max_log_lines (length game)) (nat_lt max_seed seed) found fits is
+or_game_fault-fits (Some (number, flaw)) game seed found fits is = ap (option_map opening_fault) is
 
-or_size_fault-none : (bad : Option (ℕ × LineFlaw)) (game : List (List ℕ)) (seed : ℕ) → or_size_fault bad game seed ≡ None → or_too_many bad (length game) ≡ None
-or_size_fault-none None game seed is = too_many_or_none (nat_lt max_log_lines (length game)) (nat_lt max_seed seed) is
-or_size_fault-none (Some (number, flaw)) game seed is = cc
+or_game_fault-none : (bad : Option (ℕ × LineFlaw)) (game : List (List ℕ)) (seed : ℕ)
+    → or_game_fault bad game seed ≡ None → or_too_many bad (length game) ≡ None
+or_game_fault-none None game seed is =
+    too_many_or_none (nat_lt max_log_lines (length game)) (nat_lt max_seed seed) is
+or_game_fault-none (Some (number, flaw)) game seed is = cc
 
 -- the distance of checkpoints aside, a session is refused for its game
-by_game : (far : Bool) (other : Option OpenFault) → (if far then Some fault.Every else None) ≡ None → (if far then Some session.BadEvery else other) ≡ other
+by_game : (far : Bool) (other : Option OpenFault) → (if far then Some fault.Every else None) ≡ None
+    → (if far then Some session.BadEvery else other) ≡ other
 by_game true other fits = absurd (cc)
 by_game false other fits = refl
 
-open_fault-fits : (every : ℕ) (game : List (List ℕ)) (seed : ℕ) → every_fault every ≡ None → open_fault every game seed ≡ or_size_fault (first_bad_line game 1) game seed
-open_fault-fits every game seed fits = by_game (every == 0 || nat_lt max_every every) (or_size_fault (first_bad_line game 1) game seed) fits
+open_fault-fits : (every : ℕ) (game : List (List ℕ)) (seed : ℕ) → every_fault every ≡ None
+    → open_fault every game seed ≡ or_game_fault (first_bad_line game 1) game seed
+open_fault-fits every game seed fits =
+    by_game (every == 0 || nat_lt max_every every) (or_game_fault (first_bad_line game 1) game seed)
+    fits
 
 -- a session that was opened has no fault
-opened_without : {S : Type 0} (decided : Option OpenFault) (s : S) (r : Result S OpenFault) → r ≡ Ok s
+opened_without : {S : Type 0} (decided : Option OpenFault) (s : S) (r : Result S OpenFault)
+    → r ≡ Ok s
     → MatchOption decided (IfErr r (λ f. f ≡ session.Memory)) (λ f. r ≡ Err f) → decided ≡ None
 opened_without None s r is h = refl
 opened_without (Some first) s r is h = cc
 
-pub lines_fault-opened : {S : Type 0} (every : ℕ) (game : List (List ℕ)) (seed : ℕ) (s : S) (r : Result S OpenFault) → every_fault every ≡ None → r ≡ Ok s
-    → MatchOption (open_fault every game seed) (IfErr r (λ f. f ≡ session.Memory)) (λ f. r ≡ Err f) → lines_fault game ≡ None
+pub lines_fault-opened : {S : Type 0} (every : ℕ) (game : List (List ℕ)) (seed : ℕ) (s : S)
+    (r : Result S OpenFault) → every_fault every ≡ None → r ≡ Ok s
+    → MatchOption (open_fault every game seed) (IfErr r (λ f. f ≡ session.Memory)) (λ f. r ≡ Err f)
+    → lines_fault game ≡ None
 unfolding lines_fault
 lines_fault-opened every game seed s r near is h =
-    or_size_fault-none (first_bad_line game 1) game seed (sym (open_fault-fits every game seed near) ∙ opened_without _ s r is h)
+    or_game_fault-none (first_bad_line game 1) game seed
+    (sym (open_fault-fits every game seed near) ∙ opened_without _ s r is h)
 
 -- which fault a session was refused for
-refused_for : {S : Type 0} (decided : Option OpenFault) (found : OpenFault) (r : Result S OpenFault) → r ≡ Err found
-    → MatchOption decided (IfErr r (λ f. f ≡ session.Memory)) (λ f. r ≡ Err f) → (found ≡ session.Memory) ⊎ (decided ≡ Some found)
+refused_for : {S : Type 0} (decided : Option OpenFault) (found : OpenFault) (r : Result S OpenFault)
+    → r ≡ Err found
+    → MatchOption decided (IfErr r (λ f. f ≡ session.Memory)) (λ f. r ≡ Err f)
+    → (found ≡ session.Memory) ⊎ (decided ≡ Some found)
 refused_for None found r is h = inl (IfErr-at_err (λ f. f ≡ session.Memory) is h)
 refused_for (Some first) found r is h = inr (cc)
 
-lines_fault-some : (every : ℕ) (game : List (List ℕ)) (seed : ℕ) (found : OpenFault) → seed_fault seed ≡ None → every_fault every ≡ None → open_fault every game seed ≡ Some found
+lines_fault-some : (every : ℕ) (game : List (List ℕ)) (seed : ℕ) (found : OpenFault)
+    → large_seed seed ≡ None → every_fault every ≡ None → open_fault every game seed ≡ Some found
     → lines_fault game ≡ Some (opening_fault found)
 unfolding lines_fault
-lines_fault-some every game seed found fits near is = or_size_fault-fits (first_bad_line game 1) game seed found fits (sym (open_fault-fits every game seed near) ∙ is)
+lines_fault-some every game seed found fits near is =
+    or_game_fault-fits (first_bad_line game 1) game seed found fits
+    (sym (open_fault-fits every game seed near) ∙ is)
 
-found_by : (every : ℕ) (game : List (List ℕ)) (seed : ℕ) (found : OpenFault) → seed_fault seed ≡ None → every_fault every ≡ None
-    → (found ≡ session.Memory) ⊎ (open_fault every game seed ≡ Some found) → IsFoundIn (judging (lines_fault game) ∷ []) (opening_fault found)
+found_by : (every : ℕ) (game : List (List ℕ)) (seed : ℕ) (found : OpenFault)
+    → large_seed seed ≡ None → every_fault every ≡ None
+    → (found ≡ session.Memory) ⊎ (open_fault every game seed ≡ Some found)
+    → IsFoundIn (judging_stage (lines_fault game) ∷ []) (opening_fault found)
 found_by every game seed found fits near (inl memory) = rw memory (inl (inl tt))
-found_by every game seed found fits near (inr is) = inl (inr (lines_fault-some every game seed found fits near is))
+found_by every game seed found fits near (inr is) =
+    inl (inr (lines_fault-some every game seed found fits near is))
 
 -- a session that wasn't opened
-pub IsFoundIn-opened : {S : Type 0} (every : ℕ) (game : List (List ℕ)) (seed : ℕ) (found : OpenFault) (r : Result S OpenFault) → seed_fault seed ≡ None → every_fault every ≡ None → r ≡ Err found
-    → MatchOption (open_fault every game seed) (IfErr r (λ f. f ≡ session.Memory)) (λ f. r ≡ Err f) → IsFoundIn (judging (lines_fault game) ∷ []) (opening_fault found)
-IsFoundIn-opened every game seed found r fits near is h = found_by every game seed found fits near (refused_for _ found r is h)
+pub IsFoundIn-opened : {S : Type 0} (every : ℕ) (game : List (List ℕ)) (seed : ℕ)
+    (found : OpenFault) (r : Result S OpenFault) → large_seed seed ≡ None → every_fault every ≡ None
+    → r ≡ Err found
+    → MatchOption (open_fault every game seed) (IfErr r (λ f. f ≡ session.Memory)) (λ f. r ≡ Err f)
+    → IsFoundIn (judging_stage (lines_fault game) ∷ []) (opening_fault found)
+IsFoundIn-opened every game seed found r fits near is h =
+    found_by every game seed found fits near (refused_for _ found r is h)
 
 -- ---- a script
 
@@ -188,23 +234,30 @@ IsFoundIn-script bytes found (inr (large, is)) =
     inl (inr (rw (lt-ltb max_input_bytes (length bytes) large, is) refl))
 
 -- a script that isn't too large is judged by its first malformed line
-pub script_fault-lines : (bytes : List ℕ) → length bytes ≤ max_input_bytes → script_fault bytes ≡ first_malformed (script_of bytes)
+pub script_fault-lines : (bytes : List ℕ) → length bytes ≤ max_input_bytes
+    → script_fault bytes ≡ first_malformed (script_of bytes)
 unfolding script_fault
 script_fault-lines bytes fits = rw (le-ltb max_input_bytes (length bytes) fits) refl
 
-pub script_fault-none : (bytes : List ℕ) (items : List Applied) → length bytes ≤ max_input_bytes → script_of bytes ≡ Ok items → script_fault bytes ≡ None
+pub script_fault-none : (bytes : List ℕ) (items : List Applied) → length bytes ≤ max_input_bytes
+    → script_of bytes ≡ Ok items → script_fault bytes ≡ None
 script_fault-none bytes items fits is = script_fault-lines bytes fits ∙ ap first_malformed is
 
 -- a script that was refused
-refused_by : (answer : Result (List Applied) ScriptFault) (found : ScriptFault) → IsFaultOf found answer
-    → IsFoundAt (reading input.Script (first_malformed answer)) (script_refusal found)
+refused_by : (answer : Result (List Applied) ScriptRefusal) (found : ScriptRefusal)
+    → IsFaultOf found answer
+    → IsFoundAt (reading_stage input.Script (first_malformed answer)) (script_refusal found)
 refused_by answer Memory is = inl tt
 refused_by answer (Malformed line flaw) is = inr (ap first_malformed is)
 
-pub IsFoundIn-refused : (bytes text : List ℕ) (found : ScriptFault) → length bytes ≤ max_input_bytes
-    → text ≡ bytes → IsFaultOf found (script_of text) → IsFoundIn (script_stage bytes ∷ []) (script_refusal found)
+pub IsFoundIn-refused : (bytes text : List ℕ) (found : ScriptRefusal)
+    → length bytes ≤ max_input_bytes
+    → text ≡ bytes → IsFaultOf found (script_of text)
+    → IsFoundIn (script_stage bytes ∷ []) (script_refusal found)
 IsFoundIn-refused bytes text found fits is refused =
     let told = script_refusal found in
-    let here = subst (λ t. IsFoundAt (reading input.Script (first_malformed (script_of t))) told)
+    let here =
+    subst (λ t. IsFoundAt (reading_stage input.Script (first_malformed (script_of t))) told)
     is (refused_by (script_of text) found refused) in
-    inl (subst (λ d. IsFoundAt (reading input.Script d) told) (sym (script_fault-lines bytes fits)) here)
+    inl (subst (λ d. IsFoundAt (reading_stage input.Script d) told)
+    (sym (script_fault-lines bytes fits)) here)

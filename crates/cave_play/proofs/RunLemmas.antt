@@ -1,26 +1,28 @@
 -- What a run prints, and how a run that failed ends.
-use Rattle.std.proofs.Common.{◌≡◌, ℕ, Bool, true, false, List, [], ◌∷◌, ◌++◌, length, None, Some, Ok, Err, nat_lt, MatchResult, take, inl, inr, option_map, subst, refl}
+use Rattle.std.proofs.Common.{◌≡◌, ℕ, Bool, true, false, List, [], ◌∷◌, ◌++◌, length, None, Some}
+use Rattle.std.proofs.Common.{Ok, Err, nat_lt, MatchResult, take, inl, inr, option_map, subst, refl}
 use Rattle.std.specs.Prelude.{◌||◌, ◌==◌, if◌then◌else◌, Result}
 use Rattle.std.specs.Option.{option_or}
 use Rattle.std.specs.declared.option.Option.{Option}
 use Rattle.std.specs.Io.KnownBytes.{Appends, Keeps}
 use Rattle.std.specs.Str.Lines.{lines}
 use Rattle.cave_data.specs.CaveView.{CaveView}
-use Rattle.cave_data.specs.Reading.{fault as cave_fault}
-use Rattle.cave_data.specs.declared.error.CaveError.{CaveError}
-use Rattle.cave_replay.specs.Play.{Game, IsPlay}
-use Rattle.cave_words.specs.declared.line_flaw.LineFlaw.{LineFlaw}
-use Rattle.cave_replay.specs.Opening.{first_bad_line}
+use Rattle.cave_data.specs.Reads.{fault as cave_fault}
+use Rattle.cave_rows.specs.declared.error.CaveError.{CaveError}
+use Rattle.log_replay.specs.Play.{Game, IsPlay}
+use Rattle.log_lines.specs.declared.line_flaw.LineFlaw.{LineFlaw}
+use Rattle.log_replay.specs.Opening.{first_bad_line}
 use Rattle.limits.specs.Limits.{max_seed, max_every, max_log_lines, max_input_bytes}
 use Rattle.cave_world.specs.declared.part.Part.{Part}
 use Rattle.cave_world.specs.declared.state.State.{State}
 use Rattle.cave_score.specs.Score.{score_of, max_score_of}
-use Rattle.cave_script.specs.Item.{Applied}
-use Rattle.cave_script.specs.Script.{script_of}
-use Rattle.cave_script.specs.declared.fault.ScriptFault.{ScriptFault}
-use Rattle.cave_script.specs.declared.fault.ScriptFault.TheVariants.{Malformed, Memory}
-use Rattle.cave_play.specs.CaveRules.{cave_rules, rendered}
-use Rattle.cave_play.specs.Judged.{lines_fault, or_too_many, seed_fault, every_fault, too_large, input_size_fault, log_fault, script_fault, first_malformed}
+use Rattle.edit_scripts.specs.Item.{Applied}
+use Rattle.edit_scripts.specs.Script.{script_of}
+use Rattle.edit_scripts.specs.declared.fault.ScriptRefusal.{ScriptRefusal}
+use Rattle.edit_scripts.specs.declared.fault.ScriptRefusal.TheVariants.{Malformed, Memory}
+use Rattle.cave_play.specs.Machine.{cave_rules, rendering_of}
+use Rattle.cave_play.specs.Judge.{lines_fault, or_too_many, large_seed, every_fault, too_large}
+use Rattle.cave_play.specs.Judge.{input_size_fault, log_fault, script_fault, first_malformed}
 use Rattle.cave_play.proofs.StageLemmas.{first_is_found}
 use Rattle.cave_play.specs.Laws.{IsDecided}
 use Rattle.cave_play.specs.Output.{play_text}
@@ -35,10 +37,12 @@ use Rattle.cave_play.specs.declared.fault.ScriptFault.TheVariants as script
 use Rattle.cave_play.specs.declared.fault.PlayFault.{PlayFault}
 use Rattle.cave_play.specs.declared.fault.PlayFault.TheVariants as fault
 
--- what is told of a play of the game is what playing the game prints
-pub transcript-played : (cave kept : CaveView) (game : Game) (opening : List Part) (pieces : List (List Part)) (ticks : List Bool) (state : State)
+-- what is written of a play of the game is what playing the game prints
+pub transcript-played : (cave kept : CaveView) (game : Game) (opening : List Part)
+    (pieces : List (List Part)) (ticks : List Bool) (state : State)
     → kept ≡ cave → IsPlay (cave_rules kept) game opening pieces ticks state
-    → transcript (rendered cave) opening game.log pieces ticks (score_of cave state) (max_score_of cave) ≡ play_text cave game
+    → transcript (rendering_of cave) opening game.log pieces ticks (score_of cave state)
+    (max_score_of cave) ≡ play_text cave game
 unfolding play_text
 transcript-played cave kept game opening pieces ticks state same played =
     let here = subst (λ k. IsPlay (cave_rules k) game opening pieces ticks state) same played in
@@ -48,35 +52,48 @@ transcript-played cave kept game opening pieces ticks state same played =
 unwritten_by_none : None ≡ Some fault.Write → ⊥
 unwritten_by_none found = cc
 
-unwritten_by_inputs : (refused : Option CaveError) → option_map (λ error. fault.Cave error) refused ≡ Some fault.Write → ⊥
+unwritten_by_inputs : (refused : Option CaveError)
+    → option_map (λ error. fault.Cave error) refused ≡ Some fault.Write → ⊥
 unwritten_by_inputs None found = cc
 unwritten_by_inputs (Some error) found = cc
 
-unwritten_by_both : (first later : Option PlayFault) → (first ≡ Some fault.Write → ⊥) → (later ≡ Some fault.Write → ⊥) → option_or first later ≡ Some fault.Write → ⊥
+unwritten_by_both : (first later : Option PlayFault) → (first ≡ Some fault.Write → ⊥)
+    → (later ≡ Some fault.Write → ⊥) → option_or first later ≡ Some fault.Write → ⊥
 unwritten_by_both None later not_first not_later found = not_later found
 unwritten_by_both (Some other) later not_first not_later found = not_first found
 
-unwritten_by_test : (test : Bool) (other : PlayFault) → (Some other ≡ Some fault.Write → ⊥) → (if test then Some other else None) ≡ Some fault.Write → ⊥
+unwritten_by_test : (test : Bool) (other : PlayFault) → (Some other ≡ Some fault.Write → ⊥)
+    → (if test then Some other else None) ≡ Some fault.Write → ⊥
 unwritten_by_test true other never found = never found
 unwritten_by_test false other never found = cc
 
-unwritten_by_seed : (seed : ℕ) → seed_fault seed ≡ Some fault.Write → ⊥
+unwritten_by_seed : (seed : ℕ) → large_seed seed ≡ Some fault.Write → ⊥
 unwritten_by_seed seed = unwritten_by_test (nat_lt max_seed seed) fault.Seed (λ found. cc)
 
 unwritten_by_every : (every : ℕ) → every_fault every ≡ Some fault.Write → ⊥
-unwritten_by_every every = unwritten_by_test (every == 0 || nat_lt max_every every) fault.Every (λ found. cc)
+unwritten_by_every every =
+    unwritten_by_test (every == 0 || nat_lt max_every every) fault.Every (λ found. cc)
 
-unwritten_by_size : (from : Input) (bytes : List ℕ) → input_size_fault from bytes ≡ Some fault.Write → ⊥
-unwritten_by_size input.Cave bytes = unwritten_by_test (nat_lt max_input_bytes (length bytes)) (too_large input.Cave) (λ found. cc)
-unwritten_by_size input.Bindings bytes = unwritten_by_test (nat_lt max_input_bytes (length bytes)) (too_large input.Bindings) (λ found. cc)
-unwritten_by_size input.Log bytes = unwritten_by_test (nat_lt max_input_bytes (length bytes)) (too_large input.Log) (λ found. cc)
-unwritten_by_size input.Script bytes = unwritten_by_test (nat_lt max_input_bytes (length bytes)) (too_large input.Script) (λ found. cc)
+unwritten_by_size : (from : Input) (bytes : List ℕ) → input_size_fault from bytes ≡ Some fault.Write
+    → ⊥
+unwritten_by_size input.Cave bytes =
+    unwritten_by_test (nat_lt max_input_bytes (length bytes)) (too_large input.Cave) (λ found. cc)
+unwritten_by_size input.Bindings bytes =
+    unwritten_by_test (nat_lt max_input_bytes (length bytes)) (too_large input.Bindings)
+    (λ found. cc)
+unwritten_by_size input.Log bytes =
+    unwritten_by_test (nat_lt max_input_bytes (length bytes)) (too_large input.Log) (λ found. cc)
+unwritten_by_size input.Script bytes =
+    unwritten_by_test (nat_lt max_input_bytes (length bytes)) (too_large input.Script) (λ found. cc)
 
-unwritten_by_lines : (bad : Option (ℕ × LineFlaw)) (count : ℕ) → or_too_many bad count ≡ Some fault.Write → ⊥
+unwritten_by_lines : (bad : Option (ℕ × LineFlaw)) (count : ℕ)
+    → or_too_many bad count ≡ Some fault.Write → ⊥
 unwritten_by_lines (Some (number, flaw)) count found = cc
-unwritten_by_lines None count found = unwritten_by_test (nat_lt max_log_lines count) (fault.Log log.Full) (λ is. cc) found
+unwritten_by_lines None count found =
+    unwritten_by_test (nat_lt max_log_lines count) (fault.Log log.Full) (λ is. cc) found
 
-unwritten_by_either : (large : Bool) (first : PlayFault) (later : Option PlayFault) → (Some first ≡ Some fault.Write → ⊥) → (later ≡ Some fault.Write → ⊥)
+unwritten_by_either : (large : Bool) (first : PlayFault) (later : Option PlayFault)
+    → (Some first ≡ Some fault.Write → ⊥) → (later ≡ Some fault.Write → ⊥)
     → (if large then Some first else later) ≡ Some fault.Write → ⊥
 unwritten_by_either true first later not_first not_later found = not_first found
 unwritten_by_either false first later not_first not_later found = not_later found
@@ -84,9 +101,11 @@ unwritten_by_either false first later not_first not_later found = not_later foun
 unwritten_by_log : (bytes : List ℕ) → log_fault bytes ≡ Some fault.Write → ⊥
 unfolding log_fault lines_fault
 unwritten_by_log bytes =
-    unwritten_by_either (nat_lt max_input_bytes (length bytes)) (fault.Log log.TooLarge) _ (λ found. cc) (unwritten_by_lines (first_bad_line (lines bytes) 1) (length (lines bytes)))
+    unwritten_by_either (nat_lt max_input_bytes (length bytes)) (fault.Log log.TooLarge)
+    _ (λ found. cc) (unwritten_by_lines (first_bad_line (lines bytes) 1) (length (lines bytes)))
 
-unwritten_by_malformed : (r : Result (List Applied) ScriptFault) → first_malformed r ≡ Some fault.Write → ⊥
+unwritten_by_malformed : (r : Result (List Applied) ScriptRefusal)
+    → first_malformed r ≡ Some fault.Write → ⊥
 unwritten_by_malformed (Ok items) found = cc
 unwritten_by_malformed (Err (Malformed line flaw)) found = cc
 unwritten_by_malformed (Err Memory) found = cc
@@ -94,38 +113,49 @@ unwritten_by_malformed (Err Memory) found = cc
 unwritten_by_script : (bytes : List ℕ) → script_fault bytes ≡ Some fault.Write → ⊥
 unfolding script_fault
 unwritten_by_script bytes =
-    unwritten_by_either (nat_lt max_input_bytes (length bytes)) (fault.Script script.TooLarge) _ (λ found. cc) (unwritten_by_malformed (script_of bytes))
+    unwritten_by_either (nat_lt max_input_bytes (length bytes)) (fault.Script script.TooLarge)
+    _ (λ found. cc) (unwritten_by_malformed (script_of bytes))
 
-unwritten_by_cave : (database bindings : List ℕ) (later : List Stage) → (first_decided later ≡ Some fault.Write → ⊥)
+unwritten_by_cave : (database bindings : List ℕ) (later : List Stage)
+    → (first_decided later ≡ Some fault.Write → ⊥)
     → first_decided (cave_stages database bindings ++ later) ≡ Some fault.Write → ⊥
 unwritten_by_cave database bindings later not_later =
     unwritten_by_both _ _ (unwritten_by_size input.Cave database)
     (unwritten_by_both _ _ (unwritten_by_size input.Bindings bindings)
     (unwritten_by_both _ _ (unwritten_by_inputs (cave_fault database bindings)) not_later))
 
-pub unwritten_by_check : (database bindings : List ℕ) → first_decided (cave_stages database bindings) ≡ Some fault.Write → ⊥
+pub unwritten_by_check : (database bindings : List ℕ)
+    → first_decided (cave_stages database bindings) ≡ Some fault.Write → ⊥
 unwritten_by_check database bindings = unwritten_by_cave database bindings [] unwritten_by_none
 
-pub unwritten_by_play : (database bindings moves : List ℕ) (seed : ℕ) → first_decided (play_stages database bindings moves seed) ≡ Some fault.Write → ⊥
+pub unwritten_by_play : (database bindings moves : List ℕ) (seed : ℕ)
+    → first_decided (play_stages database bindings moves seed) ≡ Some fault.Write → ⊥
 unwritten_by_play database bindings moves seed =
     unwritten_by_both _ _ (unwritten_by_seed seed)
-    (unwritten_by_cave database bindings (log_stage moves ∷ []) (unwritten_by_both _ _ (unwritten_by_log moves) unwritten_by_none))
+    (unwritten_by_cave database bindings (log_stage moves ∷ [])
+    (unwritten_by_both _ _ (unwritten_by_log moves) unwritten_by_none))
 
-pub unwritten_by_edit : (database bindings moves edits : List ℕ) (seed every : ℕ) → first_decided (edit_stages database bindings moves edits seed every) ≡ Some fault.Write → ⊥
+pub unwritten_by_edit : (database bindings moves edits : List ℕ) (seed every : ℕ)
+    → first_decided (edit_stages database bindings moves edits seed every) ≡ Some fault.Write → ⊥
 unwritten_by_edit database bindings moves edits seed every =
     unwritten_by_both _ _ (unwritten_by_seed seed)
     (unwritten_by_both _ _ (unwritten_by_every every)
     (unwritten_by_cave database bindings (log_stage moves ∷ script_stage edits ∷ [])
-    (unwritten_by_both _ _ (unwritten_by_log moves) (unwritten_by_both _ _ (unwritten_by_script edits) unwritten_by_none))))
+    (unwritten_by_both _ _ (unwritten_by_log moves)
+    (unwritten_by_both _ _ (unwritten_by_script edits) unwritten_by_none))))
 
-unwritten : (stages : List Stage) → (first_decided stages ≡ Some fault.Write → ⊥) → IsDecided stages fault.Write → ⊥
+unwritten : (stages : List Stage) → (first_decided stages ≡ Some fault.Write → ⊥)
+    → IsDecided stages fault.Write → ⊥
 unwritten stages never (inl outside) = outside
 unwritten stages never (inr is) = never is
 
 -- a run that failed before it wrote
-pub EndsBy-unwritten : (found : PlayFault) (stages : List Stage) (IsOutput : List ℕ → Type 0) (old new : Option (List ℕ))
-    → (first_decided stages ≡ Some fault.Write → ⊥) → IsFoundIn stages found → Keeps old new → EndsBy found stages IsOutput old new
-EndsBy-unwritten fault.Write stages IsOutput old new never there kept = absurd (unwritten stages never (first_is_found stages fault.Write there))
+pub EndsBy-unwritten : (found : PlayFault) (stages : List Stage) (IsOutput : List ℕ → Type 0)
+    (old new : Option (List ℕ))
+    → (first_decided stages ≡ Some fault.Write → ⊥) → IsFoundIn stages found → Keeps old new
+    → EndsBy found stages IsOutput old new
+EndsBy-unwritten fault.Write stages IsOutput old new never there kept =
+    absurd (unwritten stages never (first_is_found stages fault.Write there))
 EndsBy-unwritten (fault.Cave error) stages IsOutput old new never there kept = (there, kept)
 EndsBy-unwritten fault.Seed stages IsOutput old new never there kept = (there, kept)
 EndsBy-unwritten fault.Every stages IsOutput old new never there kept = (there, kept)
@@ -135,8 +165,13 @@ EndsBy-unwritten (fault.Read from) stages IsOutput old new never there kept = (t
 EndsBy-unwritten fault.Memory stages IsOutput old new never there kept = (there, kept)
 
 -- a run that wrote, or failed while it wrote
-pub Runs-written : (stages : List Stage) (IsOutput : List ℕ → Type 0) (old new : Option (List ℕ)) (output : List ℕ) (r : Result (Unit {0}) PlayFault)
+pub Runs-written : (stages : List Stage) (IsOutput : List ℕ → Type 0) (old new : Option (List ℕ))
+    (output : List ℕ) (r : Result (Unit {0}) PlayFault)
     → first_decided stages ≡ None → IsOutput output
-    → MatchResult r (λ _. Appends old new output) (λ found. (found ≡ fault.Write) × ((n : ℕ) × Appends old new (take n output))) → Runs stages IsOutput old new r
-Runs-written stages IsOutput old new output (Ok done) none is written = (none, (output, is, written))
-Runs-written stages IsOutput old new output (Err found) none is written = rw written.0 (none, (output, is, written.1))
+    → MatchResult r (λ _. Appends old new output)
+    (λ found. (found ≡ fault.Write) × ((n : ℕ) × Appends old new (take n output)))
+    → Runs stages IsOutput old new r
+Runs-written stages IsOutput old new output (Ok done) none is written =
+    (none, (output, is, written))
+Runs-written stages IsOutput old new output (Err found) none is written =
+    rw written.0 (none, (output, is, written.1))

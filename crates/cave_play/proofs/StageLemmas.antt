@@ -4,7 +4,8 @@ use Rattle.std.proofs.Common.{inl, inr, ap, ◌∙◌, refl}
 use Rattle.std.specs.Prelude.{Result}
 use Rattle.std.specs.Option.{option_or}
 use Rattle.std.specs.declared.option.Option.{Option}
-use Rattle.cave_play.specs.Stage.{Stage, reading, judging, first_decided, IsOutsideOf, IsFoundIn}
+use Rattle.cave_play.specs.Stage.{Stage, reading_stage, judging_stage, first_decided, IsOutsideOf}
+use Rattle.cave_play.specs.Stage.{IsFoundIn}
 use Rattle.cave_play.specs.Laws.{IsOutside, IsDecided}
 use Rattle.cave_play.specs.Run.{Judges}
 use Rattle.cave_play.specs.declared.fault.Input.{Input}
@@ -59,11 +60,12 @@ Judges-later stages later P Q (Err found) none gives judged =
     IsFoundIn-later stages later found none judged
 
 -- where no fault is decided and memory alone was refused, what was made is right
-pub Judges-made : {X : Type 0} (stages : List Stage) (IsMade IsRight : X → Type 0)
-    (r : Result X PlayFault) → first_decided stages ≡ None → ((made : X) → IsMade made → IsRight made)
-    → MatchResult r IsMade (λ found. found ≡ fault.Memory) → Judges stages IsRight r
-Judges-made stages IsMade IsRight (Ok made) none right is = (none, right made is)
-Judges-made stages IsMade IsRight (Err found) none right is = rw is (IsFoundIn-memory stages)
+pub Judges-made : {X : Type 0} (stages : List Stage) (IsMade IsValidLine : X → Type 0)
+    (r : Result X PlayFault) → first_decided stages ≡ None
+    → ((made : X) → IsMade made → IsValidLine made)
+    → MatchResult r IsMade (λ found. found ≡ fault.Memory) → Judges stages IsValidLine r
+Judges-made stages IsMade IsValidLine (Ok made) none right is = (none, right made is)
+Judges-made stages IsMade IsValidLine (Err found) none right is = rw is (IsFoundIn-memory stages)
 
 -- where nothing is read, only memory is refused from outside
 outside_unread : (input : Input) (found : PlayFault)
@@ -79,7 +81,8 @@ outside_unread input fault.Write outside = absurd outside
 
 -- what is right of an input that was read is right of the reading too
 pub Judges-read : {X : Type 0} (input : Input) (decides : Option PlayFault) (P : X → Type 0)
-    (r : Result X PlayFault) → Judges (judging decides ∷ []) P r → Judges (reading input decides ∷ []) P r
+    (r : Result X PlayFault) → Judges (judging_stage decides ∷ []) P r
+    → Judges (reading_stage input decides ∷ []) P r
 Judges-read input decides P (Ok x) judged = judged
 Judges-read input decides P (Err found) (inl (inl outside)) =
     inl (inl (outside_unread input found outside))

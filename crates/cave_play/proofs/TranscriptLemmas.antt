@@ -1,45 +1,62 @@
 -- A transcript, line by line.
-use Rattle.std.proofs.Common.{◌≡◌, ℕ, suc, ◌+◌, ◌<◌, ◌≤◌, Bool, List, [], ◌∷◌, ◌++◌, length, map, get_or, drop, append_assoc, sym, ap, ◌∙◌, refl, arith}
+use Rattle.std.proofs.Common.{◌≡◌, ℕ, suc, ◌+◌, ◌<◌, ◌≤◌, Bool, List, [], ◌∷◌, ◌++◌, length, map}
+use Rattle.std.proofs.Common.{get_or, drop, append_assoc, sym, ap, ◌∙◌, refl, arith}
 use Rattle.std.specs.Prelude.{slice_index}
 use Rattle.std.specs.List.{enumerate_from, flat_map, zip}
 use Rattle.std.proofs.lemmas.List.{drop_more, drop_all, get_or-map, length-map}
-use Rattle.cave_play.specs.Transcript.{ticks, told, told_at}
+use Rattle.cave_play.specs.Transcript.{ticks, transcript_line, shown_line}
 
 module _ {Piece : Type 0} (show : Piece → ℕ → List ℕ) (ticked : List Bool) where
-  -- what is told from a place on
+  -- what is written from a place on
   abbrev pub told_from : ℕ → List (List ℕ) → List Piece → List ℕ
-  told_from place log pieces = flat_map (told show ticked) (enumerate_from place (zip (drop place log) (drop place pieces)))
+  told_from place log pieces =
+      flat_map (transcript_line show ticked)
+      (enumerate_from place (zip (drop place log) (drop place pieces)))
 
   -- from a place on: the line there, and then from the next place on
-  pub told_from-more : (place : ℕ) (log : List (List ℕ)) (pieces : List Piece) (line : List ℕ) (piece : Piece) → place < length log → place < length pieces
-      → told_from place log pieces ≡ told_at show (get_or log place line) (get_or pieces place piece) (ticks ticked (place + 1)) ++ told_from (place + 1) log pieces
+  pub told_from-more : (place : ℕ) (log : List (List ℕ)) (pieces : List Piece) (line : List ℕ)
+      (piece : Piece) → place < length log → place < length pieces
+      → told_from place log pieces
+      ≡ shown_line show (get_or log place line) (get_or pieces place piece)
+      (ticks ticked (place + 1)) ++ told_from (place + 1) log pieces
   told_from-more place log pieces line piece in_log in_pieces =
       rw (drop_more log place line in_log, drop_more pieces place piece in_pieces) refl
 
-  -- from the end on nothing is told
-  pub told_from-end : (place : ℕ) (log : List (List ℕ)) (pieces : List Piece) → length log ≤ place → told_from place log pieces ≡ []
+  -- from the end on nothing is written
+  pub told_from-end : (place : ℕ) (log : List (List ℕ)) (pieces : List Piece) → length log ≤ place
+      → told_from place log pieces ≡ []
   told_from-end place log pieces past = rw (drop_all place log past) refl
 
--- what was told, and what is still to be told, are the whole: so they are after one more line
-pub told-more : {Held Piece : Type 0} (show : Piece → ℕ → List ℕ) (items : Held → Piece) (place turns : ℕ) (log : List (List ℕ)) (pieces : List Held) (ticked : List Bool)
-    (line : List ℕ) (piece : Held) (text text' end whole : List ℕ) → place < length log → length pieces ≡ length log
-    → line ≡ get_or log place [] → piece ≡ get_or pieces place piece → turns ≡ ticks ticked (place + 1)
+-- what was written, and what is still to be written, are the whole: so they are after one more line
+pub transcript_line-more : {Held Piece : Type 0} (show : Piece → ℕ → List ℕ) (items : Held → Piece)
+    (place turns : ℕ) (log : List (List ℕ)) (pieces : List Held) (ticked : List Bool)
+    (line : List ℕ) (piece : Held) (text text' end whole : List ℕ) → place < length log
+    → length pieces ≡ length log
+    → line ≡ get_or log place [] → piece ≡ get_or pieces place piece
+    → turns ≡ ticks ticked (place + 1)
     → text ++ (told_from show ticked place log (map items pieces) ++ end) ≡ whole
-    → text' ≡ text ++ told_at show line (items piece) turns
+    → text' ≡ text ++ shown_line show line (items piece) turns
     → text' ++ (told_from show ticked (place + 1) log (map items pieces) ++ end) ≡ whole
-told-more show items place turns log pieces ticked line piece text text' end whole inside many line_is piece_is turns_are told grown =
+transcript_line-more show items place turns log pieces ticked line piece text text' end whole inside
+    many line_is piece_is turns_are transcript_line grown =
     let in_pieces : place < length pieces = omega arith in
     let in_items : place < length (map items pieces) = simp length-map in_pieces in
-    let said : get_or (map items pieces) place (items piece) ≡ items piece = get_or-map items pieces place piece (items piece) in_pieces ∙ ap items (sym piece_is) in
-    let this = told_at show line (items piece) turns in
+    let said : get_or (map items pieces) place (items piece) ≡ items piece =
+    get_or-map items pieces place piece (items piece) in_pieces ∙ ap items (sym piece_is) in
+    let this = shown_line show line (items piece) turns in
     let rest = told_from show ticked (place + 1) log (map items pieces) in
     let more : told_from show ticked place log (map items pieces) ≡ this ++ rest =
-    rw (turns_are, line_is, ← said) (told_from-more show ticked place log (map items pieces) [] (items piece) inside in_items) in
+    rw (turns_are, line_is, ← said)
+    (told_from-more show ticked place log (map items pieces) [] (items piece) inside
+    in_items) in
     ap (λ t. t ++ (rest ++ end)) grown ∙ append_assoc text this (rest ++ end)
-    ∙ ap (λ t. text ++ t) (sym (append_assoc this rest end) ∙ ap (λ t. t ++ end) (sym more)) ∙ told
+    ∙ ap (λ t. text ++ t) (sym (append_assoc this rest end) ∙ ap (λ t. t ++ end) (sym more))
+    ∙ transcript_line
 
 -- counts of turns, from a place on: the first, and the others, from the next place on
-module _ (counts others : List ℕ) (first : ℕ) (total : ℕ → ℕ) (place : ℕ) (parts : counts ≡ first ∷ others) (each : (k : ℕ) → k < length counts → slice_index counts k ≡ total (place + k + 1)) where
+module _ (counts others : List ℕ) (first : ℕ) (total : ℕ → ℕ) (place : ℕ)
+    (parts : counts ≡ first ∷ others) (each : (k : ℕ) → k < length counts
+    → slice_index counts k ≡ total (place + k + 1)) where
   pub counts-first : first ≡ total (place + 1)
   counts-first =
       let some = ap length parts in
@@ -48,10 +65,13 @@ module _ (counts others : List ℕ) (first : ℕ) (total : ℕ → ℕ) (place :
       let same : place + 0 + 1 ≡ place + 1 = omega arith in
       sym head ∙ here ∙ ap total same
 
-  pub counts-others : (next k : ℕ) → next ≡ place + 1 → k < length others → slice_index others k ≡ total (next + k + 1)
+  pub counts-others : (next k : ℕ) → next ≡ place + 1 → k < length others
+      → slice_index others k ≡ total (next + k + 1)
   counts-others next k later below =
       let some = ap length parts in
-      let there : slice_index counts (suc k) ≡ total (place + suc k + 1) = each (suc k) (omega arith) in
-      let moved : slice_index counts (suc k) ≡ slice_index others k = ap (λ cs. slice_index cs (suc k)) parts in
+      let there : slice_index counts (suc k) ≡ total (place + suc k + 1) =
+      each (suc k) (omega arith) in
+      let moved : slice_index counts (suc k) ≡ slice_index others k =
+      ap (λ cs. slice_index cs (suc k)) parts in
       let same : place + suc k + 1 ≡ next + k + 1 = omega arith in
       sym moved ∙ there ∙ ap total same

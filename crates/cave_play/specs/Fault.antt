@@ -1,7 +1,7 @@
 -- What a fault of a run says.
 use Rattle.std.specs.Prelude.{ℕ, Option, None, Some, nat_lt, if◌then◌else◌}
-use Rattle.cave_data.specs.declared.error.Spot.{Spot}
-use Rattle.cave_data.specs.declared.error.Spot.TheVariants as spot
+use Rattle.cave_rows.specs.declared.error.FaultSite.{FaultSite}
+use Rattle.cave_rows.specs.declared.error.FaultSite.TheVariants as site
 use Rattle.cave_play.specs.declared.fault.Input.{Input}
 use Rattle.cave_play.specs.declared.fault.Input.TheVariants as input
 use Rattle.cave_play.specs.declared.fault.LogFault.{LogFault}
@@ -23,13 +23,13 @@ status_of fault.Write = 6
 status_of fault.Memory = 7
 
 -- which of a cave's two inputs a place of a fault is in
-abbrev pub input_at : Spot → Input
-input_at spot.Bindings = input.Bindings
+abbrev pub input_at : FaultSite → Input
+input_at site.Bindings = input.Bindings
 input_at _ = input.Cave
 
 -- the input that is at fault
 abbrev pub input_of : PlayFault → Option Input
-input_of (fault.Cave error) = Some (input_at error.spot)
+input_of (fault.Cave error) = Some (input_at error.site)
 input_of (fault.Log refused) = Some input.Log
 input_of (fault.Script refused) = Some input.Script
 input_of (fault.Read from) = Some from
@@ -44,8 +44,8 @@ script_line_of (script.Malformed line flaw) = Some line
 script_line_of _ = None
 
 -- the line of the input that is at fault
-abbrev pub line_of : PlayFault → Option ℕ
-line_of (fault.Cave error) = if nat_lt 0 error.line then Some error.line else None
-line_of (fault.Log refused) = log_line_of refused
-line_of (fault.Script refused) = script_line_of refused
-line_of _ = None
+abbrev pub faulty_line : PlayFault → Option ℕ
+faulty_line (fault.Cave error) = if nat_lt 0 error.line then Some error.line else None
+faulty_line (fault.Log refused) = log_line_of refused
+faulty_line (fault.Script refused) = script_line_of refused
+faulty_line _ = None

@@ -1,6 +1,6 @@
 -- Laws of the order in which faults are found.
 use Rattle.std.specs.Prelude.{◌≡◌, ℕ, ◌⊎◌, ⊤, List, Some}
-use Rattle.cave_play.specs.Judged.{inputs_fault}
+use Rattle.cave_play.specs.Judge.{inputs_fault}
 use Rattle.cave_play.specs.Stage.{Stage, first_decided, IsFoundIn}
 use Rattle.cave_play.specs.Stages.{cave_stages}
 use Rattle.cave_play.specs.declared.fault.PlayFault.{PlayFault}

@@ -1,16 +1,16 @@
--- The inputs of a run and its seed determine what it writes, but where an edit tells what it
+-- The inputs of a run and its seed determine what it writes, except where an edit reports what it
 -- replayed. So the distance of checkpoints shows there alone.
 use Rattle.std.proofs.Common.{◌≡◌, ℕ, List, subst, sym, ap, ◌∙◌}
 use Rattle.std.specs.Prelude.{⊤}
 use Rattle.std.specs.Str.Lines.{lines}
 use Rattle.cave_data.specs.CaveView.{CaveView}
 use Rattle.cave_data.proofs.ReadLemmas.{same_cave}
-use Rattle.cave_editing.specs.declared.editing.View.{View}
-use Rattle.cave_editing.specs.declared.editing.View.TheVariants.{Transcript, Log, Reports}
-use Rattle.cave_replay.specs.Play.{Game, game_of}
-use Rattle.cave_script.proofs.Grammar.{script_of-only}
-use Rattle.cave_script.specs.Item.{Applied}
-use Rattle.cave_script.specs.Script.{IsScript}
+use Rattle.edit_options.specs.declared.editing.View.{View}
+use Rattle.edit_options.specs.declared.editing.View.TheVariants.{Transcript, Log, Reports}
+use Rattle.log_replay.specs.Play.{Game, game_of}
+use Rattle.edit_scripts.proofs.Grammar.{script_of-only}
+use Rattle.edit_scripts.specs.Item.{Applied}
+use Rattle.edit_scripts.specs.Script.{IsScript}
 use Rattle.cave_play.specs.Output.{check_text, play_text, IsChecked, IsPlayed}
 use Rattle.cave_play.specs.Run.{AtMostOne}
 use Rattle.cave_play.specs.Views.{IsEdited, IsViewOf}
@@ -47,7 +47,7 @@ KnowsNoCheckpoints Transcript = ⊤
 KnowsNoCheckpoints Log = ⊤
 KnowsNoCheckpoints Reports = ⊥
 
--- so of the same items in the same cave it is the same text, however far apart checkpoints are
+-- so for the same items in the same cave it is the same text, whatever the distance of checkpoints
 one_view : (view : View) (cave : CaveView) (game : Game) (items : List Applied) (near far : ℕ)
     (one other : List ℕ) → KnowsNoCheckpoints view → IsViewOf view cave near game items one
     → IsViewOf view cave far game items other → one ≡ other

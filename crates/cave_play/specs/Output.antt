@@ -3,16 +3,18 @@ use Rattle.std.specs.Prelude.{◌≡◌, ℕ, ◌-◌, ◌^◌, List, [], ◌∷
 use Rattle.std.specs.Fmt.{decimal}
 use Rattle.std.specs.Str.Lines.{lines}
 use Rattle.cave_data.specs.CaveView.{CaveView}
-use Rattle.cave_data.specs.Reading.{Reads}
-use Rattle.cave_replay.specs.Change.{Change, apply_all}
-use Rattle.cave_replay.specs.Faults.{group_fault}
-use Rattle.cave_replay.specs.Play.{Game, game_of, texts_of, ticks_of, state_after}
-use Rattle.cave_replay.specs.declared.fault.EditFault.{EditFault}
-use Rattle.cave_replay.specs.declared.fault.EditFault.TheVariants.{NoSuchPlace, BadLine, LogFull, BadSeed, MeterFull, Memory, EmptyGroup}
-use Rattle.cave_replay.specs.declared.fault.GroupFault.{GroupFault}
+use Rattle.cave_data.specs.Reads.{Reads}
+use Rattle.log_replay.specs.Change.{Change, apply_all}
+use Rattle.log_replay.specs.Faults.{group_fault}
+use Rattle.log_replay.specs.Play.{Game, game_of, texts_of, ticks_of, state_after}
+use Rattle.log_replay.specs.declared.fault.EditFault.{EditFault}
+use Rattle.log_replay.specs.declared.fault.EditFault.TheVariants.{NoSuchPlace, BadLine, LogFull}
+use Rattle.log_replay.specs.declared.fault.EditFault.TheVariants.{BadSeed, MeterFull, Memory}
+use Rattle.log_replay.specs.declared.fault.EditFault.TheVariants.{EmptyGroup}
+use Rattle.log_replay.specs.declared.fault.GroupFault.{GroupFault}
 use Rattle.cave_score.specs.Score.{score_of, max_score_of}
-use Rattle.cave_script.specs.Item.{Applied, line_of}
-use Rattle.cave_play.specs.CaveRules.{cave_rules, rendered}
+use Rattle.edit_scripts.specs.Item.{Applied, line_of_refusal}
+use Rattle.cave_play.specs.Machine.{cave_rules, rendering_of}
 use Rattle.cave_play.specs.Transcript.{transcript}
 
 -- ---- what is checked
@@ -26,7 +28,8 @@ check_text cave = cave_line (max_score_of cave)
 
 -- the output of a check of a database that is a cave
 abbrev pub IsChecked : List ℕ → List ℕ → List ℕ → Type 0
-IsChecked database bindings output = (cave : CaveView) × Reads database bindings cave × (output ≡ check_text cave)
+IsChecked database bindings output = (cave : CaveView) × Reads database bindings cave
+    × (output ≡ check_text cave)
 
 -- ---- what is played
 
@@ -35,13 +38,15 @@ unfoldable pub play_text : CaveView → Game → List ℕ
 play_text cave game =
     let rules = cave_rules cave in
     let begun = rules.begun game.seed in
-    transcript (rendered cave) (rules.greeting game.seed) game.log (texts_of rules begun game.log) (ticks_of rules begun game.log)
+    transcript (rendering_of cave) (rules.greeting game.seed) game.log
+    (texts_of rules begun game.log) (ticks_of rules begun game.log)
     (score_of cave (state_after rules begun game.log)) (max_score_of cave)
 
 -- the output is what playing the log in the cave of the database and its bindings prints
 abbrev pub IsPlayed : List ℕ → List ℕ → List ℕ → ℕ → List ℕ → Type 0
 IsPlayed database bindings log seed output =
-    (cave : CaveView) × Reads database bindings cave × (output ≡ play_text cave (game_of seed (lines log)))
+    (cave : CaveView) × Reads database bindings cave
+    × (output ≡ play_text cave (game_of seed (lines log)))
 
 -- ---- what is edited
 
@@ -55,14 +60,17 @@ refusal_number MeterFull = 5
 refusal_number Memory = 6
 refusal_number EmptyGroup = 7
 
--- why the changes of an item are refused as a group, if they are, where the meter has counted no step yet
-unfoldable pub refusal_of : List Change → List (List ℕ) → Option GroupFault
-refusal_of changes log = group_fault changes log (2 ^ 64 - 1)
+-- why the changes of an item are refused as a group, if they are, where the meter has counted no
+-- step yet
+unfoldable pub group_refusal : List Change → List (List ℕ) → Option GroupFault
+group_refusal changes log = group_fault changes log (2 ^ 64 - 1)
 
 abbrev pub report_by : Applied → Option GroupFault → List ℕ
 report_by item None = codes "line " ++ (decimal item.line ++ codes ": ok\n")
 report_by item (Some fault) =
-    codes "line " ++ (decimal (line_of item fault.at) ++ (codes ": refused " ++ (decimal (refusal_number fault.cause) ++ codes "\n")))
+    codes "line "
+    ++ (decimal (line_of_refusal item fault.at)
+    ++ (codes ": refused " ++ (decimal (refusal_number fault.cause) ++ codes "\n")))
 
 abbrev pub game_by : Applied → Option GroupFault → Game → Game
 game_by item None game = apply_all item.changes game
@@ -70,20 +78,20 @@ game_by item (Some fault) game = game
 
 -- what is reported of an item, and the game after it
 unfoldable pub report : Applied → Game → List ℕ
-report item game = report_by item (refusal_of item.changes game.log)
+report item game = report_by item (group_refusal item.changes game.log)
 
-unfoldable pub edited : Applied → Game → Game
-edited item game = game_by item (refusal_of item.changes game.log) game
+unfoldable pub game_after_item : Applied → Game → Game
+game_after_item item game = game_by item (group_refusal item.changes game.log) game
 
 -- what is reported of several items, and the game after all that were accepted
 abbrev pub reports : List Applied → Game → List ℕ
 reports [] game = []
-reports (item ∷ items) game = report item game ++ reports items (edited item game)
+reports (item ∷ items) game = report item game ++ reports items (game_after_item item game)
 
-abbrev pub edited_all : List Applied → Game → Game
-edited_all [] game = game
-edited_all (item ∷ items) game = edited_all items (edited item game)
+abbrev pub game_after_items : List Applied → Game → Game
+game_after_items [] game = game
+game_after_items (item ∷ items) game = game_after_items items (game_after_item item game)
 
 -- the reports on the items of a script, and then what playing the log that they leave prints
 abbrev pub edit_text : CaveView → Game → List Applied → List ℕ
-edit_text cave game items = reports items game ++ play_text cave (edited_all items game)
+edit_text cave game items = reports items game ++ play_text cave (game_after_items items game)

@@ -10,15 +10,17 @@ abbrev pub Judges : {X : Type 0} → List Stage → (X → Type 0) → Result X 
 Judges stages P (Ok made) = (first_decided stages ≡ None) × P made
 Judges stages P (Err found) = IsFoundIn stages found
 
--- a front of a right output was written
-abbrev pub WritesFront : (List ℕ → Type 0) → Option (List ℕ) → Option (List ℕ) → Type 0
-WritesFront IsOutput old new = (output : List ℕ) × IsOutput output × ((n : ℕ) × Appends old new (take n output))
+-- a prefix of a right output was written
+abbrev pub WritesPrefix : (List ℕ → Type 0) → Option (List ℕ) → Option (List ℕ) → Type 0
+WritesPrefix IsOutput old new = (output : List ℕ) × IsOutput output
+    × ((n : ℕ) × Appends old new (take n output))
 
--- what a run that failed leaves behind: a failing writer got a front of the output, and after every other fault nothing is written
+-- what a run that failed has written: at a failing writer a prefix of the output, and at every
+-- other fault nothing
 abbrev pub EndsBy : PlayFault → List Stage → (List ℕ → Type 0)
     → Option (List ℕ) → Option (List ℕ) → Type 0
 EndsBy fault.Write stages IsOutput old new =
-    (first_decided stages ≡ None) × WritesFront IsOutput old new
+    (first_decided stages ≡ None) × WritesPrefix IsOutput old new
 EndsBy found stages IsOutput old new = IsFoundIn stages found × Keeps old new
 
 -- one output at most is right

@@ -11,12 +11,12 @@ pub record Stage : Type 0 where
   pub decides : Option PlayFault
 
 -- a stage at which an input is read
-abbrev pub reading : Input → Option PlayFault → Stage
-reading input decides = record { reads = Some input; decides = decides }
+abbrev pub reading_stage : Input → Option PlayFault → Stage
+reading_stage input decides = record { reads = Some input; decides = decides }
 
 -- a stage at which nothing is read
-abbrev pub judging : Option PlayFault → Stage
-judging decides = record { reads = None; decides = decides }
+abbrev pub judging_stage : Option PlayFault → Stage
+judging_stage decides = record { reads = None; decides = decides }
 
 -- the first fault that a stage decides
 abbrev pub first_decided : List Stage → Option PlayFault

@@ -1,33 +1,33 @@
 -- The stages of each run, in their order.
 use Rattle.std.specs.Prelude.{ℕ, List, [], ◌∷◌, ◌++◌}
-use Rattle.cave_play.specs.Judged.{seed_fault, every_fault, input_size_fault, inputs_fault}
-use Rattle.cave_play.specs.Judged.{log_fault, script_fault}
-use Rattle.cave_play.specs.Stage.{Stage, reading, judging}
+use Rattle.cave_play.specs.Judge.{large_seed, every_fault, input_size_fault, inputs_fault}
+use Rattle.cave_play.specs.Judge.{log_fault, script_fault}
+use Rattle.cave_play.specs.Stage.{Stage, reading_stage, judging_stage}
 use Rattle.cave_play.specs.declared.fault.Input.TheVariants as input
 
 -- the database is read, then its bindings, and then both are judged
 abbrev pub cave_stages : List ℕ → List ℕ → List Stage
 cave_stages database bindings =
-    reading input.Cave (input_size_fault input.Cave database)
-    ∷ reading input.Bindings (input_size_fault input.Bindings bindings)
-    ∷ judging (inputs_fault database bindings)
+    reading_stage input.Cave (input_size_fault input.Cave database)
+    ∷ reading_stage input.Bindings (input_size_fault input.Bindings bindings)
+    ∷ judging_stage (inputs_fault database bindings)
     ∷ []
 
 -- the log is read and judged
 abbrev pub log_stage : List ℕ → Stage
-log_stage log = reading input.Log (log_fault log)
+log_stage log = reading_stage input.Log (log_fault log)
 
 -- the script is read and judged
 abbrev pub script_stage : List ℕ → Stage
-script_stage script = reading input.Script (script_fault script)
+script_stage script = reading_stage input.Script (script_fault script)
 
 -- first the seed is judged, then the cave, and the log
 abbrev pub play_stages : List ℕ → List ℕ → List ℕ → ℕ → List Stage
 play_stages database bindings log seed =
-    judging (seed_fault seed) ∷ cave_stages database bindings ++ log_stage log ∷ []
+    judging_stage (large_seed seed) ∷ cave_stages database bindings ++ log_stage log ∷ []
 
 -- first the seed is judged, then the distance of checkpoints, the cave, the log, and the script
 abbrev pub edit_stages : List ℕ → List ℕ → List ℕ → List ℕ → ℕ → ℕ → List Stage
 edit_stages database bindings log script seed every =
-    judging (seed_fault seed) ∷ judging (every_fault every)
+    judging_stage (large_seed seed) ∷ judging_stage (every_fault every)
     ∷ cave_stages database bindings ++ log_stage log ∷ script_stage script ∷ []

@@ -1,10 +1,11 @@
 -- The transcript of a play, from what was said at each of its lines.
-use Rattle.std.specs.Prelude.{ℕ, ◌+◌, Bool, true, false, List, [], ◌++◌, length, take, count_by, codes, if◌then◌else◌}
+use Rattle.std.specs.Prelude.{ℕ, ◌+◌, Bool, true, false, List, [], ◌++◌, length, take, count_by}
+use Rattle.std.specs.Prelude.{codes, if◌then◌else◌}
 use Rattle.std.specs.List.{enumerate_from, flat_map, zip}
 use Rattle.std.specs.Fmt.{decimal}
-use Rattle.cave_words.specs.LogLine.{log_line}
-use Rattle.cave_words.specs.declared.log_line.LogLine.{LogLine}
-use Rattle.cave_words.specs.declared.log_line.LogLine.TheVariants.{Comment, Blank, Seed, Input}
+use Rattle.log_lines.specs.LogLine.{log_line}
+use Rattle.log_lines.specs.declared.log_line.LogLine.{LogLine}
+use Rattle.log_lines.specs.declared.log_line.LogLine.TheVariants.{Comment, Blank, Seed, Input}
 
 -- a line of the log, as it is shown above what was said at it
 abbrev pub echo : List ℕ → List ℕ
@@ -18,9 +19,11 @@ is_shown (Seed seed) = true
 is_shown Input = true
 
 -- the last line of a transcript: the score, the greatest score of the cave, and the turns
-abbrev pub closing : ℕ → ℕ → ℕ → List ℕ
-closing score most turns =
-    codes "-- score " ++ (decimal score ++ (codes " of " ++ (decimal most ++ (codes ", turns " ++ (decimal turns ++ codes "\n")))))
+abbrev pub last_line : ℕ → ℕ → ℕ → List ℕ
+last_line score most turns =
+    codes "-- score "
+    ++ (decimal score
+    ++ (codes " of " ++ (decimal most ++ (codes ", turns " ++ (decimal turns ++ codes "\n")))))
 
 -- how many of the first so many lines ticked
 abbrev pub ticks : List Bool → ℕ → ℕ
@@ -28,15 +31,18 @@ ticks ticked count = count_by (λ ticks. ticks) (take count ticked)
 
 module _ {Piece : Type 0} (show : Piece → ℕ → List ℕ) where
   -- a line and what was said at it, where so many turns have been taken
-  abbrev pub told_at : List ℕ → Piece → ℕ → List ℕ
-  told_at line piece turns = if is_shown (log_line line) then echo line ++ show piece turns else []
+  abbrev pub shown_line : List ℕ → Piece → ℕ → List ℕ
+  shown_line line piece turns =
+      if is_shown (log_line line) then echo line ++ show piece turns else []
 
   -- the line at a place and what was said at it, where the lines up to it took the turns
-  abbrev pub told : List Bool → ℕ × (List ℕ × Piece) → List ℕ
-  told ticked (place, (line, piece)) = told_at line piece (ticks ticked (place + 1))
+  abbrev pub transcript_line : List Bool → ℕ × (List ℕ × Piece) → List ℕ
+  transcript_line ticked (place, (line, piece)) = shown_line line piece (ticks ticked (place + 1))
 
-  -- the opening, then each line with what was said at it, and then the score and how many turns were taken
+  -- the opening, then each line with what was said at it, and then the score and how many turns
+  -- were taken
   abbrev pub transcript : Piece → List (List ℕ) → List Piece → List Bool → ℕ → ℕ → List ℕ
   transcript opening log pieces ticked score most =
       show opening 0
-      ++ (flat_map (told ticked) (enumerate_from 0 (zip log pieces)) ++ closing score most (ticks ticked (length log)))
+      ++ (flat_map (transcript_line ticked) (enumerate_from 0 (zip log pieces))
+      ++ last_line score most (ticks ticked (length log)))

@@ -4,20 +4,22 @@ use Rattle.std.specs.Fmt.{decimal}
 use Rattle.std.specs.List.{flat_map, sum_by}
 use Rattle.std.specs.Str.Lines.{lines}
 use Rattle.cave_data.specs.CaveView.{CaveView}
-use Rattle.cave_data.specs.Reading.{Reads}
-use Rattle.cave_editing.specs.declared.editing.Editing.{Editing}
-use Rattle.cave_editing.specs.declared.editing.View.{View}
-use Rattle.cave_editing.specs.declared.editing.View.TheVariants.{Transcript, Log, Reports}
-use Rattle.cave_marks.specs.Spacing.{IsSpaced}
-use Rattle.cave_replay.specs.Play.{Game, game_of}
-use Rattle.cave_replay.specs.declared.fault.EditFault.{EditFault}
-use Rattle.cave_replay.specs.declared.fault.EditFault.TheVariants.{NoSuchPlace, BadLine, LogFull, BadSeed, MeterFull, Memory, EmptyGroup}
-use Rattle.cave_script.specs.Item.{Applied, line_of}
-use Rattle.cave_script.specs.Script.{IsScript}
-use Rattle.cave_play.specs.Outcomes.{AreOutcomes, lines_in, played_in}
-use Rattle.cave_play.specs.Output.{edit_text, edited_all, refusal_number}
-use Rattle.cave_play.specs.declared.outcome.Outcome.{Outcome}
-use Rattle.cave_play.specs.declared.outcome.Outcome.TheVariants.{Refused, Replayed}
+use Rattle.cave_data.specs.Reads.{Reads}
+use Rattle.edit_options.specs.declared.editing.Editing.{Editing}
+use Rattle.edit_options.specs.declared.editing.View.{View}
+use Rattle.edit_options.specs.declared.editing.View.TheVariants.{Transcript, Log, Reports}
+use Rattle.replay_marks.specs.Spacing.{IsSpaced}
+use Rattle.log_replay.specs.Play.{Game, game_of}
+use Rattle.log_replay.specs.declared.fault.EditFault.{EditFault}
+use Rattle.log_replay.specs.declared.fault.EditFault.TheVariants.{NoSuchPlace, BadLine, LogFull}
+use Rattle.log_replay.specs.declared.fault.EditFault.TheVariants.{BadSeed, MeterFull, Memory}
+use Rattle.log_replay.specs.declared.fault.EditFault.TheVariants.{EmptyGroup}
+use Rattle.edit_scripts.specs.Item.{Applied, line_of_refusal}
+use Rattle.edit_scripts.specs.Script.{IsScript}
+use Rattle.cave_play.specs.Outcome.{AreOutcomes, lines_in, played_in}
+use Rattle.cave_play.specs.Output.{edit_text, game_after_items, refusal_number}
+use Rattle.cave_play.specs.declared.outcome.ItemOutcome.{ItemOutcome}
+use Rattle.cave_play.specs.declared.outcome.ItemOutcome.TheVariants.{Refused, Replayed}
 
 -- ---- the edited log
 
@@ -47,22 +49,25 @@ abbrev pub met_text : Option ℕ → List ℕ
 met_text None = codes "none"
 met_text (Some place) = decimal place
 
--- what is told of an item: where its replay began and met the old play, and how many of the lines
--- it played; or why it was refused
-abbrev pub account : Applied → Outcome → List ℕ
+-- what is written of an item: where its replay began and met the old play, and how many of the
+-- lines it played; or why it was refused
+abbrev pub account : Applied → ItemOutcome → List ℕ
 account item (Refused fault) =
-    codes "line " ++ (decimal (line_of item fault.at) ++ (codes ": refused "
-    ++ (decimal (refusal_number fault.cause) ++ (codes ", " ++ (refusal_words fault.cause ++ codes "\n")))))
+    codes "line " ++ (decimal (line_of_refusal item fault.at) ++ (codes ": refused "
+    ++ (decimal (refusal_number fault.cause)
+    ++ (codes ", " ++ (refusal_words fault.cause ++ codes "\n")))))
 account item (Replayed replay) =
     codes "line " ++ (decimal item.line ++ (codes ": ok, from " ++ (decimal replay.from
     ++ (codes ", met " ++ (met_text replay.met ++ (codes ", played " ++ (decimal replay.played
     ++ (codes " of " ++ (decimal replay.lines ++ codes "\n")))))))))
 
--- what is told of items, one after another
-abbrev pub told_of : (Applied → Outcome → List ℕ) → List Applied → List Outcome → List ℕ
-told_of tell [] outcomes = []
-told_of tell (item ∷ items) [] = []
-told_of tell (item ∷ items) (outcome ∷ outcomes) = tell item outcome ++ told_of tell items outcomes
+-- what is written of items, one after another
+abbrev pub text_of_items : (Applied → ItemOutcome → List ℕ) → List Applied → List ItemOutcome
+    → List ℕ
+text_of_items tell [] outcomes = []
+text_of_items tell (item ∷ items) [] = []
+text_of_items tell (item ∷ items) (outcome ∷ outcomes) =
+    tell item outcome ++ text_of_items tell items outcomes
 
 -- the last line: how many lines were played, and how many would have been, had each accepted item
 -- played its log from the first line
@@ -71,17 +76,17 @@ totals_line played lines =
     codes "played " ++ (decimal played ++ (codes " lines; from the start it would have been "
     ++ (decimal lines ++ codes "\n")))
 
-abbrev pub accounts : List Applied → List Outcome → List ℕ
+abbrev pub accounts : List Applied → List ItemOutcome → List ℕ
 accounts items outcomes =
-    told_of account items outcomes
+    text_of_items account items outcomes
     ++ totals_line (sum_by played_in outcomes) (sum_by lines_in outcomes)
 
--- the text tells what came of the items in the game, whose play was opened with checkpoints so far
--- apart
+-- the text says what came of the items in the game, whose play was opened with checkpoints at this
+-- distance
 abbrev pub IsAccount : CaveView → ℕ → Game → List Applied → List ℕ → Type 0
 IsAccount cave every game items text =
     (checkpoints : List ℕ) × IsSpaced every checkpoints (length game.log)
-    × ((outcomes : List Outcome) × AreOutcomes cave every items game checkpoints outcomes
+    × ((outcomes : List ItemOutcome) × AreOutcomes cave every items game checkpoints outcomes
     × (text ≡ accounts items outcomes))
 
 -- ---- what is written
@@ -89,7 +94,7 @@ IsAccount cave every game items text =
 -- the text is what was asked for of the items that edit the game in the cave
 abbrev pub IsViewOf : View → CaveView → ℕ → Game → List Applied → List ℕ → Type 0
 IsViewOf Transcript cave every game items text = text ≡ edit_text cave game items
-IsViewOf Log cave every game items text = IsLogOf (edited_all items game) text
+IsViewOf Log cave every game items text = IsLogOf (game_after_items items game) text
 IsViewOf Reports cave every game items text = IsAccount cave every game items text
 
 -- the same of the items that the script spells

@@ -5,7 +5,7 @@ ghost use Rattle.std.specs.Str.Lines.{lines};
 ghost use Rattle.cave_play.specs.Views.{log_text};
 
 use crate::machine::CaveMachine;
-use cave_replay::Session;
+use log_replay::Session;
 use std::alloc::AllocError;
 
 /// Appends the held log. It reads back as the log that it is.

@@ -1,21 +1,22 @@
 //! Applying a script to a session, with what comes of each of its items.
 
-ghost use Rattle.std.specs.Prelude.{◌≡◌, ◌+◌, ◌++◌, ◌<◌, ◌≤◌, ◌^◌, length, vec_len, All, IfOk, IfErr, IsTrue, OnOk, ◌↔◌};
-ghost use Rattle.cave_marks.specs.Spacing.{IsSpaced};
-ghost use Rattle.cave_script.specs.Shown.{applied, items_of};
-ghost use Rattle.cave_play.specs.Applying.{Applies, IsApplied, told_by};
-ghost use Rattle.cave_play.specs.Holds.{Holds};
-ghost use Rattle.cave_play.specs.Outcomes.{lines_in, played_in};
-ghost use Rattle.cave_play.specs.Output.{edited_all};
+ghost use Rattle.std.specs.Prelude.{◌≡◌, ◌+◌, ◌++◌, ◌<◌, ◌≤◌, ◌^◌, length, vec_len, All, IfOk};
+ghost use Rattle.std.specs.Prelude.{IfErr, IsTrue, OnOk, ◌↔◌};
+ghost use Rattle.replay_marks.specs.Spacing.{IsSpaced};
+ghost use Rattle.edit_scripts.specs.Views.{applied_item, items_of};
+ghost use Rattle.cave_play.specs.Edits.{Applies, IsApplied, text_of_item};
+ghost use Rattle.cave_play.specs.Holds.{HoldsGame};
+ghost use Rattle.cave_play.specs.Outcome.{lines_in, played_in};
+ghost use Rattle.cave_play.specs.Output.{game_after_items};
 
 use crate::fault::PlayFault;
 use crate::machine::CaveMachine;
-use crate::outcome::{Outcome, Replay};
+use crate::outcome::{ItemOutcome, ItemReplay};
 use crate::reports::push_outcome;
-use cave_editing::View;
-use cave_replay::{EditFault, GroupReport, Session};
-use cave_script::{Item, Script};
-use cave_words::Meter;
+use edit_options::View;
+use edit_scripts::{Item, Script};
+use log_lines::Meter;
+use log_replay::{EditFault, GroupReport, Session};
 use std::alloc::Global;
 
 /// How many lines were played for items, and how many lines the logs had that they left.
@@ -27,7 +28,7 @@ pub(crate) struct Totals {
 
 impl Totals {
     /// The totals with those of one item more.
-    fn with(self, outcome: Outcome) -> Totals
+    fn with(self, outcome: ItemOutcome) -> Totals
         requires played_fits { self.played + 2 ^ 32 ≤ 2 ^ 64 }
         requires lines_fit { self.lines + 2 ^ 32 ≤ 2 ^ 64 }
         ensures played { result.played ≡ self.played + played_in outcome }
@@ -42,7 +43,6 @@ impl Totals {
     }
 }
 
-/// Whether memory was refused.
 fn is_memory(fault: EditFault) -> bool
     ensures { IsTrue result ↔ (fault ≡ EditFault.Memory) }
 {
@@ -50,7 +50,7 @@ fn is_memory(fault: EditFault) -> bool
 }
 
 /// What a report says of a replay, with the lines of the log that the session then holds.
-fn replay_of(session: &Session<CaveMachine<'_>>, report: &GroupReport) -> Replay
+fn replay_of(session: &Session<CaveMachine<'_>>, report: &GroupReport) -> ItemReplay
     ensures from { result.from ≡ report.now.from }
     ensures met { result.met ≡ report.now.met }
     ensures played { result.played ≡ report.now.played }
@@ -58,9 +58,9 @@ fn replay_of(session: &Session<CaveMachine<'_>>, report: &GroupReport) -> Replay
     ensures spaced { IsSpaced session.now.every session.now.checkpoints
         (length session.now.game.log) }
 {
-    // The contract of this call tells how the checkpoints are spaced.
+    // The contract of this call says how the checkpoints are spaced.
     let _places = session.checkpoints();
-    Replay {
+    ItemReplay {
         from: report.from,
         met: report.met,
         played: report.played,
@@ -68,35 +68,35 @@ fn replay_of(session: &Session<CaveMachine<'_>>, report: &GroupReport) -> Replay
     }
 }
 
-/// Applies an item to the held game, all of it or nothing, and tells what came of it.
-fn edit(session: &mut Session<CaveMachine<'_>>, item: &Item) -> Result<Outcome, PlayFault>
+/// Applies an item to the held game, all of it or nothing, and returns what came of it.
+fn edit(session: &mut Session<CaveMachine<'_>>, item: &Item) -> Result<ItemOutcome, PlayFault>
     requires { vec_len item.now.edits < 2 ^ 32 }
-    ensures applies { IfOk result (Applies (applied item.now) session.old session.new) }
+    ensures applies { IfOk result (Applies (applied_item item.now) session.old session.new) }
     ensures memory { IfErr result (λ found. found ≡ PlayFault.Memory) }
 {
     let mut meter = Meter::new();
     let fault = match session.edit_group(&item.edits, &mut meter) {
-        Ok(report) => return Ok(Outcome::Replayed(replay_of(session, &report))),
+        Ok(report) => return Ok(ItemOutcome::Replayed(replay_of(session, &report))),
         Err(fault) => fault,
     };
     if is_memory(fault.cause) {
         return Err(PlayFault::Memory);
     }
-    Ok(Outcome::Refused(fault))
+    Ok(ItemOutcome::Refused(fault))
 }
 
-/// Applies an item to the held game, and tells of it what is asked for.
+/// Applies an item to the held game, and writes of it what is asked for.
 fn apply_item(
     alloc: Global,
     session: &mut Session<CaveMachine<'_>>,
     item: &Item,
     view: View,
     text: &mut Vec<u8>,
-) -> Result<Outcome, PlayFault>
+) -> Result<ItemOutcome, PlayFault>
     requires { vec_len item.now.edits < 2 ^ 32 }
-    ensures applies { IfOk result (Applies (applied item.now) session.old session.new) }
+    ensures applies { IfOk result (Applies (applied_item item.now) session.old session.new) }
     ensures told { IfOk result (λ outcome.
-        text.new.items ≡ text.old.items ++ told_by view (applied item.now) outcome) }
+        text.new.items ≡ text.old.items ++ text_of_item view (applied_item item.now) outcome) }
     ensures memory { IfErr result (λ found. found ≡ PlayFault.Memory) }
 {
     let outcome = edit(session, item)?;
@@ -104,7 +104,7 @@ fn apply_item(
     Ok(outcome)
 }
 
-/// Applies the items of a script to the held game, and tells of each what is asked for.
+/// Applies the items of a script to the held game, and writes of each what is asked for.
 pub(crate) fn apply(
     alloc: Global,
     session: &mut Session<CaveMachine<'_>>,
@@ -116,8 +116,8 @@ pub(crate) fn apply(
     requires few_items { length script.now.items.items < 2 ^ 32 }
     ensures spaced { IsSpaced session.old.every session.old.checkpoints
         (length session.old.game.log) }
-    ensures held { OnOk result (Holds session.old.machine.cave.now
-        (edited_all (items_of script.now.items) session.old.game) session.new) }
+    ensures held { OnOk result (HoldsGame session.old.machine.cave.now
+        (game_after_items (items_of script.now.items) session.old.game) session.new) }
     ensures applied { IfOk result (λ totals. IsApplied view (items_of script.now.items) session.old
         text.old.items text.new.items totals.played totals.lines) }
     ensures memory { IfErr result (λ found. found ≡ PlayFault.Memory) }

@@ -2,11 +2,11 @@
 
 ghost use Rattle.std.specs.Prelude.{◌≡◌};
 ghost use Rattle.cave_play.specs.declared.fault.PlayFault.TheVariants.{Memory};
-ghost use Rattle.cave_play.specs.Fault.{status_of, input_of, line_of};
+ghost use Rattle.cave_play.specs.Fault.{status_of, input_of, faulty_line};
 
-use cave_data::{CaveError, Expected, Spot};
-use cave_script::Flaw;
-use cave_words::LineFlaw;
+use cave_rows::{CaveError, Expected, FaultSite};
+use edit_scripts::Flaw;
+use log_lines::LineFlaw;
 use std::alloc::AllocError;
 use std::{fmt, io};
 use thiserror::Error;
@@ -26,7 +26,7 @@ pub enum LogFault {
     /// It has more bytes than an input may have.
     #[error("the log is larger than 1,048,576 bytes")]
     TooLarge,
-    /// The line with this number, from 1, can't stand in a log.
+    /// The line with this number, from 1, isn't allowed in a log.
     #[error("{1}")]
     BadLine(usize, LineFlaw),
     /// It has more lines than a log may have.
@@ -49,7 +49,7 @@ pub enum ScriptFault {
 #[derive(Clone, Copy, Debug, PartialEq, Eq, Error)]
 pub enum PlayFault {
     /// The database or its bindings are refused.
-    #[error("{}", Expected {cause: .0.cause, spot: .0.spot})]
+    #[error("{}", Expected {cause: .0.cause, site: .0.site})]
     Cave(CaveError),
     /// The seed is too great.
     #[error("a seed is at most 2147483647")]
@@ -103,7 +103,7 @@ impl PlayFault {
         ensures { result ≡ input_of self }
     {
         match self {
-            PlayFault::Cave(error) if error.spot == Spot::Bindings => Some(Input::Bindings),
+            PlayFault::Cave(error) if error.site == FaultSite::Bindings => Some(Input::Bindings),
             PlayFault::Cave(_) => Some(Input::Cave),
             PlayFault::Log(_) => Some(Input::Log),
             PlayFault::Script(_) => Some(Input::Script),
@@ -114,7 +114,7 @@ impl PlayFault {
 
     /// The line of that input, from 1, that is at fault, if one is.
     pub fn line(self) -> Option<usize>
-        ensures { result ≡ line_of self }
+        ensures { result ≡ faulty_line self }
     {
         match self {
             PlayFault::Cave(error) if error.line > 0 => Some(error.line),
@@ -125,7 +125,8 @@ impl PlayFault {
     }
 }
 
-/// A fault as the program tells it: the file and the line that are at fault, where one is, and what is wrong.
+/// A fault as the program reports it: the file and the line that are at fault, where one is, and
+/// what is wrong.
 #[derive(Clone, Copy, Debug)]
 pub struct Complaint<'a> {
     pub fault: PlayFault,
@@ -144,7 +145,7 @@ impl fmt::Display for Complaint<'_> {
     }
 }
 
-/// A file that can't be opened, as the program tells it.
+/// A file that can't be opened, as the program reports it.
 #[derive(Drop)]
 pub struct Unopened<'a> {
     pub file: &'a str,

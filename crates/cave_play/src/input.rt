@@ -1,6 +1,7 @@
 //! Reading an input to its end, within a limit.
 
-ghost use Rattle.std.specs.Prelude.{◌≡◌, ℕ, ◌<◌, ◌≤◌, ◌+◌, ◌++◌, List, length, true, false, IfOk, IfErr, MatchResult, vec_len};
+ghost use Rattle.std.specs.Prelude.{◌≡◌, ℕ, ◌<◌, ◌≤◌, ◌+◌, ◌++◌, List, length, true, false, IfOk};
+ghost use Rattle.std.specs.Prelude.{IfErr, MatchResult, vec_len};
 ghost use Rattle.std.specs.Io.KnownBytes.{Consumes, IsAtEnd, Keeps};
 ghost use Rattle.limits.specs.Limits.{max_input_bytes};
 ghost use Rattle.cave_play.specs.declared.input.InputFault.TheVariants.{Memory};
@@ -63,7 +64,7 @@ fn zeros(alloc: Global, count: usize) -> Result<Vec<u8>, AllocError>
     vec![in alloc; 0; count]
 }
 
-/// Reads once, appends what came, and tells whether anything came.
+/// Reads once, appends what came, and returns whether anything came.
 fn read_more<R: Read>(
     reader: &mut R,
     piece: &mut [u8],
@@ -71,9 +72,11 @@ fn read_more<R: Read>(
 ) -> Result<bool, InputFault>
     requires room { 0 < length piece.old }
     requires within { vec_len input.old ≤ max_input_bytes }
-    ensures given { IfOk result (Gives (R.remaining reader.old) (R.remaining reader.new) input.old.items input.new.items) }
+    ensures given { IfOk result
+        (Gives (R.remaining reader.old) (R.remaining reader.new) input.old.items input.new.items) }
     ensures within { IfOk result (λ _. vec_len input.new ≤ max_input_bytes) }
-    ensures over { IfErr result (Exceeds (R.remaining reader.old) (R.remaining reader.new) input.old.items) }
+    ensures over { IfErr result
+        (Exceeds (R.remaining reader.old) (R.remaining reader.new) input.old.items) }
 {
     let count = match reader.read(piece) {
         Ok(count) => count,

@@ -1,34 +1,38 @@
 //! Reading the inputs of a run, each of which is judged before the next.
 
-ghost use Rattle.std.specs.Prelude.{◌≡◌, ℕ, ◌^◌, ◌<◌, List, [], ◌∷◌, None, Ok, All, IfOk, length, vec_len};
+ghost use Rattle.std.specs.Prelude.{◌≡◌, ℕ, ◌^◌, ◌<◌, List, [], ◌∷◌, None, Ok, All, IfOk, length};
+ghost use Rattle.std.specs.Prelude.{vec_len};
 ghost use Rattle.std.specs.Str.Lines.{lines};
-ghost use Rattle.cave_data.specs.Reading.{Reads};
+ghost use Rattle.cave_data.specs.Reads.{Reads};
 ghost use Rattle.cave_words.specs.Lexicon.{IsLexiconOf};
-ghost use Rattle.cave_replay.specs.Play.{game_of};
-ghost use Rattle.cave_script.specs.Script.{IsScript};
-ghost use Rattle.cave_script.specs.Shown.{items_of};
+ghost use Rattle.log_replay.specs.Play.{game_of};
+ghost use Rattle.edit_scripts.specs.Script.{IsScript};
+ghost use Rattle.edit_scripts.specs.Views.{items_of};
 ghost use Rattle.cave_play.specs.Input.{Says};
-ghost use Rattle.cave_play.specs.Judged.{seed_fault, every_fault, lines_fault};
-ghost use Rattle.cave_play.specs.Judged.{script_refusal, opening_fault};
-ghost use Rattle.cave_play.specs.Holds.{Holds};
+ghost use Rattle.cave_play.specs.Judge.{large_seed, every_fault, lines_fault};
+ghost use Rattle.cave_play.specs.Judge.{script_refusal, opening_fault};
+ghost use Rattle.cave_play.specs.Holds.{HoldsGame};
 ghost use Rattle.cave_play.specs.Run.{Judges};
-ghost use Rattle.cave_play.specs.Stage.{judging};
+ghost use Rattle.cave_play.specs.Stage.{judging_stage};
 ghost use Rattle.cave_play.specs.Stages.{cave_stages, log_stage, script_stage};
 
+use crate::bindings::CaveReaders;
 use crate::fault::{Input, LogFault, PlayFault, ScriptFault};
 use crate::machine::CaveMachine;
 use crate::read::read;
-use cave_data::{Cause, Cave};
-use cave_replay::{OpenFault, Session};
-use cave_script::Script;
-use cave_words::{Lexicon, Meter};
+use cave_data::Cave;
+use cave_rows::Cause;
+use cave_words::Lexicon;
+use edit_scripts::{Script, ScriptRefusal};
 use limits::{is_bad_every, is_large_seed};
+use log_lines::Meter;
+use log_replay::{OpenFault, Session};
 use std::alloc::Global;
 use std::io::Read;
 
 /// Whether a game may begin with the seed.
 pub fn check_seed(seed: u32) -> Result<(), PlayFault>
-    ensures { Judges (judging (seed_fault seed) ∷ []) (λ _. Unit {0}) result }
+    ensures { Judges (judging_stage (large_seed seed) ∷ []) (λ _. Unit {0}) result }
 {
     if is_large_seed(u64::from(seed)) {
         return Err(PlayFault::Seed);
@@ -36,9 +40,9 @@ pub fn check_seed(seed: u32) -> Result<(), PlayFault>
     Ok(())
 }
 
-/// Whether checkpoints may be so far apart.
+/// Whether a session may have this distance of checkpoints.
 pub(crate) fn check_every(every: u32) -> Result<(), PlayFault>
-    ensures { Judges (judging (every_fault every) ∷ []) (λ _. Unit {0}) result }
+    ensures { Judges (judging_stage (every_fault every) ∷ []) (λ _. Unit {0}) result }
 {
     if is_bad_every(every) {
         return Err(PlayFault::Every);
@@ -49,15 +53,15 @@ pub(crate) fn check_every(every: u32) -> Result<(), PlayFault>
 /// Reads a database and its bindings.
 pub fn read_cave<C: Read, B: Read>(
     alloc: Global,
-    cave: &mut C,
-    bind: &mut B,
+    cave: &mut CaveReaders<C, B>,
 ) -> Result<Cave, PlayFault>
     ensures judged { (database : List ℕ) × (bindings : List ℕ)
-        × Says (C.remaining cave.old) database × Says (B.remaining bind.old) bindings
+        × Says (C.remaining cave.old.database) database
+        × Says (B.remaining cave.old.bindings) bindings
         × Judges (cave_stages database bindings) (Reads database bindings) result }
 {
-    let database = read(alloc, Input::Cave, cave)?;
-    let bindings = read(alloc, Input::Bindings, bind)?;
+    let database = read(alloc, Input::Cave, &mut cave.database)?;
+    let bindings = read(alloc, Input::Bindings, &mut cave.bindings)?;
     match Cave::read(alloc, &database, &bindings) {
         Ok(cave) => Ok(cave),
         Err(error) if error.cause == Cause::Memory => Err(PlayFault::Memory),
@@ -86,10 +90,10 @@ fn open_log<'a>(
     seed: u32,
     every: u32,
 ) -> Result<Session<CaveMachine<'a>>, PlayFault>
-    requires seed_fits { seed_fault seed ≡ None }
+    requires seed_fits { large_seed seed ≡ None }
     requires every_fits { every_fault every ≡ None }
-    ensures judged { Judges (judging (lines_fault (lines log.now)) ∷ [])
-        (Holds machine.entry.cave.now (game_of seed (lines log.now))) result }
+    ensures judged { Judges (judging_stage (lines_fault (lines log.now)) ∷ [])
+        (HoldsGame machine.entry.cave.now (game_of seed (lines log.now))) result }
     ensures every { IfOk result (λ session. session.every ≡ every) }
 {
     let mut meter = Meter::new();
@@ -107,11 +111,11 @@ pub fn read_log<'a, L: Read>(
     seed: u32,
     every: u32,
 ) -> Result<Session<CaveMachine<'a>>, PlayFault>
-    requires seed_fits { seed_fault seed ≡ None }
+    requires seed_fits { large_seed seed ≡ None }
     requires every_fits { every_fault every ≡ None }
     ensures judged { (bytes : List ℕ) × Says (L.remaining log.old) bytes
         × Judges (log_stage bytes ∷ [])
-        (Holds machine.entry.cave.now (game_of seed (lines bytes))) result }
+        (HoldsGame machine.entry.cave.now (game_of seed (lines bytes))) result }
     ensures every { IfOk result (λ session. session.every ≡ every) }
 {
     let log = read(alloc, Input::Log, log)?;
@@ -134,13 +138,13 @@ pub(crate) fn read_script<S: Read>(alloc: Global, script: &mut S) -> Result<Scri
 }
 
 /// The fault of a run whose script was refused.
-fn script_refusal(fault: cave_script::ScriptFault) -> PlayFault
+fn script_refusal(fault: ScriptRefusal) -> PlayFault
     ensures { result ≡ script_refusal fault }
 {
     match fault {
-        cave_script::ScriptFault::Malformed(line, flaw) => {
+        ScriptRefusal::Malformed(line, flaw) => {
             PlayFault::Script(ScriptFault::Malformed(line, flaw))
         }
-        cave_script::ScriptFault::Memory => PlayFault::Memory,
+        ScriptRefusal::Memory => PlayFault::Memory,
     }
 }

@@ -4,13 +4,14 @@ ghost use Rattle.std.specs.Prelude.{◌≡◌, IfOk};
 ghost use Rattle.cave_words.specs.Lexicon.{IsLexiconOf};
 ghost use Rattle.cave_world.specs.Equality.{state_equality};
 ghost use Rattle.cave_score.specs.Score.{score_of, max_score_of};
-ghost use Rattle.cave_play.specs.CaveRules.{cave_rules};
+ghost use Rattle.cave_play.specs.Machine.{cave_rules};
 
 use cave_data::Cave;
-use cave_replay::{Machine, Started, Stepped};
 use cave_turn::{max_score, score, start, stream_passed, take_line};
-use cave_words::{Lexicon, Meter};
+use cave_words::Lexicon;
 use cave_world::{Out, Part, State};
+use log_lines::Meter;
+use log_replay::{Machine, Started, Stepped};
 use std::alloc::{AllocError, Global};
 
 /// What plays a log in a cave, with the words of that cave.

@@ -1,13 +1,13 @@
 //! What comes of the items of a script.
 
 ghost use Rattle.std.specs.Prelude.{◌≡◌};
-ghost use Rattle.cave_play.specs.Outcomes.{lines_in, played_in, refusal_in};
+ghost use Rattle.cave_play.specs.Outcome.{lines_in, played_in, refusal_in};
 
-use cave_replay::GroupFault;
+use log_replay::GroupFault;
 
 /// How far the replay of an accepted item went.
 #[derive(Clone, Copy, Debug, PartialEq, Eq)]
-pub struct Replay {
+pub struct ItemReplay {
     /// The place that it began at.
     pub from: u32,
     /// The place at which it met the old play, if it did.
@@ -20,19 +20,19 @@ pub struct Replay {
 
 /// What came of an item of a script.
 #[derive(Clone, Copy, Debug, PartialEq, Eq)]
-pub enum Outcome {
+pub enum ItemOutcome {
     Refused(GroupFault),
-    Replayed(Replay),
+    Replayed(ItemReplay),
 }
 
-impl Outcome {
+impl ItemOutcome {
     /// Why the item was refused, if it was.
     pub fn refusal(self) -> Option<GroupFault>
         ensures { result ≡ refusal_in self }
     {
         match self {
-            Outcome::Refused(fault) => Some(fault),
-            Outcome::Replayed(_) => None,
+            ItemOutcome::Refused(fault) => Some(fault),
+            ItemOutcome::Replayed(_) => None,
         }
     }
 
@@ -41,8 +41,8 @@ impl Outcome {
         ensures { result ≡ played_in self }
     {
         match self {
-            Outcome::Refused(_) => 0,
-            Outcome::Replayed(replay) => replay.played,
+            ItemOutcome::Refused(_) => 0,
+            ItemOutcome::Replayed(replay) => replay.played,
         }
     }
 
@@ -51,8 +51,8 @@ impl Outcome {
         ensures { result ≡ lines_in self }
     {
         match self {
-            Outcome::Refused(_) => 0,
-            Outcome::Replayed(replay) => replay.lines,
+            ItemOutcome::Refused(_) => 0,
+            ItemOutcome::Replayed(replay) => replay.lines,
         }
     }
 }

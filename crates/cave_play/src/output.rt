@@ -11,10 +11,12 @@ use thiserror::Error;
 #[error("the output can't be written")]
 pub struct WriteFault;
 
-/// Writes the whole output, or a front of it where the writer fails.
+/// Writes the whole output, or a prefix of it where the writer fails.
 pub fn write_output<W: Write>(writer: &mut W, output: &[u8]) -> Result<(), WriteFault>
-    ensures whole { OnOk result (Appends (W.contents writer.old) (W.contents writer.new) output.now) }
-    ensures front { OnErr result ((n : ℕ) × Appends (W.contents writer.old) (W.contents writer.new) (take n output.now)) }
+    ensures whole { OnOk result
+        (Appends (W.contents writer.old) (W.contents writer.new) output.now) }
+    ensures front { OnErr result
+        ((n : ℕ) × Appends (W.contents writer.old) (W.contents writer.new) (take n output.now)) }
 {
     let mut rest = output;
     'pieces: loop {

@@ -3,12 +3,12 @@
 ghost use Rattle.std.specs.Prelude.{◌≡◌, ℕ, ◌≤◌, ◌<◌, ◌⊎◌, List, length, Some, MatchResult};
 ghost use Rattle.limits.specs.Limits.{max_input_bytes};
 ghost use Rattle.cave_play.specs.Input.{Says};
-ghost use Rattle.cave_play.specs.Judged.{too_large};
+ghost use Rattle.cave_play.specs.Judge.{too_large};
 ghost use Rattle.cave_play.specs.Stage.{IsOutsideOf};
 
 use crate::fault::{Input, LogFault, PlayFault, ScriptFault};
 use crate::input::{InputFault, read_input};
-use cave_data::{Cause, CaveError, Spot};
+use cave_rows::{Cause, CaveError, FaultSite};
 use std::alloc::Global;
 use std::io::Read;
 
@@ -17,20 +17,20 @@ fn too_large(input: Input) -> PlayFault
     ensures { result ≡ too_large input }
 {
     match input {
-        Input::Cave => too_large_at(Spot::Database),
-        Input::Bindings => too_large_at(Spot::Bindings),
+        Input::Cave => too_large_at(FaultSite::Database),
+        Input::Bindings => too_large_at(FaultSite::Bindings),
         Input::Log => PlayFault::Log(LogFault::TooLarge),
         Input::Script => PlayFault::Script(ScriptFault::TooLarge),
     }
 }
 
-fn too_large_at(spot: Spot) -> PlayFault
-    ensures { result ≡ PlayFault.Cave (record { cause = Cause.TooLarge; line = 0; spot = spot }) }
+fn too_large_at(site: FaultSite) -> PlayFault
+    ensures { result ≡ PlayFault.Cave (record { cause = Cause.TooLarge; line = 0; site = site }) }
 {
     PlayFault::Cave(CaveError {
         cause: Cause::TooLarge,
         line: 0,
-        spot,
+        site,
     })
 }
 

@@ -1,17 +1,17 @@
-//! What is told of the items of a script.
+//! What is written of the items of a script.
 
 ghost use Rattle.std.specs.Prelude.{◌≡◌, ◌++◌, IfOk, OnOk, string_bytes};
-ghost use Rattle.cave_script.specs.Shown.{applied};
-ghost use Rattle.cave_play.specs.Applying.{told_by};
+ghost use Rattle.edit_scripts.specs.Views.{applied_item};
+ghost use Rattle.cave_play.specs.Edits.{text_of_item};
 ghost use Rattle.cave_play.specs.Output.{refusal_number, report_by};
 ghost use Rattle.cave_play.specs.Views.{account, met_text, refusal_words, totals_line};
-ghost use Rattle.cave_play.specs.declared.outcome.Outcome.TheVariants.{Replayed};
+ghost use Rattle.cave_play.specs.declared.outcome.ItemOutcome.TheVariants.{Replayed};
 
 use crate::edits::Totals;
-use crate::outcome::{Outcome, Replay};
-use cave_editing::View;
-use cave_replay::{EditFault, GroupFault};
-use cave_script::Item;
+use crate::outcome::{ItemOutcome, ItemReplay};
+use edit_options::View;
+use edit_scripts::Item;
+use log_replay::{EditFault, GroupFault};
 use std::alloc::{AllocError, Global};
 
 /// The number by which a report names a refusal.
@@ -52,7 +52,7 @@ fn push_report(
     refusal: Option<GroupFault>,
 ) -> Result<(), AllocError>
     ensures { OnOk result
-        (text.new.items ≡ text.old.items ++ report_by (applied item.now) refusal) }
+        (text.new.items ≡ text.old.items ++ report_by (applied_item item.now) refusal) }
 {
     let report = match refusal {
         None => {
@@ -68,7 +68,7 @@ fn push_report(
     text.extend_from_slice(report.as_bytes())
 }
 
-/// The place at which a replay met the old play, as it is told.
+/// The place at which a replay met the old play, as it is written.
 fn met_text(alloc: Global, met: Option<u32>) -> Result<String, AllocError>
     ensures { IfOk result (λ told. string_bytes told ≡ met_text met) }
 {
@@ -79,12 +79,12 @@ fn met_text(alloc: Global, met: Option<u32>) -> Result<String, AllocError>
 }
 
 /// The line of an item that was replayed.
-fn account_of(alloc: Global, item: &Item, replay: Replay) -> Result<String, AllocError>
+fn account_of(alloc: Global, item: &Item, replay: ItemReplay) -> Result<String, AllocError>
     ensures { IfOk result (λ told.
-        string_bytes told ≡ account (applied item.now) (Replayed replay)) }
+        string_bytes told ≡ account (applied_item item.now) (Replayed replay)) }
 {
     let line = item.line;
-    let Replay {
+    let ItemReplay {
         from,
         met,
         played,
@@ -94,37 +94,38 @@ fn account_of(alloc: Global, item: &Item, replay: Replay) -> Result<String, Allo
     format!(in alloc; "line {line}: ok, from {from}, met {met}, played {played} of {lines}\n")
 }
 
-/// Tells what an item replayed, or why it was refused.
+/// Writes what an item replayed, or why it was refused.
 fn push_account(
     alloc: Global,
     text: &mut Vec<u8>,
     item: &Item,
-    outcome: Outcome,
+    outcome: ItemOutcome,
 ) -> Result<(), AllocError>
-    ensures { OnOk result (text.new.items ≡ text.old.items ++ account (applied item.now) outcome) }
+    ensures { OnOk result (text.new.items ≡ text.old.items
+        ++ account (applied_item item.now) outcome) }
 {
     let told = match outcome {
-        Outcome::Refused(fault) => {
+        ItemOutcome::Refused(fault) => {
             let line = item.line_of(fault.at as usize);
             let number = refusal_number(fault.cause);
             let words = refusal_words(fault.cause);
             format!(in alloc; "line {line}: refused {number}, {words}\n")?
         }
-        Outcome::Replayed(replay) => account_of(alloc, item, replay)?,
+        ItemOutcome::Replayed(replay) => account_of(alloc, item, replay)?,
     };
     text.extend_from_slice(told.as_bytes())
 }
 
-/// Tells of an item what is asked for.
+/// Writes of an item what is asked for.
 pub(crate) fn push_outcome(
     alloc: Global,
     text: &mut Vec<u8>,
     item: &Item,
     view: View,
-    outcome: Outcome,
+    outcome: ItemOutcome,
 ) -> Result<(), AllocError>
     ensures { OnOk result
-        (text.new.items ≡ text.old.items ++ told_by view (applied item.now) outcome) }
+        (text.new.items ≡ text.old.items ++ text_of_item view (applied_item item.now) outcome) }
 {
     match view {
         View::Transcript => push_report(alloc, text, item, outcome.refusal()),
@@ -133,7 +134,7 @@ pub(crate) fn push_outcome(
     }
 }
 
-/// Tells how many lines were played for all items.
+/// Writes how many lines were played for all items.
 pub(crate) fn push_totals(
     alloc: Global,
     text: &mut Vec<u8>,

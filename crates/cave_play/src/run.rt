@@ -4,18 +4,19 @@ ghost use Rattle.std.specs.Prelude.{◌≡◌, ℕ, List, [], ◌∷◌, ◌++�
 ghost use Rattle.std.specs.Io.KnownBytes.{Appends};
 ghost use Rattle.std.specs.Str.Lines.{lines};
 ghost use Rattle.cave_data.specs.CaveView.{CaveView};
-ghost use Rattle.cave_data.specs.Reading.{Reads};
-ghost use Rattle.cave_replay.specs.Play.{game_of};
+ghost use Rattle.cave_data.specs.Reads.{Reads};
+ghost use Rattle.log_replay.specs.Play.{game_of};
 ghost use Rattle.cave_play.specs.Input.{Says};
-ghost use Rattle.cave_play.specs.Judged.{seed_fault, every_fault};
+ghost use Rattle.cave_play.specs.Judge.{large_seed, every_fault};
 ghost use Rattle.cave_play.specs.Output.{check_text, play_text};
 ghost use Rattle.cave_play.specs.Output.{IsChecked, IsPlayed};
 ghost use Rattle.cave_play.specs.Run.{Judges, Runs};
 ghost use Rattle.cave_play.specs.Stages.{cave_stages, log_stage, script_stage};
 ghost use Rattle.cave_play.specs.Stages.{play_stages, edit_stages};
 ghost use Rattle.cave_play.specs.Views.{IsEditOf, IsEdited};
-ghost use Rattle.cave_play.specs.Applying.{ReadsBack, ending};
+ghost use Rattle.cave_play.specs.Edits.{ReadsBack, text_at_end};
 
+use crate::bindings::CaveReaders;
 use crate::edited_log::push_log;
 use crate::edits::{Totals, apply};
 use crate::fault::PlayFault;
@@ -25,48 +26,48 @@ use crate::output::write_output;
 use crate::reports::push_totals;
 use crate::transcript::{push_maximum, tell};
 use cave_data::Cave;
-use cave_editing::{Editing, View};
-use cave_replay::Session;
 use cave_turn::max_score;
 use cave_words::Lexicon;
+use edit_options::{Editing, View};
+use limits::USUAL_EVERY;
+use log_replay::Session;
 use std::alloc::{AllocError, Global};
 use std::io::{Read, Write};
 
-/// How far apart checkpoints may be where nothing else is asked.
-pub const EVERY: u32 = 50;
-
-/// Checks a database and its bindings, and says so where they are a cave. What it writes is determined
-/// by its inputs: see `one_checked_output` in specs/OneOutput.antt, which has the same of other runs.
+/// Checks a database and its bindings, and says so where they are a cave. What it writes is
+/// determined by its inputs: see `one_checked_output` in specs/OneOutput.antt, which has the same
+/// of other runs.
 pub fn run_check<C: Read, B: Read, W: Write>(
     alloc: Global,
-    cave: &mut C,
-    bind: &mut B,
+    cave: &mut CaveReaders<C, B>,
     output: &mut W,
 ) -> Result<(), PlayFault>
     ensures runs { (database : List ℕ) × (bindings : List ℕ)
-        × Says (C.remaining cave.old) database × Says (B.remaining bind.old) bindings
+        × Says (C.remaining cave.old.database) database
+        × Says (B.remaining cave.old.bindings) bindings
         × Runs (cave_stages database bindings) (IsChecked database bindings)
         (W.contents output.old) (W.contents output.new) result }
 {
-    let text = check_inputs(alloc, cave, bind)?;
+    let text = check_inputs(alloc, cave)?;
     write(output, &text)
 }
 
 /// Plays a log and writes the transcript, once it is whole.
 pub fn run_play<C: Read, B: Read, L: Read, W: Write>(
     alloc: Global,
-    cave: &mut C,
-    bind: &mut B,
+    cave: &mut CaveReaders<C, B>,
     log: &mut L,
     seed: u32,
     output: &mut W,
 ) -> Result<(), PlayFault>
     ensures runs { (database : List ℕ) × (bindings : List ℕ) × (moves : List ℕ)
-        × Says (C.remaining cave.old) database × Says (B.remaining bind.old) bindings × Says (L.remaining log.old) moves
+        × Says (C.remaining cave.old.database) database
+        × Says (B.remaining cave.old.bindings) bindings
+        × Says (L.remaining log.old) moves
         × Runs (play_stages database bindings moves seed) (IsPlayed database bindings moves seed)
         (W.contents output.old) (W.contents output.new) result }
 {
-    let text = play_inputs(alloc, cave, bind, log, seed)?;
+    let text = play_inputs(alloc, cave, log, seed)?;
     write(output, &text)
 }
 
@@ -74,21 +75,21 @@ pub fn run_play<C: Read, B: Read, L: Read, W: Write>(
 /// of the script and then the transcript of the edited log, that log, or what each item replayed.
 pub fn run_edit<C: Read, B: Read, L: Read, S: Read, W: Write>(
     alloc: Global,
-    cave: &mut C,
-    bind: &mut B,
+    cave: &mut CaveReaders<C, B>,
     log: &mut L,
     script: &mut S,
     editing: Editing,
     output: &mut W,
 ) -> Result<(), PlayFault>
     ensures runs { (database : List ℕ) × (bindings : List ℕ) × (moves : List ℕ) × (edits : List ℕ)
-        × Says (C.remaining cave.old) database × Says (B.remaining bind.old) bindings
+        × Says (C.remaining cave.old.database) database
+        × Says (B.remaining cave.old.bindings) bindings
         × Says (L.remaining log.old) moves × Says (S.remaining script.old) edits
         × Runs (edit_stages database bindings moves edits editing.seed editing.every)
         (IsEdited database bindings moves edits editing)
         (W.contents output.old) (W.contents output.new) result }
 {
-    let text = edit_inputs(alloc, cave, bind, log, script, editing)?;
+    let text = edit_inputs(alloc, cave, log, script, editing)?;
     write(output, &text)
 }
 
@@ -96,7 +97,9 @@ pub fn run_edit<C: Read, B: Read, L: Read, S: Read, W: Write>(
 fn write<W: Write>(output: &mut W, text: &[u8]) -> Result<(), PlayFault>
     ensures written { MatchResult result
         (λ _. Appends (W.contents output.old) (W.contents output.new) text.now)
-        (λ fault. (fault ≡ PlayFault.Write) × ((n : ℕ) × Appends (W.contents output.old) (W.contents output.new) (take n text.now))) }
+        (λ fault. (fault ≡ PlayFault.Write)
+        × ((n : ℕ)
+        × Appends (W.contents output.old) (W.contents output.new) (take n text.now))) }
 {
     match write_output(output, text) {
         Ok(()) => Ok(()),
@@ -107,15 +110,15 @@ fn write<W: Write>(output: &mut W, text: &[u8]) -> Result<(), PlayFault>
 /// What is said of a cave, from readers of the inputs.
 fn check_inputs<C: Read, B: Read>(
     alloc: Global,
-    cave: &mut C,
-    bind: &mut B,
+    cave: &mut CaveReaders<C, B>,
 ) -> Result<Vec<u8>, PlayFault>
     ensures judged { (database : List ℕ) × (bindings : List ℕ)
-        × Says (C.remaining cave.old) database × Says (B.remaining bind.old) bindings
+        × Says (C.remaining cave.old.database) database
+        × Says (B.remaining cave.old.bindings) bindings
         × Judges (cave_stages database bindings)
         (λ text. IsChecked database bindings text.items) result }
 {
-    let cave = read_cave(alloc, cave, bind)?;
+    let cave = read_cave(alloc, cave)?;
     check_cave(alloc, &cave)
 }
 
@@ -134,18 +137,19 @@ fn check_cave(alloc: Global, cave: &Cave) -> Result<Vec<u8>, PlayFault>
 /// The transcript of a log, from readers of the inputs.
 fn play_inputs<C: Read, B: Read, L: Read>(
     alloc: Global,
-    cave: &mut C,
-    bind: &mut B,
+    cave: &mut CaveReaders<C, B>,
     log: &mut L,
     seed: u32,
 ) -> Result<Vec<u8>, PlayFault>
     ensures judged { (database : List ℕ) × (bindings : List ℕ) × (moves : List ℕ)
-        × Says (C.remaining cave.old) database × Says (B.remaining bind.old) bindings × Says (L.remaining log.old) moves
+        × Says (C.remaining cave.old.database) database
+        × Says (B.remaining cave.old.bindings) bindings
+        × Says (L.remaining log.old) moves
         × Judges (play_stages database bindings moves seed)
         (λ text. IsPlayed database bindings moves seed text.items) result }
 {
     check_seed(seed)?;
-    let cave = read_cave(alloc, cave, bind)?;
+    let cave = read_cave(alloc, cave)?;
     play_in_cave(alloc, &cave, log, seed)
 }
 
@@ -156,30 +160,16 @@ fn play_in_cave<L: Read>(
     log: &mut L,
     seed: u32,
 ) -> Result<Vec<u8>, PlayFault>
-    requires { seed_fault seed ≡ None }
+    requires { large_seed seed ≡ None }
     ensures judged { (moves : List ℕ) × Says (L.remaining log.old) moves
         × Judges (log_stage moves ∷ [])
         (λ text. text.items ≡ play_text cave.now (game_of seed (lines moves))) result }
 {
     let lexicon = Lexicon::build(alloc, cave)?;
-    play_by_machine(alloc, CaveMachine::new(cave, &lexicon), log, seed)
-}
-
-/// The transcript of a log that a machine plays.
-fn play_by_machine<L: Read>(
-    alloc: Global,
-    machine: CaveMachine<'_>,
-    log: &mut L,
-    seed: u32,
-) -> Result<Vec<u8>, PlayFault>
-    requires { seed_fault seed ≡ None }
-    ensures judged { (moves : List ℕ) × Says (L.remaining log.old) moves
-        × Judges (log_stage moves ∷ [])
-        (λ text. text.items ≡ play_text machine.entry.cave.now (game_of seed (lines moves))) result }
-{
-    let session = read_log(alloc, machine, log, seed, EVERY)?;
+    let machine = CaveMachine::new(cave, &lexicon);
+    let session = read_log(alloc, machine, log, seed, USUAL_EVERY)?;
     let text = transcript_of(alloc, machine, &session);
-    // The check knows no way to let go of a session over a borrowed machine at the end of a block.
+    // The checker can't drop a session over a borrowed machine at the end of a block.
     drop(session);
     text
 }
@@ -191,7 +181,9 @@ fn transcript_of(
     session: &Session<CaveMachine<'_>>,
 ) -> Result<Vec<u8>, PlayFault>
     requires { session.now.machine.cave.now ≡ machine.cave.now }
-    ensures told { MatchResult result (λ text. text.items ≡ play_text machine.entry.cave.now session.now.game) (λ fault. fault ≡ PlayFault.Memory) }
+    ensures told { MatchResult result
+        (λ text. text.items ≡ play_text machine.entry.cave.now session.now.game)
+        (λ fault. fault ≡ PlayFault.Memory) }
 {
     let mut text = Vec::new(alloc);
     tell(alloc, machine, session, &mut text)?;
@@ -201,21 +193,21 @@ fn transcript_of(
 /// What is asked for of a script, from readers of the inputs.
 fn edit_inputs<C: Read, B: Read, L: Read, S: Read>(
     alloc: Global,
-    cave: &mut C,
-    bind: &mut B,
+    cave: &mut CaveReaders<C, B>,
     log: &mut L,
     script: &mut S,
     editing: Editing,
 ) -> Result<Vec<u8>, PlayFault>
     ensures judged { (database : List ℕ) × (bindings : List ℕ) × (moves : List ℕ) × (edits : List ℕ)
-        × Says (C.remaining cave.old) database × Says (B.remaining bind.old) bindings
+        × Says (C.remaining cave.old.database) database
+        × Says (B.remaining cave.old.bindings) bindings
         × Says (L.remaining log.old) moves × Says (S.remaining script.old) edits
         × Judges (edit_stages database bindings moves edits editing.seed editing.every)
         (λ text. IsEdited database bindings moves edits editing text.items) result }
 {
     check_seed(editing.seed)?;
     check_every(editing.every)?;
-    let cave = read_cave(alloc, cave, bind)?;
+    let cave = read_cave(alloc, cave)?;
     edit_in_cave(alloc, &cave, log, script, editing)
 }
 
@@ -227,7 +219,7 @@ fn edit_in_cave<L: Read, S: Read>(
     script: &mut S,
     editing: Editing,
 ) -> Result<Vec<u8>, PlayFault>
-    requires seed_fits { seed_fault editing.seed ≡ None }
+    requires seed_fits { large_seed editing.seed ≡ None }
     requires every_fits { every_fault editing.every ≡ None }
     ensures judged { (moves : List ℕ) × (edits : List ℕ)
         × Says (L.remaining log.old) moves × Says (S.remaining script.old) edits
@@ -236,31 +228,7 @@ fn edit_in_cave<L: Read, S: Read>(
         (game_of editing.seed (lines moves)) edits text.items) result }
 {
     let lexicon = Lexicon::build(alloc, cave)?;
-    edit_by_machine(
-        alloc,
-        CaveMachine::new(cave, &lexicon),
-        log,
-        script,
-        editing,
-    )
-}
-
-/// What is asked for of a script for a log that a machine plays.
-fn edit_by_machine<L: Read, S: Read>(
-    alloc: Global,
-    machine: CaveMachine<'_>,
-    log: &mut L,
-    script: &mut S,
-    editing: Editing,
-) -> Result<Vec<u8>, PlayFault>
-    requires seed_fits { seed_fault editing.seed ≡ None }
-    requires every_fits { every_fault editing.every ≡ None }
-    ensures judged { (moves : List ℕ) × (edits : List ℕ)
-        × Says (L.remaining log.old) moves × Says (S.remaining script.old) edits
-        × Judges (log_stage moves ∷ script_stage edits ∷ [])
-        (λ text. IsEditOf editing.view machine.entry.cave.now editing.every
-        (game_of editing.seed (lines moves)) edits text.items) result }
-{
+    let machine = CaveMachine::new(cave, &lexicon);
     let mut session = read_log(alloc, machine, log, editing.seed, editing.every)?;
     let text = edit_session(alloc, machine, &mut session, script, editing.view);
     drop(session);
@@ -288,7 +256,7 @@ fn edit_session<S: Read>(
     Ok(text)
 }
 
-/// Appends what is told after all items of a script.
+/// Appends what is written after all items of a script.
 fn push_end(
     alloc: Global,
     machine: CaveMachine<'_>,
@@ -299,7 +267,7 @@ fn push_end(
 ) -> Result<(), AllocError>
     requires { session.now.machine.cave.now ≡ machine.cave.now }
     ensures told { OnOk result (text.new.items ≡ text.old.items
-        ++ ending view machine.entry.cave.now session.now.game totals.played totals.lines) }
+        ++ text_at_end view machine.entry.cave.now session.now.game totals.played totals.lines) }
     ensures reads_back { OnOk result (ReadsBack view session.now.game.log) }
 {
     match view {

@@ -1,21 +1,21 @@
 //! The transcript of a play.
 
 ghost use Rattle.std.specs.Prelude.{◌≡◌, ◌++◌, OnOk};
-ghost use Rattle.cave_words.specs.LogLine.{log_line};
-ghost use Rattle.cave_play.specs.CaveRules.{rendered};
-ghost use Rattle.cave_play.specs.Transcript.{echo, is_shown, closing, told_at};
+ghost use Rattle.log_lines.specs.LogLine.{log_line};
+ghost use Rattle.cave_play.specs.Machine.{rendering_of};
+ghost use Rattle.cave_play.specs.Transcript.{echo, is_shown, last_line, shown_line};
 ghost use Rattle.cave_play.specs.Output.{cave_line, play_text};
 
 use crate::machine::CaveMachine;
 use cave_data::Cave;
-use cave_replay::Session;
 use cave_text::render;
-use cave_words::LogLine;
 use cave_world::Part;
+use log_lines::LogLine;
+use log_replay::Session;
 use std::alloc::{AllocError, Global};
 
 /// Whether a line of a log is shown.
-#[tactic(auto, unfolding(cave_words::specs::LogLine::log_line))]
+#[tactic(auto, unfolding(log_lines::specs::LogLine::log_line))]
 fn is_shown(line: &[u8]) -> bool
     ensures { result ≡ is_shown (log_line line.now) }
 {
@@ -42,7 +42,7 @@ pub(crate) fn push_maximum(alloc: Global, text: &mut Vec<u8>, most: u32) -> Resu
     text.extend_from_slice(line.as_bytes())
 }
 
-/// Appends the line that tells the score, of the greatest one, and how many turns were taken.
+/// Appends the line of the score, the greatest score, and how many turns were taken.
 fn push_closing(
     alloc: Global,
     text: &mut Vec<u8>,
@@ -50,7 +50,7 @@ fn push_closing(
     most: u32,
     turns: u32,
 ) -> Result<(), AllocError>
-    ensures { OnOk result (text.new.items ≡ text.old.items ++ closing score most turns) }
+    ensures { OnOk result (text.new.items ≡ text.old.items ++ last_line score most turns) }
 {
     let line = format!(in alloc; "-- score {score} of {most}, turns {turns}\n")?;
     text.extend_from_slice(line.as_bytes())
@@ -64,7 +64,8 @@ fn push_line(
     piece: &[Part],
     turns: u32,
 ) -> Result<(), AllocError>
-    ensures { OnOk result (text.new.items ≡ text.old.items ++ told_at (rendered cave.now) line.now piece.now turns) }
+    ensures { OnOk result (text.new.items ≡ text.old.items
+        ++ shown_line (rendering_of cave.now) line.now piece.now turns) }
 {
     if !is_shown(line) {
         return Ok(());
@@ -81,7 +82,8 @@ pub(crate) fn tell(
     text: &mut Vec<u8>,
 ) -> Result<(), AllocError>
     requires { session.now.machine.cave.now ≡ machine.cave.now }
-    ensures { OnOk result (text.new.items ≡ text.old.items ++ play_text machine.entry.cave.now session.now.game) }
+    ensures { OnOk result (text.new.items ≡ text.old.items
+        ++ play_text machine.entry.cave.now session.now.game) }
 {
     let cave = machine.cave();
     render(cave, session.opening(), 0, text)?;

@@ -4,10 +4,10 @@ use Rattle.std.specs.Prelude.{List, filter, Option, Some, None}
 use Rattle.std.specs.FinMap as map
 use Rattle.std.specs.List.{sum_by, range_with_len}
 use Rattle.cave_data.specs.CaveView.{CaveView}
-use Rattle.cave_data.specs.declared.place_role.PlaceRole.TheVariants as place
-use Rattle.cave_data.specs.declared.rows.Hint.{Hint}
+use Rattle.cave_rows.specs.declared.place_role.PlaceRole.TheVariants as place
+use Rattle.cave_rows.specs.declared.rows.Hint.{Hint}
 use Rattle.cave_words.specs.declared.named.Named.TheVariants as name
-use Rattle.cave_world.specs.Objects.{is_first_at}
+use Rattle.cave_objects.specs.Objects.{is_first_at}
 use Rattle.cave_world.specs.declared.ending.Ending.{Ending}
 use Rattle.cave_world.specs.declared.ending.Ending.TheVariants as ending
 use Rattle.cave_world.specs.declared.state.State.{State}
@@ -54,7 +54,7 @@ escape_points (Some how) = points_of_escape how
 abbrev pub closed_points : State → ℕ
 closed_points s = if s.closing.is_closed then escape_points s.ending else 0
 
--- an object's first half stands at a place, if the place is bound
+-- an object's first half is at a place, if the place is bound
 abbrev pub lies_at : State → ℕ → Option ℕ → Bool
 lies_at s x None = false
 lies_at s x (Some place) = is_first_at s.objects place x
@@ -70,7 +70,6 @@ points_of cave s =
     treasure_points cave s + life_points s + ending_points s.ending + dwarf_points s
     + closing_points s + closed_points s + magazine_points cave s + 2
 
--- a hint was taken
 abbrev pub is_taken : State → ℕ → Bool
 is_taken s hint = slice_index_or s.hints.is_taken (hint - 1) false
 

@@ -4,7 +4,7 @@ use Rattle.std.specs.Prelude.{nat_lt, int_le}
 use Rattle.std.specs.List.{sum_by}
 use Rattle.cave_data.specs.CaveView.{CaveView}
 use Rattle.cave_words.specs.declared.named.Named.TheVariants as name
-use Rattle.cave_world.specs.Objects.{is_first_at, prop_of}
+use Rattle.cave_objects.specs.Objects.{is_first_at, prop_of}
 use Rattle.cave_world.specs.declared.state.State.{State}
 use Rattle.cave_things.specs.Places.{building_place}
 use Rattle.cave_things.specs.Reach.{has_prop}
@@ -18,11 +18,10 @@ worth cave x =
     let chest = thing cave name.Chest in
     if chest == 0 || nat_lt x chest then 12 else (if x == chest then 14 else 16)
 
--- a treasure was seen
 abbrev pub is_seen : State → ℕ → Bool
 is_seen s x = int_le (pos 0) (prop_of s.objects x)
 
--- a treasure lies in the building with prop 0, as whole as it was found
+-- a treasure is in the building with prop 0, as whole as it was found
 abbrev pub is_safe : CaveView → State → ℕ → Bool
 is_safe cave s x = is_first_at s.objects (building_place cave) x && has_prop s x (pos 0)
 

@@ -1,13 +1,13 @@
 ghost use Rattle.std.specs.Prelude.{◌≡◌, IsTrue};
-ghost use Rattle.cave_world.specs.State.{is_over};
+ghost use Rattle.cave_world.specs.State.{takes_no_command};
 ghost use Rattle.cave_things.specs.Bounds.{HasRoom, SaysUpTo, parts_of_death};
 ghost use Rattle.cave_things.specs.Plays.{scene_of, GoesOn};
 ghost use Rattle.cave_things.specs.Things.{cave_of};
-ghost use Rattle.cave_score.specs.Deaths.{with_one_death, killed_closing, dying};
+ghost use Rattle.cave_score.specs.Deaths.{with_one_death, killed_closing, death_scene};
 
 use crate::endings::end;
 use crate::questions::ask;
-use cave_data::Role;
+use cave_rows::Role;
 use cave_things::{Play, Rules};
 use cave_world::{Ending, Question, State};
 
@@ -25,7 +25,7 @@ fn die_closing(rules: &Rules<'_>, play: &mut Play<'_>)
     ensures play { scene_of play.new ≡ killed_closing (cave_of rules.now) (scene_of play.old) }
     ensures same { GoesOn play.old play.new }
     ensures few { SaysUpTo parts_of_death play.old play.new }
-    ensures over { IsTrue (is_over play.new.state.now) }
+    ensures over { IsTrue (takes_no_command play.new.state.now) }
 {
     play.say(Role::KilledClosing);
     count_death(play.state);
@@ -33,13 +33,13 @@ fn die_closing(rules: &Rules<'_>, play: &mut Play<'_>)
 }
 
 /// The player dies, and is asked whether to come back unless the cave is closing.
-#[tactic(auto, unfolding(crate::specs::Deaths::dying))]
+#[tactic(auto, unfolding(crate::specs::Deaths::death_scene))]
 pub fn die(rules: &Rules<'_>, play: &mut Play<'_>)
     requires { HasRoom parts_of_death play.old }
-    ensures play { scene_of play.new ≡ dying (cave_of rules.now) (scene_of play.old) }
+    ensures play { scene_of play.new ≡ death_scene (cave_of rules.now) (scene_of play.old) }
     ensures same { GoesOn play.old play.new }
     ensures few { SaysUpTo parts_of_death play.old play.new }
-    ensures over { IsTrue (is_over play.new.state.now) }
+    ensures over { IsTrue (takes_no_command play.new.state.now) }
 {
     if play.state.closing.is_closing {
         die_closing(rules, play);

@@ -1,18 +1,19 @@
 ghost use Rattle.std.specs.Prelude.{◌≡◌, IsTrue};
 ghost use Rattle.std.specs.FinMap.{get};
-ghost use Rattle.cave_world.specs.State.{is_over};
+ghost use Rattle.cave_world.specs.State.{takes_no_command};
 ghost use Rattle.cave_things.specs.Bounds.{HasRoom, SaysUpTo, parts_of_question};
 ghost use Rattle.cave_things.specs.Plays.{scene_of, GoesOn};
 ghost use Rattle.cave_things.specs.Things.{cave_of};
-ghost use Rattle.cave_score.specs.Questions.{die_role, hint_offered, question_told};
-ghost use Rattle.cave_score.specs.Questions.{preface_told, with_question, asking};
+ghost use Rattle.cave_score.specs.Questions.{die_role, hint_offered, after_question};
+ghost use Rattle.cave_score.specs.Questions.{preface_told, with_question, asking_scene};
 
 use crate::score::{max_score, score};
-use cave_data::{Cave, Role};
+use cave_data::Cave;
+use cave_rows::Role;
 use cave_things::{Play, Rules};
 use cave_world::{HintNumber, NumberLine, Part, Question, State};
 
-/// By which message a player who has died is asked whether to come back.
+/// The message that asks a player who has died whether to come back.
 fn die_role(state: &State) -> Role
     ensures { result ≡ die_role state.now.tallies.deaths }
 {
@@ -35,12 +36,12 @@ fn offer_hint(cave: &Cave, hint: HintNumber, play: &mut Play<'_>)
     }
 }
 
-/// The message of a question is told.
-#[tactic(auto, unfolding(crate::specs::Questions::question_told))]
+/// The message of a question is printed.
+#[tactic(auto, unfolding(crate::specs::Questions::after_question))]
 pub fn tell_question(rules: &Rules<'_>, question: &Question, play: &mut Play<'_>)
     requires { HasRoom 1 play.old }
     ensures play { scene_of play.new
-        ≡ question_told (cave_of rules.now) question.now (scene_of play.old) }
+        ≡ after_question (cave_of rules.now) question.now (scene_of play.old) }
     ensures same { GoesOn play.old play.new }
     ensures few { SaysUpTo 1 play.old play.new }
 {
@@ -59,7 +60,7 @@ pub fn tell_question(rules: &Rules<'_>, question: &Question, play: &mut Play<'_>
     }
 }
 
-/// Before the question that is about the score, the score is told.
+/// Before the question that is about the score, the score is printed.
 fn tell_preface(rules: &Rules<'_>, question: &Question, play: &mut Play<'_>)
     requires { HasRoom 1 play.old }
     ensures play { scene_of play.new
@@ -80,13 +81,14 @@ fn set_question(question: &Question, state: &mut State)
 }
 
 /// A question is asked, and the next line answers it.
-#[tactic(auto, unfolding(crate::specs::Questions::asking, cave_world::specs::State::is_over))]
+#[tactic(auto, unfolding(crate::specs::Questions::asking_scene, cave_world::specs::State::takes_no_command))]
 pub fn ask(rules: &Rules<'_>, question: &Question, play: &mut Play<'_>)
     requires { HasRoom parts_of_question play.old }
-    ensures play { scene_of play.new ≡ asking (cave_of rules.now) question.now (scene_of play.old) }
+    ensures play { scene_of play.new
+        ≡ asking_scene (cave_of rules.now) question.now (scene_of play.old) }
     ensures same { GoesOn play.old play.new }
     ensures few { SaysUpTo parts_of_question play.old play.new }
-    ensures over { IsTrue (is_over play.new.state.now) }
+    ensures over { IsTrue (takes_no_command play.new.state.now) }
 {
     tell_preface(rules, question, play);
     tell_question(rules, question, play);

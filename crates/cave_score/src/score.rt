@@ -7,12 +7,13 @@ ghost use Rattle.cave_score.specs.Score.{score_of, max_score_of};
 
 use crate::treasures::treasure_points;
 use crate::worths::most_treasure_points;
-use cave_data::{Cave, PlaceRole};
+use cave_data::Cave;
+use cave_objects::{Object, Place};
+use cave_rows::PlaceRole;
 use cave_things::{Rules, place_named};
 use cave_words::Named;
-use cave_world::{Ending, Object, Place, State};
+use cave_world::{Ending, State};
 
-/// The greatest number of a hint.
 const LAST_HINT: u16 = 20;
 
 fn life_points(state: &State) -> u32

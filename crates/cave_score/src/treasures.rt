@@ -3,14 +3,10 @@ ghost use Rattle.cave_things.specs.Things.{cave_of};
 ghost use Rattle.cave_score.specs.Treasures.{is_seen, is_safe, points_of_treasure, treasure_points};
 
 use crate::worths::worth;
+use cave_objects::Object;
+use cave_things::treasures::{FIRST_TREASURE, LAST_TREASURE};
 use cave_things::{Rules, building_place, has_prop, is_known};
-use cave_world::{Object, State};
-
-/// The least number of a treasure.
-pub const FIRST_TREASURE: u8 = 50;
-
-/// The greatest number of a treasure.
-pub const LAST_TREASURE: u8 = 79;
+use cave_world::State;
 
 fn is_seen(state: &State, treasure: Object) -> bool
     ensures { result ≡ is_seen state.now treasure }
@@ -25,7 +21,6 @@ fn is_safe(rules: &Rules<'_>, state: &State, treasure: Object) -> bool
     state.objects.is_first_at(building, treasure) && has_prop(state, treasure, 0)
 }
 
-/// What a treasure counts.
 #[tactic(auto, unfolding(crate::specs::Treasures::points_of_treasure))]
 fn points_of_treasure(rules: &Rules<'_>, state: &State, treasure: Object) -> u32
     ensures value { result ≡ points_of_treasure (cave_of rules.now) state.now treasure }

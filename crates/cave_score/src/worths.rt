@@ -2,10 +2,10 @@ ghost use Rattle.std.specs.Prelude.{◌≡◌, ◌≤◌};
 ghost use Rattle.cave_things.specs.Things.{cave_of};
 ghost use Rattle.cave_score.specs.Treasures.{worth, most_treasure_points};
 
-use crate::treasures::{FIRST_TREASURE, LAST_TREASURE};
+use cave_objects::Object;
+use cave_things::treasures::{FIRST_TREASURE, LAST_TREASURE};
 use cave_things::{Rules, is_known};
 use cave_words::Named;
-use cave_world::Object;
 
 /// What a treasure is worth: more than the chest after it, less before it.
 #[tactic(auto, unfolding(crate::specs::Treasures::worth))]

@@ -1,9 +1,10 @@
 -- The text of what a turn prints.
-use Rattle.std.specs.Prelude.{ℕ, ℤ, pos, negsuc, List, [], ◌∷◌, ◌++◌, Option, Some, None, option_map, unwrap_or, slice_index_or, codes}
+use Rattle.std.specs.Prelude.{ℕ, ℤ, pos, negsuc, List, [], ◌∷◌, ◌++◌, Option, Some, None}
+use Rattle.std.specs.Prelude.{option_map, unwrap_or, slice_index_or, codes}
 use Rattle.std.specs.FinMap as map
-use Rattle.cave_data.specs.CaveView.{CaveView, name_of, look_of, class_of}
-use Rattle.cave_data.specs.Role.{role_number, role_names}
-use Rattle.cave_data.specs.declared.role.Role.{Role}
+use Rattle.cave_data.specs.CaveView.{CaveView, inventory_text, look_of, rating_of_score}
+use Rattle.cave_rows.specs.Role.{role_number, role_names}
+use Rattle.cave_rows.specs.declared.role.Role.{Role}
 use Rattle.cave_world.specs.declared.part.Part.{Part}
 use Rattle.cave_world.specs.declared.part.Part.TheVariants as part
 use Rattle.cave_text.specs.OwnLines.{number_line, word_line, final_line}
@@ -12,11 +13,10 @@ use Rattle.cave_text.specs.OwnLines.{number_line, word_line, final_line}
 abbrev pub or_nothing : Option (List ℕ) → List ℕ
 or_nothing text = unwrap_or text []
 
--- the text of a message
 abbrev pub message_text : CaveView → ℕ → List ℕ
 message_text cave number = or_nothing (map.get cave.messages number)
 
--- the line that stands for a role to which no message is bound: its name in brackets
+-- the line that is printed for a role to which no message is bound: its name in brackets
 abbrev pub name_line : Role → List ℕ
 name_line role = codes "[" ++ slice_index_or role_names (role_number role) [] ++ codes "]\n"
 
@@ -32,22 +32,23 @@ look_text cave object (negsuc n) = []
 
 -- the text of the class that a score belongs to
 abbrev pub class_text : CaveView → ℕ → List ℕ
-class_text cave score = or_nothing (option_map (λ rating. rating.text) (class_of cave score))
+class_text cave score = or_nothing (option_map (λ rating. rating.text) (rating_of_score cave score))
 
 -- what a part prints at a number of turns
-unfoldable pub text_of : CaveView → ℕ → Part → List ℕ
-text_of cave turns (part.Long place) = or_nothing (map.get cave.long place)
-text_of cave turns (part.Short place) = or_nothing (map.get cave.short place)
-text_of cave turns (part.Message number) = message_text cave number
-text_of cave turns (part.Role role) = role_text cave (map.get cave.roles (role_number role)) role
-text_of cave turns (part.Object object prop) = look_text cave object prop
-text_of cave turns (part.Name object) = or_nothing (name_of cave object)
-text_of cave turns (part.Number form n most) = number_line form n most
-text_of cave turns (part.Word form word) = word_line form word
-text_of cave turns (part.Class score) = class_text cave score
-text_of cave turns (part.Turns score most) = final_line score most turns
+unfoldable pub text_of_part : CaveView → ℕ → Part → List ℕ
+text_of_part cave turns (part.Long place) = or_nothing (map.get cave.long place)
+text_of_part cave turns (part.Short place) = or_nothing (map.get cave.short place)
+text_of_part cave turns (part.Message number) = message_text cave number
+text_of_part cave turns (part.Role role) =
+    role_text cave (map.get cave.roles (role_number role)) role
+text_of_part cave turns (part.Object object prop) = look_text cave object prop
+text_of_part cave turns (part.Name object) = or_nothing (inventory_text cave object)
+text_of_part cave turns (part.Number form n most) = number_line form n most
+text_of_part cave turns (part.Word form word) = word_line form word
+text_of_part cave turns (part.Class score) = class_text cave score
+text_of_part cave turns (part.Turns score most) = final_line score most turns
 
 -- what the parts print, one after another
 abbrev pub text_of_all : CaveView → ℕ → List Part → List ℕ
 text_of_all cave turns [] = []
-text_of_all cave turns (p ∷ parts) = text_of cave turns p ++ text_of_all cave turns parts
+text_of_all cave turns (p ∷ parts) = text_of_part cave turns p ++ text_of_all cave turns parts

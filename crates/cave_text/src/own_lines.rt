@@ -1,5 +1,7 @@
 ghost use Rattle.std.specs.Prelude.{◌≡◌, ◌++◌, take, vec_len, decimal, OnOk};
-ghost use Rattle.cave_text.specs.OwnLines.{counting, scored, quoting, number_line, word_line, final_line, points, more_points, turn_count};
+ghost use Rattle.cave_text.specs.OwnLines.{number_between, score_line, word_between, number_line};
+ghost use Rattle.cave_text.specs.OwnLines.{word_line};
+ghost use Rattle.cave_text.specs.OwnLines.{final_line, points, more_points, turn_count};
 
 use cave_words::Word;
 use cave_world::{NumberLine, WordLine};
@@ -8,7 +10,8 @@ use std::alloc::AllocError;
 
 /// Appends a number between two texts.
 fn count(text: &mut Vec<u8>, before: &[u8], number: u32, after: &[u8]) -> Result<(), AllocError>
-    ensures ok { OnOk result (text.new.items ≡ text.old.items ++ counting before.now number after.now) }
+    ensures ok { OnOk result (text.new.items ≡ text.old.items
+        ++ number_between before.now number after.now) }
     ensures front { take (vec_len text.old) text.new.items ≡ text.old.items }
 {
     let mut buffer = Buffer::new();
@@ -19,7 +22,8 @@ fn count(text: &mut Vec<u8>, before: &[u8], number: u32, after: &[u8]) -> Result
 
 /// Appends a word between two texts.
 fn quote(text: &mut Vec<u8>, before: &[u8], word: Word, after: &[u8]) -> Result<(), AllocError>
-    ensures ok { OnOk result (text.new.items ≡ text.old.items ++ quoting before.now word after.now) }
+    ensures ok { OnOk result
+        (text.new.items ≡ text.old.items ++ word_between before.now word after.now) }
     ensures front { take (vec_len text.old) text.new.items ≡ text.old.items }
 {
     text.extend_from_slice(before)?;
@@ -65,14 +69,15 @@ fn append_score(
     most: u32,
     after: &[u8],
 ) -> Result<(), AllocError>
-    ensures ok { OnOk result (text.new.items ≡ text.old.items ++ scored before.now score most after.now) }
+    ensures ok { OnOk result (text.new.items ≡ text.old.items
+        ++ score_line before.now score most after.now) }
     ensures front { take (vec_len text.old) text.new.items ≡ text.old.items }
 {
     count(text, before, score, b" out of a possible ")?;
     count(text, b"", most, after)
 }
 
-/// Appends a line that tells a number.
+/// Appends a line with a number.
 #[tactic(auto, unfolding(crate::specs::OwnLines::number_line))]
 pub fn append_number_line(
     text: &mut Vec<u8>,

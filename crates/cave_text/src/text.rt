@@ -1,9 +1,12 @@
 ghost use Rattle.std.specs.Prelude.{◌≡◌, ◌++◌, take, vec_len, OnOk, OnErr};
-ghost use Rattle.cave_text.specs.Text.{text_of, text_of_all, message_text, name_line, look_text, class_text};
+ghost use Rattle.cave_text.specs.Text.{text_of_part, text_of_all, message_text, name_line};
+ghost use Rattle.cave_text.specs.Text.{look_text, class_text};
 
 use crate::own_lines::{append_final_line, append_number_line, append_word_line};
-use cave_data::{Cave, Role};
-use cave_world::{Object, Part};
+use cave_data::Cave;
+use cave_objects::Object;
+use cave_rows::Role;
+use cave_world::Part;
 use std::alloc::AllocError;
 
 fn append_name(role: Role, text: &mut Vec<u8>) -> Result<(), AllocError>
@@ -43,9 +46,9 @@ fn append_class(cave: &Cave, score: u32, text: &mut Vec<u8>) -> Result<(), Alloc
     }
 }
 
-#[tactic(auto, unfolding(crate::specs::Text::text_of))]
+#[tactic(auto, unfolding(crate::specs::Text::text_of_part))]
 fn append(cave: &Cave, part: Part, turns: u32, text: &mut Vec<u8>) -> Result<(), AllocError>
-    ensures ok { OnOk result (text.new.items ≡ text.old.items ++ text_of cave.now turns part) }
+    ensures ok { OnOk result (text.new.items ≡ text.old.items ++ text_of_part cave.now turns part) }
     ensures front { take (vec_len text.old) text.new.items ≡ text.old.items }
 {
     match part {
@@ -69,7 +72,8 @@ fn append(cave: &Cave, part: Part, turns: u32, text: &mut Vec<u8>) -> Result<(),
 }
 
 fn append_all(cave: &Cave, parts: &[Part], turns: u32, text: &mut Vec<u8>) -> Result<(), AllocError>
-    ensures ok { OnOk result (text.new.items ≡ text.old.items ++ text_of_all cave.now turns parts.now) }
+    ensures ok { OnOk result
+        (text.new.items ≡ text.old.items ++ text_of_all cave.now turns parts.now) }
     ensures front { take (vec_len text.old) text.new.items ≡ text.old.items }
 {
     for part in parts {
@@ -78,9 +82,10 @@ fn append_all(cave: &Cave, parts: &[Part], turns: u32, text: &mut Vec<u8>) -> Re
     Ok(())
 }
 
-/// Appends what the parts print at a number of turns. Where memory is wanting the text is as it was.
+/// Appends what the parts print at a number of turns. Where memory runs out the text is as it was.
 pub fn render(cave: &Cave, parts: &[Part], turns: u32, text: &mut Vec<u8>) -> Result<(), AllocError>
-    ensures ok { OnOk result (text.new.items ≡ text.old.items ++ text_of_all cave.now turns parts.now) }
+    ensures ok { OnOk result
+        (text.new.items ≡ text.old.items ++ text_of_all cave.now turns parts.now) }
     ensures err { OnErr result (text.new.items ≡ text.old.items) }
 {
     let before = text.len();

@@ -11,7 +11,7 @@ HasRoom parts play = array_vec_len play.out.now + parts ≤ 512
 abbrev pub SaysUpTo : ℕ → Play → Play → Type 0
 SaysUpTo parts old new = array_vec_len new.out.now ≤ array_vec_len old.out.now + parts
 
--- an end: the score, its class, and what is wanted for the next class
+-- an end: the score, its class, and what is missing for the next class
 abbrev pub parts_of_end : ℕ
 parts_of_end = 3
 
@@ -27,28 +27,27 @@ parts_of_question = 2
 abbrev pub parts_of_dwarves : ℕ
 parts_of_dwarves = 4
 
--- a place that is told: the bear, its text, something hollow, and 200 halves of objects
+-- a place that is described: the bear, its text, something hollow, and 200 halves of objects
 abbrev pub parts_of_place : ℕ
 parts_of_place = 203
 
--- a place from which the player is carried on: two that hold the player back, the bear, its text
+-- a place of forced motion: two that hold the player back, the bear, its text
 abbrev pub parts_of_passing : ℕ
 parts_of_passing = 4
 
 -- a place at which the player stays: two that hold the player back, the dwarves, the place
-abbrev pub parts_of_showing : ℕ
-parts_of_showing = 209
+abbrev pub parts_of_stop : ℕ
+parts_of_stop = 209
 
 -- a way: a line, or on the bridge a line and a death
 abbrev pub parts_of_journey : ℕ
 parts_of_journey = 5
 
--- who is carried on is told of one way and one place for each forced motion that is left, and of
--- the last place
-abbrev pub parts_of_carrying : ℕ → ℕ
-parts_of_carrying left = 5 * left + 209
+-- forced motions: a way and a place for each that is left, and the last place
+abbrev pub parts_of_forced_motions : ℕ → ℕ
+parts_of_forced_motions left = 5 * left + 209
 
--- who arrives is told of a place, and is carried on
+-- an arrival: a place, and the forced motions from there
 abbrev pub parts_of_arrival : ℕ → ℕ
 parts_of_arrival left = 5 * left + 213
 

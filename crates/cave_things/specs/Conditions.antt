@@ -13,5 +13,5 @@ bit_of condition.Liquid = 2
 bit_of condition.NoPirate = 3
 
 -- a place has a condition
-abbrev pub has : CaveView → ℕ → Condition → Bool
-has cave place c = has_condition cave place (bit_of c)
+abbrev pub meets_condition : CaveView → ℕ → Condition → Bool
+meets_condition cave place c = has_condition cave place (bit_of c)

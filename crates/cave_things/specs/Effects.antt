@@ -2,14 +2,14 @@
 use Rattle.std.specs.Prelude.{ℕ, pos, ◌+◌, ◌&&◌, if◌then◌else◌, min}
 use Rattle.cave_data.specs.CaveView.{CaveView}
 use Rattle.cave_words.specs.declared.named.Named.TheVariants as name
-use Rattle.cave_world.specs.Objects.{moved, anchored, juggled, with_prop}
-use Rattle.cave_world.specs.declared.spot.Anchor.TheVariants as anchor
+use Rattle.cave_objects.specs.Objects.{moved_to, anchored_to, put_anew, with_prop}
+use Rattle.cave_objects.specs.declared.spot.Anchor.TheVariants as anchor
 use Rattle.cave_world.specs.declared.state.State.{State}
-use Rattle.cave_world.specs.Layout.{Layout}
+use Rattle.cave_objects.specs.Layout.{Layout}
 use Rattle.cave_things.specs.Things.{thing}
 use Rattle.cave_things.specs.Liquids.{liquid_of, is_liquid}
 use Rattle.cave_things.specs.Homes.{home, hold_of, is_at_home}
-use Rattle.cave_things.specs.Reach.{is_called, is_toted, has_other_prop}
+use Rattle.cave_things.specs.Reach.{is_called, is_in_hand, has_other_prop}
 
 -- other objects in the same state
 abbrev pub with_objects : Layout → State → State
@@ -23,7 +23,7 @@ vessel cave s x = if is_liquid x (liquid_of cave s) then thing cave name.Bottle 
 abbrev pub with_bird_in_cage : CaveView → ℕ → State → State
 with_bird_in_cage cave x s =
     if is_called cave x name.Cage && has_other_prop s (thing cave name.Bird) (pos 0)
-    then with_objects (moved s.objects (thing cave name.Bird) s.trail.here) s
+    then with_objects (moved_to s.objects (thing cave name.Bird) s.trail.here) s
     else s
 
 -- the bird that is put down is free
@@ -32,24 +32,24 @@ with_free_bird cave x s =
     if is_called cave x name.Bird then with_objects (with_prop s.objects x (pos 0)) s else s
 
 abbrev pub put_here : ℕ → State → State
-put_here x s = with_objects (moved s.objects x s.trail.here) s
+put_here x s = with_objects (moved_to s.objects x s.trail.here) s
 
--- an object is put down where the player stands
+-- an object is put down where the player is
 unfoldable pub put_down : CaveView → ℕ → State → State
 put_down cave x s =
     let y = vessel cave s x in put_here y (with_free_bird cave y (with_bird_in_cage cave y s))
 
--- what is carried is put where the player stands
+-- what is carried is put where the player is
 unfoldable pub let_go : CaveView → ℕ → State → State
-let_go cave x s = if is_toted cave s x then put_here x s else s
+let_go cave x s = if is_in_hand cave s x then put_here x s else s
 
--- the troll goes, and its second self stands at both ends of the bridge
+-- the troll goes, and its second self is at both ends of the bridge
 unfoldable pub without_troll : CaveView → State → State
 without_troll cave s =
     let troll = thing cave name.Troll in let second = thing cave name.SecondTroll in
-    let gone = anchored (moved s.objects troll 0) troll anchor.Loose in
-    let there = anchored (moved gone second (home cave troll)) second (hold_of cave troll) in
-    with_objects (juggled there (thing cave name.Chasm)) s
+    let gone = anchored_to (moved_to s.objects troll 0) troll anchor.Loose in
+    let there = anchored_to (moved_to gone second (home cave troll)) second (hold_of cave troll) in
+    with_objects (put_anew there (thing cave name.Chasm)) s
 
 -- one treasure more is lost
 abbrev pub one_more_lost : State → State

@@ -1,16 +1,16 @@
--- Where objects are at home: where they stand as a game begins.
+-- Where objects are at home: where they are as a game begins.
 use Rattle.std.specs.Prelude.{ℕ, ℤ, pos, negsuc, zero, suc, Bool, ◌==◌, ◌&&◌, not, Option}
 use Rattle.std.specs.Prelude.{Some, None}
 use Rattle.cave_data.specs.CaveView.{CaveView, placement_of}
-use Rattle.cave_world.specs.Objects.{spot_of}
-use Rattle.cave_world.specs.Spots.{is_place}
-use Rattle.cave_world.specs.declared.spot.Anchor.{Anchor}
-use Rattle.cave_world.specs.declared.spot.Anchor.TheVariants as anchor
-use Rattle.cave_world.specs.declared.spot.Spot.{Spot}
-use Rattle.cave_world.specs.declared.spot.Spot.TheVariants as spot
+use Rattle.cave_objects.specs.Objects.{spot_of}
+use Rattle.cave_objects.specs.Spots.{is_place}
+use Rattle.cave_objects.specs.declared.spot.Anchor.{Anchor}
+use Rattle.cave_objects.specs.declared.spot.Anchor.TheVariants as anchor
+use Rattle.cave_objects.specs.declared.spot.Spot.{Spot}
+use Rattle.cave_objects.specs.declared.spot.Spot.TheVariants as spot
 use Rattle.cave_world.specs.declared.state.State.{State}
 
--- where an object stands as the game begins
+-- where an object is as the game begins
 abbrev pub home : CaveView → ℕ → ℕ
 home cave x = (placement_of cave x).first
 
@@ -42,10 +42,10 @@ unfoldable pub is_at_home : CaveView → State → ℕ → Bool
 is_at_home cave s x =
     not (x == 0) && is_place (home cave x) (place_or_nowhere (spot_of s.objects x))
 
--- the player stands where the object is at home
+-- the player is where the object is at home
 unfoldable pub is_home_here : CaveView → State → ℕ → Bool
 is_home_here cave s x = not (x == 0) && home cave x == s.trail.here
 
--- the player stands elsewhere
+-- the player is elsewhere
 unfoldable pub is_home_elsewhere : CaveView → State → ℕ → Bool
 is_home_elsewhere cave s x = not (x == 0) && not (home cave x == s.trail.here)

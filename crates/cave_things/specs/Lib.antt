@@ -3,7 +3,6 @@ pub mod Conditions
 pub mod Effects
 pub mod Homes
 pub mod Liquids
-pub mod Numbers
 pub mod Panic
 pub mod Places
 pub mod Plays

@@ -1,10 +1,10 @@
--- Who tries to get out of a closing cave.
+-- A player who tries to get out of a closing cave.
 use Rattle.std.specs.Prelude.{pos, true, ◌||◌, if◌then◌else◌}
 use Rattle.cave_world.specs.declared.state.State.{State}
 
--- who tries to get out has 15 turns left, unless that was tried before
-abbrev pub panicking : State → State
-panicking s =
+-- a player who tries to get out has 15 turns left, unless that was tried before
+abbrev pub after_panic : State → State
+after_panic s =
     let closing = s.closing in
     if closing.is_panicking || closing.is_closed
     then record s { closing = record closing { is_panicking = true } }

@@ -1,8 +1,8 @@
 -- A turn while it is played.
 use Rattle.std.specs.Prelude.{◌≡◌, ℕ, ℤ, Bool, ◌==◌, if◌then◌else◌, List, [], ◌∷◌, ◌++◌}
-use Rattle.cave_data.specs.declared.role.Role.{Role}
+use Rattle.cave_rows.specs.declared.role.Role.{Role}
 use Rattle.cave_words.specs.Stream.{next, is_within_percent}
-use Rattle.cave_world.specs.State.{standing_at, setting_out}
+use Rattle.cave_world.specs.State.{state_with_player_at, state_after_setting_out}
 use Rattle.cave_world.specs.declared.part.Part.{Part}
 use Rattle.cave_world.specs.declared.part.Part.TheVariants as part
 use Rattle.cave_world.specs.declared.state.State.{State}
@@ -16,10 +16,15 @@ pub record Scene : Type 0 where
   pub was_dark : Bool
   pub left : ℕ
 
--- what a play has come to
+-- the scene of a turn while it is played
 abbrev pub scene_of : Play → Scene
 scene_of play =
-    record { state = play.state.now; parts = play.out.now.items; was_dark = play.was_dark; left = play.left }
+    record {
+      state = play.state.now;
+      parts = play.out.now.items;
+      was_dark = play.was_dark;
+      left = play.left;
+    }
 
 -- a play changes the same state and the same parts as before
 abbrev pub IsSamePlay : Play → Play → Type 0
@@ -31,40 +36,39 @@ abbrev pub GoesOn : Play → Play → Type 0
 GoesOn old new = IsSamePlay old new × (new.left ≡ old.left)
 
 -- a turn begins with nothing said, and with all its forced motions
-abbrev pub opening : Bool → State → Scene
-opening was_dark s = record { state = s; parts = []; was_dark = was_dark; left = 20 }
+abbrev pub scene_at_start : Bool → State → Scene
+scene_at_start was_dark s = record { state = s; parts = []; was_dark = was_dark; left = 20 }
 
--- another state
 abbrev pub with_state : State → Scene → Scene
 with_state s p = record p { state = s }
 
 -- one more part is said
-abbrev pub telling : Part → Scene → Scene
-telling told p = record p { parts = p.parts ++ told ∷ [] }
+abbrev pub after_telling : Part → Scene → Scene
+after_telling told p = record p { parts = p.parts ++ told ∷ [] }
 
 -- a role's message is said
-abbrev pub saying : Role → Scene → Scene
-saying role p = telling (part.Role role) p
+abbrev pub after_saying : Role → Scene → Scene
+after_saying role p = after_telling (part.Role role) p
 
--- the text of an object for a number is told, if there is the object
-abbrev pub looking_at : ℕ → ℤ → Scene → Scene
-looking_at x v p = if x == 0 then p else telling (part.Object x v) p
+-- the text of an object for a number is printed, if there is the object
+abbrev pub after_look_at : ℕ → ℤ → Scene → Scene
+after_look_at x v p = if x == 0 then p else after_telling (part.Object x v) p
 
 -- so many forced motions are left
 abbrev pub with_left : ℕ → Scene → Scene
 with_left left p = record p { left = left }
 
--- where the player stands
+-- where the player is
 abbrev pub here_of : Scene → ℕ
 here_of p = p.state.trail.here
 
--- the player stands at the place
-abbrev pub standing : ℕ → Scene → Scene
-standing place p = with_state (standing_at p.state place) p
+-- the player is at the place
+abbrev pub scene_at_place : ℕ → Scene → Scene
+scene_at_place place p = with_state (state_with_player_at p.state place) p
 
--- the player sets out: where the player stands is where the player will have come from
-abbrev pub sets_out : Scene → Scene
-sets_out p = with_state (setting_out p.state) p
+-- the player sets out: the player's place becomes the one that the player came from
+abbrev pub after_setting_out : Scene → Scene
+after_setting_out p = with_state (state_after_setting_out p.state) p
 
 -- the random stream goes on after a draw
 abbrev pub after_draw : Scene → Scene

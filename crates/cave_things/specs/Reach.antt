@@ -7,9 +7,9 @@ use Rattle.std.specs.List.{list_any}
 use Rattle.cave_data.specs.CaveView.{CaveView}
 use Rattle.cave_words.specs.declared.named.Named.{Named}
 use Rattle.cave_words.specs.declared.named.Named.TheVariants as name
-use Rattle.cave_world.specs.Objects.{is_carried, is_first_at, anchor_of, prop_of}
-use Rattle.cave_world.specs.declared.spot.Anchor.{Anchor}
-use Rattle.cave_world.specs.declared.spot.Anchor.TheVariants as anchor
+use Rattle.cave_objects.specs.Objects.{is_carried, is_first_at, anchor_of, prop_of}
+use Rattle.cave_objects.specs.declared.spot.Anchor.{Anchor}
+use Rattle.cave_objects.specs.declared.spot.Anchor.TheVariants as anchor
 use Rattle.cave_world.specs.declared.dwarves.Dwarf.{Dwarf}
 use Rattle.cave_world.specs.declared.state.State.{State}
 use Rattle.cave_things.specs.Things.{thing}
@@ -24,15 +24,15 @@ abbrev pub is_one_of : CaveView → ℕ → List Named → Bool
 is_one_of cave x names = list_any (is_called cave x) names
 
 -- an object is carried: a liquid where the bottle is carried and has it
-unfoldable pub is_toted : CaveView → State → ℕ → Bool
-is_toted cave s x =
+unfoldable pub is_in_hand : CaveView → State → ℕ → Bool
+is_in_hand cave s x =
     if is_called cave x name.Water || is_called cave x name.Oil
     then is_carried s.objects (thing cave name.Bottle) && is_liquid x (liquid_of cave s)
     else is_carried s.objects x
 
--- an object is carried, or its first half stands where the player stands
+-- an object is carried, or its first half is where the player is
 unfoldable pub is_near : CaveView → State → ℕ → Bool
-is_near cave s x = is_toted cave s x || is_first_at s.objects s.trail.here x
+is_near cave s x = is_in_hand cave s x || is_first_at s.objects s.trail.here x
 
 -- an object has a prop, another one, or one up to a number
 unfoldable pub has_prop : State → ℕ → ℤ → Bool
@@ -51,7 +51,7 @@ is_treasure x = nat_le 50 x && nat_le x 79
 abbrev pub is_dwarf_at : ℕ → Dwarf → Bool
 is_dwarf_at place dwarf = dwarf.place == place
 
--- one of the five dwarves, once they are angry, stands where the player stands
+-- one of the five dwarves, once they are angry, is where the player is
 unfoldable pub is_dwarf_here : State → Bool
 is_dwarf_here s =
     nat_le 2 s.dwarves.anger && list_any (is_dwarf_at s.trail.here) (take 5 s.dwarves.each)

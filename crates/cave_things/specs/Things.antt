@@ -4,16 +4,21 @@ use Rattle.cave_data.specs.CaveView.{CaveView}
 use Rattle.cave_words.specs.Named.{object_named}
 use Rattle.cave_words.specs.declared.named.Named.{Named}
 use Rattle.cave_words.specs.declared.named.Named.TheVariants as named
-use Rattle.cave_things.specs.Numbers.{or_no_object}
 use Rattle.cave_things.specs.declared.rules.Rules.{Rules}
+use Rattle.std.specs.Prelude.{nat_le, Option, Some, None}
+
+-- an object, or 0 where there is none
+abbrev pub or_no_object : Option ℕ → ℕ
+or_no_object None = 0
+or_no_object (Some object) = if nat_le object 100 then object else 0
 
 -- the cave that the rules are of
 abbrev pub cave_of : Rules → CaveView
 cave_of rules = rules.cave.now
 
 -- the object that a word of the rules names
-unfoldable pub called : CaveView → Named → ℕ
-called cave name = or_no_object (object_named cave name)
+unfoldable pub object_called : CaveView → Named → ℕ
+object_called cave name = or_no_object (object_named cave name)
 
 -- a liquid, which the bottle may hold
 abbrev pub is_liquid_name : Named → Bool
@@ -24,5 +29,5 @@ is_liquid_name _ = false
 -- the object of a name: WATER and OIL count as absent where their number is that of BOTTL
 unfoldable pub thing : CaveView → Named → ℕ
 thing cave name =
-    if is_liquid_name name && called cave name == called cave named.Bottle then 0
-    else called cave name
+    if is_liquid_name name && object_called cave name == object_called cave named.Bottle then 0
+    else object_called cave name

@@ -1,11 +1,12 @@
 //! The conditions that a place may have.
 
 ghost use Rattle.std.specs.Prelude.{◌≡◌, ◌<◌};
-ghost use Rattle.cave_things.specs.Conditions.{bit_of, has};
+ghost use Rattle.cave_things.specs.Conditions.{bit_of, meets_condition};
 ghost use Rattle.cave_things.specs.Things.{cave_of};
 
 use crate::rules::Rules;
-use cave_world::{Place, has_condition};
+use cave_objects::Place;
+use cave_world::has_condition;
 
 /// A condition that a place may have, by a bit of its own.
 #[derive(Clone, Copy, Debug, PartialEq, Eq)]
@@ -38,7 +39,7 @@ impl Condition {
 impl Rules<'_> {
     /// Whether a place has a condition.
     pub fn has(&self, place: Place, condition: Condition) -> bool
-        ensures { result ≡ has (cave_of self.now) place condition }
+        ensures { result ≡ meets_condition (cave_of self.now) place condition }
     {
         has_condition(self.cave, place, condition.bit())
     }

@@ -6,8 +6,9 @@ ghost use Rattle.cave_things.specs.Effects.{let_go, without_troll, one_more_lost
 use crate::liquids::is_liquid;
 use crate::reach::has_other_prop;
 use crate::rules::Rules;
+use cave_objects::{Anchor, Object, Place, Prop};
 use cave_words::Named;
-use cave_world::{Anchor, Object, Place, Prop, State};
+use cave_world::State;
 
 fn vessel(rules: &Rules<'_>, state: &State, object: Object) -> Object
     ensures { result ≡ vessel (cave_of rules.now) state.now object }
@@ -37,8 +38,7 @@ fn free_bird(rules: &Rules<'_>, object: Object, state: &mut State)
     }
 }
 
-/// An object is put down where the player stands: a liquid in its bottle, the cage with the bird in
-/// it.
+/// An object is put down where the player is: a liquid in its bottle, the cage with the bird in it.
 #[tactic(auto, unfolding(crate::specs::Effects::put_down))]
 pub fn put_down(rules: &Rules<'_>, object: Object, state: &mut State)
     ensures { state.new ≡ put_down (cave_of rules.now) object state.old }
@@ -50,18 +50,18 @@ pub fn put_down(rules: &Rules<'_>, object: Object, state: &mut State)
     state.move_to(object, here);
 }
 
-/// What is carried is put where the player stands.
+/// What is carried is put where the player is.
 #[tactic(auto, unfolding(crate::specs::Effects::let_go))]
 pub fn let_go(rules: &Rules<'_>, object: Object, state: &mut State)
     ensures { state.new ≡ let_go (cave_of rules.now) object state.old }
 {
-    if rules.is_toted(state, object) {
+    if rules.is_in_hand(state, object) {
         let here = state.trail.here;
         state.move_to(object, here);
     }
 }
 
-/// The troll goes, and its second self stands at both ends of the bridge.
+/// The troll goes, and its second self is at both ends of the bridge.
 #[tactic(auto, unfolding(crate::specs::Effects::without_troll))]
 pub fn pay_troll(rules: &Rules<'_>, state: &mut State)
     ensures { state.new ≡ without_troll (cave_of rules.now) state.old }

@@ -4,7 +4,8 @@ ghost use Rattle.cave_things.specs.Homes.{home, anchor_by, hold_of, second_home,
 ghost use Rattle.cave_things.specs.Homes.{is_home_here, is_home_elsewhere};
 
 use crate::rules::Rules;
-use cave_world::{Anchor, Object, Place, Spot, State};
+use cave_objects::{Anchor, Object, Place, Spot};
+use cave_world::State;
 
 /// What a second number of a row of places says of the object's second half.
 pub fn anchor_by(second: i16) -> Anchor
@@ -19,7 +20,7 @@ pub fn anchor_by(second: i16) -> Anchor
 }
 
 impl Rules<'_> {
-    /// Where an object stands as the game begins.
+    /// Where an object is as the game begins.
     pub fn home(&self, object: Object) -> Place
         ensures { result ≡ home (cave_of self.now) object }
     {
@@ -27,7 +28,7 @@ impl Rules<'_> {
         Place::new(home)
     }
 
-    /// What holds an object where it stands as the game begins.
+    /// What holds an object where it is as the game begins.
     pub fn hold(&self, object: Object) -> Anchor
         ensures { result ≡ hold_of (cave_of self.now) object }
     {
@@ -35,7 +36,7 @@ impl Rules<'_> {
         anchor_by(second)
     }
 
-    /// Where the second half of an object stands as a game begins; place 0 where it has none.
+    /// Where the second half of an object is as a game begins; place 0 where it has none.
     pub fn second_home(&self, object: Object) -> Place
         ensures { result ≡ second_home (cave_of self.now) object }
     {
@@ -62,7 +63,7 @@ impl Rules<'_> {
         }
     }
 
-    /// Whether the player stands where an object is at home.
+    /// Whether the player is where an object is at home.
     #[tactic(auto, unfolding(crate::specs::Homes::is_home_here))]
     pub fn is_home_here(&self, state: &State, object: Object) -> bool
         ensures { result ≡ is_home_here (cave_of self.now) state.now object }
@@ -70,7 +71,7 @@ impl Rules<'_> {
         !object.is_none() && self.home(object) == state.trail.here
     }
 
-    /// Whether an object is at home elsewhere than where the player stands.
+    /// Whether an object is at home elsewhere than where the player is.
     #[tactic(auto, unfolding(crate::specs::Homes::is_home_elsewhere))]
     pub fn is_home_elsewhere(&self, state: &State, object: Object) -> bool
         ensures { result ≡ is_home_elsewhere (cave_of self.now) state.now object }

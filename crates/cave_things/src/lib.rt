@@ -20,7 +20,7 @@ pub use effects::{let_go, lose, lose_one, pay_troll, put_down};
 pub use liquids::is_liquid;
 pub use numbers::or_no_object;
 pub use places::{
-    building_place, deep_place, is_that, outside_place, place_named, place_or, start_place,
+    building_place, deep_place, is_place, outside_place, place_named, place_or, start_place,
 };
 pub use play::Play;
 pub use reach::{has_other_prop, has_prop, has_prop_up_to, is_dwarf_here, is_fixed, is_treasure};

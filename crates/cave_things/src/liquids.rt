@@ -6,8 +6,9 @@ ghost use Rattle.cave_things.specs.Things.{cave_of};
 
 use crate::conditions::Condition;
 use crate::rules::Rules;
+use cave_objects::Object;
 use cave_words::Named;
-use cave_world::{Object, State};
+use cave_world::State;
 
 /// Whether an object is the liquid that is there, if any is. Object 0 is none.
 pub fn is_liquid(object: Object, liquid: Option<Object>) -> bool
@@ -20,7 +21,7 @@ pub fn is_liquid(object: Object, liquid: Option<Object>) -> bool
 }
 
 impl Rules<'_> {
-    /// The liquid of the lake where the player stands, if there is one: object 0 if it has no name.
+    /// The liquid of the lake where the player is, if there is one: object 0 if it has no name.
     #[tactic(auto, unfolding(crate::specs::Liquids::lake_of))]
     pub fn lake(&self, state: &State) -> Option<Object>
         ensures { result ≡ lake_of (cave_of self.now) state.now }

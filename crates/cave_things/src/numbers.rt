@@ -1,7 +1,7 @@
 ghost use Rattle.std.specs.Prelude.{◌≡◌};
-ghost use Rattle.cave_things.specs.Numbers.{or_no_object};
+ghost use Rattle.cave_things.specs.Things.{or_no_object};
 
-use cave_world::Object;
+use cave_objects::Object;
 
 /// The object of a number; object 0 where there is none.
 pub fn or_no_object(object: Option<u16>) -> Object

@@ -1,9 +1,11 @@
+ghost use Rattle.cave_objects.specs.Spots.{is_place};
 ghost use Rattle.std.specs.Prelude.{◌≡◌};
-ghost use Rattle.cave_things.specs.Places.{place_named, is_that, place_or};
+ghost use Rattle.cave_things.specs.Places.{place_named, place_or};
 ghost use Rattle.cave_things.specs.Places.{start_place, outside_place, deep_place, building_place};
 
-use cave_data::{Cave, PlaceRole};
-use cave_world::Place;
+use cave_data::Cave;
+use cave_objects::Place;
+use cave_rows::PlaceRole;
 
 /// The place that has a role.
 #[tactic(auto, unfolding(crate::specs::Places::place_named))]
@@ -17,8 +19,8 @@ pub fn place_named(cave: &Cave, role: PlaceRole) -> Option<Place>
 }
 
 /// Whether a place is the one that is named, if one is.
-pub fn is_that(place: Place, named: Option<Place>) -> bool
-    ensures { result ≡ is_that place named }
+pub fn is_place(place: Place, named: Option<Place>) -> bool
+    ensures { result ≡ is_place place named }
 {
     match named {
         Some(named) => named == place,

@@ -1,8 +1,9 @@
 ghost use Rattle.std.specs.Prelude.{◌≡◌, ◌+◌, []};
 ghost use Rattle.arrayvec.specs.ArrayVec.{array_vec_len};
 
-use cave_data::Role;
-use cave_world::{Object, Out, Part, Place, State};
+use cave_objects::{Object, Place};
+use cave_rows::Role;
+use cave_world::{Out, Part, State};
 
 /// The most forced motions of a turn.
 pub const FORCED_MOTIONS: u8 = 20;
@@ -14,7 +15,7 @@ pub struct Play<'a> {
     pub state: &'a mut State,
     /// What the turn says.
     pub out: &'a mut Out,
-    /// Whether it was dark where the player stood as the turn began.
+    /// Whether it was dark where the player was as the turn began.
     pub was_dark: bool,
     /// The forced motions that are left in the turn.
     pub left: u8,
@@ -22,14 +23,15 @@ pub struct Play<'a> {
 
 impl<'a> Play<'a> {
     ghost use Rattle.cave_things.specs.Bounds.{HasRoom, SaysUpTo};
-    ghost use Rattle.cave_things.specs.Plays.{scene_of, GoesOn, opening, telling, saying};
-    ghost use Rattle.cave_things.specs.Plays.{looking_at};
-    ghost use Rattle.cave_things.specs.Plays.{standing, sets_out, after_draw, happens};
+    ghost use Rattle.cave_things.specs.Plays.{scene_of, GoesOn, scene_at_start, after_telling};
+    ghost use Rattle.cave_things.specs.Plays.{after_saying};
+    ghost use Rattle.cave_things.specs.Plays.{after_look_at};
+    ghost use Rattle.cave_things.specs.Plays.{scene_at_place, after_setting_out, after_draw, happens};
 
     /// A turn begins with nothing said, and with all its forced motions.
     pub fn open(state: &'a mut State, out: &'a mut Out, was_dark: bool) -> Play<'a>
         requires { out.old.items ≡ [] }
-        ensures play { scene_of result ≡ opening was_dark state.old }
+        ensures play { scene_of result ≡ scene_at_start was_dark state.old }
         ensures state { result.state.ghost_name ≡ state.entry.ghost_name }
         ensures out { result.out.ghost_name ≡ out.entry.ghost_name }
         ensures none { array_vec_len result.out.now ≡ 0 }
@@ -45,7 +47,7 @@ impl<'a> Play<'a> {
     /// One more part is said.
     pub fn tell(&mut self, part: Part)
         requires { HasRoom 1 self.old }
-        ensures play { scene_of self.new ≡ telling part (scene_of self.old) }
+        ensures play { scene_of self.new ≡ after_telling part (scene_of self.old) }
         ensures same { GoesOn self.old self.new }
         ensures few { array_vec_len self.new.out.now ≡ array_vec_len self.old.out.now + 1 }
     {
@@ -55,17 +57,17 @@ impl<'a> Play<'a> {
     /// The message of a role is said.
     pub fn say(&mut self, role: Role)
         requires { HasRoom 1 self.old }
-        ensures play { scene_of self.new ≡ saying role (scene_of self.old) }
+        ensures play { scene_of self.new ≡ after_saying role (scene_of self.old) }
         ensures same { GoesOn self.old self.new }
         ensures few { array_vec_len self.new.out.now ≡ array_vec_len self.old.out.now + 1 }
     {
         self.tell(Part::Role(role));
     }
 
-    /// The text of an object for a number is told, if there is the object.
+    /// The text of an object for a number is printed, if there is the object.
     pub fn look(&mut self, object: Object, prop: i8)
         requires { HasRoom 1 self.old }
-        ensures play { scene_of self.new ≡ looking_at object prop (scene_of self.old) }
+        ensures play { scene_of self.new ≡ after_look_at object prop (scene_of self.old) }
         ensures same { GoesOn self.old self.new }
         ensures few { SaysUpTo 1 self.old self.new }
     {
@@ -74,17 +76,17 @@ impl<'a> Play<'a> {
         }
     }
 
-    /// The player stands at a place.
-    pub fn stand_at(&mut self, place: Place)
-        ensures play { scene_of self.new ≡ standing place (scene_of self.old) }
+    /// The player is at a place.
+    pub fn put_player_at(&mut self, place: Place)
+        ensures play { scene_of self.new ≡ scene_at_place place (scene_of self.old) }
         ensures same { GoesOn self.old self.new }
     {
-        self.state.stand_at(place);
+        self.state.put_player_at(place);
     }
 
-    /// The player sets out: where the player stands is where the player will have come from.
+    /// The player sets out: the player's place becomes the one that the player came from.
     pub fn set_out(&mut self)
-        ensures play { scene_of self.new ≡ sets_out (scene_of self.old) }
+        ensures play { scene_of self.new ≡ after_setting_out (scene_of self.old) }
         ensures same { GoesOn self.old self.new }
     {
         self.state.set_out();

@@ -1,15 +1,16 @@
 ghost use Rattle.std.specs.Prelude.{◌≡◌, take};
 ghost use Rattle.std.specs.List.{list_any};
 ghost use Rattle.cave_things.specs.Things.{cave_of};
-ghost use Rattle.cave_things.specs.Reach.{is_called, is_one_of, is_toted, is_near, is_fixed};
+ghost use Rattle.cave_things.specs.Reach.{is_called, is_one_of, is_in_hand, is_near, is_fixed};
 ghost use Rattle.cave_things.specs.Reach.{is_treasure};
 ghost use Rattle.cave_things.specs.Reach.{has_prop, has_other_prop, has_prop_up_to, is_dwarf_at};
 ghost use Rattle.cave_things.specs.Reach.{is_dwarf_here};
 
 use crate::liquids::is_liquid;
 use crate::rules::Rules;
+use cave_objects::{Anchor, Object, Place};
 use cave_words::Named;
-use cave_world::{Anchor, Dwarf, Object, Place, State};
+use cave_world::{Dwarf, State};
 
 impl Rules<'_> {
     /// Whether an object is the one of a name.
@@ -28,23 +29,23 @@ impl Rules<'_> {
     }
 
     /// Whether an object is carried: a liquid where the bottle is carried and has it.
-    #[tactic(auto, unfolding(crate::specs::Reach::is_toted))]
-    pub fn is_toted(&self, state: &State, object: Object) -> bool
-        ensures { result ≡ is_toted (cave_of self.now) state.now object }
+    #[tactic(auto, unfolding(crate::specs::Reach::is_in_hand))]
+    pub fn is_in_hand(&self, state: &State, object: Object) -> bool
+        ensures { result ≡ is_in_hand (cave_of self.now) state.now object }
     {
         if self.is(object, Named::Water) || self.is(object, Named::Oil) {
-            return state.toting(self.object(Named::Bottle))
+            return state.is_carrying(self.object(Named::Bottle))
                 && is_liquid(object, self.liquid(state));
         }
-        state.toting(object)
+        state.is_carrying(object)
     }
 
-    /// Whether an object is carried, or its first half stands where the player stands.
+    /// Whether an object is carried, or its first half is where the player is.
     #[tactic(auto, unfolding(crate::specs::Reach::is_near))]
     pub fn is_near(&self, state: &State, object: Object) -> bool
         ensures { result ≡ is_near (cave_of self.now) state.now object }
     {
-        self.is_toted(state, object) || state.objects.is_first_at(state.trail.here, object)
+        self.is_in_hand(state, object) || state.objects.is_first_at(state.trail.here, object)
     }
 }
 
@@ -91,7 +92,7 @@ fn some_is_at(place: Place, dwarves: &[Dwarf]) -> bool
     dwarves.iter().any(|dwarf| is_at(place, dwarf))
 }
 
-/// Whether one of the five dwarves, once they are angry, stands where the player stands.
+/// Whether one of the five dwarves, once they are angry, is where the player is.
 #[tactic(auto, unfolding(crate::specs::Reach::is_dwarf_here))]
 pub fn is_dwarf_here(state: &State) -> bool
     ensures { result ≡ is_dwarf_here state.now }

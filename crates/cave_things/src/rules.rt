@@ -7,8 +7,8 @@ ghost use Rattle.cave_words.specs.Words.{words_of};
 
 use crate::numbers::or_no_object;
 use cave_data::Cave;
+use cave_objects::Object;
 use cave_words::{Lexicon, Meaning, Named, Word, Words};
-use cave_world::Object;
 
 /// The rules of a cave: what its database says, and the objects that rules name.
 #[derive(Clone, Copy)]
@@ -19,7 +19,7 @@ pub struct Rules<'a> {
 }
 
 impl<'a> Rules<'a> {
-    ghost use Rattle.cave_things.specs.Things.{cave_of, is_liquid_name, called, thing};
+    ghost use Rattle.cave_things.specs.Things.{cave_of, is_liquid_name, object_called, thing};
 
     /// The rules of a cave, with the lexicon of that cave.
     pub fn of(cave: &'a Cave, lexicon: &'a Lexicon) -> Rules<'a>
@@ -44,9 +44,9 @@ impl<'a> Rules<'a> {
     }
 
     /// The object that the word of a name means.
-    #[tactic(auto, unfolding(crate::specs::Things::called))]
+    #[tactic(auto, unfolding(crate::specs::Things::object_called))]
     fn called(&self, name: Named) -> Object
-        ensures { result ≡ called (cave_of self.now) name }
+        ensures { result ≡ object_called (cave_of self.now) name }
     {
         or_no_object(self.lexicon.named(self.cave, name))
     }

@@ -2,7 +2,13 @@ ghost use Rattle.std.specs.Prelude.{◌≡◌};
 ghost use Rattle.cave_things.specs.Treasures.{is_known};
 
 use cave_data::Cave;
-use cave_world::Object;
+use cave_objects::Object;
+
+/// The least number of a treasure.
+pub const FIRST_TREASURE: u8 = 50;
+
+/// The greatest number of a treasure.
+pub const LAST_TREASURE: u8 = 79;
 
 /// Whether a cave has an inventory text for an object.
 pub fn is_known(cave: &Cave, object: Object) -> bool

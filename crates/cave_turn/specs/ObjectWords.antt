@@ -3,20 +3,20 @@ use Rattle.std.specs.Prelude.{ℕ, pos, Bool, false, ◌==◌, ◌&&◌, ◌||�
 use Rattle.std.specs.Prelude.{[], ◌∷◌, Option, Some, None}
 use Rattle.cave_data.specs.CaveView.{CaveView}
 use Rattle.cave_things.specs.Liquids.{liquid_of, lake_of, is_liquid}
-use Rattle.cave_things.specs.Reach.{is_called, is_toted, is_near, has_other_prop, is_dwarf_here}
+use Rattle.cave_things.specs.Reach.{is_called, is_in_hand, is_near, has_other_prop, is_dwarf_here}
 use Rattle.cave_things.specs.Things.{thing}
 use Rattle.cave_verbs.specs.Verbs as verb
 use Rattle.cave_words.specs.declared.named.Named.TheVariants as name
-use Rattle.cave_world.specs.Objects.{stands_at}
+use Rattle.cave_objects.specs.Objects.{is_object_at}
 use Rattle.cave_world.specs.declared.dwarves.Knife.{Knife}
 use Rattle.cave_world.specs.declared.dwarves.Knife.TheVariants as knife
 use Rattle.cave_world.specs.declared.state.State.{State}
 use Rattle.cave_turn.specs.declared.object_words.ObjectWord.{ObjectWord}
 use Rattle.cave_turn.specs.declared.object_words.ObjectWord.TheVariants.{Is, Leads, Knives, Unseen}
 
--- a half of the object stands here, or it is carried
+-- a half of the object is here, or it is carried
 unfoldable pub is_there : CaveView → State → ℕ → Bool
-is_there cave s k = stands_at s.objects s.trail.here k || is_toted cave s k
+is_there cave s k = is_object_at s.objects s.trail.here k || is_in_hand cave s k
 
 -- on the way to the cave the grate's word leads to it
 abbrev pub is_above_grate : ℕ → Bool
@@ -32,11 +32,11 @@ is_liquid_here cave s k =
     (is_liquid k (liquid_of cave s) && is_near cave s (thing cave name.Bottle))
     || is_liquid k (lake_of cave s)
 
--- the plant that grew stands for the plant
+-- the plant that grew is taken for the plant
 unfoldable pub is_grown_plant : CaveView → State → ℕ → Bool
 is_grown_plant cave s k =
     let grown = thing cave name.SecondPlant in
-    is_called cave k name.Plant && stands_at s.objects s.trail.here grown
+    is_called cave k name.Plant && is_object_at s.objects s.trail.here grown
     && has_other_prop s grown (pos 0)
 
 abbrev pub is_knife_at : ℕ → Knife → Bool

@@ -2,9 +2,9 @@
 use Rattle.std.specs.Prelude.{ℕ, Bool, true, false, ◌==◌, ◌&&◌, ◌||◌, codes, if◌then◌else◌, List}
 use Rattle.std.specs.Prelude.{Option, Some, None}
 use Rattle.cave_data.specs.CaveView.{CaveView}
-use Rattle.cave_data.specs.declared.role.Role.TheVariants as role
+use Rattle.cave_rows.specs.declared.role.Role.TheVariants as role
 use Rattle.cave_things.specs.Liquids.{lake_of, is_liquid}
-use Rattle.cave_things.specs.Numbers.{or_no_object}
+use Rattle.cave_things.specs.Things.{or_no_object}
 use Rattle.cave_things.specs.Things.{thing}
 use Rattle.cave_verbs.specs.Verbs as verb
 use Rattle.cave_words.specs.Meaning.{meaning}
@@ -13,7 +13,7 @@ use Rattle.cave_words.specs.declared.meaning.Class.{Class}
 use Rattle.cave_words.specs.declared.meaning.Class.TheVariants as class
 use Rattle.cave_words.specs.declared.meaning.Meaning.{Meaning}
 use Rattle.cave_words.specs.declared.named.Named.TheVariants as name
-use Rattle.cave_world.specs.Objects.{stands_at}
+use Rattle.cave_objects.specs.Objects.{is_object_at}
 use Rattle.cave_world.specs.declared.part.Part.TheVariants as part
 use Rattle.cave_world.specs.declared.part.WordLine.TheVariants as line
 use Rattle.cave_world.specs.declared.state.State.{State}
@@ -21,58 +21,58 @@ use Rattle.cave_world.specs.declared.talk.Talk.{Talk}
 use Rattle.cave_turn.specs.ObjectWords.{object_word}
 use Rattle.cave_turn.specs.declared.object_words.ObjectWord.{ObjectWord}
 use Rattle.cave_turn.specs.declared.object_words.ObjectWord.TheVariants as object
-use Rattle.cave_turn.specs.declared.reading.Half.{Half}
+use Rattle.cave_turn.specs.declared.reading.HalfCommand.{HalfCommand}
 use Rattle.cave_turn.specs.declared.reading.Reading.TheVariants.{Unknown, Motion, Tell, Knives, Act}
 use Rattle.cave_turn.specs.declared.reading.Reading.TheVariants.{WhatToDo}
-use Rattle.cave_turn.specs.declared.reading.Said.{Said}
+use Rattle.cave_turn.specs.declared.reading.SaidWord.{SaidWord}
 use Rattle.cave_turn.specs.declared.reading.Understood.{Understood}
 use Rattle.cave_turn.specs.declared.reading.Reading.{Reading}
 
 -- what is understood of a line, with the half command as the line leaves it
-abbrev pub understood : Half → Reading → Understood
-understood half reading = record { half = half; reading = reading }
+abbrev pub understanding : HalfCommand → Reading → Understood
+understanding half reading = record { half = half; reading = reading }
 
-abbrev pub with_verb : Option ℕ → Half → Half
+abbrev pub with_verb : Option ℕ → HalfCommand → HalfCommand
 with_verb v half = record { verb = v; object = half.object }
 
-abbrev pub with_object : ℕ → Half → Half
+abbrev pub with_object : ℕ → HalfCommand → HalfCommand
 with_object x half = record { verb = half.verb; object = x }
 
 -- a word, and what it means in the cave
-abbrev pub said_in : CaveView → List ℕ → Said
-said_in cave word = record { word = word; meaning = meaning cave word }
+abbrev pub said_word : CaveView → List ℕ → SaidWord
+said_word cave word = record { word = word; meaning = meaning cave word }
 
 -- an object is done to what the verb says, or the player is asked what to do with it
-abbrev pub done_to : Option ℕ → ℕ → Half → List ℕ → Understood
-done_to None x half word = understood (with_object x half) (WhatToDo word)
-done_to (Some v) x half word = understood (with_object x half) (Act v x word)
+abbrev pub act_or_ask : Option ℕ → ℕ → HalfCommand → List ℕ → Understood
+act_or_ask None x half word = understanding (with_object x half) (WhatToDo word)
+act_or_ask (Some v) x half word = understanding (with_object x half) (Act v x word)
 
-abbrev pub object_alone : ObjectWord → Half → List ℕ → Understood
-object_alone (object.Is x) half word = done_to half.verb x half word
-object_alone (object.Leads motion) half word = understood half (Motion motion)
-object_alone object.Knives half word = understood half Knives
-object_alone object.Unseen half word = understood half (Tell (part.Word line.NotSeen word))
+abbrev pub object_alone : ObjectWord → HalfCommand → List ℕ → Understood
+object_alone (object.Is x) half word = act_or_ask half.verb x half word
+object_alone (object.Leads motion) half word = understanding half (Motion motion)
+object_alone object.Knives half word = understanding half Knives
+object_alone object.Unseen half word = understanding half (Tell (part.Word line.NotSeen word))
 
 -- SAY alone is done to no object, also where one was named before
-abbrev pub action_alone : ℕ → Half → List ℕ → Understood
+abbrev pub action_alone : ℕ → HalfCommand → List ℕ → Understood
 action_alone v half word =
-    if v == verb.SAY then understood half (Act v 0 word)
-    else understood (with_verb (Some v) half) (Act v half.object word)
+    if v == verb.SAY then understanding half (Act v 0 word)
+    else understanding (with_verb (Some v) half) (Act v half.object word)
 
-abbrev pub alone_by : CaveView → State → Half → List ℕ → Class → ℕ → Understood
-alone_by cave s half word class.Motion n = understood half (Motion n)
-alone_by cave s half word class.Object n =
+abbrev pub class_alone : CaveView → State → HalfCommand → List ℕ → Class → ℕ → Understood
+class_alone cave s half word class.Motion n = understanding half (Motion n)
+class_alone cave s half word class.Object n =
     object_alone (object_word cave s half.verb true (or_no_object (Some n))) half word
-alone_by cave s half word class.Action n = action_alone n half word
-alone_by cave s half word class.Special n = understood half (Tell (part.Message n))
+class_alone cave s half word class.Action n = action_alone n half word
+class_alone cave s half word class.Special n = understanding half (Tell (part.Message n))
 
 -- a word that no other follows
-abbrev pub alone_as : CaveView → State → Half → List ℕ → Option Meaning → Understood
-alone_as cave s half word None = understood half Unknown
-alone_as cave s half word (Some m) = alone_by cave s half word m.class m.number
+abbrev pub meaning_alone : CaveView → State → HalfCommand → List ℕ → Option Meaning → Understood
+meaning_alone cave s half word None = understanding half Unknown
+meaning_alone cave s half word (Some m) = class_alone cave s half word m.class m.number
 
-unfoldable pub alone : CaveView → State → Half → Said → Understood
-alone cave s half w = alone_as cave s half w.word w.meaning
+unfoldable pub word_alone : CaveView → State → HalfCommand → SaidWord → Understood
+word_alone cave s half w = meaning_alone cave s half w.word w.meaning
 
 -- three motions and the magic words are done where they are said aloud
 abbrev pub is_magic_by : Class → ℕ → Bool
@@ -85,83 +85,92 @@ abbrev pub is_magic : Option Meaning → Bool
 is_magic None = false
 is_magic (Some m) = is_magic_by m.class m.number
 
-unfoldable pub aloud : CaveView → State → Half → Said → Understood
-aloud cave s half w =
-    if is_magic w.meaning then alone cave s half w
-    else understood half (Tell (part.Word line.Okay w.word))
+unfoldable pub word_aloud : CaveView → State → HalfCommand → SaidWord → Understood
+word_aloud cave s half w =
+    if is_magic w.meaning then word_alone cave s half w
+    else understanding half (Tell (part.Word line.Okay w.word))
 
-abbrev pub object_before : CaveView → State → ObjectWord → Half → List ℕ → Said → Understood
-object_before cave s (object.Is x) half word next = alone cave s (with_object x half) next
-object_before cave s (object.Leads motion) half word next = understood half (Motion motion)
-object_before cave s object.Knives half word next = understood half Knives
+abbrev pub object_before : CaveView → State → ObjectWord → HalfCommand → List ℕ → SaidWord
+    → Understood
+object_before cave s (object.Is x) half word next = word_alone cave s (with_object x half) next
+object_before cave s (object.Leads motion) half word next = understanding half (Motion motion)
+object_before cave s object.Knives half word next = understanding half Knives
 object_before cave s object.Unseen half word next =
-    understood half (Tell (part.Word line.NotSeen word))
+    understanding half (Tell (part.Word line.NotSeen word))
 
-abbrev pub action_before : CaveView → State → ℕ → Half → Said → Understood
+abbrev pub action_before : CaveView → State → ℕ → HalfCommand → SaidWord → Understood
 action_before cave s v half next =
-    if v == verb.SAY then aloud cave s half next else alone cave s (with_verb (Some v) half) next
+    if v == verb.SAY then word_aloud cave s half next
+    else word_alone cave s (with_verb (Some v) half) next
 
-abbrev pub before_by : CaveView → State → Half → List ℕ → Class → ℕ → Said → Understood
-before_by cave s half word class.Motion n next = understood half (Motion n)
-before_by cave s half word class.Object n next =
+abbrev pub class_before : CaveView → State → HalfCommand → List ℕ → Class → ℕ → SaidWord
+    → Understood
+class_before cave s half word class.Motion n next = understanding half (Motion n)
+class_before cave s half word class.Object n next =
     object_before cave s (object_word cave s half.verb false (or_no_object (Some n))) half word next
-before_by cave s half word class.Action n next = action_before cave s n half next
-before_by cave s half word class.Special n next = understood half (Tell (part.Message n))
+class_before cave s half word class.Action n next = action_before cave s n half next
+class_before cave s half word class.Special n next = understanding half (Tell (part.Message n))
 
-abbrev pub before_as : CaveView → State → Half → List ℕ → Option Meaning → Said → Understood
-before_as cave s half word None next = understood half Unknown
-before_as cave s half word (Some m) next = before_by cave s half word m.class m.number next
+abbrev pub meaning_before : CaveView → State → HalfCommand → List ℕ → Option Meaning → SaidWord
+    → Understood
+meaning_before cave s half word None next = understanding half Unknown
+meaning_before cave s half word (Some m) next = class_before cave s half word m.class m.number next
 
 -- a word that another follows
-unfoldable pub before : CaveView → State → Half → Said → Said → Understood
-before cave s half w next = before_as cave s half w.word w.meaning next
+unfoldable pub before : CaveView → State → HalfCommand → SaidWord → SaidWord → Understood
+before cave s half w next = meaning_before cave s half w.word w.meaning next
 
 -- a player who enters a stream gets wet feet if there is water
-abbrev pub wet_or_lost : CaveView → State → Half → Understood
-wet_or_lost cave s half =
+abbrev pub enter_stream : CaveView → State → HalfCommand → Understood
+enter_stream cave s half =
     if is_liquid (thing cave name.Water) (lake_of cave s)
-    then understood half (Tell (part.Role role.FeetWet))
-    else understood half (Tell (part.Role role.Where))
+    then understanding half (Tell (part.Role role.FeetWet))
+    else understanding half (Tell (part.Role role.Where))
 
 -- entering anything else is that word alone
-unfoldable pub entering_into : CaveView → State → Half → List ℕ → Understood
-entering_into cave s half word =
+unfoldable pub enter_word : CaveView → State → HalfCommand → List ℕ → Understood
+enter_word cave s half word =
     if is_written (codes "STREA") word || is_written (codes "WATER") word
-    then wet_or_lost cave s half
-    else alone cave s half (said_in cave word)
+    then enter_stream cave s half
+    else word_alone cave s half (said_word cave word)
 
--- water or oil is poured over a plant or a door that stands here
+-- water or oil is poured over a plant or a door that is here
 unfoldable pub is_pouring : CaveView → State → List ℕ → List ℕ → Bool
 is_pouring cave s word next =
     (is_written (codes "WATER") word || is_written (codes "OIL") word)
     && ((is_written (codes "PLANT") next
-    && stands_at s.objects s.trail.here (thing cave name.Plant))
-    || (is_written (codes "DOOR") next && stands_at s.objects s.trail.here (thing cave name.Door)))
+    && is_object_at s.objects s.trail.here (thing cave name.Plant))
+    || (is_written (codes "DOOR") next && is_object_at s.objects s.trail.here
+    (thing cave name.Door)))
 
 -- POUR, whatever the cave's words say
-abbrev pub pour_in : CaveView → Said
+abbrev pub pour_in : CaveView → SaidWord
 pour_in cave =
-    record { word = word_of cave.letters (codes "POUR"); meaning = Some (record { class = class.Action; number = verb.POUR }) }
+    record {
+      word = word_of cave.letters (codes "POUR");
+      meaning = Some (record { class = class.Action; number = verb.POUR });
+    }
 
-unfoldable pub two_words : CaveView → State → Half → List ℕ → List ℕ → Understood
+unfoldable pub two_words : CaveView → State → HalfCommand → List ℕ → List ℕ → Understood
 two_words cave s half word next =
-    if is_written (codes "ENTER") word then entering_into cave s half next
-    else (if is_pouring cave s word next then before cave s half (said_in cave word) (pour_in cave)
-    else before cave s half (said_in cave word) (said_in cave next))
+    if is_written (codes "ENTER") word then enter_word cave s half next
+    else (if is_pouring cave s word next
+    then before cave s half (said_word cave word) (pour_in cave)
+    else before cave s half (said_word cave word) (said_word cave next))
 
 abbrev pub is_saying : Option ℕ → Bool
 is_saying None = false
 is_saying (Some v) = v == verb.SAY
 
 -- after SAY alone a word is said, and of two words SAY is forgotten
-abbrev pub read_words : CaveView → State → Half → List ℕ → Option (List ℕ) → Understood
+abbrev pub read_words : CaveView → State → HalfCommand → List ℕ → Option (List ℕ) → Understood
 read_words cave s half word None =
-    if is_saying half.verb then aloud cave s half (said_in cave word)
-    else alone cave s half (said_in cave word)
+    if is_saying half.verb then word_aloud cave s half (said_word cave word)
+    else word_alone cave s half (said_word cave word)
 read_words cave s half word (Some next) =
     if is_saying half.verb then two_words cave s (with_verb None half) word next
     else two_words cave s half word next
 
 -- the half command that the game remembers
-abbrev pub half_of : Talk → Half
-half_of talk = record { verb = talk.verb; object = talk.object }
+abbrev pub half_command_of : Talk → HalfCommand
+half_command_of talk = record { verb = talk.verb; object = talk.object }

@@ -4,16 +4,19 @@ ghost use Rattle.cave_things.specs.Bounds.{HasRoom, SaysUpTo, parts_of_arrival, 
 ghost use Rattle.cave_things.specs.Bounds.{parts_of_finish, parts_of_question, parts_of_answer};
 ghost use Rattle.cave_things.specs.Plays.{scene_of, IsSamePlay, GoesOn};
 ghost use Rattle.cave_things.specs.Things.{cave_of};
-ghost use Rattle.cave_turn.specs.Answers.{answer_of, answer_in, instructed, told_of_oyster};
-ghost use Rattle.cave_turn.specs.Answers.{entering, quitting, agreed, declined, asked, is_of_hint};
-ghost use Rattle.cave_turn.specs.Answers.{concluded, answered, answers, closed, is_dragon, is_yes};
+ghost use Rattle.cave_turn.specs.Answers.{answer_of, answer_in, after_instructions, with_oyster_hint};
+ghost use Rattle.cave_turn.specs.Answers.{entrance_scene, quit_scene, yes_scene, no_scene};
+ghost use Rattle.cave_turn.specs.Answers.{reply_scene};
+ghost use Rattle.cave_turn.specs.Answers.{is_of_hint};
+ghost use Rattle.cave_turn.specs.Answers.{end_of_answer, answer_scene, answers, without_question};
+ghost use Rattle.cave_turn.specs.Answers.{is_dragon, is_yes};
 
 use crate::dragon::fight;
 use crate::finish::finish;
 use crate::revival::{come_back, stay_dead};
-use cave_data::Role;
 use cave_hints::{give, price};
 use cave_moves::arrive;
+use cave_rows::Role;
 use cave_score::{end, tell_question};
 use cave_things::{Play, Rules, start_place};
 use cave_words::Word;
@@ -30,7 +33,7 @@ pub enum Answer {
 /// The index of the hint that explains how to play.
 const INSTRUCTIONS: usize = 2;
 
-/// The index of the hint that stands under the oyster.
+/// The index of the hint that is written under the oyster.
 const CLUE: usize = 1;
 
 fn answer_of(word: Word) -> Answer
@@ -58,41 +61,40 @@ pub fn answer_in(rules: &Rules<'_>, line: &[u8]) -> Answer
 
 /// The instructions were given.
 fn instruct(state: &mut State)
-    ensures { state.new ≡ instructed state.old }
+    ensures { state.new ≡ after_instructions state.old }
 {
     state.hints.is_taken[INSTRUCTIONS] = true;
     state.lamp.charge = Charge::new(1000);
 }
 
-/// What stands under the oyster was told.
+/// The hint under the oyster was given.
 fn tell_of_oyster(state: &mut State)
-    ensures { state.new ≡ told_of_oyster state.old }
+    ensures { state.new ≡ with_oyster_hint state.old }
 {
     state.hints.is_taken[CLUE] = true;
 }
 
 /// The question is answered.
 pub fn close(state: &mut State)
-    ensures { state.new ≡ closed state.old }
+    ensures { state.new ≡ without_question state.old }
 {
     state.question = None;
 }
 
 /// The game begins at its first place.
-#[tactic(auto, unfolding(crate::specs::Answers::entering))]
+#[tactic(auto, unfolding(crate::specs::Answers::entrance_scene))]
 fn enter(rules: &Rules<'_>, play: &mut Play<'_>)
     requires { HasRoom (parts_of_arrival play.old.left) play.old }
-    ensures play { scene_of play.new ≡ entering (cave_of rules.now) (scene_of play.old) }
+    ensures play { scene_of play.new ≡ entrance_scene (cave_of rules.now) (scene_of play.old) }
     ensures same { IsSamePlay play.old play.new }
     ensures few { SaysUpTo (parts_of_arrival play.old.left) play.old play.new }
 {
     arrive(rules, start_place(rules.cave), play);
 }
 
-/// The player quits.
 fn quit(rules: &Rules<'_>, play: &mut Play<'_>)
     requires { HasRoom (1 + parts_of_end) play.old }
-    ensures play { scene_of play.new ≡ quitting (cave_of rules.now) (scene_of play.old) }
+    ensures play { scene_of play.new ≡ quit_scene (cave_of rules.now) (scene_of play.old) }
     ensures same { GoesOn play.old play.new }
     ensures few { SaysUpTo (1 + parts_of_end) play.old play.new }
 {
@@ -102,7 +104,8 @@ fn quit(rules: &Rules<'_>, play: &mut Play<'_>)
 
 fn agree(rules: &Rules<'_>, question: &Question, play: &mut Play<'_>)
     requires { HasRoom (parts_of_arrival play.old.left + 1) play.old }
-    ensures play { scene_of play.new ≡ agreed (cave_of rules.now) question.now (scene_of play.old) }
+    ensures play { scene_of play.new
+        ≡ yes_scene (cave_of rules.now) question.now (scene_of play.old) }
     ensures same { IsSamePlay play.old play.new }
     ensures few { SaysUpTo (parts_of_arrival play.old.left + 1) play.old play.new }
 {
@@ -127,7 +130,7 @@ fn agree(rules: &Rules<'_>, question: &Question, play: &mut Play<'_>)
 fn decline(rules: &Rules<'_>, question: &Question, play: &mut Play<'_>)
     requires { HasRoom (parts_of_arrival play.old.left + 1) play.old }
     ensures play { scene_of play.new
-        ≡ declined (cave_of rules.now) question.now (scene_of play.old) }
+        ≡ no_scene (cave_of rules.now) question.now (scene_of play.old) }
     ensures same { IsSamePlay play.old play.new }
     ensures few { SaysUpTo (parts_of_arrival play.old.left + 1) play.old play.new }
 {
@@ -146,7 +149,7 @@ fn decline(rules: &Rules<'_>, question: &Question, play: &mut Play<'_>)
 fn take(rules: &Rules<'_>, question: &Question, answer: Answer, play: &mut Play<'_>)
     requires { HasRoom (parts_of_arrival play.old.left + 1) play.old }
     ensures play { scene_of play.new
-        ≡ asked (cave_of rules.now) question.now answer (scene_of play.old) }
+        ≡ reply_scene (cave_of rules.now) question.now answer (scene_of play.old) }
     ensures same { IsSamePlay play.old play.new }
     ensures few { SaysUpTo (parts_of_arrival play.old.left + 1) play.old play.new }
 {
@@ -172,11 +175,11 @@ fn is_of_hint(question: &Question) -> bool
     matches!(question, Question::Hint(_) | Question::Take(_))
 }
 
-/// The turn ends, but for an answer about a hint.
+/// The turn ends, except after an answer about a hint.
 fn conclude(rules: &Rules<'_>, question: &Question, play: &mut Play<'_>)
     requires { HasRoom (parts_of_finish + parts_of_question) play.old }
     ensures play { scene_of play.new
-        ≡ concluded (cave_of rules.now) question.now (scene_of play.old) }
+        ≡ end_of_answer (cave_of rules.now) question.now (scene_of play.old) }
     ensures same { GoesOn play.old play.new }
     ensures few { SaysUpTo parts_of_finish play.old play.new }
 {
@@ -186,7 +189,7 @@ fn conclude(rules: &Rules<'_>, question: &Question, play: &mut Play<'_>)
 }
 
 /// Takes a line as the answer to the open question.
-#[tactic(auto, unfolding(crate::specs::Answers::answered))]
+#[tactic(auto, unfolding(crate::specs::Answers::answer_scene))]
 pub fn take_answer(
     rules: &Rules<'_>,
     question: &Question,
@@ -195,9 +198,9 @@ pub fn take_answer(
     out: &mut Out,
 )
     requires { out.old.items ≡ [] }
-    ensures state { (answered (cave_of rules.now) question.now line.now state.old).state
+    ensures state { (answer_scene (cave_of rules.now) question.now line.now state.old).state
         ≡ state.new }
-    ensures parts { (answered (cave_of rules.now) question.now line.now state.old).parts
+    ensures parts { (answer_scene (cave_of rules.now) question.now line.now state.old).parts
         ≡ out.new.items }
     ensures few { array_vec_len out.new ≤ parts_of_answer }
 {
@@ -207,8 +210,8 @@ pub fn take_answer(
     conclude(rules, question, &mut play);
 }
 
-/// Whether a line answers a question, and isn't a command: who is asked whether to fight the dragon
-/// with bare hands commands something else by any line but yes.
+/// Whether a line answers a question, and isn't a command: a player who is asked whether to fight
+/// the dragon with bare hands commands something else by any line but yes.
 pub fn answers(rules: &Rules<'_>, line: &[u8], question: &Question) -> bool
     ensures { result ≡ answers (cave_of rules.now) line.now question.now }
 {

@@ -3,24 +3,28 @@ ghost use Rattle.arrayvec.specs.ArrayVec.{array_vec_len};
 ghost use Rattle.cave_things.specs.Bounds.{HasRoom, SaysUpTo, parts_of_journey, parts_of_end};
 ghost use Rattle.cave_things.specs.Bounds.{parts_of_arrival, parts_of_command, room_of_deed};
 ghost use Rattle.cave_things.specs.Bounds.{parts_of_deed, room_of_timed_deed, parts_of_timed_deed};
-ghost use Rattle.cave_things.specs.Plays.{scene_of, opening, IsSamePlay, GoesOn};
+ghost use Rattle.cave_things.specs.Plays.{scene_of, scene_at_start, IsSamePlay, GoesOn};
 ghost use Rattle.cave_things.specs.Things.{cave_of};
-ghost use Rattle.cave_turn.specs.Commands.{with_magic_waiting, knife_here, with_knife, beginning};
-ghost use Rattle.cave_turn.specs.Commands.{travelling, puzzlement, puzzled, told_of_knives};
-ghost use Rattle.cave_turn.specs.Commands.{following, kept_of, doing, acting, done_as, remembering};
-ghost use Rattle.cave_turn.specs.Commands.{settled, carried_out, done_for, unread, after_clocks};
-ghost use Rattle.cave_turn.specs.Commands.{timed, commanded};
+ghost use Rattle.cave_turn.specs.Commands.{with_magic_waiting, knife_here, with_knife};
+ghost use Rattle.cave_turn.specs.Commands.{after_beginning};
+ghost use Rattle.cave_turn.specs.Commands.{travel_scene, puzzlement, puzzled_scene, after_vanished_knives};
+ghost use Rattle.cave_turn.specs.Commands.{next_scene, half_command_kept, words_done, words_done_by_verb, done_by_reading};
+ghost use Rattle.cave_turn.specs.Commands.{after_remembering};
+ghost use Rattle.cave_turn.specs.Commands.{scene_remembering, scene_of_understood, scene_of_words, unread_scene};
+ghost use Rattle.cave_turn.specs.Commands.{after_clocks};
+ghost use Rattle.cave_turn.specs.Commands.{clocks_scene, command_scene};
 
 use crate::finish::finish;
-use crate::reading::{Half, Reading, Understood, read_words};
+use crate::reading::{HalfCommand, Reading, Understood, read_words};
 use cave_clocks::{Clocks, run_clocks};
-use cave_data::Role;
 use cave_moves::{arrive, describe_here, lead_by_motion};
+use cave_objects::{Object, Place};
+use cave_rows::Role;
 use cave_score::{ask, end};
 use cave_things::{Play, Rules};
 use cave_verbs::{Command, Next, act};
 use cave_words::{Named, Word, Words};
-use cave_world::{Ending, Knife, Magic, Object, Out, Part, Place, State, WordLine};
+use cave_world::{Ending, Knife, Magic, Out, Part, State, WordLine};
 
 /// The magic words go on from where the last command left them.
 fn wait_for_magic(state: &mut State)
@@ -46,20 +50,18 @@ fn knife_here(here: Place, knife: Knife) -> Knife
     }
 }
 
-/// A command begins.
-#[tactic(auto, unfolding(crate::specs::Commands::beginning))]
+#[tactic(auto, unfolding(crate::specs::Commands::after_beginning))]
 fn begin(state: &mut State)
-    ensures { state.new ≡ beginning state.old }
+    ensures { state.new ≡ after_beginning state.old }
 {
     wait_for_magic(state);
     state.dwarves.knife = knife_here(state.trail.here, state.dwarves.knife);
 }
 
-/// The player travels by a motion.
-#[tactic(auto, unfolding(crate::specs::Commands::travelling))]
+#[tactic(auto, unfolding(crate::specs::Commands::travel_scene))]
 fn travel_by(rules: &Rules<'_>, motion: u16, play: &mut Play<'_>)
     requires { HasRoom (parts_of_arrival play.old.left + parts_of_journey) play.old }
-    ensures play { scene_of play.new ≡ travelling (cave_of rules.now) motion (scene_of play.old) }
+    ensures play { scene_of play.new ≡ travel_scene (cave_of rules.now) motion (scene_of play.old) }
     ensures same { IsSamePlay play.old play.new }
     ensures few { SaysUpTo (parts_of_arrival play.old.left + parts_of_journey) play.old play.new }
 {
@@ -80,10 +82,10 @@ fn puzzlement(first: bool, second: bool) -> Role
 }
 
 /// The cave doesn't have the word.
-#[tactic(auto, unfolding(crate::specs::Commands::puzzled))]
+#[tactic(auto, unfolding(crate::specs::Commands::puzzled_scene))]
 fn puzzle(play: &mut Play<'_>)
     requires { HasRoom 1 play.old }
-    ensures play { scene_of play.new ≡ puzzled (scene_of play.old) }
+    ensures play { scene_of play.new ≡ puzzled_scene (scene_of play.old) }
     ensures same { GoesOn play.old play.new }
     ensures few { SaysUpTo 1 play.old play.new }
 {
@@ -92,10 +94,10 @@ fn puzzle(play: &mut Play<'_>)
     play.say(puzzlement(first, second));
 }
 
-/// The player is told that the knives vanished.
+/// It is said that the knives vanished.
 fn tell_of_knives(play: &mut Play<'_>)
     requires { HasRoom 1 play.old }
-    ensures play { scene_of play.new ≡ told_of_knives (scene_of play.old) }
+    ensures play { scene_of play.new ≡ after_vanished_knives (scene_of play.old) }
     ensures same { GoesOn play.old play.new }
     ensures few { SaysUpTo 1 play.old play.new }
 {
@@ -106,7 +108,7 @@ fn tell_of_knives(play: &mut Play<'_>)
 /// What follows what a verb did.
 fn follow(rules: &Rules<'_>, next: &Next, play: &mut Play<'_>)
     requires { HasRoom (parts_of_arrival play.old.left) play.old }
-    ensures play { scene_of play.new ≡ following (cave_of rules.now) next.now (scene_of play.old) }
+    ensures play { scene_of play.new ≡ next_scene (cave_of rules.now) next.now (scene_of play.old) }
     ensures same { IsSamePlay play.old play.new }
     ensures few { SaysUpTo (parts_of_arrival play.old.left) play.old play.new }
 {
@@ -119,11 +121,11 @@ fn follow(rules: &Rules<'_>, next: &Next, play: &mut Play<'_>)
     }
 }
 
-fn kept_of(next: &Next, verb: u16) -> Option<Half>
-    ensures { result ≡ kept_of next.now verb }
+fn half_command_kept(next: &Next, verb: u16) -> Option<HalfCommand>
+    ensures { result ≡ half_command_kept next.now verb }
 {
     match next {
-        Next::Keep => Some(Half {
+        Next::Keep => Some(HalfCommand {
             verb: Some(verb),
             object: Object::none(),
         }),
@@ -131,19 +133,19 @@ fn kept_of(next: &Next, verb: u16) -> Option<Half>
     }
 }
 
-/// A verb is done by the first of its rows that fits, and then what follows. Tells what is kept for
-/// the next line.
-#[tactic(auto, unfolding(crate::specs::Commands::acting))]
+/// A verb is done by the first of its rows that fits, and then what follows. Returns what is kept
+/// for the next line.
+#[tactic(auto, unfolding(crate::specs::Commands::words_done_by_verb))]
 fn do_verb(
     rules: &Rules<'_>,
     verb: u16,
     object: Object,
     word: Word,
     play: &mut Play<'_>,
-) -> Option<Half>
+) -> Option<HalfCommand>
     requires { HasRoom (room_of_deed play.old.left) play.old }
-    ensures play { doing (scene_of play.new) result
-        ≡ acting (cave_of rules.now) verb object word (scene_of play.old) }
+    ensures play { words_done (scene_of play.new) result
+        ≡ words_done_by_verb (cave_of rules.now) verb object word (scene_of play.old) }
     ensures same { IsSamePlay play.old play.new }
     ensures few { SaysUpTo (parts_of_deed play.old.left) play.old play.new }
 {
@@ -155,14 +157,19 @@ fn do_verb(
     };
     let next = act(rules, command, play.state, play.out);
     follow(rules, &next, play);
-    kept_of(&next, verb)
+    half_command_kept(&next, verb)
 }
 
-/// What was read is done. Tells what is kept for the next line.
-fn do_reading(rules: &Rules<'_>, understood: &Understood, play: &mut Play<'_>) -> Option<Half>
+/// What was read is done. Returns what is kept for the next line.
+fn do_reading(
+    rules: &Rules<'_>,
+    understood: &Understood,
+    play: &mut Play<'_>,
+) -> Option<HalfCommand>
     requires { HasRoom (room_of_deed play.old.left) play.old }
-    ensures play { doing (scene_of play.new) result
-        ≡ done_as (cave_of rules.now) understood.now.half understood.now.reading (scene_of play.old) }
+    ensures play { words_done (scene_of play.new) result
+        ≡ done_by_reading (cave_of rules.now) understood.now.half understood.now.reading
+        (scene_of play.old) }
     ensures same { IsSamePlay play.old play.new }
     ensures few { SaysUpTo (parts_of_deed play.old.left) play.old play.new }
 {
@@ -193,8 +200,8 @@ fn do_reading(rules: &Rules<'_>, understood: &Understood, play: &mut Play<'_>) -
 }
 
 /// What is kept is remembered; where nothing is, the object that was read is the last one.
-fn remember(kept: Option<Half>, object: Object, state: &mut State)
-    ensures { state.new ≡ remembering kept object state.old }
+fn remember(kept: Option<HalfCommand>, object: Object, state: &mut State)
+    ensures { state.new ≡ after_remembering kept object state.old }
 {
     match kept {
         Some(half) => {
@@ -210,11 +217,11 @@ fn remember(kept: Option<Half>, object: Object, state: &mut State)
 }
 
 /// What was read is carried out, and what is left of it is remembered.
-#[tactic(auto, unfolding(crate::specs::Commands::carried_out, crate::specs::Commands::settled))]
+#[tactic(auto, unfolding(crate::specs::Commands::scene_of_understood, crate::specs::Commands::scene_remembering))]
 fn carry_out(rules: &Rules<'_>, understood: &Understood, play: &mut Play<'_>)
     requires { HasRoom (room_of_deed play.old.left) play.old }
     ensures play { scene_of play.new
-        ≡ carried_out (cave_of rules.now) understood.now (scene_of play.old) }
+        ≡ scene_of_understood (cave_of rules.now) understood.now (scene_of play.old) }
     ensures same { IsSamePlay play.old play.new }
     ensures few { SaysUpTo (parts_of_deed play.old.left) play.old play.new }
 {
@@ -225,14 +232,15 @@ fn carry_out(rules: &Rules<'_>, understood: &Understood, play: &mut Play<'_>)
 /// Does what the words of a line say.
 fn do_words(rules: &Rules<'_>, words: Words, play: &mut Play<'_>)
     requires { HasRoom (room_of_deed play.old.left) play.old }
-    ensures play { scene_of play.new ≡ done_for (cave_of rules.now) words (scene_of play.old) }
+    ensures play { scene_of play.new
+        ≡ scene_of_words (cave_of rules.now) words (scene_of play.old) }
     ensures same { IsSamePlay play.old play.new }
     ensures few { SaysUpTo (parts_of_deed play.old.left) play.old play.new }
 {
     match words.first {
         None => {}
         Some(word) => {
-            let half = Half::of(play.state.talk);
+            let half = HalfCommand::of(play.state.talk);
             let understood = read_words(rules, play.state, half, word, words.second);
             carry_out(rules, &understood, play);
         }
@@ -240,9 +248,9 @@ fn do_words(rules: &Rules<'_>, words: Words, play: &mut Play<'_>)
 }
 
 /// A command that isn't read leaves nothing for the next line.
-#[tactic(auto, unfolding(crate::specs::Commands::settled))]
+#[tactic(auto, unfolding(crate::specs::Commands::scene_remembering))]
 fn forget(play: &mut Play<'_>)
-    ensures play { scene_of play.new ≡ unread (scene_of play.old) }
+    ensures play { scene_of play.new ≡ unread_scene (scene_of play.old) }
     ensures same { GoesOn play.old play.new }
     ensures few { SaysUpTo 0 play.old play.new }
 {
@@ -271,10 +279,10 @@ fn go_on(rules: &Rules<'_>, words: Words, clocks: Clocks, play: &mut Play<'_>)
 }
 
 /// The clocks run, and the words of the line are done.
-#[tactic(auto, unfolding(crate::specs::Commands::timed))]
+#[tactic(auto, unfolding(crate::specs::Commands::clocks_scene))]
 fn do_in_time(rules: &Rules<'_>, words: Words, play: &mut Play<'_>)
     requires { HasRoom (room_of_timed_deed play.old.left) play.old }
-    ensures play { scene_of play.new ≡ timed (cave_of rules.now) words (scene_of play.old) }
+    ensures play { scene_of play.new ≡ clocks_scene (cave_of rules.now) words (scene_of play.old) }
     ensures same { IsSamePlay play.old play.new }
     ensures few { SaysUpTo (parts_of_timed_deed play.old.left) play.old play.new }
 {
@@ -283,11 +291,11 @@ fn do_in_time(rules: &Rules<'_>, words: Words, play: &mut Play<'_>)
 }
 
 /// Does what a line commands.
-#[tactic(auto, unfolding(crate::specs::Commands::commanded))]
+#[tactic(auto, unfolding(crate::specs::Commands::command_scene))]
 pub fn command(rules: &Rules<'_>, line: &[u8], state: &mut State, out: &mut Out)
     requires { out.old.items ≡ [] }
-    ensures state { (commanded (cave_of rules.now) line.now state.old).state ≡ state.new }
-    ensures parts { (commanded (cave_of rules.now) line.now state.old).parts ≡ out.new.items }
+    ensures state { (command_scene (cave_of rules.now) line.now state.old).state ≡ state.new }
+    ensures parts { (command_scene (cave_of rules.now) line.now state.old).parts ≡ out.new.items }
     ensures few { array_vec_len out.new ≤ parts_of_command }
 {
     begin(state);

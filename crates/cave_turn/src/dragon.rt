@@ -2,15 +2,16 @@ ghost use Rattle.std.specs.Prelude.{◌≡◌, ◌+◌, ◌<◌, ◌≤◌};
 ghost use Rattle.cave_things.specs.Bounds.{HasRoom, SaysUpTo, parts_of_arrival};
 ghost use Rattle.cave_things.specs.Plays.{scene_of, IsSamePlay};
 ghost use Rattle.cave_things.specs.Things.{cave_of};
-ghost use Rattle.cave_turn.specs.Dragon.{between, lair, is_by_dragon, gathered, slain, cleared};
-ghost use Rattle.cave_turn.specs.Dragon.{fought};
+ghost use Rattle.cave_turn.specs.Dragon.{between, lair, is_by_dragon, after_gathering};
+ghost use Rattle.cave_turn.specs.Dragon.{after_slaying, after_clearing};
+ghost use Rattle.cave_turn.specs.Dragon.{fight_scene};
 
 use cave_moves::arrive;
+use cave_objects::{Anchor, Object, Objects, Place, Prop};
 use cave_things::{Play, Rules};
 use cave_words::Named;
-use cave_world::{Anchor, Object, Objects, Place, Prop, State};
+use cave_world::State;
 
-/// The greatest number of an object.
 const LAST_OBJECT: u8 = 100;
 
 fn between(one: Place, other: Place, here: Place) -> Place
@@ -24,7 +25,7 @@ fn between(one: Place, other: Place, here: Place) -> Place
     }
 }
 
-/// Where the dragon lies once it is dead.
+/// Where the dragon is once it is dead.
 #[tactic(auto, unfolding(crate::specs::Dragon::lair))]
 fn lair(rules: &Rules<'_>, state: &State) -> Place
     ensures { result ≡ lair (cave_of rules.now) state.now }
@@ -48,9 +49,9 @@ fn is_by_dragon(rules: &Rules<'_>, objects: &Objects, object: Object) -> bool
         || (other.number() != 0 && objects.is_first_at(other, object))
 }
 
-/// All that lies at the places of the dragon is moved to one place.
+/// All that is at the places of the dragon is moved to one place.
 fn gather(rules: &Rules<'_>, place: Place, objects: &mut Objects)
-    ensures { objects.new ≡ gathered (cave_of rules.now) place 100 objects.old }
+    ensures { objects.new ≡ after_gathering (cave_of rules.now) place 100 objects.old }
 {
     for before in 0..LAST_OBJECT {
         let object = Object::new(before + 1);
@@ -60,10 +61,10 @@ fn gather(rules: &Rules<'_>, place: Place, objects: &mut Objects)
     }
 }
 
-/// The dragon is dead, and its rug lies loose beside it.
-#[tactic(auto, unfolding(crate::specs::Dragon::slain))]
+/// The dragon is dead, and its rug is loose beside it.
+#[tactic(auto, unfolding(crate::specs::Dragon::after_slaying))]
 fn slay(rules: &Rules<'_>, place: Place, objects: &mut Objects)
-    ensures { objects.new ≡ slain (cave_of rules.now) place objects.old }
+    ensures { objects.new ≡ after_slaying (cave_of rules.now) place objects.old }
 {
     let dragon = rules.object(Named::Dragon);
     let rug = rules.object(Named::Rug);
@@ -75,26 +76,26 @@ fn slay(rules: &Rules<'_>, place: Place, objects: &mut Objects)
     objects.move_to(rug, place);
 }
 
-/// The dragon is dead, and all that was by it lies at one place.
-#[tactic(auto, unfolding(crate::specs::Dragon::cleared))]
+/// The dragon is dead, and all that was by it is at one place.
+#[tactic(auto, unfolding(crate::specs::Dragon::after_clearing))]
 fn clear(rules: &Rules<'_>, place: Place, state: &mut State)
-    ensures { state.new ≡ cleared (cave_of rules.now) place state.old }
+    ensures { state.new ≡ after_clearing (cave_of rules.now) place state.old }
 {
     slay(rules, place, &mut state.objects);
     gather(rules, place, &mut state.objects);
 }
 
 /// The player fights the dragon with bare hands, and wins.
-#[tactic(auto, unfolding(crate::specs::Dragon::fought))]
+#[tactic(auto, unfolding(crate::specs::Dragon::fight_scene))]
 pub fn fight(rules: &Rules<'_>, play: &mut Play<'_>)
     requires { HasRoom (parts_of_arrival play.old.left + 1) play.old }
-    ensures play { scene_of play.new ≡ fought (cave_of rules.now) (scene_of play.old) }
+    ensures play { scene_of play.new ≡ fight_scene (cave_of rules.now) (scene_of play.old) }
     ensures same { IsSamePlay play.old play.new }
     ensures few { SaysUpTo (parts_of_arrival play.old.left + 1) play.old play.new }
 {
     let place = lair(rules, play.state);
     play.look(rules.object(Named::Dragon), 1);
     clear(rules, place, play.state);
-    play.stand_at(place);
+    play.put_player_at(place);
     arrive(rules, place, play);
 }

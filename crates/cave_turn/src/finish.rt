@@ -4,14 +4,14 @@ ghost use Rattle.std.specs.Prelude.{◌≡◌, ◌+◌};
 ghost use Rattle.cave_things.specs.Bounds.{HasRoom, SaysUpTo, parts_of_finish, parts_of_question};
 ghost use Rattle.cave_things.specs.Plays.{scene_of, GoesOn};
 ghost use Rattle.cave_things.specs.Things.{cave_of};
-ghost use Rattle.cave_turn.specs.Finish.{is_hidden_in_hand, oyster_shown, object_shown};
-ghost use Rattle.cave_turn.specs.Finish.{shown_up_to, hands_shown, finished};
+ghost use Rattle.cave_turn.specs.Finish.{is_hidden_in_hand, after_oyster_shows, layout_with_shown};
+ghost use Rattle.cave_turn.specs.Finish.{layout_with_shown_up_to, after_hands_show, end_of_turn};
 
 use cave_hints::consider_all;
+use cave_objects::object::LAST_OBJECT;
+use cave_objects::{Object, Objects, Prop};
 use cave_things::{Play, Rules};
 use cave_words::Named;
-use cave_world::object::LAST_OBJECT;
-use cave_world::{Object, Objects, Prop};
 
 /// Whether an object is carried and shows nothing yet.
 fn is_hidden_in_hand(objects: &Objects, object: Object) -> bool
@@ -21,10 +21,10 @@ fn is_hidden_in_hand(objects: &Objects, object: Object) -> bool
 }
 
 /// The oyster that a player takes in a closed cave shows what is written under it.
-#[tactic(auto, unfolding(crate::specs::Finish::oyster_shown))]
+#[tactic(auto, unfolding(crate::specs::Finish::after_oyster_shows))]
 fn show_oyster(rules: &Rules<'_>, play: &mut Play<'_>)
     requires { HasRoom 1 play.old }
-    ensures play { scene_of play.new ≡ oyster_shown (cave_of rules.now) (scene_of play.old) }
+    ensures play { scene_of play.new ≡ after_oyster_shows (cave_of rules.now) (scene_of play.old) }
     ensures same { GoesOn play.old play.new }
     ensures few { SaysUpTo 1 play.old play.new }
 {
@@ -34,9 +34,9 @@ fn show_oyster(rules: &Rules<'_>, play: &mut Play<'_>)
     }
 }
 
-#[tactic(auto, unfolding(crate::specs::Finish::object_shown))]
+#[tactic(auto, unfolding(crate::specs::Finish::layout_with_shown))]
 fn show_object(object: Object, objects: &mut Objects)
-    ensures { objects.new ≡ object_shown object objects.old }
+    ensures { objects.new ≡ layout_with_shown object objects.old }
 {
     if is_hidden_in_hand(objects, object) {
         let prop = objects.prop(object).value();
@@ -46,7 +46,7 @@ fn show_object(object: Object, objects: &mut Objects)
 
 /// All objects that are carried show themselves.
 fn show_objects(objects: &mut Objects)
-    ensures { objects.new ≡ shown_up_to 100 objects.old }
+    ensures { objects.new ≡ layout_with_shown_up_to 100 objects.old }
 {
     for before in 0..LAST_OBJECT as u8 {
         show_object(Object::new(before + 1), objects);
@@ -54,10 +54,10 @@ fn show_objects(objects: &mut Objects)
 }
 
 /// In a closed cave all that is carried shows itself.
-#[tactic(auto, unfolding(crate::specs::Finish::hands_shown))]
+#[tactic(auto, unfolding(crate::specs::Finish::after_hands_show))]
 fn show_hands(rules: &Rules<'_>, play: &mut Play<'_>)
     requires { HasRoom 1 play.old }
-    ensures play { scene_of play.new ≡ hands_shown (cave_of rules.now) (scene_of play.old) }
+    ensures play { scene_of play.new ≡ after_hands_show (cave_of rules.now) (scene_of play.old) }
     ensures same { GoesOn play.old play.new }
     ensures few { SaysUpTo 1 play.old play.new }
 {
@@ -68,14 +68,14 @@ fn show_hands(rules: &Rules<'_>, play: &mut Play<'_>)
 }
 
 /// A turn ends; after a question or the end of the game nothing more is done.
-#[tactic(auto, unfolding(crate::specs::Finish::finished))]
+#[tactic(auto, unfolding(crate::specs::Finish::end_of_turn))]
 pub fn finish(rules: &Rules<'_>, play: &mut Play<'_>)
     requires { HasRoom (parts_of_finish + parts_of_question) play.old }
-    ensures play { scene_of play.new ≡ finished (cave_of rules.now) (scene_of play.old) }
+    ensures play { scene_of play.new ≡ end_of_turn (cave_of rules.now) (scene_of play.old) }
     ensures same { GoesOn play.old play.new }
     ensures few { SaysUpTo parts_of_finish play.old play.new }
 {
-    if play.state.is_over() {
+    if play.state.takes_no_command() {
         return;
     }
     show_hands(rules, play);

@@ -4,16 +4,11 @@ ghost use Rattle.cave_turn.specs.ObjectWords.{is_there, is_liquid_here, is_grown
 ghost use Rattle.cave_turn.specs.ObjectWords.{is_knife_at, is_sought, is_above_grate};
 ghost use Rattle.cave_turn.specs.ObjectWords.{is_below_grate, object_word};
 
+use cave_objects::{Object, Place};
 use cave_things::{Rules, has_other_prop, is_dwarf_here, is_liquid};
 use cave_verbs::verb::{FIND, INVENTORY};
 use cave_words::Named;
-use cave_world::{Knife, Object, Place, State};
-
-/// The motion to the grate from before the cave.
-const TO_GRATE: u16 = 63;
-
-/// The motion to the grate from inside the cave.
-const TO_ENTRANCE: u16 = 64;
+use cave_world::{Knife, State, motion};
 
 /// What a word says that names an object.
 #[derive(Clone, Copy, Debug, PartialEq, Eq)]
@@ -32,7 +27,7 @@ pub enum ObjectWord {
 fn is_there(rules: &Rules<'_>, state: &State, object: Object) -> bool
     ensures { result ≡ is_there (cave_of rules.now) state.now object }
 {
-    state.at(object) || rules.is_toted(state, object)
+    state.at(object) || rules.is_in_hand(state, object)
 }
 
 /// Whether an object is what a bottle at hand has in it, or what the lake is of.
@@ -44,7 +39,7 @@ fn is_liquid_here(rules: &Rules<'_>, state: &State, object: Object) -> bool
         || is_liquid(object, rules.lake(state))
 }
 
-/// Whether the plant that grew stands for an object.
+/// Whether the plant that grew is taken for an object.
 #[tactic(auto, unfolding(crate::specs::ObjectWords::is_grown_plant))]
 fn is_grown_plant(rules: &Rules<'_>, state: &State, object: Object) -> bool
     ensures { result ≡ is_grown_plant (cave_of rules.now) state.now object }
@@ -99,10 +94,10 @@ pub fn object_word(
         return ObjectWord::Is(object);
     }
     if rules.is(object, Named::Grate) && is_above_grate(here) {
-        return ObjectWord::Leads(TO_GRATE);
+        return ObjectWord::Leads(motion::DEPRESSION);
     }
     if rules.is(object, Named::Grate) && is_below_grate(here) {
-        return ObjectWord::Leads(TO_ENTRANCE);
+        return ObjectWord::Leads(motion::ENTRANCE);
     }
     if rules.is(object, Named::Dwarf) && is_dwarf_here(state) {
         return ObjectWord::Is(object);

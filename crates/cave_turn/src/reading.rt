@@ -1,21 +1,24 @@
 ghost use Rattle.std.specs.Prelude.{◌≡◌};
 ghost use Rattle.cave_things.specs.Things.{cave_of};
-ghost use Rattle.cave_turn.specs.Reading.{with_verb, with_object, said_in, done_to, object_alone};
-ghost use Rattle.cave_turn.specs.Reading.{action_alone, alone_by, alone, is_magic_by, is_magic};
-ghost use Rattle.cave_turn.specs.Reading.{aloud, object_before, action_before, before_by, before};
-ghost use Rattle.cave_turn.specs.Reading.{wet_or_lost, entering_into, is_pouring, pour_in};
-ghost use Rattle.cave_turn.specs.Reading.{two_words, is_saying, read_words, half_of, understood};
+ghost use Rattle.cave_turn.specs.Reading.{with_verb, with_object, said_word, act_or_ask, object_alone};
+ghost use Rattle.cave_turn.specs.Reading.{action_alone, class_alone, word_alone, is_magic_by};
+ghost use Rattle.cave_turn.specs.Reading.{is_magic};
+ghost use Rattle.cave_turn.specs.Reading.{word_aloud, object_before, action_before, class_before, before};
+ghost use Rattle.cave_turn.specs.Reading.{enter_stream, enter_word, is_pouring, pour_in};
+ghost use Rattle.cave_turn.specs.Reading.{two_words, is_saying, read_words, half_command_of};
+ghost use Rattle.cave_turn.specs.Reading.{understanding};
 
 use crate::object_words::{ObjectWord, object_word};
-use cave_data::Role;
+use cave_objects::Object;
+use cave_rows::Role;
 use cave_things::{Rules, is_liquid, or_no_object};
 use cave_verbs::verb::{FOO, POUR, SAY};
 use cave_words::{Class, Meaning, Named, Word};
-use cave_world::{Object, Part, State, Talk, WordLine};
+use cave_world::{Part, State, Talk, WordLine, motion};
 
-/// Half a command: what was said of one before its other half.
+/// Half a command: what was said of it before its other half.
 #[derive(Clone, Copy, Debug, PartialEq, Eq)]
-pub struct Half {
+pub struct HalfCommand {
     /// The number of the action.
     pub verb: Option<u16>,
     /// The object; object 0 is none.
@@ -24,7 +27,7 @@ pub struct Half {
 
 /// A word, and what it means.
 #[derive(Clone, Copy, Debug, PartialEq, Eq)]
-pub struct Said {
+pub struct SaidWord {
     pub word: Word,
     pub meaning: Option<Meaning>,
 }
@@ -36,7 +39,7 @@ pub enum Reading {
     Unknown,
     /// The player travels by a motion.
     Motion(u16),
-    /// Something is told, and that is all.
+    /// Something is said, and that is all.
     Tell(Part),
     /// The player asks for the knives of the dwarves.
     Knives,
@@ -49,41 +52,41 @@ pub enum Reading {
 /// What was understood of a line, and the half command as the line leaves it.
 #[derive(Clone, Copy, Debug, PartialEq, Eq)]
 pub struct Understood {
-    pub half: Half,
+    pub half: HalfCommand,
     pub reading: Reading,
 }
 
-impl Half {
+impl HalfCommand {
     /// The half command that the game remembers.
-    pub fn of(talk: Talk) -> Half
-        ensures { result ≡ half_of talk }
+    pub fn of(talk: Talk) -> HalfCommand
+        ensures { result ≡ half_command_of talk }
     {
-        Half {
+        HalfCommand {
             verb: talk.verb,
             object: talk.object,
         }
     }
 
-    fn with_verb(self, verb: Option<u16>) -> Half
+    fn with_verb(self, verb: Option<u16>) -> HalfCommand
         ensures { result ≡ with_verb verb self }
     {
-        Half {
+        HalfCommand {
             verb,
             object: self.object,
         }
     }
 
-    fn with_object(self, object: Object) -> Half
+    fn with_object(self, object: Object) -> HalfCommand
         ensures { result ≡ with_object object self }
     {
-        Half {
+        HalfCommand {
             verb: self.verb,
             object,
         }
     }
 
     fn asks(self, reading: Reading) -> Understood
-        ensures { result ≡ understood self reading }
+        ensures { result ≡ understanding self reading }
     {
         Understood {
             half: self,
@@ -92,16 +95,16 @@ impl Half {
     }
 }
 
-fn said_in(rules: &Rules<'_>, word: Word) -> Said
-    ensures { result ≡ said_in (cave_of rules.now) word }
+fn said_word(rules: &Rules<'_>, word: Word) -> SaidWord
+    ensures { result ≡ said_word (cave_of rules.now) word }
 {
-    Said {
+    SaidWord {
         word,
         meaning: rules.meaning(word),
     }
 }
 
-fn object_alone(found: ObjectWord, half: Half, word: Word) -> Understood
+fn object_alone(found: ObjectWord, half: HalfCommand, word: Word) -> Understood
     ensures { result ≡ object_alone found half word }
 {
     match found {
@@ -117,7 +120,7 @@ fn object_alone(found: ObjectWord, half: Half, word: Word) -> Understood
     }
 }
 
-fn action_alone(verb: u16, half: Half, word: Word) -> Understood
+fn action_alone(verb: u16, half: HalfCommand, word: Word) -> Understood
     ensures { result ≡ action_alone verb half word }
 {
     let object = half.object;
@@ -130,9 +133,9 @@ fn action_alone(verb: u16, half: Half, word: Word) -> Understood
 }
 
 /// What a word says that no other follows.
-#[tactic(auto, unfolding(crate::specs::Reading::alone))]
-fn alone(rules: &Rules<'_>, state: &State, half: Half, said: Said) -> Understood
-    ensures { result ≡ alone (cave_of rules.now) state.now half said }
+#[tactic(auto, unfolding(crate::specs::Reading::word_alone))]
+fn alone(rules: &Rules<'_>, state: &State, half: HalfCommand, said: SaidWord) -> Understood
+    ensures { result ≡ word_alone (cave_of rules.now) state.now half said }
 {
     let word = said.word;
     match said.meaning {
@@ -159,7 +162,10 @@ fn is_magic(meaning: Option<Meaning>) -> bool
     match meaning {
         None => false,
         Some(meaning) => match meaning.class {
-            Class::Motion => matches!(meaning.number, 62 | 65 | 71),
+            Class::Motion => matches!(
+                meaning.number,
+                motion::XYZZY | motion::PLUGH | motion::PLOVER
+            ),
             Class::Action => meaning.number == FOO,
             Class::Object | Class::Special => false,
         },
@@ -167,9 +173,9 @@ fn is_magic(meaning: Option<Meaning>) -> bool
 }
 
 /// What is done where a word is said aloud.
-#[tactic(auto, unfolding(crate::specs::Reading::aloud))]
-fn aloud(rules: &Rules<'_>, state: &State, half: Half, said: Said) -> Understood
-    ensures { result ≡ aloud (cave_of rules.now) state.now half said }
+#[tactic(auto, unfolding(crate::specs::Reading::word_aloud))]
+fn word_aloud(rules: &Rules<'_>, state: &State, half: HalfCommand, said: SaidWord) -> Understood
+    ensures { result ≡ word_aloud (cave_of rules.now) state.now half said }
 {
     if is_magic(said.meaning) {
         return alone(rules, state, half, said);
@@ -181,9 +187,9 @@ fn object_before(
     rules: &Rules<'_>,
     state: &State,
     found: ObjectWord,
-    half: Half,
+    half: HalfCommand,
     word: Word,
-    next: Said,
+    next: SaidWord,
 ) -> Understood
     ensures { result ≡ object_before (cave_of rules.now) state.now found half word next }
 {
@@ -195,11 +201,17 @@ fn object_before(
     }
 }
 
-fn action_before(rules: &Rules<'_>, state: &State, verb: u16, half: Half, next: Said) -> Understood
+fn action_before(
+    rules: &Rules<'_>,
+    state: &State,
+    verb: u16,
+    half: HalfCommand,
+    next: SaidWord,
+) -> Understood
     ensures { result ≡ action_before (cave_of rules.now) state.now verb half next }
 {
     if verb == SAY {
-        aloud(rules, state, half, next)
+        word_aloud(rules, state, half, next)
     } else {
         alone(rules, state, half.with_verb(Some(verb)), next)
     }
@@ -207,7 +219,13 @@ fn action_before(rules: &Rules<'_>, state: &State, verb: u16, half: Half, next: 
 
 /// What a word says that another follows.
 #[tactic(auto, unfolding(crate::specs::Reading::before))]
-fn before(rules: &Rules<'_>, state: &State, half: Half, said: Said, next: Said) -> Understood
+fn before(
+    rules: &Rules<'_>,
+    state: &State,
+    half: HalfCommand,
+    said: SaidWord,
+    next: SaidWord,
+) -> Understood
     ensures { result ≡ before (cave_of rules.now) state.now half said next }
 {
     match said.meaning {
@@ -225,8 +243,8 @@ fn before(rules: &Rules<'_>, state: &State, half: Half, said: Said, next: Said) 
     }
 }
 
-fn wet_or_lost(rules: &Rules<'_>, state: &State, half: Half) -> Understood
-    ensures { result ≡ wet_or_lost (cave_of rules.now) state.now half }
+fn enter_stream(rules: &Rules<'_>, state: &State, half: HalfCommand) -> Understood
+    ensures { result ≡ enter_stream (cave_of rules.now) state.now half }
 {
     if is_liquid(rules.object(Named::Water), rules.lake(state)) {
         half.asks(Reading::Tell(Part::Role(Role::FeetWet)))
@@ -236,17 +254,17 @@ fn wet_or_lost(rules: &Rules<'_>, state: &State, half: Half) -> Understood
 }
 
 /// What it says to enter what a word names.
-#[tactic(auto, unfolding(crate::specs::Reading::entering_into))]
-fn enter_into(rules: &Rules<'_>, state: &State, half: Half, word: Word) -> Understood
-    ensures { result ≡ entering_into (cave_of rules.now) state.now half word }
+#[tactic(auto, unfolding(crate::specs::Reading::enter_word))]
+fn enter_into(rules: &Rules<'_>, state: &State, half: HalfCommand, word: Word) -> Understood
+    ensures { result ≡ enter_word (cave_of rules.now) state.now half word }
 {
     if word.is(b"STREA") || word.is(b"WATER") {
-        return wet_or_lost(rules, state, half);
+        return enter_stream(rules, state, half);
     }
-    alone(rules, state, half, said_in(rules, word))
+    alone(rules, state, half, said_word(rules, word))
 }
 
-/// Whether two words pour a liquid over what stands where the player stands.
+/// Whether two words pour a liquid over what is where the player is.
 #[tactic(auto, unfolding(crate::specs::Reading::is_pouring))]
 fn is_pouring(rules: &Rules<'_>, state: &State, word: Word, next: Word) -> bool
     ensures { result ≡ is_pouring (cave_of rules.now) state.now word next }
@@ -256,10 +274,10 @@ fn is_pouring(rules: &Rules<'_>, state: &State, word: Word, next: Word) -> bool
             || (next.is(b"DOOR") && state.at(rules.object(Named::Door))))
 }
 
-fn pour_in(rules: &Rules<'_>) -> Said
+fn pour_in(rules: &Rules<'_>) -> SaidWord
     ensures { result ≡ pour_in (cave_of rules.now) }
 {
-    Said {
+    SaidWord {
         word: Word::of(b"POUR", rules.lexicon.letters()),
         meaning: Some(Meaning {
             class: Class::Action,
@@ -269,17 +287,23 @@ fn pour_in(rules: &Rules<'_>) -> Said
 }
 
 #[tactic(auto, unfolding(crate::specs::Reading::two_words))]
-fn two_words(rules: &Rules<'_>, state: &State, half: Half, word: Word, next: Word) -> Understood
+fn two_words(
+    rules: &Rules<'_>,
+    state: &State,
+    half: HalfCommand,
+    word: Word,
+    next: Word,
+) -> Understood
     ensures { result ≡ two_words (cave_of rules.now) state.now half word next }
 {
     if word.is(b"ENTER") {
         return enter_into(rules, state, half, next);
     }
-    let said = said_in(rules, word);
+    let said = said_word(rules, word);
     if is_pouring(rules, state, word, next) {
         return before(rules, state, half, said, pour_in(rules));
     }
-    before(rules, state, half, said, said_in(rules, next))
+    before(rules, state, half, said, said_word(rules, next))
 }
 
 fn is_saying(verb: Option<u16>) -> bool
@@ -295,7 +319,7 @@ fn is_saying(verb: Option<u16>) -> bool
 pub fn read_words(
     rules: &Rules<'_>,
     state: &State,
-    half: Half,
+    half: HalfCommand,
     word: Word,
     next: Option<Word>,
 ) -> Understood
@@ -303,9 +327,9 @@ pub fn read_words(
 {
     match next {
         None => {
-            let said = said_in(rules, word);
+            let said = said_word(rules, word);
             if is_saying(half.verb) {
-                aloud(rules, state, half, said)
+                word_aloud(rules, state, half, said)
             } else {
                 alone(rules, state, half, said)
             }

@@ -4,17 +4,18 @@ ghost use Rattle.std.specs.Prelude.{◌≡◌, ◌+◌};
 ghost use Rattle.cave_things.specs.Bounds.{HasRoom, SaysUpTo, parts_of_arrival, parts_of_end};
 ghost use Rattle.cave_things.specs.Plays.{scene_of, GoesOn, IsSamePlay};
 ghost use Rattle.cave_things.specs.Things.{cave_of};
-ghost use Rattle.cave_turn.specs.Revival.{revival_role, lamp_put_out, fallen_place};
-ghost use Rattle.cave_turn.specs.Revival.{object_fallen, fallen_from, bereft, put_at};
-ghost use Rattle.cave_turn.specs.Revival.{revived, reborn, buried};
+ghost use Rattle.cave_turn.specs.Revival.{revival_role, layout_with_lamp_out, fallen_place};
+ghost use Rattle.cave_turn.specs.Revival.{layout_after_fall, layout_after_falls, without_belongings, put_at};
+ghost use Rattle.cave_turn.specs.Revival.{revival_scene, return_scene, burial_scene};
 
-use cave_data::Role;
 use cave_moves::describe_here;
+use cave_objects::object::LAST_OBJECT;
+use cave_objects::{Object, Objects, Place, Prop};
+use cave_rows::Role;
 use cave_score::{count_death, end};
 use cave_things::{Play, Rules, building_place, start_place};
 use cave_words::Named;
-use cave_world::object::LAST_OBJECT;
-use cave_world::{Ending, Object, Objects, Place, Prop, State};
+use cave_world::{Ending, State};
 
 /// What is said of a revival, by the deaths before.
 fn revival_role(deaths: u16) -> Role
@@ -28,13 +29,13 @@ fn revival_role(deaths: u16) -> Role
 }
 
 /// A lamp that the player carries is put out.
-#[tactic(auto, unfolding(crate::specs::Revival::lamp_put_out))]
+#[tactic(auto, unfolding(crate::specs::Revival::layout_with_lamp_out))]
 fn put_lamp_out(rules: &Rules<'_>, state: &mut State)
     ensures { state.new
-        ≡ record state.old { objects = lamp_put_out (cave_of rules.now) state.old } }
+        ≡ record state.old { objects = layout_with_lamp_out (cave_of rules.now) state.old } }
 {
     let lamp = rules.object(Named::Lamp);
-    if rules.is_toted(state, lamp) {
+    if rules.is_in_hand(state, lamp) {
         state.objects.set_prop(lamp, Prop::new(0));
     }
 }
@@ -49,9 +50,9 @@ fn fallen_place(rules: &Rules<'_>, place: Place, object: Object) -> Place
     }
 }
 
-#[tactic(auto, unfolding(crate::specs::Revival::object_fallen))]
+#[tactic(auto, unfolding(crate::specs::Revival::layout_after_fall))]
 fn let_fall(rules: &Rules<'_>, place: Place, object: Object, objects: &mut Objects)
-    ensures { objects.new ≡ object_fallen (cave_of rules.now) place object objects.old }
+    ensures { objects.new ≡ layout_after_fall (cave_of rules.now) place object objects.old }
 {
     if objects.is_carried(object) {
         objects.move_to(object, fallen_place(rules, place, object));
@@ -60,7 +61,7 @@ fn let_fall(rules: &Rules<'_>, place: Place, object: Object, objects: &mut Objec
 
 /// What was carried falls, the last object first.
 fn let_all_fall(rules: &Rules<'_>, place: Place, objects: &mut Objects)
-    ensures { objects.new ≡ fallen_from (cave_of rules.now) place 100 objects.old }
+    ensures { objects.new ≡ layout_after_falls (cave_of rules.now) place 100 objects.old }
 {
     for before in 0..LAST_OBJECT as u8 {
         let object = Object::new(LAST_OBJECT as u8 - before);
@@ -68,10 +69,10 @@ fn let_all_fall(rules: &Rules<'_>, place: Place, objects: &mut Objects)
     }
 }
 
-/// All that was carried lies where the player died.
-#[tactic(auto, unfolding(crate::specs::Revival::bereft))]
+/// All that was carried is where the player died.
+#[tactic(auto, unfolding(crate::specs::Revival::without_belongings))]
 fn bereave(rules: &Rules<'_>, state: &mut State)
-    ensures { state.new ≡ bereft (cave_of rules.now) state.old }
+    ensures { state.new ≡ without_belongings (cave_of rules.now) state.old }
 {
     put_lamp_out(rules, state);
     let older = state.trail.older;
@@ -86,10 +87,10 @@ fn put_at(place: Place, state: &mut State)
 }
 
 /// The player is back, without what was carried.
-#[tactic(auto, unfolding(crate::specs::Revival::revived))]
+#[tactic(auto, unfolding(crate::specs::Revival::revival_scene))]
 fn revive(rules: &Rules<'_>, play: &mut Play<'_>)
     requires { HasRoom (parts_of_arrival play.old.left) play.old }
-    ensures play { scene_of play.new ≡ revived (cave_of rules.now) (scene_of play.old) }
+    ensures play { scene_of play.new ≡ revival_scene (cave_of rules.now) (scene_of play.old) }
     ensures same { IsSamePlay play.old play.new }
     ensures few { SaysUpTo (parts_of_arrival play.old.left) play.old play.new }
 {
@@ -98,11 +99,11 @@ fn revive(rules: &Rules<'_>, play: &mut Play<'_>)
     describe_here(rules, play);
 }
 
-/// Who wants to come back does so twice; the third death is the last.
-#[tactic(auto, unfolding(crate::specs::Revival::reborn))]
+/// A player who wants to come back does so twice; the third death is the last.
+#[tactic(auto, unfolding(crate::specs::Revival::return_scene))]
 pub fn come_back(rules: &Rules<'_>, play: &mut Play<'_>)
     requires { HasRoom (parts_of_arrival play.old.left + 1) play.old }
-    ensures play { scene_of play.new ≡ reborn (cave_of rules.now) (scene_of play.old) }
+    ensures play { scene_of play.new ≡ return_scene (cave_of rules.now) (scene_of play.old) }
     ensures same { IsSamePlay play.old play.new }
     ensures few { SaysUpTo (parts_of_arrival play.old.left + 1) play.old play.new }
 {
@@ -116,11 +117,11 @@ pub fn come_back(rules: &Rules<'_>, play: &mut Play<'_>)
     revive(rules, play);
 }
 
-/// Who doesn't want to come back is dead.
-#[tactic(auto, unfolding(crate::specs::Revival::buried))]
+/// A player who doesn't want to come back is dead.
+#[tactic(auto, unfolding(crate::specs::Revival::burial_scene))]
 pub fn stay_dead(rules: &Rules<'_>, play: &mut Play<'_>)
     requires { HasRoom (1 + parts_of_end) play.old }
-    ensures play { scene_of play.new ≡ buried (cave_of rules.now) (scene_of play.old) }
+    ensures play { scene_of play.new ≡ burial_scene (cave_of rules.now) (scene_of play.old) }
     ensures same { GoesOn play.old play.new }
     ensures few { SaysUpTo (1 + parts_of_end) play.old play.new }
 {

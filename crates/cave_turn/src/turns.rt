@@ -1,20 +1,22 @@
 ghost use Rattle.std.specs.Prelude.{◌≡◌, ◌+◌, ◌^◌, ◌<◌, ◌≤◌, [], false, IsTrue};
 ghost use Rattle.arrayvec.specs.ArrayVec.{array_vec_len};
 ghost use Rattle.cave_words.specs.Lexicon.{IsLexiconOf};
-ghost use Rattle.cave_words.specs.Line.{is_line};
-ghost use Rattle.cave_words.specs.LogLine.{log_line};
+ghost use Rattle.log_lines.specs.Line.{is_line};
+ghost use Rattle.log_lines.specs.LogLine.{log_line};
 ghost use Rattle.cave_score.specs.Score.{score_of, max_score_of};
 ghost use Rattle.cave_things.specs.Bounds.{parts_of_turn};
 ghost use Rattle.cave_things.specs.Things.{cave_of};
-ghost use Rattle.cave_turn.specs.Turn.{begun, turned, played, stream_passed};
+ghost use Rattle.cave_turn.specs.Turn.{game_beginning, turn_on_line, turn_of_input, stream_passed};
 
 use crate::answers::{answers, close, take_answer};
 use crate::commands::command;
 use cave_begin::begun_state;
-use cave_data::{Cave, Role};
+use cave_data::Cave;
+use cave_rows::Role;
 use cave_things::Rules;
-use cave_words::{Lexicon, LogLine, Meter, Stream};
+use cave_words::{Lexicon, Stream};
 use cave_world::{Out, Part, State};
+use log_lines::{LogLine, Meter};
 
 /// The state after a line, and whether the line was a turn of the game.
 #[derive(Clone, Copy, Debug, PartialEq, Eq)]
@@ -40,20 +42,20 @@ pub fn max_score(cave: &Cave, lexicon: &Lexicon) -> u32
 }
 
 /// Begins a game.
-#[tactic(auto, unfolding(crate::specs::Turn::begun))]
+#[tactic(auto, unfolding(crate::specs::Turn::game_beginning))]
 pub fn start(cave: &Cave, seed: u32, out: &mut Out) -> State
     requires { out.old.items ≡ [] }
-    ensures { record { state = result; parts = out.new.items } ≡ begun cave.now seed }
+    ensures { record { state = result; parts = out.new.items } ≡ game_beginning cave.now seed }
 {
     out.push(Part::Role(Role::Welcome));
     begun_state(cave, Stream::seeded(seed))
 }
 
-/// Plays a line of input. Tells whether it is a turn of the game.
+/// Plays a line of input. Returns whether it is a turn of the game.
 fn play(rules: &Rules<'_>, line: &[u8], state: &mut State, out: &mut Out) -> bool
     requires { out.old.items ≡ [] }
     ensures turn { record { state = state.new; parts = out.new.items; ticked = result }
-        ≡ played (cave_of rules.now) line.now state.old.ending state.old.question state.old }
+        ≡ turn_of_input (cave_of rules.now) line.now state.old.ending state.old.question state.old }
     ensures few { array_vec_len out.new ≤ parts_of_turn }
 {
     if state.ending.is_some() {
@@ -90,8 +92,8 @@ pub fn stream_passed(state: &State, line: &[u8]) -> Option<Stream>
     }
 }
 
-/// Plays a line of a log in the state itself. Tells whether it is a turn of the game.
-#[tactic(auto, unfolding(crate::specs::Turn::turned))]
+/// Plays a line of a log in the state itself. Returns whether it is a turn of the game.
+#[tactic(auto, unfolding(crate::specs::Turn::turn_on_line))]
 pub fn take_line(
     cave: &Cave,
     lexicon: &Lexicon,
@@ -106,7 +108,7 @@ pub fn take_line(
     requires room { meter.old + 1 < 2 ^ 64 }
 
     ensures turn { record { state = state.new; parts = out.new.items; ticked = result }
-        ≡ turned cave.now state.old line.now }
+        ≡ turn_on_line cave.now state.old line.now }
     ensures few { array_vec_len out.new ≤ parts_of_turn }
     ensures counted { meter.new ≡ meter.old + 1 }
 {
@@ -136,7 +138,7 @@ pub fn turn(
     requires room { meter.old + 1 < 2 ^ 64 }
 
     ensures turn { record { state = result.state; parts = out.new.items; ticked = result.ticked }
-        ≡ turned cave.now state.now line.now }
+        ≡ turn_on_line cave.now state.now line.now }
     ensures few { array_vec_len out.new ≤ parts_of_turn }
     ensures counted { meter.new ≡ meter.old + 1 }
 {

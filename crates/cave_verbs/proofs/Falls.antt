@@ -7,10 +7,10 @@ use Rattle.cave_data.specs.CaveView.{CaveView}
 use Rattle.cave_words.specs.Named.{object_named, object_of_word, next_object, name_of}
 use Rattle.cave_words.specs.declared.named.Named.TheVariants as name
 use Rattle.cave_world.specs.declared.state.State.{State}
-use Rattle.cave_things.specs.Numbers.{or_no_object}
-use Rattle.cave_things.specs.Things.{thing, called}
-use Rattle.cave_things.specs.Reach.{is_called, is_toted, is_near}
-use Rattle.cave_world.specs.Objects.{is_carried, is_first_at, spot_of}
+use Rattle.cave_things.specs.Things.{or_no_object}
+use Rattle.cave_things.specs.Things.{thing, object_called}
+use Rattle.cave_things.specs.Reach.{is_called, is_in_hand, is_near}
+use Rattle.cave_objects.specs.Objects.{is_carried, is_first_at, spot_of}
 use Rattle.cave_things.specs.Liquids.{liquid_of, is_liquid}
 use Rattle.cave_verbs.specs.Ranks.{take_rank, rank}
 
@@ -24,12 +24,13 @@ unfolding is_called thing
 bottle-oil cave = grind arith
 
 -- what is in the bottle is a liquid by its name
-pub liquid-called : (cave : CaveView) (s : State) (x : ℕ) → is_liquid x (liquid_of cave s) ≡ true
+pub liquid-object_called : (cave : CaveView) (s : State) (x : ℕ)
+    → is_liquid x (liquid_of cave s) ≡ true
     → (is_called cave x name.Water || is_called cave x name.Oil) ≡ true
 unfolding is_called liquid_of
-liquid-called cave s x h = grind arith
+liquid-object_called cave s x h = grind arith
 
--- what is in the bottle tells that there is a bottle
+-- what is in the bottle shows that there is a bottle
 pub bottle-there : (cave : CaveView) (s : State) (x : ℕ) → is_liquid x (liquid_of cave s) ≡ true
     → (thing cave name.Bottle == 0) ≡ false
 unfolding liquid_of
@@ -39,7 +40,7 @@ bottle-there cave s x h = grind arith
 pub take-falls : (cave : CaveView) (s : State) (x : ℕ) → is_liquid x (liquid_of cave s) ≡ true
     → suc (take_rank cave (thing cave name.Bottle)) ≤ take_rank cave x
 take-falls cave s x h =
-    let liquid = liquid-called cave s x h in let there = bottle-there cave s x h in
+    let liquid = liquid-object_called cave s x h in let there = bottle-there cave s x h in
     let water = bottle-water cave in let oil = bottle-oil cave in
     grind (arith, liquid, there, water, oil)
 
@@ -52,12 +53,12 @@ second_differs (Some n) = grind arith
 
 -- the second rod is not the first
 pub second-rod : (cave : CaveView) → is_called cave (thing cave name.SecondRod) name.Rod ≡ false
-unfolding is_called thing called object_named name_of
+unfolding is_called thing object_called object_named name_of
 second-rod cave = second_differs (object_of_word cave (name_of name.Rod))
 
 -- nothing that isn't there is near
 nothing-near : (cave : CaveView) (s : State) → is_near cave s 0 ≡ false
-unfolding is_near is_toted is_called is_carried is_first_at spot_of
+unfolding is_near is_in_hand is_called is_carried is_first_at spot_of
 nothing-near cave s = refl
 
 pub near-there : (cave : CaveView) (s : State) (x : ℕ) → is_near cave s x ≡ true → (x == 0) ≡ false

@@ -2,11 +2,11 @@
 use Rattle.std.proofs.Common.{◌≡◌, ℕ, zero, suc, ◌<◌, true, arith}
 use Rattle.std.proofs.lemmas.Bool.{false≢true}
 use Rattle.cave_data.specs.CaveView.{CaveView}
-use Rattle.cave_world.specs.Objects.{spot_of, is_carried, is_first_at}
+use Rattle.cave_objects.specs.Objects.{spot_of, is_carried, is_first_at}
 use Rattle.cave_world.specs.declared.state.State.{State}
-use Rattle.cave_things.specs.Reach.{is_called, is_toted, is_near}
+use Rattle.cave_things.specs.Reach.{is_called, is_in_hand, is_near}
 
 pub near_is_something : (cave : CaveView) (s : State) (x : ℕ) → is_near cave s x ≡ true → 0 < x
-unfolding is_near is_toted is_called is_carried is_first_at spot_of
+unfolding is_near is_in_hand is_called is_carried is_first_at spot_of
 near_is_something cave s zero near = absurd (false≢true near)
 near_is_something cave s (suc x) near = omega arith

@@ -19,7 +19,7 @@ use Rattle.cave_verbs.specs.Rows.{first_fitting}
 use Rattle.cave_verbs.specs.Small.{bare_rows, other_rows, nothing_rows, bare_quit_rows}
 use Rattle.cave_verbs.specs.Small.{bare_score_rows, bare_brief_rows}
 use Rattle.cave_verbs.specs.Taking.{bare_take_rows, take_rows}
-use Rattle.cave_verbs.specs.Throwing.{thrown}
+use Rattle.cave_verbs.specs.Throwing.{throw_outcome}
 use Rattle.cave_verbs.specs.Verbs as verb
 use Rattle.cave_verbs.specs.Waving.{wave_rows, rub_rows}
 use Rattle.cave_verbs.specs.declared.next.Next.{Next}
@@ -91,7 +91,7 @@ object_rules =
     ∷ rule verb.EAT (first_fitting eat_rows)
     ∷ rule verb.DRINK (first_fitting drink_rows)
     ∷ rule verb.RUB (first_fitting rub_rows)
-    ∷ rule verb.THROW thrown
+    ∷ rule verb.THROW throw_outcome
     ∷ rule verb.FIND (first_fitting find_rows)
     ∷ rule verb.INVENTORY (first_fitting find_rows)
     ∷ rule verb.FEED (first_fitting feed_rows)
@@ -127,11 +127,13 @@ outcome_within (suc left) d =
     ]
 
 -- what follows in the end
-abbrev pub next_of : Step → Next
-next_of (Done next) = next
-next_of (GoOn v x) = Stay
+abbrev pub next_of_step : Step → Next
+next_of_step (Done next) = next
+next_of_step (GoOn v x) = Stay
 
 -- what is commanded is done; no verb goes on more than three times
-unfoldable pub acted : CaveView → Command → State → List Part → Outcome
-acted cave command s parts =
-    outcome_within 3 (deed cave (record { verb = command.verb; object = command.object; command = command }) s parts)
+unfoldable pub outcome_of_command : CaveView → Command → State → List Part → Outcome
+outcome_of_command cave command s parts =
+    outcome_within 3
+    (deed cave (record { verb = command.verb; object = command.object; command = command }) s
+    parts)

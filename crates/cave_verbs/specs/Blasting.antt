@@ -1,22 +1,23 @@
 -- BLAST, with an object or without one.
+use Rattle.cave_objects.specs.Spots.{is_place}
 use Rattle.std.specs.Prelude.{negsuc, List, [], ◌∷◌}
-use Rattle.cave_data.specs.declared.place_role.PlaceRole.{PlaceRole}
-use Rattle.cave_data.specs.declared.place_role.PlaceRole.TheVariants as place
-use Rattle.cave_data.specs.declared.role.Role.TheVariants as role
+use Rattle.cave_rows.specs.declared.place_role.PlaceRole.{PlaceRole}
+use Rattle.cave_rows.specs.declared.place_role.PlaceRole.TheVariants as place
+use Rattle.cave_rows.specs.declared.role.Role.TheVariants as role
 use Rattle.cave_words.specs.declared.named.Named.TheVariants as name
 use Rattle.cave_world.specs.declared.ending.Ending.TheVariants as ending
-use Rattle.cave_things.specs.Places.{place_named, is_that}
+use Rattle.cave_things.specs.Places.{place_named}
 use Rattle.cave_verbs.specs.Effects.{say, default}
 use Rattle.cave_verbs.specs.Rows.{Row, Test, row, row_then, ends}
-use Rattle.cave_verbs.specs.Tests.{the, no, near, prop_up_to, closed}
+use Rattle.cave_verbs.specs.Tests.{the, no, near, prop_up_to, cave_closed}
 
--- the player stands at the place that has a role
+-- the player is at the place that has a role
 abbrev pub at : PlaceRole → Test
-at role d = is_that d.state.trail.here (place_named d.cave role)
+at role d = is_place d.state.trail.here (place_named d.cave role)
 
 unfoldable pub blast_rows : List Row
 blast_rows =
-    row (no closed ∷ []) (default ∷ [])
+    row (no cave_closed ∷ []) (default ∷ [])
     ∷ row (prop_up_to (the name.SecondRod) (negsuc 0) ∷ []) (default ∷ [])
     ∷ row_then (near (the name.SecondRod) ∷ []) (say role.Klutz ∷ []) (ends ending.Klutz)
     ∷ row_then (at place.Ne ∷ []) (say role.WrongWay ∷ []) (ends ending.WrongWay)

@@ -23,12 +23,12 @@ meant_after xs [] d = xs
 meant_after xs (c ∷ cs) d = meant_after (with_meant (c.test d) (c.object d) xs) cs d
 
 -- of candidates, the objects that the verb could be meant for
-abbrev pub meant : List Candidate → Deed → List ℕ
-meant candidates d = meant_after [] candidates d
+abbrev pub objects_meant : List Candidate → Deed → List ℕ
+objects_meant candidates d = meant_after [] candidates d
 
-abbrev pub first_of : List ℕ → ℕ
-first_of [] = 0
-first_of (x ∷ xs) = x
+abbrev pub first_or_none : List ℕ → ℕ
+first_or_none [] = 0
+first_or_none (x ∷ xs) = x
 
 abbrev pub only_of : List ℕ → ℕ
 only_of (x ∷ []) = x
@@ -40,7 +40,7 @@ several xs d = nat_le 2 (length (xs d))
 
 -- the first; 0 where there is none
 abbrev pub first : (Deed → List ℕ) → Thing
-first xs d = first_of (xs d)
+first xs d = first_or_none (xs d)
 
 -- the only one; 0 where there are more, or none
 abbrev pub only : (Deed → List ℕ) → Thing

@@ -1,35 +1,35 @@
 -- DROP.
 use Rattle.std.specs.Prelude.{pos, List, [], ◌∷◌}
-use Rattle.cave_data.specs.declared.role.Role.TheVariants as role
+use Rattle.cave_rows.specs.declared.role.Role.TheVariants as role
 use Rattle.cave_words.specs.declared.named.Named.TheVariants as name
 use Rattle.cave_world.specs.declared.ending.Ending.TheVariants as ending
 use Rattle.cave_things.specs.Homes.{is_home_elsewhere}
 use Rattle.cave_verbs.specs.Effects.{say, default, ask_what, look, bring, kill, fix, set_prop, put}
-use Rattle.cave_verbs.specs.Effects.{trolls, lost}
+use Rattle.cave_verbs.specs.Effects.{trolls, lose_to_snake}
 use Rattle.cave_verbs.specs.Rows.{Row, Test, Thing, row, row_then, keeps, ends, goes_on}
 use Rattle.cave_verbs.specs.Verbs as verb
-use Rattle.cave_verbs.specs.Tests.{x, the, no, is, toted, near, stands, prop, closed}
+use Rattle.cave_verbs.specs.Tests.{x, the, no, is, carries, near, is_here, prop, cave_closed}
 
--- the player stands elsewhere than where an object is at home
+-- the player is elsewhere than where an object is at home
 abbrev pub from_home : Thing → Test
 from_home t d = is_home_elsewhere d.cave d.state (t d)
 
 unfoldable pub drop_rows : List Row
 drop_rows =
-    row_then (is name.Rod ∷ no (toted x) ∷ toted (the name.SecondRod) ∷ [])
+    row_then (is name.Rod ∷ no (carries x) ∷ carries (the name.SecondRod) ∷ [])
     [] (goes_on verb.DROP (the name.SecondRod))
-    ∷ row (no (toted x) ∷ []) (default ∷ [])
-    ∷ row_then (is name.Bird ∷ near (the name.Snake) ∷ closed ∷ [])
+    ∷ row (no (carries x) ∷ []) (default ∷ [])
+    ∷ row_then (is name.Bird ∷ near (the name.Snake) ∷ cave_closed ∷ [])
     (say role.BirdSnake ∷ say role.Disturbed ∷ []) (ends ending.Killed)
     ∷ row (is name.Bird ∷ near (the name.Snake) ∷ [])
     (say role.BirdSnake ∷ kill (the name.Snake) ∷ set_prop (the name.Snake) (pos 1) ∷ put x ∷ [])
     ∷ row (is name.Coins ∷ near (the name.Vending) ∷ [])
     (kill x ∷ bring (the name.Batteries) ∷ look (the name.Batteries) (pos 0) ∷ [])
-    ∷ row (is name.Bird ∷ stands (the name.Dragon) ∷ prop (the name.Dragon) (pos 0) ∷ [])
-    (say role.BirdDragon ∷ kill x ∷ set_prop x (pos 0) ∷ lost ∷ [])
-    ∷ row (is name.Bear ∷ stands (the name.Troll) ∷ [])
+    ∷ row (is name.Bird ∷ is_here (the name.Dragon) ∷ prop (the name.Dragon) (pos 0) ∷ [])
+    (say role.BirdDragon ∷ kill x ∷ set_prop x (pos 0) ∷ lose_to_snake ∷ [])
+    ∷ row (is name.Bear ∷ is_here (the name.Troll) ∷ [])
     (say role.TrollFlees ∷ trolls ∷ set_prop (the name.Troll) (pos 2) ∷ put x ∷ [])
-    ∷ row (is name.Vase ∷ from_home (the name.Pillow) ∷ stands (the name.Pillow) ∷ [])
+    ∷ row (is name.Vase ∷ from_home (the name.Pillow) ∷ is_here (the name.Pillow) ∷ [])
     (set_prop x (pos 0) ∷ look x (pos 1) ∷ put x ∷ [])
     ∷ row (is name.Vase ∷ from_home (the name.Pillow) ∷ [])
     (set_prop x (pos 2) ∷ look x (pos 3) ∷ fix x ∷ put x ∷ [])

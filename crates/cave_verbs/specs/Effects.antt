@@ -1,23 +1,21 @@
 -- What rows of verbs do.
 use Rattle.std.specs.Prelude.{ℕ, ℤ, pos, List, [], ◌∷◌, ◌++◌, ◌==◌, if◌then◌else◌}
 use Rattle.cave_data.specs.CaveView.{default_message}
-use Rattle.cave_data.specs.declared.role.Role.{Role}
-use Rattle.cave_world.specs.Objects.{moved, taken, anchored, juggled, with_prop}
+use Rattle.cave_rows.specs.declared.role.Role.{Role}
+use Rattle.cave_objects.specs.Objects.{moved_to, taken_up, anchored_to, put_anew, with_prop}
 use Rattle.cave_world.specs.declared.part.Part.{Part}
 use Rattle.cave_world.specs.declared.part.Part.TheVariants as part
 use Rattle.cave_world.specs.declared.part.WordLine.TheVariants as line
-use Rattle.cave_world.specs.declared.spot.Anchor.TheVariants as anchor
+use Rattle.cave_objects.specs.declared.spot.Anchor.TheVariants as anchor
 use Rattle.cave_world.specs.declared.state.State.{State}
 use Rattle.cave_things.specs.Effects.{put_down, let_go, without_troll, lost_to_snake, one_more_lost}
 use Rattle.cave_things.specs.Effects.{with_objects}
 use Rattle.cave_verbs.specs.Deeds.{Deed}
 use Rattle.cave_verbs.specs.Rows.{Effect, Thing}
 
--- another state
 abbrev pub in_state : State → Deed → Deed
 in_state s d = record d { state = s }
 
--- a part is said
 abbrev pub tell : Part → Effect
 tell told d = record d { parts = d.parts ++ told ∷ [] }
 
@@ -36,41 +34,41 @@ abbrev pub ask_what : Effect
 ask_what d = tell (part.Word line.What d.order.command.word) d
 
 -- the text of an object for a prop, if there is the object
-abbrev pub looked : ℕ → ℤ → List Part → List Part
-looked x v parts = if x == 0 then parts else parts ++ part.Object x v ∷ []
+abbrev pub with_look : ℕ → ℤ → List Part → List Part
+with_look x v parts = if x == 0 then parts else parts ++ part.Object x v ∷ []
 
 abbrev pub look : Thing → ℤ → Effect
-look t v d = record d { parts = looked (t d) v d.parts }
+look t v d = record d { parts = with_look (t d) v d.parts }
 
 abbrev pub carry : Thing → Effect
-carry t d = in_state (with_objects (taken d.state.objects (t d)) d.state) d
+carry t d = in_state (with_objects (taken_up d.state.objects (t d)) d.state) d
 
--- an object is moved to where the player stands
+-- an object is moved to where the player is
 abbrev pub bring : Thing → Effect
-bring t d = in_state (with_objects (moved d.state.objects (t d) d.state.trail.here) d.state) d
+bring t d = in_state (with_objects (moved_to d.state.objects (t d) d.state.trail.here) d.state) d
 
 -- an object is nowhere from now on
 abbrev pub kill : Thing → Effect
-kill t d = in_state (with_objects (moved d.state.objects (t d) 0) d.state) d
+kill t d = in_state (with_objects (moved_to d.state.objects (t d) 0) d.state) d
 
 -- an object can't be moved any more, or can be moved again
 abbrev pub fix : Thing → Effect
-fix t d = in_state (with_objects (anchored d.state.objects (t d) anchor.Fixed) d.state) d
+fix t d = in_state (with_objects (anchored_to d.state.objects (t d) anchor.Fixed) d.state) d
 
 abbrev pub loosen : Thing → Effect
-loosen t d = in_state (with_objects (anchored d.state.objects (t d) anchor.Loose) d.state) d
+loosen t d = in_state (with_objects (anchored_to d.state.objects (t d) anchor.Loose) d.state) d
 
 abbrev pub juggle : Thing → Effect
-juggle t d = in_state (with_objects (juggled d.state.objects (t d)) d.state) d
+juggle t d = in_state (with_objects (put_anew d.state.objects (t d)) d.state) d
 
 abbrev pub set_prop : Thing → ℤ → Effect
 set_prop t v d = in_state (with_objects (with_prop d.state.objects (t d) v) d.state) d
 
--- an object is put down where the player stands
+-- an object is put down where the player is
 abbrev pub put : Thing → Effect
 put t d = in_state (put_down d.cave (t d) d.state) d
 
--- an object that is carried is put where the player stands
+-- an object that is carried is put where the player is
 abbrev pub lay_down : Thing → Effect
 lay_down t d = in_state (let_go d.cave (t d) d.state) d
 
@@ -79,8 +77,8 @@ abbrev pub trolls : Effect
 trolls d = in_state (without_troll d.cave d.state) d
 
 -- one treasure more is lost, if the snake is at home
-abbrev pub lost : Effect
-lost d = in_state (lost_to_snake d.cave d.state) d
+abbrev pub lose_to_snake : Effect
+lose_to_snake d = in_state (lost_to_snake d.cave d.state) d
 
 abbrev pub lose_one : Effect
 lose_one d = in_state (one_more_lost d.state) d

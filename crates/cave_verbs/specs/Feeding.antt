@@ -1,6 +1,6 @@
 -- FEED and EAT.
 use Rattle.std.specs.Prelude.{pos, ◌+◌, min, List, [], ◌∷◌}
-use Rattle.cave_data.specs.declared.role.Role.TheVariants as role
+use Rattle.cave_rows.specs.declared.role.Role.TheVariants as role
 use Rattle.cave_words.specs.declared.named.Named.{Named}
 use Rattle.cave_words.specs.declared.named.Named.TheVariants as name
 use Rattle.cave_world.specs.declared.state.State.{State}
@@ -9,25 +9,25 @@ use Rattle.cave_verbs.specs.Effects.{in_state, say, default, ask_what, kill, loo
 use Rattle.cave_verbs.specs.Effects.{lose_one}
 use Rattle.cave_verbs.specs.Rows.{Row, Test, Effect, row, row_then, keeps, goes_on}
 use Rattle.cave_verbs.specs.Verbs as verb
-use Rattle.cave_verbs.specs.Tests.{x, the, no, either, is, near, prop, other_prop, closed}
+use Rattle.cave_verbs.specs.Tests.{x, the, no, either, is, near, prop, other_prop, cave_closed}
 
 -- the order's object has one of the names
 abbrev pub is_any : List Named → Test
 is_any names d = is_one_of d.cave d.order.object names
 
 -- the dwarves are angrier by one, up to 13
-abbrev pub angrier : State → State
-angrier s =
+abbrev pub with_more_anger : State → State
+with_more_anger s =
     let dwarves = s.dwarves in
     record s { dwarves = record dwarves { anger = min (dwarves.anger + 1) 13 } }
 
 abbrev pub anger : Effect
-anger d = in_state (angrier d.state) d
+anger d = in_state (with_more_anger d.state) d
 
 unfoldable pub feed_rows : List Row
 feed_rows =
     row (is name.Bird ∷ []) (say role.BirdFeed ∷ [])
-    ∷ row (is name.Snake ∷ no closed ∷ near (the name.Bird) ∷ [])
+    ∷ row (is name.Snake ∷ no cave_closed ∷ near (the name.Bird) ∷ [])
     (kill (the name.Bird) ∷ set_prop (the name.Bird) (pos 0) ∷ lose_one ∷ say role.BirdEaten ∷ [])
     ∷ row (is name.Dragon ∷ other_prop x (pos 0) ∷ []) (say role.Ridiculous ∷ [])
     ∷ row (either (is name.Snake) (is name.Dragon) ∷ []) (say role.NotHungry ∷ [])
@@ -35,8 +35,8 @@ feed_rows =
     ∷ row (is name.Dwarf ∷ near (the name.Food) ∷ []) (anger ∷ say role.DwarfFeed ∷ [])
     ∷ row (is name.Dwarf ∷ []) (default ∷ [])
     ∷ row (is name.Bear ∷ near (the name.Food) ∷ [])
-    (kill (the name.Food) ∷ set_prop x (pos 1) ∷ loosen (the name.Axe) ∷ set_prop (the name.Axe)
-    (pos 0) ∷ say role.BearFed ∷ [])
+    (kill (the name.Food) ∷ set_prop x (pos 1) ∷ loosen (the name.Axe)
+    ∷ set_prop (the name.Axe) (pos 0) ∷ say role.BearFed ∷ [])
     ∷ row (is name.Bear ∷ prop x (pos 0) ∷ []) (say role.NotHungry ∷ [])
     ∷ row (is name.Bear ∷ prop x (pos 3) ∷ []) (say role.Ridiculous ∷ [])
     ∷ row (is name.Bear ∷ []) (default ∷ [])
@@ -49,15 +49,15 @@ bare_eat_rows =
     ∷ row_then [] (ask_what ∷ []) keeps
     ∷ []
 
--- who lives, and is no food
-abbrev pub living : List Named
-living =
+-- living beings that are no food
+abbrev pub living_things : List Named
+living_things =
     name.Bird ∷ name.Snake ∷ name.Clam ∷ name.Oyster ∷ name.Dwarf ∷ name.Dragon ∷ name.Troll
     ∷ name.Bear ∷ []
 
 unfoldable pub eat_rows : List Row
 eat_rows =
     row (is name.Food ∷ []) (kill x ∷ say role.Eaten ∷ [])
-    ∷ row (is_any living ∷ []) (say role.NoAppetite ∷ [])
+    ∷ row (is_any living_things ∷ []) (say role.NoAppetite ∷ [])
     ∷ row [] (default ∷ [])
     ∷ []

@@ -1,34 +1,34 @@
 -- KILL.
 use Rattle.std.specs.Prelude.{ℕ, pos, ◌==◌, List, [], ◌∷◌}
-use Rattle.cave_data.specs.declared.role.Role.TheVariants as role
+use Rattle.cave_rows.specs.declared.role.Role.TheVariants as role
 use Rattle.cave_words.specs.declared.named.Named.TheVariants as name
 use Rattle.cave_world.specs.declared.ending.Ending.TheVariants as ending
 use Rattle.cave_world.specs.declared.ending.Question.TheVariants as question
-use Rattle.cave_verbs.specs.Choice.{candidate, meant, several, first}
+use Rattle.cave_verbs.specs.Choice.{candidate, objects_meant, several, first}
 use Rattle.cave_verbs.specs.Deeds.{Deed}
-use Rattle.cave_verbs.specs.Effects.{say, default, ask_what, kill, set_prop, lost}
+use Rattle.cave_verbs.specs.Effects.{say, default, ask_what, kill, set_prop, lose_to_snake}
 use Rattle.cave_verbs.specs.Rows.{Row, Test, row, row_then, keeps, asks, ends, goes_on}
 use Rattle.cave_verbs.specs.Verbs as verb
-use Rattle.cave_verbs.specs.Tests.{x, the, no, either, both, there_is, is, near, stands, prop}
-use Rattle.cave_verbs.specs.Tests.{dwarf, closed}
+use Rattle.cave_verbs.specs.Tests.{x, the, no, either, both, there_is, is, near, is_here, prop}
+use Rattle.cave_verbs.specs.Tests.{dwarf, cave_closed}
 
 -- the player's own verb, which may have gone on to this one
-abbrev pub typed : ℕ → Test
-typed v d = d.order.command.verb == v
+abbrev pub is_typed : ℕ → Test
+is_typed v d = d.order.command.verb == v
 
 abbrev pub foes : Deed → List ℕ
-foes = meant
+foes = objects_meant
     (candidate name.Dwarf dwarf
     ∷ candidate name.Snake (near (the name.Snake))
-    ∷ candidate name.Dragon (both (stands (the name.Dragon)) (prop (the name.Dragon) (pos 0)))
-    ∷ candidate name.Troll (stands (the name.Troll))
+    ∷ candidate name.Dragon (both (is_here (the name.Dragon)) (prop (the name.Dragon) (pos 0)))
+    ∷ candidate name.Troll (is_here (the name.Troll))
     ∷ candidate name.Bear (both (near (the name.Bear)) (prop (the name.Bear) (pos 0)))
     ∷ [])
 
--- what is killed for want of a foe
+-- what is killed where there is no foe
 abbrev pub prey : Deed → List ℕ
-prey = meant
-    (candidate name.Bird (both (near (the name.Bird)) (no (typed verb.THROW)))
+prey = objects_meant
+    (candidate name.Bird (both (near (the name.Bird)) (no (is_typed verb.THROW)))
     ∷ candidate name.Clam (either (near (the name.Clam)) (near (the name.Oyster)))
     ∷ [])
 
@@ -43,11 +43,11 @@ bare_kill_rows =
 
 unfoldable pub kill_rows : List Row
 kill_rows =
-    row (is name.Bird ∷ closed ∷ []) (say role.BirdNo ∷ [])
-    ∷ row (is name.Bird ∷ []) (kill x ∷ set_prop x (pos 0) ∷ lost ∷ say role.BirdDead ∷ [])
+    row (is name.Bird ∷ cave_closed ∷ []) (say role.BirdNo ∷ [])
+    ∷ row (is name.Bird ∷ []) (kill x ∷ set_prop x (pos 0) ∷ lose_to_snake ∷ say role.BirdDead ∷ [])
     ∷ row (either (is name.Clam) (is name.Oyster) ∷ []) (say role.Shell ∷ [])
     ∷ row (is name.Snake ∷ []) (say role.SnakeNo ∷ [])
-    ∷ row_then (is name.Dwarf ∷ closed ∷ []) (say role.Disturbed ∷ []) (ends ending.Killed)
+    ∷ row_then (is name.Dwarf ∷ cave_closed ∷ []) (say role.Disturbed ∷ []) (ends ending.Killed)
     ∷ row (is name.Dwarf ∷ []) (say role.WithWhat ∷ [])
     ∷ row_then (is name.Dragon ∷ prop x (pos 0) ∷ []) [] (asks question.Dragon)
     ∷ row (is name.Dragon ∷ []) (say role.DeadAlready ∷ [])

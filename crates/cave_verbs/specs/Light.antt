@@ -1,6 +1,6 @@
 -- ON and OFF.
 use Rattle.std.specs.Prelude.{int_lt, pos, List, [], ◌∷◌, if◌then◌else◌}
-use Rattle.cave_data.specs.declared.role.Role.TheVariants as role
+use Rattle.cave_rows.specs.declared.role.Role.TheVariants as role
 use Rattle.cave_words.specs.declared.named.Named.TheVariants as name
 use Rattle.cave_world.specs.Sight.{is_dark}
 use Rattle.cave_things.specs.Things.{thing}

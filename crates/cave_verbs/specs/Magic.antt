@@ -2,9 +2,9 @@
 use Rattle.std.specs.Prelude.{ℕ, ℤ, pos, ◌-ℤ◌, ◌==◌, not, if◌then◌else◌, List, [], ◌∷◌}
 use Rattle.std.specs.Ordering.{int_eq}
 use Rattle.cave_data.specs.CaveView.{CaveView}
-use Rattle.cave_data.specs.declared.role.Role.TheVariants as role
+use Rattle.cave_rows.specs.declared.role.Role.TheVariants as role
 use Rattle.cave_words.specs.declared.named.Named.TheVariants as name
-use Rattle.cave_world.specs.Objects.{is_gone, moved}
+use Rattle.cave_objects.specs.Objects.{is_gone, moved_to}
 use Rattle.cave_world.specs.declared.state.State.{State}
 use Rattle.cave_things.specs.Effects.{with_objects}
 use Rattle.cave_things.specs.Homes.{home, is_at_home, is_home_here}
@@ -13,7 +13,7 @@ use Rattle.cave_things.specs.SpecialWords.{special}
 use Rattle.cave_verbs.specs.Deeds.{Deed}
 use Rattle.cave_verbs.specs.Effects.{in_state, say, look, set_prop}
 use Rattle.cave_verbs.specs.Rows.{Row, Test, Effect, Thing, row}
-use Rattle.cave_verbs.specs.Tests.{the, no, either, there_is, toted, prop}
+use Rattle.cave_verbs.specs.Tests.{the, no, either, there_is, carries, prop}
 
 -- the number of the word that was just read among the special words; 0 if it is none of them
 abbrev pub k : Deed → ℕ
@@ -49,13 +49,13 @@ troll = the name.Troll
 abbrev pub at_home : Thing → Test
 at_home t d = is_at_home d.cave d.state (t d)
 
--- the player stands where an object is at home
+-- the player is where an object is at home
 abbrev pub home_here : Thing → Test
 home_here t d = is_home_here d.cave d.state (t d)
 
 -- the first half of an object is nowhere
-abbrev pub gone : Thing → Test
-gone t d = is_gone d.state.objects (t d)
+abbrev pub is_nowhere : Thing → Test
+is_nowhere t d = is_gone d.state.objects (t d)
 
 abbrev pub with_magic : ℤ → State → State
 with_magic v s = let talk = s.talk in record s { talk = record talk { magic = v } }
@@ -68,7 +68,8 @@ remember d = in_state (with_magic (pos (k d)) d.state) d
 abbrev pub begin_anew : Effect
 begin_anew d = in_state (with_magic (pos 0) d.state) d
 
--- how an object that goes home is told: where it appears, where it vanishes, or elsewhere
+-- which text is printed of an object that goes home: where it appears, where it vanishes, or
+-- elsewhere
 abbrev pub homing_sight : CaveView → State → ℕ → ℤ
 homing_sight cave s x =
     if is_home_here cave s x then pos 0 else (if is_near cave s x then pos 1 else pos 2)
@@ -76,12 +77,12 @@ homing_sight cave s x =
 abbrev pub look_homing : Thing → Effect
 look_homing t d = look t (homing_sight d.cave d.state (t d)) d
 
-abbrev pub sent_home : CaveView → ℕ → State → State
-sent_home cave x s = with_objects (moved s.objects x (home cave x)) s
+abbrev pub with_object_at_home : CaveView → ℕ → State → State
+with_object_at_home cave x s = with_objects (moved_to s.objects x (home cave x)) s
 
 -- an object is moved to where it is at home
 abbrev pub send_home : Thing → Effect
-send_home t d = in_state (sent_home d.cave (t d) d.state) d
+send_home t d = in_state (with_object_at_home d.cave (t d) d.state) d
 
 unfoldable pub bare_foo_rows : List Row
 bare_foo_rows =
@@ -90,8 +91,8 @@ bare_foo_rows =
     ∷ row (no is_last ∷ []) (remember ∷ say role.Ok ∷ [])
     ∷ row (no (there_is eggs) ∷ []) (begin_anew ∷ say role.Magic ∷ [])
     ∷ row (at_home eggs ∷ []) (begin_anew ∷ say role.Magic ∷ [])
-    ∷ row (toted eggs ∷ home_here eggs ∷ []) (begin_anew ∷ say role.Magic ∷ [])
-    ∷ row (gone eggs ∷ gone troll ∷ prop troll (pos 0) ∷ [])
+    ∷ row (carries eggs ∷ home_here eggs ∷ []) (begin_anew ∷ say role.Magic ∷ [])
+    ∷ row (is_nowhere eggs ∷ is_nowhere troll ∷ prop troll (pos 0) ∷ [])
     (begin_anew ∷ set_prop troll (pos 1) ∷ look_homing eggs ∷ send_home eggs ∷ [])
     ∷ row [] (begin_anew ∷ look_homing eggs ∷ send_home eggs ∷ [])
     ∷ []

@@ -1,15 +1,15 @@
 -- OPEN and LOCK.
 use Rattle.std.specs.Prelude.{ℕ, pos, List, [], ◌∷◌, ◌==◌, if◌then◌else◌, Option, Some, None}
 use Rattle.cave_data.specs.CaveView.{CaveView}
-use Rattle.cave_data.specs.declared.place_role.PlaceRole.{PlaceRole}
-use Rattle.cave_data.specs.declared.place_role.PlaceRole.TheVariants as place
-use Rattle.cave_data.specs.declared.role.Role.TheVariants as role
+use Rattle.cave_rows.specs.declared.place_role.PlaceRole.{PlaceRole}
+use Rattle.cave_rows.specs.declared.place_role.PlaceRole.TheVariants as place
+use Rattle.cave_rows.specs.declared.role.Role.TheVariants as role
 use Rattle.cave_words.specs.declared.named.Named.TheVariants as name
-use Rattle.cave_world.specs.Objects.{moved, stands_at}
+use Rattle.cave_objects.specs.Objects.{moved_to, is_object_at}
 use Rattle.cave_world.specs.declared.state.State.{State}
 use Rattle.cave_things.specs.Effects.{with_objects}
 use Rattle.cave_things.specs.Homes.{is_home_elsewhere}
-use Rattle.cave_things.specs.Panic.{panicking}
+use Rattle.cave_things.specs.Panic.{after_panic}
 use Rattle.cave_things.specs.Places.{place_named}
 use Rattle.cave_things.specs.Reach.{is_near}
 use Rattle.cave_things.specs.Things.{thing}
@@ -18,43 +18,44 @@ use Rattle.cave_verbs.specs.Effects.{in_state, say, default, ask_what, bring, ki
 use Rattle.cave_verbs.specs.Effects.{set_prop, lay_down}
 use Rattle.cave_verbs.specs.Rows.{Row, Test, Effect, Thing, row, row_then, keeps}
 use Rattle.cave_verbs.specs.Verbs as verb
-use Rattle.cave_verbs.specs.Tests.{x, the, no, either, there_is, is, toted, near, prop, other_prop}
-use Rattle.cave_verbs.specs.Tests.{closing}
+use Rattle.cave_verbs.specs.Tests.{x, the, no, either, there_is, is, carries, near, prop}
+use Rattle.cave_verbs.specs.Tests.{other_prop}
+use Rattle.cave_verbs.specs.Tests.{cave_closing}
 use Rattle.cave_verbs.specs.declared.next.Step.{Step}
 use Rattle.cave_verbs.specs.declared.next.Step.TheVariants.{GoOn}
 
-abbrev pub opening : Test
-opening d = d.order.verb == verb.OPEN
+abbrev pub is_opening : Test
+is_opening d = d.order.verb == verb.OPEN
 
-abbrev pub locking : Test
-locking d = d.order.verb == verb.LOCK
+abbrev pub is_locking : Test
+is_locking d = d.order.verb == verb.LOCK
 
 -- the player isn't where the order's object is at home
 abbrev pub away_from_home : Test
 away_from_home d = is_home_elsewhere d.cave d.state d.order.object
 
--- who tries to get out of a closing cave is in a hurry
+-- a player who tries to get out of a closing cave panics
 abbrev pub panic : Effect
-panic d = in_state (panicking d.state) d
+panic d = in_state (after_panic d.state) d
 
 -- an object is moved to a place, if there is the place
-abbrev pub sent : ℕ → Option ℕ → State → State
-sent x None s = s
-sent x (Some place) s = with_objects (moved s.objects x place) s
+abbrev pub after_sending : ℕ → Option ℕ → State → State
+after_sending x None s = s
+after_sending x (Some place) s = with_objects (moved_to s.objects x place) s
 
 abbrev pub send : Thing → PlaceRole → Effect
-send t role d = in_state (sent (t d) (place_named d.cave role) d.state) d
+send t role d = in_state (after_sending (t d) (place_named d.cave role) d.state) d
 
 -- it goes on with the same verb and an object
 abbrev pub goes_on_with : Thing → Deed → Step
 goes_on_with t d = GoOn d.order.verb (t d)
 
--- what is meant where the order names nothing: the grate or the door that stands here, the oyster
--- or the clam at hand
+-- what is meant where the order names nothing: the grate or the door that is here, the oyster or
+-- the clam at hand
 unfoldable pub lock_meant : CaveView → State → ℕ
 lock_meant cave s =
-    if stands_at s.objects s.trail.here (thing cave name.Grate) then thing cave name.Grate
-    else (if stands_at s.objects s.trail.here (thing cave name.Door) then thing cave name.Door
+    if is_object_at s.objects s.trail.here (thing cave name.Grate) then thing cave name.Grate
+    else (if is_object_at s.objects s.trail.here (thing cave name.Door) then thing cave name.Door
     else (if is_near cave s (thing cave name.Oyster) then thing cave name.Oyster
     else (if is_near cave s (thing cave name.Clam) then thing cave name.Clam else 0)))
 
@@ -71,11 +72,11 @@ bare_open_rows =
 
 unfoldable pub open_rows : List Row
 open_rows =
-    row (either (is name.Clam) (is name.Oyster) ∷ locking ∷ []) (say role.LockWhat ∷ [])
-    ∷ row (is name.Clam ∷ no (toted (the name.Trident)) ∷ []) (say role.ClamTool ∷ [])
-    ∷ row (is name.Oyster ∷ no (toted (the name.Trident)) ∷ []) (say role.OysterTool ∷ [])
-    ∷ row (is name.Clam ∷ toted x ∷ []) (say role.ClamHeld ∷ [])
-    ∷ row (is name.Oyster ∷ toted x ∷ []) (say role.OysterHeld ∷ [])
+    row (either (is name.Clam) (is name.Oyster) ∷ is_locking ∷ []) (say role.LockWhat ∷ [])
+    ∷ row (is name.Clam ∷ no (carries (the name.Trident)) ∷ []) (say role.ClamTool ∷ [])
+    ∷ row (is name.Oyster ∷ no (carries (the name.Trident)) ∷ []) (say role.OysterTool ∷ [])
+    ∷ row (is name.Clam ∷ carries x ∷ []) (say role.ClamHeld ∷ [])
+    ∷ row (is name.Oyster ∷ carries x ∷ []) (say role.OysterHeld ∷ [])
     ∷ row (is name.Clam ∷ [])
     (kill x ∷ bring (the name.Oyster) ∷ send (the name.Pearl) place.Culdesac ∷ say role.Pearl ∷ [])
     ∷ row (is name.Oyster ∷ []) (say role.OysterOpen ∷ [])
@@ -85,17 +86,17 @@ open_rows =
     ∷ row (is name.Keys ∷ []) (say role.KeysWhat ∷ [])
     ∷ row (either (is name.Grate) (is name.Chain) ∷ no (near (the name.Keys)) ∷ [])
     (say role.NoKeys ∷ [])
-    ∷ row (is name.Grate ∷ closing ∷ []) (say role.ClosingExit ∷ panic ∷ [])
-    ∷ row (is name.Grate ∷ opening ∷ prop x (pos 0) ∷ [])
+    ∷ row (is name.Grate ∷ cave_closing ∷ []) (say role.ClosingExit ∷ panic ∷ [])
+    ∷ row (is name.Grate ∷ is_opening ∷ prop x (pos 0) ∷ [])
     (set_prop x (pos 1) ∷ say role.Unlocked ∷ [])
-    ∷ row (is name.Grate ∷ opening ∷ []) (say role.WasUnlocked ∷ [])
+    ∷ row (is name.Grate ∷ is_opening ∷ []) (say role.WasUnlocked ∷ [])
     ∷ row (is name.Grate ∷ prop x (pos 0) ∷ []) (say role.WasLocked ∷ [])
     ∷ row (is name.Grate ∷ []) (set_prop x (pos 0) ∷ say role.Locked ∷ [])
-    ∷ row (is name.Chain ∷ opening ∷ prop x (pos 0) ∷ []) (say role.WasUnlocked ∷ [])
-    ∷ row (is name.Chain ∷ opening ∷ prop (the name.Bear) (pos 0) ∷ []) (say role.BearBars ∷ [])
-    ∷ row (is name.Chain ∷ opening ∷ prop (the name.Bear) (pos 3) ∷ [])
+    ∷ row (is name.Chain ∷ is_opening ∷ prop x (pos 0) ∷ []) (say role.WasUnlocked ∷ [])
+    ∷ row (is name.Chain ∷ is_opening ∷ prop (the name.Bear) (pos 0) ∷ []) (say role.BearBars ∷ [])
+    ∷ row (is name.Chain ∷ is_opening ∷ prop (the name.Bear) (pos 3) ∷ [])
     (set_prop x (pos 0) ∷ loosen x ∷ fix (the name.Bear) ∷ say role.ChainFree ∷ [])
-    ∷ row (is name.Chain ∷ opening ∷ [])
+    ∷ row (is name.Chain ∷ is_opening ∷ [])
     (set_prop x (pos 0) ∷ loosen x ∷ set_prop (the name.Bear) (pos 2) ∷ loosen (the name.Bear)
     ∷ say role.ChainFree ∷ [])
     ∷ row (is name.Chain ∷ away_from_home ∷ []) (say role.NoLockHere ∷ [])

@@ -3,17 +3,17 @@ use Rattle.std.specs.Prelude.{ℕ, pos, ◌+ℤ◌, int_div, ◌==◌, ◌||◌,
 use Rattle.std.specs.Prelude.{unwrap_or}
 use Rattle.std.specs.Int.{int_rem_euclid}
 use Rattle.cave_data.specs.CaveView.{CaveView}
-use Rattle.cave_data.specs.declared.role.Role.TheVariants as role
+use Rattle.cave_rows.specs.declared.role.Role.TheVariants as role
 use Rattle.cave_words.specs.declared.named.Named.{Named}
 use Rattle.cave_words.specs.declared.named.Named.TheVariants as name
-use Rattle.cave_world.specs.Objects.{prop_of}
+use Rattle.cave_objects.specs.Objects.{prop_of}
 use Rattle.cave_world.specs.declared.state.State.{State}
 use Rattle.cave_things.specs.Liquids.{liquid_of}
 use Rattle.cave_things.specs.Reach.{is_called}
 use Rattle.cave_verbs.specs.Effects.{say, default, ask_what, look, bring, fix, set_prop}
 use Rattle.cave_verbs.specs.Rows.{Row, Test, Effect, Thing, row, row_then, keeps, again, goes_on}
 use Rattle.cave_verbs.specs.Verbs as verb
-use Rattle.cave_verbs.specs.Tests.{x, the, bare, no, either, both, is, toted, near, stands}
+use Rattle.cave_verbs.specs.Tests.{x, the, bare, no, either, both, is, carries, near, is_here}
 use Rattle.cave_verbs.specs.Tests.{in_bottle, bottle_full, in_lake, lake}
 
 -- what is poured: what is in the bottle, where that or nothing is named; 0 for a liquid without a
@@ -22,12 +22,12 @@ abbrev pub poured_of : CaveView → State → ℕ → ℕ
 poured_of cave s y =
     if y == 0 || is_called cave y name.Bottle then unwrap_or (liquid_of cave s) 0 else y
 
-abbrev pub poured : Thing
-poured d = poured_of d.cave d.state d.order.object
+abbrev pub what_is_poured : Thing
+what_is_poured d = poured_of d.cave d.state d.order.object
 
 -- what is poured has a name
 abbrev pub pours : Named → Test
-pours n d = is_called d.cave (poured d) n
+pours n d = is_called d.cave (what_is_poured d) n
 
 abbrev pub empty_bottle : Effect
 empty_bottle d = set_prop (the name.Bottle) (pos 1) d
@@ -47,8 +47,8 @@ halve t of d = set_prop t (int_div (prop_of d.state.objects (of d)) (pos 2)) d
 -- the plant and its upper part grow with the water
 abbrev pub plant_watered : List Effect
 plant_watered =
-    look_above (the name.Plant) ∷ grow (the name.Plant) ∷ halve (the name.SecondPlant)
-    (the name.Plant) ∷ []
+    look_above (the name.Plant) ∷ grow (the name.Plant)
+    ∷ halve (the name.SecondPlant) (the name.Plant) ∷ []
 
 -- the bottle is at hand, and water is in it
 abbrev pub water_at_hand : Test
@@ -57,15 +57,15 @@ water_at_hand = both (in_bottle (the name.Water)) (near (the name.Bottle))
 unfoldable pub pour_rows : List Row
 pour_rows =
     row_then (either bare (is name.Bottle) ∷ no bottle_full ∷ []) (ask_what ∷ []) keeps
-    ∷ row (no (toted poured) ∷ []) (default ∷ [])
+    ∷ row (no (carries what_is_poured) ∷ []) (default ∷ [])
     ∷ row (no (pours name.Water) ∷ no (pours name.Oil) ∷ []) (say role.CantPour ∷ [])
-    ∷ row (stands (the name.Door) ∷ pours name.Oil ∷ [])
+    ∷ row (is_here (the name.Door) ∷ pours name.Oil ∷ [])
     (empty_bottle ∷ set_prop (the name.Door) (pos 1) ∷ say role.DoorOiled ∷ [])
-    ∷ row (stands (the name.Door) ∷ [])
+    ∷ row (is_here (the name.Door) ∷ [])
     (empty_bottle ∷ set_prop (the name.Door) (pos 0) ∷ say role.DoorWet ∷ [])
-    ∷ row_then (stands (the name.Plant) ∷ pours name.Water ∷ [])
+    ∷ row_then (is_here (the name.Plant) ∷ pours name.Water ∷ [])
     (empty_bottle ∷ plant_watered) again
-    ∷ row (stands (the name.Plant) ∷ []) (empty_bottle ∷ say role.PlantOil ∷ [])
+    ∷ row (is_here (the name.Plant) ∷ []) (empty_bottle ∷ say role.PlantOil ∷ [])
     ∷ row [] (empty_bottle ∷ say role.PourGround ∷ [])
     ∷ []
 
@@ -86,7 +86,7 @@ bare_fill_rows =
 unfoldable pub fill_rows : List Row
 fill_rows =
     row (is name.Vase ∷ no lake ∷ []) (say role.VaseDry ∷ [])
-    ∷ row (is name.Vase ∷ no (toted x) ∷ []) (say role.NotHeld ∷ [])
+    ∷ row (is name.Vase ∷ no (carries x) ∷ []) (say role.NotHeld ∷ [])
     ∷ row (is name.Vase ∷ []) (say role.VaseBreak ∷ set_prop x (pos 2) ∷ fix x ∷ bring x ∷ [])
     ∷ row (no (is name.Bottle) ∷ []) (default ∷ [])
     ∷ row (bottle_full ∷ []) (say role.BottleFull ∷ [])

@@ -1,33 +1,32 @@
 -- READ.
 use Rattle.std.specs.Prelude.{ℕ, ◌-◌, false, ◌&&◌, if◌then◌else◌, List, [], ◌∷◌, slice_index_or}
-use Rattle.cave_data.specs.declared.role.Role.TheVariants as role
+use Rattle.cave_rows.specs.declared.role.Role.TheVariants as role
 use Rattle.cave_words.specs.declared.named.Named.TheVariants as name
 use Rattle.cave_world.specs.Sight.{is_dark}
 use Rattle.cave_world.specs.declared.ending.Question.TheVariants as question
 use Rattle.cave_world.specs.declared.part.Part.TheVariants as part
 use Rattle.cave_world.specs.declared.part.WordLine.TheVariants as line
 use Rattle.cave_things.specs.Things.{thing}
-use Rattle.cave_verbs.specs.Choice.{candidate, meant, only}
+use Rattle.cave_verbs.specs.Choice.{candidate, objects_meant, only}
 use Rattle.cave_verbs.specs.Deeds.{Deed}
 use Rattle.cave_verbs.specs.Effects.{tell, say, default, ask_what}
 use Rattle.cave_verbs.specs.Rows.{Row, Test, Effect, Thing, row, row_then, keeps, asks, goes_on}
 use Rattle.cave_verbs.specs.Verbs as verb
-use Rattle.cave_verbs.specs.Tests.{x, the, no, there_is, is, toted, near, closed}
+use Rattle.cave_verbs.specs.Tests.{x, the, no, there_is, is, carries, near, cave_closed}
 
 -- the player sees nothing
 abbrev pub dark : Test
 dark d = is_dark d.cave (thing d.cave name.Lamp) d.state
 
--- the hint of a number was taken
 abbrev pub hint_taken : ℕ → Test
 hint_taken number d = slice_index_or d.state.hints.is_taken (number - 1) false
 
--- the word that was just read is told not to be seen here
+-- it is said that the word that was just read isn't seen here
 abbrev pub not_seen : Effect
 not_seen d = tell (part.Word line.NotSeen d.order.command.word) d
 
 abbrev pub papers : Deed → List ℕ
-papers = meant
+papers = objects_meant
     (candidate name.Magazine (near (the name.Magazine))
     ∷ candidate name.Tablet (near (the name.Tablet))
     ∷ candidate name.Message (near (the name.Message))
@@ -37,7 +36,7 @@ papers = meant
 -- in the closed cave the oyster that is carried, else the only paper here
 abbrev pub what_to_read : Thing
 what_to_read d =
-    if closed d && toted (the name.Oyster) d then thing d.cave name.Oyster else only papers d
+    if cave_closed d && carries (the name.Oyster) d then thing d.cave name.Oyster else only papers d
 
 unfoldable pub bare_read_rows : List Row
 bare_read_rows =
@@ -51,7 +50,7 @@ read_rows =
     ∷ row (is name.Magazine ∷ []) (say role.ReadMagazine ∷ [])
     ∷ row (is name.Tablet ∷ []) (say role.ReadTablet ∷ [])
     ∷ row (is name.Message ∷ []) (say role.ReadMessage ∷ [])
-    ∷ row (is name.Oyster ∷ toted x ∷ hint_taken 2 ∷ []) (say role.ReadOyster ∷ [])
-    ∷ row_then (is name.Oyster ∷ toted x ∷ closed ∷ []) [] (asks question.Oyster)
+    ∷ row (is name.Oyster ∷ carries x ∷ hint_taken 2 ∷ []) (say role.ReadOyster ∷ [])
+    ∷ row_then (is name.Oyster ∷ carries x ∷ cave_closed ∷ []) [] (asks question.Oyster)
     ∷ row [] (default ∷ [])
     ∷ []

@@ -1,6 +1,6 @@
 -- Rules as rows: the first row whose tests hold applies, and its effects follow one another.
 use Rattle.std.specs.Prelude.{ℕ, Bool, true, false, ◌==◌, ◌&&◌, if◌then◌else◌, List, [], ◌∷◌}
-use Rattle.cave_words.specs.Stream.{next, drawn}
+use Rattle.cave_words.specs.Stream.{next, number_drawn}
 use Rattle.cave_world.specs.declared.ending.Ending.{Ending}
 use Rattle.cave_world.specs.declared.ending.Question.{Question}
 use Rattle.cave_verbs.specs.Deeds.{Deed, Outcome, outcome}
@@ -32,11 +32,10 @@ stays d = Done next_is.Stay
 abbrev pub keeps : Deed → Step
 keeps d = Done next_is.Keep
 
--- the place is described
 abbrev pub describes : Deed → Step
 describes d = Done next_is.Describe
 
--- the player arrives again where the player stands
+-- the player arrives again where the player is
 abbrev pub again : Deed → Step
 again d = Done (next_is.Arrive d.state.trail.here)
 

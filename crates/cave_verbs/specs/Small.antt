@@ -1,12 +1,12 @@
 -- Verbs of few rules, and verbs that have none of their own.
 use Rattle.std.specs.Prelude.{true, List, [], ◌∷◌}
-use Rattle.cave_data.specs.declared.role.Role.TheVariants as role
+use Rattle.cave_rows.specs.declared.role.Role.TheVariants as role
 use Rattle.cave_world.specs.declared.ending.Question.TheVariants as question
 use Rattle.cave_world.specs.declared.state.State.{State}
 use Rattle.cave_verbs.specs.Effects.{in_state, say, default, ask_what}
 use Rattle.cave_verbs.specs.Rows.{Row, Effect, row, row_then, keeps, asks}
 
--- a verb that wants an object and has none
+-- a verb that needs an object and has none
 unfoldable pub bare_rows : List Row
 bare_rows = row_then [] (ask_what ∷ []) keeps ∷ []
 
@@ -26,7 +26,8 @@ bare_score_rows = row_then [] [] (asks question.ScoreQuit) ∷ []
 abbrev pub brief : State → State
 brief s = let talk = s.talk in record s { talk = record talk { is_brief = true; details = 3 } }
 
--- places are described briefly from now on, and details were told often enough
+-- places are described briefly from now on, and it was said often enough that there are no more
+-- details
 abbrev pub be_brief : Effect
 be_brief d = in_state (brief d.state) d
 

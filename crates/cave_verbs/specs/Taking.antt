@@ -1,20 +1,21 @@
 -- TAKE.
 use Rattle.std.specs.Prelude.{ℕ, pos, List, [], ◌∷◌}
-use Rattle.cave_data.specs.declared.role.Role.TheVariants as role
+use Rattle.cave_rows.specs.declared.role.Role.TheVariants as role
 use Rattle.cave_words.specs.declared.named.Named.TheVariants as name
-use Rattle.cave_world.specs.Halves.{object_of}
-use Rattle.cave_world.specs.Lists.{halves_at}
+use Rattle.cave_objects.specs.Halves.{object_of}
+use Rattle.cave_objects.specs.Lists.{halves_at}
 use Rattle.cave_world.specs.declared.ending.Ending.TheVariants as ending
-use Rattle.cave_world.specs.declared.object.Half.{Half}
+use Rattle.cave_objects.specs.declared.object.Half.{Half}
 use Rattle.cave_verbs.specs.Effects.{say, default, ask_what, look, carry, bring, kill, fix}
-use Rattle.cave_verbs.specs.Effects.{set_prop, put, trolls, lost}
+use Rattle.cave_verbs.specs.Effects.{set_prop, put, trolls, lose_to_snake}
 use Rattle.cave_verbs.specs.Rows.{Row, Thing, row, row_then, keeps, ends, goes_on}
 use Rattle.cave_verbs.specs.Verbs as verb
-use Rattle.cave_verbs.specs.Tests.{x, the, no, either, there_is, is, toted, near, stands, fixed}
-use Rattle.cave_verbs.specs.Tests.{prop, other_prop, prop_up_to, dwarf, closed, in_bottle}
+use Rattle.cave_verbs.specs.Tests.{x, the, no, either, there_is, is, carries, near, is_here}
+use Rattle.cave_verbs.specs.Tests.{immovable}
+use Rattle.cave_verbs.specs.Tests.{prop, other_prop, prop_up_to, dwarf, cave_closed, in_bottle}
 use Rattle.cave_verbs.specs.Tests.{full_hands}
 
--- the object of which a half lies here alone; 0 where there are more halves, or none
+-- the object of which a half is here alone; 0 where there are more halves, or none
 abbrev pub lone_object : List Half → ℕ
 lone_object (half ∷ []) = object_of half
 lone_object _ = 0
@@ -30,21 +31,21 @@ bare_take_rows =
 
 unfoldable pub take_rows : List Row
 take_rows =
-    row (toted x ∷ []) (default ∷ [])
-    ∷ row (fixed x ∷ is name.Plant ∷ prop_up_to x (pos 0) ∷ []) (say role.PlantRoots ∷ [])
-    ∷ row (fixed x ∷ is name.Bear ∷ prop x (pos 1) ∷ []) (say role.BearChained ∷ [])
-    ∷ row (fixed x ∷ is name.Chain ∷ other_prop (the name.Bear) (pos 0) ∷ [])
+    row (carries x ∷ []) (default ∷ [])
+    ∷ row (immovable x ∷ is name.Plant ∷ prop_up_to x (pos 0) ∷ []) (say role.PlantRoots ∷ [])
+    ∷ row (immovable x ∷ is name.Bear ∷ prop x (pos 1) ∷ []) (say role.BearChained ∷ [])
+    ∷ row (immovable x ∷ is name.Chain ∷ other_prop (the name.Bear) (pos 0) ∷ [])
     (say role.ChainLocked ∷ [])
-    ∷ row (fixed x ∷ []) (say role.Immovable ∷ [])
+    ∷ row (immovable x ∷ []) (say role.Immovable ∷ [])
     ∷ row_then (in_bottle x ∷ near (the name.Bottle) ∷ []) [] (goes_on verb.TAKE (the name.Bottle))
-    ∷ row_then (either (is name.Water) (is name.Oil) ∷ toted (the name.Bottle)
+    ∷ row_then (either (is name.Water) (is name.Oil) ∷ carries (the name.Bottle)
     ∷ prop (the name.Bottle) (pos 1) ∷ []) [] (goes_on verb.FILL (the name.Bottle))
-    ∷ row (either (is name.Water) (is name.Oil) ∷ toted (the name.Bottle) ∷ [])
+    ∷ row (either (is name.Water) (is name.Oil) ∷ carries (the name.Bottle) ∷ [])
     (say role.BottleFull ∷ [])
     ∷ row (either (is name.Water) (is name.Oil) ∷ []) (say role.NoBottle ∷ [])
     ∷ row (full_hands ∷ []) (say role.TooMuch ∷ [])
-    ∷ row (is name.Bird ∷ prop x (pos 0) ∷ toted (the name.Rod) ∷ []) (say role.BirdRod ∷ [])
-    ∷ row (is name.Bird ∷ prop x (pos 0) ∷ no (toted (the name.Cage)) ∷ []) (say role.NoCage ∷ [])
+    ∷ row (is name.Bird ∷ prop x (pos 0) ∷ carries (the name.Rod) ∷ []) (say role.BirdRod ∷ [])
+    ∷ row (is name.Bird ∷ prop x (pos 0) ∷ no (carries (the name.Cage)) ∷ []) (say role.NoCage ∷ [])
     ∷ row (is name.Bird ∷ prop x (pos 0) ∷ [])
     (set_prop x (pos 1) ∷ carry (the name.Cage) ∷ carry x ∷ say role.Ok ∷ [])
     ∷ row (is name.Bird ∷ []) (carry (the name.Cage) ∷ carry x ∷ say role.Ok ∷ [])

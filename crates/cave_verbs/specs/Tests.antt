@@ -3,10 +3,10 @@ use Rattle.std.specs.Prelude.{ℕ, ℤ, Bool, ◌==◌, ◌&&◌, ◌||◌, not,
 use Rattle.std.specs.Prelude.{is_some, is_none, Option, Some, None}
 use Rattle.cave_words.specs.declared.named.Named.{Named}
 use Rattle.cave_words.specs.declared.named.Named.TheVariants as name
-use Rattle.cave_world.specs.Objects.{stands_at, carried_objects}
+use Rattle.cave_objects.specs.Objects.{is_object_at, carried_objects}
 use Rattle.cave_things.specs.Things.{thing}
 use Rattle.cave_things.specs.Liquids.{liquid_of, lake_of, is_liquid}
-use Rattle.cave_things.specs.Reach.{is_called, is_toted, is_near, has_prop, has_other_prop}
+use Rattle.cave_things.specs.Reach.{is_called, is_in_hand, is_near, has_prop, has_other_prop}
 use Rattle.cave_things.specs.Reach.{has_prop_up_to, is_treasure, is_dwarf_here, is_fixed}
 use Rattle.cave_verbs.specs.Rows.{Test, Thing}
 
@@ -31,7 +31,6 @@ either one other d = one d || other d
 abbrev pub both : Test → Test → Test
 both one other d = one d && other d
 
--- there is the object
 abbrev pub there_is : Thing → Test
 there_is t d = not (t d == 0)
 
@@ -40,20 +39,20 @@ abbrev pub is : Named → Test
 is n d = is_called d.cave d.order.object n
 
 -- an object is carried
-abbrev pub toted : Thing → Test
-toted t d = is_toted d.cave d.state (t d)
+abbrev pub carries : Thing → Test
+carries t d = is_in_hand d.cave d.state (t d)
 
--- an object is carried, or its first half stands here
+-- an object is carried, or its first half is here
 abbrev pub near : Thing → Test
 near t d = is_near d.cave d.state (t d)
 
--- a half of an object stands here
-abbrev pub stands : Thing → Test
-stands t d = stands_at d.state.objects d.state.trail.here (t d)
+-- a half of an object is here
+abbrev pub is_here : Thing → Test
+is_here t d = is_object_at d.state.objects d.state.trail.here (t d)
 
 -- an object can't be moved
-abbrev pub fixed : Thing → Test
-fixed t d = is_fixed d.state (t d)
+abbrev pub immovable : Thing → Test
+immovable t d = is_fixed d.state (t d)
 
 abbrev pub prop : Thing → ℤ → Test
 prop t v d = has_prop d.state (t d) v
@@ -64,15 +63,15 @@ other_prop t v d = has_other_prop d.state (t d) v
 abbrev pub prop_up_to : Thing → ℤ → Test
 prop_up_to t v d = has_prop_up_to d.state (t d) v
 
--- a dwarf stands here
+-- a dwarf is here
 abbrev pub dwarf : Test
 dwarf d = is_dwarf_here d.state
 
-abbrev pub closing : Test
-closing d = d.state.closing.is_closing
+abbrev pub cave_closing : Test
+cave_closing d = d.state.closing.is_closing
 
-abbrev pub closed : Test
-closed d = d.state.closing.is_closed
+abbrev pub cave_closed : Test
+cave_closed d = d.state.closing.is_closed
 
 -- the object is what is in the bottle
 abbrev pub in_bottle : Thing → Test
@@ -86,7 +85,6 @@ bottle_full d = is_some (liquid_of d.cave d.state)
 abbrev pub in_lake : Thing → Test
 in_lake t d = is_liquid (t d) (lake_of d.cave d.state)
 
--- there is a lake
 abbrev pub lake : Test
 lake d = is_some (lake_of d.cave d.state)
 

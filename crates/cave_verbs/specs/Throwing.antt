@@ -2,10 +2,10 @@
 use Rattle.std.specs.Prelude.{ℕ, pos, ◌+◌, false, ◌==◌, min, if◌then◌else◌, List, [], ◌∷◌, take}
 use Rattle.std.specs.Prelude.{Option, Some, None, slice_index_or, slice_set}
 use Rattle.std.specs.List.{position}
-use Rattle.cave_data.specs.declared.role.Role.TheVariants as role
-use Rattle.cave_words.specs.Stream.{next, drawn}
+use Rattle.cave_rows.specs.declared.role.Role.TheVariants as role
+use Rattle.cave_words.specs.Stream.{next, number_drawn}
 use Rattle.cave_words.specs.declared.named.Named.TheVariants as name
-use Rattle.cave_world.specs.Fresh.{nobody}
+use Rattle.cave_world.specs.Fresh.{no_dwarf}
 use Rattle.cave_world.specs.declared.dwarves.Dwarf.{Dwarf}
 use Rattle.cave_world.specs.declared.state.State.{State}
 use Rattle.cave_things.specs.Reach.{is_dwarf_at}
@@ -15,11 +15,11 @@ use Rattle.cave_verbs.specs.Effects.{set_prop, trolls}
 use Rattle.cave_verbs.specs.Rows.{Row, Test, Effect, Thing, row, row_then, keeps, again, goes_on}
 use Rattle.cave_verbs.specs.Rows.{fits, outcome_of, first_fitting}
 use Rattle.cave_verbs.specs.Verbs as verb
-use Rattle.cave_verbs.specs.Tests.{x, the, no, is, toted, near, stands, prop, dwarf, treasure}
+use Rattle.cave_verbs.specs.Tests.{x, the, no, is, carries, near, is_here, prop, dwarf, treasure}
 
 -- no object
-abbrev pub nothing : Thing
-nothing d = 0
+abbrev pub no_thing : Thing
+no_thing d = 0
 
 abbrev pub killed_dwarf : Dwarf → Dwarf
 killed_dwarf one = record one { place = 0; has_seen = false }
@@ -27,9 +27,9 @@ killed_dwarf one = record one { place = 0; has_seen = false }
 abbrev pub without_one : List Dwarf → Option ℕ → List Dwarf
 without_one each None = each
 without_one each (Some index) =
-    slice_set each index (killed_dwarf (slice_index_or each index nobody))
+    slice_set each index (killed_dwarf (slice_index_or each index no_dwarf))
 
--- of the dwarves, the first of the five that stands at a place is gone; the sixth is the pirate
+-- of the dwarves, the first of the five that is at a place is gone; the sixth is the pirate
 unfoldable pub without_first_at : ℕ → List Dwarf → List Dwarf
 without_first_at place each = without_one each (position (is_dwarf_at place) (take 5 each))
 
@@ -42,7 +42,7 @@ with_one_killed s = let dwarves = s.dwarves in
       };
     }
 
--- the first dwarf that stands here is killed
+-- the first dwarf that is here is killed
 abbrev pub strike : Effect
 strike d = in_state (with_one_killed d.state) d
 
@@ -50,8 +50,8 @@ strike d = in_state (with_one_killed d.state) d
 abbrev pub none_killed : Test
 none_killed d = d.state.dwarves.kills == 0
 
-abbrev pub after_draw : Deed → Deed
-after_draw d = let s = d.state in in_state (record s { stream = next s.stream }) d
+abbrev pub after_one_draw : Deed → Deed
+after_one_draw d = let s = d.state in in_state (record s { stream = next s.stream }) d
 
 -- the outcome of the first row that fits, or what comes of it if none does
 abbrev pub first_fitting_or : List Row → (Deed → Outcome) → Deed → Outcome
@@ -62,10 +62,10 @@ first_fitting_or (r ∷ rows) otherwise d =
 -- what isn't the axe
 unfoldable pub throw_rows : List Row
 throw_rows =
-    row_then (is name.Rod ∷ no (toted x) ∷ toted (the name.SecondRod) ∷ [])
+    row_then (is name.Rod ∷ no (carries x) ∷ carries (the name.SecondRod) ∷ [])
     [] (goes_on verb.THROW (the name.SecondRod))
-    ∷ row (no (toted x) ∷ []) (default ∷ [])
-    ∷ row (treasure x ∷ stands (the name.Troll) ∷ []) (kill x ∷ trolls ∷ say role.TrollPaid ∷ [])
+    ∷ row (no (carries x) ∷ []) (default ∷ [])
+    ∷ row (treasure x ∷ is_here (the name.Troll) ∷ []) (kill x ∷ trolls ∷ say role.TrollPaid ∷ [])
     ∷ row_then (is name.Food ∷ near (the name.Bear) ∷ []) [] (goes_on verb.FEED (the name.Bear))
     ∷ row_then (no (is name.Axe) ∷ []) [] (goes_on verb.DROP x)
     ∷ []
@@ -85,23 +85,22 @@ hit_rows =
 -- the axe where no dwarf is
 unfoldable pub axe_rows : List Row
 axe_rows =
-    row_then (stands (the name.Dragon) ∷ prop (the name.Dragon) (pos 0) ∷ [])
+    row_then (is_here (the name.Dragon) ∷ prop (the name.Dragon) (pos 0) ∷ [])
     (say role.AxeDragon ∷ bring x ∷ []) again
-    ∷ row_then (stands (the name.Troll) ∷ []) (say role.AxeTroll ∷ bring x ∷ []) again
+    ∷ row_then (is_here (the name.Troll) ∷ []) (say role.AxeTroll ∷ bring x ∷ []) again
     ∷ row (near (the name.Bear) ∷ prop (the name.Bear) (pos 0) ∷ [])
     (bring x ∷ fix x ∷ set_prop x (pos 1) ∷ juggle (the name.Bear) ∷ say role.AxeBear ∷ [])
-    ∷ row_then [] [] (goes_on verb.KILL nothing)
+    ∷ row_then [] [] (goes_on verb.KILL no_thing)
     ∷ []
 
 -- the axe is thrown at a dwarf: one number of three is drawn, and 0 is a miss
 unfoldable pub axe_thrown_at_dwarf : Deed → Outcome
 axe_thrown_at_dwarf d =
-    if drawn 3 d.state.stream == 0 then first_fitting miss_rows (after_draw d)
-    else first_fitting hit_rows (after_draw d)
+    if number_drawn 3 d.state.stream == 0 then first_fitting miss_rows (after_one_draw d)
+    else first_fitting hit_rows (after_one_draw d)
 
-unfoldable pub axe_thrown : Deed → Outcome
-axe_thrown d = if dwarf d then axe_thrown_at_dwarf d else first_fitting axe_rows d
+unfoldable pub axe_outcome : Deed → Outcome
+axe_outcome d = if dwarf d then axe_thrown_at_dwarf d else first_fitting axe_rows d
 
--- an object is thrown
-unfoldable pub thrown : Deed → Outcome
-thrown d = first_fitting_or throw_rows axe_thrown d
+unfoldable pub throw_outcome : Deed → Outcome
+throw_outcome d = first_fitting_or throw_rows axe_outcome d

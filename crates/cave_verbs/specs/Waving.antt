@@ -1,11 +1,11 @@
 -- WAVE and RUB.
 use Rattle.std.specs.Prelude.{pos, ◌-ℤ◌, List, [], ◌∷◌}
-use Rattle.cave_data.specs.declared.role.Role.TheVariants as role
+use Rattle.cave_rows.specs.declared.role.Role.TheVariants as role
 use Rattle.cave_words.specs.declared.named.Named.TheVariants as name
-use Rattle.cave_world.specs.Objects.{prop_of}
+use Rattle.cave_objects.specs.Objects.{prop_of}
 use Rattle.cave_verbs.specs.Effects.{say, default, ask_what, look, set_prop}
 use Rattle.cave_verbs.specs.Rows.{Row, Effect, Thing, row, row_then, keeps}
-use Rattle.cave_verbs.specs.Tests.{x, the, no, both, is, toted, stands, closing}
+use Rattle.cave_verbs.specs.Tests.{x, the, no, both, is, carries, is_here, cave_closing}
 
 -- a prop becomes 1 less what it was
 abbrev pub flip : Thing → Effect
@@ -17,9 +17,9 @@ look_at_flip t d = look t (pos 2 -ℤ prop_of d.state.objects (t d)) d
 
 unfoldable pub wave_rows : List Row
 wave_rows =
-    row (no (toted x) ∷ no (both (is name.Rod) (toted (the name.SecondRod))) ∷ [])
+    row (no (carries x) ∷ no (both (is name.Rod) (carries (the name.SecondRod))) ∷ [])
     (say role.NotHeld ∷ [])
-    ∷ row (is name.Rod ∷ stands (the name.Fissure) ∷ toted (the name.Rod) ∷ no closing ∷ [])
+    ∷ row (is name.Rod ∷ is_here (the name.Fissure) ∷ carries (the name.Rod) ∷ no cave_closing ∷ [])
     (flip (the name.Fissure) ∷ look_at_flip (the name.Fissure) ∷ [])
     ∷ row [] (default ∷ [])
     ∷ []

@@ -3,7 +3,7 @@ ghost use Rattle.arrayvec.specs.ArrayVec.{array_vec_len};
 ghost use Rattle.cave_things.specs.Things.{cave_of};
 ghost use Rattle.cave_verbs.specs.declared.next.Step.TheVariants.{Done};
 ghost use Rattle.cave_verbs.specs.Acting.{bare_outcome, object_outcome, outcome_once};
-ghost use Rattle.cave_verbs.specs.Acting.{outcome_within, acted};
+ghost use Rattle.cave_verbs.specs.Acting.{outcome_within, outcome_of_command};
 ghost use Rattle.cave_verbs.specs.Deeds.{deed, outcome};
 ghost use Rattle.cave_verbs.specs.Ranks.{rank, rank_of};
 ghost use Rattle.cave_verbs.specs.Room.{room_for, parts_by};
@@ -143,12 +143,12 @@ fn act_within(rules: &Rules<'_>, left: u8, order: Order, state: &mut State, out:
     }
 }
 
-/// Does what is commanded, and tells what follows.
-#[tactic(auto, using(crate::proofs::Falls::few_ranks), unfolding(crate::specs::Acting::acted))]
+/// Does what is commanded, and returns what follows.
+#[tactic(auto, using(crate::proofs::Falls::few_ranks), unfolding(crate::specs::Acting::outcome_of_command))]
 pub fn act(rules: &Rules<'_>, command: Command, state: &mut State, out: &mut Out) -> Next
     requires { array_vec_len out.old + 110 ≤ 512 }
     ensures rules { outcome state.new out.new.items (Done result)
-        ≡ acted (cave_of rules.now) command state.old out.old.items }
+        ≡ outcome_of_command (cave_of rules.now) command state.old out.old.items }
     ensures few { array_vec_len out.new ≤ array_vec_len out.old + 6 + room_for result }
 {
     let order = Order {

@@ -12,8 +12,8 @@ ghost use Rattle.cave_verbs.specs.Blasting.{blast_rows};
 use crate::next::{Next, Step};
 use crate::order::Order;
 use crate::says::say_default;
-use cave_data::{PlaceRole, Role};
-use cave_things::{Rules, has_prop_up_to, is_that, place_named};
+use cave_rows::{PlaceRole, Role};
+use cave_things::{Rules, has_prop_up_to, is_place, place_named};
 use cave_words::Named;
 use cave_world::{Ending, Out, Part, State};
 
@@ -32,8 +32,8 @@ fn end(role: Role, ending: Ending, out: &mut Out) -> Step
 #[tactic(auto, unfolding(crate::specs::Blasting::blast_rows))]
 pub fn blast(rules: &Rules<'_>, order: Order, state: &mut State, out: &mut Out) -> Step
     requires { array_vec_len out.old < 512 }
-    ensures row { outcome state.new out.new.items result ≡
-        first_fitting blast_rows (deed (cave_of rules.now) order state.old out.old.items) }
+    ensures row { outcome state.new out.new.items result
+        ≡ first_fitting blast_rows (deed (cave_of rules.now) order state.old out.old.items) }
     ensures few { array_vec_len out.new ≤ array_vec_len out.old + 1 }
     ensures ranks { rank_of (cave_of rules.now) result ≤ 0 }
 {
@@ -44,7 +44,7 @@ pub fn blast(rules: &Rules<'_>, order: Order, state: &mut State, out: &mut Out) 
     if rules.is_near(state, rod) {
         return end(Role::Klutz, Ending::Klutz, out);
     }
-    if is_that(state.trail.here, place_named(rules.cave, PlaceRole::Ne)) {
+    if is_place(state.trail.here, place_named(rules.cave, PlaceRole::Ne)) {
         return end(Role::WrongWay, Ending::WrongWay, out);
     }
     end(Role::Success, Ending::Success, out)

@@ -9,10 +9,11 @@ ghost use Rattle.cave_verbs.specs.Breaking.{break_rows, wake_rows};
 use crate::next::Step;
 use crate::order::Order;
 use crate::says::{disturb, say, say_default};
-use cave_data::Role;
+use cave_objects::{Anchor, Prop};
+use cave_rows::Role;
 use cave_things::{Rules, has_prop, let_go};
 use cave_words::Named;
-use cave_world::{Anchor, Out, Prop, State};
+use cave_world::{Out, State};
 
 /// BREAK an object.
 #[tactic(auto, unfolding(crate::specs::Breaking::break_rows))]

@@ -1,9 +1,9 @@
 ghost use Rattle.std.specs.Prelude.{◌≡◌, ◌+◌, ◌<◌, ◌≤◌, nat_le, length};
 ghost use Rattle.arrayvec.specs.ArrayVec.{array_vec_len};
-ghost use Rattle.cave_verbs.specs.Choice.{with_meant, first_of, only_of};
+ghost use Rattle.cave_verbs.specs.Choice.{with_meant, first_or_none, only_of};
 
 use arrayvec::ArrayVec;
-use cave_world::Object;
+use cave_objects::Object;
 
 /// The objects that a verb without an object could be meant for.
 pub type Meant = ArrayVec<Object, 5>;
@@ -29,7 +29,7 @@ pub fn several(meant: &[Object]) -> bool
 
 /// The first, if there is one.
 pub fn first(meant: &[Object]) -> Object
-    ensures { result ≡ first_of meant.now }
+    ensures { result ≡ first_or_none meant.now }
 {
     match meant {
         [first, ..] => *first,

@@ -1,7 +1,7 @@
 ghost use Rattle.std.specs.Prelude.{◌≡◌, ◌+◌, ◌≤◌, IsTrue};
 ghost use Rattle.arrayvec.specs.ArrayVec.{array_vec_len};
 ghost use Rattle.cave_words.specs.declared.named.Named.TheVariants as name;
-ghost use Rattle.cave_things.specs.Reach.{is_called, is_toted, is_near};
+ghost use Rattle.cave_things.specs.Reach.{is_called, is_in_hand, is_near};
 ghost use Rattle.cave_things.specs.Things.{cave_of, thing};
 ghost use Rattle.cave_verbs.specs.Deeds.{deed, outcome};
 ghost use Rattle.cave_verbs.specs.Rows.{first_fitting};
@@ -12,20 +12,22 @@ use crate::next::{Next, Step};
 use crate::order::Order;
 use crate::says::{disturb, look, say, say_default};
 use crate::verb::DROP;
-use cave_data::Role;
+use cave_objects::{Anchor, Prop};
+use cave_rows::Role;
 use cave_things::{Rules, has_prop, lose, pay_troll, put_down};
 use cave_words::Named;
-use cave_world::{Anchor, Out, Prop, State};
+use cave_world::{Out, State};
 
 /// The bird drives the snake away; in the closed cave it wakes the dwarves.
 #[tactic(auto, unfolding(crate::specs::Dropping::drop_rows))]
 fn drop_bird_by_snake(rules: &Rules<'_>, order: Order, state: &mut State, out: &mut Out) -> Step
     requires room { array_vec_len out.old + 2 ≤ 512 }
-    requires held { IsTrue (is_toted (cave_of rules.now) state.old order.object) }
+    requires held { IsTrue (is_in_hand (cave_of rules.now) state.old order.object) }
     requires bird { IsTrue (is_called (cave_of rules.now) order.object name.Bird) }
-    requires snake { let cave = cave_of rules.now in IsTrue (is_near cave state.old (thing cave name.Snake)) }
-    ensures row { outcome state.new out.new.items result ≡
-        first_fitting drop_rows (deed (cave_of rules.now) order state.old out.old.items) }
+    requires snake { let cave = cave_of rules.now in
+        IsTrue (is_near cave state.old (thing cave name.Snake)) }
+    ensures row { outcome state.new out.new.items result
+        ≡ first_fitting drop_rows (deed (cave_of rules.now) order state.old out.old.items) }
     ensures few { array_vec_len out.new ≤ array_vec_len out.old + 2 }
     ensures ranks { rank_of (cave_of rules.now) result ≤ 0 }
 {
@@ -44,15 +46,16 @@ fn drop_bird_by_snake(rules: &Rules<'_>, order: Order, state: &mut State, out: &
 #[tactic(auto, unfolding(crate::specs::Dropping::drop_rows, crate::specs::Ranks::rank), using(crate::proofs::DroppingLemmas::drop_falls))]
 pub fn drop_object(rules: &Rules<'_>, order: Order, state: &mut State, out: &mut Out) -> Step
     requires { array_vec_len out.old + 2 ≤ 512 }
-    ensures row { outcome state.new out.new.items result ≡
-        first_fitting drop_rows (deed (cave_of rules.now) order state.old out.old.items) }
+    ensures row { outcome state.new out.new.items result
+        ≡ first_fitting drop_rows (deed (cave_of rules.now) order state.old out.old.items) }
     ensures few { array_vec_len out.new ≤ array_vec_len out.old + 2 }
-    ensures ranks { let cave = cave_of rules.now in rank_of cave result ≤ drop_rank cave order.object }
+    ensures ranks { let cave = cave_of rules.now in
+        rank_of cave result ≤ drop_rank cave order.object }
 {
     let x = order.object;
-    if !rules.is_toted(state, x) {
+    if !rules.is_in_hand(state, x) {
         let second_rod = rules.object(Named::SecondRod);
-        if rules.is(x, Named::Rod) && rules.is_toted(state, second_rod) {
+        if rules.is(x, Named::Rod) && rules.is_in_hand(state, second_rod) {
             return Step::GoOn(DROP, second_rod);
         }
         return say_default(rules, order, state, out);

@@ -10,12 +10,13 @@ use crate::next::Step;
 use crate::order::Order;
 use crate::says::{ask_what, say, say_default};
 use crate::verb::EAT;
-use cave_data::Role;
+use cave_objects::{Anchor, Prop};
+use cave_rows::Role;
 use cave_things::{Rules, has_other_prop, has_prop, lose_one};
 use cave_words::Named;
-use cave_world::{Anchor, Out, Prop, State};
+use cave_world::{Out, State};
 
-/// Who lives, and is no food.
+/// Living beings that are no food.
 const LIVING: [Named; 8] = [
     Named::Bird,
     Named::Snake,

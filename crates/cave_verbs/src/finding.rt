@@ -7,30 +7,32 @@ ghost use Rattle.cave_verbs.specs.declared.next.Next.TheVariants.{Stay};
 ghost use Rattle.cave_verbs.specs.declared.next.Step.TheVariants.{Done};
 ghost use Rattle.cave_verbs.specs.Rows.{first_fitting};
 ghost use Rattle.cave_verbs.specs.Ranks.{rank_of};
-ghost use Rattle.cave_verbs.specs.Finding.{find_rows, bare_inventory_rows, is_listed, listed_up_to};
-ghost use Rattle.cave_verbs.specs.Finding.{told_of_bear};
+ghost use Rattle.cave_verbs.specs.Finding.{find_rows, bare_inventory_rows, is_in_inventory};
+ghost use Rattle.cave_verbs.specs.Finding.{listed_up_to};
+ghost use Rattle.cave_verbs.specs.Finding.{with_bear_line};
 
 use crate::next::{Next, Step};
 use crate::order::Order;
 use crate::says::{say, say_default};
 use arrayvec::ArrayVec;
-use cave_data::Role;
+use cave_objects::Object;
+use cave_objects::object::LAST_OBJECT;
+use cave_rows::Role;
 use cave_things::{Rules, is_dwarf_here, is_liquid};
 use cave_words::Named;
-use cave_world::object::LAST_OBJECT;
-use cave_world::{Object, Out, Part, State};
+use cave_world::{Out, Part, State};
 
 /// FIND an object, or INVENTORY of one.
 #[tactic(auto, unfolding(crate::specs::Finding::find_rows))]
 pub fn find(rules: &Rules<'_>, order: Order, state: &mut State, out: &mut Out) -> Step
     requires { array_vec_len out.old < 512 }
-    ensures row { outcome state.new out.new.items result ≡
-        first_fitting find_rows (deed (cave_of rules.now) order state.old out.old.items) }
+    ensures row { outcome state.new out.new.items result
+        ≡ first_fitting find_rows (deed (cave_of rules.now) order state.old out.old.items) }
     ensures few { array_vec_len out.new ≤ array_vec_len out.old + 1 }
     ensures ranks { rank_of (cave_of rules.now) result ≤ 0 }
 {
     let x = order.object;
-    if rules.is_toted(state, x) {
+    if rules.is_in_hand(state, x) {
         return say(Role::HeldIt, out);
     }
     if state.closing.is_closed {
@@ -47,9 +49,9 @@ pub fn find(rules: &Rules<'_>, order: Order, state: &mut State, out: &mut Out) -
 }
 
 fn is_listed(rules: &Rules<'_>, state: &State, object: Object) -> bool
-    ensures { result ≡ is_listed (cave_of rules.now) state.now object }
+    ensures { result ≡ is_in_inventory (cave_of rules.now) state.now object }
 {
-    rules.is_toted(state, object) && !rules.is(object, Named::Bear)
+    rules.is_in_hand(state, object) && !rules.is(object, Named::Bear)
 }
 
 /// The objects that the inventory lists, ascending.
@@ -80,11 +82,11 @@ fn name_all(objects: &[Object], out: &mut Out)
 /// It is said that the bear follows, if it does, and nothing more is done.
 fn tell_bear(rules: &Rules<'_>, state: &State, out: &mut Out) -> Step
     requires { array_vec_len out.old < 512 }
-    ensures said { out.new.items ≡ told_of_bear (cave_of rules.now) state.now out.old.items }
+    ensures said { out.new.items ≡ with_bear_line (cave_of rules.now) state.now out.old.items }
     ensures few { array_vec_len out.new ≤ array_vec_len out.old + 1 }
     ensures step { result ≡ Done Stay }
 {
-    if rules.is_toted(state, rules.object(Named::Bear)) {
+    if rules.is_in_hand(state, rules.object(Named::Bear)) {
         out.push(Part::Role(Role::BearFollows));
     }
     Step::Done(Next::Stay)
@@ -94,8 +96,9 @@ fn tell_bear(rules: &Rules<'_>, state: &State, out: &mut Out) -> Step
 #[tactic(auto, unfolding(crate::specs::Finding::bare_inventory_rows))]
 pub fn inventory(rules: &Rules<'_>, order: Order, state: &mut State, out: &mut Out) -> Step
     requires { array_vec_len out.old + 102 ≤ 512 }
-    ensures row { outcome state.new out.new.items result ≡
-        first_fitting bare_inventory_rows (deed (cave_of rules.now) order state.old out.old.items) }
+    ensures row { outcome state.new out.new.items result
+        ≡ first_fitting bare_inventory_rows
+        (deed (cave_of rules.now) order state.old out.old.items) }
     ensures few { array_vec_len out.new ≤ array_vec_len out.old + 102 }
     ensures step { result ≡ Done Stay }
     ensures ranks { rank_of (cave_of rules.now) result ≤ 0 }

@@ -12,10 +12,11 @@ use crate::order::Order;
 use crate::says::{ask_what, disturb, say, say_default};
 use crate::verb::{KILL, THROW};
 use arrayvec::ArrayVec;
-use cave_data::Role;
+use cave_objects::Prop;
+use cave_rows::Role;
 use cave_things::{Rules, has_prop, is_dwarf_here, lose};
 use cave_words::Named;
-use cave_world::{Out, Prop, Question, State};
+use cave_world::{Out, Question, State};
 
 /// The foes that the player could mean.
 fn foes(rules: &Rules<'_>, order: &Order, state: &State) -> Meant
@@ -42,7 +43,7 @@ fn foes(rules: &Rules<'_>, order: &Order, state: &State) -> Meant
     foes
 }
 
-/// What the player could mean for want of a foe.
+/// What the player could mean where there is no foe.
 fn prey(rules: &Rules<'_>, order: &Order, state: &State) -> Meant
     ensures { result.items ≡ prey (deed (cave_of rules.now) order.now state.now []) }
 {

@@ -9,17 +9,18 @@ ghost use Rattle.cave_verbs.specs.Light.{on_rows, off_rows};
 use crate::next::{Next, Step};
 use crate::order::Order;
 use crate::says::{say, say_default};
-use cave_data::Role;
+use cave_objects::Prop;
+use cave_rows::Role;
 use cave_things::Rules;
 use cave_words::Named;
-use cave_world::{Out, Prop, State};
+use cave_world::{Out, State};
 
 /// ON, whatever it is done to.
 #[tactic(auto, unfolding(crate::specs::Light::on_rows))]
 pub fn turn_on(rules: &Rules<'_>, order: Order, state: &mut State, out: &mut Out) -> Step
     requires { array_vec_len out.old + 2 ≤ 512 }
-    ensures row { outcome state.new out.new.items result ≡
-        first_fitting on_rows (deed (cave_of rules.now) order state.old out.old.items) }
+    ensures row { outcome state.new out.new.items result
+        ≡ first_fitting on_rows (deed (cave_of rules.now) order state.old out.old.items) }
     ensures few { array_vec_len out.new ≤ array_vec_len out.old + 2 }
     ensures ranks { rank_of (cave_of rules.now) result ≤ 0 }
 {
@@ -42,8 +43,8 @@ pub fn turn_on(rules: &Rules<'_>, order: Order, state: &mut State, out: &mut Out
 #[tactic(auto, unfolding(crate::specs::Light::off_rows))]
 pub fn turn_off(rules: &Rules<'_>, order: Order, state: &mut State, out: &mut Out) -> Step
     requires { array_vec_len out.old + 2 ≤ 512 }
-    ensures row { outcome state.new out.new.items result ≡
-        first_fitting off_rows (deed (cave_of rules.now) order state.old out.old.items) }
+    ensures row { outcome state.new out.new.items result
+        ≡ first_fitting off_rows (deed (cave_of rules.now) order state.old out.old.items) }
     ensures few { array_vec_len out.new ≤ array_vec_len out.old + 2 }
     ensures ranks { rank_of (cave_of rules.now) result ≤ 0 }
 {

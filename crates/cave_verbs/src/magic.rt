@@ -5,18 +5,19 @@ ghost use Rattle.cave_things.specs.Things.{cave_of};
 ghost use Rattle.cave_verbs.specs.Deeds.{deed, outcome};
 ghost use Rattle.cave_verbs.specs.declared.next.Next.TheVariants.{Stay};
 ghost use Rattle.cave_verbs.specs.declared.next.Step.TheVariants.{Done};
-ghost use Rattle.cave_verbs.specs.Effects.{looked};
+ghost use Rattle.cave_verbs.specs.Effects.{with_look};
 ghost use Rattle.cave_verbs.specs.Rows.{first_fitting};
 ghost use Rattle.cave_verbs.specs.Ranks.{rank_of};
-ghost use Rattle.cave_verbs.specs.Magic.{bare_foo_rows, with_magic, homing_sight, sent_home};
+ghost use Rattle.cave_verbs.specs.Magic.{bare_foo_rows, with_magic, homing_sight, with_object_at_home};
 
 use crate::next::{Next, Step};
 use crate::order::Order;
 use crate::says::{look, say};
-use cave_data::Role;
+use cave_objects::{Object, Prop};
+use cave_rows::Role;
 use cave_things::{Rules, has_prop};
 use cave_words::Named;
-use cave_world::{Magic, Object, Out, Prop, State};
+use cave_world::{Magic, Out, State};
 
 /// How far the player has come with the magic words.
 fn magic_of(state: &State) -> i16
@@ -50,7 +51,8 @@ fn remember(state: &mut State, k: u16)
     set_magic(state, k as i16);
 }
 
-/// How an object that goes home is told: where it appears, where it vanishes, or elsewhere.
+/// Which text is printed of an object that goes home: where it appears, where it vanishes, or
+/// elsewhere.
 fn homing_sight(rules: &Rules<'_>, state: &State, object: Object) -> Prop
     ensures { result ≡ homing_sight (cave_of rules.now) state.now object }
 {
@@ -63,13 +65,13 @@ fn homing_sight(rules: &Rules<'_>, state: &State, object: Object) -> Prop
     }
 }
 
-/// An object is told as it goes home, and goes there.
+/// The text of an object that goes home is printed, and the object goes there.
 fn send_home(rules: &Rules<'_>, object: Object, state: &mut State, out: &mut Out) -> Step
     requires { array_vec_len out.old < 512 }
     ensures told { out.new.items ≡
-        looked object (homing_sight (cave_of rules.now) state.old object) out.old.items }
+        with_look object (homing_sight (cave_of rules.now) state.old object) out.old.items }
     ensures few { array_vec_len out.new ≤ array_vec_len out.old + 1 }
-    ensures moved { state.new ≡ sent_home (cave_of rules.now) object state.old }
+    ensures moved { state.new ≡ with_object_at_home (cave_of rules.now) object state.old }
     ensures step { result ≡ Done Stay }
 {
     look(object, homing_sight(rules, state, object).value(), out);
@@ -81,8 +83,8 @@ fn send_home(rules: &Rules<'_>, object: Object, state: &mut State, out: &mut Out
 #[tactic(auto, unfolding(crate::specs::Magic::bare_foo_rows))]
 pub fn foo(rules: &Rules<'_>, order: Order, state: &mut State, out: &mut Out) -> Step
     requires { array_vec_len out.old < 512 }
-    ensures row { outcome state.new out.new.items result ≡
-        first_fitting bare_foo_rows (deed (cave_of rules.now) order state.old out.old.items) }
+    ensures row { outcome state.new out.new.items result
+        ≡ first_fitting bare_foo_rows (deed (cave_of rules.now) order state.old out.old.items) }
     ensures few { array_vec_len out.new ≤ array_vec_len out.old + 1 }
     ensures ranks { rank_of (cave_of rules.now) result ≤ 0 }
 {
@@ -101,7 +103,7 @@ pub fn foo(rules: &Rules<'_>, order: Order, state: &mut State, out: &mut Out) ->
     let troll = rules.object(Named::Troll);
     if eggs.is_none()
         || rules.is_at_home(state, eggs)
-        || rules.is_toted(state, eggs) && rules.is_home_here(state, eggs)
+        || rules.is_in_hand(state, eggs) && rules.is_home_here(state, eggs)
     {
         set_magic(state, 0);
         return say(Role::Magic, out);

@@ -1,4 +1,5 @@
-use cave_world::{Ending, Object, Place, Question};
+use cave_objects::{Object, Place};
+use cave_world::{Ending, Question};
 
 /// What follows what a verb did.
 #[derive(Clone, Copy, Debug, PartialEq, Eq)]
@@ -7,7 +8,7 @@ pub enum Next {
     Stay,
     /// The next line may say what is missing: the command's verb is kept.
     Keep,
-    /// The place where the player stands is described.
+    /// The player's place is described.
     Describe,
     /// The player arrives at a place.
     Arrive(Place),

@@ -7,22 +7,23 @@ ghost use Rattle.cave_verbs.specs.Deeds.{deed, outcome};
 ghost use Rattle.cave_verbs.specs.Rows.{first_fitting};
 ghost use Rattle.cave_verbs.specs.Ranks.{rank_of};
 ghost use Rattle.cave_verbs.specs.Verbs as verb;
-ghost use Rattle.cave_verbs.specs.Opening.{sent, lock_meant, bare_open_rows, open_rows};
+ghost use Rattle.cave_verbs.specs.Opening.{after_sending, lock_meant, bare_open_rows, open_rows};
 ghost use Rattle.cave_verbs.specs.declared.next.Step.TheVariants.{GoOn};
 
 use crate::next::Step;
 use crate::order::Order;
 use crate::says::{ask_what, say, say_default};
 use crate::verb::{LOCK, OPEN};
-use cave_data::{PlaceRole, Role};
+use cave_objects::{Anchor, Object, Place, Prop};
+use cave_rows::{PlaceRole, Role};
 use cave_things::panic::panic;
 use cave_things::places::place_named;
 use cave_things::{Rules, has_other_prop, has_prop, let_go};
 use cave_words::Named;
-use cave_world::{Anchor, Object, Out, Place, Prop, State};
+use cave_world::{Out, State};
 
-/// What is meant where the order names nothing: the grate or the door that stands here, the oyster
-/// or the clam at hand.
+/// What is meant where the order names nothing: the grate or the door that is here, the oyster or
+/// the clam at hand.
 #[tactic(auto, unfolding(crate::specs::Opening::lock_meant))]
 fn lock_meant(rules: &Rules<'_>, state: &State) -> Object
     ensures { result ≡ lock_meant (cave_of rules.now) state.now }
@@ -87,7 +88,7 @@ pub fn open_what_is_here(rules: &Rules<'_>, order: Order, state: &mut State, out
 
 /// An object is moved to a place, if there is the place.
 fn send(object: Object, place: Option<Place>, state: &mut State)
-    ensures { state.new ≡ sent object place state.old }
+    ensures { state.new ≡ after_sending object place state.old }
 {
     match place {
         Some(place) => state.move_to(object, place),
@@ -110,12 +111,12 @@ fn open_shell(rules: &Rules<'_>, order: Order, state: &mut State, out: &mut Out)
     if order.verb == LOCK {
         return say(Role::LockWhat, out);
     }
-    let has_trident = rules.is_toted(state, rules.object(Named::Trident));
+    let has_trident = rules.is_in_hand(state, rules.object(Named::Trident));
     if !rules.is(x, Named::Clam) {
         if !has_trident {
             return say(Role::OysterTool, out);
         }
-        if rules.is_toted(state, x) {
+        if rules.is_in_hand(state, x) {
             return say(Role::OysterHeld, out);
         }
         return say(Role::OysterOpen, out);
@@ -123,7 +124,7 @@ fn open_shell(rules: &Rules<'_>, order: Order, state: &mut State, out: &mut Out)
     if !has_trident {
         return say(Role::ClamTool, out);
     }
-    if rules.is_toted(state, x) {
+    if rules.is_in_hand(state, x) {
         return say(Role::ClamHeld, out);
     }
     state.destroy(x);
@@ -141,7 +142,8 @@ fn open_grate(rules: &Rules<'_>, order: Order, state: &mut State, out: &mut Out)
     requires grate { IsTrue (is_called (cave_of rules.now) order.object name.Grate) }
     requires other { is_one_of (cave_of rules.now) order.object
         (name.Clam ∷ name.Oyster ∷ name.Door ∷ name.Cage ∷ name.Keys ∷ []) ≡ false }
-    requires keys { IsTrue (is_near (cave_of rules.now) state.old (thing (cave_of rules.now) name.Keys)) }
+    requires keys { let cave = cave_of rules.now in
+        IsTrue (is_near cave state.old (thing cave name.Keys)) }
     ensures row { outcome state.new out.new.items result
         ≡ first_fitting open_rows (deed (cave_of rules.now) order state.old out.old.items) }
     ensures few { array_vec_len out.new ≤ array_vec_len out.old + 2 }
@@ -174,7 +176,8 @@ fn unlock_chain(rules: &Rules<'_>, order: Order, state: &mut State, out: &mut Ou
     requires chain { IsTrue (is_called (cave_of rules.now) order.object name.Chain) }
     requires other { is_one_of (cave_of rules.now) order.object
         (name.Clam ∷ name.Oyster ∷ name.Door ∷ name.Cage ∷ name.Keys ∷ name.Grate ∷ []) ≡ false }
-    requires keys { IsTrue (is_near (cave_of rules.now) state.old (thing (cave_of rules.now) name.Keys)) }
+    requires keys { let cave = cave_of rules.now in
+        IsTrue (is_near cave state.old (thing cave name.Keys)) }
     ensures row { outcome state.new out.new.items result
         ≡ first_fitting open_rows (deed (cave_of rules.now) order state.old out.old.items) }
     ensures few { array_vec_len out.new ≤ array_vec_len out.old + 2 }
@@ -209,7 +212,8 @@ fn lock_chain(rules: &Rules<'_>, order: Order, state: &mut State, out: &mut Out)
     requires chain { IsTrue (is_called (cave_of rules.now) order.object name.Chain) }
     requires other { is_one_of (cave_of rules.now) order.object
         (name.Clam ∷ name.Oyster ∷ name.Door ∷ name.Cage ∷ name.Keys ∷ name.Grate ∷ []) ≡ false }
-    requires keys { IsTrue (is_near (cave_of rules.now) state.old (thing (cave_of rules.now) name.Keys)) }
+    requires keys { let cave = cave_of rules.now in
+        IsTrue (is_near cave state.old (thing cave name.Keys)) }
     ensures row { outcome state.new out.new.items result
         ≡ first_fitting open_rows (deed (cave_of rules.now) order state.old out.old.items) }
     ensures few { array_vec_len out.new ≤ array_vec_len out.old + 2 }

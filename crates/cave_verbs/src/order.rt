@@ -1,5 +1,5 @@
+use cave_objects::Object;
 use cave_words::Word;
-use cave_world::Object;
 
 /// What the player commands.
 #[derive(Clone, Copy, Debug, PartialEq, Eq)]
@@ -10,7 +10,7 @@ pub struct Command {
     pub object: Object,
     /// The word that was just read.
     pub word: Word,
-    /// Whether it was dark where the player stood as the turn began.
+    /// Whether it was dark where the player was as the turn began.
     pub was_dark: bool,
 }
 

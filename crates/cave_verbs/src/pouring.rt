@@ -14,10 +14,11 @@ use crate::next::{Next, Step};
 use crate::order::Order;
 use crate::says::{ask_what, look, say, say_default};
 use crate::verb::FILL;
-use cave_data::Role;
+use cave_objects::{Anchor, Object, Prop};
+use cave_rows::Role;
 use cave_things::{Rules, is_liquid};
 use cave_words::Named;
-use cave_world::{Anchor, Object, Out, Prop, State};
+use cave_world::{Out, State};
 
 /// What is poured: of the bottle, and where nothing is named, what is in the bottle.
 fn poured(rules: &Rules<'_>, state: &State, object: Object) -> Object
@@ -51,11 +52,12 @@ fn half(prop: Prop) -> Prop
     Prop::new(prop.value() / 2)
 }
 
-/// The plant is watered, and the player arrives again where the player stands.
+/// The plant is watered, and the player arrives again where the player is.
 fn water_plant(rules: &Rules<'_>, order: Order, state: &mut State, out: &mut Out) -> Step
     requires { array_vec_len out.old + 1 ≤ 512 }
     ensures grown { outcome state.new out.new.items result ≡
-        outcome_of (row_then [] plant_watered again) (deed (cave_of rules.now) order state.old out.old.items) }
+        outcome_of (row_then [] plant_watered again)
+        (deed (cave_of rules.now) order state.old out.old.items) }
     ensures few { array_vec_len out.new ≤ array_vec_len out.old + 1 }
 {
     let plant = rules.object(Named::Plant);
@@ -72,8 +74,8 @@ fn water_plant(rules: &Rules<'_>, order: Order, state: &mut State, out: &mut Out
 #[tactic(auto, unfolding(crate::specs::Pouring::pour_rows))]
 pub fn pour(rules: &Rules<'_>, order: Order, state: &mut State, out: &mut Out) -> Step
     requires { array_vec_len out.old + 2 ≤ 512 }
-    ensures row { outcome state.new out.new.items result ≡
-        first_fitting pour_rows (deed (cave_of rules.now) order state.old out.old.items) }
+    ensures row { outcome state.new out.new.items result
+        ≡ first_fitting pour_rows (deed (cave_of rules.now) order state.old out.old.items) }
     ensures few { array_vec_len out.new ≤ array_vec_len out.old + 2 }
     ensures ranks { rank_of (cave_of rules.now) result ≤ 0 }
 {
@@ -83,7 +85,7 @@ pub fn pour(rules: &Rules<'_>, order: Order, state: &mut State, out: &mut Out) -
         return ask_what(rules, order, state, out);
     }
     let x = poured(rules, state, order.object);
-    if !rules.is_toted(state, x) {
+    if !rules.is_in_hand(state, x) {
         return say_default(rules, order, state, out);
     }
     let is_water = rules.is(x, Named::Water);
@@ -117,8 +119,8 @@ pub fn pour(rules: &Rules<'_>, order: Order, state: &mut State, out: &mut Out) -
 #[tactic(auto, unfolding(crate::specs::Pouring::drink_rows))]
 pub fn drink(rules: &Rules<'_>, order: Order, state: &mut State, out: &mut Out) -> Step
     requires { array_vec_len out.old + 2 ≤ 512 }
-    ensures row { outcome state.new out.new.items result ≡
-        first_fitting drink_rows (deed (cave_of rules.now) order state.old out.old.items) }
+    ensures row { outcome state.new out.new.items result
+        ≡ first_fitting drink_rows (deed (cave_of rules.now) order state.old out.old.items) }
     ensures few { array_vec_len out.new ≤ array_vec_len out.old + 2 }
     ensures ranks { rank_of (cave_of rules.now) result ≤ 0 }
 {
@@ -143,8 +145,8 @@ pub fn drink(rules: &Rules<'_>, order: Order, state: &mut State, out: &mut Out) 
 #[tactic(auto, unfolding(crate::specs::Pouring::bare_fill_rows, crate::specs::Ranks::rank), using(crate::proofs::PouringLemmas::fill_falls))]
 pub fn fill_what(rules: &Rules<'_>, order: Order, state: &mut State, out: &mut Out) -> Step
     requires { array_vec_len out.old + 2 ≤ 512 }
-    ensures row { outcome state.new out.new.items result ≡
-        first_fitting bare_fill_rows (deed (cave_of rules.now) order state.old out.old.items) }
+    ensures row { outcome state.new out.new.items result
+        ≡ first_fitting bare_fill_rows (deed (cave_of rules.now) order state.old out.old.items) }
     ensures few { array_vec_len out.new ≤ array_vec_len out.old + 2 }
     ensures ranks { rank_of (cave_of rules.now) result ≤ 1 }
 {
@@ -160,8 +162,8 @@ pub fn fill_what(rules: &Rules<'_>, order: Order, state: &mut State, out: &mut O
 fn fill_vase(rules: &Rules<'_>, order: Order, state: &mut State, out: &mut Out) -> Step
     requires room { array_vec_len out.old + 2 ≤ 512 }
     requires vase { IsTrue (is_called (cave_of rules.now) order.object name.Vase) }
-    ensures row { outcome state.new out.new.items result ≡
-        first_fitting fill_rows (deed (cave_of rules.now) order state.old out.old.items) }
+    ensures row { outcome state.new out.new.items result
+        ≡ first_fitting fill_rows (deed (cave_of rules.now) order state.old out.old.items) }
     ensures few { array_vec_len out.new ≤ array_vec_len out.old + 2 }
     ensures ranks { rank_of (cave_of rules.now) result ≤ 0 }
 {
@@ -169,7 +171,7 @@ fn fill_vase(rules: &Rules<'_>, order: Order, state: &mut State, out: &mut Out) 
     if rules.lake(state).is_none() {
         return say(Role::VaseDry, out);
     }
-    if !rules.is_toted(state, x) {
+    if !rules.is_in_hand(state, x) {
         return say(Role::NotHeld, out);
     }
     state.objects.set_prop(x, Prop::new(2));
@@ -182,8 +184,8 @@ fn fill_vase(rules: &Rules<'_>, order: Order, state: &mut State, out: &mut Out) 
 #[tactic(auto, unfolding(crate::specs::Pouring::fill_rows))]
 pub fn fill(rules: &Rules<'_>, order: Order, state: &mut State, out: &mut Out) -> Step
     requires { array_vec_len out.old + 2 ≤ 512 }
-    ensures row { outcome state.new out.new.items result ≡
-        first_fitting fill_rows (deed (cave_of rules.now) order state.old out.old.items) }
+    ensures row { outcome state.new out.new.items result
+        ≡ first_fitting fill_rows (deed (cave_of rules.now) order state.old out.old.items) }
     ensures few { array_vec_len out.new ≤ array_vec_len out.old + 2 }
     ensures ranks { rank_of (cave_of rules.now) result ≤ bare_rank order.object }
 {

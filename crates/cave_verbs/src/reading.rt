@@ -12,10 +12,11 @@ use crate::order::Order;
 use crate::says::{ask_what, say, say_default};
 use crate::verb::READ;
 use arrayvec::ArrayVec;
-use cave_data::Role;
+use cave_objects::Object;
+use cave_rows::Role;
 use cave_things::Rules;
 use cave_words::Named;
-use cave_world::{Object, Out, Part, Question, State, WordLine};
+use cave_world::{Out, Part, Question, State, WordLine};
 
 /// The papers that the player could mean.
 fn papers(rules: &Rules<'_>, order: &Order, state: &State) -> Meant
@@ -36,7 +37,7 @@ fn what_to_read(rules: &Rules<'_>, order: &Order, state: &State) -> Object
     ensures { result ≡ what_to_read (deed (cave_of rules.now) order.now state.now []) }
 {
     let oyster = rules.object(Named::Oyster);
-    if state.closing.is_closed && rules.is_toted(state, oyster) {
+    if state.closing.is_closed && rules.is_in_hand(state, oyster) {
         return oyster;
     }
     only(papers(rules, order, state).as_slice())
@@ -81,7 +82,7 @@ pub fn read(rules: &Rules<'_>, order: Order, state: &mut State, out: &mut Out) -
     if rules.is(x, Named::Message) {
         return say(Role::ReadMessage, out);
     }
-    if rules.is(x, Named::Oyster) && rules.is_toted(state, x) {
+    if rules.is(x, Named::Oyster) && rules.is_in_hand(state, x) {
         if state.hints.is_taken[1] {
             return say(Role::ReadOyster, out);
         }

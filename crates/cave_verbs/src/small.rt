@@ -10,16 +10,16 @@ ghost use Rattle.cave_verbs.specs.Small.{bare_score_rows, bare_brief_rows};
 use crate::next::{Next, Step};
 use crate::order::Order;
 use crate::says::{ask_what, say, say_default};
-use cave_data::Role;
+use cave_rows::Role;
 use cave_things::Rules;
 use cave_world::{Count, Out, Question, State};
 
-/// A verb that wants an object, without one.
+/// A verb that needs an object, without one.
 #[tactic(auto, unfolding(crate::specs::Small::bare_rows))]
 pub fn ask_back(rules: &Rules<'_>, order: Order, state: &mut State, out: &mut Out) -> Step
     requires { array_vec_len out.old < 512 }
-    ensures row { outcome state.new out.new.items result ≡
-        first_fitting bare_rows (deed (cave_of rules.now) order state.old out.old.items) }
+    ensures row { outcome state.new out.new.items result
+        ≡ first_fitting bare_rows (deed (cave_of rules.now) order state.old out.old.items) }
     ensures few { array_vec_len out.new ≤ array_vec_len out.old + 1 }
     ensures ranks { rank_of (cave_of rules.now) result ≤ 0 }
 {
@@ -30,8 +30,8 @@ pub fn ask_back(rules: &Rules<'_>, order: Order, state: &mut State, out: &mut Ou
 #[tactic(auto, unfolding(crate::specs::Small::other_rows))]
 pub fn other(rules: &Rules<'_>, order: Order, state: &mut State, out: &mut Out) -> Step
     requires { array_vec_len out.old < 512 }
-    ensures row { outcome state.new out.new.items result ≡
-        first_fitting other_rows (deed (cave_of rules.now) order state.old out.old.items) }
+    ensures row { outcome state.new out.new.items result
+        ≡ first_fitting other_rows (deed (cave_of rules.now) order state.old out.old.items) }
     ensures few { array_vec_len out.new ≤ array_vec_len out.old + 1 }
     ensures ranks { rank_of (cave_of rules.now) result ≤ 0 }
 {
@@ -42,8 +42,8 @@ pub fn other(rules: &Rules<'_>, order: Order, state: &mut State, out: &mut Out) 
 #[tactic(auto, unfolding(crate::specs::Small::nothing_rows))]
 pub fn nothing(rules: &Rules<'_>, order: Order, state: &mut State, out: &mut Out) -> Step
     requires { array_vec_len out.old < 512 }
-    ensures row { outcome state.new out.new.items result ≡
-        first_fitting nothing_rows (deed (cave_of rules.now) order state.old out.old.items) }
+    ensures row { outcome state.new out.new.items result
+        ≡ first_fitting nothing_rows (deed (cave_of rules.now) order state.old out.old.items) }
     ensures few { array_vec_len out.new ≤ array_vec_len out.old + 1 }
     ensures ranks { rank_of (cave_of rules.now) result ≤ 0 }
 {
@@ -53,8 +53,8 @@ pub fn nothing(rules: &Rules<'_>, order: Order, state: &mut State, out: &mut Out
 /// QUIT without an object.
 #[tactic(auto, unfolding(crate::specs::Small::bare_quit_rows))]
 pub fn quit(rules: &Rules<'_>, order: Order, state: &mut State, out: &mut Out) -> Step
-    ensures row { outcome state.new out.new.items result ≡
-        first_fitting bare_quit_rows (deed (cave_of rules.now) order state.old out.old.items) }
+    ensures row { outcome state.new out.new.items result
+        ≡ first_fitting bare_quit_rows (deed (cave_of rules.now) order state.old out.old.items) }
     ensures few { array_vec_len out.new ≤ array_vec_len out.old }
     ensures ranks { rank_of (cave_of rules.now) result ≤ 0 }
 {
@@ -64,8 +64,8 @@ pub fn quit(rules: &Rules<'_>, order: Order, state: &mut State, out: &mut Out) -
 /// SCORE without an object.
 #[tactic(auto, unfolding(crate::specs::Small::bare_score_rows))]
 pub fn score(rules: &Rules<'_>, order: Order, state: &mut State, out: &mut Out) -> Step
-    ensures row { outcome state.new out.new.items result ≡
-        first_fitting bare_score_rows (deed (cave_of rules.now) order state.old out.old.items) }
+    ensures row { outcome state.new out.new.items result
+        ≡ first_fitting bare_score_rows (deed (cave_of rules.now) order state.old out.old.items) }
     ensures few { array_vec_len out.new ≤ array_vec_len out.old }
     ensures ranks { rank_of (cave_of rules.now) result ≤ 0 }
 {
@@ -76,8 +76,8 @@ pub fn score(rules: &Rules<'_>, order: Order, state: &mut State, out: &mut Out) 
 #[tactic(auto, unfolding(crate::specs::Small::bare_brief_rows))]
 pub fn brief(rules: &Rules<'_>, order: Order, state: &mut State, out: &mut Out) -> Step
     requires { array_vec_len out.old < 512 }
-    ensures row { outcome state.new out.new.items result ≡
-        first_fitting bare_brief_rows (deed (cave_of rules.now) order state.old out.old.items) }
+    ensures row { outcome state.new out.new.items result
+        ≡ first_fitting bare_brief_rows (deed (cave_of rules.now) order state.old out.old.items) }
     ensures few { array_vec_len out.new ≤ array_vec_len out.old + 1 }
     ensures ranks { rank_of (cave_of rules.now) result ≤ 0 }
 {

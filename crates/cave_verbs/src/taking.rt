@@ -1,6 +1,6 @@
 ghost use Rattle.std.specs.Prelude.{◌≡◌, ◌+◌, ◌<◌, ◌≤◌};
 ghost use Rattle.arrayvec.specs.ArrayVec.{array_vec_len};
-ghost use Rattle.cave_world.specs.Lists.{halves_at};
+ghost use Rattle.cave_objects.specs.Lists.{halves_at};
 ghost use Rattle.cave_things.specs.Things.{cave_of};
 ghost use Rattle.cave_verbs.specs.Deeds.{deed, outcome};
 ghost use Rattle.cave_verbs.specs.Rows.{first_fitting};
@@ -11,14 +11,15 @@ use crate::next::Step;
 use crate::order::Order;
 use crate::says::{ask_what, say, say_default};
 use crate::verb::{FILL, TAKE};
-use cave_data::Role;
+use cave_objects::{Half, Object, Prop};
+use cave_rows::Role;
 use cave_things::{
     Rules, has_other_prop, has_prop, has_prop_up_to, is_dwarf_here, is_fixed, is_liquid,
 };
 use cave_words::Named;
-use cave_world::{Half, Object, Out, Prop, State};
+use cave_world::{Out, State};
 
-/// The object of which a half lies alone, if one does.
+/// The object of which a half is alone here, if one is.
 fn lone_object(halves: &[Half]) -> Object
     ensures { result ≡ lone_object halves.now }
 {
@@ -51,11 +52,12 @@ pub fn take(rules: &Rules<'_>, order: Order, state: &mut State, out: &mut Out) -
     ensures row { outcome state.new out.new.items result
         ≡ first_fitting take_rows (deed (cave_of rules.now) order state.old out.old.items) }
     ensures few { array_vec_len out.new ≤ array_vec_len out.old + 1 }
-    ensures ranks { rank_of (cave_of rules.now) result ≤ take_rank (cave_of rules.now) order.object }
+    ensures ranks { let cave = cave_of rules.now in
+        rank_of cave result ≤ take_rank cave order.object }
 {
     let x = order.object;
     let bottle = rules.object(Named::Bottle);
-    if rules.is_toted(state, x) {
+    if rules.is_in_hand(state, x) {
         return say_default(rules, order, state, out);
     }
     if is_fixed(state, x) && rules.is(x, Named::Plant) && has_prop_up_to(state, x, 0) {
@@ -77,7 +79,7 @@ pub fn take(rules: &Rules<'_>, order: Order, state: &mut State, out: &mut Out) -
         return Step::GoOn(TAKE, bottle);
     }
     if rules.is(x, Named::Water) || rules.is(x, Named::Oil) {
-        if !rules.is_toted(state, bottle) {
+        if !rules.is_in_hand(state, bottle) {
             return say(Role::NoBottle, out);
         }
         if has_prop(state, bottle, 1) {
@@ -91,10 +93,10 @@ pub fn take(rules: &Rules<'_>, order: Order, state: &mut State, out: &mut Out) -
     if rules.is(x, Named::Bird) {
         let cage = rules.object(Named::Cage);
         if has_prop(state, x, 0) {
-            if rules.is_toted(state, rules.object(Named::Rod)) {
+            if rules.is_in_hand(state, rules.object(Named::Rod)) {
                 return say(Role::BirdRod, out);
             }
-            if !rules.is_toted(state, cage) {
+            if !rules.is_in_hand(state, cage) {
                 return say(Role::NoCage, out);
             }
             state.objects.set_prop(x, Prop::new(1));

@@ -10,16 +10,17 @@ ghost use Rattle.cave_verbs.specs.declared.next.Step.TheVariants.{Done};
 ghost use Rattle.cave_verbs.specs.Rows.{first_fitting};
 ghost use Rattle.cave_verbs.specs.Ranks.{rank_of, throw_rank};
 ghost use Rattle.cave_verbs.specs.Throwing.{with_one_killed, hit_rows, axe_rows};
-ghost use Rattle.cave_verbs.specs.Throwing.{axe_thrown_at_dwarf, axe_thrown, thrown};
+ghost use Rattle.cave_verbs.specs.Throwing.{axe_thrown_at_dwarf, axe_outcome, throw_outcome};
 
 use crate::next::{Next, Step};
 use crate::order::Order;
 use crate::says::{say, say_default};
 use crate::verb::{DROP, FEED, KILL, THROW};
-use cave_data::Role;
+use cave_objects::{Anchor, Object, Place, Prop};
+use cave_rows::Role;
 use cave_things::{Rules, has_prop, is_dwarf_here, is_treasure, pay_troll};
 use cave_words::Named;
-use cave_world::{Anchor, Dwarf, Object, Out, Place, Prop, State};
+use cave_world::{Dwarf, Out, State};
 
 /// The index of the first dwarf at a place.
 fn first_at(place: Place, dwarves: &[Dwarf]) -> Option<usize>
@@ -28,7 +29,7 @@ fn first_at(place: Place, dwarves: &[Dwarf]) -> Option<usize>
     dwarves.iter().position(|dwarf| dwarf.place == place)
 }
 
-/// The first dwarf that stands here is killed.
+/// The first dwarf that is here is killed.
 #[tactic(auto, unfolding(crate::specs::Throwing::without_first_at))]
 fn strike(state: &mut State)
     ensures { state.new ≡ with_one_killed state.old }
@@ -44,7 +45,7 @@ fn strike(state: &mut State)
     }
 }
 
-/// The axe comes to lie where the player stands, and the player arrives there again.
+/// The axe is put where the player is, and the player arrives there again.
 fn land(axe: Object, state: &mut State) -> Step
     ensures state { state.new ≡ put_here axe state.old }
     ensures step { result ≡ Done (Arrive state.old.trail.here) }
@@ -54,7 +55,6 @@ fn land(axe: Object, state: &mut State) -> Step
     Step::Done(Next::Arrive(here))
 }
 
-/// The axe hits a dwarf.
 #[tactic(auto, unfolding(crate::specs::Throwing::hit_rows))]
 fn hit_dwarf(rules: &Rules<'_>, order: Order, state: &mut State, out: &mut Out) -> Step
     requires { array_vec_len out.old + 2 ≤ 512 }
@@ -120,12 +120,11 @@ fn throw_at_beast(rules: &Rules<'_>, order: Order, state: &mut State, out: &mut 
     Step::GoOn(KILL, Object::none())
 }
 
-/// The axe is thrown.
-#[tactic(auto, unfolding(crate::specs::Throwing::axe_thrown))]
+#[tactic(auto, unfolding(crate::specs::Throwing::axe_outcome))]
 fn throw_axe(rules: &Rules<'_>, order: Order, state: &mut State, out: &mut Out) -> Step
     requires { array_vec_len out.old + 2 ≤ 512 }
     ensures row { outcome state.new out.new.items result
-        ≡ axe_thrown (deed (cave_of rules.now) order state.old out.old.items) }
+        ≡ axe_outcome (deed (cave_of rules.now) order state.old out.old.items) }
     ensures few { array_vec_len out.new ≤ array_vec_len out.old + 2 }
     ensures ranks { rank_of (cave_of rules.now) result ≤ 2 }
 {
@@ -136,19 +135,20 @@ fn throw_axe(rules: &Rules<'_>, order: Order, state: &mut State, out: &mut Out) 
 }
 
 /// THROW an object.
-#[tactic(auto, unfolding(crate::specs::Throwing::thrown, crate::specs::Throwing::throw_rows, crate::specs::Ranks::rank))]
+#[tactic(auto, unfolding(crate::specs::Throwing::throw_outcome, crate::specs::Throwing::throw_rows, crate::specs::Ranks::rank))]
 pub fn throw(rules: &Rules<'_>, order: Order, state: &mut State, out: &mut Out) -> Step
     requires { array_vec_len out.old + 2 ≤ 512 }
     ensures row { outcome state.new out.new.items result
-        ≡ thrown (deed (cave_of rules.now) order state.old out.old.items) }
+        ≡ throw_outcome (deed (cave_of rules.now) order state.old out.old.items) }
     ensures few { array_vec_len out.new ≤ array_vec_len out.old + 2 }
-    ensures ranks { rank_of (cave_of rules.now) result ≤ throw_rank (cave_of rules.now) order.object }
+    ensures ranks { let cave = cave_of rules.now in
+        rank_of cave result ≤ throw_rank cave order.object }
 {
     let x = order.object;
     let bear = rules.object(Named::Bear);
-    if !rules.is_toted(state, x) {
+    if !rules.is_in_hand(state, x) {
         let second_rod = rules.object(Named::SecondRod);
-        if rules.is(x, Named::Rod) && rules.is_toted(state, second_rod) {
+        if rules.is(x, Named::Rod) && rules.is_in_hand(state, second_rod) {
             return Step::GoOn(THROW, second_rod);
         }
         return say_default(rules, order, state, out);

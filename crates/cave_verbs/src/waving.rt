@@ -9,10 +9,11 @@ ghost use Rattle.cave_verbs.specs.Waving.{wave_rows, rub_rows};
 use crate::next::{Next, Step};
 use crate::order::Order;
 use crate::says::{look, say, say_default};
-use cave_data::Role;
+use cave_objects::Prop;
+use cave_rows::Role;
 use cave_things::Rules;
 use cave_words::Named;
-use cave_world::{Out, Prop, State};
+use cave_world::{Out, State};
 
 fn flipped(prop: Prop) -> Prop
     ensures { result ≡ pos 1 -ℤ prop }
@@ -20,7 +21,7 @@ fn flipped(prop: Prop) -> Prop
     Prop::new(1 - prop.value())
 }
 
-/// Which text tells that a prop was flipped.
+/// Which text says that a prop was flipped.
 fn text_of_flipped(prop: Prop) -> i8
     ensures { result ≡ pos 2 -ℤ prop }
 {
@@ -31,22 +32,22 @@ fn text_of_flipped(prop: Prop) -> i8
 #[tactic(auto, unfolding(crate::specs::Waving::wave_rows))]
 pub fn wave(rules: &Rules<'_>, order: Order, state: &mut State, out: &mut Out) -> Step
     requires { array_vec_len out.old + 2 ≤ 512 }
-    ensures row { outcome state.new out.new.items result ≡
-        first_fitting wave_rows (deed (cave_of rules.now) order state.old out.old.items) }
+    ensures row { outcome state.new out.new.items result
+        ≡ first_fitting wave_rows (deed (cave_of rules.now) order state.old out.old.items) }
     ensures few { array_vec_len out.new ≤ array_vec_len out.old + 2 }
     ensures ranks { rank_of (cave_of rules.now) result ≤ 0 }
 {
     let x = order.object;
     let is_rod = rules.is(x, Named::Rod);
-    if !rules.is_toted(state, x)
-        && !(is_rod && rules.is_toted(state, rules.object(Named::SecondRod)))
+    if !rules.is_in_hand(state, x)
+        && !(is_rod && rules.is_in_hand(state, rules.object(Named::SecondRod)))
     {
         return say(Role::NotHeld, out);
     }
     let fissure = rules.object(Named::Fissure);
     if is_rod
         && state.at(fissure)
-        && rules.is_toted(state, rules.object(Named::Rod))
+        && rules.is_in_hand(state, rules.object(Named::Rod))
         && !state.closing.is_closing
     {
         let was = state.objects.prop(fissure);
@@ -62,8 +63,8 @@ pub fn wave(rules: &Rules<'_>, order: Order, state: &mut State, out: &mut Out) -
 #[tactic(auto, unfolding(crate::specs::Waving::rub_rows))]
 pub fn rub(rules: &Rules<'_>, order: Order, state: &mut State, out: &mut Out) -> Step
     requires { array_vec_len out.old + 2 ≤ 512 }
-    ensures row { outcome state.new out.new.items result ≡
-        first_fitting rub_rows (deed (cave_of rules.now) order state.old out.old.items) }
+    ensures row { outcome state.new out.new.items result
+        ≡ first_fitting rub_rows (deed (cave_of rules.now) order state.old out.old.items) }
     ensures few { array_vec_len out.new ≤ array_vec_len out.old + 2 }
     ensures ranks { rank_of (cave_of rules.now) result ≤ 0 }
 {

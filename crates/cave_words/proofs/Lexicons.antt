@@ -3,7 +3,7 @@ use Rattle.std.proofs.Common.{Option, None, option_map, option_and_then}
 use Rattle.cave_data.specs.CaveView.{CaveView}
 use Rattle.cave_words.proofs.Indexes.{first-meanings_of, in_class-meanings_of}
 use Rattle.cave_words.specs.Index.{Index, LexiconView, IsIndexOf, looked_up}
-use Rattle.cave_words.specs.Lexicon.{IsLexiconOf, found, found_in, found_object}
+use Rattle.cave_words.specs.Lexicon.{IsLexiconOf, meaning_of_word, found_in, found_object}
 use Rattle.cave_words.specs.Meaning.{meaning, meaning_in}
 use Rattle.cave_words.specs.Meanings.{meaning_in_class}
 use Rattle.cave_words.specs.Named.{name_number, object_of_word, object_named}
@@ -16,10 +16,12 @@ use Rattle.cave_words.specs.declared.named.Named.{Named}
 use Rattle.cave_words.specs.declared.named.Named.TheVariants as name
 use Rattle.cave_words.specs.declared.named.TheConstants.{EACH_NAME}
 
-pub found_means : (cave : CaveView) (lexicon : LexiconView) (word : List ℕ) → IsLexiconOf cave lexicon → found lexicon word ≡ meaning cave word
+pub found_means : (cave : CaveView) (lexicon : LexiconView) (word : List ℕ)
+    → IsLexiconOf cave lexicon → meaning_of_word lexicon word ≡ meaning cave word
 found_means cave lexicon word is = is.finds word
 
-pub found_in_means : (cave : CaveView) (lexicon : LexiconView) (word : List ℕ) (class : Class) → IsLexiconOf cave lexicon → found_in lexicon word class ≡ meaning_in cave word class
+pub found_in_means : (cave : CaveView) (lexicon : LexiconView) (word : List ℕ) (class : Class)
+    → IsLexiconOf cave lexicon → found_in lexicon word class ≡ meaning_in cave word class
 found_in_means cave lexicon word class is = is.finds_in word class
 
 pub found_object_means : (cave : CaveView) (lexicon : LexiconView) (name : Named)
@@ -27,14 +29,19 @@ pub found_object_means : (cave : CaveView) (lexicon : LexiconView) (name : Named
 found_object_means cave lexicon name is = is.finds_objects name
 
 -- the first object of a word of five letters is the object that the word names
-pub object_of_word_means : (cave : CaveView) (index : Index) (written : List ℕ) → IsIndexOf 5 cave.words index
-    → option_map (λ (m : Meaning). m.number) (option_and_then (meaning_in_class Object) (looked_up index (word_of 5 written))) ≡ object_of_word cave written
+pub object_of_word_means : (cave : CaveView) (index : Index) (written : List ℕ)
+    → IsIndexOf 5 cave.words index
+    → option_map (λ (m : Meaning). m.number)
+    (option_and_then (meaning_in_class Object) (looked_up index (word_of 5 written)))
+    ≡ object_of_word cave written
 unfolding object_of_word
 object_of_word_means cave index written is =
-    ap (λ known. option_map (λ (m : Meaning). m.number) (option_and_then (meaning_in_class Object) known)) (is (word_of 5 written))
-    ∙ ap (option_map (λ (m : Meaning). m.number)) (in_class-meanings_of 5 cave.words (word_of 5 written) Object)
+    ap (λ known. option_map (λ (m : Meaning). m.number)
+    (option_and_then (meaning_in_class Object) known)) (is (word_of 5 written))
+    ∙ ap (option_map (λ (m : Meaning). m.number))
+    (in_class-meanings_of 5 cave.words (word_of 5 written) Object)
 
--- what is told of each name stands at the name's number
+-- what is known of each name is at the name's number
 at_number : {K : Type 0} (f : Named → K) (d : K) (n : Named)
     → get_or (map f EACH_NAME) (name_number n) d ≡ f n
 at_number f d name.Keys = refl
@@ -45,11 +52,13 @@ pub lexicon_of : (cave : CaveView) (lexicon : LexiconView) → lexicon.letters �
     → IsIndexOf cave.letters cave.words lexicon.words
     → lexicon.names ≡ map (object_named cave) EACH_NAME
     → IsLexiconOf cave lexicon
-unfolding found found_in meaning meaning_in
+unfolding meaning_of_word found_in meaning meaning_in
 lexicon_of cave lexicon letters words names = record {
   letters = letters;
-  finds = λ word. ap (option_map (λ (k : Meanings). k.first)) (words word) ∙ first-meanings_of cave.letters cave.words word;
-  finds_in = λ word class. ap (option_and_then (meaning_in_class class)) (words word) ∙ in_class-meanings_of cave.letters cave.words word class;
+  finds = λ word. ap (option_map (λ (k : Meanings). k.first)) (words word)
+      ∙ first-meanings_of cave.letters cave.words word;
+  finds_in = λ word class. ap (option_and_then (meaning_in_class class)) (words word)
+      ∙ in_class-meanings_of cave.letters cave.words word class;
   finds_objects = λ n. ap (λ (objects : List (Option ℕ)). get_or objects (name_number n) None) names
       ∙ at_number (object_named cave) None n;
 }

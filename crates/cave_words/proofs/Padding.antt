@@ -1,48 +1,69 @@
-use Rattle.std.proofs.Common.{◌≡◌, ℕ, ◌+◌, ◌-◌, ◌<◌, zero, suc, List, [], ◌∷◌, ◌++◌, length, take, set, get_or, map, replicate, IsTrue, refl, sym, ◌∙◌, arith, append_assoc, length-append}
+use Rattle.std.proofs.Common.{◌≡◌, ℕ, ◌+◌, ◌-◌, ◌<◌, zero, suc, List, [], ◌∷◌, ◌++◌, length, take}
+use Rattle.std.proofs.Common.{set, get_or, map, replicate, IsTrue, refl, sym, ◌∙◌, arith}
+use Rattle.std.proofs.Common.{append_assoc, length-append}
 use Rattle.std.proofs.lemmas.Bool.{and_parts, and_from}
 use Rattle.std.proofs.lemmas.Bool.Decides.{nat_tests}
 use Rattle.std.proofs.lemmas.List.{take_more, map-append, length-map, length-take, append-nil}
 use Rattle.std.proofs.Math.Seq.{set-append_seam}
 use Rattle.std.specs.Char.{to_ascii_uppercase}
 use Rattle.std.specs.List.{list_all}
-use Rattle.cave_words.proofs.Fronts.{in_front-append}
-use Rattle.cave_words.specs.Bytes.{is_nonblank, in_front}
-use Rattle.cave_words.specs.Word.{cut, padded, word_of}
+use Rattle.log_lines.specs.Prefixes.{prefix_while-append}
+use Rattle.log_lines.specs.Bytes.{is_nonblank, prefix_while}
+use Rattle.cave_words.specs.Word.{letters_that_count, with_padding, word_of}
 
-set-filled : (letters : List ℕ) (byte k : ℕ) → set (letters ++ replicate (suc k) 32) (length letters) byte ≡ (letters ++ byte ∷ []) ++ replicate k 32
-set-filled letters byte k = set-append_seam letters 32 (replicate k 32) byte ∙ sym (append_assoc letters (byte ∷ []) (replicate k 32))
+set-filled : (letters : List ℕ) (byte k : ℕ)
+    → set (letters ++ replicate (suc k) 32) (length letters) byte ≡ (letters ++ byte ∷ [])
+    ++ replicate k 32
+set-filled letters byte k = set-append_seam letters 32 (replicate k 32) byte
+    ∙ sym (append_assoc letters (byte ∷ []) (replicate k 32))
 
--- a byte written over the first space behind the letters is one letter more
-set-padded : (letters : List ℕ) (byte i : ℕ) → length letters ≡ i → i < 8 → set (padded letters) i byte ≡ padded (letters ++ byte ∷ [])
-set-padded letters byte i same short =
+-- a byte written over the first space after the letters is one letter more
+set-with_padding : (letters : List ℕ) (byte i : ℕ) → length letters ≡ i → i < 8
+    → set (with_padding letters) i byte ≡ with_padding (letters ++ byte ∷ [])
+set-with_padding letters byte i same short =
     let room : 8 - length letters ≡ suc (8 - (i + 1)) = omega arith in
-    let less : 8 - length (letters ++ byte ∷ []) ≡ 8 - (i + 1) = omega (arith, length-append letters (byte ∷ [])) in
+    let less : 8 - length (letters ++ byte ∷ []) ≡ 8 - (i + 1) =
+    omega (arith, length-append letters (byte ∷ [])) in
     rw (room, less, ← same) (set-filled letters byte _)
 
-pub padded_more : (bytes : List ℕ) (i : ℕ) → i < length bytes → i < 8 → set (padded (map to_ascii_uppercase (take i bytes))) i (to_ascii_uppercase (get_or bytes i 0)) ≡ padded (map to_ascii_uppercase (take (i + 1) bytes))
+pub padded_more : (bytes : List ℕ) (i : ℕ) → i < length bytes → i < 8
+    → set (with_padding (map to_ascii_uppercase (take i bytes))) i
+    (to_ascii_uppercase (get_or bytes i 0))
+    ≡ with_padding (map to_ascii_uppercase (take (i + 1) bytes))
 padded_more bytes i within short =
-    let all : length (map to_ascii_uppercase (take i bytes)) ≡ i = simp (length-map, length-take) (omega arith) in
-    rw (take_more bytes i 0 within, map-append) (set-padded (map to_ascii_uppercase (take i bytes)) (to_ascii_uppercase (get_or bytes i 0)) i all short)
+    let all : length (map to_ascii_uppercase (take i bytes)) ≡ i =
+    simp (length-map, length-take) (omega arith) in
+    rw (take_more bytes i 0 within, map-append)
+    (set-with_padding (map to_ascii_uppercase (take i bytes))
+    (to_ascii_uppercase (get_or bytes i 0)) i all short)
 
-spaces_behind : (k : ℕ) → in_front is_nonblank (replicate k 32) ≡ []
-spaces_behind zero = refl
-spaces_behind (suc k) = refl
+spaces_after : (k : ℕ) → prefix_while is_nonblank (replicate k 32) ≡ []
+spaces_after zero = refl
+spaces_after (suc k) = refl
 
-upper_nonblank : (byte : ℕ) → IsTrue (is_nonblank byte) → IsTrue (is_nonblank (to_ascii_uppercase byte))
+upper_nonblank : (byte : ℕ) → IsTrue (is_nonblank byte)
+    → IsTrue (is_nonblank (to_ascii_uppercase byte))
 upper_nonblank byte h = grind (arith, nat_tests)
 
-cut_nonblank : (letters : ℕ) (bytes : List ℕ) → IsTrue (list_all is_nonblank bytes) → IsTrue (list_all is_nonblank (cut letters bytes))
+cut_nonblank : (letters : ℕ) (bytes : List ℕ) → IsTrue (list_all is_nonblank bytes)
+    → IsTrue (list_all is_nonblank (letters_that_count letters bytes))
 cut_nonblank zero bytes all = refl
 cut_nonblank (suc letters) [] all = refl
 cut_nonblank (suc letters) (byte ∷ bytes) all =
     let parts = and_parts (is_nonblank byte) (list_all is_nonblank bytes) all in
-    and_from (is_nonblank (to_ascii_uppercase byte)) (list_all is_nonblank (cut letters bytes)) (upper_nonblank byte parts.0) (cut_nonblank letters bytes parts.1)
+    and_from (is_nonblank (to_ascii_uppercase byte))
+    (list_all is_nonblank (letters_that_count letters bytes)) (upper_nonblank byte parts.0)
+    (cut_nonblank letters bytes parts.1)
 
 -- the letters of a word are what counts of the run that it was made of
-pub letters-word_of : (letters : ℕ) (bytes : List ℕ) → IsTrue (list_all is_nonblank bytes) → in_front is_nonblank (word_of letters bytes) ≡ cut letters bytes
+pub letters-word_of : (letters : ℕ) (bytes : List ℕ) → IsTrue (list_all is_nonblank bytes)
+    → prefix_while is_nonblank (word_of letters bytes) ≡ letters_that_count letters bytes
 unfolding word_of
 letters-word_of letters bytes all =
-    in_front-append is_nonblank (cut letters bytes) (replicate (8 - length (cut letters bytes)) 32) (cut_nonblank letters bytes all)
-    ∙ rw (spaces_behind (8 - length (cut letters bytes))) (append-nil (cut letters bytes))
+    prefix_while-append is_nonblank (letters_that_count letters bytes)
+    (replicate (8 - length (letters_that_count letters bytes)) 32)
+    (cut_nonblank letters bytes all)
+    ∙ rw (spaces_after (8 - length (letters_that_count letters bytes)))
+    (append-nil (letters_that_count letters bytes))
 
 pub ruleset padding = (letters-word_of)

@@ -1,6 +1,6 @@
 use Rattle.std.specs.Prelude.{◌≡◌, ℕ, List, Option, bytes_eq}
 use Rattle.std.specs.Map.{lookup}
-use Rattle.cave_data.specs.CaveView.{WordEntry}
+use Rattle.cave_rows.specs.Rows.{WordEntry}
 use Rattle.cave_words.specs.Meanings.{meanings_of}
 use Rattle.cave_words.specs.declared.meanings.Meanings.{Meanings}
 
@@ -14,7 +14,8 @@ looked_up index word = lookup (bytes_eq word) index
 
 -- the index says what the rows say of each word, where so many letters count
 abbrev pub IsIndexOf : ℕ → List WordEntry → Index → Type 0
-IsIndexOf letters rows index = (word : List ℕ) → looked_up index word ≡ meanings_of letters rows word
+IsIndexOf letters rows index = (word : List ℕ)
+    → looked_up index word ≡ meanings_of letters rows word
 
 -- what a lexicon is: the words with their meanings, and the objects of the names by their numbers
 pub record LexiconView : Type 0 where

@@ -10,12 +10,14 @@ use Rattle.cave_words.specs.declared.meaning.Meaning.{Meaning}
 use Rattle.cave_words.specs.declared.named.Named.{Named}
 
 -- what a lexicon says that a word means
-unfoldable pub found : LexiconView → List ℕ → Option Meaning
-found lexicon word = option_map (λ meanings. meanings.first) (looked_up lexicon.words word)
+unfoldable pub meaning_of_word : LexiconView → List ℕ → Option Meaning
+meaning_of_word lexicon word =
+    option_map (λ meanings. meanings.first) (looked_up lexicon.words word)
 
 -- what a lexicon says that a word means in a class
 unfoldable pub found_in : LexiconView → List ℕ → Class → Option Meaning
-found_in lexicon word class = option_and_then (meaning_in_class class) (looked_up lexicon.words word)
+found_in lexicon word class =
+    option_and_then (meaning_in_class class) (looked_up lexicon.words word)
 
 -- the object that a lexicon has for a name
 abbrev pub found_object : LexiconView → Named → Option ℕ
@@ -24,6 +26,7 @@ found_object lexicon name = slice_index_or lexicon.names (name_number name) None
 -- the lexicon says what the rows of the cave say
 pub record IsLexiconOf (cave : CaveView) (lexicon : LexiconView) : Type 0 where
   pub letters : lexicon.letters ≡ cave.letters
-  pub finds : (word : List ℕ) → found lexicon word ≡ meaning cave word
-  pub finds_in : (word : List ℕ) (class : Class) → found_in lexicon word class ≡ meaning_in cave word class
+  pub finds : (word : List ℕ) → meaning_of_word lexicon word ≡ meaning cave word
+  pub finds_in : (word : List ℕ) (class : Class)
+      → found_in lexicon word class ≡ meaning_in cave word class
   pub finds_objects : (name : Named) → found_object lexicon name ≡ object_named cave name

@@ -1,8 +1,5 @@
-pub mod Bytes
 pub mod Index
 pub mod Lexicon
-pub mod Line
-pub mod LogLine
 pub mod Meaning
 pub mod Meanings
 pub mod Named

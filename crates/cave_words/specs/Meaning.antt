@@ -1,5 +1,7 @@
-use Rattle.std.specs.Prelude.{ℕ, ◌/◌, ◌%◌, Bool, ◌==◌, ◌&&◌, bytes_eq, List, Option, option_map, find, if◌then◌else◌}
-use Rattle.cave_data.specs.CaveView.{CaveView, WordEntry}
+use Rattle.std.specs.Prelude.{ℕ, ◌/◌, ◌%◌, Bool, ◌==◌, ◌&&◌, bytes_eq, List, Option, option_map}
+use Rattle.std.specs.Prelude.{find, if◌then◌else◌}
+use Rattle.cave_rows.specs.Rows.{WordEntry}
+use Rattle.cave_data.specs.CaveView.{CaveView}
 use Rattle.cave_words.specs.Word.{word_of}
 use Rattle.cave_words.specs.declared.meaning.Class.{Class}
 use Rattle.cave_words.specs.declared.meaning.Class.TheVariants.{Motion, Object, Action, Special}
@@ -30,7 +32,8 @@ is_word letters word row = bytes_eq (word_of letters row.word) word
 
 -- the row is of this word and has this class
 abbrev pub is_word_in : ℕ → List ℕ → Class → WordEntry → Bool
-is_word_in letters word class row = is_word letters word row && same_class (class_of row.number) class
+is_word_in letters word class row = is_word letters word row
+    && same_class (class_of row.number) class
 
 -- what the first row that passes the test means
 abbrev pub first_meaning : (WordEntry → Bool) → List WordEntry → Option Meaning

@@ -93,4 +93,5 @@ next_object object = if nat_lt object 100 then Some (object + 1) else None
 -- the object of a name in a cave
 unfoldable pub object_named : CaveView → Named → Option ℕ
 object_named cave name =
-    if is_second name then option_and_then next_object (object_of_word cave (name_of name)) else object_of_word cave (name_of name)
+    if is_second name then option_and_then next_object (object_of_word cave (name_of name))
+    else object_of_word cave (name_of name)

@@ -9,7 +9,7 @@ use crate::meaning::{Class, Meaning};
 use crate::meanings::Meanings;
 use crate::named::{EACH_NAME, NAME_COUNT, Named};
 use crate::word::Word;
-use cave_data::{Cave, Words};
+use cave_data::{Cave, WordTable};
 use indexmap::IndexMap;
 use std::alloc::{AllocError, Global};
 use std::marker::Model;
@@ -17,7 +17,6 @@ use std::marker::Model;
 /// The letters by which the names that rules write out are known.
 const NAME_LETTERS: u8 = 5;
 
-/// The last object that a cave may have.
 const LAST_OBJECT: u16 = 100;
 
 /// What each word of a cave means.
@@ -40,7 +39,7 @@ impl Model for Lexicon {
 }
 
 impl Lexicon {
-    ghost use Rattle.cave_words.specs.Lexicon.{IsLexiconOf, found, found_in};
+    ghost use Rattle.cave_words.specs.Lexicon.{IsLexiconOf, meaning_of_word, found_in};
 
     /// The lexicon of a cave.
     pub fn build(alloc: Global, cave: &Cave) -> Result<Lexicon, AllocError>
@@ -71,10 +70,11 @@ impl Lexicon {
     }
 
     /// What a word means: what its first row in the cave says.
-    #[tactic(auto, using(crate::proofs::Lexicons::found_means), unfolding(crate::specs::Lexicon::found))]
+    #[tactic(auto, using(crate::proofs::Lexicons::found_means), unfolding(crate::specs::Lexicon::meaning_of_word))]
     pub fn find(&self, word: Word) -> Option<Meaning>
-        ensures found { result ≡ found self.now word }
-        ensures meaning { (cave : CaveView) → IsLexiconOf cave self.now → result ≡ meaning cave word }
+        ensures meaning_of_word { result ≡ meaning_of_word self.now word }
+        ensures meaning { (cave : CaveView) → IsLexiconOf cave self.now
+            → result ≡ meaning cave word }
     {
         let meanings = look_up(&self.words, word)?;
         Some(meanings.first)
@@ -83,8 +83,9 @@ impl Lexicon {
     /// What a word means in a class: what its first row of that class in the cave says.
     #[tactic(auto, using(crate::proofs::Lexicons::found_in_means), unfolding(crate::specs::Lexicon::found_in))]
     pub fn find_in(&self, word: Word, class: Class) -> Option<Meaning>
-        ensures found { result ≡ found_in self.now word class }
-        ensures meaning { (cave : CaveView) → IsLexiconOf cave self.now → result ≡ meaning_in cave word class }
+        ensures meaning_of_word { result ≡ found_in self.now word class }
+        ensures meaning { (cave : CaveView) → IsLexiconOf cave self.now
+            → result ≡ meaning_in cave word class }
     {
         look_up(&self.words, word)?.in_class(class)
     }
@@ -147,7 +148,11 @@ fn look_up(index: &IndexMap<Word, Meanings>, word: Word) -> Option<Meanings>
 }
 
 /// The meanings of some words, where so many letters count.
-fn index(alloc: Global, words: &Words, letters: u8) -> Result<IndexMap<Word, Meanings>, AllocError>
+fn index(
+    alloc: Global,
+    words: &WordTable,
+    letters: u8,
+) -> Result<IndexMap<Word, Meanings>, AllocError>
     requires { letters ≤ 8 }
     ensures { IfOk result (λ index. IsIndexOf letters words.now index.entries) }
 {

@@ -21,7 +21,8 @@ pub struct Meaning {
 impl Meaning {
     ghost use Rattle.cave_words.specs.Meaning.{meaning_of};
 
-    /// What the number of a row of words says: its thousands are the class, the rest is the number within it.
+    /// What the number of a row of words says: its thousands are the class, the rest is the number
+    /// within it.
     pub fn of(number: u16) -> Meaning
         ensures { result ≡ meaning_of number }
     {

@@ -1,13 +1,13 @@
 //! The random stream of a play.
 ghost use Rattle.std.specs.Prelude.{◌≡◌, ◌<◌, ◌≤◌};
-ghost use Rattle.cave_words.specs.Stream.{seeded, drawn, next, is_within_percent};
+ghost use Rattle.cave_words.specs.Stream.{stream_of_seed, number_drawn, next, is_within_percent};
 
 use std::marker::Model;
 
 /// How many numbers the stream goes through.
 pub const STREAM_SIZE: u32 = 1_048_576;
 
-/// Where a random stream stands.
+/// Where a random stream is.
 #[derive(Clone, Copy, Debug, PartialEq, Eq)]
 pub struct Stream {
     x: u32,
@@ -28,7 +28,7 @@ impl Model for Stream {
 impl Stream {
     /// The stream that a seed begins.
     pub fn seeded(seed: u32) -> Stream
-        ensures { result ≡ seeded seed }
+        ensures { result ≡ stream_of_seed seed }
     {
         Stream {
             x: seed % STREAM_SIZE,
@@ -39,7 +39,7 @@ impl Stream {
     pub fn draw(&mut self, n: u32) -> u32
         requires low { 1 ≤ n }
         requires high { n ≤ 4095 }
-        ensures value { result ≡ drawn n self.old }
+        ensures value { result ≡ number_drawn n self.old }
         ensures below { result < n }
         ensures moves_on { self.new ≡ next self.old }
     {

@@ -1,9 +1,9 @@
 ghost use Rattle.std.specs.Prelude.{◌≡◌, ◌≤◌, IsTrue};
 ghost use Rattle.std.specs.List.{list_all};
-ghost use Rattle.cave_words.specs.Bytes.{in_front, is_nonblank};
-ghost use Rattle.cave_words.specs.Word.{cut, word_of, is_written};
+ghost use Rattle.log_lines.specs.Bytes.{prefix_while, is_nonblank};
+ghost use Rattle.cave_words.specs.Word.{letters_that_count, word_of, is_written};
 
-use crate::bytes::split_word;
+use log_lines::bytes::split_word;
 use std::marker::Model;
 
 /// The most letters of a word that count.
@@ -12,7 +12,8 @@ pub const MOST_LETTERS: usize = 8;
 /// The letters by which the rules know the words that they write out.
 pub const RULE_LETTERS: usize = 5;
 
-/// A word as it is compared: in upper case, cut to the letters that count, and filled up with spaces.
+/// A word as it is compared: in upper case, cut to the letters that count, and filled up with
+/// spaces.
 #[derive(Clone, Copy, Debug, PartialEq, Eq, Hash)]
 pub struct Word {
     bytes: [u8; MOST_LETTERS],
@@ -36,7 +37,8 @@ impl Word {
         ensures word { result ≡ word_of letters bytes.now }
 
         // So words are equal exactly where what counts of them is.
-        ensures letters { IsTrue (list_all is_nonblank bytes.now) → in_front is_nonblank result ≡ cut letters bytes.now }
+        ensures letters { IsTrue (list_all is_nonblank bytes.now)
+            → prefix_while is_nonblank result ≡ letters_that_count letters bytes.now }
     {
         Word::filled(bytes, letters)
     }
@@ -54,9 +56,9 @@ impl Word {
         Word { bytes: word }
     }
 
-    /// The word's letters, without the spaces behind them.
+    /// The word's letters, without the spaces after them.
     pub fn letters(&self) -> &[u8]
-        ensures { result.now ≡ in_front is_nonblank self.now }
+        ensures { result.now ≡ prefix_while is_nonblank self.now }
     {
         let (letters, _) = split_word(&self.bytes);
         letters

@@ -1,9 +1,9 @@
 ghost use Rattle.std.specs.Prelude.{◌≡◌, ◌≤◌, option_map};
 ghost use Rattle.cave_words.specs.Word.{word_of};
-ghost use Rattle.cave_words.specs.Words.{first_run, behind_first_run, words_of};
+ghost use Rattle.cave_words.specs.Words.{first_word_of, after_first_run, words_of};
 
-use crate::bytes::{behind_blanks, split_word};
 use crate::word::Word;
+use log_lines::bytes::{skip_blanks, split_word};
 
 /// The words of a line: at most two, the rest is ignored.
 #[derive(Clone, Copy, Debug, PartialEq, Eq)]
@@ -26,14 +26,14 @@ impl Words {
     }
 }
 
-/// The first word of a line, and what stands behind it.
-#[tactic(auto, unfolding(crate::specs::Words::first_run, crate::specs::Words::behind_first_run))]
+/// The first word of a line, and what follows it.
+#[tactic(auto, unfolding(crate::specs::Words::first_word_of, crate::specs::Words::after_first_run))]
 fn next_word(line: &[u8], letters: u8) -> (Option<Word>, &[u8])
     requires { letters ≤ 8 }
-    ensures word { result.0 ≡ option_map (word_of letters) (first_run line.now) }
-    ensures rest { result.1.now ≡ behind_first_run line.now }
+    ensures word { result.0 ≡ option_map (word_of letters) (first_word_of line.now) }
+    ensures rest { result.1.now ≡ after_first_run line.now }
 {
-    let (run, rest) = split_word(behind_blanks(line));
+    let (run, rest) = split_word(skip_blanks(line));
     if run.is_empty() {
         return (None, rest);
     }

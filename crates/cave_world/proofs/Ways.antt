@@ -1,26 +1,29 @@
 -- The rows that are left to be tried where one failed.
-use Rattle.std.proofs.Common.{◌≡◌, ℕ, true, false, eqb, List, ◌∷◌, Option, Some, None, refl, sym, ap, arith}
+use Rattle.std.proofs.Common.{◌≡◌, ℕ, true, false, eqb, List, ◌∷◌, Option, Some, None, refl, sym}
+use Rattle.std.proofs.Common.{ap, arith}
 use Rattle.std.specs.Option.{option_eq}
 use Rattle.std.proofs.lemmas.Bool.{false≢true}
 use Rattle.std.proofs.lemmas.Bool.Decides.{nat_tests}
-use Rattle.cave_data.specs.CaveView.{Going}
-use Rattle.cave_world.specs.Travel.{passed}
+use Rattle.cave_rows.specs.Rows.{Going}
+use Rattle.cave_world.specs.Travel.{without_leading_target}
 
 abbrev pub passed_after : Option ℕ → List Going → List Going
 passed_after None rows = rows
-passed_after (Some target) rows = passed target rows
+passed_after (Some target) rows = without_leading_target target rows
 
 -- a row with the target that failed is passed
-pub passed_after-same : (failed : Option ℕ) (row : Going) (rows : List Going) → option_eq eqb failed (Some row.target) ≡ true
-    → passed_after failed (row ∷ passed row.target rows) ≡ passed_after failed rows
+pub passed_after-same : (failed : Option ℕ) (row : Going) (rows : List Going)
+    → option_eq eqb failed (Some row.target) ≡ true
+    → passed_after failed (row ∷ without_leading_target row.target rows) ≡ passed_after failed rows
 passed_after-same None row rows h = absurd (false≢true h)
 passed_after-same (Some target) row rows h =
     let same : target ≡ row.target = grind (arith, nat_tests) in
     let test : eqb row.target target ≡ true = grind (arith, nat_tests) in
-    rw test (ap (λ t. passed t rows) (sym same))
+    rw test (ap (λ t. without_leading_target t rows) (sym same))
 
 -- any other is tried
-pub passed_after-other : (failed : Option ℕ) (row : Going) (rows : List Going) → option_eq eqb failed (Some row.target) ≡ false → passed_after failed (row ∷ rows) ≡ row ∷ rows
+pub passed_after-other : (failed : Option ℕ) (row : Going) (rows : List Going)
+    → option_eq eqb failed (Some row.target) ≡ false → passed_after failed (row ∷ rows) ≡ row ∷ rows
 passed_after-other None row rows h = refl
 passed_after-other (Some target) row rows h =
     let test : eqb row.target target ≡ false = grind (arith, nat_tests) in rw test refl

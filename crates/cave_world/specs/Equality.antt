@@ -1,5 +1,5 @@
--- `==` tells exactly whether values are equal, field by field up to whole states.
-use Rattle.std.proofs.Common.{◌≡◌, Bool, List, Option, Some, None, refl, sym, ap, ◌∙◌}
+-- `==` holds exactly where values are equal, field by field up to whole states.
+use Rattle.std.proofs.Common.{◌≡◌, Bool, Option, Some, None, refl, sym, ap}
 use Rattle.std.specs.Prelude.{◌↔◌, IsTrue}
 use Rattle.std.specs.Bool.{Decides}
 use Rattle.std.specs.Option.{option_eq, is_some, unwrap_or}
@@ -7,17 +7,12 @@ use Rattle.std.specs.Cmp.{unsigned_Decides, signed_Decides, booleans_Decides}
 use Rattle.std.specs.Cmp.Lexicographic.{pointwise_decides}
 use Rattle.std.proofs.lemmas.Bool.{false≢true}
 use Rattle.std.proofs.lemmas.Bool.Decides.{Decides-and, Decides-like}
-use Rattle.cave_world.specs.Lists.{AreLists}
+use Rattle.cave_objects.specs.SameObjects.{objects_decides}
+use Rattle.cave_objects.specs.Lists.{AreLists}
 use Rattle.cave_world.specs.SameGame.{IsSameGame, same_state}
-use Rattle.cave_world.specs.Packed.{code_of_spot, spot_of_code, code_of_anchor, anchor_of_code, code_of_spot_back, code_of_anchor_back}
-use Rattle.cave_world.specs.declared.spot.Spot.{Spot}
-use Rattle.cave_world.specs.declared.spot.Anchor.{Anchor}
-use Rattle.cave_world.specs.declared.object.Half.{Half}
 use Rattle.cave_world.specs.declared.dwarves.Knife.{Knife}
 use Rattle.cave_world.specs.declared.ending.Question.{Question}
 use Rattle.cave_world.specs.declared.ending.Ending.{Ending}
-use Rattle.cave_world.specs.declared.lists.Entry.{Entry}
-use Rattle.cave_world.specs.declared.objects.Objects.{Objects}
 use Rattle.cave_world.specs.declared.state.Trail.{Trail}
 use Rattle.cave_world.specs.declared.state.Tallies.{Tallies}
 use Rattle.cave_world.specs.declared.lamp.Lamp.{Lamp}
@@ -27,19 +22,12 @@ use Rattle.cave_world.specs.declared.dwarves.Dwarves.{Dwarves}
 use Rattle.cave_world.specs.declared.talk.Talk.{Talk}
 use Rattle.cave_world.specs.declared.hints.Hints.{Hints}
 use Rattle.cave_world.specs.declared.state.State.{State}
-use Rattle.cave_world.specs.declared.object.Half.TheVariants as half
 use Rattle.cave_world.specs.declared.dwarves.Knife.TheVariants as knife
 use Rattle.cave_world.specs.declared.ending.Question.TheVariants as question
 use Rattle.cave_world.specs.declared.ending.Ending.TheVariants as ending
-use Rattle.cave_world.specs.contracts.packed.PackedSpotPartialEq.TheImpl as packed_spot_eq
-use Rattle.cave_world.specs.contracts.packed.PackedAnchorPartialEq.TheImpl as packed_anchor_eq
-use Rattle.cave_world.specs.contracts.object.HalfPartialEq.TheImpl as half_eq
 use Rattle.cave_world.specs.contracts.dwarves.KnifePartialEq.TheImpl as knife_eq
 use Rattle.cave_world.specs.contracts.ending.QuestionPartialEq.TheImpl as question_eq
 use Rattle.cave_world.specs.contracts.ending.EndingPartialEq.TheImpl as ending_eq
-use Rattle.cave_world.specs.contracts.lists.EntryPartialEq.TheImpl as entry_eq
-use Rattle.cave_world.specs.contracts.lists.ObjectListsPartialEq.TheImpl as object_lists_eq
-use Rattle.cave_world.specs.contracts.objects.ObjectsPartialEq.TheImpl as objects_eq
 use Rattle.cave_world.specs.contracts.state.TrailPartialEq.TheImpl as trail_eq
 use Rattle.cave_world.specs.contracts.state.TalliesPartialEq.TheImpl as tallies_eq
 use Rattle.cave_world.specs.contracts.lamp.LampPartialEq.TheImpl as lamp_eq
@@ -50,31 +38,18 @@ use Rattle.cave_world.specs.contracts.talk.TalkPartialEq.TheImpl as talk_eq
 use Rattle.cave_world.specs.contracts.hints.HintsPartialEq.TheImpl as hints_eq
 use Rattle.cave_world.specs.contracts.state.StatePartialEq.TheImpl as state_eq
 
-option_decides : {K : Type 0} (E : K → K → Bool) → ((x y : K) → Decides (E x y) (x ≡ y)) → (x y : Option K) → Decides (option_eq E x y) (x ≡ y)
+option_decides : {K : Type 0} (E : K → K → Bool) → ((x y : K) → Decides (E x y) (x ≡ y))
+    → (x y : Option K) → Decides (option_eq E x y) (x ≡ y)
 option_decides E d None None = (λ _. refl, λ _. refl)
 option_decides E d None (Some y) = (λ e. absurd (false≢true e), λ e. ap is_some e)
 option_decides E d (Some x) None = (λ e. absurd (false≢true e), λ e. sym (ap is_some e))
 option_decides E d (Some x) (Some y) =
     (λ e i. Some ((d x y).0 e i), λ e. (d x y).1 (ap (λ o. unwrap_or o x) e))
 
-packed_spot_decides : (a b : Spot) → Decides (packed_spot_eq.eq-value.it a b) (a ≡ b)
-packed_spot_decides a b =
-    Decides-like _ (λ e. sym (code_of_spot_back a) ∙ (ap spot_of_code e ∙ code_of_spot_back b)) (λ e. ap code_of_spot e)
-    (unsigned_Decides (code_of_spot a) (code_of_spot b))
-
-packed_anchor_decides : (a b : Anchor) → Decides (packed_anchor_eq.eq-value.it a b) (a ≡ b)
-packed_anchor_decides a b =
-    Decides-like _ (λ e. sym (code_of_anchor_back a) ∙ (ap anchor_of_code e ∙ code_of_anchor_back b)) (λ e. ap code_of_anchor e)
-    (unsigned_Decides (code_of_anchor a) (code_of_anchor b))
-
-half_decides : (a b : Half) → Decides (half_eq.eq-value.it a b) (a ≡ b)
-half_decides (half.First x) (half.First y) = (λ e i. half.First ((unsigned_Decides x y).0 e i), λ e. (unsigned_Decides x y).1 cc)
-half_decides (half.Second x) (half.Second y) = (λ e i. half.Second ((unsigned_Decides x y).0 e i), λ e. (unsigned_Decides x y).1 cc)
-half_decides _ _ = (λ e. absurd (false≢true e), λ e. cc)
-
 knife_decides : (a b : Knife) → Decides (knife_eq.eq-value.it a b) (a ≡ b)
 knife_decides knife.Unthrown knife.Unthrown = (λ _. refl, λ _. refl)
-knife_decides (knife.At x) (knife.At y) = (λ e i. knife.At ((unsigned_Decides x y).0 e i), λ e. (unsigned_Decides x y).1 cc)
+knife_decides (knife.At x) (knife.At y) =
+    (λ e i. knife.At ((unsigned_Decides x y).0 e i), λ e. (unsigned_Decides x y).1 cc)
 knife_decides knife.Vanished knife.Vanished = (λ _. refl, λ _. refl)
 knife_decides _ _ = (λ e. absurd (false≢true e), λ e. cc)
 
@@ -83,8 +58,10 @@ question_decides question.Welcome question.Welcome = (λ _. refl, λ _. refl)
 question_decides question.Quit question.Quit = (λ _. refl, λ _. refl)
 question_decides question.ScoreQuit question.ScoreQuit = (λ _. refl, λ _. refl)
 question_decides question.Die question.Die = (λ _. refl, λ _. refl)
-question_decides (question.Hint x) (question.Hint y) = (λ e i. question.Hint ((unsigned_Decides x y).0 e i), λ e. (unsigned_Decides x y).1 cc)
-question_decides (question.Take x) (question.Take y) = (λ e i. question.Take ((unsigned_Decides x y).0 e i), λ e. (unsigned_Decides x y).1 cc)
+question_decides (question.Hint x) (question.Hint y) =
+    (λ e i. question.Hint ((unsigned_Decides x y).0 e i), λ e. (unsigned_Decides x y).1 cc)
+question_decides (question.Take x) (question.Take y) =
+    (λ e i. question.Take ((unsigned_Decides x y).0 e i), λ e. (unsigned_Decides x y).1 cc)
 question_decides question.Oyster question.Oyster = (λ _. refl, λ _. refl)
 question_decides question.Dragon question.Dragon = (λ _. refl, λ _. refl)
 question_decides _ _ = (λ e. absurd (false≢true e), λ e. cc)
@@ -97,74 +74,206 @@ ending_decides ending.WrongWay ending.WrongWay = (λ _. refl, λ _. refl)
 ending_decides ending.Success ending.Success = (λ _. refl, λ _. refl)
 ending_decides _ _ = (λ e. absurd (false≢true e), λ e. cc)
 
-pub entry_decides : (a b : Entry) → Decides (entry_eq.eq-value.it a b) (a ≡ b)
-entry_decides a b =
-    Decides-like _ (λ h i. record { place = h.0 i; half = h.1 i })
-    (λ e. (ap (λ (s : Entry). s.place) e, ap (λ (s : Entry). s.half) e))
-    (Decides-and _ _ (unsigned_Decides a.place b.place) (half_decides a.half b.half))
-
-object_lists_decides : (a b : List Entry) → Decides (object_lists_eq.eq-value.it a b) (a ≡ b)
-object_lists_decides = pointwise_decides entry_decides
-
-objects_decides : (a b : Objects) → Decides (objects_eq.eq-value.it a b) (a ≡ b)
-objects_decides a b =
-    Decides-like _ (λ h i. record { first = h.0 i; second = h.1.0 i; props = h.1.1.0 i; lists = h.1.1.1 i })
-    (λ e. (ap (λ (s : Objects). s.first) e, (ap (λ (s : Objects). s.second) e, (ap (λ (s : Objects). s.props) e, ap (λ (s : Objects). s.lists) e))))
-    (Decides-and _ _ (pointwise_decides packed_spot_decides a.first b.first) (Decides-and _ _ (pointwise_decides packed_anchor_decides a.second b.second) (Decides-and _ _ (pointwise_decides signed_Decides a.props b.props) (object_lists_decides a.lists b.lists))))
-
 trail_decides : (a b : Trail) → Decides (trail_eq.eq-value.it a b) (a ≡ b)
 trail_decides a b =
-    Decides-like _ (λ h i. record { here = h.0 i; last = h.1.0 i; older = h.1.1 i })
-    (λ e. (ap (λ (s : Trail). s.here) e, (ap (λ (s : Trail). s.last) e, ap (λ (s : Trail). s.older) e)))
-    (Decides-and _ _ (unsigned_Decides a.here b.here) (Decides-and _ _ (unsigned_Decides a.last b.last) (unsigned_Decides a.older b.older)))
+    Decides-like _
+    (λ h i.
+    let (here, (last, older)) = h in
+    record { here = here i; last = last i; older = older i })
+    (λ e. (
+      ap (λ (s : Trail). s.here) e,
+      (ap (λ (s : Trail). s.last) e, ap (λ (s : Trail). s.older) e),
+    ))
+    (Decides-and _ _ (unsigned_Decides a.here b.here)
+    (Decides-and _ _ (unsigned_Decides a.last b.last) (unsigned_Decides a.older b.older)))
 
 tallies_decides : (a b : Tallies) → Decides (tallies_eq.eq-value.it a b) (a ≡ b)
 tallies_decides a b =
-    Decides-like _ (λ h i. record { unseen = h.0 i; lost = h.1.0 i; deaths = h.1.1 i })
-    (λ e. (ap (λ (s : Tallies). s.unseen) e, (ap (λ (s : Tallies). s.lost) e, ap (λ (s : Tallies). s.deaths) e)))
-    (Decides-and _ _ (unsigned_Decides a.unseen b.unseen) (Decides-and _ _ (unsigned_Decides a.lost b.lost) (unsigned_Decides a.deaths b.deaths)))
+    Decides-like _
+    (λ h i.
+    let (unseen, (lost, deaths)) = h in
+    record { unseen = unseen i; lost = lost i; deaths = deaths i })
+    (λ e. (
+      ap (λ (s : Tallies). s.unseen) e,
+      (ap (λ (s : Tallies). s.lost) e, ap (λ (s : Tallies). s.deaths) e),
+    ))
+    (Decides-and _ _ (unsigned_Decides a.unseen b.unseen)
+    (Decides-and _ _ (unsigned_Decides a.lost b.lost) (unsigned_Decides a.deaths b.deaths)))
 
 lamp_decides : (a b : Lamp) → Decides (lamp_eq.eq-value.it a b) (a ≡ b)
 lamp_decides a b =
-    Decides-like _ (λ h i. record { charge = h.0 i; is_warned = h.1 i })
+    Decides-like _
+    (λ h i.
+    let (charge, is_warned) = h in
+    record { charge = charge i; is_warned = is_warned i })
     (λ e. (ap (λ (s : Lamp). s.charge) e, ap (λ (s : Lamp). s.is_warned) e))
     (Decides-and _ _ (signed_Decides a.charge b.charge) (booleans_Decides a.is_warned b.is_warned))
 
 closing_decides : (a b : Closing) → Decides (closing_eq.eq-value.it a b) (a ≡ b)
 closing_decides a b =
-    Decides-like _ (λ h i. record { first_clock = h.0 i; second_clock = h.1.0 i; is_closing = h.1.1.0 i; is_closed = h.1.1.1.0 i; is_panicking = h.1.1.1.1 i })
-    (λ e. (ap (λ (s : Closing). s.first_clock) e, (ap (λ (s : Closing). s.second_clock) e, (ap (λ (s : Closing). s.is_closing) e, (ap (λ (s : Closing). s.is_closed) e, ap (λ (s : Closing). s.is_panicking) e)))))
-    (Decides-and _ _ (signed_Decides a.first_clock b.first_clock) (Decides-and _ _ (signed_Decides a.second_clock b.second_clock) (Decides-and _ _ (booleans_Decides a.is_closing b.is_closing) (Decides-and _ _ (booleans_Decides a.is_closed b.is_closed) (booleans_Decides a.is_panicking b.is_panicking)))))
+    Decides-like _
+    (λ h i.
+    let (first_clock, (second_clock, (is_closing, (is_closed, is_panicking)))) = h in
+    record {
+      first_clock = first_clock i;
+      second_clock = second_clock i;
+      is_closing = is_closing i;
+      is_closed = is_closed i;
+      is_panicking = is_panicking i;
+    })
+    (λ e. (
+      ap (λ (s : Closing). s.first_clock) e,
+      (
+        ap (λ (s : Closing). s.second_clock) e,
+        (
+          ap (λ (s : Closing). s.is_closing) e,
+          (ap (λ (s : Closing). s.is_closed) e, ap (λ (s : Closing). s.is_panicking) e),
+        ),
+      ),
+    ))
+    (Decides-and _ _ (signed_Decides a.first_clock b.first_clock)
+    (Decides-and _ _ (signed_Decides a.second_clock b.second_clock)
+    (Decides-and _ _ (booleans_Decides a.is_closing b.is_closing)
+    (Decides-and _ _ (booleans_Decides a.is_closed b.is_closed)
+    (booleans_Decides a.is_panicking b.is_panicking)))))
 
 dwarf_decides : (a b : Dwarf) → Decides (dwarf_eq.eq-value.it a b) (a ≡ b)
 dwarf_decides a b =
-    Decides-like _ (λ h i. record { place = h.0 i; last = h.1.0 i; has_seen = h.1.1 i })
-    (λ e. (ap (λ (s : Dwarf). s.place) e, (ap (λ (s : Dwarf). s.last) e, ap (λ (s : Dwarf). s.has_seen) e)))
-    (Decides-and _ _ (unsigned_Decides a.place b.place) (Decides-and _ _ (unsigned_Decides a.last b.last) (booleans_Decides a.has_seen b.has_seen)))
+    Decides-like _
+    (λ h i.
+    let (place, (last, has_seen)) = h in
+    record { place = place i; last = last i; has_seen = has_seen i })
+    (λ e. (
+      ap (λ (s : Dwarf). s.place) e,
+      (ap (λ (s : Dwarf). s.last) e, ap (λ (s : Dwarf). s.has_seen) e),
+    ))
+    (Decides-and _ _ (unsigned_Decides a.place b.place)
+    (Decides-and _ _ (unsigned_Decides a.last b.last) (booleans_Decides a.has_seen b.has_seen)))
 
 dwarves_decides : (a b : Dwarves) → Decides (dwarves_eq.eq-value.it a b) (a ≡ b)
 dwarves_decides a b =
-    Decides-like _ (λ h i. record { anger = h.0 i; kills = h.1.0 i; knife = h.1.1.0 i; each = h.1.1.1 i })
-    (λ e. (ap (λ (s : Dwarves). s.anger) e, (ap (λ (s : Dwarves). s.kills) e, (ap (λ (s : Dwarves). s.knife) e, ap (λ (s : Dwarves). s.each) e))))
-    (Decides-and _ _ (unsigned_Decides a.anger b.anger) (Decides-and _ _ (unsigned_Decides a.kills b.kills) (Decides-and _ _ (knife_decides a.knife b.knife) (pointwise_decides dwarf_decides a.each b.each))))
+    Decides-like _
+    (λ h i.
+    let (anger, (kills, (knife, each))) = h in
+    record { anger = anger i; kills = kills i; knife = knife i; each = each i })
+    (λ e. (
+      ap (λ (s : Dwarves). s.anger) e,
+      (
+        ap (λ (s : Dwarves). s.kills) e,
+        (ap (λ (s : Dwarves). s.knife) e, ap (λ (s : Dwarves). s.each) e),
+      ),
+    ))
+    (Decides-and _ _ (unsigned_Decides a.anger b.anger)
+    (Decides-and _ _ (unsigned_Decides a.kills b.kills)
+    (Decides-and _ _ (knife_decides a.knife b.knife)
+    (pointwise_decides dwarf_decides a.each b.each))))
 
 talk_decides : (a b : Talk) → Decides (talk_eq.eq-value.it a b) (a ≡ b)
 talk_decides a b =
-    Decides-like _ (λ h i. record { verb = h.0 i; object = h.1.0 i; last = h.1.1.0 i; is_brief = h.1.1.1.0 i; details = h.1.1.1.1.0 i; magic = h.1.1.1.1.1 i })
-    (λ e. (ap (λ (s : Talk). s.verb) e, (ap (λ (s : Talk). s.object) e, (ap (λ (s : Talk). s.last) e, (ap (λ (s : Talk). s.is_brief) e, (ap (λ (s : Talk). s.details) e, ap (λ (s : Talk). s.magic) e))))))
-    (Decides-and _ _ (option_decides _ (unsigned_Decides) a.verb b.verb) (Decides-and _ _ (unsigned_Decides a.object b.object) (Decides-and _ _ (unsigned_Decides a.last b.last) (Decides-and _ _ (booleans_Decides a.is_brief b.is_brief) (Decides-and _ _ (unsigned_Decides a.details b.details) (signed_Decides a.magic b.magic))))))
+    Decides-like _
+    (λ h i.
+    let (verb, (object, (last, (is_brief, (details, magic))))) = h in
+    record {
+      verb = verb i;
+      object = object i;
+      last = last i;
+      is_brief = is_brief i;
+      details = details i;
+      magic = magic i;
+    })
+    (λ e. (
+      ap (λ (s : Talk). s.verb) e,
+      (
+        ap (λ (s : Talk). s.object) e,
+        (
+          ap (λ (s : Talk). s.last) e,
+          (
+            ap (λ (s : Talk). s.is_brief) e,
+            (ap (λ (s : Talk). s.details) e, ap (λ (s : Talk). s.magic) e),
+          ),
+        ),
+      ),
+    ))
+    (Decides-and _ _ (option_decides _ (unsigned_Decides) a.verb b.verb)
+    (Decides-and _ _ (unsigned_Decides a.object b.object)
+    (Decides-and _ _ (unsigned_Decides a.last b.last)
+    (Decides-and _ _ (booleans_Decides a.is_brief b.is_brief)
+    (Decides-and _ _ (unsigned_Decides a.details b.details)
+    (signed_Decides a.magic b.magic))))))
 
 hints_decides : (a b : Hints) → Decides (hints_eq.eq-value.it a b) (a ≡ b)
 hints_decides a b =
-    Decides-like _ (λ h i. record { turns = h.0 i; is_taken = h.1 i })
+    Decides-like _
+    (λ h i.
+    let (turns, is_taken) = h in
+    record { turns = turns i; is_taken = is_taken i })
     (λ e. (ap (λ (s : Hints). s.turns) e, ap (λ (s : Hints). s.is_taken) e))
-    (Decides-and _ _ (pointwise_decides unsigned_Decides a.turns b.turns) (pointwise_decides booleans_Decides a.is_taken b.is_taken))
+    (Decides-and _ _ (pointwise_decides unsigned_Decides a.turns b.turns)
+    (pointwise_decides booleans_Decides a.is_taken b.is_taken))
 
 state_decides : (a b : State) → Decides (state_eq.eq-value.it a b) (a ≡ b)
 state_decides a b =
-    Decides-like _ (λ h i. record { trail = h.0 i; objects = h.1.0 i; visits = h.1.1.0 i; lamp = h.1.1.1.0 i; closing = h.1.1.1.1.0 i; tallies = h.1.1.1.1.1.0 i; talk = h.1.1.1.1.1.1.0 i; dwarves = h.1.1.1.1.1.1.1.0 i; hints = h.1.1.1.1.1.1.1.1.0 i; question = h.1.1.1.1.1.1.1.1.1.0 i; ending = h.1.1.1.1.1.1.1.1.1.1.0 i; stream = h.1.1.1.1.1.1.1.1.1.1.1 i })
-    (λ e. (ap (λ (s : State). s.trail) e, (ap (λ (s : State). s.objects) e, (ap (λ (s : State). s.visits) e, (ap (λ (s : State). s.lamp) e, (ap (λ (s : State). s.closing) e, (ap (λ (s : State). s.tallies) e, (ap (λ (s : State). s.talk) e, (ap (λ (s : State). s.dwarves) e, (ap (λ (s : State). s.hints) e, (ap (λ (s : State). s.question) e, (ap (λ (s : State). s.ending) e, ap (λ (s : State). s.stream) e))))))))))))
-    (Decides-and _ _ (trail_decides a.trail b.trail) (Decides-and _ _ (objects_decides a.objects b.objects) (Decides-and _ _ (pointwise_decides unsigned_Decides a.visits b.visits) (Decides-and _ _ (lamp_decides a.lamp b.lamp) (Decides-and _ _ (closing_decides a.closing b.closing) (Decides-and _ _ (tallies_decides a.tallies b.tallies) (Decides-and _ _ (talk_decides a.talk b.talk) (Decides-and _ _ (dwarves_decides a.dwarves b.dwarves) (Decides-and _ _ (hints_decides a.hints b.hints) (Decides-and _ _ (option_decides _ (question_decides) a.question b.question) (Decides-and _ _ (option_decides _ (ending_decides) a.ending b.ending) (unsigned_Decides a.stream b.stream))))))))))))
+    Decides-like _
+    (λ h i.
+    let (trail, (objects, (visits, (lamp, (closing, others))))) = h in
+    let (tallies, (talk, (dwarves, (hints, (question, (ending, stream)))))) = others in
+    record {
+      trail = trail i;
+      objects = objects i;
+      visits = visits i;
+      lamp = lamp i;
+      closing = closing i;
+      tallies = tallies i;
+      talk = talk i;
+      dwarves = dwarves i;
+      hints = hints i;
+      question = question i;
+      ending = ending i;
+      stream = stream i;
+    })
+    (λ e. (
+      ap (λ (s : State). s.trail) e,
+      (
+        ap (λ (s : State). s.objects) e,
+        (
+          ap (λ (s : State). s.visits) e,
+          (
+            ap (λ (s : State). s.lamp) e,
+            (
+              ap (λ (s : State). s.closing) e,
+              (
+                ap (λ (s : State). s.tallies) e,
+                (
+                  ap (λ (s : State). s.talk) e,
+                  (
+                    ap (λ (s : State). s.dwarves) e,
+                    (
+                      ap (λ (s : State). s.hints) e,
+                      (
+                        ap (λ (s : State). s.question) e,
+                        (ap (λ (s : State). s.ending) e, ap (λ (s : State). s.stream) e),
+                      ),
+                    ),
+                  ),
+                ),
+              ),
+            ),
+          ),
+        ),
+      ),
+    ))
+    (Decides-and _ _ (trail_decides a.trail b.trail)
+    (Decides-and _ _ (objects_decides a.objects b.objects)
+    (Decides-and _ _ (pointwise_decides unsigned_Decides a.visits b.visits)
+    (Decides-and _ _ (lamp_decides a.lamp b.lamp)
+    (Decides-and _ _ (closing_decides a.closing b.closing)
+    (Decides-and _ _ (tallies_decides a.tallies b.tallies)
+    (Decides-and _ _ (talk_decides a.talk b.talk)
+    (Decides-and _ _ (dwarves_decides a.dwarves b.dwarves)
+    (Decides-and _ _ (hints_decides a.hints b.hints)
+    (Decides-and _ _ (option_decides _ (question_decides) a.question b.question)
+    (Decides-and _ _ (option_decides _ (ending_decides) a.ending b.ending)
+    (unsigned_Decides a.stream b.stream))))))))))))
 
 -- `==` holds of two states exactly where they are equal in every field
 pub state_equality : (a b : State) → IsTrue (state_eq.eq-value.it a b) ↔ (a ≡ b)

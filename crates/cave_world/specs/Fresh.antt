@@ -12,16 +12,24 @@ unfoldable pub full_lamp : Lamp
 full_lamp = record { charge = pos 330; is_warned = false }
 
 unfoldable pub far_closing : Closing
-far_closing = record { first_clock = pos 30; second_clock = pos 50; is_closing = false; is_closed = false; is_panicking = false }
+far_closing =
+    record {
+      first_clock = pos 30;
+      second_clock = pos 50;
+      is_closing = false;
+      is_closed = false;
+      is_panicking = false;
+    }
 
 unfoldable pub nothing_said : Talk
-nothing_said = record { verb = None; object = 0; last = 0; is_brief = false; details = 0; magic = pos 0 }
+nothing_said =
+    record { verb = None; object = 0; last = 0; is_brief = false; details = 0; magic = pos 0 }
 
-abbrev pub nobody : Dwarf
-nobody = record { place = 0; last = 0; has_seen = false }
+abbrev pub no_dwarf : Dwarf
+no_dwarf = record { place = 0; last = 0; has_seen = false }
 
 unfoldable pub asleep : Dwarves
-asleep = record { anger = 0; kills = 0; knife = Unthrown; each = replicate 6 nobody }
+asleep = record { anger = 0; kills = 0; knife = Unthrown; each = replicate 6 no_dwarf }
 
-unfoldable pub unused : Hints
-unused = record { turns = replicate 20 0; is_taken = replicate 20 false }
+unfoldable pub no_hint_used : Hints
+no_hint_used = record { turns = replicate 20 0; is_taken = replicate 20 false }

@@ -1,15 +1,7 @@
-pub mod Halves
-pub mod Lists
-pub mod Links
-pub mod Spots
-pub mod Packed
-pub mod Layout
-pub mod Objects
 pub mod Sight
 pub mod Travel
 pub mod Fresh
 pub mod State
 pub mod Parts
-pub mod SameLists
 pub mod SameGame
 pub mod Equality

@@ -1,9 +1,10 @@
--- Light, and the places that a player can't stay at.
+-- Light, and places with a forced motion.
 use Rattle.std.specs.Prelude.{ℕ, pos, ◌/◌, ◌%◌, ◌^◌, Bool, false, ◌==◌, ◌&&◌, not, List, [], ◌∷◌}
 use Rattle.std.specs.Ordering.{int_eq}
-use Rattle.cave_data.specs.CaveView.{CaveView, Going, ways_from, conditions_of}
+use Rattle.cave_rows.specs.Rows.{Going}
+use Rattle.cave_data.specs.CaveView.{CaveView, ways_from, conditions_of}
 use Rattle.cave_world.specs.declared.state.State.{State}
-use Rattle.cave_world.specs.Objects.{is_at_hand, prop_of}
+use Rattle.cave_objects.specs.Objects.{is_at_hand, prop_of}
 
 -- a bit is set for a place
 unfoldable pub has_condition : CaveView → ℕ → ℕ → Bool
@@ -18,11 +19,12 @@ abbrev pub leads_on : List Going → Bool
 leads_on [] = false
 leads_on (way ∷ ways) = starts_with_one way.motions
 
--- a player who comes there is carried on
+-- the place has a forced motion, which moves the player on from it
 unfoldable pub is_forced : CaveView → ℕ → Bool
 is_forced cave place = leads_on (ways_from cave place)
 
 -- the place has no light, and no burning lamp is at hand
 unfoldable pub is_dark : CaveView → ℕ → State → Bool
 is_dark cave lamp s =
-    not (has_condition cave s.trail.here 0) && not (is_at_hand s.objects s.trail.here lamp && int_eq (prop_of s.objects lamp) (pos 1))
+    not (has_condition cave s.trail.here 0)
+    && not (is_at_hand s.objects s.trail.here lamp && int_eq (prop_of s.objects lamp) (pos 1))

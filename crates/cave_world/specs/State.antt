@@ -1,46 +1,50 @@
--- Where the player stands, how often places were described, and how a game begins and is over.
+-- Where the player is, how often places were described, and how a game begins and is over.
 use Rattle.std.specs.Prelude.{ℕ, ◌+◌, ◌-◌, ◌%◌, Bool, ◌==◌, ◌||◌, if◌then◌else◌}
 use Rattle.std.specs.Prelude.{None, Some, is_some, replicate, slice_index_or, slice_set}
 use Rattle.cave_world.specs.declared.state.State.{State}
 use Rattle.cave_world.specs.declared.ending.Question.TheVariants.{Welcome}
-use Rattle.cave_world.specs.Objects.{unplaced}
-use Rattle.cave_world.specs.Fresh.{full_lamp, far_closing, nothing_said, asleep, unused}
+use Rattle.cave_objects.specs.Objects.{without_places}
+use Rattle.cave_world.specs.Fresh.{full_lamp, far_closing, nothing_said, asleep, no_hint_used}
 
--- a game begins: the player stands at a place and is greeted, and nothing is placed yet
-unfoldable pub starting : ℕ → ℕ → State
-starting place x = record {
+-- a game begins: the player is at a place and is greeted, and nothing is placed yet
+unfoldable pub starting_state : ℕ → ℕ → State
+starting_state place x = record {
   trail = record { here = place; last = place; older = place };
-  objects = unplaced;
+  objects = without_places;
   visits = replicate 300 0;
   lamp = full_lamp;
   closing = far_closing;
   tallies = record { unseen = 0; lost = 0; deaths = 0 };
   talk = nothing_said;
   dwarves = asleep;
-  hints = unused;
+  hints = no_hint_used;
   question = Some Welcome;
   ending = None;
   stream = x;
 }
 
 -- no command can follow: a question is open, or the game has ended
-unfoldable pub is_over : State → Bool
-is_over s = is_some s.question || is_some s.ending
+unfoldable pub takes_no_command : State → Bool
+takes_no_command s = is_some s.question || is_some s.ending
 
--- the player stands at a place
-unfoldable pub standing_at : State → ℕ → State
-standing_at s place = record s { trail = record { here = place; last = s.trail.last; older = s.trail.older } }
+-- the player is at a place
+unfoldable pub state_with_player_at : State → ℕ → State
+state_with_player_at s place =
+    record s { trail = record { here = place; last = s.trail.last; older = s.trail.older } }
 
--- where the player stands is remembered as where the player comes from
-unfoldable pub setting_out : State → State
-setting_out s = record s { trail = record { here = s.trail.here; last = s.trail.here; older = s.trail.last } }
+-- the player's place is remembered as where the player comes from
+unfoldable pub state_after_setting_out : State → State
+state_after_setting_out s =
+    record s { trail = record { here = s.trail.here; last = s.trail.here; older = s.trail.last } }
 
 unfoldable pub visits_of : State → ℕ → ℕ
 visits_of s place = if place == 0 then 0 else slice_index_or s.visits (place - 1) 0
 
 -- one more, mod 10,000
 unfoldable pub with_visit : State → ℕ → State
-with_visit s place = if place == 0 then s else record s { visits = slice_set s.visits (place - 1) ((visits_of s place + 1) % 10000) }
+with_visit s place = if place == 0 then s
+    else record s { visits = slice_set s.visits (place - 1) ((visits_of s place + 1) % 10000) }
 
 unfoldable pub without_visits : State → ℕ → State
-without_visits s place = if place == 0 then s else record s { visits = slice_set s.visits (place - 1) 0 }
+without_visits s place = if place == 0 then s
+    else record s { visits = slice_set s.visits (place - 1) 0 }

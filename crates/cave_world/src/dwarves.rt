@@ -1,8 +1,8 @@
 ghost use Rattle.std.specs.Prelude.{◌≡◌};
-ghost use Rattle.cave_world.specs.Fresh.{nobody, asleep};
+ghost use Rattle.cave_world.specs.Fresh.{no_dwarf, asleep};
 
 use crate::count::Count;
-use crate::place::Place;
+use cave_objects::Place;
 
 /// How many dwarves there are. The last is the pirate.
 pub const DWARVES: usize = 6;
@@ -22,7 +22,7 @@ pub enum Knife {
     Unthrown,
     /// It was thrown at a place.
     At(Place),
-    /// The player was told that knives vanish.
+    /// It was said that knives vanish.
     Vanished,
 }
 
@@ -38,7 +38,7 @@ pub struct Dwarves {
 impl Dwarf {
     /// A dwarf that is nowhere.
     pub fn nowhere() -> Dwarf
-        ensures { result ≡ nobody }
+        ensures { result ≡ no_dwarf }
     {
         Dwarf {
             place: Place::new(0),

@@ -7,11 +7,11 @@ pub enum Question {
     Welcome,
     /// Whether to end the game.
     Quit,
-    /// Whether to end the game, after the score was told.
+    /// Whether to end the game, after the score was printed.
     ScoreQuit,
     /// Whether to come back from death.
     Die,
-    /// Whether a hint is wanted.
+    /// Whether the player wants a hint.
     Hint(HintNumber),
     /// Whether the hint is worth its cost.
     Take(HintNumber),

@@ -1,20 +1,18 @@
 ghost use Rattle.std.specs.Prelude.{◌≡◌, ℕ, ◌+◌, ◌==◌, ◌<◌, ◌≤◌, ◌||◌};
 ghost use Rattle.std.specs.Prelude.{false, [], length, All, IsTrue};
-ghost use Rattle.cave_world.specs.Lists.{halves_at, AreRelisted};
-ghost use Rattle.cave_world.specs.Layout.{is_listed};
-ghost use Rattle.cave_world.specs.Halves.{object_of};
-ghost use Rattle.cave_world.specs.Spots.{place_of_spot, place_of_anchor, spot_at};
-ghost use Rattle.cave_world.specs.Objects.{spot_of, anchor_of, prop_of, carried_objects};
-ghost use Rattle.cave_world.specs.Objects.{is_carried, is_gone, stands_at, is_at_hand};
-ghost use Rattle.cave_world.specs.Objects.{anchored, with_prop, moved, taken, juggled};
+ghost use Rattle.cave_objects.specs.Lists.{halves_at, AreRelisted};
+ghost use Rattle.cave_objects.specs.Layout.{is_listed};
+ghost use Rattle.cave_objects.specs.Halves.{object_of};
+ghost use Rattle.cave_objects.specs.Spots.{place_of_spot, place_of_anchor, spot_at};
+ghost use Rattle.cave_objects.specs.Objects.{spot_of, anchor_of, prop_of, carried_objects};
+ghost use Rattle.cave_objects.specs.Objects.{is_carried, is_gone, is_object_at, is_at_hand};
+ghost use Rattle.cave_objects.specs.Objects.{anchored_to, with_prop, moved_to, taken_up, put_anew};
 
-use crate::lists::HALVES;
-use crate::object::{Half, LAST_OBJECT, Object};
-use crate::place::Place;
-use crate::prop::Prop;
-use crate::spot::{Anchor, Spot};
 use crate::state::State;
 use arrayvec::ArrayVec;
+use cave_objects::lists::HALVES;
+use cave_objects::object::LAST_OBJECT;
+use cave_objects::{Anchor, Half, Object, Place, Prop, Spot};
 
 impl State {
     /// Where the first half of an object is.
@@ -46,20 +44,21 @@ impl State {
     }
 
     /// Whether the player carries an object.
-    pub fn toting(&self, object: Object) -> bool
+    pub fn is_carrying(&self, object: Object) -> bool
         ensures value { result ≡ is_carried self.now.objects object }
-        ensures unlisted { IsTrue result → 0 < object → (q : ℕ) → is_listed object (halves_at q self.now.objects.lists) ≡ false }
+        ensures unlisted { IsTrue result → 0 < object → (q : ℕ)
+            → is_listed object (halves_at q self.now.objects.lists) ≡ false }
     {
         self.objects.is_carried(object)
     }
 
     /// Whether a half of an object is where the player is.
     pub fn at(&self, object: Object) -> bool
-        ensures value { result ≡ stands_at self.now.objects self.now.trail.here object }
+        ensures value { result ≡ is_object_at self.now.objects self.now.trail.here object }
         ensures listed { let halves = halves_at self.now.trail.here self.now.objects.lists in
             0 < object → result ≡ (is_listed object halves || is_listed (100 + object) halves) }
     {
-        self.objects.stands_at(self.trail.here, object)
+        self.objects.is_object_at(self.trail.here, object)
     }
 
     /// Whether the player carries an object, or its first half is where the player is.
@@ -89,7 +88,8 @@ impl State {
     /// The halves that are at a place, latest first. Each is of an object, and none is at place 0.
     pub fn objects_at(&self, place: Place) -> ArrayVec<Half, HALVES>
         ensures value { result.items ≡ halves_at place self.now.objects.lists }
-        ensures objects { All (λ half. 0 < object_of half) (halves_at place self.now.objects.lists) }
+        ensures objects { All (λ half. 0 < object_of half)
+            (halves_at place self.now.objects.lists) }
         ensures nowhere { halves_at 0 self.now.objects.lists ≡ [] }
     {
         self.objects.at(place)
@@ -104,25 +104,30 @@ impl State {
 
     /// The player takes an object, if the player doesn't carry it yet.
     pub fn carry(&mut self, object: Object)
-        ensures value { let s = self.old in self.new ≡ record s { objects = taken s.objects object } }
+        ensures value { let s = self.old in
+            self.new ≡ record s { objects = taken_up s.objects object } }
         ensures lists { 0 < object
             → AreRelisted self.old.objects.lists self.new.objects.lists (Half.First object) None }
     {
         self.objects.carry(object);
     }
 
-    /// An object is moved to the front of a place's list, also from the player's hands. Place 0 is nowhere.
+    /// An object is moved to the front of a place's list, also from the player's hands. Place 0 is
+    /// nowhere.
     pub fn move_to(&mut self, object: Object, place: Place)
-        ensures value { let s = self.old in self.new ≡ record s { objects = moved s.objects object place } }
+        ensures value { let s = self.old in
+            self.new ≡ record s { objects = moved_to s.objects object place } }
         ensures lists { 0 < object
-            → AreRelisted self.old.objects.lists self.new.objects.lists (Half.First object) (place_of_spot (spot_at place)) }
+            → AreRelisted self.old.objects.lists self.new.objects.lists (Half.First object)
+            (place_of_spot (spot_at place)) }
     {
         self.objects.move_to(object, place);
     }
 
-    /// Both halves of an object are put anew where they are, if the player doesn't carry it.
+    /// Both halves of an object come to the front of the lists that they are in, if the player
+    /// doesn't carry it.
     pub fn juggle(&mut self, object: Object)
-        ensures { let s = self.old in self.new ≡ record s { objects = juggled s.objects object } }
+        ensures { let s = self.old in self.new ≡ record s { objects = put_anew s.objects object } }
     {
         self.objects.juggle(object);
     }
@@ -130,7 +135,7 @@ impl State {
     /// An object is given another anchor.
     pub fn anchor_to(&mut self, object: Object, anchor: Anchor)
         ensures value { let s = self.old in
-            self.new ≡ record s { objects = anchored s.objects object anchor } }
+            self.new ≡ record s { objects = anchored_to s.objects object anchor } }
         ensures lists { let old = self.old.objects.lists in let new = self.new.objects.lists in
             0 < object → AreRelisted old new (Half.Second object) (place_of_anchor anchor) }
     {
@@ -145,21 +150,13 @@ impl State {
         self.objects.set_prop(object, prop);
     }
 
-    /// An object is put down at a place.
-    pub fn drop_at(&mut self, object: Object, place: Place)
-        requires { 0 < place }
-        ensures value { let s = self.old in self.new ≡ record s { objects = moved s.objects object place } }
-        ensures lists { 0 < object
-            → AreRelisted self.old.objects.lists self.new.objects.lists (Half.First object) (place_of_spot (spot_at place)) }
-    {
-        self.move_to(object, place);
-    }
-
     /// An object is nowhere from now on.
     pub fn destroy(&mut self, object: Object)
-        ensures value { let s = self.old in self.new ≡ record s { objects = moved s.objects object 0 } }
+        ensures value { let s = self.old in
+            self.new ≡ record s { objects = moved_to s.objects object 0 } }
         ensures lists { 0 < object
-            → AreRelisted self.old.objects.lists self.new.objects.lists (Half.First object) (place_of_spot (spot_at 0)) }
+            → AreRelisted self.old.objects.lists self.new.objects.lists (Half.First object)
+            (place_of_spot (spot_at 0)) }
     {
         self.move_to(object, Place::new(0));
     }

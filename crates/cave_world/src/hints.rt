@@ -1,5 +1,5 @@
 ghost use Rattle.std.specs.Prelude.{◌≡◌, ◌≤◌};
-ghost use Rattle.cave_world.specs.Fresh.{unused};
+ghost use Rattle.cave_world.specs.Fresh.{no_hint_used};
 
 use crate::count::Count;
 use std::marker::Model;
@@ -54,9 +54,9 @@ pub struct Hints {
 
 impl Hints {
     /// No hint was taken yet, nor waited for.
-    #[tactic(auto, unfolding(crate::specs::Fresh::unused))]
+    #[tactic(auto, unfolding(crate::specs::Fresh::no_hint_used))]
     pub fn unused() -> Hints
-        ensures { result ≡ unused }
+        ensures { result ≡ no_hint_used }
     {
         Hints {
             turns: [Count::new(0); LAST_HINT],

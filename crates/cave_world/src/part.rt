@@ -1,11 +1,11 @@
 ghost use Rattle.std.specs.Prelude.{◌≡◌};
 
-use crate::object::Object;
 use arrayvec::ArrayVec;
-use cave_data::Role;
+use cave_objects::Object;
+use cave_rows::Role;
 use cave_words::Word;
 
-/// A line of the game's own that tells a number.
+/// A line of the game's own, with a number.
 #[derive(Clone, Copy, Debug, PartialEq, Eq)]
 pub enum NumberLine {
     DwarvesHere,
@@ -46,7 +46,7 @@ pub enum Part {
     Word(WordLine, Word),
     /// The text of the class that a score belongs to.
     Class(u32),
-    /// The line that tells a score, the greatest score, and the turns.
+    /// The line of a score, the greatest score, and the turns.
     Turns(u32, u32),
 }
 

@@ -1,6 +1,6 @@
 ghost use Rattle.std.specs.Prelude.{◌≡◌, ◌↔◌, IsTrue};
 ghost use Rattle.cave_world.specs.SameGame.{IsSameGame};
-ghost use Rattle.cave_world.specs.State.{starting, is_over, standing_at, setting_out};
+ghost use Rattle.cave_world.specs.State.{starting_state, takes_no_command, state_with_player_at, state_after_setting_out};
 
 use crate::closing::Closing;
 use crate::count::Count;
@@ -8,13 +8,13 @@ use crate::dwarves::Dwarves;
 use crate::ending::{Ending, Question};
 use crate::hints::Hints;
 use crate::lamp::Lamp;
-use crate::objects::Objects;
-use crate::place::{LAST_PLACE, Place};
 use crate::talk::Talk;
 use crate::visits::Visits;
+use cave_objects::place::LAST_PLACE;
+use cave_objects::{Objects, Place};
 use cave_words::Stream;
 
-/// Where the player stands, and where the player stood before.
+/// Where the player is, and where the player was before.
 #[derive(Clone, Copy, Debug, PartialEq, Eq)]
 pub struct Trail {
     pub here: Place,
@@ -22,7 +22,7 @@ pub struct Trail {
     pub older: Place,
 }
 
-/// What the score and the closing go by.
+/// What the score and the closing of the cave depend on.
 #[derive(Clone, Copy, Debug, PartialEq, Eq)]
 pub struct Tallies {
     /// The treasures that weren't seen yet.
@@ -32,7 +32,7 @@ pub struct Tallies {
     pub deaths: Count<3>,
 }
 
-/// All that a game depends on, but for the count of its turns.
+/// All that a game depends on, except the count of its turns.
 #[derive(Clone, Copy, Debug, PartialEq, Eq)]
 pub struct State {
     pub trail: Trail,
@@ -55,10 +55,10 @@ pub struct State {
 const _: () = prove!(size_of::<State>() <= 1760);
 
 impl State {
-    /// The state of a game in which nothing is placed yet: the player stands at a place and is greeted.
-    #[tactic(auto, unfolding(crate::specs::State::starting))]
+    /// The state of a game in which nothing is placed yet: the player is at a place and is greeted.
+    #[tactic(auto, unfolding(crate::specs::State::starting_state))]
     pub fn starting(place: Place, stream: Stream) -> State
-        ensures { result ≡ starting place stream }
+        ensures { result ≡ starting_state place stream }
     {
         State {
             trail: Trail {
@@ -85,32 +85,32 @@ impl State {
     }
 
     /// Whether a question is open or the game has ended.
-    #[tactic(auto, unfolding(crate::specs::State::is_over))]
-    pub fn is_over(&self) -> bool
-        ensures { result ≡ is_over self.now }
+    #[tactic(auto, unfolding(crate::specs::State::takes_no_command))]
+    pub fn takes_no_command(&self) -> bool
+        ensures { result ≡ takes_no_command self.now }
     {
         self.question.is_some() || self.ending.is_some()
     }
 
     /// Puts the player at a place.
-    #[tactic(auto, unfolding(crate::specs::State::standing_at))]
-    pub fn stand_at(&mut self, place: Place)
-        ensures { self.new ≡ standing_at self.old place }
+    #[tactic(auto, unfolding(crate::specs::State::state_with_player_at))]
+    pub fn put_player_at(&mut self, place: Place)
+        ensures { self.new ≡ state_with_player_at self.old place }
     {
         self.trail.here = place;
     }
 
-    /// Remembers where the player stands as where the player comes from.
-    #[tactic(auto, unfolding(crate::specs::State::setting_out))]
+    /// Remembers the player's place as where the player comes from.
+    #[tactic(auto, unfolding(crate::specs::State::state_after_setting_out))]
     pub fn set_out(&mut self)
-        ensures { self.new ≡ setting_out self.old }
+        ensures { self.new ≡ state_after_setting_out self.old }
     {
         self.trail.older = self.trail.last;
         self.trail.last = self.trail.here;
     }
 
-    /// Tells whether two states are the same state, as `==` does: each field is the same, and of the
-    /// lists of halves the list of each place.
+    /// Whether two states are the same state, as by `==`: each field is the same, and of the lists
+    /// of halves the list of each place.
     pub fn is_same(&self, other: &State) -> bool
         ensures value { IsTrue result ↔ (self.now ≡ other.now) }
         ensures equality { result ≡ ⟦<State as PartialEq>⟧.eq self.now other.now }

@@ -3,7 +3,7 @@ ghost use Rattle.cave_world.specs.Fresh.{nothing_said};
 
 use crate::count::Count;
 use crate::magic::Magic;
-use crate::object::Object;
+use cave_objects::Object;
 
 /// What the game remembers of what was said.
 #[derive(Clone, Copy, Debug, PartialEq, Eq)]
@@ -14,7 +14,7 @@ pub struct Talk {
     /// The object of the last command.
     pub last: Object,
     pub is_brief: bool,
-    /// How often the player was told that there are no more details.
+    /// How often it was said that there are no more details.
     pub details: Count<3>,
     pub magic: Magic,
 }

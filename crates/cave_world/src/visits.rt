@@ -2,8 +2,8 @@ ghost use Rattle.std.specs.Prelude.{◌≡◌};
 ghost use Rattle.cave_world.specs.State.{visits_of, with_visit, without_visits};
 
 use crate::count::Count;
-use crate::place::Place;
 use crate::state::State;
+use cave_objects::Place;
 
 /// How often a place was described, which starts anew after 9,999.
 pub type Visits = Count<9999>;

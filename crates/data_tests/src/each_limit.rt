@@ -1,7 +1,7 @@
 //! Every limit, at the limit and one past it.
 
 use crate::reading::refusal;
-use cave_data::Cause;
+use cave_rows::Cause;
 use std::alloc::{AllocError, Global};
 use std::test::Fail;
 
@@ -80,7 +80,7 @@ fn a_row_lists_at_most_40_numbers_or_has_255_bytes_of_text(rt: HostRuntime) -> R
     Ok(())
 }
 
-/// A text with blank lines behind it, of so many bytes.
+/// A text with blank lines after it, of so many bytes.
 fn padded(alloc: Global, text: &[u8], size: usize) -> Result<Vec<u8>, AllocError> {
     let mut padded = Vec::from_slice(alloc, text)?;
     for _i in text.len()..size {

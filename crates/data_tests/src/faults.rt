@@ -1,7 +1,7 @@
-//! Faults: which one of some inputs is told, and the whole text of each.
+//! Faults: which one of some inputs is reported, and the whole text of each.
 
 use crate::reading::refusal;
-use cave_data::{BindingFlaw, Cause, CaveError, Section, Spot};
+use cave_rows::{BindingFlaw, Cause, CaveError, FaultSite, Section};
 use std::alloc::Global;
 use std::process::Abort;
 use std::test::Fail;
@@ -41,10 +41,10 @@ fn expect_told(
     alloc: Global,
     cause: Cause,
     line: usize,
-    spot: Spot,
+    site: FaultSite,
     want: &str,
 ) -> Result<(), Fail> {
-    let fault = CaveError { cause, line, spot };
+    let fault = CaveError { cause, line, site };
     let text = format!(in alloc; "{fault}")?;
     assert_eq!(rt; text.as_str(), want);
     Ok(())
@@ -129,7 +129,7 @@ const RANGES: [(Section, &str); 12] = [
     ),
     (
         Section::Objects,
-        "an object is from 1 to 99, a prop's line is one of 0, 100, 200 to 9900 behind an \
+        "an object is from 1 to 99, a prop's line is one of 0, 100, 200 to 9900 after an \
         object's, and a line of text has at most 255 bytes",
     ),
     (
@@ -173,7 +173,14 @@ fn expect_told_of_rows(
 ) -> Result<(), Fail> {
     for &(section, row) in rows {
         let want = format!(in alloc; "line 2 of the database: {words}: {row}")?;
-        expect_told(rt, alloc, cause, 2, Spot::Section(section), want.as_str())?;
+        expect_told(
+            rt,
+            alloc,
+            cause,
+            2,
+            FaultSite::Section(section),
+            want.as_str(),
+        )?;
     }
     Ok(())
 }
@@ -190,104 +197,104 @@ fn a_number_out_of_its_range_is_told(rt: HostRuntime) -> Result<(), Fail> {
     expect_told_of_rows(&rt, rt.alloc(), Cause::OutOfRange, words, &RANGES)
 }
 
-/// A fault of its cause, line and spot, and its text.
-const TOLD: [(Cause, usize, Spot, &str); 14] = [
+/// A fault of its cause, line and site, and its text.
+const TOLD: [(Cause, usize, FaultSite, &str); 14] = [
     (
         Cause::BadSection,
         1,
-        Spot::Database,
+        FaultSite::Database,
         "line 1 of the database: this opens no section: expected the number of a section, 1 to \
         12, or 0 at the end of the database",
     ),
     (
         Cause::NoEnd,
         3,
-        Spot::Database,
+        FaultSite::Database,
         "line 3 of the database: the database has no end: its last line has to be 0",
     ),
     (
         Cause::NoEnd,
         2,
-        Spot::Section(Section::Magic),
+        FaultSite::Section(Section::Magic),
         "line 2 of the database: the database has no end: section 12 has to end with -1, and the \
         database with 0",
     ),
     (
         Cause::TooManyRows,
         2002,
-        Spot::Section(Section::Travel),
+        FaultSite::Section(Section::Travel),
         "line 2002 of the database: a limit is passed: section 3 has at most 2000 rows, and a row \
         at most 40 motions",
     ),
     (
         Cause::TooManyRows,
         1002,
-        Spot::Section(Section::Words),
+        FaultSite::Section(Section::Words),
         "line 1002 of the database: a limit is passed: section 4 has at most 1000 rows",
     ),
     (
         Cause::TooManyRows,
         2,
-        Spot::Section(Section::Conditions),
+        FaultSite::Section(Section::Conditions),
         "line 2 of the database: a limit is passed: a row of section 9 has at most 40 places",
     ),
     (
         Cause::TooManyRows,
         52,
-        Spot::Section(Section::Classes),
+        FaultSite::Section(Section::Classes),
         "line 52 of the database: a limit is passed: section 10 has at most 50 rows",
     ),
     (
         MALFORMED,
         1,
-        Spot::Bindings,
+        FaultSite::Bindings,
         "line 1 of the bindings: this is no binding: expected two fields, `msg.NAME N`, \
         `place.NAME N` or `num.letters N`, with N of 1 to 9 digits",
     ),
     (
         BAD_VALUE,
         1,
-        Spot::Bindings,
+        FaultSite::Bindings,
         "line 1 of the bindings: the number of a binding is out of its range: in `msg.NAME N` it \
         is from 1 to 499, in `place.NAME N` from 1 to 300, in `num.letters N` from 5 to 8",
     ),
     (
         REPEATED,
         2,
-        Spot::Bindings,
+        FaultSite::Bindings,
         "line 2 of the bindings: the key was bound before: each key is bound at most once",
     ),
     (
         Cause::UnknownRole,
         1,
-        Spot::Bindings,
+        FaultSite::Bindings,
         "line 1 of the bindings: the key is not known: expected `msg.` or `place.` with a name \
         that the game knows, or `num.letters`",
     ),
     (
         Cause::TooLarge,
         0,
-        Spot::Database,
+        FaultSite::Database,
         "the input is too large: a database has at most 1,048,576 bytes",
     ),
     (
         Cause::TooLarge,
         0,
-        Spot::Bindings,
+        FaultSite::Bindings,
         "the input is too large: bindings have at most 1,048,576 bytes",
     ),
     (
         Cause::Memory,
         0,
-        Spot::Database,
+        FaultSite::Database,
         "there isn't enough memory",
     ),
 ];
 
 #[test]
 fn faults_outside_the_rows_are_told(rt: HostRuntime) -> Result<(), Fail> {
-    for &(cause, line, spot, want) in &TOLD {
-        expect_told(&rt, rt.alloc(), cause, line, spot, want)?;
+    for &(cause, line, site, want) in &TOLD {
+        expect_told(&rt, rt.alloc(), cause, line, site, want)?;
     }
     Ok(())
 }

@@ -1,11 +1,12 @@
-//! A database of all twelve sections in few lines, with tabs where a blank may stand.
+//! A database of all twelve sections in few lines, with tabs where a blank is allowed.
 
 use crate::reading::read;
-use cave_data::{Cause, Cave, CaveError, PlaceRole, Role, Spot};
+use cave_data::Cave;
+use cave_rows::{Cause, CaveError, FaultSite, PlaceRole, Role};
 use std::process::Abort;
 use std::test::Fail;
 
-/// All twelve sections, the sixth of them twice. Texts of two lines stand in sections 1 and 6, and
+/// All twelve sections, the sixth of them twice. Texts of two lines are in sections 1 and 6, and
 /// one that begins with a tab.
 const TWELVE: &[u8] = b"6\r\n1 Old.\r\n2 >$<\r\n-1\r\n\
 1\n1\tYou stand on a road.\n1\tIt leads on.\n2\t\tA cellar.\n-1\tEND\n\
@@ -60,7 +61,7 @@ fn ways_agree(cave: &Cave) -> bool {
 fn numbers_agree(cave: &Cave) -> bool {
     cave.placement(2) == (1, -1)
         && cave.default_of(1) == 1
-        && cave.cond(2) == 1
+        && cave.conditions(2) == 1
         && matches!(cave.hint(4), Some(hint) if hint.turns == 5 && hint.points == 6)
 }
 
@@ -94,7 +95,7 @@ fn twelve_sections_are_read_through_each_getter(rt: HostRuntime) -> Result<(), F
 
 // Passes with any allocation refused too: `rt try --test --fail-alloc N`, N from 1 on.
 #[test]
-fn want_of_memory_is_told_at_no_line(rt: HostRuntime) {
+fn out_of_memory_is_told_at_no_line(rt: HostRuntime) {
     match read(rt.alloc(), TWELVE, BINDINGS) {
         Ok(cave) => expect_twelve(&rt, &cave),
         Err(fault) => assert_eq!(rt;
@@ -102,7 +103,7 @@ fn want_of_memory_is_told_at_no_line(rt: HostRuntime) {
             CaveError {
                 cause: Cause::Memory,
                 line: 0,
-                spot: Spot::Database
+                site: FaultSite::Database
             }
         ),
     }

@@ -2,10 +2,12 @@
 
 ghost use Rattle.cave_words.specs.Lexicon.{IsLexiconOf};
 
-use cave_data::{Cave, CaveError};
+use cave_data::Cave;
+use cave_rows::CaveError;
 use cave_turn::{start, turn};
-use cave_words::{Lexicon, Meter, check_line};
+use cave_words::Lexicon;
 use cave_world::{Out, State};
+use log_lines::{Meter, check_line};
 use std::alloc::Global;
 use std::test::Fail;
 
@@ -17,7 +19,7 @@ pub fn read_cave(alloc: Global, database: &[u8], bindings: &[u8]) -> Result<Cave
 
 /// A cave with its words, the state of a game in it, and how many parts the last line said.
 #[derive(Drop)]
-pub struct Game {
+pub struct TestGame {
     cave: Cave,
     lexicon: Lexicon,
     pub state: State,
@@ -25,14 +27,19 @@ pub struct Game {
     ghost words: { IsLexiconOf cave lexicon },
 }
 
-impl Game {
+impl TestGame {
     /// A game begins.
-    pub fn begin(alloc: Global, database: &[u8], bindings: &[u8], seed: u32) -> Result<Game, Fail> {
+    pub fn begin(
+        alloc: Global,
+        database: &[u8],
+        bindings: &[u8],
+        seed: u32,
+    ) -> Result<TestGame, Fail> {
         let cave = read_cave(alloc, database, bindings)?;
         let mut out = Out::new();
         let state = start(&cave, seed, &mut out);
         let lexicon = Lexicon::build(alloc, &cave)?;
-        Ok(Game {
+        Ok(TestGame {
             cave,
             lexicon,
             state,

@@ -14,7 +14,7 @@ fn greeting(cave: &Cave) -> Out {
     out
 }
 
-/// Whether the greeting is rendered whole behind a text, or the text stays as it was.
+/// Whether the greeting is rendered whole after a text, or the text stays as it was.
 fn is_rendered_whole_or_not(cave: &Cave, text: &mut Vec<u8>) -> bool {
     let out = greeting(cave);
     match render(cave, out.as_slice(), 0, text) {

@@ -4,9 +4,9 @@ use Rattle.std.specs.Prelude.{List, length, take, drop, codes, bytes_eq}
 use Rattle.std.specs.Prelude.{Option, Some, None, unwrap_or, if◌then◌else◌}
 use Rattle.std.specs.List.{list_all}
 use Rattle.std.specs.Option.{option_or, option_map}
-use Rattle.cave_words.specs.Bytes.{is_digit, number_of}
-use Rattle.ledger.specs.declared.entry.Entry.{Entry}
-use Rattle.ledger.specs.declared.entry.Entry.TheVariants.{In, Out, Comment}
+use Rattle.log_lines.specs.Bytes.{is_digit, number_of}
+use Rattle.ledger.specs.declared.entry.BookEntry.{BookEntry}
+use Rattle.ledger.specs.declared.entry.BookEntry.TheVariants.{In, Out, Comment}
 
 -- the amount after a word, in one to ten digits
 unfoldable pub amount_after : List ℕ → List ℕ → Option ℕ
@@ -17,20 +17,20 @@ amount_after word line =
     then Some (number_of digits) else None
 
 -- what a line says: a payment in or out, else it is a comment
-abbrev pub entry_of : List ℕ → Entry
+abbrev pub entry_of : List ℕ → BookEntry
 entry_of line =
     let paid_in = option_map In (amount_after (codes "in ") line) in
     let paid_out = option_map Out (amount_after (codes "out ") line) in
     unwrap_or (option_or paid_in paid_out) Comment
 
 -- the entry asks for a payment
-abbrev pub is_payment : Entry → Bool
+abbrev pub is_payment : BookEntry → Bool
 is_payment Comment = false
 is_payment _ = true
 
 -- the balance after an entry, or none where the payment is refused
-abbrev pub booked : Entry → ℕ → Option ℕ
-booked (In amount) balance =
+abbrev pub balance_after : BookEntry → ℕ → Option ℕ
+balance_after (In amount) balance =
     if nat_lt (balance + amount) (2 ^ 64) then Some (balance + amount) else None
-booked (Out amount) balance = if nat_le amount balance then Some (balance - amount) else None
-booked Comment balance = Some balance
+balance_after (Out amount) balance = if nat_le amount balance then Some (balance - amount) else None
+balance_after Comment balance = Some balance

@@ -1,23 +1,23 @@
 -- The rules of a ledger.
 use Rattle.std.specs.Prelude.{ℕ, false, List, Option, Some}
-use Rattle.cave_replay.specs.Rules.{Rules}
-use Rattle.cave_replay.specs.Play.{Game, state_after}
+use Rattle.log_replay.specs.Machine.{MachineRules}
+use Rattle.log_replay.specs.Play.{Game, state_after}
 use Rattle.ledger.specs.declared.account.Account.{Account}
 use Rattle.ledger.specs.Account.{account_after}
-use Rattle.ledger.specs.Entry.{entry_of, is_payment, booked}
+use Rattle.ledger.specs.Entry.{entry_of, is_payment, balance_after}
 
 -- an account that is opened with a balance
-abbrev pub opened : ℕ → Account
-opened balance = record { balance = balance; refused = false }
+abbrev pub account_of : ℕ → Account
+account_of balance = record { balance = balance; refused = false }
 
 -- what is booked by a line
 abbrev pub booked_by : Account → List ℕ → Option ℕ
-booked_by account line = booked (entry_of line) account.balance
+booked_by account line = balance_after (entry_of line) account.balance
 
 -- each line says the new balance, or none where its payment is refused
-abbrev pub ledger_rules : Rules Account (Option ℕ)
+abbrev pub ledger_rules : MachineRules Account (Option ℕ)
 ledger_rules = record {
-  begun = opened;
+  begun = account_of;
   greeting = Some;
   after = λ account line. account_after account (booked_by account line);
   said = booked_by;
@@ -26,4 +26,4 @@ ledger_rules = record {
 
 -- what an account holds in the end, that is opened with the seed and books the whole log
 abbrev pub balance_of : Game → ℕ
-balance_of game = (state_after ledger_rules (opened game.seed) game.log).balance
+balance_of game = (state_after ledger_rules (account_of game.seed) game.log).balance

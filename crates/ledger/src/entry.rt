@@ -1,13 +1,13 @@
 ghost use Rattle.std.specs.Prelude.{◌≡◌};
 ghost use Rattle.std.specs.List.{list_all};
-ghost use Rattle.cave_words.specs.Bytes.{is_digit};
-ghost use Rattle.ledger.specs.Entry.{amount_after, entry_of, is_payment, booked};
+ghost use Rattle.log_lines.specs.Bytes.{is_digit};
+ghost use Rattle.ledger.specs.Entry.{amount_after, entry_of, is_payment, balance_after};
 
-use cave_words::bytes::number_of;
+use log_lines::bytes::number_of;
 
 /// What a line of a ledger says.
 #[derive(Clone, Copy)]
-pub enum Entry {
+pub enum BookEntry {
     /// `in N`: so much is paid in.
     In(u64),
     /// `out N`: so much is paid out.
@@ -34,32 +34,32 @@ fn amount_after(word: &[u8], line: &[u8]) -> Option<u64>
     Some(number_of(digits))
 }
 
-impl Entry {
+impl BookEntry {
     /// Reads a line.
-    pub fn of(line: &[u8]) -> Entry
+    pub fn of(line: &[u8]) -> BookEntry
         ensures { result ≡ entry_of line.now }
     {
         amount_after(b"in ", line)
-            .map(Entry::In)
-            .or_else(|| amount_after(b"out ", line).map(Entry::Out))
-            .unwrap_or(Entry::Comment)
+            .map(BookEntry::In)
+            .or_else(|| amount_after(b"out ", line).map(BookEntry::Out))
+            .unwrap_or(BookEntry::Comment)
     }
 
     /// Whether it asks for a payment.
     pub fn is_payment(self) -> bool
         ensures { result ≡ is_payment self }
     {
-        !matches!(self, Entry::Comment)
+        !matches!(self, BookEntry::Comment)
     }
 
     /// The balance that it makes of one, or `None` where the payment is refused.
     pub fn booked(self, balance: u64) -> Option<u64>
-        ensures { result ≡ booked self balance }
+        ensures { result ≡ balance_after self balance }
     {
         match self {
-            Entry::In(amount) => balance.checked_add(amount),
-            Entry::Out(amount) => balance.checked_sub(amount),
-            Entry::Comment => Some(balance),
+            BookEntry::In(amount) => balance.checked_add(amount),
+            BookEntry::Out(amount) => balance.checked_sub(amount),
+            BookEntry::Comment => Some(balance),
         }
     }
 }

@@ -2,9 +2,9 @@ ghost use Rattle.std.specs.Prelude.{◌≡◌};
 ghost use Rattle.ledger.specs.Ledger.{ledger_rules, balance_of};
 
 use crate::account::Account;
-use crate::entry::Entry;
-use cave_replay::{Machine, Session, Started, Stepped};
-use cave_words::Meter;
+use crate::entry::BookEntry;
+use log_lines::Meter;
+use log_replay::{Machine, Session, Started, Stepped};
 use std::alloc::{AllocError, Global};
 
 /// A ledger of one account, which is opened with the seed as its balance.
@@ -58,7 +58,7 @@ impl Machine for Ledger {
         meter: &mut Meter,
     ) -> Result<Stepped<Option<u64>>, AllocError> {
         meter.tick();
-        let entry = Entry::of(line);
+        let entry = BookEntry::of(line);
         let booked = entry.booked(account.balance);
         account.settle(booked);
         Ok(Stepped {

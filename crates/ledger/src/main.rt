@@ -7,8 +7,8 @@ pub mod ledger;
 
 use crate::ledger::{Ledger, closing_balance};
 use anyhow::Result;
-use cave_replay::{Edit, GroupReport, Session};
-use cave_words::Meter;
+use log_lines::Meter;
+use log_replay::{Edit, GroupReport, Session};
 use std::str;
 
 const LOG: &[u8] = b"in 100\nout 30\n# October\nout 50\nout 40\nin 60\nout 10\nin 5\n";

@@ -1,4 +1,4 @@
--- The limits of what users hand in. Each number stands here and in no other definition.
+-- The limits of what users hand in. Each number is here and in no other definition.
 use Rattle.std.specs.Prelude.{ℕ}
 
 -- the most bytes of an input: a database, its bindings, a log, a script of edits

@@ -20,6 +20,9 @@ pub const MAX_SEED: u32 = 2_147_483_647;
 /// The greatest distance of checkpoints, in lines.
 pub const MAX_EVERY: u32 = 10_000;
 
+/// The distance of checkpoints where none is asked for, in lines.
+pub const USUAL_EVERY: u32 = 50;
+
 /// The most digits of a number in a log, in a script and on the command line.
 const MAX_DIGITS: usize = 10;
 
@@ -58,7 +61,7 @@ pub fn is_large_seed(number: u64) -> bool
     number > u64::from(MAX_SEED)
 }
 
-/// Whether checkpoints can't be so many lines apart.
+/// Whether a session may not have this distance of checkpoints, in lines.
 pub fn is_bad_every(lines: u32) -> bool
     ensures { result ≡ (lines == 0 || nat_lt max_every lines) }
 {

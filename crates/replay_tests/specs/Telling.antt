@@ -1,10 +1,11 @@
 -- The rules of a machine whose states are numbers and whose pieces say the number after their line.
 use Rattle.std.specs.Prelude.{◌≡◌, ◌↔◌, ℕ, ◌==◌, Bool, IsTrue, List, [], ◌∷◌}
 use Rattle.std.proofs.lemmas.Bool.{eqb-true, eq-eqb}
-use Rattle.cave_replay.specs.Rules.{Rules}
+use Rattle.log_replay.specs.Machine.{MachineRules}
 
-abbrev pub telling : (ℕ → ℕ) → (ℕ → List ℕ → ℕ) → (ℕ → List ℕ → Bool) → Rules ℕ (List ℕ)
-telling begun after ticked = record {
+abbrev pub telling_rules : (ℕ → ℕ) → (ℕ → List ℕ → ℕ) → (ℕ → List ℕ → Bool)
+    → MachineRules ℕ (List ℕ)
+telling_rules begun after ticked = record {
   begun = begun;
   greeting = λ seed. begun seed ∷ [];
   after = after;

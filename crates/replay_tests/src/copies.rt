@@ -1,16 +1,16 @@
 //! Copies of sessions.
 
+use crate::display::show_the_same;
 use crate::edits::STAIRS;
 use crate::machines::counter::Counter;
 use crate::machines::counts::Counts;
-use crate::play::{Counting, Play};
-use crate::shown::show_the_same;
-use cave_words::Meter;
+use crate::play::{Counting, TestSession};
+use log_lines::Meter;
 use std::process::Abort;
 use std::test::Fail;
 
-/// That a copy shows the same, and that making it plays nothing and copies each piece and the
-/// greeting.
+/// Expects that a copy shows the same, and that making it plays nothing and copies each piece and
+/// the greeting.
 fn expect_copy<'a>(
     rt: &impl Abort,
     session: &Counting<'a>,
@@ -29,6 +29,6 @@ fn expect_copy<'a>(
 fn a_copy_shows_the_same_and_plays_nothing(rt: HostRuntime) -> Result<(), Fail> {
     let counts = Counts::new();
     let mut meter = Meter::new();
-    let session = Play::open(rt.alloc(), Counter, &counts, 9, STAIRS, 3, &mut meter)?;
+    let session = TestSession::open(rt.alloc(), Counter, &counts, 9, STAIRS, 3, &mut meter)?;
     expect_copy(&rt, &session, &counts)
 }

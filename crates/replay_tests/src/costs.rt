@@ -1,12 +1,12 @@
 //! What an edit of a long log costs, in counts.
 
-use crate::edits::{Change, flat};
+use crate::edits::{LineChange, flat};
 use crate::machines::counter::Counter;
 use crate::machines::counts::Counts;
 use crate::machines::hasher::Hasher;
-use crate::machines::rule::Rule;
-use crate::play::Play;
-use cave_words::Meter;
+use crate::machines::rule::RowRule;
+use crate::play::TestSession;
+use log_lines::Meter;
 use std::alloc::Global;
 use std::process::Abort;
 use std::test::Fail;
@@ -25,16 +25,16 @@ struct Cost {
 }
 
 /// What it costs to insert a line at a checkpoint.
-fn insert<R: Rule>(
+fn insert<R: RowRule>(
     rt: &impl Abort,
     alloc: Global,
-    session: &mut Play<'_, R>,
+    session: &mut TestSession<'_, R>,
     counts: &Counts,
     at: u32,
     line: &[u8],
 ) -> Result<Cost, Fail> {
     assert!(rt; session.checkpoints().contains(&at));
-    let edit = Change::Insert(at, line).edit(alloc)?;
+    let edit = LineChange::Insert(at, line).edit(alloc)?;
     let steps = counts.steps();
     let comparisons = counts.comparisons();
     let report = session.edit(&edit, &mut Meter::new())?;
@@ -47,7 +47,7 @@ fn insert<R: Rule>(
 }
 
 /// What it costs to insert a line at a checkpoint in the middle of a log of one-letter lines.
-fn cost_of_an_insert<R: Rule>(
+fn cost_of_an_insert<R: RowRule>(
     rt: &impl Abort,
     alloc: Global,
     rule: R,
@@ -57,14 +57,14 @@ fn cost_of_an_insert<R: Rule>(
 ) -> Result<Cost, Fail> {
     let counts = Counts::new();
     let log = flat(alloc, lines)?;
-    let mut session = Play::open(alloc, rule, &counts, 0, &log, 50, &mut Meter::new())?;
+    let mut session = TestSession::open(alloc, rule, &counts, 0, &log, 50, &mut Meter::new())?;
     let cost = insert(rt, alloc, &mut session, &counts, at, line);
     drop(session);
     cost
 }
 
-/// That an edit of a counter's log, of whatever length, plays so many lines until the plays meet,
-/// and compares so many states.
+/// Expects that an edit of a counter's log, of whatever length, plays so many lines until the plays
+/// meet, and compares so many states.
 fn expect_met(
     rt: &impl Abort,
     alloc: Global,
@@ -95,10 +95,10 @@ fn an_edit_that_is_met_plays_up_to_there(rt: HostRuntime) -> Result<(), Fail> {
 fn an_edit_that_is_never_met_plays_to_the_end(rt: HostRuntime) -> Result<(), Fail> {
     for (lines, at) in LENGTHS {
         let cost = cost_of_an_insert(&rt, rt.alloc(), Hasher, lines, at, b"b")?;
-        let behind = u64::from(lines.saturating_sub(at));
+        let lines_after = u64::from(lines.saturating_sub(at));
         let wanted = Cost {
-            played: behind.saturating_add(1),
-            compared: behind / 50,
+            played: lines_after.saturating_add(1),
+            compared: lines_after / 50,
             copied: 0,
             met: None,
         };

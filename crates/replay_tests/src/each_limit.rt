@@ -1,16 +1,16 @@
 //! The greatest logs, lines, distances and seeds, and those that are too great.
 
-use crate::edits::{Change, edits_of, flat, letters};
+use crate::edits::{LineChange, edits_of, flat, letters};
 use crate::machines::counter::Counter;
 use crate::machines::counts::Counts;
-use crate::play::{Counting, Play};
-use cave_replay::{EditFault, OpenFault};
-use cave_words::{LineFlaw, Meter, Steps};
+use crate::play::{Counting, TestSession};
+use log_lines::{LineFlaw, Meter, Steps};
+use log_replay::{EditFault, OpenFault};
 use std::alloc::Global;
 use std::process::Abort;
 use std::test::Fail;
 
-/// That a log isn't opened, and that no step is taken.
+/// Expects that a log isn't opened, and that no step is taken.
 fn expect_closed(
     rt: &impl Abort,
     alloc: Global,
@@ -21,7 +21,7 @@ fn expect_closed(
 ) {
     let counts = Counts::new();
     let mut meter = Meter::new();
-    let opened = Play::open(alloc, Counter, &counts, seed, log, every, &mut meter);
+    let opened = TestSession::open(alloc, Counter, &counts, seed, log, every, &mut meter);
     assert!(rt; opened.err() == Some(fault), "{fault:?}");
     assert_eq!(rt; meter.used(), 0);
     assert_eq!(rt; counts.steps(), 0);
@@ -53,17 +53,17 @@ fn the_first_fault_of_an_opening_is_told(rt: HostRuntime) -> Result<(), Fail> {
 }
 
 /// Edits that a full log refuses, by the lowest cause.
-const REFUSED: [(Change<'static>, EditFault); 7] = [
-    (Change::Insert(0, b"b"), EditFault::LogFull),
-    (Change::Insert(65_535, b"b"), EditFault::LogFull),
-    (Change::Insert(0, b"\x7f"), EditFault::BadLine),
-    (Change::Replace(0, b"\x1f"), EditFault::BadLine),
-    (Change::Insert(65_536, b"b"), EditFault::NoSuchPlace),
-    (Change::Delete(65_535), EditFault::NoSuchPlace),
-    (Change::Reseed(2_147_483_648), EditFault::BadSeed),
+const REFUSED: [(LineChange<'static>, EditFault); 7] = [
+    (LineChange::Insert(0, b"b"), EditFault::LogFull),
+    (LineChange::Insert(65_535, b"b"), EditFault::LogFull),
+    (LineChange::Insert(0, b"\x7f"), EditFault::BadLine),
+    (LineChange::Replace(0, b"\x1f"), EditFault::BadLine),
+    (LineChange::Insert(65_536, b"b"), EditFault::NoSuchPlace),
+    (LineChange::Delete(65_535), EditFault::NoSuchPlace),
+    (LineChange::Reseed(2_147_483_648), EditFault::BadSeed),
 ];
 
-/// That a full log takes no line more.
+/// Expects that a full log takes no further line.
 fn expect_full(rt: &impl Abort, alloc: Global, session: &mut Counting<'_>) -> Result<(), Fail> {
     for (change, fault) in REFUSED {
         let edit = change.edit(alloc)?;
@@ -77,9 +77,9 @@ fn expect_full(rt: &impl Abort, alloc: Global, session: &mut Counting<'_>) -> Re
 fn change(rt: &impl Abort, alloc: Global, session: &mut Counting<'_>) -> Result<(), Fail> {
     let longest = letters(alloc, 255)?;
     let changes = [
-        Change::Delete(0),
-        Change::Insert(65_534, longest.as_slice()),
-        Change::Reseed(2_147_483_646),
+        LineChange::Delete(0),
+        LineChange::Insert(65_534, longest.as_slice()),
+        LineChange::Reseed(2_147_483_646),
     ];
     let report = session.edit_group(rt, &edits_of(alloc, &changes)?, &mut Meter::new())?;
     assert_eq!(rt; report.inverse.len(), 3);
@@ -88,7 +88,7 @@ fn change(rt: &impl Abort, alloc: Global, session: &mut Counting<'_>) -> Result<
     Ok(())
 }
 
-/// That the greatest seed and distance of checkpoints were taken.
+/// Expects that the greatest seed and distance of checkpoints were taken.
 fn expect_greatest(rt: &impl Abort, session: &Counting<'_>) {
     assert_eq!(rt; session.seed(), 2_147_483_647);
     assert_eq!(rt; session.every(), 10_000);
@@ -101,7 +101,15 @@ fn the_greatest_log_is_taken_and_takes_no_line_more(rt: HostRuntime) -> Result<(
     let counts = Counts::new();
     let log = flat(rt.alloc(), 65_535)?;
     let (seed, mut meter) = (2_147_483_647, Meter::new());
-    let mut session = Play::open(rt.alloc(), Counter, &counts, seed, &log, 10_000, &mut meter)?;
+    let mut session = TestSession::open(
+        rt.alloc(),
+        Counter,
+        &counts,
+        seed,
+        &log,
+        10_000,
+        &mut meter,
+    )?;
     expect_greatest(&rt, &session);
     expect_full(&rt, rt.alloc(), &mut session)?;
     change(&rt, rt.alloc(), &mut session)

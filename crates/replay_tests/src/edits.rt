@@ -1,6 +1,6 @@
 //! Edits and logs of the tests.
 
-use cave_replay::Edit;
+use log_replay::Edit;
 use std::alloc::{AllocError, Global};
 
 /// A log of ten lines, the line of the place i of i + 1 letters.
@@ -27,28 +27,28 @@ pub(crate) fn flat(alloc: Global, lines: u32) -> Result<Vec<u8>, AllocError> {
 
 /// An edit as a test writes it, without memory of its own.
 #[derive(Clone, Copy)]
-pub(crate) enum Change<'a> {
+pub(crate) enum LineChange<'a> {
     Insert(u32, &'a [u8]),
     Delete(u32),
     Replace(u32, &'a [u8]),
     Reseed(u32),
 }
 
-impl Change<'_> {
+impl LineChange<'_> {
     /// The edit.
     pub(crate) fn edit(&self, alloc: Global) -> Result<Edit, AllocError> {
         let edit = match self {
-            Change::Insert(at, line) => Edit::Insert(*at, Vec::from_slice(alloc, line)?),
-            Change::Delete(at) => Edit::Delete(*at),
-            Change::Replace(at, line) => Edit::Replace(*at, Vec::from_slice(alloc, line)?),
-            Change::Reseed(seed) => Edit::Reseed(*seed),
+            LineChange::Insert(at, line) => Edit::Insert(*at, Vec::from_slice(alloc, line)?),
+            LineChange::Delete(at) => Edit::Delete(*at),
+            LineChange::Replace(at, line) => Edit::Replace(*at, Vec::from_slice(alloc, line)?),
+            LineChange::Reseed(seed) => Edit::Reseed(*seed),
         };
         Ok(edit)
     }
 }
 
 /// The edits, in their order.
-pub(crate) fn edits_of(alloc: Global, changes: &[Change<'_>]) -> Result<Vec<Edit>, AllocError> {
+pub(crate) fn edits_of(alloc: Global, changes: &[LineChange<'_>]) -> Result<Vec<Edit>, AllocError> {
     let mut edits = Vec::new(alloc);
     for change in changes {
         edits.push(change.edit(alloc)?)?;

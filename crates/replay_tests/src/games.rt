@@ -1,21 +1,21 @@
 //! Small games, and edits of them whose replays were worked out by hand.
 
-use crate::edits::{Change, STAIRS, edits_of};
+use crate::display::show_the_same;
+use crate::edits::{LineChange, STAIRS, edits_of};
 use crate::machines::counter::Counter;
 use crate::machines::counts::Counts;
 use crate::machines::hasher::Hasher;
-use crate::machines::rule::Rule;
-use crate::play::{Counting, Play};
-use crate::row::Row;
-use crate::shown::show_the_same;
-use cave_words::Meter;
+use crate::machines::rule::RowRule;
+use crate::play::{Counting, TestSession};
+use crate::row::RowState;
+use log_lines::Meter;
 use std::alloc::Global;
 use std::process::Abort;
 use std::test::Fail;
 
 /// A row of a counter's game.
-fn row<'a>(line: &'a [u8], piece: &'a [usize], ticked: bool, ticks: u32) -> Row<'a> {
-    Row {
+fn row<'a>(line: &'a [u8], piece: &'a [usize], ticked: bool, ticks: u32) -> RowState<'a> {
+    RowState {
         line,
         piece,
         ticked,
@@ -23,8 +23,8 @@ fn row<'a>(line: &'a [u8], piece: &'a [usize], ticked: bool, ticks: u32) -> Row<
     }
 }
 
-/// That a session shows these rows, and nothing at the end but how many lines ticked.
-fn expect_rows(rt: &impl Abort, session: &Counting<'_>, rows: &[Row<'_>]) {
+/// Expects that a session shows these rows, and nothing at the end but how many lines ticked.
+fn expect_rows(rt: &impl Abort, session: &Counting<'_>, rows: &[RowState<'_>]) {
     let mut place = 0u32;
     for row in rows {
         assert!(rt; session.row(place) == *row, "at {place}");
@@ -33,7 +33,7 @@ fn expect_rows(rt: &impl Abort, session: &Counting<'_>, rows: &[Row<'_>]) {
     assert_eq!(rt; session.lines().saturating_add(1), place);
 }
 
-/// That a session shows the game of `a`, `bcd`, nothing and `ab` from the seed 263.
+/// Expects that a session shows the game of `a`, `bcd`, nothing and `ab` from the seed 263.
 fn expect_game(rt: &impl Abort, alloc: Global, session: &Counting<'_>) -> Result<(), Fail> {
     assert_eq!(rt; session.seed(), 263);
     assert_eq!(rt; session.every(), 1);
@@ -59,33 +59,33 @@ fn expect_game(rt: &impl Abort, alloc: Global, session: &Counting<'_>) -> Result
 fn a_log_is_cut_into_lines_and_played(rt: HostRuntime) -> Result<(), Fail> {
     let counts = Counts::new();
     let log = b"a\r\nbcd\n\nab";
-    let session = Play::open(rt.alloc(), Counter, &counts, 263, log, 1, &mut Meter::new())?;
+    let session = TestSession::open(rt.alloc(), Counter, &counts, 263, log, 1, &mut Meter::new())?;
     expect_game(&rt, rt.alloc(), &session)
 }
 
 /// Where a replay begins, what it meets, and how many lines it plays.
 #[derive(Clone, Copy)]
-struct Replay {
+struct ReplayCase {
     from: u32,
     met: Option<u32>,
     played: u32,
 }
 
-fn replayed(from: u32, met: Option<u32>, played: u32) -> Replay {
-    Replay { from, met, played }
+fn replayed(from: u32, met: Option<u32>, played: u32) -> ReplayCase {
+    ReplayCase { from, met, played }
 }
 
-fn is_replay(found: Replay, wanted: Replay) -> bool {
+fn is_replay(found: ReplayCase, wanted: ReplayCase) -> bool {
     found.from == wanted.from && found.met == wanted.met && found.played == wanted.played
 }
 
-/// Makes an edit, whose replay is the wanted one, and takes it back by its inverse.
+/// Makes an edit, whose replay has to be this one, and takes it back by its inverse.
 fn edit_and_back(
     rt: &impl Abort,
     alloc: Global,
     session: &mut Counting<'_>,
-    change: Change<'_>,
-    wanted: Replay,
+    change: LineChange<'_>,
+    wanted: ReplayCase,
 ) -> Result<(), Fail> {
     let report = session.edit(&change.edit(alloc)?, &mut Meter::new())?;
     let found = replayed(report.from, report.met, report.played);
@@ -103,12 +103,12 @@ fn edit_stairs<'a>(
 ) -> Result<(), Fail> {
     let old = session.copy(Counter, counts)?;
     for (change, wanted) in [
-        (Change::Insert(2, b"zz"), replayed(2, Some(3), 1)),
-        (Change::Insert(10, b"z"), replayed(9, None, 2)),
-        (Change::Delete(4), replayed(4, Some(5), 1)),
-        (Change::Replace(5, b"aaaa"), replayed(5, Some(7), 2)),
-        (Change::Reseed(1), replayed(0, Some(1), 1)),
-        (Change::Reseed(256), replayed(0, Some(0), 0)),
+        (LineChange::Insert(2, b"zz"), replayed(2, Some(3), 1)),
+        (LineChange::Insert(10, b"z"), replayed(9, None, 2)),
+        (LineChange::Delete(4), replayed(4, Some(5), 1)),
+        (LineChange::Replace(5, b"aaaa"), replayed(5, Some(7), 2)),
+        (LineChange::Reseed(1), replayed(0, Some(1), 1)),
+        (LineChange::Reseed(256), replayed(0, Some(0), 0)),
     ] {
         edit_and_back(rt, alloc, session, change, wanted)?;
         assert!(rt; show_the_same(session, &old), "from {}", wanted.from);
@@ -119,7 +119,7 @@ fn edit_stairs<'a>(
 #[test]
 fn an_edit_of_each_kind_is_replayed_and_taken_back(rt: HostRuntime) -> Result<(), Fail> {
     let counts = Counts::new();
-    let mut session = Play::open(
+    let mut session = TestSession::open(
         rt.alloc(),
         Counter,
         &counts,
@@ -133,13 +133,13 @@ fn an_edit_of_each_kind_is_replayed_and_taken_back(rt: HostRuntime) -> Result<()
 
 /// Puts a line before the third of five and takes that one out, as one group, which is then taken
 /// back.
-fn edit_by_group<R: Rule>(
+fn edit_by_group<R: RowRule>(
     rt: &impl Abort,
     alloc: Global,
-    session: &mut Play<'_, R>,
-    wanted: Replay,
+    session: &mut TestSession<'_, R>,
+    wanted: ReplayCase,
 ) -> Result<(), Fail> {
-    let changes = [Change::Insert(2, b"# note"), Change::Delete(3)];
+    let changes = [LineChange::Insert(2, b"# note"), LineChange::Delete(3)];
     let report = session.edit_group(rt, &edits_of(alloc, &changes)?, &mut Meter::new())?;
     let found = replayed(report.from, report.met, report.played);
     assert!(rt; is_replay(found, wanted), "from {}", found.from);
@@ -151,15 +151,15 @@ fn edit_by_group<R: Rule>(
 }
 
 /// The same in a game over a machine.
-fn edit_five_by_group<R: Rule>(
+fn edit_five_by_group<R: RowRule>(
     rt: &impl Abort,
     alloc: Global,
     rule: R,
-    wanted: Replay,
+    wanted: ReplayCase,
 ) -> Result<(), Fail> {
     let counts = Counts::new();
     let log = b"no\nin\ntake lamp\non\ndown\n";
-    let mut session = Play::open(alloc, rule, &counts, 0, log, 1, &mut Meter::new())?;
+    let mut session = TestSession::open(alloc, rule, &counts, 0, log, 1, &mut Meter::new())?;
     let made = edit_by_group(rt, alloc, &mut session, wanted);
     drop(session);
     made

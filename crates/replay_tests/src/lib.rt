@@ -8,6 +8,8 @@ mod costs;
 #[cfg(test)]
 mod dice;
 #[cfg(test)]
+mod display;
+#[cfg(test)]
 mod each_limit;
 #[cfg(test)]
 mod edits;
@@ -20,10 +22,8 @@ mod play;
 #[cfg(test)]
 mod random;
 #[cfg(test)]
-mod refused;
+mod refusals;
 #[cfg(test)]
 mod row;
-#[cfg(test)]
-mod shown;
 #[cfg(test)]
 mod texts;

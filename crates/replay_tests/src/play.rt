@@ -1,32 +1,32 @@
-//! Sessions of the tests, behind calls that promise nothing: the tests are proved without what a
+//! Sessions of the tests, through calls that promise nothing: the tests are proved without what a
 //! session promises, and look at what it does.
 
 use crate::machines::counter::Counter;
 use crate::machines::counts::Counts;
-use crate::machines::rule::Rule;
+use crate::machines::rule::RowRule;
 use crate::machines::told::Told;
-use crate::row::Row;
-use cave_replay::{Edit, EditFault, GroupFault, GroupReport, OpenFault, Report, Session};
-use cave_words::Meter;
+use crate::row::RowState;
+use log_lines::Meter;
+use log_replay::{Edit, EditFault, GroupFault, GroupReport, OpenFault, Report, Session};
 use std::alloc::{AllocError, Global};
 use std::process::Abort;
 
 /// A session over a machine of a rule.
-pub(crate) struct Play<'a, R: Rule> {
+pub(crate) struct TestSession<'a, R: RowRule> {
     session: Session<Told<'a, R>>,
 }
 
-impl<'a, R: Rule> Drop for Play<'a, R> {
+impl<'a, R: RowRule> Drop for TestSession<'a, R> {
     fn drop(self) {
-        let Play { session } = self;
+        let TestSession { session } = self;
         drop(session);
     }
 }
 
 /// A session over the counter.
-pub(crate) type Counting<'a> = Play<'a, Counter>;
+pub(crate) type Counting<'a> = TestSession<'a, Counter>;
 
-impl<'a, R: Rule> Play<'a, R> {
+impl<'a, R: RowRule> TestSession<'a, R> {
     /// Opens a session, by the meter as it is when new.
     pub(crate) fn open(
         alloc: Global,
@@ -36,11 +36,11 @@ impl<'a, R: Rule> Play<'a, R> {
         log: &[u8],
         every: u32,
         meter: &mut Meter,
-    ) -> Result<Play<'a, R>, OpenFault> {
+    ) -> Result<TestSession<'a, R>, OpenFault> {
         *meter = Meter::new();
         let machine = Told { rule, counts };
         let session = Session::open(alloc, machine, seed, log, every, meter)?;
-        Ok(Play { session })
+        Ok(TestSession { session })
     }
 
     /// Edits the game.
@@ -60,9 +60,13 @@ impl<'a, R: Rule> Play<'a, R> {
     }
 
     /// A session that shows the same.
-    pub(crate) fn copy(&self, rule: R, counts: &'a Counts) -> Result<Play<'a, R>, AllocError> {
+    pub(crate) fn copy(
+        &self,
+        rule: R,
+        counts: &'a Counts,
+    ) -> Result<TestSession<'a, R>, AllocError> {
         let session = self.session.copy(Told { rule, counts })?;
-        Ok(Play { session })
+        Ok(TestSession { session })
     }
 
     /// The seed of the held game.
@@ -70,7 +74,7 @@ impl<'a, R: Rule> Play<'a, R> {
         self.session.seed()
     }
 
-    /// How far apart checkpoints may be.
+    /// The most lines between two checkpoints.
     pub(crate) fn every(&self) -> u32 {
         self.session.every()
     }
@@ -105,10 +109,10 @@ impl<'a, R: Rule> Play<'a, R> {
 
     /// All that is shown of a place; at the end an empty line, how many lines ticked, and nothing
     /// else.
-    pub(crate) fn row(&self, place: u32) -> Row<'_> {
+    pub(crate) fn row(&self, place: u32) -> RowState<'_> {
         let lines = self.session.lines();
         let is_line = place < lines;
-        Row {
+        RowState {
             line: if is_line {
                 self.session.line(place)
             } else {

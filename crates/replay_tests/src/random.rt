@@ -1,20 +1,20 @@
 //! Random edits, each beside a play from scratch of the log that they give.
 
 use crate::dice::any_edit;
+use crate::display::show_the_same_game;
 use crate::machines::counter::Counter;
 use crate::machines::counts::Counts;
 use crate::machines::hasher::Hasher;
-use crate::machines::rule::Rule;
-use crate::play::Play;
-use crate::shown::show_the_same_game;
-use cave_replay::Edit;
-use cave_words::{Meter, Steps};
+use crate::machines::rule::RowRule;
+use crate::play::TestSession;
+use log_lines::{Meter, Steps};
+use log_replay::Edit;
 use std::alloc::{AllocError, Global};
 use std::process::Abort;
 use std::test::Fail;
 
 /// The text of the log of a session.
-fn log_of<R: Rule>(alloc: Global, session: &Play<'_, R>) -> Result<Vec<u8>, AllocError> {
+fn log_of<R: RowRule>(alloc: Global, session: &TestSession<'_, R>) -> Result<Vec<u8>, AllocError> {
     let mut text = Vec::new(alloc);
     for place in 0..session.lines() {
         text.extend_from_slice(session.row(place).line)?;
@@ -23,16 +23,16 @@ fn log_of<R: Rule>(alloc: Global, session: &Play<'_, R>) -> Result<Vec<u8>, Allo
     Ok(text)
 }
 
-/// That a session shows what playing its log from the first line shows.
-fn expect_play<R: Rule + Default>(
+/// Expects that a session shows what playing its log from the first line shows.
+fn expect_play<R: RowRule + Default>(
     rt: &impl Abort,
     alloc: Global,
-    session: &Play<'_, R>,
+    session: &TestSession<'_, R>,
     counts: &Counts,
 ) -> Result<(), Fail> {
     let log = log_of(alloc, session)?;
     let (seed, mut meter) = (session.seed(), Meter::new());
-    let scratch = Play::open(alloc, R::default(), counts, seed, &log, 50, &mut meter)?;
+    let scratch = TestSession::open(alloc, R::default(), counts, seed, &log, 50, &mut meter)?;
     let is_same = show_the_same_game(session, &scratch);
     drop(scratch);
     assert!(rt; is_same);
@@ -40,9 +40,9 @@ fn expect_play<R: Rule + Default>(
 }
 
 /// Makes an edit. The meter and the machine count the lines that it plays.
-fn expect_counted<R: Rule>(
+fn expect_counted<R: RowRule>(
     rt: &impl Abort,
-    session: &mut Play<'_, R>,
+    session: &mut TestSession<'_, R>,
     counts: &Counts,
     edit: &Edit,
     meter: &mut Meter,
@@ -56,10 +56,10 @@ fn expect_counted<R: Rule>(
 }
 
 /// Makes two hundred edits by one meter.
-fn edit_often<R: Rule + Default>(
+fn edit_often<R: RowRule + Default>(
     rt: &impl Abort,
     alloc: Global,
-    session: &mut Play<'_, R>,
+    session: &mut TestSession<'_, R>,
     counts: &Counts,
 ) -> Result<(), Fail> {
     let others = Counts::new();
@@ -73,14 +73,14 @@ fn edit_often<R: Rule + Default>(
     Ok(())
 }
 
-/// The same from an empty log, with checkpoints so far apart.
-fn edit_often_from_nothing<R: Rule + Default>(
+/// The same from an empty log, with this distance of checkpoints.
+fn edit_often_from_nothing<R: RowRule + Default>(
     rt: &impl Abort,
     alloc: Global,
     every: u32,
 ) -> Result<(), Fail> {
     let counts = Counts::new();
-    let mut session = Play::open(
+    let mut session = TestSession::open(
         alloc,
         R::default(),
         &counts,

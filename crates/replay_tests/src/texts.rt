@@ -1,7 +1,7 @@
 //! What faults say.
 
-use cave_replay::{EditFault, GroupFault, OpenFault};
-use cave_words::LineFlaw;
+use log_lines::LineFlaw;
+use log_replay::{EditFault, GroupFault, OpenFault};
 use std::test::Fail;
 
 #[test]

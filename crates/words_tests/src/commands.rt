@@ -1,13 +1,13 @@
 //! Words of a command line, right and wrong, with what they ask for.
 
-use cave_command::{Line, LineFault, command_line};
-use cave_editing::{Editing, View};
+use cave_command::{CommandFault, Line, command_line};
+use edit_options::{Editing, View};
 use std::alloc::{AllocError, Global};
 use std::test::Fail;
 
 /// The answer to words. It promises nothing, so that the tests are proved without what a command
 /// line promises.
-fn answer_to<'a>(alloc: Global, words: &'a [&'a str]) -> Result<Line<'a>, LineFault<'a>> {
+fn answer_to<'a>(alloc: Global, words: &'a [&'a str]) -> Result<Line<'a>, CommandFault<'a>> {
     command_line(alloc, words)
 }
 
@@ -16,7 +16,7 @@ fn shown(alloc: Global, words: &[&str]) -> Result<String, AllocError> {
     match answer_to(alloc, words) {
         Ok(Line::Text(text)) => format!(in alloc; "text {:?}", text.kind()),
         Ok(line) => format!(in alloc; "{line:?}"),
-        Err(LineFault::Usage(fault)) => format!(in alloc; "2 {:?}", fault.kind()),
+        Err(CommandFault::Usage(fault)) => format!(in alloc; "2 {:?}", fault.kind()),
         Err(fault) => format!(in alloc; "{} {fault:?}", fault.status()),
     }
 }

@@ -1,18 +1,17 @@
 //! Words of a cave, and what they mean.
 
-use crate::known::{Known, cave_of};
+use crate::calls::{Known, cave_of};
 use cave_words::{Class, Meaning, Named};
 use std::process::Abort;
 use std::test::Fail;
 
-/// A cave of words, two of which stand in several rows.
+/// A cave of words, two of which are in several rows.
 const DATABASE: &[u8] = b"4\n1 out\n2003 OUT\n5 OUT\n1009 OUTSIDER\n1050 GOLDEN\n1051 GOLDENROD\n\
 1020 BOTTLES\n2 in\n3 up\n4 down\n-1\n0\n";
 
 /// Of its words eight letters count.
 const BINDINGS: &[u8] = b"num.letters 8";
 
-/// Words and their meanings.
 const MEANINGS: [(&[u8], Option<(Class, u16)>); 4] = [
     (b"Out", Some((Class::Motion, 1))),
     (b"golden", Some((Class::Object, 50))),
@@ -48,7 +47,7 @@ fn a_word_means_its_first_row(rt: HostRuntime) -> Result<(), Fail> {
 
 // Passes with any allocation refused too: `rt try --test --fail-alloc N`, N from 1 on.
 #[test]
-fn want_of_memory_is_the_only_refusal(rt: HostRuntime) {
+fn out_of_memory_is_the_only_refusal(rt: HostRuntime) {
     let Ok(cave) = cave_of(rt.alloc(), DATABASE, BINDINGS) else {
         return;
     };

@@ -2,11 +2,11 @@
 #![tactic(auto)]
 
 #[cfg(test)]
+mod calls;
+#[cfg(test)]
 mod commands;
 #[cfg(test)]
 mod draws;
-#[cfg(test)]
-mod known;
 #[cfg(test)]
 mod lexicon;
 #[cfg(test)]

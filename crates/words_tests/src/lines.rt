@@ -1,9 +1,9 @@
-//! Lines of a log: what is told of those that may not stand, and what kind each is.
+//! Lines of a log: what is reported of those that aren't allowed, and what kind each is.
 
-use cave_words::{LogLine, check_line};
+use log_lines::{LogLine, check_line};
 use std::alloc::{AllocError, Global};
 
-/// What is told of a line.
+/// What is reported of a line.
 fn told(alloc: Global, line: &[u8]) -> Result<String, AllocError> {
     match check_line(line) {
         Ok(()) => String::from_str(alloc, "it may stand"),
@@ -33,7 +33,6 @@ fn lines_may_stand_or_are_told_their_fault(rt: HostRuntime) -> Result<(), AllocE
     Ok(())
 }
 
-/// Lines and their kinds.
 const KINDS: [(&[u8], LogLine); 11] = [
     (b"# seed 7", LogLine::Comment),
     (b" # note", LogLine::Input),

@@ -1,11 +1,11 @@
 //! Scripts that are written out, with what they say.
 
-use cave_script::{Item, Script, ScriptFault};
+use edit_scripts::{Item, Script, ScriptRefusal};
 use std::alloc::{AllocError, Global};
 use std::test::Fail;
 
 /// The script of a text, of which nothing is promised.
-fn script_of(alloc: Global, text: &[u8]) -> Result<Script, ScriptFault> {
+fn script_of(alloc: Global, text: &[u8]) -> Result<Script, ScriptRefusal> {
     Script::read(alloc, text)
 }
 
@@ -18,7 +18,7 @@ fn item_shown(alloc: Global, item: &Item) -> Result<String, AllocError> {
     Ok(text)
 }
 
-/// The items of a script as text, with a semicolon behind each.
+/// The items of a script as text, with a semicolon after each.
 fn items_shown(alloc: Global, items: &[Item]) -> Result<String, AllocError> {
     let mut text = String::new(alloc);
     for item in items {
@@ -28,7 +28,7 @@ fn items_shown(alloc: Global, items: &[Item]) -> Result<String, AllocError> {
     Ok(text)
 }
 
-/// The items of a script as text, or what is told of it where it is refused.
+/// The items of a script as text, or what is reported of it where it is refused.
 fn shown(alloc: Global, text: &[u8]) -> Result<String, AllocError> {
     match script_of(alloc, text) {
         Ok(script) => items_shown(alloc, &script.items),
@@ -36,7 +36,6 @@ fn shown(alloc: Global, text: &[u8]) -> Result<String, AllocError> {
     }
 }
 
-/// Scripts and their items.
 const ITEMS: [(&[u8], &str); 9] = [
     (b"\n\n", ""),
     (b"insert 2", "1: Insert(2, []) on 1,;"),
@@ -72,7 +71,7 @@ fn a_script_has_items(rt: HostRuntime) -> Result<(), Fail> {
     Ok(())
 }
 
-/// Malformed scripts, and what is told of them.
+/// Malformed scripts, and what is reported of them.
 const FAULTS: [(&[u8], &str); 5] = [
     (
         b"delete 0\ninsert 9 a\n# x\nbegone\nend\n",
@@ -94,7 +93,7 @@ const FAULTS: [(&[u8], &str); 5] = [
     ),
     (
         b"delete 0\n\nbegin",
-        "line 3 of the script: `begin` without an `end` behind it",
+        "line 3 of the script: `begin` without an `end` after it",
     ),
 ];
 
@@ -112,6 +111,6 @@ fn refused_memory_is_no_other_fault(rt: HostRuntime) {
     let text = b"insert 2 take lamp\nbegin\nreplace 0 x\ndelete 1\nend\nseed 3\n";
     match script_of(rt.alloc(), text) {
         Ok(script) => assert_eq!(rt; script.items.len(), 3),
-        Err(fault) => assert_eq!(rt; fault, ScriptFault::Memory),
+        Err(fault) => assert_eq!(rt; fault, ScriptRefusal::Memory),
     }
 }

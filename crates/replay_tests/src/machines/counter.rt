@@ -1,13 +1,13 @@
 ghost use Rattle.std.specs.Prelude.{◌%◌, length};
 
-use crate::machines::rule::Rule;
+use crate::machines::rule::RowRule;
 
 /// The state is the length of the last line, at the start the seed mod 256. A line with a byte
 /// ticks.
 #[derive(Default, Drop)]
 pub(crate) struct Counter;
 
-impl Rule for Counter {
+impl RowRule for Counter {
     ghost use Rattle.std.specs.Prelude.{nat_lt};
 
     ghost begun = { λ seed. seed % 256 };

@@ -1,13 +1,13 @@
 ghost use Rattle.std.specs.Prelude.{◌%◌, ◌+◌, ◌*◌, ◌==◌, length};
 
-use crate::machines::rule::Rule;
+use crate::machines::rule::RowRule;
 
 /// The state is a hash of the seed and the lengths of all lines so far, so that plays of other
 /// lines don't meet. A line ticks where the state after it is even.
 #[derive(Default, Drop)]
 pub(crate) struct Hasher;
 
-impl Rule for Hasher {
+impl RowRule for Hasher {
     ghost begun = { λ seed. seed };
 
     ghost after = { λ state line. state % 1000003 * 257 + length line };

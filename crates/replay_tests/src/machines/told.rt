@@ -1,10 +1,10 @@
 ghost use Rattle.std.specs.Prelude.{ℕ, List};
 
 use crate::machines::counts::Counts;
-use crate::machines::rule::Rule;
+use crate::machines::rule::RowRule;
 use crate::machines::state::State;
-use cave_replay::{Machine, Started, Stepped};
-use cave_words::Meter;
+use log_lines::Meter;
+use log_replay::{Machine, Started, Stepped};
 use std::alloc::{AllocError, Global};
 
 /// A machine of plain rules that counts what it does.
@@ -14,8 +14,8 @@ pub(crate) struct Told<'a, R> {
     pub(crate) counts: &'a Counts,
 }
 
-impl<'a, R: Rule> Machine for Told<'a, R> {
-    ghost use Rattle.replay_tests.specs.Telling.{telling, same_numbers};
+impl<'a, R: RowRule> Machine for Told<'a, R> {
+    ghost use Rattle.replay_tests.specs.Telling.{telling_rules, same_numbers};
 
     type State = State<'a>;
 
@@ -31,7 +31,7 @@ impl<'a, R: Rule> Machine for Told<'a, R> {
 
     ghost text = { λ piece. piece.items };
 
-    ghost rules = { λ _. telling R.begun R.after R.ticked };
+    ghost rules = { λ _. telling_rules R.begun R.after R.ticked };
 
     fn start(
         &self,

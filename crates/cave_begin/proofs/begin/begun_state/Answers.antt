@@ -1,8 +1,10 @@
-use Rattle.cave_world.specs.Lists.{halves_at}
-use Rattle.cave_world.specs.Layout.{Layout}
+use Rattle.cave_objects.specs.Lists.{halves_at}
+use Rattle.cave_objects.specs.Layout.{Layout}
 use Rattle.std.proofs.Common.{ap, ◌∙◌}
 use Rattle.cave_begin.proofs.Begun.{start_lists}
 use Rattle.cave_begin.proofs.begin.begun_state.Goals as goal
 
 pub returns-clause-lists : goal.returns-clause-lists
-returns-clause-lists c = λ q. ap (λ (o : Layout). halves_at q o.lists) c.place_all-state.ensures.objects ∙ start_lists c.args.cave.now q
+returns-clause-lists c =
+    λ q. ap (λ (o : Layout). halves_at q o.lists) c.place_all-state.ensures.objects
+    ∙ start_lists c.args.cave.now q

@@ -12,7 +12,8 @@ loop-number-init c = record {
 
 pub returns-clause-objects : goal.returns-clause-objects
 returns-clause-objects c =
-    sym (ap (λ xs. all_hidden xs c.loop-number.objects) (known_none c.args.cave.now c.loop-number.number c.loop-number-test.false))
+    sym (ap (λ xs. all_hidden xs c.loop-number.objects)
+    (known_none c.args.cave.now c.loop-number.number c.loop-number-test.false))
     ∙ c.loop-number.invariant.hidden
 
 pub returns-clause-count : goal.returns-clause-count

@@ -9,7 +9,9 @@ pub returns-clause-objects : goal.returns-clause-objects
 unfolding start_order
 returns-clause-objects c =
     let cave = c.args.cave.now in
-    let once = c.hide_treasures-hidden.ensures.objects ∙ ap (λ o. all_hidden (known_treasures cave) o) c.requires in
+    let once = c.hide_treasures-hidden.ensures.objects
+    ∙ ap (λ o. all_hidden (known_treasures cave) o) c.requires in
     let twice = c.place_down.ensures ∙ ap (λ o. all_placed cave (objects_due cave true) o) once in
     let all = c.place_down-2.ensures ∙ ap (λ o. all_placed cave (objects_due cave false) o) twice in
-    all ∙ (sym (all_placed-append cave (objects_due cave false) (objects_due cave true) _) ∙ begun_is cave)
+    all ∙ (sym (all_placed-append cave (objects_due cave false) (objects_due cave true) _)
+    ∙ begun_is cave)

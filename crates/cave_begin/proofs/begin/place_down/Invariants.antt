@@ -5,4 +5,5 @@ use Rattle.cave_begin.proofs.begin.place_down.Given as goal
 
 -- so far the last objects are placed
 abbrev pub invariant-loop-i : goal.invariant-loop-i
-invariant-loop-i l = l.objects ≡ all_placed l.cave (due_from l.cave l.twice (101 - l.i) l.i) l.initial.objects
+invariant-loop-i l =
+    l.objects ≡ all_placed l.cave (due_from l.cave l.twice (101 - l.i) l.i) l.initial.objects

@@ -5,4 +5,5 @@ use Rattle.cave_command.proofs.read.parse.Goals as goal
 pub returns : goal.returns
 returns g c =
     let answer = c.try_get_matches_from in
-    parse_is c.in_ok-command.command (map g.S.AsStr.text c.args.words.now) answer.result c.in_ok-command.ensures answer.ensures.matches answer.ensures.kinds
+    parse_is c.in_ok-command.command (map g.S.AsStr.text c.args.words.now) answer.result
+    c.in_ok-command.ensures answer.ensures.matches answer.ensures.kinds

@@ -1,7 +1,7 @@
 use Rattle.std.proofs.Common.{subst, sym, ◌∙◌}
 use Rattle.std.proofs.lemmas.Result.{err_from_is_err_and}
 use Rattle.cave_cover.specs.Marks.{Notes}
-use Rattle.cave_cover.specs.Plays.{said_in}
+use Rattle.cave_cover.specs.Plays.{texts_said_in}
 use Rattle.cave_cover.proofs.plays.note_log.Goals as goal
 
 pub returns-in_err-session : goal.returns-in_err-session
@@ -15,8 +15,12 @@ returns g c =
     let (moves, said, made) = c.in_ok-session.ensures.judged in
     let old = c.args.said.now in
     let new = c.note_session.new.said in
-    let here = subst (λ cave. Notes (said_in cave c.in_ok-session.session.game) old new) c.cave.ensures c.note_session.ensures in
-    let noted = subst (λ game. Notes (said_in c.args.machine.cave.now game) old new) made.1.game_is here in
+    let here =
+    subst (λ cave. Notes (texts_said_in cave c.in_ok-session.session.game) old new)
+    c.cave.ensures c.note_session.ensures in
+    let noted =
+    subst (λ game. Notes (texts_said_in c.args.machine.cave.now game) old new) made.1.game_is
+    here in
     record { judged = (moves, said, (made.0, noted)) }
 
 pub note_session-requires : goal.note_session-requires

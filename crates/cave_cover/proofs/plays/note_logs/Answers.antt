@@ -11,9 +11,15 @@ returns-in-Err g c =
     let place = c.loop-place.place in
     let log = c.index-logs-place.result in
     let inside : place < length c.args.logs.now = omega arith in
-    let same = same_reader c.loop-place.logs c.args.logs.now place log before.1 c.index-logs-place.is in
+    let same =
+    same_reader c.loop-place.logs c.args.logs.now place log before.1 c.index-logs-place.is in
     let here = subst (λ l. Says (g.L.Read.remaining l) moves) (sym c.index-logs-place.is) said in
-    record { judged = HasRead-refused g.L.Read.remaining c.args.logs.now place log inside same c.args.machine.cave.now c.args.seed c.args.said.now c.loop-place.said before.0.0 moves before.0.1 here c.in-Err.fault decided }
+    record {
+      judged =
+          HasRead-refused g.L.Read.remaining c.args.logs.now place log inside same
+          c.args.machine.cave.now c.args.seed c.args.said.now c.loop-place.said before.0.0 moves
+          before.0.1 here c.in-Err.fault decided;
+    }
 
 pub loop-place-preserved : goal.loop-place-preserved
 loop-place-preserved g c =
@@ -22,11 +28,14 @@ loop-place-preserved g c =
     let place = c.loop-place.place in
     let log = c.index-logs-place.result in
     let inside : place < length c.args.logs.now = omega arith in
-    let same = same_reader c.loop-place.logs c.args.logs.now place log before.1 c.index-logs-place.is in
+    let same =
+    same_reader c.loop-place.logs c.args.logs.now place log before.1 c.index-logs-place.is in
     let here = subst (λ l. Says (g.L.Read.remaining l) moves) (sym c.index-logs-place.is) said in (
       (
         before.0.0 ++ moves ∷ [],
-        HasRead-more g.L.Read.remaining c.args.logs.now place log inside same c.args.machine.cave.now c.args.seed c.args.said.now c.loop-place.said before.0.0 moves before.0.1 here c.note_log.new.said (log_right moves noted.0) noted.1,
+        HasRead-more g.L.Read.remaining c.args.logs.now place log inside same
+            c.args.machine.cave.now c.args.seed c.args.said.now c.loop-place.said before.0.0 moves
+            before.0.1 here c.note_log.new.said (log_right moves noted.0) noted.1,
       ),
       same_later c.loop-place.logs c.args.logs.now place c.note_log.new.log before.1,
     )

@@ -5,4 +5,6 @@ use Rattle.cave_cover.specs.Texts.{said_by_all}
 use Rattle.cave_cover.proofs.plays.note_pieces.Given as goal
 
 abbrev pub invariant-loop-piece : goal.invariant-loop-piece
-invariant-loop-piece l = Notes (flat_map (λ piece. said_by_all l.cave piece.items) (take l.piece-index l.pieces)) l.fn.said l.said
+invariant-loop-piece l =
+    Notes (flat_map (λ piece. said_by_all l.cave piece.items) (take l.piece-index l.pieces))
+    l.fn.said l.said

@@ -5,4 +5,6 @@ use Rattle.cave_cover.specs.Report.{line}
 use Rattle.cave_cover.proofs.report.push_lines.Given as goal
 
 abbrev pub invariant-loop-kind : goal.invariant-loop-kind
-invariant-loop-kind l = l.text.items ≡ l.initial.text.items ++ flat_map (line l.cave (is_marked l.said)) (take l.kind-index l.kinds)
+invariant-loop-kind l =
+    l.text.items ≡ l.initial.text.items
+    ++ flat_map (line l.cave (is_marked l.said)) (take l.kind-index l.kinds)

@@ -3,7 +3,7 @@ use Rattle.std.proofs.lemmas.Result.{err_from_is_err_and}
 use Rattle.std.proofs.KnownBytes.{Keeps-refl}
 use Rattle.cave_cover.specs.Faults.{first_stages}
 use Rattle.cave_cover.specs.Plays.{IsCovered}
-use Rattle.cave_cover.proofs.FaultLemmas.{Runs-written}
+use Rattle.cave_cover.proofs.FaultLemmas.{RunsCover-written}
 use Rattle.cave_cover.proofs.run.run_cover.Goals as goal
 
 pub returns-in_err-text : goal.returns-in_err-text
@@ -17,7 +17,18 @@ returns-in_err-text g c =
 pub returns : goal.returns
 returns g c =
     let (database, bindings, moves, said, others, last, made) = c.in_ok-text.ensures.judged in
-    let output = subst (IsCovered database bindings moves c.args.seed) (sym c.deref.ensures.value) made.2 in
+    let output =
+    subst (IsCovered database bindings moves c.args.seed) (sym c.deref.ensures.value) made.2 in
     record {
-      runs = (database, bindings, moves, said, others, last, Runs-written (first_stages database bindings c.args.seed) moves (IsCovered database bindings moves c.args.seed) _ _ _ _ made.0 made.1 output c.write.ensures.written);
+      runs = (
+        database,
+        bindings,
+        moves,
+        said,
+        others,
+        last,
+        RunsCover-written (first_stages database bindings c.args.seed) moves
+            (IsCovered database bindings moves c.args.seed) _ _ _ _ made.0 made.1 output
+            c.write.ensures.written,
+      );
     }

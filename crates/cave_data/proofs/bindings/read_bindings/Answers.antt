@@ -8,7 +8,10 @@ use Rattle.cave_data.proofs.bindings.read_bindings.Goals as goal
 pub returns-in-Err-clause-fault : goal.returns-in-Err-clause-fault
 returns-in-Err-clause-fault c =
     subst (λ e. FaultIs e (first_binding_fault [] (lines c.args.text.now))) (sym c.told.ensures)
-    (bound_fault c.in-Some.after.now c.in-Some.ensures.value c.loop-line.invariant c.in-Err.cause c.in-Err.ensures)
+    (bound_fault c.in-Some.after.now c.in-Some.ensures.value c.loop-line.invariant c.in-Err.cause
+    c.in-Err.ensures)
 
 pub loop-line-preserved : goal.loop-line-preserved
-loop-line-preserved c = bound_more c.in-Some.after.now c.in-Some.ensures.value c.loop-line.invariant _ c.in-Ok.ensures c.in-Some.ensures.shorter
+loop-line-preserved c =
+    bound_more c.in-Some.after.now c.in-Some.ensures.value c.loop-line.invariant _ c.in-Ok.ensures
+    c.in-Some.ensures.shorter

@@ -1,15 +1,15 @@
 use Rattle.std.proofs.Common.{refl}
-use Rattle.cave_data.proofs.CaveLemmas.{get-shown_texts}
+use Rattle.cave_data.proofs.CaveLemmas.{get-printed_texts}
 use Rattle.cave_data.proofs.cave.finish.Goals as goal
 
 pub returns : goal.returns
 returns c = record {
-  long = get-shown_texts _;
-  short = get-shown_texts _;
+  long = get-printed_texts _;
+  short = get-printed_texts _;
   travel = λ n. refl;
   words = refl;
-  objects = get-shown_texts _;
-  messages = get-shown_texts _;
+  objects = get-printed_texts _;
+  messages = get-printed_texts _;
   placements = refl;
   defaults = refl;
   conditions = refl;

@@ -2,7 +2,7 @@ use Rattle.std.proofs.Common.{◌≡◌}
 use Rattle.std.specs.List.{list_any}
 use Rattle.cave_things.specs.Things.{cave_of}
 use Rattle.cave_things.specs.Treasures.{treasures}
-use Rattle.cave_dwarves.specs.Robbing.{is_carried_booty}
+use Rattle.cave_dwarves.specs.Booty.{is_carried_booty}
 use Rattle.cave_dwarves.proofs.Treasures.{treasures_from}
 use Rattle.cave_dwarves.proofs.booty.carries_booty.Given as goal
 

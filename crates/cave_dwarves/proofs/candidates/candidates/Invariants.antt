@@ -1,8 +1,8 @@
 use Rattle.std.proofs.Common.{◌≡◌, ◌++◌, ◌≤◌, None, map, drop, take, length}
 use Rattle.std.specs.List.{filter_map}
-use Rattle.cave_data.specs.Shown.{going}
+use Rattle.cave_rows.specs.RowViews.{going}
 use Rattle.cave_things.specs.Things.{cave_of}
-use Rattle.cave_dwarves.specs.Ways.{place_ahead, without_repeats}
+use Rattle.cave_dwarves.specs.Candidates.{place_ahead, without_repeats}
 use Rattle.cave_dwarves.proofs.candidates.candidates.Given as goal
 
 -- the places so far, and those to which the rows from here lead, begin like those of all rows

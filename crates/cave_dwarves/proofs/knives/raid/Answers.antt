@@ -1,9 +1,9 @@
 use Rattle.std.proofs.Common.{rules, arith}
-use Rattle.cave_dwarves.specs.Knives.{raided}
+use Rattle.cave_dwarves.specs.Knives.{raid_of}
 use Rattle.cave_dwarves.proofs.knives.raid.Goals as goal
 
 pub loop-number-init : goal.loop-number-init
-unfolding raided
+unfolding raid_of
 loop-number-init c = record {
   raid = search rules;
   dwarves = search rules;
@@ -12,7 +12,7 @@ loop-number-init c = record {
 }
 
 pub loop-number-preserved : goal.loop-number-preserved
-unfolding raided
+unfolding raid_of
 loop-number-preserved c = record {
   raid = search rules;
   dwarves = omega (arith, c.loop-number.invariant.dwarves, c.with-attack.ensures.dwarf);

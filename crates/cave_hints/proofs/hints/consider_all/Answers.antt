@@ -1,10 +1,10 @@
 use Rattle.std.proofs.Common.{rules, ◌≡◌, ◌+◌, ap, sym, ◌∙◌, arith}
 use Rattle.cave_things.specs.Plays.{scene_of}
 use Rattle.cave_things.specs.Things.{cave_of}
-use Rattle.cave_hints.specs.Hints.{considered, considered_up_to}
-use Rattle.cave_hints.proofs.Steps.{considered-more, few-asked}
+use Rattle.cave_hints.specs.Hints.{after_considering, considered_up_to}
+use Rattle.cave_hints.proofs.Steps.{after_considering-more, few-asked}
 use Rattle.cave_hints.proofs.hints.consider_all.Goals as goal
-use Rattle.cave_world.specs.State.{is_over}
+use Rattle.cave_world.specs.State.{takes_no_command}
 
 pub loop-before-init : goal.loop-before-init
 unfolding considered_up_to
@@ -17,11 +17,13 @@ loop-before-preserved c =
     let here = scene_of c.loop-before.play in
     let number : c.new.result ≡ before + 4 = search rules in
     let scene =
-    c.consider.ensures.play ∙ ap (λ n. considered cave n here) number
-    ∙ ap (λ p. considered cave (before + 4) p) c.loop-before.invariant.0
-    ∙ sym (considered-more cave before (scene_of c.args.play.now)) in
-    let here_over = is_over c.loop-before.play.state.now in
-    let few = few-asked here_over _ _ _ c.loop-before.invariant.1 c.loop-before.invariant.2 c.consider.ensures.few c.consider.ensures.few_over in (
+    c.consider.ensures.play ∙ ap (λ n. after_considering cave n here) number
+    ∙ ap (λ p. after_considering cave (before + 4) p) c.loop-before.invariant.0
+    ∙ sym (after_considering-more cave before (scene_of c.args.play.now)) in
+    let here_over = takes_no_command c.loop-before.play.state.now in
+    let few =
+    few-asked here_over _ _ _ c.loop-before.invariant.1 c.loop-before.invariant.2
+    c.consider.ensures.few c.consider.ensures.few_over in (
       scene,
       few,
       (λ on.

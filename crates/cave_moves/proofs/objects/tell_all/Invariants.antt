@@ -1,14 +1,14 @@
 use Rattle.std.proofs.Common.{◌≡◌, ◌+◌, ◌≤◌, drop}
 use Rattle.arrayvec.specs.ArrayVec.{array_vec_len}
 use Rattle.cave_things.specs.Things.{cave_of}
-use Rattle.cave_moves.specs.Objects.{objects_told}
+use Rattle.cave_moves.specs.Objects.{after_objects}
 use Rattle.cave_things.specs.Plays.{scene_of, GoesOn}
 use Rattle.cave_moves.proofs.objects.tell_all.Given as goal
 
--- telling the rest from here is telling all, and there is room for it
+-- describing the rest from here is describing all, and there is room for it
 abbrev pub invariant-loop-half : goal.invariant-loop-half
 invariant-loop-half l =
-    (objects_told (cave_of l.rules) (drop l.half-index l.halves) (scene_of l.play)
-    ≡ objects_told (cave_of l.rules) l.halves (scene_of l.initial.play))
+    (after_objects (cave_of l.rules) (drop l.half-index l.halves) (scene_of l.play)
+    ≡ after_objects (cave_of l.rules) l.halves (scene_of l.initial.play))
     × (array_vec_len l.play.out.now ≤ array_vec_len l.initial.play.out.now + l.half-index)
     × GoesOn l.initial.play l.play

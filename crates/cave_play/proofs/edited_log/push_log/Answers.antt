@@ -12,4 +12,5 @@ returns-in_err-extend_from_slice-2-clause-reads_back c =
     reads_back c.args.session.now.game.log c.lines-lines.ensures.game.lines
 
 pub returns-clause-reads_back : goal.returns-clause-reads_back
-returns-clause-reads_back c = reads_back c.args.session.now.game.log c.lines-lines.ensures.game.lines
+returns-clause-reads_back c =
+    reads_back c.args.session.now.game.log c.lines-lines.ensures.game.lines

@@ -5,4 +5,5 @@ use Rattle.cave_play.proofs.edited_log.push_log.Given as goal
 
 abbrev pub invariant-loop-place : goal.invariant-loop-place
 invariant-loop-place l =
-    l.text.items ++ log_text (drop l.place l.session.game.log) ≡ l.initial.text.items ++ log_text l.session.game.log
+    l.text.items ++ log_text (drop l.place l.session.game.log) ≡ l.initial.text.items
+    ++ log_text l.session.game.log

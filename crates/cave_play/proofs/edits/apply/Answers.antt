@@ -1,15 +1,19 @@
 use Rattle.std.proofs.Common.{List, ◌∙◌, refl, map, subst, arith}
-use Rattle.cave_script.specs.Shown.{applied}
-use Rattle.cave_script.specs.declared.script.Item.{Item}
-use Rattle.cave_play.specs.Applying.{IsApplied}
-use Rattle.cave_play.proofs.EditLemmas.{Completes-none, Completes-more, IsApplied-whole, edited_all-more}
+use Rattle.edit_scripts.specs.Views.{applied_item}
+use Rattle.edit_scripts.specs.declared.script.Item.{Item}
+use Rattle.cave_play.specs.Edits.{IsApplied}
+use Rattle.cave_play.proofs.EditLemmas.{Completes-none, Completes-more, IsApplied-whole}
+use Rattle.cave_play.proofs.EditLemmas.{game_after_items-more}
 use Rattle.cave_play.proofs.edits.apply.Goals as goal
 
 pub loop-item-init : goal.loop-item-init
 loop-item-init c =
     let first = c.args.session.now in
     record {
-      completes = Completes-none c.args.view first.machine.cave.now first.every (map applied c.deref-item-items.result.now) first.game first.checkpoints c.args.text.now.items;
+      completes =
+          Completes-none c.args.view first.machine.cave.now first.every
+          (map applied_item c.deref-item-items.result.now) first.game first.checkpoints
+          c.args.text.now.items;
       game = refl;
       cave = refl;
       every = refl;
@@ -24,8 +28,13 @@ loop-item-preserved c =
     let applies = c.in_ok-outcome.ensures.applies in
     let before = c.loop-item.invariant in
     record {
-      completes = Completes-more _ _ _ items place c.item-item.result _ _ _ _ _ _ _ _ _ _ _ _ c.loop-item-test.true c.item-item.is before.cave before.every applies c.in_ok-outcome.ensures.told c.with-totals.ensures.played c.with-totals.ensures.lines before.completes;
-      game = edited_all-more items place c.item-item.result _ _ _ c.loop-item-test.true c.item-item.is applies.holds.game_is before.game;
+      completes =
+          Completes-more _ _ _ items place c.item-item.result
+          _ _ _ _ _ _ _ _ _ _ _ _ c.loop-item-test.true c.item-item.is before.cave before.every
+          applies c.in_ok-outcome.ensures.told c.with-totals.ensures.played
+          c.with-totals.ensures.lines before.completes;
+      game = game_after_items-more items place c.item-item.result _ _ _ c.loop-item-test.true
+          c.item-item.is applies.holds.game_is before.game;
       cave = applies.holds.cave_is ∙ before.cave;
       every = applies.every ∙ before.every;
       played_fits = omega (arith, before.played_fits, c.with-totals.ensures.played_rises);
@@ -35,5 +44,9 @@ loop-item-preserved c =
 pub returns-clause-applied : goal.returns-clause-applied
 returns-clause-applied c =
     let last = c.loop-item in
-    let whole = IsApplied-whole c.args.view c.deref-item-items.result.now last.item-index c.args.session.now _ _ _ _ _ _ (omega (arith, c.loop-item-test.false)) last.invariant.completes in
-    subst (λ (items : List Item). IsApplied c.args.view (map applied items) c.args.session.now c.args.text.now.items last.text.items last.totals.played last.totals.lines) c.deref-item-items.ensures.value whole
+    let whole =
+    IsApplied-whole c.args.view c.deref-item-items.result.now last.item-index c.args.session.now
+    _ _ _ _ _ _ (omega (arith, c.loop-item-test.false)) last.invariant.completes in
+    subst (λ (items : List Item). IsApplied c.args.view (map applied_item items) c.args.session.now
+    c.args.text.now.items last.text.items last.totals.played last.totals.lines)
+    c.deref-item-items.ensures.value whole

@@ -1,19 +1,20 @@
 -- What came of the items so far, with what is still to come, and the game that comes of it.
 use Rattle.std.proofs.Common.{◌≡◌, ◌≤◌, ◌*◌, ◌^◌, drop, map}
-use Rattle.cave_script.specs.Shown.{applied}
-use Rattle.cave_play.specs.Output.{edited_all}
+use Rattle.edit_scripts.specs.Views.{applied_item}
+use Rattle.cave_play.specs.Output.{game_after_items}
 use Rattle.cave_play.proofs.EditLemmas.{Completes}
 use Rattle.cave_play.proofs.edits.apply.Given as goal
 
 abbrev pub invariant-loop-item : goal.invariant-loop-item
 invariant-loop-item l =
-    let left = map applied (drop l.item-index l.item-items) in
-    let all = map applied l.item-items in
+    let left = map applied_item (drop l.item-index l.item-items) in
+    let all = map applied_item l.item-items in
     let first = l.initial.session in
     record {
-      completes : Completes l.view first.machine.cave.now first.every all left first.game l.session.game first.checkpoints l.session.checkpoints
+      completes : Completes l.view first.machine.cave.now first.every all left first.game
+          l.session.game first.checkpoints l.session.checkpoints
           l.initial.text.items l.text.items l.totals.played l.totals.lines;
-      game : edited_all left l.session.game ≡ edited_all all first.game;
+      game : game_after_items left l.session.game ≡ game_after_items all first.game;
       cave : l.session.machine.cave.now ≡ first.machine.cave.now;
       every : l.session.every ≡ first.every;
       played_fits : l.totals.played ≤ l.item-index * 2 ^ 32;

@@ -1,11 +1,13 @@
 use Rattle.std.proofs.Common.{◌≡◌, Some, length, sym, subst, ap, ◌∙◌}
-use Rattle.cave_marks.specs.Spacing.{IsSpaced}
-use Rattle.cave_replay.specs.Change.{changes_of, apply_all}
-use Rattle.cave_replay.specs.Play.{Game}
-use Rattle.cave_replay.specs.declared.fault.EditFault.TheVariants as cause
-use Rattle.cave_script.specs.Shown.{applied}
-use Rattle.cave_play.specs.Output.{refusal_of}
-use Rattle.cave_play.proofs.EditLemmas.{refusal_of-fresh, accepted_without, refused_by, edited-accepted, edited-refused, IsReport-same}
+use Rattle.replay_marks.specs.Spacing.{IsSpaced}
+use Rattle.log_replay.specs.Change.{changes_of, apply_all}
+use Rattle.log_replay.specs.Play.{Game}
+use Rattle.log_replay.specs.declared.fault.EditFault.TheVariants as cause
+use Rattle.edit_scripts.specs.Views.{applied_item}
+use Rattle.cave_play.specs.Output.{group_refusal}
+use Rattle.cave_play.proofs.EditLemmas.{group_refusal-fresh, accepted_without, refused_by}
+use Rattle.cave_play.proofs.EditLemmas.{game_after_item-accepted, game_after_item-refused}
+use Rattle.cave_play.proofs.EditLemmas.{IsReport-same}
 use Rattle.cave_play.proofs.edits.edit.Goals as goal
 
 pub returns-in-Ok : goal.returns-in-Ok
@@ -13,19 +15,29 @@ returns-in-Ok c =
     let old = c.args.session.now in
     let changes = changes_of c.args.item.now.edits.items in
     let same = ap changes_of c.deref.ensures.value in
-    let fresh = refusal_of-fresh _ changes old.game.log c.new-meter.result same c.new-meter.ensures in
+    let fresh =
+    group_refusal-fresh _ changes old.game.log c.new-meter.result same c.new-meter.ensures in
     let none = sym fresh ∙ accepted_without _ _ _ c.in-Ok.is c.edit_group.ensures.faults in
-    let made = c.in-Ok.ensures.game ∙ ap (λ said. apply_all said old.game) same ∙ sym (edited-accepted (applied c.args.item.now) old.game none) in
+    let made = c.in-Ok.ensures.game ∙ ap (λ said. apply_all said old.game) same
+    ∙ sym (game_after_item-accepted (applied_item c.args.item.now) old.game none) in
     record {
       applies = record {
         came = record {
           accepted = none;
-          report = IsReport-same _ _ _ _ _ _ _ _ _ _ _ _ same c.replay_of.ensures.from c.replay_of.ensures.met c.replay_of.ensures.played c.in-Ok.ensures.report;
+          report =
+              IsReport-same _ _ _ _ _ _ _ _ _ _ _ _ same c.replay_of.ensures.from
+              c.replay_of.ensures.met c.replay_of.ensures.played c.in-Ok.ensures.report;
           lines = c.replay_of.ensures.lines ∙ ap (λ (g : Game). length g.log) made;
         };
-        holds = record { cave_is = ap (λ m. m.cave.now) c.in-Ok.ensures.kept.0; game_is = made };
-        every = c.in-Ok.ensures.kept.1;
-        left = subst (λ e. IsSpaced e c.edit_group.new.self.checkpoints (length c.edit_group.new.self.game.log)) c.in-Ok.ensures.kept.1 c.replay_of.ensures.spaced;
+        holds = record {
+          cave_is = ap (λ m. m.cave.now) c.in-Ok.ensures.kept.machine;
+          game_is = made;
+        };
+        every = c.in-Ok.ensures.kept.every;
+        left = subst
+            (λ e. IsSpaced e c.edit_group.new.self.checkpoints
+            (length c.edit_group.new.self.game.log)) c.in-Ok.ensures.kept.every
+            c.replay_of.ensures.spaced;
       };
       memory = tt;
     }
@@ -33,9 +45,13 @@ returns-in-Ok c =
 pub returns : goal.returns
 returns c =
     let game = c.args.session.now.game in
-    let fresh = refusal_of-fresh _ (changes_of c.args.item.now.edits.items) game.log c.new-meter.result (ap changes_of c.deref.ensures.value) c.new-meter.ensures in
-    let other : c.in-Err.fault.cause ≡ cause.Memory → ⊥ = λ is. let yes = c.is_memory.ensures.1 is in cc in
-    let some : refusal_of (changes_of c.args.item.now.edits.items) game.log ≡ Some c.in-Err.fault =
+    let fresh =
+    group_refusal-fresh _ (changes_of c.args.item.now.edits.items) game.log c.new-meter.result
+    (ap changes_of c.deref.ensures.value) c.new-meter.ensures in
+    let other : c.in-Err.fault.cause ≡ cause.Memory
+    → ⊥ = λ is. let yes = c.is_memory.ensures.1 is in cc in
+    let some : group_refusal (changes_of c.args.item.now.edits.items) game.log
+    ≡ Some c.in-Err.fault =
     sym fresh ∙ refused_by _ c.in-Err.fault _ c.in-Err.is other c.edit_group.ensures.faults in
     let stays = c.in-Err.ensures.refused in
     record {
@@ -43,7 +59,9 @@ returns c =
         came = some;
         holds = record {
           cave_is = ap (λ s. s.machine.cave.now) stays;
-          game_is = ap (λ s. s.game) stays ∙ sym (edited-refused (applied c.args.item.now) game c.in-Err.fault some);
+          game_is = ap (λ s. s.game) stays
+              ∙ sym (game_after_item-refused (applied_item c.args.item.now) game c.in-Err.fault
+              some);
         };
         every = ap (λ s. s.every) stays;
         left = ap (λ s. s.checkpoints) stays;

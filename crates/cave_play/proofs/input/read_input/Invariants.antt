@@ -6,7 +6,8 @@ use Rattle.cave_play.proofs.input.read_input.Given as goal
 
 abbrev pub invariant-pieces : goal.invariant-pieces
 invariant-pieces g l = record {
-  taken : Consumes (g.R.Read.remaining l.initial.reader) (g.R.Read.remaining l.reader) l.input.items;
+  taken : Consumes (g.R.Read.remaining l.initial.reader) (g.R.Read.remaining l.reader)
+      l.input.items;
   within : vec_len l.input ≤ max_input_bytes;
   room : 0 < vec_len l.piece;
 }

@@ -1,8 +1,8 @@
 use Rattle.std.proofs.Common.{subst, sym, ap, ◌∙◌}
 use Rattle.std.specs.Str.Lines.{lines}
 use Rattle.std.proofs.lemmas.Result.{err_from_is_err_and}
-use Rattle.cave_script.specs.Script.{IsScript, script_of}
-use Rattle.cave_script.specs.Shown.{items_of}
+use Rattle.edit_scripts.specs.Script.{IsScript, script_of}
+use Rattle.edit_scripts.specs.Views.{items_of}
 use Rattle.cave_play.specs.Stages.{script_stage}
 use Rattle.cave_play.proofs.ScriptLemmas.{few_edits, few_items}
 use Rattle.cave_play.proofs.StageLemmas.{first_decided-one}
@@ -22,9 +22,30 @@ returns-in-Ok g c =
     let same = c.deref.ensures.value ∙ read.0 in
     let is = ap script_of (sym same) ∙ c.in-Ok.ensures.script in
     let spelled = subst (λ t. IsScript 1 (lines t) (items_of items)) same c.in-Ok.ensures.grammar in
-    record { judged = (bytes, said, (first_decided-one (script_stage bytes) (script_fault-none bytes _ read.1 is), (spelled, few_edits items _ bytes c.in-Ok.ensures.grammar same read.1, few_items items _ bytes c.in-Ok.ensures.grammar same read.1))) }
+    record {
+      judged = (
+        bytes,
+        said,
+        (
+          first_decided-one (script_stage bytes) (script_fault-none bytes _ read.1 is),
+          (
+            spelled,
+            few_edits items _ bytes c.in-Ok.ensures.grammar same read.1,
+            few_items items _ bytes c.in-Ok.ensures.grammar same read.1,
+          ),
+        ),
+      );
+    }
 
 pub returns : goal.returns
 returns g c =
     let (bytes, said, read) = c.in_ok-text.ensures.read in
-    rw c.script_refusal.ensures (record { judged = (bytes, said, IsFoundIn-refused bytes _ c.in-Err.fault read.1 (c.deref.ensures.value ∙ read.0) c.in-Err.ensures.script) })
+    rw c.script_refusal.ensures
+    (record {
+      judged = (
+        bytes,
+        said,
+        IsFoundIn-refused bytes _ c.in-Err.fault read.1 (c.deref.ensures.value ∙ read.0)
+            c.in-Err.ensures.script,
+      );
+    })

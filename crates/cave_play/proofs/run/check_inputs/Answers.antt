@@ -17,4 +17,13 @@ returns g c =
     let (database, bindings, said, others, made) = c.in_ok-cave.ensures.judged in
     let told = λ (text : Vec ℕ). text.items ≡ check_text c.in_ok-cave.cave in
     let right = λ (text : Vec ℕ). IsChecked database bindings text.items in
-    record { judged = (database, bindings, said, others, Judges-made (cave_stages database bindings) told right _ made.0 (λ text is. (c.in_ok-cave.cave, made.1, is)) c.check_cave.ensures.told) }
+    record {
+      judged = (
+        database,
+        bindings,
+        said,
+        others,
+        Judges-made (cave_stages database bindings) told right _ made.0
+            (λ text is. (c.in_ok-cave.cave, made.1, is)) c.check_cave.ensures.told,
+      );
+    }

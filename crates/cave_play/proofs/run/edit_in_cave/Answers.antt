@@ -3,12 +3,12 @@ use Rattle.std.specs.Global.{Vec}
 use Rattle.std.specs.Str.Lines.{lines}
 use Rattle.std.proofs.lemmas.Result.{err_from_is_err_and}
 use Rattle.cave_data.specs.CaveView.{CaveView}
-use Rattle.cave_replay.specs.Play.{game_of}
+use Rattle.log_replay.specs.Play.{game_of}
 use Rattle.cave_play.specs.Views.{IsEditOf}
 use Rattle.cave_play.specs.Run.{Judges}
 use Rattle.cave_play.specs.Stages.{log_stage, script_stage}
 use Rattle.cave_play.proofs.InputLemmas.{Says-some}
-use Rattle.cave_play.proofs.StageLemmas.{IsFoundIn-memory}
+use Rattle.cave_play.proofs.StageLemmas.{IsFoundIn-first, IsFoundIn-memory, Judges-later}
 use Rattle.cave_play.proofs.run.edit_in_cave.Goals as goal
 
 pub returns-in_err-lexicon : goal.returns-in_err-lexicon
@@ -16,10 +16,55 @@ returns-in_err-lexicon g c =
     let exit = err_from_is_err_and c.from_residual.result c.from_residual.ensures.1 in
     let (moves, said) = Says-some (g.L.Read.remaining c.args.log.now) in
     let (edits, others) = Says-some (g.S.Read.remaining c.args.script.now) in
-    rw (exit.1, exit.2) (record { judged = (moves, edits, said, others, IsFoundIn-memory (log_stage moves ∷ script_stage edits ∷ [])) })
+    rw (exit.1, exit.2)
+    (record {
+      judged = (
+        moves,
+        edits,
+        said,
+        others,
+        IsFoundIn-memory (log_stage moves ∷ script_stage edits ∷ []),
+      );
+    })
+
+pub returns-in_err-session : goal.returns-in_err-session
+returns-in_err-session g c =
+    let exit =
+    err_from_is_err_and c.from_residual-in_err-session.result
+    c.from_residual-in_err-session.ensures.1 in
+    let (moves, said, found) = c.in_err-session.ensures.judged in
+    let (edits, others) = Says-some (g.S.Read.remaining c.args.script.now) in
+    rw (exit.1, exit.2)
+    (record {
+      judged = (
+        moves,
+        edits,
+        said,
+        others,
+        IsFoundIn-first (log_stage moves ∷ []) (script_stage edits ∷ []) _ found,
+      );
+    })
 
 pub returns : goal.returns
 returns g c =
-    let (moves, edits, said, others, judged) = c.edit_by_machine.ensures.judged in
-    let here = λ (cave : CaveView). Judges (log_stage moves ∷ script_stage edits ∷ []) (λ (text : Vec ℕ). IsEditOf c.args.editing.view cave c.args.editing.every (game_of c.args.editing.seed (lines moves)) edits text.items) c.edit_by_machine.result in
+    let (moves, said, made) = c.in_ok-session.ensures.judged in
+    let (edits, others, edited) = c.edit_session-text.ensures.judged in
+    let editing = c.args.editing in
+    let cave = c.new.result.cave.now in
+    let right =
+    λ (cave : CaveView) (text : Vec ℕ). IsEditOf editing.view cave editing.every
+    (game_of editing.seed (lines moves)) edits text.items in
+    let held = c.in_ok-session.session in
+    let gives =
+    λ (text : Vec ℕ) (is : IsEditOf editing.view cave held.every held.game edits text.items).
+    subst (λ game. IsEditOf editing.view cave editing.every game edits text.items)
+    made.1.game_is
+    (subst (λ every. IsEditOf editing.view cave every held.game edits text.items)
+    c.in_ok-session.ensures.every is) in
+    let judged =
+    Judges-later (log_stage moves ∷ []) (script_stage edits ∷ []) _ (right cave) _ made.0 gives
+    edited in
+    let here =
+    λ (cave : CaveView). Judges (log_stage moves ∷ script_stage edits ∷ []) (right cave)
+    c.edit_session-text.text in
     record { judged = (moves, edits, said, others, subst here c.new.ensures judged) }

@@ -1,9 +1,9 @@
 use Rattle.std.proofs.Common.{ℕ, List, [], ◌∷◌, ◌++◌}
 use Rattle.std.specs.Global.{Vec}
 use Rattle.std.proofs.lemmas.Result.{err_from_is_err_and}
-use Rattle.cave_play.specs.Judged.{seed_fault, every_fault}
+use Rattle.cave_play.specs.Judge.{large_seed, every_fault}
 use Rattle.cave_play.specs.Views.{IsEdited}
-use Rattle.cave_play.specs.Stage.{Stage, judging}
+use Rattle.cave_play.specs.Stage.{Stage, judging_stage}
 use Rattle.cave_play.specs.Stages.{cave_stages, log_stage, script_stage}
 use Rattle.cave_play.proofs.InputLemmas.{Says-some}
 use Rattle.cave_play.proofs.StageLemmas.{IsFoundIn-first, IsFoundIn-later, Judges-later}
@@ -11,54 +11,85 @@ use Rattle.cave_play.proofs.run.edit_inputs.Goals as goal
 
 -- the stages after that of the distance of checkpoints
 abbrev after_every : List ℕ → List ℕ → List ℕ → List ℕ → List Stage
-after_every database bindings log script = cave_stages database bindings ++ log_stage log ∷ script_stage script ∷ []
+after_every database bindings log script =
+    cave_stages database bindings ++ log_stage log ∷ script_stage script ∷ []
 
 -- the stages after that of the seed
 abbrev after_seed : List ℕ → List ℕ → List ℕ → List ℕ → ℕ → List Stage
-after_seed database bindings log script every = judging (every_fault every) ∷ after_every database bindings log script
+after_seed database bindings log script every =
+    judging_stage (every_fault every) ∷ after_every database bindings log script
 
 pub returns-in_err-check_seed : goal.returns-in_err-check_seed
 returns-in_err-check_seed g c =
     let exit = err_from_is_err_and c.from_residual.result c.from_residual.ensures.1 in
-    let (database, said) = Says-some (g.C.Read.remaining c.args.cave.now) in
-    let (bindings, others) = Says-some (g.B.Read.remaining c.args.bind.now) in
+    let (database, said) = Says-some (g.C.Read.remaining c.args.cave.now.database) in
+    let (bindings, others) = Says-some (g.B.Read.remaining c.args.cave.now.bindings) in
     let (lines, third) = Says-some (g.L.Read.remaining c.args.log.now) in
     let (edits, last) = Says-some (g.S.Read.remaining c.args.script.now) in
     let later = after_seed database bindings lines edits c.args.editing.every in
-    let found = IsFoundIn-first (judging (seed_fault c.args.editing.seed) ∷ []) later _ c.in_err-check_seed.ensures in
-    rw (exit.1, exit.2) (record { judged = (database, bindings, lines, edits, said, others, third, last, found) })
+    let found =
+    IsFoundIn-first (judging_stage (large_seed c.args.editing.seed) ∷ []) later
+    _ c.in_err-check_seed.ensures in
+    rw (exit.1, exit.2)
+    (record { judged = (database, bindings, lines, edits, said, others, third, last, found) })
 
 pub returns-in_err-check_every : goal.returns-in_err-check_every
 returns-in_err-check_every g c =
-    let exit = err_from_is_err_and c.from_residual-in_err-check_every.result c.from_residual-in_err-check_every.ensures.1 in
-    let (database, said) = Says-some (g.C.Read.remaining c.args.cave.now) in
-    let (bindings, others) = Says-some (g.B.Read.remaining c.args.bind.now) in
+    let exit =
+    err_from_is_err_and c.from_residual-in_err-check_every.result
+    c.from_residual-in_err-check_every.ensures.1 in
+    let (database, said) = Says-some (g.C.Read.remaining c.args.cave.now.database) in
+    let (bindings, others) = Says-some (g.B.Read.remaining c.args.cave.now.bindings) in
     let (lines, third) = Says-some (g.L.Read.remaining c.args.log.now) in
     let (edits, last) = Says-some (g.S.Read.remaining c.args.script.now) in
     let later = after_every database bindings lines edits in
-    let there = IsFoundIn-first (judging (every_fault c.args.editing.every) ∷ []) later _ c.in_err-check_every.ensures in
-    let found = IsFoundIn-later (judging (seed_fault c.args.editing.seed) ∷ []) (after_seed database bindings lines edits c.args.editing.every) _ c.in_ok-check_seed.ensures.0 there in
-    rw (exit.1, exit.2) (record { judged = (database, bindings, lines, edits, said, others, third, last, found) })
+    let there =
+    IsFoundIn-first (judging_stage (every_fault c.args.editing.every) ∷ []) later
+    _ c.in_err-check_every.ensures in
+    let found =
+    IsFoundIn-later (judging_stage (large_seed c.args.editing.seed) ∷ [])
+    (after_seed database bindings lines edits c.args.editing.every)
+    _ c.in_ok-check_seed.ensures.0 there in
+    rw (exit.1, exit.2)
+    (record { judged = (database, bindings, lines, edits, said, others, third, last, found) })
 
 pub returns-in_err-cave : goal.returns-in_err-cave
 returns-in_err-cave g c =
-    let exit = err_from_is_err_and c.from_residual-in_err-cave.result c.from_residual-in_err-cave.ensures.1 in
+    let exit =
+    err_from_is_err_and c.from_residual-in_err-cave.result
+    c.from_residual-in_err-cave.ensures.1 in
     let (database, bindings, said, others, refused) = c.in_err-cave.ensures.judged in
     let (lines, third) = Says-some (g.L.Read.remaining c.args.log.now) in
     let (edits, last) = Says-some (g.S.Read.remaining c.args.script.now) in
     let later = after_every database bindings lines edits in
-    let here = IsFoundIn-first (cave_stages database bindings) (log_stage lines ∷ script_stage edits ∷ []) _ refused in
-    let there = IsFoundIn-later (judging (every_fault c.args.editing.every) ∷ []) later _ c.in_ok-check_every.ensures.0 here in
-    let found = IsFoundIn-later (judging (seed_fault c.args.editing.seed) ∷ []) (after_seed database bindings lines edits c.args.editing.every) _ c.in_ok-check_seed.ensures.0 there in
-    rw (exit.1, exit.2) (record { judged = (database, bindings, lines, edits, said, others, third, last, found) })
+    let here =
+    IsFoundIn-first (cave_stages database bindings) (log_stage lines ∷ script_stage edits ∷ [])
+    _ refused in
+    let there =
+    IsFoundIn-later (judging_stage (every_fault c.args.editing.every) ∷ []) later
+    _ c.in_ok-check_every.ensures.0 here in
+    let found =
+    IsFoundIn-later (judging_stage (large_seed c.args.editing.seed) ∷ [])
+    (after_seed database bindings lines edits c.args.editing.every)
+    _ c.in_ok-check_seed.ensures.0 there in
+    rw (exit.1, exit.2)
+    (record { judged = (database, bindings, lines, edits, said, others, third, last, found) })
 
 pub returns : goal.returns
 returns g c =
     let (database, bindings, said, others, made) = c.in_ok-cave.ensures.judged in
     let (lines, edits, third, last, edited) = c.edit_in_cave.ensures.judged in
-    let right = λ (text : Vec ℕ). IsEdited database bindings lines edits c.args.editing text.items in
+    let right =
+    λ (text : Vec ℕ). IsEdited database bindings lines edits c.args.editing text.items in
     let later = after_every database bindings lines edits in
-    let judged = Judges-later (cave_stages database bindings) (log_stage lines ∷ script_stage edits ∷ []) _ right _ made.0 (λ text is. (c.in_ok-cave.cave, made.1, is)) edited in
-    let near = Judges-later (judging (every_fault c.args.editing.every) ∷ []) later right right _ c.in_ok-check_every.ensures.0 (λ text is. is) judged in
-    let whole = Judges-later (judging (seed_fault c.args.editing.seed) ∷ []) (after_seed database bindings lines edits c.args.editing.every) right right _ c.in_ok-check_seed.ensures.0 (λ text is. is) near in
+    let judged =
+    Judges-later (cave_stages database bindings) (log_stage lines ∷ script_stage edits ∷ [])
+    _ right _ made.0 (λ text is. (c.in_ok-cave.cave, made.1, is)) edited in
+    let near =
+    Judges-later (judging_stage (every_fault c.args.editing.every) ∷ []) later right right
+    _ c.in_ok-check_every.ensures.0 (λ text is. is) judged in
+    let whole =
+    Judges-later (judging_stage (large_seed c.args.editing.seed) ∷ [])
+    (after_seed database bindings lines edits c.args.editing.every) right right
+    _ c.in_ok-check_seed.ensures.0 (λ text is. is) near in
     record { judged = (database, bindings, lines, edits, said, others, third, last, whole) }

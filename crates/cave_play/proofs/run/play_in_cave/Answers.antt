@@ -3,7 +3,7 @@ use Rattle.std.specs.Global.{Vec}
 use Rattle.std.specs.Str.Lines.{lines}
 use Rattle.std.proofs.lemmas.Result.{err_from_is_err_and}
 use Rattle.cave_data.specs.CaveView.{CaveView}
-use Rattle.cave_replay.specs.Play.{game_of}
+use Rattle.log_replay.specs.Play.{game_of}
 use Rattle.cave_play.specs.Output.{play_text}
 use Rattle.cave_play.specs.Run.{Judges}
 use Rattle.cave_play.specs.Stages.{log_stage}
@@ -16,9 +16,3 @@ returns-in_err-lexicon g c =
     let exit = err_from_is_err_and c.from_residual.result c.from_residual.ensures.1 in
     let (bytes, said) = Says-some (g.L.Read.remaining c.args.log.now) in
     rw (exit.1, exit.2) (record { judged = (bytes, said, IsFoundIn-memory (log_stage bytes ∷ [])) })
-
-pub returns : goal.returns
-returns g c =
-    let (bytes, said, judged) = c.play_by_machine.ensures.judged in
-    let here = λ (cave : CaveView). Judges (log_stage bytes ∷ []) (λ (text : Vec ℕ). text.items ≡ play_text cave (game_of c.args.seed (lines bytes))) c.play_by_machine.result in
-    record { judged = (bytes, said, subst here c.new.ensures judged) }

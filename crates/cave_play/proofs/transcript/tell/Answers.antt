@@ -1,12 +1,14 @@
-use Rattle.std.proofs.Common.{◌≡◌, ◌+◌, ◌++◌, [], length, map, get_or, ap, sym, refl, ◌∙◌, arith, rules}
+use Rattle.std.proofs.Common.{◌≡◌, ◌+◌, ◌++◌, [], length, map, get_or, ap, sym, refl, ◌∙◌, arith}
+use Rattle.std.proofs.Common.{rules}
 use Rattle.std.specs.Iterator.Adapters.{enumerate_source, enumerate_count}
 use Rattle.std.proofs.lemmas.Result.{on_ok_weaker}
-use Rattle.cave_play.specs.CaveRules.{rendered}
+use Rattle.cave_play.specs.Machine.{rendering_of}
 use Rattle.cave_score.specs.Score.{score_of, max_score_of}
 use Rattle.cave_play.specs.Output.{play_text}
-use Rattle.cave_play.specs.Transcript.{closing, ticks}
+use Rattle.cave_play.specs.Transcript.{last_line, ticks}
 use Rattle.cave_play.proofs.RunLemmas.{transcript-played}
-use Rattle.cave_play.proofs.TranscriptLemmas.{told-more, told_from-end, counts-first, counts-others}
+use Rattle.cave_play.proofs.TranscriptLemmas.{transcript_line-more, told_from-end, counts-first}
+use Rattle.cave_play.proofs.TranscriptLemmas.{counts-others}
 use Rattle.cave_play.proofs.transcript.tell.Goals as goal
 
 pub overflow_cast-place : goal.overflow_cast-place
@@ -26,18 +28,27 @@ loop-place-preserved c =
     let piece = c.index-pieces-place.result in
     let pieces = c.pieces-pieces.ensures in
     let some = ap length step.0 in
-    let left : enumerate_count c.next.new.self + length (enumerate_source c.next.new.self) ≡ length held.game.log = omega (arith, here.left, some, step.2) in
+    let left : enumerate_count c.next.new.self + length (enumerate_source c.next.new.self)
+    ≡ length held.game.log = omega (arith, here.left, some, step.2) in
     let others = enumerate_source c.next.new.self in
     let next = enumerate_count c.next.new.self in
-    let turns = counts-first counts others c.in-Some.turns (ticks held.ticks) place step.0 here.turns in
+    let turns =
+    counts-first counts others c.in-Some.turns (ticks held.ticks) place step.0 here.turns in
     record {
       may_go_on = search (rules, left, c.lines-lines.ensures.game.few);
       ends = tt;
       left = left;
-      turns = λ k below. counts-others counts others c.in-Some.turns (ticks held.ticks) place step.0 here.turns next k step.2 below;
-      told = rw step.2 (told-more (rendered c.cave-cave.result.now) (λ piece. piece.items) place c.in-Some.turns held.game.log held.pieces held.ticks c.line-line.result.now piece _ _
-          (closing (score_of c.cave-cave.result.now held.state) (max_score_of c.cave-cave.result.now) (ticks held.ticks (length held.game.log))) _ (omega (arith, some, here.left)) (ap length (sym pieces.pieces) ∙ pieces.each)
-          (c.line-line.ensures.line ∙ ap (λ p. get_or held.game.log p []) step.1) (c.index-pieces-place.is ∙ ap (λ ps. get_or ps c.in-Some.place piece) pieces.pieces ∙ ap (λ p. get_or held.pieces p piece) step.1) turns
+      turns = λ k below. counts-others counts others c.in-Some.turns (ticks held.ticks) place step.0
+          here.turns next k step.2 below;
+      told = rw step.2
+          (transcript_line-more (rendering_of c.cave-cave.result.now) (λ piece. piece.items) place
+          c.in-Some.turns held.game.log held.pieces held.ticks c.line-line.result.now piece _ _
+          (last_line (score_of c.cave-cave.result.now held.state)
+          (max_score_of c.cave-cave.result.now) (ticks held.ticks (length held.game.log)))
+          _ (omega (arith, some, here.left)) (ap length (sym pieces.pieces) ∙ pieces.each)
+          (c.line-line.ensures.line ∙ ap (λ p. get_or held.game.log p []) step.1)
+          (c.index-pieces-place.is ∙ ap (λ ps. get_or ps c.in-Some.place piece) pieces.pieces
+          ∙ ap (λ p. get_or held.pieces p piece) step.1) turns
           here.told (search rules));
     }
 
@@ -49,13 +60,26 @@ returns c =
     let place = enumerate_count c.loop-place.place-iterator in
     let pieces = map (λ piece. piece.items) held.pieces in
     let none = ap length c.in-None.ensures.steps.0.0 in
-    let ended = told_from-end (rendered cave) held.ticks place held.game.log pieces (omega (arith, none, c.loop-place.invariant.left)) in
-    let played = transcript-played cave _ held.game _ pieces held.ticks _ (c.requires ∙ sym c.cave-cave.ensures) c.opening.ensures.plays in
-    let end = closing (score_of cave held.state) (max_score_of cave) (ticks held.ticks (length held.game.log)) in
-    let whole = ap (λ t. c.loop-place.text.items ++ (t ++ end)) (sym ended) ∙ c.loop-place.invariant.told ∙ ap (λ t. old ++ t) (played ∙ ap (λ k. play_text k held.game) c.cave-cave.ensures) in
-    let turns : c.ticks.result ≡ ticks held.ticks (length held.game.log) = c.ticks.ensures ∙ ap (ticks held.ticks) c.lines-lines.ensures.lines in
+    let ended =
+    told_from-end (rendering_of cave) held.ticks place held.game.log pieces
+    (omega (arith, none, c.loop-place.invariant.left)) in
+    let played =
+    transcript-played cave _ held.game _ pieces held.ticks
+    _ (c.requires ∙ sym c.cave-cave.ensures) c.opening.ensures.plays in
+    let end =
+    last_line (score_of cave held.state) (max_score_of cave)
+    (ticks held.ticks (length held.game.log)) in
+    let whole = ap (λ t. c.loop-place.text.items ++ (t ++ end)) (sym ended)
+    ∙ c.loop-place.invariant.told
+    ∙ ap (λ t. old ++ t) (played ∙ ap (λ k. play_text k held.game) c.cave-cave.ensures) in
+    let turns : c.ticks.result ≡ ticks held.ticks (length held.game.log) = c.ticks.ensures
+    ∙ ap (ticks held.ticks) c.lines-lines.ensures.lines in
     let same = sym c.cave-cave.ensures in
-    let score = c.score-score.ensures ∙ ap (λ k. score_of k c.state.result.now) same ∙ ap (score_of cave) c.state.ensures.state in
+    let score = c.score-score.ensures ∙ ap (λ k. score_of k c.state.result.now) same
+    ∙ ap (score_of cave) c.state.ensures.state in
     let most = c.max_score.ensures ∙ ap max_score_of same in
-    let told_end : closing c.score-score.result c.max_score.result c.ticks.result ≡ end = rw (score, most, turns) refl in
-    on_ok_weaker c.push_closing.result (λ told. told ∙ ap (λ t. c.loop-place.text.items ++ t) told_end ∙ whole) c.push_closing.ensures
+    let told_end : last_line c.score-score.result c.max_score.result c.ticks.result ≡ end =
+    rw (score, most, turns) refl in
+    on_ok_weaker c.push_closing.result
+    (λ told. told ∙ ap (λ t. c.loop-place.text.items ++ t) told_end ∙ whole)
+    c.push_closing.ensures

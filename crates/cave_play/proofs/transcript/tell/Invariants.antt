@@ -1,9 +1,10 @@
--- What was told so far, and then the lines from here on, are the transcript; what is left of the counts are those of these lines.
+-- What was written so far, and then the lines from here on, are the transcript; what is left of the
+-- counts are those of these lines.
 use Rattle.std.proofs.Common.{◌≡◌, ℕ, ◌+◌, ◌<◌, ◌++◌, length, map}
 use Rattle.std.specs.Prelude.{slice_index}
 use Rattle.std.specs.Iterator.Adapters.{enumerate_source, enumerate_count}
-use Rattle.cave_play.specs.CaveRules.{rendered}
-use Rattle.cave_play.specs.Transcript.{closing, ticks, transcript}
+use Rattle.cave_play.specs.Machine.{rendering_of}
+use Rattle.cave_play.specs.Transcript.{last_line, ticks, transcript}
 use Rattle.cave_score.specs.Score.{score_of, max_score_of}
 use Rattle.cave_play.proofs.TranscriptLemmas.{told_from}
 use Rattle.cave_play.proofs.transcript.tell.Given as goal
@@ -19,6 +20,11 @@ invariant-loop-place l =
       ends : (goal.iterator-loop-place).is_finite l.place-iterator;
       left : place + length counts ≡ length held.game.log;
       turns : (k : ℕ) → k < length counts → slice_index counts k ≡ ticks held.ticks (place + k + 1);
-      told : l.text.items ++ (told_from (rendered l.cave) held.ticks place held.game.log pieces ++ closing (score_of l.cave held.state) (max_score_of l.cave) (ticks held.ticks (length held.game.log)))
-          ≡ l.fn.text.items ++ transcript (rendered l.cave) held.opening.items held.game.log pieces held.ticks (score_of l.cave held.state) (max_score_of l.cave);
+      told : l.text.items
+          ++ (told_from (rendering_of l.cave) held.ticks place held.game.log pieces
+          ++ last_line (score_of l.cave held.state) (max_score_of l.cave)
+          (ticks held.ticks (length held.game.log)))
+          ≡ l.fn.text.items
+          ++ transcript (rendering_of l.cave) held.opening.items held.game.log pieces held.ticks
+          (score_of l.cave held.state) (max_score_of l.cave);
     }

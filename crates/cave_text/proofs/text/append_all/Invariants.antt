@@ -5,5 +5,6 @@ use Rattle.cave_text.proofs.text.append_all.Given as goal
 -- what is written and the text of the parts that are left are what was there and the text of all
 abbrev pub invariant-loop-part : goal.invariant-loop-part
 invariant-loop-part l =
-    (l.text.items ++ text_of_all l.cave l.turns (drop l.part-index l.parts) ≡ l.initial.text.items ++ text_of_all l.cave l.turns l.parts)
+    (l.text.items ++ text_of_all l.cave l.turns (drop l.part-index l.parts) ≡ l.initial.text.items
+    ++ text_of_all l.cave l.turns l.parts)
     × (take (vec_len l.initial.text) l.text.items ≡ l.initial.text.items)

@@ -1,8 +1,9 @@
 -- The objects so far are gathered.
 use Rattle.std.proofs.Common.{◌≡◌}
 use Rattle.cave_things.specs.Things.{cave_of}
-use Rattle.cave_turn.specs.Dragon.{gathered}
+use Rattle.cave_turn.specs.Dragon.{after_gathering}
 use Rattle.cave_turn.proofs.dragon.gather.Given as goal
 
 abbrev pub invariant-loop-before : goal.invariant-loop-before
-invariant-loop-before l = l.objects ≡ gathered (cave_of l.rules) l.place l.before l.fn.objects
+invariant-loop-before l =
+    l.objects ≡ after_gathering (cave_of l.rules) l.place l.before l.fn.objects

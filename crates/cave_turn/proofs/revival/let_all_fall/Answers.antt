@@ -1,6 +1,6 @@
 use Rattle.std.proofs.Common.{rules, ◌≡◌, ◌+◌, ◌-◌, ap, sym, ◌∙◌, arith}
 use Rattle.cave_things.specs.Things.{cave_of}
-use Rattle.cave_turn.specs.Revival.{object_fallen, fallen_from}
+use Rattle.cave_turn.specs.Revival.{layout_after_fall, layout_after_falls}
 use Rattle.cave_turn.proofs.Steps.{falling-one, fallen-none}
 use Rattle.cave_turn.proofs.revival.let_all_fall.Goals as goal
 
@@ -12,9 +12,10 @@ loop-before-preserved c =
     let object : c.new-object.result ≡ left = search rules in
     let next : 100 - (c.loop-before.before + 1) ≡ left - 1 = omega arith in
     let fallen = c.let_fall.ensures
-    ∙ ap (λ x. object_fallen cave place x c.loop-before.objects) object in
-    ap (λ o. fallen_from cave place (100 - (c.loop-before.before + 1)) o) fallen
-    ∙ ap (λ n. fallen_from cave place n (object_fallen cave place left c.loop-before.objects)) next
+    ∙ ap (λ x. layout_after_fall cave place x c.loop-before.objects) object in
+    ap (λ o. layout_after_falls cave place (100 - (c.loop-before.before + 1)) o) fallen
+    ∙ ap (λ n. layout_after_falls cave place n
+    (layout_after_fall cave place left c.loop-before.objects)) next
     ∙ sym (falling-one cave place left c.loop-before.objects (omega arith))
     ∙ c.loop-before.invariant
 
@@ -23,5 +24,5 @@ returns c =
     let cave = cave_of c.args.rules.now in
     let none : 100 - c.loop-before.before ≡ 0 = omega arith in
     sym (fallen-none cave c.args.place c.loop-before.objects)
-    ∙ ap (λ n. fallen_from cave c.args.place n c.loop-before.objects) (sym none)
+    ∙ ap (λ n. layout_after_falls cave c.args.place n c.loop-before.objects) (sym none)
     ∙ c.loop-before.invariant

@@ -14,7 +14,8 @@ loop-i-preserved c =
     let within : i < length objects = omega arith in
     let named : i < length EACH_NAME = omega arith in (
       λ cave is.
-          let known : object ≡ object_named cave (get_or EACH_NAME i name.Keys) = c.object_named.ensures cave is in
+          let known : object ≡ object_named cave (get_or EACH_NAME i name.Keys) =
+          c.object_named.ensures cave is in
           rw (take_more_set objects i object within, take_more EACH_NAME i name.Keys named)
           rw (map-append, c.loop-i.invariant.0 cave is, known),
       length-set objects i object ∙ all,

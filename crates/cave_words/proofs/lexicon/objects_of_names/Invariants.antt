@@ -8,5 +8,6 @@ use Rattle.cave_words.proofs.lexicon.objects_of_names.Given as goal
 -- the names up to here have their objects
 abbrev pub invariant-loop-i : goal.invariant-loop-i
 invariant-loop-i l =
-    ((cave : CaveView) → IsIndexOf 5 cave.words l.index.entries → take l.i l.objects ≡ map (object_named cave) (take l.i EACH_NAME))
+    ((cave : CaveView) → IsIndexOf 5 cave.words l.index.entries
+    → take l.i l.objects ≡ map (object_named cave) (take l.i EACH_NAME))
     × (length l.objects ≡ 46)

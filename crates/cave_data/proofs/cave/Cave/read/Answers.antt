@@ -12,4 +12,5 @@ pub returns-clause-laws : goal.returns-clause-laws
 returns-clause-laws c = read_laws _ _ _ c.read_cave.ensures.found
 
 pub returns-clause-only : goal.returns-clause-only
-returns-clause-only c = λ cave reads. read_decides _ _ _ cave c.read_cave.ensures.found c.read_cave.ensures.fault reads
+returns-clause-only c =
+    λ cave reads. read_decides _ _ _ cave c.read_cave.ensures.found c.read_cave.ensures.fault reads

@@ -5,4 +5,6 @@ use Rattle.cave_data.proofs.SlotChanges.{by_number-put}
 use Rattle.cave_data.proofs.tables.Table.put.Goals as goal
 
 pub returns : goal.returns
-returns g c = on_ok_weaker c.put.result (λ h. by_number-put (λ x. x) _ _ _ _ h ∙ ap (λ m. insert m c.args.number c.args.value) c.self.view_is) c.put.ensures.ok
+returns g c =
+    on_ok_weaker c.put.result (λ h. by_number-put (λ x. x) _ _ _ _ h
+    ∙ ap (λ m. insert m c.args.number c.args.value) c.self.view_is) c.put.ensures.ok

@@ -8,4 +8,5 @@ loop-i-preserved c =
     let cut = take c.min.result c.args.bytes.now in
     let within : c.loop-i.i < length cut = omega arith in
     let short : c.loop-i.i < 8 = omega (arith, length-take c.min.result c.args.bytes.now) in
-    rw (c.loop-i.invariant, c.to_ascii_uppercase.ensures.value) (padded_more cut c.loop-i.i within short)
+    rw (c.loop-i.invariant, c.to_ascii_uppercase.ensures.value)
+    (padded_more cut c.loop-i.i within short)

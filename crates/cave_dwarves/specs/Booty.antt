@@ -1,0 +1,90 @@
+-- What the pirate does to the treasures.
+use Rattle.std.specs.Prelude.{ℕ, Bool, false, ◌&&◌, ◌||◌, not, if◌then◌else◌}
+use Rattle.std.specs.Prelude.{List, [], ◌∷◌, Option, None, Some}
+use Rattle.std.specs.List.{list_any}
+use Rattle.cave_data.specs.CaveView.{CaveView}
+use Rattle.cave_rows.specs.declared.place_role.PlaceRole.TheVariants as landmark
+use Rattle.cave_words.specs.declared.named.Named.TheVariants as name
+use Rattle.cave_objects.specs.Objects.{is_object_at, moved_to, is_gone}
+use Rattle.cave_world.specs.declared.dwarves.Dwarf.{Dwarf}
+use Rattle.cave_world.specs.declared.state.State.{State}
+use Rattle.cave_things.specs.Effects.{with_objects}
+use Rattle.cave_things.specs.Homes.{is_home_here}
+use Rattle.cave_things.specs.Places.{place_named, place_or}
+use Rattle.cave_things.specs.Reach.{is_called, is_in_hand, is_near, is_fixed}
+use Rattle.cave_things.specs.Things.{thing}
+use Rattle.cave_things.specs.Treasures.{treasures}
+use Rattle.cave_dwarves.specs.Band.{pirate, dwarf_of, with_dwarf}
+
+-- an object is moved to the place that is named, if one is
+unfoldable pub moved_to_named : ℕ → Option ℕ → State → State
+moved_to_named x None s = s
+moved_to_named x (Some place) s = with_objects (moved_to s.objects x place) s
+
+-- the pirate takes any treasure, but not the pyramid where the pyramid or the emerald is at home
+unfoldable pub pirate_wants : CaveView → State → ℕ → Bool
+pirate_wants cave s x =
+    let pyramid = thing cave name.Pyramid in let emerald = thing cave name.Emerald in
+    not (is_called cave x name.Pyramid
+    && (is_home_here cave s pyramid || is_home_here cave s emerald))
+
+-- the player carries an object that the pirate takes
+unfoldable pub is_carried_booty : CaveView → State → ℕ → Bool
+is_carried_booty cave s x = pirate_wants cave s x && is_in_hand cave s x
+
+-- an object that the pirate takes is carried, or is here and loose
+unfoldable pub is_booty : CaveView → State → ℕ → Bool
+is_booty cave s x =
+    pirate_wants cave s x
+    && (is_in_hand cave s x || (is_object_at s.objects s.trail.here x && not (is_fixed s x)))
+
+-- the pirate brings what it takes to its chest
+unfoldable pub after_theft : CaveView → ℕ → State → State
+after_theft cave x s =
+    if is_booty cave s x then moved_to_named x (place_named cave landmark.Chest) s else s
+
+-- the treasures of a list are stolen one after another
+abbrev pub after_thefts : CaveView → List ℕ → State → State
+after_thefts cave [] s = s
+after_thefts cave (x ∷ xs) s = after_thefts cave xs (after_theft cave x s)
+
+-- the player carries a treasure that the pirate takes
+unfoldable pub carries_booty : CaveView → State → Bool
+carries_booty cave s = list_any (is_carried_booty cave s) treasures
+
+-- a treasure is at hand
+unfoldable pub is_treasure_near : CaveView → State → Bool
+is_treasure_near cave s = list_any (is_near cave s) treasures
+
+-- the chest is put at the place that is named for it
+unfoldable pub with_chest : CaveView → State → State
+with_chest cave s = moved_to_named (thing cave name.Chest) (place_named cave landmark.Chest) s
+
+-- it is put there if the pirate left no message yet
+unfoldable pub with_chest_at_first : CaveView → State → State
+with_chest_at_first cave s =
+    if is_gone s.objects (thing cave name.Message) then with_chest cave s else s
+
+unfoldable pub with_message : CaveView → State → State
+with_message cave s = moved_to_named (thing cave name.Message) (place_named cave landmark.Message) s
+
+-- the pirate goes home to its chest, and no longer sees the player
+unfoldable pub with_pirate_home : CaveView → State → State
+with_pirate_home cave s =
+    let chest = place_named cave landmark.Chest in let one = dwarf_of s pirate in
+    let home : Dwarf = record {
+      place = place_or one.place chest;
+      last = place_or one.last chest;
+      has_seen = false;
+    } in
+    with_dwarf pirate home s
+
+-- the pirate takes all that it can get
+unfoldable pub after_robbery : CaveView → State → State
+after_robbery cave s =
+    let marked = with_message cave (with_chest_at_first cave s) in
+    with_pirate_home cave (after_thefts cave treasures marked)
+
+-- the pirate hides its chest
+unfoldable pub with_hidden_chest : CaveView → State → State
+with_hidden_chest cave s = with_pirate_home cave (with_message cave (with_chest cave s))

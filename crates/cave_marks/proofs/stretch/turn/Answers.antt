@@ -1,5 +1,0 @@
-use Rattle.cave_marks.proofs.Turned.{turned}
-use Rattle.cave_marks.proofs.stretch.turn.Goals as goal
-
-pub returns : goal.returns
-returns g c = record { items = λ a b c' d whole p q r. turned c.args.items.now c.rotate_left.new.self a b c' d c.args.from c.args.to c.args.count whole p q r c.rotate_left.ensures.after }

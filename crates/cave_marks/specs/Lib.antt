@@ -1,4 +1,0 @@
-pub mod Marks
-pub mod Placed
-pub mod Spacing
-pub mod Thinning

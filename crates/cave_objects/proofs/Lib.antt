@@ -1,0 +1,11 @@
+pub mod Tests
+pub mod Moves
+pub mod Found
+pub mod Places
+pub mod Links
+pub mod Chains
+pub mod Relinked
+pub mod Walks
+pub mod Laid
+pub mod Carried
+pub mod Standing

@@ -1,0 +1,20 @@
+-- The halves of objects.
+use Rattle.std.specs.Prelude.{ℕ, ◌+◌, ◌-◌, nat_lt, if◌then◌else◌}
+use Rattle.cave_objects.specs.declared.object.Half.{Half}
+use Rattle.cave_objects.specs.declared.object.Half.TheVariants.{First, Second}
+
+-- the object that a half belongs to
+abbrev pub object_of : Half → ℕ
+object_of (First x) = x
+object_of (Second x) = x
+
+-- first halves have the numbers of their objects, second ones come after them
+abbrev pub half_number : Half → ℕ
+half_number (First x) = x
+half_number (Second x) = 100 + x
+
+abbrev pub half_of : ℕ → Half
+half_of number = if nat_lt 100 number then Second (number - 100) else First number
+
+abbrev pub no_half : Half
+no_half = First 0

@@ -1,0 +1,9 @@
+pub mod Halves
+pub mod Lists
+pub mod Links
+pub mod Spots
+pub mod Packed
+pub mod Layout
+pub mod Objects
+pub mod SameLists
+pub mod SameObjects

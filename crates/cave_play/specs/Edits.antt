@@ -1,0 +1,57 @@
+-- What a session holds after items of a script, and what is written of them.
+use Rattle.std.specs.Prelude.{◌≡◌, ℕ, List, [], ◌++◌, ⊤}
+use Rattle.std.specs.Global.{Vec}
+use Rattle.std.specs.List.{sum_by}
+use Rattle.std.specs.Str.Lines.{lines}
+use Rattle.cave_data.specs.CaveView.{CaveView}
+use Rattle.edit_options.specs.declared.editing.View.{View}
+use Rattle.edit_options.specs.declared.editing.View.TheVariants.{Transcript, Log, Reports}
+use Rattle.log_replay.specs.Session.{SessionView}
+use Rattle.log_replay.specs.Play.{Game}
+use Rattle.edit_scripts.specs.Item.{Applied}
+use Rattle.cave_world.specs.declared.part.Part.{Part}
+use Rattle.cave_world.specs.declared.state.State.{State}
+use Rattle.cave_play.specs.Holds.{HoldsGame}
+use Rattle.cave_play.specs.Outcome.{IsOutcome, AreLeft, AreOutcomes, lines_in, played_in}
+use Rattle.cave_play.specs.Outcome.{refusal_in}
+use Rattle.cave_play.specs.Output.{game_after_item, play_text, report_by}
+use Rattle.cave_play.specs.Views.{account, log_text, text_of_items, totals_line}
+use Rattle.cave_play.specs.declared.machine.CaveMachine.{CaveMachine}
+use Rattle.cave_play.specs.declared.outcome.ItemOutcome.{ItemOutcome}
+
+-- an item was applied to what a session held, and this came of it
+pub record Applies (item : Applied) (old new : SessionView CaveMachine (Vec Part) State)
+    (outcome : ItemOutcome) : Type 0 where
+  pub came : IsOutcome old.machine.cave.now old.every item old.game old.checkpoints outcome
+  pub holds : HoldsGame old.machine.cave.now (game_after_item item old.game) new
+  pub every : new.every ≡ old.every
+  pub left : AreLeft old.every outcome old.checkpoints new.game new.checkpoints
+
+-- what is written of an item, by what is asked for
+abbrev pub text_of_item : View → Applied → ItemOutcome → List ℕ
+text_of_item Transcript item outcome = report_by item (refusal_in outcome)
+text_of_item Log item outcome = []
+text_of_item Reports item outcome = account item outcome
+
+-- items were applied to what a session held: the text grew by what is written of each, and the
+-- totals are theirs
+pub record IsApplied (view : View) (items : List Applied)
+    (old : SessionView CaveMachine (Vec Part) State) (before after : List ℕ)
+    (played lines : ℕ) : Type 0 where
+  pub outcomes : List ItemOutcome
+  pub came : AreOutcomes old.machine.cave.now old.every items old.game old.checkpoints outcomes
+  pub told : after ≡ before ++ text_of_items (text_of_item view) items outcomes
+  pub played_is : played ≡ sum_by played_in outcomes
+  pub lines_are : lines ≡ sum_by lines_in outcomes
+
+-- what is written after all items, by what is asked for
+abbrev pub text_at_end : View → CaveView → Game → ℕ → ℕ → List ℕ
+text_at_end Transcript cave game played lines = play_text cave game
+text_at_end Log cave game played lines = log_text game.log
+text_at_end Reports cave game played lines = totals_line played lines
+
+-- the written log reads back
+abbrev pub ReadsBack : View → List (List ℕ) → Type 0
+ReadsBack Transcript log = ⊤
+ReadsBack Log log = lines (log_text log) ≡ log
+ReadsBack Reports log = ⊤

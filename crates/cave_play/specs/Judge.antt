@@ -1,0 +1,83 @@
+-- The fault that each input of a run decides.
+use Rattle.std.specs.Prelude.{ℕ, List, length, nat_lt, ◌||◌, ◌==◌, if◌then◌else◌, Option, None}
+use Rattle.std.specs.Prelude.{Some, option_map, Result, Err}
+use Rattle.std.specs.Str.Lines.{lines}
+use Rattle.cave_data.specs.Reads.{fault as cave_fault}
+use Rattle.cave_rows.specs.declared.error.Cause.TheVariants as cause
+use Rattle.cave_rows.specs.declared.error.FaultSite.TheVariants as site
+use Rattle.log_replay.specs.Opening.{first_bad_line}
+use Rattle.log_lines.specs.declared.line_flaw.LineFlaw.{LineFlaw}
+use Rattle.limits.specs.Limits.{max_seed, max_every, max_log_lines, max_input_bytes}
+use Rattle.log_replay.specs.declared.fault.OpenFault.{OpenFault}
+use Rattle.log_replay.specs.declared.fault.OpenFault.TheVariants as session
+use Rattle.edit_scripts.specs.Item.{Applied}
+use Rattle.edit_scripts.specs.Script.{script_of}
+use Rattle.edit_scripts.specs.declared.fault.ScriptRefusal.{ScriptRefusal}
+use Rattle.edit_scripts.specs.declared.fault.ScriptRefusal.TheVariants.{Malformed, Memory}
+use Rattle.cave_play.specs.declared.fault.Input.{Input}
+use Rattle.cave_play.specs.declared.fault.Input.TheVariants as input
+use Rattle.cave_play.specs.declared.fault.LogFault.TheVariants as log
+use Rattle.cave_play.specs.declared.fault.ScriptFault.TheVariants as script
+use Rattle.cave_play.specs.declared.fault.PlayFault.{PlayFault}
+use Rattle.cave_play.specs.declared.fault.PlayFault.TheVariants as fault
+
+abbrev pub large_seed : ℕ → Option PlayFault
+large_seed seed = if nat_lt max_seed seed then Some fault.Seed else None
+
+-- the fault of a distance of checkpoints
+abbrev pub every_fault : ℕ → Option PlayFault
+every_fault every = if every == 0 || nat_lt max_every every then Some fault.Every else None
+
+-- the fault of an input that has too many bytes
+abbrev pub too_large : Input → PlayFault
+too_large input.Cave =
+    fault.Cave (record { cause = cause.TooLarge; line = 0; site = site.Database })
+too_large input.Bindings =
+    fault.Cave (record { cause = cause.TooLarge; line = 0; site = site.Bindings })
+too_large input.Log = fault.Log log.TooLarge
+too_large input.Script = fault.Script script.TooLarge
+
+abbrev pub input_size_fault : Input → List ℕ → Option PlayFault
+input_size_fault from bytes = if nat_lt max_input_bytes (length bytes) then Some (too_large from)
+    else None
+
+-- the first fault of a database and its bindings
+abbrev pub inputs_fault : List ℕ → List ℕ → Option PlayFault
+inputs_fault database bindings =
+    option_map (λ error. fault.Cave error) (cave_fault database bindings)
+
+abbrev pub or_too_many : Option (ℕ × LineFlaw) → ℕ → Option PlayFault
+or_too_many (Some (number, flaw)) count = Some (fault.Log (log.BadLine number flaw))
+or_too_many None count = if nat_lt max_log_lines count then Some (fault.Log log.Full) else None
+
+-- the first fault of the lines of a log
+unfoldable pub lines_fault : List (List ℕ) → Option PlayFault
+lines_fault log = or_too_many (first_bad_line log 1) (length log)
+
+-- the first fault of a log
+unfoldable pub log_fault : List ℕ → Option PlayFault
+log_fault bytes = if nat_lt max_input_bytes (length bytes) then Some (fault.Log log.TooLarge)
+    else lines_fault (lines bytes)
+
+-- the first malformed line of a script, if it has one
+abbrev pub first_malformed : Result (List Applied) ScriptRefusal → Option PlayFault
+first_malformed (Err (Malformed line flaw)) = Some (fault.Script (script.Malformed line flaw))
+first_malformed _ = None
+
+-- the first fault of a script
+unfoldable pub script_fault : List ℕ → Option PlayFault
+script_fault bytes = if nat_lt max_input_bytes (length bytes)
+    then Some (fault.Script script.TooLarge) else first_malformed (script_of bytes)
+
+-- the fault of a run in which a session couldn't be opened
+abbrev pub opening_fault : OpenFault → PlayFault
+opening_fault session.BadEvery = fault.Every
+opening_fault (session.BadLine number flaw) = fault.Log (log.BadLine number flaw)
+opening_fault session.LogFull = fault.Log log.Full
+opening_fault session.BadSeed = fault.Seed
+opening_fault session.Memory = fault.Memory
+
+-- the fault of a run whose script was refused
+abbrev pub script_refusal : ScriptRefusal → PlayFault
+script_refusal (Malformed line flaw) = fault.Script (script.Malformed line flaw)
+script_refusal Memory = fault.Memory

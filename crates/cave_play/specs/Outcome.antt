@@ -1,0 +1,60 @@
+-- What comes of the items of a script in a session, one after another.
+use Rattle.std.specs.Prelude.{◌≡◌, ℕ, List, [], ◌∷◌, length, Option, None, Some}
+use Rattle.cave_data.specs.CaveView.{CaveView}
+use Rattle.replay_marks.specs.Spacing.{IsSpaced}
+use Rattle.log_replay.specs.Play.{Game}
+use Rattle.log_replay.specs.Report.{IsReport}
+use Rattle.log_replay.specs.declared.fault.GroupFault.{GroupFault}
+use Rattle.edit_scripts.specs.Item.{Applied}
+use Rattle.cave_play.specs.Machine.{cave_rules}
+use Rattle.cave_play.specs.Output.{group_refusal, game_after_item}
+use Rattle.cave_play.specs.declared.outcome.ItemOutcome.{ItemOutcome}
+use Rattle.cave_play.specs.declared.outcome.ItemOutcome.TheVariants.{Refused, Replayed}
+use Rattle.cave_play.specs.declared.outcome.ItemReplay.{ItemReplay}
+
+-- why an item was refused, if it was
+abbrev pub refusal_in : ItemOutcome → Option GroupFault
+refusal_in (Refused fault) = Some fault
+refusal_in (Replayed replay) = None
+
+-- how many lines were played for an item
+abbrev pub played_in : ItemOutcome → ℕ
+played_in (Refused fault) = 0
+played_in (Replayed replay) = replay.played
+
+-- how many lines playing the edited log from its first line would have played
+abbrev pub lines_in : ItemOutcome → ℕ
+lines_in (Refused fault) = 0
+lines_in (Replayed replay) = replay.lines
+
+-- An item was accepted in the game, whose play is held with these checkpoints, and it was replayed
+-- so far; the log that it leaves has this many lines.
+pub record IsReplay (cave : CaveView) (every : ℕ) (item : Applied) (game : Game)
+    (checkpoints : List ℕ) (replay : ItemReplay) : Type 0 where
+  pub accepted : group_refusal item.changes game.log ≡ None
+  pub report : IsReport (cave_rules cave) item.changes game every checkpoints
+      replay.from replay.met replay.played
+  pub lines : replay.lines ≡ length (game_after_item item game).log
+
+-- what came of an item in the game
+abbrev pub IsOutcome : CaveView → ℕ → Applied → Game → List ℕ → ItemOutcome → Type 0
+IsOutcome cave every item game checkpoints (Refused fault) =
+    group_refusal item.changes game.log ≡ Some fault
+IsOutcome cave every item game checkpoints (Replayed replay) =
+    IsReplay cave every item game checkpoints replay
+
+-- the checkpoints after an item: those before it where it was refused, and else spaced in the log
+-- that it leaves
+abbrev pub AreLeft : ℕ → ItemOutcome → List ℕ → Game → List ℕ → Type 0
+AreLeft every (Refused fault) before game after = after ≡ before
+AreLeft every (Replayed replay) before game after = IsSpaced every after (length game.log)
+
+-- what came of items, each in the game and with the checkpoints that those before it left
+abbrev pub AreOutcomes : CaveView → ℕ → List Applied → Game → List ℕ → List ItemOutcome → Type 0
+AreOutcomes cave every [] game checkpoints [] = Unit {0}
+AreOutcomes cave every [] game checkpoints (outcome ∷ outcomes) = ⊥
+AreOutcomes cave every (item ∷ items) game checkpoints [] = ⊥
+AreOutcomes cave every (item ∷ items) game checkpoints (outcome ∷ outcomes) =
+    IsOutcome cave every item game checkpoints outcome
+    × ((after : List ℕ) × AreLeft every outcome checkpoints (game_after_item item game) after
+    × AreOutcomes cave every items (game_after_item item game) after outcomes)

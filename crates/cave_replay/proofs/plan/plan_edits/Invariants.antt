@@ -1,7 +1,0 @@
-use Rattle.std.proofs.Common.{◌≡◌, ℕ, List, length, drop}
-use Rattle.cave_replay.specs.Change.{changes_of}
-use Rattle.cave_replay.proofs.Groups.{IsReached}
-use Rattle.cave_replay.proofs.plan.plan_edits.Given as goal
-
-abbrev pub invariant-loop-number : goal.invariant-loop-number
-invariant-loop-number l = (log : List (List ℕ)) → length log ≡ l.fn.lines → IsReached (changes_of l.edits) log (changes_of (drop l.number l.edits)) l.number l.after l.span

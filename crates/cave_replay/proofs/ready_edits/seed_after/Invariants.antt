@@ -1,6 +1,0 @@
-use Rattle.std.proofs.Common.{◌≡◌, drop}
-use Rattle.cave_replay.specs.Change.{changes_of, seed_after_all}
-use Rattle.cave_replay.proofs.ready_edits.seed_after.Given as goal
-
-abbrev pub invariant-loop-edit : goal.invariant-loop-edit
-invariant-loop-edit l = seed_after_all (changes_of (drop l.edit-index l.edits)) l.last ≡ seed_after_all (changes_of l.edits) l.seed

@@ -1,0 +1,4 @@
+pub mod FieldLemmas
+pub mod ListLemmas
+pub mod NameLemmas
+pub mod NumberLemmas

@@ -1,0 +1,10 @@
+pub mod BindingLines
+pub mod Fields
+pub mod Answers
+pub mod Grammar
+pub mod Lists
+pub mod PlaceRole
+pub mod Role
+pub mod RowViews
+pub mod Rows
+pub mod SectionRows

@@ -1,9 +1,0 @@
-//! Scripts of edits: lines of text that say how a log is to be changed, one edit or one group after another.
-#![tactic(auto)]
-
-pub mod fault;
-mod line;
-pub mod script;
-
-pub use fault::{Flaw, ScriptFault};
-pub use script::{Item, Script};

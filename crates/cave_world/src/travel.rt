@@ -1,0 +1,193 @@
+ghost use Rattle.std.specs.Prelude.{◌≡◌, ◌<◌, map, [], length};
+ghost use Rattle.cave_rows.specs.RowViews.{going};
+ghost use Rattle.cave_world.specs.Travel.{lists_motion, holds, after_condition, allows, leads_to};
+ghost use Rattle.cave_world.specs.Travel.{row_outcome, after_row, rows_to_try, first_way};
+ghost use Rattle.cave_world.specs.Travel.{from_listed, travel_by_rows, travel_by_motion};
+
+use crate::motion::ANY;
+use crate::state::State;
+use cave_data::Cave;
+use cave_objects::{Object, Place};
+use cave_rows::Row;
+
+/// A way with rules of its own.
+#[derive(Clone, Copy, Debug, PartialEq, Eq)]
+pub enum Special {
+    /// Through a passage in which almost nothing can be carried.
+    Squeeze,
+    /// Over a bridge that a troll guards.
+    Bridge,
+}
+
+/// Where a motion leads.
+#[derive(Clone, Copy, Debug, PartialEq, Eq)]
+pub enum TravelOutcome {
+    /// The player arrives at a place.
+    Go(Place),
+    /// The way has rules of its own.
+    Special(Special),
+    /// A message is printed, and the player arrives where the player is.
+    Say(u16),
+    /// No row of the place lists the motion.
+    NoMotion,
+    /// No row that is left can be taken.
+    NoWay,
+}
+
+/// The greatest target of a row that is a place.
+const LAST_PLACE: u16 = 300;
+
+/// The target of the narrow passage.
+const SQUEEZE: u16 = 301;
+
+/// The target of a row that puts the emerald down where the player is, and leads nowhere.
+const PUTS_EMERALD_DOWN: u16 = 302;
+
+/// The target of the troll's bridge.
+const BRIDGE: u16 = 303;
+
+/// A target above it is a message, by its number above it.
+const MESSAGES_AFTER: u16 = 500;
+
+/// The condition that always holds and that dwarves don't pass; below it are the chances.
+const NOT_FOR_DWARVES: u32 = 100;
+
+/// A condition up to it asks for an object that is carried, by its number above 100.
+const LAST_CARRIED: u32 = 200;
+
+/// A condition up to it asks for an object that is here or carried; those above it for a prop.
+const LAST_AT_HAND: u32 = 300;
+
+fn lists(row: &Row, motion: u16) -> bool
+    ensures { result ≡ lists_motion motion (going row.now) }
+{
+    row.motions.iter().any(|&m| m == motion || m == ANY)
+}
+
+#[tactic(auto, unfolding(crate::specs::Travel::leads_to))]
+fn leads_to(number: u16) -> TravelOutcome
+    ensures { result ≡ leads_to number }
+{
+    if number <= LAST_PLACE {
+        return TravelOutcome::Go(Place::new(number));
+    }
+    if number > MESSAGES_AFTER {
+        return TravelOutcome::Say(number - MESSAGES_AFTER);
+    }
+    match number {
+        SQUEEZE => TravelOutcome::Special(Special::Squeeze),
+        BRIDGE => TravelOutcome::Special(Special::Bridge),
+        _ => TravelOutcome::NoWay,
+    }
+}
+
+impl State {
+    #[tactic(auto, unfolding(crate::specs::Travel::allows))]
+    fn allows(&self, condition: u32) -> bool
+        requires low { 100 < condition }
+        requires high { condition < 4294968 }
+        ensures { result ≡ allows condition self.now }
+    {
+        if condition <= LAST_CARRIED {
+            return self.is_carrying(Object::new((condition - NOT_FOR_DWARVES) as u8));
+        }
+        if condition <= LAST_AT_HAND {
+            let object = Object::new((condition - LAST_CARRIED) as u8);
+            return self.is_carrying(object) || self.at(object);
+        }
+        let prop = self.objects.prop(Object::new((condition % 100) as u8));
+        i64::from(prop.value()) != i64::from(condition / 100 - 3)
+    }
+
+    /// Whether the condition of a row holds. A condition by chance takes a draw.
+    #[tactic(auto, unfolding(crate::specs::Travel::holds, crate::specs::Travel::after_condition))]
+    pub fn meets(&mut self, condition: u32) -> bool
+        requires { condition < 4294968 }
+        ensures value { result ≡ holds condition self.old }
+        ensures after { self.new ≡ after_condition condition self.old }
+    {
+        if condition == 0 || condition == NOT_FOR_DWARVES {
+            return true;
+        }
+        if condition < NOT_FOR_DWARVES {
+            return self.stream.pct(condition);
+        }
+        self.allows(condition)
+    }
+
+    /// Tries a row: where it leads, unless it fails.
+    #[tactic(auto, unfolding(crate::specs::Travel::row_outcome, crate::specs::Travel::after_row))]
+    fn try_row(&mut self, emerald: Object, row: &Row) -> Option<TravelOutcome>
+        ensures value { result ≡ row_outcome self.old (going row.now) }
+        ensures after { self.new ≡ after_row emerald self.old (going row.now) }
+    {
+        if !self.meets(row.condition()) {
+            return None;
+        }
+        let number = row.number();
+        if number == PUTS_EMERALD_DOWN {
+            let here = self.trail.here;
+            self.move_to(emerald, here);
+            return None;
+        }
+        Some(leads_to(number))
+    }
+}
+
+#[tactic(auto, using(crate::proofs::Ways::passing))]
+fn first_way(rows: &[Row], emerald: Object, state: &mut State) -> TravelOutcome
+    ensures { record { state = state.new; outcome = result }
+        ≡ first_way emerald state.old (rows_to_try (map going rows.now)) }
+{
+    let mut failed = None;
+    for row in rows {
+        if failed == Some(row.target) {
+            continue;
+        }
+        if let Some(outcome) = state.try_row(emerald, row) {
+            return outcome;
+        }
+        failed = Some(row.target);
+    }
+    TravelOutcome::NoWay
+}
+
+fn from_listed(rows: &[Row], motion: u16) -> &[Row]
+    ensures { map going result.now ≡ from_listed motion (map going rows.now) }
+{
+    for (i, row) in rows.iter().enumerate() {
+        if lists(row, motion) {
+            return &rows[i..];
+        }
+    }
+    &[]
+}
+
+/// Where a motion leads by the rows of a place, in the order of the file.
+#[tactic(auto, unfolding(crate::specs::Travel::travel_by_rows))]
+fn travel_by_rows(rows: &[Row], emerald: Object, state: &mut State, motion: u16) -> TravelOutcome
+    ensures { record { state = state.new; outcome = result }
+        ≡ travel_by_rows emerald motion state.old (map going rows.now) }
+{
+    let listed = from_listed(rows, motion);
+    if listed.is_empty() {
+        return TravelOutcome::NoMotion;
+    }
+    first_way(listed, emerald, state)
+}
+
+/// Where a motion leads from where the player is, by the rows of the place. A row that puts the
+/// emerald down moves it.
+#[tactic(auto, unfolding(crate::specs::Travel::travel_by_motion))]
+pub fn travel_by_motion(
+    cave: &Cave,
+    emerald: Object,
+    state: &mut State,
+    motion: u16,
+) -> TravelOutcome
+    ensures { record { state = state.new; outcome = result }
+        ≡ travel_by_motion cave.now emerald motion state.old }
+{
+    let here = state.trail.here;
+    travel_by_rows(cave.travel(here.number()), emerald, state, motion)
+}

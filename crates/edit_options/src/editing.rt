@@ -1,0 +1,38 @@
+ghost use Rattle.std.specs.Prelude.{◌≡◌};
+ghost use Rattle.edit_options.specs.Views.{view_named};
+
+/// What an edit of a log prints.
+#[derive(Clone, Copy, Debug, PartialEq, Eq)]
+pub enum View {
+    /// Whether each edit was accepted, and what playing the edited log prints.
+    Transcript,
+    /// The lines of the edited log.
+    Log,
+    /// What each edit replayed.
+    Reports,
+}
+
+impl View {
+    /// The view of a name, if it is the name of one.
+    pub fn named(name: &str) -> Option<View>
+        ensures { result ≡ view_named name.now }
+    {
+        match name {
+            "transcript" => Some(View::Transcript),
+            "log" => Some(View::Log),
+            "reports" => Some(View::Reports),
+            _ => None,
+        }
+    }
+}
+
+/// How a log is edited.
+#[derive(Clone, Copy, Debug, PartialEq, Eq)]
+pub struct Editing {
+    /// Where the random numbers begin.
+    pub seed: u32,
+    /// The most lines between two checkpoints.
+    pub every: u32,
+    /// What is printed.
+    pub view: View,
+}

@@ -1,0 +1,5 @@
+pub mod Prefixes
+pub mod Numbers
+pub mod Lines
+pub mod Grammar
+pub mod Malformed

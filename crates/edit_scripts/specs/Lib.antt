@@ -1,0 +1,5 @@
+pub mod Line
+pub mod Item
+pub mod Script
+pub mod Views
+pub mod Malformed

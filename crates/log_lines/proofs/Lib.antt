@@ -1,0 +1,4 @@
+pub mod Digits
+pub mod FirstLines
+pub mod Prefixes
+pub mod LogLines

@@ -1,0 +1,35 @@
+-- Which bytes and how many a line of a log may have, and what is wrong with one.
+use Rattle.std.specs.Prelude.{ℕ, Bool, ◌==◌, ◌&&◌, ◌||◌, ◌+◌, nat_lt, nat_le, if◌then◌else◌}
+use Rattle.std.specs.Prelude.{is_none}
+use Rattle.std.specs.Prelude.{List, length, slice_index_or, Option, None, Some}
+use Rattle.std.specs.List.{list_all, prefix_len}
+use Rattle.limits.specs.Limits.{max_line_bytes}
+use Rattle.log_lines.specs.declared.line.LineFault.{LineFault}
+use Rattle.log_lines.specs.declared.line.LineFault.TheVariants.{TooLong, BadByte}
+use Rattle.log_lines.specs.declared.line_flaw.LineFlaw.{LineFlaw}
+use Rattle.log_lines.specs.declared.line_flaw.LineFlaw.TheVariants.{Long, Byte}
+
+-- printable ASCII, or a tab
+abbrev pub is_line_byte : ℕ → Bool
+is_line_byte byte = (nat_le 32 byte && nat_le byte 126) || byte == 9
+
+-- the first thing that is wrong with a line: too long, or a byte that isn't allowed
+unfoldable pub line_fault : List ℕ → Option LineFault
+line_fault line =
+    if nat_lt max_line_bytes (length line) then Some TooLong
+    else (if list_all is_line_byte line then None else Some BadByte)
+
+-- nothing is wrong with a line
+unfoldable pub is_line : List ℕ → Bool
+is_line line = is_none (line_fault line)
+
+-- the byte at a place, and its column, from 1
+abbrev pub byte_at : List ℕ → ℕ → LineFlaw
+byte_at line place = Byte (slice_index_or line place 0) (place + 1)
+
+-- what is wrong with a line that isn't allowed in a log: how many bytes it has where they are too
+-- many, else the first byte that isn't allowed
+unfoldable pub flaw_of : List ℕ → LineFlaw
+flaw_of line =
+    if nat_lt max_line_bytes (length line) then Long (length line)
+    else byte_at line (prefix_len is_line_byte line)

@@ -1,0 +1,144 @@
+use Rattle.std.proofs.Common.{◌≡◌, ℕ, List, length, map, ap, ◌∙◌, refl, sym, arith, rules}
+use Rattle.std.specs.Prelude.{slice_index}
+use Rattle.std.proofs.lemmas.List.{length-map}
+use Rattle.std.specs.Global.{Vec}
+use Rattle.log_replay.specs.declared.playthrough.Playthrough.{Playthrough}
+use Rattle.log_replay.specs.declared.ready_edits.ReadyEdits.{ReadyEdits}
+use Rattle.log_replay.specs.Play.{Game}
+use Rattle.log_replay.specs.Change.{Change, changes_of, apply_all, inverses_of}
+use Rattle.log_replay.specs.Faults.{log_after_all}
+use Rattle.log_replay.specs.Playthrough.{kept_game, KeepsAll}
+use Rattle.log_replay.specs.ReadyEdits.{AreEditsOf}
+use Rattle.log_replay.proofs.Inverses.{IsFree-from_none, none_from_IsFree, log-apply_all}
+use Rattle.log_replay.proofs.Inverses.{apply_all-inverses_of, IsFree-inverses_of}
+use Rattle.log_replay.proofs.Joins.{map-splice}
+use Rattle.log_replay.proofs.Lines.{length-log_of}
+use Rattle.log_replay.proofs.Plays.{length-pieces, length-ticks}
+use Rattle.log_replay.proofs.TakeoverLemmas.{replay_of, kept_after, report_after, met_inside}
+use Rattle.log_replay.proofs.TakeoverLemmas.{met_ready, room_ready, stretch_same, places_same}
+use Rattle.log_replay.proofs.TakeoverLemmas.{states_same, opened_text}
+use Rattle.log_replay.proofs.replay.edit_kept.Goals as goal
+
+-- what the edits make of the game, once there is room, is what the changes make of the old one
+make_same : {Machine State Piece Meter X : Type 0} (make : List Change → Game → X)
+    {changes : List Change} {seed : ℕ} {log : List (Vec ℕ)} {ready : ReadyEdits}
+    {old roomy : Playthrough Machine State Piece Meter} → AreEditsOf changes seed log ready
+    → KeepsAll old roomy
+    → make (changes_of ready.edits.items) (kept_game roomy) ≡ make changes (kept_game old)
+make_same make edits same = rw (edits.edits, same.seed, same.log) refl
+
+pub take_over-inverse-requires-clause-pieces : goal.take_over-inverse-requires-clause-pieces
+take_over-inverse-requires-clause-pieces g c =
+    let kept = c.args.kept.now in
+    let roomy = c.make_room.new.kept in
+    let same = c.make_room.ensures.same in
+    let n = length-log_of kept.log.items in
+    let m = length-map kept.pieces.items g.M.Machine.text in
+    let lengths = length-pieces _ _ _ _ _ _ c.requires.kept.plays in
+    let p = ap length same.pieces in
+    let l = ap length same.log in
+    omega (arith, roomy.pieces.ok, roomy.log.ok)
+
+pub take_over-inverse-requires-clause-ticked : goal.take_over-inverse-requires-clause-ticked
+take_over-inverse-requires-clause-ticked g c =
+    let roomy = c.make_room.new.kept in
+    let same = c.make_room.ensures.same in
+    let n = length-log_of c.args.kept.now.log.items in
+    let lengths = length-ticks _ _ _ _ _ _ c.requires.kept.plays in
+    let p = ap length same.ticked in
+    let l = ap length same.log in
+    omega (arith, roomy.log.ok)
+
+pub take_over-inverse-requires-clause-met : goal.take_over-inverse-requires-clause-met
+take_over-inverse-requires-clause-met g c =
+    let replay =
+    replay_of c.requires.kept c.in-Ok.ensures.edits c.places.ensures.spaced c.in-Ok.ensures.rerun in
+    let same = c.make_room.ensures.same in
+    met_ready replay c.make_room.new.kept.checkpoints same.lines same.places
+
+pub returns-clause-kept : goal.returns-clause-kept
+returns-clause-kept g c =
+    let replay =
+    replay_of c.requires.kept c.in-Ok.ensures.edits c.places.ensures.spaced c.in-Ok.ensures.rerun in
+    let text = g.M.Machine.text in
+    let kept = c.args.kept.now in
+    let C = kept.checkpoints in
+    let roomy = c.make_room.new.kept in
+    let same = c.make_room.ensures.same in
+    let edits = c.in-Ok.ensures.edits in
+    let played = c.in-Ok.rerun.played in
+    let at = c.in-Ok.rerun.at in
+    let after = c.take_over-inverse.new.kept in
+    let done = c.take_over-inverse.ensures in
+    let stretch = stretch_same roomy.checkpoints C same.lines same.places played.met in
+    let from = ap (λ x. slice_index x at) same.places in
+    rw (done.game ∙ make_same apply_all edits same ∙ sym edits.game)
+    (kept_after replay (text after.opening) (map text after.pieces.items) after.ticked.items
+    after.state after.checkpoints
+    (opened_text text c.in-Ok.rerun.opening after.opening roomy.opening kept.opening same.opening
+    done.opening)
+    (ap (map text) done.pieces
+    ∙ map-splice text roomy.pieces.items played.pieces.items
+    (slice_index roomy.checkpoints.places at) _ ∙ rw (same.pieces, stretch, from) refl)
+    (done.ticked ∙ rw (same.ticked, stretch, from) refl)
+    (done.state ∙ rw same.state refl)
+    (done.every ∙ same.every)
+    done.lines
+    (done.places ∙ places_same roomy.checkpoints C same.places played.marks at played.met)
+    (done.states
+    ∙ states_same roomy.checkpoints C same.places same.states played.marks at played.met))
+
+pub returns-clause-report : goal.returns-clause-report
+returns-clause-report g c =
+    let replay =
+    replay_of c.requires.kept c.in-Ok.ensures.edits c.places.ensures.spaced c.in-Ok.ensures.rerun in
+    rw (c.places.ensures.places, c.met_place-met.ensures, c.next-end.ensures.next)
+    (report_after replay (changes_of c.args.edits.now) c.in-Ok.ensures.edits.game refl refl)
+
+pub make_room-requires : goal.make_room-requires
+make_room-requires g c =
+    let replay =
+    replay_of c.requires.kept c.in-Ok.ensures.edits c.places.ensures.spaced c.in-Ok.ensures.rerun in
+    let inside = met_inside replay in
+    record { among = replay.new_play.begun.among; passed = inside.0; met = inside.1 }
+
+pub take_over-inverse-requires-clause-room_marks : goal.take_over-inverse-requires-clause-room_marks
+take_over-inverse-requires-clause-room_marks g c =
+    room_ready c.make_room.new.kept.checkpoints c.args.kept.now.checkpoints
+    c.make_room.ensures.same.places c.in-Ok.rerun.played.marks c.in-Ok.rerun.at
+    c.in-Ok.rerun.played.met (search rules)
+
+pub returns-clause-game : goal.returns-clause-game
+returns-clause-game g c =
+    c.take_over-inverse.ensures.game
+    ∙ make_same apply_all c.in-Ok.ensures.edits c.make_room.ensures.same
+
+pub returns-clause-inverse : goal.returns-clause-inverse
+returns-clause-inverse g c =
+    c.take_over-inverse.ensures.inverse
+    ∙ make_same inverses_of c.in-Ok.ensures.edits c.make_room.ensures.same
+
+pub returns-clause-back : goal.returns-clause-back
+returns-clause-back g c =
+    let edits = c.in-Ok.ensures.edits in
+    let same = c.make_room.ensures.same in
+    let done = c.take_over-inverse.ensures in
+    let changes = changes_of c.args.edits.now in
+    let old = kept_game c.args.kept.now in
+    rw (done.inverse, done.game, make_same inverses_of edits same, make_same apply_all edits same)
+    (apply_all-inverses_of changes old (IsFree-from_none changes old.log 0 edits.accepted))
+
+pub returns-clause-back_accepted : goal.returns-clause-back_accepted
+returns-clause-back_accepted g c =
+    let edits = c.in-Ok.ensures.edits in
+    let same = c.make_room.ensures.same in
+    let done = c.take_over-inverse.ensures in
+    let changes = changes_of c.args.edits.now in
+    let old = kept_game c.args.kept.now in
+    let log_is = ap (λ (x : Game). x.log) (done.game ∙ make_same apply_all edits same)
+    ∙ log-apply_all changes old in
+    let inverse = done.inverse ∙ make_same inverses_of edits same in
+    rw (inverse, log_is)
+    (none_from_IsFree (inverses_of changes old) (log_after_all changes old.log) 0
+    (IsFree-inverses_of changes old c.requires.kept.game_is
+    (IsFree-from_none changes old.log 0 edits.accepted)))

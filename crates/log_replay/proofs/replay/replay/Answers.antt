@@ -1,0 +1,114 @@
+use Rattle.std.proofs.Common.{◌≡◌, ℕ, ◌-◌, ◌^◌, ◌<◌, ◌≤◌, List, length, ◌∙◌, refl, arith}
+use Rattle.std.specs.Prelude.{slice_index}
+use Rattle.log_replay.specs.Change.{changes_of}
+use Rattle.log_replay.specs.Margins.{margins_of}
+use Rattle.log_replay.specs.Play.{log_of}
+use Rattle.log_replay.specs.Replay.{states_of_new}
+use Rattle.log_replay.proofs.Bounds.{near_last}
+use Rattle.log_replay.proofs.Joins.{front_are}
+use Rattle.log_replay.proofs.ReadyLemmas.{checkpoints_of, revision_by, steps_within, match_map}
+use Rattle.log_replay.proofs.ReadyLemmas.{met_at_end}
+use Rattle.log_replay.proofs.Revisions.{IsLastIndex}
+use Rattle.log_replay.proofs.replay.replay.Goals as goal
+
+-- what the search for it tells, where the places were read
+last_index : {read places : List ℕ} {place at : ℕ} → read ≡ places → at < length read
+    → ((k : ℕ) → k ≤ at → slice_index read k ≤ place)
+    → ((k : ℕ) → at < k → k < length read → place < slice_index read k)
+    → IsLastIndex places place at
+last_index {at} is among before after =
+    rw (← is) (record { among = among; before = before at (omega arith); after = after })
+
+pub play_changed-requires-clause-marking : goal.play_changed-requires-clause-marking
+play_changed-requires-clause-marking g c =
+    let log_is = c.deref.ensures.value in
+    let checkpoints =
+    checkpoints_of (g.M.Machine.rules c.args.machine.now) (rw log_is at c.in-Ok.ensures.ready)
+    c.requires.kept.every_is.some c.requires.kept.lines c.places.ensures.spaced in
+    let last =
+    last_index c.places.ensures.places c.last_to-at.ensures.within c.last_to-at.ensures.before
+    c.last_to-at.ensures.after in
+    let revision =
+    revision_by (g.M.Machine.rules c.args.machine.now) c.args.kept.now.seed
+    c.args.kept.now.log.items c.in-Ok.ready in
+    rw log_is (c.in-Ok-begin.ensures.marking (states_of_new revision) refl
+    (λ seed. front_are seed c.args.kept.now.checkpoints checkpoints c.requires.kept.states
+    c.last_to-at.result last))
+
+pub play_changed-requires-clause-from : goal.play_changed-requires-clause-from
+play_changed-requires-clause-from g c =
+    let last =
+    last_index c.places.ensures.places c.last_to-at.ensures.within c.last_to-at.ensures.before
+    c.last_to-at.ensures.after in
+    rw c.in-Ok-begin.ensures.next last.before
+
+pub play_changed-requires-clause-near : goal.play_changed-requires-clause-near
+play_changed-requires-clause-near g c =
+    let log_is = c.deref.ensures.value in
+    let checkpoints =
+    checkpoints_of (g.M.Machine.rules c.args.machine.now) (rw log_is at c.in-Ok.ensures.ready)
+    c.requires.kept.every_is.some c.requires.kept.lines c.places.ensures.spaced in
+    let last =
+    last_index c.places.ensures.places c.last_to-at.ensures.within c.last_to-at.ensures.before
+    c.last_to-at.ensures.after in
+    rw (c.in-Ok-begin.ensures.next, c.in-Ok-begin.ensures.every)
+    (near_last checkpoints.spacing last (omega (arith, checkpoints.shift.within_old)))
+
+pub returns-in_default-play_changed-clause-bounded :
+    goal.returns-in_default-play_changed-clause-bounded
+returns-in_default-play_changed-clause-bounded g c =
+    let log_is = c.deref.ensures.value in
+    let left : 2 ^ 64 - 1 - g.M.Meter.Steps.count c.args.meter.now ≡ c.left-left.result =
+    omega (arith, c.left-left.ensures) in
+    rw (left, ← c.in-Ok-begin.ensures.every)
+    (steps_within (g.M.Machine.rules c.args.machine.now) c.in-Ok-begin.start.marks.every _
+    (g.M.Meter.Steps.count c.args.meter.now) (g.M.Meter.Steps.count c.play_changed.new.meter)
+    (rw log_is at c.in-Ok.ensures.edits) (rw log_is at c.in-Ok.ensures.none)
+    c.in_default-play_changed.ensures.counted
+    (rw log_is at c.in_default-play_changed.ensures.bounded))
+
+pub returns-clause-bounded : goal.returns-clause-bounded
+returns-clause-bounded g c =
+    let log_is = c.deref.ensures.value in
+    let left : 2 ^ 64 - 1 - g.M.Meter.Steps.count c.args.meter.now ≡ c.left-left.result =
+    omega (arith, c.left-left.ensures) in
+    rw (left, ← c.in-Ok-begin.ensures.every)
+    (steps_within (g.M.Machine.rules c.args.machine.now) c.in-Ok-begin.start.marks.every _
+    (g.M.Meter.Steps.count c.args.meter.now) (g.M.Meter.Steps.count c.play_changed.new.meter)
+    (rw log_is at c.in-Ok.ensures.edits) (rw log_is at c.in-Ok.ensures.none)
+    c.in-Ok-play_changed.ensures.counted
+    (rw log_is at c.in-Ok-play_changed.ensures.bounded))
+
+pub returns-clause-rerun : goal.returns-clause-rerun
+returns-clause-rerun g c =
+    let log_is = c.deref.ensures.value in
+    let last =
+    last_index c.places.ensures.places c.last_to-at.ensures.within c.last_to-at.ensures.before
+    c.last_to-at.ensures.after in
+    let edits = rw log_is at c.in-Ok.ensures.edits in
+    let log = log_of c.args.kept.now.log.items in
+    let tail : length c.args.kept.now.log.items - c.in-Ok.ready.rest
+    ≡ (margins_of (changes_of c.args.edits.now) log).tail = omega (arith, edits.tail) in
+    let begun = c.in-Ok-begin.ensures in
+    let made = c.in-Ok-play_changed.ensures in
+    let end = begun.end ∙ rw log_is at c.in-Ok.ensures.ready.lines in
+    rw (← edits.head, ← tail)
+    (record {
+      begun = record {
+        among = begun.begun.among;
+        every = made.settings.every ∙ begun.begun.every;
+        start = made.settings.start ∙ begun.begun.start;
+        from = made.settings.from ∙ begun.begun.from;
+      };
+      not_after = last.before;
+      last = last.after;
+      end = made.settings.end ∙ end;
+      opening_is = match_map g.M.Machine.text c.in-Ok-begin.start.opening _ _ begun.opening;
+      texts_are = rw (← begun.next) (rw log_is at made.texts);
+      ticks_are = rw (← begun.next) (rw log_is at made.ticks);
+      marking = rw log_is at made.marking;
+      forward = rw (← begun.next) made.forward;
+      within = rw (← end) made.inside;
+      met_is = met_at_end _ _ _ _ _ _ end (rw log_is at made.met);
+      none_before = rw log_is at made.none;
+    })

@@ -1,0 +1,15 @@
+pub mod Machine
+pub mod Play
+pub mod Change
+pub mod Faults
+pub mod Opening
+pub mod Session
+pub mod Report
+pub mod Margins
+pub mod Agreement
+pub mod Replay
+pub mod ReadyEdits
+pub mod Playthrough
+pub mod Table
+pub mod Takeover
+pub mod Plan

@@ -1,0 +1,28 @@
+-- How many lines edits leave alone at both ends of a log.
+use Rattle.std.specs.Prelude.{ℕ, ◌-◌, min, List, [], ◌∷◌, length}
+use Rattle.log_replay.specs.declared.margins.Margins.{Margins}
+use Rattle.log_replay.specs.Change.{Change, inserts, deletes, replaces, reseeds, log_after}
+
+-- at most so many at the front, and at most so many at the end
+abbrev pub narrowed_margins : Margins → ℕ → ℕ → Margins
+narrowed_margins margins head tail =
+    record { head = min margins.head head; tail = min margins.tail tail }
+
+-- what a change of a log of so many lines leaves alone of margins; another seed is felt from the
+-- first line on
+abbrev pub margins_after : Change → ℕ → Margins → Margins
+margins_after (inserts at line) lines margins = narrowed_margins margins at (lines - at)
+margins_after (deletes at) lines margins = narrowed_margins margins at (lines - at - 1)
+margins_after (replaces at line) lines margins = narrowed_margins margins at (lines - at - 1)
+margins_after (reseeds seed) lines margins = narrowed_margins margins 0 margins.tail
+
+-- and what several changes leave alone, one after another
+abbrev pub margins_after_all : List Change → List (List ℕ) → Margins → Margins
+margins_after_all [] log margins = margins
+margins_after_all (change ∷ changes) log margins =
+    margins_after_all changes (log_after change log) (margins_after change (length log) margins)
+
+-- what changes of a log leave alone
+abbrev pub margins_of : List Change → List (List ℕ) → Margins
+margins_of changes log =
+    margins_after_all changes log (record { head = length log; tail = length log })

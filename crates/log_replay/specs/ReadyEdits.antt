@@ -1,0 +1,65 @@
+-- Edits that are accepted, and what is known of them before anything is replayed.
+use Rattle.std.specs.Prelude.{◌≡◌, ℕ, ◌+◌, ◌-◌, ◌<◌, ◌≤◌, List, length, Option, None, MatchOption}
+use Rattle.std.specs.Global.{Vec}
+use Rattle.log_replay.specs.declared.ready_edits.ReadyEdits.{ReadyEdits}
+use Rattle.log_replay.specs.declared.segment.OldPlay.{OldPlay}
+use Rattle.log_replay.specs.Machine.{MachineRules}
+use Rattle.log_replay.specs.Play.{Game, game_of, log_of, IsGame}
+use Rattle.log_replay.specs.Margins.{margins_of}
+use Rattle.log_replay.specs.Replay.{Revision, IsShift}
+use Rattle.log_replay.specs.Change.{Change, changes_of, apply_all, own_line, line_at, log_after}
+use Rattle.log_replay.specs.Faults.{fault_of_all, log_after_all}
+
+-- a log after the edits
+abbrev pub log_after_edits : ReadyEdits → List (List ℕ) → List (List ℕ)
+log_after_edits ready log = log_after_all (changes_of ready.edits.items) log
+
+-- the game with that log
+abbrev pub new_game : ReadyEdits → List (List ℕ) → Game
+new_game ready log = game_of ready.seed (log_after_edits ready log)
+
+-- the revision of an old game by the edits
+abbrev pub ready_revision : {State S T : Type 0} → MachineRules S T → OldPlay State → ReadyEdits
+    → Revision S T
+ready_revision rules old ready = record {
+  rules = rules;
+  old = game_of old.seed (log_of old.log.now);
+  new = new_game ready (log_of old.log.now);
+  head = ready.head;
+  tail = length old.log.now - ready.rest;
+}
+
+-- The edits may be made in a game: they meet no fault, and leave a game that may be held, of so
+-- many lines. Its lines before `head` are those of the log, and its last lines are those of the log
+-- from `rest` on; with another seed `head` is 0.
+pub record IsReady (seed : ℕ) (log : List (Vec ℕ)) (ready : ReadyEdits) : Type 0 where
+  pub free : fault_of_all (changes_of ready.edits.items) (log_of log) 0 ≡ None
+  pub lines : ready.lines ≡ length (log_after_edits ready (log_of log))
+  pub ordered : ready.head ≤ ready.rest
+  pub within : ready.rest ≤ length log
+  pub shift : IsShift (game_of seed (log_of log)) (new_game ready (log_of log)) ready.head
+      (length log - ready.rest)
+  pub good : IsGame (new_game ready (log_of log))
+
+-- They are these changes of a game, which meet no fault and leave its new game; and `head` and
+-- `rest` bound the lines that the changes don't leave alone.
+pub record AreEditsOf (changes : List Change) (seed : ℕ) (log : List (Vec ℕ))
+    (ready : ReadyEdits) : Type 0 where
+  pub accepted : fault_of_all changes (log_of log) 0 ≡ None
+  pub edits : changes_of ready.edits.items ≡ changes
+  pub game : new_game ready (log_of log) ≡ apply_all changes (game_of seed (log_of log))
+  pub ordered : ready.head ≤ ready.rest
+  pub head : ready.head ≡ (margins_of changes (log_of log)).head
+  pub tail : ready.rest + (margins_of changes (log_of log)).tail ≡ length log
+
+-- the line at a place of a log after a change is the one that was at the place `old`
+pub record IsOldLine (change : Change) (log : List (List ℕ)) (place old : ℕ) : Type 0 where
+  pub inside : old < length log
+  pub same : line_at (log_after change log) place ≡ line_at log old
+
+-- The line at a place of a log after a change is the one that was at the place `before`; where that
+-- is none, it is the change's own.
+abbrev pub ComesFrom : Change → List (List ℕ) → ℕ → Option ℕ → Type 0
+ComesFrom change log place before =
+    MatchOption before (line_at (log_after change log) place ≡ own_line change)
+    (IsOldLine change log place)

@@ -1,0 +1,97 @@
+ghost use Rattle.std.specs.Prelude.{◌≡◌, length, map, IfOk};
+ghost use Rattle.log_replay.specs.Play.{log_of};
+ghost use Rattle.log_replay.specs.Change.{change_of, changes_of};
+
+use crate::edit::Edit;
+use crate::machine::Machine;
+use crate::playthrough::Playthrough;
+use std::alloc::{AllocError, Global};
+
+/// A copy of what a session keeps.
+pub(crate) fn copy_kept<M: Machine>(
+    alloc: Global,
+    machine: &M,
+    kept: &Playthrough<M>,
+) -> Result<Playthrough<M>, AllocError>
+    ensures seed { IfOk result (λ copy. copy.seed ≡ kept.now.seed) }
+    ensures log { IfOk result (λ copy. log_of copy.log.items ≡ log_of kept.now.log.items) }
+    ensures opening { IfOk result (λ copy. M.text copy.opening ≡ M.text kept.now.opening) }
+    ensures pieces { IfOk result (λ copy.
+        map M.text copy.pieces.items ≡ map M.text kept.now.pieces.items) }
+    ensures ticked { IfOk result (λ copy. copy.ticked.items ≡ kept.now.ticked.items) }
+    ensures every { IfOk result (λ copy. copy.checkpoints.every ≡ kept.now.checkpoints.every) }
+    ensures lines { IfOk result (λ copy. copy.checkpoints.lines ≡ kept.now.checkpoints.lines) }
+    ensures places { IfOk result (λ copy. copy.checkpoints.places ≡ kept.now.checkpoints.places) }
+    ensures states { IfOk result (λ copy. copy.checkpoints.states ≡ kept.now.checkpoints.states) }
+    ensures state { IfOk result (λ copy. copy.state ≡ kept.now.state) }
+{
+    let log = copy_lines(alloc, &kept.log)?;
+    let opening = machine.copy_piece(alloc, &kept.opening)?;
+    let pieces = copy_pieces(alloc, machine, &kept.pieces)?;
+    let ticked = Vec::from_slice(alloc, &kept.ticked)?;
+    let checkpoints = kept.checkpoints.copy(alloc)?;
+    Ok(Playthrough {
+        seed: kept.seed,
+        log,
+        opening,
+        pieces,
+        ticked,
+        checkpoints,
+        state: kept.state,
+    })
+}
+
+/// A copy of lines.
+fn copy_lines(alloc: Global, lines: &[Vec<u8>]) -> Result<Vec<Vec<u8>>, AllocError>
+    ensures { IfOk result (λ copy. log_of copy.items ≡ log_of lines.now) }
+{
+    let mut copy = Vec::with_capacity(alloc, lines.len())?;
+    for line in lines {
+        copy.push(Vec::from_slice(alloc, line)?)?;
+    }
+    Ok(copy)
+}
+
+/// Pieces that say the same.
+fn copy_pieces<M: Machine>(
+    alloc: Global,
+    machine: &M,
+    pieces: &[M::Piece],
+) -> Result<Vec<M::Piece>, AllocError>
+    ensures { IfOk result (λ copy. map M.text copy.items ≡ map M.text pieces.now) }
+{
+    let mut copy = Vec::with_capacity(alloc, pieces.len())?;
+    for piece in pieces {
+        copy.push(machine.copy_piece(alloc, piece)?)?;
+    }
+    Ok(copy)
+}
+
+/// A copy of edits.
+pub(crate) fn copy_edits(alloc: Global, edits: &[Edit]) -> Result<Vec<Edit>, AllocError>
+    ensures { IfOk result (λ copy. changes_of copy.items ≡ changes_of edits.now) }
+{
+    let mut copy = Vec::with_capacity(alloc, edits.len())?;
+    for edit in edits {
+        copy.push(copy_edit(alloc, edit)?)?;
+    }
+    Ok(copy)
+}
+
+/// A copy of an edit.
+fn copy_edit(alloc: Global, edit: &Edit) -> Result<Edit, AllocError>
+    ensures { IfOk result (λ copy. change_of copy ≡ change_of edit.now) }
+{
+    match edit {
+        Edit::Insert(at, line) => {
+            let copy = Vec::from_slice(alloc, line)?;
+            Ok(Edit::Insert(*at, copy))
+        }
+        Edit::Delete(at) => Ok(Edit::Delete(*at)),
+        Edit::Replace(at, line) => {
+            let copy = Vec::from_slice(alloc, line)?;
+            Ok(Edit::Replace(*at, copy))
+        }
+        Edit::Reseed(seed) => Ok(Edit::Reseed(*seed)),
+    }
+}

@@ -1,0 +1,69 @@
+use log_lines::LineFlaw;
+use std::fmt;
+use thiserror::Error;
+
+/// Why a session couldn't be opened. The first of these that holds is answered.
+#[derive(Clone, Copy, Debug, Drop, PartialEq, Eq, Error)]
+pub enum OpenFault {
+    #[error("the distance of checkpoints is not from 1 to 10000")]
+    BadEvery,
+    #[error("line {0} of the log can't be played: {1}")]
+    BadLine(usize, LineFlaw),
+    #[error("the log has more than 65535 lines")]
+    LogFull,
+    #[error("the seed is over 2147483647")]
+    BadSeed,
+    #[error("there isn't enough memory")]
+    Memory,
+}
+
+/// Why an edit was refused. The first of these that holds is answered; `EmptyGroup` is a group's
+/// alone and comes first.
+#[derive(Clone, Copy, Debug, Drop, PartialEq, Eq, Error)]
+pub enum EditFault {
+    #[error("the place is past the end of the log")]
+    NoSuchPlace,
+    #[error("the line is over 255 bytes or has a byte that is neither printable ASCII nor a tab")]
+    BadLine,
+    #[error("the log has 65535 lines already, and no more fit in")]
+    LogFull,
+    #[error("the seed is over 2147483647")]
+    BadSeed,
+    #[error("the meter has fewer steps left than the log would have lines")]
+    MeterFull,
+    #[error("there isn't enough memory")]
+    Memory,
+    #[error("the group has no edit")]
+    EmptyGroup,
+}
+
+/// Why a group of edits was refused, and which of its edits, from 0, met that. The number is 0
+/// where none is to blame.
+#[derive(Clone, Copy, Debug, Drop, PartialEq, Eq)]
+pub struct GroupFault {
+    pub cause: EditFault,
+    pub at: u32,
+}
+
+impl fmt::Display for GroupFault {
+    fn fmt<W: fmt::Write>(&self, f: &mut fmt::Formatter<W>) -> fmt::Result {
+        let GroupFault { cause, at } = *self;
+        match cause {
+            EditFault::NoSuchPlace | EditFault::BadLine | EditFault::LogFull | EditFault::BadSeed =>
+                write!(f, "edit {at} of the group, counted from 0: {cause}"),
+            EditFault::MeterFull | EditFault::Memory | EditFault::EmptyGroup => {
+                write!(f, "{cause}")
+            }
+        }
+    }
+}
+
+impl std::error::Error for GroupFault {}
+
+impl GroupFault {
+    /// Memory ran out.
+    pub(crate) const MEMORY: GroupFault = GroupFault {
+        cause: EditFault::Memory,
+        at: 0,
+    };
+}

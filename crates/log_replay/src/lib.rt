@@ -1,0 +1,26 @@
+//! Sessions over any machine: a log of lines that is played, edited and played again.
+#![tactic(auto)]
+
+mod copies;
+pub mod edit;
+pub mod fault;
+mod log;
+pub mod machine;
+mod margins;
+mod plan;
+mod playthrough;
+mod ready_edits;
+mod replay;
+pub mod report;
+mod segment;
+pub mod session;
+mod takeover;
+mod tick_counts;
+
+pub use edit::Edit;
+pub use fault::{EditFault, GroupFault, OpenFault};
+pub use machine::{Machine, Started, Stepped};
+pub use margins::Margins;
+pub use report::{GroupReport, Report};
+pub use session::Session;
+pub use tick_counts::TickCounts;

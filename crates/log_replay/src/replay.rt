@@ -1,0 +1,208 @@
+ghost use Rattle.std.specs.Prelude.{◌≡◌, ◌≢◌, ℕ, ◌+◌, ◌-◌, ◌^◌, ◌<◌, ◌≤◌, length, slice_index};
+ghost use Rattle.std.specs.Prelude.{IfOk, OnOk, OnErr, MatchOption, None, Option};
+ghost use Rattle.std.specs.Option.{option_map};
+ghost use Rattle.replay_marks.specs.Marks.{IsBegunAt};
+ghost use Rattle.log_replay.specs.Change.{changes_of, apply_all, inverses_of};
+ghost use Rattle.log_replay.specs.ReadyEdits.{new_game, AreEditsOf};
+ghost use Rattle.log_replay.specs.Faults.{fault_of_all, group_fault, steps_left, IsAnswerTo};
+ghost use Rattle.log_replay.specs.Playthrough.{kept_game, KeepsPlay, KeepsAll};
+ghost use Rattle.log_replay.specs.Replay.{MarksBegin, revision_to, rerun_view, IsRerun};
+ghost use Rattle.log_replay.specs.Report.{IsReport, AreStepsBounded};
+
+use crate::edit::Edit;
+use crate::fault::GroupFault;
+use crate::machine::Machine;
+use crate::playthrough::Playthrough;
+use crate::ready_edits::{ReadyEdits, prepare};
+use crate::report::GroupReport;
+use crate::segment::{OldPlay, Segment, play_changed};
+use crate::takeover::{make_room, take_over};
+use log_lines::Steps;
+use replay_marks::{Marks, last_to};
+use std::alloc::{AllocError, Global};
+
+/// Makes the edits in what is kept, and replays it once. All of them are made, or none.
+pub(crate) fn edit_kept<M: Machine>(
+    alloc: Global,
+    machine: &M,
+    kept: &mut Playthrough<M>,
+    edits: &[Edit],
+    meter: &mut M::Meter,
+) -> Result<GroupReport, GroupFault>
+    requires few { length edits.now < 2 ^ 32 }
+    requires kept { KeepsPlay M.meaning M.is_state M.text (M.rules machine.now) kept.old }
+    ensures kept { KeepsPlay M.meaning M.is_state M.text (M.rules machine.now) kept.new }
+    ensures game { OnOk result (kept_game kept.new
+        ≡ apply_all (changes_of edits.now) (kept_game kept.old)) }
+    ensures every { kept.new.checkpoints.every ≡ kept.old.checkpoints.every }
+    ensures inverse { IfOk result (λ report. changes_of report.inverse.items
+        ≡ inverses_of (changes_of edits.now) (kept_game kept.old)) }
+    ensures back { IfOk result (λ report.
+        apply_all (changes_of report.inverse.items) (kept_game kept.new) ≡ kept_game kept.old) }
+    ensures back_accepted { let log = (kept_game kept.new).log in
+        IfOk result (λ report. fault_of_all (changes_of report.inverse.items) log 0 ≡ None) }
+
+    ensures refused { OnErr result (KeepsAll kept.old kept.new) }
+
+    ensures faults { let left = steps_left (M.Meter.count meter.old) in
+        IsAnswerTo (group_fault (changes_of edits.now) (kept_game kept.old).log left) result }
+    ensures report { let checkpoints = kept.old.checkpoints in
+        IfOk result (λ report. IsReport (M.rules machine.now) (changes_of edits.now)
+        (kept_game kept.old) checkpoints.every checkpoints.places
+        report.from report.met report.played) }
+    ensures steps { IfOk result (λ report. M.Meter.count meter.new
+        ≡ M.Meter.count meter.old + report.played) }
+    ensures bounded { let changes = changes_of edits.now in
+        let game = kept_game kept.old in
+        let fault = group_fault changes game.log (steps_left (M.Meter.count meter.old)) in
+        AreStepsBounded (M.rules machine.now) changes game kept.old.checkpoints.every fault
+        (M.Meter.count meter.old) (M.Meter.count meter.new) }
+{
+    let rerun = match replay(alloc, machine, kept, edits, meter) {
+        Ok(rerun) => rerun,
+        Err(fault) => return Err(fault),
+    };
+    let Rerun {
+        ready,
+        opening,
+        played,
+        at,
+    } = rerun;
+    let from = kept.checkpoints.places()[at];
+    if make_room(kept, &ready, &played, at).is_err() {
+        return Err(GroupFault::MEMORY);
+    }
+    let end = played.marks.next();
+    let met = met_place(played.met, end);
+    let inverse = take_over(kept, ready, opening, played, at);
+    Ok(GroupReport {
+        from,
+        met,
+        played: end - from,
+        inverse,
+    })
+}
+
+/// A changed game, replayed from the checkpoint of the index `at` on.
+#[derive(Drop)]
+pub(crate) struct Rerun<M: Machine> {
+    pub(crate) ready: ReadyEdits,
+    pub(crate) opening: Option<M::Piece>,
+    pub(crate) played: Segment<M>,
+    pub(crate) at: usize,
+}
+
+/// Plays the game that the edits make of the one that is kept, which stays as it is.
+fn replay<M: Machine>(
+    alloc: Global,
+    machine: &M,
+    kept: &Playthrough<M>,
+    edits: &[Edit],
+    meter: &mut M::Meter,
+) -> Result<Rerun<M>, GroupFault>
+    requires few { length edits.now < 2 ^ 32 }
+    requires kept { KeepsPlay M.meaning M.is_state M.text (M.rules machine.now) kept.now }
+    ensures edits { IfOk result (λ rerun.
+        AreEditsOf (changes_of edits.now) kept.now.seed kept.now.log.items rerun.ready) }
+    ensures rerun { let old = kept_game kept.now in
+        IfOk result (λ rerun. let new = new_game rerun.ready old.log in
+        let revision = revision_to (M.rules machine.now) (changes_of edits.now) old new in
+        let view = rerun_view M.text rerun in
+        IsRerun M.meaning M.is_state revision kept.now.checkpoints view) }
+    ensures faults { let left = steps_left (M.Meter.count meter.old) in
+        IsAnswerTo (group_fault (changes_of edits.now) (kept_game kept.now).log left) result }
+    ensures steps { IfOk result (λ rerun.
+        M.Meter.count meter.new + slice_index kept.now.checkpoints.places rerun.at
+        ≡ M.Meter.count meter.old + rerun.played.marks.next) }
+    ensures bounded { let changes = changes_of edits.now in
+        let game = kept_game kept.now in
+        let fault = group_fault changes game.log (steps_left (M.Meter.count meter.old)) in
+        AreStepsBounded (M.rules machine.now) changes game kept.now.checkpoints.every fault
+        (M.Meter.count meter.old) (M.Meter.count meter.new) }
+{
+    let old = OldPlay {
+        seed: kept.seed,
+        log: &kept.log,
+        checkpoints: &kept.checkpoints,
+    };
+    let left = meter.left();
+    let ready = match prepare(alloc, old.seed, old.log, edits, left) {
+        Ok(ready) => ready,
+        Err(fault) => return Err(fault),
+    };
+    let at = last_to(kept.checkpoints.places(), ready.head as u32);
+    let end = ready.lines as u32;
+    let Ok(start) = begin(alloc, machine, &old, ready.seed, at, end) else {
+        return Err(GroupFault::MEMORY);
+    };
+    let ReplayStart { opening, marks } = start;
+    let Ok(played) = play_changed(alloc, machine, &old, &ready, marks, meter) else {
+        return Err(GroupFault::MEMORY);
+    };
+    Ok(Rerun {
+        ready,
+        opening,
+        played,
+        at,
+    })
+}
+
+/// Where a replay begins: what the machine says if the game starts anew, and the marks at the first
+/// place.
+#[derive(Drop)]
+pub(crate) struct ReplayStart<M: Machine> {
+    pub(crate) opening: Option<M::Piece>,
+    pub(crate) marks: Marks<M::State>,
+}
+
+/// Begins the replay of a game of `end` lines at the checkpoint of the index `at`, or with another
+/// seed at the start.
+fn begin<M: Machine>(
+    alloc: Global,
+    machine: &M,
+    old: &OldPlay<'_, M::State>,
+    seed: u32,
+    at: usize,
+    end: u32,
+) -> Result<ReplayStart<M>, AllocError>
+    requires among { at < length old.now.checkpoints.now.places }
+    requires first { slice_index old.now.checkpoints.now.places 0 ≡ 0 }
+    requires within { slice_index old.now.checkpoints.now.places at ≤ end }
+    requires fresh { seed ≢ old.now.seed → at ≡ 0 }
+    ensures begun { IfOk result (λ start. IsBegunAt old.now.checkpoints.now at start.marks) }
+    ensures end { IfOk result (λ start. start.marks.end ≡ end) }
+    ensures every { IfOk result (λ start. start.marks.every ≡ old.now.checkpoints.now.every) }
+    ensures next { IfOk result (λ start.
+        start.marks.next ≡ slice_index old.now.checkpoints.now.places at) }
+    ensures marking { let first = (M.rules machine.now).begun seed in
+        let checkpoints = old.now.checkpoints.now in
+        IfOk result (λ start.
+        MarksBegin M.meaning M.is_state first (seed ≡ old.now.seed) checkpoints at start.marks) }
+    ensures opening { let greeting = (M.rules machine.now).greeting seed in
+        IfOk result (λ start.
+        MatchOption start.opening (seed ≡ old.now.seed) (λ piece. M.text piece ≡ greeting)) }
+{
+    if seed == old.seed {
+        let marks = old.checkpoints.marks(alloc, at, end)?;
+        return Ok(ReplayStart {
+            opening: None,
+            marks,
+        });
+    }
+    let started = machine.start(alloc, seed)?;
+    let marks = Marks::open(alloc, old.checkpoints.every(), end, started.state)?;
+    Ok(ReplayStart {
+        opening: Some(started.piece),
+        marks,
+    })
+}
+
+/// The place at which the plays met, if they did.
+fn met_place(met: Option<usize>, place: u32) -> Option<u32>
+    ensures { result ≡ option_map (λ _. place) met }
+{
+    match met {
+        Some(_) => Some(place),
+        None => None,
+    }
+}

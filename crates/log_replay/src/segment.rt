@@ -1,0 +1,205 @@
+ghost use Rattle.std.specs.Prelude.{◌≡◌, ℕ, ◌+◌, ◌-◌, ◌^◌, ◌<◌, ◌≤◌, ◌∷◌, [], ◌++◌, ◌↔◌};
+ghost use Rattle.std.specs.Prelude.{length, map, slice_index, IfOk, OnOk, IsTrue, None, Some};
+ghost use Rattle.log_lines.specs.Line.{is_line};
+ghost use Rattle.log_replay.specs.Play.{log_of};
+ghost use Rattle.log_replay.specs.ReadyEdits.{log_after_edits, ready_revision, IsReady};
+ghost use Rattle.log_replay.specs.Replay.{AreStates, IsMarking, MarksGoOn, AreFurther};
+ghost use Rattle.log_replay.specs.Replay.{IsNextIndex, SaysNew, TicksNew};
+ghost use Rattle.log_replay.specs.Replay.{states_of_old, states_of_new};
+ghost use Rattle.log_replay.specs.Replay.{HasMet, NoneMetBefore, IsWithinBound};
+ghost use Rattle.log_replay.specs.Report.{RisesByAtMost};
+ghost use Rattle.limits.specs.Limits.{max_log_lines};
+
+use crate::machine::Machine;
+use crate::ready_edits::ReadyEdits;
+use replay_marks::{Checkpoints, Marks, first_from};
+use std::alloc::{AllocError, Global};
+
+/// Lines that were played from a checkpoint on: what was said, which ticked, and the new marks.
+///
+/// `met` is the index of the old checkpoint at which the play met the old one.
+#[derive(Drop)]
+pub(crate) struct Segment<M: Machine> {
+    pub(crate) pieces: Vec<M::Piece>,
+    pub(crate) ticked: Vec<bool>,
+    pub(crate) marks: Marks<M::State>,
+    pub(crate) met: Option<usize>,
+}
+
+/// A game as it was before edits, with the checkpoints of its play.
+#[derive(Drop)]
+pub(crate) struct OldPlay<'a, S: Copy> {
+    pub(crate) seed: u32,
+    pub(crate) log: &'a [Vec<u8>],
+    pub(crate) checkpoints: &'a Checkpoints<S>,
+}
+
+/// Plays a changed game from the open place of the marks on, until the play meets the old one at a
+/// checkpoint, or to the end.
+pub(crate) fn play_changed<M: Machine>(
+    alloc: Global,
+    machine: &M,
+    old: &OldPlay<'_, M::State>,
+    ready: &ReadyEdits,
+    marks: Marks<M::State>,
+    meter: &mut M::Meter,
+) -> Result<Segment<M>, AllocError>
+    requires ready { IsReady old.now.seed old.now.log.now ready.now }
+    requires few { length old.now.log.now ≤ max_log_lines }
+    requires old_lines { old.now.checkpoints.now.lines ≡ length old.now.log.now }
+    requires old_states { let revision = ready_revision (M.rules machine.now) old.now ready.now in
+        AreStates M.meaning M.is_state (states_of_old revision) old.now.checkpoints.now.places
+        old.now.checkpoints.now.states }
+    requires marking { let revision = ready_revision (M.rules machine.now) old.now ready.now in
+        IsMarking M.meaning M.is_state (states_of_new revision) marks }
+    requires end { marks.end ≡ length (log_after_edits ready.now (log_of old.now.log.now)) }
+    requires every { marks.every ≡ old.now.checkpoints.now.every }
+    requires apart { 0 < marks.every }
+    requires from { marks.next ≤ ready.now.head }
+    requires near { ready.now.head ≤ marks.next + marks.every }
+    requires room { let new = log_after_edits ready.now (log_of old.now.log.now) in
+        M.Meter.count meter.old + length new < 2 ^ 64 }
+    ensures texts { let revision = ready_revision (M.rules machine.now) old.now ready.now in
+        IfOk result (λ played.
+        SaysNew revision marks.next (map M.text played.pieces.items) played.marks.next) }
+    ensures ticks { let revision = ready_revision (M.rules machine.now) old.now ready.now in
+        IfOk result (λ played. TicksNew revision marks.next played.ticked.items played.marks.next) }
+    ensures marking { let revision = ready_revision (M.rules machine.now) old.now ready.now in
+        IfOk result (λ played.
+        IsMarking M.meaning M.is_state (states_of_new revision) played.marks) }
+    ensures settings { IfOk result (λ played. AreFurther marks played.marks) }
+    ensures forward { IfOk result (λ played. marks.next ≤ played.marks.next) }
+    ensures inside { IfOk result (λ played. played.marks.next ≤ marks.end) }
+    ensures met { let revision = ready_revision (M.rules machine.now) old.now ready.now in
+        IfOk result (λ played.
+        HasMet revision old.now.checkpoints.now.places played.marks.next marks.end played.met) }
+    ensures none { let revision = ready_revision (M.rules machine.now) old.now ready.now in
+        IfOk result (λ played.
+        NoneMetBefore revision old.now.checkpoints.now.places played.marks.next) }
+    ensures steps { IfOk result (λ played. M.Meter.count meter.new + marks.next
+        ≡ M.Meter.count meter.old + played.marks.next) }
+    ensures counted { M.Meter.count meter.old ≤ M.Meter.count meter.new }
+    ensures bounded { let revision = ready_revision (M.rules machine.now) old.now ready.now in
+        let steps = M.Meter.count meter.new - M.Meter.count meter.old in
+        IsWithinBound revision marks.every steps }
+{
+    let end = ready.lines;
+    let new = ready.rest_after(old.log);
+    let mut index = first_from(old.checkpoints.places(), ready.rest as u32);
+    let mut played = Segment {
+        pieces: Vec::new(alloc),
+        ticked: Vec::new(alloc),
+        marks,
+        met: None,
+    };
+    'lines: loop {
+        let Some(further) = pass::<M>(old.checkpoints, index, ready.rest, new, &played.marks) else {
+            played.met = Some(index);
+            return Ok(played);
+        };
+        index = further;
+        let place = played.marks.next() as usize;
+        if place == end {
+            return Ok(played);
+        }
+        play_line(
+            alloc,
+            machine,
+            ready.line(old.log, place),
+            &mut played,
+            meter,
+        )?;
+    }
+}
+
+/// The index of the checkpoint to look at once the open place of the marks is passed, where `index`
+/// is the first that isn't before that place; none where the plays agree there. The old place `old`
+/// is `new` now.
+fn pass<M: Machine>(
+    checkpoints: &Checkpoints<M::State>,
+    index: usize,
+    old: usize,
+    new: usize,
+    marks: &Marks<M::State>,
+) -> Option<usize>
+    requires after { index < length checkpoints.now.places
+        → old ≤ slice_index checkpoints.now.places index }
+    requires few { new ≤ max_log_lines }
+    ensures { (old_at new_at : ℕ → M.Meaning)
+        → AreStates M.meaning M.is_state old_at checkpoints.now.places checkpoints.now.states
+        → IsMarking M.meaning M.is_state new_at marks.now
+        → IsNextIndex old_at new_at checkpoints.now.places index old new marks.now.next result }
+{
+    let place = marks.next() as usize;
+    if !comes_to(checkpoints.places(), index, old, new, place) {
+        return Some(index);
+    }
+    if agrees::<M>(checkpoints, index, marks) {
+        return None;
+    }
+    Some(index + 1)
+}
+
+/// Whether the old checkpoint of this index comes to the new place, as the old place `old` comes to
+/// `new`.
+fn comes_to(places: &[u32], index: usize, old: usize, new: usize, place: usize) -> bool
+    requires after { index < length places.now → old ≤ slice_index places.now index }
+    requires few { new ≤ max_log_lines }
+    ensures { IsTrue result ↔ ((index < length places.now)
+        × (slice_index places.now index - old + new ≡ place)) }
+{
+    index < places.len() && places[index] as usize - old + new == place
+}
+
+/// Whether the state at the old checkpoint of this index is the one at the open place of the marks.
+fn agrees<M: Machine>(
+    checkpoints: &Checkpoints<M::State>,
+    index: usize,
+    marks: &Marks<M::State>,
+) -> bool
+    requires { index < length checkpoints.now.places }
+    ensures { (old new : ℕ → M.Meaning)
+        → AreStates M.meaning M.is_state old checkpoints.now.places checkpoints.now.states
+        → IsMarking M.meaning M.is_state new marks.now
+        → (IsTrue result ↔ (new marks.now.next ≡ old (slice_index checkpoints.now.places index))) }
+{
+    *checkpoints.state(index) == *marks.state()
+}
+
+/// Plays one line more.
+pub(crate) fn play_line<M: Machine>(
+    alloc: Global,
+    machine: &M,
+    line: &[u8],
+    played: &mut Segment<M>,
+    meter: &mut M::Meter,
+) -> Result<(), AllocError>
+    requires made { M.is_state played.old.marks.state }
+    requires line { IsTrue (is_line line.now) }
+    requires room { M.Meter.count meter.old + 1 < 2 ^ 64 }
+    requires inside { played.old.marks.next < played.old.marks.end }
+    requires few { played.old.marks.end ≤ max_log_lines }
+    requires apart { 0 < played.old.marks.every }
+    ensures counted { OnOk result (M.Meter.count meter.new ≡ M.Meter.count meter.old + 1) }
+    ensures risen { RisesByAtMost (M.Meter.count meter.old) (M.Meter.count meter.new) 1 }
+    ensures pieces { let state = M.meaning played.old.marks.state in
+        let said = (M.rules machine.now).said state line.now in
+        OnOk result (map M.text played.new.pieces.items
+        ≡ map M.text played.old.pieces.items ++ said ∷ []) }
+    ensures ticked { let state = M.meaning played.old.marks.state in
+        let ticks = (M.rules machine.now).ticked state line.now in
+        OnOk result (played.new.ticked.items ≡ played.old.ticked.items ++ ticks ∷ []) }
+    ensures next { OnOk result (played.new.marks.next ≡ played.old.marks.next + 1) }
+    ensures marking { let state = M.meaning played.old.marks.state in
+        let next = (M.rules machine.now).after state line.now in
+        OnOk result (MarksGoOn M.meaning M.is_state next played.old.marks played.new.marks) }
+    ensures settings { OnOk result (AreFurther played.old.marks played.new.marks) }
+    ensures met { OnOk result (played.new.met ≡ played.old.met) }
+{
+    let place = played.marks.next() + 1;
+    played.marks.advance(place)?;
+    let stepped = machine.step(alloc, played.marks.state_mut(), line, meter)?;
+    played.pieces.push(stepped.piece)?;
+    played.ticked.push(stepped.ticked)?;
+    Ok(())
+}

@@ -1,0 +1,4 @@
+pub mod Marks
+pub mod PlacedStates
+pub mod Spacing
+pub mod Thinning

@@ -1,0 +1,70 @@
+ghost use Rattle.std.specs.Prelude.{◌≡◌, ℕ, ◌+◌, ◌-◌, ◌≤◌, List, [], ◌++◌, length, take, drop};
+ghost use Rattle.std.specs.Prelude.{vec_len, vec_capacity};
+ghost use Rattle.std.specs.List.{splice};
+
+/// Puts `middle` in the place of the items from `from` up to `to`, which are dropped, and leaves it
+/// empty.
+///
+/// It takes no memory: room for what `items` comes to hold is the caller's to reserve. The last
+/// items of both change places one by one, as many as both have; then one turn moves these, and
+/// what comes after them, by what the lengths differ.
+pub fn splice<T: Drop>(items: &mut Vec<T>, from: usize, to: usize, middle: &mut Vec<T>)
+    requires ordered { from ≤ to }
+    requires within { to ≤ vec_len items.old }
+    requires room { vec_len items.old + vec_len middle.old ≤ vec_capacity items.old + (to - from) }
+    ensures items { items.new.items ≡ splice items.old.items from to middle.old.items }
+    ensures len { vec_len items.new + (to - from) ≡ vec_len items.old + vec_len middle.old }
+    ensures capacity { vec_capacity items.old ≤ vec_capacity items.new }
+    ensures emptied { middle.new.items ≡ [] }
+    ensures kept_room { vec_capacity middle.new ≡ vec_capacity middle.old }
+{
+    let common = middle.len().min(to - from);
+    let more = middle.len() - common;
+    items[to - common..to].swap_with_slice(&mut middle[more..]);
+    middle.truncate(more);
+    take_out(items, from, to - common);
+    bring_in(items, from, middle);
+}
+
+/// Drops the items from `from` up to `to`.
+fn take_out<T: Drop>(items: &mut Vec<T>, from: usize, to: usize)
+    requires ordered { from ≤ to }
+    requires within { to ≤ vec_len items.old }
+    ensures items { items.new.items ≡ take from items.old.items ++ drop to items.old.items }
+    ensures len { vec_len items.new + (to - from) ≡ vec_len items.old }
+    ensures capacity { vec_capacity items.old ≤ vec_capacity items.new }
+{
+    let len = items.len();
+    turn(items.as_mut_slice(), from, len, to - from);
+    items.truncate(len - (to - from));
+}
+
+/// Puts `middle` before the items from `at` on, and leaves it empty.
+fn bring_in<T>(items: &mut Vec<T>, at: usize, middle: &mut Vec<T>)
+    requires within { at ≤ vec_len items.old }
+    requires room { vec_len items.old + vec_len middle.old ≤ vec_capacity items.old }
+    ensures items { items.new.items
+        ≡ take at items.old.items ++ (middle.old.items ++ drop at items.old.items) }
+    ensures len { vec_len items.new ≡ vec_len items.old + vec_len middle.old }
+    ensures capacity { vec_capacity items.old ≤ vec_capacity items.new }
+    ensures emptied { middle.new.items ≡ [] }
+    ensures kept_room { vec_capacity middle.new ≡ vec_capacity middle.old }
+{
+    let old = items.len();
+    match items.append(middle) {
+        Ok(()) => {}
+        Err(_) => unreachable!(),
+    }
+    let len = items.len();
+    turn(items.as_mut_slice(), at, len, old - at);
+}
+
+/// The first `count` of the items from `from` up to `to` go after the others of them.
+fn turn<T>(items: &mut [T], from: usize, to: usize, count: usize)
+    requires ordered { from + count ≤ to }
+    requires within { to ≤ length items.old }
+    ensures items { (a b c d : List T) → items.old ≡ a ++ (b ++ (c ++ d)) → length a ≡ from
+        → length b ≡ count → from + count + length c ≡ to → items.new ≡ a ++ (c ++ (b ++ d)) }
+{
+    items[from..to].rotate_left(count);
+}

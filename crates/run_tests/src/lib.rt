@@ -1,0 +1,21 @@
+//! Tests of runs that cross the crates, and the streams that they read and write.
+#![tactic(auto)]
+
+#[cfg(test)]
+mod caves;
+#[cfg(test)]
+mod each_limit;
+#[cfg(test)]
+mod endings;
+#[cfg(test)]
+mod faults;
+#[cfg(test)]
+mod memory;
+#[cfg(test)]
+mod readers;
+#[cfg(test)]
+mod runs;
+#[cfg(test)]
+mod streams;
+#[cfg(test)]
+mod writers;

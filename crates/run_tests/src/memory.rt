@@ -1,0 +1,51 @@
+//! Runs whose allocations are refused: `bench/refuse` refuses each in turn, and the gate none.
+
+use crate::caves::LONG_TEXT;
+use crate::runs::{EDITED_TEXT, Feeds, RunKind};
+use crate::streams::Sink;
+use cave_play::fault::PlayFault;
+use edit_options::View;
+use std::alloc::Global;
+use std::process::Abort;
+
+/// The long log as the usual script edits it.
+const EDITED_LOG: &str = "no\nIN\n# note\non\ndown\n";
+
+/// What that script replays, with a checkpoint at each line.
+const REPORTS: &str = "line 1: ok, from 2, met 3, played 1 of 6\nline 2: refused 1, no such line\n\
+line 3: ok, from 1, met none, played 4 of 5\nplayed 5 lines; \
+from the start it would have been 11\n";
+
+/// Does a run into a writer that needs no memory any more, so that where memory runs out, it is the
+/// run's own.
+fn expect_all_or_out_of_memory(
+    rt: &impl Abort,
+    alloc: Global,
+    command: RunKind,
+    view: View,
+    all: &str,
+) {
+    let Ok(mut sink) = Sink::with_room(alloc, 4_096) else {
+        return;
+    };
+    let mut feeds = Feeds::usual();
+    feeds.view = view;
+    match feeds.run_into(command, alloc, &mut sink) {
+        Ok(()) => assert_eq!(rt; sink.taken.as_slice(), all.as_bytes()),
+        Err(fault) => {
+            assert_eq!(rt; fault, PlayFault::Memory);
+            assert!(rt; sink.taken.is_empty());
+            assert_eq!(rt; sink.calls, 0);
+        }
+    }
+}
+
+#[test]
+fn out_of_memory_writes_nothing(rt: HostRuntime) {
+    let (alloc, shown) = (rt.alloc(), View::Transcript);
+    expect_all_or_out_of_memory(&rt, alloc, RunKind::Check, shown, "cave ok, maximum 132\n");
+    expect_all_or_out_of_memory(&rt, alloc, RunKind::Play, shown, LONG_TEXT);
+    expect_all_or_out_of_memory(&rt, alloc, RunKind::Edit, shown, EDITED_TEXT);
+    expect_all_or_out_of_memory(&rt, alloc, RunKind::Edit, View::Log, EDITED_LOG);
+    expect_all_or_out_of_memory(&rt, alloc, RunKind::Edit, View::Reports, REPORTS);
+}

@@ -1,0 +1,121 @@
+//! Readers and writers that misbehave on purpose, and count how often they are asked.
+
+use std::alloc::{AllocError, Global};
+use std::io;
+use std::io::{Read, Write};
+
+/// Gives its bytes in pieces. It fails at the ask with the number `failing`, or gives a byte at
+/// each ask without end.
+#[derive(Drop)]
+pub struct Source<'a> {
+    /// What is left to give.
+    pub bytes: &'a [u8],
+    /// The most bytes given at once.
+    pub piece: usize,
+    /// The ask that is answered by an error, counted from 1; 0 is none.
+    pub failing: u64,
+    /// Whether it never comes to its end.
+    pub endless: bool,
+    /// How often the source was asked.
+    pub asks: u64,
+}
+
+impl<'a> Source<'a> {
+    /// A source that gives all that it can at each ask.
+    pub fn of(bytes: &'a [u8]) -> Source<'a> {
+        Source::in_pieces(bytes, usize::MAX)
+    }
+
+    /// A source that gives at most so many bytes at each ask.
+    pub fn in_pieces(bytes: &'a [u8], piece: usize) -> Source<'a> {
+        Source {
+            bytes,
+            piece,
+            failing: 0,
+            endless: false,
+            asks: 0,
+        }
+    }
+
+    /// A source that answers its first ask by an error.
+    pub fn broken() -> Source<'a> {
+        let mut source = Source::of(&[]);
+        source.failing = 1;
+        source
+    }
+
+    /// A source that gives one byte at each ask, without end.
+    pub fn endless() -> Source<'a> {
+        let mut source = Source::of(&[]);
+        source.endless = true;
+        source
+    }
+}
+
+impl Read for Source<'_> {
+    fn read(&mut self, buf: &mut [u8]) -> io::Result<usize> {
+        self.asks = self.asks.saturating_add(1);
+        if self.asks == self.failing {
+            return Err(io::Error::other("the source fails"));
+        }
+        if self.endless && !buf.is_empty() {
+            buf[0] = b'x';
+            return Ok(1);
+        }
+        let bytes = self.bytes;
+        let count = self.piece.min(buf.len()).min(bytes.len());
+        buf[..count].copy_from_slice(&bytes[..count]);
+        self.bytes = &bytes[count..];
+        Ok(count)
+    }
+}
+
+/// Takes bytes in pieces, and fails at the call that it is given.
+#[derive(Drop)]
+pub struct Sink {
+    /// What was taken.
+    pub taken: Vec<u8>,
+    /// The most bytes taken at once.
+    pub piece: usize,
+    /// The call that is answered by an error, counted from 1; 0 is none.
+    pub failing: u64,
+    /// How often the sink was called.
+    pub calls: u64,
+}
+
+impl Sink {
+    /// A sink that takes at most so many bytes at each call.
+    pub fn in_pieces(alloc: Global, piece: usize) -> Sink {
+        Sink::over(Vec::new(alloc), piece)
+    }
+
+    /// A sink that needs no more memory for its first so many bytes.
+    pub fn with_room(alloc: Global, bytes: usize) -> Result<Sink, AllocError> {
+        Ok(Sink::over(Vec::with_capacity(alloc, bytes)?, usize::MAX))
+    }
+
+    fn over(taken: Vec<u8>, piece: usize) -> Sink {
+        Sink {
+            taken,
+            piece,
+            failing: 0,
+            calls: 0,
+        }
+    }
+}
+
+impl Write for Sink {
+    fn write(&mut self, buf: &[u8]) -> io::Result<usize> {
+        self.calls = self.calls.saturating_add(1);
+        if self.calls == self.failing {
+            return Err(io::Error::other("the sink fails"));
+        }
+        let count = self.piece.min(buf.len());
+        self.taken.extend_from_slice(&buf[..count])?;
+        Ok(count)
+    }
+
+    fn flush(&mut self) -> io::Result<()> {
+        Ok(())
+    }
+}
