@@ -78,11 +78,11 @@ judged_whole : (large larger : Bool) (lines_fault : Option CaveError)
     → option_or (if large then Some (too_large input.Cave) else None)
     (option_or (if larger then Some (too_large input.Bindings) else None)
     (option_or (option_map (λ error. fault.Cave error)
-    (if large then Some (cave_too_large site.Database)
-    else (if larger then Some (cave_too_large site.Bindings) else lines_fault))) None))
+    (option_or (if large then Some (cave_too_large site.Database)
+    else (if larger then Some (cave_too_large site.Bindings) else None)) lines_fault)) None))
     ≡ option_map (λ error. fault.Cave error)
-    (if large then Some (cave_too_large site.Database)
-    else (if larger then Some (cave_too_large site.Bindings) else lines_fault))
+    (option_or (if large then Some (cave_too_large site.Database)
+    else (if larger then Some (cave_too_large site.Bindings) else None)) lines_fault)
 judged_whole true larger lines_fault = refl
 judged_whole false true lines_fault = refl
 judged_whole false false None = refl

@@ -50,7 +50,7 @@ returns g c =
     let (moves, said, made) = c.in_ok-session.ensures.judged in
     let (edits, others, edited) = c.edit_session-text.ensures.judged in
     let editing = c.args.editing in
-    let cave = c.new.result.cave.now in
+    let cave = c.new-machine.result.cave.now in
     let right =
     λ (cave : CaveView) (text : Vec ℕ). IsEditOf editing.view cave editing.every
     (game_of editing.seed (lines moves)) edits text.items in
@@ -67,4 +67,4 @@ returns g c =
     let here =
     λ (cave : CaveView). Judges (log_stage moves ∷ script_stage edits ∷ []) (right cave)
     c.edit_session-text.text in
-    record { judged = (moves, edits, said, others, subst here c.new.ensures judged) }
+    record { judged = (moves, edits, said, others, subst here c.new-machine.ensures judged) }
