@@ -20,7 +20,7 @@ is_haunt cave is_pirate place =
 
 -- a row leads a dwarf on if it isn't closed to dwarves, by condition 100,
 -- and leads to a place where the dwarf goes and neither is nor was before
-unfoldable pub leads_dwarf_on : CaveView → Bool → Dwarf → Going → Bool
+abbrev pub leads_dwarf_on : CaveView → Bool → Dwarf → Going → Bool
 leads_dwarf_on cave is_pirate dwarf row =
     let place = row_number row in
     not (row_condition row == 100) && not (place == dwarf.last) && not (place == dwarf.place)

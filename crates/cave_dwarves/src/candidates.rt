@@ -32,7 +32,7 @@ fn is_haunt(rules: &Rules<'_>, is_pirate: bool, place: Place) -> bool
 }
 
 /// The place to which a row leads a dwarf on.
-#[tactic(auto, unfolding(crate::specs::Candidates::place_ahead, crate::specs::Candidates::leads_dwarf_on, crate::specs::Candidates::is_haunt))]
+#[tactic(auto, unfolding(crate::specs::Candidates::place_ahead, crate::specs::Candidates::is_haunt))]
 fn place_ahead(rules: &Rules<'_>, is_pirate: bool, dwarf: &Dwarf, row: &Row) -> Option<Place>
     ensures { result ≡ place_ahead (cave_of rules.now) is_pirate dwarf.now (going row.now) }
 {

@@ -39,7 +39,7 @@ use Rattle.cave_turn.specs.Answers.{reply_scene}
 use Rattle.cave_turn.specs.Commands.{after_beginning, travel_scene, puzzled_scene, next_scene}
 use Rattle.cave_turn.specs.Commands.{WordsDone}
 use Rattle.cave_turn.specs.Commands.{words_done_by_verb}
-use Rattle.cave_turn.specs.Commands.{done_by_reading, after_remembering, scene_remembering, scene_of_understood}
+use Rattle.cave_turn.specs.Commands.{done_by_reading, after_remembering, kept_scene, scene_of_understood}
 use Rattle.cave_turn.specs.Commands.{scene_of_words}
 use Rattle.cave_turn.specs.Commands.{after_clocks, clocks_scene, command_scene}
 use Rattle.cave_turn.specs.Finish.{is_hidden_in_hand, after_oyster_shows, layout_with_shown_up_to, after_hands_show}
@@ -208,8 +208,8 @@ remembering_kept P None x s h = h
 remembering_kept P (Some half) x s h = h
 
 settled_kept : (P : Claim) (x : ℕ) (d : WordsDone) → On P d.scene.state
-    → On P (scene_remembering x d).state
-unfolding scene_remembering
+    → On P (kept_scene x d).state
+unfolding kept_scene
 settled_kept P x d h = remembering_kept P d.kept x d.scene.state h
 
 -- what was understood is carried out
@@ -243,7 +243,7 @@ after_clocks_kept : {n : ℕ} {P : Claim} (k : IsKept n P) (cave : CaveView) (wo
     (before : ℕ)
     (o : Clocks) (p : Scene) → After (Calm P) before o p.state
     → On P (after_clocks cave words o p).state
-unfolding scene_remembering
+unfolding kept_scene
 after_clocks_kept k cave words before clocks.GoOn p h = done_for_kept k cave words p h
 after_clocks_kept {n} {P} k cave words before clocks.GaveUp p h =
     ended_kept P cave ending_is.Quit p (k.ends ending_is.Quit _ _ _ _ _ _ _ h.0)

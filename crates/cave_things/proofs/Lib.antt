@@ -1,1 +1,1 @@
-pub mod SpecialNumbers
+pub mod Meanings

@@ -16,7 +16,7 @@ fn number_or_none(meaning: Option<Meaning>) -> u16
 
 impl Rules<'_> {
     /// The number of a word among the special words; 0 if it is none of them.
-    #[tactic(auto, using(crate::proofs::SpecialNumbers::specials), unfolding(crate::specs::SpecialWords::special))]
+    #[tactic(auto, using(crate::proofs::Meanings::specials), unfolding(crate::specs::SpecialWords::special))]
     pub fn special(&self, word: Word) -> u16
         ensures value { result ≡ special (cave_of self.now) word }
         ensures within { result < 1000 }

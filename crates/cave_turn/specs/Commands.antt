@@ -123,12 +123,12 @@ after_remembering None x s =
 after_remembering (Some half) x s =
     let talk = s.talk in record s { talk = record talk { verb = half.verb; object = half.object } }
 
-unfoldable pub scene_remembering : ℕ → WordsDone → Scene
-scene_remembering x d = with_state (after_remembering d.kept x d.scene.state) d.scene
+unfoldable pub kept_scene : ℕ → WordsDone → Scene
+kept_scene x d = with_state (after_remembering d.kept x d.scene.state) d.scene
 
 unfoldable pub scene_of_understood : CaveView → Understood → Scene → Scene
 scene_of_understood cave u p =
-    scene_remembering u.half.object (done_by_reading cave u.half u.reading p)
+    kept_scene u.half.object (done_by_reading cave u.half u.reading p)
 
 -- an input line has a first word
 abbrev pub scene_of_words : CaveView → Words → Scene → Scene
@@ -141,7 +141,7 @@ scene_of_words cave words p =
 
 -- a command that isn't read leaves nothing for the next line
 abbrev pub unread_scene : Scene → Scene
-unread_scene p = scene_remembering 0 (words_done p None)
+unread_scene p = kept_scene 0 (words_done p None)
 
 -- what the clocks leave of a command: it is read, or the player gave up, or is where the cave
 -- closed

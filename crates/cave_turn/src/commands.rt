@@ -10,7 +10,7 @@ ghost use Rattle.cave_turn.specs.Commands.{after_beginning};
 ghost use Rattle.cave_turn.specs.Commands.{travel_scene, puzzlement, puzzled_scene, after_vanished_knives};
 ghost use Rattle.cave_turn.specs.Commands.{next_scene, half_command_kept, words_done, words_done_by_verb, done_by_reading};
 ghost use Rattle.cave_turn.specs.Commands.{after_remembering};
-ghost use Rattle.cave_turn.specs.Commands.{scene_remembering, scene_of_understood, scene_of_words, unread_scene};
+ghost use Rattle.cave_turn.specs.Commands.{kept_scene, scene_of_understood, scene_of_words, unread_scene};
 ghost use Rattle.cave_turn.specs.Commands.{after_clocks};
 ghost use Rattle.cave_turn.specs.Commands.{clocks_scene, command_scene};
 
@@ -217,7 +217,7 @@ fn remember(kept: Option<HalfCommand>, object: Object, state: &mut State)
 }
 
 /// What was read is carried out, and what is left of it is remembered.
-#[tactic(auto, unfolding(crate::specs::Commands::scene_of_understood, crate::specs::Commands::scene_remembering))]
+#[tactic(auto, unfolding(crate::specs::Commands::scene_of_understood, crate::specs::Commands::kept_scene))]
 fn carry_out(rules: &Rules<'_>, understood: &Understood, play: &mut Play<'_>)
     requires { HasRoom (room_of_deed play.old.left) play.old }
     ensures play { scene_of play.new
@@ -248,7 +248,7 @@ fn do_words(rules: &Rules<'_>, words: Words, play: &mut Play<'_>)
 }
 
 /// A command that isn't read leaves nothing for the next line.
-#[tactic(auto, unfolding(crate::specs::Commands::scene_remembering))]
+#[tactic(auto, unfolding(crate::specs::Commands::kept_scene))]
 fn forget(play: &mut Play<'_>)
     ensures play { scene_of play.new ≡ unread_scene (scene_of play.old) }
     ensures same { GoesOn play.old play.new }

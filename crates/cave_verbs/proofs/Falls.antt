@@ -67,5 +67,4 @@ near-there cave s (suc x) h = grind arith
 
 -- no verb goes on more than three times
 pub few_ranks : (cave : CaveView) (v x : ℕ) → rank cave v x ≤ 3
-unfolding rank
 few_ranks cave v x = grind arith

@@ -1,5 +1,5 @@
-pub mod DroppingLemmas
+pub mod DropLemmas
 pub mod Falls
+pub mod FillLemmas
 pub mod Listed
 pub mod Near
-pub mod PouringLemmas

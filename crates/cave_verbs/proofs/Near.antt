@@ -6,7 +6,7 @@ use Rattle.cave_objects.specs.Objects.{spot_of, is_carried, is_first_at}
 use Rattle.cave_world.specs.declared.state.State.{State}
 use Rattle.cave_things.specs.Reach.{is_called, is_in_hand, is_near}
 
-pub near_is_something : (cave : CaveView) (s : State) (x : ℕ) → is_near cave s x ≡ true → 0 < x
+pub is_something : (cave : CaveView) (s : State) (x : ℕ) → is_near cave s x ≡ true → 0 < x
 unfolding is_near is_in_hand is_called is_carried is_first_at spot_of
-near_is_something cave s zero near = absurd (false≢true near)
-near_is_something cave s (suc x) near = omega arith
+is_something cave s zero near = absurd (false≢true near)
+is_something cave s (suc x) near = omega arith

@@ -26,7 +26,7 @@ throw_rank cave x = if is_called cave x name.Rod then 3 else 2
 abbrev pub bare_rank : ℕ → ℕ
 bare_rank x = if x == 0 then 1 else 0
 
-unfoldable pub rank : CaveView → ℕ → ℕ → ℕ
+abbrev pub rank : CaveView → ℕ → ℕ → ℕ
 rank cave v x =
     if v == verb.TAKE then take_rank cave x
     else (if v == verb.DROP then drop_rank cave x

@@ -33,7 +33,7 @@ use cave_things::Rules;
 use cave_world::{Out, State};
 
 /// Does a verb that is done to no object.
-#[tactic(auto, unfolding(crate::specs::Acting::bare_outcome, crate::specs::Ranks::rank))]
+#[tactic(auto, unfolding(crate::specs::Acting::bare_outcome))]
 fn act_bare(rules: &Rules<'_>, order: Order, state: &mut State, out: &mut Out) -> Step
     requires bare { order.object ≡ 0 }
     requires room { array_vec_len out.old + 102 ≤ 512 }
@@ -69,7 +69,7 @@ fn act_bare(rules: &Rules<'_>, order: Order, state: &mut State, out: &mut Out) -
 }
 
 /// Does a verb that is done to an object.
-#[tactic(auto, unfolding(crate::specs::Acting::object_outcome, crate::specs::Ranks::rank))]
+#[tactic(auto, unfolding(crate::specs::Acting::object_outcome))]
 fn act_on(rules: &Rules<'_>, order: Order, state: &mut State, out: &mut Out) -> Step
     requires object { 0 < order.object }
     requires room { array_vec_len out.old + 102 ≤ 512 }

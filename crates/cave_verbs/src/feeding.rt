@@ -86,7 +86,7 @@ pub fn feed(rules: &Rules<'_>, order: Order, state: &mut State, out: &mut Out) -
 }
 
 /// EAT without an object.
-#[tactic(auto, using(crate::proofs::Near::near_is_something), unfolding(crate::specs::Feeding::bare_eat_rows, crate::specs::Ranks::rank))]
+#[tactic(auto, using(crate::proofs::Near::is_something), unfolding(crate::specs::Feeding::bare_eat_rows))]
 pub fn eat_what_is_here(rules: &Rules<'_>, order: Order, state: &mut State, out: &mut Out) -> Step
     requires { array_vec_len out.old + 2 ≤ 512 }
     ensures row { outcome state.new out.new.items result

@@ -65,7 +65,7 @@ fn prey(rules: &Rules<'_>, order: &Order, state: &State) -> Meant
 }
 
 /// KILL without an object.
-#[tactic(auto, unfolding(crate::specs::Killing::bare_kill_rows, crate::specs::Ranks::rank))]
+#[tactic(auto, unfolding(crate::specs::Killing::bare_kill_rows))]
 pub fn kill_what_is_here(rules: &Rules<'_>, order: Order, state: &mut State, out: &mut Out) -> Step
     requires { array_vec_len out.old + 2 ≤ 512 }
     ensures row { outcome state.new out.new.items result

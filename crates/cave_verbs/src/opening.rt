@@ -48,7 +48,6 @@ fn lock_meant(rules: &Rules<'_>, state: &State) -> Object
 }
 
 /// An order to open or to lock goes on with an object.
-#[tactic(auto, unfolding(crate::specs::Ranks::rank))]
 fn go_on_with(rules: &Rules<'_>, order: Order, object: Object) -> Step
     requires verb { IsTrue (order.verb == verb.OPEN || order.verb == verb.LOCK) }
     requires some { 0 < object }
@@ -62,7 +61,7 @@ fn go_on_with(rules: &Rules<'_>, order: Order, object: Object) -> Step
 }
 
 /// OPEN or LOCK without an object.
-#[tactic(auto, using(crate::proofs::Near::near_is_something), unfolding(crate::specs::Opening::bare_open_rows))]
+#[tactic(auto, using(crate::proofs::Near::is_something), unfolding(crate::specs::Opening::bare_open_rows))]
 pub fn open_what_is_here(rules: &Rules<'_>, order: Order, state: &mut State, out: &mut Out) -> Step
     requires room { array_vec_len out.old + 2 ≤ 512 }
     requires verb { IsTrue (order.verb == verb.OPEN || order.verb == verb.LOCK) }

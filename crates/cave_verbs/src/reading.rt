@@ -44,7 +44,7 @@ fn what_to_read(rules: &Rules<'_>, order: &Order, state: &State) -> Object
 }
 
 /// READ without an object.
-#[tactic(auto, unfolding(crate::specs::Reading::bare_read_rows, crate::specs::Ranks::rank))]
+#[tactic(auto, unfolding(crate::specs::Reading::bare_read_rows))]
 pub fn read_what_is_here(rules: &Rules<'_>, order: Order, state: &mut State, out: &mut Out) -> Step
     requires { array_vec_len out.old + 2 ≤ 512 }
     ensures row { outcome state.new out.new.items result

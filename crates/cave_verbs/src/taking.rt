@@ -30,7 +30,7 @@ fn lone_object(halves: &[Half]) -> Object
 }
 
 /// TAKE without an object.
-#[tactic(auto, unfolding(crate::specs::Taking::bare_take_rows, crate::specs::Ranks::rank))]
+#[tactic(auto, unfolding(crate::specs::Taking::bare_take_rows))]
 pub fn take_what_is_here(rules: &Rules<'_>, order: Order, state: &mut State, out: &mut Out) -> Step
     requires { array_vec_len out.old < 512 }
     ensures row { outcome state.new out.new.items result
@@ -46,7 +46,7 @@ pub fn take_what_is_here(rules: &Rules<'_>, order: Order, state: &mut State, out
 }
 
 /// TAKE an object.
-#[tactic(auto, unfolding(crate::specs::Taking::take_rows, crate::specs::Ranks::rank))]
+#[tactic(auto, unfolding(crate::specs::Taking::take_rows))]
 pub fn take(rules: &Rules<'_>, order: Order, state: &mut State, out: &mut Out) -> Step
     requires { array_vec_len out.old < 512 }
     ensures row { outcome state.new out.new.items result

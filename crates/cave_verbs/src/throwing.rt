@@ -90,7 +90,7 @@ fn throw_at_dwarf(rules: &Rules<'_>, order: Order, state: &mut State, out: &mut 
 }
 
 /// The axe is thrown where no dwarf is.
-#[tactic(auto, unfolding(crate::specs::Throwing::axe_rows, crate::specs::Ranks::rank))]
+#[tactic(auto, unfolding(crate::specs::Throwing::axe_rows))]
 fn throw_at_beast(rules: &Rules<'_>, order: Order, state: &mut State, out: &mut Out) -> Step
     requires { array_vec_len out.old + 2 ≤ 512 }
     ensures row { outcome state.new out.new.items result
@@ -135,7 +135,7 @@ fn throw_axe(rules: &Rules<'_>, order: Order, state: &mut State, out: &mut Out) 
 }
 
 /// THROW an object.
-#[tactic(auto, unfolding(crate::specs::Throwing::throw_outcome, crate::specs::Throwing::throw_rows, crate::specs::Ranks::rank))]
+#[tactic(auto, unfolding(crate::specs::Throwing::throw_outcome, crate::specs::Throwing::throw_rows))]
 pub fn throw(rules: &Rules<'_>, order: Order, state: &mut State, out: &mut Out) -> Step
     requires { array_vec_len out.old + 2 ≤ 512 }
     ensures row { outcome state.new out.new.items result

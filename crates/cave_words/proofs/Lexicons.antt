@@ -16,13 +16,13 @@ use Rattle.cave_words.specs.declared.named.Named.{Named}
 use Rattle.cave_words.specs.declared.named.Named.TheVariants as name
 use Rattle.cave_words.specs.declared.named.TheConstants.{EACH_NAME}
 
-pub found_means : (cave : CaveView) (lexicon : LexiconView) (word : List ℕ)
+pub finds : (cave : CaveView) (lexicon : LexiconView) (word : List ℕ)
     → IsLexiconOf cave lexicon → meaning_of_word lexicon word ≡ meaning cave word
-found_means cave lexicon word is = is.finds word
+finds cave lexicon word is = is.finds word
 
-pub found_in_means : (cave : CaveView) (lexicon : LexiconView) (word : List ℕ) (class : Class)
+pub finds_in : (cave : CaveView) (lexicon : LexiconView) (word : List ℕ) (class : Class)
     → IsLexiconOf cave lexicon → found_in lexicon word class ≡ meaning_in cave word class
-found_in_means cave lexicon word class is = is.finds_in word class
+finds_in cave lexicon word class is = is.finds_in word class
 
 pub found_object_means : (cave : CaveView) (lexicon : LexiconView) (name : Named)
     → IsLexiconOf cave lexicon → found_object lexicon name ≡ object_named cave name

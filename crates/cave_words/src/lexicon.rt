@@ -70,7 +70,7 @@ impl Lexicon {
     }
 
     /// What a word means: what its first row in the cave says.
-    #[tactic(auto, using(crate::proofs::Lexicons::found_means), unfolding(crate::specs::Lexicon::meaning_of_word))]
+    #[tactic(auto, using(crate::proofs::Lexicons::finds), unfolding(crate::specs::Lexicon::meaning_of_word))]
     pub fn find(&self, word: Word) -> Option<Meaning>
         ensures meaning_of_word { result ≡ meaning_of_word self.now word }
         ensures meaning { (cave : CaveView) → IsLexiconOf cave self.now
@@ -81,7 +81,7 @@ impl Lexicon {
     }
 
     /// What a word means in a class: what its first row of that class in the cave says.
-    #[tactic(auto, using(crate::proofs::Lexicons::found_in_means), unfolding(crate::specs::Lexicon::found_in))]
+    #[tactic(auto, using(crate::proofs::Lexicons::finds_in), unfolding(crate::specs::Lexicon::found_in))]
     pub fn find_in(&self, word: Word, class: Class) -> Option<Meaning>
         ensures meaning_of_word { result ≡ found_in self.now word class }
         ensures meaning { (cave : CaveView) → IsLexiconOf cave self.now

@@ -9,8 +9,9 @@
 //!   one and the end are at most `every` apart, and two gaps that follow one another together
 //!   exceed `every`. So there are at most `2 (n / (every + 1)) + 2` of them in a log of n lines.
 //! - [`Marks`] are the new checkpoints of a play that goes on: it advances from place to place,
-//!   each at most `every` past the one before it, and the place reached last is kept only where the next
-//!   one lies more than `every` past the last one kept. The state at it is changed where it is.
+//!   each at most `every` past the one before it, and the place reached last is kept only where the
+//!   next one lies more than `every` past the last one kept. The state at it is changed where it
+//!   is.
 //! - [`Checkpoints::meet`] and [`Checkpoints::replace_from`] take marks over. The checkpoints
 //!   before stay where they are, and those after move with the one that was met.
 //! - [`splice`] puts a stretch into a list in the place of another.
@@ -22,9 +23,9 @@
 //! | `last_to`, `first_from` | a binary search |
 //! | `Checkpoints::marks` | two states copied, each into a Box of its own |
 //! | `Marks::open` | the same for the state at the start, and room for all places that can be kept |
-//! | `Marks::advance` | a comparison; where the open place is kept, a Box for a copy of its state, and room that doubles as it runs out |
-//! | `meet`, `replace_from` | a `splice` of the checkpoints that were passed; a pass over the places after them where the length changed |
-//! | `splice` | the stretch item by item; where its length changes, one turn of it and the items after it by the difference |
+//! | `Marks::advance` | a comparison; where the open place is kept, a copy of its state, and room for it |
+//! | `meet`, `replace_from` | a `splice` of those passed; where the length changed, a pass over those after |
+//! | `splice` | the stretch item by item; where its length changes, a turn of it with the items after |
 //!
 //! A turn is a block move where either side of it is one item or has at most 4,096 bytes; else it
 //! exchanges items. A state that is kept stays where it is until its checkpoint goes: what moves is

@@ -6,7 +6,6 @@ use Rattle.std.proofs.Common.{rules}
 use Rattle.cave_verbs.proofs.taking.take.Goals as goal
 
 pub returns-then-is_near-clause-ranks : goal.returns-then-is_near-clause-ranks
-unfolding rank
 returns-then-is_near-clause-ranks c =
     rw c.object-bottle.ensures
     (take-falls (cave_of c.args.rules.now) c.args.state.now c.args.order.object (search rules))
