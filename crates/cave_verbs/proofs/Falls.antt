@@ -12,7 +12,7 @@ use Rattle.cave_things.specs.Things.{thing, object_called}
 use Rattle.cave_things.specs.Reach.{is_called, is_in_hand, is_near}
 use Rattle.cave_objects.specs.Objects.{is_carried, is_first_at, spot_of}
 use Rattle.cave_things.specs.Liquids.{liquid_of, is_liquid}
-use Rattle.cave_verbs.specs.Ranks.{take_rank, rank}
+use Rattle.cave_verbs.specs.Ranks.{take_rank, drop_rank, bare_rank, rank}
 
 -- the bottle is no liquid
 pub bottle-water : (cave : CaveView) → is_called cave (thing cave name.Bottle) name.Water ≡ false
@@ -56,6 +56,11 @@ pub second-rod : (cave : CaveView) → is_called cave (thing cave name.SecondRod
 unfolding is_called thing object_called object_named name_of
 second-rod cave = second_differs (object_of_word cave (name_of name.Rod))
 
+-- from the rod to the second rod the rank of DROP falls
+pub drop_falls : (cave : CaveView) (x y : ℕ) → is_called cave x name.Rod ≡ true
+    → y ≡ thing cave name.SecondRod → suc (drop_rank cave y) ≤ drop_rank cave x
+drop_falls cave x y rod second = let other = second-rod cave in grind (arith, other)
+
 -- nothing that isn't there is near
 nothing-near : (cave : CaveView) (s : State) → is_near cave s 0 ≡ false
 unfolding is_near is_in_hand is_called is_carried is_first_at spot_of
@@ -64,6 +69,11 @@ nothing-near cave s = refl
 pub near-there : (cave : CaveView) (s : State) (x : ℕ) → is_near cave s x ≡ true → (x == 0) ≡ false
 near-there cave s zero h = absurd (true≢false (sym h ∙ nothing-near cave s))
 near-there cave s (suc x) h = grind arith
+
+-- from no object to one at hand the rank of FILL falls
+pub fill_falls : (cave : CaveView) (s : State) (x : ℕ) → is_near cave s x ≡ true
+    → suc (bare_rank x) ≤ 1
+fill_falls cave s x near = let there = near-there cave s x near in grind (arith, there)
 
 -- no verb goes on more than three times
 pub few_ranks : (cave : CaveView) (v x : ℕ) → rank cave v x ≤ 3

@@ -1,5 +1,3 @@
-pub mod DropLemmas
 pub mod Falls
-pub mod FillLemmas
 pub mod Listed
 pub mod Near

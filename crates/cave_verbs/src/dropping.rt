@@ -43,7 +43,7 @@ fn drop_bird_by_snake(rules: &Rules<'_>, order: Order, state: &mut State, out: &
 }
 
 /// DROP an object.
-#[tactic(auto, unfolding(crate::specs::Dropping::drop_rows), using(crate::proofs::DropLemmas::drop_falls))]
+#[tactic(auto, unfolding(crate::specs::Dropping::drop_rows), using(crate::proofs::Falls::drop_falls))]
 pub fn drop_object(rules: &Rules<'_>, order: Order, state: &mut State, out: &mut Out) -> Step
     requires { array_vec_len out.old + 2 ≤ 512 }
     ensures row { outcome state.new out.new.items result

@@ -142,7 +142,7 @@ pub fn drink(rules: &Rules<'_>, order: Order, state: &mut State, out: &mut Out) 
 }
 
 /// FILL without an object.
-#[tactic(auto, unfolding(crate::specs::Pouring::bare_fill_rows), using(crate::proofs::FillLemmas::fill_falls))]
+#[tactic(auto, unfolding(crate::specs::Pouring::bare_fill_rows), using(crate::proofs::Falls::fill_falls))]
 pub fn fill_what(rules: &Rules<'_>, order: Order, state: &mut State, out: &mut Out) -> Step
     requires { array_vec_len out.old + 2 ≤ 512 }
     ensures row { outcome state.new out.new.items result
