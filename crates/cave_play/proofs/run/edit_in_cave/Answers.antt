@@ -66,5 +66,5 @@ returns g c =
     edited in
     let here =
     λ (cave : CaveView). Judges (log_stage moves ∷ script_stage edits ∷ []) (right cave)
-    c.edit_session-text.text in
+    c.edit_session-text.result in
     record { judged = (moves, edits, said, others, subst here c.new-machine.ensures judged) }
