@@ -18,7 +18,7 @@ use Rattle.cave_objects.specs.Halves.{half_number}
 use Rattle.cave_objects.specs.Layout.{Layout}
 use Rattle.cave_objects.specs.Lists.{halves_at, has_half, with_half, put_first, with_half_moved}
 use Rattle.cave_objects.specs.Lists.{without}
-use Rattle.cave_objects.specs.Objects.{anchored_to, brought_to, moved_to, without_places, with_prop}
+use Rattle.cave_objects.specs.Objects.{with_anchor, with_spot, with_place, without_places, with_prop}
 use Rattle.cave_objects.specs.Spots.{is_place, spot_at}
 use Rattle.cave_objects.specs.declared.lists.PlacedHalf.{PlacedHalf}
 use Rattle.cave_objects.specs.declared.object.Half.{Half}
@@ -29,10 +29,10 @@ use Rattle.cave_objects.specs.declared.spot.Spot.TheVariants as spot
 use Rattle.cave_objects.proofs.Places.{halves_at-put_first}
 use Rattle.cave_things.specs.Homes.{home, hold_of}
 use Rattle.cave_begin.specs.Begin.{is_placed_now, all_objects, objects_due, start_prop, start_order}
-use Rattle.cave_begin.specs.Begin.{start_halves, start_list, both_halves, place_of_half, laid_out}
-use Rattle.cave_begin.specs.Begin.{begun_objects}
+use Rattle.cave_begin.specs.Begin.{start_halves, start_list, both_halves, place_of_half, lists_of_halves}
+use Rattle.cave_begin.specs.Begin.{starting_objects}
 use Rattle.cave_things.specs.Treasures.{treasures, known_treasures}
-use Rattle.cave_begin.specs.Placing.{after_placing, all_placed, all_hidden}
+use Rattle.cave_begin.specs.Placing.{after_placing, after_placing_all, after_hiding_all}
 
 -- ---- numbers in a range
 in_range : (a n k : ℕ) → list_any (eqb k) (range_with_len a n) ≡ (leb a k && ltb k (a + n))
@@ -236,16 +236,16 @@ any-with_half n half None es h none = none
 any-with_half n half (Some place) es h none =
     any-put_first (has_half n) (record { place = place; half = half }) es h none
 
-any-laid_out : (cave : CaveView) (n : ℕ) (halves : List Half)
+any-lists_of_halves : (cave : CaveView) (n : ℕ) (halves : List Half)
     → list_any (λ (h : Half). eqb (half_number h) n) halves ≡ false
-    → list_any (has_half n) (laid_out cave halves) ≡ false
-any-laid_out cave n [] none = refl
-any-laid_out cave n (half ∷ halves) none =
+    → list_any (has_half n) (lists_of_halves cave halves) ≡ false
+any-lists_of_halves cave n [] none = refl
+any-lists_of_halves cave n (half ∷ halves) none =
     let parts =
     or_parts (eqb (half_number half) n) (list_any (λ (h : Half). eqb (half_number h) n) halves)
     none in
-    any-with_half n half (place_of_half cave half) (laid_out cave halves) parts.0
-    (any-laid_out cave n halves parts.1)
+    any-with_half n half (place_of_half cave half) (lists_of_halves cave halves) parts.0
+    (any-lists_of_halves cave n halves parts.1)
 
 relisted_new : (half : Half) (place : Option ℕ) (es : List PlacedHalf)
     → list_any (has_half (half_number half)) es ≡ false
@@ -286,7 +286,7 @@ placed_is : (cave : CaveView) (x : ℕ) (o : Layout) → 0 < x
       lists = with_half_moved (First x) (place_of_half cave (First x))
           (with_half_moved (Second x) (place_of_half cave (Second x)) o.lists);
     }
-unfolding after_placing moved_to brought_to anchored_to
+unfolding after_placing with_place with_spot with_anchor
 placed_is cave x o h =
     let some : eqb x 0 ≡ false = ne_eqb x 0 (λ e. absurd (omega (arith, e))) in rw some refl
 
@@ -296,21 +296,21 @@ standing cave xs o = record {
   first = sets (λ x. spot_at (home cave x)) xs o.first;
   second = sets (hold_of cave) xs o.second;
   props = o.props;
-  lists = laid_out cave (flat_map both_halves xs);
+  lists = lists_of_halves cave (flat_map both_halves xs);
 }
 
 next_lists : (cave : CaveView) (x : ℕ) (xs : List ℕ) → IsOrder (x ∷ xs)
     → with_half_moved (First x) (place_of_half cave (First x))
     (with_half_moved (Second x) (place_of_half cave (Second x))
-    (laid_out cave (flat_map both_halves xs)))
-    ≡ laid_out cave (flat_map both_halves (x ∷ xs))
+    (lists_of_halves cave (flat_map both_halves xs)))
+    ≡ lists_of_halves cave (flat_map both_halves (x ∷ xs))
 next_lists cave x xs o =
-    let es : List PlacedHalf = laid_out cave (flat_map both_halves xs) in
+    let es : List PlacedHalf = lists_of_halves cave (flat_map both_halves xs) in
     let free = apart x xs o.0 o.1.0 o.1.1.0 o.1.1.1 in
     let none : list_any (has_half (100 + x)) es ≡ false =
-    any-laid_out cave (100 + x) (flat_map both_halves xs) free.1 in
+    any-lists_of_halves cave (100 + x) (flat_map both_halves xs) free.1 in
     let none_first : list_any (has_half x) es ≡ false =
-    any-laid_out cave x (flat_map both_halves xs) free.0 in
+    any-lists_of_halves cave x (flat_map both_halves xs) free.0 in
     let differs : eqb (100 + x) x ≡ false = ne_eqb (100 + x) x (λ e. absurd (omega (arith, e))) in
     let second = relisted_new (Second x) (place_of_half cave (Second x)) es none in
     let still : list_any (has_half x) (with_half (Second x) (place_of_half cave (Second x)) es)
@@ -321,7 +321,7 @@ next_lists cave x xs o =
     (with_half (Second x) (place_of_half cave (Second x)) es) still
 
 all_stand : (cave : CaveView) (xs : List ℕ) (o : Layout) → IsOrder xs → o.lists ≡ []
-    → all_placed cave xs o ≡ standing cave xs o
+    → after_placing_all cave xs o ≡ standing cave xs o
 all_stand cave [] o order none =
     λ i. record { first = o.first; second = o.second; props = o.props; lists = none i }
 all_stand cave (x ∷ xs) o order none =
@@ -336,11 +336,11 @@ all_stand cave (x ∷ xs) o order none =
       lists = lists i;
     }))
 
-pub all_placed-append : (cave : CaveView) (xs ys : List ℕ) (o : Layout)
-    → all_placed cave (xs ++ ys) o ≡ all_placed cave xs (all_placed cave ys o)
-all_placed-append cave [] ys o = refl
-all_placed-append cave (x ∷ xs) ys o =
-    ap (λ l. after_placing cave x l) (all_placed-append cave xs ys o)
+pub after_placing_all-append : (cave : CaveView) (xs ys : List ℕ) (o : Layout)
+    → after_placing_all cave (xs ++ ys) o ≡ after_placing_all cave xs (after_placing_all cave ys o)
+after_placing_all-append cave [] ys o = refl
+after_placing_all-append cave (x ∷ xs) ys o =
+    ap (λ l. after_placing cave x l) (after_placing_all-append cave xs ys o)
 
 -- ---- treasures that are hidden
 abbrev hides : List ℕ → List ℤ → List ℤ
@@ -368,7 +368,7 @@ get-hides (x ∷ xs) l k d o h =
       either false b = refl
 
 all_hidden_is : (xs : List ℕ) (o : Layout) → IsOrder xs
-    → all_hidden xs o ≡ record o { props = hides xs o.props }
+    → after_hiding_all xs o ≡ record o { props = hides xs o.props }
 unfolding with_prop
 all_hidden_is [] o h = refl
 all_hidden_is (x ∷ xs) o h =
@@ -396,9 +396,10 @@ props_begin cave =
 
 -- ---- the start
 pub begun_is : (cave : CaveView)
-    → all_placed cave (start_order cave) (all_hidden (known_treasures cave) without_places)
-    ≡ begun_objects cave
-unfolding begun_objects without_places
+    → after_placing_all cave (start_order cave)
+    (after_hiding_all (known_treasures cave) without_places)
+    ≡ starting_objects cave
+unfolding starting_objects without_places
 begun_is cave =
     let hidden = all_hidden_is (known_treasures cave) without_places (treasures_are_order cave) in
     let o : Layout =
@@ -416,13 +417,13 @@ begun_is cave =
     all_set (hold_of cave) (start_order cave) (replicate 100 anchor.Loose) anchor.Loose order
     (length-replicate 100 anchor.Loose) (each_in_order cave) in
     let props = props_begin cave in
-    ap (λ l. all_placed cave (start_order cave) l) hidden
+    ap (λ l. after_placing_all cave (start_order cave) l) hidden
     ∙ (all_stand cave (start_order cave) o order refl
     ∙ (λ i. record {
       first = first i;
       second = second i;
       props = props i;
-      lists = laid_out cave (start_halves cave);
+      lists = lists_of_halves cave (start_halves cave);
     }))
 
 -- ---- the list of each place
@@ -435,15 +436,15 @@ one_more q half es told (Some p) h =
     ∙ ap (λ (l : List Half). cond (eqb p q) (half ∷ l) l) h
 
 list_of : (cave : CaveView) (q : ℕ) (halves : List Half)
-    → halves_at q (laid_out cave halves)
+    → halves_at q (lists_of_halves cave halves)
     ≡ filter (λ half. is_place q (place_of_half cave half)) halves
 list_of cave q [] = refl
 list_of cave q (half ∷ halves) =
-    one_more q half (laid_out cave halves)
+    one_more q half (lists_of_halves cave halves)
     (filter (λ (half : Half). is_place q (place_of_half cave half)) halves)
     (place_of_half cave half) (list_of cave q halves)
 
 pub start_lists : (cave : CaveView) (q : ℕ)
-    → halves_at q (begun_objects cave).lists ≡ start_list cave q
-unfolding begun_objects
+    → halves_at q (starting_objects cave).lists ≡ start_list cave q
+unfolding starting_objects
 start_lists cave q = list_of cave q (start_halves cave)

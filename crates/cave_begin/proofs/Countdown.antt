@@ -9,7 +9,7 @@ use Rattle.cave_objects.specs.Objects.{with_prop}
 use Rattle.cave_things.specs.Homes.{hold_of}
 use Rattle.cave_begin.specs.Begin.{is_placed_now, all_objects, objects_due}
 use Rattle.cave_things.specs.Treasures.{treasures, known_treasures}
-use Rattle.cave_begin.specs.Placing.{after_placing, all_placed, all_hidden}
+use Rattle.cave_begin.specs.Placing.{after_placing, after_placing_all, after_hiding_all}
 
 -- of some objects those that are due
 unfoldable pub due_from : CaveView → Bool → ℕ → ℕ → List ℕ
@@ -28,10 +28,10 @@ due_all cave twice i all =
 
 -- one object down
 pub placed_next : (cave : CaveView) (twice : Bool) (i : ℕ) (o : Layout) → i < 100
-    → all_placed cave (due_from cave twice (101 - (i + 1)) (i + 1)) o
+    → after_placing_all cave (due_from cave twice (101 - (i + 1)) (i + 1)) o
     ≡ cond (is_placed_now twice (hold_of cave (100 - i)))
-    (after_placing cave (100 - i) (all_placed cave (due_from cave twice (101 - i) i) o))
-    (all_placed cave (due_from cave twice (101 - i) i) o)
+    (after_placing cave (100 - i) (after_placing_all cave (due_from cave twice (101 - i) i) o))
+    (after_placing_all cave (due_from cave twice (101 - i) i) o)
 unfolding due_from
 placed_next cave twice i o h =
     let more : i + 1 ≡ suc i = omega arith in
@@ -42,8 +42,8 @@ placed_next cave twice i o h =
     (filter (λ x. is_placed_now twice (hold_of cave x)) (range_with_len (101 - i) i)))
   where
     chosen : (b : Bool) (x : ℕ) (xs : List ℕ)
-        → all_placed cave (cond b (x ∷ xs) xs) o
-        ≡ cond b (after_placing cave x (all_placed cave xs o)) (all_placed cave xs o)
+        → after_placing_all cave (cond b (x ∷ xs) xs) o
+        ≡ cond b (after_placing cave x (after_placing_all cave xs o)) (after_placing_all cave xs o)
     chosen true x xs = refl
     chosen false x xs = refl
 
@@ -62,8 +62,8 @@ known_none cave n h = let none : 80 - n ≡ 0 = omega arith in rw none refl
 
 -- one treasure up
 pub hidden_next : (cave : CaveView) (n : ℕ) (o : Layout) → n < 80
-    → all_hidden (known_from cave n (80 - n)) o
-    ≡ all_hidden (known_from cave (n + 1) (80 - (n + 1)))
+    → after_hiding_all (known_from cave n (80 - n)) o
+    ≡ after_hiding_all (known_from cave (n + 1) (80 - (n + 1)))
     (cond (is_some (inventory_text cave n)) (with_prop o n (negsuc 0)) o)
 unfolding known_from
 hidden_next cave n o h =
@@ -72,7 +72,8 @@ hidden_next cave n o h =
     (filter (λ x. is_some (inventory_text cave x)) (range_with_len (n + 1) (80 - (n + 1)))))
   where
     chosen : (b : Bool) (xs : List ℕ)
-        → all_hidden (cond b (n ∷ xs) xs) o ≡ all_hidden xs (cond b (with_prop o n (negsuc 0)) o)
+        → after_hiding_all (cond b (n ∷ xs) xs) o
+        ≡ after_hiding_all xs (cond b (with_prop o n (negsuc 0)) o)
     chosen true xs = refl
     chosen false xs = refl
 

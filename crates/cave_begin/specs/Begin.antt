@@ -56,9 +56,10 @@ place_of_half cave (First x) = place_of_spot (spot_at (home cave x))
 place_of_half cave (Second x) = place_of_anchor (hold_of cave x)
 
 -- halves in the lists of their places, each before those that come after it
-abbrev pub laid_out : CaveView → List Half → List PlacedHalf
-laid_out cave [] = []
-laid_out cave (half ∷ halves) = with_half half (place_of_half cave half) (laid_out cave halves)
+abbrev pub lists_of_halves : CaveView → List Half → List PlacedHalf
+lists_of_halves cave [] = []
+lists_of_halves cave (half ∷ halves) = with_half half (place_of_half cave half)
+    (lists_of_halves cave halves)
 
 -- the list of a place at the start
 abbrev pub start_list : CaveView → ℕ → List Half
@@ -66,12 +67,12 @@ start_list cave place =
     filter (λ half. is_place place (place_of_half cave half)) (start_halves cave)
 
 -- each object where it is, held by what holds it, with its prop
-unfoldable pub begun_objects : CaveView → Layout
-begun_objects cave = record {
+unfoldable pub starting_objects : CaveView → Layout
+starting_objects cave = record {
   first = map (λ x. spot_at (home cave x)) all_objects;
   second = map (hold_of cave) all_objects;
   props = map (start_prop cave) all_objects;
-  lists = laid_out cave (start_halves cave);
+  lists = lists_of_halves cave (start_halves cave);
 }
 
 -- a dwarf at its place, or gone where there is none
@@ -81,8 +82,8 @@ dwarf_at place = record { place = place; last = place; has_seen = false }
 unfoldable pub dwarf_by_role : CaveView → PlaceRole → Dwarf
 dwarf_by_role cave role = dwarf_at (place_or 0 (place_named cave role))
 
-unfoldable pub dwarves_placed : CaveView → List Dwarf
-dwarves_placed cave =
+unfoldable pub starting_dwarves : CaveView → List Dwarf
+starting_dwarves cave =
     dwarf_by_role cave place.Dwarf1 ∷ dwarf_by_role cave place.Dwarf2
     ∷ dwarf_by_role cave place.Dwarf3 ∷ dwarf_by_role cave place.Dwarf4
     ∷ dwarf_by_role cave place.Dwarf5 ∷ dwarf_by_role cave place.Chest ∷ []
@@ -93,7 +94,7 @@ begun_state cave x =
     let s = starting_state (start_place cave) x in let tallies = s.tallies in
     let dwarves = s.dwarves in
     record s {
-      objects = begun_objects cave;
+      objects = starting_objects cave;
       tallies = record tallies { unseen = length (known_treasures cave) };
-      dwarves = record dwarves { each = dwarves_placed cave };
+      dwarves = record dwarves { each = starting_dwarves cave };
     }

@@ -1,11 +1,11 @@
 ghost use Rattle.std.specs.Prelude.{◌≡◌, ℕ, ◌≤◌, ◌≤ℤ◌, length, pos};
 ghost use Rattle.cave_objects.specs.Lists.{halves_at};
-ghost use Rattle.cave_objects.specs.Objects.{moved_to, anchored_to, without_places};
+ghost use Rattle.cave_objects.specs.Objects.{with_place, with_anchor, without_places};
 ghost use Rattle.cave_things.specs.Homes.{anchor_by};
-ghost use Rattle.cave_begin.specs.Begin.{is_placed_now, objects_due, begun_objects, dwarf_by_role};
-ghost use Rattle.cave_begin.specs.Begin.{dwarves_placed, start_list, begun_state};
+ghost use Rattle.cave_begin.specs.Begin.{is_placed_now, objects_due, starting_objects, dwarf_by_role};
+ghost use Rattle.cave_begin.specs.Begin.{starting_dwarves, start_list, begun_state};
 ghost use Rattle.cave_things.specs.Treasures.{known_treasures};
-ghost use Rattle.cave_begin.specs.Placing.{all_placed, all_hidden};
+ghost use Rattle.cave_begin.specs.Placing.{after_placing_all, after_hiding_all};
 
 use cave_data::Cave;
 use cave_objects::object::LAST_OBJECT;
@@ -18,7 +18,7 @@ use cave_words::Stream;
 use cave_world::{Count, Dwarf, State};
 
 /// Whether an object is put with those that have two places, or with the others.
-fn is_due(twice: bool, second: i16) -> bool
+fn is_in_pass(twice: bool, second: i16) -> bool
     requires { second ≤ℤ pos 300 }
     ensures { result ≡ is_placed_now twice (anchor_by second) }
 {
@@ -33,7 +33,7 @@ fn place_object(object: Object, home: u16, second: i16, objects: &mut Objects)
     requires first { home ≤ 300 }
     requires second { second ≤ℤ pos 300 }
     ensures { objects.new
-        ≡ moved_to (anchored_to objects.old object (anchor_by second)) object home }
+        ≡ with_place (with_anchor objects.old object (anchor_by second)) object home }
 {
     objects.anchor_to(object, anchor_by(second));
     objects.move_to(object, Place::new(home));
@@ -42,12 +42,12 @@ fn place_object(object: Object, home: u16, second: i16, objects: &mut Objects)
 /// Places the objects that have two places, or the others, from the last down.
 #[tactic(auto, using(crate::proofs::Countdown::placing), unfolding(crate::specs::Placing::after_placing))]
 fn place_down(cave: &Cave, twice: bool, objects: &mut Objects)
-    ensures { objects.new ≡ all_placed cave.now (objects_due cave.now twice) objects.old }
+    ensures { objects.new ≡ after_placing_all cave.now (objects_due cave.now twice) objects.old }
 {
     for i in 0..LAST_OBJECT as u8 {
         let object = Object::new(LAST_OBJECT as u8 - i);
         let (home, second) = cave.placement(u16::from(object.number()));
-        if is_due(twice, second) {
+        if is_in_pass(twice, second) {
             place_object(object, home, second, objects);
         }
     }
@@ -56,7 +56,7 @@ fn place_down(cave: &Cave, twice: bool, objects: &mut Objects)
 /// The known treasures weren't seen yet. Returns how many they are.
 #[tactic(auto, using(crate::proofs::Countdown::hiding))]
 fn hide_treasures(cave: &Cave, objects: &mut Objects) -> Count<30>
-    ensures objects { objects.new ≡ all_hidden (known_treasures cave.now) objects.old }
+    ensures objects { objects.new ≡ after_hiding_all (known_treasures cave.now) objects.old }
     ensures count { result ≡ length (known_treasures cave.now) }
 {
     let mut hidden = Count::new(0);
@@ -72,7 +72,7 @@ fn hide_treasures(cave: &Cave, objects: &mut Objects) -> Count<30>
 /// Puts the objects where they are as a game begins. Returns how many treasures weren't seen yet.
 fn place_all(cave: &Cave, objects: &mut Objects) -> Count<30>
     requires { objects.old ≡ without_places }
-    ensures objects { objects.new ≡ begun_objects cave.now }
+    ensures objects { objects.new ≡ starting_objects cave.now }
     ensures hidden { result ≡ length (known_treasures cave.now) }
 {
     let hidden = hide_treasures(cave, objects);
@@ -82,7 +82,7 @@ fn place_all(cave: &Cave, objects: &mut Objects) -> Count<30>
 }
 
 #[tactic(auto, unfolding(crate::specs::Begin::dwarf_by_role))]
-fn dwarf_of(cave: &Cave, role: PlaceRole) -> Dwarf
+fn dwarf_by_role(cave: &Cave, role: PlaceRole) -> Dwarf
     ensures { result ≡ dwarf_by_role cave.now role }
 {
     let place = place_or(Place::new(0), place_named(cave, role));
@@ -93,17 +93,17 @@ fn dwarf_of(cave: &Cave, role: PlaceRole) -> Dwarf
     }
 }
 
-#[tactic(auto, unfolding(crate::specs::Begin::dwarves_placed))]
+#[tactic(auto, unfolding(crate::specs::Begin::starting_dwarves))]
 fn place_dwarves(cave: &Cave) -> [Dwarf; 6]
-    ensures { result ≡ dwarves_placed cave.now }
+    ensures { result ≡ starting_dwarves cave.now }
 {
     [
-        dwarf_of(cave, PlaceRole::Dwarf1),
-        dwarf_of(cave, PlaceRole::Dwarf2),
-        dwarf_of(cave, PlaceRole::Dwarf3),
-        dwarf_of(cave, PlaceRole::Dwarf4),
-        dwarf_of(cave, PlaceRole::Dwarf5),
-        dwarf_of(cave, PlaceRole::Chest),
+        dwarf_by_role(cave, PlaceRole::Dwarf1),
+        dwarf_by_role(cave, PlaceRole::Dwarf2),
+        dwarf_by_role(cave, PlaceRole::Dwarf3),
+        dwarf_by_role(cave, PlaceRole::Dwarf4),
+        dwarf_by_role(cave, PlaceRole::Dwarf5),
+        dwarf_by_role(cave, PlaceRole::Chest),
     ]
 }
 

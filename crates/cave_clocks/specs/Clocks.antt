@@ -4,9 +4,9 @@ use Rattle.cave_data.specs.CaveView.{CaveView}
 use Rattle.cave_things.specs.Plays.{Scene}
 use Rattle.cave_clocks.specs.declared.clocks.Clocks.{Clocks}
 use Rattle.cave_clocks.specs.declared.clocks.Clocks.TheVariants.{GoOn, GaveUp, Closed}
-use Rattle.cave_clocks.specs.FirstClock.{first_clock_run}
-use Rattle.cave_clocks.specs.Lamp.{lamp_run}
-use Rattle.cave_clocks.specs.Repository.{second_clock_run}
+use Rattle.cave_clocks.specs.FirstClock.{timing_of_first_clock}
+use Rattle.cave_clocks.specs.Lamp.{timing_of_lamp}
+use Rattle.cave_clocks.specs.Repository.{timing_of_second_clock}
 
 -- what clocks and lamp have come to, and what follows
 pub record Timing : Type 0 where
@@ -23,7 +23,7 @@ go_on_or_give_up gives_up = if gives_up then GaveUp else GoOn
 
 unfoldable pub lamp_last : CaveView → Scene → Timing
 lamp_last cave p =
-    let lamp = lamp_run cave p in timing_of (go_on_or_give_up lamp.gives_up) lamp.scene
+    let lamp = timing_of_lamp cave p in timing_of (go_on_or_give_up lamp.gives_up) lamp.scene
 
 -- where the cave was closed the lamp is passed over
 abbrev pub lamp_unless_closed : CaveView → Option ℕ → Scene → Timing
@@ -33,11 +33,11 @@ lamp_unless_closed cave (Some place) p = timing_of (Closed place) p
 -- the second clock, and then the lamp
 unfoldable pub second_clock_and_lamp : CaveView → Scene → Timing
 second_clock_and_lamp cave p =
-    let second = second_clock_run cave p in lamp_unless_closed cave second.place second.scene
+    let second = timing_of_second_clock cave p in lamp_unless_closed cave second.place second.scene
 
 -- the first clock, the second, and the lamp; the second doesn't go in the turn in which the cave
 -- begins to close
-unfoldable pub clocks_run : CaveView → Scene → Timing
-clocks_run cave p =
-    let first = first_clock_run cave p in
+unfoldable pub timing_of_clocks : CaveView → Scene → Timing
+timing_of_clocks cave p =
+    let first = timing_of_first_clock cave p in
     if first.has_begun then lamp_last cave first.scene else second_clock_and_lamp cave first.scene

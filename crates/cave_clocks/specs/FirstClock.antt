@@ -8,7 +8,7 @@ use Rattle.cave_rows.specs.declared.place_role.PlaceRole.TheVariants as place
 use Rattle.cave_rows.specs.declared.role.Role.TheVariants as role
 use Rattle.cave_words.specs.declared.named.Named.TheVariants as name
 use Rattle.cave_objects.specs.Layout.{Layout}
-use Rattle.cave_objects.specs.Objects.{moved_to, anchored_to, with_prop}
+use Rattle.cave_objects.specs.Objects.{with_place, with_anchor, with_prop}
 use Rattle.cave_world.specs.declared.dwarves.Dwarf.{Dwarf}
 use Rattle.cave_objects.specs.declared.spot.Anchor.TheVariants as anchor
 use Rattle.cave_world.specs.declared.state.State.{State}
@@ -48,11 +48,11 @@ without_dwarves s = let dwarves = s.dwarves in
 -- the bear is gone, unless it is dead
 abbrev pub without_bear : CaveView → State → State
 without_bear cave s = let bear = thing cave name.Bear in
-    if has_prop s bear (pos 3) then s else with_objects (moved_to s.objects bear 0) s
+    if has_prop s bear (pos 3) then s else with_objects (with_place s.objects bear 0) s
 
 -- an object has prop 0, and nothing holds it
 abbrev pub with_loose : ℕ → Layout → Layout
-with_loose x o = anchored_to (with_prop o x (pos 0)) x anchor.Loose
+with_loose x o = with_anchor (with_prop o x (pos 0)) x anchor.Loose
 
 -- the chain is loose, and then the axe
 unfoldable pub with_chain_and_axe_loose : CaveView → Layout → Layout
@@ -97,8 +97,8 @@ tick_to_end cave p =
     else tick false p
 
 -- the first clock goes on by a turn, if it goes
-unfoldable pub first_clock_run : CaveView → Scene → Tick
-first_clock_run cave p =
+unfoldable pub timing_of_first_clock : CaveView → Scene → Tick
+timing_of_first_clock cave p =
     if is_first_clock_going cave p.state
     then tick_to_end cave (with_state (with_first_clock_down p.state) p)
     else tick false p

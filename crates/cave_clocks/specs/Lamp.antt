@@ -58,12 +58,12 @@ with_lamp_out cave s =
     with_objects (with_prop out.objects (thing cave name.Lamp) (pos 0)) out
 
 -- that it is dead is said, if it is at hand
-abbrev pub told_of_dead_lamp : CaveView → Scene → Scene
-told_of_dead_lamp cave p =
+abbrev pub after_dead_lamp : CaveView → Scene → Scene
+after_dead_lamp cave p =
     if is_near cave p.state (thing cave name.Lamp) then after_saying role.LampDead p else p
 
 unfoldable pub lamp_going_out : CaveView → Scene → Scene
-lamp_going_out cave p = told_of_dead_lamp cave (with_state (with_lamp_out cave p.state) p)
+lamp_going_out cave p = after_dead_lamp cave (with_state (with_lamp_out cave p.state) p)
 
 -- the lamp has gone out, and the player is outside the cave
 unfoldable pub is_hopeless : CaveView → State → Bool
@@ -82,8 +82,8 @@ warning cave s = let batteries = thing cave name.Batteries in
 abbrev pub with_warning : State → State
 with_warning s = let lamp = s.lamp in record s { lamp = record lamp { is_warned = true } }
 
-unfoldable pub warning_told : CaveView → Scene → Scene
-warning_told cave p =
+unfoldable pub after_warning : CaveView → Scene → Scene
+after_warning cave p =
     let q = with_state (with_warning p.state) p in after_saying (warning cave q.state) q
 
 -- what has become of the lamp in a turn, and whether the player gives up
@@ -101,9 +101,9 @@ care_of_lamp cave p =
     if can_change_batteries cave p.state then burning_of false (change_of_batteries cave p)
     else (if int_eq p.state.lamp.charge (pos 0) then burning_of false (lamp_going_out cave p)
     else (if is_hopeless cave p.state then burning_of true (after_saying role.GiveUp p)
-    else (if is_warning_due cave p.state then burning_of false (warning_told cave p)
+    else (if is_warning_due cave p.state then burning_of false (after_warning cave p)
     else burning_of false p)))
 
 -- the lamp burns a turn, if it is lit, and what comes of it
-unfoldable pub lamp_run : CaveView → Scene → Burning
-lamp_run cave p = care_of_lamp cave (with_state (with_lamp_burnt cave p.state) p)
+unfoldable pub timing_of_lamp : CaveView → Scene → Burning
+timing_of_lamp cave p = care_of_lamp cave (with_state (with_lamp_burnt cave p.state) p)

@@ -9,7 +9,7 @@ use Rattle.cave_rows.specs.declared.role.Role.TheVariants as role
 use Rattle.cave_words.specs.declared.named.Named.{Named}
 use Rattle.cave_words.specs.declared.named.Named.TheVariants as name
 use Rattle.cave_objects.specs.Layout.{Layout}
-use Rattle.cave_objects.specs.Objects.{moved_to, anchored_to, with_prop, carried_objects}
+use Rattle.cave_objects.specs.Objects.{with_place, with_anchor, with_prop, carried_objects}
 use Rattle.cave_objects.specs.Spots.{anchor_at}
 use Rattle.cave_world.specs.declared.state.State.{State}
 use Rattle.cave_things.specs.Effects.{with_objects}
@@ -50,7 +50,7 @@ southwest_things =
 
 -- the object of a name is put at a place, with a prop
 abbrev pub with_thing : CaveView → ℕ → Named → ℤ → Layout → Layout
-with_thing cave place n v o = with_prop (moved_to o (thing cave n) place) (thing cave n) v
+with_thing cave place n v o = with_prop (with_place o (thing cave n) place) (thing cave n) v
 
 -- until it was carried, the prop of what is stored is -1 less the prop that it then gets
 abbrev pub with_stored : CaveView → ℕ → Stored → Layout → Layout
@@ -66,7 +66,7 @@ with_all_stored cave place (t ∷ things) o =
 unfoldable pub with_mirror : CaveView → ℕ → ℕ → Layout → Layout
 with_mirror cave ne sw o =
     let at_one = with_stored cave ne (stored_thing name.Mirror 0) o in
-    anchored_to at_one (thing cave name.Mirror) (anchor_at sw)
+    with_anchor at_one (thing cave name.Mirror) (anchor_at sw)
 
 unfoldable pub furnished_repository : CaveView → ℕ → ℕ → Layout → Layout
 furnished_repository cave ne sw o =
@@ -76,7 +76,7 @@ furnished_repository cave ne sw o =
 -- objects are nowhere from now on
 abbrev pub without_all : List ℕ → Layout → Layout
 without_all [] o = o
-without_all (x ∷ xs) o = without_all xs (moved_to o x 0)
+without_all (x ∷ xs) o = without_all xs (with_place o x 0)
 
 -- the player is at a place, and has come from there
 abbrev pub with_player_at : ℕ → State → State
@@ -138,8 +138,8 @@ with_second_clock_down s = let closing = s.closing in
     record s { closing = record closing { second_clock = closing.second_clock -ℤ pos 1 } }
 
 -- the second clock goes on by a turn, if it goes
-unfoldable pub second_clock_run : CaveView → Scene → Closure
-second_clock_run cave p =
+unfoldable pub timing_of_second_clock : CaveView → Scene → Closure
+timing_of_second_clock cave p =
     if is_second_clock_going p.state
     then closure_if_due cave (with_state (with_second_clock_down p.state) p)
     else closure None p

@@ -2,7 +2,7 @@ ghost use Rattle.std.specs.Prelude.{◌≡◌};
 ghost use Rattle.cave_things.specs.Things.{cave_of};
 ghost use Rattle.cave_things.specs.Bounds.{HasRoom, SaysUpTo};
 ghost use Rattle.cave_things.specs.Plays.{scene_of, GoesOn};
-ghost use Rattle.cave_clocks.specs.Clocks.{timing_of, lamp_last, second_clock_and_lamp, clocks_run};
+ghost use Rattle.cave_clocks.specs.Clocks.{timing_of, lamp_last, second_clock_and_lamp, timing_of_clocks};
 
 use crate::first_clock::run_first_clock;
 use crate::lamp::run_lamp;
@@ -51,11 +51,11 @@ fn run_second_clock_and_lamp(rules: &Rules<'_>, play: &mut Play<'_>) -> Clocks
 }
 
 /// The clocks and the lamp go on by a turn. Returns what follows.
-#[tactic(auto, unfolding(crate::specs::Clocks::clocks_run))]
+#[tactic(auto, unfolding(crate::specs::Clocks::timing_of_clocks))]
 pub fn run_clocks(rules: &Rules<'_>, play: &mut Play<'_>) -> Clocks
     requires { HasRoom 2 play.old }
     ensures clocks { timing_of result (scene_of play.new)
-        ≡ clocks_run (cave_of rules.now) (scene_of play.old) }
+        ≡ timing_of_clocks (cave_of rules.now) (scene_of play.old) }
     ensures same { GoesOn play.old play.new }
     ensures few { SaysUpTo 2 play.old play.new }
 {

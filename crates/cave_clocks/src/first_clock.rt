@@ -6,7 +6,7 @@ ghost use Rattle.cave_clocks.specs.FirstClock.{is_first_clock_going, with_ways_b
 ghost use Rattle.cave_clocks.specs.FirstClock.{dismissed_dwarf, without_dwarves, without_bear};
 ghost use Rattle.cave_clocks.specs.FirstClock.{with_loose, with_chain_and_axe_loose, cleared_cave};
 ghost use Rattle.cave_clocks.specs.FirstClock.{with_closing_begun, start_of_closing};
-ghost use Rattle.cave_clocks.specs.FirstClock.{tick, parts_of_beginning, first_clock_run};
+ghost use Rattle.cave_clocks.specs.FirstClock.{tick, parts_of_beginning, timing_of_first_clock};
 
 use cave_objects::{Anchor, Object, Objects, Place, Prop};
 use cave_rows::{PlaceRole, Role};
@@ -114,11 +114,11 @@ fn begin_closing(rules: &Rules<'_>, play: &mut Play<'_>)
 }
 
 /// The first clock goes on by a turn, if it goes. Returns whether the cave began to close in it.
-#[tactic(auto, unfolding(crate::specs::FirstClock::first_clock_run))]
+#[tactic(auto, unfolding(crate::specs::FirstClock::timing_of_first_clock))]
 pub fn run_first_clock(rules: &Rules<'_>, play: &mut Play<'_>) -> bool
     requires { HasRoom 1 play.old }
     ensures play { tick result (scene_of play.new)
-        ≡ first_clock_run (cave_of rules.now) (scene_of play.old) }
+        ≡ timing_of_first_clock (cave_of rules.now) (scene_of play.old) }
     ensures same { GoesOn play.old play.new }
     ensures few { SaysUpTo (parts_of_beginning result) play.old play.new }
 {

@@ -5,8 +5,8 @@ ghost use Rattle.cave_things.specs.Plays.{scene_of, GoesOn};
 ghost use Rattle.cave_clocks.specs.Lamp.{with_lamp_burnt, is_low, can_change_batteries};
 ghost use Rattle.cave_clocks.specs.Lamp.{with_new_charge, with_batteries_used, change_of_batteries};
 ghost use Rattle.cave_clocks.specs.Lamp.{with_lamp_out, lamp_going_out, is_hopeless};
-ghost use Rattle.cave_clocks.specs.Lamp.{is_warning_due, warning, with_warning, warning_told};
-ghost use Rattle.cave_clocks.specs.Lamp.{burning_of, care_of_lamp, lamp_run};
+ghost use Rattle.cave_clocks.specs.Lamp.{is_warning_due, warning, with_warning, after_warning};
+ghost use Rattle.cave_clocks.specs.Lamp.{burning_of, care_of_lamp, timing_of_lamp};
 
 use cave_objects::Prop;
 use cave_rows::Role;
@@ -139,10 +139,10 @@ fn set_warned(state: &mut State)
     state.lamp.is_warned = true;
 }
 
-#[tactic(auto, unfolding(crate::specs::Lamp::warning_told))]
+#[tactic(auto, unfolding(crate::specs::Lamp::after_warning))]
 fn warn(rules: &Rules<'_>, play: &mut Play<'_>)
     requires { HasRoom 1 play.old }
-    ensures play { scene_of play.new ≡ warning_told (cave_of rules.now) (scene_of play.old) }
+    ensures play { scene_of play.new ≡ after_warning (cave_of rules.now) (scene_of play.old) }
     ensures same { GoesOn play.old play.new }
     ensures few { SaysUpTo 1 play.old play.new }
 {
@@ -179,11 +179,11 @@ fn care_for_lamp(rules: &Rules<'_>, play: &mut Play<'_>) -> bool
 }
 
 /// The lamp burns a turn, if it is lit, and what comes of it. Returns whether the player gives up.
-#[tactic(auto, unfolding(crate::specs::Lamp::lamp_run))]
+#[tactic(auto, unfolding(crate::specs::Lamp::timing_of_lamp))]
 pub fn run_lamp(rules: &Rules<'_>, play: &mut Play<'_>) -> bool
     requires { HasRoom 1 play.old }
     ensures play { burning_of result (scene_of play.new)
-        ≡ lamp_run (cave_of rules.now) (scene_of play.old) }
+        ≡ timing_of_lamp (cave_of rules.now) (scene_of play.old) }
     ensures same { GoesOn play.old play.new }
     ensures few { SaysUpTo 1 play.old play.new }
 {

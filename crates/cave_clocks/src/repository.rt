@@ -8,7 +8,7 @@ ghost use Rattle.cave_clocks.specs.Repository.{without_all, with_player_at, with
 ghost use Rattle.cave_clocks.specs.Repository.{with_cave_closed, closed_cave};
 ghost use Rattle.cave_clocks.specs.Repository.{closure, closure_if_due};
 ghost use Rattle.cave_clocks.specs.Repository.{parts_of_closure, is_second_clock_going};
-ghost use Rattle.cave_clocks.specs.Repository.{second_clock_run};
+ghost use Rattle.cave_clocks.specs.Repository.{timing_of_second_clock};
 
 use cave_objects::{Anchor, Object, Objects, Place, Prop};
 use cave_rows::{PlaceRole, Role};
@@ -142,11 +142,11 @@ fn is_going(state: &State) -> bool
 
 /// The second clock goes on by a turn, if it goes. Returns where the player is if it closed the
 /// cave.
-#[tactic(auto, unfolding(crate::specs::Repository::second_clock_run))]
+#[tactic(auto, unfolding(crate::specs::Repository::timing_of_second_clock))]
 pub fn run_second_clock(rules: &Rules<'_>, play: &mut Play<'_>) -> Option<Place>
     requires { HasRoom 1 play.old }
     ensures play { closure result (scene_of play.new)
-        ≡ second_clock_run (cave_of rules.now) (scene_of play.old) }
+        ≡ timing_of_second_clock (cave_of rules.now) (scene_of play.old) }
     ensures same { GoesOn play.old play.new }
     ensures few { SaysUpTo (parts_of_closure result) play.old play.new }
 {

@@ -9,7 +9,7 @@ use std::alloc::{AllocError, Global};
 use std::marker::Model;
 
 /// How many marks there are: one for each number of each kind.
-const PLACES: usize = 70_000;
+const MARK_COUNT: usize = 70_000;
 
 /// A set of texts, with a place for each.
 #[derive(Drop)]
@@ -40,7 +40,7 @@ impl SaidTexts {
     pub fn new(alloc: Global) -> Result<SaidTexts, AllocError>
         ensures { IfOk result (λ said. (text : Text) → is_marked said text ≡ false) }
     {
-        let marks = vec![in alloc; false; PLACES]?;
+        let marks = vec![in alloc; false; MARK_COUNT]?;
         Ok(SaidTexts { marks })
     }
 

@@ -34,7 +34,7 @@ fn has(cave: &Cave, kind: Kind, number: u16) -> bool
 }
 
 /// Whether a text that the cave has was said.
-fn is_shown(cave: &Cave, said: &SaidTexts, kind: Kind, number: u16) -> bool
+fn is_said(cave: &Cave, said: &SaidTexts, kind: Kind, number: u16) -> bool
     ensures { result ≡ (has_text cave.now kind number && is_marked said.now (text kind number)) }
 {
     has(cave, kind, number) && said.contains(Text { kind, number })
@@ -61,12 +61,12 @@ fn count_present(cave: &Cave, kind: Kind) -> usize
 
 /// How many of them were said.
 #[tactic(auto, unfolding(crate::specs::Report::numbers_shown, crate::specs::Report::numbers))]
-fn count_shown(cave: &Cave, said: &SaidTexts, kind: Kind) -> usize
+fn count_said(cave: &Cave, said: &SaidTexts, kind: Kind) -> usize
     ensures value { result ≡ length (numbers_shown cave.now (is_marked said.now) kind) }
     ensures within { result ≤ 10000 }
 {
     (0..NUMBERS as u16)
-        .filter(|number| is_shown(cave, said, kind, *number))
+        .filter(|number| is_said(cave, said, kind, *number))
         .count()
 }
 
@@ -165,7 +165,7 @@ fn push_line(
         ≡ text.old.items ++ line cave.now (is_marked said.now) kind) }
 {
     let heading = heading(kind);
-    let shown = count_shown(cave, said, kind);
+    let shown = count_said(cave, said, kind);
     let present = count_present(cave, kind);
     let missing = missing(alloc, cave, said, kind)?;
     let counted = format!(in alloc; "{heading}: {shown} of {present}")?;
@@ -183,7 +183,7 @@ fn totals(cave: &Cave, said: &SaidTexts, kinds: &[Kind]) -> (usize, usize)
 {
     let (mut shown, mut present) = (0, 0);
     for kind in kinds {
-        shown += count_shown(cave, said, *kind);
+        shown += count_said(cave, said, *kind);
         present += count_present(cave, *kind);
     }
     (shown, present)

@@ -8,7 +8,7 @@ ghost use Rattle.cave_data.specs.BindingSteps.{bindings_from};
 ghost use Rattle.cave_data.specs.Faults.{FaultIs};
 ghost use Rattle.cave_rows.specs.Answers.{Leaves};
 
-use crate::database::told;
+use crate::database::error_at;
 use crate::tables::Table;
 use cave_rows::binding::{Binding, Key, binding_row};
 use cave_rows::place_role::PLACE_NAMES;
@@ -88,7 +88,7 @@ impl Bindings {
     }
 }
 
-/// What bindings say.
+/// Reads bindings, or returns the error of the first faulty line.
 pub fn read_bindings(alloc: Global, text: &[u8]) -> Result<Bindings, CaveError>
     ensures right { IfOk result (λ _. first_binding_fault [] (lines text.now) ≡ None) }
     ensures found { IfOk result
@@ -101,7 +101,7 @@ pub fn read_bindings(alloc: Global, text: &[u8]) -> Result<Bindings, CaveError>
     while let Some((line, after)) = split_line(rest) {
         match bindings.take_line(line) {
             Ok(()) => {}
-            Err(cause) => return Err(told(cause, count + 1, FaultSite::Bindings)),
+            Err(cause) => return Err(error_at(cause, count + 1, FaultSite::Bindings)),
         }
         count += 1;
         rest = after;

@@ -22,7 +22,7 @@ fn site_of_fault(position: Position) -> FaultSite
 }
 
 /// The fault of the line, or out of memory.
-pub fn told(cause: Cause, line: usize, site: FaultSite) -> CaveError
+pub fn error_at(cause: Cause, line: usize, site: FaultSite) -> CaveError
     ensures { result ≡ error_at cause line site }
 {
     match cause {
@@ -48,7 +48,7 @@ pub fn read_database(alloc: Global, database: &[u8]) -> Result<Tables, CaveError
         let position = reader.position;
         match reader.take_line(alloc, line) {
             Ok(()) => {}
-            Err(cause) => return Err(told(cause, count + 1, site_of_fault(position))),
+            Err(cause) => return Err(error_at(cause, count + 1, site_of_fault(position))),
         }
         count += 1;
         rest = after;
@@ -56,6 +56,6 @@ pub fn read_database(alloc: Global, database: &[u8]) -> Result<Tables, CaveError
     let DatabaseReader { position, tables } = reader;
     match position {
         Position::After => Ok(tables),
-        _ => Err(told(Cause::NoEnd, count + 1, site_of_fault(position))),
+        _ => Err(error_at(Cause::NoEnd, count + 1, site_of_fault(position))),
     }
 }

@@ -10,7 +10,7 @@ use std::marker::Model;
 const FIRST_ROOM: usize = 4096;
 
 /// The most bytes that spans can refer to.
-const MOST_BYTES: usize = u32::MAX as usize;
+const MAX_STORE_BYTES: usize = u32::MAX as usize;
 
 /// Bytes of texts, one after another.
 #[derive(Drop)]
@@ -58,7 +58,7 @@ impl Store {
         ensures { IfOk result (IsFrom self.now start) }
     {
         let end = self.bytes.len();
-        if end > MOST_BYTES {
+        if end > MAX_STORE_BYTES {
             return Err(AllocError);
         }
         Ok(TextSpan {

@@ -5,7 +5,7 @@ use Rattle.std.specs.List.{list_any}
 use Rattle.cave_data.specs.CaveView.{CaveView}
 use Rattle.cave_rows.specs.declared.place_role.PlaceRole.TheVariants as landmark
 use Rattle.cave_words.specs.declared.named.Named.TheVariants as name
-use Rattle.cave_objects.specs.Objects.{is_object_at, moved_to, is_gone}
+use Rattle.cave_objects.specs.Objects.{is_object_at, with_place, is_gone}
 use Rattle.cave_world.specs.declared.dwarves.Dwarf.{Dwarf}
 use Rattle.cave_world.specs.declared.state.State.{State}
 use Rattle.cave_things.specs.Effects.{with_objects}
@@ -17,9 +17,9 @@ use Rattle.cave_things.specs.Treasures.{treasures}
 use Rattle.cave_dwarves.specs.Band.{pirate, dwarf_of, with_dwarf}
 
 -- an object is moved to the place that is named, if one is
-unfoldable pub moved_to_named : ℕ → Option ℕ → State → State
-moved_to_named x None s = s
-moved_to_named x (Some place) s = with_objects (moved_to s.objects x place) s
+unfoldable pub after_move_to_named : ℕ → Option ℕ → State → State
+after_move_to_named x None s = s
+after_move_to_named x (Some place) s = with_objects (with_place s.objects x place) s
 
 -- the pirate takes any treasure, but not the pyramid where the pyramid or the emerald is at home
 unfoldable pub pirate_wants : CaveView → State → ℕ → Bool
@@ -41,7 +41,7 @@ is_booty cave s x =
 -- the pirate brings what it takes to its chest
 unfoldable pub after_theft : CaveView → ℕ → State → State
 after_theft cave x s =
-    if is_booty cave s x then moved_to_named x (place_named cave landmark.Chest) s else s
+    if is_booty cave s x then after_move_to_named x (place_named cave landmark.Chest) s else s
 
 -- the treasures of a list are stolen one after another
 abbrev pub after_thefts : CaveView → List ℕ → State → State
@@ -58,7 +58,7 @@ is_treasure_near cave s = list_any (is_near cave s) treasures
 
 -- the chest is put at the place that is named for it
 unfoldable pub with_chest : CaveView → State → State
-with_chest cave s = moved_to_named (thing cave name.Chest) (place_named cave landmark.Chest) s
+with_chest cave s = after_move_to_named (thing cave name.Chest) (place_named cave landmark.Chest) s
 
 -- it is put there if the pirate left no message yet
 unfoldable pub with_chest_at_first : CaveView → State → State
@@ -66,7 +66,8 @@ with_chest_at_first cave s =
     if is_gone s.objects (thing cave name.Message) then with_chest cave s else s
 
 unfoldable pub with_message : CaveView → State → State
-with_message cave s = moved_to_named (thing cave name.Message) (place_named cave landmark.Message) s
+with_message cave s = after_move_to_named (thing cave name.Message)
+    (place_named cave landmark.Message) s
 
 -- the pirate goes home to its chest, and no longer sees the player
 unfoldable pub with_pirate_home : CaveView → State → State

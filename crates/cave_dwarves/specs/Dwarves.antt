@@ -24,8 +24,8 @@ encounter_of cave p =
     record { is_hit = not (raid.attack.hits == 0); scene = after_attack raid.attack q }
 
 -- the dwarves sleep, stir, or are awake, by their anger
-unfoldable pub dwarves_moved : CaveView → Scene → Encounter
-dwarves_moved cave p =
+unfoldable pub encounter_in_turn : CaveView → Scene → Encounter
+encounter_in_turn cave p =
     if p.state.dwarves.anger == 0 then without_hit (with_state (after_stirring cave p.state) p)
     else (if p.state.dwarves.anger == 1 then without_hit (waking_scene cave p)
     else encounter_of cave p)

@@ -29,8 +29,8 @@ with_knife_here s =
     with_dwarves (record dwarves { knife = fallen_knife s.trail.here dwarves.knife }) s
 
 -- of 1000 numbers one is drawn: a knife hits by 95 of them for each degree of anger over 2
-unfoldable pub knife_thrown : State → Act
-knife_thrown s = record {
+unfoldable pub throw_act : State → Act
+throw_act s = record {
   threat =
       if nat_lt (number_drawn 1000 s.stream) (95 * (s.dwarves.anger - 2)) then threat.Hits
       else threat.Misses;
@@ -42,7 +42,7 @@ unfoldable pub threatening_act : ℕ → State → Act
 threatening_act number s =
     let dwarf = dwarf_of s number in
     if not dwarf.has_seen then record { threat = threat.Nothing; state = s }
-    else (if dwarf.last == s.trail.here then knife_thrown s
+    else (if dwarf.last == s.trail.here then throw_act s
     else record { threat = threat.Stands; state = s })
 
 -- a dwarf moves and then threatens the player; one that is gone does nothing

@@ -2,7 +2,7 @@
 
 ghost use Rattle.std.specs.Prelude.{◌≡◌};
 ghost use Rattle.cave_things.specs.Things.{cave_of};
-ghost use Rattle.cave_dwarves.specs.Booty.{moved_to_named, pirate_wants, is_carried_booty, is_booty};
+ghost use Rattle.cave_dwarves.specs.Booty.{after_move_to_named, pirate_wants, is_carried_booty, is_booty};
 ghost use Rattle.cave_dwarves.specs.Booty.{after_theft, after_thefts, carries_booty};
 ghost use Rattle.cave_dwarves.specs.Booty.{is_treasure_near};
 ghost use Rattle.cave_dwarves.specs.Booty.{with_chest, with_chest_at_first, with_message};
@@ -18,9 +18,9 @@ use cave_words::Named;
 use cave_world::{Dwarf, State};
 
 /// An object is moved to the place that is named, if one is.
-#[tactic(auto, unfolding(crate::specs::Booty::moved_to_named))]
+#[tactic(auto, unfolding(crate::specs::Booty::after_move_to_named))]
 fn move_to_named(object: Object, named: Option<Place>, state: &mut State)
-    ensures { state.new ≡ moved_to_named object named state.old }
+    ensures { state.new ≡ after_move_to_named object named state.old }
 {
     if let Some(place) = named {
         state.move_to(object, place);

@@ -2,7 +2,7 @@ ghost use Rattle.std.specs.Prelude.{◌≡◌};
 ghost use Rattle.cave_things.specs.Bounds.{HasRoom, SaysUpTo, parts_of_dwarves};
 ghost use Rattle.cave_things.specs.Plays.{scene_of, GoesOn};
 ghost use Rattle.cave_things.specs.Things.{cave_of};
-ghost use Rattle.cave_dwarves.specs.Dwarves.{encounter_of, dwarves_moved};
+ghost use Rattle.cave_dwarves.specs.Dwarves.{encounter_of, encounter_in_turn};
 
 use crate::knives::raid;
 use crate::lines::tell_attack;
@@ -27,11 +27,11 @@ fn harry(rules: &Rules<'_>, play: &mut Play<'_>) -> bool
 
 /// The dwarves sleep, stir, or are awake, where the player arrives. Returns whether a knife hit the
 /// player.
-#[tactic(auto, unfolding(crate::specs::Dwarves::dwarves_moved))]
+#[tactic(auto, unfolding(crate::specs::Dwarves::encounter_in_turn))]
 pub fn move_dwarves(rules: &Rules<'_>, play: &mut Play<'_>) -> bool
     requires { HasRoom parts_of_dwarves play.old }
     ensures moves { record { is_hit = result; scene = scene_of play.new }
-        ≡ dwarves_moved (cave_of rules.now) (scene_of play.old) }
+        ≡ encounter_in_turn (cave_of rules.now) (scene_of play.old) }
     ensures same { GoesOn play.old play.new }
     ensures few { SaysUpTo parts_of_dwarves play.old play.new }
 {

@@ -1,6 +1,6 @@
 ghost use Rattle.std.specs.Prelude.{◌≡◌, ◌≤◌, ◌<◌, ◌+◌};
 ghost use Rattle.cave_things.specs.Things.{cave_of};
-ghost use Rattle.cave_dwarves.specs.Knives.{fallen_knife, with_knife_here, knife_thrown};
+ghost use Rattle.cave_dwarves.specs.Knives.{fallen_knife, with_knife_here, throw_act};
 ghost use Rattle.cave_dwarves.specs.Knives.{threatening_act, act_of_dwarf, with_threat, no_attack};
 ghost use Rattle.cave_dwarves.specs.Knives.{raid_of};
 
@@ -89,9 +89,9 @@ fn drop_knife(state: &mut State)
 }
 
 /// A knife is thrown at the player. It hits the more often the angrier the dwarves are.
-#[tactic(auto, unfolding(crate::specs::Knives::knife_thrown))]
+#[tactic(auto, unfolding(crate::specs::Knives::throw_act))]
 fn throw_knife(state: &mut State) -> Threat
-    ensures { record { threat = result; state = state.new } ≡ knife_thrown state.old }
+    ensures { record { threat = result; state = state.new } ≡ throw_act state.old }
 {
     let chances = 95 * u32::from(state.dwarves.anger.number().saturating_sub(2));
     let is_hit = state.stream.draw(1000) < chances;
@@ -117,7 +117,7 @@ fn threaten(number: usize, state: &mut State) -> Threat
 
 /// A dwarf moves and then threatens the player. One that is gone does nothing.
 #[tactic(auto, unfolding(crate::specs::Knives::act_of_dwarf))]
-fn act(rules: &Rules<'_>, number: usize, state: &mut State) -> Threat
+fn move_and_threaten(rules: &Rules<'_>, number: usize, state: &mut State) -> Threat
     requires { number < 6 }
     ensures { record { threat = result; state = state.new }
         ≡ act_of_dwarf (cave_of rules.now) number state.old }
@@ -139,7 +139,7 @@ pub fn raid(rules: &Rules<'_>, state: &mut State) -> Attack
 {
     let mut attack = Attack::none();
     for number in 0..5 {
-        attack = attack.with(act(rules, number, state));
+        attack = attack.with(move_and_threaten(rules, number, state));
     }
     attack
 }

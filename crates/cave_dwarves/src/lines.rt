@@ -5,7 +5,7 @@ ghost use Rattle.cave_dwarves.specs.Lines.{telling_number, after_dwarf_count, af
 ghost use Rattle.cave_dwarves.specs.Lines.{after_first_knives, after_throws, after_attack};
 
 use crate::knives::Attack;
-use crate::waking::anger;
+use crate::waking::set_anger;
 use cave_rows::Role;
 use cave_things::Play;
 use cave_world::{NumberLine, Part, State};
@@ -73,7 +73,7 @@ fn enrage(state: &mut State)
     ensures { state.new ≡ after_first_knives state.old }
 {
     if state.dwarves.anger.number() == 2 {
-        anger(3, state);
+        set_anger(3, state);
     }
 }
 

@@ -15,7 +15,7 @@ use cave_words::Named;
 use cave_world::{Count, Dwarf, State};
 
 /// The dwarves are so angry from now on.
-pub fn anger(degree: u16, state: &mut State)
+pub fn set_anger(degree: u16, state: &mut State)
     requires { degree ≤ 13 }
     ensures { state.new ≡ with_anger degree state.old }
 {
@@ -28,7 +28,7 @@ pub fn stir(rules: &Rules<'_>, state: &mut State)
     ensures { state.new ≡ after_stirring (cave_of rules.now) state.old }
 {
     if deep_place(rules.cave).number() <= state.trail.here.number() {
-        anger(1, state);
+        set_anger(1, state);
     }
 }
 
@@ -97,7 +97,7 @@ fn keep_apart(rules: &Rules<'_>, state: &mut State)
 fn wake(rules: &Rules<'_>, state: &mut State)
     ensures { state.new ≡ after_waking (cave_of rules.now) state.old }
 {
-    anger(2, state);
+    set_anger(2, state);
     perhaps_remove_one(state);
     perhaps_remove_one(state);
     keep_apart(rules, state);

@@ -1,13 +1,13 @@
 -- One hint more is considered.
 use Rattle.std.proofs.Common.{◌≡◌, ℕ, suc, ◌+◌, ◌≤◌, Bool, true, false, refl, arith}
 use Rattle.cave_data.specs.CaveView.{CaveView}
-use Rattle.cave_hints.specs.Hints.{after_considering, considered_up_to}
+use Rattle.cave_hints.specs.Hints.{after_considering, after_hints_up_to}
 use Rattle.cave_things.specs.Plays.{Scene}
 
 -- the next hint comes after those so far
 pub after_considering-more : (cave : CaveView) (n : ℕ) (p : Scene)
-    → considered_up_to cave (n + 1) p ≡ after_considering cave (n + 4) (considered_up_to cave n p)
-unfolding considered_up_to
+    → after_hints_up_to cave (n + 1) p ≡ after_considering cave (n + 4) (after_hints_up_to cave n p)
+unfolding after_hints_up_to
 after_considering-more cave n p = let next : n + 1 ≡ suc n = omega arith in rw next refl
 
 -- one question is said at most: after one no other is asked

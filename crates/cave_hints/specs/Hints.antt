@@ -106,32 +106,32 @@ offer_scene cave h hint p =
     else p
 
 -- a hint that the cave has and that wasn't taken counts its turns, and is offered
-abbrev pub considered_if : CaveView → ℕ → Option Hint → Scene → Scene
-considered_if cave h None p = p
-considered_if cave h (Some hint) p =
+abbrev pub after_considering_if : CaveView → ℕ → Option Hint → Scene → Scene
+after_considering_if cave h None p = p
+after_considering_if cave h (Some hint) p =
     if was_taken h p.state then p
     else offer_scene cave h hint (with_state (after_turn_near cave h p.state) p)
 
 unfoldable pub after_considering : CaveView → ℕ → Scene → Scene
-after_considering cave h p = considered_if cave h (map.get cave.hints h) p
+after_considering cave h p = after_considering_if cave h (map.get cave.hints h) p
 
 -- so many hints from the fourth on are considered, one after another
-unfoldable pub considered_up_to : CaveView → ℕ → Scene → Scene
-considered_up_to cave zero p = p
-considered_up_to cave (suc n) p = after_considering cave (n + 4) (considered_up_to cave n p)
+unfoldable pub after_hints_up_to : CaveView → ℕ → Scene → Scene
+after_hints_up_to cave zero p = p
+after_hints_up_to cave (suc n) p = after_considering cave (n + 4) (after_hints_up_to cave n p)
 
 -- the hints from 4 to 20
 abbrev pub after_hints : CaveView → Scene → Scene
-after_hints cave p = considered_up_to cave 17 p
+after_hints cave p = after_hints_up_to cave 17 p
 
 -- what a hint costs is said, and whether it is worth that is asked
-abbrev pub priced_if : CaveView → ℕ → Option Hint → Scene → Scene
-priced_if cave h None p = p
-priced_if cave h (Some hint) p =
+abbrev pub price_scene_if : CaveView → ℕ → Option Hint → Scene → Scene
+price_scene_if cave h None p = p
+price_scene_if cave h (Some hint) p =
     asking_scene cave (question.Take h) (after_telling (part.Number HintCosts hint.points 0) p)
 
 unfoldable pub price_scene : CaveView → ℕ → Scene → Scene
-price_scene cave h p = priced_if cave h (map.get cave.hints h) p
+price_scene cave h p = price_scene_if cave h (map.get cave.hints h) p
 
 -- a hint lets a lamp that isn't low burn 30 turns more for each point that it costs, up to 100,000
 abbrev pub after_reward : ℕ → State → State
@@ -143,11 +143,11 @@ after_reward points s =
     else s
 
 -- a hint is given
-abbrev pub given_if : ℕ → Option Hint → Scene → Scene
-given_if h None p = p
-given_if h (Some hint) p =
+abbrev pub hint_scene_if : ℕ → Option Hint → Scene → Scene
+hint_scene_if h None p = p
+hint_scene_if h (Some hint) p =
     let q = after_telling (part.Message hint.text) p in
     with_state (after_reward hint.points (with_hint_taken h q.state)) q
 
 unfoldable pub hint_scene : CaveView → ℕ → Scene → Scene
-hint_scene cave h p = given_if h (map.get cave.hints h) p
+hint_scene cave h p = hint_scene_if h (map.get cave.hints h) p

@@ -14,7 +14,7 @@ use Rattle.cave_begin.specs.Begin.{begun_state}
 use Rattle.cave_turn.specs.Turn.{game_beginning, turn_on_line}
 use Rattle.cave_laws.proofs.Frame.{Claim, IsKept, is_die}
 use Rattle.cave_laws.proofs.Lines.{turned_kept}
-use Rattle.cave_laws.specs.Laws.{HasFewDeaths, FewDeaths, StandsSomewhere, PlayerStands}
+use Rattle.cave_laws.specs.Laws.{HasFewDeaths, FewDeaths, IsSomewhere, PlayerIsSomewhere}
 
 -- there are at most three deaths, and after the third the game has ended
 abbrev Deaths : Claim
@@ -105,18 +105,18 @@ stands_kept n one = record {
 
 -- each line keeps the player somewhere
 stands_after : (cave : CaveView) (s : State) (line : List ℕ) → 1 ≤ building_place cave
-    → StandsSomewhere s
-    → StandsSomewhere (turn_on_line cave s line).state
+    → IsSomewhere s
+    → IsSomewhere (turn_on_line cave s line).state
 stands_after cave s line one h =
     turned_kept {P = Stands} cave (stands_kept (building_place cave) one)
     (λ _ _ _ _ _ _ x. x) s line h
 
 -- the player begins somewhere
 stands_first : (cave : CaveView) (seed : ℕ) → 1 ≤ start_place cave
-    → StandsSomewhere (game_beginning cave seed).state
+    → IsSomewhere (game_beginning cave seed).state
 unfolding game_beginning begun_state starting_state
 stands_first cave seed one none = absurd (from_one (start_place cave) one none)
 
 -- the player is somewhere at first, and stays so
-pub player_stands : PlayerStands
-player_stands = record { start = stands_first; kept = stands_after }
+pub player_is_somewhere : PlayerIsSomewhere
+player_is_somewhere = record { start = stands_first; kept = stands_after }

@@ -10,7 +10,7 @@ use Rattle.cave_data.specs.CaveView.{CaveView}
 use Rattle.cave_rows.specs.declared.place_role.PlaceRole.TheVariants as place
 use Rattle.cave_rows.specs.declared.role.Role.TheVariants as role
 use Rattle.cave_words.specs.declared.named.Named.TheVariants as name
-use Rattle.cave_objects.specs.Objects.{moved_to}
+use Rattle.cave_objects.specs.Objects.{with_place}
 use Rattle.cave_world.specs.declared.state.State.{State}
 use Rattle.cave_things.specs.Effects.{with_objects, without_troll}
 use Rattle.cave_things.specs.Places.{place_named}
@@ -18,18 +18,18 @@ use Rattle.cave_things.specs.Plays.{Scene, after_saying, with_state}
 use Rattle.cave_things.specs.Reach.{is_near, has_prop}
 use Rattle.cave_things.specs.Things.{thing}
 use Rattle.cave_clocks.specs.Clocks.{go_on_or_give_up, lamp_last, lamp_unless_closed}
-use Rattle.cave_clocks.specs.Clocks.{second_clock_and_lamp, clocks_run}
+use Rattle.cave_clocks.specs.Clocks.{second_clock_and_lamp, timing_of_clocks}
 use Rattle.cave_clocks.specs.FirstClock.{Tick, tick, is_first_clock_going, with_first_clock_down}
 use Rattle.cave_clocks.specs.FirstClock.{with_ways_barred, without_dwarves, without_bear}
 use Rattle.cave_clocks.specs.FirstClock.{cleared_cave, start_of_closing, tick_to_end}
-use Rattle.cave_clocks.specs.FirstClock.{first_clock_run}
+use Rattle.cave_clocks.specs.FirstClock.{timing_of_first_clock}
 use Rattle.cave_clocks.specs.Lamp.{with_charge, with_lamp_burnt, can_change_batteries}
 use Rattle.cave_clocks.specs.Lamp.{with_batteries_used, change_of_batteries, with_lamp_out}
-use Rattle.cave_clocks.specs.Lamp.{lamp_going_out, is_hopeless, is_warning_due, warning_told}
-use Rattle.cave_clocks.specs.Lamp.{Burning, burning_of, care_of_lamp, lamp_run}
+use Rattle.cave_clocks.specs.Lamp.{lamp_going_out, is_hopeless, is_warning_due, after_warning}
+use Rattle.cave_clocks.specs.Lamp.{Burning, burning_of, care_of_lamp, timing_of_lamp}
 use Rattle.cave_clocks.specs.Repository.{with_empty_hands, closed_cave, Closure, closure}
 use Rattle.cave_clocks.specs.Repository.{closure_between, closure_if_due, is_second_clock_going}
-use Rattle.cave_clocks.specs.Repository.{with_second_clock_down, second_clock_run}
+use Rattle.cave_clocks.specs.Repository.{with_second_clock_down, timing_of_second_clock}
 use Rattle.cave_clocks.specs.declared.clocks.Clocks.{Clocks}
 use Rattle.cave_clocks.specs.declared.clocks.Clocks.TheVariants as clocks
 use Rattle.cave_laws.specs.Laws.{before_lamp, unless_closed}
@@ -40,7 +40,7 @@ use Rattle.cave_laws.proofs.VerbEffects.{let_go_kept, without_troll_kept}
 bear_kept : (P : Claim) (cave : CaveView) (s : State) → On P s → On P (without_bear cave s)
 bear_kept P cave s h =
     let bear = thing cave name.Bear in
-    chosen P (has_prop s bear (pos 3)) s (with_objects (moved_to s.objects bear 0) s) h h
+    chosen P (has_prop s bear (pos 3)) s (with_objects (with_place s.objects bear 0) s) h h
 
 cleared_kept : (P : Claim) (cave : CaveView) (s : State) → On P s → On P (cleared_cave cave s)
 unfolding cleared_cave
@@ -55,8 +55,8 @@ unfolding start_of_closing
 start_kept P cave p h = cleared_kept P cave p.state h
 
 first_kept : (P : Claim) (cave : CaveView) (p : Scene) → On P p.state
-    → On P (first_clock_run cave p).scene.state
-unfolding first_clock_run
+    → On P (timing_of_first_clock cave p).scene.state
+unfolding timing_of_first_clock
 first_kept P cave p h =
     let q = with_state (with_first_clock_down p.state) p in
     choose (λ (t : Tick). On P t.scene.state) (is_first_clock_going cave p.state)
@@ -91,9 +91,9 @@ between_kept P cave (Some ne) None p h = h
 between_kept P cave None b p h = h
 
 second_kept : (P : Claim) (cave : CaveView) (p : Scene) → On P p.state
-    → AfterSecond P p.state.trail.here (second_clock_run cave p).place
-    (second_clock_run cave p).scene.state
-unfolding second_clock_run closure_if_due
+    → AfterSecond P p.state.trail.here (timing_of_second_clock cave p).place
+    (timing_of_second_clock cave p).scene.state
+unfolding timing_of_second_clock closure_if_due
 second_kept P cave p h =
     let here = p.state.trail.here in
     let q = with_state (with_second_clock_down p.state) p in
@@ -148,8 +148,8 @@ going_out_kept P k cave p h =
     o
 
 warned_kept : (P : Claim) (cave : CaveView) (p : Scene) → On P p.state
-    → On P (warning_told cave p).state
-unfolding warning_told
+    → On P (after_warning cave p).state
+unfolding after_warning
 warned_kept P cave p h = h
 
 care_kept : (P : Claim) (k : Lowers P) (cave : CaveView) (p : Scene)
@@ -157,7 +157,7 @@ care_kept : (P : Claim) (k : Lowers P) (cave : CaveView) (p : Scene)
     → On P p.state → On P (care_of_lamp cave p).scene.state
 unfolding care_of_lamp
 care_kept P k cave p change h =
-    let warned = if is_warning_due cave p.state then burning_of false (warning_told cave p)
+    let warned = if is_warning_due cave p.state then burning_of false (after_warning cave p)
     else burning_of false p in
     let hopeless = if is_hopeless cave p.state then burning_of true (after_saying role.GiveUp p)
     else warned in
@@ -169,7 +169,7 @@ care_kept P k cave p change h =
     hopeless
     (going_out_kept P k cave p h)
     (picked (is_hopeless cave p.state) (burning_of true (after_saying role.GiveUp p)) warned h
-    (picked (is_warning_due cave p.state) (burning_of false (warning_told cave p))
+    (picked (is_warning_due cave p.state) (burning_of false (after_warning cave p))
     (burning_of false p)
     (warned_kept P cave p h) h)))
   where
@@ -179,8 +179,8 @@ care_kept P k cave p change h =
         choose (λ (r : Burning). On P r.scene.state) b i j (λ _. one) (λ _. other)
 
 pub lamp_kept : (P : Claim) (k : Charges P) (cave : CaveView) (p : Scene) → On P p.state
-    → On P (lamp_run cave p).scene.state
-unfolding lamp_run
+    → On P (timing_of_lamp cave p).scene.state
+unfolding timing_of_lamp
 lamp_kept P k cave p h =
     let q = with_state (with_lamp_burnt cave p.state) p in
     let lowers : Lowers P = λ here b c d q e _ x. k here b c d q e x in
@@ -190,8 +190,8 @@ lamp_kept P k cave p h =
 -- the lamp goes on, and its batteries aren't changed
 pub unchanged_kept : (P : Claim) (k : Lowers P) (cave : CaveView) (p : Scene)
     → can_change_batteries cave (with_lamp_burnt cave p.state) ≡ false
-    → On P p.state → On P (lamp_run cave p).scene.state
-unfolding lamp_run
+    → On P p.state → On P (timing_of_lamp cave p).scene.state
+unfolding timing_of_lamp
 unchanged_kept P k cave p same h =
     let q = with_state (with_lamp_burnt cave p.state) p in
     care_kept P k cave q (λ change. absurd (true≢false (sym change ∙ same)))
@@ -205,13 +205,14 @@ up_kept P before false s h = h
 
 -- what the lamp makes of a claim in the scene that it gets
 abbrev pub Lights : CaveView → Claim → Option Scene → Type 0
-Lights cave P o = (p : Scene) → o ≡ Some p → On P p.state → On P (lamp_run cave p).scene.state
+Lights cave P o = (p : Scene) → o ≡ Some p → On P p.state → On P (timing_of_lamp cave p).scene.state
 
 last_kept : (P : Claim) (cave : CaveView) (before : ℕ) (p : Scene) → Lights cave P (Some p)
     → On P p.state → After P before (lamp_last cave p).outcome (lamp_last cave p).scene.state
 unfolding lamp_last
 last_kept P cave before p lamp h =
-    up_kept P before (lamp_run cave p).gives_up (lamp_run cave p).scene.state (lamp p refl h)
+    up_kept P before (timing_of_lamp cave p).gives_up (timing_of_lamp cave p).scene.state
+    (lamp p refl h)
 
 -- the lamp is passed over where the cave was closed
 unless_kept : (P : Claim) (cave : CaveView) (before : ℕ) (o : Option ℕ) (p : Scene)
@@ -223,29 +224,31 @@ unless_kept P cave before (Some place) p lamp h = h
 -- the second clock and the lamp
 second_lamp_kept : (P : Claim) (cave : CaveView) (p : Scene)
     → Lights cave P
-    (unless_closed (second_clock_run cave p).place (second_clock_run cave p).scene)
+    (unless_closed (timing_of_second_clock cave p).place (timing_of_second_clock cave p).scene)
     → On P p.state
     → After P p.state.trail.here (second_clock_and_lamp cave p).outcome
     (second_clock_and_lamp cave p).scene.state
 unfolding second_clock_and_lamp
 second_lamp_kept P cave p lamp h =
-    unless_kept P cave p.state.trail.here (second_clock_run cave p).place
-    (second_clock_run cave p).scene lamp (second_kept P cave p h)
+    unless_kept P cave p.state.trail.here (timing_of_second_clock cave p).place
+    (timing_of_second_clock cave p).scene lamp (second_kept P cave p h)
 
 -- the clocks go on: the player is where they say, and was somewhere before
 pub clocks_kept : (P : Claim) (cave : CaveView) (p : Scene) → Lights cave P (before_lamp cave p)
     → On P p.state
-    → (before : ℕ) × After P before (clocks_run cave p).outcome (clocks_run cave p).scene.state
-unfolding clocks_run
+    → (before : ℕ) × After P before (timing_of_clocks cave p).outcome
+    (timing_of_clocks cave p).scene.state
+unfolding timing_of_clocks
 clocks_kept P cave p lamp h =
-    let first = first_clock_run cave p in (
+    let first = timing_of_first_clock cave p in (
       first.scene.state.trail.here,
       by_first first.has_begun first.scene lamp (first_kept P cave p h),
     )
   where
     by_first : (begun : Bool) (q : Scene)
         → Lights cave P (if begun then Some q
-        else unless_closed (second_clock_run cave q).place (second_clock_run cave q).scene)
+        else unless_closed (timing_of_second_clock cave q).place
+        (timing_of_second_clock cave q).scene)
         → On P q.state
         → After P q.state.trail.here
         (if begun then lamp_last cave q else second_clock_and_lamp cave q).outcome

@@ -15,8 +15,8 @@ use Rattle.cave_things.specs.Plays.{Scene, after_saying, with_state, after_draw,
 use Rattle.cave_things.specs.Things.{thing}
 use Rattle.cave_things.specs.Treasures.{treasures}
 use Rattle.cave_dwarves.specs.Band.{pirate, dwarf_of, with_dwarf, state_after_draw}
-use Rattle.cave_dwarves.specs.Dwarves.{Encounter, without_hit, encounter_of, dwarves_moved}
-use Rattle.cave_dwarves.specs.Knives.{Act, knife_thrown, with_knife_here, threatening_act}
+use Rattle.cave_dwarves.specs.Dwarves.{Encounter, without_hit, encounter_of, encounter_in_turn}
+use Rattle.cave_dwarves.specs.Knives.{Act, throw_act, with_knife_here, threatening_act}
 use Rattle.cave_dwarves.specs.Knives.{act_of_dwarf, raid_of}
 use Rattle.cave_dwarves.specs.Lines.{telling_number, after_dwarf_count, after_one_knife, after_some_knives}
 use Rattle.cave_dwarves.specs.Lines.{after_first_knives}
@@ -25,7 +25,7 @@ use Rattle.cave_dwarves.specs.Moving.{after_dwarf_move}
 use Rattle.cave_dwarves.specs.Pirate.{is_after_player, hides_chest, is_pirate_new, rustling_scene}
 use Rattle.cave_dwarves.specs.Pirate.{pirate_scene}
 use Rattle.cave_dwarves.specs.Pirate.{after_pirate_meeting, after_pirate}
-use Rattle.cave_dwarves.specs.Booty.{moved_to_named, is_booty, after_theft, after_thefts}
+use Rattle.cave_dwarves.specs.Booty.{after_move_to_named, is_booty, after_theft, after_thefts}
 use Rattle.cave_dwarves.specs.Booty.{carries_booty}
 use Rattle.cave_dwarves.specs.Booty.{with_chest, with_chest_at_first, with_message}
 use Rattle.cave_dwarves.specs.Booty.{with_pirate_home, after_robbery, with_hidden_chest}
@@ -91,8 +91,8 @@ knife_kept : (P : Claim) (s : State) → On P s → On P (with_knife_here s)
 unfolding with_knife_here
 knife_kept P s h = h
 
-thrown_kept : (P : Claim) (s : State) → On P s → On P (knife_thrown s).state
-unfolding knife_thrown
+thrown_kept : (P : Claim) (s : State) → On P s → On P (throw_act s).state
+unfolding throw_act
 thrown_kept P s h = knife_kept P (state_after_draw s) h
 
 threatened_kept : (P : Claim) (n : ℕ) (s : State) → On P s → On P (threatening_act n s).state
@@ -102,8 +102,8 @@ threatened_kept P n s h =
     let still : Act = record { threat = threat.Stands; state = s } in
     choose (λ (a : Act). On P a.state) (not dwarf.has_seen)
     (record { threat = threat.Nothing; state = s })
-    (if dwarf.last == s.trail.here then knife_thrown s else still) (λ _. h)
-    (λ _. choose (λ (a : Act). On P a.state) (dwarf.last == s.trail.here) (knife_thrown s) still
+    (if dwarf.last == s.trail.here then throw_act s else still) (λ _. h)
+    (λ _. choose (λ (a : Act). On P a.state) (dwarf.last == s.trail.here) (throw_act s) still
     (λ _. thrown_kept P s h) (λ _. h))
 
 acted_kept : (P : Claim) (cave : CaveView) (n : ℕ) (s : State) → On P s
@@ -171,8 +171,9 @@ attack_kept P a p h =
     throws_kept P a (after_dwarf_count a.dwarves p) (dwarves_told_kept P a.dwarves p h)
 
 -- an object is moved to a place that may be named
-named_kept : (P : Claim) (x : ℕ) (o : Option ℕ) (s : State) → On P s → On P (moved_to_named x o s)
-unfolding moved_to_named
+named_kept : (P : Claim) (x : ℕ) (o : Option ℕ) (s : State) → On P s
+    → On P (after_move_to_named x o s)
+unfolding after_move_to_named
 named_kept P x None s h = h
 named_kept P x (Some place) s h = h
 
@@ -180,7 +181,7 @@ stolen_kept : (P : Claim) (cave : CaveView) (x : ℕ) (s : State) → On P s
     → On P (after_theft cave x s)
 unfolding after_theft
 stolen_kept P cave x s h =
-    chosen P (is_booty cave s x) (moved_to_named x (place_named cave landmark.Chest) s) s
+    chosen P (is_booty cave s x) (after_move_to_named x (place_named cave landmark.Chest) s) s
     (named_kept P x (place_named cave landmark.Chest) s h) h
 
 all_stolen_kept : (P : Claim) (cave : CaveView) (xs : List ℕ) (s : State) → On P s
@@ -266,8 +267,8 @@ harried_kept P cave p h =
     (pirate_kept P cave q (raided_kept P cave 5 p.state h))
 
 pub dwarves_kept : (P : Claim) (cave : CaveView) (p : Scene) → On P p.state
-    → On P (dwarves_moved cave p).scene.state
-unfolding dwarves_moved
+    → On P (encounter_in_turn cave p).scene.state
+unfolding encounter_in_turn
 dwarves_kept P cave p h =
     choose (λ (r : Encounter). On P r.scene.state) (p.state.dwarves.anger == 0)
     (without_hit (with_state (after_stirring cave p.state) p))

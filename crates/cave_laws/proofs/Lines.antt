@@ -25,7 +25,7 @@ use Rattle.cave_things.specs.Plays.{with_state}
 use Rattle.cave_things.specs.Plays.{scene_at_place}
 use Rattle.cave_things.specs.Things.{thing}
 use Rattle.cave_score.specs.Deaths.{with_one_death}
-use Rattle.cave_hints.specs.Hints.{with_hint_taken, priced_if, price_scene, given_if, hint_scene}
+use Rattle.cave_hints.specs.Hints.{with_hint_taken, price_scene_if, price_scene, hint_scene_if, hint_scene}
 use Rattle.cave_turn.specs.Answers.{answer_in, is_dragon, is_yes, without_question, entrance_scene}
 use Rattle.cave_turn.specs.Answers.{yes_scene}
 use Rattle.cave_turn.specs.Answers.{no_scene, reply_scene}
@@ -48,14 +48,14 @@ use Rattle.cave_laws.proofs.Turns.{asks_kept, none_on, finished_kept, command_ke
 priced_kept : {n : ℕ} {P : Claim} (k : IsKept n P) (cave : CaveView) (i : ℕ) (o : Option Hint)
     (p : Scene)
     → p.state.question ≡ None → p.state.ending ≡ None → On P p.state
-    → On P (priced_if cave i o p).state
+    → On P (price_scene_if cave i o p).state
 priced_kept k cave i None p reply_scene goes h = h
 priced_kept {n} {P} k cave i (Some hint) p reply_scene goes h =
     asking_kept P cave (question.Take i) (after_telling (part.Number HintCosts hint.points 0) p)
     (asks_kept k (question.Take i) _ _ _ _ _ h (reply_scene, goes))
 
 given_kept : {P : Claim} (pay : Charges P) (i : ℕ) (o : Option Hint) (p : Scene) → On P p.state
-    → On P (given_if i o p).state
+    → On P (hint_scene_if i o p).state
 given_kept pay i None p h = h
 given_kept {P} pay i (Some hint) p h =
     let s = with_hint_taken i p.state in let lamp = s.lamp in

@@ -8,7 +8,7 @@ use Rattle.cave_data.specs.CaveView.{CaveView, ways_from}
 use Rattle.cave_rows.specs.declared.role.Role.TheVariants as role
 use Rattle.cave_words.specs.declared.named.Named.TheVariants as name
 use Rattle.cave_words.specs.Stream.{next}
-use Rattle.cave_objects.specs.Objects.{moved_to, with_prop}
+use Rattle.cave_objects.specs.Objects.{with_place, with_prop}
 use Rattle.cave_world.specs.State.{without_visits}
 use Rattle.cave_world.specs.State.{state_after_setting_out}
 use Rattle.cave_world.specs.Travel.{TravelResult, travel_by_motion, travel_by_rows, first_way, outcome_or}
@@ -20,7 +20,7 @@ use Rattle.cave_world.specs.declared.travel.TravelOutcome.{TravelOutcome}
 use Rattle.cave_world.specs.declared.travel.TravelOutcome.TheVariants as outcome
 use Rattle.cave_world.specs.declared.travel.Special.TheVariants.{Squeeze, Bridge}
 use Rattle.cave_world.specs.declared.state.State.{State}
-use Rattle.cave_things.specs.Effects.{with_objects, one_more_lost}
+use Rattle.cave_things.specs.Effects.{with_objects, with_one_more_lost}
 use Rattle.cave_things.specs.Places.{outside_place}
 use Rattle.cave_things.specs.Plays.{Scene, after_telling, after_saying, after_look_at, with_state}
 use Rattle.cave_things.specs.Plays.{with_left}
@@ -52,7 +52,7 @@ row_kept P emerald s row h =
     let m = row_condition row in let t = after_condition m s in
     let k = chosen P (nat_lt 0 m && nat_lt m 100) (record s { stream = next s.stream }) s h h in
     chosen P (holds m s && row_number row == 302)
-    (record t { objects = moved_to t.objects emerald t.trail.here }) t k k
+    (record t { objects = with_place t.objects emerald t.trail.here }) t k k
 
 -- a journey that ends or goes on
 ends_kept : (P : Claim) (o : Option TravelOutcome) (s : State) (j : TravelResult) → On P s
@@ -108,7 +108,7 @@ bridge_kept : (P : Claim) (cave : CaveView) (end : ℕ) (s : State) → On P s
 unfolding with_broken_bridge
 bridge_kept P cave end s h =
     let t = with_objects (without_bridge cave end s.objects) s in
-    chosen P (has_prop_up_to t (thing cave name.Spices) (negsuc 0)) (one_more_lost t) t h h
+    chosen P (has_prop_up_to t (thing cave name.Spices) (negsuc 0)) (with_one_more_lost t) t h h
 
 broken_kept : {n : ℕ} {P : Claim} (k : IsKept n P) (cave : CaveView) (end : ℕ) (p : Scene)
     → On P p.state → On P (broken_bridge_scene cave end p).state

@@ -12,9 +12,9 @@ use Rattle.cave_world.specs.declared.ending.Question.TheVariants as question
 use Rattle.cave_world.specs.declared.part.Part.TheVariants as part
 use Rattle.cave_world.specs.declared.part.NumberLine.TheVariants as line
 use Rattle.cave_things.specs.Plays.{Scene, after_telling, after_saying, with_state}
-use Rattle.cave_score.specs.Deaths.{death_scene, killed_closing, with_one_death}
-use Rattle.cave_score.specs.Endings.{ending_scene, with_ending, score_told, class_told}
-use Rattle.cave_score.specs.Questions.{asking_scene, after_question, hint_offered, preface_told}
+use Rattle.cave_score.specs.Deaths.{death_scene, closing_death_scene, with_one_death}
+use Rattle.cave_score.specs.Endings.{ending_scene, with_ending, after_score, after_class}
+use Rattle.cave_score.specs.Questions.{asking_scene, after_question, after_offer, after_preface}
 use Rattle.cave_score.specs.Questions.{with_question}
 use Rattle.cave_score.specs.Score.{score_of, max_score_of}
 use Rattle.cave_moves.specs.Falling.{falling_at, with_all_left_at}
@@ -22,7 +22,7 @@ use Rattle.cave_laws.proofs.Frame.{Claim, On, At, IsKept, choose}
 
 -- the class of a score is printed
 class_kept : (P : Claim) (score : ℕ) (o : Option Rated) (p : Scene) → On P p.state
-    → On P (class_told score o p).state
+    → On P (after_class score o p).state
 class_kept P score None p h = h
 class_kept P score (Some rated) p h =
     let q = after_telling (part.Class score) p in
@@ -32,8 +32,8 @@ class_kept P score (Some rated) p h =
     (λ _. h) (λ _. h)
 
 score_kept : (P : Claim) (cave : CaveView) (p : Scene) → On P p.state
-    → On P (score_told cave p).state
-unfolding score_told
+    → On P (after_score cave p).state
+unfolding after_score
 score_kept P cave p h =
     let score = score_of cave p.state in
     class_kept P score (rating_of_score cave score)
@@ -45,7 +45,7 @@ unfolding ending_scene
 ended_kept P cave how p h = score_kept P cave (with_state (with_ending how p.state) p) h
 
 offer_kept : (P : Claim) (o : Option Hint) (p : Scene) → On P p.state
-    → On P (hint_offered o p).state
+    → On P (after_offer o p).state
 offer_kept P None p h = h
 offer_kept P (Some hint) p h = h
 
@@ -62,7 +62,7 @@ question_kept P cave question.Oyster p h = h
 question_kept P cave question.Dragon p h = h
 
 preface_kept : (P : Claim) (cave : CaveView) (q : Question) (p : Scene) → On P p.state
-    → On P (preface_told cave q p).state
+    → On P (after_preface cave q p).state
 preface_kept P cave question.Welcome p h = h
 preface_kept P cave question.Quit p h = h
 preface_kept P cave question.ScoreQuit p h = h
@@ -77,15 +77,15 @@ pub asking_kept : (P : Claim) (cave : CaveView) (q : Question) (p : Scene)
 unfolding asking_scene
 asking_kept P cave q p h =
     let Asked : Claim = λ here c d _ e. P here c d (Some q) e in
-    question_kept Asked cave q (preface_told cave q p) (preface_kept Asked cave q p h)
+    question_kept Asked cave q (after_preface cave q p) (preface_kept Asked cave q p h)
 
 -- the player dies where the player now is, and was elsewhere before
 pub dying_kept : {n : ℕ} {P : Claim} (k : IsKept n P) (cave : CaveView) (before : ℕ) (p : Scene)
     → At P before p.state → On P (death_scene cave p).state
-unfolding death_scene killed_closing
+unfolding death_scene closing_death_scene
 dying_kept {n} {P} k cave before p h =
     let told = after_saying role.KilledClosing p in
-    choose (λ (r : Scene). On P r.state) p.state.closing.is_closing (killed_closing cave p)
+    choose (λ (r : Scene). On P r.state) p.state.closing.is_closing (closing_death_scene cave p)
     (asking_scene cave question.Die p)
     (λ _. ended_kept P cave ending_is.Killed (with_state (with_one_death told.state) told)
     (k.kills ending_is.Killed before _ _ _ _ _ _ h))

@@ -23,7 +23,7 @@ use Rattle.cave_things.specs.Plays.{Scene, after_telling, after_saying, with_sta
 use Rattle.cave_things.specs.Plays.{here_of, after_draw, happens, scene_at_place}
 use Rattle.cave_things.specs.Things.{thing}
 use Rattle.cave_things.specs.declared.conditions.Condition.TheVariants.{NoPirate}
-use Rattle.cave_dwarves.specs.Dwarves.{Encounter, dwarves_moved}
+use Rattle.cave_dwarves.specs.Dwarves.{Encounter, encounter_in_turn}
 use Rattle.cave_score.specs.Deaths.{death_scene}
 use Rattle.cave_moves.specs.Arrival.{is_shut, journey_unless_shut, is_barred, journey_unless_barred, after_dwarves}
 use Rattle.cave_moves.specs.Arrival.{meeting_scene}
@@ -33,7 +33,7 @@ use Rattle.cave_moves.specs.Description.{after_pit, after_darkness, dark_scene, 
 use Rattle.cave_moves.specs.Description.{description_scene, stop_here}
 use Rattle.cave_moves.specs.Falling.{falling_here}
 use Rattle.cave_moves.specs.Objects.{is_kept_back, is_unseen, first_prop, is_beyond_hope}
-use Rattle.cave_moves.specs.Objects.{with_short_lamp, one_less_unseen, after_find, found_if_unseen}
+use Rattle.cave_moves.specs.Objects.{with_short_lamp, one_less_unseen, after_find, after_find_if_unseen}
 use Rattle.cave_moves.specs.Objects.{described_prop, after_object, after_objects}
 use Rattle.cave_moves.specs.Ways as ways
 use Rattle.cave_moves.specs.Ways.{journey_here}
@@ -99,7 +99,7 @@ object_kept : {n : ℕ} {P : Claim} (k : IsKept n P) (cave : CaveView) (x : ℕ)
     → On P p.state → On P (after_object cave x p).state
 unfolding after_object
 object_kept {n} {P} k cave x p h =
-    let s = found_if_unseen cave x p.state in
+    let s = after_find_if_unseen cave x p.state in
     chosen_scene P (is_kept_back cave p.state x) p
     (after_telling (part.Object x (described_prop cave s x)) (with_state s p)) h
     (chosen P (is_unseen p.state x) (after_find cave x p.state) p.state
@@ -158,8 +158,8 @@ met_kept : {n : ℕ} {P : Claim} (k : IsKept n P) (cave : CaveView) (p : Scene) 
 unfolding meeting_scene
 met_kept {n} {P} k cave p h =
     chosen_scene P (meets_condition cave (here_of p) NoPirate) (description_scene cave p)
-    (after_dwarves cave (dwarves_moved cave p)) (described_kept k cave p h)
-    (after_dwarves_kept k cave (dwarves_moved cave p) (dwarves_kept P cave p h))
+    (after_dwarves cave (encounter_in_turn cave p)) (described_kept k cave p h)
+    (after_dwarves_kept k cave (encounter_in_turn cave p) (dwarves_kept P cave p h))
 
 -- a closing cave keeps the player in
 kept_in_kept : (P : Claim) (cave : CaveView) (new : ℕ) (p : Scene) → On P p.state

@@ -23,7 +23,7 @@ use Rattle.cave_verbs.specs.Acting.{outcome_of_command, next_of_step}
 use Rattle.cave_verbs.specs.declared.next.Next.{Next}
 use Rattle.cave_verbs.specs.declared.next.Next.TheVariants as next_is
 use Rattle.cave_verbs.specs.declared.order.Command.{Command}
-use Rattle.cave_clocks.specs.Clocks.{clocks_run}
+use Rattle.cave_clocks.specs.Clocks.{timing_of_clocks}
 use Rattle.cave_clocks.specs.declared.clocks.Clocks.{Clocks}
 use Rattle.cave_clocks.specs.declared.clocks.Clocks.TheVariants as clocks
 use Rattle.cave_score.specs.Deaths.{with_one_death}
@@ -31,15 +31,15 @@ use Rattle.cave_score.specs.Endings.{ending_scene}
 use Rattle.cave_score.specs.Questions.{asking_scene}
 use Rattle.cave_hints.specs.Hints.{with_turns_near, turns_near, was_taken, is_in_area}
 use Rattle.cave_hints.specs.Hints.{after_turn_near}
-use Rattle.cave_hints.specs.Hints.{is_due, is_needed, put_off, offer_scene, considered_if}
+use Rattle.cave_hints.specs.Hints.{is_due, is_needed, put_off, offer_scene, after_considering_if}
 use Rattle.cave_hints.specs.Hints.{after_considering}
-use Rattle.cave_hints.specs.Hints.{considered_up_to, after_hints}
+use Rattle.cave_hints.specs.Hints.{after_hints_up_to, after_hints}
 use Rattle.cave_moves.specs.Journeys.{journey_by_request}
 use Rattle.cave_turn.specs.Answers.{reply_scene}
 use Rattle.cave_turn.specs.Commands.{after_beginning, travel_scene, puzzled_scene, next_scene}
 use Rattle.cave_turn.specs.Commands.{WordsDone}
 use Rattle.cave_turn.specs.Commands.{words_done_by_verb}
-use Rattle.cave_turn.specs.Commands.{done_by_reading, after_remembering, kept_scene, scene_of_understood}
+use Rattle.cave_turn.specs.Commands.{words_done_by_reading, after_remembering, kept_scene, scene_of_understood}
 use Rattle.cave_turn.specs.Commands.{scene_of_words}
 use Rattle.cave_turn.specs.Commands.{after_clocks, clocks_scene, command_scene}
 use Rattle.cave_turn.specs.Finish.{is_hidden_in_hand, after_oyster_shows, layout_with_shown_up_to, after_hands_show}
@@ -120,7 +120,7 @@ offered_kept {n} {P} k cave i hint p h =
 -- a hint that the cave may have is considered
 considered_if_kept : {n : ℕ} {P : Claim} (k : IsKept n P) (cave : CaveView) (i : ℕ)
     (o : Option Hint)
-    (p : Scene) → On P p.state → On P (considered_if cave i o p).state
+    (p : Scene) → On P p.state → On P (after_considering_if cave i o p).state
 considered_if_kept k cave i None p h = h
 considered_if_kept {n} {P} k cave i (Some hint) p h =
     let q = with_state (after_turn_near cave i p.state) p in
@@ -128,11 +128,11 @@ considered_if_kept {n} {P} k cave i (Some hint) p h =
     (offered_kept k cave i hint q (waited_kept P cave i p.state h))
 
 considered_kept : {n : ℕ} {P : Claim} (k : IsKept n P) (cave : CaveView) (i : ℕ) (p : Scene)
-    → On P p.state → On P (considered_up_to cave i p).state
-unfolding considered_up_to after_considering
+    → On P p.state → On P (after_hints_up_to cave i p).state
+unfolding after_hints_up_to after_considering
 considered_kept k cave zero p h = h
 considered_kept k cave (suc i) p h =
-    considered_if_kept k cave (i + 4) (map.get cave.hints (i + 4)) (considered_up_to cave i p)
+    considered_if_kept k cave (i + 4) (map.get cave.hints (i + 4)) (after_hints_up_to cave i p)
     (considered_kept k cave i p h)
 
 oyster_kept : (P : Claim) (cave : CaveView) (p : Scene) → On P p.state
@@ -193,7 +193,7 @@ travelling_kept k cave motion p h =
 done_kept : {n : ℕ} {P : Claim} (k : IsKept n P) (cave : CaveView) (half : HalfCommand)
     (r : Reading)
     (p : Scene)
-    → On (Calm P) p.state → On P (done_by_reading cave half r p).scene.state
+    → On (Calm P) p.state → On P (words_done_by_reading cave half r p).scene.state
 unfolding puzzled_scene
 done_kept k cave half reading.Unknown p h = h.0
 done_kept k cave half (reading.Motion motion) p h = travelling_kept k cave motion p h.0
@@ -218,7 +218,7 @@ carried_out_kept : {n : ℕ} {P : Claim} (k : IsKept n P) (cave : CaveView) (u :
     → On (Calm P) p.state → On P (scene_of_understood cave u p).state
 unfolding scene_of_understood
 carried_out_kept {n} {P} k cave u p h =
-    settled_kept P u.half.object (done_by_reading cave u.half u.reading p)
+    settled_kept P u.half.object (words_done_by_reading cave u.half u.reading p)
     (done_kept k cave u.half u.reading p h)
 
 -- the words of a line are done
@@ -256,7 +256,7 @@ timed_kept : {n : ℕ} {P : Claim} (k : IsKept n P) (cave : CaveView) (words : W
     → On P (clocks_scene cave words p).state
 unfolding clocks_scene
 timed_kept {n} {P} k cave words p lamp h =
-    let t = clocks_run cave p in let after = clocks_kept (Calm P) cave p lamp h in
+    let t = timing_of_clocks cave p in let after = clocks_kept (Calm P) cave p lamp h in
     after_clocks_kept k cave words after.0 t.outcome t.scene after.1
 
 pub commanded_kept : {n : ℕ} {P : Claim} (k : IsKept n P) (cave : CaveView) (line : List ℕ)

@@ -4,11 +4,11 @@ use Rattle.std.specs.Prelude.{◌==◌, ◌&&◌, ◌||◌, Option, None, Some}
 use Rattle.cave_data.specs.CaveView.{CaveView, default_message}
 use Rattle.cave_rows.specs.declared.role.Role.TheVariants as role
 use Rattle.cave_words.specs.declared.named.Named.TheVariants as name
-use Rattle.cave_objects.specs.Objects.{moved_to, with_prop}
+use Rattle.cave_objects.specs.Objects.{with_place, with_prop}
 use Rattle.cave_world.specs.Sight.{is_dark}
 use Rattle.cave_world.specs.declared.part.Part.TheVariants as part
 use Rattle.cave_world.specs.declared.state.State.{State}
-use Rattle.cave_things.specs.Effects.{put_down, let_go, without_troll, lost_to_snake, one_more_lost}
+use Rattle.cave_things.specs.Effects.{put_down, let_go, without_troll, after_loss_to_snake, with_one_more_lost}
 use Rattle.cave_things.specs.Effects.{with_objects, put_here, vessel, with_free_bird}
 use Rattle.cave_things.specs.Effects.{with_bird_in_cage}
 use Rattle.cave_things.specs.Homes.{is_at_home}
@@ -66,7 +66,7 @@ pub cage_kept : (P : Claim) (cave : CaveView) (x : ℕ) (s : State) → On P s
     → On P (with_bird_in_cage cave x s)
 cage_kept P cave x s h =
     chosen P (is_called cave x name.Cage && has_other_prop s (thing cave name.Bird) (pos 0))
-    (with_objects (moved_to s.objects (thing cave name.Bird) s.trail.here) s) s h h
+    (with_objects (with_place s.objects (thing cave name.Bird) s.trail.here) s) s h h
 
 -- to put an object down keeps a claim
 pub put_down_kept : (P : Claim) (cave : CaveView) (x : ℕ) (s : State) → On P s
@@ -89,9 +89,11 @@ unfolding without_troll
 without_troll_kept P cave s h = h
 
 -- a treasure that is lost keeps a claim
-pub lost_kept : (P : Claim) (cave : CaveView) (s : State) → On P s → On P (lost_to_snake cave s)
-unfolding lost_to_snake
-lost_kept P cave s h = chosen P (is_at_home cave s (thing cave name.Snake)) (one_more_lost s) s h h
+pub lost_kept : (P : Claim) (cave : CaveView) (s : State) → On P s
+    → On P (after_loss_to_snake cave s)
+unfolding after_loss_to_snake
+lost_kept P cave s h = chosen P (is_at_home cave s (thing cave name.Snake)) (with_one_more_lost s) s
+    h h
 
 pub panicking_kept : (P : Claim) (s : State) → On P s → On P (after_panic s)
 panicking_kept P s h =

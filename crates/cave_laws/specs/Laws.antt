@@ -13,9 +13,9 @@ use Rattle.cave_world.specs.declared.state.State.{State}
 use Rattle.cave_things.specs.Places.{building_place, start_place}
 use Rattle.cave_things.specs.Plays.{Scene, scene_at_start}
 use Rattle.cave_things.specs.Things.{thing}
-use Rattle.cave_clocks.specs.FirstClock.{first_clock_run}
+use Rattle.cave_clocks.specs.FirstClock.{timing_of_first_clock}
 use Rattle.cave_clocks.specs.Lamp.{with_lamp_burnt, can_change_batteries}
-use Rattle.cave_clocks.specs.Repository.{second_clock_run}
+use Rattle.cave_clocks.specs.Repository.{timing_of_second_clock}
 use Rattle.cave_turn.specs.Answers.{answer_in, without_question, is_dragon, is_yes}
 use Rattle.cave_turn.specs.Commands.{after_beginning}
 use Rattle.cave_turn.specs.Turn.{Turn, turn_on_line, game_beginning, with_seed, silent_turn}
@@ -90,18 +90,18 @@ pub record FewDeaths : Type 0 where
 
 -- the player is at place 0, which is none, only where the game has ended, or where the player died
 -- and is asked whether to come back
-abbrev pub StandsSomewhere : State → Type 0
-StandsSomewhere s = s.trail.here ≡ 0 → HasEnded s ⊎ (s.question ≡ Some question.Die)
+abbrev pub IsSomewhere : State → Type 0
+IsSomewhere s = s.trail.here ≡ 0 → HasEnded s ⊎ (s.question ≡ Some question.Die)
 
 -- a game begins so in a cave where the first place isn't 0, and each line keeps it so in a cave
 -- where the building, to which the dead come back, isn't place 0
-pub record PlayerStands : Type 0 where
+pub record PlayerIsSomewhere : Type 0 where
   pub start :
       (cave : CaveView) (seed : ℕ) → 1 ≤ start_place cave
-      → StandsSomewhere (game_beginning cave seed).state
+      → IsSomewhere (game_beginning cave seed).state
   pub kept :
-      (cave : CaveView) (s : State) (line : List ℕ) → 1 ≤ building_place cave → StandsSomewhere s
-      → StandsSomewhere (turn_on_line cave s line).state
+      (cave : CaveView) (s : State) (line : List ℕ) → 1 ≤ building_place cave → IsSomewhere s
+      → IsSomewhere (turn_on_line cave s line).state
 
 -- two questions are about a price that the lamp gains by: the instructions, and a hint
 abbrev pub is_priced : Question → Bool
@@ -128,8 +128,8 @@ unless_closed (Some place) p = None
 -- to close, and else after the second
 abbrev pub before_lamp : CaveView → Scene → Option Scene
 before_lamp cave p =
-    let first = first_clock_run cave p in
-    let second = second_clock_run cave first.scene in
+    let first = timing_of_first_clock cave p in
+    let second = timing_of_second_clock cave first.scene in
     if first.has_begun then Some first.scene else unless_closed second.place second.scene
 
 -- the lamp is reached, and its batteries are changed: they can be, once a turn is burnt

@@ -2,7 +2,7 @@
 #![tactic(auto)]
 
 ghost use Rattle.cave_laws.specs.Laws.{CommandsTick, EndIsQuiet, FewDeaths, LampBurnsDown};
-ghost use Rattle.cave_laws.specs.Laws.{PlayerStands, SeedsAlone};
+ghost use Rattle.cave_laws.specs.Laws.{PlayerIsSomewhere, SeedsAlone};
 
 /// After the end nothing is said, no turn passes, and nothing changes but the random stream at a
 /// seed line.
@@ -27,8 +27,8 @@ pub fn few_deaths()
 
 /// The player is at place 0 only where the game has ended, or where the player died and is asked
 /// whether to come back.
-pub fn player_stands()
-    ensures { PlayerStands }
+pub fn player_is_somewhere()
+    ensures { PlayerIsSomewhere }
 {}
 
 /// A charge of at least -1 that the lamp has rises by nothing but the instructions, a hint and, in

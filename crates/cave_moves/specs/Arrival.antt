@@ -12,7 +12,7 @@ use Rattle.cave_things.specs.Conditions.{meets_condition}
 use Rattle.cave_things.specs.Panic.{after_panic}
 use Rattle.cave_things.specs.Places.{outside_place}
 use Rattle.cave_things.specs.declared.conditions.Condition.TheVariants.{NoPirate}
-use Rattle.cave_dwarves.specs.Dwarves.{Encounter, dwarves_moved}
+use Rattle.cave_dwarves.specs.Dwarves.{Encounter, encounter_in_turn}
 use Rattle.cave_score.specs.Deaths.{death_scene}
 use Rattle.cave_moves.specs.Description.{Stop, description_scene, stop_here, after_text}
 use Rattle.cave_moves.specs.Falling.{falling_here}
@@ -56,7 +56,7 @@ after_dwarves cave h = if h.is_hit then falling_here cave h.scene
 unfoldable pub meeting_scene : CaveView → Scene → Scene
 meeting_scene cave p =
     if meets_condition cave (here_of p) NoPirate then description_scene cave p
-    else after_dwarves cave (dwarves_moved cave p)
+    else after_dwarves cave (encounter_in_turn cave p)
 
 -- the player comes to a place: 0 is death, of a place of forced motion the text alone is printed,
 -- and at any other there may be dwarves

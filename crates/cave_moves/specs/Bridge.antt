@@ -4,14 +4,14 @@ use Rattle.cave_data.specs.CaveView.{CaveView}
 use Rattle.cave_rows.specs.declared.role.Role.TheVariants as role
 use Rattle.cave_moves.specs.Falling.{falling_at}
 use Rattle.cave_moves.specs.Ways.{Journey, journey_here, other_end}
-use Rattle.cave_things.specs.Effects.{with_objects, one_more_lost}
+use Rattle.cave_things.specs.Effects.{with_objects, with_one_more_lost}
 use Rattle.cave_things.specs.Homes.{home, hold_of, second_home}
 use Rattle.cave_things.specs.Plays.{Scene, after_saying, after_look_at, with_state, here_of}
 use Rattle.cave_things.specs.Reach.{is_in_hand, has_prop, has_prop_up_to}
 use Rattle.cave_things.specs.Things.{thing}
 use Rattle.cave_words.specs.declared.named.Named.TheVariants as name
 use Rattle.cave_objects.specs.Layout.{Layout}
-use Rattle.cave_objects.specs.Objects.{moved_to, anchored_to, put_anew, with_prop}
+use Rattle.cave_objects.specs.Objects.{with_place, with_anchor, with_latest, with_prop}
 use Rattle.cave_objects.specs.declared.spot.Anchor.TheVariants as anchor
 use Rattle.cave_world.specs.declared.state.State.{State}
 
@@ -27,9 +27,9 @@ unfoldable pub with_troll : CaveView → Layout → Layout
 with_troll cave o =
     let troll = thing cave name.Troll in let second = thing cave name.SecondTroll in
     let free = with_prop o troll (pos 0) in
-    let alone = anchored_to (moved_to free second 0) second anchor.Loose in
-    let there = anchored_to (moved_to alone troll (home cave troll)) troll (hold_of cave troll) in
-    put_anew there (thing cave name.Chasm)
+    let alone = with_anchor (with_place free second 0) second anchor.Loose in
+    let there = with_anchor (with_place alone troll (home cave troll)) troll (hold_of cave troll) in
+    with_latest there (thing cave name.Chasm)
 
 -- the troll asks for a treasure once more
 unfoldable pub toll_scene : CaveView → Scene → Scene
@@ -49,13 +49,13 @@ without_bridge cave end o =
     let bear = thing cave name.Bear in
     let broken = with_prop o (thing cave name.Chasm) (pos 1) in
     let free = with_prop broken (thing cave name.Troll) (pos 2) in
-    let fallen = anchored_to (moved_to free bear end) bear anchor.Fixed in
+    let fallen = with_anchor (with_place free bear end) bear anchor.Fixed in
     with_prop fallen bear (pos 3)
 
 -- the spices can't be found any more, if they weren't seen yet
 abbrev pub without_spices : CaveView → State → State
 without_spices cave s =
-    if has_prop_up_to s (thing cave name.Spices) (negsuc 0) then one_more_lost s else s
+    if has_prop_up_to s (thing cave name.Spices) (negsuc 0) then with_one_more_lost s else s
 
 unfoldable pub with_broken_bridge : CaveView → ℕ → State → State
 with_broken_bridge cave end s =

@@ -50,8 +50,8 @@ after_find cave x s =
     let t = record s { objects = with_prop s.objects x (first_prop cave x) } in
     with_lamp_of_hopeless (one_less_unseen t)
 
-abbrev pub found_if_unseen : CaveView → ℕ → State → State
-found_if_unseen cave x s = if is_unseen s x then after_find cave x s else s
+abbrev pub after_find_if_unseen : CaveView → ℕ → State → State
+after_find_if_unseen cave x s = if is_unseen s x then after_find cave x s else s
 
 -- the prop for which an object is described: that of the steps at their second place is the one
 -- seen from above
@@ -65,7 +65,7 @@ described_prop cave s x =
 unfoldable pub after_object : CaveView → ℕ → Scene → Scene
 after_object cave x p =
     if is_kept_back cave p.state x then p
-    else (let s = found_if_unseen cave x p.state in
+    else (let s = after_find_if_unseen cave x p.state in
     after_telling (part.Object x (described_prop cave s x)) (with_state s p))
 
 -- the objects of a list are described one after another

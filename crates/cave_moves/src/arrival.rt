@@ -86,7 +86,8 @@ fn hold_back(rules: &Rules<'_>, place: Place, play: &mut Play<'_>) -> Place
     place
 }
 
-/// The dwarves move, and if the player survives them the place is described.
+/// The dwarves move, except where the pirate doesn't come, and a player who survives them sees the
+/// place.
 #[tactic(auto, unfolding(crate::specs::Arrival::meeting_scene))]
 fn meet(rules: &Rules<'_>, play: &mut Play<'_>)
     requires { HasRoom (parts_of_dwarves + parts_of_place) play.old }

@@ -29,7 +29,7 @@ pub fn fall_at(rules: &Rules<'_>, place: Place, play: &mut Play<'_>)
     die(rules, play);
 }
 
-/// The player dies at the player's place.
+/// The player dies here.
 pub fn fall_here(rules: &Rules<'_>, play: &mut Play<'_>)
     requires { HasRoom parts_of_death play.old }
     ensures play { scene_of play.new ≡ falling_here (cave_of rules.now) (scene_of play.old) }

@@ -4,7 +4,7 @@ ghost use Rattle.cave_objects.specs.Objects.{anchor_of};
 ghost use Rattle.cave_objects.specs.Spots.{place_of_anchor, is_place};
 ghost use Rattle.cave_things.specs.Things.{cave_of};
 ghost use Rattle.cave_moves.specs.Objects.{is_unseen, is_kept_back, first_prop, one_less_unseen};
-ghost use Rattle.cave_moves.specs.Objects.{with_lamp_of_hopeless, after_find, found_if_unseen};
+ghost use Rattle.cave_moves.specs.Objects.{with_lamp_of_hopeless, after_find, after_find_if_unseen};
 ghost use Rattle.cave_moves.specs.Objects.{described_prop};
 ghost use Rattle.cave_moves.specs.Objects.{after_object, after_objects};
 ghost use Rattle.cave_things.specs.Bounds.{HasRoom, SaysUpTo};
@@ -71,7 +71,7 @@ fn find(rules: &Rules<'_>, object: Object, state: &mut State)
 }
 
 fn find_if_unseen(rules: &Rules<'_>, object: Object, state: &mut State)
-    ensures { state.new ≡ found_if_unseen (cave_of rules.now) object state.old }
+    ensures { state.new ≡ after_find_if_unseen (cave_of rules.now) object state.old }
 {
     if is_unseen(state, object) {
         find(rules, object, state);

@@ -52,8 +52,8 @@ abbrev pub carried_objects : Layout → List ℕ
 carried_objects o = carried_up_to o 100
 
 -- the first half of an object brought to a spot
-unfoldable pub brought_to : Layout → ℕ → Spot → Layout
-brought_to o x s = if x == 0 then o
+unfoldable pub with_spot : Layout → ℕ → Spot → Layout
+with_spot o x s = if x == 0 then o
     else record o {
       first = slice_set o.first (x - 1) s;
       lists = with_half_moved (First x) (place_of_spot s) o.lists;
@@ -61,8 +61,8 @@ brought_to o x s = if x == 0 then o
 
 -- another anchor for an object: its second half goes to the front of the anchor's place, or is in
 -- no list
-unfoldable pub anchored_to : Layout → ℕ → Anchor → Layout
-anchored_to o x a = if x == 0 then o
+unfoldable pub with_anchor : Layout → ℕ → Anchor → Layout
+with_anchor o x a = if x == 0 then o
     else record o {
       second = slice_set o.second (x - 1) a;
       lists = with_half_moved (Second x) (place_of_anchor a) o.lists;
@@ -73,17 +73,17 @@ unfoldable pub with_prop : Layout → ℕ → ℤ → Layout
 with_prop o x v = if x == 0 then o else record o { props = slice_set o.props (x - 1) v }
 
 -- the first half moved to the front of a place's list; place 0 is nowhere
-unfoldable pub moved_to : Layout → ℕ → ℕ → Layout
-moved_to o x place = brought_to o x (spot_at place)
+unfoldable pub with_place : Layout → ℕ → ℕ → Layout
+with_place o x place = with_spot o x (spot_at place)
 
 -- the first half taken from its list and carried, if it isn't carried yet
-unfoldable pub taken_up : Layout → ℕ → Layout
-taken_up o x = if is_carried o x then o else brought_to o x spot.Carried
+unfoldable pub with_carried : Layout → ℕ → Layout
+with_carried o x = if is_carried o x then o else with_spot o x spot.Carried
 
 -- both halves put to the front of the lists that they are in, if it isn't carried
-unfoldable pub put_anew : Layout → ℕ → Layout
-put_anew o x = if is_carried o x then o else let once = brought_to o x (spot_of o x) in
-    anchored_to once x (anchor_of once x)
+unfoldable pub with_latest : Layout → ℕ → Layout
+with_latest o x = if is_carried o x then o else let once = with_spot o x (spot_of o x) in
+    with_anchor once x (anchor_of once x)
 
 -- objects of which none is placed
 unfoldable pub without_places : Layout

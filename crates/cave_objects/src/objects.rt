@@ -4,8 +4,8 @@ ghost use Rattle.cave_objects.specs.Objects.{spot_of, anchor_of, prop_of, carrie
 ghost use Rattle.cave_objects.specs.Objects.{without_places};
 ghost use Rattle.cave_objects.specs.Objects.{is_carried, is_gone, is_first_at, is_object_at};
 ghost use Rattle.cave_objects.specs.Objects.{is_at_hand};
-ghost use Rattle.cave_objects.specs.Objects.{brought_to, anchored_to, with_prop, moved_to};
-ghost use Rattle.cave_objects.specs.Objects.{taken_up, put_anew};
+ghost use Rattle.cave_objects.specs.Objects.{with_spot, with_anchor, with_prop, with_place};
+ghost use Rattle.cave_objects.specs.Objects.{with_carried, with_latest};
 ghost use Rattle.cave_objects.specs.Spots.{place_of_spot, place_of_anchor, spot_at, is_place};
 ghost use Rattle.cave_objects.specs.Lists.{halves_at, AreLists, AreRelisted};
 ghost use Rattle.cave_objects.specs.Layout.{is_listed};
@@ -132,7 +132,7 @@ impl Objects {
         self.spot(object).is_carried()
     }
 
-    /// Whether the first half of an object is nowhere.
+    /// Whether there is the object, and its first half is nowhere.
     #[tactic(auto, unfolding(crate::specs::Objects::is_gone))]
     pub fn is_gone(&self, object: Object) -> bool
         ensures { result ≡ is_gone self.now object }
@@ -185,9 +185,9 @@ impl Objects {
     }
 
     /// Brings the first half of an object to a spot.
-    #[tactic(auto, unfolding(crate::specs::Objects::brought_to))]
+    #[tactic(auto, unfolding(crate::specs::Objects::with_spot))]
     pub fn bring(&mut self, object: Object, spot: Spot)
-        ensures value { self.new ≡ brought_to self.old object spot }
+        ensures value { self.new ≡ with_spot self.old object spot }
         ensures lists { 0 < object
             → AreRelisted self.old.lists self.new.lists (Half.First object) (place_of_spot spot) }
     {
@@ -201,9 +201,9 @@ impl Objects {
     }
 
     /// Gives an object another anchor.
-    #[tactic(auto, unfolding(crate::specs::Objects::anchored_to))]
+    #[tactic(auto, unfolding(crate::specs::Objects::with_anchor))]
     pub fn anchor_to(&mut self, object: Object, anchor: Anchor)
-        ensures value { self.new ≡ anchored_to self.old object anchor }
+        ensures value { self.new ≡ with_anchor self.old object anchor }
         ensures lists { 0 < object
             → AreRelisted self.old.lists self.new.lists (Half.Second object)
             (place_of_anchor anchor) }
@@ -229,9 +229,9 @@ impl Objects {
     }
 
     /// Moves the first half of an object to the front of a place's list. Place 0 is nowhere.
-    #[tactic(auto, unfolding(crate::specs::Objects::moved_to))]
+    #[tactic(auto, unfolding(crate::specs::Objects::with_place))]
     pub fn move_to(&mut self, object: Object, place: Place)
-        ensures value { self.new ≡ moved_to self.old object place }
+        ensures value { self.new ≡ with_place self.old object place }
         ensures lists { 0 < object
             → AreRelisted self.old.lists self.new.lists (Half.First object)
             (place_of_spot (spot_at place)) }
@@ -240,9 +240,9 @@ impl Objects {
     }
 
     /// Takes the first half of an object from its list, to be carried, if it isn't carried yet.
-    #[tactic(auto, unfolding(crate::specs::Objects::taken_up))]
+    #[tactic(auto, unfolding(crate::specs::Objects::with_carried))]
     pub fn carry(&mut self, object: Object)
-        ensures value { self.new ≡ taken_up self.old object }
+        ensures value { self.new ≡ with_carried self.old object }
         ensures lists { 0 < object
             → AreRelisted self.old.lists self.new.lists (Half.First object) None }
     {
@@ -254,9 +254,9 @@ impl Objects {
 
     /// Puts both halves of an object to the front of the lists that they are in, if it isn't
     /// carried.
-    #[tactic(auto, unfolding(crate::specs::Objects::put_anew))]
+    #[tactic(auto, unfolding(crate::specs::Objects::with_latest))]
     pub fn juggle(&mut self, object: Object)
-        ensures { self.new ≡ put_anew self.old object }
+        ensures { self.new ≡ with_latest self.old object }
     {
         if self.is_carried(object) {
             return;

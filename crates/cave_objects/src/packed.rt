@@ -5,13 +5,13 @@ use crate::spot::{Anchor, Spot};
 use std::marker::Model;
 
 /// The code of a spot that is away, and of an anchor that is loose.
-const NOWHERE: u16 = 0;
+const NOWHERE_CODE: u16 = 0;
 
 /// The code of a spot with the player, and of an anchor that is fixed.
-const HELD: u16 = 1;
+const HELD_CODE: u16 = 1;
 
 /// How much greater the code of a place is than its number.
-const PLACES: u16 = 2;
+const FIRST_PLACE_CODE: u16 = 2;
 
 /// A spot in two bytes.
 #[derive(Clone, Copy, Debug, PartialEq, Eq)]
@@ -41,10 +41,10 @@ impl PackedSpot {
         ensures { result ≡ spot }
     {
         match spot {
-            Spot::Away => PackedSpot { code: NOWHERE },
-            Spot::Carried => PackedSpot { code: HELD },
+            Spot::Away => PackedSpot { code: NOWHERE_CODE },
+            Spot::Carried => PackedSpot { code: HELD_CODE },
             Spot::At(site) => PackedSpot {
-                code: site.place().number() + PLACES,
+                code: site.place().number() + FIRST_PLACE_CODE,
             },
         }
     }
@@ -54,9 +54,9 @@ impl PackedSpot {
         ensures { result ≡ self }
     {
         match self.code {
-            NOWHERE => Spot::Away,
-            HELD => Spot::Carried,
-            code => Spot::at(Place::new(code - PLACES)),
+            NOWHERE_CODE => Spot::Away,
+            HELD_CODE => Spot::Carried,
+            code => Spot::at(Place::new(code - FIRST_PLACE_CODE)),
         }
     }
 }
@@ -90,10 +90,10 @@ impl PackedAnchor {
         ensures { result ≡ anchor }
     {
         match anchor {
-            Anchor::Loose => PackedAnchor { code: NOWHERE },
-            Anchor::Fixed => PackedAnchor { code: HELD },
+            Anchor::Loose => PackedAnchor { code: NOWHERE_CODE },
+            Anchor::Fixed => PackedAnchor { code: HELD_CODE },
             Anchor::At(site) => PackedAnchor {
-                code: site.place().number() + PLACES,
+                code: site.place().number() + FIRST_PLACE_CODE,
             },
         }
     }
@@ -103,9 +103,9 @@ impl PackedAnchor {
         ensures { result ≡ self }
     {
         match self.code {
-            NOWHERE => Anchor::Loose,
-            HELD => Anchor::Fixed,
-            code => Anchor::at(Place::new(code - PLACES)),
+            NOWHERE_CODE => Anchor::Loose,
+            HELD_CODE => Anchor::Fixed,
+            code => Anchor::at(Place::new(code - FIRST_PLACE_CODE)),
         }
     }
 }

@@ -69,7 +69,7 @@ fn name_number(names: &[&str], name: &[u8]) -> Option<u16>
     None
 }
 
-fn after_prefix<'a>(key: &'a [u8], prefix: &[u8]) -> Option<&'a [u8]>
+fn name_after<'a>(key: &'a [u8], prefix: &[u8]) -> Option<&'a [u8]>
     ensures { option_map (λ rest. rest.now) result
         ≡ (if starts_with nat_eq key.now prefix.now then Some (drop (length prefix.now) key.now)
         else None) }
@@ -117,9 +117,9 @@ fn letters_binding(n: u32) -> Result<Binding, Cause>
 fn binding_of(key: &[u8], n: u32) -> Result<Binding, Cause>
     ensures { Answers (λ binding. binding) result (binding_of key.now n) }
 {
-    if let Some(name) = after_prefix(key, b"msg.") {
+    if let Some(name) = name_after(key, b"msg.") {
         role_binding(name, n)
-    } else if let Some(name) = after_prefix(key, b"place.") {
+    } else if let Some(name) = name_after(key, b"place.") {
         place_binding(name, n)
     } else if key == b"num.letters".as_slice() {
         letters_binding(n)

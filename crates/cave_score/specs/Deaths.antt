@@ -16,12 +16,13 @@ with_one_death s =
     record s { tallies = record tallies { deaths = min (tallies.deaths + 1) 3 } }
 
 -- a player who dies in a closing cave is dead for good
-unfoldable pub killed_closing : CaveView → Scene → Scene
-killed_closing cave p =
+unfoldable pub closing_death_scene : CaveView → Scene → Scene
+closing_death_scene cave p =
     let told = after_saying role.KilledClosing p in
     ending_scene cave ending.Killed (with_state (with_one_death told.state) told)
 
 -- a player who dies elsewhere is asked whether to come back
 unfoldable pub death_scene : CaveView → Scene → Scene
 death_scene cave p =
-    if p.state.closing.is_closing then killed_closing cave p else asking_scene cave question.Die p
+    if p.state.closing.is_closing then closing_death_scene cave p else asking_scene cave
+    question.Die p

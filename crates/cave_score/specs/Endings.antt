@@ -13,24 +13,24 @@ abbrev pub with_ending : Ending → State → State
 with_ending how s = record s { ending = Some how }
 
 -- the line of the next class: the points that are missing for it, or that there is none
-abbrev pub next_class_told : ℕ → Rated → Scene → Scene
-next_class_told score rated p =
+abbrev pub after_next_class : ℕ → Rated → Scene → Scene
+after_next_class score rated p =
     if rated.is_followed
     then after_telling (part.Number line.PointsWanted (rated.bound + 1 - score) 0) p
     else after_saying role.TopClass p
 
 -- the class of the score is printed, if there is one, and the next
-abbrev pub class_told : ℕ → Option Rated → Scene → Scene
-class_told score None p = after_saying role.OffScale p
-class_told score (Some rated) p = next_class_told score rated (after_telling (part.Class score) p)
+abbrev pub after_class : ℕ → Option Rated → Scene → Scene
+after_class score None p = after_saying role.OffScale p
+after_class score (Some rated) p = after_next_class score rated (after_telling (part.Class score) p)
 
 -- the score is printed, and its class
-unfoldable pub score_told : CaveView → Scene → Scene
-score_told cave p =
+unfoldable pub after_score : CaveView → Scene → Scene
+after_score cave p =
     let score = score_of cave p.state in
-    class_told score (rating_of_score cave score)
+    after_class score (rating_of_score cave score)
     (after_telling (part.Turns score (max_score_of cave)) p)
 
 -- the game ends, and then the score is printed
 unfoldable pub ending_scene : CaveView → Ending → Scene → Scene
-ending_scene cave how p = score_told cave (with_state (with_ending how p.state) p)
+ending_scene cave how p = after_score cave (with_state (with_ending how p.state) p)

@@ -3,7 +3,7 @@ ghost use Rattle.cave_world.specs.State.{takes_no_command};
 ghost use Rattle.cave_things.specs.Bounds.{HasRoom, SaysUpTo, parts_of_death};
 ghost use Rattle.cave_things.specs.Plays.{scene_of, GoesOn};
 ghost use Rattle.cave_things.specs.Things.{cave_of};
-ghost use Rattle.cave_score.specs.Deaths.{with_one_death, killed_closing, death_scene};
+ghost use Rattle.cave_score.specs.Deaths.{with_one_death, closing_death_scene, death_scene};
 
 use crate::endings::end;
 use crate::questions::ask;
@@ -19,10 +19,10 @@ pub fn count_death(state: &mut State)
 }
 
 /// The player dies in a closing cave, where nobody is brought back to life.
-#[tactic(auto, unfolding(crate::specs::Deaths::killed_closing))]
+#[tactic(auto, unfolding(crate::specs::Deaths::closing_death_scene))]
 fn die_closing(rules: &Rules<'_>, play: &mut Play<'_>)
     requires { HasRoom parts_of_death play.old }
-    ensures play { scene_of play.new ≡ killed_closing (cave_of rules.now) (scene_of play.old) }
+    ensures play { scene_of play.new ≡ closing_death_scene (cave_of rules.now) (scene_of play.old) }
     ensures same { GoesOn play.old play.new }
     ensures few { SaysUpTo parts_of_death play.old play.new }
     ensures over { IsTrue (takes_no_command play.new.state.now) }

@@ -4,7 +4,7 @@ ghost use Rattle.cave_world.specs.State.{takes_no_command};
 ghost use Rattle.cave_things.specs.Bounds.{HasRoom, SaysUpTo, parts_of_end};
 ghost use Rattle.cave_things.specs.Plays.{scene_of, GoesOn};
 ghost use Rattle.cave_things.specs.Things.{cave_of};
-ghost use Rattle.cave_score.specs.Endings.{with_ending, next_class_told, score_told, ending_scene};
+ghost use Rattle.cave_score.specs.Endings.{with_ending, after_next_class, after_score, ending_scene};
 
 use crate::score::{max_score, score};
 use cave_data::Rating;
@@ -17,7 +17,7 @@ fn tell_next_class(score: u32, class: &Rating<'_>, play: &mut Play<'_>)
     requires room { HasRoom 1 play.old }
     requires reached { score ≤ class.now.bound }
     ensures play { scene_of play.new
-        ≡ next_class_told score (rating class.now) (scene_of play.old) }
+        ≡ after_next_class score (rating class.now) (scene_of play.old) }
     ensures same { GoesOn play.old play.new }
     ensures few { SaysUpTo 1 play.old play.new }
     ensures state { play.new.state.now ≡ play.old.state.now }
@@ -31,10 +31,10 @@ fn tell_next_class(score: u32, class: &Rating<'_>, play: &mut Play<'_>)
 }
 
 /// Prints the score and its class.
-#[tactic(auto, using(crate::proofs::Reach::classes), unfolding(crate::specs::Endings::score_told))]
+#[tactic(auto, using(crate::proofs::Reach::classes), unfolding(crate::specs::Endings::after_score))]
 fn tell_score(rules: &Rules<'_>, play: &mut Play<'_>)
     requires { HasRoom parts_of_end play.old }
-    ensures play { scene_of play.new ≡ score_told (cave_of rules.now) (scene_of play.old) }
+    ensures play { scene_of play.new ≡ after_score (cave_of rules.now) (scene_of play.old) }
     ensures same { GoesOn play.old play.new }
     ensures few { SaysUpTo parts_of_end play.old play.new }
     ensures state { play.new.state.now ≡ play.old.state.now }

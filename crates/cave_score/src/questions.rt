@@ -4,8 +4,8 @@ ghost use Rattle.cave_world.specs.State.{takes_no_command};
 ghost use Rattle.cave_things.specs.Bounds.{HasRoom, SaysUpTo, parts_of_question};
 ghost use Rattle.cave_things.specs.Plays.{scene_of, GoesOn};
 ghost use Rattle.cave_things.specs.Things.{cave_of};
-ghost use Rattle.cave_score.specs.Questions.{die_role, hint_offered, after_question};
-ghost use Rattle.cave_score.specs.Questions.{preface_told, with_question, asking_scene};
+ghost use Rattle.cave_score.specs.Questions.{die_role, after_offer, after_question};
+ghost use Rattle.cave_score.specs.Questions.{after_preface, with_question, asking_scene};
 
 use crate::score::{max_score, score};
 use cave_data::Cave;
@@ -27,7 +27,7 @@ fn die_role(state: &State) -> Role
 /// A hint is offered by its message, if the cave has it.
 fn offer_hint(cave: &Cave, hint: HintNumber, play: &mut Play<'_>)
     requires { HasRoom 1 play.old }
-    ensures play { scene_of play.new ≡ hint_offered (get cave.now.hints hint) (scene_of play.old) }
+    ensures play { scene_of play.new ≡ after_offer (get cave.now.hints hint) (scene_of play.old) }
     ensures same { GoesOn play.old play.new }
     ensures few { SaysUpTo 1 play.old play.new }
 {
@@ -64,7 +64,7 @@ pub fn tell_question(rules: &Rules<'_>, question: &Question, play: &mut Play<'_>
 fn tell_preface(rules: &Rules<'_>, question: &Question, play: &mut Play<'_>)
     requires { HasRoom 1 play.old }
     ensures play { scene_of play.new
-        ≡ preface_told (cave_of rules.now) question.now (scene_of play.old) }
+        ≡ after_preface (cave_of rules.now) question.now (scene_of play.old) }
     ensures same { GoesOn play.old play.new }
     ensures few { SaysUpTo 1 play.old play.new }
 {

@@ -2,7 +2,7 @@
 use Rattle.std.specs.Prelude.{ℕ, pos, ◌+◌, ◌&&◌, if◌then◌else◌, min}
 use Rattle.cave_data.specs.CaveView.{CaveView}
 use Rattle.cave_words.specs.declared.named.Named.TheVariants as name
-use Rattle.cave_objects.specs.Objects.{moved_to, anchored_to, put_anew, with_prop}
+use Rattle.cave_objects.specs.Objects.{with_place, with_anchor, with_latest, with_prop}
 use Rattle.cave_objects.specs.declared.spot.Anchor.TheVariants as anchor
 use Rattle.cave_world.specs.declared.state.State.{State}
 use Rattle.cave_objects.specs.Layout.{Layout}
@@ -23,7 +23,7 @@ vessel cave s x = if is_liquid x (liquid_of cave s) then thing cave name.Bottle 
 abbrev pub with_bird_in_cage : CaveView → ℕ → State → State
 with_bird_in_cage cave x s =
     if is_called cave x name.Cage && has_other_prop s (thing cave name.Bird) (pos 0)
-    then with_objects (moved_to s.objects (thing cave name.Bird) s.trail.here) s
+    then with_objects (with_place s.objects (thing cave name.Bird) s.trail.here) s
     else s
 
 -- the bird that is put down is free
@@ -32,7 +32,7 @@ with_free_bird cave x s =
     if is_called cave x name.Bird then with_objects (with_prop s.objects x (pos 0)) s else s
 
 abbrev pub put_here : ℕ → State → State
-put_here x s = with_objects (moved_to s.objects x s.trail.here) s
+put_here x s = with_objects (with_place s.objects x s.trail.here) s
 
 -- an object is put down where the player is
 unfoldable pub put_down : CaveView → ℕ → State → State
@@ -47,16 +47,18 @@ let_go cave x s = if is_in_hand cave s x then put_here x s else s
 unfoldable pub without_troll : CaveView → State → State
 without_troll cave s =
     let troll = thing cave name.Troll in let second = thing cave name.SecondTroll in
-    let gone = anchored_to (moved_to s.objects troll 0) troll anchor.Loose in
-    let there = anchored_to (moved_to gone second (home cave troll)) second (hold_of cave troll) in
-    with_objects (put_anew there (thing cave name.Chasm)) s
+    let gone = with_anchor (with_place s.objects troll 0) troll anchor.Loose in
+    let there = with_anchor (with_place gone second (home cave troll)) second (hold_of cave troll)
+    in
+    with_objects (with_latest there (thing cave name.Chasm)) s
 
 -- one treasure more is lost
-abbrev pub one_more_lost : State → State
-one_more_lost s =
+abbrev pub with_one_more_lost : State → State
+with_one_more_lost s =
     let tallies = s.tallies in
     record s { tallies = record tallies { lost = min (tallies.lost + 1) 60000 } }
 
 -- one treasure more is lost while the snake is at home
-unfoldable pub lost_to_snake : CaveView → State → State
-lost_to_snake cave s = if is_at_home cave s (thing cave name.Snake) then one_more_lost s else s
+unfoldable pub after_loss_to_snake : CaveView → State → State
+after_loss_to_snake cave s = if is_at_home cave s (thing cave name.Snake) then with_one_more_lost s
+    else s

@@ -1,7 +1,7 @@
 ghost use Rattle.std.specs.Prelude.{◌≡◌};
 ghost use Rattle.cave_things.specs.Things.{cave_of};
 ghost use Rattle.cave_things.specs.Effects.{vessel, with_bird_in_cage, with_free_bird, put_down};
-ghost use Rattle.cave_things.specs.Effects.{let_go, without_troll, one_more_lost, lost_to_snake};
+ghost use Rattle.cave_things.specs.Effects.{let_go, without_troll, with_one_more_lost, after_loss_to_snake};
 
 use crate::liquids::is_liquid;
 use crate::reach::has_other_prop;
@@ -77,15 +77,15 @@ pub fn pay_troll(rules: &Rules<'_>, state: &mut State)
 
 /// One treasure more can't be found any more.
 pub fn lose_one(state: &mut State)
-    ensures { state.new ≡ one_more_lost state.old }
+    ensures { state.new ≡ with_one_more_lost state.old }
 {
     state.tallies.lost = state.tallies.lost.up();
 }
 
 /// One treasure more can't be found any more, if the snake is still at home.
-#[tactic(auto, unfolding(crate::specs::Effects::lost_to_snake))]
+#[tactic(auto, unfolding(crate::specs::Effects::after_loss_to_snake))]
 pub fn lose(rules: &Rules<'_>, state: &mut State)
-    ensures { state.new ≡ lost_to_snake (cave_of rules.now) state.old }
+    ensures { state.new ≡ after_loss_to_snake (cave_of rules.now) state.old }
 {
     if rules.is_at_home(state, rules.object(Named::Snake)) {
         lose_one(state);

@@ -20,7 +20,7 @@ use Rattle.cave_world.specs.Sight.{is_dark}
 use Rattle.cave_world.specs.declared.dwarves.Knife.{Knife}
 use Rattle.cave_world.specs.declared.dwarves.Knife.TheVariants as knife
 use Rattle.cave_world.specs.declared.state.State.{State}
-use Rattle.cave_clocks.specs.Clocks.{clocks_run}
+use Rattle.cave_clocks.specs.Clocks.{timing_of_clocks}
 use Rattle.cave_clocks.specs.declared.clocks.Clocks.{Clocks}
 use Rattle.cave_clocks.specs.declared.clocks.Clocks.TheVariants as clocks
 use Rattle.cave_score.specs.Endings.{ending_scene}
@@ -107,13 +107,13 @@ words_done_by_verb cave v x word p =
 
 -- what was read is done. After an unknown word, or where a verb is missing, the half command stays
 -- as it then is
-abbrev pub done_by_reading : CaveView → HalfCommand → Reading → Scene → WordsDone
-done_by_reading cave half Unknown p = words_done (puzzled_scene p) (Some half)
-done_by_reading cave half (Motion motion) p = words_done (travel_scene cave motion p) None
-done_by_reading cave half (Tell told) p = words_done (after_telling told p) None
-done_by_reading cave half Knives p = words_done (after_vanished_knives p) None
-done_by_reading cave half (Act v x word) p = words_done_by_verb cave v x word p
-done_by_reading cave half (WhatToDo word) p =
+abbrev pub words_done_by_reading : CaveView → HalfCommand → Reading → Scene → WordsDone
+words_done_by_reading cave half Unknown p = words_done (puzzled_scene p) (Some half)
+words_done_by_reading cave half (Motion motion) p = words_done (travel_scene cave motion p) None
+words_done_by_reading cave half (Tell told) p = words_done (after_telling told p) None
+words_done_by_reading cave half Knives p = words_done (after_vanished_knives p) None
+words_done_by_reading cave half (Act v x word) p = words_done_by_verb cave v x word p
+words_done_by_reading cave half (WhatToDo word) p =
     words_done (after_telling (part.Word line.WhatToDo word) p) (Some half)
 
 -- what is kept is remembered; where nothing is, the object that was read is the last one
@@ -128,7 +128,7 @@ kept_scene x d = with_state (after_remembering d.kept x d.scene.state) d.scene
 
 unfoldable pub scene_of_understood : CaveView → Understood → Scene → Scene
 scene_of_understood cave u p =
-    kept_scene u.half.object (done_by_reading cave u.half u.reading p)
+    kept_scene u.half.object (words_done_by_reading cave u.half u.reading p)
 
 -- an input line has a first word
 abbrev pub scene_of_words : CaveView → Words → Scene → Scene
@@ -151,7 +151,8 @@ after_clocks cave words clocks.GaveUp p = unread_scene (ending_scene cave Quit p
 after_clocks cave words (clocks.Closed place) p = unread_scene (arrival_scene cave place p)
 
 unfoldable pub clocks_scene : CaveView → Words → Scene → Scene
-clocks_scene cave words p = let t = clocks_run cave p in after_clocks cave words t.outcome t.scene
+clocks_scene cave words p = let t = timing_of_clocks cave p in after_clocks cave words t.outcome
+    t.scene
 
 -- a command begins, the clocks run, its words are done, and the turn ends
 unfoldable pub command_scene : CaveView → List ℕ → State → Scene

@@ -9,7 +9,7 @@ use Rattle.cave_things.specs.Homes.{home, second_home}
 use Rattle.cave_things.specs.Things.{thing}
 use Rattle.cave_words.specs.declared.named.Named.TheVariants as name
 use Rattle.cave_objects.specs.Layout.{Layout}
-use Rattle.cave_objects.specs.Objects.{moved_to, anchored_to, with_prop, is_first_at}
+use Rattle.cave_objects.specs.Objects.{with_place, with_anchor, with_prop, is_first_at}
 use Rattle.cave_objects.specs.declared.spot.Anchor.TheVariants as anchor
 use Rattle.cave_world.specs.declared.state.State.{State}
 
@@ -36,15 +36,15 @@ unfoldable pub after_gathering : CaveView → ℕ → ℕ → Layout → Layout
 after_gathering cave place zero o = o
 after_gathering cave place (suc n) o =
     let before = after_gathering cave place n o in if is_by_dragon cave before (suc n)
-    then moved_to before (suc n) place else before
+    then with_place before (suc n) place else before
 
 -- the dragon is dead, and its rug is loose beside it
 unfoldable pub after_slaying : CaveView → ℕ → Layout → Layout
 after_slaying cave place o =
     let dragon = thing cave name.Dragon in let rug = thing cave name.Rug in
     let props = with_prop (with_prop o dragon (pos 2)) rug (pos 0) in
-    let loose = anchored_to (anchored_to props dragon anchor.Fixed) rug anchor.Loose in
-    moved_to (moved_to loose dragon place) rug place
+    let loose = with_anchor (with_anchor props dragon anchor.Fixed) rug anchor.Loose in
+    with_place (with_place loose dragon place) rug place
 
 -- the dragon is dead, and all that was by it is at one place
 unfoldable pub after_clearing : CaveView → ℕ → State → State

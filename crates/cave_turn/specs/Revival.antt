@@ -13,7 +13,7 @@ use Rattle.cave_things.specs.Reach.{is_called, is_in_hand}
 use Rattle.cave_things.specs.Things.{thing}
 use Rattle.cave_words.specs.declared.named.Named.TheVariants as name
 use Rattle.cave_objects.specs.Layout.{Layout}
-use Rattle.cave_objects.specs.Objects.{is_carried, moved_to, with_prop}
+use Rattle.cave_objects.specs.Objects.{is_carried, with_place, with_prop}
 use Rattle.cave_world.specs.declared.ending.Ending.TheVariants.{Killed}
 use Rattle.cave_world.specs.declared.state.State.{State}
 
@@ -34,7 +34,7 @@ abbrev pub fallen_place : CaveView → ℕ → ℕ → ℕ
 fallen_place cave place x = if is_called cave x name.Lamp then start_place cave else place
 
 unfoldable pub layout_after_fall : CaveView → ℕ → ℕ → Layout → Layout
-layout_after_fall cave place x o = if is_carried o x then moved_to o x (fallen_place cave place x)
+layout_after_fall cave place x o = if is_carried o x then with_place o x (fallen_place cave place x)
     else o
 
 -- the objects up to a number fall, one after another, from the last down

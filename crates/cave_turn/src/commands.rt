@@ -8,7 +8,7 @@ ghost use Rattle.cave_things.specs.Things.{cave_of};
 ghost use Rattle.cave_turn.specs.Commands.{with_magic_waiting, knife_here, with_knife};
 ghost use Rattle.cave_turn.specs.Commands.{after_beginning};
 ghost use Rattle.cave_turn.specs.Commands.{travel_scene, puzzlement, puzzled_scene, after_vanished_knives};
-ghost use Rattle.cave_turn.specs.Commands.{next_scene, half_command_kept, words_done, words_done_by_verb, done_by_reading};
+ghost use Rattle.cave_turn.specs.Commands.{next_scene, half_command_kept, words_done, words_done_by_verb, words_done_by_reading};
 ghost use Rattle.cave_turn.specs.Commands.{after_remembering};
 ghost use Rattle.cave_turn.specs.Commands.{kept_scene, scene_of_understood, scene_of_words, unread_scene};
 ghost use Rattle.cave_turn.specs.Commands.{after_clocks};
@@ -26,7 +26,7 @@ use cave_verbs::{Command, Next, act};
 use cave_words::{Named, Word, Words};
 use cave_world::{Ending, Knife, Magic, Out, Part, State, WordLine};
 
-/// The magic words go on from where the last command left them.
+/// The magic words go on from where the last command left them, and stop where it left them twice.
 fn wait_for_magic(state: &mut State)
     ensures { state.new ≡ with_magic_waiting state.old }
 {
@@ -105,7 +105,7 @@ fn tell_of_knives(play: &mut Play<'_>)
     play.say(Role::Knife);
 }
 
-/// What follows what a verb did.
+/// Does what a verb left to the turn.
 fn follow(rules: &Rules<'_>, next: &Next, play: &mut Play<'_>)
     requires { HasRoom (parts_of_arrival play.old.left) play.old }
     ensures play { scene_of play.new ≡ next_scene (cave_of rules.now) next.now (scene_of play.old) }
@@ -168,7 +168,7 @@ fn do_reading(
 ) -> Option<HalfCommand>
     requires { HasRoom (room_of_deed play.old.left) play.old }
     ensures play { words_done (scene_of play.new) result
-        ≡ done_by_reading (cave_of rules.now) understood.now.half understood.now.reading
+        ≡ words_done_by_reading (cave_of rules.now) understood.now.half understood.now.reading
         (scene_of play.old) }
     ensures same { IsSamePlay play.old play.new }
     ensures few { SaysUpTo (parts_of_deed play.old.left) play.old play.new }

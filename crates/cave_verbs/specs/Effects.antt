@@ -2,13 +2,13 @@
 use Rattle.std.specs.Prelude.{ℕ, ℤ, pos, List, [], ◌∷◌, ◌++◌, ◌==◌, if◌then◌else◌}
 use Rattle.cave_data.specs.CaveView.{default_message}
 use Rattle.cave_rows.specs.declared.role.Role.{Role}
-use Rattle.cave_objects.specs.Objects.{moved_to, taken_up, anchored_to, put_anew, with_prop}
+use Rattle.cave_objects.specs.Objects.{with_place, with_carried, with_anchor, with_latest, with_prop}
 use Rattle.cave_world.specs.declared.part.Part.{Part}
 use Rattle.cave_world.specs.declared.part.Part.TheVariants as part
 use Rattle.cave_world.specs.declared.part.WordLine.TheVariants as line
 use Rattle.cave_objects.specs.declared.spot.Anchor.TheVariants as anchor
 use Rattle.cave_world.specs.declared.state.State.{State}
-use Rattle.cave_things.specs.Effects.{put_down, let_go, without_troll, lost_to_snake, one_more_lost}
+use Rattle.cave_things.specs.Effects.{put_down, let_go, without_troll, after_loss_to_snake, with_one_more_lost}
 use Rattle.cave_things.specs.Effects.{with_objects}
 use Rattle.cave_verbs.specs.Deeds.{Deed}
 use Rattle.cave_verbs.specs.Rows.{Effect, Thing}
@@ -41,25 +41,25 @@ abbrev pub look : Thing → ℤ → Effect
 look t v d = record d { parts = with_look (t d) v d.parts }
 
 abbrev pub carry : Thing → Effect
-carry t d = in_state (with_objects (taken_up d.state.objects (t d)) d.state) d
+carry t d = in_state (with_objects (with_carried d.state.objects (t d)) d.state) d
 
 -- an object is moved to where the player is
 abbrev pub bring : Thing → Effect
-bring t d = in_state (with_objects (moved_to d.state.objects (t d) d.state.trail.here) d.state) d
+bring t d = in_state (with_objects (with_place d.state.objects (t d) d.state.trail.here) d.state) d
 
 -- an object is nowhere from now on
 abbrev pub kill : Thing → Effect
-kill t d = in_state (with_objects (moved_to d.state.objects (t d) 0) d.state) d
+kill t d = in_state (with_objects (with_place d.state.objects (t d) 0) d.state) d
 
 -- an object can't be moved any more, or can be moved again
 abbrev pub fix : Thing → Effect
-fix t d = in_state (with_objects (anchored_to d.state.objects (t d) anchor.Fixed) d.state) d
+fix t d = in_state (with_objects (with_anchor d.state.objects (t d) anchor.Fixed) d.state) d
 
 abbrev pub loosen : Thing → Effect
-loosen t d = in_state (with_objects (anchored_to d.state.objects (t d) anchor.Loose) d.state) d
+loosen t d = in_state (with_objects (with_anchor d.state.objects (t d) anchor.Loose) d.state) d
 
 abbrev pub juggle : Thing → Effect
-juggle t d = in_state (with_objects (put_anew d.state.objects (t d)) d.state) d
+juggle t d = in_state (with_objects (with_latest d.state.objects (t d)) d.state) d
 
 abbrev pub set_prop : Thing → ℤ → Effect
 set_prop t v d = in_state (with_objects (with_prop d.state.objects (t d) v) d.state) d
@@ -78,7 +78,7 @@ trolls d = in_state (without_troll d.cave d.state) d
 
 -- one treasure more is lost, if the snake is at home
 abbrev pub lose_to_snake : Effect
-lose_to_snake d = in_state (lost_to_snake d.cave d.state) d
+lose_to_snake d = in_state (after_loss_to_snake d.cave d.state) d
 
 abbrev pub lose_one : Effect
-lose_one d = in_state (one_more_lost d.state) d
+lose_one d = in_state (with_one_more_lost d.state) d

@@ -4,7 +4,7 @@ use Rattle.std.specs.Ordering.{int_eq}
 use Rattle.cave_data.specs.CaveView.{CaveView}
 use Rattle.cave_rows.specs.declared.role.Role.TheVariants as role
 use Rattle.cave_words.specs.declared.named.Named.TheVariants as name
-use Rattle.cave_objects.specs.Objects.{is_gone, moved_to}
+use Rattle.cave_objects.specs.Objects.{is_gone, with_place}
 use Rattle.cave_world.specs.declared.state.State.{State}
 use Rattle.cave_things.specs.Effects.{with_objects}
 use Rattle.cave_things.specs.Homes.{home, is_at_home, is_home_here}
@@ -78,7 +78,7 @@ abbrev pub look_homing : Thing → Effect
 look_homing t d = look t (homing_sight d.cave d.state (t d)) d
 
 abbrev pub with_object_at_home : CaveView → ℕ → State → State
-with_object_at_home cave x s = with_objects (moved_to s.objects x (home cave x)) s
+with_object_at_home cave x s = with_objects (with_place s.objects x (home cave x)) s
 
 -- an object is moved to where it is at home
 abbrev pub send_home : Thing → Effect

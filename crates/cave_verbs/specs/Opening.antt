@@ -5,7 +5,7 @@ use Rattle.cave_rows.specs.declared.place_role.PlaceRole.{PlaceRole}
 use Rattle.cave_rows.specs.declared.place_role.PlaceRole.TheVariants as place
 use Rattle.cave_rows.specs.declared.role.Role.TheVariants as role
 use Rattle.cave_words.specs.declared.named.Named.TheVariants as name
-use Rattle.cave_objects.specs.Objects.{moved_to, is_object_at}
+use Rattle.cave_objects.specs.Objects.{with_place, is_object_at}
 use Rattle.cave_world.specs.declared.state.State.{State}
 use Rattle.cave_things.specs.Effects.{with_objects}
 use Rattle.cave_things.specs.Homes.{is_home_elsewhere}
@@ -41,7 +41,7 @@ panic d = in_state (after_panic d.state) d
 -- an object is moved to a place, if there is the place
 abbrev pub after_sending : ℕ → Option ℕ → State → State
 after_sending x None s = s
-after_sending x (Some place) s = with_objects (moved_to s.objects x place) s
+after_sending x (Some place) s = with_objects (with_place s.objects x place) s
 
 abbrev pub send : Thing → PlaceRole → Effect
 send t role d = in_state (after_sending (t d) (place_named d.cave role) d.state) d

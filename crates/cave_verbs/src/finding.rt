@@ -48,7 +48,7 @@ pub fn find(rules: &Rules<'_>, order: Order, state: &mut State, out: &mut Out) -
     say_default(rules, order, state, out)
 }
 
-fn is_listed(rules: &Rules<'_>, state: &State, object: Object) -> bool
+fn is_in_inventory(rules: &Rules<'_>, state: &State, object: Object) -> bool
     ensures { result ≡ is_in_inventory (cave_of rules.now) state.now object }
 {
     rules.is_in_hand(state, object) && !rules.is(object, Named::Bear)
@@ -62,7 +62,7 @@ fn listed(rules: &Rules<'_>, state: &State) -> ArrayVec<Object, LAST_OBJECT>
     let mut listed = ArrayVec::new();
     for before in 0..LAST_OBJECT {
         let object = Object::new(before as u8 + 1);
-        if is_listed(rules, state, object) {
+        if is_in_inventory(rules, state, object) {
             listed.push(object);
         }
     }

@@ -7,7 +7,7 @@ use log_lines::bytes::split_word;
 use std::marker::Model;
 
 /// The most letters of a word that count.
-pub const MOST_LETTERS: usize = 8;
+pub const MAX_LETTERS: usize = 8;
 
 /// The letters by which the rules know the words that they write out.
 pub const RULE_LETTERS: usize = 5;
@@ -16,7 +16,7 @@ pub const RULE_LETTERS: usize = 5;
 /// spaces.
 #[derive(Clone, Copy, Debug, PartialEq, Eq, Hash)]
 pub struct Word {
-    bytes: [u8; MOST_LETTERS],
+    bytes: [u8; MAX_LETTERS],
 }
 
 impl Model for Word {
@@ -49,7 +49,7 @@ impl Word {
         ensures { result ≡ word_of letters bytes.now }
     {
         let cut = &bytes[..bytes.len().min(usize::from(letters))];
-        let mut word = [b' '; MOST_LETTERS];
+        let mut word = [b' '; MAX_LETTERS];
         for (i, byte) in cut.iter().enumerate() {
             word[i] = byte.to_ascii_uppercase();
         }

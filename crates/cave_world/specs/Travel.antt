@@ -11,7 +11,7 @@ use Rattle.cave_world.specs.declared.travel.TravelOutcome.{TravelOutcome}
 use Rattle.cave_world.specs.declared.travel.TravelOutcome.TheVariants.{Go, Special, Say, NoMotion}
 use Rattle.cave_world.specs.declared.travel.TravelOutcome.TheVariants.{NoWay}
 use Rattle.cave_world.specs.declared.travel.Special.TheVariants.{Squeeze, Bridge}
-use Rattle.cave_objects.specs.Objects.{is_carried, is_object_at, prop_of, moved_to}
+use Rattle.cave_objects.specs.Objects.{is_carried, is_object_at, prop_of, with_place}
 
 -- a state, and where a motion leads
 pub record TravelResult : Type 0 where
@@ -64,7 +64,7 @@ unfoldable pub after_row : ℕ → State → Going → State
 after_row emerald s row =
     let t = after_condition (row_condition row) s in
     if holds (row_condition row) s && row_number row == 302
-    then record t { objects = moved_to t.objects emerald t.trail.here } else t
+    then record t { objects = with_place t.objects emerald t.trail.here } else t
 
 -- the rows without the first, if that has the target
 abbrev pub without_leading_target : ℕ → List Going → List Going

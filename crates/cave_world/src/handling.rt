@@ -6,7 +6,7 @@ ghost use Rattle.cave_objects.specs.Halves.{object_of};
 ghost use Rattle.cave_objects.specs.Spots.{place_of_spot, place_of_anchor, spot_at};
 ghost use Rattle.cave_objects.specs.Objects.{spot_of, anchor_of, prop_of, carried_objects};
 ghost use Rattle.cave_objects.specs.Objects.{is_carried, is_gone, is_object_at, is_at_hand};
-ghost use Rattle.cave_objects.specs.Objects.{anchored_to, with_prop, moved_to, taken_up, put_anew};
+ghost use Rattle.cave_objects.specs.Objects.{with_anchor, with_prop, with_place, with_carried, with_latest};
 
 use crate::state::State;
 use arrayvec::ArrayVec;
@@ -36,7 +36,7 @@ impl State {
         self.objects.prop(object)
     }
 
-    /// Whether the first half of an object is nowhere. Object 0 is not gone.
+    /// Whether there is the object, and its first half is nowhere.
     pub fn is_gone(&self, object: Object) -> bool
         ensures { result ≡ is_gone self.now.objects object }
     {
@@ -105,7 +105,7 @@ impl State {
     /// The player takes an object, if the player doesn't carry it yet.
     pub fn carry(&mut self, object: Object)
         ensures value { let s = self.old in
-            self.new ≡ record s { objects = taken_up s.objects object } }
+            self.new ≡ record s { objects = with_carried s.objects object } }
         ensures lists { 0 < object
             → AreRelisted self.old.objects.lists self.new.objects.lists (Half.First object) None }
     {
@@ -116,7 +116,7 @@ impl State {
     /// nowhere.
     pub fn move_to(&mut self, object: Object, place: Place)
         ensures value { let s = self.old in
-            self.new ≡ record s { objects = moved_to s.objects object place } }
+            self.new ≡ record s { objects = with_place s.objects object place } }
         ensures lists { 0 < object
             → AreRelisted self.old.objects.lists self.new.objects.lists (Half.First object)
             (place_of_spot (spot_at place)) }
@@ -127,7 +127,7 @@ impl State {
     /// Both halves of an object come to the front of the lists that they are in, if the player
     /// doesn't carry it.
     pub fn juggle(&mut self, object: Object)
-        ensures { let s = self.old in self.new ≡ record s { objects = put_anew s.objects object } }
+        ensures { let s = self.old in self.new ≡ record s { objects = with_latest s.objects object } }
     {
         self.objects.juggle(object);
     }
@@ -135,7 +135,7 @@ impl State {
     /// An object is given another anchor.
     pub fn anchor_to(&mut self, object: Object, anchor: Anchor)
         ensures value { let s = self.old in
-            self.new ≡ record s { objects = anchored_to s.objects object anchor } }
+            self.new ≡ record s { objects = with_anchor s.objects object anchor } }
         ensures lists { let old = self.old.objects.lists in let new = self.new.objects.lists in
             0 < object → AreRelisted old new (Half.Second object) (place_of_anchor anchor) }
     {
@@ -153,7 +153,7 @@ impl State {
     /// An object is nowhere from now on.
     pub fn destroy(&mut self, object: Object)
         ensures value { let s = self.old in
-            self.new ≡ record s { objects = moved_to s.objects object 0 } }
+            self.new ≡ record s { objects = with_place s.objects object 0 } }
         ensures lists { 0 < object
             → AreRelisted self.old.objects.lists self.new.objects.lists (Half.First object)
             (place_of_spot (spot_at 0)) }

@@ -4,7 +4,7 @@ ghost use Rattle.std.specs.Int.{int_min};
 use std::marker::Model;
 
 /// The most turns that a lamp can still burn.
-const MOST_TURNS: i32 = 100_000;
+const MAX_LAMP_TURNS: i32 = 100_000;
 
 /// The turns that a lamp still burns. -1 says that it went out.
 #[derive(Clone, Copy, Debug, PartialEq, Eq)]
@@ -40,7 +40,7 @@ impl Charge {
         ensures { result ≡ int_min turns (pos 100000) }
     {
         Charge {
-            turns: turns.min(MOST_TURNS),
+            turns: turns.min(MAX_LAMP_TURNS),
         }
     }
 

@@ -176,8 +176,8 @@ fn travel_by_rows(rows: &[Row], emerald: Object, state: &mut State, motion: u16)
     first_way(listed, emerald, state)
 }
 
-/// Where a motion leads from where the player is, by the rows of the place. A row that puts the
-/// emerald down moves it.
+/// Where a motion leads from where the player is, by the rows of the place. A row may
+/// move the emerald here on the way.
 #[tactic(auto, unfolding(crate::specs::Travel::travel_by_motion))]
 pub fn travel_by_motion(
     cave: &Cave,

@@ -7,7 +7,7 @@ use Rattle.log_replay.specs.Change.{Change}
 use Rattle.edit_scripts.specs.declared.fault.ScriptRefusal.{ScriptRefusal}
 use Rattle.edit_scripts.specs.declared.fault.ScriptRefusal.TheVariants.{Malformed, Memory}
 use Rattle.edit_scripts.specs.declared.script.Script.{Script}
-use Rattle.edit_scripts.specs.Line.{LineKind, nothing, begin, end, edit, nonsense, IsKind, kind_of}
+use Rattle.edit_scripts.specs.Line.{LineKind, nothing, begin, end, edit, nonsense, IsKind, kind_of_script_line}
 use Rattle.edit_scripts.specs.Line.{IsWord}
 use Rattle.edit_scripts.specs.Item.{Applied, single, group_at_line, group_with_change}
 use Rattle.edit_scripts.specs.Script.{IsBody, body_done, body_skips, body_spells, IsScript, done}
@@ -15,7 +15,7 @@ use Rattle.edit_scripts.specs.Script.{skips, spells, groups, reading_in_group, o
 use Rattle.edit_scripts.specs.Script.{reading_outside_group}
 use Rattle.edit_scripts.specs.Script.{read_from, script_of}
 use Rattle.edit_scripts.specs.Views.{IsFaultOf, items_of}
-use Rattle.edit_scripts.proofs.Lines.{IsKind-kind_of, kind_of-only}
+use Rattle.edit_scripts.proofs.Lines.{IsKind-kind_of_script_line, kind_of_script_line-only}
 
 -- ---- what the lines spell is what they come to
 
@@ -52,14 +52,14 @@ body_read {number = number} body_done rest items group =
 body_read
     (body_skips {number = number} {line = line} {rest = inner} {changes = changes}
     {numbers = numbers} skipped more) rest items group =
-    let kind = kind_of-only line nothing skipped in
+    let kind = kind_of_script_line-only line nothing skipped in
     let here : number + 1 + length inner ≡ number + length (line ∷ inner) = omega arith in
     rw kind (body_read more rest items group
     ∙ ap (λ n. read_from n rest items (Some (extended group changes numbers))) here)
 body_read
     (body_spells {number = number} {line = line} {change = change} {rest = inner}
     {changes = changes} {numbers = numbers} spelled more) rest items group =
-    let kind = kind_of-only line (edit change) spelled in
+    let kind = kind_of_script_line-only line (edit change) spelled in
     let here : number + 1 + length inner ≡ number + length (line ∷ inner) = omega arith in
     rw kind (body_read more rest items (group_with_change group number change)
     ∙ ap₂ (λ n g. read_from n rest items (Some g)) here
@@ -75,19 +75,19 @@ script_read : {number : ℕ} {whole : List (List ℕ)} {items : List Applied}
     → read_from number whole before None ≡ Ok (before ++ items)
 script_read done before = ap Ok (sym (append-nil before))
 script_read (skips {number = number} {line = line} skipped more) before =
-    let kind = kind_of-only line nothing skipped in
+    let kind = kind_of_script_line-only line nothing skipped in
     rw kind (script_read more before)
 script_read (spells {number = number} {line = line} {change = change} {items = items} spelled more)
     before =
-    let kind = kind_of-only line (edit change) spelled in
+    let kind = kind_of_script_line-only line (edit change) spelled in
     rw kind (script_read more (before ++ single number change ∷ [])
     ∙ ap Ok (followed before (single number change) items))
 script_read
     (groups {number = number} {first = first} {last = last} {body = inner} {rest = rest}
     {changes = changes} {numbers = numbers} {items = items} begins is_body ends more) before =
-    let kind = kind_of-only first begin begins in
+    let kind = kind_of_script_line-only first begin begins in
     let group : Applied = record { line = number; changes = changes; lines = numbers } in
-    let last_kind = kind_of-only last end ends in
+    let last_kind = kind_of_script_line-only last end ends in
     let here : number + 1 + length inner + 1 ≡ number + 2 + length inner = omega arith in
     let closed : read_from (number + 1 + length inner) (last ∷ rest) before (Some group)
     ≡ Ok (before ++ group ∷ items) =
@@ -226,10 +226,10 @@ read_spelled [] number before None out h =
 read_spelled [] number before (Some group) out h = cc
 read_spelled (line ∷ rest) number before None out h =
     spelled_outside number line rest out (λ b g. read_spelled rest (number + 1) b g out) before
-    (kind_of line) (IsKind-kind_of line) h
+    (kind_of_script_line line) (IsKind-kind_of_script_line line) h
 read_spelled (line ∷ rest) number before (Some group) out h =
     spelled_inside number line rest out (λ b g. read_spelled rest (number + 1) b g out) before group
-    (kind_of line) (IsKind-kind_of line) h
+    (kind_of_script_line line) (IsKind-kind_of_script_line line) h
 
 pub IsScript-script_of : (text : List ℕ) (items : List Applied) → script_of text ≡ Ok items
     → IsScript 1 (lines text) items

@@ -13,7 +13,7 @@ use Rattle.log_replay.specs.Change.{Change, inserts, deletes, replaces, reseeds}
 use Rattle.edit_scripts.specs.Line.{LineKind, nothing, begin, end, edit, nonsense, IsKind}
 use Rattle.edit_scripts.specs.Line.{IsNumbered}
 use Rattle.edit_scripts.specs.Line.{IsText, IsWord, Spells, change_without_text, edit_of}
-use Rattle.edit_scripts.specs.Line.{edit_or_nonsense, is_word_line, kind_of}
+use Rattle.edit_scripts.specs.Line.{edit_or_nonsense, is_word_line, kind_of_script_line}
 use Rattle.log_lines.specs.LogLine.{is_skipped}
 use Rattle.edit_scripts.specs.Line.{number_after, number_after_blank, number_and_rest, text_of_edit}
 use Rattle.edit_scripts.specs.Line.{with_text}
@@ -357,9 +357,9 @@ kind_holds line false false false None s b e f = (
 )
 
 -- the line is what it is reported to be
-pub IsKind-kind_of : (line : List ℕ) → IsKind line (kind_of line)
-unfolding kind_of
-IsKind-kind_of line =
+pub IsKind-kind_of_script_line : (line : List ℕ) → IsKind line (kind_of_script_line line)
+unfolding kind_of_script_line
+IsKind-kind_of_script_line line =
     kind_holds line (is_skipped line) (is_word_line (codes "begin") line)
     (is_word_line (codes "end") line) (edit_of line) refl refl refl refl
 
@@ -407,23 +407,24 @@ no_edit line None is none = refl
 no_edit line (Some change) is none = absurd (none change (Spells-from_edit_of line change is))
 
 -- and it is nothing else
-pub kind_of-only : (line : List ℕ) (kind : LineKind) → IsKind line kind → kind_of line ≡ kind
-unfolding kind_of
-kind_of-only line nothing is = rw is refl
-kind_of-only line begin is =
+pub kind_of_script_line-only : (line : List ℕ) (kind : LineKind) → IsKind line kind
+    → kind_of_script_line line ≡ kind
+unfolding kind_of_script_line
+kind_of_script_line-only line nothing is = rw is refl
+kind_of_script_line-only line begin is =
     let s = unskipped_begin line is in let b = is_word_line-from_word (codes "begin") line is in
     rw (s, b) refl
-kind_of-only line end is =
+kind_of_script_line-only line end is =
     let s = unskipped_end line is in let b = end_no_begin line is in
     let e = is_word_line-from_word (codes "end") line is in rw (s, b, e) refl
-kind_of-only line (edit change) is =
+kind_of_script_line-only line (edit change) is =
     let other = other_than_words line change is in
     let s = other.unskipped in
     let b = other.no_begin in
     let e = other.no_end in
     let f = edit_of-from_line line change is in
     rw (s, b, e, f) refl
-kind_of-only line nonsense is =
+kind_of_script_line-only line nonsense is =
     let s = not_true (is_skipped line) is.0 in
     let b = not_true (is_word_line (codes "begin") line)
     (λ word. is.1 (IsWord-from_is_word (codes "begin") line word)) in

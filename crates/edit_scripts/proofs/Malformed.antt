@@ -11,7 +11,7 @@ use Rattle.edit_scripts.specs.declared.fault.ScriptRefusal.{ScriptRefusal}
 use Rattle.edit_scripts.specs.declared.fault.ScriptRefusal.TheVariants.{Malformed, Memory}
 use Rattle.edit_scripts.specs.declared.script.Script.{Script}
 use Rattle.edit_scripts.specs.Line.{LineKind, nothing, begin, end, edit, nonsense, IsKind, IsWord}
-use Rattle.edit_scripts.specs.Line.{kind_of}
+use Rattle.edit_scripts.specs.Line.{kind_of_script_line}
 use Rattle.edit_scripts.specs.Item.{Applied, group_at_line, group_with_change, single}
 use Rattle.edit_scripts.specs.Malformed.{IsFirstFault, IsMalformedAt, IsOpen, IsWhole, IsLineAt}
 use Rattle.edit_scripts.specs.Script.{IsBody, body_done, body_skips, body_spells, IsScript, done}
@@ -19,7 +19,7 @@ use Rattle.edit_scripts.specs.Script.{skips, spells, groups, reading_in_group, o
 use Rattle.edit_scripts.specs.Script.{reading_outside_group}
 use Rattle.edit_scripts.specs.Script.{read_from, script_of}
 use Rattle.edit_scripts.specs.Views.{IsFaultOf, items_of}
-use Rattle.edit_scripts.proofs.Lines.{IsKind-kind_of}
+use Rattle.edit_scripts.proofs.Lines.{IsKind-kind_of_script_line}
 
 -- ---- after well-formed lines
 
@@ -333,10 +333,10 @@ read_failed [] number before (Some group) at flaw h =
     inl (subst (FailsIn group.line number [] at) same.1 (no_inner number, same.0))
 read_failed (line ∷ rest) number before None at flaw h =
     failed_outside number line rest at flaw (λ b g. read_failed rest (number + 1) b g at flaw)
-    before (kind_of line) (IsKind-kind_of line) h
+    before (kind_of_script_line line) (IsKind-kind_of_script_line line) h
 read_failed (line ∷ rest) number before (Some group) at flaw h =
     failed_inside number line rest at flaw (λ b g. read_failed rest (number + 1) b g at flaw) before
-    group (kind_of line) (IsKind-kind_of line) h
+    group (kind_of_script_line line) (IsKind-kind_of_script_line line) h
 
 pub answer_first : (text : List ℕ) (answer : Result Script ScriptRefusal)
     → MatchResult answer (λ script. script_of text ≡ Ok (items_of script.items))

@@ -118,8 +118,8 @@ abbrev pub edit_or_nonsense : Option Change → LineKind
 edit_or_nonsense (Some change) = edit change
 edit_or_nonsense None = nonsense
 
-unfoldable pub kind_of : List ℕ → LineKind
-kind_of line =
+unfoldable pub kind_of_script_line : List ℕ → LineKind
+kind_of_script_line line =
     if is_skipped line then nothing
     else (if is_word_line (codes "begin") line then begin
     else (if is_word_line (codes "end") line then end else edit_or_nonsense (edit_of line)))

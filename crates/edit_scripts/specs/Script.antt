@@ -3,7 +3,7 @@ use Rattle.std.specs.Prelude.{ℕ, ◌+◌, List, [], ◌∷◌, ◌++◌, lengt
 use Rattle.std.specs.Prelude.{Err, codes, IsTrue}
 use Rattle.std.specs.Str.Lines.{lines}
 use Rattle.log_replay.specs.Change.{Change}
-use Rattle.edit_scripts.specs.Line.{LineKind, nothing, begin, end, edit, nonsense, kind_of}
+use Rattle.edit_scripts.specs.Line.{LineKind, nothing, begin, end, edit, nonsense, kind_of_script_line}
 use Rattle.log_lines.specs.LogLine.{is_skipped}
 use Rattle.edit_scripts.specs.Line.{IsWord, Spells}
 use Rattle.edit_scripts.specs.Item.{Applied, single, group_at_line, group_with_change}
@@ -96,7 +96,8 @@ abbrev pub read_from : ℕ → List (List ℕ) → List Applied → Option Appli
     → Result (List Applied) ScriptRefusal
 read_from number [] items open_group = items_at_end items open_group
 read_from number (line ∷ rest) items open_group =
-    onward (reading_after_line number (kind_of line) items open_group) (read_from (number + 1) rest)
+    onward (reading_after_line number (kind_of_script_line line) items open_group)
+    (read_from (number + 1) rest)
 
 -- the items of a script, or its first malformed line
 abbrev pub script_of : List ℕ → Result (List Applied) ScriptRefusal

@@ -6,7 +6,7 @@ ghost use Rattle.limits.specs.Limits.{max_script_number};
 ghost use Rattle.log_lines.specs.Bytes.{is_blank, is_digit, number_of};
 ghost use Rattle.log_replay.specs.Change.{change_of};
 ghost use Rattle.edit_scripts.specs.Line.{is_word_line, number_and_rest, number_after};
-ghost use Rattle.edit_scripts.specs.Line.{text_of_edit, edit_of, kind_of};
+ghost use Rattle.edit_scripts.specs.Line.{text_of_edit, edit_of, kind_of_script_line};
 ghost use Rattle.edit_scripts.specs.Line.{kind_said};
 
 use limits::{is_long_number, with_digit};
@@ -38,7 +38,7 @@ fn is_word(word: &[u8], line: &[u8]) -> bool
 
 /// The number that digits write, or the greatest.
 #[tactic(auto, using(crate::proofs::Numbers::number_capped))]
-fn number_of(digits: &[u8]) -> u32
+fn capped_number(digits: &[u8]) -> u32
     ensures { result ≡ min (number_of digits.now) max_script_number }
 {
     digits
@@ -60,7 +60,7 @@ fn number_after<'a>(word: &[u8], line: &'a [u8]) -> Option<(u32, &'a [u8])>
     if digits.is_empty() || is_long_number(digits.len()) {
         return None;
     }
-    Some((number_of(digits), rest))
+    Some((capped_number(digits), rest))
 }
 
 /// The text after a number: nothing, or what follows one blank.
@@ -102,9 +102,9 @@ fn edit_of(alloc: Global, line: &[u8]) -> Result<Option<Edit>, AllocError>
 }
 
 /// What a line says.
-#[tactic(auto, unfolding(crate::specs::Line::kind_of))]
+#[tactic(auto, unfolding(crate::specs::Line::kind_of_script_line))]
 pub(crate) fn read_line(alloc: Global, line: &[u8]) -> Result<ScriptLine, AllocError>
-    ensures { IfOk result (λ said. kind_said said ≡ kind_of line.now) }
+    ensures { IfOk result (λ said. kind_said said ≡ kind_of_script_line line.now) }
 {
     if is_skipped(line) {
         return Ok(ScriptLine::Nothing);

@@ -3,7 +3,7 @@ ghost use Rattle.std.specs.Str.Lines.{lines};
 ghost use Rattle.log_replay.specs.Change.{change_of};
 ghost use Rattle.edit_scripts.specs.Item.{Applied, group_at_line, group_with_change};
 ghost use Rattle.edit_scripts.specs.Item.{line_of_refusal};
-ghost use Rattle.edit_scripts.specs.Line.{begin, end, edit, kind_of};
+ghost use Rattle.edit_scripts.specs.Line.{begin, end, edit, kind_of_script_line};
 ghost use Rattle.edit_scripts.specs.Malformed.{IsFirstFault};
 ghost use Rattle.edit_scripts.specs.Script.{IsScript, items_at_end, script_of};
 ghost use Rattle.edit_scripts.specs.Views.{IsFaultOf, IsStep, applied_item, items_of, open_of};
@@ -115,7 +115,7 @@ struct ScriptReader {
 
 impl ScriptReader {
     fn read(&mut self, alloc: Global, number: usize, line: &[u8]) -> Result<(), ScriptRefusal>
-        ensures { IsStep (step_of number (kind_of line.now) (reading_of self.old))
+        ensures { IsStep (step_of number (kind_of_script_line line.now) (reading_of self.old))
             (reading_of self.new) result }
     {
         match read_line(alloc, line)? {

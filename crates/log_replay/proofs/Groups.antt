@@ -103,5 +103,5 @@ changes_of-reverse [] = refl
 changes_of-reverse (edit ∷ edits) =
     ap changes_of (reverse-append (edit ∷ []) edits)
     ∙ map-append change_of (reverse edits) (edit ∷ [])
-    ∙ ap (λ front. front ++ change_of edit ∷ []) (changes_of-reverse edits)
+    ∙ ap (λ prefix. prefix ++ change_of edit ∷ []) (changes_of-reverse edits)
     ∙ sym (reverse-append (change_of edit ∷ []) (changes_of edits))

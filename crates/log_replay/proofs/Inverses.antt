@@ -94,7 +94,7 @@ remove-insert : (log : List (List ℕ)) (at : ℕ) (line : List ℕ) → at ≤ 
     → remove (insert log at line) at ≡ log
 remove-insert log at line within =
     let n : length (take at log) ≡ at = length-take-le at log within in
-    let front : take at (insert log at line) ≡ take at log =
+    let prefix : take at (insert log at line) ≡ take at log =
     take_at (take at log) (line ∷ drop at log) at n in
     let n' : length (take at log ++ line ∷ []) ≡ suc at = length-append (take at log) (line ∷ [])
     ∙ omega arith in
@@ -102,19 +102,19 @@ remove-insert log at line within =
     simp append_assoc in
     let back : drop (suc at) (insert log at line) ≡ drop at log =
     rw split (drop_at (take at log ++ line ∷ []) (drop at log) (suc at) n') in
-    rw (front, back) (take-append-drop at log)
+    rw (prefix, back) (take-append-drop at log)
 
 insert-remove : (log : List (List ℕ)) (at : ℕ) → at < length log
     → insert (remove log at) at (get_or log at []) ≡ log
 insert-remove log at below =
     let n : length (take at log) ≡ at = length-take-le at log (omega arith) in
-    let front : take at (remove log at) ≡ take at log =
+    let prefix : take at (remove log at) ≡ take at log =
     take_at (take at log) (drop (suc at) log) at n in
     let back : drop at (remove log at) ≡ drop (suc at) log =
     drop_at (take at log) (drop (suc at) log) at n in
     let more : drop at log ≡ get_or log at [] ∷ drop (suc at) log = drop_more log at [] below
     ∙ simp add-one in
-    rw (front, back, ← more) (take-append-drop at log)
+    rw (prefix, back, ← more) (take-append-drop at log)
 
 -- what a change's freedom of faults says
 pub insert_within : (at : ℕ) (line : List ℕ) (log : List (List ℕ))

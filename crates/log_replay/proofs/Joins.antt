@@ -23,8 +23,8 @@ use Rattle.log_replay.specs.Takeover.{new_places, new_states}
 use Rattle.log_replay.proofs.Marking.{states_of_before}
 use Rattle.log_replay.proofs.Revisions.{HasCheckpoints, IsLastIndex, image_in}
 use Rattle.log_replay.proofs.Shifts.{rest_at, last_state_from, texts_from, ticks_from, take-texts}
-use Rattle.log_replay.proofs.Shifts.{drop-texts, take-ticks, drop-ticks, state_at-front}
-use Rattle.log_replay.proofs.Shifts.{texts_at-front, ticks_at-front, agrees_later}
+use Rattle.log_replay.proofs.Shifts.{drop-texts, take-ticks, drop-ticks, state_at-prefix}
+use Rattle.log_replay.proofs.Shifts.{texts_at-prefix, ticks_at-prefix, agrees_later}
 use Rattle.log_replay.proofs.Underways.{rising_lt}
 
 -- the splice of a map
@@ -37,22 +37,22 @@ map-splice f xs middle from to =
 
 module _ {S T : Type 0} (rules : MachineRules S T) {old new : Game} {head tail : ℕ}
     (shift : IsShift old new head tail) where
-  -- in the front both plays are the same, or the new one begins at its start
-  front_texts : (from : ℕ) → from ≤ head
+  -- in the prefix both plays are the same, or the new one begins at its start
+  prefix_texts : (from : ℕ) → from ≤ head
       → take from (texts_of rules (rules.begun old.seed) old.log) ≡ texts_at rules new from
-  front_texts zero within = refl
-  front_texts (suc from) within =
+  prefix_texts zero within = refl
+  prefix_texts (suc from) within =
       let fits = shift.within_old in
       take-texts rules old (suc from) (omega arith)
-      ∙ sym (texts_at-front rules shift (shift.seed (omega arith)) (suc from) within)
+      ∙ sym (texts_at-prefix rules shift (shift.seed (omega arith)) (suc from) within)
 
-  front_ticks : (from : ℕ) → from ≤ head
+  prefix_ticks : (from : ℕ) → from ≤ head
       → take from (ticks_of rules (rules.begun old.seed) old.log) ≡ ticks_at rules new from
-  front_ticks zero within = refl
-  front_ticks (suc from) within =
+  prefix_ticks zero within = refl
+  prefix_ticks (suc from) within =
       let fits = shift.within_old in
       take-ticks rules old (suc from) (omega arith)
-      ∙ sym (ticks_at-front rules shift (shift.seed (omega arith)) (suc from) within)
+      ∙ sym (ticks_at-prefix rules shift (shift.seed (omega arith)) (suc from) within)
 
   -- pieces of the whole new play, where it met the old one
   pub met_texts : (from place next : ℕ) (old_pieces pieces : List T) → from ≤ head
@@ -62,7 +62,7 @@ module _ {S T : Type 0} (rules : MachineRules S T) {old new : Game} {head tail :
       → splice old_pieces from place pieces ≡ texts_of rules (rules.begun new.seed) new.log
   met_texts from place next old_pieces pieces within are said agrees here =
       let rest = rest_at shift place agrees.late agrees.within in
-      rw (are, front_texts from within, drop-texts rules old place agrees.within)
+      rw (are, prefix_texts from within, drop-texts rules old place agrees.within)
       (sym (append_assoc (texts_at rules new from) pieces
       (texts_of rules (state_at rules old place) (drop place old.log)))
       ∙ rw (said, here, texts_from rules new (image old new place), agrees.same, rest) refl)
@@ -74,7 +74,7 @@ module _ {S T : Type 0} (rules : MachineRules S T) {old new : Game} {head tail :
       → splice old_ticks from place ticks ≡ ticks_of rules (rules.begun new.seed) new.log
   met_ticks from place next old_ticks ticks within are said agrees here =
       let rest = rest_at shift place agrees.late agrees.within in
-      rw (are, front_ticks from within, drop-ticks rules old place agrees.within)
+      rw (are, prefix_ticks from within, drop-ticks rules old place agrees.within)
       (sym (append_assoc (ticks_at rules new from) ticks
       (ticks_of rules (state_at rules old place) (drop place old.log)))
       ∙ rw (said, here, ticks_from rules new (image old new place), agrees.same, rest) refl)
@@ -94,7 +94,7 @@ module _ {S T : Type 0} (rules : MachineRules S T) {old new : Game} {head tail :
       → next ≡ length new.log
       → splice old_pieces from to pieces ≡ texts_of rules (rules.begun new.seed) new.log
   end_texts from to next old_pieces pieces within are said past here =
-      rw (drop_all to old_pieces past, append-nil pieces, are, front_texts from within)
+      rw (drop_all to old_pieces past, append-nil pieces, are, prefix_texts from within)
       (said ∙ rw (here, take-length new.log) refl)
 
   pub end_ticks : (from to next : ℕ) (old_ticks ticks : List Bool) → from ≤ head
@@ -103,7 +103,7 @@ module _ {S T : Type 0} (rules : MachineRules S T) {old new : Game} {head tail :
       → next ≡ length new.log
       → splice old_ticks from to ticks ≡ ticks_of rules (rules.begun new.seed) new.log
   end_ticks from to next old_ticks ticks within are said past here =
-      rw (drop_all to old_ticks past, append-nil ticks, are, front_ticks from within)
+      rw (drop_all to old_ticks past, append-nil ticks, are, prefix_ticks from within)
       (said ∙ rw (here, take-length new.log) refl)
 
 -- the states that are joined were all made
@@ -131,12 +131,12 @@ module _ {State S T : Type 0} {meaning : State → S} {is_state : State → Type
     (marks : MarksView State)
     (marking : IsMarking meaning is_state (states_of_new revision) marks) where
   -- before the checkpoint of the index `at` the states are those of the new play too
-  front_states : (i : ℕ) → i < at - 1
+  prefix_states : (i : ℕ) → i < at - 1
       → states_of_old revision (slice_index C.places i)
       ≡ states_of_new revision (slice_index C.places i)
-  front_states i before =
+  prefix_states i before =
       let rising = rising_lt C.places checkpoints.spacing.rising i at (omega arith) among in
-      sym (state_at-front revision.rules checkpoints.shift (checkpoints.shift.seed (omega arith))
+      sym (state_at-prefix revision.rules checkpoints.shift (checkpoints.shift.seed (omega arith))
       (slice_index C.places i) (omega arith))
 
   pub met_states : (index : ℕ) → MetAt revision C.places marks.next index
@@ -150,8 +150,9 @@ module _ {State S T : Type 0} {meaning : State → S} {is_state : State → Type
       record {
         meanings =
             states_joined_follow meaning (states_of_old revision) (states_of_new revision) C.places
-            C.states (at - 1) (index + 1) place marks.next (places_before marks f) (states_before marks f)
-            (omega arith) are.meanings front_states before.meanings
+            C.states (at - 1) (index + 1) place marks.next (places_before marks f)
+            (states_before marks f)
+            (omega arith) are.meanings prefix_states before.meanings
             (λ i from below.
             let spacing = checkpoints.spacing in
             let rising = rising_lt C.places spacing.rising index i (omega arith) below in
@@ -190,7 +191,7 @@ module _ {State S T : Type 0} {meaning : State → S} {is_state : State → Type
         meanings = ap (map meaning) (sym states)
             ∙ states_joined_follow meaning (states_of_old revision) (states_of_new revision)
             C.places C.states (at - 1) rest 0 0 marks.places marks.states (omega arith) are.meanings
-            front_states marking.kept.meanings (λ i from below. absurd (omega arith))
+            prefix_states marking.kept.meanings (λ i from below. absurd (omega arith))
             ∙ ap (map (states_of_new revision)) places;
         made = rw (← states)
             (joined_made is_state C.states marks.states (at - 1) rest are.made marking.kept.made);
@@ -198,30 +199,30 @@ module _ {State S T : Type 0} {meaning : State → S} {is_state : State → Type
 
 -- up to the checkpoint at which a replay begins, the old states are those of a new play with the
 -- same seed
-pub front_are : {State S T : Type 0} {meaning : State → S} {is_state : State → Type 0}
+pub prefix_are : {State S T : Type 0} {meaning : State → S} {is_state : State → Type 0}
     {revision : Revision S T} → revision.new.seed ≡ revision.old.seed
     → (C : CheckpointsView State) → HasCheckpoints revision C.every C.places
     → AreStates meaning is_state (states_of_old revision) C.places C.states
     → (at : ℕ) → IsLastIndex C.places revision.head at
     → AreStates meaning is_state (states_of_new revision) (take (at + 1) C.places)
     (take (at + 1) C.states)
-front_are {meaning} {is_state} {revision} seed C checkpoints are at last =
+prefix_are {meaning} {is_state} {revision} seed C checkpoints are at last =
     let among = last.among in
     let not_after = last.before in
     let n = length-map C.states meaning in
     let m = length-map C.places (states_of_old revision) in
     let same = ap length are.meanings in
     let rest = length C.places in
-    let front : (i : ℕ) → i < at + 1
+    let prefix : (i : ℕ) → i < at + 1
     → states_of_old revision (slice_index C.places i)
     ≡ states_of_new revision (slice_index C.places i) =
     λ i below. elim (cases_lt i at) [
       | inl before ↦
           let rising = rising_lt C.places checkpoints.spacing.rising i at before last.among in
-          sym (state_at-front revision.rules checkpoints.shift seed (slice_index C.places i)
+          sym (state_at-prefix revision.rules checkpoints.shift seed (slice_index C.places i)
           (omega arith))
       | inr here ↦ let e : i ≡ at = omega arith in
-          sym (state_at-front revision.rules checkpoints.shift seed (slice_index C.places i)
+          sym (state_at-prefix revision.rules checkpoints.shift seed (slice_index C.places i)
           (rw e not_after))
     ] in
     let places : take (at + 1) C.places
@@ -234,7 +235,7 @@ front_are {meaning} {is_state} {revision} seed C checkpoints are at last =
     record {
       meanings = ap (map meaning) (sym states)
           ∙ states_joined_follow meaning (states_of_old revision) (states_of_new revision) C.places
-          C.states (at + 1) rest 0 0 [] [] (omega arith) are.meanings front refl
+          C.states (at + 1) rest 0 0 [] [] (omega arith) are.meanings prefix refl
           (λ i from below. absurd (omega arith))
           ∙ ap (map (states_of_new revision)) places;
       made = All-take is_state (at + 1) C.states are.made;

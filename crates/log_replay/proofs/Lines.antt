@@ -27,7 +27,7 @@ is_line-read log i line below read good =
     subst P (line_at-log_of log i line below read)
     (All-get_or P (log_of log) i [] (omega arith) good)
 
--- one more line of the front of a log
+-- one more line of the prefix of a log
 pub take-log_of_more : (log : List (Vec ℕ)) (i : ℕ) (line : Vec ℕ) → i < length log
     → line ≡ get_or log i line → take (i + 1) (log_of log) ≡ take i (log_of log) ++ line.items ∷ []
 take-log_of_more log i line below read =

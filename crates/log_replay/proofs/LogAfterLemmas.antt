@@ -11,25 +11,25 @@ use Rattle.log_replay.specs.Change.{Change, inserts, deletes, replaces, reseeds,
 use Rattle.log_replay.specs.Faults.{log_after_all}
 use Rattle.log_replay.proofs.MarginLemmas.{Leaves, LeaveAlone}
 
--- a log stays as it is at the front and at the end
+-- a log stays as it is at the start and at the end
 pub record StaysAround (log new : List (List ℕ)) (margins : Margins) : Type 0 where
   pub within : margins.head + margins.tail ≤ length new
-  pub front : take margins.head new ≡ take margins.head log
+  pub prefix : take margins.head new ≡ take margins.head log
   pub rest : drop (length new - margins.tail) new ≡ drop (length log - margins.tail) log
 
-drop_past : (front rest : List (List ℕ)) (count more all : ℕ) → length front ≡ count
-    → all ≡ count + more → drop all (front ++ rest) ≡ drop more rest
-drop_past front rest count more all counted sum =
-    ap (λ k. drop k (front ++ rest)) sum ∙ sym (drop-drop more count (front ++ rest))
-    ∙ ap (drop more) (drop_at front rest count counted)
+drop_past : (prefix rest : List (List ℕ)) (count more all : ℕ) → length prefix ≡ count
+    → all ≡ count + more → drop all (prefix ++ rest) ≡ drop more rest
+drop_past prefix rest count more all counted sum =
+    ap (λ k. drop k (prefix ++ rest)) sum ∙ sym (drop-drop more count (prefix ++ rest))
+    ∙ ap (drop more) (drop_at prefix rest count counted)
 
 drop_again : (log : List (List ℕ)) (first more all : ℕ) → all ≡ first + more
     → drop more (drop first log) ≡ drop all log
 drop_again log first more all sum = drop-drop more first log ∙ ap (λ k. drop k log) (sym sum)
 
-take_front : (log rest : List (List ℕ)) (head at : ℕ) → head ≤ at → at ≤ length log
+take_prefix : (log rest : List (List ℕ)) (head at : ℕ) → head ≤ at → at ≤ length log
     → take head (take at log ++ rest) ≡ take head log
-take_front log rest head at before within =
+take_prefix log rest head at before within =
     let counted = length-take-le at log within in
     take-append-le head (take at log) rest (omega arith) ∙ take-take head at log before
 
@@ -47,7 +47,7 @@ insert_around log at line margins before after =
     let more = length log - margins.tail - at in
     record {
       within = omega arith;
-      front = take_front log (line ∷ drop at log) margins.head at before (omega arith);
+      prefix = take_prefix log (line ∷ drop at log) margins.head at before (omega arith);
       rest = ap (drop (length (insert log at line) - margins.tail)) split
           ∙ drop_past (take at log ++ line ∷ []) (drop at log) (suc at) more
           (length (insert log at line) - margins.tail) counted' (omega arith)
@@ -62,7 +62,7 @@ remove_around log at margins before after =
     let more = length log - margins.tail - at - 1 in
     record {
       within = omega arith;
-      front = take_front log (drop (suc at) log) margins.head at before (omega arith);
+      prefix = take_prefix log (drop (suc at) log) margins.head at before (omega arith);
       rest = drop_past (take at log) (drop (suc at) log) at more
           (length (remove log at) - margins.tail) counted (omega arith)
           ∙ drop_again log (suc at) more (length log - margins.tail) (omega arith);
@@ -74,7 +74,7 @@ set_around log at line margins before after =
     let same : length (set log at line) ≡ length log = length-set log at line in
     record {
       within = omega arith;
-      front = take-set-le margins.head log at line before;
+      prefix = take-set-le margins.head log at line before;
       rest = ap (λ n. drop (n - margins.tail) (set log at line)) same
           ∙ drop-set-lt (length log - margins.tail) log at line (omega arith);
     }
@@ -89,7 +89,7 @@ stays_after (replaces at line) log margins leaves fits =
     set_around log at line margins leaves.0 leaves.1
 stays_after (reseeds seed) log margins leaves fits = record {
   within = fits;
-  front = refl;
+  prefix = refl;
   rest = refl;
 }
 
@@ -99,7 +99,7 @@ pub stays_after_all : (changes : List Change) (log : List (List ℕ)) (margins :
     → StaysAround log (log_after_all changes log) margins
 stays_after_all [] log margins alone fits = record {
   within = fits;
-  front = refl;
+  prefix = refl;
   rest = refl;
 }
 stays_after_all (change ∷ changes) log margins alone fits =
@@ -107,14 +107,14 @@ stays_after_all (change ∷ changes) log margins alone fits =
     let later = stays_after_all changes (log_after change log) margins alone.1 first.within in
     record {
       within = later.within;
-      front = later.front ∙ first.front;
+      prefix = later.prefix ∙ first.prefix;
       rest = later.rest ∙ first.rest;
     }
 
--- a line of the front, and one of the end
-pub line_in_front : (log new : List (List ℕ)) (head place : ℕ) → take head new ≡ take head log
+-- a line of the prefix, and one of the end
+pub line_in_prefix : (log new : List (List ℕ)) (head place : ℕ) → take head new ≡ take head log
     → place < head → line_at new place ≡ line_at log place
-line_in_front log new head place same before =
+line_in_prefix log new head place same before =
     sym (get_or-take head new place [] before) ∙ ap (λ l. get_or l place []) same
     ∙ get_or-take head log place [] before
 

@@ -82,21 +82,21 @@ leave_alone (change ∷ changes) log margins free =
       leave_alone changes (log_after change log) next free.1,
     )
 
--- where there is a front, the seed stays
+-- where there is a prefix, the seed stays
 pub seed_stays : (changes : List Change) (game : Game) (margins : Margins)
     → LeaveAlone changes game.log margins → 0 < margins.head
     → (apply_all changes game).seed ≡ game.seed
-seed_stays [] game margins alone front = refl
-seed_stays (inserts at line ∷ changes) game margins alone front =
-    seed_stays changes (apply (inserts at line) game) margins alone.1 front
-seed_stays (deletes at ∷ changes) game margins alone front =
-    seed_stays changes (apply (deletes at) game) margins alone.1 front
-seed_stays (replaces at line ∷ changes) game margins alone front =
-    seed_stays changes (apply (replaces at line) game) margins alone.1 front
-seed_stays (reseeds seed ∷ changes) game margins alone front =
+seed_stays [] game margins alone prefix = refl
+seed_stays (inserts at line ∷ changes) game margins alone prefix =
+    seed_stays changes (apply (inserts at line) game) margins alone.1 prefix
+seed_stays (deletes at ∷ changes) game margins alone prefix =
+    seed_stays changes (apply (deletes at) game) margins alone.1 prefix
+seed_stays (replaces at line ∷ changes) game margins alone prefix =
+    seed_stays changes (apply (replaces at line) game) margins alone.1 prefix
+seed_stays (reseeds seed ∷ changes) game margins alone prefix =
     absurd (let none = alone.0 in omega arith)
 
--- front and end of a log that changes leave alone
+-- prefix and end of a log that changes leave alone
 pub margins_fits : (changes : List Change) (log : List (List ℕ)) → 0 < length changes
     → IsFree changes log
     → (margins_of changes log).head + (margins_of changes log).tail ≤ length log
@@ -122,7 +122,7 @@ margins_fits (reseeds seed ∷ changes) log some free =
     (record { head = length log; tail = length log })).tail in
     omega arith
 
--- the front and the end that edits leave alone fit into the log
+-- the prefix and the end that edits leave alone fit into the log
 pub margins_of_edits : (edits : List Edit) (log : List (Vec ℕ)) (margins : Margins)
     → 0 < length edits → fault_of_all (changes_of edits) (log_of log) 0 ≡ None
     → margins ≡ margins_of (changes_of edits) (log_of log)

@@ -73,13 +73,13 @@ pub marking_at : {S M : Type 0} (meaning : S → M) (is_state : S → Type 0) (s
 marking_at meaning is_state state checkpoints at marks among are places states even next
     open_state =
     let some = get_some marks.states 0 (rw (even, places) (omega arith)) in
-    let front : slice_get (take (at + 1) checkpoints.states) (at - 1) ≡ Some some.0 =
+    let prefix : slice_get (take (at + 1) checkpoints.states) (at - 1) ≡ Some some.0 =
     take_get checkpoints.states (at + 1) (at - 1) (omega arith) ∙ states ∙ some.1 in
     let here : slice_get (take (at + 1) checkpoints.states) at ≡ Some marks.state =
     take_get checkpoints.states (at + 1) at (omega arith) ∙ open_state in
     let first =
     meaning_at meaning is_state state (take (at + 1) checkpoints.places)
-    (take (at + 1) checkpoints.states) (at - 1) some.0 are front in
+    (take (at + 1) checkpoints.states) (at - 1) some.0 are prefix in
     let second =
     meaning_at meaning is_state state (take (at + 1) checkpoints.places)
     (take (at + 1) checkpoints.states) at marks.state are here in

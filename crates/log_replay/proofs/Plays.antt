@@ -71,7 +71,7 @@ IsPlay-push rules seed log line opening pieces ticks state played =
       state_is = rw (state_after-append rules (rules.begun seed) log (line ∷ []), ← s) refl;
     }
 
--- one line more of a log that is played from its front on
+-- one line more of a log that is played from its prefix on
 pub IsPlay-more : {S T : Type 0} (rules : MachineRules S T) (seed : ℕ) (log : List (Vec ℕ)) (i : ℕ)
     (line : Vec ℕ) (opening : T) (pieces pieces' : List T) (ticks ticks' : List Bool)
     (state state' : S)

@@ -77,10 +77,10 @@ shift_of {changes} {seed} {log} {ready} edits =
     rw (e, head, edits.edits) (record {
       within_old = omega arith;
       within_new = within;
-      front = stays.front;
+      prefix = stays.prefix;
       rest = stays.rest;
-      seed = λ front. ap (λ (x : Game). x.seed) edits.game
-          ∙ seed_stays changes (game_of seed (log_of log)) margins alone front;
+      seed = λ prefix. ap (λ (x : Game). x.seed) edits.game
+          ∙ seed_stays changes (game_of seed (log_of log)) margins alone prefix;
     })
 
 pub good_of : {changes : List Change} {seed : ℕ} {log : List (Vec ℕ)} {ready : ReadyEdits}

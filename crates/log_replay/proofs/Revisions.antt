@@ -5,7 +5,7 @@ use Rattle.replay_marks.specs.Spacing.{IsSpaced}
 use Rattle.log_replay.specs.Agreement.{AgreesAt, image}
 use Rattle.log_replay.specs.Replay.{Revision, IsShift}
 
--- the logs share their front and their end, and the old one has checkpoints that are so far apart
+-- the logs share their prefix and their end, and the old one has checkpoints that are so far apart
 pub record HasCheckpoints {S T : Type 0} (revision : Revision S T) (every : ℕ)
     (checkpoints : List ℕ) : Type 0 where
   pub some : 0 < every

@@ -1,4 +1,4 @@
--- Two games whose logs have the same front and the same end: what their plays share.
+-- Two games whose logs have the same prefix and the same end: what their plays share.
 use Rattle.std.proofs.Common.{◌≡◌, ℕ, ◌+◌, ◌-◌, ◌<◌, ◌≤◌, Bool, List, [], ◌∷◌, ◌++◌, length, take}
 use Rattle.std.proofs.Common.{drop, refl, sym, ap, ◌∙◌, arith}
 use Rattle.std.proofs.Math.Seq.{take-add}
@@ -28,11 +28,11 @@ rest_at {old} {new} {head} {tail} shift place late within =
     ∙ drop-drop (place - (length old.log - tail)) (length old.log - tail) old.log
     ∙ ap (λ k. drop k old.log) e'
 
--- up to a place of the unchanged front they are the same
-pub front_at : {old new : Game} {head tail : ℕ} → IsShift old new head tail → (place : ℕ)
+-- up to a place of the unchanged prefix they are the same
+pub prefix_at : {old new : Game} {head tail : ℕ} → IsShift old new head tail → (place : ℕ)
     → place ≤ head → take place new.log ≡ take place old.log
-front_at {old} {new} {head} shift place within =
-    sym (take-take place head new.log within) ∙ ap (take place) shift.front
+prefix_at {old} {new} {head} shift place within =
+    sym (take-take place head new.log within) ∙ ap (take place) shift.prefix
     ∙ take-take place head old.log within
 
 -- a play goes on from any place
@@ -58,7 +58,7 @@ ticks_from rules game place =
     ap (ticks_of rules (rules.begun game.seed)) (sym (take-append-drop place game.log))
     ∙ ticks_of-append rules (rules.begun game.seed) (take place game.log) (drop place game.log)
 
--- the front and the rest of what is said in a whole play
+-- the prefix and the rest of what is said in a whole play
 pub take-texts : {S T : Type 0} (rules : MachineRules S T) (game : Game) (place : ℕ)
     → place ≤ length game.log
     → take place (texts_of rules (rules.begun game.seed) game.log) ≡ texts_at rules game place
@@ -101,21 +101,21 @@ drop-ticks rules game place within =
     (length-ticks_of rules (rules.begun game.seed) (take place game.log)
     ∙ length-take-le place game.log within)
 
--- in the unchanged front the plays are the same
-pub state_at-front : {S T : Type 0} (rules : MachineRules S T) {old new : Game} {head tail : ℕ}
+-- in the unchanged prefix the plays are the same
+pub state_at-prefix : {S T : Type 0} (rules : MachineRules S T) {old new : Game} {head tail : ℕ}
     → IsShift old new head tail → new.seed ≡ old.seed → (place : ℕ) → place ≤ head
     → state_at rules new place ≡ state_at rules old place
-state_at-front rules shift seed place within = rw (seed, front_at shift place within) refl
+state_at-prefix rules shift seed place within = rw (seed, prefix_at shift place within) refl
 
-pub texts_at-front : {S T : Type 0} (rules : MachineRules S T) {old new : Game} {head tail : ℕ}
+pub texts_at-prefix : {S T : Type 0} (rules : MachineRules S T) {old new : Game} {head tail : ℕ}
     → IsShift old new head tail → new.seed ≡ old.seed → (place : ℕ) → place ≤ head
     → texts_at rules new place ≡ texts_at rules old place
-texts_at-front rules shift seed place within = rw (seed, front_at shift place within) refl
+texts_at-prefix rules shift seed place within = rw (seed, prefix_at shift place within) refl
 
-pub ticks_at-front : {S T : Type 0} (rules : MachineRules S T) {old new : Game} {head tail : ℕ}
+pub ticks_at-prefix : {S T : Type 0} (rules : MachineRules S T) {old new : Game} {head tail : ℕ}
     → IsShift old new head tail → new.seed ≡ old.seed → (place : ℕ) → place ≤ head
     → ticks_at rules new place ≡ ticks_at rules old place
-ticks_at-front rules shift seed place within = rw (seed, front_at shift place within) refl
+ticks_at-prefix rules shift seed place within = rw (seed, prefix_at shift place within) refl
 
 -- the state at a later place follows from an earlier one
 state_at-later : {S T : Type 0} (rules : MachineRules S T) (game : Game) (place more : ℕ)

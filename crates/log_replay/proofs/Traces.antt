@@ -36,11 +36,11 @@ pub record IsTracedTo (edits : List Edit) (log : List (List ℕ)) (place : ℕ) 
   pub same : line_at (log_after change before) now
       ≡ line_at (log_after_all (changes_of edits) log) place
 
-free_front : (xs : List Change) (y : Change) (log : List (List ℕ)) → IsFree (xs ++ y ∷ []) log
+free_prefix : (xs : List Change) (y : Change) (log : List (List ℕ)) → IsFree (xs ++ y ∷ []) log
     → IsFree xs log × (fault_of y (log_after_all xs log) ≡ None)
-free_front [] y log free = (tt, free.0)
-free_front (x ∷ xs) y log free =
-    let later = free_front xs y (log_after x log) free.1 in
+free_prefix [] y log free = (tt, free.0)
+free_prefix (x ∷ xs) y log free =
+    let later = free_prefix xs y (log_after x log) free.1 in
     ((free.0, later.0), later.1)
 
 log_after_all-last : (xs : List Change) (y : Change) (log : List (List ℕ))
@@ -65,12 +65,12 @@ pub IsTraced-last : (edits : List Edit) (log : List (List ℕ)) (place count les
 IsTraced-last edits log place count less now edit traced more below read =
     let split : changes_of (take count edits) ≡ changes_of (take less edits) ++ change_of edit
     ∷ [] = ap (λ k. changes_of (take k edits)) more ∙ changes-last edits less edit below read in
-    let front =
-    free_front (changes_of (take less edits)) (change_of edit) log (rw split at traced.free) in
+    let prefix =
+    free_prefix (changes_of (take less edits)) (change_of edit) log (rw split at traced.free) in
     let last = log_after_all-last (changes_of (take less edits)) (change_of edit) log in (
-      front.0,
+      prefix.0,
       record {
-        free = front.1;
+        free = prefix.1;
         below = rw (split, last) at traced.below;
         same = rw (split, last) at traced.same;
       },

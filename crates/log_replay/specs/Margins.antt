@@ -3,7 +3,7 @@ use Rattle.std.specs.Prelude.{ℕ, ◌-◌, min, List, [], ◌∷◌, length}
 use Rattle.log_replay.specs.declared.margins.Margins.{Margins}
 use Rattle.log_replay.specs.Change.{Change, inserts, deletes, replaces, reseeds, log_after}
 
--- at most so many at the front, and at most so many at the end
+-- at most so many at the start, and at most so many at the end
 abbrev pub narrowed_margins : Margins → ℕ → ℕ → Margins
 narrowed_margins margins head tail =
     record { head = min margins.head head; tail = min margins.tail tail }

@@ -16,7 +16,7 @@ use Rattle.log_replay.specs.Agreement.{IsBounded}
 pub record IsShift (old new : Game) (head tail : ℕ) : Type 0 where
   pub within_old : head + tail ≤ length old.log
   pub within_new : head + tail ≤ length new.log
-  pub front : take head new.log ≡ take head old.log
+  pub prefix : take head new.log ≡ take head old.log
   pub rest : drop (length new.log - tail) new.log ≡ drop (length old.log - tail) old.log
   pub seed : 0 < head → new.seed ≡ old.seed
 

@@ -41,7 +41,6 @@ pub(crate) fn copy_kept<M: Machine>(
     })
 }
 
-/// A copy of lines.
 fn copy_lines(alloc: Global, lines: &[Vec<u8>]) -> Result<Vec<Vec<u8>>, AllocError>
     ensures { IfOk result (λ copy. log_of copy.items ≡ log_of lines.now) }
 {
@@ -78,7 +77,6 @@ pub(crate) fn copy_edits(alloc: Global, edits: &[Edit]) -> Result<Vec<Edit>, All
     Ok(copy)
 }
 
-/// A copy of an edit.
 fn copy_edit(alloc: Global, edit: &Edit) -> Result<Edit, AllocError>
     ensures { IfOk result (λ copy. change_of copy ≡ change_of edit.now) }
 {

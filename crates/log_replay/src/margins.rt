@@ -1,6 +1,6 @@
 ghost use Rattle.std.specs.Prelude.{◌≡◌};
 
-/// How many lines at the front of a log, and how many at its end, changes leave alone.
+/// How many lines at the start of a log, and how many at its end, changes leave alone.
 #[derive(Clone, Copy)]
 pub struct Margins {
     pub head: usize,
@@ -10,7 +10,7 @@ pub struct Margins {
 impl Margins {
     ghost use Rattle.log_replay.specs.Margins.{narrowed_margins};
 
-    /// Leaves alone at most so many at the front, and at most so many at the end.
+    /// Leaves alone at most so many at the start, and at most so many at the end.
     pub(crate) fn narrow(self, head: usize, tail: usize) -> Margins
         ensures { result ≡ narrowed_margins self head tail }
     {

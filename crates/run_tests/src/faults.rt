@@ -11,7 +11,7 @@ use std::io;
 use std::test::Fail;
 
 /// The line that the program writes to standard error.
-fn told(alloc: Global, fault: PlayFault) -> Result<String, AllocError> {
+fn complaint_of(alloc: Global, fault: PlayFault) -> Result<String, AllocError> {
     let file = match fault.input() {
         Some(Input::Cave) => Some("a.txt"),
         Some(Input::Bindings) => Some("a.bind"),
@@ -83,7 +83,7 @@ const FAULTS: [(PlayFault, u8, &str); 12] = [
 fn each_fault_has_a_status_and_a_line(rt: HostRuntime) -> Result<(), Fail> {
     for &(fault, status, line) in &FAULTS {
         assert_eq!(rt; fault.status(), status, "{fault:?}");
-        assert_eq!(rt; told(rt.alloc(), fault)?.as_str(), line);
+        assert_eq!(rt; complaint_of(rt.alloc(), fault)?.as_str(), line);
     }
     Ok(())
 }
@@ -101,7 +101,7 @@ fn a_file_that_is_not_opened_is_told_with_the_reason(rt: HostRuntime) -> Result<
 /// What is printed of a play that is refused.
 fn refusal(alloc: Global, database: &[u8], bind: &[u8], log: &[u8]) -> Result<String, AllocError> {
     match play(alloc, database, bind, log).ended {
-        Err(fault) => told(alloc, fault),
+        Err(fault) => complaint_of(alloc, fault),
         Ok(()) => Ok(String::new(alloc)),
     }
 }

@@ -4,9 +4,9 @@ use log_lines::{LogLine, check_line};
 use std::alloc::{AllocError, Global};
 
 /// What is reported of a line.
-fn told(alloc: Global, line: &[u8]) -> Result<String, AllocError> {
+fn report_of(alloc: Global, line: &[u8]) -> Result<String, AllocError> {
     match check_line(line) {
-        Ok(()) => String::from_str(alloc, "it may stand"),
+        Ok(()) => String::from_str(alloc, "it is valid"),
         Err(fault) => format!(in alloc; "{fault}"),
     }
 }
@@ -17,18 +17,18 @@ fn kind_of(line: &[u8]) -> LogLine {
 }
 
 #[test]
-fn lines_may_stand_or_are_told_their_fault(rt: HostRuntime) -> Result<(), AllocError> {
+fn lines_are_valid_or_their_fault_is_reported(rt: HostRuntime) -> Result<(), AllocError> {
     let long = [b'a'; 256];
     let bad_byte = "the line has a byte that is neither printable ASCII nor a tab";
     let cases: [(&[u8], &str); 5] = [
-        (b" ~\t", "it may stand"),
-        (&long[..255], "it may stand"),
+        (b" ~\t", "it is valid"),
+        (&long[..255], "it is valid"),
         (&long, "the line is longer than 255 bytes"),
         (b"in\x7f", bad_byte),
         (b"\xc3\xa4", bad_byte),
     ];
     for (line, want) in cases {
-        assert_eq!(rt; told(rt.alloc(), line)?.as_str(), want);
+        assert_eq!(rt; report_of(rt.alloc(), line)?.as_str(), want);
     }
     Ok(())
 }

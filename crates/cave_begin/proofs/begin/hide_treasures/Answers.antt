@@ -1,18 +1,18 @@
 use Rattle.std.proofs.Common.{length, sym, ap, ◌∙◌, arith}
-use Rattle.cave_begin.specs.Placing.{all_hidden}
+use Rattle.cave_begin.specs.Placing.{after_hiding_all}
 use Rattle.cave_begin.proofs.Countdown.{known_all, known_none}
 use Rattle.cave_begin.proofs.begin.hide_treasures.Goals as goal
 
 pub loop-number-init : goal.loop-number-init
 loop-number-init c = record {
-  hidden = ap (λ xs. all_hidden xs c.args.objects.now) (known_all c.args.cave.now);
+  hidden = ap (λ xs. after_hiding_all xs c.args.objects.now) (known_all c.args.cave.now);
   counted = omega (arith, c.new-hidden.ensures, ap length (known_all c.args.cave.now));
   few = omega (arith, c.new-hidden.ensures);
 }
 
 pub returns-clause-objects : goal.returns-clause-objects
 returns-clause-objects c =
-    sym (ap (λ xs. all_hidden xs c.loop-number.objects)
+    sym (ap (λ xs. after_hiding_all xs c.loop-number.objects)
     (known_none c.args.cave.now c.loop-number.number c.loop-number-test.false))
     ∙ c.loop-number.invariant.hidden
 

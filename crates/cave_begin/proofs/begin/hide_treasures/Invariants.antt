@@ -1,14 +1,14 @@
 use Rattle.std.proofs.Common.{◌≡◌, ◌+◌, ◌-◌, ◌≤◌, length}
 use Rattle.cave_things.specs.Treasures.{known_treasures}
-use Rattle.cave_begin.specs.Placing.{all_hidden}
+use Rattle.cave_begin.specs.Placing.{after_hiding_all}
 use Rattle.cave_begin.proofs.Countdown.{known_from}
 use Rattle.cave_begin.proofs.begin.hide_treasures.Given as goal
 
 -- hiding those that are left is hiding all, and each that is hidden is counted
 abbrev pub invariant-loop-number : goal.invariant-loop-number
 invariant-loop-number l = record {
-  hidden : all_hidden (known_from l.cave l.number (80 - l.number)) l.objects
-      ≡ all_hidden (known_treasures l.cave) l.initial.objects;
+  hidden : after_hiding_all (known_from l.cave l.number (80 - l.number)) l.objects
+      ≡ after_hiding_all (known_treasures l.cave) l.initial.objects;
   counted : l.hidden + length (known_from l.cave l.number (80 - l.number))
       ≡ length (known_treasures l.cave);
   few : l.hidden + 50 ≤ l.number;

@@ -7,7 +7,7 @@ use Rattle.cave_data.proofs.bindings.read_bindings.Goals as goal
 
 pub returns-in-Err-clause-fault : goal.returns-in-Err-clause-fault
 returns-in-Err-clause-fault c =
-    subst (λ e. FaultIs e (first_binding_fault [] (lines c.args.text.now))) (sym c.told.ensures)
+    subst (λ e. FaultIs e (first_binding_fault [] (lines c.args.text.now))) (sym c.error_at.ensures)
     (bound_fault c.in-Some.after.now c.in-Some.ensures.value c.loop-line.invariant c.in-Err.cause
     c.in-Err.ensures)
 

@@ -8,7 +8,7 @@ use Rattle.cave_data.proofs.database.read_database.Goals as goal
 pub returns-in-Err-clause-fault : goal.returns-in-Err-clause-fault
 returns-in-Err-clause-fault c =
     subst (λ e. FaultIs e (first_fault [] (lines c.args.database.now)))
-    (sym (c.told.ensures
+    (sym (c.error_at.ensures
     ∙ ap (error_at c.in-Err.cause (c.loop-line.count + 1)) c.site_of_fault.ensures))
     (read_fault c.in-Some.after.now c.in-Some.ensures.value c.loop-line.invariant c.in-Err.cause
     c.in-Err.ensures)

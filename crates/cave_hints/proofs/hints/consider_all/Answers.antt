@@ -1,13 +1,13 @@
 use Rattle.std.proofs.Common.{rules, ◌≡◌, ◌+◌, ap, sym, ◌∙◌, arith}
 use Rattle.cave_things.specs.Plays.{scene_of}
 use Rattle.cave_things.specs.Things.{cave_of}
-use Rattle.cave_hints.specs.Hints.{after_considering, considered_up_to}
+use Rattle.cave_hints.specs.Hints.{after_considering, after_hints_up_to}
 use Rattle.cave_hints.proofs.Steps.{after_considering-more, few-asked}
 use Rattle.cave_hints.proofs.hints.consider_all.Goals as goal
 use Rattle.cave_world.specs.State.{takes_no_command}
 
 pub loop-before-init : goal.loop-before-init
-unfolding considered_up_to
+unfolding after_hints_up_to
 loop-before-init c = search rules
 
 pub loop-before-preserved : goal.loop-before-preserved

@@ -3,13 +3,13 @@ use Rattle.std.proofs.Common.{◌≡◌, false}
 use Rattle.cave_things.specs.Bounds.{SaysUpTo, parts_of_question}
 use Rattle.cave_things.specs.Plays.{scene_of, GoesOn}
 use Rattle.cave_things.specs.Things.{cave_of}
-use Rattle.cave_hints.specs.Hints.{considered_up_to}
+use Rattle.cave_hints.specs.Hints.{after_hints_up_to}
 use Rattle.cave_hints.proofs.hints.consider_all.Given as goal
 use Rattle.cave_world.specs.State.{takes_no_command}
 
 abbrev pub invariant-loop-before : goal.invariant-loop-before
 invariant-loop-before l =
-    (scene_of l.play ≡ considered_up_to (cave_of l.rules) l.before (scene_of l.initial.play))
+    (scene_of l.play ≡ after_hints_up_to (cave_of l.rules) l.before (scene_of l.initial.play))
     × SaysUpTo parts_of_question l.initial.play l.play
     × (takes_no_command l.play.state.now ≡ false → SaysUpTo 0 l.initial.play l.play)
     × GoesOn l.initial.play l.play

@@ -5,7 +5,7 @@ use Rattle.log_replay.specs.Margins.{margins_of}
 use Rattle.log_replay.specs.Play.{log_of}
 use Rattle.log_replay.specs.Replay.{states_of_new}
 use Rattle.log_replay.proofs.Bounds.{near_last}
-use Rattle.log_replay.proofs.Joins.{front_are}
+use Rattle.log_replay.proofs.Joins.{prefix_are}
 use Rattle.log_replay.proofs.ReadyLemmas.{checkpoints_of, revision_by, steps_within, match_map}
 use Rattle.log_replay.proofs.ReadyLemmas.{met_at_end}
 use Rattle.log_replay.proofs.Revisions.{IsLastIndex}
@@ -32,7 +32,7 @@ play_changed-requires-clause-marking g c =
     revision_by (g.M.Machine.rules c.args.machine.now) c.args.kept.now.seed
     c.args.kept.now.log.items c.in-Ok.ready in
     rw log_is (c.in-Ok-begin.ensures.marking (states_of_new revision) refl
-    (λ seed. front_are seed c.args.kept.now.checkpoints checkpoints c.requires.kept.states
+    (λ seed. prefix_are seed c.args.kept.now.checkpoints checkpoints c.requires.kept.states
     c.last_to-at.result last))
 
 pub play_changed-requires-clause-from : goal.play_changed-requires-clause-from

@@ -2,7 +2,7 @@ use Rattle.std.proofs.Common.{◌≡◌, ◌+◌, ◌-◌, ◌<◌, length, drop
 use Rattle.log_replay.specs.Play.{log_of}
 use Rattle.log_replay.specs.ReadyEdits.{log_after_edits}
 use Rattle.log_replay.proofs.Lines.{length-log_of, line_at-log_of}
-use Rattle.log_replay.proofs.LogAfterLemmas.{line_in_front, line_in_rest}
+use Rattle.log_replay.proofs.LogAfterLemmas.{line_in_prefix, line_in_rest}
 use Rattle.log_replay.proofs.ready_edits.ReadyEdits.line.Goals as goal
 
 pub returns-then-place-self : goal.returns-then-place-self
@@ -15,8 +15,9 @@ returns-then-place-self c =
     c.deref.ensures.value
     ∙ sym (line_at-log_of c.args.log.now c.args.place c.index-log-place.result below
     c.index-log-place.is)
-    ∙ sym (line_in_front log (log_after_edits c.args.self.now log) c.args.self.now.head c.args.place
-    c.requires.shift.front before)
+    ∙ sym (line_in_prefix log (log_after_edits c.args.self.now log) c.args.self.now.head
+    c.args.place
+    c.requires.shift.prefix before)
 
 pub returns-then-place-rest : goal.returns-then-place-rest
 returns-then-place-rest c =

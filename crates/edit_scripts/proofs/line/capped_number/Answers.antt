@@ -1,7 +1,7 @@
 use Rattle.std.proofs.Common.{◌≡◌, ◌+◌, ◌-◌, ◌*◌, ◌∙◌, fold, min, rules}
 use Rattle.edit_scripts.proofs.Numbers.{number_capped}
 use Rattle.limits.specs.Limits.{max_script_number}
-use Rattle.edit_scripts.proofs.line.number_of.Goals as goal
+use Rattle.edit_scripts.proofs.line.capped_number.Goals as goal
 
 pub returns : goal.returns
 returns c =
