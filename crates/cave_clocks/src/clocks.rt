@@ -1,7 +1,7 @@
 ghost use Rattle.std.specs.Prelude.{◌≡◌};
-ghost use Rattle.cave_things.specs.Things.{cave_of};
+ghost use Rattle.cave_things.specs.Rules.{cave_of};
 ghost use Rattle.cave_things.specs.Bounds.{HasRoom, SaysUpTo};
-ghost use Rattle.cave_things.specs.Plays.{scene_of, GoesOn};
+ghost use Rattle.cave_things.specs.Play.{scene_of, GoesOn};
 ghost use Rattle.cave_clocks.specs.Clocks.{timing_of, lamp_last, second_clock_and_lamp, timing_of_clocks};
 
 use crate::first_clock::run_first_clock;
@@ -19,6 +19,21 @@ pub enum Clocks {
     GaveUp,
     /// The cave is closed, and the player arrives at a place.
     Closed(Place),
+}
+
+/// The clocks and the lamp go on by a turn. Returns what follows.
+#[tactic(auto, unfolding(crate::specs::Clocks::timing_of_clocks))]
+pub fn run_clocks(rules: &Rules<'_>, play: &mut Play<'_>) -> Clocks
+    requires { HasRoom 2 play.old }
+    ensures clocks { timing_of result (scene_of play.new)
+        ≡ timing_of_clocks (cave_of rules.now) (scene_of play.old) }
+    ensures same { GoesOn play.old play.new }
+    ensures few { SaysUpTo 2 play.old play.new }
+{
+    if run_first_clock(rules, play) {
+        return finish_with_lamp(rules, play);
+    }
+    run_second_clock_and_lamp(rules, play)
 }
 
 #[tactic(auto, unfolding(crate::specs::Clocks::lamp_last))]
@@ -48,19 +63,4 @@ fn run_second_clock_and_lamp(rules: &Rules<'_>, play: &mut Play<'_>) -> Clocks
         Some(place) => Clocks::Closed(place),
         None => finish_with_lamp(rules, play),
     }
-}
-
-/// The clocks and the lamp go on by a turn. Returns what follows.
-#[tactic(auto, unfolding(crate::specs::Clocks::timing_of_clocks))]
-pub fn run_clocks(rules: &Rules<'_>, play: &mut Play<'_>) -> Clocks
-    requires { HasRoom 2 play.old }
-    ensures clocks { timing_of result (scene_of play.new)
-        ≡ timing_of_clocks (cave_of rules.now) (scene_of play.old) }
-    ensures same { GoesOn play.old play.new }
-    ensures few { SaysUpTo 2 play.old play.new }
-{
-    if run_first_clock(rules, play) {
-        return finish_with_lamp(rules, play);
-    }
-    run_second_clock_and_lamp(rules, play)
 }

@@ -1,7 +1,7 @@
 ghost use Rattle.std.specs.Prelude.{◌≡◌, ◌≤ℤ◌, pos, IsTrue, map};
-ghost use Rattle.cave_things.specs.Things.{cave_of};
+ghost use Rattle.cave_things.specs.Rules.{cave_of};
 ghost use Rattle.cave_things.specs.Bounds.{HasRoom, SaysUpTo};
-ghost use Rattle.cave_things.specs.Plays.{scene_of, GoesOn};
+ghost use Rattle.cave_things.specs.Play.{scene_of, GoesOn};
 ghost use Rattle.cave_clocks.specs.FirstClock.{is_first_clock_going, with_ways_barred};
 ghost use Rattle.cave_clocks.specs.FirstClock.{dismissed_dwarf, without_dwarves, without_bear};
 ghost use Rattle.cave_clocks.specs.FirstClock.{with_loose, with_chain_and_axe_loose, cleared_cave};

@@ -1,7 +1,7 @@
 ghost use Rattle.std.specs.Prelude.{◌≡◌};
-ghost use Rattle.cave_things.specs.Things.{cave_of};
+ghost use Rattle.cave_things.specs.Rules.{cave_of};
 ghost use Rattle.cave_things.specs.Bounds.{HasRoom, SaysUpTo};
-ghost use Rattle.cave_things.specs.Plays.{scene_of, GoesOn};
+ghost use Rattle.cave_things.specs.Play.{scene_of, GoesOn};
 ghost use Rattle.cave_clocks.specs.Lamp.{with_lamp_burnt, is_low, can_change_batteries};
 ghost use Rattle.cave_clocks.specs.Lamp.{with_new_charge, with_batteries_used, change_of_batteries};
 ghost use Rattle.cave_clocks.specs.Lamp.{with_lamp_out, lamp_going_out, is_hopeless};

@@ -1,7 +1,7 @@
 ghost use Rattle.std.specs.Prelude.{◌≡◌};
-ghost use Rattle.cave_things.specs.Things.{cave_of};
+ghost use Rattle.cave_things.specs.Rules.{cave_of};
 ghost use Rattle.cave_things.specs.Bounds.{HasRoom, SaysUpTo};
-ghost use Rattle.cave_things.specs.Plays.{scene_of, GoesOn};
+ghost use Rattle.cave_things.specs.Play.{scene_of, GoesOn};
 ghost use Rattle.cave_clocks.specs.Repository.{northeast_things, southwest_things, with_thing};
 ghost use Rattle.cave_clocks.specs.Repository.{with_all_stored, with_mirror, furnished_repository};
 ghost use Rattle.cave_clocks.specs.Repository.{without_all, with_player_at, with_empty_hands};

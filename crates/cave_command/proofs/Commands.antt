@@ -12,7 +12,7 @@ use Rattle.clap.proofs.OnLiterals.{clap_on_literals}
 use Rattle.cave_command.specs.App.{cave_app}
 use Rattle.cave_command.specs.Line.{IsAsked, IsLine, IsLineMet, IsRefusal, IsRefused, IsRequest}
 use Rattle.cave_command.specs.Line.{IsUnmade, IsWrong, MetCommand}
-use Rattle.cave_command.specs.Parse.{IsParse}
+use Rattle.cave_command.specs.Read.{IsParse}
 use Rattle.cave_command.specs.declared.fault.CommandFault.{CommandFault}
 use Rattle.cave_command.specs.declared.fault.CommandFault.TheVariants.{Usage, Incomplete, BadSeed}
 use Rattle.cave_command.specs.declared.fault.CommandFault.TheVariants.{BadEvery, BadView, Memory}

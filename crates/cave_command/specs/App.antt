@@ -74,8 +74,8 @@ plain_app = record {
 }
 
 -- the program with the commands that check a cave and play a log
-abbrev pub playing_app : App
-playing_app = with_subcommand (with_subcommand plain_app check_app.top) play_app.top
+abbrev pub check_and_play_app : App
+check_and_play_app = with_subcommand (with_subcommand plain_app check_app.top) play_app.top
 
 abbrev pub cave_app : App
-cave_app = with_subcommand (with_subcommand playing_app edit_app.top) cover_app.top
+cave_app = with_subcommand (with_subcommand check_and_play_app edit_app.top) cover_app.top

@@ -4,8 +4,8 @@ ghost use Rattle.std.specs.Prelude.{◌≡◌, IfOk, false};
 ghost use Rattle.clap.specs.Words.{app_of};
 ghost use Rattle.clap.specs.declared.builder.command.Command.TheViews.{out-Command};
 ghost use Rattle.cave_command.specs.App.{IsLocal, cave_app, check_app, cover_app, edit_app};
-ghost use Rattle.cave_command.specs.App.{plain_app, play_app, playing_app, with_game, with_options};
-ghost use Rattle.cave_command.specs.App.{with_view};
+ghost use Rattle.cave_command.specs.App.{check_and_play_app, plain_app, play_app, with_game};
+ghost use Rattle.cave_command.specs.App.{with_options, with_view};
 
 use crate::arguments::{
     bind_argument, cave_argument, every_argument, log_argument, logs_argument, print_argument,
@@ -121,12 +121,14 @@ pub fn cave_command<'a>(alloc: Global) -> Result<Command<'a>, AllocError>
 {
     let edit = edit_command(alloc)?;
     let cover = cover_command(alloc)?;
-    playing_command(alloc)?.subcommand(edit)?.subcommand(cover)
+    check_and_play_command(alloc)?
+        .subcommand(edit)?
+        .subcommand(cover)
 }
 
 /// The program's command with the two subcommands that check a cave and play a log.
-fn playing_command<'a>(alloc: Global) -> Result<Command<'a>, AllocError>
-    ensures { IfOk result (λ command. app_of command ≡ playing_app) }
+fn check_and_play_command<'a>(alloc: Global) -> Result<Command<'a>, AllocError>
+    ensures { IfOk result (λ command. app_of command ≡ check_and_play_app) }
 {
     let check = check_command(alloc)?;
     let play = play_command(alloc)?;

@@ -1,5 +1,5 @@
 ghost use Rattle.std.specs.Prelude.{◌≡◌};
-ghost use Rattle.cave_command.specs.Status.{status_of_command};
+ghost use Rattle.cave_command.specs.Fault.{status_of_command};
 ghost use Rattle.cave_command.specs.declared.fault.CommandFault.TheVariants.{Memory};
 
 use clap::Error as ParseError;

@@ -5,7 +5,7 @@ ghost use Rattle.std.specs.Prelude.{map, option_map};
 ghost use Rattle.clap.specs.Words.{all_of, fault_of, first_of, kind_of, subcommand_of};
 ghost use Rattle.clap.specs.Words.{subcommand_rows_of};
 ghost use Rattle.cave_command.specs.App.{cave_app};
-ghost use Rattle.cave_command.specs.Parse.{IsParse};
+ghost use Rattle.cave_command.specs.Read.{IsParse};
 ghost use Rattle.cave_command.specs.Line.{IsAsked, IsBadEditing, IsBadEvery, IsBadSeed, IsBadView};
 ghost use Rattle.cave_command.specs.Line.{IsEditing, IsEveryGiven, IsFiles, IsLine, IsLineMet};
 ghost use Rattle.cave_command.specs.Line.{IsLineOf, IsRefusal, IsRefused, IsRequest, IsSeed};

@@ -40,11 +40,11 @@ pub fn run_cover<C: Read, B: Read, L: Read, W: Write>(
         (W.contents output.old) (W.contents output.new) result }
 {
     let text = cover_inputs(alloc, cave, logs, seed)?;
-    write(output, &text)
+    write_report(output, &text)
 }
 
-/// Writes an output that is built.
-fn write<W: Write>(output: &mut W, text: &[u8]) -> Result<(), CoverFault>
+/// Writes a report that is built.
+fn write_report<W: Write>(output: &mut W, text: &[u8]) -> Result<(), CoverFault>
     ensures written { MatchResult result
         (λ _. Appends (W.contents output.old) (W.contents output.new) text.now)
         (λ found. (found ≡ at_none PlayFault.Write)

@@ -16,4 +16,5 @@ mod words;
 
 pub use cave::Cave;
 pub use classes::Rating;
+pub use reader::LAST_OBJECT;
 pub use words::WordTable;

@@ -6,7 +6,7 @@ ghost use Rattle.cave_data.specs.Steps.{row_step, advance, no_tables};
 use crate::classes::{Classes, MAX_CLASSES};
 use crate::tables::{Table, mark};
 use crate::texts::Texts;
-use crate::ways::Ways;
+use crate::ways::{LAST_PLACE, Ways};
 use crate::words::{MAX_WORDS, WordTable};
 use cave_rows::field_rows::{
     condition_row, default_row, hint_row, object_line, placement_row, text_line, way_row, word_row,
@@ -19,13 +19,13 @@ use std::alloc::Global;
 
 const MAX_WAYS: usize = 2000;
 
-const LAST_PLACE: u16 = 300;
 /// The last number that a text of an object may have: a hundred times the object, and a prop.
 const LAST_OBJECT_TEXT: u16 = 100 * LAST_NAMED + 99;
 
 const LAST_MESSAGE: u16 = 499;
 
-const LAST_OBJECT: u16 = 100;
+/// The last object of a database.
+pub const LAST_OBJECT: u16 = 100;
 
 const LAST_ACTION: u16 = 99;
 

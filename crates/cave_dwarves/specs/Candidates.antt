@@ -6,25 +6,29 @@ use Rattle.std.specs.List.{filter_map}
 use Rattle.cave_rows.specs.Rows.{Going}
 use Rattle.cave_data.specs.CaveView.{CaveView, ways_from}
 use Rattle.cave_world.specs.Sight.{is_forced}
-use Rattle.cave_world.specs.Travel.{row_condition, row_number}
+use Rattle.cave_world.specs.Travel.{row_condition, row_number, LAST_PLACE, NOT_FOR_DWARVES}
 use Rattle.cave_world.specs.declared.dwarves.Dwarf.{Dwarf}
 use Rattle.cave_things.specs.Conditions.{meets_condition}
 use Rattle.cave_things.specs.declared.conditions.Condition.TheVariants as condition
 
--- the places where dwarves go are those from 15 to 300 without forced motion; to some of them the
+-- the first of the places where dwarves go
+abbrev pub FIRST_HAUNT : ℕ
+FIRST_HAUNT = 15
+
+-- the places where dwarves go are those from the first without forced motion; to some of them the
 -- pirate doesn't come
 unfoldable pub is_haunt : CaveView → Bool → ℕ → Bool
 is_haunt cave is_pirate place =
-    nat_le 15 place && nat_le place 300 && not (is_forced cave place)
+    nat_le FIRST_HAUNT place && nat_le place LAST_PLACE && not (is_forced cave place)
     && not (is_pirate && meets_condition cave place condition.NoPirate)
 
--- a row leads a dwarf on if it isn't closed to dwarves, by condition 100,
--- and leads to a place where the dwarf goes and neither is nor was before
+-- a row leads a dwarf on if its condition doesn't close it to dwarves
+-- and it leads to a place where the dwarf goes and neither is nor was before
 abbrev pub leads_dwarf_on : CaveView → Bool → Dwarf → Going → Bool
 leads_dwarf_on cave is_pirate dwarf row =
     let place = row_number row in
-    not (row_condition row == 100) && not (place == dwarf.last) && not (place == dwarf.place)
-    && is_haunt cave is_pirate place
+    not (row_condition row == NOT_FOR_DWARVES)
+    && not (place == dwarf.last) && not (place == dwarf.place) && is_haunt cave is_pirate place
 
 -- the place to which a row leads a dwarf on
 unfoldable pub place_ahead : CaveView → Bool → Dwarf → Going → Option ℕ

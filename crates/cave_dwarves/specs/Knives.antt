@@ -43,7 +43,7 @@ threatening_act number s =
     let dwarf = dwarf_of s number in
     if not dwarf.has_seen then record { threat = threat.Nothing; state = s }
     else (if dwarf.last == s.trail.here then throw_act s
-    else record { threat = threat.Stands; state = s })
+    else record { threat = threat.Waits; state = s })
 
 -- a dwarf moves and then threatens the player; one that is gone does nothing
 unfoldable pub act_of_dwarf : CaveView → ℕ → State → Act
@@ -54,7 +54,7 @@ act_of_dwarf cave number s =
 -- what a dwarf did is counted
 abbrev pub with_threat : Threat → Attack → Attack
 with_threat threat.Nothing a = a
-with_threat threat.Stands a = record a { dwarves = a.dwarves + 1 }
+with_threat threat.Waits a = record a { dwarves = a.dwarves + 1 }
 with_threat threat.Misses a = record a { dwarves = a.dwarves + 1; knives = a.knives + 1 }
 with_threat threat.Hits a =
     record { dwarves = a.dwarves + 1; knives = a.knives + 1; hits = a.hits + 1 }

@@ -1,7 +1,7 @@
 //! What the pirate does to the treasures.
 
 ghost use Rattle.std.specs.Prelude.{◌≡◌};
-ghost use Rattle.cave_things.specs.Things.{cave_of};
+ghost use Rattle.cave_things.specs.Rules.{cave_of};
 ghost use Rattle.cave_dwarves.specs.Booty.{after_move_to_named, pirate_wants, is_carried_booty, is_booty};
 ghost use Rattle.cave_dwarves.specs.Booty.{after_theft, after_thefts, carries_booty};
 ghost use Rattle.cave_dwarves.specs.Booty.{is_treasure_near};

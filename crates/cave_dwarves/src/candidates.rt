@@ -1,7 +1,7 @@
 ghost use Rattle.cave_objects.specs.Spots.{is_place};
 ghost use Rattle.std.specs.Prelude.{◌≡◌};
 ghost use Rattle.cave_rows.specs.RowViews.{going};
-ghost use Rattle.cave_things.specs.Things.{cave_of};
+ghost use Rattle.cave_things.specs.Rules.{cave_of};
 ghost use Rattle.cave_dwarves.specs.Candidates.{is_haunt, leads_dwarf_on, place_ahead, candidates};
 
 use crate::haunt::Haunt;
@@ -10,6 +10,7 @@ use cave_objects::Place;
 use cave_objects::place::LAST_PLACE;
 use cave_rows::Row;
 use cave_things::{Condition, Rules};
+use cave_world::travel::NOT_FOR_DWARVES;
 use cave_world::{Dwarf, is_forced};
 
 /// The most places among which a dwarf chooses.
@@ -17,9 +18,6 @@ pub const MAX_CANDIDATES: usize = 19;
 
 /// The first of the places where dwarves go.
 const FIRST_HAUNT: u16 = 15;
-
-/// The condition of a row that is closed to dwarves.
-const CLOSED_TO_DWARVES: u32 = 100;
 
 /// Whether a dwarf goes to a place; the pirate keeps away from more of them.
 #[tactic(auto, unfolding(crate::specs::Candidates::is_haunt))]
@@ -36,7 +34,7 @@ fn is_haunt(rules: &Rules<'_>, is_pirate: bool, place: Place) -> bool
 fn place_ahead(rules: &Rules<'_>, is_pirate: bool, dwarf: &Dwarf, row: &Row) -> Option<Place>
     ensures { result ≡ place_ahead (cave_of rules.now) is_pirate dwarf.now (going row.now) }
 {
-    if row.condition() == CLOSED_TO_DWARVES || row.number() > LAST_PLACE as u16 {
+    if row.condition() == NOT_FOR_DWARVES || row.number() > LAST_PLACE as u16 {
         return None;
     }
     let place = Place::new(row.number());

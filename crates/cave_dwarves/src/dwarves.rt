@@ -1,7 +1,7 @@
 ghost use Rattle.std.specs.Prelude.{◌≡◌};
 ghost use Rattle.cave_things.specs.Bounds.{HasRoom, SaysUpTo, parts_of_dwarves};
-ghost use Rattle.cave_things.specs.Plays.{scene_of, GoesOn};
-ghost use Rattle.cave_things.specs.Things.{cave_of};
+ghost use Rattle.cave_things.specs.Play.{scene_of, GoesOn};
+ghost use Rattle.cave_things.specs.Rules.{cave_of};
 ghost use Rattle.cave_dwarves.specs.Dwarves.{encounter_of, encounter_in_turn};
 
 use crate::knives::raid;
@@ -9,21 +9,6 @@ use crate::lines::tell_attack;
 use crate::pirate::send_pirate;
 use crate::waking::{awake, stir};
 use cave_things::{Play, Rules};
-
-/// Dwarves that are awake act, and then the pirate. Returns whether a knife hit the player.
-#[tactic(auto, unfolding(crate::specs::Dwarves::encounter_of))]
-fn harry(rules: &Rules<'_>, play: &mut Play<'_>) -> bool
-    requires { HasRoom parts_of_dwarves play.old }
-    ensures moves { record { is_hit = result; scene = scene_of play.new }
-        ≡ encounter_of (cave_of rules.now) (scene_of play.old) }
-    ensures same { GoesOn play.old play.new }
-    ensures few { SaysUpTo parts_of_dwarves play.old play.new }
-{
-    let attack = raid(rules, play.state);
-    send_pirate(rules, play);
-    tell_attack(attack, play);
-    attack.hits != 0
-}
 
 /// The dwarves sleep, stir, or are awake, where the player arrives. Returns whether a knife hit the
 /// player.
@@ -46,4 +31,19 @@ pub fn move_dwarves(rules: &Rules<'_>, play: &mut Play<'_>) -> bool
         }
         _ => harry(rules, play),
     }
+}
+
+/// Dwarves that are awake act, and then the pirate. Returns whether a knife hit the player.
+#[tactic(auto, unfolding(crate::specs::Dwarves::encounter_of))]
+fn harry(rules: &Rules<'_>, play: &mut Play<'_>) -> bool
+    requires { HasRoom parts_of_dwarves play.old }
+    ensures moves { record { is_hit = result; scene = scene_of play.new }
+        ≡ encounter_of (cave_of rules.now) (scene_of play.old) }
+    ensures same { GoesOn play.old play.new }
+    ensures few { SaysUpTo parts_of_dwarves play.old play.new }
+{
+    let attack = raid(rules, play.state);
+    send_pirate(rules, play);
+    tell_attack(attack, play);
+    attack.hits != 0
 }

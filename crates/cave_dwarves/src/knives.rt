@@ -1,5 +1,5 @@
 ghost use Rattle.std.specs.Prelude.{◌≡◌, ◌≤◌, ◌<◌, ◌+◌};
-ghost use Rattle.cave_things.specs.Things.{cave_of};
+ghost use Rattle.cave_things.specs.Rules.{cave_of};
 ghost use Rattle.cave_dwarves.specs.Knives.{fallen_knife, with_knife_here, throw_act};
 ghost use Rattle.cave_dwarves.specs.Knives.{threatening_act, act_of_dwarf, with_threat, no_attack};
 ghost use Rattle.cave_dwarves.specs.Knives.{raid_of};
@@ -16,7 +16,7 @@ pub enum Threat {
     /// It does nothing, and isn't seen.
     Nothing,
     /// It is where the player is.
-    Stands,
+    Waits,
     /// It throws a knife that misses.
     Misses,
     /// It throws a knife that hits.
@@ -58,7 +58,7 @@ impl Attack {
     {
         let (dwarves, knives, hits) = match threat {
             Threat::Nothing => (0, 0, 0),
-            Threat::Stands => (1, 0, 0),
+            Threat::Waits => (1, 0, 0),
             Threat::Misses => (1, 1, 0),
             Threat::Hits => (1, 1, 1),
         };
@@ -112,7 +112,7 @@ fn threaten(number: usize, state: &mut State) -> Threat
     if dwarf.last == state.trail.here {
         return throw_knife(state);
     }
-    Threat::Stands
+    Threat::Waits
 }
 
 /// A dwarf moves and then threatens the player. One that is gone does nothing.

@@ -1,6 +1,6 @@
 ghost use Rattle.std.specs.Prelude.{◌≡◌};
 ghost use Rattle.cave_things.specs.Bounds.{HasRoom, SaysUpTo};
-ghost use Rattle.cave_things.specs.Plays.{scene_of, GoesOn};
+ghost use Rattle.cave_things.specs.Play.{scene_of, GoesOn};
 ghost use Rattle.cave_dwarves.specs.Lines.{telling_number, after_dwarf_count, after_one_knife, after_some_knives};
 ghost use Rattle.cave_dwarves.specs.Lines.{after_first_knives, after_throws, after_attack};
 

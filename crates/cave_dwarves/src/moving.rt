@@ -1,6 +1,6 @@
 ghost use Rattle.std.specs.Prelude.{◌≡◌, ◌<◌, ◌==◌};
 ghost use Rattle.cave_words.specs.Stream.{next};
-ghost use Rattle.cave_things.specs.Things.{cave_of};
+ghost use Rattle.cave_things.specs.Rules.{cave_of};
 ghost use Rattle.cave_dwarves.specs.Moving.{chosen_way, sees, dwarf_after_move, after_dwarf_move};
 
 use crate::band::{PIRATE, dwarf_of, set_dwarf};

@@ -1,7 +1,7 @@
 ghost use Rattle.std.specs.Prelude.{◌≡◌};
 ghost use Rattle.cave_things.specs.Bounds.{HasRoom, SaysUpTo};
-ghost use Rattle.cave_things.specs.Plays.{scene_of, GoesOn};
-ghost use Rattle.cave_things.specs.Things.{cave_of};
+ghost use Rattle.cave_things.specs.Play.{scene_of, GoesOn};
+ghost use Rattle.cave_things.specs.Rules.{cave_of};
 ghost use Rattle.cave_dwarves.specs.Pirate.{is_chest_seen, is_after_player, hides_chest};
 ghost use Rattle.cave_dwarves.specs.Pirate.{is_pirate_new, rustling_scene, pirate_scene};
 ghost use Rattle.cave_dwarves.specs.Pirate.{after_pirate_meeting};

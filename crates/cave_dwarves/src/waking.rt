@@ -1,7 +1,7 @@
 ghost use Rattle.std.specs.Prelude.{◌≡◌, ◌<◌, ◌≤◌};
 ghost use Rattle.cave_things.specs.Bounds.{HasRoom, SaysUpTo};
-ghost use Rattle.cave_things.specs.Plays.{scene_of, GoesOn};
-ghost use Rattle.cave_things.specs.Things.{cave_of};
+ghost use Rattle.cave_things.specs.Play.{scene_of, GoesOn};
+ghost use Rattle.cave_things.specs.Rules.{cave_of};
 ghost use Rattle.cave_things.specs.Effects.{put_here};
 ghost use Rattle.cave_dwarves.specs.Waking.{with_anger, after_stirring, without_dwarf};
 ghost use Rattle.cave_dwarves.specs.Waking.{perhaps_without_one, place_apart, dwarf_apart};
@@ -94,7 +94,7 @@ fn keep_apart(rules: &Rules<'_>, state: &mut State)
 
 /// The dwarves are awake, and two of them may be gone.
 #[tactic(auto, unfolding(crate::specs::Waking::after_waking))]
-fn wake(rules: &Rules<'_>, state: &mut State)
+fn wake_dwarves(rules: &Rules<'_>, state: &mut State)
     ensures { state.new ≡ after_waking (cave_of rules.now) state.old }
 {
     set_anger(2, state);
@@ -105,13 +105,13 @@ fn wake(rules: &Rules<'_>, state: &mut State)
 
 /// The dwarves wake, and one throws its axe, which stays at the player's place.
 #[tactic(auto, unfolding(crate::specs::Waking::axe_scene))]
-fn throw_axe(rules: &Rules<'_>, play: &mut Play<'_>)
+fn throw_first_axe(rules: &Rules<'_>, play: &mut Play<'_>)
     requires { HasRoom 1 play.old }
     ensures play { scene_of play.new ≡ axe_scene (cave_of rules.now) (scene_of play.old) }
     ensures same { GoesOn play.old play.new }
     ensures few { SaysUpTo 1 play.old play.new }
 {
-    wake(rules, play.state);
+    wake_dwarves(rules, play.state);
     play.say(Role::AxeThrown);
     let here = play.state.trail.here;
     play.state.move_to(rules.object(Named::Axe), here);
@@ -131,5 +131,5 @@ pub fn awake(rules: &Rules<'_>, play: &mut Play<'_>)
     if play.chance(95) {
         return;
     }
-    throw_axe(rules, play);
+    throw_first_axe(rules, play);
 }

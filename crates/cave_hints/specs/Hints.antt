@@ -7,9 +7,9 @@ use Rattle.std.specs.Int.{int_min}
 use Rattle.cave_data.specs.CaveView.{CaveView}
 use Rattle.cave_rows.specs.declared.rows.Hint.{Hint}
 use Rattle.cave_score.specs.Questions.{asking_scene}
-use Rattle.cave_things.specs.Plays.{Scene, after_telling, with_state}
+use Rattle.cave_things.specs.Play.{Scene, after_telling, with_state}
 use Rattle.cave_things.specs.Reach.{is_called, is_near, is_in_hand, has_prop, has_other_prop}
-use Rattle.cave_things.specs.Things.{thing}
+use Rattle.cave_things.specs.Rules.{thing}
 use Rattle.cave_words.specs.declared.named.Named.TheVariants as name
 use Rattle.cave_objects.specs.Lists.{halves_at}
 use Rattle.cave_objects.specs.Objects.{carried_objects}
@@ -19,6 +19,26 @@ use Rattle.cave_world.specs.declared.ending.Question.TheVariants as question
 use Rattle.cave_world.specs.declared.part.NumberLine.TheVariants.{HintCosts}
 use Rattle.cave_world.specs.declared.part.Part.TheVariants as part
 use Rattle.cave_world.specs.declared.state.State.{State}
+
+-- asks how to come through the grate
+abbrev pub GRATE_HINT : ℕ
+GRATE_HINT = 4
+
+-- asks how to catch the bird
+abbrev pub BIRD_HINT : ℕ
+BIRD_HINT = 5
+
+-- asks how to pass the snake
+abbrev pub SNAKE_HINT : ℕ
+SNAKE_HINT = 6
+
+-- asks how to leave the maze
+abbrev pub MAZE_HINT : ℕ
+MAZE_HINT = 7
+
+-- asks how to take the pyramid out
+abbrev pub PYRAMID_HINT : ℕ
+PYRAMID_HINT = 8
 
 -- how many turns the player has stayed in the area of a hint
 abbrev pub turns_near : ℕ → State → ℕ
@@ -86,15 +106,15 @@ is_short_of_pyramid cave s =
 -- five hints ask whether the player needs them, and the others help any player who stays
 abbrev pub is_needed : CaveView → ℕ → State → Bool
 is_needed cave h s =
-    if h == 4 then is_locked_out cave s
-    else (if h == 5 then is_after_bird cave s
-    else (if h == 6 then is_held_by_snake cave s
-    else (if h == 7 then is_lost_in_maze s
-    else (if h == 8 then is_short_of_pyramid cave s else true))))
+    if h == GRATE_HINT then is_locked_out cave s
+    else (if h == BIRD_HINT then is_after_bird cave s
+    else (if h == SNAKE_HINT then is_held_by_snake cave s
+    else (if h == MAZE_HINT then is_lost_in_maze s
+    else (if h == PYRAMID_HINT then is_short_of_pyramid cave s else true))))
 
 -- the turns of a hint that isn't needed are counted from 0 again, except those of the bird's hint
 abbrev pub put_off : ℕ → State → State
-put_off h s = if h == 5 then s else with_turns_near h 0 s
+put_off h s = if h == BIRD_HINT then s else with_turns_near h 0 s
 
 -- a hint that is due is offered to a player who needs it
 unfoldable pub offer_scene : CaveView → ℕ → Hint → Scene → Scene

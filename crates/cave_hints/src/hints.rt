@@ -2,8 +2,8 @@
 
 ghost use Rattle.std.specs.Prelude.{◌≡◌, ◌≤◌, ◌<◌, ◌+◌, ◌*◌, false, true};
 ghost use Rattle.cave_things.specs.Bounds.{HasRoom, SaysUpTo, parts_of_question};
-ghost use Rattle.cave_things.specs.Plays.{scene_of, GoesOn};
-ghost use Rattle.cave_things.specs.Things.{cave_of};
+ghost use Rattle.cave_things.specs.Play.{scene_of, GoesOn};
+ghost use Rattle.cave_things.specs.Rules.{cave_of};
 ghost use Rattle.cave_hints.specs.Hints.{turns_near, with_turns_near, was_taken, with_hint_taken};
 ghost use Rattle.cave_hints.specs.Hints.{is_in_area, after_turn_near, is_due, is_locked_out};
 ghost use Rattle.cave_hints.specs.Hints.{is_after_bird, is_held_by_snake, is_lost_in_maze};
@@ -38,6 +38,54 @@ const MAZE_HINT: u8 = 7;
 
 /// Asks how to take the pyramid out.
 const PYRAMID_HINT: u8 = 8;
+
+/// A lamp with so many turns left is low.
+const LOW_CHARGE: i32 = 30;
+
+/// How many turns more the lamp burns for each point that a hint costs.
+const TURNS_A_POINT: i32 = 30;
+
+/// The hints are considered, one after another.
+pub fn consider_all(rules: &Rules<'_>, play: &mut Play<'_>)
+    requires { HasRoom (2 * parts_of_question) play.old }
+    ensures play { scene_of play.new ≡ after_hints (cave_of rules.now) (scene_of play.old) }
+    ensures same { GoesOn play.old play.new }
+    ensures few { SaysUpTo parts_of_question play.old play.new }
+{
+    for before in 0..HINTS {
+        consider(rules, HintNumber::new(before + FIRST_HINT), play);
+    }
+}
+
+/// What a hint costs is said, and whether it is worth that is asked.
+#[tactic(auto, unfolding(crate::specs::Hints::price_scene))]
+pub fn price(rules: &Rules<'_>, number: HintNumber, play: &mut Play<'_>)
+    requires { HasRoom (1 + parts_of_question) play.old }
+    ensures play { scene_of play.new ≡ price_scene (cave_of rules.now) number (scene_of play.old) }
+    ensures same { GoesOn play.old play.new }
+    ensures few { SaysUpTo (1 + parts_of_question) play.old play.new }
+{
+    if let Some(hint) = rules.cave.hint(u16::from(number.number())) {
+        let points = u32::from(hint.points);
+        play.tell(Part::Number(NumberLine::HintCosts, points, 0));
+        ask(rules, &Question::Take(number), play);
+    }
+}
+
+/// A hint is given.
+#[tactic(auto, unfolding(crate::specs::Hints::hint_scene))]
+pub fn give(rules: &Rules<'_>, number: HintNumber, play: &mut Play<'_>)
+    requires { HasRoom 1 play.old }
+    ensures play { scene_of play.new ≡ hint_scene (cave_of rules.now) number (scene_of play.old) }
+    ensures same { GoesOn play.old play.new }
+    ensures few { SaysUpTo 1 play.old play.new }
+{
+    if let Some(hint) = rules.cave.hint(u16::from(number.number())) {
+        play.tell(Part::Message(hint.text));
+        take_hint(number, play.state);
+        reward(hint.points, play.state);
+    }
+}
 
 /// How many turns the player has stayed in the area of a hint.
 fn turns_near(hint: HintNumber, state: &State) -> Count<10000>
@@ -206,54 +254,13 @@ fn consider(rules: &Rules<'_>, number: HintNumber, play: &mut Play<'_>)
     }
 }
 
-/// The hints are considered, one after another.
-pub fn consider_all(rules: &Rules<'_>, play: &mut Play<'_>)
-    requires { HasRoom (2 * parts_of_question) play.old }
-    ensures play { scene_of play.new ≡ after_hints (cave_of rules.now) (scene_of play.old) }
-    ensures same { GoesOn play.old play.new }
-    ensures few { SaysUpTo parts_of_question play.old play.new }
-{
-    for before in 0..HINTS {
-        consider(rules, HintNumber::new(before + FIRST_HINT), play);
-    }
-}
-
-/// What a hint costs is said, and whether it is worth that is asked.
-#[tactic(auto, unfolding(crate::specs::Hints::price_scene))]
-pub fn price(rules: &Rules<'_>, number: HintNumber, play: &mut Play<'_>)
-    requires { HasRoom (1 + parts_of_question) play.old }
-    ensures play { scene_of play.new ≡ price_scene (cave_of rules.now) number (scene_of play.old) }
-    ensures same { GoesOn play.old play.new }
-    ensures few { SaysUpTo (1 + parts_of_question) play.old play.new }
-{
-    if let Some(hint) = rules.cave.hint(u16::from(number.number())) {
-        let points = u32::from(hint.points);
-        play.tell(Part::Number(NumberLine::HintCosts, points, 0));
-        ask(rules, &Question::Take(number), play);
-    }
-}
-
 /// A hint lets a lamp that isn't low burn for longer.
 fn reward(points: u16, state: &mut State)
     ensures { state.new ≡ after_reward points state.old }
 {
     let turns = state.lamp.charge.turns();
-    if 30 < turns {
-        state.lamp.charge = Charge::capped(turns + 30 * i32::from(points));
-    }
-}
-
-/// A hint is given.
-#[tactic(auto, unfolding(crate::specs::Hints::hint_scene))]
-pub fn give(rules: &Rules<'_>, number: HintNumber, play: &mut Play<'_>)
-    requires { HasRoom 1 play.old }
-    ensures play { scene_of play.new ≡ hint_scene (cave_of rules.now) number (scene_of play.old) }
-    ensures same { GoesOn play.old play.new }
-    ensures few { SaysUpTo 1 play.old play.new }
-{
-    if let Some(hint) = rules.cave.hint(u16::from(number.number())) {
-        play.tell(Part::Message(hint.text));
-        take_hint(number, play.state);
-        reward(hint.points, play.state);
+    if LOW_CHARGE < turns {
+        let more = TURNS_A_POINT * i32::from(points);
+        state.lamp.charge = Charge::capped(turns + more);
     }
 }

@@ -6,7 +6,7 @@ use Rattle.std.proofs.lemmas.Int.{ints}
 use Rattle.std.specs.Prelude.{◌&&◌, Option}
 use Rattle.cave_data.specs.CaveView.{CaveView}
 use Rattle.cave_things.specs.Places.{building_place}
-use Rattle.cave_things.specs.Plays.{Scene}
+use Rattle.cave_things.specs.Play.{Scene}
 use Rattle.cave_turn.specs.Answers.{without_question}
 use Rattle.cave_laws.specs.Laws.{LampBurnsDown, before_clocks, before_lamp, gets_batteries}
 use Rattle.cave_laws.specs.Laws.{is_changed, is_command}

@@ -11,7 +11,7 @@ use Rattle.cave_world.specs.declared.ending.Question.TheVariants as question
 use Rattle.cave_world.specs.declared.state.State.{State}
 use Rattle.cave_things.specs.Places.{building_place, start_place}
 use Rattle.cave_begin.specs.Begin.{begun_state}
-use Rattle.cave_turn.specs.Turn.{game_beginning, turn_on_line}
+use Rattle.cave_turn.specs.Turns.{game_beginning, turn_on_line}
 use Rattle.cave_laws.proofs.Frame.{Claim, IsKept, is_die}
 use Rattle.cave_laws.proofs.Lines.{turned_kept}
 use Rattle.cave_laws.specs.Laws.{HasFewDeaths, FewDeaths, IsSomewhere, PlayerIsSomewhere}

@@ -11,8 +11,8 @@ use Rattle.cave_world.specs.declared.dwarves.Dwarf.{Dwarf}
 use Rattle.cave_world.specs.declared.part.NumberLine.TheVariants as line
 use Rattle.cave_world.specs.declared.state.State.{State}
 use Rattle.cave_things.specs.Places.{place_named, deep_place}
-use Rattle.cave_things.specs.Plays.{Scene, after_saying, with_state, after_draw, happens, here_of}
-use Rattle.cave_things.specs.Things.{thing}
+use Rattle.cave_things.specs.Play.{Scene, after_saying, with_state, after_draw, happens, here_of}
+use Rattle.cave_things.specs.Rules.{thing}
 use Rattle.cave_things.specs.Treasures.{treasures}
 use Rattle.cave_dwarves.specs.Band.{pirate, dwarf_of, with_dwarf, state_after_draw}
 use Rattle.cave_dwarves.specs.Dwarves.{Encounter, without_hit, encounter_of, encounter_in_turn}
@@ -99,7 +99,7 @@ threatened_kept : (P : Claim) (n : ℕ) (s : State) → On P s → On P (threate
 unfolding threatening_act
 threatened_kept P n s h =
     let dwarf = dwarf_of s n in
-    let still : Act = record { threat = threat.Stands; state = s } in
+    let still : Act = record { threat = threat.Waits; state = s } in
     choose (λ (a : Act). On P a.state) (not dwarf.has_seen)
     (record { threat = threat.Nothing; state = s })
     (if dwarf.last == s.trail.here then throw_act s else still) (λ _. h)

@@ -5,7 +5,7 @@ use Rattle.cave_world.specs.declared.ending.Ending.{Ending}
 use Rattle.cave_world.specs.declared.ending.Question.{Question}
 use Rattle.cave_world.specs.declared.ending.Question.TheVariants as question
 use Rattle.cave_world.specs.declared.state.State.{State}
-use Rattle.cave_things.specs.Plays.{Scene}
+use Rattle.cave_things.specs.Play.{Scene}
 
 -- a claim about the player's place, the lamp's charge, the deaths, the question and the ending
 abbrev pub Claim : Type 1

@@ -20,10 +20,10 @@ use Rattle.cave_world.specs.declared.part.Part.TheVariants as part
 use Rattle.cave_world.specs.declared.part.NumberLine.TheVariants.{HintCosts}
 use Rattle.cave_world.specs.declared.state.State.{State}
 use Rattle.cave_things.specs.Places.{building_place, start_place}
-use Rattle.cave_things.specs.Plays.{Scene, scene_at_start, after_telling, after_saying, after_look_at}
-use Rattle.cave_things.specs.Plays.{with_state}
-use Rattle.cave_things.specs.Plays.{scene_at_place}
-use Rattle.cave_things.specs.Things.{thing}
+use Rattle.cave_things.specs.Play.{Scene, scene_at_start, after_telling, after_saying, after_look_at}
+use Rattle.cave_things.specs.Play.{with_state}
+use Rattle.cave_things.specs.Play.{scene_at_place}
+use Rattle.cave_things.specs.Rules.{thing}
 use Rattle.cave_score.specs.Deaths.{with_one_death}
 use Rattle.cave_hints.specs.Hints.{with_hint_taken, price_scene_if, price_scene, hint_scene_if, hint_scene}
 use Rattle.cave_turn.specs.Answers.{answer_in, is_dragon, is_yes, without_question, entrance_scene}
@@ -34,7 +34,7 @@ use Rattle.cave_turn.specs.Commands.{command_scene}
 use Rattle.cave_turn.specs.Dragon.{lair, after_clearing, fight_scene}
 use Rattle.cave_turn.specs.Finish.{end_of_turn}
 use Rattle.cave_turn.specs.Revival.{burial_scene}
-use Rattle.cave_turn.specs.Turn.{Turn, turn_of, turn_on_line, turn_on_log_line, turn_of_input}
+use Rattle.cave_turn.specs.Turns.{Turn, turn_of, turn_on_line, turn_on_log_line, turn_of_input}
 use Rattle.cave_turn.specs.declared.answers.Answer.{Answer}
 use Rattle.cave_turn.specs.declared.answers.Answer.TheVariants.{Yes, No, Neither}
 use Rattle.cave_laws.specs.Laws.{is_command, is_input_kind, is_no_answer, is_priced, pays}

@@ -5,7 +5,7 @@ use Rattle.cave_verbs.specs.Pouring.{pour_rows, drink_rows, bare_fill_rows, fill
 use Rattle.cave_verbs.specs.Reading.{bare_read_rows, read_rows}
 use Rattle.cave_verbs.specs.Small.{bare_rows, other_rows, nothing_rows, bare_quit_rows}
 use Rattle.cave_verbs.specs.Small.{bare_score_rows, bare_brief_rows}
-use Rattle.cave_verbs.specs.Taking.{bare_take_rows, take_rows}
+use Rattle.cave_verbs.specs.Taking.{bare_take_rows, take_rows, free_take_rows}
 use Rattle.cave_verbs.specs.Throwing.{throw_rows, miss_rows, hit_rows, axe_rows}
 use Rattle.cave_verbs.specs.Waving.{wave_rows, rub_rows}
 use Rattle.cave_laws.proofs.Frame.{Claim}
@@ -200,6 +200,11 @@ pub bare_take_rows_kept : (P : Claim) → KeepsRows P bare_take_rows
 unfolding bare_take_rows
 bare_take_rows_kept P = ((λ d h. h), ((λ d h. h), tt))
 
+pub free_take_rows_kept : (P : Claim) → KeepsRows P free_take_rows
+unfolding free_take_rows
+free_take_rows_kept P =
+    ((λ d h. h), ((λ d h. h), ((λ d h. h), ((λ d h. h), ((λ d h. h), ((λ d h. h), tt))))))
+
 pub take_rows_kept : (P : Claim) → KeepsRows P take_rows
 unfolding take_rows
 take_rows_kept P = (
@@ -214,28 +219,7 @@ take_rows_kept P = (
           (λ d h. h),
           (
             (λ d h. h),
-            (
-              (λ d h. h),
-              (
-                (λ d h. h),
-                (
-                  (λ d h. h),
-                  (
-                    (λ d h. h),
-                    (
-                      (λ d h. h),
-                      (
-                        (λ d h. h),
-                        (
-                          (λ d h. h),
-                          ((λ d h. h), ((λ d h. h), ((λ d h. h), tt))),
-                        ),
-                      ),
-                    ),
-                  ),
-                ),
-              ),
-            ),
+            ((λ d h. h), ((λ d h. h), ((λ d h. h), ((λ d h. h), free_take_rows_kept P)))),
           ),
         ),
       ),

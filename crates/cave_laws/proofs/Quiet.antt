@@ -11,8 +11,8 @@ use Rattle.cave_world.specs.declared.ending.Ending.{Ending}
 use Rattle.cave_world.specs.declared.ending.Question.{Question}
 use Rattle.cave_world.specs.declared.state.State.{State}
 use Rattle.cave_turn.specs.Answers.{answer_in, is_dragon, is_yes, answers}
-use Rattle.cave_turn.specs.Turn.{Turn, turn_on_line, turn_on_log_line, turn_of_input, with_seed}
-use Rattle.cave_turn.specs.Turn.{silent_turn}
+use Rattle.cave_turn.specs.Turns.{Turn, turn_on_line, turn_on_log_line, turn_of_input, with_seed}
+use Rattle.cave_turn.specs.Turns.{silent_turn}
 use Rattle.cave_laws.specs.Laws.{HasEnded, IsQuiet, is_command, is_input_kind, is_no_answer}
 
 -- after the end input is quiet

@@ -17,8 +17,8 @@ use Rattle.cave_world.specs.declared.ending.Question.TheVariants as question
 use Rattle.cave_world.specs.declared.state.State.{State}
 use Rattle.cave_things.specs.Effects.{with_objects}
 use Rattle.cave_things.specs.Places.{building_place}
-use Rattle.cave_things.specs.Plays.{Scene, after_saying, after_look_at, with_state}
-use Rattle.cave_things.specs.Things.{thing}
+use Rattle.cave_things.specs.Play.{Scene, after_saying, after_look_at, with_state}
+use Rattle.cave_things.specs.Rules.{thing}
 use Rattle.cave_verbs.specs.Acting.{outcome_of_command, next_of_step}
 use Rattle.cave_verbs.specs.declared.next.Next.{Next}
 use Rattle.cave_verbs.specs.declared.next.Next.TheVariants as next_is

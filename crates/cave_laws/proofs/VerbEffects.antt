@@ -14,11 +14,11 @@ use Rattle.cave_things.specs.Effects.{with_bird_in_cage}
 use Rattle.cave_things.specs.Homes.{is_at_home}
 use Rattle.cave_things.specs.Panic.{after_panic}
 use Rattle.cave_things.specs.Reach.{is_called, is_in_hand, has_other_prop}
-use Rattle.cave_things.specs.Things.{thing}
+use Rattle.cave_things.specs.Rules.{thing}
 use Rattle.cave_verbs.specs.Acting.{Rule}
 use Rattle.cave_verbs.specs.Deeds.{Deed, Outcome, deed}
 use Rattle.cave_verbs.specs.Effects.{default, tell, say}
-use Rattle.cave_verbs.specs.Rows.{Effect, Row, first_fitting, fits, after_all, outcome_of}
+use Rattle.cave_verbs.specs.Rows.{Effect, VerbRow, first_fitting, fits, after_all, outcome_of}
 use Rattle.cave_verbs.specs.Tests.{the}
 use Rattle.cave_verbs.specs.Light.{say_dark}
 use Rattle.cave_verbs.specs.Opening.{after_sending}
@@ -30,7 +30,7 @@ abbrev pub KeepsAll : Claim → List Effect → Type 0
 KeepsAll P effects = (d : Deed) → On P d.state → On P (after_all effects d).state
 
 -- the effects of rows keep a claim
-abbrev pub KeepsRows : Claim → List Row → Type 0
+abbrev pub KeepsRows : Claim → List VerbRow → Type 0
 KeepsRows P [] = Unit {0}
 KeepsRows P (r ∷ rows) = KeepsAll P r.effects × KeepsRows P rows
 
@@ -108,7 +108,7 @@ sent_kept P x None s h = h
 sent_kept P x (Some place) s h = h
 
 -- the first row that fits keeps a claim
-pub first_kept : (P : Claim) (rows : List Row) → KeepsRows P rows
+pub first_kept : (P : Claim) (rows : List VerbRow) → KeepsRows P rows
     → KeepsOutcome P (first_fitting rows)
 first_kept P [] k d h = h
 first_kept P (r ∷ rows) k d h =
@@ -116,7 +116,7 @@ first_kept P (r ∷ rows) k d h =
     (λ _. k.0 d h) (λ _. first_kept P rows k.1 d h)
 
 -- the first row that fits, or what comes of it if none does, keeps a claim
-pub first_or_kept : (P : Claim) (rows : List Row) (f : Deed → Outcome) → KeepsRows P rows
+pub first_or_kept : (P : Claim) (rows : List VerbRow) (f : Deed → Outcome) → KeepsRows P rows
     → KeepsOutcome P f → KeepsOutcome P (first_fitting_or rows f)
 first_or_kept P [] f k other d h = other d h
 first_or_kept P (r ∷ rows) f k other d h =

@@ -11,14 +11,14 @@ use Rattle.cave_world.specs.declared.ending.Question.{Question}
 use Rattle.cave_world.specs.declared.ending.Question.TheVariants as question
 use Rattle.cave_world.specs.declared.state.State.{State}
 use Rattle.cave_things.specs.Places.{building_place, start_place}
-use Rattle.cave_things.specs.Plays.{Scene, scene_at_start}
-use Rattle.cave_things.specs.Things.{thing}
+use Rattle.cave_things.specs.Play.{Scene, scene_at_start}
+use Rattle.cave_things.specs.Rules.{thing}
 use Rattle.cave_clocks.specs.FirstClock.{timing_of_first_clock}
 use Rattle.cave_clocks.specs.Lamp.{with_lamp_burnt, can_change_batteries}
 use Rattle.cave_clocks.specs.Repository.{timing_of_second_clock}
 use Rattle.cave_turn.specs.Answers.{answer_in, without_question, is_dragon, is_yes}
 use Rattle.cave_turn.specs.Commands.{after_beginning}
-use Rattle.cave_turn.specs.Turn.{Turn, turn_on_line, game_beginning, with_seed, silent_turn}
+use Rattle.cave_turn.specs.Turns.{Turn, turn_on_line, game_beginning, with_seed, silent_turn}
 
 abbrev pub HasEnded : State → Type 0
 HasEnded s = is_some s.ending ≡ true

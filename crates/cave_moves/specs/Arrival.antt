@@ -4,6 +4,7 @@ use Rattle.std.specs.Prelude.{if◌then◌else◌, take, suc, zero}
 use Rattle.std.specs.List.{list_any}
 use Rattle.cave_data.specs.CaveView.{CaveView}
 use Rattle.cave_rows.specs.declared.role.Role.TheVariants as role
+use Rattle.cave_world.specs.Motion.{ANY}
 use Rattle.cave_world.specs.Sight.{is_forced}
 use Rattle.cave_world.specs.State.{takes_no_command}
 use Rattle.cave_world.specs.declared.dwarves.Dwarf.{Dwarf}
@@ -18,8 +19,8 @@ use Rattle.cave_moves.specs.Description.{Stop, description_scene, stop_here, aft
 use Rattle.cave_moves.specs.Falling.{falling_here}
 use Rattle.cave_moves.specs.Journeys.{set_forth}
 use Rattle.cave_moves.specs.Ways.{Journey, journey_here}
-use Rattle.cave_things.specs.Plays.{Scene, after_saying, with_state, with_left, scene_at_place}
-use Rattle.cave_things.specs.Plays.{here_of}
+use Rattle.cave_things.specs.Play.{Scene, after_saying, with_state, with_left, scene_at_place}
+use Rattle.cave_things.specs.Play.{here_of}
 
 -- a cave that is closing has no way out
 unfoldable pub is_shut : CaveView → ℕ → State → Bool
@@ -75,13 +76,13 @@ stop_at cave new p =
     let twice = journey_unless_barred cave once.place once.scene in
     come_to cave twice.place twice.scene)
 
--- a player who is moved on by a forced motion sets out by motion 1 and is shown the next place,
+-- a player who is moved on by a forced motion sets out by any motion and is shown the next place,
 -- while forced motions are left
 unfoldable pub after_forced_motions : ℕ → CaveView → Stop → Scene
 after_forced_motions zero cave s =
     if s.is_moved_on then after_saying role.ForcedLimit s.scene else s.scene
 after_forced_motions (suc left) cave s =
-    let j = set_forth cave 1 (with_left left s.scene) in
+    let j = set_forth cave ANY (with_left left s.scene) in
     if s.is_moved_on then after_forced_motions left cave (stop_at cave j.place j.scene) else s.scene
 
 -- the player arrives at a place; the forced motions that are left are those of the whole turn

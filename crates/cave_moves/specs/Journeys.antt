@@ -10,9 +10,11 @@ use Rattle.cave_rows.specs.declared.role.Role.{Role}
 use Rattle.cave_rows.specs.declared.role.Role.TheVariants as role
 use Rattle.cave_words.specs.declared.named.Named.TheVariants as name
 use Rattle.cave_objects.specs.Objects.{is_carried, carried_objects}
+use Rattle.cave_world.specs.Motion.{FORWARD, BACK, OUT, CRAWL, INSIDE, NOWHERE, UP, DOWN, LEFT}
+use Rattle.cave_world.specs.Motion.{RIGHT, EAST, NORTHWEST, LOOK, XYZZY, PLUGH, CAVE}
 use Rattle.cave_world.specs.Sight.{is_forced}
 use Rattle.cave_world.specs.State.{without_visits}
-use Rattle.cave_world.specs.Travel.{travel_by_motion, row_number}
+use Rattle.cave_world.specs.Travel.{travel_by_motion, row_number, LAST_PLACE}
 use Rattle.cave_world.specs.declared.part.Part.TheVariants as part
 use Rattle.cave_world.specs.declared.travel.TravelOutcome.{TravelOutcome}
 use Rattle.cave_world.specs.declared.travel.TravelOutcome.TheVariants as outcome
@@ -22,19 +24,23 @@ use Rattle.cave_world.specs.declared.state.State.{State}
 use Rattle.cave_moves.specs.Bridge.{journey_by_bridge}
 use Rattle.cave_moves.specs.Ways.{Journey, journey_here, other_end}
 use Rattle.cave_things.specs.Places.{place_named, outside_place}
-use Rattle.cave_things.specs.Things.{thing}
-use Rattle.cave_things.specs.Plays.{Scene, after_telling, after_saying, with_state, here_of}
-use Rattle.cave_things.specs.Plays.{after_setting_out}
+use Rattle.cave_things.specs.Rules.{thing}
+use Rattle.cave_things.specs.Play.{Scene, after_telling, after_saying, with_state, here_of}
+use Rattle.cave_things.specs.Play.{after_setting_out}
+
+-- the eight points of the compass follow one another
+abbrev pub is_compass_point : ℕ → Bool
+is_compass_point motion = nat_le EAST motion && nat_le motion NORTHWEST
 
 -- what is said of a motion that no row lists: of a direction, of facing one, of in and out, of a
 -- magic word, of crawling, and of the rest
 abbrev pub refusal_role : ℕ → Role
 refusal_role motion =
-    if motion == 29 || motion == 30 || (nat_le 43 motion && nat_le motion 50) then role.NoDir
-    else (if motion == 7 || motion == 36 || motion == 37 then role.Facing
-    else (if motion == 11 || motion == 19 then role.Inout
-    else (if motion == 62 || motion == 65 then role.Magic
-    else (if motion == 17 then role.Crawl else role.NoMotion))))
+    if motion == UP || motion == DOWN || is_compass_point motion then role.NoDir
+    else (if motion == FORWARD || motion == LEFT || motion == RIGHT then role.Facing
+    else (if motion == OUT || motion == INSIDE then role.Inout
+    else (if motion == XYZZY || motion == PLUGH then role.Magic
+    else (if motion == CRAWL then role.Crawl else role.NoMotion))))
 
 -- the other end of the narrow passage
 unfoldable pub squeeze_end : CaveView → ℕ → Option ℕ
@@ -118,7 +124,7 @@ first_number (row ∷ rows) = Some (row_number row)
 -- the row leads to a place whose forced motion leads to the place that is sought
 abbrev pub leads_through : CaveView → ℕ → Going → Bool
 leads_through cave sought row =
-    nat_le (row_number row) 300 && is_forced cave (row_number row)
+    nat_le (row_number row) LAST_PLACE && is_forced cave (row_number row)
     && is_place sought (first_number (ways_from cave (row_number row)))
 
 -- the first row with the number that is sought
@@ -155,7 +161,7 @@ journey_back cave p =
 -- where a motion that the player asks for leads: four motions have rules of their own
 unfoldable pub journey_by_request : CaveView → ℕ → Scene → Journey
 journey_by_request cave motion p =
-    if motion == 21 then journey_here p
-    else (if motion == 57 then journey_of_look p
-    else (if motion == 67 then journey_of_seeking cave p
-    else (if motion == 8 then journey_back cave p else set_forth cave motion p)))
+    if motion == NOWHERE then journey_here p
+    else (if motion == LOOK then journey_of_look p
+    else (if motion == CAVE then journey_of_seeking cave p
+    else (if motion == BACK then journey_back cave p else set_forth cave motion p)))

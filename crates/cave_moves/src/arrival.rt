@@ -1,6 +1,6 @@
 ghost use Rattle.std.specs.Prelude.{◌≡◌, ◌+◌, true, false, IsTrue, take};
 ghost use Rattle.std.specs.List.{list_any};
-ghost use Rattle.cave_things.specs.Things.{cave_of};
+ghost use Rattle.cave_things.specs.Rules.{cave_of};
 ghost use Rattle.cave_world.specs.State.{takes_no_command};
 ghost use Rattle.cave_moves.specs.Arrival.{is_shut, journey_unless_shut, comes_from, is_barred, meeting_scene};
 ghost use Rattle.cave_moves.specs.Arrival.{journey_unless_barred, come_to, stop_at, after_forced_motions};
@@ -8,7 +8,7 @@ ghost use Rattle.cave_moves.specs.Arrival.{arrival_scene, description_anew};
 ghost use Rattle.cave_things.specs.Bounds.{HasRoom, SaysUpTo, parts_of_dwarves, parts_of_place};
 ghost use Rattle.cave_things.specs.Bounds.{parts_of_passing, parts_of_stop};
 ghost use Rattle.cave_things.specs.Bounds.{parts_of_forced_motions, parts_of_arrival};
-ghost use Rattle.cave_things.specs.Plays.{scene_of, GoesOn, IsSamePlay};
+ghost use Rattle.cave_things.specs.Play.{scene_of, GoesOn, IsSamePlay};
 
 use crate::description::{describe, see_here, tell_text};
 use crate::falling::fall_here;
@@ -22,6 +22,19 @@ use cave_things::panic::panic;
 use cave_things::places::outside_place;
 use cave_things::{Condition, Play, Rules};
 use cave_world::{Dwarf, State, is_forced, motion};
+
+/// The player arrives at a place, and is moved on from there while forced motions are left.
+#[tactic(auto, unfolding(crate::specs::Arrival::after_forced_motions))]
+pub fn arrive(rules: &Rules<'_>, place: Place, play: &mut Play<'_>)
+    requires { HasRoom (parts_of_arrival play.old.left) play.old }
+    ensures play { scene_of play.new ≡ arrival_scene (cave_of rules.now) place (scene_of play.old) }
+    ensures same { IsSamePlay play.old play.new }
+    ensures few { SaysUpTo (parts_of_arrival play.old.left) play.old play.new }
+{
+    if show(rules, place, play) {
+        follow_forced_motions(rules, play);
+    }
+}
 
 /// Whether a cave that is closing keeps the player from a place.
 #[tactic(auto, unfolding(crate::specs::Arrival::is_shut))]
@@ -165,19 +178,6 @@ fn follow_forced_motions(rules: &Rules<'_>, play: &mut Play<'_>)
     play.left -= 1;
     let next = set_forth(rules, motion::ANY, play);
     if show(rules, next, play) {
-        follow_forced_motions(rules, play);
-    }
-}
-
-/// The player arrives at a place, and is moved on from there while forced motions are left.
-#[tactic(auto, unfolding(crate::specs::Arrival::after_forced_motions))]
-pub fn arrive(rules: &Rules<'_>, place: Place, play: &mut Play<'_>)
-    requires { HasRoom (parts_of_arrival play.old.left) play.old }
-    ensures play { scene_of play.new ≡ arrival_scene (cave_of rules.now) place (scene_of play.old) }
-    ensures same { IsSamePlay play.old play.new }
-    ensures few { SaysUpTo (parts_of_arrival play.old.left) play.old play.new }
-{
-    if show(rules, place, play) {
         follow_forced_motions(rules, play);
     }
 }

@@ -5,8 +5,8 @@ ghost use Rattle.cave_moves.specs.Bridge.{bridge_end, with_troll, toll_scene, le
 ghost use Rattle.cave_moves.specs.Bridge.{without_bridge, without_spices, with_broken_bridge};
 ghost use Rattle.cave_moves.specs.Bridge.{broken_bridge_scene, journey_across, journey_by_bridge};
 ghost use Rattle.cave_things.specs.Bounds.{HasRoom, SaysUpTo, parts_of_journey};
-ghost use Rattle.cave_things.specs.Plays.{scene_of, GoesOn};
-ghost use Rattle.cave_things.specs.Things.{cave_of};
+ghost use Rattle.cave_things.specs.Play.{scene_of, GoesOn};
+ghost use Rattle.cave_things.specs.Rules.{cave_of};
 ghost use Rattle.cave_world.specs.State.{takes_no_command};
 
 use crate::falling::fall_at;
@@ -16,6 +16,28 @@ use cave_rows::Role;
 use cave_things::{Play, Rules, has_prop, has_prop_up_to, lose_one};
 use cave_words::Named;
 use cave_world::State;
+
+/// Where the bridge leads a player at one of its ends.
+#[tactic(auto, unfolding(crate::specs::Bridge::journey_by_bridge))]
+pub fn cross(rules: &Rules<'_>, play: &mut Play<'_>) -> Place
+    requires { HasRoom parts_of_journey play.old }
+    ensures journey { record { place = result; scene = scene_of play.new }
+        ≡ journey_by_bridge (cave_of rules.now) (scene_of play.old) }
+    ensures same { GoesOn play.old play.new }
+    ensures few { SaysUpTo parts_of_journey play.old play.new }
+    ensures few_on { takes_no_command play.new.state.now ≡ false → SaysUpTo 1 play.old play.new }
+{
+    match bridge_end(rules, play.state.trail.here) {
+        None => stay(play, Role::NoWay),
+        Some(end) => {
+            if has_prop(play.state, rules.object(Named::Troll), 1) {
+                stop(rules, play);
+                return play.state.trail.here;
+            }
+            cross_to(rules, end, play)
+        }
+    }
+}
 
 /// The other end of the bridge, if the player is at one of its ends.
 #[tactic(auto, unfolding(crate::specs::Bridge::bridge_end))]
@@ -131,26 +153,4 @@ fn cross_to(rules: &Rules<'_>, end: Place, play: &mut Play<'_>) -> Place
         return play.state.trail.here;
     }
     end
-}
-
-/// Where the bridge leads a player at one of its ends.
-#[tactic(auto, unfolding(crate::specs::Bridge::journey_by_bridge))]
-pub fn cross(rules: &Rules<'_>, play: &mut Play<'_>) -> Place
-    requires { HasRoom parts_of_journey play.old }
-    ensures journey { record { place = result; scene = scene_of play.new }
-        ≡ journey_by_bridge (cave_of rules.now) (scene_of play.old) }
-    ensures same { GoesOn play.old play.new }
-    ensures few { SaysUpTo parts_of_journey play.old play.new }
-    ensures few_on { takes_no_command play.new.state.now ≡ false → SaysUpTo 1 play.old play.new }
-{
-    match bridge_end(rules, play.state.trail.here) {
-        None => stay(play, Role::NoWay),
-        Some(end) => {
-            if has_prop(play.state, rules.object(Named::Troll), 1) {
-                stop(rules, play);
-                return play.state.trail.here;
-            }
-            cross_to(rules, end, play)
-        }
-    }
 }

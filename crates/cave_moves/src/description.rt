@@ -1,11 +1,11 @@
 ghost use Rattle.std.specs.Prelude.{◌≡◌, ◌+◌, ◌<◌, ◌≤◌, IsTrue};
-ghost use Rattle.cave_things.specs.Things.{cave_of};
+ghost use Rattle.cave_things.specs.Rules.{cave_of};
 ghost use Rattle.cave_moves.specs.Description.{is_described_at_length, place_text, after_bear, after_text};
 ghost use Rattle.cave_moves.specs.Description.{is_hollow, after_hollow, after_pit, after_darkness};
 ghost use Rattle.cave_moves.specs.Description.{dark_scene, sight_scene, description_scene};
 ghost use Rattle.cave_moves.specs.Description.{stop_here};
 ghost use Rattle.cave_things.specs.Bounds.{HasRoom, SaysUpTo, parts_of_place};
-ghost use Rattle.cave_things.specs.Plays.{scene_of, GoesOn};
+ghost use Rattle.cave_things.specs.Play.{scene_of, GoesOn};
 
 use crate::falling::fall_here;
 use crate::objects::tell_objects;
@@ -15,6 +15,21 @@ use cave_things::places::{is_place, place_named};
 use cave_things::{Play, Rules};
 use cave_words::Named;
 use cave_world::{Part, State, is_forced};
+
+/// Describes the player's place, which has no forced motion.
+#[tactic(auto, unfolding(crate::specs::Description::description_scene))]
+pub fn describe(rules: &Rules<'_>, play: &mut Play<'_>)
+    requires { HasRoom parts_of_place play.old }
+    ensures play { scene_of play.new ≡ description_scene (cave_of rules.now) (scene_of play.old) }
+    ensures same { GoesOn play.old play.new }
+    ensures few { SaysUpTo parts_of_place play.old play.new }
+{
+    if play.state.is_dark(rules.cave, rules.object(Named::Lamp)) {
+        describe_dark(rules, play);
+    } else {
+        describe_sight(rules, play);
+    }
+}
 
 fn is_described_at_length(rules: &Rules<'_>, state: &State, place: Place) -> bool
     ensures { result ≡ is_described_at_length (cave_of rules.now) state.now place }
@@ -140,21 +155,6 @@ fn describe_sight(rules: &Rules<'_>, play: &mut Play<'_>)
     let here = play.state.trail.here;
     play.state.visit(here);
     tell_objects(rules, play);
-}
-
-/// Describes the player's place, which has no forced motion.
-#[tactic(auto, unfolding(crate::specs::Description::description_scene))]
-pub fn describe(rules: &Rules<'_>, play: &mut Play<'_>)
-    requires { HasRoom parts_of_place play.old }
-    ensures play { scene_of play.new ≡ description_scene (cave_of rules.now) (scene_of play.old) }
-    ensures same { GoesOn play.old play.new }
-    ensures few { SaysUpTo parts_of_place play.old play.new }
-{
-    if play.state.is_dark(rules.cave, rules.object(Named::Lamp)) {
-        describe_dark(rules, play);
-    } else {
-        describe_sight(rules, play);
-    }
 }
 
 /// Prints what is seen at the player's place. Returns whether a forced motion moves the player on

@@ -1,8 +1,8 @@
 ghost use Rattle.std.specs.Prelude.{◌≡◌, false};
-ghost use Rattle.cave_things.specs.Things.{cave_of};
+ghost use Rattle.cave_things.specs.Rules.{cave_of};
 ghost use Rattle.cave_world.specs.State.{takes_no_command};
 ghost use Rattle.cave_things.specs.Bounds.{HasRoom, SaysUpTo, parts_of_journey};
-ghost use Rattle.cave_things.specs.Plays.{after_saying, scene_of, GoesOn};
+ghost use Rattle.cave_things.specs.Play.{after_saying, scene_of, GoesOn};
 ghost use Rattle.cave_moves.specs.Journeys.{refusal_role, squeeze_end, is_slim};
 ghost use Rattle.cave_moves.specs.Journeys.{journey_through_squeeze, journey_by_squeeze, journey_by_special};
 ghost use Rattle.cave_moves.specs.Journeys.{journey_of_outcome, journey_by_rows};
@@ -20,6 +20,25 @@ use cave_things::places::{outside_place, place_named};
 use cave_things::{Play, Rules};
 use cave_words::Named;
 use cave_world::{Part, Special, State, TravelOutcome, motion, travel_by_motion};
+
+/// Where a motion that the player asks for leads.
+#[tactic(auto, unfolding(crate::specs::Journeys::journey_by_request))]
+pub fn lead_by_motion(rules: &Rules<'_>, motion: u16, play: &mut Play<'_>) -> Place
+    requires { HasRoom parts_of_journey play.old }
+    ensures journey { record { place = result; scene = scene_of play.new }
+        ≡ journey_by_request (cave_of rules.now) motion (scene_of play.old) }
+    ensures same { GoesOn play.old play.new }
+    ensures few { SaysUpTo parts_of_journey play.old play.new }
+    ensures few_on { takes_no_command play.new.state.now ≡ false → SaysUpTo 1 play.old play.new }
+{
+    match motion {
+        motion::NOWHERE => play.state.trail.here,
+        motion::LOOK => look(play),
+        motion::CAVE => seek_cave(rules, play),
+        motion::BACK => go_back(rules, play),
+        _ => set_forth(rules, motion, play),
+    }
+}
 
 /// What is said of a motion that no row lists.
 fn refusal_of(motion: u16) -> Role
@@ -184,24 +203,5 @@ fn seek_cave(rules: &Rules<'_>, play: &mut Play<'_>) -> Place
         stay(play, Role::CaveOut)
     } else {
         stay(play, Role::CaveIn)
-    }
-}
-
-/// Where a motion that the player asks for leads.
-#[tactic(auto, unfolding(crate::specs::Journeys::journey_by_request))]
-pub fn lead_by_motion(rules: &Rules<'_>, motion: u16, play: &mut Play<'_>) -> Place
-    requires { HasRoom parts_of_journey play.old }
-    ensures journey { record { place = result; scene = scene_of play.new }
-        ≡ journey_by_request (cave_of rules.now) motion (scene_of play.old) }
-    ensures same { GoesOn play.old play.new }
-    ensures few { SaysUpTo parts_of_journey play.old play.new }
-    ensures few_on { takes_no_command play.new.state.now ≡ false → SaysUpTo 1 play.old play.new }
-{
-    match motion {
-        motion::NOWHERE => play.state.trail.here,
-        motion::LOOK => look(play),
-        motion::CAVE => seek_cave(rules, play),
-        motion::BACK => go_back(rules, play),
-        _ => set_forth(rules, motion, play),
     }
 }

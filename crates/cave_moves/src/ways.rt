@@ -1,7 +1,7 @@
 ghost use Rattle.std.specs.Prelude.{◌≡◌};
 ghost use Rattle.cave_moves.specs.Ways.{journey_here, other_end};
 ghost use Rattle.cave_things.specs.Bounds.{HasRoom, SaysUpTo};
-ghost use Rattle.cave_things.specs.Plays.{after_saying, scene_of, GoesOn};
+ghost use Rattle.cave_things.specs.Play.{after_saying, scene_of, GoesOn};
 
 use cave_objects::Place;
 use cave_rows::Role;

@@ -6,7 +6,7 @@ use Rattle.std.proofs.lemmas.List.{drop_more, drop_all}
 use Rattle.std.specs.Prelude.{Result, IfErr}
 use Rattle.std.specs.declared.option.Option.{Option}
 use Rattle.std.proofs.lemmas.Result.{IfErr-at_err}
-use Rattle.log_replay.specs.Change.{Change, apply_all}
+use Rattle.log_replay.specs.Edit.{Change, apply_all}
 use Rattle.log_replay.specs.Faults.{group_fault}
 use Rattle.log_replay.specs.declared.fault.EditFault.TheVariants as cause
 use Rattle.log_replay.specs.declared.fault.GroupFault.{GroupFault}

@@ -9,7 +9,7 @@ use Rattle.std.proofs.lemmas.List.{length-map, get_or-map}
 use Rattle.std.proofs.lemmas.List.Elements.{All-nil, All-cons}
 use Rattle.std.proofs.lemmas.List.Sums.{count_by-le-length}
 use Rattle.std.proofs.lemmas.List.Splits.{length-slice_split}
-use Rattle.log_replay.specs.Change.{Change, change_of}
+use Rattle.log_replay.specs.Edit.{Change, change_of}
 use Rattle.edit_scripts.specs.Item.{Applied}
 use Rattle.edit_scripts.specs.Script.{IsBody, body_done, body_skips, body_spells, IsScript, done}
 use Rattle.edit_scripts.specs.Script.{skips, spells, groups}

@@ -11,13 +11,18 @@ use Rattle.log_replay.specs.Play.{Game}
 use Rattle.edit_scripts.specs.Item.{Applied}
 use Rattle.cave_world.specs.declared.part.Part.{Part}
 use Rattle.cave_world.specs.declared.state.State.{State}
-use Rattle.cave_play.specs.Holds.{HoldsGame}
 use Rattle.cave_play.specs.Outcome.{IsOutcome, AreLeft, AreOutcomes, lines_in, played_in}
 use Rattle.cave_play.specs.Outcome.{refusal_in}
 use Rattle.cave_play.specs.Output.{game_after_item, play_text, report_by}
 use Rattle.cave_play.specs.Views.{account, log_text, text_of_items, totals_line}
 use Rattle.cave_play.specs.declared.machine.CaveMachine.{CaveMachine}
 use Rattle.cave_play.specs.declared.outcome.ItemOutcome.{ItemOutcome}
+
+-- the session is one of the cave's machine, and holds the game
+pub record HoldsGame (cave : CaveView) (game : Game)
+    (session : SessionView CaveMachine (Vec Part) State) : Type 0 where
+  pub cave_is : session.machine.cave.now ≡ cave
+  pub game_is : session.game ≡ game
 
 -- an item was applied to what a session held, and this came of it
 pub record Applies (item : Applied) (old new : SessionView CaveMachine (Vec Part) State)

@@ -7,7 +7,6 @@ pub mod Laws
 pub mod Run
 pub mod Transcript
 pub mod Machine
-pub mod Holds
 pub mod Output
 pub mod Outcome
 pub mod Views

@@ -3,7 +3,7 @@ use Rattle.std.specs.Prelude.{ℕ, List}
 use Rattle.cave_data.specs.CaveView.{CaveView}
 use Rattle.log_replay.specs.Machine.{MachineRules}
 use Rattle.cave_text.specs.Text.{text_of_all}
-use Rattle.cave_turn.specs.Turn.{game_beginning, turn_on_line}
+use Rattle.cave_turn.specs.Turns.{game_beginning, turn_on_line}
 use Rattle.cave_world.specs.declared.part.Part.{Part}
 use Rattle.cave_world.specs.declared.state.State.{State}
 

@@ -4,7 +4,7 @@ use Rattle.std.specs.Fmt.{decimal}
 use Rattle.std.specs.Str.Lines.{lines}
 use Rattle.cave_data.specs.CaveView.{CaveView}
 use Rattle.cave_data.specs.Reads.{Reads}
-use Rattle.log_replay.specs.Change.{Change, apply_all}
+use Rattle.log_replay.specs.Edit.{Change, apply_all}
 use Rattle.log_replay.specs.Faults.{group_fault}
 use Rattle.log_replay.specs.Play.{Game, game_of, texts_of, ticks_of, state_after}
 use Rattle.log_replay.specs.declared.fault.EditFault.{EditFault}

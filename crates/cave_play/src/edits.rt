@@ -4,8 +4,7 @@ ghost use Rattle.std.specs.Prelude.{◌≡◌, ◌+◌, ◌++◌, ◌<◌, ◌�
 ghost use Rattle.std.specs.Prelude.{IfErr, IsTrue, OnOk, ◌↔◌};
 ghost use Rattle.replay_marks.specs.Spacing.{IsSpaced};
 ghost use Rattle.edit_scripts.specs.Views.{applied_item, items_of};
-ghost use Rattle.cave_play.specs.Edits.{Applies, IsApplied, text_of_item};
-ghost use Rattle.cave_play.specs.Holds.{HoldsGame};
+ghost use Rattle.cave_play.specs.Edits.{Applies, HoldsGame, IsApplied, text_of_item};
 ghost use Rattle.cave_play.specs.Outcome.{lines_in, played_in};
 ghost use Rattle.cave_play.specs.Output.{game_after_items};
 
@@ -41,6 +40,37 @@ impl Totals {
             lines: self.lines + u64::from(outcome.lines()),
         }
     }
+}
+
+/// Applies the items of a script to the held game, and writes of each what is asked for.
+pub(crate) fn apply(
+    alloc: Global,
+    session: &mut Session<CaveMachine<'_>>,
+    script: &Script,
+    view: View,
+    text: &mut Vec<u8>,
+) -> Result<Totals, PlayFault>
+    requires few_edits { All (λ item. vec_len item.edits < 2 ^ 32) script.now.items.items }
+    requires few_items { length script.now.items.items < 2 ^ 32 }
+    ensures spaced { IsSpaced session.old.every session.old.checkpoints
+        (length session.old.game.log) }
+    ensures held { OnOk result (HoldsGame session.old.machine.cave.now
+        (game_after_items (items_of script.now.items) session.old.game) session.new) }
+    ensures applied { IfOk result (λ totals. IsApplied view (items_of script.now.items) session.old
+        text.old.items text.new.items totals.played totals.lines) }
+    ensures memory { IfErr result (λ found. found ≡ PlayFault.Memory) }
+{
+    // As in `replay_of`, for the checkpoints before the first item.
+    let _places = session.checkpoints();
+    let mut totals = Totals {
+        played: 0,
+        lines: 0,
+    };
+    for item in &script.items {
+        let outcome = apply_item(alloc, session, item, view, text)?;
+        totals = totals.with(outcome);
+    }
+    Ok(totals)
 }
 
 fn is_memory(fault: EditFault) -> bool
@@ -102,35 +132,4 @@ fn apply_item(
     let outcome = edit(session, item)?;
     push_outcome(alloc, text, item, view, outcome)?;
     Ok(outcome)
-}
-
-/// Applies the items of a script to the held game, and writes of each what is asked for.
-pub(crate) fn apply(
-    alloc: Global,
-    session: &mut Session<CaveMachine<'_>>,
-    script: &Script,
-    view: View,
-    text: &mut Vec<u8>,
-) -> Result<Totals, PlayFault>
-    requires few_edits { All (λ item. vec_len item.edits < 2 ^ 32) script.now.items.items }
-    requires few_items { length script.now.items.items < 2 ^ 32 }
-    ensures spaced { IsSpaced session.old.every session.old.checkpoints
-        (length session.old.game.log) }
-    ensures held { OnOk result (HoldsGame session.old.machine.cave.now
-        (game_after_items (items_of script.now.items) session.old.game) session.new) }
-    ensures applied { IfOk result (λ totals. IsApplied view (items_of script.now.items) session.old
-        text.old.items text.new.items totals.played totals.lines) }
-    ensures memory { IfErr result (λ found. found ≡ PlayFault.Memory) }
-{
-    // As in `replay_of`, for the checkpoints before the first item.
-    let _places = session.checkpoints();
-    let mut totals = Totals {
-        played: 0,
-        lines: 0,
-    };
-    for item in &script.items {
-        let outcome = apply_item(alloc, session, item, view, text)?;
-        totals = totals.with(outcome);
-    }
-    Ok(totals)
 }

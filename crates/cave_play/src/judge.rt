@@ -11,7 +11,7 @@ ghost use Rattle.edit_scripts.specs.Views.{items_of};
 ghost use Rattle.cave_play.specs.Input.{Says};
 ghost use Rattle.cave_play.specs.Judge.{large_seed, every_fault, lines_fault};
 ghost use Rattle.cave_play.specs.Judge.{script_refusal, opening_fault};
-ghost use Rattle.cave_play.specs.Holds.{HoldsGame};
+ghost use Rattle.cave_play.specs.Edits.{HoldsGame};
 ghost use Rattle.cave_play.specs.Run.{Judges};
 ghost use Rattle.cave_play.specs.Stage.{judging_stage};
 ghost use Rattle.cave_play.specs.Stages.{cave_stages, log_stage, script_stage};

@@ -12,6 +12,22 @@ use cave_rows::{Cause, CaveError, FaultSite};
 use std::alloc::Global;
 use std::io::Read;
 
+/// Reads an input of a run whole.
+pub fn read<R: Read>(alloc: Global, input: Input, reader: &mut R) -> Result<Vec<u8>, PlayFault>
+    ensures read { (bytes : List ℕ) × Says (R.remaining reader.old) bytes
+        × MatchResult result
+        (λ text. (text.items ≡ bytes) × (length bytes ≤ max_input_bytes))
+        (λ found. IsOutsideOf (Some input) found
+        ⊎ ((max_input_bytes < length bytes) × (found ≡ too_large input))) }
+{
+    match read_input(alloc, reader) {
+        Ok(text) => Ok(text),
+        Err(InputFault::Unreadable) => Err(PlayFault::Read(input)),
+        Err(InputFault::TooLarge) => Err(too_large(input)),
+        Err(InputFault::Memory) => Err(PlayFault::Memory),
+    }
+}
+
 /// The fault of an input that has too many bytes.
 fn too_large(input: Input) -> PlayFault
     ensures { result ≡ too_large input }
@@ -32,20 +48,4 @@ fn too_large_at(site: FaultSite) -> PlayFault
         line: 0,
         site,
     })
-}
-
-/// Reads an input of a run whole.
-pub fn read<R: Read>(alloc: Global, input: Input, reader: &mut R) -> Result<Vec<u8>, PlayFault>
-    ensures read { (bytes : List ℕ) × Says (R.remaining reader.old) bytes
-        × MatchResult result
-        (λ text. (text.items ≡ bytes) × (length bytes ≤ max_input_bytes))
-        (λ found. IsOutsideOf (Some input) found
-        ⊎ ((max_input_bytes < length bytes) × (found ≡ too_large input))) }
-{
-    match read_input(alloc, reader) {
-        Ok(text) => Ok(text),
-        Err(InputFault::Unreadable) => Err(PlayFault::Read(input)),
-        Err(InputFault::TooLarge) => Err(too_large(input)),
-        Err(InputFault::Memory) => Err(PlayFault::Memory),
-    }
 }

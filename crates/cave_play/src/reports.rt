@@ -14,6 +14,40 @@ use edit_scripts::Item;
 use log_replay::{EditFault, GroupFault};
 use std::alloc::{AllocError, Global};
 
+/// Writes of an item what is asked for.
+pub(crate) fn push_outcome(
+    alloc: Global,
+    text: &mut Vec<u8>,
+    item: &Item,
+    view: View,
+    outcome: ItemOutcome,
+) -> Result<(), AllocError>
+    ensures { OnOk result
+        (text.new.items ≡ text.old.items ++ text_of_item view (applied_item item.now) outcome) }
+{
+    match view {
+        View::Transcript => push_report(alloc, text, item, outcome.refusal()),
+        View::Log => Ok(()),
+        View::Reports => push_account(alloc, text, item, outcome),
+    }
+}
+
+/// Writes how many lines were played for all items.
+pub(crate) fn push_totals(
+    alloc: Global,
+    text: &mut Vec<u8>,
+    totals: Totals,
+) -> Result<(), AllocError>
+    ensures { OnOk result
+        (text.new.items ≡ text.old.items ++ totals_line totals.played totals.lines) }
+{
+    let Totals { played, lines } = totals;
+    let told = format!(in alloc;
+        "played {played} lines; from the start it would have been {lines}\n"
+    )?;
+    text.extend_from_slice(told.as_bytes())
+}
+
 /// The number by which a report names a refusal.
 fn refusal_number(fault: EditFault) -> u8
     ensures { result ≡ refusal_number fault }
@@ -79,7 +113,7 @@ fn met_text(alloc: Global, met: Option<u32>) -> Result<String, AllocError>
 }
 
 /// The line of an item that was replayed.
-fn account_of(alloc: Global, item: &Item, replay: ItemReplay) -> Result<String, AllocError>
+fn account_text(alloc: Global, item: &Item, replay: ItemReplay) -> Result<String, AllocError>
     ensures { IfOk result (λ told.
         string_bytes told ≡ account (applied_item item.now) (Replayed replay)) }
 {
@@ -111,41 +145,7 @@ fn push_account(
             let words = refusal_words(fault.cause);
             format!(in alloc; "line {line}: refused {number}, {words}\n")?
         }
-        ItemOutcome::Replayed(replay) => account_of(alloc, item, replay)?,
+        ItemOutcome::Replayed(replay) => account_text(alloc, item, replay)?,
     };
-    text.extend_from_slice(told.as_bytes())
-}
-
-/// Writes of an item what is asked for.
-pub(crate) fn push_outcome(
-    alloc: Global,
-    text: &mut Vec<u8>,
-    item: &Item,
-    view: View,
-    outcome: ItemOutcome,
-) -> Result<(), AllocError>
-    ensures { OnOk result
-        (text.new.items ≡ text.old.items ++ text_of_item view (applied_item item.now) outcome) }
-{
-    match view {
-        View::Transcript => push_report(alloc, text, item, outcome.refusal()),
-        View::Log => Ok(()),
-        View::Reports => push_account(alloc, text, item, outcome),
-    }
-}
-
-/// Writes how many lines were played for all items.
-pub(crate) fn push_totals(
-    alloc: Global,
-    text: &mut Vec<u8>,
-    totals: Totals,
-) -> Result<(), AllocError>
-    ensures { OnOk result
-        (text.new.items ≡ text.old.items ++ totals_line totals.played totals.lines) }
-{
-    let Totals { played, lines } = totals;
-    let told = format!(in alloc;
-        "played {played} lines; from the start it would have been {lines}\n"
-    )?;
     text.extend_from_slice(told.as_bytes())
 }

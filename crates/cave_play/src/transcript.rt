@@ -14,6 +14,35 @@ use log_lines::LogLine;
 use log_replay::Session;
 use std::alloc::{AllocError, Global};
 
+/// Appends the transcript of the play that a session of the machine holds.
+pub(crate) fn tell(
+    alloc: Global,
+    machine: CaveMachine<'_>,
+    session: &Session<CaveMachine<'_>>,
+    text: &mut Vec<u8>,
+) -> Result<(), AllocError>
+    requires { session.now.machine.cave.now ≡ machine.cave.now }
+    ensures { OnOk result (text.new.items ≡ text.old.items
+        ++ play_text machine.entry.cave.now session.now.game) }
+{
+    let cave = machine.cave();
+    render(cave, session.opening(), 0, text)?;
+    let pieces = session.pieces();
+    let lines = session.lines();
+    for (place, turns) in session.tick_counts().enumerate() {
+        let line = session.line(place as u32);
+        push_line(cave, text, line, &pieces[place], turns)?;
+    }
+    let score = machine.score(session.state());
+    push_closing(
+        alloc,
+        text,
+        score,
+        machine.max_score(),
+        session.ticks(lines),
+    )
+}
+
 /// Whether a line of a log is shown.
 #[tactic(auto, unfolding(log_lines::specs::LogLine::log_line))]
 fn is_shown(line: &[u8]) -> bool
@@ -72,33 +101,4 @@ fn push_line(
     }
     push_echo(text, line)?;
     render(cave, piece, turns, text)
-}
-
-/// Appends the transcript of the play that a session of the machine holds.
-pub(crate) fn tell(
-    alloc: Global,
-    machine: CaveMachine<'_>,
-    session: &Session<CaveMachine<'_>>,
-    text: &mut Vec<u8>,
-) -> Result<(), AllocError>
-    requires { session.now.machine.cave.now ≡ machine.cave.now }
-    ensures { OnOk result (text.new.items ≡ text.old.items
-        ++ play_text machine.entry.cave.now session.now.game) }
-{
-    let cave = machine.cave();
-    render(cave, session.opening(), 0, text)?;
-    let pieces = session.pieces();
-    let lines = session.lines();
-    for (place, turns) in session.tick_counts().enumerate() {
-        let line = session.line(place as u32);
-        push_line(cave, text, line, &pieces[place], turns)?;
-    }
-    let score = machine.score(session.state());
-    push_closing(
-        alloc,
-        text,
-        score,
-        machine.max_score(),
-        session.ticks(lines),
-    )
 }

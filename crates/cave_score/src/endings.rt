@@ -2,8 +2,8 @@ ghost use Rattle.std.specs.Prelude.{◌≡◌, ◌≤◌, IsTrue};
 ghost use Rattle.cave_data.specs.Printing.{rating};
 ghost use Rattle.cave_world.specs.State.{takes_no_command};
 ghost use Rattle.cave_things.specs.Bounds.{HasRoom, SaysUpTo, parts_of_end};
-ghost use Rattle.cave_things.specs.Plays.{scene_of, GoesOn};
-ghost use Rattle.cave_things.specs.Things.{cave_of};
+ghost use Rattle.cave_things.specs.Play.{scene_of, GoesOn};
+ghost use Rattle.cave_things.specs.Rules.{cave_of};
 ghost use Rattle.cave_score.specs.Endings.{with_ending, after_next_class, after_score, ending_scene};
 
 use crate::score::{max_score, score};
@@ -11,6 +11,19 @@ use cave_data::Rating;
 use cave_rows::Role;
 use cave_things::{Play, Rules};
 use cave_world::{Ending, NumberLine, Part, State};
+
+/// The game ends, and its score is printed.
+#[tactic(auto, unfolding(crate::specs::Endings::ending_scene))]
+pub fn end(rules: &Rules<'_>, ending: Ending, play: &mut Play<'_>)
+    requires { HasRoom parts_of_end play.old }
+    ensures play { scene_of play.new ≡ ending_scene (cave_of rules.now) ending (scene_of play.old) }
+    ensures same { GoesOn play.old play.new }
+    ensures few { SaysUpTo parts_of_end play.old play.new }
+    ensures over { IsTrue (takes_no_command play.new.state.now) }
+{
+    set_ending(ending, play.state);
+    tell_score(rules, play);
+}
 
 /// Prints how many points are missing for the next class, or that there is none.
 fn tell_next_class(score: u32, class: &Rating<'_>, play: &mut Play<'_>)
@@ -56,17 +69,4 @@ fn set_ending(ending: Ending, state: &mut State)
     ensures over { IsTrue (takes_no_command state.new) }
 {
     state.ending = Some(ending);
-}
-
-/// The game ends, and its score is printed.
-#[tactic(auto, unfolding(crate::specs::Endings::ending_scene))]
-pub fn end(rules: &Rules<'_>, ending: Ending, play: &mut Play<'_>)
-    requires { HasRoom parts_of_end play.old }
-    ensures play { scene_of play.new ≡ ending_scene (cave_of rules.now) ending (scene_of play.old) }
-    ensures same { GoesOn play.old play.new }
-    ensures few { SaysUpTo parts_of_end play.old play.new }
-    ensures over { IsTrue (takes_no_command play.new.state.now) }
-{
-    set_ending(ending, play.state);
-    tell_score(rules, play);
 }

@@ -2,8 +2,8 @@ ghost use Rattle.std.specs.Prelude.{◌≡◌, IsTrue};
 ghost use Rattle.std.specs.FinMap.{get};
 ghost use Rattle.cave_world.specs.State.{takes_no_command};
 ghost use Rattle.cave_things.specs.Bounds.{HasRoom, SaysUpTo, parts_of_question};
-ghost use Rattle.cave_things.specs.Plays.{scene_of, GoesOn};
-ghost use Rattle.cave_things.specs.Things.{cave_of};
+ghost use Rattle.cave_things.specs.Play.{scene_of, GoesOn};
+ghost use Rattle.cave_things.specs.Rules.{cave_of};
 ghost use Rattle.cave_score.specs.Questions.{die_role, after_offer, after_question};
 ghost use Rattle.cave_score.specs.Questions.{after_preface, with_question, asking_scene};
 
@@ -12,6 +12,21 @@ use cave_data::Cave;
 use cave_rows::Role;
 use cave_things::{Play, Rules};
 use cave_world::{HintNumber, NumberLine, Part, Question, State};
+
+/// A question is asked, and the next line answers it.
+#[tactic(auto, unfolding(crate::specs::Questions::asking_scene, cave_world::specs::State::takes_no_command))]
+pub fn ask(rules: &Rules<'_>, question: &Question, play: &mut Play<'_>)
+    requires { HasRoom parts_of_question play.old }
+    ensures play { scene_of play.new
+        ≡ asking_scene (cave_of rules.now) question.now (scene_of play.old) }
+    ensures same { GoesOn play.old play.new }
+    ensures few { SaysUpTo parts_of_question play.old play.new }
+    ensures over { IsTrue (takes_no_command play.new.state.now) }
+{
+    tell_preface(rules, question, play);
+    tell_question(rules, question, play);
+    set_question(question, play.state);
+}
 
 /// The message that asks a player who has died whether to come back.
 fn die_role(state: &State) -> Role
@@ -78,19 +93,4 @@ fn set_question(question: &Question, state: &mut State)
     ensures { state.new ≡ with_question question.now state.old }
 {
     state.question = Some(*question);
-}
-
-/// A question is asked, and the next line answers it.
-#[tactic(auto, unfolding(crate::specs::Questions::asking_scene, cave_world::specs::State::takes_no_command))]
-pub fn ask(rules: &Rules<'_>, question: &Question, play: &mut Play<'_>)
-    requires { HasRoom parts_of_question play.old }
-    ensures play { scene_of play.new
-        ≡ asking_scene (cave_of rules.now) question.now (scene_of play.old) }
-    ensures same { GoesOn play.old play.new }
-    ensures few { SaysUpTo parts_of_question play.old play.new }
-    ensures over { IsTrue (takes_no_command play.new.state.now) }
-{
-    tell_preface(rules, question, play);
-    tell_question(rules, question, play);
-    set_question(question, play.state);
 }

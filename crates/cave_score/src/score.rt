@@ -1,5 +1,5 @@
 ghost use Rattle.std.specs.Prelude.{◌≡◌, ◌≤◌, ◌<◌};
-ghost use Rattle.cave_things.specs.Things.{cave_of};
+ghost use Rattle.cave_things.specs.Rules.{cave_of};
 ghost use Rattle.cave_score.specs.Score.{life_points, ending_points, dwarf_points, closing_points};
 ghost use Rattle.cave_score.specs.Score.{escape_points, closed_points, lies_at, magazine_points};
 ghost use Rattle.cave_score.specs.Score.{points_of, is_taken, price_of, hint_costs};
@@ -12,9 +12,8 @@ use cave_objects::{Object, Place};
 use cave_rows::PlaceRole;
 use cave_things::{Rules, place_named};
 use cave_words::Named;
+use cave_world::hints::LAST_HINT;
 use cave_world::{Ending, State};
-
-const LAST_HINT: u16 = 20;
 
 fn life_points(state: &State) -> u32
     ensures value { result ≡ life_points state.now }
@@ -114,7 +113,7 @@ fn points(rules: &Rules<'_>, state: &State) -> u32
 }
 
 #[tactic(auto, unfolding(crate::specs::Score::price_of))]
-fn price(cave: &Cave, hint: u16) -> u32
+fn hint_price(cave: &Cave, hint: u16) -> u32
     ensures value { result ≡ price_of cave.now hint }
     ensures most { result ≤ 65535 }
 {
@@ -138,9 +137,9 @@ fn hint_costs(cave: &Cave, state: &State) -> u32
     ensures { result ≡ hint_costs cave.now state.now }
 {
     let mut costs = 0;
-    for hint in 1..LAST_HINT + 1 {
+    for hint in 1..LAST_HINT as u16 + 1 {
         if is_taken(state, hint) {
-            costs += price(cave, hint);
+            costs += hint_price(cave, hint);
         }
     }
     costs

@@ -1,5 +1,5 @@
 ghost use Rattle.std.specs.Prelude.{◌≡◌, ◌≤◌};
-ghost use Rattle.cave_things.specs.Things.{cave_of};
+ghost use Rattle.cave_things.specs.Rules.{cave_of};
 ghost use Rattle.cave_score.specs.Treasures.{is_seen, is_safe, points_of_treasure, treasure_points};
 
 use crate::worths::worth;

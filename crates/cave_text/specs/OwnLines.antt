@@ -11,8 +11,8 @@ abbrev pub number_between : List ℕ → ℕ → List ℕ → List ℕ
 number_between before n after = before ++ (decimal n ++ after)
 
 -- points, of which there may be one, and the end of the line
-abbrev pub points : ℕ → List ℕ
-points n = if n == 1 then codes " point.\n" else codes " points.\n"
+abbrev pub points_end : ℕ → List ℕ
+points_end n = if n == 1 then codes " point.\n" else codes " points.\n"
 
 abbrev pub more_points : ℕ → List ℕ
 more_points n = if n == 1 then codes " more point.\n" else codes " more points.\n"
@@ -35,7 +35,7 @@ number_line number.KnivesThrown n most =
     number_between (codes "") n (codes " of them throw knives at you!\n")
 number_line number.KnivesHit n most = number_between (codes "") n (codes " of them get you!\n")
 number_line number.HintCosts n most =
-    number_between (codes "I am prepared to give you a hint, but it will cost you ") n (points n)
+    number_between (codes "I am prepared to give you a hint, but it will cost you ") n (points_end n)
 number_line number.ScoreNow n most =
     score_line (codes "If you were to quit now, you would score ") n most (codes ".\n")
 number_line number.PointsWanted n most =

@@ -1,7 +1,7 @@
 ghost use Rattle.std.specs.Prelude.{◌≡◌, ◌++◌, take, vec_len, decimal, OnOk};
 ghost use Rattle.cave_text.specs.OwnLines.{number_between, score_line, word_between, number_line};
 ghost use Rattle.cave_text.specs.OwnLines.{word_line};
-ghost use Rattle.cave_text.specs.OwnLines.{final_line, points, more_points, turn_count};
+ghost use Rattle.cave_text.specs.OwnLines.{final_line, points_end, more_points, turn_count};
 
 use cave_words::Word;
 use cave_world::{NumberLine, WordLine};
@@ -31,8 +31,8 @@ fn quote(text: &mut Vec<u8>, before: &[u8], word: Word, after: &[u8]) -> Result<
     text.extend_from_slice(after)
 }
 
-fn points(number: u32) -> &'static [u8]
-    ensures { result.now ≡ points number }
+fn points_end(number: u32) -> &'static [u8]
+    ensures { result.now ≡ points_end number }
 {
     if number == 1 {
         b" point.\n"
@@ -101,7 +101,7 @@ pub fn append_number_line(
             text,
             b"I am prepared to give you a hint, but it will cost you ",
             number,
-            points(number),
+            points_end(number),
         ),
         NumberLine::ScoreNow => append_score(
             text,

@@ -9,6 +9,20 @@ use cave_rows::Role;
 use cave_world::Part;
 use std::alloc::AllocError;
 
+/// Appends what the parts print at a number of turns. Where memory runs out the text is as it was.
+pub fn render(cave: &Cave, parts: &[Part], turns: u32, text: &mut Vec<u8>) -> Result<(), AllocError>
+    ensures ok { OnOk result
+        (text.new.items ≡ text.old.items ++ text_of_all cave.now turns parts.now) }
+    ensures err { OnErr result (text.new.items ≡ text.old.items) }
+{
+    let before = text.len();
+    let appended = append_all(cave, parts, turns, text);
+    if appended.is_err() {
+        text.truncate(before);
+    }
+    appended
+}
+
 fn append_name(role: Role, text: &mut Vec<u8>) -> Result<(), AllocError>
     ensures ok { OnOk result (text.new.items ≡ text.old.items ++ name_line role) }
     ensures front { take (vec_len text.old) text.new.items ≡ text.old.items }
@@ -80,18 +94,4 @@ fn append_all(cave: &Cave, parts: &[Part], turns: u32, text: &mut Vec<u8>) -> Re
         append(cave, *part, turns, text)?;
     }
     Ok(())
-}
-
-/// Appends what the parts print at a number of turns. Where memory runs out the text is as it was.
-pub fn render(cave: &Cave, parts: &[Part], turns: u32, text: &mut Vec<u8>) -> Result<(), AllocError>
-    ensures ok { OnOk result
-        (text.new.items ≡ text.old.items ++ text_of_all cave.now turns parts.now) }
-    ensures err { OnErr result (text.new.items ≡ text.old.items) }
-{
-    let before = text.len();
-    let appended = append_all(cave, parts, turns, text);
-    if appended.is_err() {
-        text.truncate(before);
-    }
-    appended
 }

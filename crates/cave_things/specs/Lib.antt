@@ -5,8 +5,8 @@ pub mod Homes
 pub mod Liquids
 pub mod Panic
 pub mod Places
-pub mod Plays
+pub mod Play
 pub mod Reach
+pub mod Rules
 pub mod SpecialWords
-pub mod Things
 pub mod Treasures

@@ -12,7 +12,7 @@ use Rattle.cave_objects.specs.declared.spot.Anchor.{Anchor}
 use Rattle.cave_objects.specs.declared.spot.Anchor.TheVariants as anchor
 use Rattle.cave_world.specs.declared.dwarves.Dwarf.{Dwarf}
 use Rattle.cave_world.specs.declared.state.State.{State}
-use Rattle.cave_things.specs.Things.{thing}
+use Rattle.cave_things.specs.Rules.{thing}
 use Rattle.cave_things.specs.Liquids.{liquid_of, is_liquid}
 
 -- an object is the one of a name

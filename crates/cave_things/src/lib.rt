@@ -12,8 +12,8 @@ pub mod places;
 pub mod play;
 pub mod reach;
 pub mod rules;
+pub mod special_words;
 pub mod treasures;
-pub mod words;
 
 pub use conditions::Condition;
 pub use effects::{let_go, lose, lose_one, pay_troll, put_down};

@@ -6,7 +6,7 @@ use cave_rows::Role;
 use cave_world::{Out, Part, State};
 
 /// The most forced motions of a turn.
-pub const FORCED_MOTIONS: u8 = 20;
+pub const MAX_FORCED_MOTIONS: u8 = 20;
 
 /// A turn while it is played.
 #[derive(Drop)]
@@ -23,10 +23,10 @@ pub struct Play<'a> {
 
 impl<'a> Play<'a> {
     ghost use Rattle.cave_things.specs.Bounds.{HasRoom, SaysUpTo};
-    ghost use Rattle.cave_things.specs.Plays.{scene_of, GoesOn, scene_at_start, after_telling};
-    ghost use Rattle.cave_things.specs.Plays.{after_saying};
-    ghost use Rattle.cave_things.specs.Plays.{after_look_at};
-    ghost use Rattle.cave_things.specs.Plays.{scene_at_place, after_setting_out, after_draw, happens};
+    ghost use Rattle.cave_things.specs.Play.{scene_of, GoesOn, scene_at_start, after_telling};
+    ghost use Rattle.cave_things.specs.Play.{after_saying};
+    ghost use Rattle.cave_things.specs.Play.{after_look_at};
+    ghost use Rattle.cave_things.specs.Play.{scene_at_place, after_setting_out, after_draw, happens};
 
     /// A turn begins with nothing said, and with all its forced motions.
     pub fn open(state: &'a mut State, out: &'a mut Out, was_dark: bool) -> Play<'a>
@@ -40,7 +40,7 @@ impl<'a> Play<'a> {
             state,
             out,
             was_dark,
-            left: FORCED_MOTIONS,
+            left: MAX_FORCED_MOTIONS,
         }
     }
 

@@ -1,6 +1,6 @@
 ghost use Rattle.std.specs.Prelude.{◌≡◌, take};
 ghost use Rattle.std.specs.List.{list_any};
-ghost use Rattle.cave_things.specs.Things.{cave_of};
+ghost use Rattle.cave_things.specs.Rules.{cave_of};
 ghost use Rattle.cave_things.specs.Reach.{is_called, is_one_of, is_in_hand, is_near, is_fixed};
 ghost use Rattle.cave_things.specs.Reach.{is_treasure};
 ghost use Rattle.cave_things.specs.Reach.{has_prop, has_other_prop, has_prop_up_to, is_dwarf_at};

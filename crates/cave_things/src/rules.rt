@@ -19,7 +19,7 @@ pub struct Rules<'a> {
 }
 
 impl<'a> Rules<'a> {
-    ghost use Rattle.cave_things.specs.Things.{cave_of, is_liquid_name, object_called, thing};
+    ghost use Rattle.cave_things.specs.Rules.{cave_of, is_liquid_name, object_called, thing};
 
     /// The rules of a cave, with the lexicon of that cave.
     pub fn of(cave: &'a Cave, lexicon: &'a Lexicon) -> Rules<'a>
@@ -44,7 +44,7 @@ impl<'a> Rules<'a> {
     }
 
     /// The object that the word of a name means.
-    #[tactic(auto, unfolding(crate::specs::Things::object_called))]
+    #[tactic(auto, unfolding(crate::specs::Rules::object_called))]
     fn called(&self, name: Named) -> Object
         ensures { result ≡ object_called (cave_of self.now) name }
     {
@@ -58,7 +58,7 @@ impl<'a> Rules<'a> {
     }
 
     /// The object of a name; object 0 where the cave has none.
-    #[tactic(auto, unfolding(crate::specs::Things::thing))]
+    #[tactic(auto, unfolding(crate::specs::Rules::thing))]
     pub fn object(&self, name: Named) -> Object
         ensures { result ≡ thing (cave_of self.now) name }
     {

@@ -4,7 +4,7 @@ use Rattle.std.specs.Prelude.{Some, None, codes, slice_set}
 use Rattle.cave_data.specs.CaveView.{CaveView}
 use Rattle.cave_rows.specs.declared.role.Role.TheVariants as role
 use Rattle.cave_moves.specs.Arrival.{arrival_scene}
-use Rattle.cave_things.specs.Plays.{Scene, scene_at_start, after_saying, with_state}
+use Rattle.cave_things.specs.Play.{Scene, scene_at_start, after_saying, with_state}
 use Rattle.cave_things.specs.Places.{start_place}
 use Rattle.cave_words.specs.Word.{is_written}
 use Rattle.cave_words.specs.Words.{words_of}

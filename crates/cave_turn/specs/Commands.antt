@@ -6,10 +6,10 @@ use Rattle.cave_rows.specs.declared.role.Role.{Role}
 use Rattle.cave_rows.specs.declared.role.Role.TheVariants as role
 use Rattle.cave_moves.specs.Arrival.{arrival_scene, description_anew}
 use Rattle.cave_moves.specs.Journeys.{journey_by_request}
-use Rattle.cave_things.specs.Plays.{Scene, scene_at_start, after_telling, after_saying, with_state}
-use Rattle.cave_things.specs.Plays.{after_draw}
-use Rattle.cave_things.specs.Plays.{happens}
-use Rattle.cave_things.specs.Things.{thing}
+use Rattle.cave_things.specs.Play.{Scene, scene_at_start, after_telling, after_saying, with_state}
+use Rattle.cave_things.specs.Play.{after_draw}
+use Rattle.cave_things.specs.Play.{happens}
+use Rattle.cave_things.specs.Rules.{thing}
 use Rattle.cave_verbs.specs.Acting.{outcome_of_command, next_of_step}
 use Rattle.cave_verbs.specs.declared.next.Next.{Next}
 use Rattle.cave_verbs.specs.declared.next.Next.TheVariants.{Stay, Keep, Describe, Arrive, Ask, End}

@@ -1,8 +1,8 @@
-pub mod ObjectWords
-pub mod Reading
-pub mod Finish
-pub mod Revival
+pub mod Answers
 pub mod Commands
 pub mod Dragon
-pub mod Answers
-pub mod Turn
+pub mod Finish
+pub mod ObjectWords
+pub mod Reading
+pub mod Revival
+pub mod Turns

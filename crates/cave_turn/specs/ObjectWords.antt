@@ -4,10 +4,11 @@ use Rattle.std.specs.Prelude.{[], ◌∷◌, Option, Some, None}
 use Rattle.cave_data.specs.CaveView.{CaveView}
 use Rattle.cave_things.specs.Liquids.{liquid_of, lake_of, is_liquid}
 use Rattle.cave_things.specs.Reach.{is_called, is_in_hand, is_near, has_other_prop, is_dwarf_here}
-use Rattle.cave_things.specs.Things.{thing}
+use Rattle.cave_things.specs.Rules.{thing}
 use Rattle.cave_verbs.specs.Verbs as verb
 use Rattle.cave_words.specs.declared.named.Named.TheVariants as name
 use Rattle.cave_objects.specs.Objects.{is_object_at}
+use Rattle.cave_world.specs.Motion.{DEPRESSION, ENTRANCE}
 use Rattle.cave_world.specs.declared.dwarves.Knife.{Knife}
 use Rattle.cave_world.specs.declared.dwarves.Knife.TheVariants as knife
 use Rattle.cave_world.specs.declared.state.State.{State}
@@ -60,8 +61,8 @@ unfoldable pub object_word : CaveView → State → Option ℕ → Bool → ℕ 
 object_word cave s v is_alone k =
     first_that_fits (
     (is_there cave s k, Is k)
-    ∷ (is_called cave k name.Grate && is_above_grate s.trail.here, Leads 63)
-    ∷ (is_called cave k name.Grate && is_below_grate s.trail.here, Leads 64)
+    ∷ (is_called cave k name.Grate && is_above_grate s.trail.here, Leads DEPRESSION)
+    ∷ (is_called cave k name.Grate && is_below_grate s.trail.here, Leads ENTRANCE)
     ∷ (is_called cave k name.Dwarf && is_dwarf_here s, Is k)
     ∷ (is_liquid_here cave s k, Is k)
     ∷ (is_grown_plant cave s k, Is (thing cave name.SecondPlant))

@@ -4,8 +4,8 @@ use Rattle.std.specs.Prelude.{Option, Some, None}
 use Rattle.cave_data.specs.CaveView.{CaveView}
 use Rattle.cave_rows.specs.declared.role.Role.TheVariants as role
 use Rattle.cave_things.specs.Liquids.{lake_of, is_liquid}
-use Rattle.cave_things.specs.Things.{or_no_object}
-use Rattle.cave_things.specs.Things.{thing}
+use Rattle.cave_things.specs.Rules.{or_no_object}
+use Rattle.cave_things.specs.Rules.{thing}
 use Rattle.cave_verbs.specs.Verbs as verb
 use Rattle.cave_words.specs.Meaning.{meaning}
 use Rattle.cave_words.specs.Word.{is_written, word_of}
@@ -14,6 +14,7 @@ use Rattle.cave_words.specs.declared.meaning.Class.TheVariants as class
 use Rattle.cave_words.specs.declared.meaning.Meaning.{Meaning}
 use Rattle.cave_words.specs.declared.named.Named.TheVariants as name
 use Rattle.cave_objects.specs.Objects.{is_object_at}
+use Rattle.cave_world.specs.Motion.{XYZZY, PLUGH, PLOVER}
 use Rattle.cave_world.specs.declared.part.Part.TheVariants as part
 use Rattle.cave_world.specs.declared.part.WordLine.TheVariants as line
 use Rattle.cave_world.specs.declared.state.State.{State}
@@ -76,7 +77,7 @@ word_alone cave s half w = meaning_alone cave s half w.word w.meaning
 
 -- three motions and the magic words are done where they are said aloud
 abbrev pub is_magic_by : Class → ℕ → Bool
-is_magic_by class.Motion n = n == 62 || n == 65 || n == 71
+is_magic_by class.Motion n = n == XYZZY || n == PLUGH || n == PLOVER
 is_magic_by class.Object n = false
 is_magic_by class.Action n = n == verb.FOO
 is_magic_by class.Special n = false

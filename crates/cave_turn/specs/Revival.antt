@@ -8,9 +8,9 @@ use Rattle.cave_score.specs.Deaths.{with_one_death}
 use Rattle.cave_score.specs.Endings.{ending_scene}
 use Rattle.cave_things.specs.Effects.{with_objects}
 use Rattle.cave_things.specs.Places.{building_place, start_place}
-use Rattle.cave_things.specs.Plays.{Scene, after_saying, with_state}
+use Rattle.cave_things.specs.Play.{Scene, after_saying, with_state}
 use Rattle.cave_things.specs.Reach.{is_called, is_in_hand}
-use Rattle.cave_things.specs.Things.{thing}
+use Rattle.cave_things.specs.Rules.{thing}
 use Rattle.cave_words.specs.declared.named.Named.TheVariants as name
 use Rattle.cave_objects.specs.Layout.{Layout}
 use Rattle.cave_objects.specs.Objects.{is_carried, with_place, with_prop}

@@ -2,8 +2,8 @@ ghost use Rattle.std.specs.Prelude.{◌≡◌, ◌+◌, ◌<◌, ◌≤◌, []};
 ghost use Rattle.arrayvec.specs.ArrayVec.{array_vec_len};
 ghost use Rattle.cave_things.specs.Bounds.{HasRoom, SaysUpTo, parts_of_arrival, parts_of_end};
 ghost use Rattle.cave_things.specs.Bounds.{parts_of_finish, parts_of_question, parts_of_answer};
-ghost use Rattle.cave_things.specs.Plays.{scene_of, IsSamePlay, GoesOn};
-ghost use Rattle.cave_things.specs.Things.{cave_of};
+ghost use Rattle.cave_things.specs.Play.{scene_of, IsSamePlay, GoesOn};
+ghost use Rattle.cave_things.specs.Rules.{cave_of};
 ghost use Rattle.cave_turn.specs.Answers.{answer_of, answer_in, after_instructions, with_oyster_hint};
 ghost use Rattle.cave_turn.specs.Answers.{entrance_scene, quit_scene, yes_scene, no_scene};
 ghost use Rattle.cave_turn.specs.Answers.{reply_scene};
@@ -33,8 +33,33 @@ pub enum Answer {
 /// The index of the hint that explains how to play.
 const INSTRUCTIONS: usize = 2;
 
+/// How many turns the lamp of a player burns who asked for the instructions.
+const INSTRUCTED_CHARGE: i32 = 1000;
+
 /// The index of the hint that is written under the oyster.
 const CLUE: usize = 1;
+
+/// Takes a line as the answer to the open question.
+#[tactic(auto, unfolding(crate::specs::Answers::answer_scene))]
+pub fn take_answer(
+    rules: &Rules<'_>,
+    question: &Question,
+    line: &[u8],
+    state: &mut State,
+    out: &mut Out,
+)
+    requires { out.old.items ≡ [] }
+    ensures state { (answer_scene (cave_of rules.now) question.now line.now state.old).state
+        ≡ state.new }
+    ensures parts { (answer_scene (cave_of rules.now) question.now line.now state.old).parts
+        ≡ out.new.items }
+    ensures few { array_vec_len out.new ≤ parts_of_answer }
+{
+    let answer = answer_in(rules, line);
+    let mut play = Play::open(state, out, false);
+    take(rules, question, answer, &mut play);
+    conclude(rules, question, &mut play);
+}
 
 fn answer_of(word: Word) -> Answer
     ensures { result ≡ answer_of word }
@@ -64,7 +89,7 @@ fn instruct(state: &mut State)
     ensures { state.new ≡ after_instructions state.old }
 {
     state.hints.is_taken[INSTRUCTIONS] = true;
-    state.lamp.charge = Charge::new(1000);
+    state.lamp.charge = Charge::new(INSTRUCTED_CHARGE);
 }
 
 /// The hint under the oyster was given.
@@ -186,28 +211,6 @@ fn conclude(rules: &Rules<'_>, question: &Question, play: &mut Play<'_>)
     if !is_of_hint(question) {
         finish(rules, play);
     }
-}
-
-/// Takes a line as the answer to the open question.
-#[tactic(auto, unfolding(crate::specs::Answers::answer_scene))]
-pub fn take_answer(
-    rules: &Rules<'_>,
-    question: &Question,
-    line: &[u8],
-    state: &mut State,
-    out: &mut Out,
-)
-    requires { out.old.items ≡ [] }
-    ensures state { (answer_scene (cave_of rules.now) question.now line.now state.old).state
-        ≡ state.new }
-    ensures parts { (answer_scene (cave_of rules.now) question.now line.now state.old).parts
-        ≡ out.new.items }
-    ensures few { array_vec_len out.new ≤ parts_of_answer }
-{
-    let answer = answer_in(rules, line);
-    let mut play = Play::open(state, out, false);
-    take(rules, question, answer, &mut play);
-    conclude(rules, question, &mut play);
 }
 
 /// Whether a line answers a question, and isn't a command: a player who is asked whether to fight

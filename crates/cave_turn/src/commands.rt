@@ -3,8 +3,8 @@ ghost use Rattle.arrayvec.specs.ArrayVec.{array_vec_len};
 ghost use Rattle.cave_things.specs.Bounds.{HasRoom, SaysUpTo, parts_of_journey, parts_of_end};
 ghost use Rattle.cave_things.specs.Bounds.{parts_of_arrival, parts_of_command, room_of_deed};
 ghost use Rattle.cave_things.specs.Bounds.{parts_of_deed, room_of_timed_deed, parts_of_timed_deed};
-ghost use Rattle.cave_things.specs.Plays.{scene_of, scene_at_start, IsSamePlay, GoesOn};
-ghost use Rattle.cave_things.specs.Things.{cave_of};
+ghost use Rattle.cave_things.specs.Play.{scene_of, scene_at_start, IsSamePlay, GoesOn};
+ghost use Rattle.cave_things.specs.Rules.{cave_of};
 ghost use Rattle.cave_turn.specs.Commands.{with_magic_waiting, knife_here, with_knife};
 ghost use Rattle.cave_turn.specs.Commands.{after_beginning};
 ghost use Rattle.cave_turn.specs.Commands.{travel_scene, puzzlement, puzzled_scene, after_vanished_knives};
@@ -25,6 +25,22 @@ use cave_things::{Play, Rules};
 use cave_verbs::{Command, Next, act};
 use cave_words::{Named, Word, Words};
 use cave_world::{Ending, Knife, Magic, Out, Part, State, WordLine};
+
+/// Does what a line commands.
+#[tactic(auto, unfolding(crate::specs::Commands::command_scene))]
+pub fn command(rules: &Rules<'_>, line: &[u8], state: &mut State, out: &mut Out)
+    requires { out.old.items ≡ [] }
+    ensures state { (command_scene (cave_of rules.now) line.now state.old).state ≡ state.new }
+    ensures parts { (command_scene (cave_of rules.now) line.now state.old).parts ≡ out.new.items }
+    ensures few { array_vec_len out.new ≤ parts_of_command }
+{
+    begin_command(state);
+    let was_dark = state.is_dark(rules.cave, rules.object(Named::Lamp));
+    let words = rules.words_of(line);
+    let mut play = Play::open(state, out, was_dark);
+    do_in_time(rules, words, &mut play);
+    finish(rules, &mut play);
+}
 
 /// The magic words go on from where the last command left them, and stop where it left them twice.
 fn wait_for_magic(state: &mut State)
@@ -51,7 +67,7 @@ fn knife_here(here: Place, knife: Knife) -> Knife
 }
 
 #[tactic(auto, unfolding(crate::specs::Commands::after_beginning))]
-fn begin(state: &mut State)
+fn begin_command(state: &mut State)
     ensures { state.new ≡ after_beginning state.old }
 {
     wait_for_magic(state);
@@ -200,7 +216,7 @@ fn do_reading(
 }
 
 /// What is kept is remembered; where nothing is, the object that was read is the last one.
-fn remember(kept: Option<HalfCommand>, object: Object, state: &mut State)
+fn remember_command(kept: Option<HalfCommand>, object: Object, state: &mut State)
     ensures { state.new ≡ after_remembering kept object state.old }
 {
     match kept {
@@ -226,7 +242,7 @@ fn carry_out(rules: &Rules<'_>, understood: &Understood, play: &mut Play<'_>)
     ensures few { SaysUpTo (parts_of_deed play.old.left) play.old play.new }
 {
     let kept = do_reading(rules, understood, play);
-    remember(kept, understood.half.object, play.state);
+    remember_command(kept, understood.half.object, play.state);
 }
 
 /// Does what the words of a line say.
@@ -254,7 +270,7 @@ fn forget(play: &mut Play<'_>)
     ensures same { GoesOn play.old play.new }
     ensures few { SaysUpTo 0 play.old play.new }
 {
-    remember(None, Object::none(), play.state);
+    remember_command(None, Object::none(), play.state);
 }
 
 /// Does what the clocks leave of a command.
@@ -288,20 +304,4 @@ fn do_in_time(rules: &Rules<'_>, words: Words, play: &mut Play<'_>)
 {
     let clocks = run_clocks(rules, play);
     go_on(rules, words, clocks, play);
-}
-
-/// Does what a line commands.
-#[tactic(auto, unfolding(crate::specs::Commands::command_scene))]
-pub fn command(rules: &Rules<'_>, line: &[u8], state: &mut State, out: &mut Out)
-    requires { out.old.items ≡ [] }
-    ensures state { (command_scene (cave_of rules.now) line.now state.old).state ≡ state.new }
-    ensures parts { (command_scene (cave_of rules.now) line.now state.old).parts ≡ out.new.items }
-    ensures few { array_vec_len out.new ≤ parts_of_command }
-{
-    begin(state);
-    let was_dark = state.is_dark(rules.cave, rules.object(Named::Lamp));
-    let words = rules.words_of(line);
-    let mut play = Play::open(state, out, was_dark);
-    do_in_time(rules, words, &mut play);
-    finish(rules, &mut play);
 }

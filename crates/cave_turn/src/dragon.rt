@@ -1,18 +1,17 @@
 ghost use Rattle.std.specs.Prelude.{◌≡◌, ◌+◌, ◌<◌, ◌≤◌};
 ghost use Rattle.cave_things.specs.Bounds.{HasRoom, SaysUpTo, parts_of_arrival};
-ghost use Rattle.cave_things.specs.Plays.{scene_of, IsSamePlay};
-ghost use Rattle.cave_things.specs.Things.{cave_of};
+ghost use Rattle.cave_things.specs.Play.{scene_of, IsSamePlay};
+ghost use Rattle.cave_things.specs.Rules.{cave_of};
 ghost use Rattle.cave_turn.specs.Dragon.{between, lair, is_by_dragon, after_gathering};
 ghost use Rattle.cave_turn.specs.Dragon.{after_slaying, after_clearing};
 ghost use Rattle.cave_turn.specs.Dragon.{fight_scene};
 
 use cave_moves::arrive;
+use cave_objects::object::LAST_OBJECT;
 use cave_objects::{Anchor, Object, Objects, Place, Prop};
 use cave_things::{Play, Rules};
 use cave_words::Named;
 use cave_world::State;
-
-const LAST_OBJECT: u8 = 100;
 
 fn between(one: Place, other: Place, here: Place) -> Place
     ensures { result ≡ between one other here }
@@ -53,7 +52,7 @@ fn is_by_dragon(rules: &Rules<'_>, objects: &Objects, object: Object) -> bool
 fn gather(rules: &Rules<'_>, place: Place, objects: &mut Objects)
     ensures { objects.new ≡ after_gathering (cave_of rules.now) place 100 objects.old }
 {
-    for before in 0..LAST_OBJECT {
+    for before in 0..LAST_OBJECT as u8 {
         let object = Object::new(before + 1);
         if is_by_dragon(rules, objects, object) {
             objects.move_to(object, place);

@@ -2,8 +2,8 @@
 
 ghost use Rattle.std.specs.Prelude.{◌≡◌, ◌+◌};
 ghost use Rattle.cave_things.specs.Bounds.{HasRoom, SaysUpTo, parts_of_finish, parts_of_question};
-ghost use Rattle.cave_things.specs.Plays.{scene_of, GoesOn};
-ghost use Rattle.cave_things.specs.Things.{cave_of};
+ghost use Rattle.cave_things.specs.Play.{scene_of, GoesOn};
+ghost use Rattle.cave_things.specs.Rules.{cave_of};
 ghost use Rattle.cave_turn.specs.Finish.{is_hidden_in_hand, after_oyster_shows, layout_with_shown};
 ghost use Rattle.cave_turn.specs.Finish.{layout_with_shown_up_to, after_hands_show, end_of_turn};
 
@@ -12,6 +12,21 @@ use cave_objects::object::LAST_OBJECT;
 use cave_objects::{Object, Objects, Prop};
 use cave_things::{Play, Rules};
 use cave_words::Named;
+
+/// A turn ends; after a question or the end of the game nothing more is done.
+#[tactic(auto, unfolding(crate::specs::Finish::end_of_turn))]
+pub fn finish(rules: &Rules<'_>, play: &mut Play<'_>)
+    requires { HasRoom (parts_of_finish + parts_of_question) play.old }
+    ensures play { scene_of play.new ≡ end_of_turn (cave_of rules.now) (scene_of play.old) }
+    ensures same { GoesOn play.old play.new }
+    ensures few { SaysUpTo parts_of_finish play.old play.new }
+{
+    if play.state.takes_no_command() {
+        return;
+    }
+    show_hands(rules, play);
+    consider_all(rules, play);
+}
 
 /// Whether an object is carried and shows nothing yet.
 fn is_hidden_in_hand(objects: &Objects, object: Object) -> bool
@@ -65,19 +80,4 @@ fn show_hands(rules: &Rules<'_>, play: &mut Play<'_>)
         show_oyster(rules, play);
         show_objects(&mut play.state.objects);
     }
-}
-
-/// A turn ends; after a question or the end of the game nothing more is done.
-#[tactic(auto, unfolding(crate::specs::Finish::end_of_turn))]
-pub fn finish(rules: &Rules<'_>, play: &mut Play<'_>)
-    requires { HasRoom (parts_of_finish + parts_of_question) play.old }
-    ensures play { scene_of play.new ≡ end_of_turn (cave_of rules.now) (scene_of play.old) }
-    ensures same { GoesOn play.old play.new }
-    ensures few { SaysUpTo parts_of_finish play.old play.new }
-{
-    if play.state.takes_no_command() {
-        return;
-    }
-    show_hands(rules, play);
-    consider_all(rules, play);
 }

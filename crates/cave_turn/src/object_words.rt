@@ -1,12 +1,12 @@
 ghost use Rattle.std.specs.Prelude.{◌≡◌};
-ghost use Rattle.cave_things.specs.Things.{cave_of};
+ghost use Rattle.cave_things.specs.Rules.{cave_of};
 ghost use Rattle.cave_turn.specs.ObjectWords.{is_there, is_liquid_here, is_grown_plant};
 ghost use Rattle.cave_turn.specs.ObjectWords.{is_knife_at, is_sought, is_above_grate};
 ghost use Rattle.cave_turn.specs.ObjectWords.{is_below_grate, object_word};
 
 use cave_objects::{Object, Place};
 use cave_things::{Rules, has_other_prop, is_dwarf_here, is_liquid};
-use cave_verbs::verb::{FIND, INVENTORY};
+use cave_verbs::verbs::{FIND, INVENTORY};
 use cave_words::Named;
 use cave_world::{Knife, State, motion};
 
@@ -21,6 +21,49 @@ pub enum ObjectWord {
     Knives,
     /// The player sees no such object.
     Unseen,
+}
+
+/// What the word of an object says, with the verb that was said before it.
+#[tactic(auto, unfolding(crate::specs::ObjectWords::object_word))]
+pub fn object_word(
+    rules: &Rules<'_>,
+    state: &State,
+    verb: Option<u16>,
+    is_alone: bool,
+    object: Object,
+) -> ObjectWord
+    ensures { result ≡ object_word (cave_of rules.now) state.now verb is_alone object }
+{
+    let here = state.trail.here;
+    if is_there(rules, state, object) {
+        return ObjectWord::Is(object);
+    }
+    if rules.is(object, Named::Grate) && is_above_grate(here) {
+        return ObjectWord::Leads(motion::DEPRESSION);
+    }
+    if rules.is(object, Named::Grate) && is_below_grate(here) {
+        return ObjectWord::Leads(motion::ENTRANCE);
+    }
+    if rules.is(object, Named::Dwarf) && is_dwarf_here(state) {
+        return ObjectWord::Is(object);
+    }
+    if is_liquid_here(rules, state, object) {
+        return ObjectWord::Is(object);
+    }
+    if is_grown_plant(rules, state, object) {
+        return ObjectWord::Is(rules.object(Named::SecondPlant));
+    }
+    if rules.is(object, Named::Knife) && is_knife_at(here, state.dwarves.knife) {
+        return ObjectWord::Knives;
+    }
+    let second_rod = rules.object(Named::SecondRod);
+    if rules.is(object, Named::Rod) && rules.is_near(state, second_rod) {
+        return ObjectWord::Is(second_rod);
+    }
+    if is_alone && is_sought(verb) {
+        return ObjectWord::Is(object);
+    }
+    ObjectWord::Unseen
 }
 
 #[tactic(auto, unfolding(crate::specs::ObjectWords::is_there))]
@@ -76,47 +119,4 @@ fn is_below_grate(here: Place) -> bool
     ensures { result ≡ is_below_grate here }
 {
     10 <= here.number() && here.number() <= 14
-}
-
-/// What the word of an object says, with the verb that was said before it.
-#[tactic(auto, unfolding(crate::specs::ObjectWords::object_word))]
-pub fn object_word(
-    rules: &Rules<'_>,
-    state: &State,
-    verb: Option<u16>,
-    is_alone: bool,
-    object: Object,
-) -> ObjectWord
-    ensures { result ≡ object_word (cave_of rules.now) state.now verb is_alone object }
-{
-    let here = state.trail.here;
-    if is_there(rules, state, object) {
-        return ObjectWord::Is(object);
-    }
-    if rules.is(object, Named::Grate) && is_above_grate(here) {
-        return ObjectWord::Leads(motion::DEPRESSION);
-    }
-    if rules.is(object, Named::Grate) && is_below_grate(here) {
-        return ObjectWord::Leads(motion::ENTRANCE);
-    }
-    if rules.is(object, Named::Dwarf) && is_dwarf_here(state) {
-        return ObjectWord::Is(object);
-    }
-    if is_liquid_here(rules, state, object) {
-        return ObjectWord::Is(object);
-    }
-    if is_grown_plant(rules, state, object) {
-        return ObjectWord::Is(rules.object(Named::SecondPlant));
-    }
-    if rules.is(object, Named::Knife) && is_knife_at(here, state.dwarves.knife) {
-        return ObjectWord::Knives;
-    }
-    let second_rod = rules.object(Named::SecondRod);
-    if rules.is(object, Named::Rod) && rules.is_near(state, second_rod) {
-        return ObjectWord::Is(second_rod);
-    }
-    if is_alone && is_sought(verb) {
-        return ObjectWord::Is(object);
-    }
-    ObjectWord::Unseen
 }

@@ -1,5 +1,5 @@
 ghost use Rattle.std.specs.Prelude.{◌≡◌};
-ghost use Rattle.cave_things.specs.Things.{cave_of};
+ghost use Rattle.cave_things.specs.Rules.{cave_of};
 ghost use Rattle.cave_turn.specs.Reading.{with_verb, with_object, said_word, act_or_ask, object_alone};
 ghost use Rattle.cave_turn.specs.Reading.{action_alone, class_alone, word_alone, is_magic_by};
 ghost use Rattle.cave_turn.specs.Reading.{is_magic};
@@ -12,7 +12,7 @@ use crate::object_words::{ObjectWord, object_word};
 use cave_objects::Object;
 use cave_rows::Role;
 use cave_things::{Rules, is_liquid, or_no_object};
-use cave_verbs::verb::{FOO, POUR, SAY};
+use cave_verbs::verbs::{FOO, POUR, SAY};
 use cave_words::{Class, Meaning, Named, Word};
 use cave_world::{Part, State, Talk, WordLine, motion};
 
@@ -91,6 +91,35 @@ impl HalfCommand {
         Understood {
             half: self,
             reading,
+        }
+    }
+}
+
+/// What the words of a line say, with what was said before.
+pub fn read_words(
+    rules: &Rules<'_>,
+    state: &State,
+    half: HalfCommand,
+    word: Word,
+    next: Option<Word>,
+) -> Understood
+    ensures { result ≡ read_words (cave_of rules.now) state.now half word next }
+{
+    match next {
+        None => {
+            let said = said_word(rules, word);
+            if is_saying(half.verb) {
+                word_aloud(rules, state, half, said)
+            } else {
+                alone(rules, state, half, said)
+            }
+        }
+        Some(next) => {
+            if is_saying(half.verb) {
+                two_words(rules, state, half.with_verb(None), word, next)
+            } else {
+                two_words(rules, state, half, word, next)
+            }
         }
     }
 }
@@ -312,34 +341,5 @@ fn is_saying(verb: Option<u16>) -> bool
     match verb {
         Some(verb) => verb == SAY,
         None => false,
-    }
-}
-
-/// What the words of a line say, with what was said before.
-pub fn read_words(
-    rules: &Rules<'_>,
-    state: &State,
-    half: HalfCommand,
-    word: Word,
-    next: Option<Word>,
-) -> Understood
-    ensures { result ≡ read_words (cave_of rules.now) state.now half word next }
-{
-    match next {
-        None => {
-            let said = said_word(rules, word);
-            if is_saying(half.verb) {
-                word_aloud(rules, state, half, said)
-            } else {
-                alone(rules, state, half, said)
-            }
-        }
-        Some(next) => {
-            if is_saying(half.verb) {
-                two_words(rules, state, half.with_verb(None), word, next)
-            } else {
-                two_words(rules, state, half, word, next)
-            }
-        }
     }
 }

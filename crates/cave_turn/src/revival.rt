@@ -2,8 +2,8 @@
 
 ghost use Rattle.std.specs.Prelude.{◌≡◌, ◌+◌};
 ghost use Rattle.cave_things.specs.Bounds.{HasRoom, SaysUpTo, parts_of_arrival, parts_of_end};
-ghost use Rattle.cave_things.specs.Plays.{scene_of, GoesOn, IsSamePlay};
-ghost use Rattle.cave_things.specs.Things.{cave_of};
+ghost use Rattle.cave_things.specs.Play.{scene_of, GoesOn, IsSamePlay};
+ghost use Rattle.cave_things.specs.Rules.{cave_of};
 ghost use Rattle.cave_turn.specs.Revival.{revival_role, layout_with_lamp_out, fallen_place};
 ghost use Rattle.cave_turn.specs.Revival.{layout_after_fall, layout_after_falls, without_belongings, put_at};
 ghost use Rattle.cave_turn.specs.Revival.{revival_scene, return_scene, burial_scene};

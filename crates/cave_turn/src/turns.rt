@@ -5,8 +5,8 @@ ghost use Rattle.log_lines.specs.Line.{is_line};
 ghost use Rattle.log_lines.specs.LogLine.{log_line};
 ghost use Rattle.cave_score.specs.Score.{score_of, max_score_of};
 ghost use Rattle.cave_things.specs.Bounds.{parts_of_turn};
-ghost use Rattle.cave_things.specs.Things.{cave_of};
-ghost use Rattle.cave_turn.specs.Turn.{game_beginning, turn_on_line, turn_of_input, stream_passed};
+ghost use Rattle.cave_things.specs.Rules.{cave_of};
+ghost use Rattle.cave_turn.specs.Turns.{game_beginning, turn_on_line, turn_of_input, stream_passed};
 
 use crate::answers::{answers, close, take_answer};
 use crate::commands::command;
@@ -23,6 +23,37 @@ use log_lines::{LogLine, Meter};
 pub struct Turned {
     pub state: State,
     pub ticked: bool,
+}
+
+/// Plays a line of a log in the state itself. Returns whether it is a turn of the game.
+#[tactic(auto, unfolding(crate::specs::Turns::turn_on_line))]
+pub fn take_line(
+    cave: &Cave,
+    lexicon: &Lexicon,
+    state: &mut State,
+    line: &[u8],
+    out: &mut Out,
+    meter: &mut Meter,
+) -> bool
+    requires lexicon { IsLexiconOf cave.now lexicon.now }
+    requires line { IsTrue (is_line line.now) }
+    requires empty { out.old.items ≡ [] }
+    requires room { meter.old + 1 < 2 ^ 64 }
+
+    ensures turn { record { state = state.new; parts = out.new.items; ticked = result }
+        ≡ turn_on_line cave.now state.old line.now }
+    ensures few { array_vec_len out.new ≤ parts_of_turn }
+    ensures counted { meter.new ≡ meter.old + 1 }
+{
+    meter.tick();
+    match LogLine::of(line) {
+        LogLine::Comment | LogLine::Blank => false,
+        LogLine::Seed(seed) => {
+            state.stream = Stream::seeded(seed);
+            false
+        }
+        LogLine::Input => play(&Rules::of(cave, lexicon), line, state, out),
+    }
 }
 
 /// The score of a state, by the words of its cave.
@@ -42,7 +73,7 @@ pub fn max_score(cave: &Cave, lexicon: &Lexicon) -> u32
 }
 
 /// Begins a game.
-#[tactic(auto, unfolding(crate::specs::Turn::game_beginning))]
+#[tactic(auto, unfolding(crate::specs::Turns::game_beginning))]
 pub fn start(cave: &Cave, seed: u32, out: &mut Out) -> State
     requires { out.old.items ≡ [] }
     ensures { record { state = result; parts = out.new.items } ≡ game_beginning cave.now seed }
@@ -89,37 +120,6 @@ pub fn stream_passed(state: &State, line: &[u8]) -> Option<Stream>
         LogLine::Seed(seed) => Some(Stream::seeded(seed)),
         LogLine::Input if state.ending.is_some() => Some(state.stream),
         LogLine::Input => None,
-    }
-}
-
-/// Plays a line of a log in the state itself. Returns whether it is a turn of the game.
-#[tactic(auto, unfolding(crate::specs::Turn::turn_on_line))]
-pub fn take_line(
-    cave: &Cave,
-    lexicon: &Lexicon,
-    state: &mut State,
-    line: &[u8],
-    out: &mut Out,
-    meter: &mut Meter,
-) -> bool
-    requires lexicon { IsLexiconOf cave.now lexicon.now }
-    requires line { IsTrue (is_line line.now) }
-    requires empty { out.old.items ≡ [] }
-    requires room { meter.old + 1 < 2 ^ 64 }
-
-    ensures turn { record { state = state.new; parts = out.new.items; ticked = result }
-        ≡ turn_on_line cave.now state.old line.now }
-    ensures few { array_vec_len out.new ≤ parts_of_turn }
-    ensures counted { meter.new ≡ meter.old + 1 }
-{
-    meter.tick();
-    match LogLine::of(line) {
-        LogLine::Comment | LogLine::Blank => false,
-        LogLine::Seed(seed) => {
-            state.stream = Stream::seeded(seed);
-            false
-        }
-        LogLine::Input => play(&Rules::of(cave, lexicon), line, state, out),
     }
 }
 

@@ -7,8 +7,8 @@ use Rattle.cave_data.specs.CaveView.{CaveView}
 use Rattle.cave_words.specs.Named.{object_named, object_of_word, next_object, name_of}
 use Rattle.cave_words.specs.declared.named.Named.TheVariants as name
 use Rattle.cave_world.specs.declared.state.State.{State}
-use Rattle.cave_things.specs.Things.{or_no_object}
-use Rattle.cave_things.specs.Things.{thing, object_called}
+use Rattle.cave_things.specs.Rules.{or_no_object}
+use Rattle.cave_things.specs.Rules.{thing, object_called}
 use Rattle.cave_things.specs.Reach.{is_called, is_in_hand, is_near}
 use Rattle.cave_objects.specs.Objects.{is_carried, is_first_at, spot_of}
 use Rattle.cave_things.specs.Liquids.{liquid_of, is_liquid}

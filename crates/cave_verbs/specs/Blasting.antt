@@ -8,14 +8,14 @@ use Rattle.cave_words.specs.declared.named.Named.TheVariants as name
 use Rattle.cave_world.specs.declared.ending.Ending.TheVariants as ending
 use Rattle.cave_things.specs.Places.{place_named}
 use Rattle.cave_verbs.specs.Effects.{say, default}
-use Rattle.cave_verbs.specs.Rows.{Row, Test, row, row_then, ends}
+use Rattle.cave_verbs.specs.Rows.{VerbRow, Test, row, row_then, ends}
 use Rattle.cave_verbs.specs.Tests.{the, no, near, prop_up_to, cave_closed}
 
 -- the player is at the place that has a role
 abbrev pub at : PlaceRole → Test
 at role d = is_place d.state.trail.here (place_named d.cave role)
 
-unfoldable pub blast_rows : List Row
+unfoldable pub blast_rows : List VerbRow
 blast_rows =
     row (no cave_closed ∷ []) (default ∷ [])
     ∷ row (prop_up_to (the name.SecondRod) (negsuc 0) ∷ []) (default ∷ [])

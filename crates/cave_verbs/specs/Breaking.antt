@@ -4,10 +4,10 @@ use Rattle.cave_rows.specs.declared.role.Role.TheVariants as role
 use Rattle.cave_words.specs.declared.named.Named.TheVariants as name
 use Rattle.cave_world.specs.declared.ending.Ending.TheVariants as ending
 use Rattle.cave_verbs.specs.Effects.{say, default, ask_what, fix, set_prop, lay_down}
-use Rattle.cave_verbs.specs.Rows.{Row, row, row_then, keeps, ends}
+use Rattle.cave_verbs.specs.Rows.{VerbRow, row, row_then, keeps, ends}
 use Rattle.cave_verbs.specs.Tests.{x, is, prop, cave_closed}
 
-unfoldable pub break_rows : List Row
+unfoldable pub break_rows : List VerbRow
 break_rows =
     row (is name.Vase ∷ prop x (pos 0) ∷ [])
     (lay_down x ∷ set_prop x (pos 2) ∷ fix x ∷ say role.VaseSmash ∷ [])
@@ -17,7 +17,7 @@ break_rows =
     ∷ row [] (default ∷ [])
     ∷ []
 
-unfoldable pub wake_rows : List Row
+unfoldable pub wake_rows : List VerbRow
 wake_rows =
     row_then (is name.Dwarf ∷ cave_closed ∷ []) (say role.WakeDwarf ∷ say role.Disturbed ∷ [])
     (ends ending.Killed)

@@ -6,7 +6,7 @@ use Rattle.cave_world.specs.declared.ending.Ending.TheVariants as ending
 use Rattle.cave_things.specs.Homes.{is_home_elsewhere}
 use Rattle.cave_verbs.specs.Effects.{say, default, ask_what, look, bring, kill, fix, set_prop, put}
 use Rattle.cave_verbs.specs.Effects.{trolls, lose_to_snake}
-use Rattle.cave_verbs.specs.Rows.{Row, Test, Thing, row, row_then, keeps, ends, goes_on}
+use Rattle.cave_verbs.specs.Rows.{VerbRow, Test, Thing, row, row_then, keeps, ends, goes_on}
 use Rattle.cave_verbs.specs.Verbs as verb
 use Rattle.cave_verbs.specs.Tests.{x, the, no, is, carries, near, is_here, prop, cave_closed}
 
@@ -14,7 +14,7 @@ use Rattle.cave_verbs.specs.Tests.{x, the, no, is, carries, near, is_here, prop,
 abbrev pub from_home : Thing → Test
 from_home t d = is_home_elsewhere d.cave d.state (t d)
 
-unfoldable pub drop_rows : List Row
+unfoldable pub drop_rows : List VerbRow
 drop_rows =
     row_then (is name.Rod ∷ no (carries x) ∷ carries (the name.SecondRod) ∷ [])
     [] (goes_on verb.DROP (the name.SecondRod))

@@ -7,7 +7,7 @@ use Rattle.cave_world.specs.declared.state.State.{State}
 use Rattle.cave_things.specs.Reach.{is_one_of}
 use Rattle.cave_verbs.specs.Effects.{in_state, say, default, ask_what, kill, loosen, set_prop}
 use Rattle.cave_verbs.specs.Effects.{lose_one}
-use Rattle.cave_verbs.specs.Rows.{Row, Test, Effect, row, row_then, keeps, goes_on}
+use Rattle.cave_verbs.specs.Rows.{VerbRow, Test, Effect, row, row_then, keeps, goes_on}
 use Rattle.cave_verbs.specs.Verbs as verb
 use Rattle.cave_verbs.specs.Tests.{x, the, no, either, is, near, prop, other_prop, cave_closed}
 
@@ -24,7 +24,7 @@ with_more_anger s =
 abbrev pub anger : Effect
 anger d = in_state (with_more_anger d.state) d
 
-unfoldable pub feed_rows : List Row
+unfoldable pub feed_rows : List VerbRow
 feed_rows =
     row (is name.Bird ∷ []) (say role.BirdFeed ∷ [])
     ∷ row (is name.Snake ∷ no cave_closed ∷ near (the name.Bird) ∷ [])
@@ -43,7 +43,7 @@ feed_rows =
     ∷ row [] (say role.FeedWhat ∷ [])
     ∷ []
 
-unfoldable pub bare_eat_rows : List Row
+unfoldable pub bare_eat_rows : List VerbRow
 bare_eat_rows =
     row_then (near (the name.Food) ∷ []) [] (goes_on verb.EAT (the name.Food))
     ∷ row_then [] (ask_what ∷ []) keeps
@@ -55,7 +55,7 @@ living_things =
     name.Bird ∷ name.Snake ∷ name.Clam ∷ name.Oyster ∷ name.Dwarf ∷ name.Dragon ∷ name.Troll
     ∷ name.Bear ∷ []
 
-unfoldable pub eat_rows : List Row
+unfoldable pub eat_rows : List VerbRow
 eat_rows =
     row (is name.Food ∷ []) (kill x ∷ say role.Eaten ∷ [])
     ∷ row (is_any living_things ∷ []) (say role.NoAppetite ∷ [])

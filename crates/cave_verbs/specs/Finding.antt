@@ -8,16 +8,16 @@ use Rattle.cave_words.specs.declared.named.Named.TheVariants as name
 use Rattle.cave_world.specs.declared.part.Part.{Part}
 use Rattle.cave_world.specs.declared.part.Part.TheVariants as part
 use Rattle.cave_world.specs.declared.state.State.{State}
-use Rattle.cave_things.specs.Things.{thing}
+use Rattle.cave_things.specs.Rules.{thing}
 use Rattle.cave_things.specs.Reach.{is_called, is_in_hand}
 use Rattle.cave_verbs.specs.Deeds.{Deed}
 use Rattle.cave_verbs.specs.Effects.{say, default}
-use Rattle.cave_verbs.specs.Rows.{Row, Test, Effect, row}
+use Rattle.cave_verbs.specs.Rows.{VerbRow, Test, Effect, row}
 use Rattle.cave_verbs.specs.Tests.{x, the, is, carries, is_here, dwarf, cave_closed, in_bottle}
 use Rattle.cave_verbs.specs.Tests.{in_lake}
 
 -- FIND an object, and INVENTORY of one
-unfoldable pub find_rows : List Row
+unfoldable pub find_rows : List VerbRow
 find_rows =
     row (carries x ∷ []) (say role.HeldIt ∷ [])
     ∷ row (cave_closed ∷ []) (say role.Around ∷ [])
@@ -56,7 +56,7 @@ with_bear_line cave s parts =
 abbrev pub tell_bear : Effect
 tell_bear d = record d { parts = with_bear_line d.cave d.state d.parts }
 
-unfoldable pub bare_inventory_rows : List Row
+unfoldable pub bare_inventory_rows : List VerbRow
 bare_inventory_rows =
     row (nothing_listed ∷ []) (say role.Empty ∷ tell_bear ∷ [])
     ∷ row [] (say role.Holding ∷ name_them ∷ tell_bear ∷ [])

@@ -7,7 +7,7 @@ use Rattle.cave_world.specs.declared.ending.Question.TheVariants as question
 use Rattle.cave_verbs.specs.Choice.{candidate, objects_meant, several, first}
 use Rattle.cave_verbs.specs.Deeds.{Deed}
 use Rattle.cave_verbs.specs.Effects.{say, default, ask_what, kill, set_prop, lose_to_snake}
-use Rattle.cave_verbs.specs.Rows.{Row, Test, row, row_then, keeps, asks, ends, goes_on}
+use Rattle.cave_verbs.specs.Rows.{VerbRow, Test, row, row_then, keeps, asks, ends, goes_on}
 use Rattle.cave_verbs.specs.Verbs as verb
 use Rattle.cave_verbs.specs.Tests.{x, the, no, either, both, there_is, is, near, is_here, prop}
 use Rattle.cave_verbs.specs.Tests.{dwarf, cave_closed}
@@ -32,7 +32,7 @@ prey = objects_meant
     ∷ candidate name.Clam (either (near (the name.Clam)) (near (the name.Oyster)))
     ∷ [])
 
-unfoldable pub bare_kill_rows : List Row
+unfoldable pub bare_kill_rows : List VerbRow
 bare_kill_rows =
     row_then (several foes ∷ []) (ask_what ∷ []) keeps
     ∷ row_then (there_is (first foes) ∷ []) [] (goes_on verb.KILL (first foes))
@@ -41,7 +41,7 @@ bare_kill_rows =
     ∷ row [] (say role.NoneToKill ∷ [])
     ∷ []
 
-unfoldable pub kill_rows : List Row
+unfoldable pub kill_rows : List VerbRow
 kill_rows =
     row (is name.Bird ∷ cave_closed ∷ []) (say role.BirdNo ∷ [])
     ∷ row (is name.Bird ∷ []) (kill x ∷ set_prop x (pos 0) ∷ lose_to_snake ∷ say role.BirdDead ∷ [])

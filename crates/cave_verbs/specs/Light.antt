@@ -3,9 +3,9 @@ use Rattle.std.specs.Prelude.{int_lt, pos, List, [], ◌∷◌, if◌then◌else
 use Rattle.cave_rows.specs.declared.role.Role.TheVariants as role
 use Rattle.cave_words.specs.declared.named.Named.TheVariants as name
 use Rattle.cave_world.specs.Sight.{is_dark}
-use Rattle.cave_things.specs.Things.{thing}
+use Rattle.cave_things.specs.Rules.{thing}
 use Rattle.cave_verbs.specs.Effects.{say, default, set_prop}
-use Rattle.cave_verbs.specs.Rows.{Row, Test, Effect, row, row_then, describes}
+use Rattle.cave_verbs.specs.Rows.{VerbRow, Test, Effect, row, row_then, describes}
 use Rattle.cave_verbs.specs.Tests.{the, no, near}
 
 -- the lamp went out
@@ -20,7 +20,7 @@ was_dark d = d.order.command.was_dark
 abbrev pub say_dark : Effect
 say_dark d = if is_dark d.cave (thing d.cave name.Lamp) d.state then say role.Dark d else d
 
-unfoldable pub on_rows : List Row
+unfoldable pub on_rows : List VerbRow
 on_rows =
     row (no (near (the name.Lamp)) ∷ []) (default ∷ [])
     ∷ row (burnt_out ∷ []) (say role.LampDead ∷ [])
@@ -28,7 +28,7 @@ on_rows =
     ∷ row [] (set_prop (the name.Lamp) (pos 1) ∷ say role.LampOn ∷ [])
     ∷ []
 
-unfoldable pub off_rows : List Row
+unfoldable pub off_rows : List VerbRow
 off_rows =
     row (no (near (the name.Lamp)) ∷ []) (default ∷ [])
     ∷ row [] (set_prop (the name.Lamp) (pos 0) ∷ say role.LampOff ∷ say_dark ∷ [])

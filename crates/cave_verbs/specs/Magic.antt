@@ -12,7 +12,7 @@ use Rattle.cave_things.specs.Reach.{is_near}
 use Rattle.cave_things.specs.SpecialWords.{special}
 use Rattle.cave_verbs.specs.Deeds.{Deed}
 use Rattle.cave_verbs.specs.Effects.{in_state, say, look, set_prop}
-use Rattle.cave_verbs.specs.Rows.{Row, Test, Effect, Thing, row}
+use Rattle.cave_verbs.specs.Rows.{VerbRow, Test, Effect, Thing, row}
 use Rattle.cave_verbs.specs.Tests.{the, no, either, there_is, carries, prop}
 
 -- the number of the word that was just read among the special words; 0 if it is none of them
@@ -84,7 +84,7 @@ with_object_at_home cave x s = with_objects (with_place s.objects x (home cave x
 abbrev pub send_home : Thing → Effect
 send_home t d = in_state (with_object_at_home d.cave (t d) d.state) d
 
-unfoldable pub bare_foo_rows : List Row
+unfoldable pub bare_foo_rows : List VerbRow
 bare_foo_rows =
     row (either is_plain is_out_of_turn ∷ nothing_begun ∷ []) (say role.Magic ∷ [])
     ∷ row (either is_plain is_out_of_turn ∷ []) (say role.FooOrder ∷ [])

@@ -12,11 +12,11 @@ use Rattle.cave_things.specs.Homes.{is_home_elsewhere}
 use Rattle.cave_things.specs.Panic.{after_panic}
 use Rattle.cave_things.specs.Places.{place_named}
 use Rattle.cave_things.specs.Reach.{is_near}
-use Rattle.cave_things.specs.Things.{thing}
+use Rattle.cave_things.specs.Rules.{thing}
 use Rattle.cave_verbs.specs.Deeds.{Deed}
 use Rattle.cave_verbs.specs.Effects.{in_state, say, default, ask_what, bring, kill, fix, loosen}
 use Rattle.cave_verbs.specs.Effects.{set_prop, lay_down}
-use Rattle.cave_verbs.specs.Rows.{Row, Test, Effect, Thing, row, row_then, keeps}
+use Rattle.cave_verbs.specs.Rows.{VerbRow, Test, Effect, Thing, row, row_then, keeps}
 use Rattle.cave_verbs.specs.Verbs as verb
 use Rattle.cave_verbs.specs.Tests.{x, the, no, either, there_is, is, carries, near, prop}
 use Rattle.cave_verbs.specs.Tests.{other_prop}
@@ -62,7 +62,7 @@ lock_meant cave s =
 abbrev pub lock_at_hand : Thing
 lock_at_hand d = lock_meant d.cave d.state
 
-unfoldable pub bare_open_rows : List Row
+unfoldable pub bare_open_rows : List VerbRow
 bare_open_rows =
     row_then (there_is lock_at_hand ∷ near (the name.Chain) ∷ []) (ask_what ∷ []) keeps
     ∷ row_then (there_is lock_at_hand ∷ []) [] (goes_on_with lock_at_hand)
@@ -70,7 +70,7 @@ bare_open_rows =
     ∷ row [] (say role.NoLock ∷ [])
     ∷ []
 
-unfoldable pub open_rows : List Row
+unfoldable pub open_rows : List VerbRow
 open_rows =
     row (either (is name.Clam) (is name.Oyster) ∷ is_locking ∷ []) (say role.LockWhat ∷ [])
     ∷ row (is name.Clam ∷ no (carries (the name.Trident)) ∷ []) (say role.ClamTool ∷ [])

@@ -11,7 +11,7 @@ use Rattle.cave_world.specs.declared.state.State.{State}
 use Rattle.cave_things.specs.Liquids.{liquid_of}
 use Rattle.cave_things.specs.Reach.{is_called}
 use Rattle.cave_verbs.specs.Effects.{say, default, ask_what, look, bring, fix, set_prop}
-use Rattle.cave_verbs.specs.Rows.{Row, Test, Effect, Thing, row, row_then, keeps, again, goes_on}
+use Rattle.cave_verbs.specs.Rows.{VerbRow, Test, Effect, Thing, row, row_then, keeps, again, goes_on}
 use Rattle.cave_verbs.specs.Verbs as verb
 use Rattle.cave_verbs.specs.Tests.{x, the, bare, no, either, both, is, carries, near, is_here}
 use Rattle.cave_verbs.specs.Tests.{in_bottle, bottle_full, in_lake, lake}
@@ -54,7 +54,7 @@ plant_watered =
 abbrev pub water_at_hand : Test
 water_at_hand = both (in_bottle (the name.Water)) (near (the name.Bottle))
 
-unfoldable pub pour_rows : List Row
+unfoldable pub pour_rows : List VerbRow
 pour_rows =
     row_then (either bare (is name.Bottle) ∷ no bottle_full ∷ []) (ask_what ∷ []) keeps
     ∷ row (no (carries what_is_poured) ∷ []) (default ∷ [])
@@ -69,7 +69,7 @@ pour_rows =
     ∷ row [] (empty_bottle ∷ say role.PourGround ∷ [])
     ∷ []
 
-unfoldable pub drink_rows : List Row
+unfoldable pub drink_rows : List VerbRow
 drink_rows =
     row_then (bare ∷ no (in_lake (the name.Water)) ∷ no water_at_hand ∷ []) (ask_what ∷ []) keeps
     ∷ row (no bare ∷ no (is name.Water) ∷ []) (say role.Ridiculous ∷ [])
@@ -77,13 +77,13 @@ drink_rows =
     ∷ row [] (default ∷ [])
     ∷ []
 
-unfoldable pub bare_fill_rows : List Row
+unfoldable pub bare_fill_rows : List VerbRow
 bare_fill_rows =
     row_then (near (the name.Bottle) ∷ []) [] (goes_on verb.FILL (the name.Bottle))
     ∷ row_then [] (ask_what ∷ []) keeps
     ∷ []
 
-unfoldable pub fill_rows : List Row
+unfoldable pub fill_rows : List VerbRow
 fill_rows =
     row (is name.Vase ∷ no lake ∷ []) (say role.VaseDry ∷ [])
     ∷ row (is name.Vase ∷ no (carries x) ∷ []) (say role.NotHeld ∷ [])

@@ -6,11 +6,11 @@ use Rattle.cave_world.specs.Sight.{is_dark}
 use Rattle.cave_world.specs.declared.ending.Question.TheVariants as question
 use Rattle.cave_world.specs.declared.part.Part.TheVariants as part
 use Rattle.cave_world.specs.declared.part.WordLine.TheVariants as line
-use Rattle.cave_things.specs.Things.{thing}
+use Rattle.cave_things.specs.Rules.{thing}
 use Rattle.cave_verbs.specs.Choice.{candidate, objects_meant, only}
 use Rattle.cave_verbs.specs.Deeds.{Deed}
 use Rattle.cave_verbs.specs.Effects.{tell, say, default, ask_what}
-use Rattle.cave_verbs.specs.Rows.{Row, Test, Effect, Thing, row, row_then, keeps, asks, goes_on}
+use Rattle.cave_verbs.specs.Rows.{VerbRow, Test, Effect, Thing, row, row_then, keeps, asks, goes_on}
 use Rattle.cave_verbs.specs.Verbs as verb
 use Rattle.cave_verbs.specs.Tests.{x, the, no, there_is, is, carries, near, cave_closed}
 
@@ -38,13 +38,13 @@ abbrev pub what_to_read : Thing
 what_to_read d =
     if cave_closed d && carries (the name.Oyster) d then thing d.cave name.Oyster else only papers d
 
-unfoldable pub bare_read_rows : List Row
+unfoldable pub bare_read_rows : List VerbRow
 bare_read_rows =
     row_then (there_is what_to_read ∷ no dark ∷ []) [] (goes_on verb.READ what_to_read)
     ∷ row_then [] (ask_what ∷ []) keeps
     ∷ []
 
-unfoldable pub read_rows : List Row
+unfoldable pub read_rows : List VerbRow
 read_rows =
     row (dark ∷ []) (not_seen ∷ [])
     ∷ row (is name.Magazine ∷ []) (say role.ReadMagazine ∷ [])

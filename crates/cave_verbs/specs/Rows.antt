@@ -19,7 +19,7 @@ abbrev pub Thing : Type 0
 Thing = Deed → ℕ
 
 -- tests, effects, and what follows
-pub record Row : Type 0 where
+pub record VerbRow : Type 0 where
   pub tests : List Test
   pub effects : List Effect
   pub end : Deed → Step
@@ -50,11 +50,11 @@ abbrev pub goes_on : ℕ → Thing → Deed → Step
 goes_on verb x d = GoOn verb (x d)
 
 -- a row after which nothing follows
-abbrev pub row : List Test → List Effect → Row
+abbrev pub row : List Test → List Effect → VerbRow
 row tests effects = record { tests = tests; effects = effects; end = stays }
 
 -- a row with what follows
-abbrev pub row_then : List Test → List Effect → (Deed → Step) → Row
+abbrev pub row_then : List Test → List Effect → (Deed → Step) → VerbRow
 row_then tests effects end = record { tests = tests; effects = effects; end = end }
 
 -- tests are made from the left, and none after one that fails
@@ -66,10 +66,10 @@ abbrev pub after_all : List Effect → Deed → Deed
 after_all [] d = d
 after_all (effect ∷ effects) d = after_all effects (effect d)
 
-abbrev pub outcome_of : Row → Deed → Outcome
+abbrev pub outcome_of : VerbRow → Deed → Outcome
 outcome_of r d = let e = after_all r.effects d in outcome e.state e.parts (r.end e)
 
 -- the outcome of the first row that fits
-abbrev pub first_fitting : List Row → Deed → Outcome
+abbrev pub first_fitting : List VerbRow → Deed → Outcome
 first_fitting [] d = outcome d.state d.parts (stays d)
 first_fitting (r ∷ rows) d = if fits r.tests d then outcome_of r d else first_fitting rows d

@@ -4,23 +4,23 @@ use Rattle.cave_rows.specs.declared.role.Role.TheVariants as role
 use Rattle.cave_world.specs.declared.ending.Question.TheVariants as question
 use Rattle.cave_world.specs.declared.state.State.{State}
 use Rattle.cave_verbs.specs.Effects.{in_state, say, default, ask_what}
-use Rattle.cave_verbs.specs.Rows.{Row, Effect, row, row_then, keeps, asks}
+use Rattle.cave_verbs.specs.Rows.{VerbRow, Effect, row, row_then, keeps, asks}
 
 -- a verb that needs an object and has none
-unfoldable pub bare_rows : List Row
+unfoldable pub bare_rows : List VerbRow
 bare_rows = row_then [] (ask_what ∷ []) keeps ∷ []
 
 -- a verb for which there is no rule
-unfoldable pub other_rows : List Row
+unfoldable pub other_rows : List VerbRow
 other_rows = row [] (default ∷ []) ∷ []
 
-unfoldable pub nothing_rows : List Row
+unfoldable pub nothing_rows : List VerbRow
 nothing_rows = row [] (say role.Ok ∷ []) ∷ []
 
-unfoldable pub bare_quit_rows : List Row
+unfoldable pub bare_quit_rows : List VerbRow
 bare_quit_rows = row_then [] [] (asks question.Quit) ∷ []
 
-unfoldable pub bare_score_rows : List Row
+unfoldable pub bare_score_rows : List VerbRow
 bare_score_rows = row_then [] [] (asks question.ScoreQuit) ∷ []
 
 abbrev pub brief : State → State
@@ -31,5 +31,5 @@ brief s = let talk = s.talk in record s { talk = record talk { is_brief = true; 
 abbrev pub be_brief : Effect
 be_brief d = in_state (brief d.state) d
 
-unfoldable pub bare_brief_rows : List Row
+unfoldable pub bare_brief_rows : List VerbRow
 bare_brief_rows = row [] (be_brief ∷ say role.Brief ∷ []) ∷ []

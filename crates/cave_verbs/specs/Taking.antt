@@ -8,7 +8,7 @@ use Rattle.cave_world.specs.declared.ending.Ending.TheVariants as ending
 use Rattle.cave_objects.specs.declared.object.Half.{Half}
 use Rattle.cave_verbs.specs.Effects.{say, default, ask_what, look, carry, bring, kill, fix}
 use Rattle.cave_verbs.specs.Effects.{set_prop, put, trolls, lose_to_snake}
-use Rattle.cave_verbs.specs.Rows.{Row, Thing, row, row_then, keeps, ends, goes_on}
+use Rattle.cave_verbs.specs.Rows.{VerbRow, Thing, row, row_then, keeps, ends, goes_on}
 use Rattle.cave_verbs.specs.Verbs as verb
 use Rattle.cave_verbs.specs.Tests.{x, the, no, either, there_is, is, carries, near, is_here}
 use Rattle.cave_verbs.specs.Tests.{immovable}
@@ -23,13 +23,26 @@ lone_object _ = 0
 abbrev pub lone : Thing
 lone d = lone_object (halves_at d.state.trail.here d.state.objects.lists)
 
-unfoldable pub bare_take_rows : List Row
+unfoldable pub bare_take_rows : List VerbRow
 bare_take_rows =
     row_then (there_is lone ∷ no dwarf ∷ []) [] (goes_on verb.TAKE lone)
     ∷ row_then [] (ask_what ∷ []) keeps
     ∷ []
 
-unfoldable pub take_rows : List Row
+-- the object isn't fixed, and the hands aren't full
+unfoldable pub free_take_rows : List VerbRow
+free_take_rows =
+    row (is name.Bird ∷ prop x (pos 0) ∷ carries (the name.Rod) ∷ []) (say role.BirdRod ∷ [])
+    ∷ row (is name.Bird ∷ prop x (pos 0) ∷ no (carries (the name.Cage)) ∷ []) (say role.NoCage ∷ [])
+    ∷ row (is name.Bird ∷ prop x (pos 0) ∷ [])
+    (set_prop x (pos 1) ∷ carry (the name.Cage) ∷ carry x ∷ say role.Ok ∷ [])
+    ∷ row (is name.Bird ∷ []) (carry (the name.Cage) ∷ carry x ∷ say role.Ok ∷ [])
+    ∷ row (is name.Cage ∷ other_prop (the name.Bird) (pos 0) ∷ [])
+    (carry (the name.Bird) ∷ carry x ∷ say role.Ok ∷ [])
+    ∷ row [] (carry x ∷ say role.Ok ∷ [])
+    ∷ []
+
+unfoldable pub take_rows : List VerbRow
 take_rows =
     row (carries x ∷ []) (default ∷ [])
     ∷ row (immovable x ∷ is name.Plant ∷ prop_up_to x (pos 0) ∷ []) (say role.PlantRoots ∷ [])
@@ -44,12 +57,4 @@ take_rows =
     (say role.BottleFull ∷ [])
     ∷ row (either (is name.Water) (is name.Oil) ∷ []) (say role.NoBottle ∷ [])
     ∷ row (full_hands ∷ []) (say role.TooMuch ∷ [])
-    ∷ row (is name.Bird ∷ prop x (pos 0) ∷ carries (the name.Rod) ∷ []) (say role.BirdRod ∷ [])
-    ∷ row (is name.Bird ∷ prop x (pos 0) ∷ no (carries (the name.Cage)) ∷ []) (say role.NoCage ∷ [])
-    ∷ row (is name.Bird ∷ prop x (pos 0) ∷ [])
-    (set_prop x (pos 1) ∷ carry (the name.Cage) ∷ carry x ∷ say role.Ok ∷ [])
-    ∷ row (is name.Bird ∷ []) (carry (the name.Cage) ∷ carry x ∷ say role.Ok ∷ [])
-    ∷ row (is name.Cage ∷ other_prop (the name.Bird) (pos 0) ∷ [])
-    (carry (the name.Bird) ∷ carry x ∷ say role.Ok ∷ [])
-    ∷ row [] (carry x ∷ say role.Ok ∷ [])
-    ∷ []
+    ∷ free_take_rows

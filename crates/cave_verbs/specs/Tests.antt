@@ -4,7 +4,7 @@ use Rattle.std.specs.Prelude.{is_some, is_none, Option, Some, None}
 use Rattle.cave_words.specs.declared.named.Named.{Named}
 use Rattle.cave_words.specs.declared.named.Named.TheVariants as name
 use Rattle.cave_objects.specs.Objects.{is_object_at, carried_objects}
-use Rattle.cave_things.specs.Things.{thing}
+use Rattle.cave_things.specs.Rules.{thing}
 use Rattle.cave_things.specs.Liquids.{liquid_of, lake_of, is_liquid}
 use Rattle.cave_things.specs.Reach.{is_called, is_in_hand, is_near, has_prop, has_other_prop}
 use Rattle.cave_things.specs.Reach.{has_prop_up_to, is_treasure, is_dwarf_here, is_fixed}

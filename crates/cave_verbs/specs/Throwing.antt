@@ -12,7 +12,7 @@ use Rattle.cave_things.specs.Reach.{is_dwarf_at}
 use Rattle.cave_verbs.specs.Deeds.{Deed, Outcome}
 use Rattle.cave_verbs.specs.Effects.{in_state, say, default, ask_what, bring, kill, fix, juggle}
 use Rattle.cave_verbs.specs.Effects.{set_prop, trolls}
-use Rattle.cave_verbs.specs.Rows.{Row, Test, Effect, Thing, row, row_then, keeps, again, goes_on}
+use Rattle.cave_verbs.specs.Rows.{VerbRow, Test, Effect, Thing, row, row_then, keeps, again, goes_on}
 use Rattle.cave_verbs.specs.Rows.{fits, outcome_of, first_fitting}
 use Rattle.cave_verbs.specs.Verbs as verb
 use Rattle.cave_verbs.specs.Tests.{x, the, no, is, carries, near, is_here, prop, dwarf, treasure}
@@ -54,13 +54,13 @@ abbrev pub after_one_draw : Deed → Deed
 after_one_draw d = let s = d.state in in_state (record s { stream = next s.stream }) d
 
 -- the outcome of the first row that fits, or what comes of it if none does
-abbrev pub first_fitting_or : List Row → (Deed → Outcome) → Deed → Outcome
+abbrev pub first_fitting_or : List VerbRow → (Deed → Outcome) → Deed → Outcome
 first_fitting_or [] otherwise d = otherwise d
 first_fitting_or (r ∷ rows) otherwise d =
     if fits r.tests d then outcome_of r d else first_fitting_or rows otherwise d
 
 -- what isn't the axe
-unfoldable pub throw_rows : List Row
+unfoldable pub throw_rows : List VerbRow
 throw_rows =
     row_then (is name.Rod ∷ no (carries x) ∷ carries (the name.SecondRod) ∷ [])
     [] (goes_on verb.THROW (the name.SecondRod))
@@ -71,19 +71,19 @@ throw_rows =
     ∷ []
 
 -- the axe at a dwarf, once it is drawn whether it hits
-unfoldable pub miss_rows : List Row
+unfoldable pub miss_rows : List VerbRow
 miss_rows =
     row_then [] (say role.AxeMiss ∷ bring x ∷ []) again
     ∷ []
 
-unfoldable pub hit_rows : List Row
+unfoldable pub hit_rows : List VerbRow
 hit_rows =
     row_then (none_killed ∷ []) (strike ∷ say role.AxeFirst ∷ bring x ∷ []) again
     ∷ row_then [] (strike ∷ say role.AxeKill ∷ bring x ∷ []) again
     ∷ []
 
 -- the axe where no dwarf is
-unfoldable pub axe_rows : List Row
+unfoldable pub axe_rows : List VerbRow
 axe_rows =
     row_then (is_here (the name.Dragon) ∷ prop (the name.Dragon) (pos 0) ∷ [])
     (say role.AxeDragon ∷ bring x ∷ []) again

@@ -4,7 +4,7 @@ use Rattle.cave_rows.specs.declared.role.Role.TheVariants as role
 use Rattle.cave_words.specs.declared.named.Named.TheVariants as name
 use Rattle.cave_objects.specs.Objects.{prop_of}
 use Rattle.cave_verbs.specs.Effects.{say, default, ask_what, look, set_prop}
-use Rattle.cave_verbs.specs.Rows.{Row, Effect, Thing, row, row_then, keeps}
+use Rattle.cave_verbs.specs.Rows.{VerbRow, Effect, Thing, row, row_then, keeps}
 use Rattle.cave_verbs.specs.Tests.{x, the, no, both, is, carries, is_here, cave_closing}
 
 -- a prop becomes 1 less what it was
@@ -15,7 +15,7 @@ flip t d = set_prop t (pos 1 -ℤ prop_of d.state.objects (t d)) d
 abbrev pub look_at_flip : Thing → Effect
 look_at_flip t d = look t (pos 2 -ℤ prop_of d.state.objects (t d)) d
 
-unfoldable pub wave_rows : List Row
+unfoldable pub wave_rows : List VerbRow
 wave_rows =
     row (no (carries x) ∷ no (both (is name.Rod) (carries (the name.SecondRod))) ∷ [])
     (say role.NotHeld ∷ [])
@@ -24,7 +24,7 @@ wave_rows =
     ∷ row [] (default ∷ [])
     ∷ []
 
-unfoldable pub rub_rows : List Row
+unfoldable pub rub_rows : List VerbRow
 rub_rows =
     row (is name.Lamp ∷ []) (default ∷ [])
     ∷ row [] (say role.RubOdd ∷ [])

@@ -1,6 +1,6 @@
 ghost use Rattle.std.specs.Prelude.{◌≡◌, ◌+◌, ◌*◌, ◌<◌, ◌≤◌};
 ghost use Rattle.arrayvec.specs.ArrayVec.{array_vec_len};
-ghost use Rattle.cave_things.specs.Things.{cave_of};
+ghost use Rattle.cave_things.specs.Rules.{cave_of};
 ghost use Rattle.cave_verbs.specs.declared.next.Step.TheVariants.{Done};
 ghost use Rattle.cave_verbs.specs.Acting.{bare_outcome, object_outcome, outcome_once};
 ghost use Rattle.cave_verbs.specs.Acting.{outcome_within, outcome_of_command};
@@ -24,13 +24,29 @@ use crate::reading::{read, read_what_is_here};
 use crate::small::{ask_back, brief, nothing, other, quit, score};
 use crate::taking::{take, take_what_is_here};
 use crate::throwing::throw;
-use crate::verb::{
+use crate::verbs::{
     BLAST, BREAK, BRIEF, CALM, DRINK, DROP, EAT, FEED, FILL, FIND, FOO, INVENTORY, KILL, LOCK,
     NOTHING, OFF, ON, OPEN, POUR, QUIT, READ, RUB, SAY, SCORE, TAKE, THROW, WAKE, WAVE,
 };
 use crate::waving::{rub, wave};
 use cave_things::Rules;
 use cave_world::{Out, State};
+
+/// Does what is commanded, and returns what follows.
+#[tactic(auto, using(crate::proofs::Falls::few_ranks), unfolding(crate::specs::Acting::outcome_of_command))]
+pub fn act(rules: &Rules<'_>, command: Command, state: &mut State, out: &mut Out) -> Next
+    requires { array_vec_len out.old + 110 ≤ 512 }
+    ensures rules { outcome state.new out.new.items (Done result)
+        ≡ outcome_of_command (cave_of rules.now) command state.old out.old.items }
+    ensures few { array_vec_len out.new ≤ array_vec_len out.old + 6 + room_for result }
+{
+    let order = Order {
+        verb: command.verb,
+        object: command.object,
+        command,
+    };
+    act_within(rules, 3, order, state, out)
+}
 
 /// Does a verb that is done to no object.
 #[tactic(auto, unfolding(crate::specs::Acting::bare_outcome))]
@@ -141,20 +157,4 @@ fn act_within(rules: &Rules<'_>, left: u8, order: Order, state: &mut State, out:
             act_within(rules, left - 1, order, state, out)
         }
     }
-}
-
-/// Does what is commanded, and returns what follows.
-#[tactic(auto, using(crate::proofs::Falls::few_ranks), unfolding(crate::specs::Acting::outcome_of_command))]
-pub fn act(rules: &Rules<'_>, command: Command, state: &mut State, out: &mut Out) -> Next
-    requires { array_vec_len out.old + 110 ≤ 512 }
-    ensures rules { outcome state.new out.new.items (Done result)
-        ≡ outcome_of_command (cave_of rules.now) command state.old out.old.items }
-    ensures few { array_vec_len out.new ≤ array_vec_len out.old + 6 + room_for result }
-{
-    let order = Order {
-        verb: command.verb,
-        object: command.object,
-        command,
-    };
-    act_within(rules, 3, order, state, out)
 }

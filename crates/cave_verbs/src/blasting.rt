@@ -1,7 +1,7 @@
 ghost use Rattle.std.specs.Prelude.{◌≡◌, ◌+◌, ◌<◌, ◌≤◌, ◌++◌, ◌∷◌, []};
 ghost use Rattle.arrayvec.specs.ArrayVec.{array_vec_len};
 ghost use Rattle.cave_world.specs.declared.part.Part.TheVariants as part;
-ghost use Rattle.cave_things.specs.Things.{cave_of};
+ghost use Rattle.cave_things.specs.Rules.{cave_of};
 ghost use Rattle.cave_verbs.specs.Deeds.{deed, outcome};
 ghost use Rattle.cave_verbs.specs.declared.next.Next.TheVariants as next_is;
 ghost use Rattle.cave_verbs.specs.declared.next.Step.TheVariants.{Done};
@@ -18,7 +18,7 @@ use cave_words::Named;
 use cave_world::{Ending, Out, Part, State};
 
 /// The message of a role is said, and the game ends.
-fn end(role: Role, ending: Ending, out: &mut Out) -> Step
+fn end_by_blast(role: Role, ending: Ending, out: &mut Out) -> Step
     requires { array_vec_len out.old < 512 }
     ensures said { out.new.items ≡ out.old.items ++ part.Role role ∷ [] }
     ensures few { array_vec_len out.new ≡ array_vec_len out.old + 1 }
@@ -42,10 +42,10 @@ pub fn blast(rules: &Rules<'_>, order: Order, state: &mut State, out: &mut Out) 
         return say_default(rules, order, state, out);
     }
     if rules.is_near(state, rod) {
-        return end(Role::Klutz, Ending::Klutz, out);
+        return end_by_blast(Role::Klutz, Ending::Klutz, out);
     }
     if is_place(state.trail.here, place_named(rules.cave, PlaceRole::Ne)) {
-        return end(Role::WrongWay, Ending::WrongWay, out);
+        return end_by_blast(Role::WrongWay, Ending::WrongWay, out);
     }
-    end(Role::Success, Ending::Success, out)
+    end_by_blast(Role::Success, Ending::Success, out)
 }

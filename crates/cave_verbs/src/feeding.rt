@@ -1,6 +1,6 @@
 ghost use Rattle.std.specs.Prelude.{◌≡◌, ◌+◌, ◌≤◌};
 ghost use Rattle.arrayvec.specs.ArrayVec.{array_vec_len};
-ghost use Rattle.cave_things.specs.Things.{cave_of};
+ghost use Rattle.cave_things.specs.Rules.{cave_of};
 ghost use Rattle.cave_verbs.specs.Deeds.{deed, outcome};
 ghost use Rattle.cave_verbs.specs.Rows.{first_fitting};
 ghost use Rattle.cave_verbs.specs.Ranks.{rank_of};
@@ -9,7 +9,7 @@ ghost use Rattle.cave_verbs.specs.Feeding.{feed_rows, bare_eat_rows, eat_rows};
 use crate::next::Step;
 use crate::order::Order;
 use crate::says::{ask_what, say, say_default};
-use crate::verb::EAT;
+use crate::verbs::EAT;
 use cave_objects::{Anchor, Prop};
 use cave_rows::Role;
 use cave_things::{Rules, has_other_prop, has_prop, lose_one};

@@ -1,7 +1,7 @@
 ghost use Rattle.std.specs.Prelude.{◌≡◌, ◌+◌, ◌<◌, ◌≤◌, ◌++◌, length, map};
 ghost use Rattle.arrayvec.specs.ArrayVec.{array_vec_len};
 ghost use Rattle.cave_world.specs.declared.part.Part.TheVariants as part;
-ghost use Rattle.cave_things.specs.Things.{cave_of};
+ghost use Rattle.cave_things.specs.Rules.{cave_of};
 ghost use Rattle.cave_verbs.specs.Deeds.{deed, outcome};
 ghost use Rattle.cave_verbs.specs.declared.next.Next.TheVariants.{Stay};
 ghost use Rattle.cave_verbs.specs.declared.next.Step.TheVariants.{Done};

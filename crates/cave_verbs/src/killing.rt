@@ -1,6 +1,6 @@
 ghost use Rattle.std.specs.Prelude.{◌≡◌, ◌+◌, ◌≤◌, []};
 ghost use Rattle.arrayvec.specs.ArrayVec.{array_vec_len};
-ghost use Rattle.cave_things.specs.Things.{cave_of};
+ghost use Rattle.cave_things.specs.Rules.{cave_of};
 ghost use Rattle.cave_verbs.specs.Deeds.{deed, outcome};
 ghost use Rattle.cave_verbs.specs.Rows.{first_fitting};
 ghost use Rattle.cave_verbs.specs.Ranks.{rank_of};
@@ -10,7 +10,7 @@ use crate::choice::{Meant, consider, first, several};
 use crate::next::{Next, Step};
 use crate::order::Order;
 use crate::says::{ask_what, disturb, say, say_default};
-use crate::verb::{KILL, THROW};
+use crate::verbs::{KILL, THROW};
 use arrayvec::ArrayVec;
 use cave_objects::Prop;
 use cave_rows::Role;

@@ -20,7 +20,7 @@ pub mod says;
 pub mod small;
 pub mod taking;
 pub mod throwing;
-pub mod verb;
+pub mod verbs;
 pub mod waving;
 
 pub use acting::act;

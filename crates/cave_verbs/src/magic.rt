@@ -1,7 +1,7 @@
 ghost use Rattle.std.specs.Prelude.{◌≡◌, ◌+◌, ◌<◌, ◌≤◌, ◌≤ℤ◌, ◌-ℤ◌, not, pos, negsuc};
 ghost use Rattle.std.specs.Ordering.{int_eq};
 ghost use Rattle.arrayvec.specs.ArrayVec.{array_vec_len};
-ghost use Rattle.cave_things.specs.Things.{cave_of};
+ghost use Rattle.cave_things.specs.Rules.{cave_of};
 ghost use Rattle.cave_verbs.specs.Deeds.{deed, outcome};
 ghost use Rattle.cave_verbs.specs.declared.next.Next.TheVariants.{Stay};
 ghost use Rattle.cave_verbs.specs.declared.next.Step.TheVariants.{Done};

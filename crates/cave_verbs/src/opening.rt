@@ -2,7 +2,7 @@ ghost use Rattle.std.specs.Prelude.{◌≡◌, ◌+◌, ◌<◌, ◌≤◌, ◌|
 ghost use Rattle.arrayvec.specs.ArrayVec.{array_vec_len};
 ghost use Rattle.cave_words.specs.declared.named.Named.TheVariants as name;
 ghost use Rattle.cave_things.specs.Reach.{is_called, is_one_of, is_near};
-ghost use Rattle.cave_things.specs.Things.{cave_of, thing};
+ghost use Rattle.cave_things.specs.Rules.{cave_of, thing};
 ghost use Rattle.cave_verbs.specs.Deeds.{deed, outcome};
 ghost use Rattle.cave_verbs.specs.Rows.{first_fitting};
 ghost use Rattle.cave_verbs.specs.Ranks.{rank_of};
@@ -13,7 +13,7 @@ ghost use Rattle.cave_verbs.specs.declared.next.Step.TheVariants.{GoOn};
 use crate::next::Step;
 use crate::order::Order;
 use crate::says::{ask_what, say, say_default};
-use crate::verb::{LOCK, OPEN};
+use crate::verbs::{LOCK, OPEN};
 use cave_objects::{Anchor, Object, Place, Prop};
 use cave_rows::{PlaceRole, Role};
 use cave_things::panic::panic;

@@ -3,7 +3,7 @@ ghost use Rattle.arrayvec.specs.ArrayVec.{array_vec_len};
 ghost use Rattle.cave_world.specs.declared.part.Part.TheVariants as part;
 ghost use Rattle.cave_rows.specs.declared.role.Role.TheVariants.{Disturbed};
 ghost use Rattle.cave_world.specs.declared.ending.Ending.TheVariants.{Killed};
-ghost use Rattle.cave_things.specs.Things.{cave_of};
+ghost use Rattle.cave_things.specs.Rules.{cave_of};
 ghost use Rattle.cave_verbs.specs.Deeds.{deed, outcome};
 ghost use Rattle.cave_verbs.specs.declared.next.Next.TheVariants.{Stay, End};
 ghost use Rattle.cave_verbs.specs.declared.next.Step.TheVariants.{Done};

@@ -1,16 +1,16 @@
 ghost use Rattle.std.specs.Prelude.{◌≡◌, ◌+◌, ◌<◌, ◌≤◌};
 ghost use Rattle.arrayvec.specs.ArrayVec.{array_vec_len};
 ghost use Rattle.cave_objects.specs.Lists.{halves_at};
-ghost use Rattle.cave_things.specs.Things.{cave_of};
+ghost use Rattle.cave_things.specs.Rules.{cave_of};
 ghost use Rattle.cave_verbs.specs.Deeds.{deed, outcome};
 ghost use Rattle.cave_verbs.specs.Rows.{first_fitting};
 ghost use Rattle.cave_verbs.specs.Ranks.{rank_of, take_rank};
-ghost use Rattle.cave_verbs.specs.Taking.{bare_take_rows, take_rows, lone_object};
+ghost use Rattle.cave_verbs.specs.Taking.{bare_take_rows, take_rows, free_take_rows, lone_object};
 
 use crate::next::Step;
 use crate::order::Order;
 use crate::says::{ask_what, say, say_default};
-use crate::verb::{FILL, TAKE};
+use crate::verbs::{FILL, TAKE};
 use cave_objects::{Half, Object, Prop};
 use cave_rows::Role;
 use cave_things::{
@@ -90,6 +90,19 @@ pub fn take(rules: &Rules<'_>, order: Order, state: &mut State, out: &mut Out) -
     if state.holding() >= 7 {
         return say(Role::TooMuch, out);
     }
+    take_freely(rules, order, state, out)
+}
+
+/// TAKE an object that isn't fixed, with hands that aren't full.
+#[tactic(auto, unfolding(crate::specs::Taking::free_take_rows))]
+fn take_freely(rules: &Rules<'_>, order: Order, state: &mut State, out: &mut Out) -> Step
+    requires { array_vec_len out.old < 512 }
+    ensures row { outcome state.new out.new.items result
+        ≡ first_fitting free_take_rows (deed (cave_of rules.now) order state.old out.old.items) }
+    ensures few { array_vec_len out.new ≤ array_vec_len out.old + 1 }
+    ensures ranks { rank_of (cave_of rules.now) result ≤ 0 }
+{
+    let x = order.object;
     if rules.is(x, Named::Bird) {
         let cage = rules.object(Named::Cage);
         if has_prop(state, x, 0) {

@@ -1,7 +1,7 @@
 ghost use Rattle.std.specs.Prelude.{◌≡◌, ◌+◌, ◌≤◌, take};
 ghost use Rattle.std.specs.List.{position};
 ghost use Rattle.arrayvec.specs.ArrayVec.{array_vec_len};
-ghost use Rattle.cave_things.specs.Things.{cave_of};
+ghost use Rattle.cave_things.specs.Rules.{cave_of};
 ghost use Rattle.cave_things.specs.Reach.{is_dwarf_at};
 ghost use Rattle.cave_things.specs.Effects.{put_here};
 ghost use Rattle.cave_verbs.specs.Deeds.{deed, outcome};
@@ -15,7 +15,7 @@ ghost use Rattle.cave_verbs.specs.Throwing.{axe_thrown_at_dwarf, axe_outcome, th
 use crate::next::{Next, Step};
 use crate::order::Order;
 use crate::says::{say, say_default};
-use crate::verb::{DROP, FEED, KILL, THROW};
+use crate::verbs::{DROP, FEED, KILL, THROW};
 use cave_objects::{Anchor, Object, Place, Prop};
 use cave_rows::Role;
 use cave_things::{Rules, has_prop, is_dwarf_here, is_treasure, pay_troll};

@@ -8,16 +8,11 @@ ghost use Rattle.cave_words.specs.Named.{object_of_word, object_named};
 use crate::meaning::{Class, Meaning};
 use crate::meanings::Meanings;
 use crate::named::{EACH_NAME, NAME_COUNT, Named};
-use crate::word::Word;
-use cave_data::{Cave, WordTable};
+use crate::word::{NAME_LETTERS, Word};
+use cave_data::{Cave, LAST_OBJECT, WordTable};
 use indexmap::IndexMap;
 use std::alloc::{AllocError, Global};
 use std::marker::Model;
-
-/// The letters by which the names that rules write out are known.
-const NAME_LETTERS: u8 = 5;
-
-const LAST_OBJECT: u16 = 100;
 
 /// What each word of a cave means.
 #[derive(Drop)]

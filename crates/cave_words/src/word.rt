@@ -9,8 +9,8 @@ use std::marker::Model;
 /// The most letters of a word that count.
 pub const MAX_LETTERS: usize = 8;
 
-/// The letters by which the rules know the words that they write out.
-pub const RULE_LETTERS: usize = 5;
+/// How many letters of the words that rules write out count.
+pub const NAME_LETTERS: u8 = 5;
 
 /// A word as it is compared: in upper case, cut to the letters that count, and filled up with
 /// spaces.
@@ -69,6 +69,7 @@ impl Word {
     pub fn is(self, written: &[u8]) -> bool
         ensures { result ≡ is_written written.now self }
     {
-        self.bytes[..RULE_LETTERS] == Word::of(written, 5).bytes[..RULE_LETTERS]
+        let count = NAME_LETTERS as usize;
+        self.bytes[..count] == Word::of(written, NAME_LETTERS).bytes[..count]
     }
 }

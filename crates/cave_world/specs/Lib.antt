@@ -1,7 +1,8 @@
-pub mod Sight
-pub mod Travel
-pub mod Fresh
-pub mod State
-pub mod Parts
-pub mod SameGame
 pub mod Equality
+pub mod Fresh
+pub mod Motion
+pub mod Part
+pub mod SameGame
+pub mod Sight
+pub mod State
+pub mod Travel

@@ -3,21 +3,26 @@ use Rattle.std.specs.Prelude.{ℕ, pos, ◌/◌, ◌%◌, ◌^◌, Bool, false, 
 use Rattle.std.specs.Ordering.{int_eq}
 use Rattle.cave_rows.specs.Rows.{Going}
 use Rattle.cave_data.specs.CaveView.{CaveView, ways_from, conditions_of}
+use Rattle.cave_world.specs.Motion.{ANY}
 use Rattle.cave_world.specs.declared.state.State.{State}
 use Rattle.cave_objects.specs.Objects.{is_at_hand, prop_of}
+
+-- the bit of the places that have light
+abbrev pub LIGHT_BIT : ℕ
+LIGHT_BIT = 0
 
 -- a bit is set for a place
 unfoldable pub has_condition : CaveView → ℕ → ℕ → Bool
 has_condition cave place bit = conditions_of cave place / 2 ^ bit % 2 == 1
 
--- the first motion of the first way out is 1
-abbrev pub starts_with_one : List ℕ → Bool
-starts_with_one [] = false
-starts_with_one (motion ∷ motions) = motion == 1
+-- the first motion of the first way out is the one that any motion is
+abbrev pub starts_with_any : List ℕ → Bool
+starts_with_any [] = false
+starts_with_any (motion ∷ motions) = motion == ANY
 
 abbrev pub leads_on : List Going → Bool
 leads_on [] = false
-leads_on (way ∷ ways) = starts_with_one way.motions
+leads_on (way ∷ ways) = starts_with_any way.motions
 
 -- the place has a forced motion, which moves the player on from it
 unfoldable pub is_forced : CaveView → ℕ → Bool
@@ -26,5 +31,5 @@ is_forced cave place = leads_on (ways_from cave place)
 -- the place has no light, and no burning lamp is at hand
 unfoldable pub is_dark : CaveView → ℕ → State → Bool
 is_dark cave lamp s =
-    not (has_condition cave s.trail.here 0)
+    not (has_condition cave s.trail.here LIGHT_BIT)
     && not (is_at_hand s.objects s.trail.here lamp && int_eq (prop_of s.objects lamp) (pos 1))

@@ -6,6 +6,7 @@ use Rattle.std.specs.List.{list_any}
 use Rattle.cave_rows.specs.Rows.{Going, condition_of_target, number_of_target}
 use Rattle.cave_data.specs.CaveView.{CaveView, ways_from}
 use Rattle.cave_words.specs.Stream.{next, is_within_percent}
+use Rattle.cave_world.specs.Motion.{ANY}
 use Rattle.cave_world.specs.declared.state.State.{State}
 use Rattle.cave_world.specs.declared.travel.TravelOutcome.{TravelOutcome}
 use Rattle.cave_world.specs.declared.travel.TravelOutcome.TheVariants.{Go, Special, Say, NoMotion}
@@ -18,9 +19,41 @@ pub record TravelResult : Type 0 where
   pub state : State
   pub outcome : TravelOutcome
 
+-- the last place, which is the greatest target of a row that is a place
+abbrev pub LAST_PLACE : ℕ
+LAST_PLACE = 300
+
+-- the target of the narrow passage
+abbrev pub SQUEEZE : ℕ
+SQUEEZE = 301
+
+-- the target of a row that puts the emerald down where the player is, and leads nowhere
+abbrev pub PUTS_EMERALD_DOWN : ℕ
+PUTS_EMERALD_DOWN = 302
+
+-- the target of the troll's bridge
+abbrev pub BRIDGE : ℕ
+BRIDGE = 303
+
+-- a target above it is a message, by its number above it
+abbrev pub MESSAGES_AFTER : ℕ
+MESSAGES_AFTER = 500
+
+-- the condition that always holds and that dwarves don't pass; below it are the chances
+abbrev pub NOT_FOR_DWARVES : ℕ
+NOT_FOR_DWARVES = 100
+
+-- a condition up to it asks for an object that is carried, by its number above 100
+abbrev pub LAST_CARRIED : ℕ
+LAST_CARRIED = 200
+
+-- a condition up to it asks for an object that is here or carried; those above it for a prop
+abbrev pub LAST_AT_HAND : ℕ
+LAST_AT_HAND = 300
+
 -- a row lists a motion by its number, or each motion by 1
 abbrev pub lists_motion : ℕ → Going → Bool
-lists_motion motion row = list_any (λ m. m == motion || m == 1) row.motions
+lists_motion motion row = list_any (λ m. m == motion || m == ANY) row.motions
 
 -- the condition of a row and the number after it
 abbrev pub row_condition : Going → ℕ
@@ -32,38 +65,40 @@ row_number row = number_of_target row.target
 -- a condition over 100: an object is carried, is carried or here, or has another prop
 unfoldable pub allows : ℕ → State → Bool
 allows m s =
-    if nat_le m 200 then is_carried s.objects (m - 100)
-    else (if nat_le m 300 then is_carried s.objects (m - 200)
-    || is_object_at s.objects s.trail.here (m - 200)
+    if nat_le m LAST_CARRIED then is_carried s.objects (m - NOT_FOR_DWARVES)
+    else (if nat_le m LAST_AT_HAND then is_carried s.objects (m - LAST_CARRIED)
+    || is_object_at s.objects s.trail.here (m - LAST_CARRIED)
     else not (int_eq (prop_of s.objects (m % 100)) (pos (m / 100 - 3))))
 
--- conditions 0 and 100 hold always, those between by chance
+-- condition 0 and that of rows that aren't for dwarves hold always, those between by chance
 unfoldable pub holds : ℕ → State → Bool
-holds m s = if m == 0 || m == 100 then true
-    else (if nat_lt m 100 then is_within_percent m s.stream else allows m s)
+holds m s = if m == 0 || m == NOT_FOR_DWARVES then true
+    else (if nat_lt m NOT_FOR_DWARVES then is_within_percent m s.stream else allows m s)
 
 -- a condition by chance takes a draw, every other leaves the state
 unfoldable pub after_condition : ℕ → State → State
-after_condition m s = if nat_lt 0 m && nat_lt m 100 then record s { stream = next s.stream } else s
+after_condition m s =
+    if nat_lt 0 m && nat_lt m NOT_FOR_DWARVES then record s { stream = next s.stream } else s
 
 -- a place up to 300, a message from 501 on, and between them the ways with rules of their own
 unfoldable pub leads_to : ℕ → TravelOutcome
 leads_to n =
-    if nat_le n 300 then Go n
-    else (if nat_lt 500 n then Say (n - 500)
-    else (if n == 301 then Special Squeeze else (if n == 303 then Special Bridge else NoWay)))
+    if nat_le n LAST_PLACE then Go n
+    else (if nat_lt MESSAGES_AFTER n then Say (n - MESSAGES_AFTER)
+    else (if n == SQUEEZE then Special Squeeze
+    else (if n == BRIDGE then Special Bridge else NoWay)))
 
 -- where a row leads: nowhere if its condition fails or if it only puts the emerald down
 unfoldable pub row_outcome : State → Going → Option TravelOutcome
 row_outcome s row =
-    if holds (row_condition row) s && not (row_number row == 302)
+    if holds (row_condition row) s && not (row_number row == PUTS_EMERALD_DOWN)
     then Some (leads_to (row_number row)) else None
 
 -- the state after a row was tried
 unfoldable pub after_row : ℕ → State → Going → State
 after_row emerald s row =
     let t = after_condition (row_condition row) s in
-    if holds (row_condition row) s && row_number row == 302
+    if holds (row_condition row) s && row_number row == PUTS_EMERALD_DOWN
     then record t { objects = with_place t.objects emerald t.trail.here } else t
 
 -- the rows without the first, if that has the target

@@ -51,7 +51,7 @@ pub enum Part {
 }
 
 impl Default for Part {
-    ghost use Rattle.cave_world.specs.Parts.{no_part};
+    ghost use Rattle.cave_world.specs.Part.{no_part};
 
     ghost is_default = { λ p. p ≡ no_part };
 

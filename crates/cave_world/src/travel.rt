@@ -7,6 +7,7 @@ ghost use Rattle.cave_world.specs.Travel.{from_listed, travel_by_rows, travel_by
 use crate::motion::ANY;
 use crate::state::State;
 use cave_data::Cave;
+use cave_objects::place::LAST_PLACE;
 use cave_objects::{Object, Place};
 use cave_rows::Row;
 
@@ -34,9 +35,6 @@ pub enum TravelOutcome {
     NoWay,
 }
 
-/// The greatest target of a row that is a place.
-const LAST_PLACE: u16 = 300;
-
 /// The target of the narrow passage.
 const SQUEEZE: u16 = 301;
 
@@ -50,13 +48,29 @@ const BRIDGE: u16 = 303;
 const MESSAGES_AFTER: u16 = 500;
 
 /// The condition that always holds and that dwarves don't pass; below it are the chances.
-const NOT_FOR_DWARVES: u32 = 100;
+pub const NOT_FOR_DWARVES: u32 = 100;
 
 /// A condition up to it asks for an object that is carried, by its number above 100.
 const LAST_CARRIED: u32 = 200;
 
 /// A condition up to it asks for an object that is here or carried; those above it for a prop.
 const LAST_AT_HAND: u32 = 300;
+
+/// Where a motion leads from where the player is, by the rows of the place. A row may
+/// move the emerald here on the way.
+#[tactic(auto, unfolding(crate::specs::Travel::travel_by_motion))]
+pub fn travel_by_motion(
+    cave: &Cave,
+    emerald: Object,
+    state: &mut State,
+    motion: u16,
+) -> TravelOutcome
+    ensures { record { state = state.new; outcome = result }
+        ≡ travel_by_motion cave.now emerald motion state.old }
+{
+    let here = state.trail.here;
+    travel_by_rows(cave.travel(here.number()), emerald, state, motion)
+}
 
 fn lists(row: &Row, motion: u16) -> bool
     ensures { result ≡ lists_motion motion (going row.now) }
@@ -68,7 +82,7 @@ fn lists(row: &Row, motion: u16) -> bool
 fn leads_to(number: u16) -> TravelOutcome
     ensures { result ≡ leads_to number }
 {
-    if number <= LAST_PLACE {
+    if number <= LAST_PLACE as u16 {
         return TravelOutcome::Go(Place::new(number));
     }
     if number > MESSAGES_AFTER {
@@ -174,20 +188,4 @@ fn travel_by_rows(rows: &[Row], emerald: Object, state: &mut State, motion: u16)
         return TravelOutcome::NoMotion;
     }
     first_way(listed, emerald, state)
-}
-
-/// Where a motion leads from where the player is, by the rows of the place. A row may
-/// move the emerald here on the way.
-#[tactic(auto, unfolding(crate::specs::Travel::travel_by_motion))]
-pub fn travel_by_motion(
-    cave: &Cave,
-    emerald: Object,
-    state: &mut State,
-    motion: u16,
-) -> TravelOutcome
-    ensures { record { state = state.new; outcome = result }
-        ≡ travel_by_motion cave.now emerald motion state.old }
-{
-    let here = state.trail.here;
-    travel_by_rows(cave.travel(here.number()), emerald, state, motion)
 }

@@ -1,5 +1,5 @@
 ghost use Rattle.std.specs.Prelude.{◌≡◌};
-ghost use Rattle.edit_options.specs.Views.{view_named};
+ghost use Rattle.edit_options.specs.Editing.{view_named};
 
 /// What an edit of a log prints.
 #[derive(Clone, Copy, Debug, PartialEq, Eq)]

@@ -1,5 +1,6 @@
 pub mod Prefixes
 pub mod Numbers
+pub mod WordLines
 pub mod Lines
 pub mod Grammar
 pub mod Malformed

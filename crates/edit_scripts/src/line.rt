@@ -4,7 +4,7 @@ ghost use Rattle.std.specs.Prelude.{◌≡◌, IfOk, MatchOption, None, Some, op
 ghost use Rattle.std.specs.List.{list_all};
 ghost use Rattle.limits.specs.Limits.{max_script_number};
 ghost use Rattle.log_lines.specs.Bytes.{is_blank, is_digit, number_of};
-ghost use Rattle.log_replay.specs.Change.{change_of};
+ghost use Rattle.log_replay.specs.Edit.{change_of};
 ghost use Rattle.edit_scripts.specs.Line.{is_word_line, number_and_rest, number_after};
 ghost use Rattle.edit_scripts.specs.Line.{text_of_edit, edit_of, kind_of_script_line};
 ghost use Rattle.edit_scripts.specs.Line.{kind_said};
@@ -25,9 +25,29 @@ pub(crate) enum ScriptLine {
     Nonsense,
 }
 
+/// What a line says.
+#[tactic(auto, unfolding(crate::specs::Line::kind_of_script_line))]
+pub(crate) fn read_line(alloc: Global, line: &[u8]) -> Result<ScriptLine, AllocError>
+    ensures { IfOk result (λ said. kind_said said ≡ kind_of_script_line line.now) }
+{
+    if is_skipped(line) {
+        return Ok(ScriptLine::Nothing);
+    }
+    if is_word_line(b"begin", line) {
+        return Ok(ScriptLine::Begin);
+    }
+    if is_word_line(b"end", line) {
+        return Ok(ScriptLine::End);
+    }
+    match edit_of(alloc, line)? {
+        Some(edit) => Ok(ScriptLine::Edit(edit)),
+        None => Ok(ScriptLine::Nonsense),
+    }
+}
+
 /// Whether a line is the word, with blanks after it or none.
 #[tactic(auto, unfolding(crate::specs::Line::is_word_line))]
-fn is_word(word: &[u8], line: &[u8]) -> bool
+fn is_word_line(word: &[u8], line: &[u8]) -> bool
     ensures { result ≡ is_word_line word.now line.now }
 {
     match line.strip_prefix(word) {
@@ -99,24 +119,4 @@ fn edit_of(alloc: Global, line: &[u8]) -> Result<Option<Edit>, AllocError>
         return Ok(is_all_blank(rest).then_some(Edit::Reseed(seed)));
     }
     Ok(None)
-}
-
-/// What a line says.
-#[tactic(auto, unfolding(crate::specs::Line::kind_of_script_line))]
-pub(crate) fn read_line(alloc: Global, line: &[u8]) -> Result<ScriptLine, AllocError>
-    ensures { IfOk result (λ said. kind_said said ≡ kind_of_script_line line.now) }
-{
-    if is_skipped(line) {
-        return Ok(ScriptLine::Nothing);
-    }
-    if is_word(b"begin", line) {
-        return Ok(ScriptLine::Begin);
-    }
-    if is_word(b"end", line) {
-        return Ok(ScriptLine::End);
-    }
-    match edit_of(alloc, line)? {
-        Some(edit) => Ok(ScriptLine::Edit(edit)),
-        None => Ok(ScriptLine::Nonsense),
-    }
 }

@@ -9,7 +9,7 @@ use Rattle.log_replay.specs.declared.edit.Edit.{Edit}
 use Rattle.log_replay.specs.declared.fault.EditFault.{EditFault}
 use Rattle.log_replay.specs.declared.fault.GroupFault.{GroupFault}
 use Rattle.log_replay.specs.Play.{log_of}
-use Rattle.log_replay.specs.Change.{Change, change_of, changes_of, log_after}
+use Rattle.log_replay.specs.Edit.{Change, change_of, changes_of, log_after}
 use Rattle.log_replay.specs.declared.margins.Margins.{Margins}
 use Rattle.log_replay.specs.Margins.{margins_after, margins_after_all, margins_of}
 use Rattle.log_replay.specs.Faults.{fault_of, first_of_two, fault_of_all, log_after_all}

@@ -16,9 +16,9 @@ use Rattle.log_replay.specs.declared.fault.EditFault.TheVariants.{BadSeed, Meter
 use Rattle.log_replay.specs.declared.fault.GroupFault.{GroupFault}
 use Rattle.limits.specs.Limits.{max_log_lines, max_seed}
 use Rattle.log_replay.specs.Play.{Game, game_of}
-use Rattle.log_replay.specs.Change.{Change, inserts, deletes, replaces, reseeds, line_at, log_after}
-use Rattle.log_replay.specs.Change.{seed_after, seed_after_all, apply, apply_all, inverse_of}
-use Rattle.log_replay.specs.Change.{inverse_of_each, inverses_of}
+use Rattle.log_replay.specs.Edit.{Change, inserts, deletes, replaces, reseeds, line_at, log_after}
+use Rattle.log_replay.specs.Edit.{seed_after, seed_after_all, apply, apply_all, inverse_of}
+use Rattle.log_replay.specs.Edit.{inverse_of_each, inverses_of}
 use Rattle.log_replay.specs.Faults.{fault_of, added_fault, replaced_fault, fault_of_all}
 use Rattle.log_replay.specs.Faults.{or_group_meter_full, group_fault, log_after_all}
 use Rattle.log_replay.specs.Play.{IsGame}

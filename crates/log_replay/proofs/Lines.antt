@@ -6,7 +6,7 @@ use Rattle.std.proofs.lemmas.List.{take_more, get_or-map, length-map}
 use Rattle.std.proofs.lemmas.List.Elements.{All-get_or}
 use Rattle.log_lines.specs.Line.{is_line}
 use Rattle.log_replay.specs.Play.{log_of}
-use Rattle.log_replay.specs.Change.{line_at}
+use Rattle.log_replay.specs.Edit.{line_at}
 
 pub length-log_of : (log : List (Vec ℕ)) → length (log_of log) ≡ length log
 length-log_of log = length-map log (λ line. line.items)

@@ -7,7 +7,7 @@ use Rattle.std.proofs.lemmas.List.{get_or-drop, drop_at, drop-drop, append_assoc
 use Rattle.std.proofs.lemmas.List.{take-take, take-set-le, drop-set-lt}
 use Rattle.std.proofs.lemmas.List.Edits.{length-insert, length-remove}
 use Rattle.log_replay.specs.declared.margins.Margins.{Margins}
-use Rattle.log_replay.specs.Change.{Change, inserts, deletes, replaces, reseeds, line_at, log_after}
+use Rattle.log_replay.specs.Edit.{Change, inserts, deletes, replaces, reseeds, line_at, log_after}
 use Rattle.log_replay.specs.Faults.{log_after_all}
 use Rattle.log_replay.proofs.MarginLemmas.{Leaves, LeaveAlone}
 

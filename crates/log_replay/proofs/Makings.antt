@@ -2,7 +2,7 @@
 use Rattle.std.proofs.Common.{◌≡◌, List, [], ◌∷◌, ◌++◌, refl, ◌∙◌, None}
 use Rattle.std.proofs.lemmas.List.{append_assoc}
 use Rattle.log_replay.specs.Play.{Game}
-use Rattle.log_replay.specs.Change.{Change, apply, apply_all, inverse_of, inverse_of_each}
+use Rattle.log_replay.specs.Edit.{Change, apply, apply_all, inverse_of, inverse_of_each}
 use Rattle.log_replay.specs.Faults.{fault_of}
 use Rattle.log_replay.proofs.Inverses.{IsFree}
 

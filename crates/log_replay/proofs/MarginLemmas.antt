@@ -6,8 +6,8 @@ use Rattle.log_replay.specs.declared.margins.Margins.{Margins}
 use Rattle.log_replay.specs.declared.edit.Edit.{Edit}
 use Rattle.log_replay.specs.Play.{log_of}
 use Rattle.log_replay.specs.Play.{Game}
-use Rattle.log_replay.specs.Change.{Change, change_of, changes_of, inserts, deletes, replaces}
-use Rattle.log_replay.specs.Change.{reseeds, log_after, apply, apply_all}
+use Rattle.log_replay.specs.Edit.{Change, change_of, changes_of, inserts, deletes, replaces}
+use Rattle.log_replay.specs.Edit.{reseeds, log_after, apply, apply_all}
 use Rattle.log_replay.specs.Faults.{fault_of, fault_of_all}
 use Rattle.log_replay.specs.Margins.{margins_after, margins_after_all, margins_of}
 use Rattle.log_replay.proofs.Lines.{length-log_of}

@@ -9,7 +9,7 @@ use Rattle.log_replay.specs.declared.ready_edits.ReadyEdits.{ReadyEdits}
 use Rattle.log_replay.specs.Machine.{MachineRules}
 use Rattle.log_replay.specs.Play.{log_of}
 use Rattle.log_replay.specs.Play.{Game, game_of}
-use Rattle.log_replay.specs.Change.{Change, log_after, apply_all}
+use Rattle.log_replay.specs.Edit.{Change, log_after, apply_all}
 use Rattle.log_replay.specs.ReadyEdits.{new_game, IsReady, AreEditsOf}
 use Rattle.log_replay.specs.Faults.{fault_of, first_of_two, or_group_meter_full}
 use Rattle.log_replay.specs.Faults.{or_edit_meter_full}

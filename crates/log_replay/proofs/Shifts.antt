@@ -6,7 +6,7 @@ use Rattle.std.proofs.lemmas.List.{take-append-drop, take-take, drop-drop, lengt
 use Rattle.std.proofs.lemmas.List.{drop_at, take_more, append_assoc}
 use Rattle.log_replay.specs.Machine.{MachineRules}
 use Rattle.log_replay.specs.Play.{Game, state_after, texts_of, ticks_of}
-use Rattle.log_replay.specs.Change.{line_at}
+use Rattle.log_replay.specs.Edit.{line_at}
 use Rattle.log_replay.specs.Agreement.{state_at, image, AgreesAt}
 use Rattle.log_replay.specs.Replay.{IsShift, texts_at, ticks_at}
 use Rattle.log_replay.proofs.Plays.{state_after-append, texts_of-append, ticks_of-append}

@@ -13,7 +13,7 @@ use Rattle.replay_marks.specs.Marks.{MarksView, CheckpointsView}
 use Rattle.log_replay.specs.Machine.{MachineRules}
 use Rattle.log_replay.specs.declared.ready_edits.ReadyEdits.{ReadyEdits}
 use Rattle.log_replay.specs.Play.{game_of, log_of, IsGame, state_after, texts_of, ticks_of}
-use Rattle.log_replay.specs.Change.{Change, apply_all}
+use Rattle.log_replay.specs.Edit.{Change, apply_all}
 use Rattle.log_replay.specs.Margins.{margins_of}
 use Rattle.log_replay.specs.Playthrough.{IsPlaythrough}
 use Rattle.log_replay.specs.Agreement.{IsMeet, IsLastTo}

@@ -4,7 +4,7 @@ use Rattle.std.proofs.Common.{sym, ap, ◌∙◌, None}
 use Rattle.std.proofs.lemmas.List.{take_more, map-append}
 use Rattle.std.proofs.Math.Seq.{take-length}
 use Rattle.log_replay.specs.declared.edit.Edit.{Edit}
-use Rattle.log_replay.specs.Change.{Change, change_of, changes_of, line_at, log_after}
+use Rattle.log_replay.specs.Edit.{Change, change_of, changes_of, line_at, log_after}
 use Rattle.log_replay.specs.Faults.{fault_of, log_after_all}
 use Rattle.log_replay.proofs.Inverses.{IsFree}
 

@@ -8,7 +8,7 @@ use Rattle.log_replay.specs.declared.fault.EditFault.TheVariants.{BadSeed, Meter
 use Rattle.log_replay.specs.declared.fault.EditFault.TheVariants.{Memory}
 use Rattle.log_replay.specs.declared.fault.GroupFault.{GroupFault}
 use Rattle.limits.specs.Limits.{max_log_lines, max_seed}
-use Rattle.log_replay.specs.Change.{Change, inserts, deletes, replaces, reseeds, log_after}
+use Rattle.log_replay.specs.Edit.{Change, inserts, deletes, replaces, reseeds, log_after}
 
 -- a fault of a seed
 abbrev pub reseed_fault : ℕ → Option EditFault

@@ -1,7 +1,7 @@
 -- How many lines edits leave alone at both ends of a log.
 use Rattle.std.specs.Prelude.{ℕ, ◌-◌, min, List, [], ◌∷◌, length}
 use Rattle.log_replay.specs.declared.margins.Margins.{Margins}
-use Rattle.log_replay.specs.Change.{Change, inserts, deletes, replaces, reseeds, log_after}
+use Rattle.log_replay.specs.Edit.{Change, inserts, deletes, replaces, reseeds, log_after}
 
 -- at most so many at the start, and at most so many at the end
 abbrev pub narrowed_margins : Margins → ℕ → ℕ → Margins

@@ -3,7 +3,7 @@ use Rattle.std.specs.Prelude.{◌≡◌, ℕ, List, length, Option, None, Some, 
 use Rattle.log_replay.specs.declared.fault.EditFault.{EditFault}
 use Rattle.log_replay.specs.declared.fault.GroupFault.{GroupFault}
 use Rattle.log_replay.specs.declared.plan.Plan.{Plan}
-use Rattle.log_replay.specs.Change.{Change, log_after}
+use Rattle.log_replay.specs.Edit.{Change, log_after}
 use Rattle.log_replay.specs.Faults.{fault_of, log_after_all}
 use Rattle.log_replay.specs.Margins.{margins_of}
 

@@ -7,7 +7,7 @@ use Rattle.log_replay.specs.Machine.{MachineRules}
 use Rattle.log_replay.specs.Play.{Game, game_of, log_of, IsGame}
 use Rattle.log_replay.specs.Margins.{margins_of}
 use Rattle.log_replay.specs.Replay.{Revision, IsShift}
-use Rattle.log_replay.specs.Change.{Change, changes_of, apply_all, own_line, line_at, log_after}
+use Rattle.log_replay.specs.Edit.{Change, changes_of, apply_all, own_line, line_at, log_after}
 use Rattle.log_replay.specs.Faults.{fault_of_all, log_after_all}
 
 -- a log after the edits

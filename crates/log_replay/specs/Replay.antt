@@ -6,7 +6,7 @@ use Rattle.replay_marks.specs.Marks.{MarksView, CheckpointsView, IsBegunAt}
 use Rattle.log_replay.specs.declared.replay.Rerun.{Rerun}
 use Rattle.log_replay.specs.Machine.{MachineRules}
 use Rattle.log_replay.specs.Play.{Game, texts_of, ticks_of}
-use Rattle.log_replay.specs.Change.{Change}
+use Rattle.log_replay.specs.Edit.{Change}
 use Rattle.log_replay.specs.Margins.{margins_of}
 use Rattle.log_replay.specs.Agreement.{state_at, image, AgreesAt, NoneMeetsBefore, IsMeet}
 use Rattle.log_replay.specs.Agreement.{IsBounded}

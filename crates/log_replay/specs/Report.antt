@@ -2,7 +2,7 @@
 use Rattle.std.specs.Prelude.{◌≡◌, ℕ, ◌+◌, ◌-◌, ◌≤◌, List, length, Option, MatchOption, unwrap_or}
 use Rattle.log_replay.specs.Machine.{MachineRules}
 use Rattle.log_replay.specs.Play.{Game}
-use Rattle.log_replay.specs.Change.{Change, apply_all}
+use Rattle.log_replay.specs.Edit.{Change, apply_all}
 use Rattle.log_replay.specs.Margins.{margins_of}
 use Rattle.log_replay.specs.Agreement.{IsLastTo, IsMeet, IsBounded}
 

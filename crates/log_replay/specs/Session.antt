@@ -3,7 +3,7 @@ use Rattle.std.specs.Prelude.{◌≡◌, ℕ, Bool, List, map, Option}
 use Rattle.log_replay.specs.declared.playthrough.Playthrough.{Playthrough}
 use Rattle.log_replay.specs.Machine.{MachineRules}
 use Rattle.log_replay.specs.Play.{Game, IsPlay}
-use Rattle.log_replay.specs.Change.{Change}
+use Rattle.log_replay.specs.Edit.{Change}
 use Rattle.log_replay.specs.Playthrough.{kept_game}
 use Rattle.log_replay.specs.Report.{IsReport}
 

@@ -8,7 +8,7 @@ use Rattle.std.specs.Prelude.{[], ◌∷◌, length, Option, Some, None, if◌th
 use Rattle.log_replay.specs.declared.fault.EditFault.{EditFault}
 use Rattle.log_replay.specs.declared.fault.EditFault.TheVariants.{NoSuchPlace}
 use Rattle.log_replay.specs.Play.{Game}
-use Rattle.log_replay.specs.Change.{Change, inserts, deletes, replaces, reseeds, apply}
+use Rattle.log_replay.specs.Edit.{Change, inserts, deletes, replaces, reseeds, apply}
 use Rattle.log_replay.specs.Faults.{fault_of, added_fault, replaced_fault}
 use Rattle.log_replay.specs.Margins.{margins_of}
 use Rattle.log_replay.specs.Agreement.{image}

@@ -3,7 +3,7 @@ use Rattle.std.specs.Prelude.{◌≡◌, ℕ, ◌+◌, ◌-◌, ◌<◌, ◌≤�
 use Rattle.std.specs.Prelude.{Option, Some, None, MatchOption, vec_len, vec_capacity}
 use Rattle.replay_marks.specs.Marks.{MarksView, CheckpointsView, places_met, states_met}
 use Rattle.log_replay.specs.declared.playthrough.Playthrough.{Playthrough}
-use Rattle.log_replay.specs.Change.{Change, lines_inserted_by_all}
+use Rattle.log_replay.specs.Edit.{Change, lines_inserted_by_all}
 
 -- the old place up to which what was played comes in: the checkpoint that was met, or the end
 abbrev pub end_of_stretch : {S : Type 0} → CheckpointsView S → Option ℕ → ℕ

@@ -1,6 +1,6 @@
 ghost use Rattle.std.specs.Prelude.{◌≡◌, length, map, IfOk};
 ghost use Rattle.log_replay.specs.Play.{log_of};
-ghost use Rattle.log_replay.specs.Change.{change_of, changes_of};
+ghost use Rattle.log_replay.specs.Edit.{change_of, changes_of};
 
 use crate::edit::Edit;
 use crate::machine::Machine;

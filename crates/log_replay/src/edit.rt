@@ -1,8 +1,8 @@
 ghost use Rattle.std.specs.Prelude.{◌≡◌, ◌+◌, ◌≤◌, ◌<◌, vec_len, vec_capacity, None};
 ghost use Rattle.log_replay.specs.Play.{game_in, log_of};
-ghost use Rattle.log_replay.specs.Change.{change_of, changes_of, apply, apply_all};
-ghost use Rattle.log_replay.specs.Change.{inverse_of, inverses_of};
-ghost use Rattle.log_replay.specs.Change.{lines_inserted, lines_inserted_by_all};
+ghost use Rattle.log_replay.specs.Edit.{change_of, changes_of, apply, apply_all};
+ghost use Rattle.log_replay.specs.Edit.{inverse_of, inverses_of};
+ghost use Rattle.log_replay.specs.Edit.{lines_inserted, lines_inserted_by_all};
 ghost use Rattle.log_replay.specs.Faults.{fault_of, fault_of_all};
 
 use std::mem;

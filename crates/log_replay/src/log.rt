@@ -11,6 +11,29 @@ use limits::{is_bad_every, is_large_seed, is_long_log};
 use log_lines::{LineFlaw, check_line, flaw_of, split_line};
 use std::alloc::{AllocError, Global};
 
+/// How many lines a log has, or the first fault of what a session is opened with, memory aside.
+pub(crate) fn check_game(every: u32, log: &[u8], seed: u32) -> Result<usize, OpenFault>
+    ensures { let fault = open_fault every (lines log.now) seed in
+        MatchResult result
+        (λ count. (fault ≡ None) × (count ≡ length (lines log.now)))
+        (λ found. fault ≡ Some found) }
+{
+    if is_bad_every(every) {
+        return Err(OpenFault::BadEvery);
+    }
+    let count = match count_lines(log) {
+        Ok(count) => count,
+        Err((number, flaw)) => return Err(OpenFault::BadLine(number, flaw)),
+    };
+    if is_long_log(count) {
+        return Err(OpenFault::LogFull);
+    }
+    if is_large_seed(u64::from(seed)) {
+        return Err(OpenFault::BadSeed);
+    }
+    Ok(count)
+}
+
 /// How many lines a log has, or else the number, from 1, of the first that isn't valid in one, and
 /// what is wrong with it.
 pub(crate) fn count_lines(log: &[u8]) -> Result<usize, (usize, LineFlaw)>
@@ -45,27 +68,4 @@ pub(crate) fn copy_lines(
         rest = more;
     }
     Ok(copy)
-}
-
-/// How many lines a log has, or the first fault of what a session is opened with, memory aside.
-pub(crate) fn check_game(every: u32, log: &[u8], seed: u32) -> Result<usize, OpenFault>
-    ensures { let fault = open_fault every (lines log.now) seed in
-        MatchResult result
-        (λ count. (fault ≡ None) × (count ≡ length (lines log.now)))
-        (λ found. fault ≡ Some found) }
-{
-    if is_bad_every(every) {
-        return Err(OpenFault::BadEvery);
-    }
-    let count = match count_lines(log) {
-        Ok(count) => count,
-        Err((number, flaw)) => return Err(OpenFault::BadLine(number, flaw)),
-    };
-    if is_long_log(count) {
-        return Err(OpenFault::LogFull);
-    }
-    if is_large_seed(u64::from(seed)) {
-        return Err(OpenFault::BadSeed);
-    }
-    Ok(count)
 }

@@ -1,5 +1,5 @@
 ghost use Rattle.std.specs.Prelude.{◌≡◌, ℕ, List, ◌^◌, ◌<◌, length};
-ghost use Rattle.log_replay.specs.Change.{change_of, changes_of};
+ghost use Rattle.log_replay.specs.Edit.{change_of, changes_of};
 ghost use Rattle.log_replay.specs.Faults.{fault_of_all, group_fault};
 ghost use Rattle.log_replay.specs.Margins.{margins_after};
 ghost use Rattle.log_replay.specs.Plan.{IsLinesOrFault, IsPlanOrFault};

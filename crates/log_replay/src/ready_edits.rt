@@ -1,8 +1,8 @@
 ghost use Rattle.std.specs.Prelude.{◌≡◌, ℕ, List, ◌+◌, ◌-◌, ◌^◌, ◌<◌, ◌≤◌, length};
 ghost use Rattle.std.specs.Prelude.{IfOk, IfSome, OnOk, None};
 ghost use Rattle.log_replay.specs.Play.{game_of, log_of, IsGame};
-ghost use Rattle.log_replay.specs.Change.{change_of, changes_of, own_line, line_at, log_after};
-ghost use Rattle.log_replay.specs.Change.{seed_after_all, lines_inserted_by_all};
+ghost use Rattle.log_replay.specs.Edit.{change_of, changes_of, own_line, line_at, log_after};
+ghost use Rattle.log_replay.specs.Edit.{seed_after_all, lines_inserted_by_all};
 ghost use Rattle.log_replay.specs.Faults.{fault_of, fault_of_all, log_after_all};
 ghost use Rattle.log_replay.specs.Faults.{group_fault, IsAnswerTo};
 ghost use Rattle.log_replay.specs.ReadyEdits.{log_after_edits, new_game, IsReady, AreEditsOf};

@@ -2,7 +2,7 @@ ghost use Rattle.std.specs.Prelude.{◌≡◌, ◌≢◌, ℕ, ◌+◌, ◌-◌,
 ghost use Rattle.std.specs.Prelude.{IfOk, OnOk, OnErr, MatchOption, None, Option};
 ghost use Rattle.std.specs.Option.{option_map};
 ghost use Rattle.replay_marks.specs.Marks.{IsBegunAt};
-ghost use Rattle.log_replay.specs.Change.{changes_of, apply_all, inverses_of};
+ghost use Rattle.log_replay.specs.Edit.{changes_of, apply_all, inverses_of};
 ghost use Rattle.log_replay.specs.ReadyEdits.{new_game, AreEditsOf};
 ghost use Rattle.log_replay.specs.Faults.{fault_of_all, group_fault, steps_left, IsAnswerTo};
 ghost use Rattle.log_replay.specs.Playthrough.{kept_game, KeepsPlay, KeepsAll};

@@ -6,8 +6,8 @@ ghost use Rattle.std.specs.Str.Lines.{lines};
 ghost use Rattle.replay_marks.specs.Spacing.{IsSpaced, most_spaced};
 ghost use Rattle.log_lines.specs.Line.{is_line};
 ghost use Rattle.log_replay.specs.Play.{game_of, IsGame};
-ghost use Rattle.log_replay.specs.Change.{change_of, changes_of, apply, apply_all};
-ghost use Rattle.log_replay.specs.Change.{inverse_of, inverses_of, line_at};
+ghost use Rattle.log_replay.specs.Edit.{change_of, changes_of, apply, apply_all};
+ghost use Rattle.log_replay.specs.Edit.{inverse_of, inverses_of, line_at};
 ghost use Rattle.log_replay.specs.Faults.{fault_of, fault_of_all, edit_fault, group_fault};
 ghost use Rattle.log_replay.specs.Faults.{steps_left, IsAnswerTo, IsAnswerToEdit};
 ghost use Rattle.log_replay.specs.Opening.{open_fault, IsAnswerToOpen, AreOpenSteps};
@@ -51,100 +51,6 @@ impl<M: Machine> Model for Session<M> {
 }
 
 impl<M: Machine> Session<M> {
-    /// The seed of the held game.
-    pub fn seed(&self) -> u32
-        ensures { result ≡ self.now.game.seed }
-    {
-        self.kept.seed
-    }
-
-    /// How far apart checkpoints may be.
-    pub fn every(&self) -> u32
-        ensures { result ≡ self.now.every }
-    {
-        self.kept.checkpoints.every()
-    }
-
-    /// How many lines the held log has.
-    pub fn lines(&self) -> u32
-        ensures lines { result ≡ length self.now.game.log }
-        ensures game { IsGame self.now.game }
-    {
-        self.kept.log.len() as u32
-    }
-
-    /// The line of the held log at a place.
-    pub fn line(&self, place: u32) -> &[u8]
-        requires { place < length self.now.game.log }
-        ensures line { result.now ≡ line_at self.now.game.log place }
-        ensures valid { IsTrue (is_line result.now) }
-    {
-        &self.kept.log[place as usize]
-    }
-
-    /// The places of which the states are kept.
-    pub fn checkpoints(&self) -> &[u32]
-        ensures checkpoints { result.now ≡ self.now.checkpoints }
-        ensures spaced { let lines = length self.now.game.log in
-            IsSpaced self.now.every self.now.checkpoints lines }
-        ensures few { let lines = length self.now.game.log in
-            length self.now.checkpoints ≤ most_spaced self.now.every lines }
-    {
-        self.kept.checkpoints.places()
-    }
-
-    /// What the machine said at the start.
-    pub fn opening(&self) -> &M::Piece
-        ensures opening { result.now ≡ self.now.opening }
-        ensures plays { HoldsPlay M.rules M.text M.meaning self.now }
-    {
-        &self.kept.opening
-    }
-
-    /// What the machine said at each line.
-    pub fn pieces(&self) -> &[M::Piece]
-        ensures pieces { result.now ≡ self.now.pieces }
-        ensures each { length result.now ≡ length self.now.game.log }
-    {
-        &self.kept.pieces
-    }
-
-    /// The state after the last line. All that is held is the play of the held game.
-    pub fn state(&self) -> &M::State
-        ensures state { result.now ≡ self.now.state }
-        ensures made { M.is_state result.now }
-        ensures plays { HoldsPlay M.rules M.text M.meaning self.now }
-    {
-        &self.kept.state
-    }
-
-    /// Whether the line at a place ticked.
-    pub fn ticked(&self, place: u32) -> bool
-        requires { place < length self.now.game.log }
-        ensures { slice_get self.now.ticks place ≡ Some result }
-    {
-        self.kept.ticked[place as usize]
-    }
-
-    /// How many of the lines before a place ticked. It counts them; `tick_counts` goes over all
-    /// lines in one pass.
-    pub fn ticks(&self, place: u32) -> u32
-        requires { place ≤ length self.now.game.log }
-        ensures { result ≡ count_by (λ ticks. ticks) (take place self.now.ticks) }
-    {
-        count_ticks(&self.kept.ticked, place as usize)
-    }
-
-    /// How many of the lines ticked up to each line and with it, from the first line to the last.
-    pub fn tick_counts(&self) -> TickCounts<'_>
-        ensures each_line { length result ≡ length self.now.game.log }
-        ensures counts { (place : ℕ) → place < length self.now.game.log
-            → slice_index result place
-            ≡ count_by (λ ticks. ticks) (take (place + 1) self.now.ticks) }
-    {
-        TickCounts::of(&self.kept.ticked)
-    }
-
     /// Plays a log from its first line to its last and holds the play.
     pub fn open(
         alloc: Global,
@@ -285,5 +191,99 @@ impl<M: Machine> Session<M> {
             machine,
             kept,
         })
+    }
+
+    /// The seed of the held game.
+    pub fn seed(&self) -> u32
+        ensures { result ≡ self.now.game.seed }
+    {
+        self.kept.seed
+    }
+
+    /// How far apart checkpoints may be.
+    pub fn every(&self) -> u32
+        ensures { result ≡ self.now.every }
+    {
+        self.kept.checkpoints.every()
+    }
+
+    /// How many lines the held log has.
+    pub fn lines(&self) -> u32
+        ensures lines { result ≡ length self.now.game.log }
+        ensures game { IsGame self.now.game }
+    {
+        self.kept.log.len() as u32
+    }
+
+    /// The line of the held log at a place.
+    pub fn line(&self, place: u32) -> &[u8]
+        requires { place < length self.now.game.log }
+        ensures line { result.now ≡ line_at self.now.game.log place }
+        ensures valid { IsTrue (is_line result.now) }
+    {
+        &self.kept.log[place as usize]
+    }
+
+    /// The places of which the states are kept.
+    pub fn checkpoints(&self) -> &[u32]
+        ensures checkpoints { result.now ≡ self.now.checkpoints }
+        ensures spaced { let lines = length self.now.game.log in
+            IsSpaced self.now.every self.now.checkpoints lines }
+        ensures few { let lines = length self.now.game.log in
+            length self.now.checkpoints ≤ most_spaced self.now.every lines }
+    {
+        self.kept.checkpoints.places()
+    }
+
+    /// What the machine said at the start.
+    pub fn opening(&self) -> &M::Piece
+        ensures opening { result.now ≡ self.now.opening }
+        ensures plays { HoldsPlay M.rules M.text M.meaning self.now }
+    {
+        &self.kept.opening
+    }
+
+    /// What the machine said at each line.
+    pub fn pieces(&self) -> &[M::Piece]
+        ensures pieces { result.now ≡ self.now.pieces }
+        ensures each { length result.now ≡ length self.now.game.log }
+    {
+        &self.kept.pieces
+    }
+
+    /// The state after the last line. All that is held is the play of the held game.
+    pub fn state(&self) -> &M::State
+        ensures state { result.now ≡ self.now.state }
+        ensures made { M.is_state result.now }
+        ensures plays { HoldsPlay M.rules M.text M.meaning self.now }
+    {
+        &self.kept.state
+    }
+
+    /// Whether the line at a place ticked.
+    pub fn ticked(&self, place: u32) -> bool
+        requires { place < length self.now.game.log }
+        ensures { slice_get self.now.ticks place ≡ Some result }
+    {
+        self.kept.ticked[place as usize]
+    }
+
+    /// How many of the lines before a place ticked. It counts them; `tick_counts` goes over all
+    /// lines in one pass.
+    pub fn ticks(&self, place: u32) -> u32
+        requires { place ≤ length self.now.game.log }
+        ensures { result ≡ count_by (λ ticks. ticks) (take place self.now.ticks) }
+    {
+        count_ticks(&self.kept.ticked, place as usize)
+    }
+
+    /// How many of the lines ticked up to each line and with it, from the first line to the last.
+    pub fn tick_counts(&self) -> TickCounts<'_>
+        ensures each_line { length result ≡ length self.now.game.log }
+        ensures counts { (place : ℕ) → place < length self.now.game.log
+            → slice_index result place
+            ≡ count_by (λ ticks. ticks) (take (place + 1) self.now.ticks) }
+    {
+        TickCounts::of(&self.kept.ticked)
     }
 }

@@ -4,7 +4,7 @@ ghost use Rattle.std.specs.Option.{ForSome};
 ghost use Rattle.std.specs.List.{splice};
 ghost use Rattle.replay_marks.specs.Marks.{IsBegunAt};
 ghost use Rattle.log_replay.specs.Playthrough.{kept_game, KeepsAll};
-ghost use Rattle.log_replay.specs.Change.{changes_of, apply_all, inverses_of};
+ghost use Rattle.log_replay.specs.Edit.{changes_of, apply_all, inverses_of};
 ghost use Rattle.log_replay.specs.Faults.{fault_of_all};
 ghost use Rattle.log_replay.specs.Takeover.{end_of_stretch, lines_gone, checkpoints_passed};
 ghost use Rattle.log_replay.specs.Takeover.{MarksEnd, FitsMarks, FitsLines, FitsPieces, FitsTicks};

@@ -4,6 +4,7 @@ use crate::display::show_the_same;
 use crate::edits::STAIRS;
 use crate::machines::counter::Counter;
 use crate::machines::counts::Counts;
+use crate::machines::told::Told;
 use crate::play::{Counting, TestSession};
 use log_lines::Meter;
 use std::process::Abort;
@@ -29,6 +30,13 @@ fn expect_copy<'a>(
 fn a_copy_shows_the_same_and_plays_nothing(rt: HostRuntime) -> Result<(), Fail> {
     let counts = Counts::new();
     let mut meter = Meter::new();
-    let session = TestSession::open(rt.alloc(), Counter, &counts, 9, STAIRS, 3, &mut meter)?;
+    let session = TestSession::open(
+        rt.alloc(),
+        Told::new(Counter, &counts),
+        9,
+        STAIRS,
+        3,
+        &mut meter,
+    )?;
     expect_copy(&rt, &session, &counts)
 }

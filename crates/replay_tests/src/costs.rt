@@ -5,6 +5,7 @@ use crate::machines::counter::Counter;
 use crate::machines::counts::Counts;
 use crate::machines::hasher::Hasher;
 use crate::machines::rule::RowRule;
+use crate::machines::told::Told;
 use crate::play::TestSession;
 use log_lines::Meter;
 use std::alloc::Global;
@@ -57,7 +58,14 @@ fn cost_of_an_insert<R: RowRule>(
 ) -> Result<Cost, Fail> {
     let counts = Counts::new();
     let log = flat(alloc, lines)?;
-    let mut session = TestSession::open(alloc, rule, &counts, 0, &log, 50, &mut Meter::new())?;
+    let mut session = TestSession::open(
+        alloc,
+        Told::new(rule, &counts),
+        0,
+        &log,
+        50,
+        &mut Meter::new(),
+    )?;
     let cost = insert(rt, alloc, &mut session, &counts, at, line);
     drop(session);
     cost

@@ -3,6 +3,7 @@
 use crate::edits::{LineChange, edits_of, flat, letters};
 use crate::machines::counter::Counter;
 use crate::machines::counts::Counts;
+use crate::machines::told::Told;
 use crate::play::{Counting, TestSession};
 use log_lines::{LineFlaw, Meter, Steps};
 use log_replay::{EditFault, OpenFault};
@@ -21,7 +22,14 @@ fn expect_closed(
 ) {
     let counts = Counts::new();
     let mut meter = Meter::new();
-    let opened = TestSession::open(alloc, Counter, &counts, seed, log, every, &mut meter);
+    let opened = TestSession::open(
+        alloc,
+        Told::new(Counter, &counts),
+        seed,
+        log,
+        every,
+        &mut meter,
+    );
     assert!(rt; opened.err() == Some(fault), "{fault:?}");
     assert_eq!(rt; meter.used(), 0);
     assert_eq!(rt; counts.steps(), 0);
@@ -103,8 +111,7 @@ fn the_greatest_log_is_taken_and_takes_no_line_more(rt: HostRuntime) -> Result<(
     let (seed, mut meter) = (2_147_483_647, Meter::new());
     let mut session = TestSession::open(
         rt.alloc(),
-        Counter,
-        &counts,
+        Told::new(Counter, &counts),
         seed,
         &log,
         10_000,

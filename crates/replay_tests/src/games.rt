@@ -6,6 +6,7 @@ use crate::machines::counter::Counter;
 use crate::machines::counts::Counts;
 use crate::machines::hasher::Hasher;
 use crate::machines::rule::RowRule;
+use crate::machines::told::Told;
 use crate::play::{Counting, TestSession};
 use crate::row::RowState;
 use log_lines::Meter;
@@ -59,7 +60,14 @@ fn expect_game(rt: &impl Abort, alloc: Global, session: &Counting<'_>) -> Result
 fn a_log_is_cut_into_lines_and_played(rt: HostRuntime) -> Result<(), Fail> {
     let counts = Counts::new();
     let log = b"a\r\nbcd\n\nab";
-    let session = TestSession::open(rt.alloc(), Counter, &counts, 263, log, 1, &mut Meter::new())?;
+    let session = TestSession::open(
+        rt.alloc(),
+        Told::new(Counter, &counts),
+        263,
+        log,
+        1,
+        &mut Meter::new(),
+    )?;
     expect_game(&rt, rt.alloc(), &session)
 }
 
@@ -121,8 +129,7 @@ fn an_edit_of_each_kind_is_replayed_and_taken_back(rt: HostRuntime) -> Result<()
     let counts = Counts::new();
     let mut session = TestSession::open(
         rt.alloc(),
-        Counter,
-        &counts,
+        Told::new(Counter, &counts),
         0,
         STAIRS,
         1,
@@ -159,7 +166,14 @@ fn edit_five_by_group<R: RowRule>(
 ) -> Result<(), Fail> {
     let counts = Counts::new();
     let log = b"no\nin\ntake lamp\non\ndown\n";
-    let mut session = TestSession::open(alloc, rule, &counts, 0, log, 1, &mut Meter::new())?;
+    let mut session = TestSession::open(
+        alloc,
+        Told::new(rule, &counts),
+        0,
+        log,
+        1,
+        &mut Meter::new(),
+    )?;
     let made = edit_by_group(rt, alloc, &mut session, wanted);
     drop(session);
     made

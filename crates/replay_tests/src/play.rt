@@ -30,15 +30,13 @@ impl<'a, R: RowRule> TestSession<'a, R> {
     /// Opens a session, by the meter as it is when new.
     pub(crate) fn open(
         alloc: Global,
-        rule: R,
-        counts: &'a Counts,
+        machine: Told<'a, R>,
         seed: u32,
         log: &[u8],
         every: u32,
         meter: &mut Meter,
     ) -> Result<TestSession<'a, R>, OpenFault> {
         *meter = Meter::new();
-        let machine = Told { rule, counts };
         let session = Session::open(alloc, machine, seed, log, every, meter)?;
         Ok(TestSession { session })
     }
@@ -65,7 +63,7 @@ impl<'a, R: RowRule> TestSession<'a, R> {
         rule: R,
         counts: &'a Counts,
     ) -> Result<TestSession<'a, R>, AllocError> {
-        let session = self.session.copy(Told { rule, counts })?;
+        let session = self.session.copy(Told::new(rule, counts))?;
         Ok(TestSession { session })
     }
 

@@ -6,6 +6,7 @@ use crate::machines::counter::Counter;
 use crate::machines::counts::Counts;
 use crate::machines::hasher::Hasher;
 use crate::machines::rule::RowRule;
+use crate::machines::told::Told;
 use crate::play::TestSession;
 use log_lines::{Meter, Steps};
 use log_replay::Edit;
@@ -32,7 +33,14 @@ fn expect_play<R: RowRule + Default>(
 ) -> Result<(), Fail> {
     let log = log_of(alloc, session)?;
     let (seed, mut meter) = (session.seed(), Meter::new());
-    let scratch = TestSession::open(alloc, R::default(), counts, seed, &log, 50, &mut meter)?;
+    let scratch = TestSession::open(
+        alloc,
+        Told::new(R::default(), counts),
+        seed,
+        &log,
+        50,
+        &mut meter,
+    )?;
     let is_same = show_the_same_game(session, &scratch);
     drop(scratch);
     assert!(rt; is_same);
@@ -82,8 +90,7 @@ fn edit_often_from_nothing<R: RowRule + Default>(
     let counts = Counts::new();
     let mut session = TestSession::open(
         alloc,
-        R::default(),
-        &counts,
+        Told::new(R::default(), &counts),
         0,
         b"",
         every,

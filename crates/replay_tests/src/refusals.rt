@@ -7,6 +7,7 @@ use crate::display::show_the_same;
 use crate::edits::{LineChange, STAIRS, edits_of};
 use crate::machines::counter::Counter;
 use crate::machines::counts::Counts;
+use crate::machines::told::Told;
 use crate::play::{Counting, TestSession};
 use log_lines::Meter;
 use log_replay::{Edit, EditFault, GroupFault, OpenFault};
@@ -21,11 +22,25 @@ fn open<'a>(
     counts: &'a Counts,
     every: u32,
 ) -> Result<Counting<'a>, OpenFault> {
-    match TestSession::open(alloc, Counter, counts, 7, STAIRS, every, &mut Meter::new()) {
+    match TestSession::open(
+        alloc,
+        Told::new(Counter, counts),
+        7,
+        STAIRS,
+        every,
+        &mut Meter::new(),
+    ) {
         Ok(session) => Ok(session),
         Err(fault) => {
             assert_eq!(rt; fault, OpenFault::Memory);
-            TestSession::open(alloc, Counter, counts, 7, STAIRS, every, &mut Meter::new())
+            TestSession::open(
+                alloc,
+                Told::new(Counter, counts),
+                7,
+                STAIRS,
+                every,
+                &mut Meter::new(),
+            )
         }
     }
 }

@@ -7,6 +7,16 @@ use super::Checkpoints;
 use crate::marks::Marks;
 use crate::placed_states::PlacedStates;
 
+/// Where new checkpoints join the old ones: those before the index `at` stay, and those from the index
+/// `rest` on move as the place `old` to `new`.
+#[derive(Clone, Copy)]
+struct Seam {
+    at: usize,
+    rest: usize,
+    old: u32,
+    new: u32,
+}
+
 impl<S: Copy> Checkpoints<S> {
     /// Takes over marks of the edited log that ended at the checkpoint of the index `met`: those
     /// before `at` stay, and those after `met` move with it.
@@ -25,7 +35,8 @@ impl<S: Copy> Checkpoints<S> {
         let new = marks.next();
         let end = marks.end();
         let place = self.next_place(met, new, end);
-        self.join(marks.close(place), at, met + 1, old, new, end);
+        let rest = met + 1;
+        self.join(marks.close(place), Seam { at, rest, old, new }, end);
     }
 
     /// What comes after the checkpoint of the index `met` where that moves to `new`: the next one,
@@ -62,43 +73,36 @@ impl<S: Copy> Checkpoints<S> {
         let rest = self.kept.len();
         let old = self.lines;
         let end = marks.end();
-        self.join(marks.finish(), at, rest, old, end, end);
+        let new = end;
+        self.join(marks.finish(), Seam { at, rest, old, new }, end);
     }
 
-    /// Puts `middle` after the checkpoints before `at`, and moves those from the index `rest` on
-    /// as `old` to `new`.
-    fn join(
-        &mut self,
-        middle: PlacedStates<S>,
-        at: usize,
-        rest: usize,
-        old: u32,
-        new: u32,
-        end: u32,
-    )
-        requires among { at < length self.old.places }
-        requires ordered { at ≤ rest }
-        requires rest { IsRest self.old.every self.old.places self.old.lines old rest }
-        requires thinned { let start = slice_index self.old.places (at - 1) in
-            let from = slice_index self.old.places at in
-            let next = next_place self.old.places rest old new end in
+    /// Puts `middle` at the seam; the log ends at `end` now.
+    fn join(&mut self, middle: PlacedStates<S>, seam: Seam, end: u32)
+        requires among { seam.at < length self.old.places }
+        requires ordered { seam.at ≤ seam.rest }
+        requires rest { IsRest self.old.every self.old.places self.old.lines seam.old seam.rest }
+        requires thinned { let start = slice_index self.old.places (seam.at - 1) in
+            let from = slice_index self.old.places seam.at in
+            let next = next_place self.old.places seam.rest seam.old seam.new end in
             IsThinned start from self.old.every middle.places next }
-        requires low { (i : ℕ) → i + 1 ≡ length middle.places → slice_index middle.places i ≤ new }
+        requires low { (i : ℕ) → i + 1 ≡ length middle.places
+            → slice_index middle.places i ≤ seam.new }
         requires even { length middle.states ≡ length middle.places }
-        requires end { self.old.lines - old + new ≡ end }
-        requires room { length self.old.places + length middle.places + (at - 1)
-            ≤ self.old.room + rest }
+        requires end { self.old.lines - seam.old + seam.new ≡ end }
+        requires room { length self.old.places + length middle.places + (seam.at - 1)
+            ≤ self.old.room + seam.rest }
         ensures settings { (self.new.every ≡ self.old.every) × (self.new.lines ≡ end) }
-        ensures places { self.new.places ≡ take (at - 1) self.old.places ++ (middle.places
-            ++ after_shift self.old.places rest old new) }
-        ensures states { self.new.states ≡ take (at - 1) self.old.states ++ (middle.states
-            ++ drop rest self.old.states) }
+        ensures places { self.new.places ≡ take (seam.at - 1) self.old.places ++ (middle.places
+            ++ after_shift self.old.places seam.rest seam.old seam.new) }
+        ensures states { self.new.states ≡ take (seam.at - 1) self.old.states ++ (middle.states
+            ++ drop seam.rest self.old.states) }
     {
-        let head = at.saturating_sub(1);
-        let after = self.kept.len() - rest;
-        self.kept.splice(head, rest, middle);
+        let head = seam.at.saturating_sub(1);
+        let after = self.kept.len() - seam.rest;
+        self.kept.splice(head, seam.rest, middle);
         let tail = self.kept.len() - after;
-        self.kept.shift(tail, old, new);
+        self.kept.shift(tail, seam.old, seam.new);
         self.lines = end;
     }
 }

@@ -14,6 +14,13 @@ pub(crate) struct Told<'a, R> {
     pub(crate) counts: &'a Counts,
 }
 
+impl<'a, R> Told<'a, R> {
+    /// The machine of a rule that counts so.
+    pub(crate) fn new(rule: R, counts: &'a Counts) -> Told<'a, R> {
+        Told { rule, counts }
+    }
+}
+
 impl<'a, R: RowRule> Machine for Told<'a, R> {
     ghost use Rattle.replay_tests.specs.Telling.{telling_rules, same_numbers};
 

@@ -29,6 +29,6 @@ returns g c =
         last,
         RunsCover-written (first_stages database bindings c.args.seed) moves
             (IsCovered database bindings moves c.args.seed) _ _ _ _ made.0 made.1 output
-            c.write.ensures.written,
+            c.write_report.ensures.written,
       );
     }

@@ -1,6 +1,6 @@
 use Rattle.std.proofs.Common.{◌≡◌, Some, length, sym, subst, ap, ◌∙◌}
 use Rattle.replay_marks.specs.Spacing.{IsSpaced}
-use Rattle.log_replay.specs.Change.{changes_of, apply_all}
+use Rattle.log_replay.specs.Edit.{changes_of, apply_all}
 use Rattle.log_replay.specs.Play.{Game}
 use Rattle.log_replay.specs.declared.fault.EditFault.TheVariants as cause
 use Rattle.edit_scripts.specs.Views.{applied_item}

@@ -1,5 +1,5 @@
 use Rattle.std.proofs.Common.{◌≡◌, ℕ, ◌<◌, ◌≤◌, ◌-◌, suc, zero, arith, refl, sym, ◌∙◌, ap, subst}
-use Rattle.cave_things.specs.Things.{cave_of}
+use Rattle.cave_things.specs.Rules.{cave_of}
 use Rattle.cave_verbs.specs.Acting.{outcome_within, outcome_once, going_on}
 use Rattle.cave_verbs.specs.Deeds.{Deed, Outcome, deed, outcome}
 use Rattle.cave_verbs.specs.declared.next.Step.TheVariants.{Done, GoOn}

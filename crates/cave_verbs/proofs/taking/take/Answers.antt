@@ -1,5 +1,5 @@
 -- TAKE goes on from a liquid to its bottle.
-use Rattle.cave_things.specs.Things.{cave_of}
+use Rattle.cave_things.specs.Rules.{cave_of}
 use Rattle.cave_verbs.specs.Ranks.{rank}
 use Rattle.cave_verbs.proofs.Falls.{take-falls}
 use Rattle.std.proofs.Common.{rules}

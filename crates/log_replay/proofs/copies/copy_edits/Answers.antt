@@ -1,6 +1,6 @@
 use Rattle.std.proofs.Common.{◌∷◌, [], ap, ◌∙◌, sym}
 use Rattle.std.proofs.lemmas.List.{map-append}
-use Rattle.log_replay.specs.Change.{change_of, changes_of}
+use Rattle.log_replay.specs.Edit.{change_of, changes_of}
 use Rattle.log_replay.proofs.Traces.{changes-last}
 use Rattle.log_replay.proofs.copies.copy_edits.Goals as goal
 

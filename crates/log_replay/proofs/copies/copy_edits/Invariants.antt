@@ -1,5 +1,5 @@
 use Rattle.std.proofs.Common.{◌≡◌, take}
-use Rattle.log_replay.specs.Change.{changes_of}
+use Rattle.log_replay.specs.Edit.{changes_of}
 use Rattle.log_replay.proofs.copies.copy_edits.Given as goal
 
 abbrev pub invariant-loop-edit : goal.invariant-loop-edit

@@ -3,7 +3,7 @@ use Rattle.std.proofs.Math.Seq.{take-length}
 use Rattle.std.proofs.lemmas.List.{append-nil, take_at}
 use Rattle.log_replay.specs.Play.{log_of}
 use Rattle.log_replay.specs.Play.{game_of}
-use Rattle.log_replay.specs.Change.{changes_of}
+use Rattle.log_replay.specs.Edit.{changes_of}
 use Rattle.log_replay.proofs.Groups.{changes_of-drop_all, changes_of-reverse}
 use Rattle.log_replay.proofs.Inverses.{IsFree-from_none}
 use Rattle.log_replay.proofs.Makings.{IsMaking-start}

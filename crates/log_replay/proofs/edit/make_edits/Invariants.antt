@@ -2,7 +2,7 @@ use Rattle.std.proofs.Common.{◌+◌, ◌≤◌, take, drop}
 use Rattle.std.specs.Prelude.{vec_len, vec_capacity}
 use Rattle.log_replay.specs.Play.{log_of}
 use Rattle.log_replay.specs.Play.{game_of}
-use Rattle.log_replay.specs.Change.{changes_of, lines_inserted_by_all}
+use Rattle.log_replay.specs.Edit.{changes_of, lines_inserted_by_all}
 use Rattle.log_replay.proofs.Makings.{IsMaking}
 use Rattle.log_replay.proofs.edit.make_edits.Given as goal
 

@@ -1,5 +1,5 @@
 use Rattle.std.proofs.Common.{◌≡◌, ℕ, List, length, drop}
-use Rattle.log_replay.specs.Change.{changes_of}
+use Rattle.log_replay.specs.Edit.{changes_of}
 use Rattle.log_replay.proofs.Groups.{IsReached}
 use Rattle.log_replay.proofs.plan.plan_edits.Given as goal
 

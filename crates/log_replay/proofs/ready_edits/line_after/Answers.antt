@@ -1,6 +1,6 @@
 use Rattle.std.proofs.Common.{◌-◌, take, refl, sym, ◌∙◌, arith}
 use Rattle.log_replay.specs.Play.{log_of}
-use Rattle.log_replay.specs.Change.{changes_of}
+use Rattle.log_replay.specs.Edit.{changes_of}
 use Rattle.log_replay.specs.Faults.{log_after_all}
 use Rattle.log_replay.proofs.Inverses.{IsFree-from_none}
 use Rattle.log_replay.proofs.Traces.{IsTraced-start, IsTraced-last}

@@ -1,5 +1,5 @@
 use Rattle.std.proofs.Common.{◌≡◌, ◌+◌, ◌≤◌, drop}
-use Rattle.log_replay.specs.Change.{changes_of, lines_inserted_by_all}
+use Rattle.log_replay.specs.Edit.{changes_of, lines_inserted_by_all}
 use Rattle.log_replay.proofs.ready_edits.lines_inserted.Given as goal
 
 abbrev pub invariant-loop-edit : goal.invariant-loop-edit

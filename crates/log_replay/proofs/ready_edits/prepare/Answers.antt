@@ -4,7 +4,7 @@ use Rattle.log_replay.specs.declared.margins.Margins.{Margins}
 use Rattle.log_replay.specs.declared.plan.Plan.{Plan}
 use Rattle.log_replay.specs.declared.ready_edits.ReadyEdits.{ReadyEdits}
 use Rattle.log_replay.specs.Play.{log_of, game_of}
-use Rattle.log_replay.specs.Change.{Change, changes_of, apply_all, seed_after_all}
+use Rattle.log_replay.specs.Edit.{Change, changes_of, apply_all, seed_after_all}
 use Rattle.log_replay.specs.Faults.{group_fault}
 use Rattle.log_replay.specs.Plan.{IsPlan}
 use Rattle.log_replay.specs.ReadyEdits.{new_game, AreEditsOf}

@@ -1,5 +1,5 @@
 use Rattle.std.proofs.Common.{◌≡◌, drop}
-use Rattle.log_replay.specs.Change.{changes_of, seed_after_all}
+use Rattle.log_replay.specs.Edit.{changes_of, seed_after_all}
 use Rattle.log_replay.proofs.ready_edits.seed_after.Given as goal
 
 abbrev pub invariant-loop-edit : goal.invariant-loop-edit

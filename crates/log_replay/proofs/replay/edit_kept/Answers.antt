@@ -5,7 +5,7 @@ use Rattle.std.specs.Global.{Vec}
 use Rattle.log_replay.specs.declared.playthrough.Playthrough.{Playthrough}
 use Rattle.log_replay.specs.declared.ready_edits.ReadyEdits.{ReadyEdits}
 use Rattle.log_replay.specs.Play.{Game}
-use Rattle.log_replay.specs.Change.{Change, changes_of, apply_all, inverses_of}
+use Rattle.log_replay.specs.Edit.{Change, changes_of, apply_all, inverses_of}
 use Rattle.log_replay.specs.Faults.{log_after_all}
 use Rattle.log_replay.specs.Playthrough.{kept_game, KeepsAll}
 use Rattle.log_replay.specs.ReadyEdits.{AreEditsOf}

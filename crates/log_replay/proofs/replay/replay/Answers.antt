@@ -1,6 +1,6 @@
 use Rattle.std.proofs.Common.{◌≡◌, ℕ, ◌-◌, ◌^◌, ◌<◌, ◌≤◌, List, length, ◌∙◌, refl, arith}
 use Rattle.std.specs.Prelude.{slice_index}
-use Rattle.log_replay.specs.Change.{changes_of}
+use Rattle.log_replay.specs.Edit.{changes_of}
 use Rattle.log_replay.specs.Margins.{margins_of}
 use Rattle.log_replay.specs.Play.{log_of}
 use Rattle.log_replay.specs.Replay.{states_of_new}

@@ -1,6 +1,6 @@
 use Rattle.std.proofs.Common.{◌≡◌, ◌+◌, ◌<◌, length, ap, ◌∙◌, refl, sym, arith}
 use Rattle.std.proofs.lemmas.List.{append-nil}
-use Rattle.log_replay.specs.Change.{line_at}
+use Rattle.log_replay.specs.Edit.{line_at}
 use Rattle.log_replay.specs.Play.{log_of}
 use Rattle.log_replay.specs.ReadyEdits.{ready_revision, new_game}
 use Rattle.log_replay.specs.Replay.{states_of_new}

@@ -1,5 +1,5 @@
 use Rattle.std.proofs.Common.{sym, ap, ◌∙◌}
-use Rattle.cave_turn.specs.Turn.{Turn, passed_is_silent}
+use Rattle.cave_turn.specs.Turns.{Turn, passed_is_silent}
 use Rattle.cave_play.proofs.machine.CaveMachineMachine.step.Goals as goal
 
 pub returns-in-Some-clause-state : goal.returns-in-Some-clause-state

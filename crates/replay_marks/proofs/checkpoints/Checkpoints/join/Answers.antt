@@ -16,27 +16,27 @@ shift-requires-clause-after g c =
     let spliced = c.splice.new.self.places in
     let r = subst
     (λ (v : CheckpointsView g.row.S.Denot).
-    IsRest v.every v.places v.lines c.args.old c.args.rest) (sym c.self.view_is)
+    IsRest v.every v.places v.lines c.args.seam.old c.args.seam.rest) (sym c.self.view_is)
     c.requires.rest in
-    let among : c.args.at < length places =
-    subst (λ (v : CheckpointsView g.row.S.Denot). c.args.at < length v.places)
+    let among : c.args.seam.at < length places =
+    subst (λ (v : CheckpointsView g.row.S.Denot). c.args.seam.at < length v.places)
     (sym c.self.view_is) c.requires.among in
     let within : head ≤ length places = omega arith in
-    let tail : c.len-2.result - (c.len.result - c.args.rest) ≡ head + length middle =
+    let tail : c.len-2.result - (c.len.result - c.args.seam.rest) ≡ head + length middle =
     omega (
       arith,
       ap length c.splice.ensures.places,
-      length-spliced places middle head c.args.rest within,
+      length-spliced places middle head c.args.seam.rest within,
       r.within,
     ) in
     λ i le h.
     let there =
-    spliced_after places middle spliced head c.args.rest _ within tail c.splice.ensures.places i
+    spliced_after places middle spliced head c.args.seam.rest _ within tail c.splice.ensures.places i
     le h in
     omega (
       arith,
       there.1,
-      (rest_between inside.every inside.lines c.args.old c.args.rest places
+      (rest_between inside.every inside.lines c.args.seam.old c.args.seam.rest places
           c.self.invariant.spaced r _ (omega arith) there.0).0,
     )
 
@@ -49,28 +49,28 @@ shift-requires-clause-fits g c =
     let spliced = c.splice.new.self.places in
     let r = subst
     (λ (v : CheckpointsView g.row.S.Denot).
-    IsRest v.every v.places v.lines c.args.old c.args.rest) (sym c.self.view_is)
+    IsRest v.every v.places v.lines c.args.seam.old c.args.seam.rest) (sym c.self.view_is)
     c.requires.rest in
-    let among : c.args.at < length places =
-    subst (λ (v : CheckpointsView g.row.S.Denot). c.args.at < length v.places)
+    let among : c.args.seam.at < length places =
+    subst (λ (v : CheckpointsView g.row.S.Denot). c.args.seam.at < length v.places)
     (sym c.self.view_is) c.requires.among in
-    let end : inside.lines - c.args.old + c.args.new ≡ c.args.end =
-    subst (λ (v : CheckpointsView g.row.S.Denot). v.lines - c.args.old + c.args.new
+    let end : inside.lines - c.args.seam.old + c.args.seam.new ≡ c.args.end =
+    subst (λ (v : CheckpointsView g.row.S.Denot). v.lines - c.args.seam.old + c.args.seam.new
     ≡ c.args.end) (sym c.self.view_is) c.requires.end in
     let within : head ≤ length places = omega arith in
-    let tail : c.len-2.result - (c.len.result - c.args.rest) ≡ head + length middle =
+    let tail : c.len-2.result - (c.len.result - c.args.seam.rest) ≡ head + length middle =
     omega (
       arith,
       ap length c.splice.ensures.places,
-      length-spliced places middle head c.args.rest within,
+      length-spliced places middle head c.args.seam.rest within,
       r.within,
     ) in
     λ i le h.
     let there =
-    spliced_after places middle spliced head c.args.rest _ within tail c.splice.ensures.places i
+    spliced_after places middle spliced head c.args.seam.rest _ within tail c.splice.ensures.places i
     le h in
     let between =
-    rest_between inside.every inside.lines c.args.old c.args.rest places c.self.invariant.spaced
+    rest_between inside.every inside.lines c.args.seam.old c.args.seam.rest places c.self.invariant.spaced
     r _ (omega arith) there.0 in
     omega (arith, there.1, between.0, between.1)
 
@@ -82,40 +82,40 @@ invariant_of-self g c =
     let head = c.saturating_sub-head.result in
     let r = subst
     (λ (v : CheckpointsView g.row.S.Denot).
-    IsRest v.every v.places v.lines c.args.old c.args.rest) (sym c.self.view_is)
+    IsRest v.every v.places v.lines c.args.seam.old c.args.seam.rest) (sym c.self.view_is)
     c.requires.rest in
-    let among : c.args.at < length places =
-    subst (λ (v : CheckpointsView g.row.S.Denot). c.args.at < length v.places)
+    let among : c.args.seam.at < length places =
+    subst (λ (v : CheckpointsView g.row.S.Denot). c.args.seam.at < length v.places)
     (sym c.self.view_is) c.requires.among in
-    let end : inside.lines - c.args.old + c.args.new ≡ c.args.end =
-    subst (λ (v : CheckpointsView g.row.S.Denot). v.lines - c.args.old + c.args.new
+    let end : inside.lines - c.args.seam.old + c.args.seam.new ≡ c.args.end =
+    subst (λ (v : CheckpointsView g.row.S.Denot). v.lines - c.args.seam.old + c.args.seam.new
     ≡ c.args.end) (sym c.self.view_is) c.requires.end in
     let thinned =
     subst (λ (v : CheckpointsView g.row.S.Denot).
-    IsThinned (slice_index v.places (c.args.at - 1)) (slice_index v.places c.args.at) v.every
-    middle (next_place v.places c.args.rest c.args.old c.args.new c.args.end))
+    IsThinned (slice_index v.places (c.args.seam.at - 1)) (slice_index v.places c.args.seam.at) v.every
+    middle (next_place v.places c.args.seam.rest c.args.seam.old c.args.seam.new c.args.end))
     (sym c.self.view_is) c.requires.thinned in
     let within : head ≤ length places = omega arith in
-    let tail : c.len-2.result - (c.len.result - c.args.rest) ≡ head + length middle =
+    let tail : c.len-2.result - (c.len.result - c.args.seam.rest) ≡ head + length middle =
     omega (
       arith,
       ap length c.splice.ensures.places,
-      length-spliced places middle head c.args.rest within,
+      length-spliced places middle head c.args.seam.rest within,
       r.within,
     ) in
     let result : c.shift.new.self.places ≡ take head places
-    ++ (middle ++ after_shift places c.args.rest c.args.old c.args.new) =
-    shifted places middle c.splice.new.self.places head c.args.rest _ within tail
-    c.splice.ensures.places c.args.old c.args.new c.shift.new.self.places
+    ++ (middle ++ after_shift places c.args.seam.rest c.args.seam.old c.args.seam.new) =
+    shifted places middle c.splice.new.self.places head c.args.seam.rest _ within tail
+    c.splice.ensures.places c.args.seam.old c.args.seam.new c.shift.new.self.places
     c.shift.ensures.places in
-    let head_is : head ≡ c.args.at - 1 = omega arith in
+    let head_is : head ≡ c.args.seam.at - 1 = omega arith in
     record {
       spaced =
           joined_spaced inside.every inside.lines c.args.end places c.self.invariant.spaced
-          c.args.at c.args.old c.args.new c.args.rest among r middle _ thinned refl c.requires.low
+          c.args.seam.at c.args.seam.old c.args.seam.new c.args.seam.rest among r middle _ thinned refl c.requires.low
           end c.shift.new.self.places (result
           ∙ ap (λ front. take front places
-          ++ (middle ++ after_shift places c.args.rest c.args.old c.args.new)) head_is);
+          ++ (middle ++ after_shift places c.args.seam.rest c.args.seam.old c.args.seam.new)) head_is);
       even = c.shift.ensures.even;
     }
 
@@ -127,23 +127,23 @@ returns-clause-places g c =
     let head = c.saturating_sub-head.result in
     let r = subst
     (λ (v : CheckpointsView g.row.S.Denot).
-    IsRest v.every v.places v.lines c.args.old c.args.rest) (sym c.self.view_is)
+    IsRest v.every v.places v.lines c.args.seam.old c.args.seam.rest) (sym c.self.view_is)
     c.requires.rest in
-    let among : c.args.at < length places =
-    subst (λ (v : CheckpointsView g.row.S.Denot). c.args.at < length v.places)
+    let among : c.args.seam.at < length places =
+    subst (λ (v : CheckpointsView g.row.S.Denot). c.args.seam.at < length v.places)
     (sym c.self.view_is) c.requires.among in
     let within : head ≤ length places = omega arith in
-    let tail : c.len-2.result - (c.len.result - c.args.rest) ≡ head + length middle =
+    let tail : c.len-2.result - (c.len.result - c.args.seam.rest) ≡ head + length middle =
     omega (
       arith,
       ap length c.splice.ensures.places,
-      length-spliced places middle head c.args.rest within,
+      length-spliced places middle head c.args.seam.rest within,
       r.within,
     ) in
-    let head_is : head ≡ c.args.at - 1 = omega arith in
-    shifted places middle c.splice.new.self.places head c.args.rest _ within tail
-    c.splice.ensures.places c.args.old c.args.new c.shift.new.self.places c.shift.ensures.places
+    let head_is : head ≡ c.args.seam.at - 1 = omega arith in
+    shifted places middle c.splice.new.self.places head c.args.seam.rest _ within tail
+    c.splice.ensures.places c.args.seam.old c.args.seam.new c.shift.new.self.places c.shift.ensures.places
     ∙ ap (λ front. take front places
-    ++ (middle ++ after_shift places c.args.rest c.args.old c.args.new)) head_is
-    ∙ ap (λ (v : CheckpointsView g.row.S.Denot). take (c.args.at - 1) v.places
-    ++ (middle ++ after_shift v.places c.args.rest c.args.old c.args.new)) c.self.view_is
+    ++ (middle ++ after_shift places c.args.seam.rest c.args.seam.old c.args.seam.new)) head_is
+    ∙ ap (λ (v : CheckpointsView g.row.S.Denot). take (c.args.seam.at - 1) v.places
+    ++ (middle ++ after_shift v.places c.args.seam.rest c.args.seam.old c.args.seam.new)) c.self.view_is
