@@ -1,4 +1,4 @@
-.PHONY: try play test suite install
+.PHONY: try play test soak suite install
 
 PREFIX ?= $(HOME)/.local
 PROGRAM = crates/cave/out/cave
@@ -42,6 +42,11 @@ test:
 	logs/run $(PROGRAM)
 	logs/large $(PROGRAM)
 	logs/coverage $(PROGRAM)
+
+# What takes too long for the gate, after it: cut inputs, each allocation refused in turn, small wrong
+# bodies, and the example of a new rule. It prints a line for each part.
+soak: $(PROGRAM)
+	bench/soak
 
 # Plays each log of logs/ with the program, and compares what it says with the transcript beside it.
 suite: $(PROGRAM)

@@ -18,7 +18,7 @@ use Rattle.cave_things.specs.Play.{Scene, after_saying, with_state}
 use Rattle.cave_things.specs.Reach.{has_prop}
 use Rattle.cave_things.specs.Rules.{thing}
 
--- the clock goes once all treasures were seen, in the depths of the cave, but not at y2
+-- the clock goes where no treasure counts as unseen, in the depths of the cave, but not at y2
 unfoldable pub is_first_clock_going : CaveView → State → Bool
 is_first_clock_going cave s =
     s.tallies.unseen == 0 && nat_le (deep_place cave) s.trail.here

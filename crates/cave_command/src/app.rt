@@ -1,7 +1,7 @@
 //! The commands, as the parser knows them.
 
 ghost use Rattle.std.specs.Prelude.{◌≡◌, IfOk, false};
-ghost use Rattle.clap.specs.Words.{app_of};
+ghost use Rattle.clap.specs.Words.{App, app_of, with_subcommand};
 ghost use Rattle.clap.specs.declared.builder.command.Command.TheViews.{out-Command};
 ghost use Rattle.cave_command.specs.App.{IsLocal, cave_app, check_app, cover_app, edit_app};
 ghost use Rattle.cave_command.specs.App.{check_and_play_app, plain_app, play_app, with_game};
@@ -119,20 +119,34 @@ fn cover_command<'a>(alloc: Global) -> Result<Command<'a>, AllocError>
 pub fn cave_command<'a>(alloc: Global) -> Result<Command<'a>, AllocError>
     ensures { IfOk result (λ command. app_of command ≡ cave_app) }
 {
-    let edit = edit_command(alloc)?;
-    let cover = cover_command(alloc)?;
-    check_and_play_command(alloc)?
-        .subcommand(edit)?
-        .subcommand(cover)
+    let command = check_and_play_command(alloc)?;
+    let command = with_subcommand(command, edit_command(alloc))?;
+    with_subcommand(command, cover_command(alloc))
 }
 
 /// The program's command with the two subcommands that check a cave and play a log.
 fn check_and_play_command<'a>(alloc: Global) -> Result<Command<'a>, AllocError>
     ensures { IfOk result (λ command. app_of command ≡ check_and_play_app) }
 {
-    let check = check_command(alloc)?;
-    let play = play_command(alloc)?;
-    plain_command(alloc).subcommand(check)?.subcommand(play)
+    let command = with_subcommand(plain_command(alloc), check_command(alloc))?;
+    with_subcommand(command, play_command(alloc))
+}
+
+/// Adds a subcommand, if there was memory for it.
+fn with_subcommand<'a>(
+    command: Command<'a>,
+    made: Result<Command<'a>, AllocError>,
+) -> Result<Command<'a>, AllocError>
+    ensures { (app : App) → IfOk made.entry (IsLocal app)
+        → IfOk result (λ whole. app_of whole ≡ with_subcommand (app_of command.entry) app.top) }
+{
+    match made {
+        Ok(subcommand) => command.subcommand(subcommand),
+        Err(refused) => {
+            drop(command);
+            Err(refused)
+        }
+    }
 }
 
 fn plain_command<'a>(alloc: Global) -> Command<'a>

@@ -1,3 +1,5 @@
+pub mod Agreeing
+pub mod LawLemmas
 pub mod Noting
 pub mod FaultLemmas
 pub mod Progress

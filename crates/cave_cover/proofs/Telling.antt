@@ -7,7 +7,7 @@ use Rattle.cave_cover.specs.Plays.{cover_text, said_in_all, report_of_logs}
 use Rattle.cave_cover.specs.Report.{report}
 use Rattle.cave_cover.specs.Texts.{is_among}
 use Rattle.cave_cover.specs.declared.text.Text.{Text}
-use Rattle.cave_cover.specs.Agreeing.{agree_report}
+use Rattle.cave_cover.proofs.Agreeing.{agree_report}
 
 or_false : (b : Bool) → (b || false) ≡ b
 or_false true = refl

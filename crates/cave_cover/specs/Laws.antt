@@ -1,75 +1,27 @@
--- Laws of what `cave cover` writes: what is said of logs by their order and their number, and that
--- the inputs and the seed determine it.
-use Rattle.std.proofs.Common.{◌≡◌, ℕ, ◌<◌, Bool, true, false, List, [], ◌∷◌, length}
-use Rattle.std.proofs.Common.{refl, sym, ap, ◌∙◌}
-use Rattle.std.specs.Prelude.{◌||◌}
-use Rattle.std.specs.List.{Contains, flat_map, list_any}
+-- Laws of what `cave cover` writes: what its output says of logs by their order and their number,
+-- and that the inputs and the seed determine it.
+use Rattle.std.specs.Prelude.{◌≡◌, ℕ, List, ◌∷◌}
+use Rattle.std.specs.List.{Contains}
 use Rattle.std.specs.List.Sorted.{IsPermutation}
-use Rattle.std.proofs.lemmas.List.Folds.{list_any-append, list_any_at}
-use Rattle.std.proofs.lemmas.List.Sorted.{length_permutation, list_any-IsPermutation}
 use Rattle.cave_data.specs.CaveView.{CaveView}
-use Rattle.cave_data.proofs.ReadLemmas.{same_cave}
 use Rattle.cave_play.specs.Run.{AtMostOne}
-use Rattle.cave_cover.specs.Plays.{IsCovered, cover_text, said_in_all, said_in_log, report_of_logs}
-use Rattle.cave_cover.specs.Texts.{is_among, is_same}
-use Rattle.cave_cover.specs.declared.text.Text.{Text}
-use Rattle.cave_cover.specs.Agreeing.{agree_report}
+use Rattle.cave_cover.specs.Plays.{IsCovered, cover_text, report_of_logs}
 
--- whether a log says a text
-abbrev says : CaveView → ℕ → Text → List ℕ → Bool
-says cave seed text log = is_among text (said_in_log cave seed log)
-
--- a test that some element of some list passes
-any_flat : {X A : Type 0} (p : A → Bool) (f : X → List A) (xs : List X)
-    → list_any p (flat_map f xs) ≡ list_any (λ x. list_any p (f x)) xs
-any_flat p f [] = refl
-any_flat p f (x ∷ xs) =
-    list_any-append p (f x) (flat_map f xs) ∙ ap (λ b. list_any p (f x) || b) (any_flat p f xs)
-
-among_all : (cave : CaveView) (seed : ℕ) (logs : List (List ℕ)) (text : Text)
-    → is_among text (said_in_all cave seed logs) ≡ list_any (says cave seed text) logs
-among_all cave seed logs text = any_flat (is_same text) (said_in_log cave seed) logs
-
--- the order of the logs changes no byte
-pub order_is_nothing : (cave : CaveView) (seed : ℕ) (logs others : List (List ℕ))
+-- the order of the logs changes no byte of the output
+abbrev pub OrderIsNothing : Type 0
+OrderIsNothing =
+    (cave : CaveView) (seed : ℕ) (logs others : List (List ℕ))
     → IsPermutation logs others → cover_text cave seed others ≡ cover_text cave seed logs
-order_is_nothing cave seed logs others shuffled =
-    let of_logs = λ (text : Text). is_among text (said_in_all cave seed logs) in
-    let of_others = λ (text : Text). is_among text (said_in_all cave seed others) in
-    let agree = λ (text : Text) (below : text.number < 10000).
-    among_all cave seed others text
-    ∙ sym (list_any-IsPermutation (says cave seed text) logs others shuffled)
-    ∙ sym (among_all cave seed logs text) in
-    ap (report_of_logs cave seed others) (length_permutation logs others shuffled)
-    ∙ agree_report cave of_others of_logs agree (length logs)
 
-said_once : (says : List ℕ → Bool) (logs : List (List ℕ)) (log : List ℕ) → Contains logs log
-    → (says log || list_any says logs) ≡ list_any says logs
-said_once says logs log (place, below, is) = go (says log) refl
-  where
-    go : (b : Bool) → says log ≡ b → (b || list_any says logs) ≡ list_any says logs
-    go false not_said = refl
-    go true said = sym (list_any_at says logs place log below (ap says is ∙ said))
-
--- a log that is given once more changes nothing but the number of logs
-pub again_is_nothing : (cave : CaveView) (seed : ℕ) (logs : List (List ℕ)) (log : List ℕ)
-    → Contains logs log → (count : ℕ)
+-- a log that is given once more changes nothing of it but the number of logs
+abbrev pub AgainIsNothing : Type 0
+AgainIsNothing =
+    (cave : CaveView) (seed : ℕ) (logs : List (List ℕ)) (log : List ℕ) → Contains logs log
+    → (count : ℕ)
     → report_of_logs cave seed (log ∷ logs) count ≡ report_of_logs cave seed logs count
-again_is_nothing cave seed logs log given count =
-    let of_logs = λ (text : Text). is_among text (said_in_all cave seed logs) in
-    let of_more = λ (text : Text). is_among text (said_in_all cave seed (log ∷ logs)) in
-    let agree = λ (text : Text) (below : text.number < 10000).
-    among_all cave seed (log ∷ logs) text
-    ∙ said_once (says cave seed text) logs log given
-    ∙ sym (among_all cave seed logs text) in
-    agree_report cave of_more of_logs agree count
 
 -- a database with its bindings, logs and a seed have one output at most
-pub one_covered_output : (database bindings : List ℕ) (logs : List (List ℕ)) (seed : ℕ)
+abbrev pub OneCoveredOutput : Type 0
+OneCoveredOutput =
+    (database bindings : List ℕ) (logs : List (List ℕ)) (seed : ℕ)
     → AtMostOne (IsCovered database bindings logs seed)
-one_covered_output database bindings logs seed =
-    λ one other first second.
-    let (cave, reads, is) = first in
-    let (kept, rereads, same) = second in
-    let caves = same_cave database bindings kept cave rereads reads in
-    is ∙ ap (λ c. cover_text c seed logs) caves ∙ sym same

@@ -2,6 +2,5 @@ pub mod Texts
 pub mod Marks
 pub mod Report
 pub mod Plays
-pub mod Agreeing
 pub mod Laws
 pub mod Faults

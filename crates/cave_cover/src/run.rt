@@ -72,7 +72,10 @@ fn cover_inputs<C: Read, B: Read, L: Read>(
 {
     check_seed(seed)?;
     let cave = read_cave(alloc, cave)?;
-    cover_in_cave(alloc, &cave, logs, seed)
+    let text = cover_in_cave(alloc, &cave, logs, seed);
+    // By a call, as in other runs: the checker goes through the tables of a cave in one place.
+    drop(cave);
+    text
 }
 
 /// The report on logs in a cave.

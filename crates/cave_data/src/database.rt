@@ -35,6 +35,9 @@ pub fn error_at(cause: Cause, line: usize, site: FaultSite) -> CaveError
     }
 }
 
+// Tables are let go by a call, and not at the end of a block: the checker then goes through all that
+// they have once.
+
 /// The tables of a database.
 pub fn read_database(alloc: Global, database: &[u8]) -> Result<Tables, CaveError>
     ensures right { IfOk result (λ _. first_fault [] (lines database.now) ≡ None) }
@@ -48,7 +51,10 @@ pub fn read_database(alloc: Global, database: &[u8]) -> Result<Tables, CaveError
         let position = reader.position;
         match reader.take_line(alloc, line) {
             Ok(()) => {}
-            Err(cause) => return Err(error_at(cause, count + 1, site_of_fault(position))),
+            Err(cause) => {
+                drop(reader);
+                return Err(error_at(cause, count + 1, site_of_fault(position)));
+            }
         }
         count += 1;
         rest = after;
@@ -56,6 +62,9 @@ pub fn read_database(alloc: Global, database: &[u8]) -> Result<Tables, CaveError
     let DatabaseReader { position, tables } = reader;
     match position {
         Position::After => Ok(tables),
-        _ => Err(error_at(Cause::NoEnd, count + 1, site_of_fault(position))),
+        Position::Inside(_) | Position::Outside => {
+            drop(tables);
+            Err(error_at(Cause::NoEnd, count + 1, site_of_fault(position)))
+        }
     }
 }

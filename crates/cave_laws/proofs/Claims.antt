@@ -2,23 +2,26 @@
 use Rattle.std.proofs.Common.{◌≡◌, ◌⊎◌, inl, inr, ℕ, ◌+◌, ◌≤◌, false, true, List, refl, sym, ap}
 use Rattle.std.proofs.Common.{◌∙◌, arith}
 use Rattle.std.proofs.lemmas.Bool.{true≢false}
-use Rattle.std.specs.Prelude.{◌==◌, Option, None, Some, is_some, min, nat_le}
+use Rattle.std.specs.Prelude.{◌==◌, None, Some, is_some, min, nat_le}
 use Rattle.cave_data.specs.CaveView.{CaveView}
 use Rattle.cave_world.specs.State.{starting_state}
-use Rattle.cave_world.specs.declared.ending.Ending.{Ending}
 use Rattle.cave_world.specs.declared.ending.Question.{Question}
 use Rattle.cave_world.specs.declared.ending.Question.TheVariants as question
 use Rattle.cave_world.specs.declared.state.State.{State}
 use Rattle.cave_things.specs.Places.{building_place, start_place}
 use Rattle.cave_begin.specs.Begin.{begun_state}
 use Rattle.cave_turn.specs.Turns.{game_beginning, turn_on_line}
-use Rattle.cave_laws.proofs.Frame.{Claim, IsKept, is_die}
+use Rattle.cave_laws.proofs.Frame.{Claim, Facts, IsBegun, IsKept, IsTimed, is_die}
 use Rattle.cave_laws.proofs.Lines.{turned_kept}
+use Rattle.cave_laws.proofs.Turns.{calm_timed}
 use Rattle.cave_laws.specs.Laws.{HasFewDeaths, FewDeaths, IsSomewhere, PlayerIsSomewhere}
 
 -- there are at most three deaths, and after the third the game has ended
 abbrev Deaths : Claim
-Deaths = λ h c d q e. (d ≤ 3) × (d ≡ 3 → is_some e ≡ true)
+Deaths = record {
+  holds = λ f. (f.deaths ≤ 3) × (f.deaths ≡ 3 → is_some f.ending ≡ true);
+  goes_on = λ f c later h. h;
+}
 
 -- one death more is not the third
 not_third : (d : ℕ) → nat_le 3 (min (d + 1) 3) ≡ false → (min (d + 1) 3 ≡ 3) → ⊥
@@ -29,24 +32,38 @@ three_at_most : (d : ℕ) → min (d + 1) 3 ≤ 3
 three_at_most d = omega arith
 
 -- what happens in a game keeps that
-deaths_kept : (n : ℕ) → IsKept n Deaths
-deaths_kept n = record {
-  ends = λ how h i c d q r e x. (x.0, λ _. refl);
-  kills = λ how h i c d q r e x. (three_at_most d, λ _. refl);
-  dies = λ h i c d q e x. x;
-  asks = λ a h c d x. x;
-  stands = λ h i c d q e some x. x;
-  closes = λ a h c d other x. x;
-  revives = λ h c d few x. (three_at_most d, λ three. absurd (not_third d few three));
-  lowers = λ h b c d q e falls x. x;
+deaths_kept : (cave : CaveView) → IsKept cave Deaths
+deaths_kept cave = record {
+  ends = λ how f h. (h.0, λ _. refl);
+  kills = λ how place f calm closing at h. (three_at_most f.deaths, λ _. refl);
+  dies = λ place f calm free h. h;
+  asks = λ a f other calm h. h;
+  comes = λ place f some free h. h;
+  puts = λ place f some put h. h;
+  shortens = λ f more h. h;
+}
+
+deaths_timed : IsTimed Deaths
+deaths_timed =
+    record { counts = λ f going h. h; begins = λ f h. h; shuts = λ f stopped h. h }
+
+deaths_begun : (home : ℕ) → IsBegun home Deaths Deaths
+deaths_begun home = record {
+  leads = λ f h. h;
+  closes = λ a f other asked goes h. h;
+  buries = λ how f asked goes h. (three_at_most f.deaths, λ _. refl);
+  revives = λ f few asked goes h.
+      (three_at_most f.deaths, λ three. absurd (not_third f.deaths few three));
 }
 
 -- each line keeps the deaths few
 few_after : (cave : CaveView) (s : State) (line : List ℕ) → HasFewDeaths s
     → HasFewDeaths (turn_on_line cave s line).state
 few_after cave s line h =
-    let t = turned_kept {P = Deaths} cave (deaths_kept (building_place cave))
-    (λ _ _ _ _ _ _ x. x) s line (h.at_most, h.last) in
+    let t = turned_kept cave (deaths_kept cave)
+    (deaths_begun (building_place cave)) (calm_timed Deaths deaths_timed) (λ f c x. x) (λ f c x. x)
+    s line
+    (h.at_most, h.last) in
     record { at_most = t.0; last = t.1 }
 
 -- no deaths are few
@@ -60,12 +77,12 @@ pub few_deaths : FewDeaths
 few_deaths = record { start = few_first; kept = few_after }
 
 -- the game has ended, or the player is asked whether to come back
-abbrev Excused : Option Question → Option Ending → Type 0
-Excused q e = (is_some e ≡ true) ⊎ (q ≡ Some question.Die)
+abbrev Excused : Facts → Type 0
+Excused f = (is_some f.ending ≡ true) ⊎ (f.question ≡ Some question.Die)
 
 -- the player is at place 0 only in the end, or where the player died
 abbrev Stands : Claim
-Stands = λ h c d q e. h ≡ 0 → Excused q e
+Stands = record { holds = λ f. f.here ≡ 0 → Excused f; goes_on = λ f c later h. h }
 
 -- some place is not place 0
 some_place : (i : ℕ) → (i == 0) ≡ false → i ≡ 0 → ⊥
@@ -77,30 +94,43 @@ no_die a other die =
     let same : a ≡ question.Die = cc in true≢false (sym (ap is_die same) ∙ other)
 
 -- where another question is open the game goes on
-not_dead : (a : Question) → is_die a ≡ false → Excused (Some a) None → ⊥
-not_dead a other (inl ended) = true≢false (sym ended)
-not_dead a other (inr die) = no_die a other die
+not_dead : (a : Question) (f : Facts) → is_die a ≡ false → f.question ≡ Some a → f.ending ≡ None
+    → Excused f → ⊥
+not_dead a f other asked goes (inl ended) =
+    true≢false (sym ended ∙ ap is_some goes)
+not_dead a f other asked goes (inr die) = no_die a other (sym asked ∙ die)
 
 -- where no question is open the game goes on
-not_asked : (B : Type 0) → Excused None None → B
-not_asked B (inl ended) = absurd (true≢false (sym ended))
-not_asked B (inr die) = cc
+not_asked : (f : Facts) → f.question ≡ None → f.ending ≡ None → Excused f → ⊥
+not_asked f none goes (inl ended) = true≢false (sym ended ∙ ap is_some goes)
+not_asked f none goes (inr die) = true≢false (sym (ap is_some die) ∙ ap is_some none)
 
 -- a place from 1 on is not place 0
 from_one : (n : ℕ) → 1 ≤ n → n ≡ 0 → ⊥
 from_one n one none = omega arith
 
 -- what happens in a game keeps that
-stands_kept : (n : ℕ) → 1 ≤ n → IsKept n Stands
-stands_kept n one = record {
-  ends = λ how h i c d q r e x none. inl refl;
-  kills = λ how h i c d q r e x none. inl refl;
-  dies = λ h i c d q e x none. inr refl;
-  asks = λ a h c d x none. not_asked _ (x none);
-  stands = λ h i c d q e some x none. absurd (some_place i some none);
-  closes = λ a h c d other x none. absurd (not_dead a other (x none));
-  revives = λ h c d few x none. absurd (from_one n one none);
-  lowers = λ h b c d q e falls x. x;
+stands_kept : (cave : CaveView) → IsKept cave Stands
+stands_kept cave = record {
+  ends = λ how f h none. inl refl;
+  kills = λ how place f calm closing at h none. inl refl;
+  dies = λ place f calm free h none. inr refl;
+  asks = λ a f other calm h none. absurd (not_asked f calm.0 calm.1 (h none));
+  comes = λ place f some free h none. absurd (some_place place some none);
+  puts = λ place f some put h none. absurd (some_place place some none);
+  shortens = λ f more h. h;
+}
+
+stands_timed : IsTimed Stands
+stands_timed =
+    record { counts = λ f going h. h; begins = λ f h. h; shuts = λ f stopped h. h }
+
+stands_begun : (home : ℕ) → 1 ≤ home → IsBegun home Stands Stands
+stands_begun home one = record {
+  leads = λ f h. h;
+  closes = λ a f other asked goes h none. absurd (not_dead a f other asked goes (h none));
+  buries = λ how f asked goes h none. inl refl;
+  revives = λ f few asked goes h none. absurd (from_one home one none);
 }
 
 -- each line keeps the player somewhere
@@ -108,8 +138,9 @@ stands_after : (cave : CaveView) (s : State) (line : List ℕ) → 1 ≤ buildin
     → IsSomewhere s
     → IsSomewhere (turn_on_line cave s line).state
 stands_after cave s line one h =
-    turned_kept {P = Stands} cave (stands_kept (building_place cave) one)
-    (λ _ _ _ _ _ _ x. x) s line h
+    turned_kept cave (stands_kept cave)
+    (stands_begun (building_place cave) one) (calm_timed Stands stands_timed) (λ f c x. x)
+    (λ f c x. x) s line h
 
 -- the player begins somewhere
 stands_first : (cave : CaveView) (seed : ℕ) → 1 ≤ start_place cave

@@ -3,7 +3,8 @@ use Rattle.std.proofs.Common.{◌≡◌, ℕ, ℤ, pos, negsuc, Bool, false, tru
 use Rattle.std.proofs.Common.{inr, arith}
 use Rattle.std.proofs.lemmas.Bool.{true≢false}
 use Rattle.std.proofs.lemmas.Int.{ints}
-use Rattle.std.specs.Prelude.{◌&&◌, not, int_lt, Option, None, Some, if◌then◌else◌, ◌-ℤ◌}
+use Rattle.std.specs.Prelude.{◌==◌, ◌&&◌, not, int_lt, nat_le, Option, None, Some, if◌then◌else◌}
+use Rattle.std.specs.Prelude.{◌-ℤ◌}
 use Rattle.std.specs.Int.{int_max}
 use Rattle.std.specs.Ordering.{int_eq}
 use Rattle.cave_data.specs.CaveView.{CaveView}
@@ -13,7 +14,8 @@ use Rattle.cave_words.specs.declared.named.Named.TheVariants as name
 use Rattle.cave_objects.specs.Objects.{with_place}
 use Rattle.cave_world.specs.declared.state.State.{State}
 use Rattle.cave_things.specs.Effects.{with_objects, without_troll}
-use Rattle.cave_things.specs.Places.{place_named}
+use Rattle.cave_objects.specs.Spots.{is_place}
+use Rattle.cave_things.specs.Places.{deep_place, place_named}
 use Rattle.cave_things.specs.Play.{Scene, after_saying, with_state}
 use Rattle.cave_things.specs.Reach.{is_near, has_prop}
 use Rattle.cave_things.specs.Rules.{thing}
@@ -23,7 +25,8 @@ use Rattle.cave_clocks.specs.FirstClock.{Tick, tick, is_first_clock_going, with_
 use Rattle.cave_clocks.specs.FirstClock.{with_ways_barred, without_dwarves, without_bear}
 use Rattle.cave_clocks.specs.FirstClock.{cleared_cave, start_of_closing, tick_to_end}
 use Rattle.cave_clocks.specs.FirstClock.{timing_of_first_clock}
-use Rattle.cave_clocks.specs.Lamp.{with_charge, with_lamp_burnt, can_change_batteries}
+use Rattle.cave_clocks.specs.Lamp.{with_charge, with_lamp_burnt, with_new_charge}
+use Rattle.cave_clocks.specs.Lamp.{can_change_batteries}
 use Rattle.cave_clocks.specs.Lamp.{with_batteries_used, change_of_batteries, with_lamp_out}
 use Rattle.cave_clocks.specs.Lamp.{lamp_going_out, is_hopeless, is_warning_due, after_warning}
 use Rattle.cave_clocks.specs.Lamp.{Burning, burning_of, care_of_lamp, timing_of_lamp}
@@ -33,8 +36,8 @@ use Rattle.cave_clocks.specs.Repository.{with_second_clock_down, timing_of_secon
 use Rattle.cave_clocks.specs.declared.clocks.Clocks.{Clocks}
 use Rattle.cave_clocks.specs.declared.clocks.Clocks.TheVariants as clocks
 use Rattle.cave_laws.specs.Laws.{before_lamp, unless_closed}
-use Rattle.cave_laws.proofs.Frame.{Claim, On, At, Charges, Falls, Lowers, choose, chosen}
-use Rattle.cave_laws.proofs.Frame.{chosen_scene}
+use Rattle.cave_laws.proofs.Frame.{Claim, On, At, Charges, Falls, IsTimed, Lowers, choose, chosen}
+use Rattle.cave_laws.proofs.Frame.{Leads, chosen_scene, facts}
 use Rattle.cave_laws.proofs.VerbEffects.{let_go_kept, without_troll_kept}
 
 bear_kept : (P : Claim) (cave : CaveView) (s : State) → On P s → On P (without_bear cave s)
@@ -49,62 +52,102 @@ cleared_kept P cave s h =
     bear_kept P cave (without_troll cave (without_dwarves shut))
     (without_troll_kept P cave (without_dwarves shut) h)
 
-start_kept : (P : Claim) (cave : CaveView) (p : Scene) → On P p.state
+start_kept : (P : Claim) (timed : IsTimed P) (cave : CaveView) (p : Scene) → On P p.state
     → On P (start_of_closing cave p).state
 unfolding start_of_closing
-start_kept P cave p h = cleared_kept P cave p.state h
+start_kept P timed cave p h =
+    let cleared = cleared_cave cave p.state in
+    timed.begins (facts cleared) (cleared_kept P cave p.state h)
 
-first_kept : (P : Claim) (cave : CaveView) (p : Scene) → On P p.state
+-- the first clock goes only while it is above 0
+clock_going : (cave : CaveView) (s : State) → is_first_clock_going cave s ≡ true
+    → int_lt (pos 0) s.closing.first_clock ≡ true
+unfolding is_first_clock_going
+clock_going cave s going =
+    last_of (s.tallies.unseen == 0) (nat_le (deep_place cave) s.trail.here)
+    (not (is_place s.trail.here (place_named cave place.Y2))) _ going
+  where
+    last_of : (a b c d : Bool) → (a && b && c && d) ≡ true → d ≡ true
+    last_of true true true d h = h
+    last_of true true false d h = absurd (true≢false (sym h))
+    last_of true false c d h = absurd (true≢false (sym h))
+    last_of false b c d h = absurd (true≢false (sym h))
+
+first_kept : (P : Claim) (timed : IsTimed P) (cave : CaveView) (p : Scene) → On P p.state
     → On P (timing_of_first_clock cave p).scene.state
 unfolding timing_of_first_clock
-first_kept P cave p h =
+first_kept P timed cave p h =
     let q = with_state (with_first_clock_down p.state) p in
+    let counted : is_first_clock_going cave p.state ≡ true → On P q.state =
+    λ going. timed.counts (facts p.state) (clock_going cave p.state going) h in
     choose (λ (t : Tick). On P t.scene.state) (is_first_clock_going cave p.state)
     (tick_to_end cave q)
     (tick false p)
-    (λ _. choose (λ (t : Tick). On P t.scene.state) (int_eq q.state.closing.first_clock (pos 0))
-    (tick true (start_of_closing cave q)) (tick false q) (λ _. start_kept P cave q h) (λ _. h))
+    (λ going. choose (λ (t : Tick). On P t.scene.state) (int_eq q.state.closing.first_clock (pos 0))
+    (tick true (start_of_closing cave q)) (tick false q)
+    (λ _. start_kept P timed cave q (counted going)) (λ _. counted going))
     (λ _. h)
 
--- what holds after the clocks: where they closed the cave, the player is elsewhere
-abbrev pub After : Claim → ℕ → Clocks → State → Type 0
-After P before clocks.GoOn s = On P s
-After P before clocks.GaveUp s = On P s
-After P before (clocks.Closed place) s = At P before s
+-- what holds where the clocks closed the cave: the player is elsewhere, at the repository's end
+abbrev pub AfterClosure : Claim → CaveView → ℕ → State → Type 0
+AfterClosure P cave before s =
+    At P before s × (place_named cave place.Ne ≡ Some s.trail.here)
+
+-- what holds after the clocks
+abbrev pub After : Claim → CaveView → ℕ → Clocks → State → Type 0
+After P cave before clocks.GoOn s = On P s
+After P cave before clocks.GaveUp s = On P s
+After P cave before (clocks.Closed place) s = AfterClosure P cave before s
 
 -- what holds after the second clock
-abbrev pub AfterSecond : Claim → ℕ → Option ℕ → State → Type 0
-AfterSecond P before None s = On P s
-AfterSecond P before (Some place) s = At P before s
+abbrev pub AfterSecond : Claim → CaveView → ℕ → Option ℕ → State → Type 0
+AfterSecond P cave before None s = On P s
+AfterSecond P cave before (Some place) s = AfterClosure P cave before s
 
-closed_kept : (P : Claim) (cave : CaveView) (ne sw : ℕ) (p : Scene) → On P p.state
+closed_kept : (P : Claim) (timed : IsTimed P) (cave : CaveView) (ne sw : ℕ) (p : Scene)
+    → int_eq p.state.closing.first_clock (negsuc 0) ≡ true → On P p.state
     → At P p.state.trail.here (closed_cave cave ne sw p).state
 unfolding closed_cave with_empty_hands
-closed_kept P cave ne sw p h = h
+closed_kept P timed cave ne sw p stopped h = timed.shuts (facts p.state) stopped h
+
+closed_at : (cave : CaveView) (ne sw : ℕ) (p : Scene) → place_named cave place.Ne ≡ Some ne
+    → place_named cave place.Ne ≡ Some (closed_cave cave ne sw p).state.trail.here
+unfolding closed_cave with_empty_hands
+closed_at cave ne sw p is = is
 
 -- the cave is closed where both ends of a repository are known
-between_kept : (P : Claim) (cave : CaveView) (a b : Option ℕ) (p : Scene) → On P p.state
-    → AfterSecond P p.state.trail.here (closure_between cave a b p).place
+between_kept : (P : Claim) (timed : IsTimed P) (cave : CaveView) (a b : Option ℕ) (p : Scene)
+    → int_eq p.state.closing.first_clock (negsuc 0) ≡ true → place_named cave place.Ne ≡ a
+    → On P p.state
+    → AfterSecond P cave p.state.trail.here (closure_between cave a b p).place
     (closure_between cave a b p).scene.state
-between_kept P cave (Some ne) (Some sw) p h = closed_kept P cave ne sw p h
-between_kept P cave (Some ne) None p h = h
-between_kept P cave None b p h = h
+between_kept P timed cave (Some ne) (Some sw) p stopped is h =
+    (closed_kept P timed cave ne sw p stopped h, closed_at cave ne sw p is)
+between_kept P timed cave (Some ne) None p stopped is h = h
+between_kept P timed cave None b p stopped is h = h
 
-second_kept : (P : Claim) (cave : CaveView) (p : Scene) → On P p.state
-    → AfterSecond P p.state.trail.here (timing_of_second_clock cave p).place
+-- the first of two tests that hold holds
+first_holds : (a b : Bool) → (a && b) ≡ true → a ≡ true
+first_holds true b h = refl
+first_holds false b h = absurd (true≢false (sym h))
+
+second_kept : (P : Claim) (timed : IsTimed P) (cave : CaveView) (p : Scene) → On P p.state
+    → AfterSecond P cave p.state.trail.here (timing_of_second_clock cave p).place
     (timing_of_second_clock cave p).scene.state
 unfolding timing_of_second_clock closure_if_due
-second_kept P cave p h =
+second_kept P timed cave p h =
     let here = p.state.trail.here in
     let q = with_state (with_second_clock_down p.state) p in
     let due = closure_between cave (place_named cave place.Ne) (place_named cave place.Sw) q in
     let is_due = int_eq q.state.closing.second_clock (pos 0) && not q.state.closing.is_closed in
-    choose (λ (c : Closure). AfterSecond P here c.place c.scene.state)
+    choose (λ (c : Closure). AfterSecond P cave here c.place c.scene.state)
     (is_second_clock_going p.state)
     (if is_due then due else closure None q) (closure None p)
-    (λ _. choose (λ (c : Closure). AfterSecond P here c.place c.scene.state) is_due due
+    (λ going. choose (λ (c : Closure). AfterSecond P cave here c.place c.scene.state) is_due due
     (closure None q)
-    (λ _. between_kept P cave (place_named cave place.Ne) (place_named cave place.Sw) q h) (λ _. h))
+    (λ _. between_kept P timed cave (place_named cave place.Ne) (place_named cave place.Sw) q
+    (first_holds (int_eq p.state.closing.first_clock (negsuc 0)) _ going) refl h)
+    (λ _. h))
     (λ _. h)
 
 -- a charge falls where a turn is burnt
@@ -119,7 +162,7 @@ unfolding with_lamp_burnt
 burnt_kept P k cave s h =
     chosen P (has_prop s (thing cave name.Lamp) (pos 1))
     (with_charge (int_max (s.lamp.charge -ℤ pos 1) (negsuc 0)) s) s
-    (k _ s.lamp.charge _ _ _ _ (burnt_falls s.lamp.charge) h) h
+    (k (facts s) (int_max (s.lamp.charge -ℤ pos 1) (negsuc 0)) (burnt_falls s.lamp.charge) h) h
 
 used_kept : (P : Claim) (cave : CaveView) (s : State) → On P s → On P (with_batteries_used cave s)
 unfolding with_batteries_used
@@ -130,20 +173,21 @@ replaced_kept : (P : Claim) (k : Charges P) (cave : CaveView) (p : Scene) → On
 unfolding change_of_batteries
 replaced_kept P k cave p h =
     let used = with_batteries_used cave p.state in
-    k _ used.lamp.charge _ _ _ _ (used_kept P cave p.state h)
+    k (facts used) (with_new_charge used).lamp.charge (used_kept P cave p.state h)
 
 out_kept : (P : Claim) (k : Lowers P) (cave : CaveView) (s : State) → On P s
     → On P (with_lamp_out cave s)
 unfolding with_lamp_out
 out_kept P k cave s h =
     let none : negsuc 0 ≤ℤ negsuc 0 = omega (arith, ints) in
-    k _ s.lamp.charge _ _ _ _ (inr none) h
+    k (facts s) (negsuc 0) (inr none) h
 
-going_out_kept : (P : Claim) (k : Lowers P) (cave : CaveView) (p : Scene) → On P p.state
+-- the lamp goes out, which may be said
+going_out_kept : (P : Claim) (cave : CaveView) (p : Scene) → On P (with_lamp_out cave p.state)
     → On P (lamp_going_out cave p).state
 unfolding lamp_going_out
-going_out_kept P k cave p h =
-    let q = with_state (with_lamp_out cave p.state) p in let o = out_kept P k cave p.state h in
+going_out_kept P cave p o =
+    let q = with_state (with_lamp_out cave p.state) p in
     chosen_scene P (is_near cave q.state (thing cave name.Lamp)) (after_saying role.LampDead q) q o
     o
 
@@ -152,23 +196,26 @@ warned_kept : (P : Claim) (cave : CaveView) (p : Scene) → On P p.state
 unfolding after_warning
 warned_kept P cave p h = h
 
-care_kept : (P : Claim) (k : Lowers P) (cave : CaveView) (p : Scene)
+pub care_kept : (P : Claim) (cave : CaveView) (p : Scene)
     → (can_change_batteries cave p.state ≡ true → On P (change_of_batteries cave p).state)
-    → On P p.state → On P (care_of_lamp cave p).scene.state
+    → (int_eq p.state.lamp.charge (pos 0) ≡ true → On P (with_lamp_out cave p.state))
+    → (int_eq p.state.lamp.charge (pos 0) ≡ false → On P p.state)
+    → On P (care_of_lamp cave p).scene.state
 unfolding care_of_lamp
-care_kept P k cave p change h =
+care_kept P cave p change out stays =
     let warned = if is_warning_due cave p.state then burning_of false (after_warning cave p)
     else burning_of false p in
     let hopeless = if is_hopeless cave p.state then burning_of true (after_saying role.GiveUp p)
     else warned in
-    let out = if int_eq p.state.lamp.charge (pos 0) then burning_of false (lamp_going_out cave p)
+    let done = if int_eq p.state.lamp.charge (pos 0) then burning_of false (lamp_going_out cave p)
     else hopeless in
     choose (λ (r : Burning). On P r.scene.state) (can_change_batteries cave p.state)
-    (burning_of false (change_of_batteries cave p)) out change
-    (λ _. picked (int_eq p.state.lamp.charge (pos 0)) (burning_of false (lamp_going_out cave p))
-    hopeless
-    (going_out_kept P k cave p h)
-    (picked (is_hopeless cave p.state) (burning_of true (after_saying role.GiveUp p)) warned h
+    (burning_of false (change_of_batteries cave p)) done change
+    (λ _. choose (λ (r : Burning). On P r.scene.state) (int_eq p.state.lamp.charge (pos 0))
+    (burning_of false (lamp_going_out cave p)) hopeless
+    (λ none. going_out_kept P cave p (out none))
+    (λ some. let h = stays some in
+    picked (is_hopeless cave p.state) (burning_of true (after_saying role.GiveUp p)) warned h
     (picked (is_warning_due cave p.state) (burning_of false (after_warning cave p))
     (burning_of false p)
     (warned_kept P cave p h) h)))
@@ -183,9 +230,10 @@ pub lamp_kept : (P : Claim) (k : Charges P) (cave : CaveView) (p : Scene) → On
 unfolding timing_of_lamp
 lamp_kept P k cave p h =
     let q = with_state (with_lamp_burnt cave p.state) p in
-    let lowers : Lowers P = λ here b c d q e _ x. k here b c d q e x in
+    let lowers : Lowers P = λ f c _ x. k f c x in
     let b = burnt_kept P lowers cave p.state h in
-    care_kept P lowers cave q (λ _. replaced_kept P k cave q b) b
+    care_kept P cave q (λ _. replaced_kept P k cave q b) (λ _. out_kept P lowers cave q.state b)
+    (λ _. b)
 
 -- the lamp goes on, and its batteries aren't changed
 pub unchanged_kept : (P : Claim) (k : Lowers P) (cave : CaveView) (p : Scene)
@@ -194,64 +242,68 @@ pub unchanged_kept : (P : Claim) (k : Lowers P) (cave : CaveView) (p : Scene)
 unfolding timing_of_lamp
 unchanged_kept P k cave p same h =
     let q = with_state (with_lamp_burnt cave p.state) p in
-    care_kept P k cave q (λ change. absurd (true≢false (sym change ∙ same)))
-    (burnt_kept P k cave p.state h)
+    let burnt = burnt_kept P k cave p.state h in
+    care_kept P cave q (λ change. absurd (true≢false (sym change ∙ same)))
+    (λ _. out_kept P k cave q.state burnt) (λ _. burnt)
 
 -- the player gives up or not
-up_kept : (P : Claim) (before : ℕ) (up : Bool) (s : State) → On P s
-    → After P before (go_on_or_give_up up) s
-up_kept P before true s h = h
-up_kept P before false s h = h
+up_kept : (P : Claim) (cave : CaveView) (before : ℕ) (up : Bool) (s : State) → On P s
+    → After P cave before (go_on_or_give_up up) s
+up_kept P cave before true s h = h
+up_kept P cave before false s h = h
 
--- what the lamp makes of a claim in the scene that it gets
-abbrev pub Lights : CaveView → Claim → Option Scene → Type 0
-Lights cave P o = (p : Scene) → o ≡ Some p → On P p.state → On P (timing_of_lamp cave p).scene.state
+-- from one claim the lamp leads to another in the scene that it gets, if it gets one
+abbrev pub Lights : CaveView → Claim → Claim → Option Scene → Type 0
+Lights cave Q P None = Leads Q P
+Lights cave Q P (Some p) = On Q p.state → On P (timing_of_lamp cave p).scene.state
 
-last_kept : (P : Claim) (cave : CaveView) (before : ℕ) (p : Scene) → Lights cave P (Some p)
-    → On P p.state → After P before (lamp_last cave p).outcome (lamp_last cave p).scene.state
+last_kept : (Q P : Claim) (cave : CaveView) (before : ℕ) (p : Scene) → Lights cave Q P (Some p)
+    → On Q p.state → After P cave before (lamp_last cave p).outcome (lamp_last cave p).scene.state
 unfolding lamp_last
-last_kept P cave before p lamp h =
-    up_kept P before (timing_of_lamp cave p).gives_up (timing_of_lamp cave p).scene.state
-    (lamp p refl h)
+last_kept Q P cave before p lamp h =
+    up_kept P cave before (timing_of_lamp cave p).gives_up (timing_of_lamp cave p).scene.state
+    (lamp h)
 
 -- the lamp is passed over where the cave was closed
-unless_kept : (P : Claim) (cave : CaveView) (before : ℕ) (o : Option ℕ) (p : Scene)
-    → Lights cave P (unless_closed o p) → AfterSecond P before o p.state
-    → After P before (lamp_unless_closed cave o p).outcome (lamp_unless_closed cave o p).scene.state
-unless_kept P cave before None p lamp h = last_kept P cave before p lamp h
-unless_kept P cave before (Some place) p lamp h = h
+unless_kept : (Q P : Claim) (cave : CaveView) (before : ℕ) (o : Option ℕ) (p : Scene)
+    → Lights cave Q P (unless_closed o p) → AfterSecond Q cave before o p.state
+    → After P cave before (lamp_unless_closed cave o p).outcome
+    (lamp_unless_closed cave o p).scene.state
+unless_kept Q P cave before None p lamp h = last_kept Q P cave before p lamp h
+unless_kept Q P cave before (Some place) p lamp h = (lamp _ h.0, h.1)
 
 -- the second clock and the lamp
-second_lamp_kept : (P : Claim) (cave : CaveView) (p : Scene)
-    → Lights cave P
+second_lamp_kept : (Q P : Claim) (timed : IsTimed Q) (cave : CaveView) (p : Scene)
+    → Lights cave Q P
     (unless_closed (timing_of_second_clock cave p).place (timing_of_second_clock cave p).scene)
-    → On P p.state
-    → After P p.state.trail.here (second_clock_and_lamp cave p).outcome
+    → On Q p.state
+    → After P cave p.state.trail.here (second_clock_and_lamp cave p).outcome
     (second_clock_and_lamp cave p).scene.state
 unfolding second_clock_and_lamp
-second_lamp_kept P cave p lamp h =
-    unless_kept P cave p.state.trail.here (timing_of_second_clock cave p).place
-    (timing_of_second_clock cave p).scene lamp (second_kept P cave p h)
+second_lamp_kept Q P timed cave p lamp h =
+    unless_kept Q P cave p.state.trail.here (timing_of_second_clock cave p).place
+    (timing_of_second_clock cave p).scene lamp (second_kept Q timed cave p h)
 
 -- the clocks go on: the player is where they say, and was somewhere before
-pub clocks_kept : (P : Claim) (cave : CaveView) (p : Scene) → Lights cave P (before_lamp cave p)
-    → On P p.state
-    → (before : ℕ) × After P before (timing_of_clocks cave p).outcome
+pub clocks_kept : (Q P : Claim) (timed : IsTimed Q) (cave : CaveView) (p : Scene)
+    → Lights cave Q P (before_lamp cave p)
+    → On Q p.state
+    → (before : ℕ) × After P cave before (timing_of_clocks cave p).outcome
     (timing_of_clocks cave p).scene.state
 unfolding timing_of_clocks
-clocks_kept P cave p lamp h =
+clocks_kept Q P timed cave p lamp h =
     let first = timing_of_first_clock cave p in (
       first.scene.state.trail.here,
-      by_first first.has_begun first.scene lamp (first_kept P cave p h),
+      by_first first.has_begun first.scene lamp (first_kept Q timed cave p h),
     )
   where
     by_first : (begun : Bool) (q : Scene)
-        → Lights cave P (if begun then Some q
+        → Lights cave Q P (if begun then Some q
         else unless_closed (timing_of_second_clock cave q).place
         (timing_of_second_clock cave q).scene)
-        → On P q.state
-        → After P q.state.trail.here
+        → On Q q.state
+        → After P cave q.state.trail.here
         (if begun then lamp_last cave q else second_clock_and_lamp cave q).outcome
         (if begun then lamp_last cave q else second_clock_and_lamp cave q).scene.state
-    by_first true q light t = last_kept P cave q.state.trail.here q light t
-    by_first false q light t = second_lamp_kept P cave q light t
+    by_first true q light t = last_kept Q P cave q.state.trail.here q light t
+    by_first false q light t = second_lamp_kept Q P timed cave q light t

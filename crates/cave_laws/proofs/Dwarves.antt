@@ -1,6 +1,6 @@
 -- What the dwarves do keeps each claim.
-use Rattle.std.proofs.Common.{ℕ, zero, suc, List, [], ◌∷◌}
-use Rattle.std.specs.Prelude.{◌==◌, not, nat_lt, nat_le, Option, None, Some, if◌then◌else◌}
+use Rattle.std.proofs.Common.{◌≡◌, ℕ, ◌≤◌, zero, suc, true, List, [], ◌∷◌, arith}
+use Rattle.std.specs.Prelude.{◌==◌, not, nat_lt, nat_le, min, Option, None, Some, if◌then◌else◌}
 use Rattle.cave_data.specs.CaveView.{CaveView}
 use Rattle.cave_rows.specs.declared.place_role.PlaceRole.TheVariants as landmark
 use Rattle.cave_rows.specs.declared.role.Role.TheVariants as role
@@ -34,15 +34,26 @@ use Rattle.cave_dwarves.specs.Waking.{perhaps_without_one}
 use Rattle.cave_dwarves.specs.Waking.{with_dwarves_apart, after_waking, axe_scene, waking_scene}
 use Rattle.cave_dwarves.specs.declared.knives.Attack.{Attack}
 use Rattle.cave_dwarves.specs.declared.knives.Threat.TheVariants as threat
-use Rattle.cave_laws.proofs.Frame.{Claim, On, choose, chosen, chosen_scene}
+use Rattle.cave_laws.proofs.Frame.{Claim, On, choose, chosen, chosen_scene, course, facts}
+use Rattle.cave_laws.proofs.Later.{later_by_anger}
 
 dwarf_kept : (P : Claim) (n : ℕ) (dwarf : Dwarf) (s : State) → On P s → On P (with_dwarf n dwarf s)
 unfolding with_dwarf
 dwarf_kept P n dwarf s h = h
 
-stirred_kept : (P : Claim) (cave : CaveView) (s : State) → On P s → On P (after_stirring cave s)
+-- the dwarves are angrier than they were
+angry_kept : (P : Claim) (was anger : ℕ) (s : State) → (s.dwarves.anger == was) ≡ true
+    → was ≤ anger → On P s → On P (with_anger anger s)
+angry_kept P was anger s so more h =
+    let least : min s.dwarves.anger 13 ≤ anger = grind (arith, so, more) in
+    P.goes_on (facts s) (course (with_anger anger s)) (later_by_anger (course s) anger least) h
+
+stirred_kept : (P : Claim) (cave : CaveView) (s : State) → (s.dwarves.anger == 0) ≡ true → On P s
+    → On P (after_stirring cave s)
 unfolding after_stirring
-stirred_kept P cave s h = chosen P (nat_le (deep_place cave) s.trail.here) (with_anger 1 s) s h h
+stirred_kept P cave s calm h =
+    chosen P (nat_le (deep_place cave) s.trail.here) (with_anger 1 s) s
+    (angry_kept P 0 1 s calm (omega arith) h) h
 
 gone_kept : (P : Claim) (n : ℕ) (s : State) → On P s → On P (without_dwarf n s)
 unfolding without_dwarf
@@ -63,24 +74,27 @@ apart_kept P cave zero s h = h
 apart_kept P cave (suc n) s h =
     dwarf_kept P n _ (with_dwarves_apart cave n s) (apart_kept P cave n s h)
 
-woken_kept : (P : Claim) (cave : CaveView) (s : State) → On P s → On P (after_waking cave s)
+woken_kept : (P : Claim) (cave : CaveView) (s : State) → (s.dwarves.anger == 1) ≡ true → On P s
+    → On P (after_waking cave s)
 unfolding after_waking
-woken_kept P cave s h =
+woken_kept P cave s stirs h =
     apart_kept P cave 5 (perhaps_without_one (perhaps_without_one (with_anger 2 s)))
-    (perhaps_kept P (perhaps_without_one (with_anger 2 s)) (perhaps_kept P (with_anger 2 s) h))
+    (perhaps_kept P (perhaps_without_one (with_anger 2 s))
+    (perhaps_kept P (with_anger 2 s) (angry_kept P 1 2 s stirs (omega arith) h)))
 
-axe_kept : (P : Claim) (cave : CaveView) (p : Scene) → On P p.state → On P (axe_scene cave p).state
+axe_kept : (P : Claim) (cave : CaveView) (p : Scene) → (p.state.dwarves.anger == 1) ≡ true
+    → On P p.state → On P (axe_scene cave p).state
 unfolding axe_scene
-axe_kept P cave p h = woken_kept P cave p.state h
+axe_kept P cave p stirs h = woken_kept P cave p.state stirs h
 
-awoken_kept : (P : Claim) (cave : CaveView) (p : Scene) → On P p.state
-    → On P (waking_scene cave p).state
+awoken_kept : (P : Claim) (cave : CaveView) (p : Scene) → (p.state.dwarves.anger == 1) ≡ true
+    → On P p.state → On P (waking_scene cave p).state
 unfolding waking_scene
-awoken_kept P cave p h =
+awoken_kept P cave p stirs h =
     chosen_scene P (nat_lt (here_of p) (deep_place cave)) p
     (if happens 95 p then after_draw p else axe_scene cave (after_draw p)) h
     (chosen_scene P (happens 95 p) (after_draw p) (axe_scene cave (after_draw p)) h
-    (axe_kept P cave (after_draw p) h))
+    (axe_kept P cave (after_draw p) stirs h))
 
 moved_kept : (P : Claim) (cave : CaveView) (n : ℕ) (s : State) → On P s
     → On P (after_dwarf_move cave n s)
@@ -153,7 +167,9 @@ knives_told_kept P knives hits p h =
 
 enraged_kept : (P : Claim) (s : State) → On P s → On P (after_first_knives s)
 unfolding after_first_knives
-enraged_kept P s h = chosen P (s.dwarves.anger == 2) (with_anger 3 s) s h h
+enraged_kept P s h =
+    choose (λ (t : State). On P t) (s.dwarves.anger == 2) (with_anger 3 s) s
+    (λ awake. angry_kept P 2 3 s awake (omega arith) h) (λ _. h)
 
 throws_kept : (P : Claim) (a : Attack) (p : Scene) → On P p.state → On P (after_throws a p).state
 unfolding after_throws
@@ -273,7 +289,7 @@ dwarves_kept P cave p h =
     choose (λ (r : Encounter). On P r.scene.state) (p.state.dwarves.anger == 0)
     (without_hit (with_state (after_stirring cave p.state) p))
     (if p.state.dwarves.anger == 1 then without_hit (waking_scene cave p) else encounter_of cave p)
-    (λ _. stirred_kept P cave p.state h)
+    (λ asleep. stirred_kept P cave p.state asleep h)
     (λ _. choose (λ (r : Encounter). On P r.scene.state) (p.state.dwarves.anger == 1)
     (without_hit (waking_scene cave p)) (encounter_of cave p)
-    (λ _. awoken_kept P cave p h) (λ _. harried_kept P cave p h))
+    (λ stirs. awoken_kept P cave p stirs h) (λ _. harried_kept P cave p h))

@@ -1,37 +1,120 @@
 -- What laws speak of in a state, and what they allow to happen to it.
-use Rattle.std.proofs.Common.{◌≡◌, ℕ, ◌+◌, ℤ, negsuc, ◌≤ℤ◌, ◌⊎◌, Bool, false, true, refl}
-use Rattle.std.specs.Prelude.{◌==◌, Option, None, Some, min, nat_le, if◌then◌else◌}
+use Rattle.std.proofs.Common.{◌≡◌, ℕ, ◌+◌, ℤ, pos, negsuc, ◌≤ℤ◌, ◌≤◌, ◌⊎◌, Bool, false, true, refl}
+use Rattle.std.proofs.Common.{List}
+use Rattle.std.specs.Prelude.{◌==◌, ◌-◌, ◌-ℤ◌, ◌&&◌, Option, None, Some, int_lt, min, nat_le}
+use Rattle.std.specs.Prelude.{if◌then◌else◌, slice_index_or}
+use Rattle.std.specs.Int.{int_min}
+use Rattle.std.specs.Ordering.{int_eq}
+use Rattle.cave_data.specs.CaveView.{CaveView}
+use Rattle.cave_rows.specs.declared.place_role.PlaceRole.TheVariants as landmark
+use Rattle.cave_words.specs.declared.named.Named.TheVariants as name
 use Rattle.cave_world.specs.declared.ending.Ending.{Ending}
 use Rattle.cave_world.specs.declared.ending.Question.{Question}
 use Rattle.cave_world.specs.declared.ending.Question.TheVariants as question
 use Rattle.cave_world.specs.declared.state.State.{State}
+use Rattle.cave_things.specs.Homes.{home, second_home}
+use Rattle.cave_things.specs.Places.{outside_place, place_named}
 use Rattle.cave_things.specs.Play.{Scene}
+use Rattle.cave_things.specs.Rules.{thing}
+use Rattle.cave_turn.specs.Dragon.{between}
 
--- a claim about the player's place, the lamp's charge, the deaths, the question and the ending
-abbrev pub Claim : Type 1
-Claim = ℕ → ℤ → ℕ → Option Question → Option Ending → Type 0
+-- what only ever goes one way
+pub record Course : Type 0 where
+  pub hints : List Bool
+  pub unseen : ℕ
+  pub lost : ℕ
+  pub anger : ℕ
+
+-- a course has gone on to another: hints stay taken, no more treasures are unseen, no fewer lost,
+-- and the dwarves are as angry, but for what passes the most that is counted
+pub record IsLater (a b : Course) : Type 0 where
+  pub hints : (h : ℕ) → slice_index_or a.hints h false ≡ true
+      → slice_index_or b.hints h false ≡ true
+  pub unseen : b.unseen ≤ a.unseen
+  pub lost : min a.lost 60000 ≤ b.lost
+  pub anger : min a.anger 13 ≤ b.anger
+
+-- what laws speak of
+pub record Facts : Type 0 where
+  pub here : ℕ
+  pub charge : ℤ
+  pub deaths : ℕ
+  pub question : Option Question
+  pub ending : Option Ending
+  pub first_clock : ℤ
+  pub is_closing : Bool
+  pub is_closed : Bool
+  pub course : Course
+
+abbrev pub course : State → Course
+course s =
+    record {
+      hints = s.hints.is_taken;
+      unseen = s.tallies.unseen;
+      lost = s.tallies.lost;
+      anger = s.dwarves.anger;
+    }
+
+abbrev pub facts : State → Facts
+facts s =
+    record {
+      here = s.trail.here;
+      charge = s.lamp.charge;
+      deaths = s.tallies.deaths;
+      question = s.question;
+      ending = s.ending;
+      first_clock = s.closing.first_clock;
+      is_closing = s.closing.is_closing;
+      is_closed = s.closing.is_closed;
+      course = course s;
+    }
+
+-- a claim about facts, which holds whatever the course goes on to
+pub record Claim : Type 1 where
+  pub holds : Facts → Type 0
+  pub goes_on : (f : Facts) (c : Course) → IsLater f.course c → holds f
+      → holds (record f { course = c })
 
 -- a claim holds of a state
 abbrev pub On : Claim → State → Type 0
-On P s = P s.trail.here s.lamp.charge s.tallies.deaths s.question s.ending
+On P s = P.holds (facts s)
 
 -- a claim would hold of a state if the player were at a place
 abbrev pub At : Claim → ℕ → State → Type 0
-At P here s = P here s.lamp.charge s.tallies.deaths s.question s.ending
+At P here s = P.holds (record (facts s) { here = here })
+
+-- a claim follows from another
+abbrev pub Leads : Claim → Claim → Type 0
+Leads Q P = (f : Facts) → Q.holds f → P.holds f
+
+-- commands can follow
+abbrev pub IsCalm : Facts → Type 0
+IsCalm f = (f.question ≡ None) × (f.ending ≡ None)
 
 -- a claim holds, and commands can follow
 abbrev pub Calm : Claim → Claim
-Calm P = λ here c d q e. P here c d q e × ((q ≡ None) × (e ≡ None))
+Calm P = record {
+  holds = λ f. P.holds f × IsCalm f;
+  goes_on = λ f c later h. (P.goes_on f c later h.0, h.1);
+}
 
--- a claim would hold if the player were at a place, and commands can follow
-abbrev pub Pinned : Claim → ℕ → Claim
-Pinned P place = λ here c d q e. P place c d q e × ((q ≡ None) × (e ≡ None))
+-- a claim would hold if the player were at a place
+abbrev pub There : Claim → ℕ → Claim
+There P place = record {
+  holds = λ f. P.holds (record f { here = place });
+  goes_on = λ f c later h. P.goes_on (record f { here = place }) c later h;
+}
+
+-- a claim would hold if a question were asked
+abbrev pub Asked : Claim → Question → Claim
+Asked P q = record {
+  holds = λ f. P.holds (record f { question = Some q });
+  goes_on = λ f c later h. P.goes_on (record f { question = Some q }) c later h;
+}
 
 -- a claim is kept where the lamp's charge becomes another
 abbrev pub Charges : Claim → Type 0
-Charges P =
-    (h : ℕ) (b c : ℤ) (d : ℕ) (q : Option Question) (e : Option Ending)
-    → P h b d q e → P h c d q e
+Charges P = (f : Facts) (c : ℤ) → P.holds f → P.holds (record f { charge = c })
 
 -- a charge is at most another, or at most -1
 abbrev pub Falls : ℤ → ℤ → Type 0
@@ -40,38 +123,79 @@ Falls b c = (c ≤ℤ b) ⊎ (c ≤ℤ negsuc 0)
 -- a claim is kept where the lamp's charge falls
 abbrev pub Lowers : Claim → Type 0
 Lowers P =
-    (h : ℕ) (b c : ℤ) (d : ℕ) (q : Option Question) (e : Option Ending)
-    → Falls b c → P h b d q e → P h c d q e
+    (f : Facts) (c : ℤ) → Falls f.charge c → P.holds f → P.holds (record f { charge = c })
 
 -- it is asked whether to come back
 abbrev pub is_die : Question → Bool
 is_die question.Die = true
 is_die _ = false
 
--- a claim is kept by what happens in a game in which the dead come back at a place
-pub record IsKept (home : ℕ) (P : Claim) : Type 0 where
+-- a place is one that a closing cave keeps the player from
+abbrev pub is_shut_off : CaveView → ℕ → Facts → Bool
+is_shut_off cave place f = f.is_closing && nat_le 1 place && nat_le place (outside_place cave)
+
+-- the player is put at a place: at the end of the repository, or where the dragon dies
+abbrev pub IsPut : CaveView → ℕ → Facts → Type 0
+IsPut cave place f =
+    (place_named cave landmark.Ne ≡ Some place)
+    ⊎ (place
+    ≡ between (home cave (thing cave name.Dragon)) (second_home cave (thing cave name.Dragon))
+    f.here)
+
+-- a claim is kept by what happens in a game of a cave
+pub record IsKept (cave : CaveView) (P : Claim) : Type 0 where
   -- the game ends
-  pub ends : (how : Ending) (h i : ℕ) (c : ℤ) (d : ℕ) (q r : Option Question) (e : Option Ending)
-      → P h c d q e → P i c d r (Some how)
-  -- the player dies for good
-  pub kills : (how : Ending) (h i : ℕ) (c : ℤ) (d : ℕ) (q r : Option Question) (e : Option Ending)
-      → P h c d q e → P i c (min (d + 1) 3) r (Some how)
+  pub ends : (how : Ending) (f : Facts) → P.holds f → P.holds (record f { ending = Some how })
+  -- the player dies for good, at the same place or at none
+  pub kills : (how : Ending) (place : ℕ) (f : Facts) → IsCalm f → f.is_closing ≡ true
+      → (place ≡ f.here) ⊎ (place ≡ 0) → P.holds f
+      → P.holds (record f { here = place; deaths = min (f.deaths + 1) 3; ending = Some how })
   -- the player is asked whether to come back
-  pub dies : (h i : ℕ) (c : ℤ) (d : ℕ) (q : Option Question) (e : Option Ending)
-      → P h c d q e → P i c d (Some question.Die) e
-  -- the player is asked something else
-  pub asks : (a : Question) (h : ℕ) (c : ℤ) (d : ℕ) → P h c d None None → P h c d (Some a) None
-  -- the player is somewhere
-  pub stands : (h i : ℕ) (c : ℤ) (d : ℕ) (q : Option Question) (e : Option Ending)
-      → (i == 0) ≡ false → P h c d q e → P i c d q e
+  pub dies : (place : ℕ) (f : Facts) → IsCalm f → f.is_closing ≡ false → P.holds f
+      → P.holds (record f { here = place; question = Some question.Die })
+  -- the player is asked something, but not whether to come back
+  pub asks : (a : Question) (f : Facts) → is_die a ≡ false → IsCalm f → P.holds f
+      → P.holds (record f { question = Some a })
+  -- the player comes to a place
+  pub comes : (place : ℕ) (f : Facts) → (place == 0) ≡ false → is_shut_off cave place f ≡ false
+      → P.holds f → P.holds (record f { here = place })
+  -- the player is put at a place
+  pub puts : (place : ℕ) (f : Facts) → (place == 0) ≡ false → IsPut cave place f → P.holds f
+      → P.holds (record f { here = place })
+  -- a treasure is found, and those that are left can't all be: the lamp burns 35 turns more at most
+  pub shortens : (f : Facts) → 2 ≤ f.course.unseen → P.holds f
+      → P.holds (record f {
+        charge = int_min f.charge (pos 35);
+        course = record f.course { unseen = f.course.unseen - 1 };
+      })
+
+-- a claim is kept by the clocks
+pub record IsTimed (P : Claim) : Type 0 where
+  -- the first clock goes on
+  pub counts : (f : Facts) → int_lt (pos 0) f.first_clock ≡ true → P.holds f
+      → P.holds (record f { first_clock = f.first_clock -ℤ pos 1 })
+  -- the cave begins to close
+  pub begins : (f : Facts) → P.holds f
+      → P.holds (record f { first_clock = negsuc 0; is_closing = true })
+  -- the cave is closed
+  pub shuts : (f : Facts) → int_eq f.first_clock (negsuc 0) ≡ true → P.holds f
+      → P.holds (record f { is_closed = true })
+
+-- where one claim holds at the start of a line, another is reached as the line begins
+pub record IsBegun (home : ℕ) (Q P : Claim) : Type 0 where
+  -- the other holds
+  pub leads : Leads Q P
   -- a question is answered
-  pub closes : (a : Question) (h : ℕ) (c : ℤ) (d : ℕ) → is_die a ≡ false
-      → P h c d (Some a) None → P h c d None None
+  pub closes : (a : Question) (f : Facts) → is_die a ≡ false → f.question ≡ Some a
+      → f.ending ≡ None → Q.holds f → Q.holds (record f { question = None })
+  -- the player is dead for good
+  pub buries : (how : Ending) (f : Facts) → f.question ≡ Some question.Die → f.ending ≡ None
+      → Q.holds f
+      → P.holds (record f { deaths = min (f.deaths + 1) 3; question = None; ending = Some how })
   -- the player comes back
-  pub revives : (h : ℕ) (c : ℤ) (d : ℕ) → nat_le 3 (min (d + 1) 3) ≡ false
-      → P h c d (Some question.Die) None → P home c (min (d + 1) 3) None None
-  -- the lamp's charge falls
-  pub lowers : Lowers P
+  pub revives : (f : Facts) → nat_le 3 (min (f.deaths + 1) 3) ≡ false
+      → f.question ≡ Some question.Die → f.ending ≡ None → Q.holds f
+      → P.holds (record f { here = home; deaths = min (f.deaths + 1) 3; question = None })
 
 -- what holds of either of two holds of the one that is chosen
 pub choose : {A : Type 0} (Q : A → Type 0) (b : Bool) (x y : A) → (b ≡ true → Q x)

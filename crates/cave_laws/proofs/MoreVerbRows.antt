@@ -1,5 +1,4 @@
 -- The rows of verbs, from OPEN to RUB, keep each claim.
-use Rattle.cave_verbs.specs.Tests.{the}
 use Rattle.cave_verbs.specs.Opening.{bare_open_rows, open_rows}
 use Rattle.cave_verbs.specs.Pouring.{pour_rows, drink_rows, bare_fill_rows, fill_rows}
 use Rattle.cave_verbs.specs.Reading.{bare_read_rows, read_rows}
@@ -9,256 +8,124 @@ use Rattle.cave_verbs.specs.Taking.{bare_take_rows, take_rows, free_take_rows}
 use Rattle.cave_verbs.specs.Throwing.{throw_rows, miss_rows, hit_rows, axe_rows}
 use Rattle.cave_verbs.specs.Waving.{wave_rows, rub_rows}
 use Rattle.cave_laws.proofs.Frame.{Claim}
+use Rattle.cave_laws.proofs.OrdinaryRows.{ordinary, rows_kept}
 use Rattle.cave_laws.proofs.VerbEffects.{KeepsRows}
-use Rattle.cave_laws.proofs.VerbEffects.{default_kept}
-use Rattle.cave_laws.proofs.VerbEffects.{let_go_kept, without_troll_kept}
-use Rattle.cave_laws.proofs.VerbEffects.{panicking_kept, sent_kept}
 
 pub bare_open_rows_kept : (P : Claim) → KeepsRows P bare_open_rows
 unfolding bare_open_rows
-bare_open_rows_kept P = ((λ d h. h), ((λ d h. h), ((λ d h. h), ((λ d h. h), tt))))
+bare_open_rows_kept P = rows_kept P bare_open_rows (search ordinary parts 60)
 
 pub open_rows_kept : (P : Claim) → KeepsRows P open_rows
 unfolding open_rows
-open_rows_kept P = (
-  (λ d h. h),
-  (
-    (λ d h. h),
-    (
-      (λ d h. h),
-      (
-        (λ d h. h),
-        (
-          (λ d h. h),
-          (
-            (λ d h. sent_kept P _ _ _ h),
-            (
-              (λ d h. h),
-              (
-                (λ d h. h),
-                (
-                  (λ d h. h),
-                  (
-                    (λ d h. h),
-                    (
-                      (λ d h. h),
-                      (
-                        (λ d h. h),
-                        (
-                          (λ d h. panicking_kept P d.state h),
-                          (
-                            (λ d h. h),
-                            (
-                              (λ d h. h),
-                              (
-                                (λ d h. h),
-                                (
-                                  (λ d h. h),
-                                  (
-                                    (λ d h. h),
-                                    (
-                                      (λ d h. h),
-                                      (
-                                        (λ d h. h),
-                                        (
-                                          (λ d h. h),
-                                          (
-                                            (λ d h. h),
-                                            (
-                                              (λ d h. h),
-                                              (
-                                                (λ d h. let_go_kept P _ _ _ h),
-                                                ((λ d h. default_kept P d h), tt),
-                                              ),
-                                            ),
-                                          ),
-                                        ),
-                                      ),
-                                    ),
-                                  ),
-                                ),
-                              ),
-                            ),
-                          ),
-                        ),
-                      ),
-                    ),
-                  ),
-                ),
-              ),
-            ),
-          ),
-        ),
-      ),
-    ),
-  ),
-)
+open_rows_kept P = rows_kept P open_rows (search ordinary parts 60)
 
 pub pour_rows_kept : (P : Claim) → KeepsRows P pour_rows
 unfolding pour_rows
-pour_rows_kept P = (
-  (λ d h. h),
-  (
-    (λ d h. default_kept P d h),
-    (
-      (λ d h. h),
-      (
-        (λ d h. h),
-        (
-          (λ d h. h),
-          (
-            (λ d h. h),
-            ((λ d h. h), ((λ d h. h), tt)),
-          ),
-        ),
-      ),
-    ),
-  ),
-)
+pour_rows_kept P = rows_kept P pour_rows (search ordinary parts 60)
 
 pub drink_rows_kept : (P : Claim) → KeepsRows P drink_rows
 unfolding drink_rows
-drink_rows_kept P = ((λ d h. h), ((λ d h. h), ((λ d h. h), ((λ d h. default_kept P d h), tt))))
+drink_rows_kept P = rows_kept P drink_rows (search ordinary parts 60)
 
 pub bare_fill_rows_kept : (P : Claim) → KeepsRows P bare_fill_rows
 unfolding bare_fill_rows
-bare_fill_rows_kept P = ((λ d h. h), ((λ d h. h), tt))
+bare_fill_rows_kept P = rows_kept P bare_fill_rows (search ordinary parts 60)
 
 pub fill_rows_kept : (P : Claim) → KeepsRows P fill_rows
 unfolding fill_rows
-fill_rows_kept P = (
-  (λ d h. h),
-  (
-    (λ d h. h),
-    (
-      (λ d h. h),
-      (
-        (λ d h. default_kept P d h),
-        (
-          (λ d h. h),
-          (
-            (λ d h. h),
-            ((λ d h. h), ((λ d h. h), tt)),
-          ),
-        ),
-      ),
-    ),
-  ),
-)
+fill_rows_kept P = rows_kept P fill_rows (search ordinary parts 60)
 
 pub bare_read_rows_kept : (P : Claim) → KeepsRows P bare_read_rows
 unfolding bare_read_rows
-bare_read_rows_kept P = ((λ d h. h), ((λ d h. h), tt))
+bare_read_rows_kept P = rows_kept P bare_read_rows (search ordinary parts 60)
 
 pub read_rows_kept : (P : Claim) → KeepsRows P read_rows
 unfolding read_rows
-read_rows_kept P = (
-  (λ d h. h),
-  (
-    (λ d h. h),
-    (
-      (λ d h. h),
-      (
-        (λ d h. h),
-        (
-          (λ d h. h),
-          (
-            (λ d h. h),
-            ((λ d h. default_kept P d h), tt),
-          ),
-        ),
-      ),
-    ),
-  ),
-)
+read_rows_kept P = rows_kept P read_rows (search ordinary parts 60)
 
 pub bare_rows_kept : (P : Claim) → KeepsRows P bare_rows
 unfolding bare_rows
-bare_rows_kept P = ((λ d h. h), tt)
+bare_rows_kept P = rows_kept P bare_rows (search ordinary parts 60)
 
 pub other_rows_kept : (P : Claim) → KeepsRows P other_rows
 unfolding other_rows
-other_rows_kept P = ((λ d h. default_kept P d h), tt)
+other_rows_kept P = rows_kept P other_rows (search ordinary parts 60)
 
 pub nothing_rows_kept : (P : Claim) → KeepsRows P nothing_rows
 unfolding nothing_rows
-nothing_rows_kept P = ((λ d h. h), tt)
+nothing_rows_kept P = rows_kept P nothing_rows (search ordinary parts 60)
 
 pub bare_quit_rows_kept : (P : Claim) → KeepsRows P bare_quit_rows
 unfolding bare_quit_rows
-bare_quit_rows_kept P = ((λ d h. h), tt)
+bare_quit_rows_kept P = rows_kept P bare_quit_rows (search ordinary parts 60)
 
 pub bare_score_rows_kept : (P : Claim) → KeepsRows P bare_score_rows
 unfolding bare_score_rows
-bare_score_rows_kept P = ((λ d h. h), tt)
+bare_score_rows_kept P = rows_kept P bare_score_rows (search ordinary parts 60)
 
 pub bare_brief_rows_kept : (P : Claim) → KeepsRows P bare_brief_rows
 unfolding bare_brief_rows
-bare_brief_rows_kept P = ((λ d h. h), tt)
+bare_brief_rows_kept P = rows_kept P bare_brief_rows (search ordinary parts 60)
 
 pub bare_take_rows_kept : (P : Claim) → KeepsRows P bare_take_rows
 unfolding bare_take_rows
-bare_take_rows_kept P = ((λ d h. h), ((λ d h. h), tt))
+bare_take_rows_kept P = rows_kept P bare_take_rows (search ordinary parts 60)
 
 pub free_take_rows_kept : (P : Claim) → KeepsRows P free_take_rows
 unfolding free_take_rows
-free_take_rows_kept P =
-    ((λ d h. h), ((λ d h. h), ((λ d h. h), ((λ d h. h), ((λ d h. h), ((λ d h. h), tt))))))
+free_take_rows_kept P = rows_kept P free_take_rows (search ordinary parts 60)
 
 pub take_rows_kept : (P : Claim) → KeepsRows P take_rows
-unfolding take_rows
-take_rows_kept P = (
-  (λ d h. default_kept P d h),
-  (
-    (λ d h. h),
-    (
-      (λ d h. h),
-      (
-        (λ d h. h),
-        (
-          (λ d h. h),
-          (
-            (λ d h. h),
-            ((λ d h. h), ((λ d h. h), ((λ d h. h), ((λ d h. h), free_take_rows_kept P)))),
-          ),
-        ),
-      ),
-    ),
-  ),
-)
+unfolding take_rows free_take_rows
+take_rows_kept P = rows_kept P take_rows (search ordinary parts 60)
 
 pub throw_rows_kept : (P : Claim) → KeepsRows P throw_rows
 unfolding throw_rows
-throw_rows_kept P = (
-  (λ d h. h),
-  (
-    (λ d h. default_kept P d h),
-    (
-      (λ d h. without_troll_kept P _ _ h),
-      (
-        (λ d h. h),
-        ((λ d h. h), tt),
-      ),
-    ),
-  ),
-)
+throw_rows_kept P = rows_kept P throw_rows (search ordinary parts 60)
 
 pub miss_rows_kept : (P : Claim) → KeepsRows P miss_rows
 unfolding miss_rows
-miss_rows_kept P = ((λ d h. h), tt)
+miss_rows_kept P = rows_kept P miss_rows (search ordinary parts 60)
 
 pub hit_rows_kept : (P : Claim) → KeepsRows P hit_rows
 unfolding hit_rows
-hit_rows_kept P = ((λ d h. h), ((λ d h. h), tt))
+hit_rows_kept P = rows_kept P hit_rows (search ordinary parts 60)
 
 pub axe_rows_kept : (P : Claim) → KeepsRows P axe_rows
 unfolding axe_rows
-axe_rows_kept P = ((λ d h. h), ((λ d h. h), ((λ d h. h), ((λ d h. h), tt))))
+axe_rows_kept P = rows_kept P axe_rows (search ordinary parts 60)
 
 pub wave_rows_kept : (P : Claim) → KeepsRows P wave_rows
 unfolding wave_rows
-wave_rows_kept P = ((λ d h. h), ((λ d h. h), ((λ d h. default_kept P d h), tt)))
+wave_rows_kept P = rows_kept P wave_rows (search ordinary parts 60)
 
 pub rub_rows_kept : (P : Claim) → KeepsRows P rub_rows
 unfolding rub_rows
-rub_rows_kept P = ((λ d h. default_kept P d h), ((λ d h. h), tt))
+rub_rows_kept P = rows_kept P rub_rows (search ordinary parts 60)
+
+-- the rows of all these verbs
+pub ruleset more_verb_rows_kept = (
+  bare_open_rows_kept,
+  open_rows_kept,
+  pour_rows_kept,
+  drink_rows_kept,
+  bare_fill_rows_kept,
+  fill_rows_kept,
+  bare_read_rows_kept,
+  read_rows_kept,
+  bare_rows_kept,
+  other_rows_kept,
+  nothing_rows_kept,
+  bare_quit_rows_kept,
+  bare_score_rows_kept,
+  bare_brief_rows_kept,
+  bare_take_rows_kept,
+  free_take_rows_kept,
+  take_rows_kept,
+  throw_rows_kept,
+  miss_rows_kept,
+  hit_rows_kept,
+  axe_rows_kept,
+  wave_rows_kept,
+  rub_rows_kept,
+)

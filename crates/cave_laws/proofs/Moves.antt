@@ -40,10 +40,10 @@ use Rattle.cave_moves.specs.Journeys.{back_place}
 use Rattle.cave_moves.specs.Journeys.{first_motion, row_back, journey_by_motion_back, journey_back, journey_by_request}
 use Rattle.cave_moves.specs.Ways as ways
 use Rattle.cave_moves.specs.Ways.{journey_here}
-use Rattle.cave_laws.proofs.Frame.{Claim, On, Pinned, IsKept, choose, chosen}
-use Rattle.cave_laws.proofs.Frame.{chosen_scene}
+use Rattle.cave_laws.proofs.Frame.{Claim, IsKept, On, At, Calm, choose, chosen, chosen_scene}
 use Rattle.cave_laws.proofs.Scores.{falling_kept}
-use Rattle.cave_laws.proofs.Stop.{seen_kept, shown_kept, shown_open}
+use Rattle.cave_laws.proofs.Stop.{OnStop, Reaches, seen_kept, shown_kept, shown_open}
+use Rattle.cave_laws.proofs.VerbEffects.{loss_kept}
 
 row_kept : (P : Claim) (emerald : ℕ) (s : State) (row : Going) → On P s
     → On P (after_row emerald s row)
@@ -108,90 +108,95 @@ bridge_kept : (P : Claim) (cave : CaveView) (end : ℕ) (s : State) → On P s
 unfolding with_broken_bridge
 bridge_kept P cave end s h =
     let t = with_objects (without_bridge cave end s.objects) s in
-    chosen P (has_prop_up_to t (thing cave name.Spices) (negsuc 0)) (with_one_more_lost t) t h h
+    chosen P (has_prop_up_to t (thing cave name.Spices) (negsuc 0)) (with_one_more_lost t) t
+    (loss_kept P t h) h
 
-broken_kept : {n : ℕ} {P : Claim} (k : IsKept n P) (cave : CaveView) (end : ℕ) (p : Scene)
-    → On P p.state → On P (broken_bridge_scene cave end p).state
+broken_kept : {P : Claim} (cave : CaveView) (k : IsKept cave P) (end : ℕ) (p : Scene)
+    → On (Calm P) p.state → On P (broken_bridge_scene cave end p).state
 unfolding broken_bridge_scene
-broken_kept {n} {P} k cave end p h =
+broken_kept {P} cave k end p h =
     let q = after_saying role.BridgeFalls p in
-    falling_kept k cave end (with_state (with_broken_bridge cave end q.state) q)
-    (bridge_kept P cave end q.state h)
+    falling_kept cave k end (with_state (with_broken_bridge cave end q.state) q)
+    (bridge_kept (Calm P) cave end q.state h)
 
-crossed_kept : {n : ℕ} {P : Claim} (k : IsKept n P) (cave : CaveView) (end : ℕ) (p : Scene)
-    → On P p.state → On P (journey_across cave end p).scene.state
+crossed_kept : {P : Claim} (cave : CaveView) (k : IsKept cave P) (end : ℕ) (p : Scene)
+    → On (Calm P) p.state → On P (journey_across cave end p).scene.state
 unfolding journey_across
-crossed_kept {n} {P} k cave end p h =
+crossed_kept {P} cave k end p h =
     let q = with_state (let_pass cave p.state) p in
+    let passed = pass_kept (Calm P) cave p.state h in
     choose (λ (j : ways.Journey). On P j.scene.state)
     (is_in_hand cave q.state (thing cave name.Bear))
     (journey_here (broken_bridge_scene cave end q)) (record { place = end; scene = q })
-    (λ _. broken_kept k cave end q (pass_kept P cave p.state h)) (λ _. pass_kept P cave p.state h)
+    (λ _. broken_kept cave k end q passed) (λ _. passed.0)
 
 -- the player comes to the bridge
-bridged_kept : {n : ℕ} {P : Claim} (k : IsKept n P) (cave : CaveView) (o : Option ℕ) (p : Scene)
-    → On P p.state → On P (journey_over_bridge cave o p).scene.state
-bridged_kept k cave None p h = h
-bridged_kept {n} {P} k cave (Some end) p h =
+bridged_kept : {P : Claim} (cave : CaveView) (k : IsKept cave P) (o : Option ℕ) (p : Scene)
+    → On (Calm P) p.state → On P (journey_over_bridge cave o p).scene.state
+bridged_kept cave k None p h = h.0
+bridged_kept {P} cave k (Some end) p h =
     choose (λ (j : ways.Journey). On P j.scene.state)
     (has_prop p.state (thing cave name.Troll) (pos 1))
     (journey_here (toll_scene cave p)) (journey_across cave end p)
-    (λ _. stopped_kept P cave p h) (λ _. crossed_kept k cave end p h)
+    (λ _. stopped_kept P cave p h.0) (λ _. crossed_kept cave k end p h)
 
-led_kept : {n : ℕ} {P : Claim} (k : IsKept n P) (cave : CaveView) (motion : ℕ) (o : TravelOutcome)
+led_kept : {P : Claim} (cave : CaveView) (k : IsKept cave P) (motion : ℕ) (o : TravelOutcome)
     (p : Scene)
-    → On P p.state → On P (journey_of_outcome cave motion o p).scene.state
+    → On (Calm P) p.state → On P (journey_of_outcome cave motion o p).scene.state
 unfolding journey_by_squeeze journey_by_bridge
-led_kept k cave motion (outcome.Go place) p h = h
-led_kept {n} {P} k cave motion (outcome.Special Squeeze) p h =
-    squeezed_kept P cave (squeeze_end cave (here_of p)) p h
-led_kept k cave motion (outcome.Special Bridge) p h =
-    bridged_kept k cave (bridge_end cave (here_of p)) p h
-led_kept k cave motion (outcome.Say message) p h = h
-led_kept k cave motion outcome.NoMotion p h = h
-led_kept k cave motion outcome.NoWay p h = h
+led_kept cave k motion (outcome.Go place) p h = h.0
+led_kept {P} cave k motion (outcome.Special Squeeze) p h =
+    squeezed_kept P cave (squeeze_end cave (here_of p)) p h.0
+led_kept cave k motion (outcome.Special Bridge) p h =
+    bridged_kept cave k (bridge_end cave (here_of p)) p h
+led_kept cave k motion (outcome.Say message) p h = h.0
+led_kept cave k motion outcome.NoMotion p h = h.0
+led_kept cave k motion outcome.NoWay p h = h.0
 
-routed_kept : {n : ℕ} {P : Claim} (k : IsKept n P) (cave : CaveView) (motion : ℕ) (p : Scene)
-    → On P p.state → On P (journey_by_rows cave motion p).scene.state
+routed_kept : {P : Claim} (cave : CaveView) (k : IsKept cave P) (motion : ℕ) (p : Scene)
+    → On (Calm P) p.state → On P (journey_by_rows cave motion p).scene.state
 unfolding journey_by_rows
-routed_kept {n} {P} k cave motion p h =
+routed_kept {P} cave k motion p h =
     let j = travel_by_motion cave (thing cave name.Emerald) motion p.state in
-    led_kept k cave motion j.outcome (with_state j.state p)
-    (travelled_kept P cave (thing cave name.Emerald) motion p.state h)
+    led_kept cave k motion j.outcome (with_state j.state p)
+    (travelled_kept (Calm P) cave (thing cave name.Emerald) motion p.state h)
 
-forth_kept : {n : ℕ} {P : Claim} (k : IsKept n P) (cave : CaveView) (motion : ℕ) (p : Scene)
-    → On P p.state → On P (set_forth cave motion p).scene.state
+forth_kept : {P : Claim} (cave : CaveView) (k : IsKept cave P) (motion : ℕ) (p : Scene)
+    → On (Calm P) p.state → On P (set_forth cave motion p).scene.state
 unfolding set_forth state_after_setting_out
-forth_kept k cave motion p h = routed_kept k cave motion (after_setting_out p) h
+forth_kept cave k motion p h = routed_kept cave k motion (after_setting_out p) h
 
 -- the player is moved on by a forced motion
-carried_kept : {n : ℕ} {P : Claim} (k : IsKept n P) (left : ℕ) (cave : CaveView) (s : Stop)
-    → On P s.scene.state → On P (after_forced_motions left cave s).state
+carried_kept : {P : Claim} (cave : CaveView) (k : IsKept cave P) (left : ℕ) (s : Stop)
+    → OnStop P s → On P (after_forced_motions left cave s).state
 unfolding after_forced_motions
-carried_kept {n} {P} k zero cave s h =
-    chosen_scene P s.is_moved_on (after_saying role.ForcedLimit s.scene) s.scene h h
-carried_kept {n} {P} k (suc left) cave s h =
+carried_kept {P} cave k zero s h =
+    chosen_scene P s.is_moved_on (after_saying role.ForcedLimit s.scene) s.scene h.0 h.0
+carried_kept {P} cave k (suc left) s h =
     let j = set_forth cave 1 (with_left left s.scene) in
-    chosen_scene P s.is_moved_on
+    choose (λ (r : Scene). On P r.state) s.is_moved_on
     (after_forced_motions left cave (stop_at cave j.place j.scene)) s.scene
-    (carried_kept k left cave (stop_at cave j.place j.scene)
-    (shown_kept k cave j.place j.scene (forth_kept k cave 1 (with_left left s.scene) h))) h
+    (λ moved. carried_kept cave k left (stop_at cave j.place j.scene)
+    (shown_kept cave k j.place j.scene
+    (forth_kept cave k 1 (with_left left s.scene) (h.0, h.1 moved))))
+    (λ _. h.0)
 
-pub arriving_kept : {n : ℕ} {P : Claim} (k : IsKept n P) (cave : CaveView) (new : ℕ) (p : Scene)
+pub arriving_kept : {P : Claim} (cave : CaveView) (k : IsKept cave P) (new : ℕ) (p : Scene)
     → On P p.state → On P (arrival_scene cave new p).state
-arriving_kept k cave new p h =
-    carried_kept k p.left cave (stop_at cave new p) (shown_kept k cave new p h)
+arriving_kept cave k new p h =
+    carried_kept cave k p.left (stop_at cave new p) (shown_kept cave k new p h)
 
 -- the player arrives, and was elsewhere before
-pub arriving_open : {n : ℕ} {P : Claim} (k : IsKept n P) (cave : CaveView) (before new : ℕ)
+pub arriving_open : {P : Claim} (cave : CaveView) (k : IsKept cave P) (before new : ℕ)
     (p : Scene)
-    → On (Pinned P before) p.state → On P (arrival_scene cave new p).state
-arriving_open k cave before new p h =
-    carried_kept k p.left cave (stop_at cave new p) (shown_open k cave before new p h)
+    → At (Calm P) before p.state → Reaches P p.state.trail.here p.state
+    → On P (arrival_scene cave new p).state
+arriving_open cave k before new p h stays =
+    carried_kept cave k p.left (stop_at cave new p) (shown_open cave k before new p h stays)
 
-pub describing_kept : {n : ℕ} {P : Claim} (k : IsKept n P) (cave : CaveView) (p : Scene)
-    → On P p.state → On P (description_anew cave p).state
-describing_kept k cave p h = carried_kept k p.left cave (stop_here cave p) (seen_kept k cave p h)
+pub describing_kept : {P : Claim} (cave : CaveView) (k : IsKept cave P) (p : Scene)
+    → On (Calm P) p.state → On P (description_anew cave p).state
+describing_kept cave k p h = carried_kept cave k p.left (stop_here cave p) (seen_kept cave k p h)
 
 enough_kept : (P : Claim) (p : Scene) → On P p.state → On P (after_enough p).state
 enough_kept P p h =
@@ -220,34 +225,34 @@ seeking_kept P cave p h =
     (journey_here (after_saying role.CaveOut p)) (journey_here (after_saying role.CaveIn p))
     (λ _. h) (λ _. h)
 
-back_by_kept : {n : ℕ} {P : Claim} (k : IsKept n P) (cave : CaveView) (o : Option ℕ) (p : Scene)
-    → On P p.state → On P (journey_by_motion_back cave o p).scene.state
-back_by_kept k cave None p h = h
-back_by_kept k cave (Some motion) p h = routed_kept k cave motion p h
+back_by_kept : {P : Claim} (cave : CaveView) (k : IsKept cave P) (o : Option ℕ) (p : Scene)
+    → On (Calm P) p.state → On P (journey_by_motion_back cave o p).scene.state
+back_by_kept cave k None p h = h.0
+back_by_kept cave k (Some motion) p h = routed_kept cave k motion p h
 
-back_kept : {n : ℕ} {P : Claim} (k : IsKept n P) (cave : CaveView) (p : Scene)
-    → On P p.state → On P (journey_back cave p).scene.state
+back_kept : {P : Claim} (cave : CaveView) (k : IsKept cave P) (p : Scene)
+    → On (Calm P) p.state → On P (journey_back cave p).scene.state
 unfolding journey_back state_after_setting_out
-back_kept {n} {P} k cave p h =
+back_kept {P} cave k p h =
     let sought = back_place cave p.state in let here = here_of p in let q = after_setting_out p in
     let way = option_map first_motion (row_back cave sought (ways_from cave here)) in
     choose (λ (j : ways.Journey). On P j.scene.state) (sought == here)
     (journey_here (after_saying role.BackNone q))
-    (journey_by_motion_back cave way q) (λ _. h) (λ _. back_by_kept k cave way q h)
+    (journey_by_motion_back cave way q) (λ _. h.0) (λ _. back_by_kept cave k way q h)
 
-pub motion_kept : {n : ℕ} {P : Claim} (k : IsKept n P) (cave : CaveView) (motion : ℕ) (p : Scene)
-    → On P p.state → On P (journey_by_request cave motion p).scene.state
+pub motion_kept : {P : Claim} (cave : CaveView) (k : IsKept cave P) (motion : ℕ) (p : Scene)
+    → On (Calm P) p.state → On P (journey_by_request cave motion p).scene.state
 unfolding journey_by_request
-motion_kept {n} {P} k cave motion p h =
+motion_kept {P} cave k motion p h =
     let forth = set_forth cave motion p in
     let back = if motion == 8 then journey_back cave p else forth in
     let seek = if motion == 67 then journey_of_seeking cave p else back in
     let look = if motion == 57 then journey_of_look p else seek in
-    picked (motion == 21) (journey_here p) look h
-    (picked (motion == 57) (journey_of_look p) seek (looking_round_kept P p h)
-    (picked (motion == 67) (journey_of_seeking cave p) back (seeking_kept P cave p h)
-    (picked (motion == 8) (journey_back cave p) forth (back_kept k cave p h)
-    (forth_kept k cave motion p h))))
+    picked (motion == 21) (journey_here p) look h.0
+    (picked (motion == 57) (journey_of_look p) seek (looking_round_kept P p h.0)
+    (picked (motion == 67) (journey_of_seeking cave p) back (seeking_kept P cave p h.0)
+    (picked (motion == 8) (journey_back cave p) forth (back_kept cave k p h)
+    (forth_kept cave k motion p h))))
   where
     picked : (b : Bool) (i j : ways.Journey) → On P i.scene.state → On P j.scene.state
         → On P (if b then i else j).scene.state

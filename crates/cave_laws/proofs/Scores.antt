@@ -1,5 +1,5 @@
 -- What the score, the questions and a death make of a claim.
-use Rattle.std.proofs.Common.{ℕ, ◌+◌, ◌-◌}
+use Rattle.std.proofs.Common.{◌≡◌, ◌⊎◌, inl, ℕ, ◌+◌, ◌-◌, refl}
 use Rattle.std.specs.Prelude.{Option, None, Some}
 use Rattle.std.specs.FinMap as map
 use Rattle.cave_data.specs.CaveView.{CaveView, Rated, rating_of_score}
@@ -18,7 +18,7 @@ use Rattle.cave_score.specs.Questions.{asking_scene, after_question, after_offer
 use Rattle.cave_score.specs.Questions.{with_question}
 use Rattle.cave_score.specs.Score.{score_of, max_score_of}
 use Rattle.cave_moves.specs.Falling.{falling_at, with_all_left_at}
-use Rattle.cave_laws.proofs.Frame.{Claim, On, At, IsKept, choose}
+use Rattle.cave_laws.proofs.Frame.{Claim, Facts, facts, On, At, Calm, Asked, IsKept, choose}
 
 -- the class of a score is printed
 class_kept : (P : Claim) (score : ℕ) (o : Option Rated) (p : Scene) → On P p.state
@@ -76,24 +76,27 @@ pub asking_kept : (P : Claim) (cave : CaveView) (q : Question) (p : Scene)
     → On P (with_question q p.state) → On P (asking_scene cave q p).state
 unfolding asking_scene
 asking_kept P cave q p h =
-    let Asked : Claim = λ here c d _ e. P here c d (Some q) e in
-    question_kept Asked cave q (after_preface cave q p) (preface_kept Asked cave q p h)
+    question_kept (Asked P q) cave q (after_preface cave q p) (preface_kept (Asked P q) cave q p h)
 
--- the player dies where the player now is, and was elsewhere before
-pub dying_kept : {n : ℕ} {P : Claim} (k : IsKept n P) (cave : CaveView) (before : ℕ) (p : Scene)
-    → At P before p.state → On P (death_scene cave p).state
+-- the player dies where the player now is, and was there before, or is nowhere now
+pub dying_kept : {P : Claim} (cave : CaveView) (k : IsKept cave P) (before : ℕ) (p : Scene)
+    → (p.state.trail.here ≡ before) ⊎ (p.state.trail.here ≡ 0) → At (Calm P) before p.state
+    → On P (death_scene cave p).state
 unfolding death_scene closing_death_scene
-dying_kept {n} {P} k cave before p h =
+dying_kept {P} cave k before p same h =
     let told = after_saying role.KilledClosing p in
+    let here = p.state.trail.here in
+    let f : Facts = record (facts p.state) { here = before } in
     choose (λ (r : Scene). On P r.state) p.state.closing.is_closing (closing_death_scene cave p)
     (asking_scene cave question.Die p)
-    (λ _. ended_kept P cave ending_is.Killed (with_state (with_one_death told.state) told)
-    (k.kills ending_is.Killed before _ _ _ _ _ _ h))
-    (λ _. asking_kept P cave question.Die p (k.dies before _ _ _ _ _ h))
+    (λ closing. ended_kept P cave ending_is.Killed (with_state (with_one_death told.state) told)
+    (k.kills ending_is.Killed here f h.1 closing same h.0))
+    (λ free. asking_kept P cave question.Die p (k.dies here f h.1 free h.0))
 
 -- the player dies, and what is carried is put somewhere
-pub falling_kept : {n : ℕ} {P : Claim} (k : IsKept n P) (cave : CaveView) (place : ℕ) (p : Scene)
-    → On P p.state → On P (falling_at cave place p).state
+pub falling_kept : {P : Claim} (cave : CaveView) (k : IsKept cave P) (place : ℕ) (p : Scene)
+    → On (Calm P) p.state → On P (falling_at cave place p).state
 unfolding falling_at
-falling_kept k cave place p h =
-    dying_kept k cave p.state.trail.here (with_state (with_all_left_at place p.state) p) h
+falling_kept cave k place p h =
+    let here = p.state.trail.here in
+    dying_kept cave k here (with_state (with_all_left_at place p.state) p) (inl refl) h

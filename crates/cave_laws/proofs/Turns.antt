@@ -1,7 +1,7 @@
 -- What a turn makes of a claim.
-use Rattle.std.proofs.Common.{◌≡◌, ℕ, zero, suc, ◌+◌, ℤ, pos, Bool, false, true, List, refl, sym}
+use Rattle.std.proofs.Common.{◌≡◌, inl, ℕ, zero, suc, ◌+◌, pos, Bool, false, true, List, refl, sym}
 use Rattle.std.proofs.lemmas.Bool.{true≢false}
-use Rattle.std.specs.Prelude.{◌==◌, ◌&&◌, ◌||◌, not, nat_le, min, Option, None, Some, is_some}
+use Rattle.std.specs.Prelude.{◌==◌, ◌&&◌, nat_le, min, Option, None, Some}
 use Rattle.std.specs.Prelude.{if◌then◌else◌}
 use Rattle.std.specs.FinMap as map
 use Rattle.cave_data.specs.CaveView.{CaveView}
@@ -10,9 +10,7 @@ use Rattle.cave_words.specs.Words.{words_of}
 use Rattle.cave_words.specs.declared.named.Named.TheVariants as name
 use Rattle.cave_words.specs.declared.words.Words.{Words}
 use Rattle.cave_world.specs.State.{takes_no_command}
-use Rattle.cave_world.specs.declared.ending.Ending.{Ending}
 use Rattle.cave_world.specs.declared.ending.Ending.TheVariants as ending_is
-use Rattle.cave_world.specs.declared.ending.Question.{Question}
 use Rattle.cave_world.specs.declared.ending.Question.TheVariants as question
 use Rattle.cave_world.specs.declared.state.State.{State}
 use Rattle.cave_things.specs.Effects.{with_objects}
@@ -35,7 +33,7 @@ use Rattle.cave_hints.specs.Hints.{is_due, is_needed, put_off, offer_scene, afte
 use Rattle.cave_hints.specs.Hints.{after_considering}
 use Rattle.cave_hints.specs.Hints.{after_hints_up_to, after_hints}
 use Rattle.cave_moves.specs.Journeys.{journey_by_request}
-use Rattle.cave_turn.specs.Answers.{reply_scene}
+use Rattle.cave_turn.specs.Answers.{without_question}
 use Rattle.cave_turn.specs.Commands.{after_beginning, travel_scene, puzzled_scene, next_scene}
 use Rattle.cave_turn.specs.Commands.{WordsDone}
 use Rattle.cave_turn.specs.Commands.{words_done_by_verb}
@@ -52,31 +50,15 @@ use Rattle.cave_turn.specs.declared.reading.Reading.{Reading}
 use Rattle.cave_turn.specs.declared.reading.Reading.TheVariants as reading
 use Rattle.cave_turn.specs.declared.reading.Understood.{Understood}
 use Rattle.cave_laws.specs.Laws.{before_clocks, before_lamp}
-use Rattle.cave_laws.proofs.Frame.{Claim, On, Calm, Charges, IsKept, choose, chosen, chosen_scene}
+use Rattle.cave_laws.proofs.Frame.{Claim, Facts, On, Calm, Charges, IsBegun, IsKept, IsTimed, Leads}
+use Rattle.cave_laws.proofs.Frame.{choose, chosen, chosen_scene, facts}
 use Rattle.cave_laws.proofs.Clocks.{After, Lights, clocks_kept, lamp_kept}
 use Rattle.cave_laws.proofs.Moves.{looking_kept, arriving_kept, arriving_open, describing_kept}
 use Rattle.cave_laws.proofs.Moves.{motion_kept}
 use Rattle.cave_laws.proofs.Scores.{ended_kept, asking_kept}
+use Rattle.cave_laws.proofs.Stop.{none_over}
+use Rattle.cave_laws.proofs.VerbQuestions.{command_spares, is_asking_die}
 use Rattle.cave_laws.proofs.Verbs.{acted_kept}
-
--- some is not none
-some_none : {A : Type 0} (a : A) (B : Type 0) → Some a ≡ None → B
-some_none a B e = cc
-
--- a question is asked where none is open
-pub asks_kept : {n : ℕ} {P : Claim} (k : IsKept n P) (a : Question) (h : ℕ) (c : ℤ) (d : ℕ)
-    (q : Option Question) (e : Option Ending)
-    → P h c d q e → (q ≡ None) × (e ≡ None) → P h c d (Some a) e
-asks_kept {n} {P} k a h c d q (Some how) x calm = some_none how (P h c d (Some a) (Some how)) calm.1
-asks_kept {n} {P} k a h c d (Some b) None x calm = some_none b (P h c d (Some a) None) calm.0
-asks_kept k a h c d None None x calm = k.asks a h c d x
-
--- where nothing is over no question is open, and the game goes on
-none_over : (q : Option Question) (e : Option Ending) → not (is_some q || is_some e) ≡ true
-    → (q ≡ None) × (e ≡ None)
-none_over None None h = (refl, refl)
-none_over None (Some how) h = absurd (true≢false (sym h))
-none_over (Some q) e h = absurd (true≢false (sym h))
 
 -- the last of three tests that hold holds
 last_holds : (a b c : Bool) → (a && b && c) ≡ true → c ≡ true
@@ -102,38 +84,38 @@ waited_kept P cave n s h =
 put_off_kept : (P : Claim) (n : ℕ) (s : State) → On P s → On P (put_off n s)
 put_off_kept P n s h = chosen P (n == 5) s (with_turns_near n 0 s) h h
 
-offered_kept : {n : ℕ} {P : Claim} (k : IsKept n P) (cave : CaveView) (i : ℕ) (hint : Hint)
+offered_kept : {P : Claim} (cave : CaveView) (k : IsKept cave P) (i : ℕ) (hint : Hint)
     (p : Scene)
     → On P p.state → On P (offer_scene cave i hint p).state
 unfolding offer_scene
-offered_kept {n} {P} k cave i hint p h =
+offered_kept {P} cave k i hint p h =
     let asks = asking_scene cave (question.Hint i) (with_state (with_turns_near i 0 p.state) p) in
     let off = with_state (put_off i p.state) p in
     choose (λ (r : Scene). On P r.state) (is_due cave i hint p.state)
     (if is_needed cave i p.state then asks else off) p
     (λ due. choose (λ (r : Scene). On P r.state) (is_needed cave i p.state) asks off
     (λ _. asking_kept P cave (question.Hint i) (with_state (with_turns_near i 0 p.state) p)
-    (asks_kept k (question.Hint i) _ _ _ _ _ h (due_calm cave i hint p.state due)))
+    (k.asks (question.Hint i) (facts p.state) refl (due_calm cave i hint p.state due) h))
     (λ _. put_off_kept P i p.state h))
     (λ _. h)
 
 -- a hint that the cave may have is considered
-considered_if_kept : {n : ℕ} {P : Claim} (k : IsKept n P) (cave : CaveView) (i : ℕ)
+considered_if_kept : {P : Claim} (cave : CaveView) (k : IsKept cave P) (i : ℕ)
     (o : Option Hint)
     (p : Scene) → On P p.state → On P (after_considering_if cave i o p).state
-considered_if_kept k cave i None p h = h
-considered_if_kept {n} {P} k cave i (Some hint) p h =
+considered_if_kept cave k i None p h = h
+considered_if_kept {P} cave k i (Some hint) p h =
     let q = with_state (after_turn_near cave i p.state) p in
     chosen_scene P (was_taken i p.state) p (offer_scene cave i hint q) h
-    (offered_kept k cave i hint q (waited_kept P cave i p.state h))
+    (offered_kept cave k i hint q (waited_kept P cave i p.state h))
 
-considered_kept : {n : ℕ} {P : Claim} (k : IsKept n P) (cave : CaveView) (i : ℕ) (p : Scene)
+considered_kept : {P : Claim} (cave : CaveView) (k : IsKept cave P) (i : ℕ) (p : Scene)
     → On P p.state → On P (after_hints_up_to cave i p).state
 unfolding after_hints_up_to after_considering
-considered_kept k cave zero p h = h
-considered_kept k cave (suc i) p h =
-    considered_if_kept k cave (i + 4) (map.get cave.hints (i + 4)) (after_hints_up_to cave i p)
-    (considered_kept k cave i p h)
+considered_kept cave k zero p h = h
+considered_kept cave k (suc i) p h =
+    considered_if_kept cave k (i + 4) (map.get cave.hints (i + 4)) (after_hints_up_to cave i p)
+    (considered_kept cave k i p h)
 
 oyster_kept : (P : Claim) (cave : CaveView) (p : Scene) → On P p.state
     → On P (after_oyster_shows cave p).state
@@ -153,54 +135,55 @@ hands_kept P cave p h =
     (with_state (with_objects (layout_with_shown_up_to 100 q.state.objects) q.state) q) p
     (oyster_kept P cave p h) h
 
-pub finished_kept : {n : ℕ} {P : Claim} (k : IsKept n P) (cave : CaveView) (p : Scene)
+pub finished_kept : {P : Claim} (cave : CaveView) (k : IsKept cave P) (p : Scene)
     → On P p.state
     → On P (end_of_turn cave p).state
 unfolding end_of_turn
-finished_kept {n} {P} k cave p h =
+finished_kept {P} cave k p h =
     chosen_scene P (takes_no_command p.state) p (after_hints cave (after_hands_show cave p)) h
-    (considered_kept k cave 17 (after_hands_show cave p) (hands_kept P cave p h))
+    (considered_kept cave k 17 (after_hands_show cave p) (hands_kept P cave p h))
 
 -- what follows what a verb did
-following_kept : {n : ℕ} {P : Claim} (k : IsKept n P) (cave : CaveView) (next : Next) (p : Scene)
-    → On (Calm P) p.state → On P (next_scene cave next p).state
-following_kept k cave next_is.Stay p h = h.0
-following_kept k cave next_is.Keep p h = h.0
-following_kept k cave next_is.Describe p h = describing_kept k cave p h.0
-following_kept k cave (next_is.Arrive place) p h = arriving_kept k cave place p h.0
-following_kept {n} {P} k cave (next_is.Ask q) p h =
-    asking_kept P cave q p (asks_kept k q _ _ _ _ _ h.0 h.1)
-following_kept {n} {P} k cave (next_is.End how) p h =
-    ended_kept P cave how p (k.ends how _ _ _ _ _ _ _ h.0)
+following_kept : {P : Claim} (cave : CaveView) (k : IsKept cave P) (next : Next) (p : Scene)
+    → is_asking_die next ≡ false → On (Calm P) p.state → On P (next_scene cave next p).state
+following_kept cave k next_is.Stay p other h = h.0
+following_kept cave k next_is.Keep p other h = h.0
+following_kept cave k next_is.Describe p other h = describing_kept cave k p h
+following_kept cave k (next_is.Arrive place) p other h = arriving_kept cave k place p h.0
+following_kept {P} cave k (next_is.Ask q) p other h =
+    asking_kept P cave q p (k.asks q (facts p.state) other h.1 h.0)
+following_kept {P} cave k (next_is.End how) p other h =
+    ended_kept P cave how p (k.ends how (facts p.state) h.0)
 
-acting_kept : {n : ℕ} {P : Claim} (k : IsKept n P) (cave : CaveView) (v x : ℕ) (word : List ℕ)
+acting_kept : {P : Claim} (cave : CaveView) (k : IsKept cave P) (v x : ℕ) (word : List ℕ)
     (p : Scene)
     → On (Calm P) p.state → On P (words_done_by_verb cave v x word p).scene.state
 unfolding words_done_by_verb
-acting_kept {n} {P} k cave v x word p h =
+acting_kept {P} cave k v x word p h =
     let command : Command = record { verb = v; object = x; word = word; was_dark = p.was_dark } in
     let o = outcome_of_command cave command p.state p.parts in
-    following_kept k cave (next_of_step o.step) (record p { state = o.state; parts = o.parts })
+    following_kept cave k (next_of_step o.step) (record p { state = o.state; parts = o.parts })
+    (command_spares cave command p.state p.parts)
     (acted_kept (Calm P) cave command p.state p.parts h)
 
-travelling_kept : {n : ℕ} {P : Claim} (k : IsKept n P) (cave : CaveView) (motion : ℕ) (p : Scene)
-    → On P p.state → On P (travel_scene cave motion p).state
+travelling_kept : {P : Claim} (cave : CaveView) (k : IsKept cave P) (motion : ℕ) (p : Scene)
+    → On (Calm P) p.state → On P (travel_scene cave motion p).state
 unfolding travel_scene
-travelling_kept k cave motion p h =
+travelling_kept cave k motion p h =
     let j = journey_by_request cave motion p in
-    arriving_kept k cave j.place j.scene (motion_kept k cave motion p h)
+    arriving_kept cave k j.place j.scene (motion_kept cave k motion p h)
 
-done_kept : {n : ℕ} {P : Claim} (k : IsKept n P) (cave : CaveView) (half : HalfCommand)
+done_kept : {P : Claim} (cave : CaveView) (k : IsKept cave P) (half : HalfCommand)
     (r : Reading)
     (p : Scene)
     → On (Calm P) p.state → On P (words_done_by_reading cave half r p).scene.state
 unfolding puzzled_scene
-done_kept k cave half reading.Unknown p h = h.0
-done_kept k cave half (reading.Motion motion) p h = travelling_kept k cave motion p h.0
-done_kept k cave half (reading.Tell told) p h = h.0
-done_kept k cave half reading.Knives p h = h.0
-done_kept k cave half (reading.Act v x word) p h = acting_kept k cave v x word p h
-done_kept k cave half (reading.WhatToDo word) p h = h.0
+done_kept cave k half reading.Unknown p h = h.0
+done_kept cave k half (reading.Motion motion) p h = travelling_kept cave k motion p h
+done_kept cave k half (reading.Tell told) p h = h.0
+done_kept cave k half reading.Knives p h = h.0
+done_kept cave k half (reading.Act v x word) p h = acting_kept cave k v x word p h
+done_kept cave k half (reading.WhatToDo word) p h = h.0
 
 remembering_kept : (P : Claim) (o : Option HalfCommand) (x : ℕ) (s : State) → On P s
     → On P (after_remembering o x s)
@@ -213,18 +196,18 @@ unfolding kept_scene
 settled_kept P x d h = remembering_kept P d.kept x d.scene.state h
 
 -- what was understood is carried out
-carried_out_kept : {n : ℕ} {P : Claim} (k : IsKept n P) (cave : CaveView) (u : Understood)
+carried_out_kept : {P : Claim} (cave : CaveView) (k : IsKept cave P) (u : Understood)
     (p : Scene)
     → On (Calm P) p.state → On P (scene_of_understood cave u p).state
 unfolding scene_of_understood
-carried_out_kept {n} {P} k cave u p h =
+carried_out_kept {P} cave k u p h =
     settled_kept P u.half.object (words_done_by_reading cave u.half u.reading p)
-    (done_kept k cave u.half u.reading p h)
+    (done_kept cave k u.half u.reading p h)
 
 -- the words of a line are done
-done_for_kept : {n : ℕ} {P : Claim} (k : IsKept n P) (cave : CaveView) (words : Words) (p : Scene)
+done_for_kept : {P : Claim} (cave : CaveView) (k : IsKept cave P) (words : Words) (p : Scene)
     → On (Calm P) p.state → On P (scene_of_words cave words p).state
-done_for_kept {n} {P} k cave words p h = by_first words.first
+done_for_kept {P} cave k words p h = by_first words.first
   where
     by_first : (o : Option (List ℕ))
         → On P (elim o as (λ _. Scene) [
@@ -234,70 +217,84 @@ done_for_kept {n} {P} k cave words p h = by_first words.first
         ]).state
     by_first None = h.0
     by_first (Some word) =
-        carried_out_kept k cave
+        carried_out_kept cave k
         (read_words cave p.state (half_command_of p.state.talk) word words.second) p
         h
 
 -- what the clocks leave of a command
-after_clocks_kept : {n : ℕ} {P : Claim} (k : IsKept n P) (cave : CaveView) (words : Words)
+after_clocks_kept : {P : Claim} (cave : CaveView) (k : IsKept cave P) (words : Words)
     (before : ℕ)
-    (o : Clocks) (p : Scene) → After (Calm P) before o p.state
+    (o : Clocks) (p : Scene) → After (Calm P) cave before o p.state
     → On P (after_clocks cave words o p).state
 unfolding kept_scene
-after_clocks_kept k cave words before clocks.GoOn p h = done_for_kept k cave words p h
-after_clocks_kept {n} {P} k cave words before clocks.GaveUp p h =
-    ended_kept P cave ending_is.Quit p (k.ends ending_is.Quit _ _ _ _ _ _ _ h.0)
-after_clocks_kept k cave words before (clocks.Closed place) p h =
-    arriving_open k cave before place p h
+after_clocks_kept cave k words before clocks.GoOn p h = done_for_kept cave k words p h
+after_clocks_kept {P} cave k words before clocks.GaveUp p h =
+    ended_kept P cave ending_is.Quit p (k.ends ending_is.Quit (facts p.state) h.0)
+after_clocks_kept {P} cave k words before (clocks.Closed place) p h =
+    let f : Facts = record (facts p.state) { here = before } in
+    arriving_open cave k before place p h.0
+    (λ some. k.puts p.state.trail.here f some (inl h.1) h.0.0)
+
+-- the clocks keep a claim, and that commands can follow
+pub calm_timed : (Q : Claim) → IsTimed Q → IsTimed (Calm Q)
+calm_timed Q timed = record {
+  counts = λ f going h. (timed.counts f going h.0, h.1);
+  begins = λ f h. (timed.begins f h.0, h.1);
+  shuts = λ f stopped h. (timed.shuts f stopped h.0, h.1);
+}
 
 -- the clocks run, and what they leave is done
-timed_kept : {n : ℕ} {P : Claim} (k : IsKept n P) (cave : CaveView) (words : Words) (p : Scene)
-    → Lights cave (Calm P) (before_lamp cave p) → On (Calm P) p.state
+timed_kept : (Q : Claim) {P : Claim} (cave : CaveView) (k : IsKept cave P)
+    (timed : IsTimed (Calm Q)) (words : Words) (p : Scene)
+    → Lights cave (Calm Q) (Calm P) (before_lamp cave p) → On (Calm Q) p.state
     → On P (clocks_scene cave words p).state
 unfolding clocks_scene
-timed_kept {n} {P} k cave words p lamp h =
-    let t = timing_of_clocks cave p in let after = clocks_kept (Calm P) cave p lamp h in
-    after_clocks_kept k cave words after.0 t.outcome t.scene after.1
+timed_kept Q {P} cave k timed words p lamp h =
+    let t = timing_of_clocks cave p in
+    let after = clocks_kept (Calm Q) (Calm P) timed cave p lamp h in
+    after_clocks_kept cave k words after.0 t.outcome t.scene after.1
 
-pub commanded_kept : {n : ℕ} {P : Claim} (k : IsKept n P) (cave : CaveView) (line : List ℕ)
-    (s : State)
-    → Lights cave (Calm P) (before_lamp cave (before_clocks cave s)) → On (Calm P) s
+pub commanded_kept : (Q : Claim) {P : Claim} (cave : CaveView) (k : IsKept cave P)
+    (timed : IsTimed (Calm Q)) (line : List ℕ) (s : State)
+    → Lights cave (Calm Q) (Calm P) (before_lamp cave (before_clocks cave s)) → On (Calm Q) s
     → On P (command_scene cave line s).state
 unfolding command_scene after_beginning
-commanded_kept k cave line s lamp h =
+commanded_kept Q cave k timed line s lamp h =
     let p = before_clocks cave s in
-    finished_kept k cave (clocks_scene cave (words_of cave.letters line) p)
-    (timed_kept k cave (words_of cave.letters line) p lamp h)
+    finished_kept cave k (clocks_scene cave (words_of cave.letters line) p)
+    (timed_kept Q cave k timed (words_of cave.letters line) p lamp h)
+
+-- the lamp keeps a claim that any charge keeps
+lit_kept : (Q P : Claim) → Leads Q P → Charges Q → (cave : CaveView) (o : Option Scene)
+    → Lights cave (Calm Q) (Calm P) o
+lit_kept Q P leads charges cave None = λ f h. (leads f h.0, h.1)
+lit_kept Q P leads charges cave (Some p) =
+    let calm : Charges (Calm Q) = λ f c x. (charges f c x.0, x.1) in
+    λ h. let lit = lamp_kept (Calm Q) calm cave p h in (leads _ lit.0, lit.1)
 
 -- a command is done where any charge keeps a claim
-pub command_kept : {n : ℕ} {P : Claim} (k : IsKept n P) (cave : CaveView) (charges : Charges P)
-    (line : List ℕ) (s : State) → On (Calm P) s → On P (command_scene cave line s).state
-command_kept {n} {P} k cave charges line s h =
-    let calm : Charges (Calm P) = λ here b c d q e x. (charges here b c d q e x.0, x.1) in
-    commanded_kept k cave line s (λ p _ x. lamp_kept (Calm P) calm cave p x) h
+pub command_kept : (Q : Claim) {P : Claim} (cave : CaveView) (k : IsKept cave P)
+    (timed : IsTimed (Calm Q)) → Leads Q P → Charges Q
+    → (line : List ℕ) (s : State) → On (Calm Q) s → On P (command_scene cave line s).state
+command_kept Q {P} cave k timed leads charges line s h =
+    commanded_kept Q cave k timed line s
+    (lit_kept Q P leads charges cave (before_lamp cave (before_clocks cave s))) h
 
--- a claim holds where the game goes on, and no question is open
-pub none_on : (P : Claim) (h : ℕ) (c : ℤ) (d : ℕ) (q : Option Question) (e : Option Ending) → q
-    ≡ None
-    → e ≡ None → P h c d None None → P h c d q e
-none_on P h c d None None reply_scene goes x = x
-none_on P h c d None (Some how) reply_scene goes x = some_none how (P h c d None (Some how)) goes
-none_on P h c d (Some a) e reply_scene goes x = some_none a (P h c d (Some a) e) reply_scene
-
-pub reborn_kept : {P : Claim} (cave : CaveView) (k : IsKept (building_place cave) P) (p : Scene)
-    → p.state.question ≡ None → p.state.ending ≡ None
-    → P p.state.trail.here p.state.lamp.charge p.state.tallies.deaths (Some question.Die) None
-    → On P (return_scene cave p).state
+-- a player who died comes back, or not
+pub reborn_kept : {Q P : Claim} (cave : CaveView) (k : IsKept cave P)
+    → IsBegun (building_place cave) Q P
+    → (p : Scene) → p.state.question ≡ Some question.Die → p.state.ending ≡ None → On Q p.state
+    → On P (return_scene cave (with_state (without_question p.state) p)).state
 unfolding return_scene revival_scene without_belongings
-reborn_kept {P} cave k p reply_scene goes h =
-    let s = p.state in
-    let q = after_saying (revival_role s.tallies.deaths) p in
-    let r = with_state (with_one_death q.state) q in
+reborn_kept {Q} {P} cave k b p asked goes h =
+    let q = with_state (without_question p.state) p in
+    let told = after_saying (revival_role q.state.tallies.deaths) q in
+    let r = with_state (with_one_death told.state) told in
     choose (λ (t : Scene). On P t.state) (nat_le 3 r.state.tallies.deaths)
     (ending_scene cave ending_is.Killed r)
     (revival_scene cave r)
     (λ _. ended_kept P cave ending_is.Killed r
-    (k.kills ending_is.Killed s.trail.here _ _ _ _ _ None h))
-    (λ few. describing_kept k cave
+    (b.buries ending_is.Killed (facts p.state) asked goes h))
+    (λ few. describing_kept cave k
     (with_state (put_at (building_place cave) (without_belongings cave r.state)) r)
-    (none_on P _ _ _ s.question s.ending reply_scene goes (k.revives s.trail.here _ _ few h)))
+    (b.revives (facts p.state) few asked goes h, (refl, goes)))

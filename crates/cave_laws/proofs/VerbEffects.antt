@@ -1,6 +1,6 @@
 -- What the effects of verbs, and the rows that have them, make of a claim.
-use Rattle.std.proofs.Common.{ℕ, pos, true, List, [], ◌∷◌}
-use Rattle.std.specs.Prelude.{◌==◌, ◌&&◌, ◌||◌, Option, None, Some}
+use Rattle.std.proofs.Common.{ℕ, ◌+◌, ◌≤◌, pos, true, List, [], ◌∷◌, arith}
+use Rattle.std.specs.Prelude.{◌==◌, ◌&&◌, ◌||◌, Option, None, Some, min}
 use Rattle.cave_data.specs.CaveView.{CaveView, default_message}
 use Rattle.cave_rows.specs.declared.role.Role.TheVariants as role
 use Rattle.cave_words.specs.declared.named.Named.TheVariants as name
@@ -16,14 +16,15 @@ use Rattle.cave_things.specs.Panic.{after_panic}
 use Rattle.cave_things.specs.Reach.{is_called, is_in_hand, has_other_prop}
 use Rattle.cave_things.specs.Rules.{thing}
 use Rattle.cave_verbs.specs.Acting.{Rule}
-use Rattle.cave_verbs.specs.Deeds.{Deed, Outcome, deed}
+use Rattle.cave_verbs.specs.Deeds.{Deed, Outcome}
 use Rattle.cave_verbs.specs.Effects.{default, tell, say}
 use Rattle.cave_verbs.specs.Rows.{Effect, VerbRow, first_fitting, fits, after_all, outcome_of}
-use Rattle.cave_verbs.specs.Tests.{the}
+use Rattle.cave_verbs.specs.Feeding.{with_more_anger}
 use Rattle.cave_verbs.specs.Light.{say_dark}
 use Rattle.cave_verbs.specs.Opening.{after_sending}
 use Rattle.cave_verbs.specs.Throwing.{first_fitting_or}
-use Rattle.cave_laws.proofs.Frame.{Claim, On, choose, chosen}
+use Rattle.cave_laws.proofs.Frame.{Claim, On, choose, chosen, course, facts}
+use Rattle.cave_laws.proofs.Later.{later_by_anger, later_by_loss}
 
 -- effects one after another keep a claim
 abbrev pub KeepsAll : Claim → List Effect → Type 0
@@ -88,12 +89,24 @@ pub without_troll_kept : (P : Claim) (cave : CaveView) (s : State) → On P s
 unfolding without_troll
 without_troll_kept P cave s h = h
 
--- a treasure that is lost keeps a claim
+-- one treasure more that is lost keeps a claim
+pub loss_kept : (P : Claim) (s : State) → On P s → On P (with_one_more_lost s)
+loss_kept P s h =
+    P.goes_on (facts s) (course (with_one_more_lost s)) (later_by_loss (course s)) h
+
+-- a treasure that is lost to the snake keeps a claim
 pub lost_kept : (P : Claim) (cave : CaveView) (s : State) → On P s
     → On P (after_loss_to_snake cave s)
 unfolding after_loss_to_snake
 lost_kept P cave s h = chosen P (is_at_home cave s (thing cave name.Snake)) (with_one_more_lost s) s
-    h h
+    (loss_kept P s h) h
+
+-- a dwarf that is angrier keeps a claim
+pub angered_kept : (P : Claim) (s : State) → On P s → On P (with_more_anger s)
+angered_kept P s h =
+    let anger = s.dwarves.anger in
+    let more : min anger 13 ≤ min (anger + 1) 13 = omega arith in
+    P.goes_on (facts s) (course (with_more_anger s)) (later_by_anger (course s) _ more) h
 
 pub panicking_kept : (P : Claim) (s : State) → On P s → On P (after_panic s)
 panicking_kept P s h =

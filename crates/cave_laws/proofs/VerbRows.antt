@@ -1,9 +1,4 @@
 -- The rows of verbs, from BLAST to FOO, keep each claim.
-use Rattle.std.proofs.Common.{pos}
-use Rattle.cave_rows.specs.declared.role.Role.TheVariants as role
-use Rattle.cave_words.specs.declared.named.Named.TheVariants as name
-use Rattle.cave_verbs.specs.Effects.{set_prop, say}
-use Rattle.cave_verbs.specs.Tests.{the}
 use Rattle.cave_verbs.specs.Blasting.{blast_rows}
 use Rattle.cave_verbs.specs.Breaking.{break_rows, wake_rows}
 use Rattle.cave_verbs.specs.Dropping.{drop_rows}
@@ -13,210 +8,79 @@ use Rattle.cave_verbs.specs.Killing.{bare_kill_rows, kill_rows}
 use Rattle.cave_verbs.specs.Light.{on_rows, off_rows}
 use Rattle.cave_verbs.specs.Magic.{bare_foo_rows}
 use Rattle.cave_laws.proofs.Frame.{Claim}
+use Rattle.cave_laws.proofs.OrdinaryRows.{ordinary, rows_kept}
 use Rattle.cave_laws.proofs.VerbEffects.{KeepsRows}
-use Rattle.cave_laws.proofs.VerbEffects.{default_kept, say_dark_kept}
-use Rattle.cave_laws.proofs.VerbEffects.{put_down_kept, let_go_kept, without_troll_kept, lost_kept}
 
 pub blast_rows_kept : (P : Claim) → KeepsRows P blast_rows
 unfolding blast_rows
-blast_rows_kept P = (
-  (λ d h. default_kept P d h),
-  (
-    (λ d h. default_kept P d h),
-    (
-      (λ d h. h),
-      (
-        (λ d h. h),
-        ((λ d h. h), tt),
-      ),
-    ),
-  ),
-)
+blast_rows_kept P = rows_kept P blast_rows (search ordinary parts 60)
 
 pub break_rows_kept : (P : Claim) → KeepsRows P break_rows
 unfolding break_rows
-break_rows_kept P =
-    ((λ d h. let_go_kept P _ _ _ h), ((λ d h. h), ((λ d h. h), ((λ d h. default_kept P d h), tt))))
+break_rows_kept P = rows_kept P break_rows (search ordinary parts 60)
 
 pub wake_rows_kept : (P : Claim) → KeepsRows P wake_rows
 unfolding wake_rows
-wake_rows_kept P = ((λ d h. h), ((λ d h. default_kept P d h), tt))
+wake_rows_kept P = rows_kept P wake_rows (search ordinary parts 60)
 
 pub drop_rows_kept : (P : Claim) → KeepsRows P drop_rows
 unfolding drop_rows
-drop_rows_kept P = (
-  (λ d h. h),
-  (
-    (λ d h. default_kept P d h),
-    (
-      (λ d h. h),
-      (
-        (λ d h. put_down_kept P _ _ _ h),
-        (
-          (λ d h. h),
-          (
-            (λ d h. lost_kept P _ _ h),
-            (
-              (λ d h. put_down_kept P _ _ _ (without_troll_kept P _ _ h)),
-              (
-                (λ d h. put_down_kept P _ _ _ h),
-                (
-                  (λ d h. put_down_kept P _ _ _ h),
-                  ((λ d h. put_down_kept P _ _ _ h), tt),
-                ),
-              ),
-            ),
-          ),
-        ),
-      ),
-    ),
-  ),
-)
+drop_rows_kept P = rows_kept P drop_rows (search ordinary parts 60)
 
 pub feed_rows_kept : (P : Claim) → KeepsRows P feed_rows
 unfolding feed_rows
-feed_rows_kept P = (
-  (λ d h. h),
-  (
-    (λ d h. h),
-    (
-      (λ d h. h),
-      (
-        (λ d h. h),
-        (
-          (λ d h. h),
-          (
-            (λ d h. h),
-            (
-              (λ d h. default_kept P d h),
-              (
-                (λ d h. h),
-                (
-                  (λ d h. h),
-                  (
-                    (λ d h. h),
-                    ((λ d h. default_kept P d h), ((λ d h. h), tt)),
-                  ),
-                ),
-              ),
-            ),
-          ),
-        ),
-      ),
-    ),
-  ),
-)
+feed_rows_kept P = rows_kept P feed_rows (search ordinary parts 60)
 
 pub bare_eat_rows_kept : (P : Claim) → KeepsRows P bare_eat_rows
 unfolding bare_eat_rows
-bare_eat_rows_kept P = ((λ d h. h), ((λ d h. h), tt))
+bare_eat_rows_kept P = rows_kept P bare_eat_rows (search ordinary parts 60)
 
 pub eat_rows_kept : (P : Claim) → KeepsRows P eat_rows
 unfolding eat_rows
-eat_rows_kept P = ((λ d h. h), ((λ d h. h), ((λ d h. default_kept P d h), tt)))
+eat_rows_kept P = rows_kept P eat_rows (search ordinary parts 60)
 
 pub find_rows_kept : (P : Claim) → KeepsRows P find_rows
 unfolding find_rows
-find_rows_kept P = (
-  (λ d h. h),
-  (
-    (λ d h. h),
-    (
-      (λ d h. h),
-      (
-        (λ d h. h),
-        (
-          (λ d h. h),
-          (
-            (λ d h. h),
-            ((λ d h. default_kept P d h), tt),
-          ),
-        ),
-      ),
-    ),
-  ),
-)
+find_rows_kept P = rows_kept P find_rows (search ordinary parts 60)
 
 pub bare_inventory_rows_kept : (P : Claim) → KeepsRows P bare_inventory_rows
 unfolding bare_inventory_rows
-bare_inventory_rows_kept P = ((λ d h. h), ((λ d h. h), tt))
+bare_inventory_rows_kept P = rows_kept P bare_inventory_rows (search ordinary parts 60)
 
 pub bare_kill_rows_kept : (P : Claim) → KeepsRows P bare_kill_rows
 unfolding bare_kill_rows
-bare_kill_rows_kept P = ((λ d h. h), ((λ d h. h), ((λ d h. h), ((λ d h. h), ((λ d h. h), tt)))))
+bare_kill_rows_kept P = rows_kept P bare_kill_rows (search ordinary parts 60)
 
 pub kill_rows_kept : (P : Claim) → KeepsRows P kill_rows
 unfolding kill_rows
-kill_rows_kept P = (
-  (λ d h. h),
-  (
-    (λ d h. lost_kept P _ _ h),
-    (
-      (λ d h. h),
-      (
-        (λ d h. h),
-        (
-          (λ d h. h),
-          (
-            (λ d h. h),
-            (
-              (λ d h. h),
-              (
-                (λ d h. h),
-                (
-                  (λ d h. h),
-                  (
-                    (λ d h. h),
-                    (
-                      (λ d h. h),
-                      (
-                        (λ d h. h),
-                        ((λ d h. default_kept P d h), tt),
-                      ),
-                    ),
-                  ),
-                ),
-              ),
-            ),
-          ),
-        ),
-      ),
-    ),
-  ),
-)
+kill_rows_kept P = rows_kept P kill_rows (search ordinary parts 60)
 
 pub on_rows_kept : (P : Claim) → KeepsRows P on_rows
 unfolding on_rows
-on_rows_kept P = ((λ d h. default_kept P d h), ((λ d h. h), ((λ d h. h), ((λ d h. h), tt))))
+on_rows_kept P = rows_kept P on_rows (search ordinary parts 60)
 
 pub off_rows_kept : (P : Claim) → KeepsRows P off_rows
 unfolding off_rows
-off_rows_kept P = (
-  (λ d h. default_kept P d h),
-  ((λ d h. say_dark_kept P (say role.LampOff (set_prop (the name.Lamp) (pos 0) d)) h), tt),
-)
+off_rows_kept P = rows_kept P off_rows (search ordinary parts 60)
 
 pub bare_foo_rows_kept : (P : Claim) → KeepsRows P bare_foo_rows
 unfolding bare_foo_rows
-bare_foo_rows_kept P = (
-  (λ d h. h),
-  (
-    (λ d h. h),
-    (
-      (λ d h. h),
-      (
-        (λ d h. h),
-        (
-          (λ d h. h),
-          (
-            (λ d h. h),
-            (
-              (λ d h. h),
-              ((λ d h. h), tt),
-            ),
-          ),
-        ),
-      ),
-    ),
-  ),
+bare_foo_rows_kept P = rows_kept P bare_foo_rows (search ordinary parts 60)
+
+-- the rows of all these verbs
+pub ruleset verb_rows_kept = (
+  blast_rows_kept,
+  break_rows_kept,
+  wake_rows_kept,
+  drop_rows_kept,
+  feed_rows_kept,
+  bare_eat_rows_kept,
+  eat_rows_kept,
+  find_rows_kept,
+  bare_inventory_rows_kept,
+  bare_kill_rows_kept,
+  kill_rows_kept,
+  on_rows_kept,
+  off_rows_kept,
+  bare_foo_rows_kept,
 )

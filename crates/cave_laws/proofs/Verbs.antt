@@ -11,7 +11,7 @@ use Rattle.cave_verbs.specs.Acting.{object_outcome, outcome_once, outcome_within
 use Rattle.cave_verbs.specs.Acting.{outcome_of_command, going_on}
 use Rattle.cave_verbs.specs.Deeds.{Outcome, deed}
 use Rattle.cave_verbs.specs.Rows.{first_fitting}
-use Rattle.cave_verbs.specs.Tests.{the, dwarf}
+use Rattle.cave_verbs.specs.Tests.{dwarf}
 use Rattle.cave_verbs.specs.declared.next.Step.{Step}
 use Rattle.cave_verbs.specs.declared.next.Step.TheVariants.{Done, GoOn}
 use Rattle.cave_verbs.specs.declared.order.Command.{Command}
@@ -22,19 +22,9 @@ use Rattle.cave_verbs.specs.Throwing.{after_one_draw}
 use Rattle.cave_laws.proofs.Frame.{Claim, On, choose}
 use Rattle.cave_laws.proofs.VerbEffects.{KeepsOutcome, KeepsRules}
 use Rattle.cave_laws.proofs.VerbEffects.{first_kept, first_or_kept}
-use Rattle.cave_laws.proofs.VerbRows.{blast_rows_kept, break_rows_kept, wake_rows_kept}
-use Rattle.cave_laws.proofs.VerbRows.{drop_rows_kept, feed_rows_kept, bare_eat_rows_kept}
-use Rattle.cave_laws.proofs.VerbRows.{eat_rows_kept, find_rows_kept, bare_inventory_rows_kept}
-use Rattle.cave_laws.proofs.VerbRows.{bare_kill_rows_kept, kill_rows_kept, on_rows_kept}
-use Rattle.cave_laws.proofs.VerbRows.{off_rows_kept, bare_foo_rows_kept}
-use Rattle.cave_laws.proofs.MoreVerbRows.{bare_open_rows_kept, open_rows_kept, pour_rows_kept}
-use Rattle.cave_laws.proofs.MoreVerbRows.{drink_rows_kept, bare_fill_rows_kept, fill_rows_kept}
-use Rattle.cave_laws.proofs.MoreVerbRows.{bare_read_rows_kept, read_rows_kept, bare_rows_kept}
-use Rattle.cave_laws.proofs.MoreVerbRows.{other_rows_kept, nothing_rows_kept, bare_quit_rows_kept}
-use Rattle.cave_laws.proofs.MoreVerbRows.{bare_score_rows_kept, bare_brief_rows_kept}
-use Rattle.cave_laws.proofs.MoreVerbRows.{bare_take_rows_kept, take_rows_kept, throw_rows_kept}
-use Rattle.cave_laws.proofs.MoreVerbRows.{miss_rows_kept, hit_rows_kept, axe_rows_kept}
-use Rattle.cave_laws.proofs.MoreVerbRows.{wave_rows_kept, rub_rows_kept}
+use Rattle.cave_laws.proofs.VerbRows.{verb_rows_kept}
+use Rattle.cave_laws.proofs.MoreVerbRows.{axe_rows_kept, hit_rows_kept, miss_rows_kept}
+use Rattle.cave_laws.proofs.MoreVerbRows.{more_verb_rows_kept, other_rows_kept, throw_rows_kept}
 
 -- an axe that is thrown at a dwarf keeps a claim
 pub at_dwarf_kept : (P : Claim) → KeepsOutcome P axe_thrown_at_dwarf
@@ -68,158 +58,12 @@ by_kept P (r ∷ rules) k v d h =
 
 -- the rules of verbs without an object keep a claim
 pub bare_rules_kept : (P : Claim) → KeepsRules P bare_rules
-bare_rules_kept P = (
-  first_kept P _ (bare_take_rows_kept P),
-  (
-    first_kept P _ (bare_rows_kept P),
-    (
-      first_kept P _ (bare_rows_kept P),
-      (
-        first_kept P _ (bare_open_rows_kept P),
-        (
-          first_kept P _ (nothing_rows_kept P),
-          (
-            first_kept P _ (bare_open_rows_kept P),
-            (
-              first_kept P _ (on_rows_kept P),
-              (
-                first_kept P _ (off_rows_kept P),
-                (
-                  first_kept P _ (bare_rows_kept P),
-                  (
-                    first_kept P _ (bare_rows_kept P),
-                    (
-                      first_kept P _ (bare_kill_rows_kept P),
-                      (
-                        first_kept P _ (pour_rows_kept P),
-                        (
-                          first_kept P _ (bare_eat_rows_kept P),
-                          (
-                            first_kept P _ (drink_rows_kept P),
-                            (
-                              first_kept P _ (bare_rows_kept P),
-                              (
-                                first_kept P _ (bare_rows_kept P),
-                                (
-                                  first_kept P _ (bare_quit_rows_kept P),
-                                  (
-                                    first_kept P _ (bare_rows_kept P),
-                                    (
-                                      first_kept P _ (bare_inventory_rows_kept P),
-                                      (
-                                        first_kept P _ (bare_rows_kept P),
-                                        (
-                                          first_kept P _ (bare_fill_rows_kept P),
-                                          (
-                                            first_kept P _ (blast_rows_kept P),
-                                            (
-                                              first_kept P _ (bare_score_rows_kept P),
-                                              (
-                                                first_kept P _ (bare_foo_rows_kept P),
-                                                (
-                                                  first_kept P _ (bare_brief_rows_kept P),
-                                                  (
-                                                    first_kept P _ (bare_read_rows_kept P),
-                                                    (
-                                                      first_kept P _ (bare_rows_kept P),
-                                                      (
-                                                        first_kept P _ (bare_rows_kept P),
-                                                        tt,
-                                                      ),
-                                                    ),
-                                                  ),
-                                                ),
-                                              ),
-                                            ),
-                                          ),
-                                        ),
-                                      ),
-                                    ),
-                                  ),
-                                ),
-                              ),
-                            ),
-                          ),
-                        ),
-                      ),
-                    ),
-                  ),
-                ),
-              ),
-            ),
-          ),
-        ),
-      ),
-    ),
-  ),
-)
+bare_rules_kept P = search (first_kept P, verb_rows_kept, more_verb_rows_kept) parts 60
 
 -- the rules of verbs with an object keep a claim
 pub object_rules_kept : (P : Claim) → KeepsRules P object_rules
-object_rules_kept P = (
-  first_kept P _ (take_rows_kept P),
-  (
-    first_kept P _ (drop_rows_kept P),
-    (
-      first_kept P _ (open_rows_kept P),
-      (
-        first_kept P _ (nothing_rows_kept P),
-        (
-          first_kept P _ (open_rows_kept P),
-          (
-            first_kept P _ (on_rows_kept P),
-            (
-              first_kept P _ (off_rows_kept P),
-              (
-                first_kept P _ (wave_rows_kept P),
-                (
-                  first_kept P _ (kill_rows_kept P),
-                  (
-                    first_kept P _ (pour_rows_kept P),
-                    (
-                      first_kept P _ (eat_rows_kept P),
-                      (
-                        first_kept P _ (drink_rows_kept P),
-                        (
-                          first_kept P _ (rub_rows_kept P),
-                          (
-                            thrown_kept P,
-                            (
-                              first_kept P _ (find_rows_kept P),
-                              (
-                                first_kept P _ (find_rows_kept P),
-                                (
-                                  first_kept P _ (feed_rows_kept P),
-                                  (
-                                    first_kept P _ (fill_rows_kept P),
-                                    (
-                                      first_kept P _ (blast_rows_kept P),
-                                      (
-                                        first_kept P _ (read_rows_kept P),
-                                        (
-                                          first_kept P _ (break_rows_kept P),
-                                          (first_kept P _ (wake_rows_kept P), tt),
-                                        ),
-                                      ),
-                                    ),
-                                  ),
-                                ),
-                              ),
-                            ),
-                          ),
-                        ),
-                      ),
-                    ),
-                  ),
-                ),
-              ),
-            ),
-          ),
-        ),
-      ),
-    ),
-  ),
-)
+object_rules_kept P =
+    search (first_kept P, thrown_kept P, verb_rows_kept, more_verb_rows_kept) parts 60
 
 -- a verb without an object keeps a claim
 pub bare_kept : (P : Claim) → KeepsOutcome P bare_outcome

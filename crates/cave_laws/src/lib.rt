@@ -1,6 +1,11 @@
 //! Laws of the game. Each is the contract of a function that does nothing.
 #![tactic(auto)]
 
+pub mod carrying;
+pub mod courses;
+pub mod dwarf_laws;
+pub mod object_laws;
+
 ghost use Rattle.cave_laws.specs.Laws.{CommandsTick, EndIsQuiet, FewDeaths, LampBurnsDown};
 ghost use Rattle.cave_laws.specs.Laws.{PlayerIsSomewhere, SeedsAlone};
 

@@ -1,5 +1,5 @@
 -- The bridge that a troll guards.
-use Rattle.std.specs.Prelude.{ℕ, pos, negsuc, ◌==◌, ◌||◌, if◌then◌else◌, Option, Some, None}
+use Rattle.std.specs.Prelude.{ℕ, pos, negsuc, ◌==◌, if◌then◌else◌, Option, Some, None}
 use Rattle.cave_data.specs.CaveView.{CaveView}
 use Rattle.cave_rows.specs.declared.role.Role.TheVariants as role
 use Rattle.cave_moves.specs.Falling.{falling_at}
@@ -15,12 +15,15 @@ use Rattle.cave_objects.specs.Objects.{with_place, with_anchor, with_latest, wit
 use Rattle.cave_objects.specs.declared.spot.Anchor.TheVariants as anchor
 use Rattle.cave_world.specs.declared.state.State.{State}
 
+-- an end of a bridge is a place of the cave, and 0 is none
+abbrev pub bridgehead : ℕ → Option ℕ
+bridgehead place = if place == 0 then None else Some place
+
 -- the bridge leads from one of the two places where the troll is at home to the other
 unfoldable pub bridge_end : CaveView → ℕ → Option ℕ
 bridge_end cave here =
-    let troll = thing cave name.Troll in
-    if troll == 0 || second_home cave troll == 0 then None
-    else other_end here (Some (home cave troll)) (Some (second_home cave troll))
+    let troll = thing cave name.Troll in if troll == 0 then None
+    else other_end here (bridgehead (home cave troll)) (bridgehead (second_home cave troll))
 
 -- the troll is at both ends of the bridge again, and its second self is gone
 unfoldable pub with_troll : CaveView → Layout → Layout

@@ -1,4 +1,4 @@
--- The player dies where the player is.
+-- The player dies, and leaves what is carried where the player is or at another place.
 use Rattle.std.specs.Prelude.{ℕ}
 use Rattle.cave_data.specs.CaveView.{CaveView}
 use Rattle.cave_score.specs.Deaths.{death_scene}

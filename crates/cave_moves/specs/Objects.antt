@@ -13,7 +13,7 @@ use Rattle.cave_world.specs.declared.state.State.{State}
 use Rattle.cave_things.specs.Rules.{thing}
 use Rattle.cave_things.specs.Play.{Scene, after_telling, with_state}
 
--- an object that the player hasn't seen yet
+-- an object with a prop below 0 counts as unseen
 abbrev pub is_unseen : State → ℕ → Bool
 is_unseen s x = int_lt (prop_of s.objects x) (pos 0)
 
@@ -28,12 +28,12 @@ is_kept_back cave s x =
 abbrev pub first_prop : CaveView → ℕ → ℤ
 first_prop cave x = if x == thing cave name.Rug || x == thing cave name.Chain then pos 1 else pos 0
 
--- one treasure less is to be seen
+-- one treasure less counts as unseen
 abbrev pub one_less_unseen : State → State
 one_less_unseen s =
     let tallies = s.tallies in record s { tallies = record tallies { unseen = tallies.unseen - 1 } }
 
--- where those that are left can't all be found, the lamp burns 35 turns more at most
+-- where as many count as lost as count as unseen, and some do, the lamp burns 35 turns more at most
 abbrev pub is_beyond_hope : State → Bool
 is_beyond_hope s = s.tallies.unseen == s.tallies.lost && not (s.tallies.unseen == 0)
 

@@ -1,7 +1,8 @@
 //! The bridge that a troll guards.
 
 ghost use Rattle.std.specs.Prelude.{◌≡◌, false, IsTrue};
-ghost use Rattle.cave_moves.specs.Bridge.{bridge_end, with_troll, toll_scene, let_pass};
+ghost use Rattle.cave_moves.specs.Bridge.{bridgehead, bridge_end, with_troll, toll_scene};
+ghost use Rattle.cave_moves.specs.Bridge.{let_pass};
 ghost use Rattle.cave_moves.specs.Bridge.{without_bridge, without_spices, with_broken_bridge};
 ghost use Rattle.cave_moves.specs.Bridge.{broken_bridge_scene, journey_across, journey_by_bridge};
 ghost use Rattle.cave_things.specs.Bounds.{HasRoom, SaysUpTo, parts_of_journey};
@@ -39,19 +40,26 @@ pub fn cross(rules: &Rules<'_>, play: &mut Play<'_>) -> Place
     }
 }
 
+/// A place as an end of a bridge: place 0 is none.
+fn bridgehead(place: Place) -> Option<Place>
+    ensures { result ≡ bridgehead place }
+{
+    (place.number() != 0).then_some(place)
+}
+
 /// The other end of the bridge, if the player is at one of its ends.
 #[tactic(auto, unfolding(crate::specs::Bridge::bridge_end))]
 fn bridge_end(rules: &Rules<'_>, here: Place) -> Option<Place>
     ensures { result ≡ bridge_end (cave_of rules.now) here }
 {
     let troll = rules.object(Named::Troll);
-    if troll.is_none() || rules.second_home(troll).number() == 0 {
+    if troll.is_none() {
         return None;
     }
     other_end(
         here,
-        Some(rules.home(troll)),
-        Some(rules.second_home(troll)),
+        bridgehead(rules.home(troll)),
+        bridgehead(rules.second_home(troll)),
     )
 }
 

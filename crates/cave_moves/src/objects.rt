@@ -15,7 +15,7 @@ use cave_things::{Play, Rules};
 use cave_words::Named;
 use cave_world::{Charge, Part, State};
 
-/// The most turns for which the lamp burns once the treasures that are left can't all be found.
+/// The most turns for which the lamp burns once as many treasures count as lost as count as unseen.
 const SHORT_LAMP: i32 = 35;
 
 fn is_unseen(state: &State, object: Object) -> bool

@@ -2,6 +2,8 @@ mod EditLemmas
 pub mod InputLemmas
 mod JudgeLemmas
 mod LogLemmas
+mod OneOutputLemmas
+mod RefusalLemmas
 mod RunLemmas
 mod ScriptLemmas
 pub mod StageLemmas

@@ -59,6 +59,14 @@ Judges-later stages later P Q (Ok x) none gives judged =
 Judges-later stages later P Q (Err found) none gives judged =
     IsFoundIn-later stages later found none judged
 
+-- what is right at later stages is right after a judgement that found no fault, too
+pub Judges-after : {X : Type 0} (decides : Option PlayFault) (later : List Stage) (P : X → Type 0)
+    (r : Result X PlayFault) → decides ≡ None → Judges later P r
+    → Judges (judging_stage decides ∷ later) P r
+Judges-after decides later P r none judged =
+    Judges-later (judging_stage decides ∷ []) later P P r
+    (first_decided-one (judging_stage decides) none) (λ x is. is) judged
+
 -- where no fault is decided and memory alone was refused, what was made is right
 pub Judges-made : {X : Type 0} (stages : List Stage) (IsMade IsValidLine : X → Type 0)
     (r : Result X PlayFault) → first_decided stages ≡ None

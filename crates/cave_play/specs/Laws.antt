@@ -1,6 +1,13 @@
--- Laws of the order in which faults are found.
-use Rattle.std.specs.Prelude.{◌≡◌, ℕ, ◌⊎◌, ⊤, List, Some}
-use Rattle.cave_play.specs.Judge.{inputs_fault}
+-- Laws of the order in which faults are found, and of what edits are refused for.
+use Rattle.std.specs.Prelude.{◌≡◌, ℕ, ◌⊎◌, ⊤, List, None, Some}
+use Rattle.std.specs.Str.Lines.{lines}
+use Rattle.edit_scripts.specs.Item.{Applied}
+use Rattle.log_replay.specs.Play.{game_of}
+use Rattle.log_replay.specs.declared.fault.EditFault.{EditFault}
+use Rattle.log_replay.specs.declared.fault.EditFault.TheVariants.{MeterFull, Memory}
+use Rattle.log_replay.specs.declared.fault.GroupFault.{GroupFault}
+use Rattle.cave_play.specs.Judge.{inputs_fault, large_seed, log_fault}
+use Rattle.cave_play.specs.Output.{game_after_items, group_refusal}
 use Rattle.cave_play.specs.Stage.{Stage, first_decided, IsFoundIn}
 use Rattle.cave_play.specs.Stages.{cave_stages}
 use Rattle.cave_play.specs.declared.fault.PlayFault.{PlayFault}
@@ -26,3 +33,18 @@ abbrev pub CavesAreJudgedWhole : Type 0
 CavesAreJudgedWhole =
     (database bindings : List ℕ)
     → first_decided (cave_stages database bindings) ≡ inputs_fault database bindings
+
+-- a fault that a change has in its log, whatever the meter and the memory
+abbrev pub IsOfChange : EditFault → Type 0
+IsOfChange MeterFull = ⊥
+IsOfChange Memory = ⊥
+IsOfChange _ = ⊤
+
+-- of a log that is accepted, and after any items, an item is refused for its changes alone
+abbrev pub RefusalsAreOfChanges : Type 0
+RefusalsAreOfChanges =
+    (log : List ℕ) (seed : ℕ) → log_fault log ≡ None → large_seed seed ≡ None
+    → (items : List Applied) (item : Applied) (found : GroupFault)
+    → group_refusal item.changes (game_after_items items (game_of seed (lines log))).log
+    ≡ Some found
+    → IsOfChange found.cause

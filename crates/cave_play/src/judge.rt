@@ -1,7 +1,7 @@
 //! Reading the inputs of a run, each of which is judged before the next.
 
-ghost use Rattle.std.specs.Prelude.{◌≡◌, ℕ, ◌^◌, ◌<◌, List, [], ◌∷◌, None, Ok, All, IfOk, length};
-ghost use Rattle.std.specs.Prelude.{vec_len};
+ghost use Rattle.std.specs.Prelude.{◌≡◌, ℕ, ◌^◌, ◌<◌, List, [], ◌∷◌, None, Some, Ok, All, IfOk};
+ghost use Rattle.std.specs.Prelude.{MatchResult, length, vec_len};
 ghost use Rattle.std.specs.Str.Lines.{lines};
 ghost use Rattle.cave_data.specs.Reads.{Reads};
 ghost use Rattle.cave_words.specs.Lexicon.{IsLexiconOf};
@@ -32,7 +32,8 @@ use std::io::Read;
 
 /// Whether a game may begin with the seed.
 pub fn check_seed(seed: u32) -> Result<(), PlayFault>
-    ensures { Judges (judging_stage (large_seed seed) ∷ []) (λ _. Unit {0}) result }
+    ensures { MatchResult result (λ _. large_seed seed ≡ None)
+        (λ found. large_seed seed ≡ Some found) }
 {
     if is_large_seed(u64::from(seed)) {
         return Err(PlayFault::Seed);
@@ -42,7 +43,8 @@ pub fn check_seed(seed: u32) -> Result<(), PlayFault>
 
 /// Whether a session may have this distance of checkpoints.
 pub(crate) fn check_every(every: u32) -> Result<(), PlayFault>
-    ensures { Judges (judging_stage (every_fault every) ∷ []) (λ _. Unit {0}) result }
+    ensures { MatchResult result (λ _. every_fault every ≡ None)
+        (λ found. every_fault every ≡ Some found) }
 {
     if is_bad_every(every) {
         return Err(PlayFault::Every);

@@ -35,8 +35,7 @@ use std::alloc::{AllocError, Global};
 use std::io::{Read, Write};
 
 /// Checks a database and its bindings, and says so where they are a cave. What it writes is
-/// determined by its inputs: see `one_checked_output` in specs/OneOutput.antt, which has the same
-/// of other runs.
+/// determined by its inputs, as that of other runs: see `one_checked_output` in laws.rt.
 pub fn run_check<C: Read, B: Read, W: Write>(
     alloc: Global,
     cave: &mut CaveReaders<C, B>,
@@ -107,6 +106,9 @@ fn write<W: Write>(output: &mut W, text: &[u8]) -> Result<(), PlayFault>
     }
 }
 
+// A cave is let go by a call here, and not at the end of a block: the checker then goes through its
+// tables once, and not in each function that has a cave.
+
 /// What is said of a cave, from readers of the inputs.
 fn check_inputs<C: Read, B: Read>(
     alloc: Global,
@@ -119,7 +121,9 @@ fn check_inputs<C: Read, B: Read>(
         (λ text. IsChecked database bindings text.items) result }
 {
     let cave = read_cave(alloc, cave)?;
-    check_cave(alloc, &cave)
+    let text = check_cave(alloc, &cave);
+    drop(cave);
+    text
 }
 
 /// What is said of a cave.
@@ -150,7 +154,9 @@ fn play_inputs<C: Read, B: Read, L: Read>(
 {
     check_seed(seed)?;
     let cave = read_cave(alloc, cave)?;
-    play_in_cave(alloc, &cave, log, seed)
+    let text = play_in_cave(alloc, &cave, log, seed);
+    drop(cave);
+    text
 }
 
 /// The transcript of a log in a cave.
@@ -208,7 +214,9 @@ fn edit_inputs<C: Read, B: Read, L: Read, S: Read>(
     check_seed(editing.seed)?;
     check_every(editing.every)?;
     let cave = read_cave(alloc, cave)?;
-    edit_in_cave(alloc, &cave, log, script, editing)
+    let text = edit_in_cave(alloc, &cave, log, script, editing);
+    drop(cave);
+    text
 }
 
 /// What is asked for of a script in a cave.

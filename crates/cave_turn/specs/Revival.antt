@@ -43,7 +43,8 @@ layout_after_falls cave place zero o = o
 layout_after_falls cave place (suc n) o =
     layout_after_falls cave place n (layout_after_fall cave place (suc n) o)
 
--- all that was carried is where the player died
+-- all that was carried but the lamp is at the older place of the trail, which a death sets to where
+-- it leaves things, except a death at place 0
 unfoldable pub without_belongings : CaveView → State → State
 without_belongings cave s =
     with_objects (layout_after_falls cave s.trail.older 100 (layout_with_lamp_out cave s)) s

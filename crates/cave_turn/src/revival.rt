@@ -69,7 +69,8 @@ fn let_all_fall(rules: &Rules<'_>, place: Place, objects: &mut Objects)
     }
 }
 
-/// All that was carried is where the player died.
+/// What was carried is at the older place of the trail, which a death sets to where it leaves
+/// things, except a death at place 0; the lamp is where the game begins.
 #[tactic(auto, unfolding(crate::specs::Revival::without_belongings))]
 fn bereave(rules: &Rules<'_>, state: &mut State)
     ensures { state.new ≡ without_belongings (cave_of rules.now) state.old }

@@ -25,9 +25,11 @@ pub struct Trail {
 /// What the score and the closing of the cave depend on.
 #[derive(Clone, Copy, Debug, PartialEq, Eq)]
 pub struct Tallies {
-    /// The treasures that weren't seen yet.
+    /// The known treasures, less one for each that was described while its prop was below 0. Where
+    /// a rule gives one another prop before that, as a vase that breaks in the dark, it stays
+    /// counted.
     pub unseen: Count<30>,
-    /// Of those, the ones that can't be found any more.
+    /// How often a rule has said that a treasure is lost, whether or not one was.
     pub lost: Count<60000>,
     pub deaths: Count<3>,
 }

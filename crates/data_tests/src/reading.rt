@@ -13,7 +13,11 @@ pub fn read(alloc: Global, database: &[u8], bindings: &[u8]) -> Result<Cave, Cav
 /// Why the inputs are refused, and at which line; nothing where they are read.
 pub fn refusal(alloc: Global, database: &[u8], bindings: &[u8]) -> Option<(Cause, usize)> {
     match read(alloc, database, bindings) {
-        Ok(_) => None,
+        Ok(cave) => {
+            // By a call: the check goes through the tables of a cave in one place then.
+            drop(cave);
+            None
+        }
         Err(fault) => Some((fault.cause, fault.line)),
     }
 }

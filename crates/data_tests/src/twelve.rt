@@ -90,6 +90,7 @@ fn expect_twelve(rt: &impl Abort, cave: &Cave) {
 fn twelve_sections_are_read_through_each_getter(rt: HostRuntime) -> Result<(), Fail> {
     let cave = read(rt.alloc(), TWELVE, BINDINGS)?;
     expect_twelve(&rt, &cave);
+    drop(cave);
     Ok(())
 }
 
@@ -97,7 +98,10 @@ fn twelve_sections_are_read_through_each_getter(rt: HostRuntime) -> Result<(), F
 #[test]
 fn out_of_memory_is_told_at_no_line(rt: HostRuntime) {
     match read(rt.alloc(), TWELVE, BINDINGS) {
-        Ok(cave) => expect_twelve(&rt, &cave),
+        Ok(cave) => {
+            expect_twelve(&rt, &cave);
+            drop(cave);
+        }
         Err(fault) => assert_eq!(rt;
             fault,
             CaveError {

@@ -1,3 +1,4 @@
+pub mod AgreementLemmas
 pub mod Bounds
 pub mod Counting
 pub mod LogAfterLemmas
@@ -13,6 +14,7 @@ pub mod ReadyLemmas
 pub mod Revisions
 pub mod Shifts
 pub mod MarginLemmas
+pub mod TableLemmas
 pub mod TakeoverLemmas
 pub mod Traces
 pub mod Underways

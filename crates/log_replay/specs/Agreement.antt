@@ -1,8 +1,6 @@
 -- Where an old play and a new one agree, which checkpoint is met, and how much is replayed.
 use Rattle.std.specs.Prelude.{◌≡◌, ℕ, ◌+◌, ◌-◌, ◌*◌, ◌<◌, ◌≤◌, List, length, take}
 use Rattle.std.specs.Prelude.{Contains, Option, None, Some}
-use Rattle.std.proofs.Common.{inl, inr, arith}
-use Rattle.std.proofs.lemmas.Bool.{cases_lt}
 use Rattle.log_replay.specs.Machine.{MachineRules}
 use Rattle.log_replay.specs.Play.{Game, state_after}
 
@@ -76,20 +74,9 @@ pub record IsBounded {S T : Type 0} (rules : MachineRules S T) (old new : Game)
   pub end : steps ≤ (length new.log - head) + 2 * every
 
 -- so they are within the bound of the first agreement
-pub bounded_by_first : {S T : Type 0} (rules : MachineRules S T) (old new : Game)
-    (head tail every steps : ℕ)
+abbrev pub BoundedByFirst : Type 0 → Type 0 → Type 0
+BoundedByFirst S T =
+    (rules : MachineRules S T) (old new : Game) (head tail every steps : ℕ)
     → IsBounded rules old new head tail every steps
     → (agreement : ℕ) → IsAgreement rules old new tail agreement
     → steps ≤ (agreement - head) + 2 * every
-bounded_by_first rules old new head tail every steps bounded agreement is =
-    elim (cases_lt agreement (length new.log)) [
-      | inl before ↦
-          let found = is.agrees before in
-          let bound = bounded.agreement found.place found.agrees in
-          let same = found.agreement_is in
-          omega arith
-      | inr past ↦
-          let bound = bounded.end in
-          let short = is.short in
-          omega arith
-    ]

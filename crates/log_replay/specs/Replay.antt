@@ -4,6 +4,7 @@ use Rattle.std.specs.Prelude.{Option, None, MatchOption, take, drop, slice_index
 use Rattle.std.specs.Option.{option_map}
 use Rattle.replay_marks.specs.Marks.{MarksView, CheckpointsView, IsBegunAt}
 use Rattle.log_replay.specs.declared.replay.Rerun.{Rerun}
+use Rattle.log_replay.specs.declared.segment.Segment.{Segment}
 use Rattle.log_replay.specs.Machine.{MachineRules}
 use Rattle.log_replay.specs.Play.{Game, texts_of, ticks_of}
 use Rattle.log_replay.specs.Edit.{Change}
@@ -134,6 +135,46 @@ pub record AreFurther {State : Type 0} (old new : MarksView State) : Type 0 wher
   pub end : new.end ≡ old.end
   pub from : new.from ≡ old.from
   pub start : slice_index new.places 0 ≡ slice_index old.places 0
+
+-- a stretch of a play by what its pieces say
+pub record SegmentView (State T : Type 0) : Type 0 where
+  pub pieces : List T
+  pub ticks : List Bool
+  pub marks : MarksView State
+  pub met : Option ℕ
+
+abbrev pub segment_view : {Machine State Piece Meter T : Type 0}
+    → (Piece → T) → Segment Machine State Piece Meter → SegmentView State T
+segment_view text played = record {
+  pieces = map text played.pieces.items;
+  ticks = played.ticked.items;
+  marks = played.marks;
+  met = played.met;
+}
+
+-- The new game was played from the open place of the marks `begun` on, until it met the old play
+-- at a checkpoint, or to its end.
+pub record IsPlayed {State S T : Type 0} (meaning : State → S) (is_state : State → Type 0)
+    (revision : Revision S T) (checkpoints : List ℕ) (begun : MarksView State)
+    (played : SegmentView State T) : Type 0 where
+  pub texts : SaysNew revision begun.next played.pieces played.marks.next
+  pub ticks_are : TicksNew revision begun.next played.ticks played.marks.next
+  pub marking : IsMarking meaning is_state (states_of_new revision) played.marks
+  pub settings : AreFurther begun played.marks
+  pub forward : begun.next ≤ played.marks.next
+  pub inside : played.marks.next ≤ begun.end
+  pub met_is : HasMet revision checkpoints played.marks.next begun.end played.met
+  pub none_before : NoneMetBefore revision checkpoints played.marks.next
+
+-- The marks of a new game are where its replay may begin: at most one distance of checkpoints
+-- before the first line that edits change.
+pub record IsBeforeChange {State S T : Type 0} (revision : Revision S T) (every : ℕ)
+    (marks : MarksView State) : Type 0 where
+  pub end : marks.end ≡ length revision.new.log
+  pub every_is : marks.every ≡ every
+  pub apart : 0 < marks.every
+  pub from : marks.next ≤ revision.head
+  pub near : revision.head ≤ marks.next + marks.every
 
 -- The checkpoint of an index comes to a new place, as `old` comes to `new`; `old_at` and `new_at`
 -- give the states of the old play and of the new one, which agree there.

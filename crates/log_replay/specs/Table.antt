@@ -1,15 +1,8 @@
 -- What one change leaves alone of a log, by its kind.
-use Rattle.std.proofs.Common.{refl, arith}
-use Rattle.std.proofs.lemmas.Bool.{ltb-false, leb-false}
-use Rattle.std.proofs.lemmas.List.{length-set}
-use Rattle.std.proofs.lemmas.List.Edits.{length-insert, length-remove}
-use Rattle.std.specs.Prelude.{◌≡◌, ℕ, ◌+◌, ◌-◌, ◌<◌, ◌≤◌, Bool, true, false, nat_lt, nat_le}
-use Rattle.std.specs.Prelude.{[], ◌∷◌, length, Option, Some, None, if◌then◌else◌}
-use Rattle.log_replay.specs.declared.fault.EditFault.{EditFault}
-use Rattle.log_replay.specs.declared.fault.EditFault.TheVariants.{NoSuchPlace}
+use Rattle.std.specs.Prelude.{◌≡◌, ℕ, ◌+◌, ◌-◌, ◌≤◌, [], ◌∷◌, length, None}
 use Rattle.log_replay.specs.Play.{Game}
 use Rattle.log_replay.specs.Edit.{Change, inserts, deletes, replaces, reseeds, apply}
-use Rattle.log_replay.specs.Faults.{fault_of, added_fault, replaced_fault}
+use Rattle.log_replay.specs.Faults.{fault_of}
 use Rattle.log_replay.specs.Margins.{margins_of}
 use Rattle.log_replay.specs.Agreement.{image}
 
@@ -41,45 +34,7 @@ pub record IsByTable (change : Change) (game : Game) : Type 0 where
   pub moved : (place : ℕ) → rest_from change ≤ place → place ≤ length game.log
       → image game (apply change game) place ≡ place_after change place
 
--- a change that meets no fault of its place has that place in the log
-no_fault : (test : Bool) (rest : Option EditFault)
-    → (if test then Some NoSuchPlace else rest) ≡ None → test ≡ false
-no_fault true rest free = cc
-no_fault false rest free = refl
-
 -- so it is of every change that meets no fault
-pub by_table : (change : Change) (game : Game) → fault_of change game.log ≡ None
-    → IsByTable change game
-by_table (inserts at line) game free =
-    let here : at ≤ length game.log =
-    ltb-false _ _ (no_fault (nat_lt (length game.log) at) (added_fault line game.log) free) in
-    let longer = length-insert game.log at line here in
-    record {
-      first = omega arith;
-      rest = omega arith;
-      moved = λ place from within. omega (arith, longer);
-    }
-by_table (deletes at) game free =
-    let here : at < length game.log =
-    leb-false _ _ (no_fault (nat_le (length game.log) at) None free) in
-    let shorter = length-remove game.log at here in
-    record {
-      first = omega arith;
-      rest = omega arith;
-      moved = λ place from within. omega (arith, shorter);
-    }
-by_table (replaces at line) game free =
-    let here : at < length game.log =
-    leb-false _ _ (no_fault (nat_le (length game.log) at) (replaced_fault line) free) in
-    let same = length-set game.log at line in
-    record {
-      first = omega arith;
-      rest = omega arith;
-      moved = λ place from within. omega (arith, same);
-    }
-by_table (reseeds seed) game free =
-    record {
-      first = omega arith;
-      rest = omega arith;
-      moved = λ place from within. omega arith;
-    }
+abbrev pub ByTable : Type 0
+ByTable =
+    (change : Change) (game : Game) → fault_of change game.log ≡ None → IsByTable change game

@@ -1,4 +1,8 @@
+ghost use Rattle.std.specs.Prelude.{◌≡◌};
+ghost use Rattle.log_replay.specs.declared.fault.EditFault.TheVariants.{Memory};
+
 use log_lines::LineFlaw;
+use std::alloc::AllocError;
 use std::fmt;
 use thiserror::Error;
 
@@ -60,10 +64,13 @@ impl fmt::Display for GroupFault {
 
 impl std::error::Error for GroupFault {}
 
-impl GroupFault {
-    /// Memory ran out.
-    pub(crate) const MEMORY: GroupFault = GroupFault {
-        cause: EditFault::Memory,
-        at: 0,
-    };
+impl From<AllocError> for GroupFault {
+    ghost from_gives = { λ _ fault. fault ≡ record { cause = Memory; at = 0 } };
+
+    fn from(_: AllocError) -> GroupFault {
+        GroupFault {
+            cause: EditFault::Memory,
+            at: 0,
+        }
+    }
 }

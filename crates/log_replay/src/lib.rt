@@ -4,6 +4,7 @@
 mod copies;
 pub mod edit;
 pub mod fault;
+pub mod laws;
 mod log;
 pub mod machine;
 mod margins;

@@ -46,14 +46,8 @@ pub(crate) fn prepare(
     ensures room { IfOk result (λ ready. length (log_after_edits ready (log_of log.now)) ≤ left) }
     ensures faults { IsAnswerTo (group_fault (changes_of edits.now) (log_of log.now) left) result }
 {
-    let plan = match plan_group(edits, log.len(), left) {
-        Ok(plan) => plan,
-        Err(fault) => return Err(fault),
-    };
-    let Ok(ready) = make_ready(alloc, edits, log.len(), seed, plan) else {
-        return Err(GroupFault::MEMORY);
-    };
-    Ok(ready)
+    let plan = plan_group(edits, log.len(), left)?;
+    Ok(make_ready(alloc, edits, log.len(), seed, plan)?)
 }
 
 /// The edits of a log of `lines` lines, which were planned, made ready.

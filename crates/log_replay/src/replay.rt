@@ -58,10 +58,7 @@ pub(crate) fn edit_kept<M: Machine>(
         AreStepsBounded (M.rules machine.now) changes game kept.old.checkpoints.every fault
         (M.Meter.count meter.old) (M.Meter.count meter.new) }
 {
-    let rerun = match replay(alloc, machine, kept, edits, meter) {
-        Ok(rerun) => rerun,
-        Err(fault) => return Err(fault),
-    };
+    let rerun = replay(alloc, machine, kept, edits, meter)?;
     let Rerun {
         ready,
         opening,
@@ -69,9 +66,7 @@ pub(crate) fn edit_kept<M: Machine>(
         at,
     } = rerun;
     let from = kept.checkpoints.places()[at];
-    if make_room(kept, &ready, &played, at).is_err() {
-        return Err(GroupFault::MEMORY);
-    }
+    make_room(kept, &ready, &played, at)?;
     let end = played.marks.next();
     let met = met_place(played.met, end);
     let inverse = take_over(kept, ready, opening, played, at);
@@ -126,19 +121,11 @@ fn replay<M: Machine>(
         checkpoints: &kept.checkpoints,
     };
     let left = meter.left();
-    let ready = match prepare(alloc, old.seed, old.log, edits, left) {
-        Ok(ready) => ready,
-        Err(fault) => return Err(fault),
-    };
+    let ready = prepare(alloc, old.seed, old.log, edits, left)?;
     let at = last_to(kept.checkpoints.places(), ready.head as u32);
     let end = ready.lines as u32;
-    let Ok(start) = begin(alloc, machine, &old, ready.seed, at, end) else {
-        return Err(GroupFault::MEMORY);
-    };
-    let ReplayStart { opening, marks } = start;
-    let Ok(played) = play_changed(alloc, machine, &old, &ready, marks, meter) else {
-        return Err(GroupFault::MEMORY);
-    };
+    let ReplayStart { opening, marks } = begin(alloc, machine, &old, ready.seed, at, end)?;
+    let played = play_changed(alloc, machine, &old, &ready, marks, meter)?;
     Ok(Rerun {
         ready,
         opening,

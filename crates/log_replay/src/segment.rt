@@ -4,9 +4,8 @@ ghost use Rattle.log_lines.specs.Line.{is_line};
 ghost use Rattle.log_replay.specs.Play.{log_of};
 ghost use Rattle.log_replay.specs.ReadyEdits.{log_after_edits, ready_revision, IsReady};
 ghost use Rattle.log_replay.specs.Replay.{AreStates, IsMarking, MarksGoOn, AreFurther};
-ghost use Rattle.log_replay.specs.Replay.{IsNextIndex, SaysNew, TicksNew};
-ghost use Rattle.log_replay.specs.Replay.{states_of_old, states_of_new};
-ghost use Rattle.log_replay.specs.Replay.{HasMet, NoneMetBefore, IsWithinBound};
+ghost use Rattle.log_replay.specs.Replay.{IsBeforeChange, IsNextIndex, IsPlayed, IsWithinBound};
+ghost use Rattle.log_replay.specs.Replay.{segment_view, states_of_old, states_of_new};
 ghost use Rattle.log_replay.specs.Report.{RisesByAtMost};
 ghost use Rattle.limits.specs.Limits.{max_log_lines};
 
@@ -52,30 +51,13 @@ pub(crate) fn play_changed<M: Machine>(
         old.now.checkpoints.now.states }
     requires marking { let revision = ready_revision (M.rules machine.now) old.now ready.now in
         IsMarking M.meaning M.is_state (states_of_new revision) marks }
-    requires end { marks.end ≡ length (log_after_edits ready.now (log_of old.now.log.now)) }
-    requires every { marks.every ≡ old.now.checkpoints.now.every }
-    requires apart { 0 < marks.every }
-    requires from { marks.next ≤ ready.now.head }
-    requires near { ready.now.head ≤ marks.next + marks.every }
+    requires before { let revision = ready_revision (M.rules machine.now) old.now ready.now in
+        IsBeforeChange revision old.now.checkpoints.now.every marks }
     requires room { let new = log_after_edits ready.now (log_of old.now.log.now) in
         M.Meter.count meter.old + length new < 2 ^ 64 }
-    ensures texts { let revision = ready_revision (M.rules machine.now) old.now ready.now in
-        IfOk result (λ played.
-        SaysNew revision marks.next (map M.text played.pieces.items) played.marks.next) }
-    ensures ticks { let revision = ready_revision (M.rules machine.now) old.now ready.now in
-        IfOk result (λ played. TicksNew revision marks.next played.ticked.items played.marks.next) }
-    ensures marking { let revision = ready_revision (M.rules machine.now) old.now ready.now in
-        IfOk result (λ played.
-        IsMarking M.meaning M.is_state (states_of_new revision) played.marks) }
-    ensures settings { IfOk result (λ played. AreFurther marks played.marks) }
-    ensures forward { IfOk result (λ played. marks.next ≤ played.marks.next) }
-    ensures inside { IfOk result (λ played. played.marks.next ≤ marks.end) }
-    ensures met { let revision = ready_revision (M.rules machine.now) old.now ready.now in
-        IfOk result (λ played.
-        HasMet revision old.now.checkpoints.now.places played.marks.next marks.end played.met) }
-    ensures none { let revision = ready_revision (M.rules machine.now) old.now ready.now in
-        IfOk result (λ played.
-        NoneMetBefore revision old.now.checkpoints.now.places played.marks.next) }
+    ensures played { let revision = ready_revision (M.rules machine.now) old.now ready.now in
+        IfOk result (λ played. let view = segment_view M.text played in
+        IsPlayed M.meaning M.is_state revision old.now.checkpoints.now.places marks view) }
     ensures steps { IfOk result (λ played. M.Meter.count meter.new + marks.next
         ≡ M.Meter.count meter.old + played.marks.next) }
     ensures counted { M.Meter.count meter.old ≤ M.Meter.count meter.new }

@@ -130,7 +130,7 @@ impl<M: Machine> Session<M> {
     }
 
     /// Edits the held game, and plays it. It is the group of this edit alone. What such a group
-    /// leaves alone, by the kind of its edit, is in `by_table` of specs/Table.antt.
+    /// leaves alone, by the kind of its edit, is in `by_table` of laws.rt.
     pub fn edit(&mut self, edit: &Edit, meter: &mut M::Meter) -> Result<Report, EditFault>
         ensures game { OnOk result (self.new.game ≡ apply (change_of edit.now) self.old.game) }
         ensures kept { OnOk result (KeepsSettings self.old self.new) }

@@ -22,6 +22,7 @@ pub(crate) fn show_the_same_game<R: RowRule>(
         && one.lines() == other.lines()
         && one.opening() == other.opening()
         && one.number() == other.number()
+        && one.has_tick_counts_of(other)
         && show_the_same_rows(one, other)
 }
 

@@ -7,6 +7,9 @@ use std::alloc::{AllocError, Global};
 pub(crate) const STAIRS: &[u8] =
     b"a\naa\naaa\naaaa\naaaaa\naaaaaa\naaaaaaa\naaaaaaaa\naaaaaaaaa\naaaaaaaaaa\n";
 
+/// A log of five lines.
+pub(crate) const FIVE: &[u8] = b"no\nin\ntake lamp\non\ndown\n";
+
 /// A line of so many letters.
 pub(crate) fn letters(alloc: Global, count: u32) -> Result<Vec<u8>, AllocError> {
     let mut line = Vec::new(alloc);
@@ -21,6 +24,17 @@ pub(crate) fn flat(alloc: Global, lines: u32) -> Result<Vec<u8>, AllocError> {
     let mut log = Vec::new(alloc);
     for _ in 0..lines {
         log.extend_from_slice(b"a\n")?;
+    }
+    Ok(log)
+}
+
+/// A log of so many lines, the line of the place i of i + 1 letters.
+pub(crate) fn stairs(alloc: Global, lines: u32) -> Result<Vec<u8>, AllocError> {
+    let mut log = Vec::new(alloc);
+    for place in 0..lines {
+        let line = letters(alloc, place.saturating_add(1))?;
+        log.extend_from_slice(&line)?;
+        log.push(b'\n')?;
     }
     Ok(log)
 }

@@ -1,7 +1,7 @@
 //! Small games, and edits of them whose replays were worked out by hand.
 
 use crate::display::show_the_same;
-use crate::edits::{LineChange, STAIRS, edits_of};
+use crate::edits::{FIVE, LineChange, STAIRS, edits_of, stairs};
 use crate::machines::counter::Counter;
 use crate::machines::counts::Counts;
 use crate::machines::hasher::Hasher;
@@ -138,6 +138,37 @@ fn an_edit_of_each_kind_is_replayed_and_taken_back(rt: HostRuntime) -> Result<()
     edit_stairs(&rt, rt.alloc(), &mut session, &counts)
 }
 
+/// Replaces the sixth of forty stairs, where checkpoints are at most four lines apart. The two
+/// plays agree again from the eighth line on, and a checkpoint isn't far from there.
+fn replace_a_stair_of_forty(
+    rt: &impl Abort,
+    alloc: Global,
+    session: &mut Counting<'_>,
+) -> Result<(), Fail> {
+    let edit = LineChange::Replace(5, b"aaaa").edit(alloc)?;
+    let report = session.edit(&edit, &mut Meter::new())?;
+    assert!(rt; matches!(report.from, 2..=5));
+    assert!(rt; matches!(report.met, Some(7..=10)));
+    assert!(rt; report.played <= 8);
+    assert_eq!(rt; session.number(), 40);
+    Ok(())
+}
+
+#[test]
+fn checkpoints_four_lines_apart_keep_a_replay_short(rt: HostRuntime) -> Result<(), Fail> {
+    let counts = Counts::new();
+    let log = stairs(rt.alloc(), 40)?;
+    let mut session = TestSession::open(
+        rt.alloc(),
+        Told::new(Counter, &counts),
+        0,
+        &log,
+        4,
+        &mut Meter::new(),
+    )?;
+    replace_a_stair_of_forty(&rt, rt.alloc(), &mut session)
+}
+
 /// Puts a line before the third of five and takes that one out, as one group, which is then taken
 /// back.
 fn edit_by_group<R: RowRule>(
@@ -165,12 +196,11 @@ fn edit_five_by_group<R: RowRule>(
     wanted: ReplayCase,
 ) -> Result<(), Fail> {
     let counts = Counts::new();
-    let log = b"no\nin\ntake lamp\non\ndown\n";
     let mut session = TestSession::open(
         alloc,
         Told::new(rule, &counts),
         0,
-        log,
+        FIVE,
         1,
         &mut Meter::new(),
     )?;

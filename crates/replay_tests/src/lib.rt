@@ -18,6 +18,8 @@ mod games;
 #[cfg(test)]
 mod machines;
 #[cfg(test)]
+mod meters;
+#[cfg(test)]
 mod play;
 #[cfg(test)]
 mod random;

@@ -122,6 +122,11 @@ impl<'a, R: RowRule> TestSession<'a, R> {
         }
     }
 
+    /// Whether as many lines ticked in another session, up to each line and with it.
+    pub(crate) fn has_tick_counts_of(&self, other: &TestSession<'_, R>) -> bool {
+        self.session.tick_counts().eq(other.session.tick_counts())
+    }
+
     /// How many lines ticked up to each line and with it.
     pub(crate) fn tick_counts(&self, alloc: Global) -> Result<Vec<u32>, AllocError> {
         let mut counts = Vec::new(alloc);

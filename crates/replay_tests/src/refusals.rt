@@ -1,7 +1,8 @@
 //! Calls whose memory is refused.
 //!
 //! Each of these holds whatever one allocation is refused, and shows then that the answer is out of
-//! memory, that nothing has changed, and that the same call succeeds with ample memory.
+//! memory, that nothing has changed, and that the same call succeeds with ample memory: an edit
+//! with the report that it has in a session to which nothing happened.
 
 use crate::display::show_the_same;
 use crate::edits::{LineChange, STAIRS, edits_of};
@@ -10,7 +11,7 @@ use crate::machines::counts::Counts;
 use crate::machines::told::Told;
 use crate::play::{Counting, TestSession};
 use log_lines::Meter;
-use log_replay::{Edit, EditFault, GroupFault, OpenFault};
+use log_replay::{Edit, EditFault, GroupReport, OpenFault, Report};
 use std::alloc::{AllocError, Global};
 use std::process::Abort;
 use std::test::Fail;
@@ -61,48 +62,69 @@ fn edits_at_last(alloc: Global, changes: &[LineChange<'_>]) -> Result<Vec<Edit>,
     }
 }
 
+/// A report as text.
+fn shown(alloc: Global, report: &Report) -> Result<String, AllocError> {
+    format!(in alloc; "{report:?}")
+}
+
+/// The report of a group as text.
+fn group_shown(alloc: Global, report: &GroupReport) -> Result<String, AllocError> {
+    format!(in alloc; "{report:?}")
+}
+
 /// Makes an edit, and where memory is refused once more. The refused one leaves the session as it
-/// was.
+/// was, and the later one has the report that it has in a session to which nothing happened.
 fn edit(
     rt: &impl Abort,
+    alloc: Global,
     session: &mut Counting<'_>,
-    old: &Counting<'_>,
+    untouched: &mut Counting<'_>,
     edit: &Edit,
-) -> Result<(), EditFault> {
-    if let Err(fault) = session.edit(edit, &mut Meter::new()) {
-        assert_eq!(rt; fault, EditFault::Memory);
-        assert!(rt; show_the_same(session, old), "{edit:?}");
-        let _ = session.edit(edit, &mut Meter::new())?;
-    }
+) -> Result<(), Fail> {
+    let Err(fault) = session.edit(edit, &mut Meter::new()) else {
+        return Ok(());
+    };
+    assert_eq!(rt; fault, EditFault::Memory);
+    assert!(rt; show_the_same(session, untouched), "{edit:?}");
+    let later = shown(alloc, &session.edit(edit, &mut Meter::new())?)?;
+    let wanted = shown(alloc, &untouched.edit(edit, &mut Meter::new())?)?;
+    assert_eq!(rt; later.as_str(), wanted.as_str());
+    assert!(rt; show_the_same(session, untouched));
     Ok(())
 }
 
 /// The same of a group.
 fn edit_group(
     rt: &impl Abort,
+    alloc: Global,
     session: &mut Counting<'_>,
-    old: &Counting<'_>,
+    untouched: &mut Counting<'_>,
     edits: &[Edit],
-) -> Result<(), GroupFault> {
-    if let Err(fault) = session.edit_group(rt, edits, &mut Meter::new()) {
-        assert_eq!(rt; fault.cause, EditFault::Memory);
-        assert_eq!(rt; fault.at, 0);
-        assert!(rt; show_the_same(session, old));
-        let _ = session.edit_group(rt, edits, &mut Meter::new())?;
-    }
+) -> Result<(), Fail> {
+    let Err(fault) = session.edit_group(rt, edits, &mut Meter::new()) else {
+        return Ok(());
+    };
+    assert_eq!(rt; fault.cause, EditFault::Memory);
+    assert_eq!(rt; fault.at, 0);
+    assert!(rt; show_the_same(session, untouched));
+    let later = group_shown(alloc, &session.edit_group(rt, edits, &mut Meter::new())?)?;
+    let wanted = group_shown(alloc, &untouched.edit_group(rt, edits, &mut Meter::new())?)?;
+    assert_eq!(rt; later.as_str(), wanted.as_str());
+    assert!(rt; show_the_same(session, untouched));
     Ok(())
 }
 
 /// Makes each of the edits.
 fn edit_each<'a>(
     rt: &impl Abort,
+    alloc: Global,
     session: &mut Counting<'a>,
     counts: &'a Counts,
     edits: &[Edit],
 ) -> Result<(), Fail> {
     for each in edits {
-        let old = copy(session, counts)?;
-        edit(rt, session, &old, each)?;
+        let mut untouched = copy(session, counts)?;
+        edit(rt, alloc, session, &mut untouched, each)?;
     }
     Ok(())
 }
@@ -123,7 +145,7 @@ fn edit_at_each_place(rt: &impl Abort, alloc: Global, every: u32) -> Result<(), 
     let counts = Counts::new();
     let mut session = open(rt, alloc, &counts, every)?;
     for at in [0, 4, 5, 10] {
-        edit_each(rt, &mut session, &counts, &edits_at(alloc, at)?)?;
+        edit_each(rt, alloc, &mut session, &counts, &edits_at(alloc, at)?)?;
     }
     Ok(())
 }
@@ -156,9 +178,9 @@ fn a_refused_edit_changes_nothing(rt: HostRuntime) -> Result<(), Fail> {
 fn edit_group_at(rt: &impl Abort, alloc: Global, every: u32, at: u32) -> Result<(), Fail> {
     let counts = Counts::new();
     let mut session = open(rt, alloc, &counts, every)?;
-    let old = copy(&session, &counts)?;
-    edit_group(rt, &mut session, &old, &edits_at(alloc, at)?)?;
-    Ok(())
+    let mut untouched = copy(&session, &counts)?;
+    let edits = edits_at(alloc, at)?;
+    edit_group(rt, alloc, &mut session, &mut untouched, &edits)
 }
 
 #[test]

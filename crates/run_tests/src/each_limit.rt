@@ -1,7 +1,7 @@
 //! How much the inputs of a run may have.
 
 use crate::caves::{CAVE, LONG_LOG, LONG_TEXT};
-use crate::runs::{Feeds, INPUTS, RunKind, edit, play};
+use crate::runs::{Changing, Feeds, INPUTS, Playing, Run, edit, play};
 use crate::streams::Source;
 use cave_play::fault::{Input, LogFault, PlayFault, ScriptFault};
 use cave_rows::{Cause, CaveError, FaultSite};
@@ -30,7 +30,7 @@ fn too_large(input: Input) -> PlayFault {
 fn a_reader_without_end_is_asked_for_one_byte_too_many(rt: HostRuntime) {
     for input in INPUTS {
         let mut feeds = Feeds::with(input, Source::endless());
-        let run = feeds.run(RunKind::Edit, rt.alloc());
+        let run = feeds.run::<Changing>(rt.alloc());
         assert!(rt; run.failed(too_large(input)), "{input:?}");
         assert_eq!(rt; feeds.asks(input), 1_048_577);
     }
@@ -50,7 +50,7 @@ fn inputs_of_the_greatest_size_are_read(rt: HostRuntime) -> Result<(), Fail> {
     let cave = filled(rt.alloc(), CAVE, MAX_INPUT_BYTES)?;
     let comments = filled(rt.alloc(), b"", MAX_INPUT_BYTES)?;
     let mut feeds = Feeds::of(&cave, &comments, &comments, &comments);
-    let run = feeds.run(RunKind::Edit, rt.alloc());
+    let run = feeds.run::<Changing>(rt.alloc());
     assert!(rt; run.wrote(b"[welcome]\n-- score 32 of 132, turns 0\n"));
     Ok(())
 }
@@ -90,16 +90,13 @@ fn a_line_of_a_log_has_at_most_255_bytes(rt: HostRuntime) -> Result<(), Fail> {
     Ok(())
 }
 
+/// A seed and a distance of checkpoints, and why a run with them is refused.
+type Numbers = (u32, u32, Option<PlayFault>);
+
 /// Expects a run with these numbers to end so. Where it is refused, no reader is asked, though each
 /// would fail.
-fn expect_end(
-    rt: &impl Abort,
-    alloc: Global,
-    command: RunKind,
-    seed: u32,
-    every: u32,
-    fault: Option<PlayFault>,
-) {
+fn expect_end<R: Run>(rt: &impl Abort, alloc: Global, numbers: Numbers) {
+    let (seed, every, fault) = numbers;
     let mut feeds = Feeds::usual();
     feeds.seed = seed;
     feeds.every = every;
@@ -108,7 +105,7 @@ fn expect_end(
             feeds.put(input, Source::broken());
         }
     }
-    assert_eq!(rt; feeds.run(command, alloc).ended.err(), fault);
+    assert_eq!(rt; feeds.run::<R>(alloc).ended.err(), fault);
     if fault.is_some() {
         for input in INPUTS {
             assert_eq!(rt; feeds.asks(input), 0, "{input:?}");
@@ -116,19 +113,24 @@ fn expect_end(
     }
 }
 
-/// Numbers of a run, and why it is refused.
-const NUMBERS: [(RunKind, u32, u32, Option<PlayFault>); 6] = [
-    (RunKind::Play, 2_147_483_647, 1, None),
-    (RunKind::Play, 2_147_483_648, 1, Some(PlayFault::Seed)),
-    (RunKind::Edit, 2_147_483_647, 10_000, None),
-    (RunKind::Edit, 2_147_483_648, 0, Some(PlayFault::Seed)),
-    (RunKind::Edit, 0, 0, Some(PlayFault::Every)),
-    (RunKind::Edit, 0, 10_001, Some(PlayFault::Every)),
+const PLAYED: [Numbers; 2] = [
+    (2_147_483_647, 1, None),
+    (2_147_483_648, 1, Some(PlayFault::Seed)),
+];
+
+const EDITED: [Numbers; 4] = [
+    (2_147_483_647, 10_000, None),
+    (2_147_483_648, 0, Some(PlayFault::Seed)),
+    (0, 0, Some(PlayFault::Every)),
+    (0, 10_001, Some(PlayFault::Every)),
 ];
 
 #[test]
 fn numbers_have_limits_and_are_judged_before_any_reader_is_asked(rt: HostRuntime) {
-    for &(command, seed, every, fault) in &NUMBERS {
-        expect_end(&rt, rt.alloc(), command, seed, every, fault);
+    for &numbers in &PLAYED {
+        expect_end::<Playing>(&rt, rt.alloc(), numbers);
+    }
+    for &numbers in &EDITED {
+        expect_end::<Changing>(&rt, rt.alloc(), numbers);
     }
 }

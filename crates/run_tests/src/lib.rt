@@ -4,15 +4,21 @@
 #[cfg(test)]
 mod caves;
 #[cfg(test)]
+mod cover;
+#[cfg(test)]
 mod each_limit;
 #[cfg(test)]
 mod endings;
 #[cfg(test)]
 mod faults;
 #[cfg(test)]
+mod games;
+#[cfg(test)]
 mod memory;
 #[cfg(test)]
 mod readers;
+#[cfg(test)]
+mod refusals;
 #[cfg(test)]
 mod runs;
 #[cfg(test)]

@@ -1,7 +1,7 @@
 //! Runs whose allocations are refused: `bench/refuse` refuses each in turn, and the gate none.
 
 use crate::caves::LONG_TEXT;
-use crate::runs::{EDITED_TEXT, Feeds, RunKind};
+use crate::runs::{CHECKED_TEXT, Changing, Checking, EDITED_TEXT, Feeds, Playing, Run};
 use crate::streams::Sink;
 use cave_play::fault::PlayFault;
 use edit_options::View;
@@ -18,19 +18,13 @@ from the start it would have been 11\n";
 
 /// Does a run into a writer that needs no memory any more, so that where memory runs out, it is the
 /// run's own.
-fn expect_all_or_out_of_memory(
-    rt: &impl Abort,
-    alloc: Global,
-    command: RunKind,
-    view: View,
-    all: &str,
-) {
+fn expect_all_or_out_of_memory<R: Run>(rt: &impl Abort, alloc: Global, view: View, all: &str) {
     let Ok(mut sink) = Sink::with_room(alloc, 4_096) else {
         return;
     };
     let mut feeds = Feeds::usual();
     feeds.view = view;
-    match feeds.run_into(command, alloc, &mut sink) {
+    match R::run_into(&mut feeds, alloc, &mut sink) {
         Ok(()) => assert_eq!(rt; sink.taken.as_slice(), all.as_bytes()),
         Err(fault) => {
             assert_eq!(rt; fault, PlayFault::Memory);
@@ -43,9 +37,9 @@ fn expect_all_or_out_of_memory(
 #[test]
 fn out_of_memory_writes_nothing(rt: HostRuntime) {
     let (alloc, shown) = (rt.alloc(), View::Transcript);
-    expect_all_or_out_of_memory(&rt, alloc, RunKind::Check, shown, "cave ok, maximum 132\n");
-    expect_all_or_out_of_memory(&rt, alloc, RunKind::Play, shown, LONG_TEXT);
-    expect_all_or_out_of_memory(&rt, alloc, RunKind::Edit, shown, EDITED_TEXT);
-    expect_all_or_out_of_memory(&rt, alloc, RunKind::Edit, View::Log, EDITED_LOG);
-    expect_all_or_out_of_memory(&rt, alloc, RunKind::Edit, View::Reports, REPORTS);
+    expect_all_or_out_of_memory::<Checking>(&rt, alloc, shown, CHECKED_TEXT);
+    expect_all_or_out_of_memory::<Playing>(&rt, alloc, shown, LONG_TEXT);
+    expect_all_or_out_of_memory::<Changing>(&rt, alloc, shown, EDITED_TEXT);
+    expect_all_or_out_of_memory::<Changing>(&rt, alloc, View::Log, EDITED_LOG);
+    expect_all_or_out_of_memory::<Changing>(&rt, alloc, View::Reports, REPORTS);
 }

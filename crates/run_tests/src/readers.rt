@@ -1,7 +1,7 @@
 //! Runs whose readers fail, and the order in which inputs are read and judged.
 
 use crate::caves::{CAVE, LONG_LOG, LONG_TEXT};
-use crate::runs::{Feeds, INPUTS, RunKind};
+use crate::runs::{Changing, Checking, Feeds, INPUTS, Playing, Run};
 use crate::streams::Source;
 use cave_play::fault::{Input, LogFault, PlayFault, ScriptFault};
 use cave_rows::{Cause, CaveError, FaultSite};
@@ -13,7 +13,7 @@ use std::test::Fail;
 
 /// Expects the reader of an input that fails at one of its asks to be named, and no later reader to
 /// be asked.
-fn expect_named(rt: &impl Abort, alloc: Global, command: RunKind, number: usize, failing: u64) {
+fn expect_named<R: Run>(rt: &impl Abort, alloc: Global, number: usize, failing: u64) {
     let Some(&input) = INPUTS.get(number) else {
         return;
     };
@@ -23,7 +23,7 @@ fn expect_named(rt: &impl Abort, alloc: Global, command: RunKind, number: usize,
     for later in INPUTS.iter().skip(number).skip(1) {
         feeds.put(*later, Source::broken());
     }
-    let run = feeds.run(command, alloc);
+    let run = feeds.run::<R>(alloc);
     assert!(rt; run.failed(PlayFault::Read(input)), "{input:?}");
     assert_eq!(rt; feeds.asks(input), failing);
     for later in INPUTS.iter().skip(number).skip(1) {
@@ -31,14 +31,19 @@ fn expect_named(rt: &impl Abort, alloc: Global, command: RunKind, number: usize,
     }
 }
 
+/// Expects so of each of the inputs of a run, of which there are so many.
+fn expect_each_named<R: Run>(rt: &impl Abort, alloc: Global, inputs: usize) {
+    for number in 0..inputs {
+        expect_named::<R>(rt, alloc, number, 1);
+        expect_named::<R>(rt, alloc, number, 3);
+    }
+}
+
 #[test]
 fn the_first_reader_that_fails_is_named_and_no_later_one_is_asked(rt: HostRuntime) {
-    for (command, count) in [(RunKind::Check, 2), (RunKind::Play, 3), (RunKind::Edit, 4)] {
-        for number in 0..count {
-            expect_named(&rt, rt.alloc(), command, number, 1);
-            expect_named(&rt, rt.alloc(), command, number, 3);
-        }
-    }
+    expect_each_named::<Checking>(&rt, rt.alloc(), 2);
+    expect_each_named::<Playing>(&rt, rt.alloc(), 3);
+    expect_each_named::<Changing>(&rt, rt.alloc(), 4);
 }
 
 /// An input that is refused, an input whose reader fails, and what is then printed of an edit.
@@ -90,7 +95,7 @@ fn an_input_is_judged_before_the_next_is_read(rt: HostRuntime) {
         feeds.put(broken, Source::broken());
         feeds.put(input, Source::of(bytes));
         assert!(rt;
-            feeds.run(RunKind::Edit, rt.alloc()).failed(fault),
+            feeds.run::<Changing>(rt.alloc()).failed(fault),
             "{fault:?}"
         );
     }
@@ -104,7 +109,7 @@ fn readers_that_give_one_byte_at_a_time_give_all(rt: HostRuntime) -> Result<(), 
     feeds.log.piece = 1;
     feeds.script.piece = 1;
     let want = format!(in rt.alloc(); "line 1: ok\n{LONG_TEXT}")?;
-    assert!(rt; feeds.run(RunKind::Edit, rt.alloc()).wrote(want.as_bytes()));
+    assert!(rt; feeds.run::<Changing>(rt.alloc()).wrote(want.as_bytes()));
     assert_eq!(rt; feeds.script.asks, 17);
     Ok(())
 }

@@ -10,18 +10,28 @@ use std::alloc::Global;
 use std::io::{Read, Write};
 
 /// What the program can be asked to do.
-#[derive(Clone, Copy, Debug)]
-pub enum RunKind {
-    Check,
-    Play,
-    Edit,
+pub trait Run {
+    /// Does it over the inputs, into a sink.
+    fn run_into(feeds: &mut Feeds<'_>, alloc: Global, sink: &mut Sink) -> Result<(), PlayFault>;
 }
+
+/// Checking the cave.
+pub struct Checking;
+
+/// Playing the log.
+pub struct Playing;
+
+/// Editing the log by the script.
+pub struct Changing;
 
 /// Each input, in the order in which they are read.
 pub const INPUTS: [Input; 4] = [Input::Cave, Input::Bindings, Input::Log, Input::Script];
 
 /// A script of an edit, a refused one and a group.
 pub const SCRIPT: &[u8] = b"insert 2 # note\ndelete 9\nbegin\nreplace 1 IN\ndelete 3\nend\n";
+
+/// What a check of the cave prints.
+pub const CHECKED_TEXT: &str = "cave ok, maximum 132\n";
 
 /// What an edit of the long log by that script prints.
 pub const EDITED_TEXT: &str = "line 1: ok\nline 2: refused 1\nline 3: ok\n[welcome]\n\n\
@@ -30,12 +40,12 @@ pub const EDITED_TEXT: &str = "line 1: ok\nline 2: refused 1\nline 3: ok\n[welco
 
 /// How a run ended, and what it wrote.
 #[derive(Drop)]
-pub struct Run {
+pub struct RunEnd {
     pub ended: Result<(), PlayFault>,
     pub output: Vec<u8>,
 }
 
-impl Run {
+impl RunEnd {
     /// Whether the run went well and wrote this.
     pub fn wrote(&self, output: &[u8]) -> bool {
         self.ended == Ok(()) && self.output.as_slice() == output
@@ -138,54 +148,56 @@ impl<'a> Feeds<'a> {
         }
     }
 
-    /// Does what is asked for, into a sink.
-    pub fn run_into(
-        &mut self,
-        command: RunKind,
-        alloc: Global,
-        sink: &mut Sink,
-    ) -> Result<(), PlayFault> {
-        match command {
-            RunKind::Check => check_into(alloc, &mut self.cave, sink),
-            RunKind::Play => play_into(alloc, &mut self.cave, &mut self.log, self.seed, sink),
-            RunKind::Edit => {
-                let editing = Editing {
-                    seed: self.seed,
-                    every: self.every,
-                    view: self.view,
-                };
-                edit_into(
-                    alloc,
-                    &mut self.cave,
-                    &mut self.log,
-                    &mut self.script,
-                    editing,
-                    sink,
-                )
-            }
-        }
-    }
-
-    /// Does what is asked for, into a sink that takes all.
-    pub fn run(&mut self, command: RunKind, alloc: Global) -> Run {
+    /// Does a run into a sink that takes all.
+    pub fn run<R: Run>(&mut self, alloc: Global) -> RunEnd {
         let mut sink = Sink::in_pieces(alloc, usize::MAX);
-        let ended = self.run_into(command, alloc, &mut sink);
+        let ended = R::run_into(self, alloc, &mut sink);
         let Sink { taken, .. } = sink;
-        Run {
+        RunEnd {
             ended,
             output: taken,
         }
     }
 }
 
+impl Run for Checking {
+    fn run_into(feeds: &mut Feeds<'_>, alloc: Global, sink: &mut Sink) -> Result<(), PlayFault> {
+        check_into(alloc, &mut feeds.cave, sink)
+    }
+}
+
+impl Run for Playing {
+    fn run_into(feeds: &mut Feeds<'_>, alloc: Global, sink: &mut Sink) -> Result<(), PlayFault> {
+        play_into(alloc, &mut feeds.cave, &mut feeds.log, feeds.seed, sink)
+    }
+}
+
+impl Run for Changing {
+    fn run_into(feeds: &mut Feeds<'_>, alloc: Global, sink: &mut Sink) -> Result<(), PlayFault> {
+        let editing = Editing {
+            seed: feeds.seed,
+            every: feeds.every,
+            view: feeds.view,
+        };
+        edit_into(
+            alloc,
+            &mut feeds.cave,
+            &mut feeds.log,
+            &mut feeds.script,
+            editing,
+            sink,
+        )
+    }
+}
+
 /// Plays a log with bindings, from seed 0.
-pub fn play(alloc: Global, cave: &[u8], bind: &[u8], log: &[u8]) -> Run {
-    Feeds::of(cave, bind, log, b"").run(RunKind::Play, alloc)
+pub fn play(alloc: Global, cave: &[u8], bind: &[u8], log: &[u8]) -> RunEnd {
+    Feeds::of(cave, bind, log, b"").run::<Playing>(alloc)
 }
 
 /// Edits a log by a script, from seed 0.
-pub fn edit(alloc: Global, cave: &[u8], log: &[u8], script: &[u8], every: u32) -> Run {
+pub fn edit(alloc: Global, cave: &[u8], log: &[u8], script: &[u8], every: u32) -> RunEnd {
     let mut feeds = Feeds::of(cave, b"", log, script);
     feeds.every = every;
-    feeds.run(RunKind::Edit, alloc)
+    feeds.run::<Changing>(alloc)
 }

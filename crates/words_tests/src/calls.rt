@@ -32,8 +32,13 @@ pub(crate) fn cave_of(alloc: Global, database: &[u8], bindings: &[u8]) -> Result
 impl Known {
     /// A cave with its lexicon.
     pub(crate) fn of(alloc: Global, cave: Cave) -> Result<Known, AllocError> {
-        let lexicon = Lexicon::build(alloc, &cave)?;
-        Ok(Known { cave, lexicon })
+        match Lexicon::build(alloc, &cave) {
+            Ok(lexicon) => Ok(Known { cave, lexicon }),
+            Err(refused) => {
+                drop(cave);
+                Err(refused)
+            }
+        }
     }
 
     /// What the first word of a line means, of which as many letters count as in the cave.

@@ -1,10 +1,8 @@
-use Rattle.std.proofs.Common.{◌≡◌, [], ◌++◌, length, map, sym, ap, ◌∙◌, inl, arith, refl, subst}
-use Rattle.std.specs.Global.{Vec}
+use Rattle.std.proofs.Common.{◌≡◌, ◌++◌, length, map, sym, ap, ◌∙◌, inl, arith, refl}
 use Rattle.std.proofs.lemmas.List.{length-map}
 use Rattle.std.proofs.lemmas.Result.{err_from_is_err_and}
 use Rattle.cave_data.specs.CaveView.{CaveView}
 use Rattle.cave_play.specs.Input.{Says}
-use Rattle.cave_cover.specs.Faults.{JudgesLogs}
 use Rattle.cave_cover.specs.Marks.{is_marked}
 use Rattle.cave_cover.specs.Plays.{cover_text}
 use Rattle.cave_cover.specs.Report.{report}

@@ -1,12 +1,11 @@
-use Rattle.std.proofs.Common.{◌≡◌, ℕ, [], ◌∷◌, Ok, inl, map, refl}
+use Rattle.std.proofs.Common.{◌≡◌, ℕ, Ok, inl, inr, map, refl}
 use Rattle.std.specs.Global.{Vec}
 use Rattle.std.proofs.lemmas.Result.{err_from_is_err_and}
 use Rattle.cave_data.specs.Reads.{Reads}
 use Rattle.cave_play.specs.Judge.{large_seed}
-use Rattle.cave_play.specs.Stage.{judging_stage}
 use Rattle.cave_play.specs.Stages.{cave_stages}
 use Rattle.cave_play.proofs.InputLemmas.{Says-some}
-use Rattle.cave_play.proofs.StageLemmas.{IsFoundIn-first, IsFoundIn-later, Judges-later}
+use Rattle.cave_play.proofs.StageLemmas.{Judges-after}
 use Rattle.cave_cover.specs.Faults.{first_stages}
 use Rattle.cave_cover.specs.Plays.{IsCovered, cover_text}
 use Rattle.cave_cover.proofs.FaultLemmas.{AllSay-some, JudgesLogs-after}
@@ -18,11 +17,8 @@ returns-in_err-check_seed g c =
     let (database, said) = Says-some (g.C.Read.remaining c.args.cave.now.database) in
     let (bindings, others) = Says-some (g.B.Read.remaining c.args.cave.now.bindings) in
     let last = AllSay-some (map g.L.Read.remaining c.args.logs.now) in
-    let found =
-    IsFoundIn-first (judging_stage (large_seed c.args.seed) ∷ []) (cave_stages database bindings)
-    _ c.in_err-check_seed.ensures in
     rw (exit.1, exit.2)
-    (record { judged = (database, bindings, last.0, said, others, last.1, inl (refl, found)) })
+    (record { judged = (database, bindings, last.0, said, others, last.1, inl (refl, inl (inr c.in_err-check_seed.ensures))) })
 
 pub returns-in_err-cave : goal.returns-in_err-cave
 returns-in_err-cave g c =
@@ -31,21 +27,27 @@ returns-in_err-cave g c =
     c.from_residual-in_err-cave.ensures.1 in
     let (database, bindings, said, others, refused) = c.in_err-cave.ensures.judged in
     let last = AllSay-some (map g.L.Read.remaining c.args.logs.now) in
-    let found =
-    IsFoundIn-later (judging_stage (large_seed c.args.seed) ∷ []) (cave_stages database bindings)
-    _ c.in_ok-check_seed.ensures.0 refused in
     rw (exit.1, exit.2)
-    (record { judged = (database, bindings, last.0, said, others, last.1, inl (refl, found)) })
+    (record {
+      judged = (
+        database,
+        bindings,
+        last.0,
+        said,
+        others,
+        last.1,
+        inl (refl, inr (c.in_ok-check_seed.ensures, refused)),
+      );
+    })
 
 pub returns : goal.returns
 returns g c =
     let (database, bindings, said, others, made) = c.in_ok-cave.ensures.judged in
-    let (moves, last, covered) = c.cover_in_cave.ensures.judged in
+    let (moves, last, covered) = c.cover_in_cave-text.ensures.judged in
     let cave = c.in_ok-cave.cave in
     let first =
-    Judges-later (judging_stage (large_seed c.args.seed) ∷ []) (cave_stages database bindings)
-    (Reads database bindings) (Reads database bindings) (Ok cave) c.in_ok-check_seed.ensures.0
-    (λ read is. is) made in
+    Judges-after (large_seed c.args.seed) (cave_stages database bindings) (Reads database bindings)
+    (Ok cave) c.in_ok-check_seed.ensures made in
     let told = λ (text : Vec ℕ). text.items ≡ cover_text cave c.args.seed moves in
     let right = λ (text : Vec ℕ). IsCovered database bindings moves c.args.seed text.items in
     record {

@@ -24,6 +24,6 @@ returns g c =
         said,
         others,
         Judges-made (cave_stages database bindings) told right _ made.0
-            (λ text is. (c.in_ok-cave.cave, made.1, is)) c.check_cave.ensures.told,
+            (λ text is. (c.in_ok-cave.cave, made.1, is)) c.check_cave-text.ensures.told,
       );
     }

@@ -1,4 +1,4 @@
-use Rattle.std.proofs.Common.{ℕ, List, [], ◌∷◌, ◌++◌}
+use Rattle.std.proofs.Common.{ℕ, List, [], ◌∷◌, ◌++◌, inl, inr}
 use Rattle.std.specs.Global.{Vec}
 use Rattle.std.proofs.lemmas.Result.{err_from_is_err_and}
 use Rattle.cave_play.specs.Judge.{large_seed, every_fault}
@@ -6,7 +6,7 @@ use Rattle.cave_play.specs.Views.{IsEdited}
 use Rattle.cave_play.specs.Stage.{Stage, judging_stage}
 use Rattle.cave_play.specs.Stages.{cave_stages, log_stage, script_stage}
 use Rattle.cave_play.proofs.InputLemmas.{Says-some}
-use Rattle.cave_play.proofs.StageLemmas.{IsFoundIn-first, IsFoundIn-later, Judges-later}
+use Rattle.cave_play.proofs.StageLemmas.{IsFoundIn-first, Judges-after, Judges-later}
 use Rattle.cave_play.proofs.run.edit_inputs.Goals as goal
 
 -- the stages after that of the distance of checkpoints
@@ -26,12 +26,20 @@ returns-in_err-check_seed g c =
     let (bindings, others) = Says-some (g.B.Read.remaining c.args.cave.now.bindings) in
     let (lines, third) = Says-some (g.L.Read.remaining c.args.log.now) in
     let (edits, last) = Says-some (g.S.Read.remaining c.args.script.now) in
-    let later = after_seed database bindings lines edits c.args.editing.every in
-    let found =
-    IsFoundIn-first (judging_stage (large_seed c.args.editing.seed) ∷ []) later
-    _ c.in_err-check_seed.ensures in
     rw (exit.1, exit.2)
-    (record { judged = (database, bindings, lines, edits, said, others, third, last, found) })
+    (record {
+      judged = (
+        database,
+        bindings,
+        lines,
+        edits,
+        said,
+        others,
+        third,
+        last,
+        inl (inr c.in_err-check_seed.ensures),
+      );
+    })
 
 pub returns-in_err-check_every : goal.returns-in_err-check_every
 returns-in_err-check_every g c =
@@ -42,16 +50,20 @@ returns-in_err-check_every g c =
     let (bindings, others) = Says-some (g.B.Read.remaining c.args.cave.now.bindings) in
     let (lines, third) = Says-some (g.L.Read.remaining c.args.log.now) in
     let (edits, last) = Says-some (g.S.Read.remaining c.args.script.now) in
-    let later = after_every database bindings lines edits in
-    let there =
-    IsFoundIn-first (judging_stage (every_fault c.args.editing.every) ∷ []) later
-    _ c.in_err-check_every.ensures in
-    let found =
-    IsFoundIn-later (judging_stage (large_seed c.args.editing.seed) ∷ [])
-    (after_seed database bindings lines edits c.args.editing.every)
-    _ c.in_ok-check_seed.ensures.0 there in
     rw (exit.1, exit.2)
-    (record { judged = (database, bindings, lines, edits, said, others, third, last, found) })
+    (record {
+      judged = (
+        database,
+        bindings,
+        lines,
+        edits,
+        said,
+        others,
+        third,
+        last,
+        inr (c.in_ok-check_seed.ensures, inl (inr c.in_err-check_every.ensures)),
+      );
+    })
 
 pub returns-in_err-cave : goal.returns-in_err-cave
 returns-in_err-cave g c =
@@ -61,24 +73,28 @@ returns-in_err-cave g c =
     let (database, bindings, said, others, refused) = c.in_err-cave.ensures.judged in
     let (lines, third) = Says-some (g.L.Read.remaining c.args.log.now) in
     let (edits, last) = Says-some (g.S.Read.remaining c.args.script.now) in
-    let later = after_every database bindings lines edits in
-    let here =
+    let found =
     IsFoundIn-first (cave_stages database bindings) (log_stage lines ∷ script_stage edits ∷ [])
     _ refused in
-    let there =
-    IsFoundIn-later (judging_stage (every_fault c.args.editing.every) ∷ []) later
-    _ c.in_ok-check_every.ensures.0 here in
-    let found =
-    IsFoundIn-later (judging_stage (large_seed c.args.editing.seed) ∷ [])
-    (after_seed database bindings lines edits c.args.editing.every)
-    _ c.in_ok-check_seed.ensures.0 there in
     rw (exit.1, exit.2)
-    (record { judged = (database, bindings, lines, edits, said, others, third, last, found) })
+    (record {
+      judged = (
+        database,
+        bindings,
+        lines,
+        edits,
+        said,
+        others,
+        third,
+        last,
+        inr (c.in_ok-check_seed.ensures, inr (c.in_ok-check_every.ensures, found)),
+      );
+    })
 
 pub returns : goal.returns
 returns g c =
     let (database, bindings, said, others, made) = c.in_ok-cave.ensures.judged in
-    let (lines, edits, third, last, edited) = c.edit_in_cave.ensures.judged in
+    let (lines, edits, third, last, edited) = c.edit_in_cave-text.ensures.judged in
     let right =
     λ (text : Vec ℕ). IsEdited database bindings lines edits c.args.editing text.items in
     let later = after_every database bindings lines edits in
@@ -86,10 +102,10 @@ returns g c =
     Judges-later (cave_stages database bindings) (log_stage lines ∷ script_stage edits ∷ [])
     _ right _ made.0 (λ text is. (c.in_ok-cave.cave, made.1, is)) edited in
     let near =
-    Judges-later (judging_stage (every_fault c.args.editing.every) ∷ []) later right right
-    _ c.in_ok-check_every.ensures.0 (λ text is. is) judged in
+    Judges-after (every_fault c.args.editing.every) later right
+    _ c.in_ok-check_every.ensures judged in
     let whole =
-    Judges-later (judging_stage (large_seed c.args.editing.seed) ∷ [])
-    (after_seed database bindings lines edits c.args.editing.every) right right
-    _ c.in_ok-check_seed.ensures.0 (λ text is. is) near in
+    Judges-after (large_seed c.args.editing.seed)
+    (after_seed database bindings lines edits c.args.editing.every) right
+    _ c.in_ok-check_seed.ensures near in
     record { judged = (database, bindings, lines, edits, said, others, third, last, whole) }

@@ -1,11 +1,5 @@
-use Rattle.std.proofs.Common.{◌≡◌, ℕ, [], ◌∷◌, subst}
-use Rattle.std.specs.Global.{Vec}
-use Rattle.std.specs.Str.Lines.{lines}
+use Rattle.std.proofs.Common.{[], ◌∷◌}
 use Rattle.std.proofs.lemmas.Result.{err_from_is_err_and}
-use Rattle.cave_data.specs.CaveView.{CaveView}
-use Rattle.log_replay.specs.Play.{game_of}
-use Rattle.cave_play.specs.Output.{play_text}
-use Rattle.cave_play.specs.Run.{Judges}
 use Rattle.cave_play.specs.Stages.{log_stage}
 use Rattle.cave_play.proofs.InputLemmas.{Says-some}
 use Rattle.cave_play.proofs.StageLemmas.{IsFoundIn-memory}

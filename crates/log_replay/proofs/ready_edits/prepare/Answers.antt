@@ -18,7 +18,7 @@ pub make_ready-requires : goal.make_ready-requires
 make_ready-requires c =
     let log = log_of c.args.log.now in
     let n = length-log_of c.args.log.now in
-    let margins = (c.in-Ok.ensures log n).margins in
+    let margins = (c.in_ok-plan.ensures log n).margins in
     let narrow =
     (after_all_narrower (changes_of c.args.edits.now) log
     (record { head = length log; tail = length log })).tail in
@@ -26,7 +26,7 @@ make_ready-requires c =
 
 pub returns-clause-none : goal.returns-clause-none
 returns-clause-none c =
-    (c.in-Ok.ensures (log_of c.args.log.now) (length-log_of c.args.log.now)).free
+    (c.in_ok-plan.ensures (log_of c.args.log.now) (length-log_of c.args.log.now)).free
 
 -- edits that were planned and made ready
 edits_of : {changes : List Change} (log : List (Vec ℕ)) (seed left : ℕ) {plan : Plan}
@@ -54,16 +54,16 @@ edits_of {changes} log seed left planned same seed_is head rest =
 
 pub returns-clause-edits : goal.returns-clause-edits
 returns-clause-edits c =
-    let planned = c.in-Ok.ensures (log_of c.args.log.now) (length-log_of c.args.log.now) in
-    let made = c.in-Ok-make_ready.ensures in
+    let planned = c.in_ok-plan.ensures (log_of c.args.log.now) (length-log_of c.args.log.now) in
+    let made = c.in_ok-make_ready.ensures in
     edits_of c.args.log.now c.args.seed c.args.left planned made.edits made.seed made.head made.rest
 
 pub returns-clause-ready : goal.returns-clause-ready
 returns-clause-ready c =
-    let planned = c.in-Ok.ensures (log_of c.args.log.now) (length-log_of c.args.log.now) in
-    let made = c.in-Ok-make_ready.ensures in
+    let planned = c.in_ok-plan.ensures (log_of c.args.log.now) (length-log_of c.args.log.now) in
+    let made = c.in_ok-make_ready.ensures in
     let edits : AreEditsOf (changes_of c.args.edits.now) c.args.seed c.args.log.now
-    c.in-Ok-make_ready.ready =
+    c.in_ok-make_ready.field-0 =
     edits_of c.args.log.now c.args.seed c.args.left planned made.edits made.seed made.head
     made.rest in
     record {
@@ -79,8 +79,8 @@ pub returns-clause-room : goal.returns-clause-room
 returns-clause-room c =
     let log = log_of c.args.log.now in
     let changes = changes_of c.args.edits.now in
-    let planned = c.in-Ok.ensures log (length-log_of c.args.log.now) in
-    let made = c.in-Ok-make_ready.ensures in
-    let game : new_game c.in-Ok-make_ready.ready log ≡ apply_all changes (game_of c.args.seed log) =
+    let planned = c.in_ok-plan.ensures log (length-log_of c.args.log.now) in
+    let made = c.in_ok-make_ready.ensures in
+    let game : new_game c.in_ok-make_ready.field-0 log ≡ apply_all changes (game_of c.args.seed log) =
     rw (made.edits, made.seed) (game-apply_all changes c.args.seed log) in
     room_of changes log c.args.seed c.args.left _ planned.free game

@@ -52,22 +52,22 @@ take_over-inverse-requires-clause-ticked g c =
 pub take_over-inverse-requires-clause-met : goal.take_over-inverse-requires-clause-met
 take_over-inverse-requires-clause-met g c =
     let replay =
-    replay_of c.requires.kept c.in-Ok.ensures.edits c.places.ensures.spaced c.in-Ok.ensures.rerun in
+    replay_of c.requires.kept c.in_ok-rerun.ensures.edits c.places.ensures.spaced c.in_ok-rerun.ensures.rerun in
     let same = c.make_room.ensures.same in
     met_ready replay c.make_room.new.kept.checkpoints same.lines same.places
 
 pub returns-clause-kept : goal.returns-clause-kept
 returns-clause-kept g c =
     let replay =
-    replay_of c.requires.kept c.in-Ok.ensures.edits c.places.ensures.spaced c.in-Ok.ensures.rerun in
+    replay_of c.requires.kept c.in_ok-rerun.ensures.edits c.places.ensures.spaced c.in_ok-rerun.ensures.rerun in
     let text = g.M.Machine.text in
     let kept = c.args.kept.now in
     let C = kept.checkpoints in
     let roomy = c.make_room.new.kept in
     let same = c.make_room.ensures.same in
-    let edits = c.in-Ok.ensures.edits in
-    let played = c.in-Ok.rerun.played in
-    let at = c.in-Ok.rerun.at in
+    let edits = c.in_ok-rerun.ensures.edits in
+    let played = c.in_ok-rerun.rerun.played in
+    let at = c.in_ok-rerun.rerun.at in
     let after = c.take_over-inverse.new.kept in
     let done = c.take_over-inverse.ensures in
     let stretch = stretch_same roomy.checkpoints C same.lines same.places played.met in
@@ -75,7 +75,7 @@ returns-clause-kept g c =
     rw (done.game ∙ make_same apply_all edits same ∙ sym edits.game)
     (kept_after replay (text after.opening) (map text after.pieces.items) after.ticked.items
     after.state after.checkpoints
-    (opened_text text c.in-Ok.rerun.opening after.opening roomy.opening kept.opening same.opening
+    (opened_text text c.in_ok-rerun.rerun.opening after.opening roomy.opening kept.opening same.opening
     done.opening)
     (ap (map text) done.pieces
     ∙ map-splice text roomy.pieces.items played.pieces.items
@@ -91,36 +91,36 @@ returns-clause-kept g c =
 pub returns-clause-report : goal.returns-clause-report
 returns-clause-report g c =
     let replay =
-    replay_of c.requires.kept c.in-Ok.ensures.edits c.places.ensures.spaced c.in-Ok.ensures.rerun in
+    replay_of c.requires.kept c.in_ok-rerun.ensures.edits c.places.ensures.spaced c.in_ok-rerun.ensures.rerun in
     rw (c.places.ensures.places, c.met_place-met.ensures, c.next-end.ensures.next)
-    (report_after replay (changes_of c.args.edits.now) c.in-Ok.ensures.edits.game refl refl)
+    (report_after replay (changes_of c.args.edits.now) c.in_ok-rerun.ensures.edits.game refl refl)
 
 pub make_room-requires : goal.make_room-requires
 make_room-requires g c =
     let replay =
-    replay_of c.requires.kept c.in-Ok.ensures.edits c.places.ensures.spaced c.in-Ok.ensures.rerun in
+    replay_of c.requires.kept c.in_ok-rerun.ensures.edits c.places.ensures.spaced c.in_ok-rerun.ensures.rerun in
     let inside = met_inside replay in
     record { among = replay.new_play.begun.among; passed = inside.0; met = inside.1 }
 
 pub take_over-inverse-requires-clause-room_marks : goal.take_over-inverse-requires-clause-room_marks
 take_over-inverse-requires-clause-room_marks g c =
     room_ready c.make_room.new.kept.checkpoints c.args.kept.now.checkpoints
-    c.make_room.ensures.same.places c.in-Ok.rerun.played.marks c.in-Ok.rerun.at
-    c.in-Ok.rerun.played.met (search rules)
+    c.make_room.ensures.same.places c.in_ok-rerun.rerun.played.marks c.in_ok-rerun.rerun.at
+    c.in_ok-rerun.rerun.played.met (search rules)
 
 pub returns-clause-game : goal.returns-clause-game
 returns-clause-game g c =
     c.take_over-inverse.ensures.game
-    ∙ make_same apply_all c.in-Ok.ensures.edits c.make_room.ensures.same
+    ∙ make_same apply_all c.in_ok-rerun.ensures.edits c.make_room.ensures.same
 
 pub returns-clause-inverse : goal.returns-clause-inverse
 returns-clause-inverse g c =
     c.take_over-inverse.ensures.inverse
-    ∙ make_same inverses_of c.in-Ok.ensures.edits c.make_room.ensures.same
+    ∙ make_same inverses_of c.in_ok-rerun.ensures.edits c.make_room.ensures.same
 
 pub returns-clause-back : goal.returns-clause-back
 returns-clause-back g c =
-    let edits = c.in-Ok.ensures.edits in
+    let edits = c.in_ok-rerun.ensures.edits in
     let same = c.make_room.ensures.same in
     let done = c.take_over-inverse.ensures in
     let changes = changes_of c.args.edits.now in
@@ -130,7 +130,7 @@ returns-clause-back g c =
 
 pub returns-clause-back_accepted : goal.returns-clause-back_accepted
 returns-clause-back_accepted g c =
-    let edits = c.in-Ok.ensures.edits in
+    let edits = c.in_ok-rerun.ensures.edits in
     let same = c.make_room.ensures.same in
     let done = c.take_over-inverse.ensures in
     let changes = changes_of c.args.edits.now in

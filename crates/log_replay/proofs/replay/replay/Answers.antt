@@ -23,61 +23,61 @@ pub play_changed-requires-clause-marking : goal.play_changed-requires-clause-mar
 play_changed-requires-clause-marking g c =
     let log_is = c.deref.ensures.value in
     let checkpoints =
-    checkpoints_of (g.M.Machine.rules c.args.machine.now) (rw log_is at c.in-Ok.ensures.ready)
+    checkpoints_of (g.M.Machine.rules c.args.machine.now) (rw log_is at c.in_ok-ready.ensures.ready)
     c.requires.kept.every_is.some c.requires.kept.lines c.places.ensures.spaced in
     let last =
     last_index c.places.ensures.places c.last_to-at.ensures.within c.last_to-at.ensures.before
     c.last_to-at.ensures.after in
     let revision =
     revision_by (g.M.Machine.rules c.args.machine.now) c.args.kept.now.seed
-    c.args.kept.now.log.items c.in-Ok.ready in
-    rw log_is (c.in-Ok-begin.ensures.marking (states_of_new revision) refl
+    c.args.kept.now.log.items c.in_ok-ready.ready in
+    rw log_is (c.in_ok-opening.ensures.marking (states_of_new revision) refl
     (λ seed. prefix_are seed c.args.kept.now.checkpoints checkpoints c.requires.kept.states
     c.last_to-at.result last))
 
-pub play_changed-requires-clause-from : goal.play_changed-requires-clause-from
-play_changed-requires-clause-from g c =
-    let last =
-    last_index c.places.ensures.places c.last_to-at.ensures.within c.last_to-at.ensures.before
-    c.last_to-at.ensures.after in
-    rw c.in-Ok-begin.ensures.next last.before
-
-pub play_changed-requires-clause-near : goal.play_changed-requires-clause-near
-play_changed-requires-clause-near g c =
+pub play_changed-requires-clause-before : goal.play_changed-requires-clause-before
+play_changed-requires-clause-before g c =
     let log_is = c.deref.ensures.value in
     let checkpoints =
-    checkpoints_of (g.M.Machine.rules c.args.machine.now) (rw log_is at c.in-Ok.ensures.ready)
+    checkpoints_of (g.M.Machine.rules c.args.machine.now) (rw log_is at c.in_ok-ready.ensures.ready)
     c.requires.kept.every_is.some c.requires.kept.lines c.places.ensures.spaced in
     let last =
     last_index c.places.ensures.places c.last_to-at.ensures.within c.last_to-at.ensures.before
     c.last_to-at.ensures.after in
-    rw (c.in-Ok-begin.ensures.next, c.in-Ok-begin.ensures.every)
-    (near_last checkpoints.spacing last (omega (arith, checkpoints.shift.within_old)))
+    let begun = c.in_ok-opening.ensures in
+    record {
+      end = begun.end ∙ c.in_ok-ready.ensures.ready.lines;
+      every_is = begun.every;
+      apart = omega (arith, begun.every, c.requires.kept.every_is.some);
+      from = rw begun.next last.before;
+      near = rw (begun.next, begun.every)
+          (near_last checkpoints.spacing last (omega (arith, checkpoints.shift.within_old)));
+    }
 
-pub returns-in_default-play_changed-clause-bounded :
-    goal.returns-in_default-play_changed-clause-bounded
-returns-in_default-play_changed-clause-bounded g c =
+pub returns-in_err-played-clause-bounded :
+    goal.returns-in_err-played-clause-bounded
+returns-in_err-played-clause-bounded g c =
     let log_is = c.deref.ensures.value in
     let left : 2 ^ 64 - 1 - g.M.Meter.Steps.count c.args.meter.now ≡ c.left-left.result =
     omega (arith, c.left-left.ensures) in
-    rw (left, ← c.in-Ok-begin.ensures.every)
-    (steps_within (g.M.Machine.rules c.args.machine.now) c.in-Ok-begin.start.marks.every _
+    rw (left, ← c.in_ok-opening.ensures.every)
+    (steps_within (g.M.Machine.rules c.args.machine.now) c.in_ok-opening.field-0.marks.every _
     (g.M.Meter.Steps.count c.args.meter.now) (g.M.Meter.Steps.count c.play_changed.new.meter)
-    (rw log_is at c.in-Ok.ensures.edits) (rw log_is at c.in-Ok.ensures.none)
-    c.in_default-play_changed.ensures.counted
-    (rw log_is at c.in_default-play_changed.ensures.bounded))
+    (rw log_is at c.in_ok-ready.ensures.edits) (rw log_is at c.in_ok-ready.ensures.none)
+    c.in_err-played.ensures.counted
+    (rw log_is at c.in_err-played.ensures.bounded))
 
 pub returns-clause-bounded : goal.returns-clause-bounded
 returns-clause-bounded g c =
     let log_is = c.deref.ensures.value in
     let left : 2 ^ 64 - 1 - g.M.Meter.Steps.count c.args.meter.now ≡ c.left-left.result =
     omega (arith, c.left-left.ensures) in
-    rw (left, ← c.in-Ok-begin.ensures.every)
-    (steps_within (g.M.Machine.rules c.args.machine.now) c.in-Ok-begin.start.marks.every _
+    rw (left, ← c.in_ok-opening.ensures.every)
+    (steps_within (g.M.Machine.rules c.args.machine.now) c.in_ok-opening.field-0.marks.every _
     (g.M.Meter.Steps.count c.args.meter.now) (g.M.Meter.Steps.count c.play_changed.new.meter)
-    (rw log_is at c.in-Ok.ensures.edits) (rw log_is at c.in-Ok.ensures.none)
-    c.in-Ok-play_changed.ensures.counted
-    (rw log_is at c.in-Ok-play_changed.ensures.bounded))
+    (rw log_is at c.in_ok-ready.ensures.edits) (rw log_is at c.in_ok-ready.ensures.none)
+    c.in_ok-played.ensures.counted
+    (rw log_is at c.in_ok-played.ensures.bounded))
 
 pub returns-clause-rerun : goal.returns-clause-rerun
 returns-clause-rerun g c =
@@ -85,13 +85,13 @@ returns-clause-rerun g c =
     let last =
     last_index c.places.ensures.places c.last_to-at.ensures.within c.last_to-at.ensures.before
     c.last_to-at.ensures.after in
-    let edits = rw log_is at c.in-Ok.ensures.edits in
+    let edits = rw log_is at c.in_ok-ready.ensures.edits in
     let log = log_of c.args.kept.now.log.items in
-    let tail : length c.args.kept.now.log.items - c.in-Ok.ready.rest
+    let tail : length c.args.kept.now.log.items - c.in_ok-ready.ready.rest
     ≡ (margins_of (changes_of c.args.edits.now) log).tail = omega (arith, edits.tail) in
-    let begun = c.in-Ok-begin.ensures in
-    let made = c.in-Ok-play_changed.ensures in
-    let end = begun.end ∙ rw log_is at c.in-Ok.ensures.ready.lines in
+    let begun = c.in_ok-opening.ensures in
+    let made = c.in_ok-played.ensures.played in
+    let end = begun.end ∙ rw log_is at c.in_ok-ready.ensures.ready.lines in
     rw (← edits.head, ← tail)
     (record {
       begun = record {
@@ -103,12 +103,12 @@ returns-clause-rerun g c =
       not_after = last.before;
       last = last.after;
       end = made.settings.end ∙ end;
-      opening_is = match_map g.M.Machine.text c.in-Ok-begin.start.opening _ _ begun.opening;
+      opening_is = match_map g.M.Machine.text c.in_ok-opening.field-0.opening _ _ begun.opening;
       texts_are = rw (← begun.next) (rw log_is at made.texts);
-      ticks_are = rw (← begun.next) (rw log_is at made.ticks);
+      ticks_are = rw (← begun.next) (rw log_is at made.ticks_are);
       marking = rw log_is at made.marking;
       forward = rw (← begun.next) made.forward;
       within = rw (← end) made.inside;
-      met_is = met_at_end _ _ _ _ _ _ end (rw log_is at made.met);
-      none_before = rw log_is at made.none;
+      met_is = met_at_end _ _ _ _ _ _ end (rw log_is at made.met_is);
+      none_before = rw log_is at made.none_before;
     })

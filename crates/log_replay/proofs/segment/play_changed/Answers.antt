@@ -17,11 +17,11 @@ lines-init g c =
     let n = length-log_of c.args.old.now.log.now in
     let rules = g.M.Machine.rules c.args.machine.now in
     let checkpoints =
-    checkpoints_of rules c.requires.ready (omega (arith, c.requires.apart, c.requires.every))
+    checkpoints_of rules c.requires.ready (omega (arith, c.requires.before.apart, c.requires.before.every_is))
     (c.requires.old_lines ∙ sym n) c.places.ensures.spaced in
     let places = c.places.ensures.places in
     record {
-      checkpoints = rw c.requires.every checkpoints;
+      checkpoints = rw c.requires.before.every_is checkpoints;
       ends = end_of rules c.requires.ready c.rest_after-new.ensures;
       underway =
           underway_start checkpoints c.first_from-index.result c.args.marks.next
@@ -30,35 +30,42 @@ lines-init g c =
           (λ k from inside. let late =
           rw places at (c.first_from-index.ensures.after k from (rw places inside)) in
           omega arith)
-          c.requires.from;
+          c.requires.before.from;
       texts = rw c.new.ensures.items (append-nil _);
       ticks = rw c.new-2.ensures.items (append-nil _);
       marking = c.requires.marking;
       settings = record { every = refl; end = refl; from = refl; start = refl };
       forward = omega arith;
-      within = omega (arith, c.requires.from, c.requires.ready.shift.within_new, c.requires.end);
+      within = omega (arith, c.requires.before.from, c.requires.ready.shift.within_new, c.requires.before.end);
       unmet = refl;
       counted = refl;
     }
 
-pub returns-in_default-clause-met : goal.returns-in_default-clause-met
-returns-in_default-clause-met g c =
+pub returns-in_default-clause-played : goal.returns-in_default-clause-played
+returns-in_default-clause-played g c =
     let at = c.lines.invariant in
-    underway_agrees at.checkpoints at.ends at.underway
-    (c.in_default.ensures _ _ c.requires.old_states at.marking)
-
-pub returns-in_default-clause-none : goal.returns-in_default-clause-none
-returns-in_default-clause-none g c = underway_none c.lines.invariant.underway
+    record {
+      texts = at.texts;
+      ticks_are = at.ticks;
+      marking = at.marking;
+      settings = at.settings;
+      forward = at.forward;
+      inside = at.within;
+      met_is =
+          underway_agrees at.checkpoints at.ends at.underway
+          (c.in_default.ensures _ _ c.requires.old_states at.marking);
+      none_before = underway_none at.underway;
+    }
 
 pub returns-in_default-clause-bounded : goal.returns-in_default-clause-bounded
 returns-in_default-clause-bounded g c =
     let at = c.lines.invariant in
-    bounded_to at.checkpoints c.args.marks.next c.requires.near c.lines.played.marks.next
-    (omega (arith, c.requires.end, at.within)) (underway_none at.underway) _
+    bounded_to at.checkpoints c.args.marks.next c.requires.before.near c.lines.played.marks.next
+    (omega (arith, c.requires.before.end, at.within)) (underway_none at.underway) _
     (omega (arith, at.counted, at.forward))
 
-pub returns-then-place-end-clause-met : goal.returns-then-place-end-clause-met
-returns-then-place-end-clause-met g c =
+pub returns-then-place-end-clause-played : goal.returns-then-place-end-clause-played
+returns-then-place-end-clause-played g c =
     let at = c.lines.invariant in
     let further =
     underway_further at.checkpoints at.ends at.underway c.in-Some.further
@@ -67,16 +74,23 @@ returns-then-place-end-clause-met g c =
     let new = new_game c.args.ready.now (log_of c.args.old.now.log.now) in
     let end : c.lines.played.marks.next ≡ length new.log =
     omega (arith, c.if-place-end.true, c.requires.ready.lines) in
-    rw (at.unmet, c.requires.end) (underway_end at.checkpoints further (omega arith) _ end)
-
-pub returns-then-place-end-clause-none : goal.returns-then-place-end-clause-none
-returns-then-place-end-clause-none g c = underway_none c.lines.invariant.underway
+    record {
+      texts = at.texts;
+      ticks_are = at.ticks;
+      marking = at.marking;
+      settings = at.settings;
+      forward = at.forward;
+      inside = at.within;
+      met_is = rw (at.unmet, c.requires.before.end)
+          (underway_end at.checkpoints further (omega arith) _ end);
+      none_before = underway_none at.underway;
+    }
 
 pub returns-then-place-end-clause-bounded : goal.returns-then-place-end-clause-bounded
 returns-then-place-end-clause-bounded g c =
     let at = c.lines.invariant in
-    bounded_to at.checkpoints c.args.marks.next c.requires.near c.lines.played.marks.next
-    (omega (arith, c.requires.end, at.within)) (underway_none at.underway) _
+    bounded_to at.checkpoints c.args.marks.next c.requires.before.near c.lines.played.marks.next
+    (omega (arith, c.requires.before.end, at.within)) (underway_none at.underway) _
     (omega (arith, at.counted, at.forward))
 
 pub lines-preserved : goal.lines-preserved
@@ -90,7 +104,7 @@ lines-preserved g c =
     let place = c.next-place.ensures.next in
     let next = c.in_ok-play_line.ensures.next in
     let below : c.lines.played.marks.next < length revision.new.log =
-    omega (arith, c.if-place-end.false, c.requires.ready.lines, at.within, c.requires.end) in
+    omega (arith, c.if-place-end.false, c.requires.ready.lines, at.within, c.requires.before.end) in
     let line : c.line.result.now ≡ line_at revision.new.log c.lines.played.marks.next =
     c.line.ensures ∙ ap (line_at revision.new.log) place in
     record {
@@ -112,7 +126,7 @@ lines-preserved g c =
         start = further.start ∙ at.settings.start;
       };
       forward = omega (arith, next, at.forward);
-      within = omega (arith, next, c.requires.end, at.within);
+      within = omega (arith, next, c.requires.before.end, at.within);
       unmet = c.in_ok-play_line.ensures.met ∙ at.unmet;
       counted = omega (arith, next, at.counted, c.in_ok-play_line.ensures.counted);
     }
@@ -126,8 +140,8 @@ returns-in_err-play_line-clause-bounded g c =
     let place = c.next-place.ensures.next in
     let new = new_game c.args.ready.now (log_of c.args.old.now.log.now) in
     let below : c.lines.played.marks.next < length new.log =
-    omega (arith, c.if-place-end.false, c.requires.ready.lines, at.within, c.requires.end) in
+    omega (arith, c.if-place-end.false, c.requires.ready.lines, at.within, c.requires.before.end) in
     let risen = c.in_err-play_line.ensures.risen in
-    bounded_to at.checkpoints c.args.marks.next c.requires.near (c.lines.played.marks.next + 1)
+    bounded_to at.checkpoints c.args.marks.next c.requires.before.near (c.lines.played.marks.next + 1)
     (omega arith) (underway_none further) _
     (omega (arith, at.counted, at.forward, risen.risen, risen.bounded))

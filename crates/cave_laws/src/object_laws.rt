@@ -1,0 +1,17 @@
+//! Laws of where objects are.
+
+ghost use Rattle.std.specs.Prelude.{◌<◌};
+ghost use Rattle.cave_laws.specs.ObjectLaws.{IsInOnePlace};
+
+use cave_objects::Object;
+use cave_world::State;
+
+/// In each state an object is in one place: one that is carried is in no list, and its halves are
+/// in the lists of the places where the object says they are, and in no other.
+pub fn object_is_in_one_place(state: &State, object: Object)
+    ensures { 0 < object → IsInOnePlace state.now.objects object }
+{
+    let _carried = state.objects.is_carried(object);
+    let _spot = state.objects.spot(object);
+    let _anchor = state.objects.anchor(object);
+}

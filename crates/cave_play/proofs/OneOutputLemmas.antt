@@ -1,0 +1,58 @@
+-- Two outputs of the same inputs are the same.
+use Rattle.std.proofs.Common.{◌≡◌, ℕ, List, subst, sym, ap, ◌∙◌}
+use Rattle.std.specs.Str.Lines.{lines}
+use Rattle.cave_data.specs.CaveView.{CaveView}
+use Rattle.cave_data.proofs.ReadLemmas.{same_cave}
+use Rattle.edit_options.specs.declared.editing.View.{View}
+use Rattle.edit_options.specs.declared.editing.View.TheVariants.{Transcript, Log, Reports}
+use Rattle.log_replay.specs.Play.{Game, game_of}
+use Rattle.edit_scripts.proofs.Grammar.{script_of-only}
+use Rattle.edit_scripts.specs.Item.{Applied}
+use Rattle.edit_scripts.specs.Script.{IsScript}
+use Rattle.cave_play.specs.OneOutput.{OneCheckedOutput, OnePlayedOutput, OneEditedOutput}
+use Rattle.cave_play.specs.OneOutput.{KnowsNoCheckpoints}
+use Rattle.cave_play.specs.Output.{check_text, play_text}
+use Rattle.cave_play.specs.Views.{IsViewOf}
+
+pub one_checked_output : OneCheckedOutput
+one_checked_output database bindings =
+    λ one other first second.
+    let (cave, reads, is) = first in
+    let (kept, rereads, same) = second in
+    is ∙ ap check_text (same_cave database bindings kept cave rereads reads) ∙ sym same
+
+pub one_played_output : OnePlayedOutput
+one_played_output database bindings log seed =
+    λ one other first second.
+    let (cave, reads, is) = first in
+    let (kept, rereads, same) = second in
+    let game = game_of seed (lines log) in
+    is ∙ ap (λ c. play_text c game) (same_cave database bindings kept cave rereads reads) ∙ sym same
+
+-- a script spells the same items, whoever reads it
+same_items : (script : List ℕ) (items others : List Applied)
+    → IsScript 1 (lines script) items → IsScript 1 (lines script) others → items ≡ others
+same_items script items others spelled respelled =
+    let first = script_of-only script items spelled in
+    let second = script_of-only script others respelled in
+    cc
+
+-- so for the same items in the same cave it is the same text, whatever the distance of checkpoints
+one_view : (view : View) (cave : CaveView) (game : Game) (items : List Applied) (near far : ℕ)
+    (one other : List ℕ) → KnowsNoCheckpoints view → IsViewOf view cave near game items one
+    → IsViewOf view cave far game items other → one ≡ other
+one_view Transcript cave game items near far one other free is same = is ∙ sym same
+one_view Log cave game items near far one other free is same = is.written ∙ sym same.written
+one_view Reports cave game items near far one other free is same = absurd free
+
+pub one_edited_output : OneEditedOutput
+one_edited_output database bindings log script seed near far view free =
+    λ one other first second.
+    let (cave, reads, (items, spelled, is)) = first in
+    let (kept, rereads, (others, respelled, same)) = second in
+    let game = game_of seed (lines log) in
+    let caves = same_cave database bindings kept cave rereads reads in
+    let here = subst (λ k. IsViewOf view k near game items one) caves is in
+    let spells = same_items script items others spelled respelled in
+    let there = subst (λ l. IsViewOf view kept near game l one) spells here in
+    one_view view kept game others near far one other free there same
