@@ -29,7 +29,7 @@ use Rattle.cave_begin.specs.Begin.{start_halves, start_list, both_halves, place_
 use Rattle.cave_begin.specs.Begin.{starting_objects}
 use Rattle.cave_things.specs.Treasures.{treasures, known_treasures}
 use Rattle.cave_begin.specs.Placing.{after_placing, after_placing_all, after_hiding_all}
-use Rattle.cave_begin.proofs.Orders.{among, IsOrder, order_kept, start_is_order, each_in_order}
+use Rattle.cave_begin.proofs.Orders.{IsOrder, order_kept, start_is_order, each_in_order}
 use Rattle.cave_begin.proofs.Orders.{sets, get-set, each_is, all_set}
 
 -- ---- lists of halves

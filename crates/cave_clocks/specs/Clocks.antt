@@ -1,7 +1,7 @@
 -- The clocks and the lamp, which go on before a command is read.
 use Rattle.std.specs.Prelude.{ℕ, Bool, if◌then◌else◌, Option, Some, None}
 use Rattle.cave_data.specs.CaveView.{CaveView}
-use Rattle.cave_things.specs.Play.{Scene}
+use Rattle.cave_scene.specs.Play.{Scene}
 use Rattle.cave_clocks.specs.declared.clocks.Clocks.{Clocks}
 use Rattle.cave_clocks.specs.declared.clocks.Clocks.TheVariants.{GoOn, GaveUp, Closed}
 use Rattle.cave_clocks.specs.FirstClock.{timing_of_first_clock}

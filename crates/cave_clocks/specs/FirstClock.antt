@@ -14,9 +14,9 @@ use Rattle.cave_objects.specs.declared.spot.Anchor.TheVariants as anchor
 use Rattle.cave_world.specs.declared.state.State.{State}
 use Rattle.cave_things.specs.Effects.{with_objects, without_troll}
 use Rattle.cave_things.specs.Places.{place_named, deep_place}
-use Rattle.cave_things.specs.Play.{Scene, after_saying, with_state}
+use Rattle.cave_scene.specs.Play.{Scene, after_saying, with_state}
 use Rattle.cave_things.specs.Reach.{has_prop}
-use Rattle.cave_things.specs.Rules.{thing}
+use Rattle.cave_scene.specs.Rules.{thing}
 
 -- the clock goes where no treasure counts as unseen, in the depths of the cave, but not at y2
 unfoldable pub is_first_clock_going : CaveView → State → Bool

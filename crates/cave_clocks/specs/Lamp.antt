@@ -11,9 +11,9 @@ use Rattle.cave_objects.specs.Objects.{is_gone, with_prop}
 use Rattle.cave_world.specs.declared.state.State.{State}
 use Rattle.cave_things.specs.Effects.{with_objects, let_go}
 use Rattle.cave_things.specs.Places.{outside_place}
-use Rattle.cave_things.specs.Play.{Scene, after_saying, with_state}
+use Rattle.cave_scene.specs.Play.{Scene, after_saying, with_state}
 use Rattle.cave_things.specs.Reach.{is_near, has_prop}
-use Rattle.cave_things.specs.Rules.{thing}
+use Rattle.cave_scene.specs.Rules.{thing}
 
 abbrev pub with_charge : ℤ → State → State
 with_charge turns s = let lamp = s.lamp in record s { lamp = record lamp { charge = turns } }

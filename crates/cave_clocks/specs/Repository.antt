@@ -14,8 +14,8 @@ use Rattle.cave_objects.specs.Spots.{anchor_at}
 use Rattle.cave_world.specs.declared.state.State.{State}
 use Rattle.cave_things.specs.Effects.{with_objects}
 use Rattle.cave_things.specs.Places.{place_named}
-use Rattle.cave_things.specs.Play.{Scene, after_saying, with_state}
-use Rattle.cave_things.specs.Rules.{thing}
+use Rattle.cave_scene.specs.Play.{Scene, after_saying, with_state}
+use Rattle.cave_scene.specs.Rules.{thing}
 
 -- what is put into the repository, and the prop that it gets once the player has carried it there
 pub record Stored : Type 0 where

@@ -1,14 +1,14 @@
 ghost use Rattle.std.specs.Prelude.{◌≡◌};
-ghost use Rattle.cave_things.specs.Rules.{cave_of};
-ghost use Rattle.cave_things.specs.Bounds.{HasRoom, SaysUpTo};
-ghost use Rattle.cave_things.specs.Play.{scene_of, GoesOn};
+ghost use Rattle.cave_scene.specs.Rules.{cave_of};
+ghost use Rattle.cave_scene.specs.Bounds.{HasRoom, SaysUpTo};
+ghost use Rattle.cave_scene.specs.Play.{scene_of, GoesOn};
 ghost use Rattle.cave_clocks.specs.Clocks.{timing_of, lamp_last, second_clock_and_lamp, timing_of_clocks};
 
 use crate::first_clock::run_first_clock;
 use crate::lamp::run_lamp;
 use crate::repository::run_second_clock;
 use cave_objects::Place;
-use cave_things::{Play, Rules};
+use cave_scene::{Play, Rules};
 
 /// What follows once the clocks and the lamp have gone on by a turn.
 #[derive(Clone, Copy, Debug, PartialEq, Eq)]

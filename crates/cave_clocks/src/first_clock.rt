@@ -1,7 +1,7 @@
 ghost use Rattle.std.specs.Prelude.{◌≡◌, ◌≤ℤ◌, pos, IsTrue, map};
-ghost use Rattle.cave_things.specs.Rules.{cave_of};
-ghost use Rattle.cave_things.specs.Bounds.{HasRoom, SaysUpTo};
-ghost use Rattle.cave_things.specs.Play.{scene_of, GoesOn};
+ghost use Rattle.cave_scene.specs.Rules.{cave_of};
+ghost use Rattle.cave_scene.specs.Bounds.{HasRoom, SaysUpTo};
+ghost use Rattle.cave_scene.specs.Play.{scene_of, GoesOn};
 ghost use Rattle.cave_clocks.specs.FirstClock.{is_first_clock_going, with_ways_barred};
 ghost use Rattle.cave_clocks.specs.FirstClock.{dismissed_dwarf, without_dwarves, without_bear};
 ghost use Rattle.cave_clocks.specs.FirstClock.{with_loose, with_chain_and_axe_loose, cleared_cave};
@@ -10,7 +10,8 @@ ghost use Rattle.cave_clocks.specs.FirstClock.{tick, parts_of_beginning, timing_
 
 use cave_objects::{Anchor, Object, Objects, Place, Prop};
 use cave_rows::{PlaceRole, Role};
-use cave_things::{Play, Rules, deep_place, has_prop, is_place, pay_troll, place_named};
+use cave_scene::{Play, Rules};
+use cave_things::{deep_place, has_prop, is_place, pay_troll, place_named};
 use cave_words::Named;
 use cave_world::{Dwarf, State};
 

@@ -1,7 +1,7 @@
 ghost use Rattle.std.specs.Prelude.{◌≡◌};
-ghost use Rattle.cave_things.specs.Rules.{cave_of};
-ghost use Rattle.cave_things.specs.Bounds.{HasRoom, SaysUpTo};
-ghost use Rattle.cave_things.specs.Play.{scene_of, GoesOn};
+ghost use Rattle.cave_scene.specs.Rules.{cave_of};
+ghost use Rattle.cave_scene.specs.Bounds.{HasRoom, SaysUpTo};
+ghost use Rattle.cave_scene.specs.Play.{scene_of, GoesOn};
 ghost use Rattle.cave_clocks.specs.Lamp.{with_lamp_burnt, is_low, can_change_batteries};
 ghost use Rattle.cave_clocks.specs.Lamp.{with_new_charge, with_batteries_used, change_of_batteries};
 ghost use Rattle.cave_clocks.specs.Lamp.{with_lamp_out, lamp_going_out, is_hopeless};
@@ -10,7 +10,8 @@ ghost use Rattle.cave_clocks.specs.Lamp.{burning_of, care_of_lamp, timing_of_lam
 
 use cave_objects::Prop;
 use cave_rows::Role;
-use cave_things::{Play, Rules, has_prop, let_go, outside_place};
+use cave_scene::{Play, Rules};
+use cave_things::{has_prop, is_near, let_go, outside_place};
 use cave_words::Named;
 use cave_world::{Charge, State};
 
@@ -43,9 +44,9 @@ fn can_change_batteries(rules: &Rules<'_>, state: &State) -> bool
 {
     let batteries = rules.object(Named::Batteries);
     is_low(state)
-        && rules.is_near(state, batteries)
+        && is_near(rules, state, batteries)
         && has_prop(state, batteries, 0)
-        && rules.is_near(state, rules.object(Named::Lamp))
+        && is_near(rules, state, rules.object(Named::Lamp))
 }
 
 fn refill(state: &mut State)
@@ -97,7 +98,7 @@ fn go_out(rules: &Rules<'_>, play: &mut Play<'_>)
     ensures few { SaysUpTo 1 play.old play.new }
 {
     put_out(rules, play.state);
-    if rules.is_near(play.state, rules.object(Named::Lamp)) {
+    if is_near(rules, play.state, rules.object(Named::Lamp)) {
         play.say(Role::LampDead);
     }
 }
@@ -115,7 +116,7 @@ fn is_hopeless(rules: &Rules<'_>, state: &State) -> bool
 fn is_warning_due(rules: &Rules<'_>, state: &State) -> bool
     ensures { result ≡ is_warning_due (cave_of rules.now) state.now }
 {
-    is_low(state) && !state.lamp.is_warned && rules.is_near(state, rules.object(Named::Lamp))
+    is_low(state) && !state.lamp.is_warned && is_near(rules, state, rules.object(Named::Lamp))
 }
 
 /// The warning, by where new batteries could come from.

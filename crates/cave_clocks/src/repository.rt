@@ -1,7 +1,7 @@
 ghost use Rattle.std.specs.Prelude.{◌≡◌};
-ghost use Rattle.cave_things.specs.Rules.{cave_of};
-ghost use Rattle.cave_things.specs.Bounds.{HasRoom, SaysUpTo};
-ghost use Rattle.cave_things.specs.Play.{scene_of, GoesOn};
+ghost use Rattle.cave_scene.specs.Rules.{cave_of};
+ghost use Rattle.cave_scene.specs.Bounds.{HasRoom, SaysUpTo};
+ghost use Rattle.cave_scene.specs.Play.{scene_of, GoesOn};
 ghost use Rattle.cave_clocks.specs.Repository.{northeast_things, southwest_things, with_thing};
 ghost use Rattle.cave_clocks.specs.Repository.{with_all_stored, with_mirror, furnished_repository};
 ghost use Rattle.cave_clocks.specs.Repository.{without_all, with_player_at, with_empty_hands};
@@ -12,7 +12,8 @@ ghost use Rattle.cave_clocks.specs.Repository.{timing_of_second_clock};
 
 use cave_objects::{Anchor, Object, Objects, Place, Prop};
 use cave_rows::{PlaceRole, Role};
-use cave_things::{Play, Rules, place_named};
+use cave_scene::{Play, Rules};
+use cave_things::place_named;
 use cave_words::Named;
 use cave_world::State;
 

@@ -36,7 +36,7 @@ fn note_pieces(said: &mut SaidTexts, cave: &Cave, pieces: &[Vec<Part>])
 
 /// Notes what the play that a session holds says.
 fn note_session(said: &mut SaidTexts, cave: &Cave, session: &Session<CaveMachine<'_>>)
-    requires { session.now.machine.cave.now ≡ cave.now }
+    requires { session.now.machine.rules.cave.now ≡ cave.now }
     ensures { Notes (texts_said_in cave.now session.now.game) said.old said.new }
 {
     note_parts(said, cave, session.opening());
@@ -54,7 +54,7 @@ fn note_log<L: Read>(
     requires { large_seed seed ≡ None }
     ensures judged { (moves : List ℕ) × Says (L.remaining log.old) moves
         × Judges (log_stage moves ∷ [])
-        (λ _. Notes (said_in_log machine.entry.cave.now seed moves) said.old said.new) result }
+        (λ _. Notes (said_in_log machine.entry.rules.cave.now seed moves) said.old said.new) result }
 {
     let session = read_log(alloc, machine, log, seed, USUAL_EVERY)?;
     note_session(said, machine.cave(), &session);
@@ -74,7 +74,7 @@ pub fn note_logs<L: Read>(
     requires { large_seed seed ≡ None }
     ensures judged { (moves : List (List ℕ)) × AllZip Says (map L.remaining logs.old) moves
         × JudgesAll [] moves
-        (λ _. Notes (said_in_all machine.entry.cave.now seed moves) said.old said.new) result }
+        (λ _. Notes (said_in_all machine.entry.rules.cave.now seed moves) said.old said.new) result }
 {
     for (place, log) in logs.iter_mut().enumerate() {
         match note_log(alloc, machine, log, seed, said) {

@@ -11,8 +11,9 @@ use Rattle.cave_world.specs.declared.state.State.{State}
 use Rattle.cave_things.specs.Effects.{with_objects}
 use Rattle.cave_things.specs.Homes.{is_home_here}
 use Rattle.cave_things.specs.Places.{place_named, place_or}
-use Rattle.cave_things.specs.Reach.{is_called, is_in_hand, is_near, is_fixed}
-use Rattle.cave_things.specs.Rules.{thing}
+use Rattle.cave_scene.specs.Rules.{is_called}
+use Rattle.cave_things.specs.Reach.{is_in_hand, is_near, is_fixed}
+use Rattle.cave_scene.specs.Rules.{thing}
 use Rattle.cave_things.specs.Treasures.{treasures}
 use Rattle.cave_dwarves.specs.Band.{pirate, dwarf_of, with_dwarf}
 

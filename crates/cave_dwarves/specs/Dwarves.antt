@@ -1,7 +1,7 @@
 -- What the dwarves do where the player arrives.
 use Rattle.std.specs.Prelude.{Bool, false, ◌==◌, not, if◌then◌else◌}
 use Rattle.cave_data.specs.CaveView.{CaveView}
-use Rattle.cave_things.specs.Play.{Scene, with_state}
+use Rattle.cave_scene.specs.Play.{Scene, with_state}
 use Rattle.cave_dwarves.specs.Knives.{raid_of}
 use Rattle.cave_dwarves.specs.Lines.{after_attack}
 use Rattle.cave_dwarves.specs.Pirate.{after_pirate}

@@ -5,7 +5,7 @@ use Rattle.cave_world.specs.declared.part.NumberLine.{NumberLine}
 use Rattle.cave_world.specs.declared.part.NumberLine.TheVariants as line
 use Rattle.cave_world.specs.declared.part.Part.TheVariants as part
 use Rattle.cave_world.specs.declared.state.State.{State}
-use Rattle.cave_things.specs.Play.{Scene, with_state, after_saying, after_telling}
+use Rattle.cave_scene.specs.Play.{Scene, with_state, after_saying, after_telling}
 use Rattle.cave_dwarves.specs.Waking.{with_anger}
 use Rattle.cave_dwarves.specs.declared.knives.Attack.{Attack}
 

@@ -8,9 +8,9 @@ use Rattle.cave_words.specs.declared.named.Named.TheVariants as name
 use Rattle.cave_objects.specs.Objects.{is_gone, prop_of}
 use Rattle.cave_world.specs.declared.state.State.{State}
 use Rattle.cave_things.specs.Places.{place_named}
-use Rattle.cave_things.specs.Play.{Scene, with_state, after_saying, after_draw, happens}
+use Rattle.cave_scene.specs.Play.{Scene, with_state, after_saying, after_draw, happens}
 use Rattle.cave_things.specs.Reach.{is_near, has_prop}
-use Rattle.cave_things.specs.Rules.{thing}
+use Rattle.cave_scene.specs.Rules.{thing}
 use Rattle.cave_dwarves.specs.Band.{pirate, dwarf_of}
 use Rattle.cave_dwarves.specs.Moving.{after_dwarf_move}
 use Rattle.cave_dwarves.specs.Booty.{carries_booty, is_treasure_near, after_robbery}

@@ -9,8 +9,8 @@ use Rattle.cave_world.specs.declared.dwarves.Dwarf.{Dwarf}
 use Rattle.cave_world.specs.declared.state.State.{State}
 use Rattle.cave_things.specs.Effects.{put_here}
 use Rattle.cave_things.specs.Places.{place_named, place_or, deep_place}
-use Rattle.cave_things.specs.Play.{Scene, with_state, here_of, after_saying, after_draw, happens}
-use Rattle.cave_things.specs.Rules.{thing}
+use Rattle.cave_scene.specs.Play.{Scene, with_state, here_of, after_saying, after_draw, happens}
+use Rattle.cave_scene.specs.Rules.{thing}
 use Rattle.cave_dwarves.specs.Band.{dwarf_of, with_dwarf, with_dwarves, state_after_draw}
 
 -- another anger of the dwarves

@@ -1,7 +1,7 @@
 //! What the pirate does to the treasures.
 
 ghost use Rattle.std.specs.Prelude.{◌≡◌};
-ghost use Rattle.cave_things.specs.Rules.{cave_of};
+ghost use Rattle.cave_scene.specs.Rules.{cave_of};
 ghost use Rattle.cave_dwarves.specs.Booty.{after_move_to_named, pirate_wants, is_carried_booty, is_booty};
 ghost use Rattle.cave_dwarves.specs.Booty.{after_theft, after_thefts, carries_booty};
 ghost use Rattle.cave_dwarves.specs.Booty.{is_treasure_near};
@@ -12,8 +12,9 @@ ghost use Rattle.cave_things.specs.Treasures.{treasures};
 use crate::band::{PIRATE, dwarf_of, set_dwarf};
 use cave_objects::{Object, Place};
 use cave_rows::PlaceRole;
+use cave_scene::Rules;
 use cave_things::treasures::{FIRST_TREASURE, LAST_TREASURE};
-use cave_things::{Rules, is_fixed, place_named, place_or};
+use cave_things::{is_fixed, is_home_here, is_in_hand, is_near, place_named, place_or};
 use cave_words::Named;
 use cave_world::{Dwarf, State};
 
@@ -33,8 +34,8 @@ fn pirate_wants(rules: &Rules<'_>, state: &State, object: Object) -> bool
     ensures { result ≡ pirate_wants (cave_of rules.now) state.now object }
 {
     !(rules.is(object, Named::Pyramid)
-        && (rules.is_home_here(state, rules.object(Named::Pyramid))
-            || rules.is_home_here(state, rules.object(Named::Emerald))))
+        && (is_home_here(rules, state, rules.object(Named::Pyramid))
+            || is_home_here(rules, state, rules.object(Named::Emerald))))
 }
 
 /// Whether the player carries a treasure that the pirate takes.
@@ -42,7 +43,7 @@ fn pirate_wants(rules: &Rules<'_>, state: &State, object: Object) -> bool
 fn is_carried_booty(rules: &Rules<'_>, state: &State, object: Object) -> bool
     ensures { result ≡ is_carried_booty (cave_of rules.now) state.now object }
 {
-    pirate_wants(rules, state, object) && rules.is_in_hand(state, object)
+    pirate_wants(rules, state, object) && is_in_hand(rules, state, object)
 }
 
 /// Whether the pirate takes a treasure that is carried, or is here and loose.
@@ -51,7 +52,7 @@ fn is_booty(rules: &Rules<'_>, state: &State, object: Object) -> bool
     ensures { result ≡ is_booty (cave_of rules.now) state.now object }
 {
     pirate_wants(rules, state, object)
-        && (rules.is_in_hand(state, object) || (state.at(object) && !is_fixed(state, object)))
+        && (is_in_hand(rules, state, object) || (state.at(object) && !is_fixed(state, object)))
 }
 
 /// The pirate brings a treasure to its chest, if it takes it.
@@ -94,7 +95,7 @@ pub fn is_treasure_near(rules: &Rules<'_>, state: &State) -> bool
     ensures { result ≡ is_treasure_near (cave_of rules.now) state.now }
 {
     for number in FIRST_TREASURE..LAST_TREASURE + 1 {
-        if rules.is_near(state, Object::new(number)) {
+        if is_near(rules, state, Object::new(number)) {
             return true;
         }
     }

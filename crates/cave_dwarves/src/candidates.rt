@@ -1,15 +1,16 @@
 ghost use Rattle.cave_objects.specs.Spots.{is_place};
 ghost use Rattle.std.specs.Prelude.{◌≡◌};
 ghost use Rattle.cave_rows.specs.RowViews.{going};
-ghost use Rattle.cave_things.specs.Rules.{cave_of};
-ghost use Rattle.cave_dwarves.specs.Candidates.{is_haunt, leads_dwarf_on, place_ahead, candidates};
+ghost use Rattle.cave_scene.specs.Rules.{cave_of};
+ghost use Rattle.cave_dwarves.specs.Candidates.{is_haunt, place_ahead, candidates};
 
 use crate::haunt::Haunt;
 use arrayvec::ArrayVec;
 use cave_objects::Place;
 use cave_objects::place::LAST_PLACE;
 use cave_rows::Row;
-use cave_things::{Condition, Rules};
+use cave_scene::Rules;
+use cave_things::{Condition, has_condition_of};
 use cave_world::travel::NOT_FOR_DWARVES;
 use cave_world::{Dwarf, is_forced};
 
@@ -26,7 +27,7 @@ fn is_haunt(rules: &Rules<'_>, is_pirate: bool, place: Place) -> bool
 {
     FIRST_HAUNT <= place.number()
         && !is_forced(rules.cave, place)
-        && !(is_pirate && rules.has(place, Condition::NoPirate))
+        && !(is_pirate && has_condition_of(rules, place, Condition::NoPirate))
 }
 
 /// The place to which a row leads a dwarf on.

@@ -1,14 +1,14 @@
 ghost use Rattle.std.specs.Prelude.{◌≡◌};
-ghost use Rattle.cave_things.specs.Bounds.{HasRoom, SaysUpTo, parts_of_dwarves};
-ghost use Rattle.cave_things.specs.Play.{scene_of, GoesOn};
-ghost use Rattle.cave_things.specs.Rules.{cave_of};
+ghost use Rattle.cave_scene.specs.Bounds.{HasRoom, SaysUpTo, parts_of_dwarves};
+ghost use Rattle.cave_scene.specs.Play.{scene_of, GoesOn};
+ghost use Rattle.cave_scene.specs.Rules.{cave_of};
 ghost use Rattle.cave_dwarves.specs.Dwarves.{encounter_of, encounter_in_turn};
 
 use crate::knives::raid;
 use crate::lines::tell_attack;
 use crate::pirate::send_pirate;
 use crate::waking::{awake, stir};
-use cave_things::{Play, Rules};
+use cave_scene::{Play, Rules};
 
 /// The dwarves sleep, stir, or are awake, where the player arrives. Returns whether a knife hit the
 /// player.

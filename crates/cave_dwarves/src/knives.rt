@@ -1,5 +1,5 @@
 ghost use Rattle.std.specs.Prelude.{◌≡◌, ◌≤◌, ◌<◌, ◌+◌};
-ghost use Rattle.cave_things.specs.Rules.{cave_of};
+ghost use Rattle.cave_scene.specs.Rules.{cave_of};
 ghost use Rattle.cave_dwarves.specs.Knives.{fallen_knife, with_knife_here, throw_act};
 ghost use Rattle.cave_dwarves.specs.Knives.{threatening_act, act_of_dwarf, with_threat, no_attack};
 ghost use Rattle.cave_dwarves.specs.Knives.{raid_of};
@@ -7,7 +7,7 @@ ghost use Rattle.cave_dwarves.specs.Knives.{raid_of};
 use crate::band::dwarf_of;
 use crate::moving::move_on;
 use cave_objects::Place;
-use cave_things::Rules;
+use cave_scene::Rules;
 use cave_world::{Knife, State};
 
 /// What a dwarf does to the player.

@@ -1,13 +1,13 @@
 ghost use Rattle.std.specs.Prelude.{◌≡◌};
-ghost use Rattle.cave_things.specs.Bounds.{HasRoom, SaysUpTo};
-ghost use Rattle.cave_things.specs.Play.{scene_of, GoesOn};
+ghost use Rattle.cave_scene.specs.Bounds.{HasRoom, SaysUpTo};
+ghost use Rattle.cave_scene.specs.Play.{scene_of, GoesOn};
 ghost use Rattle.cave_dwarves.specs.Lines.{telling_number, after_dwarf_count, after_one_knife, after_some_knives};
 ghost use Rattle.cave_dwarves.specs.Lines.{after_first_knives, after_throws, after_attack};
 
 use crate::knives::Attack;
 use crate::waking::set_anger;
 use cave_rows::Role;
-use cave_things::Play;
+use cave_scene::Play;
 use cave_world::{NumberLine, Part, State};
 
 /// A line of the game's own with a number is printed.

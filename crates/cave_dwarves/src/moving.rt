@@ -1,12 +1,13 @@
 ghost use Rattle.std.specs.Prelude.{◌≡◌, ◌<◌, ◌==◌};
 ghost use Rattle.cave_words.specs.Stream.{next};
-ghost use Rattle.cave_things.specs.Rules.{cave_of};
+ghost use Rattle.cave_scene.specs.Rules.{cave_of};
 ghost use Rattle.cave_dwarves.specs.Moving.{chosen_way, sees, dwarf_after_move, after_dwarf_move};
 
 use crate::band::{PIRATE, dwarf_of, set_dwarf};
 use crate::candidates::candidates;
 use cave_objects::Place;
-use cave_things::{Rules, deep_place};
+use cave_scene::Rules;
+use cave_things::deep_place;
 use cave_words::Stream;
 use cave_world::{Dwarf, State};
 

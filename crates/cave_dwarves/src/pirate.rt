@@ -1,7 +1,7 @@
 ghost use Rattle.std.specs.Prelude.{◌≡◌};
-ghost use Rattle.cave_things.specs.Bounds.{HasRoom, SaysUpTo};
-ghost use Rattle.cave_things.specs.Play.{scene_of, GoesOn};
-ghost use Rattle.cave_things.specs.Rules.{cave_of};
+ghost use Rattle.cave_scene.specs.Bounds.{HasRoom, SaysUpTo};
+ghost use Rattle.cave_scene.specs.Play.{scene_of, GoesOn};
+ghost use Rattle.cave_scene.specs.Rules.{cave_of};
 ghost use Rattle.cave_dwarves.specs.Pirate.{is_chest_seen, is_after_player, hides_chest};
 ghost use Rattle.cave_dwarves.specs.Pirate.{is_pirate_new, rustling_scene, pirate_scene};
 ghost use Rattle.cave_dwarves.specs.Pirate.{after_pirate_meeting};
@@ -11,7 +11,8 @@ use crate::band::{PIRATE, dwarf_of};
 use crate::booty::{carries_booty, hide_chest, is_treasure_near, rob};
 use crate::moving::move_on;
 use cave_rows::{PlaceRole, Role};
-use cave_things::{Play, Rules, has_prop, is_place, place_named};
+use cave_scene::{Play, Rules};
+use cave_things::{has_prop, is_near, is_place, place_named};
 use cave_words::Named;
 use cave_world::State;
 
@@ -42,7 +43,7 @@ fn hides_chest(rules: &Rules<'_>, state: &State) -> bool
     !is_treasure_near(rules, state)
         && u32::from(state.tallies.unseen.number()) == u32::from(state.tallies.lost.number()) + 1
         && state.is_gone(rules.object(Named::Chest))
-        && rules.is_near(state, lamp)
+        && is_near(rules, state, lamp)
         && has_prop(state, lamp, 1)
 }
 

@@ -1,8 +1,7 @@
 ghost use Rattle.std.specs.Prelude.{◌≡◌, ◌<◌, ◌≤◌};
-ghost use Rattle.cave_things.specs.Bounds.{HasRoom, SaysUpTo};
-ghost use Rattle.cave_things.specs.Play.{scene_of, GoesOn};
-ghost use Rattle.cave_things.specs.Rules.{cave_of};
-ghost use Rattle.cave_things.specs.Effects.{put_here};
+ghost use Rattle.cave_scene.specs.Bounds.{HasRoom, SaysUpTo};
+ghost use Rattle.cave_scene.specs.Play.{scene_of, GoesOn};
+ghost use Rattle.cave_scene.specs.Rules.{cave_of};
 ghost use Rattle.cave_dwarves.specs.Waking.{with_anger, after_stirring, without_dwarf};
 ghost use Rattle.cave_dwarves.specs.Waking.{perhaps_without_one, place_apart, dwarf_apart};
 ghost use Rattle.cave_dwarves.specs.Waking.{with_dwarves_apart, after_waking, axe_scene, waking_scene};
@@ -10,7 +9,8 @@ ghost use Rattle.cave_dwarves.specs.Waking.{with_dwarves_apart, after_waking, ax
 use crate::band::{dwarf_of, set_dwarf};
 use cave_objects::Place;
 use cave_rows::{PlaceRole, Role};
-use cave_things::{Play, Rules, deep_place, place_named, place_or};
+use cave_scene::{Play, Rules};
+use cave_things::{deep_place, place_named, place_or};
 use cave_words::Named;
 use cave_world::{Count, Dwarf, State};
 

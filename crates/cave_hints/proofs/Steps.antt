@@ -2,7 +2,7 @@
 use Rattle.std.proofs.Common.{◌≡◌, ℕ, suc, ◌+◌, ◌≤◌, Bool, true, false, refl, arith}
 use Rattle.cave_data.specs.CaveView.{CaveView}
 use Rattle.cave_hints.specs.Hints.{after_considering, after_hints_up_to}
-use Rattle.cave_things.specs.Play.{Scene}
+use Rattle.cave_scene.specs.Play.{Scene}
 
 -- the next hint comes after those so far
 pub after_considering-more : (cave : CaveView) (n : ℕ) (p : Scene)

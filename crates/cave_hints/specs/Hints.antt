@@ -6,10 +6,11 @@ use Rattle.std.specs.FinMap as map
 use Rattle.std.specs.Int.{int_min}
 use Rattle.cave_data.specs.CaveView.{CaveView}
 use Rattle.cave_rows.specs.declared.rows.Hint.{Hint}
-use Rattle.cave_score.specs.Questions.{asking_scene}
-use Rattle.cave_things.specs.Play.{Scene, after_telling, with_state}
-use Rattle.cave_things.specs.Reach.{is_called, is_near, is_in_hand, has_prop, has_other_prop}
-use Rattle.cave_things.specs.Rules.{thing}
+use Rattle.cave_ends.specs.Questions.{asking_scene}
+use Rattle.cave_scene.specs.Play.{Scene, after_telling, with_state}
+use Rattle.cave_scene.specs.Rules.{is_called}
+use Rattle.cave_things.specs.Reach.{is_near, is_in_hand, has_prop, has_other_prop}
+use Rattle.cave_scene.specs.Rules.{thing}
 use Rattle.cave_words.specs.declared.named.Named.TheVariants as name
 use Rattle.cave_objects.specs.Lists.{halves_at}
 use Rattle.cave_objects.specs.Objects.{carried_objects}

@@ -1,9 +1,9 @@
 //! Hints: one is offered to a player who stays for long where it helps, and who needs it.
 
-ghost use Rattle.std.specs.Prelude.{◌≡◌, ◌≤◌, ◌<◌, ◌+◌, ◌*◌, false, true};
-ghost use Rattle.cave_things.specs.Bounds.{HasRoom, SaysUpTo, parts_of_question};
-ghost use Rattle.cave_things.specs.Play.{scene_of, GoesOn};
-ghost use Rattle.cave_things.specs.Rules.{cave_of};
+ghost use Rattle.std.specs.Prelude.{◌≡◌, ◌<◌, ◌+◌, ◌*◌, false, true};
+ghost use Rattle.cave_scene.specs.Bounds.{HasRoom, SaysUpTo, parts_of_question};
+ghost use Rattle.cave_scene.specs.Play.{scene_of, GoesOn};
+ghost use Rattle.cave_scene.specs.Rules.{cave_of};
 ghost use Rattle.cave_hints.specs.Hints.{turns_near, with_turns_near, was_taken, with_hint_taken};
 ghost use Rattle.cave_hints.specs.Hints.{is_in_area, after_turn_near, is_due, is_locked_out};
 ghost use Rattle.cave_hints.specs.Hints.{is_after_bird, is_held_by_snake, is_lost_in_maze};
@@ -12,9 +12,10 @@ ghost use Rattle.cave_hints.specs.Hints.{after_considering, after_hints, price_s
 ghost use Rattle.cave_hints.specs.Hints.{after_reward, hint_scene};
 ghost use Rattle.cave_world.specs.State.{takes_no_command};
 
+use cave_ends::ask;
 use cave_rows::Hint;
-use cave_score::ask;
-use cave_things::{Play, Rules, has_other_prop, has_prop};
+use cave_scene::{Play, Rules};
+use cave_things::{has_other_prop, has_prop, is_in_hand, is_near};
 use cave_words::Named;
 use cave_world::{Charge, Count, HintNumber, NumberLine, Part, Question, State, has_condition};
 
@@ -147,15 +148,15 @@ fn is_locked_out(rules: &Rules<'_>, state: &State) -> bool
     ensures { result ≡ is_locked_out (cave_of rules.now) state.now }
 {
     has_prop(state, rules.object(Named::Grate), 0)
-        && !rules.is_near(state, rules.object(Named::Keys))
+        && !is_near(rules, state, rules.object(Named::Keys))
 }
 
 #[tactic(auto, unfolding(crate::specs::Hints::is_after_bird))]
 fn is_after_bird(rules: &Rules<'_>, state: &State) -> bool
     ensures { result ≡ is_after_bird (cave_of rules.now) state.now }
 {
-    rules.is_near(state, rules.object(Named::Bird))
-        && rules.is_in_hand(state, rules.object(Named::Rod))
+    is_near(rules, state, rules.object(Named::Bird))
+        && is_in_hand(rules, state, rules.object(Named::Rod))
         && rules.is(state.talk.last, Named::Bird)
 }
 
@@ -163,8 +164,8 @@ fn is_after_bird(rules: &Rules<'_>, state: &State) -> bool
 fn is_held_by_snake(rules: &Rules<'_>, state: &State) -> bool
     ensures { result ≡ is_held_by_snake (cave_of rules.now) state.now }
 {
-    rules.is_near(state, rules.object(Named::Snake))
-        && !rules.is_near(state, rules.object(Named::Bird))
+    is_near(rules, state, rules.object(Named::Snake))
+        && !is_near(rules, state, rules.object(Named::Bird))
 }
 
 #[tactic(auto, unfolding(crate::specs::Hints::is_lost_in_maze))]

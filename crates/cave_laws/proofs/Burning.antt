@@ -17,9 +17,9 @@ use Rattle.cave_world.specs.declared.ending.Ending.{Ending}
 use Rattle.cave_world.specs.declared.ending.Question.{Question}
 use Rattle.cave_world.specs.declared.state.State.{State}
 use Rattle.cave_things.specs.Places.{building_place}
-use Rattle.cave_things.specs.Play.{Scene, with_state}
+use Rattle.cave_scene.specs.Play.{Scene, with_state}
 use Rattle.cave_things.specs.Reach.{has_prop}
-use Rattle.cave_things.specs.Rules.{thing}
+use Rattle.cave_scene.specs.Rules.{thing}
 use Rattle.cave_clocks.specs.Lamp.{timing_of_lamp, with_charge, with_lamp_burnt, with_lamp_out}
 use Rattle.cave_turn.specs.Answers.{answer_in, answer_scene, answers, is_dragon, is_yes}
 use Rattle.cave_turn.specs.Answers.{without_question}

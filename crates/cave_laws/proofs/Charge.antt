@@ -7,7 +7,7 @@ use Rattle.std.specs.Int.{int_min}
 use Rattle.std.specs.Prelude.{◌&&◌, Option, None, Some}
 use Rattle.cave_data.specs.CaveView.{CaveView}
 use Rattle.cave_things.specs.Places.{building_place}
-use Rattle.cave_things.specs.Play.{Scene}
+use Rattle.cave_scene.specs.Play.{Scene}
 use Rattle.cave_turn.specs.Answers.{without_question}
 use Rattle.cave_laws.specs.Laws.{LampBurnsDown, before_clocks, before_lamp, gets_batteries}
 use Rattle.cave_laws.specs.Laws.{is_changed, is_command}

@@ -15,7 +15,7 @@ use Rattle.cave_world.specs.Fresh.{far_closing}
 use Rattle.cave_world.specs.State.{starting_state}
 use Rattle.cave_things.specs.Homes.{home, second_home}
 use Rattle.cave_things.specs.Places.{building_place, outside_place}
-use Rattle.cave_things.specs.Rules.{thing}
+use Rattle.cave_scene.specs.Rules.{thing}
 use Rattle.cave_turn.specs.Dragon.{between}
 use Rattle.cave_turn.specs.Turns.{game_beginning, turn_on_line}
 use Rattle.cave_laws.specs.Courses.{DeathsComeOneByOne, IsOutside, NobodyGetsOut}

@@ -14,8 +14,8 @@ use Rattle.cave_world.specs.declared.ending.Question.TheVariants as question
 use Rattle.cave_world.specs.declared.state.State.{State}
 use Rattle.cave_things.specs.Homes.{home, second_home}
 use Rattle.cave_things.specs.Places.{outside_place, place_named}
-use Rattle.cave_things.specs.Play.{Scene}
-use Rattle.cave_things.specs.Rules.{thing}
+use Rattle.cave_scene.specs.Play.{Scene}
+use Rattle.cave_scene.specs.Rules.{thing}
 use Rattle.cave_turn.specs.Dragon.{between}
 
 -- what only ever goes one way

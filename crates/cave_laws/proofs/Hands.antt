@@ -22,8 +22,8 @@ use Rattle.cave_world.specs.declared.state.State.{State}
 use Rattle.cave_things.specs.Homes.{home}
 use Rattle.cave_begin.specs.Begin.{begun_state, starting_objects, all_objects}
 use Rattle.cave_turn.specs.Turns.{game_beginning, turn_on_line}
-use Rattle.cave_verbs.specs.Deeds.{Deed, Outcome}
-use Rattle.cave_verbs.specs.Rows.{VerbRow, fits, after_all, outcome_of, first_fitting}
+use Rattle.cave_verbs.specs.Deeds.{Deed, Act}
+use Rattle.cave_verbs.specs.Rows.{VerbRow, fits, after_all, act_of_row, first_fitting}
 use Rattle.cave_verbs.specs.Taking.{free_take_rows, take_rows}
 use Rattle.cave_laws.proofs.ThingsEffects.{default_kept}
 use Rattle.cave_laws.proofs.ThingsFrame.{Claim, On, IsMoved, IsKept, choose}
@@ -261,30 +261,30 @@ tame_fit o z v x y free =
 abbrev Guarded : Deed → List VerbRow → Type 0
 Guarded d [] = Unit {0}
 Guarded d (r ∷ rows) =
-    (fits r.tests d ≡ true → On Few (after_all r.effects d).state)
+    (fits r.tests d ≡ true → On Few (after_all r.effects d).scene.state)
     × (fits r.tests d ≡ false → Guarded d rows)
 
-guarded_few : (d : Deed) (rows : List VerbRow) → On Few d.state → Guarded d rows
-    → On Few (first_fitting rows d).state
+guarded_few : (d : Deed) (rows : List VerbRow) → On Few d.scene.state → Guarded d rows
+    → On Few (first_fitting rows d).scene.state
 guarded_few d [] h each = h
 guarded_few d (r ∷ rows) h each =
-    choose (λ (o : Outcome). On Few o.state) (fits r.tests d) (outcome_of r d)
+    choose (λ (o : Act). On Few o.scene.state) (fits r.tests d) (act_of_row r d)
     (first_fitting rows d) each.0 (λ other. guarded_few d rows h (each.1 other))
 
 -- an object is taken where there is room
-freely_taken : (d : Deed) → HasRoom d.state.objects → On Few d.state → Guarded d free_take_rows
+freely_taken : (d : Deed) → HasRoom d.scene.state.objects → On Few d.scene.state → Guarded d free_take_rows
 unfolding free_take_rows
 freely_taken d free h = (
   (λ _. h),
   λ _. (
     (λ _. h),
     λ _. (
-      (λ _. tame_fit d.state.objects _ _ _ _ free),
+      (λ _. tame_fit d.scene.state.objects _ _ _ _ free),
       λ _. (
-        (λ _. two_fit d.state.objects _ _ free),
+        (λ _. two_fit d.scene.state.objects _ _ free),
         λ _. (
-          (λ _. two_fit d.state.objects _ _ free),
-          λ _. ((λ _. one_fits d.state.objects _ free), λ _. tt),
+          (λ _. two_fit d.scene.state.objects _ _ free),
+          λ _. ((λ _. one_fits d.scene.state.objects _ free), λ _. tt),
         ),
       ),
     ),
@@ -292,7 +292,7 @@ freely_taken d free h = (
 )
 
 -- an object that is taken is one of few
-taken_few : (d : Deed) → On Few d.state → On Few (first_fitting take_rows d).state
+taken_few : (d : Deed) → On Few d.scene.state → On Few (first_fitting take_rows d).scene.state
 unfolding take_rows
 taken_few d h = guarded_few d take_rows h (
   (λ _. default_kept Few d h),

@@ -6,6 +6,7 @@ use Rattle.cave_data.specs.CaveView.{CaveView}
 use Rattle.cave_world.specs.declared.state.State.{State}
 use Rattle.cave_things.specs.Effects.{put_down, let_go, without_troll, after_loss_to_snake}
 use Rattle.cave_things.specs.Effects.{with_one_more_lost}
+use Rattle.cave_scene.specs.Play.{Scene}
 use Rattle.cave_verbs.specs.Deeds.{Deed}
 use Rattle.cave_verbs.specs.Feeding.{with_more_anger}
 use Rattle.cave_verbs.specs.Opening.{after_sending}
@@ -27,10 +28,16 @@ Held P = record {
 }
 
 -- one of two deeds
-pub deed_held : (P : Claim) (b : Bool) (d e : Deed) → On (Held P) d.state → On (Held P) e.state
+pub deed_held : (P : Claim) (b : Bool) (d e : Deed) → On (Held P) d.scene.state → On (Held P) e.state
     → On (Held P) (if b then d else e).state
 deed_held P b d e h k =
-    choose (λ (one : Deed). On (Held P) one.state) b d e (λ _. h) (λ _. k)
+    choose (λ (one : Deed). On (Held P) one.scene.state) b d e (λ _. h) (λ _. k)
+
+-- one of two scenes
+pub scene_held : (P : Claim) (b : Bool) (p q : Scene) → On (Held P) p.state → On (Held P) q.state
+    → On (Held P) (if b then p else q).state
+scene_held P b p q h k =
+    choose (λ (one : Scene). On (Held P) one.state) b p q (λ _. h) (λ _. k)
 
 -- one of two states
 pub state_held : (P : Claim) (b : Bool) (s t : State) → On (Held P) s → On (Held P) t
@@ -67,6 +74,7 @@ angered_held P = angered_kept (Held P)
 -- what ordinary effects are made of: by these a search proves each row, of up to 60
 pub ruleset ordinary = (
   deed_held,
+  scene_held,
   state_held,
   put_down_held,
   let_go_held,

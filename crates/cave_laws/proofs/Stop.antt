@@ -20,12 +20,12 @@ use Rattle.cave_world.specs.declared.state.State.{State}
 use Rattle.cave_things.specs.Conditions.{meets_condition}
 use Rattle.cave_things.specs.Effects.{with_objects}
 use Rattle.cave_things.specs.Panic.{after_panic}
-use Rattle.cave_things.specs.Play.{Scene, after_telling, after_saying, with_state}
-use Rattle.cave_things.specs.Play.{here_of, after_draw, happens, scene_at_place}
-use Rattle.cave_things.specs.Rules.{thing}
+use Rattle.cave_scene.specs.Play.{Scene, after_telling, after_saying, with_state}
+use Rattle.cave_scene.specs.Play.{here_of, after_draw, happens, scene_at_place}
+use Rattle.cave_scene.specs.Rules.{thing}
 use Rattle.cave_things.specs.declared.conditions.Condition.TheVariants.{NoPirate}
 use Rattle.cave_dwarves.specs.Dwarves.{Encounter, encounter_in_turn}
-use Rattle.cave_score.specs.Deaths.{death_scene}
+use Rattle.cave_ends.specs.Deaths.{death_scene}
 use Rattle.cave_moves.specs.Arrival.{is_shut, journey_unless_shut, is_barred, journey_unless_barred, after_dwarves}
 use Rattle.cave_moves.specs.Arrival.{meeting_scene}
 use Rattle.cave_moves.specs.Arrival.{come_to, stop_at}

@@ -16,9 +16,9 @@ use Rattle.cave_world.specs.declared.dwarves.Dwarves.{Dwarves}
 use Rattle.cave_world.specs.declared.state.State.{State}
 use Rattle.cave_things.specs.Effects.{with_objects, without_troll}
 use Rattle.cave_things.specs.Places.{place_named}
-use Rattle.cave_things.specs.Play.{Scene, after_saying, with_state}
+use Rattle.cave_scene.specs.Play.{Scene, after_saying, with_state}
 use Rattle.cave_things.specs.Reach.{is_near, has_prop}
-use Rattle.cave_things.specs.Rules.{thing}
+use Rattle.cave_scene.specs.Rules.{thing}
 use Rattle.cave_clocks.specs.Clocks.{lamp_last, lamp_unless_closed}
 use Rattle.cave_clocks.specs.Clocks.{Timing, second_clock_and_lamp, timing_of_clocks}
 use Rattle.cave_clocks.specs.FirstClock.{Tick, tick, is_first_clock_going, with_first_clock_down}

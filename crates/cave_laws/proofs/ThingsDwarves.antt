@@ -13,8 +13,8 @@ use Rattle.cave_world.specs.declared.dwarves.Dwarf.{Dwarf}
 use Rattle.cave_world.specs.declared.part.NumberLine.TheVariants as line
 use Rattle.cave_world.specs.declared.state.State.{State}
 use Rattle.cave_things.specs.Places.{place_named, deep_place}
-use Rattle.cave_things.specs.Play.{Scene, after_saying, with_state, after_draw, happens, here_of}
-use Rattle.cave_things.specs.Rules.{thing}
+use Rattle.cave_scene.specs.Play.{Scene, after_saying, with_state, after_draw, happens, here_of}
+use Rattle.cave_scene.specs.Rules.{thing}
 use Rattle.cave_things.specs.Treasures.{treasures}
 use Rattle.cave_dwarves.specs.Band.{pirate, dwarf_of, with_dwarf, state_after_draw}
 use Rattle.cave_dwarves.specs.Dwarves.{Encounter, without_hit, encounter_of, encounter_in_turn}

@@ -12,7 +12,7 @@ use Rattle.cave_world.specs.declared.dwarves.Dwarf.{Dwarf}
 use Rattle.cave_world.specs.declared.dwarves.Dwarves.{Dwarves}
 use Rattle.cave_world.specs.declared.dwarves.Knife.{Knife}
 use Rattle.cave_world.specs.declared.state.State.{State}
-use Rattle.cave_things.specs.Play.{Scene}
+use Rattle.cave_scene.specs.Play.{Scene}
 use Rattle.cave_things.specs.Reach.{is_dwarf_at}
 use Rattle.cave_clocks.specs.FirstClock.{dismissed_dwarf}
 use Rattle.cave_dwarves.specs.Waking.{dwarf_apart}
@@ -83,7 +83,7 @@ pub record IsPlayed (P : Claim) : Type 0 where
         each = without_first_at n w.each;
       }) c
   -- an object is taken
-  pub takes : (d : Deed) → On P d.state → On P (first_fitting take_rows d).state
+  pub takes : (d : Deed) → On P d.scene.state → On P (first_fitting take_rows d).scene.state
 
 -- a claim is kept by what happens in a game, where commands find the player at places of some kind
 pub record IsKept (Here : ℕ → Type 0) (P : Claim) : Type 0 where

@@ -25,10 +25,10 @@ use Rattle.cave_world.specs.declared.part.NumberLine.TheVariants.{HintCosts}
 use Rattle.cave_world.specs.declared.part.Part.TheVariants as part
 use Rattle.cave_world.specs.declared.state.State.{State}
 use Rattle.cave_things.specs.Places.{start_place}
-use Rattle.cave_things.specs.Play.{Scene, scene_at_start, scene_at_place, after_telling}
-use Rattle.cave_things.specs.Play.{after_saying, after_look_at, with_state}
-use Rattle.cave_things.specs.Rules.{thing}
-use Rattle.cave_score.specs.Deaths.{with_one_death}
+use Rattle.cave_scene.specs.Play.{Scene, scene_at_start, scene_at_place, after_telling}
+use Rattle.cave_scene.specs.Play.{after_saying, after_look_at, with_state}
+use Rattle.cave_scene.specs.Rules.{thing}
+use Rattle.cave_ends.specs.Deaths.{with_one_death}
 use Rattle.cave_hints.specs.Hints.{with_hint_taken, price_scene_if, price_scene, hint_scene_if}
 use Rattle.cave_hints.specs.Hints.{hint_scene}
 use Rattle.cave_turn.specs.Answers.{answer_in, without_question, entrance_scene, yes_scene}

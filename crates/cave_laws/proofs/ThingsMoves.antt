@@ -25,11 +25,11 @@ use Rattle.cave_world.specs.declared.travel.Special.TheVariants.{Squeeze, Bridge
 use Rattle.cave_world.specs.declared.state.State.{State}
 use Rattle.cave_things.specs.Effects.{with_objects, with_one_more_lost}
 use Rattle.cave_things.specs.Places.{outside_place}
-use Rattle.cave_things.specs.Play.{Scene, after_telling, after_saying, after_look_at, with_state}
-use Rattle.cave_things.specs.Play.{with_left}
-use Rattle.cave_things.specs.Play.{here_of, after_setting_out}
+use Rattle.cave_scene.specs.Play.{Scene, after_telling, after_saying, after_look_at, with_state}
+use Rattle.cave_scene.specs.Play.{with_left}
+use Rattle.cave_scene.specs.Play.{here_of, after_setting_out}
 use Rattle.cave_things.specs.Reach.{is_in_hand, has_prop, has_prop_up_to}
-use Rattle.cave_things.specs.Rules.{thing}
+use Rattle.cave_scene.specs.Rules.{thing}
 use Rattle.cave_moves.specs.Arrival.{stop_at, after_forced_motions, arrival_scene, description_anew}
 use Rattle.cave_moves.specs.Bridge.{bridge_end, toll_scene, let_pass, without_bridge, with_troll}
 use Rattle.cave_moves.specs.Bridge.{with_broken_bridge, broken_bridge_scene, journey_across}

@@ -1,5 +1,6 @@
 -- The rows of verbs keep each claim that what happens in a game keeps.
-use Rattle.std.proofs.Common.{ℕ, ℤ, Option}
+use Rattle.std.proofs.Common.{ℕ, ℤ, Bool, Option}
+use Rattle.std.specs.Prelude.{if◌then◌else◌}
 use Rattle.cave_data.specs.CaveView.{CaveView}
 use Rattle.cave_objects.specs.Layout.{Layout}
 use Rattle.cave_objects.specs.Objects.{with_place, with_anchor, with_prop, with_latest}
@@ -10,6 +11,7 @@ use Rattle.cave_world.specs.declared.dwarves.Knife.{Knife}
 use Rattle.cave_world.specs.declared.state.State.{State}
 use Rattle.cave_things.specs.Effects.{put_down, let_go, without_troll, after_loss_to_snake}
 use Rattle.cave_things.specs.Panic.{after_panic}
+use Rattle.cave_scene.specs.Play.{Scene}
 use Rattle.cave_verbs.specs.Deeds.{Deed}
 use Rattle.cave_verbs.specs.Effects.{default}
 use Rattle.cave_verbs.specs.Light.{say_dark}
@@ -32,7 +34,7 @@ use Rattle.cave_verbs.specs.Throwing.{throw_rows, miss_rows, axe_rows}
 use Rattle.cave_verbs.specs.Waving.{wave_rows, rub_rows}
 use Rattle.cave_laws.proofs.ThingsEffects as effect
 use Rattle.cave_laws.proofs.ThingsEffects.{KeepsRows}
-use Rattle.cave_laws.proofs.ThingsFrame.{Claim, On, IsPlayed}
+use Rattle.cave_laws.proofs.ThingsFrame.{Claim, On, IsPlayed, chosen_scene}
 
 module _ {P : Claim} (k : IsPlayed P) where
   place : (n : ℕ) (o : Layout) (w : Dwarves) (c : Closing) (x place : ℕ) → P n o w c
@@ -73,10 +75,14 @@ module _ {P : Claim} (k : IsPlayed P) where
   send : (x : ℕ) (o : Option ℕ) (s : State) → On P s → On P (after_sending x o s)
   send = effect.sent_kept k.moved
 
-  say_default : (d : Deed) → On P d.state → On P (default d).state
+  say_default : (d : Deed) → On P d.scene.state → On P (default d).scene.state
   say_default = effect.default_kept P
 
-  tell_dark : (d : Deed) → On P d.state → On P (say_dark d).state
+  seen : (b : Bool) (p q : Scene) → On P p.state → On P q.state
+      → On P (if b then p else q).state
+  seen = chosen_scene P
+
+  tell_dark : (d : Deed) → On P d.scene.state → On P (say_dark d).scene.state
   tell_dark = effect.say_dark_kept P
 
   ruleset effects = (
@@ -93,6 +99,7 @@ module _ {P : Claim} (k : IsPlayed P) where
     send,
     say_default,
     tell_dark,
+    seen,
   )
 
   pub blast_rows_kept : KeepsRows P blast_rows

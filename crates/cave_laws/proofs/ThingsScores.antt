@@ -11,10 +11,10 @@ use Rattle.cave_world.specs.declared.ending.Question.{Question}
 use Rattle.cave_world.specs.declared.ending.Question.TheVariants as question
 use Rattle.cave_world.specs.declared.part.Part.TheVariants as part
 use Rattle.cave_world.specs.declared.part.NumberLine.TheVariants as line
-use Rattle.cave_things.specs.Play.{Scene, after_telling, after_saying, with_state}
-use Rattle.cave_score.specs.Deaths.{death_scene, closing_death_scene, with_one_death}
-use Rattle.cave_score.specs.Endings.{ending_scene, with_ending, after_score, after_class}
-use Rattle.cave_score.specs.Questions.{asking_scene, after_question, after_offer, after_preface}
+use Rattle.cave_scene.specs.Play.{Scene, after_telling, after_saying, with_state}
+use Rattle.cave_ends.specs.Deaths.{death_scene, closing_death_scene, with_one_death}
+use Rattle.cave_ends.specs.Endings.{ending_scene, with_ending, after_score, after_class}
+use Rattle.cave_ends.specs.Questions.{asking_scene, after_question, after_offer, after_preface}
 use Rattle.cave_score.specs.Score.{score_of, max_score_of}
 use Rattle.cave_moves.specs.Falling.{falling_at, with_all_left_at}
 use Rattle.cave_laws.proofs.ThingsFrame.{Claim, On, choose}

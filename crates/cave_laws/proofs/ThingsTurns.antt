@@ -18,19 +18,20 @@ use Rattle.cave_world.specs.declared.ending.Question.TheVariants as question
 use Rattle.cave_world.specs.declared.state.State.{State}
 use Rattle.cave_things.specs.Effects.{with_objects}
 use Rattle.cave_things.specs.Places.{building_place}
-use Rattle.cave_things.specs.Play.{Scene, after_saying, after_look_at, with_state}
+use Rattle.cave_scene.specs.Play.{Scene, after_saying, after_look_at, with_state}
 use Rattle.cave_things.specs.Reach.{is_in_hand}
-use Rattle.cave_things.specs.Rules.{thing}
-use Rattle.cave_verbs.specs.Acting.{outcome_of_command, next_of_step}
+use Rattle.cave_scene.specs.Rules.{thing}
+use Rattle.cave_verbs.specs.Acting.{act, next_of_step}
+use Rattle.cave_verbs.specs.Deeds.{order_of}
 use Rattle.cave_verbs.specs.declared.next.Next.{Next}
 use Rattle.cave_verbs.specs.declared.next.Next.TheVariants as next_is
-use Rattle.cave_verbs.specs.declared.order.Command.{Command}
+use Rattle.cave_verbs.specs.declared.order.Order.{Order}
 use Rattle.cave_clocks.specs.Clocks.{timing_of_clocks}
 use Rattle.cave_clocks.specs.declared.clocks.Clocks.{Clocks}
 use Rattle.cave_clocks.specs.declared.clocks.Clocks.TheVariants as clocks
-use Rattle.cave_score.specs.Deaths.{with_one_death}
-use Rattle.cave_score.specs.Endings.{ending_scene}
-use Rattle.cave_score.specs.Questions.{asking_scene}
+use Rattle.cave_ends.specs.Deaths.{with_one_death}
+use Rattle.cave_ends.specs.Endings.{ending_scene}
+use Rattle.cave_ends.specs.Questions.{asking_scene}
 use Rattle.cave_hints.specs.Hints.{with_turns_near, turns_near, was_taken, is_in_area}
 use Rattle.cave_hints.specs.Hints.{after_turn_near, after_considering}
 use Rattle.cave_hints.specs.Hints.{is_due, is_needed, put_off, offer_scene, after_considering_if}
@@ -157,15 +158,14 @@ following_kept {Here} {P} k cave (next_is.Ask q) p h =
     asking_kept P cave q p h
 following_kept {Here} {P} k cave (next_is.End how) p h = ended_kept P cave how p h
 
-acting_kept : {Here : ℕ → Type 0} {P : Claim} (k : IsKept Here P) (cave : CaveView) (v x : ℕ)
-    (word : List ℕ) (p : Scene) → Here p.state.trail.here → On P p.state
-    → On P (words_done_by_verb cave v x word p).scene.state
+acting_kept : {Here : ℕ → Type 0} {P : Claim} (k : IsKept Here P) (cave : CaveView) (order : Order)
+    (p : Scene) → Here p.state.trail.here → On P p.state
+    → On P (words_done_by_verb cave order p).scene.state
 unfolding words_done_by_verb
-acting_kept {Here} {P} k cave v x word p here h =
-    let command : Command = record { verb = v; object = x; word = word; was_dark = p.was_dark } in
-    let o = outcome_of_command cave command p.state p.parts in
-    following_kept k cave (next_of_step o.step) (record p { state = o.state; parts = o.parts })
-    (acted_kept k.played cave command p.state p.parts (here, h)).1
+acting_kept {Here} {P} k cave order p here h =
+    let a = act cave order p in
+    following_kept k cave (next_of_step a.step) a.scene
+    (acted_kept k.played cave order p (here, h)).1
 
 travelling_kept : {Here : ℕ → Type 0} {P : Claim} (k : IsKept Here P) (cave : CaveView)
     (motion : ℕ) (p : Scene) → On P p.state → On P (travel_scene cave motion p).state
@@ -183,7 +183,8 @@ done_kept k cave half (reading.Motion motion) p here h = travelling_kept k cave 
 done_kept k cave half (reading.Tell told) p here h = h
 done_kept k cave half reading.Knives p here h =
     (k.played.temper _ _ p.state.dwarves _ p.state.dwarves.anger knife.Vanished (here, h)).1
-done_kept k cave half (reading.Act v x word) p here h = acting_kept k cave v x word p here h
+done_kept k cave half (reading.Act v x word) p here h =
+    acting_kept k cave (order_of v x word) p here h
 done_kept k cave half (reading.WhatToDo word) p here h = h
 
 remembering_kept : (P : Claim) (o : Option HalfCommand) (x : ℕ) (s : State) → On P s

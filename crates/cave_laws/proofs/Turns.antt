@@ -15,18 +15,19 @@ use Rattle.cave_world.specs.declared.ending.Question.TheVariants as question
 use Rattle.cave_world.specs.declared.state.State.{State}
 use Rattle.cave_things.specs.Effects.{with_objects}
 use Rattle.cave_things.specs.Places.{building_place}
-use Rattle.cave_things.specs.Play.{Scene, after_saying, after_look_at, with_state}
-use Rattle.cave_things.specs.Rules.{thing}
-use Rattle.cave_verbs.specs.Acting.{outcome_of_command, next_of_step}
+use Rattle.cave_scene.specs.Play.{Scene, after_saying, after_look_at, with_state}
+use Rattle.cave_scene.specs.Rules.{thing}
+use Rattle.cave_verbs.specs.Acting.{act, next_of_step}
+use Rattle.cave_verbs.specs.Deeds.{order_of}
 use Rattle.cave_verbs.specs.declared.next.Next.{Next}
 use Rattle.cave_verbs.specs.declared.next.Next.TheVariants as next_is
-use Rattle.cave_verbs.specs.declared.order.Command.{Command}
+use Rattle.cave_verbs.specs.declared.order.Order.{Order}
 use Rattle.cave_clocks.specs.Clocks.{timing_of_clocks}
 use Rattle.cave_clocks.specs.declared.clocks.Clocks.{Clocks}
 use Rattle.cave_clocks.specs.declared.clocks.Clocks.TheVariants as clocks
-use Rattle.cave_score.specs.Deaths.{with_one_death}
-use Rattle.cave_score.specs.Endings.{ending_scene}
-use Rattle.cave_score.specs.Questions.{asking_scene}
+use Rattle.cave_ends.specs.Deaths.{with_one_death}
+use Rattle.cave_ends.specs.Endings.{ending_scene}
+use Rattle.cave_ends.specs.Questions.{asking_scene}
 use Rattle.cave_hints.specs.Hints.{with_turns_near, turns_near, was_taken, is_in_area}
 use Rattle.cave_hints.specs.Hints.{after_turn_near}
 use Rattle.cave_hints.specs.Hints.{is_due, is_needed, put_off, offer_scene, after_considering_if}
@@ -57,7 +58,7 @@ use Rattle.cave_laws.proofs.Moves.{looking_kept, arriving_kept, arriving_open, d
 use Rattle.cave_laws.proofs.Moves.{motion_kept}
 use Rattle.cave_laws.proofs.Scores.{ended_kept, asking_kept}
 use Rattle.cave_laws.proofs.Stop.{none_over}
-use Rattle.cave_laws.proofs.VerbQuestions.{command_spares, is_asking_die}
+use Rattle.cave_laws.proofs.VerbQuestions.{order_spares, is_asking_die}
 use Rattle.cave_laws.proofs.Verbs.{acted_kept}
 
 -- the last of three tests that hold holds
@@ -155,16 +156,13 @@ following_kept {P} cave k (next_is.Ask q) p other h =
 following_kept {P} cave k (next_is.End how) p other h =
     ended_kept P cave how p (k.ends how (facts p.state) h.0)
 
-acting_kept : {P : Claim} (cave : CaveView) (k : IsKept cave P) (v x : ℕ) (word : List ℕ)
-    (p : Scene)
-    → On (Calm P) p.state → On P (words_done_by_verb cave v x word p).scene.state
+acting_kept : {P : Claim} (cave : CaveView) (k : IsKept cave P) (order : Order) (p : Scene)
+    → On (Calm P) p.state → On P (words_done_by_verb cave order p).scene.state
 unfolding words_done_by_verb
-acting_kept {P} cave k v x word p h =
-    let command : Command = record { verb = v; object = x; word = word; was_dark = p.was_dark } in
-    let o = outcome_of_command cave command p.state p.parts in
-    following_kept cave k (next_of_step o.step) (record p { state = o.state; parts = o.parts })
-    (command_spares cave command p.state p.parts)
-    (acted_kept (Calm P) cave command p.state p.parts h)
+acting_kept {P} cave k order p h =
+    let a = act cave order p in
+    following_kept cave k (next_of_step a.step) a.scene (order_spares cave order p)
+    (acted_kept (Calm P) cave order p h)
 
 travelling_kept : {P : Claim} (cave : CaveView) (k : IsKept cave P) (motion : ℕ) (p : Scene)
     → On (Calm P) p.state → On P (travel_scene cave motion p).state
@@ -182,7 +180,7 @@ done_kept cave k half reading.Unknown p h = h.0
 done_kept cave k half (reading.Motion motion) p h = travelling_kept cave k motion p h
 done_kept cave k half (reading.Tell told) p h = h.0
 done_kept cave k half reading.Knives p h = h.0
-done_kept cave k half (reading.Act v x word) p h = acting_kept cave k v x word p h
+done_kept cave k half (reading.Act v x word) p h = acting_kept cave k (order_of v x word) p h
 done_kept cave k half (reading.WhatToDo word) p h = h.0
 
 remembering_kept : (P : Claim) (o : Option HalfCommand) (x : ℕ) (s : State) → On P s

@@ -13,12 +13,13 @@ use Rattle.cave_things.specs.Effects.{with_objects, put_here, vessel, with_free_
 use Rattle.cave_things.specs.Effects.{with_bird_in_cage}
 use Rattle.cave_things.specs.Homes.{is_at_home}
 use Rattle.cave_things.specs.Panic.{after_panic}
-use Rattle.cave_things.specs.Reach.{is_called, is_in_hand, has_other_prop}
-use Rattle.cave_things.specs.Rules.{thing}
+use Rattle.cave_scene.specs.Rules.{is_called}
+use Rattle.cave_things.specs.Reach.{is_in_hand, has_other_prop}
+use Rattle.cave_scene.specs.Rules.{thing}
 use Rattle.cave_verbs.specs.Acting.{Rule}
-use Rattle.cave_verbs.specs.Deeds.{Deed, Outcome}
+use Rattle.cave_verbs.specs.Deeds.{Deed, Act}
 use Rattle.cave_verbs.specs.Effects.{default, tell, say}
-use Rattle.cave_verbs.specs.Rows.{Effect, VerbRow, first_fitting, fits, after_all, outcome_of}
+use Rattle.cave_verbs.specs.Rows.{Effect, VerbRow, first_fitting, fits, after_all, act_of_row}
 use Rattle.cave_verbs.specs.Feeding.{with_more_anger}
 use Rattle.cave_verbs.specs.Light.{say_dark}
 use Rattle.cave_verbs.specs.Opening.{after_sending}
@@ -28,7 +29,7 @@ use Rattle.cave_laws.proofs.Later.{later_by_anger, later_by_loss}
 
 -- effects one after another keep a claim
 abbrev pub KeepsAll : Claim → List Effect → Type 0
-KeepsAll P effects = (d : Deed) → On P d.state → On P (after_all effects d).state
+KeepsAll P effects = (d : Deed) → On P d.scene.state → On P (after_all effects d).scene.state
 
 -- the effects of rows keep a claim
 abbrev pub KeepsRows : Claim → List VerbRow → Type 0
@@ -36,24 +37,24 @@ KeepsRows P [] = Unit {0}
 KeepsRows P (r ∷ rows) = KeepsAll P r.effects × KeepsRows P rows
 
 -- what comes of a deed keeps a claim
-abbrev pub KeepsOutcome : Claim → (Deed → Outcome) → Type 0
-KeepsOutcome P f = (d : Deed) → On P d.state → On P (f d).state
+abbrev pub KeepsAct : Claim → (Deed → Act) → Type 0
+KeepsAct P f = (d : Deed) → On P d.scene.state → On P (f d).scene.state
 
 -- rules keep a claim
 abbrev pub KeepsRules : Claim → List Rule → Type 0
 KeepsRules P [] = Unit {0}
-KeepsRules P (r ∷ rules) = KeepsOutcome P r.outcome_of × KeepsRules P rules
+KeepsRules P (r ∷ rules) = KeepsAct P r.act × KeepsRules P rules
 
 -- a default message keeps a claim
-pub default_kept : (P : Claim) (d : Deed) → On P d.state → On P (default d).state
+pub default_kept : (P : Claim) (d : Deed) → On P d.scene.state → On P (default d).scene.state
 default_kept P d h =
-    choose (λ (e : Deed). On P e.state) (default_message d.cave d.order.verb == 0) d
+    choose (λ (e : Deed). On P e.scene.state) (default_message d.cave d.order.verb == 0) d
     (tell (part.Message (default_message d.cave d.order.verb)) d) (λ _. h) (λ _. h)
 
 -- saying that it is dark keeps a claim
-pub say_dark_kept : (P : Claim) (d : Deed) → On P d.state → On P (say_dark d).state
+pub say_dark_kept : (P : Claim) (d : Deed) → On P d.scene.state → On P (say_dark d).scene.state
 say_dark_kept P d h =
-    choose (λ (e : Deed). On P e.state) (is_dark d.cave (thing d.cave name.Lamp) d.state)
+    choose (λ (e : Deed). On P e.scene.state) (is_dark d.cave (thing d.cave name.Lamp) d.scene.state)
     (say role.Dark d) d (λ _. h) (λ _. h)
 
 -- to free a bird keeps a claim
@@ -122,17 +123,17 @@ sent_kept P x (Some place) s h = h
 
 -- the first row that fits keeps a claim
 pub first_kept : (P : Claim) (rows : List VerbRow) → KeepsRows P rows
-    → KeepsOutcome P (first_fitting rows)
+    → KeepsAct P (first_fitting rows)
 first_kept P [] k d h = h
 first_kept P (r ∷ rows) k d h =
-    choose (λ (o : Outcome). On P o.state) (fits r.tests d) (outcome_of r d) (first_fitting rows d)
+    choose (λ (o : Act). On P o.scene.state) (fits r.tests d) (act_of_row r d) (first_fitting rows d)
     (λ _. k.0 d h) (λ _. first_kept P rows k.1 d h)
 
 -- the first row that fits, or what comes of it if none does, keeps a claim
-pub first_or_kept : (P : Claim) (rows : List VerbRow) (f : Deed → Outcome) → KeepsRows P rows
-    → KeepsOutcome P f → KeepsOutcome P (first_fitting_or rows f)
+pub first_or_kept : (P : Claim) (rows : List VerbRow) (f : Deed → Act) → KeepsRows P rows
+    → KeepsAct P f → KeepsAct P (first_fitting_or rows f)
 first_or_kept P [] f k other d h = other d h
 first_or_kept P (r ∷ rows) f k other d h =
-    choose (λ (o : Outcome). On P o.state) (fits r.tests d) (outcome_of r d)
+    choose (λ (o : Act). On P o.scene.state) (fits r.tests d) (act_of_row r d)
     (first_fitting_or rows f d)
     (λ _. k.0 d h) (λ _. first_or_kept P rows f k.1 other d h)

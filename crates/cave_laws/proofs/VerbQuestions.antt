@@ -4,14 +4,13 @@ use Rattle.std.proofs.lemmas.Bool.{true≢false}
 use Rattle.std.specs.Prelude.{◌==◌, ◌&&◌, not}
 use Rattle.cave_data.specs.CaveView.{CaveView}
 use Rattle.cave_words.specs.Stream.{number_drawn}
-use Rattle.cave_world.specs.declared.part.Part.{Part}
-use Rattle.cave_world.specs.declared.state.State.{State}
-use Rattle.cave_verbs.specs.Acting.{Rule, outcome_by, bare_rules, object_rules, bare_outcome}
-use Rattle.cave_verbs.specs.Acting.{object_outcome, outcome_once, outcome_within}
-use Rattle.cave_verbs.specs.Acting.{outcome_of_command, going_on, next_of_step}
+use Rattle.cave_scene.specs.Play.{Scene}
+use Rattle.cave_verbs.specs.Acting.{Rule, act_by, bare_rules, object_rules, act_bare}
+use Rattle.cave_verbs.specs.Acting.{act_on, act_once, act_within}
+use Rattle.cave_verbs.specs.Acting.{act, next_of_step}
 use Rattle.cave_verbs.specs.Blasting.{blast_rows}
 use Rattle.cave_verbs.specs.Breaking.{break_rows, wake_rows}
-use Rattle.cave_verbs.specs.Deeds.{Deed, Outcome, deed}
+use Rattle.cave_verbs.specs.Deeds.{Deed, Act, deed, going_on}
 use Rattle.cave_verbs.specs.Dropping.{drop_rows}
 use Rattle.cave_verbs.specs.Feeding.{feed_rows, bare_eat_rows, eat_rows}
 use Rattle.cave_verbs.specs.Finding.{find_rows, bare_inventory_rows}
@@ -21,20 +20,20 @@ use Rattle.cave_verbs.specs.Magic.{bare_foo_rows}
 use Rattle.cave_verbs.specs.Opening.{bare_open_rows, open_rows}
 use Rattle.cave_verbs.specs.Pouring.{pour_rows, drink_rows, bare_fill_rows, fill_rows}
 use Rattle.cave_verbs.specs.Reading.{bare_read_rows, read_rows}
-use Rattle.cave_verbs.specs.Rows.{VerbRow, after_all, first_fitting, fits, outcome_of}
+use Rattle.cave_verbs.specs.Rows.{VerbRow, after_all, first_fitting, fits, act_of_row}
 use Rattle.cave_verbs.specs.Small.{bare_rows, other_rows, nothing_rows, bare_quit_rows}
 use Rattle.cave_verbs.specs.Small.{bare_score_rows, bare_brief_rows}
 use Rattle.cave_verbs.specs.Taking.{bare_take_rows, take_rows, free_take_rows}
 use Rattle.cave_verbs.specs.Tests.{dwarf}
 use Rattle.cave_verbs.specs.Throwing.{throw_rows, miss_rows, hit_rows, axe_rows, first_fitting_or}
-use Rattle.cave_verbs.specs.Throwing.{after_one_draw, axe_thrown_at_dwarf, axe_outcome}
-use Rattle.cave_verbs.specs.Throwing.{throw_outcome}
+use Rattle.cave_verbs.specs.Throwing.{after_one_draw, axe_thrown_at_dwarf, axe_act}
+use Rattle.cave_verbs.specs.Throwing.{throw_act}
 use Rattle.cave_verbs.specs.Waving.{wave_rows, rub_rows}
 use Rattle.cave_verbs.specs.declared.next.Next.{Next}
 use Rattle.cave_verbs.specs.declared.next.Next.TheVariants.{Stay, Keep, Describe, Arrive, Ask, End}
 use Rattle.cave_verbs.specs.declared.next.Step.{Step}
 use Rattle.cave_verbs.specs.declared.next.Step.TheVariants.{Done, GoOn}
-use Rattle.cave_verbs.specs.declared.order.Command.{Command}
+use Rattle.cave_verbs.specs.declared.order.Order.{Order}
 use Rattle.cave_laws.proofs.Frame.{choose, is_die}
 
 -- it is asked next whether to come back
@@ -47,7 +46,7 @@ is_asking_die (Ask q) = is_die q
 is_asking_die (End how) = false
 
 -- it isn't asked after an outcome
-abbrev Spares : (Deed → Outcome) → Type 0
+abbrev Spares : (Deed → Act) → Type 0
 Spares f = (d : Deed) → is_asking_die (next_of_step (f d).step) ≡ false
 
 -- none of the rows asks it
@@ -58,7 +57,7 @@ spares (r ∷ rows) d = not (is_asking_die (next_of_step (r.end d))) && spares r
 -- rules don't ask it
 abbrev SpareRules : List Rule → Type 0
 SpareRules [] = Unit {0}
-SpareRules (r ∷ rules) = Spares r.outcome_of × SpareRules rules
+SpareRules (r ∷ rules) = Spares r.act × SpareRules rules
 
 first_of : (a b : Bool) → (not a && b) ≡ true → a ≡ false
 first_of true b h = absurd (true≢false (sym h))
@@ -68,12 +67,12 @@ rest_of : (a b : Bool) → (not a && b) ≡ true → b ≡ true
 rest_of true b h = absurd (true≢false (sym h))
 rest_of false b h = h
 
-first_or_spares : (rows : List VerbRow) (f : Deed → Outcome)
+first_or_spares : (rows : List VerbRow) (f : Deed → Act)
     → ((d : Deed) → spares rows d ≡ true) → Spares f → Spares (first_fitting_or rows f)
 first_or_spares [] f all other d = other d
 first_or_spares (r ∷ rows) f all other d =
-    choose (λ (o : Outcome). is_asking_die (next_of_step o.step) ≡ false) (fits r.tests d)
-    (outcome_of r d) (first_fitting_or rows f d)
+    choose (λ (o : Act). is_asking_die (next_of_step o.step) ≡ false) (fits r.tests d)
+    (act_of_row r d) (first_fitting_or rows f d)
     (λ _. let e = after_all r.effects d in
     first_of (is_asking_die (next_of_step (r.end e))) (spares rows e) (all e))
     (λ _. first_or_spares rows f
@@ -83,8 +82,8 @@ first_spares : (rows : List VerbRow) → ((d : Deed) → spares rows d ≡ true)
     → Spares (first_fitting rows)
 first_spares [] all d = refl
 first_spares (r ∷ rows) all d =
-    choose (λ (o : Outcome). is_asking_die (next_of_step o.step) ≡ false) (fits r.tests d)
-    (outcome_of r d) (first_fitting rows d)
+    choose (λ (o : Act). is_asking_die (next_of_step o.step) ≡ false) (fits r.tests d)
+    (act_of_row r d) (first_fitting rows d)
     (λ _. let e = after_all r.effects d in
     first_of (is_asking_die (next_of_step (r.end e))) (spares rows e) (all e))
     (λ _. first_spares rows
@@ -180,16 +179,16 @@ bare_spare = (
   ),
 )
 
-throw_spares : Spares throw_outcome
-unfolding throw_outcome axe_outcome axe_thrown_at_dwarf throw_rows axe_rows miss_rows hit_rows
-throw_spares = first_or_spares throw_rows axe_outcome (λ d. refl) axe
+throw_spares : Spares throw_act
+unfolding throw_act axe_act axe_thrown_at_dwarf throw_rows axe_rows miss_rows hit_rows
+throw_spares = first_or_spares throw_rows axe_act (λ d. refl) axe
   where
-    axe : Spares axe_outcome
+    axe : Spares axe_act
     axe d =
-        choose (λ (o : Outcome). is_asking_die (next_of_step o.step) ≡ false) (dwarf d)
+        choose (λ (o : Act). is_asking_die (next_of_step o.step) ≡ false) (dwarf d)
         (axe_thrown_at_dwarf d) (first_fitting axe_rows d)
-        (λ _. choose (λ (o : Outcome). is_asking_die (next_of_step o.step) ≡ false)
-        (number_drawn 3 d.state.stream == 0) (first_fitting miss_rows (after_one_draw d))
+        (λ _. choose (λ (o : Act). is_asking_die (next_of_step o.step) ≡ false)
+        (number_drawn 3 d.scene.state.stream == 0) (first_fitting miss_rows (after_one_draw d))
         (first_fitting hit_rows (after_one_draw d))
         (λ _. first_spares miss_rows (λ e. refl) (after_one_draw d))
         (λ _. first_spares hit_rows (λ e. refl) (after_one_draw d)))
@@ -267,45 +266,43 @@ object_spare = (
   ),
 )
 
-by_spares : (rules : List Rule) → SpareRules rules → (v : ℕ) → Spares (outcome_by rules v)
+by_spares : (rules : List Rule) → SpareRules rules → (v : ℕ) → Spares (act_by rules v)
 unfolding other_rows
 by_spares [] all v d = first_spares other_rows (λ e. refl) d
 by_spares (r ∷ rules) all v d =
-    choose (λ (o : Outcome). is_asking_die (next_of_step o.step) ≡ false) (v == r.verb)
-    (r.outcome_of d) (outcome_by rules v d)
+    choose (λ (o : Act). is_asking_die (next_of_step o.step) ≡ false) (v == r.verb)
+    (r.act d) (act_by rules v d)
     (λ _. all.0 d) (λ _. by_spares rules all.1 v d)
 
-once_spares : Spares outcome_once
-unfolding bare_outcome object_outcome
+once_spares : Spares act_once
+unfolding act_bare act_on
 once_spares d =
-    choose (λ (o : Outcome). is_asking_die (next_of_step o.step) ≡ false) (d.order.object == 0)
-    (bare_outcome d) (object_outcome d)
+    choose (λ (o : Act). is_asking_die (next_of_step o.step) ≡ false) (d.order.object == 0)
+    (act_bare d) (act_on d)
     (λ _. by_spares bare_rules bare_spare d.order.verb d)
     (λ _. by_spares object_rules object_spare d.order.verb d)
 
-within_spares : (left : ℕ) → Spares (outcome_within left)
-unfolding outcome_within
+within_spares : (left : ℕ) → Spares (act_within left)
+unfolding act_within
 within_spares zero d = once_spares d
 within_spares (suc left) d =
-    stepped (outcome_once d) (outcome_once d).step refl (once_spares d)
+    stepped (act_once d) (act_once d).step refl (once_spares d)
     (λ v x. within_spares left
-    (deed d.cave (going_on d.order v x) (outcome_once d).state (outcome_once d).parts))
+    (deed d.cave (going_on d.order v x) (act_once d).scene))
   where
-    stepped : (o : Outcome) (step : Step) → o.step ≡ step
+    stepped : (o : Act) (step : Step) → o.step ≡ step
         → is_asking_die (next_of_step o.step) ≡ false
         → ((v x : ℕ) → is_asking_die (next_of_step
-        (outcome_within left (deed d.cave (going_on d.order v x) o.state o.parts)).step) ≡ false)
-        → is_asking_die (next_of_step (elim step as (λ _. Outcome) [
+        (act_within left (deed d.cave (going_on d.order v x) o.scene)).step) ≡ false)
+        → is_asking_die (next_of_step (elim step as (λ _. Act) [
           | Done next ↦ o
-          | GoOn v x ↦ outcome_within left (deed d.cave (going_on d.order v x) o.state o.parts)
+          | GoOn v x ↦ act_within left (deed d.cave (going_on d.order v x) o.scene)
         ]).step) ≡ false
     stepped o (Done next) is spared more = spared
     stepped o (GoOn v x) is spared more = more v x
 
--- no command asks it
-pub command_spares : (cave : CaveView) (command : Command) (s : State) (parts : List Part)
-    → is_asking_die (next_of_step (outcome_of_command cave command s parts).step) ≡ false
-unfolding outcome_of_command
-command_spares cave command s parts =
-    within_spares 3 (deed cave
-    (record { verb = command.verb; object = command.object; command = command }) s parts)
+-- no order asks it
+pub order_spares : (cave : CaveView) (order : Order) (p : Scene)
+    → is_asking_die (next_of_step (act cave order p).step) ≡ false
+unfolding act
+order_spares cave order p = within_spares 3 (deed cave order p)

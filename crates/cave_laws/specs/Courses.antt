@@ -10,9 +10,9 @@ use Rattle.cave_world.specs.declared.ending.Question.TheVariants as question
 use Rattle.cave_world.specs.declared.state.State.{State}
 use Rattle.cave_things.specs.Homes.{home, second_home}
 use Rattle.cave_things.specs.Places.{outside_place, place_named}
-use Rattle.cave_things.specs.Play.{Scene}
+use Rattle.cave_scene.specs.Play.{Scene}
 use Rattle.cave_things.specs.Reach.{has_prop}
-use Rattle.cave_things.specs.Rules.{thing}
+use Rattle.cave_scene.specs.Rules.{thing}
 use Rattle.cave_hints.specs.Hints.{was_taken}
 use Rattle.cave_score.specs.Score.{score_of, max_score_of}
 use Rattle.cave_turn.specs.Answers.{without_question}

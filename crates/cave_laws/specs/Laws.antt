@@ -11,8 +11,8 @@ use Rattle.cave_world.specs.declared.ending.Question.{Question}
 use Rattle.cave_world.specs.declared.ending.Question.TheVariants as question
 use Rattle.cave_world.specs.declared.state.State.{State}
 use Rattle.cave_things.specs.Places.{building_place, start_place}
-use Rattle.cave_things.specs.Play.{Scene, scene_at_start}
-use Rattle.cave_things.specs.Rules.{thing}
+use Rattle.cave_scene.specs.Play.{Scene, scene_at_start}
+use Rattle.cave_scene.specs.Rules.{thing}
 use Rattle.cave_clocks.specs.FirstClock.{timing_of_first_clock}
 use Rattle.cave_clocks.specs.Lamp.{with_lamp_burnt, can_change_batteries}
 use Rattle.cave_clocks.specs.Repository.{timing_of_second_clock}

@@ -5,8 +5,8 @@ use Rattle.cave_objects.specs.Lists.{halves_at}
 use Rattle.cave_objects.specs.Objects.{spot_of, anchor_of, is_carried}
 use Rattle.cave_objects.specs.Spots.{place_of_spot, place_of_anchor, is_place}
 
--- an object is in one place: one that is carried is in no list, and each of its halves is in the
--- list of the place where its object says it is, and in no other
+-- an object is in one place: the first half of one that is carried is in no list, and each half is
+-- in the list of the place where its object says it is, and in no other
 pub record IsInOnePlace (o : Layout) (object : ℕ) : Type 0 where
   pub carried :
       is_carried o object ≡ true → (place : ℕ)

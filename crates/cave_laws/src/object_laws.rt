@@ -6,8 +6,8 @@ ghost use Rattle.cave_laws.specs.ObjectLaws.{IsInOnePlace};
 use cave_objects::Object;
 use cave_world::State;
 
-/// In each state an object is in one place: one that is carried is in no list, and its halves are
-/// in the lists of the places where the object says they are, and in no other.
+/// In each state an object is in one place: the first half of one that is carried is in no list,
+/// and each half is in the list of the place where the object says it is, and in no other.
 pub fn object_is_in_one_place(state: &State, object: Object)
     ensures { 0 < object → IsInOnePlace state.now.objects object }
 {

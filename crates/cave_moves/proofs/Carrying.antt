@@ -5,7 +5,7 @@ use Rattle.cave_moves.specs.Arrival.{after_forced_motions, stop_at}
 use Rattle.cave_moves.specs.Description.{Stop}
 use Rattle.cave_moves.specs.Journeys.{set_forth}
 use Rattle.cave_moves.specs.Ways.{Journey}
-use Rattle.cave_things.specs.Play.{Scene, with_left}
+use Rattle.cave_scene.specs.Play.{Scene, with_left}
 
 -- without a forced motion the player stays
 stays : (left : ℕ) (cave : CaveView) (s : Stop) → s.is_moved_on ≡ false

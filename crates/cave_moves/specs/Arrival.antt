@@ -14,13 +14,13 @@ use Rattle.cave_things.specs.Panic.{after_panic}
 use Rattle.cave_things.specs.Places.{outside_place}
 use Rattle.cave_things.specs.declared.conditions.Condition.TheVariants.{NoPirate}
 use Rattle.cave_dwarves.specs.Dwarves.{Encounter, encounter_in_turn}
-use Rattle.cave_score.specs.Deaths.{death_scene}
+use Rattle.cave_ends.specs.Deaths.{death_scene}
 use Rattle.cave_moves.specs.Description.{Stop, description_scene, stop_here, after_text}
 use Rattle.cave_moves.specs.Falling.{falling_here}
 use Rattle.cave_moves.specs.Journeys.{set_forth}
 use Rattle.cave_moves.specs.Ways.{Journey, journey_here}
-use Rattle.cave_things.specs.Play.{Scene, after_saying, with_state, with_left, scene_at_place}
-use Rattle.cave_things.specs.Play.{here_of}
+use Rattle.cave_scene.specs.Play.{Scene, after_saying, with_state, with_left, scene_at_place}
+use Rattle.cave_scene.specs.Play.{here_of}
 
 -- a cave that is closing has no way out
 unfoldable pub is_shut : CaveView → ℕ → State → Bool

@@ -6,9 +6,9 @@ use Rattle.cave_moves.specs.Falling.{falling_at}
 use Rattle.cave_moves.specs.Ways.{Journey, journey_here, other_end}
 use Rattle.cave_things.specs.Effects.{with_objects, with_one_more_lost}
 use Rattle.cave_things.specs.Homes.{home, hold_of, second_home}
-use Rattle.cave_things.specs.Play.{Scene, after_saying, after_look_at, with_state, here_of}
+use Rattle.cave_scene.specs.Play.{Scene, after_saying, after_look_at, with_state, here_of}
 use Rattle.cave_things.specs.Reach.{is_in_hand, has_prop, has_prop_up_to}
-use Rattle.cave_things.specs.Rules.{thing}
+use Rattle.cave_scene.specs.Rules.{thing}
 use Rattle.cave_words.specs.declared.named.Named.TheVariants as name
 use Rattle.cave_objects.specs.Layout.{Layout}
 use Rattle.cave_objects.specs.Objects.{with_place, with_anchor, with_latest, with_prop}

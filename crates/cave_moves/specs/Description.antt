@@ -15,12 +15,12 @@ use Rattle.cave_world.specs.declared.part.Part.{Part}
 use Rattle.cave_world.specs.declared.part.Part.TheVariants as part
 use Rattle.cave_world.specs.declared.state.State.{State}
 use Rattle.cave_things.specs.Places.{place_named}
-use Rattle.cave_things.specs.Rules.{thing}
+use Rattle.cave_scene.specs.Rules.{thing}
 use Rattle.cave_moves.specs.Falling.{falling_here}
 use Rattle.cave_moves.specs.Objects.{after_objects}
-use Rattle.cave_things.specs.Play.{Scene, after_telling, after_saying, with_state, here_of}
-use Rattle.cave_things.specs.Play.{after_draw}
-use Rattle.cave_things.specs.Play.{happens}
+use Rattle.cave_scene.specs.Play.{Scene, after_telling, after_saying, with_state, here_of}
+use Rattle.cave_scene.specs.Play.{after_draw}
+use Rattle.cave_scene.specs.Play.{happens}
 
 -- the long text is printed at each fifth visit, or at the first alone where the player wants it
 -- brief, and at each visit of a place with no short one

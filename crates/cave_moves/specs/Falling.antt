@@ -1,8 +1,8 @@
 -- The player dies, and leaves what is carried where the player is or at another place.
 use Rattle.std.specs.Prelude.{ℕ}
 use Rattle.cave_data.specs.CaveView.{CaveView}
-use Rattle.cave_score.specs.Deaths.{death_scene}
-use Rattle.cave_things.specs.Play.{Scene, with_state}
+use Rattle.cave_ends.specs.Deaths.{death_scene}
+use Rattle.cave_scene.specs.Play.{Scene, with_state}
 use Rattle.cave_world.specs.declared.state.State.{State}
 
 -- what is carried will be put at a place once the player comes back

@@ -24,9 +24,9 @@ use Rattle.cave_world.specs.declared.state.State.{State}
 use Rattle.cave_moves.specs.Bridge.{journey_by_bridge}
 use Rattle.cave_moves.specs.Ways.{Journey, journey_here, other_end}
 use Rattle.cave_things.specs.Places.{place_named, outside_place}
-use Rattle.cave_things.specs.Rules.{thing}
-use Rattle.cave_things.specs.Play.{Scene, after_telling, after_saying, with_state, here_of}
-use Rattle.cave_things.specs.Play.{after_setting_out}
+use Rattle.cave_scene.specs.Rules.{thing}
+use Rattle.cave_scene.specs.Play.{Scene, after_telling, after_saying, with_state, here_of}
+use Rattle.cave_scene.specs.Play.{after_setting_out}
 
 -- the eight points of the compass follow one another
 abbrev pub is_compass_point : ℕ → Bool

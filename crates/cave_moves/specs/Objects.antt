@@ -10,8 +10,8 @@ use Rattle.cave_objects.specs.Spots.{place_of_anchor, is_place}
 use Rattle.cave_objects.specs.declared.object.Half.{Half}
 use Rattle.cave_world.specs.declared.part.Part.TheVariants as part
 use Rattle.cave_world.specs.declared.state.State.{State}
-use Rattle.cave_things.specs.Rules.{thing}
-use Rattle.cave_things.specs.Play.{Scene, after_telling, with_state}
+use Rattle.cave_scene.specs.Rules.{thing}
+use Rattle.cave_scene.specs.Play.{Scene, after_telling, with_state}
 
 -- an object with a prop below 0 counts as unseen
 abbrev pub is_unseen : State → ℕ → Bool

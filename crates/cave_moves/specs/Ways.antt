@@ -1,6 +1,6 @@
 -- Ways that a player goes.
 use Rattle.std.specs.Prelude.{ℕ, ◌==◌, if◌then◌else◌, Option, Some, None}
-use Rattle.cave_things.specs.Play.{Scene, here_of}
+use Rattle.cave_scene.specs.Play.{Scene, here_of}
 
 -- a scene, and the place where the player arrives next
 pub record Journey : Type 0 where

@@ -1,26 +1,27 @@
-ghost use Rattle.std.specs.Prelude.{◌≡◌, ◌+◌, true, false, IsTrue, take};
+ghost use Rattle.std.specs.Prelude.{◌≡◌, ◌+◌, true, false, IsTrue};
 ghost use Rattle.std.specs.List.{list_any};
-ghost use Rattle.cave_things.specs.Rules.{cave_of};
+ghost use Rattle.cave_scene.specs.Rules.{cave_of};
 ghost use Rattle.cave_world.specs.State.{takes_no_command};
 ghost use Rattle.cave_moves.specs.Arrival.{is_shut, journey_unless_shut, comes_from, is_barred, meeting_scene};
 ghost use Rattle.cave_moves.specs.Arrival.{journey_unless_barred, come_to, stop_at, after_forced_motions};
 ghost use Rattle.cave_moves.specs.Arrival.{arrival_scene, description_anew};
-ghost use Rattle.cave_things.specs.Bounds.{HasRoom, SaysUpTo, parts_of_dwarves, parts_of_place};
-ghost use Rattle.cave_things.specs.Bounds.{parts_of_passing, parts_of_stop};
-ghost use Rattle.cave_things.specs.Bounds.{parts_of_forced_motions, parts_of_arrival};
-ghost use Rattle.cave_things.specs.Play.{scene_of, GoesOn, IsSamePlay};
+ghost use Rattle.cave_scene.specs.Bounds.{HasRoom, SaysUpTo, parts_of_dwarves, parts_of_place};
+ghost use Rattle.cave_scene.specs.Bounds.{parts_of_passing, parts_of_stop};
+ghost use Rattle.cave_scene.specs.Bounds.{parts_of_forced_motions, parts_of_arrival};
+ghost use Rattle.cave_scene.specs.Play.{scene_of, GoesOn, IsSamePlay};
 
 use crate::description::{describe, see_here, tell_text};
 use crate::falling::fall_here;
 use crate::journeys::set_forth;
 use crate::ways::stay;
 use cave_dwarves::move_dwarves;
+use cave_ends::die;
 use cave_objects::Place;
 use cave_rows::Role;
-use cave_score::die;
+use cave_scene::{Play, Rules};
 use cave_things::panic::panic;
 use cave_things::places::outside_place;
-use cave_things::{Condition, Play, Rules};
+use cave_things::{Condition, has_condition_of};
 use cave_world::{Dwarf, State, is_forced, motion};
 
 /// The player arrives at a place, and is moved on from there while forced motions are left.
@@ -81,7 +82,7 @@ fn is_barred(rules: &Rules<'_>, place: Place, state: &State) -> bool
     let here = state.trail.here;
     place != here
         && !is_forced(rules.cave, here)
-        && !rules.has(here, Condition::NoPirate)
+        && !has_condition_of(rules, here, Condition::NoPirate)
         && some_comes_from(place, &state.dwarves.each[..5])
 }
 
@@ -108,7 +109,7 @@ fn meet(rules: &Rules<'_>, play: &mut Play<'_>)
     ensures same { GoesOn play.old play.new }
     ensures few { SaysUpTo (parts_of_dwarves + parts_of_place) play.old play.new }
 {
-    if rules.has(play.state.trail.here, Condition::NoPirate) {
+    if has_condition_of(rules, play.state.trail.here, Condition::NoPirate) {
         describe(rules, play);
         return;
     }

@@ -2,20 +2,20 @@ ghost use Rattle.cave_objects.specs.Spots.{is_place};
 ghost use Rattle.std.specs.Prelude.{◌≡◌, false, map, option_map};
 ghost use Rattle.cave_data.specs.CaveView.{ways_from};
 ghost use Rattle.cave_rows.specs.RowViews.{going};
-ghost use Rattle.cave_things.specs.Rules.{cave_of};
+ghost use Rattle.cave_scene.specs.Rules.{cave_of};
 ghost use Rattle.cave_world.specs.State.{takes_no_command};
 ghost use Rattle.cave_moves.specs.Journeys.{back_place, leads_through, direct_row, indirect_row};
 ghost use Rattle.cave_moves.specs.Journeys.{row_back, first_motion, first_number};
 ghost use Rattle.cave_moves.specs.Journeys.{journey_back};
-ghost use Rattle.cave_things.specs.Bounds.{HasRoom, SaysUpTo, parts_of_journey};
-ghost use Rattle.cave_things.specs.Play.{scene_of, GoesOn};
+ghost use Rattle.cave_scene.specs.Bounds.{HasRoom, SaysUpTo, parts_of_journey};
+ghost use Rattle.cave_scene.specs.Play.{scene_of, GoesOn};
 
 use crate::journeys::route;
 use crate::ways::stay;
 use cave_objects::Place;
 use cave_objects::place::LAST_PLACE;
 use cave_rows::{Role, Row};
-use cave_things::{Play, Rules};
+use cave_scene::{Play, Rules};
 use cave_world::{State, is_forced};
 
 /// Where a player who goes back goes.

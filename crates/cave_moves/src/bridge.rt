@@ -5,16 +5,17 @@ ghost use Rattle.cave_moves.specs.Bridge.{bridgehead, bridge_end, with_troll, to
 ghost use Rattle.cave_moves.specs.Bridge.{let_pass};
 ghost use Rattle.cave_moves.specs.Bridge.{without_bridge, without_spices, with_broken_bridge};
 ghost use Rattle.cave_moves.specs.Bridge.{broken_bridge_scene, journey_across, journey_by_bridge};
-ghost use Rattle.cave_things.specs.Bounds.{HasRoom, SaysUpTo, parts_of_journey};
-ghost use Rattle.cave_things.specs.Play.{scene_of, GoesOn};
-ghost use Rattle.cave_things.specs.Rules.{cave_of};
+ghost use Rattle.cave_scene.specs.Bounds.{HasRoom, SaysUpTo, parts_of_journey};
+ghost use Rattle.cave_scene.specs.Play.{scene_of, GoesOn};
+ghost use Rattle.cave_scene.specs.Rules.{cave_of};
 ghost use Rattle.cave_world.specs.State.{takes_no_command};
 
 use crate::falling::fall_at;
 use crate::ways::{other_end, stay};
 use cave_objects::{Anchor, Objects, Place, Prop};
 use cave_rows::Role;
-use cave_things::{Play, Rules, has_prop, has_prop_up_to, lose_one};
+use cave_scene::{Play, Rules};
+use cave_things::{has_prop, has_prop_up_to, hold, home, is_in_hand, lose_one, second_home};
 use cave_words::Named;
 use cave_world::State;
 
@@ -58,8 +59,8 @@ fn bridge_end(rules: &Rules<'_>, here: Place) -> Option<Place>
     }
     other_end(
         here,
-        bridgehead(rules.home(troll)),
-        bridgehead(rules.second_home(troll)),
+        bridgehead(home(rules, troll)),
+        bridgehead(second_home(rules, troll)),
     )
 }
 
@@ -73,8 +74,8 @@ fn bring_troll(rules: &Rules<'_>, objects: &mut Objects)
     objects.set_prop(troll, Prop::new(0));
     objects.move_to(second, Place::new(0));
     objects.anchor_to(second, Anchor::Loose);
-    objects.move_to(troll, rules.home(troll));
-    objects.anchor_to(troll, rules.hold(troll));
+    objects.move_to(troll, home(rules, troll));
+    objects.anchor_to(troll, hold(rules, troll));
     objects.juggle(rules.object(Named::Chasm));
 }
 
@@ -156,7 +157,7 @@ fn cross_to(rules: &Rules<'_>, end: Place, play: &mut Play<'_>) -> Place
     ensures few_on { takes_no_command play.new.state.now ≡ false → SaysUpTo 1 play.old play.new }
 {
     let_pass(rules, play.state);
-    if rules.is_in_hand(play.state, rules.object(Named::Bear)) {
+    if is_in_hand(rules, play.state, rules.object(Named::Bear)) {
         break_through(rules, end, play);
         return play.state.trail.here;
     }

@@ -1,18 +1,18 @@
-ghost use Rattle.std.specs.Prelude.{◌≡◌, ◌+◌, ◌<◌, ◌≤◌, IsTrue};
-ghost use Rattle.cave_things.specs.Rules.{cave_of};
+ghost use Rattle.std.specs.Prelude.{◌≡◌, ◌<◌, IsTrue};
+ghost use Rattle.cave_scene.specs.Rules.{cave_of};
 ghost use Rattle.cave_moves.specs.Description.{is_described_at_length, place_text, after_bear, after_text};
 ghost use Rattle.cave_moves.specs.Description.{is_hollow, after_hollow, after_pit, after_darkness};
 ghost use Rattle.cave_moves.specs.Description.{dark_scene, sight_scene, description_scene};
 ghost use Rattle.cave_moves.specs.Description.{stop_here};
-ghost use Rattle.cave_things.specs.Bounds.{HasRoom, SaysUpTo, parts_of_place};
-ghost use Rattle.cave_things.specs.Play.{scene_of, GoesOn};
+ghost use Rattle.cave_scene.specs.Bounds.{HasRoom, SaysUpTo, parts_of_place};
+ghost use Rattle.cave_scene.specs.Play.{scene_of, GoesOn};
 
 use crate::falling::fall_here;
 use crate::objects::tell_objects;
 use cave_objects::Place;
 use cave_rows::{PlaceRole, Role};
+use cave_scene::{Play, Rules};
 use cave_things::places::{is_place, place_named};
-use cave_things::{Play, Rules};
 use cave_words::Named;
 use cave_world::{Part, State, is_forced};
 

@@ -1,13 +1,13 @@
 ghost use Rattle.std.specs.Prelude.{◌≡◌, IsTrue};
 ghost use Rattle.cave_moves.specs.Falling.{with_all_left_at, falling_at, falling_here};
-ghost use Rattle.cave_things.specs.Bounds.{HasRoom, SaysUpTo, parts_of_death};
-ghost use Rattle.cave_things.specs.Play.{scene_of, GoesOn};
-ghost use Rattle.cave_things.specs.Rules.{cave_of};
+ghost use Rattle.cave_scene.specs.Bounds.{HasRoom, SaysUpTo, parts_of_death};
+ghost use Rattle.cave_scene.specs.Play.{scene_of, GoesOn};
+ghost use Rattle.cave_scene.specs.Rules.{cave_of};
 ghost use Rattle.cave_world.specs.State.{takes_no_command};
 
+use cave_ends::die;
 use cave_objects::Place;
-use cave_score::die;
-use cave_things::{Play, Rules};
+use cave_scene::{Play, Rules};
 use cave_world::State;
 
 fn leave_all_at(place: Place, state: &mut State)

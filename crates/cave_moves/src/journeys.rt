@@ -1,23 +1,22 @@
 ghost use Rattle.std.specs.Prelude.{◌≡◌, false};
-ghost use Rattle.cave_things.specs.Rules.{cave_of};
+ghost use Rattle.cave_scene.specs.Rules.{cave_of};
 ghost use Rattle.cave_world.specs.State.{takes_no_command};
-ghost use Rattle.cave_things.specs.Bounds.{HasRoom, SaysUpTo, parts_of_journey};
-ghost use Rattle.cave_things.specs.Play.{after_saying, scene_of, GoesOn};
+ghost use Rattle.cave_scene.specs.Bounds.{HasRoom, SaysUpTo, parts_of_journey};
+ghost use Rattle.cave_scene.specs.Play.{scene_of, GoesOn};
 ghost use Rattle.cave_moves.specs.Journeys.{refusal_role, squeeze_end, is_slim};
-ghost use Rattle.cave_moves.specs.Journeys.{journey_through_squeeze, journey_by_squeeze, journey_by_special};
+ghost use Rattle.cave_moves.specs.Journeys.{journey_by_squeeze, journey_by_special};
 ghost use Rattle.cave_moves.specs.Journeys.{journey_of_outcome, journey_by_rows};
 ghost use Rattle.cave_moves.specs.Journeys.{set_forth, after_enough, without_visits_here};
 ghost use Rattle.cave_moves.specs.Journeys.{journey_of_look};
 ghost use Rattle.cave_moves.specs.Journeys.{journey_of_seeking, journey_by_request};
-ghost use Rattle.cave_moves.specs.Ways.{journey_here};
 
 use crate::back::go_back;
 use crate::bridge::cross;
 use crate::ways::{other_end, stay};
 use cave_objects::Place;
 use cave_rows::{PlaceRole, Role};
+use cave_scene::{Play, Rules};
 use cave_things::places::{outside_place, place_named};
-use cave_things::{Play, Rules};
 use cave_words::Named;
 use cave_world::{Part, Special, State, TravelOutcome, motion, travel_by_motion};
 

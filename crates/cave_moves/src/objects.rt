@@ -1,17 +1,17 @@
-ghost use Rattle.std.specs.Prelude.{◌≡◌, ◌+◌, ◌<◌, ◌≤◌, length};
+ghost use Rattle.std.specs.Prelude.{◌≡◌, ◌<◌, length};
 ghost use Rattle.cave_objects.specs.Lists.{halves_at};
 ghost use Rattle.cave_objects.specs.Objects.{anchor_of};
 ghost use Rattle.cave_objects.specs.Spots.{place_of_anchor, is_place};
-ghost use Rattle.cave_things.specs.Rules.{cave_of};
+ghost use Rattle.cave_scene.specs.Rules.{cave_of};
 ghost use Rattle.cave_moves.specs.Objects.{is_unseen, is_kept_back, first_prop, one_less_unseen};
 ghost use Rattle.cave_moves.specs.Objects.{with_lamp_of_hopeless, after_find, after_find_if_unseen};
 ghost use Rattle.cave_moves.specs.Objects.{described_prop};
 ghost use Rattle.cave_moves.specs.Objects.{after_object, after_objects};
-ghost use Rattle.cave_things.specs.Bounds.{HasRoom, SaysUpTo};
-ghost use Rattle.cave_things.specs.Play.{scene_of, GoesOn};
+ghost use Rattle.cave_scene.specs.Bounds.{HasRoom, SaysUpTo};
+ghost use Rattle.cave_scene.specs.Play.{scene_of, GoesOn};
 
 use cave_objects::{Half, Object, Prop};
-use cave_things::{Play, Rules};
+use cave_scene::{Play, Rules};
 use cave_words::Named;
 use cave_world::{Charge, Part, State};
 

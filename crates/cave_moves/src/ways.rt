@@ -1,11 +1,11 @@
 ghost use Rattle.std.specs.Prelude.{◌≡◌};
 ghost use Rattle.cave_moves.specs.Ways.{journey_here, other_end};
-ghost use Rattle.cave_things.specs.Bounds.{HasRoom, SaysUpTo};
-ghost use Rattle.cave_things.specs.Play.{after_saying, scene_of, GoesOn};
+ghost use Rattle.cave_scene.specs.Bounds.{HasRoom, SaysUpTo};
+ghost use Rattle.cave_scene.specs.Play.{after_saying, scene_of, GoesOn};
 
 use cave_objects::Place;
 use cave_rows::Role;
-use cave_things::Play;
+use cave_scene::Play;
 
 /// The other end of a passage between two places, from one of its ends.
 pub fn other_end(here: Place, one: Option<Place>, other: Option<Place>) -> Option<Place>

@@ -131,7 +131,7 @@ pub Completes-more : (view : View) (cave : CaveView) (every : ℕ) (items : List
     (item : Item) (outcome : ItemOutcome) (first : Game)
     (opened before text longer : List ℕ) (played lines more_played more_lines : ℕ)
     (old new : SessionView CaveMachine (Vec Part) State)
-    → place < length items → item ≡ get_or items place item → old.machine.cave.now ≡ cave
+    → place < length items → item ≡ get_or items place item → old.machine.rules.cave.now ≡ cave
     → old.every ≡ every → Applies (applied_item item) old new outcome
     → longer ≡ text ++ text_of_item view (applied_item item) outcome
     → more_played ≡ played + played_in outcome → more_lines ≡ lines + lines_in outcome
@@ -163,12 +163,12 @@ pub IsApplied-whole : (view : View) (items : List Item) (place : ℕ)
     (old : SessionView CaveMachine (Vec Part) State) (now : Game) (here before text : List ℕ)
     (played lines : ℕ)
     → length items ≤ place
-    → Completes view old.machine.cave.now old.every (map applied_item items)
+    → Completes view old.machine.rules.cave.now old.every (map applied_item items)
     (map applied_item (drop place items)) old.game now old.checkpoints here before text played
     lines
     → IsApplied view (map applied_item items) old before text played lines
 IsApplied-whole view items place old now here before text played lines past so_far =
-    let cave = old.machine.cave.now in
+    let cave = old.machine.rules.cave.now in
     let none : map applied_item (drop place items) ≡ [] = rw (drop_all place items past) refl in
     let whole =
     subst (λ left. Completes view cave old.every (map applied_item items) left old.game now

@@ -21,14 +21,14 @@ use Rattle.cave_play.specs.declared.outcome.ItemOutcome.{ItemOutcome}
 -- the session is one of the cave's machine, and holds the game
 pub record HoldsGame (cave : CaveView) (game : Game)
     (session : SessionView CaveMachine (Vec Part) State) : Type 0 where
-  pub cave_is : session.machine.cave.now ≡ cave
+  pub cave_is : session.machine.rules.cave.now ≡ cave
   pub game_is : session.game ≡ game
 
 -- an item was applied to what a session held, and this came of it
 pub record Applies (item : Applied) (old new : SessionView CaveMachine (Vec Part) State)
     (outcome : ItemOutcome) : Type 0 where
-  pub came : IsOutcome old.machine.cave.now old.every item old.game old.checkpoints outcome
-  pub holds : HoldsGame old.machine.cave.now (game_after_item item old.game) new
+  pub came : IsOutcome old.machine.rules.cave.now old.every item old.game old.checkpoints outcome
+  pub holds : HoldsGame old.machine.rules.cave.now (game_after_item item old.game) new
   pub every : new.every ≡ old.every
   pub left : AreLeft old.every outcome old.checkpoints new.game new.checkpoints
 
@@ -44,7 +44,7 @@ pub record IsApplied (view : View) (items : List Applied)
     (old : SessionView CaveMachine (Vec Part) State) (before after : List ℕ)
     (played lines : ℕ) : Type 0 where
   pub outcomes : List ItemOutcome
-  pub came : AreOutcomes old.machine.cave.now old.every items old.game old.checkpoints outcomes
+  pub came : AreOutcomes old.machine.rules.cave.now old.every items old.game old.checkpoints outcomes
   pub told : after ≡ before ++ text_of_items (text_of_item view) items outcomes
   pub played_is : played ≡ sum_by played_in outcomes
   pub lines_are : lines ≡ sum_by lines_in outcomes

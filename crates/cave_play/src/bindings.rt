@@ -1,6 +1,5 @@
 //! The readers of a cave, whose bindings may be absent.
 
-ghost use Rattle.std.specs.Prelude.{List, Option};
 ghost use Rattle.cave_play.specs.Input.{bindings_left};
 
 use std::io;

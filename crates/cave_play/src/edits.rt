@@ -54,7 +54,7 @@ pub(crate) fn apply(
     requires few_items { length script.now.items.items < 2 ^ 32 }
     ensures spaced { IsSpaced session.old.every session.old.checkpoints
         (length session.old.game.log) }
-    ensures held { OnOk result (HoldsGame session.old.machine.cave.now
+    ensures held { OnOk result (HoldsGame session.old.machine.rules.cave.now
         (game_after_items (items_of script.now.items) session.old.game) session.new) }
     ensures applied { IfOk result (λ totals. IsApplied view (items_of script.now.items) session.old
         text.old.items text.new.items totals.played totals.lines) }

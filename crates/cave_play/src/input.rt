@@ -1,8 +1,7 @@
 //! Reading an input to its end, within a limit.
 
-ghost use Rattle.std.specs.Prelude.{◌≡◌, ℕ, ◌<◌, ◌≤◌, ◌+◌, ◌++◌, List, length, true, false, IfOk};
+ghost use Rattle.std.specs.Prelude.{◌≡◌, ℕ, ◌<◌, ◌≤◌, List, length, true, false, IfOk};
 ghost use Rattle.std.specs.Prelude.{IfErr, MatchResult, vec_len};
-ghost use Rattle.std.specs.Io.KnownBytes.{Consumes, IsAtEnd, Keeps};
 ghost use Rattle.limits.specs.Limits.{max_input_bytes};
 ghost use Rattle.cave_play.specs.declared.input.InputFault.TheVariants.{Memory};
 ghost use Rattle.cave_play.specs.Input.{Says, IsInputFault, Gives, Exceeds};

@@ -4,7 +4,6 @@ ghost use Rattle.std.specs.Prelude.{◌≡◌, ℕ, ◌^◌, ◌<◌, List, [], 
 ghost use Rattle.std.specs.Prelude.{MatchResult, length, vec_len};
 ghost use Rattle.std.specs.Str.Lines.{lines};
 ghost use Rattle.cave_data.specs.Reads.{Reads};
-ghost use Rattle.cave_words.specs.Lexicon.{IsLexiconOf};
 ghost use Rattle.log_replay.specs.Play.{game_of};
 ghost use Rattle.edit_scripts.specs.Script.{IsScript};
 ghost use Rattle.edit_scripts.specs.Views.{items_of};
@@ -95,7 +94,7 @@ fn open_log<'a>(
     requires seed_fits { large_seed seed ≡ None }
     requires every_fits { every_fault every ≡ None }
     ensures judged { Judges (judging_stage (lines_fault (lines log.now)) ∷ [])
-        (HoldsGame machine.entry.cave.now (game_of seed (lines log.now))) result }
+        (HoldsGame machine.entry.rules.cave.now (game_of seed (lines log.now))) result }
     ensures every { IfOk result (λ session. session.every ≡ every) }
 {
     let mut meter = Meter::new();
@@ -117,7 +116,7 @@ pub fn read_log<'a, L: Read>(
     requires every_fits { every_fault every ≡ None }
     ensures judged { (bytes : List ℕ) × Says (L.remaining log.old) bytes
         × Judges (log_stage bytes ∷ [])
-        (HoldsGame machine.entry.cave.now (game_of seed (lines bytes))) result }
+        (HoldsGame machine.entry.rules.cave.now (game_of seed (lines bytes))) result }
     ensures every { IfOk result (λ session. session.every ≡ every) }
 {
     let log = read(alloc, Input::Log, log)?;

@@ -3,11 +3,15 @@
 ghost use Rattle.std.specs.Prelude.{◌≡◌, IfOk};
 ghost use Rattle.cave_words.specs.Lexicon.{IsLexiconOf};
 ghost use Rattle.cave_world.specs.Equality.{state_equality};
+ghost use Rattle.cave_scene.specs.Rules.{cave_of};
 ghost use Rattle.cave_score.specs.Score.{score_of, max_score_of};
 ghost use Rattle.cave_play.specs.Machine.{cave_rules};
 
 use cave_data::Cave;
-use cave_turn::{max_score, score, start, stream_passed, take_line};
+use cave_scene::Rules;
+use cave_score::max_score;
+use cave_score::score::score;
+use cave_turn::{start, stream_passed, take_line};
 use cave_words::Lexicon;
 use cave_world::{Out, Part, State};
 use log_lines::Meter;
@@ -17,39 +21,39 @@ use std::alloc::{AllocError, Global};
 /// What plays a log in a cave, with the words of that cave.
 #[derive(Clone, Copy)]
 pub struct CaveMachine<'a> {
-    cave: &'a Cave,
-    lexicon: &'a Lexicon,
-    ghost words: { IsLexiconOf cave.now lexicon.now },
+    rules: Rules<'a>,
 }
 
 impl<'a> CaveMachine<'a> {
     /// The machine of a cave, which reads words by the lexicon of that cave.
     pub fn new(cave: &'a Cave, lexicon: &'a Lexicon) -> CaveMachine<'a>
         requires { IsLexiconOf cave.now lexicon.now }
-        ensures { result.cave.now ≡ cave.now }
+        ensures { cave_of result.rules ≡ cave.now }
     {
-        CaveMachine { cave, lexicon }
+        CaveMachine {
+            rules: Rules::of(cave, lexicon),
+        }
     }
 
     /// The cave that is played in.
     pub fn cave(self) -> &'a Cave
-        ensures { result.now ≡ self.entry.cave.now }
+        ensures { result.now ≡ cave_of self.entry.rules }
     {
-        self.cave
+        self.rules.cave
     }
 
     /// The score of a state.
     pub fn score(self, state: &State) -> u32
-        ensures { result ≡ score_of self.entry.cave.now state.now }
+        ensures { result ≡ score_of (cave_of self.entry.rules) state.now }
     {
-        score(self.cave, self.lexicon, state)
+        score(&self.rules, state)
     }
 
     /// The greatest score that the cave has.
     pub fn max_score(self) -> u32
-        ensures { result ≡ max_score_of self.entry.cave.now }
+        ensures { result ≡ max_score_of (cave_of self.entry.rules) }
     {
-        max_score(self.cave, self.lexicon)
+        max_score(&self.rules)
     }
 }
 
@@ -79,13 +83,13 @@ impl<'a> Machine for CaveMachine<'a> {
 
     ghost text = { λ piece. piece.items };
 
-    ghost rules = { λ machine. cave_rules machine.cave.now };
+    ghost rules = { λ machine. cave_rules (cave_of machine.rules) };
 
     ghost exact = { λ a b _ _. state_equality a b };
 
     fn start(&self, alloc: Global, seed: u32) -> Result<Started<State, Vec<Part>>, AllocError> {
         let mut out = Out::new();
-        let state = start(self.cave, seed, &mut out);
+        let state = start(self.rules.cave, seed, &mut out);
         let piece = keep(alloc, out.as_slice())?;
         Ok(Started { state, piece })
     }
@@ -106,7 +110,7 @@ impl<'a> Machine for CaveMachine<'a> {
             });
         }
         let mut out = Out::new();
-        let ticked = take_line(self.cave, self.lexicon, state, line, &mut out, meter);
+        let ticked = take_line(&self.rules, state, line, &mut out, meter);
         let piece = keep(alloc, out.as_slice())?;
         Ok(Stepped { piece, ticked })
     }

@@ -3,8 +3,6 @@
 ghost use Rattle.std.specs.Prelude.{◌≡◌, ℕ, List, [], ◌∷◌, ◌++◌, None, take, MatchResult, OnOk};
 ghost use Rattle.std.specs.Io.KnownBytes.{Appends};
 ghost use Rattle.std.specs.Str.Lines.{lines};
-ghost use Rattle.cave_data.specs.CaveView.{CaveView};
-ghost use Rattle.cave_data.specs.Reads.{Reads};
 ghost use Rattle.log_replay.specs.Play.{game_of};
 ghost use Rattle.cave_play.specs.Input.{Says};
 ghost use Rattle.cave_play.specs.Judge.{large_seed, every_fault};
@@ -26,7 +24,8 @@ use crate::output::write_output;
 use crate::reports::push_totals;
 use crate::transcript::{push_maximum, tell};
 use cave_data::Cave;
-use cave_turn::max_score;
+use cave_scene::Rules;
+use cave_score::max_score;
 use cave_words::Lexicon;
 use edit_options::{Editing, View};
 use limits::USUAL_EVERY;
@@ -132,7 +131,7 @@ fn check_cave(alloc: Global, cave: &Cave) -> Result<Vec<u8>, PlayFault>
         (λ fault. fault ≡ PlayFault.Memory) }
 {
     let lexicon = Lexicon::build(alloc, cave)?;
-    let most = max_score(cave, &lexicon);
+    let most = max_score(&Rules::of(cave, &lexicon));
     let mut text = Vec::new(alloc);
     push_maximum(alloc, &mut text, most)?;
     Ok(text)
@@ -186,9 +185,9 @@ fn transcript_of(
     machine: CaveMachine<'_>,
     session: &Session<CaveMachine<'_>>,
 ) -> Result<Vec<u8>, PlayFault>
-    requires { session.now.machine.cave.now ≡ machine.cave.now }
+    requires { session.now.machine.rules.cave.now ≡ machine.rules.cave.now }
     ensures told { MatchResult result
-        (λ text. text.items ≡ play_text machine.entry.cave.now session.now.game)
+        (λ text. text.items ≡ play_text machine.entry.rules.cave.now session.now.game)
         (λ fault. fault ≡ PlayFault.Memory) }
 {
     let mut text = Vec::new(alloc);
@@ -251,10 +250,10 @@ fn edit_session<S: Read>(
     script: &mut S,
     view: View,
 ) -> Result<Vec<u8>, PlayFault>
-    requires { session.old.machine.cave.now ≡ machine.cave.now }
+    requires { session.old.machine.rules.cave.now ≡ machine.rules.cave.now }
     ensures judged { (edits : List ℕ) × Says (S.remaining script.old) edits
         × Judges (script_stage edits ∷ [])
-        (λ text. IsEditOf view machine.entry.cave.now session.old.every session.old.game edits
+        (λ text. IsEditOf view machine.entry.rules.cave.now session.old.every session.old.game edits
         text.items) result }
 {
     let script = read_script(alloc, script)?;
@@ -273,9 +272,9 @@ fn push_end(
     totals: Totals,
     text: &mut Vec<u8>,
 ) -> Result<(), AllocError>
-    requires { session.now.machine.cave.now ≡ machine.cave.now }
+    requires { session.now.machine.rules.cave.now ≡ machine.rules.cave.now }
     ensures told { OnOk result (text.new.items ≡ text.old.items
-        ++ text_at_end view machine.entry.cave.now session.now.game totals.played totals.lines) }
+        ++ text_at_end view machine.entry.rules.cave.now session.now.game totals.played totals.lines) }
     ensures reads_back { OnOk result (ReadsBack view session.now.game.log) }
 {
     match view {

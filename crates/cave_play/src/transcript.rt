@@ -21,9 +21,9 @@ pub(crate) fn tell(
     session: &Session<CaveMachine<'_>>,
     text: &mut Vec<u8>,
 ) -> Result<(), AllocError>
-    requires { session.now.machine.cave.now ≡ machine.cave.now }
+    requires { session.now.machine.rules.cave.now ≡ machine.rules.cave.now }
     ensures { OnOk result (text.new.items ≡ text.old.items
-        ++ play_text machine.entry.cave.now session.now.game) }
+        ++ play_text machine.entry.rules.cave.now session.now.game) }
 {
     let cave = machine.cave();
     render(cave, session.opening(), 0, text)?;

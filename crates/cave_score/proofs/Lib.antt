@@ -1,4 +1,2 @@
 pub mod Most
-pub mod Over
-pub mod Reach
 pub mod Sums

@@ -1,5 +1,2 @@
-pub mod Deaths
-pub mod Endings
-pub mod Questions
 pub mod Score
 pub mod Treasures

@@ -8,7 +8,7 @@ use Rattle.cave_objects.specs.Objects.{is_first_at, prop_of}
 use Rattle.cave_world.specs.declared.state.State.{State}
 use Rattle.cave_things.specs.Places.{building_place}
 use Rattle.cave_things.specs.Reach.{has_prop}
-use Rattle.cave_things.specs.Rules.{thing}
+use Rattle.cave_scene.specs.Rules.{thing}
 use Rattle.cave_things.specs.Treasures.{known_treasures}
 
 -- what a treasure is worth: the chest 14 points, a lower number than the chest's 12, a higher

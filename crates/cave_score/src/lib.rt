@@ -1,14 +1,8 @@
-//! The score, how a game ends, what questions ask, and death.
+//! The score, and what it is made of.
 #![tactic(auto)]
 
-pub mod deaths;
-pub mod endings;
-pub mod questions;
 pub mod score;
 pub mod treasures;
 pub mod worths;
 
-pub use deaths::{count_death, die};
-pub use endings::end;
-pub use questions::{ask, tell_question};
 pub use score::max_score;

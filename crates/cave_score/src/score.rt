@@ -1,5 +1,5 @@
 ghost use Rattle.std.specs.Prelude.{◌≡◌, ◌≤◌, ◌<◌};
-ghost use Rattle.cave_things.specs.Rules.{cave_of};
+ghost use Rattle.cave_scene.specs.Rules.{cave_of};
 ghost use Rattle.cave_score.specs.Score.{life_points, ending_points, dwarf_points, closing_points};
 ghost use Rattle.cave_score.specs.Score.{escape_points, closed_points, lies_at, magazine_points};
 ghost use Rattle.cave_score.specs.Score.{points_of, is_taken, price_of, hint_costs};
@@ -10,16 +10,41 @@ use crate::worths::most_treasure_points;
 use cave_data::Cave;
 use cave_objects::{Object, Place};
 use cave_rows::PlaceRole;
-use cave_things::{Rules, place_named};
+use cave_scene::Rules;
+use cave_things::place_named;
 use cave_words::Named;
 use cave_world::hints::LAST_HINT;
 use cave_world::{Ending, State};
+
+/// The deaths that a game has.
+const LIVES: u32 = 3;
+
+/// What each life that is left counts.
+const POINTS_OF_LIFE: u32 = 10;
+
+/// What it counts that a game ended in another way than by quitting.
+const POINTS_OF_ENDING: u32 = 4;
+
+/// What it counts that the dwarves are awake.
+const POINTS_OF_DWARVES: u32 = 25;
+
+/// What it counts that the cave is closing.
+const POINTS_OF_CLOSING: u32 = 25;
+
+/// What it counts at most that the cave closed.
+const POINTS_OF_SUCCESS: u32 = 45;
+
+/// What it counts that the magazine is at its place.
+const POINTS_OF_MAGAZINE: u32 = 1;
+
+/// What each game counts.
+const POINTS_OF_PLAYING: u32 = 2;
 
 fn life_points(state: &State) -> u32
     ensures value { result ≡ life_points state.now }
     ensures most { result ≤ 30 }
 {
-    10 * (3 - u32::from(state.tallies.deaths.number()))
+    POINTS_OF_LIFE * (LIVES - u32::from(state.tallies.deaths.number()))
 }
 
 /// What a game counts that has ended in another way than by quitting.
@@ -29,7 +54,9 @@ fn ending_points(ending: Option<Ending>) -> u32
 {
     match ending {
         None | Some(Ending::Quit) => 0,
-        Some(Ending::Killed | Ending::Klutz | Ending::WrongWay | Ending::Success) => 4,
+        Some(Ending::Killed | Ending::Klutz | Ending::WrongWay | Ending::Success) => {
+            POINTS_OF_ENDING
+        }
     }
 }
 
@@ -40,7 +67,7 @@ fn dwarf_points(state: &State) -> u32
     if state.dwarves.anger.number() == 0 {
         0
     } else {
-        25
+        POINTS_OF_DWARVES
     }
 }
 
@@ -48,7 +75,11 @@ fn closing_points(state: &State) -> u32
     ensures value { result ≡ closing_points state.now }
     ensures most { result ≤ 25 }
 {
-    if state.closing.is_closing { 25 } else { 0 }
+    if state.closing.is_closing {
+        POINTS_OF_CLOSING
+    } else {
+        0
+    }
 }
 
 /// What it counts to have got out of the closed cave, or to be in it.
@@ -57,7 +88,7 @@ fn escape_points(ending: Option<Ending>) -> u32
     ensures most { result ≤ 45 }
 {
     match ending {
-        Some(Ending::Success) => 45,
+        Some(Ending::Success) => POINTS_OF_SUCCESS,
         Some(Ending::WrongWay) => 30,
         Some(Ending::Klutz) => 25,
         None | Some(Ending::Quit | Ending::Killed) => 10,
@@ -90,7 +121,7 @@ fn magazine_points(rules: &Rules<'_>, state: &State) -> u32
 {
     let witt = place_named(rules.cave, PlaceRole::Witt);
     if lies_at(state, rules.object(Named::Magazine), witt) {
-        1
+        POINTS_OF_MAGAZINE
     } else {
         0
     }
@@ -109,7 +140,7 @@ fn points(rules: &Rules<'_>, state: &State) -> u32
         + closing_points(state)
         + closed_points(state)
         + magazine_points(rules, state)
-        + 2
+        + POINTS_OF_PLAYING
 }
 
 #[tactic(auto, unfolding(crate::specs::Score::price_of))]
@@ -161,5 +192,12 @@ pub fn max_score(rules: &Rules<'_>) -> u32
     ensures value { result ≡ max_score_of (cave_of rules.now) }
     ensures small { result < 10000 }
 {
-    most_treasure_points(rules) + 30 + 4 + 50 + 45 + 1 + 2
+    most_treasure_points(rules)
+        + LIVES * POINTS_OF_LIFE
+        + POINTS_OF_ENDING
+        + POINTS_OF_DWARVES
+        + POINTS_OF_CLOSING
+        + POINTS_OF_SUCCESS
+        + POINTS_OF_MAGAZINE
+        + POINTS_OF_PLAYING
 }

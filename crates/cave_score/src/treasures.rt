@@ -1,11 +1,12 @@
 ghost use Rattle.std.specs.Prelude.{◌≡◌, ◌≤◌};
-ghost use Rattle.cave_things.specs.Rules.{cave_of};
+ghost use Rattle.cave_scene.specs.Rules.{cave_of};
 ghost use Rattle.cave_score.specs.Treasures.{is_seen, is_safe, points_of_treasure, treasure_points};
 
 use crate::worths::worth;
 use cave_objects::Object;
+use cave_scene::Rules;
 use cave_things::treasures::{FIRST_TREASURE, LAST_TREASURE};
-use cave_things::{Rules, building_place, has_prop, is_known};
+use cave_things::{building_place, has_prop, is_known};
 use cave_world::State;
 
 fn is_seen(state: &State, treasure: Object) -> bool

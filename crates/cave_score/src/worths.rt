@@ -1,10 +1,11 @@
 ghost use Rattle.std.specs.Prelude.{◌≡◌, ◌≤◌};
-ghost use Rattle.cave_things.specs.Rules.{cave_of};
+ghost use Rattle.cave_scene.specs.Rules.{cave_of};
 ghost use Rattle.cave_score.specs.Treasures.{worth, most_treasure_points};
 
 use cave_objects::Object;
+use cave_scene::Rules;
+use cave_things::is_known;
 use cave_things::treasures::{FIRST_TREASURE, LAST_TREASURE};
-use cave_things::{Rules, is_known};
 use cave_words::Named;
 
 /// What a treasure is worth: more than the chest after it, less before it.

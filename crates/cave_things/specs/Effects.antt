@@ -6,10 +6,11 @@ use Rattle.cave_objects.specs.Objects.{with_place, with_anchor, with_latest, wit
 use Rattle.cave_objects.specs.declared.spot.Anchor.TheVariants as anchor
 use Rattle.cave_world.specs.declared.state.State.{State}
 use Rattle.cave_objects.specs.Layout.{Layout}
-use Rattle.cave_things.specs.Rules.{thing}
+use Rattle.cave_scene.specs.Rules.{thing}
 use Rattle.cave_things.specs.Liquids.{liquid_of, is_liquid}
 use Rattle.cave_things.specs.Homes.{home, hold_of, is_at_home}
-use Rattle.cave_things.specs.Reach.{is_called, is_in_hand, has_other_prop}
+use Rattle.cave_scene.specs.Rules.{is_called}
+use Rattle.cave_things.specs.Reach.{is_in_hand, has_other_prop}
 
 -- other objects in the same state
 abbrev pub with_objects : Layout → State → State

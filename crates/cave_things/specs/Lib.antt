@@ -1,12 +1,9 @@
-pub mod Bounds
 pub mod Conditions
 pub mod Effects
 pub mod Homes
 pub mod Liquids
 pub mod Panic
 pub mod Places
-pub mod Play
 pub mod Reach
-pub mod Rules
 pub mod SpecialWords
 pub mod Treasures

@@ -7,7 +7,7 @@ use Rattle.cave_words.specs.declared.named.Named.TheVariants as name
 use Rattle.cave_objects.specs.Objects.{prop_of}
 use Rattle.cave_world.specs.declared.state.State.{State}
 use Rattle.cave_things.specs.Conditions.{meets_condition}
-use Rattle.cave_things.specs.Rules.{thing}
+use Rattle.cave_scene.specs.Rules.{thing}
 use Rattle.cave_things.specs.declared.conditions.Condition.TheVariants as condition
 
 -- an object is the liquid that is there, if any is; object 0 is none

@@ -1,5 +1,5 @@
 -- The places that rules name.
-use Rattle.std.specs.Prelude.{ℕ, Bool, false, ◌==◌, Option, Some, None}
+use Rattle.std.specs.Prelude.{ℕ, Option, Some, None}
 use Rattle.std.specs.FinMap as map
 use Rattle.cave_data.specs.CaveView.{CaveView}
 use Rattle.cave_rows.specs.PlaceRole.{place_number}

@@ -1,27 +1,18 @@
 -- What the player can get at, and what rules ask of objects. Of an object that isn't there each
 -- test is false.
 use Rattle.std.specs.Prelude.{ℕ, ℤ, Bool, true, false, ◌==◌, ◌&&◌, ◌||◌, not, nat_le, int_le}
-use Rattle.std.specs.Prelude.{if◌then◌else◌, take, List}
+use Rattle.std.specs.Prelude.{if◌then◌else◌, take}
 use Rattle.std.specs.Ordering.{int_eq}
 use Rattle.std.specs.List.{list_any}
 use Rattle.cave_data.specs.CaveView.{CaveView}
-use Rattle.cave_words.specs.declared.named.Named.{Named}
 use Rattle.cave_words.specs.declared.named.Named.TheVariants as name
 use Rattle.cave_objects.specs.Objects.{is_carried, is_first_at, anchor_of, prop_of}
 use Rattle.cave_objects.specs.declared.spot.Anchor.{Anchor}
 use Rattle.cave_objects.specs.declared.spot.Anchor.TheVariants as anchor
 use Rattle.cave_world.specs.declared.dwarves.Dwarf.{Dwarf}
 use Rattle.cave_world.specs.declared.state.State.{State}
-use Rattle.cave_things.specs.Rules.{thing}
+use Rattle.cave_scene.specs.Rules.{is_called, thing}
 use Rattle.cave_things.specs.Liquids.{liquid_of, is_liquid}
-
--- an object is the one of a name
-unfoldable pub is_called : CaveView → ℕ → Named → Bool
-is_called cave x n = not (x == 0) && thing cave n == x
-
--- an object is the one of one of the names
-abbrev pub is_one_of : CaveView → ℕ → List Named → Bool
-is_one_of cave x names = list_any (is_called cave x) names
 
 -- an object is carried: a liquid where the bottle is carried and has it
 unfoldable pub is_in_hand : CaveView → State → ℕ → Bool

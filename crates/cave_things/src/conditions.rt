@@ -2,10 +2,10 @@
 
 ghost use Rattle.std.specs.Prelude.{◌≡◌, ◌<◌};
 ghost use Rattle.cave_things.specs.Conditions.{bit_of, meets_condition};
-ghost use Rattle.cave_things.specs.Rules.{cave_of};
+ghost use Rattle.cave_scene.specs.Rules.{cave_of};
 
-use crate::rules::Rules;
 use cave_objects::Place;
+use cave_scene::Rules;
 use cave_world::has_condition;
 
 /// A condition that a place may have, by a bit of its own.
@@ -36,11 +36,9 @@ impl Condition {
     }
 }
 
-impl Rules<'_> {
-    /// Whether a place has a condition.
-    pub fn has(&self, place: Place, condition: Condition) -> bool
-        ensures { result ≡ meets_condition (cave_of self.now) place condition }
-    {
-        has_condition(self.cave, place, condition.bit())
-    }
+/// Whether a place has a condition.
+pub fn has_condition_of(rules: &Rules<'_>, place: Place, condition: Condition) -> bool
+    ensures { result ≡ meets_condition (cave_of rules.now) place condition }
+{
+    has_condition(rules.cave, place, condition.bit())
 }

@@ -1,19 +1,20 @@
 ghost use Rattle.std.specs.Prelude.{◌≡◌};
-ghost use Rattle.cave_things.specs.Rules.{cave_of};
+ghost use Rattle.cave_scene.specs.Rules.{cave_of};
 ghost use Rattle.cave_things.specs.Effects.{vessel, with_bird_in_cage, with_free_bird, put_down};
 ghost use Rattle.cave_things.specs.Effects.{let_go, without_troll, with_one_more_lost, after_loss_to_snake};
 
-use crate::liquids::is_liquid;
-use crate::reach::has_other_prop;
-use crate::rules::Rules;
+use crate::homes::{hold, home, is_at_home};
+use crate::liquids::{is_liquid, liquid};
+use crate::reach::{has_other_prop, is_in_hand};
 use cave_objects::{Anchor, Object, Place, Prop};
+use cave_scene::Rules;
 use cave_words::Named;
 use cave_world::State;
 
 fn vessel(rules: &Rules<'_>, state: &State, object: Object) -> Object
     ensures { result ≡ vessel (cave_of rules.now) state.now object }
 {
-    if is_liquid(object, rules.liquid(state)) {
+    if is_liquid(object, liquid(rules, state)) {
         rules.object(Named::Bottle)
     } else {
         object
@@ -55,7 +56,7 @@ pub fn put_down(rules: &Rules<'_>, object: Object, state: &mut State)
 pub fn let_go(rules: &Rules<'_>, object: Object, state: &mut State)
     ensures { state.new ≡ let_go (cave_of rules.now) object state.old }
 {
-    if rules.is_in_hand(state, object) {
+    if is_in_hand(rules, state, object) {
         let here = state.trail.here;
         state.move_to(object, here);
     }
@@ -70,8 +71,8 @@ pub fn pay_troll(rules: &Rules<'_>, state: &mut State)
     let second = rules.object(Named::SecondTroll);
     state.move_to(troll, Place::new(0));
     state.objects.anchor_to(troll, Anchor::Loose);
-    state.move_to(second, rules.home(troll));
-    state.objects.anchor_to(second, rules.hold(troll));
+    state.move_to(second, home(rules, troll));
+    state.objects.anchor_to(second, hold(rules, troll));
     state.objects.juggle(rules.object(Named::Chasm));
 }
 
@@ -87,7 +88,7 @@ pub fn lose_one(state: &mut State)
 pub fn lose(rules: &Rules<'_>, state: &mut State)
     ensures { state.new ≡ after_loss_to_snake (cave_of rules.now) state.old }
 {
-    if rules.is_at_home(state, rules.object(Named::Snake)) {
+    if is_at_home(rules, state, rules.object(Named::Snake)) {
         lose_one(state);
     }
 }

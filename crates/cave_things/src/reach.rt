@@ -1,52 +1,36 @@
-ghost use Rattle.std.specs.Prelude.{◌≡◌, take};
+ghost use Rattle.std.specs.Prelude.{◌≡◌};
 ghost use Rattle.std.specs.List.{list_any};
-ghost use Rattle.cave_things.specs.Rules.{cave_of};
-ghost use Rattle.cave_things.specs.Reach.{is_called, is_one_of, is_in_hand, is_near, is_fixed};
+ghost use Rattle.cave_scene.specs.Rules.{cave_of};
+ghost use Rattle.cave_things.specs.Reach.{is_in_hand, is_near, is_fixed};
 ghost use Rattle.cave_things.specs.Reach.{is_treasure};
 ghost use Rattle.cave_things.specs.Reach.{has_prop, has_other_prop, has_prop_up_to, is_dwarf_at};
 ghost use Rattle.cave_things.specs.Reach.{is_dwarf_here};
 
-use crate::liquids::is_liquid;
-use crate::rules::Rules;
+use crate::liquids::{is_liquid, liquid};
+use crate::treasures::{FIRST_TREASURE, LAST_TREASURE};
 use cave_objects::{Anchor, Object, Place};
+use cave_scene::Rules;
 use cave_words::Named;
 use cave_world::{Dwarf, State};
 
-impl Rules<'_> {
-    /// Whether an object is the one of a name.
-    #[tactic(auto, unfolding(crate::specs::Reach::is_called))]
-    pub fn is(&self, object: Object, name: Named) -> bool
-        ensures { result ≡ is_called (cave_of self.now) object name }
-    {
-        !object.is_none() && self.object(name) == object
+/// Whether an object is carried: a liquid where the bottle is carried and has it.
+#[tactic(auto, unfolding(crate::specs::Reach::is_in_hand))]
+pub fn is_in_hand(rules: &Rules<'_>, state: &State, object: Object) -> bool
+    ensures { result ≡ is_in_hand (cave_of rules.now) state.now object }
+{
+    if rules.is(object, Named::Water) || rules.is(object, Named::Oil) {
+        return state.is_carrying(rules.object(Named::Bottle))
+            && is_liquid(object, liquid(rules, state));
     }
+    state.is_carrying(object)
+}
 
-    /// Whether an object is the one of one of the names.
-    pub fn is_one_of(&self, object: Object, names: &[Named]) -> bool
-        ensures { result ≡ is_one_of (cave_of self.now) object names.now }
-    {
-        names.iter().any(|name| self.is(object, *name))
-    }
-
-    /// Whether an object is carried: a liquid where the bottle is carried and has it.
-    #[tactic(auto, unfolding(crate::specs::Reach::is_in_hand))]
-    pub fn is_in_hand(&self, state: &State, object: Object) -> bool
-        ensures { result ≡ is_in_hand (cave_of self.now) state.now object }
-    {
-        if self.is(object, Named::Water) || self.is(object, Named::Oil) {
-            return state.is_carrying(self.object(Named::Bottle))
-                && is_liquid(object, self.liquid(state));
-        }
-        state.is_carrying(object)
-    }
-
-    /// Whether an object is carried, or its first half is where the player is.
-    #[tactic(auto, unfolding(crate::specs::Reach::is_near))]
-    pub fn is_near(&self, state: &State, object: Object) -> bool
-        ensures { result ≡ is_near (cave_of self.now) state.now object }
-    {
-        self.is_in_hand(state, object) || state.objects.is_first_at(state.trail.here, object)
-    }
+/// Whether an object is carried, or its first half is where the player is.
+#[tactic(auto, unfolding(crate::specs::Reach::is_near))]
+pub fn is_near(rules: &Rules<'_>, state: &State, object: Object) -> bool
+    ensures { result ≡ is_near (cave_of rules.now) state.now object }
+{
+    is_in_hand(rules, state, object) || state.objects.is_first_at(state.trail.here, object)
 }
 
 /// Whether there is the object, and it has a prop.
@@ -77,7 +61,7 @@ pub fn has_prop_up_to(state: &State, object: Object, most: i8) -> bool
 pub fn is_treasure(object: Object) -> bool
     ensures { result ≡ is_treasure object }
 {
-    50 <= object.number() && object.number() <= 79
+    FIRST_TREASURE <= object.number() && object.number() <= LAST_TREASURE
 }
 
 fn is_at(place: Place, dwarf: &Dwarf) -> bool

@@ -1,8 +1,8 @@
 ghost use Rattle.std.specs.Prelude.{◌≡◌, ◌<◌};
-ghost use Rattle.cave_things.specs.Rules.{cave_of};
+ghost use Rattle.cave_scene.specs.Rules.{cave_of};
 ghost use Rattle.cave_things.specs.SpecialWords.{number_or_none, special};
 
-use crate::rules::Rules;
+use cave_scene::Rules;
 use cave_words::{Class, Meaning, Word};
 
 fn number_or_none(meaning: Option<Meaning>) -> u16
@@ -14,13 +14,11 @@ fn number_or_none(meaning: Option<Meaning>) -> u16
     }
 }
 
-impl Rules<'_> {
-    /// The number of a word among the special words; 0 if it is none of them.
-    #[tactic(auto, using(crate::proofs::Meanings::specials), unfolding(crate::specs::SpecialWords::special))]
-    pub fn special(&self, word: Word) -> u16
-        ensures value { result ≡ special (cave_of self.now) word }
-        ensures within { result < 1000 }
-    {
-        number_or_none(self.lexicon.find_in(word, Class::Special))
-    }
+/// The number of a word among the special words; 0 if it is none of them.
+#[tactic(auto, using(crate::proofs::Meanings::specials), unfolding(crate::specs::SpecialWords::special))]
+pub fn special(rules: &Rules<'_>, word: Word) -> u16
+    ensures value { result ≡ special (cave_of rules.now) word }
+    ensures within { result < 1000 }
+{
+    number_or_none(rules.lexicon.find_in(word, Class::Special))
 }

@@ -4,7 +4,7 @@ use Rattle.std.specs.Prelude.{Some, None, codes, slice_set}
 use Rattle.cave_data.specs.CaveView.{CaveView}
 use Rattle.cave_rows.specs.declared.role.Role.TheVariants as role
 use Rattle.cave_moves.specs.Arrival.{arrival_scene}
-use Rattle.cave_things.specs.Play.{Scene, scene_at_start, after_saying, with_state}
+use Rattle.cave_scene.specs.Play.{Scene, scene_at_start, after_saying, with_state}
 use Rattle.cave_things.specs.Places.{start_place}
 use Rattle.cave_words.specs.Word.{is_written}
 use Rattle.cave_words.specs.Words.{words_of}
@@ -13,8 +13,8 @@ use Rattle.cave_world.specs.declared.ending.Question.{Question}
 use Rattle.cave_world.specs.declared.ending.Question.TheVariants as question
 use Rattle.cave_world.specs.declared.state.State.{State}
 use Rattle.cave_turn.specs.Dragon.{fight_scene}
-use Rattle.cave_score.specs.Endings.{ending_scene}
-use Rattle.cave_score.specs.Questions.{after_question}
+use Rattle.cave_ends.specs.Endings.{ending_scene}
+use Rattle.cave_ends.specs.Questions.{after_question}
 use Rattle.cave_turn.specs.Finish.{end_of_turn}
 use Rattle.cave_hints.specs.Hints.{price_scene, hint_scene}
 use Rattle.cave_turn.specs.Revival.{return_scene, burial_scene}

@@ -6,13 +6,15 @@ use Rattle.cave_rows.specs.declared.role.Role.{Role}
 use Rattle.cave_rows.specs.declared.role.Role.TheVariants as role
 use Rattle.cave_moves.specs.Arrival.{arrival_scene, description_anew}
 use Rattle.cave_moves.specs.Journeys.{journey_by_request}
-use Rattle.cave_things.specs.Play.{Scene, scene_at_start, after_telling, after_saying, with_state}
-use Rattle.cave_things.specs.Play.{after_draw}
-use Rattle.cave_things.specs.Play.{happens}
-use Rattle.cave_things.specs.Rules.{thing}
-use Rattle.cave_verbs.specs.Acting.{outcome_of_command, next_of_step}
+use Rattle.cave_scene.specs.Play.{Scene, scene_at_start, after_telling, after_saying, with_state}
+use Rattle.cave_scene.specs.Play.{after_draw}
+use Rattle.cave_scene.specs.Play.{happens}
+use Rattle.cave_scene.specs.Rules.{thing}
+use Rattle.cave_verbs.specs.Acting.{act, next_of_step}
+use Rattle.cave_verbs.specs.Deeds.{order_of}
 use Rattle.cave_verbs.specs.declared.next.Next.{Next}
 use Rattle.cave_verbs.specs.declared.next.Next.TheVariants.{Stay, Keep, Describe, Arrive, Ask, End}
+use Rattle.cave_verbs.specs.declared.order.Order.{Order}
 use Rattle.cave_words.specs.Words.{words_of}
 use Rattle.cave_words.specs.declared.named.Named.TheVariants as name
 use Rattle.cave_words.specs.declared.words.Words.{Words}
@@ -23,8 +25,8 @@ use Rattle.cave_world.specs.declared.state.State.{State}
 use Rattle.cave_clocks.specs.Clocks.{timing_of_clocks}
 use Rattle.cave_clocks.specs.declared.clocks.Clocks.{Clocks}
 use Rattle.cave_clocks.specs.declared.clocks.Clocks.TheVariants as clocks
-use Rattle.cave_score.specs.Endings.{ending_scene}
-use Rattle.cave_score.specs.Questions.{asking_scene}
+use Rattle.cave_ends.specs.Endings.{ending_scene}
+use Rattle.cave_ends.specs.Questions.{asking_scene}
 use Rattle.cave_turn.specs.Finish.{end_of_turn}
 use Rattle.cave_world.specs.declared.ending.Ending.TheVariants.{Quit}
 use Rattle.cave_turn.specs.Reading.{read_words, half_command_of}
@@ -97,13 +99,11 @@ half_command_kept Keep v = Some (record { verb = Some v; object = 0 })
 half_command_kept _ v = None
 
 -- a verb is done by the first of its rows that fits, and then what follows
-unfoldable pub words_done_by_verb : CaveView → ℕ → ℕ → List ℕ → Scene → WordsDone
-words_done_by_verb cave v x word p =
-    let o = outcome_of_command cave
-    (record { verb = v; object = x; word = word; was_dark = p.was_dark }) p.state p.parts in
-    let next = next_of_step o.step in
-    words_done (next_scene cave next (record p { state = o.state; parts = o.parts }))
-    (half_command_kept next v)
+unfoldable pub words_done_by_verb : CaveView → Order → Scene → WordsDone
+words_done_by_verb cave order p =
+    let a = act cave order p in
+    let next = next_of_step a.step in
+    words_done (next_scene cave next a.scene) (half_command_kept next order.verb)
 
 -- what was read is done. After an unknown word, or where a verb is missing, the half command stays
 -- as it then is
@@ -112,7 +112,8 @@ words_done_by_reading cave half Unknown p = words_done (puzzled_scene p) (Some h
 words_done_by_reading cave half (Motion motion) p = words_done (travel_scene cave motion p) None
 words_done_by_reading cave half (Tell told) p = words_done (after_telling told p) None
 words_done_by_reading cave half Knives p = words_done (after_vanished_knives p) None
-words_done_by_reading cave half (Act v x word) p = words_done_by_verb cave v x word p
+words_done_by_reading cave half (Act v x word) p =
+    words_done_by_verb cave (order_of v x word) p
 words_done_by_reading cave half (WhatToDo word) p =
     words_done (after_telling (part.Word line.WhatToDo word) p) (Some half)
 

@@ -3,10 +3,10 @@ use Rattle.std.specs.Prelude.{ℕ, pos, zero, suc, ◌+◌, ◌/◌, Bool, ◌==
 use Rattle.std.specs.Prelude.{if◌then◌else◌}
 use Rattle.cave_data.specs.CaveView.{CaveView}
 use Rattle.cave_moves.specs.Arrival.{arrival_scene}
-use Rattle.cave_things.specs.Play.{Scene, after_look_at, with_state, scene_at_place}
+use Rattle.cave_scene.specs.Play.{Scene, after_look_at, with_state, scene_at_place}
 use Rattle.cave_things.specs.Effects.{with_objects}
 use Rattle.cave_things.specs.Homes.{home, second_home}
-use Rattle.cave_things.specs.Rules.{thing}
+use Rattle.cave_scene.specs.Rules.{thing}
 use Rattle.cave_words.specs.declared.named.Named.TheVariants as name
 use Rattle.cave_objects.specs.Layout.{Layout}
 use Rattle.cave_objects.specs.Objects.{with_place, with_anchor, with_prop, is_first_at}

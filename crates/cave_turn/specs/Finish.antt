@@ -2,8 +2,8 @@
 use Rattle.std.specs.Prelude.{ℕ, pos, negsuc, ◌-ℤ◌, Bool, ◌&&◌, if◌then◌else◌, int_lt, suc, zero}
 use Rattle.cave_data.specs.CaveView.{CaveView}
 use Rattle.cave_things.specs.Effects.{with_objects}
-use Rattle.cave_things.specs.Play.{Scene, after_look_at, with_state}
-use Rattle.cave_things.specs.Rules.{thing}
+use Rattle.cave_scene.specs.Play.{Scene, after_look_at, with_state}
+use Rattle.cave_scene.specs.Rules.{thing}
 use Rattle.cave_hints.specs.Hints.{after_hints}
 use Rattle.cave_words.specs.declared.named.Named.TheVariants as name
 use Rattle.cave_objects.specs.Layout.{Layout}

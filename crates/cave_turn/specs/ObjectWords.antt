@@ -3,8 +3,9 @@ use Rattle.std.specs.Prelude.{ℕ, pos, Bool, false, ◌==◌, ◌&&◌, ◌||�
 use Rattle.std.specs.Prelude.{[], ◌∷◌, Option, Some, None}
 use Rattle.cave_data.specs.CaveView.{CaveView}
 use Rattle.cave_things.specs.Liquids.{liquid_of, lake_of, is_liquid}
-use Rattle.cave_things.specs.Reach.{is_called, is_in_hand, is_near, has_other_prop, is_dwarf_here}
-use Rattle.cave_things.specs.Rules.{thing}
+use Rattle.cave_scene.specs.Rules.{is_called}
+use Rattle.cave_things.specs.Reach.{is_in_hand, is_near, has_other_prop, is_dwarf_here}
+use Rattle.cave_scene.specs.Rules.{thing}
 use Rattle.cave_verbs.specs.Verbs as verb
 use Rattle.cave_words.specs.declared.named.Named.TheVariants as name
 use Rattle.cave_objects.specs.Objects.{is_object_at}

@@ -4,8 +4,8 @@ use Rattle.std.specs.Prelude.{Option, Some, None}
 use Rattle.cave_data.specs.CaveView.{CaveView}
 use Rattle.cave_rows.specs.declared.role.Role.TheVariants as role
 use Rattle.cave_things.specs.Liquids.{lake_of, is_liquid}
-use Rattle.cave_things.specs.Rules.{or_no_object}
-use Rattle.cave_things.specs.Rules.{thing}
+use Rattle.cave_scene.specs.Rules.{or_no_object}
+use Rattle.cave_scene.specs.Rules.{thing}
 use Rattle.cave_verbs.specs.Verbs as verb
 use Rattle.cave_words.specs.Meaning.{meaning}
 use Rattle.cave_words.specs.Word.{is_written, word_of}

@@ -4,13 +4,14 @@ use Rattle.cave_data.specs.CaveView.{CaveView}
 use Rattle.cave_rows.specs.declared.role.Role.{Role}
 use Rattle.cave_rows.specs.declared.role.Role.TheVariants as role
 use Rattle.cave_moves.specs.Arrival.{description_anew}
-use Rattle.cave_score.specs.Deaths.{with_one_death}
-use Rattle.cave_score.specs.Endings.{ending_scene}
+use Rattle.cave_ends.specs.Deaths.{with_one_death}
+use Rattle.cave_ends.specs.Endings.{ending_scene}
 use Rattle.cave_things.specs.Effects.{with_objects}
 use Rattle.cave_things.specs.Places.{building_place, start_place}
-use Rattle.cave_things.specs.Play.{Scene, after_saying, with_state}
-use Rattle.cave_things.specs.Reach.{is_called, is_in_hand}
-use Rattle.cave_things.specs.Rules.{thing}
+use Rattle.cave_scene.specs.Play.{Scene, after_saying, with_state}
+use Rattle.cave_scene.specs.Rules.{is_called}
+use Rattle.cave_things.specs.Reach.{is_in_hand}
+use Rattle.cave_scene.specs.Rules.{thing}
 use Rattle.cave_words.specs.declared.named.Named.TheVariants as name
 use Rattle.cave_objects.specs.Layout.{Layout}
 use Rattle.cave_objects.specs.Objects.{is_carried, with_place, with_prop}

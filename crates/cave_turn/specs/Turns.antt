@@ -17,7 +17,7 @@ use Rattle.cave_world.specs.declared.state.State.{State}
 use Rattle.cave_turn.specs.Answers.{answer_scene, answers, without_question}
 use Rattle.cave_begin.specs.Begin.{begun_state}
 use Rattle.cave_turn.specs.Commands.{command_scene}
-use Rattle.cave_things.specs.Play.{Scene}
+use Rattle.cave_scene.specs.Play.{Scene}
 
 -- the state after a line, what the line says, and whether it is a turn of the game
 pub record Turn : Type 0 where

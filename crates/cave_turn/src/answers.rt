@@ -1,9 +1,9 @@
 ghost use Rattle.std.specs.Prelude.{◌≡◌, ◌+◌, ◌<◌, ◌≤◌, []};
 ghost use Rattle.arrayvec.specs.ArrayVec.{array_vec_len};
-ghost use Rattle.cave_things.specs.Bounds.{HasRoom, SaysUpTo, parts_of_arrival, parts_of_end};
-ghost use Rattle.cave_things.specs.Bounds.{parts_of_finish, parts_of_question, parts_of_answer};
-ghost use Rattle.cave_things.specs.Play.{scene_of, IsSamePlay, GoesOn};
-ghost use Rattle.cave_things.specs.Rules.{cave_of};
+ghost use Rattle.cave_scene.specs.Bounds.{HasRoom, SaysUpTo, parts_of_arrival, parts_of_end};
+ghost use Rattle.cave_scene.specs.Bounds.{parts_of_finish, parts_of_question, parts_of_answer};
+ghost use Rattle.cave_scene.specs.Play.{scene_of, IsSamePlay, GoesOn};
+ghost use Rattle.cave_scene.specs.Rules.{cave_of};
 ghost use Rattle.cave_turn.specs.Answers.{answer_of, answer_in, after_instructions, with_oyster_hint};
 ghost use Rattle.cave_turn.specs.Answers.{entrance_scene, quit_scene, yes_scene, no_scene};
 ghost use Rattle.cave_turn.specs.Answers.{reply_scene};
@@ -14,11 +14,12 @@ ghost use Rattle.cave_turn.specs.Answers.{is_dragon, is_yes};
 use crate::dragon::fight;
 use crate::finish::finish;
 use crate::revival::{come_back, stay_dead};
+use cave_ends::{end, tell_question};
 use cave_hints::{give, price};
 use cave_moves::arrive;
 use cave_rows::Role;
-use cave_score::{end, tell_question};
-use cave_things::{Play, Rules, start_place};
+use cave_scene::{Play, Rules};
+use cave_things::start_place;
 use cave_words::Word;
 use cave_world::{Charge, Ending, Out, Question, State};
 

@@ -1,11 +1,11 @@
 ghost use Rattle.std.specs.Prelude.{◌≡◌, ◌+◌, ◌<◌, ◌≤◌, []};
 ghost use Rattle.arrayvec.specs.ArrayVec.{array_vec_len};
-ghost use Rattle.cave_things.specs.Bounds.{HasRoom, SaysUpTo, parts_of_journey, parts_of_end};
-ghost use Rattle.cave_things.specs.Bounds.{parts_of_arrival, parts_of_command, room_of_deed};
-ghost use Rattle.cave_things.specs.Bounds.{parts_of_deed, room_of_timed_deed, parts_of_timed_deed};
-ghost use Rattle.cave_things.specs.Play.{scene_of, scene_at_start, IsSamePlay, GoesOn};
-ghost use Rattle.cave_things.specs.Rules.{cave_of};
-ghost use Rattle.cave_turn.specs.Commands.{with_magic_waiting, knife_here, with_knife};
+ghost use Rattle.cave_scene.specs.Bounds.{HasRoom, SaysUpTo, parts_of_journey};
+ghost use Rattle.cave_scene.specs.Bounds.{parts_of_arrival, parts_of_command, room_of_deed};
+ghost use Rattle.cave_scene.specs.Bounds.{parts_of_deed, room_of_timed_deed, parts_of_timed_deed};
+ghost use Rattle.cave_scene.specs.Play.{scene_of, IsSamePlay, GoesOn};
+ghost use Rattle.cave_scene.specs.Rules.{cave_of};
+ghost use Rattle.cave_turn.specs.Commands.{with_magic_waiting, knife_here};
 ghost use Rattle.cave_turn.specs.Commands.{after_beginning};
 ghost use Rattle.cave_turn.specs.Commands.{travel_scene, puzzlement, puzzled_scene, after_vanished_knives};
 ghost use Rattle.cave_turn.specs.Commands.{next_scene, half_command_kept, words_done, words_done_by_verb, words_done_by_reading};
@@ -17,12 +17,12 @@ ghost use Rattle.cave_turn.specs.Commands.{clocks_scene, command_scene};
 use crate::finish::finish;
 use crate::reading::{HalfCommand, Reading, Understood, read_words};
 use cave_clocks::{Clocks, run_clocks};
+use cave_ends::{ask, end};
 use cave_moves::{arrive, describe_here, lead_by_motion};
 use cave_objects::{Object, Place};
 use cave_rows::Role;
-use cave_score::{ask, end};
-use cave_things::{Play, Rules};
-use cave_verbs::{Command, Next, act};
+use cave_scene::{Play, Rules};
+use cave_verbs::{Next, Order, act};
 use cave_words::{Named, Word, Words};
 use cave_world::{Ending, Knife, Magic, Out, Part, State, WordLine};
 
@@ -152,28 +152,16 @@ fn half_command_kept(next: &Next, verb: u16) -> Option<HalfCommand>
 /// A verb is done by the first of its rows that fits, and then what follows. Returns what is kept
 /// for the next line.
 #[tactic(auto, unfolding(crate::specs::Commands::words_done_by_verb))]
-fn do_verb(
-    rules: &Rules<'_>,
-    verb: u16,
-    object: Object,
-    word: Word,
-    play: &mut Play<'_>,
-) -> Option<HalfCommand>
+fn do_verb(rules: &Rules<'_>, order: Order, play: &mut Play<'_>) -> Option<HalfCommand>
     requires { HasRoom (room_of_deed play.old.left) play.old }
     ensures play { words_done (scene_of play.new) result
-        ≡ words_done_by_verb (cave_of rules.now) verb object word (scene_of play.old) }
+        ≡ words_done_by_verb (cave_of rules.now) order (scene_of play.old) }
     ensures same { IsSamePlay play.old play.new }
     ensures few { SaysUpTo (parts_of_deed play.old.left) play.old play.new }
 {
-    let command = Command {
-        verb,
-        object,
-        word,
-        was_dark: play.was_dark,
-    };
-    let next = act(rules, command, play.state, play.out);
+    let next = act(rules, order, play);
     follow(rules, &next, play);
-    half_command_kept(&next, verb)
+    half_command_kept(&next, order.verb)
 }
 
 /// What was read is done. Returns what is kept for the next line.
@@ -207,7 +195,9 @@ fn do_reading(
             tell_of_knives(play);
             None
         }
-        Reading::Act(verb, object, word) => do_verb(rules, *verb, *object, *word, play),
+        Reading::Act(verb, object, word) => {
+            do_verb(rules, Order::of(*verb, *object, *word), play)
+        }
         Reading::WhatToDo(word) => {
             play.tell(Part::Word(WordLine::WhatToDo, *word));
             Some(half)

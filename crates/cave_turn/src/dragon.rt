@@ -1,7 +1,7 @@
-ghost use Rattle.std.specs.Prelude.{◌≡◌, ◌+◌, ◌<◌, ◌≤◌};
-ghost use Rattle.cave_things.specs.Bounds.{HasRoom, SaysUpTo, parts_of_arrival};
-ghost use Rattle.cave_things.specs.Play.{scene_of, IsSamePlay};
-ghost use Rattle.cave_things.specs.Rules.{cave_of};
+ghost use Rattle.std.specs.Prelude.{◌≡◌, ◌+◌, ◌<◌};
+ghost use Rattle.cave_scene.specs.Bounds.{HasRoom, SaysUpTo, parts_of_arrival};
+ghost use Rattle.cave_scene.specs.Play.{scene_of, IsSamePlay};
+ghost use Rattle.cave_scene.specs.Rules.{cave_of};
 ghost use Rattle.cave_turn.specs.Dragon.{between, lair, is_by_dragon, after_gathering};
 ghost use Rattle.cave_turn.specs.Dragon.{after_slaying, after_clearing};
 ghost use Rattle.cave_turn.specs.Dragon.{fight_scene};
@@ -9,7 +9,8 @@ ghost use Rattle.cave_turn.specs.Dragon.{fight_scene};
 use cave_moves::arrive;
 use cave_objects::object::LAST_OBJECT;
 use cave_objects::{Anchor, Object, Objects, Place, Prop};
-use cave_things::{Play, Rules};
+use cave_scene::{Play, Rules};
+use cave_things::{home, second_home};
 use cave_words::Named;
 use cave_world::State;
 
@@ -31,8 +32,8 @@ fn lair(rules: &Rules<'_>, state: &State) -> Place
 {
     let dragon = rules.object(Named::Dragon);
     between(
-        rules.home(dragon),
-        rules.second_home(dragon),
+        home(rules, dragon),
+        second_home(rules, dragon),
         state.trail.here,
     )
 }
@@ -42,8 +43,8 @@ fn is_by_dragon(rules: &Rules<'_>, objects: &Objects, object: Object) -> bool
     ensures { result ≡ is_by_dragon (cave_of rules.now) objects.now object }
 {
     let dragon = rules.object(Named::Dragon);
-    let one = rules.home(dragon);
-    let other = rules.second_home(dragon);
+    let one = home(rules, dragon);
+    let other = second_home(rules, dragon);
     (one.number() != 0 && objects.is_first_at(one, object))
         || (other.number() != 0 && objects.is_first_at(other, object))
 }

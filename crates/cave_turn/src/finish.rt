@@ -1,16 +1,16 @@
 //! How a turn ends that leaves no question open.
 
 ghost use Rattle.std.specs.Prelude.{◌≡◌, ◌+◌};
-ghost use Rattle.cave_things.specs.Bounds.{HasRoom, SaysUpTo, parts_of_finish, parts_of_question};
-ghost use Rattle.cave_things.specs.Play.{scene_of, GoesOn};
-ghost use Rattle.cave_things.specs.Rules.{cave_of};
+ghost use Rattle.cave_scene.specs.Bounds.{HasRoom, SaysUpTo, parts_of_finish, parts_of_question};
+ghost use Rattle.cave_scene.specs.Play.{scene_of, GoesOn};
+ghost use Rattle.cave_scene.specs.Rules.{cave_of};
 ghost use Rattle.cave_turn.specs.Finish.{is_hidden_in_hand, after_oyster_shows, layout_with_shown};
 ghost use Rattle.cave_turn.specs.Finish.{layout_with_shown_up_to, after_hands_show, end_of_turn};
 
 use cave_hints::consider_all;
 use cave_objects::object::LAST_OBJECT;
 use cave_objects::{Object, Objects, Prop};
-use cave_things::{Play, Rules};
+use cave_scene::{Play, Rules};
 use cave_words::Named;
 
 /// A turn ends; after a question or the end of the game nothing more is done.

@@ -10,4 +10,4 @@ pub mod reading;
 pub mod revival;
 pub mod turns;
 
-pub use turns::{Turned, max_score, score, start, stream_passed, take_line, turn};
+pub use turns::{Turned, start, stream_passed, take_line, turn};

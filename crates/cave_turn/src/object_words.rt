@@ -1,11 +1,12 @@
 ghost use Rattle.std.specs.Prelude.{◌≡◌};
-ghost use Rattle.cave_things.specs.Rules.{cave_of};
+ghost use Rattle.cave_scene.specs.Rules.{cave_of};
 ghost use Rattle.cave_turn.specs.ObjectWords.{is_there, is_liquid_here, is_grown_plant};
 ghost use Rattle.cave_turn.specs.ObjectWords.{is_knife_at, is_sought, is_above_grate};
 ghost use Rattle.cave_turn.specs.ObjectWords.{is_below_grate, object_word};
 
 use cave_objects::{Object, Place};
-use cave_things::{Rules, has_other_prop, is_dwarf_here, is_liquid};
+use cave_scene::Rules;
+use cave_things::{has_other_prop, is_dwarf_here, is_in_hand, is_liquid, is_near, lake, liquid};
 use cave_verbs::verbs::{FIND, INVENTORY};
 use cave_words::Named;
 use cave_world::{Knife, State, motion};
@@ -57,7 +58,7 @@ pub fn object_word(
         return ObjectWord::Knives;
     }
     let second_rod = rules.object(Named::SecondRod);
-    if rules.is(object, Named::Rod) && rules.is_near(state, second_rod) {
+    if rules.is(object, Named::Rod) && is_near(rules, state, second_rod) {
         return ObjectWord::Is(second_rod);
     }
     if is_alone && is_sought(verb) {
@@ -70,7 +71,7 @@ pub fn object_word(
 fn is_there(rules: &Rules<'_>, state: &State, object: Object) -> bool
     ensures { result ≡ is_there (cave_of rules.now) state.now object }
 {
-    state.at(object) || rules.is_in_hand(state, object)
+    state.at(object) || is_in_hand(rules, state, object)
 }
 
 /// Whether an object is what a bottle at hand has in it, or what the lake is of.
@@ -78,8 +79,8 @@ fn is_there(rules: &Rules<'_>, state: &State, object: Object) -> bool
 fn is_liquid_here(rules: &Rules<'_>, state: &State, object: Object) -> bool
     ensures { result ≡ is_liquid_here (cave_of rules.now) state.now object }
 {
-    (is_liquid(object, rules.liquid(state)) && rules.is_near(state, rules.object(Named::Bottle)))
-        || is_liquid(object, rules.lake(state))
+    (is_liquid(object, liquid(rules, state)) && is_near(rules, state, rules.object(Named::Bottle)))
+        || is_liquid(object, lake(rules, state))
 }
 
 /// Whether the plant that grew is taken for an object.

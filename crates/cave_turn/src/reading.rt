@@ -1,9 +1,9 @@
 ghost use Rattle.std.specs.Prelude.{◌≡◌};
-ghost use Rattle.cave_things.specs.Rules.{cave_of};
-ghost use Rattle.cave_turn.specs.Reading.{with_verb, with_object, said_word, act_or_ask, object_alone};
-ghost use Rattle.cave_turn.specs.Reading.{action_alone, class_alone, word_alone, is_magic_by};
+ghost use Rattle.cave_scene.specs.Rules.{cave_of};
+ghost use Rattle.cave_turn.specs.Reading.{with_verb, with_object, said_word, object_alone};
+ghost use Rattle.cave_turn.specs.Reading.{action_alone, word_alone};
 ghost use Rattle.cave_turn.specs.Reading.{is_magic};
-ghost use Rattle.cave_turn.specs.Reading.{word_aloud, object_before, action_before, class_before, before};
+ghost use Rattle.cave_turn.specs.Reading.{word_aloud, object_before, action_before, before};
 ghost use Rattle.cave_turn.specs.Reading.{enter_stream, enter_word, is_pouring, pour_in};
 ghost use Rattle.cave_turn.specs.Reading.{two_words, is_saying, read_words, half_command_of};
 ghost use Rattle.cave_turn.specs.Reading.{understanding};
@@ -11,7 +11,8 @@ ghost use Rattle.cave_turn.specs.Reading.{understanding};
 use crate::object_words::{ObjectWord, object_word};
 use cave_objects::Object;
 use cave_rows::Role;
-use cave_things::{Rules, is_liquid, or_no_object};
+use cave_scene::{Rules, or_no_object};
+use cave_things::{is_liquid, lake};
 use cave_verbs::verbs::{FOO, POUR, SAY};
 use cave_words::{Class, Meaning, Named, Word};
 use cave_world::{Part, State, Talk, WordLine, motion};
@@ -275,7 +276,7 @@ fn before(
 fn enter_stream(rules: &Rules<'_>, state: &State, half: HalfCommand) -> Understood
     ensures { result ≡ enter_stream (cave_of rules.now) state.now half }
 {
-    if is_liquid(rules.object(Named::Water), rules.lake(state)) {
+    if is_liquid(rules.object(Named::Water), lake(rules, state)) {
         half.asks(Reading::Tell(Part::Role(Role::FeetWet)))
     } else {
         half.asks(Reading::Tell(Part::Role(Role::Where)))

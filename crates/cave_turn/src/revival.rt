@@ -1,19 +1,20 @@
 //! How a player comes back from death.
 
 ghost use Rattle.std.specs.Prelude.{◌≡◌, ◌+◌};
-ghost use Rattle.cave_things.specs.Bounds.{HasRoom, SaysUpTo, parts_of_arrival, parts_of_end};
-ghost use Rattle.cave_things.specs.Play.{scene_of, GoesOn, IsSamePlay};
-ghost use Rattle.cave_things.specs.Rules.{cave_of};
+ghost use Rattle.cave_scene.specs.Bounds.{HasRoom, SaysUpTo, parts_of_arrival, parts_of_end};
+ghost use Rattle.cave_scene.specs.Play.{scene_of, GoesOn, IsSamePlay};
+ghost use Rattle.cave_scene.specs.Rules.{cave_of};
 ghost use Rattle.cave_turn.specs.Revival.{revival_role, layout_with_lamp_out, fallen_place};
 ghost use Rattle.cave_turn.specs.Revival.{layout_after_fall, layout_after_falls, without_belongings, put_at};
 ghost use Rattle.cave_turn.specs.Revival.{revival_scene, return_scene, burial_scene};
 
+use cave_ends::{count_death, end};
 use cave_moves::describe_here;
 use cave_objects::object::LAST_OBJECT;
 use cave_objects::{Object, Objects, Place, Prop};
 use cave_rows::Role;
-use cave_score::{count_death, end};
-use cave_things::{Play, Rules, building_place, start_place};
+use cave_scene::{Play, Rules};
+use cave_things::{building_place, is_in_hand, start_place};
 use cave_words::Named;
 use cave_world::{Ending, State};
 
@@ -35,7 +36,7 @@ fn put_lamp_out(rules: &Rules<'_>, state: &mut State)
         ≡ record state.old { objects = layout_with_lamp_out (cave_of rules.now) state.old } }
 {
     let lamp = rules.object(Named::Lamp);
-    if rules.is_in_hand(state, lamp) {
+    if is_in_hand(rules, state, lamp) {
         state.objects.set_prop(lamp, Prop::new(0));
     }
 }

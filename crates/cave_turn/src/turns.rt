@@ -3,9 +3,8 @@ ghost use Rattle.arrayvec.specs.ArrayVec.{array_vec_len};
 ghost use Rattle.cave_words.specs.Lexicon.{IsLexiconOf};
 ghost use Rattle.log_lines.specs.Line.{is_line};
 ghost use Rattle.log_lines.specs.LogLine.{log_line};
-ghost use Rattle.cave_score.specs.Score.{score_of, max_score_of};
-ghost use Rattle.cave_things.specs.Bounds.{parts_of_turn};
-ghost use Rattle.cave_things.specs.Rules.{cave_of};
+ghost use Rattle.cave_scene.specs.Bounds.{parts_of_turn};
+ghost use Rattle.cave_scene.specs.Rules.{cave_of};
 ghost use Rattle.cave_turn.specs.Turns.{game_beginning, turn_on_line, turn_of_input, stream_passed};
 
 use crate::answers::{answers, close, take_answer};
@@ -13,7 +12,7 @@ use crate::commands::command;
 use cave_begin::begun_state;
 use cave_data::Cave;
 use cave_rows::Role;
-use cave_things::Rules;
+use cave_scene::Rules;
 use cave_words::{Lexicon, Stream};
 use cave_world::{Out, Part, State};
 use log_lines::{LogLine, Meter};
@@ -28,20 +27,18 @@ pub struct Turned {
 /// Plays a line of a log in the state itself. Returns whether it is a turn of the game.
 #[tactic(auto, unfolding(crate::specs::Turns::turn_on_line))]
 pub fn take_line(
-    cave: &Cave,
-    lexicon: &Lexicon,
+    rules: &Rules<'_>,
     state: &mut State,
     line: &[u8],
     out: &mut Out,
     meter: &mut Meter,
 ) -> bool
-    requires lexicon { IsLexiconOf cave.now lexicon.now }
     requires line { IsTrue (is_line line.now) }
     requires empty { out.old.items ≡ [] }
     requires room { meter.old + 1 < 2 ^ 64 }
 
     ensures turn { record { state = state.new; parts = out.new.items; ticked = result }
-        ≡ turn_on_line cave.now state.old line.now }
+        ≡ turn_on_line (cave_of rules.now) state.old line.now }
     ensures few { array_vec_len out.new ≤ parts_of_turn }
     ensures counted { meter.new ≡ meter.old + 1 }
 {
@@ -52,24 +49,8 @@ pub fn take_line(
             state.stream = Stream::seeded(seed);
             false
         }
-        LogLine::Input => play(&Rules::of(cave, lexicon), line, state, out),
+        LogLine::Input => play(rules, line, state, out),
     }
-}
-
-/// The score of a state, by the words of its cave.
-pub fn score(cave: &Cave, lexicon: &Lexicon, state: &State) -> u32
-    requires { IsLexiconOf cave.now lexicon.now }
-    ensures { result ≡ score_of cave.now state.now }
-{
-    cave_score::score::score(&Rules::of(cave, lexicon), state)
-}
-
-/// The greatest score that a cave has.
-pub fn max_score(cave: &Cave, lexicon: &Lexicon) -> u32
-    requires { IsLexiconOf cave.now lexicon.now }
-    ensures { result ≡ max_score_of cave.now }
-{
-    cave_score::score::max_score(&Rules::of(cave, lexicon))
 }
 
 /// Begins a game.
@@ -123,7 +104,8 @@ pub fn stream_passed(state: &State, line: &[u8]) -> Option<Stream>
     }
 }
 
-/// Plays a line of a log in a copy of the state.
+/// Plays a line of a log in a copy of the state, for users of this crate: the program plays by
+/// [`take_line`].
 pub fn turn(
     cave: &Cave,
     lexicon: &Lexicon,
@@ -143,6 +125,6 @@ pub fn turn(
     ensures counted { meter.new ≡ meter.old + 1 }
 {
     let mut state = *state;
-    let ticked = take_line(cave, lexicon, &mut state, line, out, meter);
+    let ticked = take_line(&Rules::of(cave, lexicon), &mut state, line, out, meter);
     Turned { state, ticked }
 }

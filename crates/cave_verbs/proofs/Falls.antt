@@ -1,15 +1,16 @@
 -- Where a verb goes on, the rank falls.
-use Rattle.std.proofs.Common.{◌≡◌, ℕ, ◌≤◌, zero, suc, Bool, true, false, arith, refl, sym, ◌∙◌}
+use Rattle.std.proofs.Common.{◌≡◌, ℕ, ◌≤◌, zero, suc, true, false, arith, refl, sym, ◌∙◌}
 use Rattle.std.proofs.Common.{◌==◌, not}
 use Rattle.std.proofs.lemmas.Bool.{true≢false}
-use Rattle.std.specs.Prelude.{if◌then◌else◌, ◌||◌, ◌&&◌, Option, Some, None, option_and_then}
+use Rattle.std.specs.Prelude.{◌||◌, ◌&&◌, Option, Some, None, option_and_then}
 use Rattle.cave_data.specs.CaveView.{CaveView}
 use Rattle.cave_words.specs.Named.{object_named, object_of_word, next_object, name_of}
 use Rattle.cave_words.specs.declared.named.Named.TheVariants as name
 use Rattle.cave_world.specs.declared.state.State.{State}
-use Rattle.cave_things.specs.Rules.{or_no_object}
-use Rattle.cave_things.specs.Rules.{thing, object_called}
-use Rattle.cave_things.specs.Reach.{is_called, is_in_hand, is_near}
+use Rattle.cave_scene.specs.Rules.{or_no_object}
+use Rattle.cave_scene.specs.Rules.{thing, object_called}
+use Rattle.cave_scene.specs.Rules.{is_called}
+use Rattle.cave_things.specs.Reach.{is_in_hand, is_near}
 use Rattle.cave_objects.specs.Objects.{is_carried, is_first_at, spot_of}
 use Rattle.cave_things.specs.Liquids.{liquid_of, is_liquid}
 use Rattle.cave_verbs.specs.Ranks.{take_rank, drop_rank, bare_rank, rank}

@@ -1,11 +1,10 @@
 -- What a verb does by its rules, and by those that it goes on with.
 use Rattle.std.specs.Prelude.{ℕ, ◌==◌, if◌then◌else◌, List, [], ◌∷◌, suc, zero}
 use Rattle.cave_data.specs.CaveView.{CaveView}
-use Rattle.cave_world.specs.declared.part.Part.{Part}
-use Rattle.cave_world.specs.declared.state.State.{State}
+use Rattle.cave_scene.specs.Play.{Scene}
 use Rattle.cave_verbs.specs.Blasting.{blast_rows}
 use Rattle.cave_verbs.specs.Breaking.{break_rows, wake_rows}
-use Rattle.cave_verbs.specs.Deeds.{Deed, Outcome, deed, outcome}
+use Rattle.cave_verbs.specs.Deeds.{Deed, Act, deed, going_on}
 use Rattle.cave_verbs.specs.Dropping.{drop_rows}
 use Rattle.cave_verbs.specs.Feeding.{feed_rows, bare_eat_rows, eat_rows}
 use Rattle.cave_verbs.specs.Finding.{find_rows, bare_inventory_rows}
@@ -19,28 +18,27 @@ use Rattle.cave_verbs.specs.Rows.{first_fitting}
 use Rattle.cave_verbs.specs.Small.{bare_rows, other_rows, nothing_rows, bare_quit_rows}
 use Rattle.cave_verbs.specs.Small.{bare_score_rows, bare_brief_rows}
 use Rattle.cave_verbs.specs.Taking.{bare_take_rows, take_rows}
-use Rattle.cave_verbs.specs.Throwing.{throw_outcome}
+use Rattle.cave_verbs.specs.Throwing.{throw_act}
 use Rattle.cave_verbs.specs.Verbs as verb
 use Rattle.cave_verbs.specs.Waving.{wave_rows, rub_rows}
 use Rattle.cave_verbs.specs.declared.next.Next.{Next}
 use Rattle.cave_verbs.specs.declared.next.Next.TheVariants.{Stay}
 use Rattle.cave_verbs.specs.declared.next.Step.{Step}
 use Rattle.cave_verbs.specs.declared.next.Step.TheVariants.{Done, GoOn}
-use Rattle.cave_verbs.specs.declared.order.Command.{Command}
 use Rattle.cave_verbs.specs.declared.order.Order.{Order}
 
 -- the rules of a verb
 pub record Rule : Type 0 where
   pub verb : ℕ
-  pub outcome_of : Deed → Outcome
+  pub act : Deed → Act
 
-abbrev pub rule : ℕ → (Deed → Outcome) → Rule
-rule v f = record { verb = v; outcome_of = f }
+abbrev pub rule : ℕ → (Deed → Act) → Rule
+rule v f = record { verb = v; act = f }
 
--- the outcome by the rules of a verb; a verb that has none says what the cave has for it
-abbrev pub outcome_by : List Rule → ℕ → Deed → Outcome
-outcome_by [] v d = first_fitting other_rows d
-outcome_by (r ∷ rules) v d = if v == r.verb then r.outcome_of d else outcome_by rules v d
+-- the act by the rules of a verb; a verb that has none says what the cave has for it
+abbrev pub act_by : List Rule → ℕ → Deed → Act
+act_by [] v d = first_fitting other_rows d
+act_by (r ∷ rules) v d = if v == r.verb then r.act d else act_by rules v d
 
 -- without an object
 abbrev pub bare_rules : List Rule
@@ -91,7 +89,7 @@ object_rules =
     ∷ rule verb.EAT (first_fitting eat_rows)
     ∷ rule verb.DRINK (first_fitting drink_rows)
     ∷ rule verb.RUB (first_fitting rub_rows)
-    ∷ rule verb.THROW throw_outcome
+    ∷ rule verb.THROW throw_act
     ∷ rule verb.FIND (first_fitting find_rows)
     ∷ rule verb.INVENTORY (first_fitting find_rows)
     ∷ rule verb.FEED (first_fitting feed_rows)
@@ -102,28 +100,24 @@ object_rules =
     ∷ rule verb.WAKE (first_fitting wake_rows)
     ∷ []
 
-unfoldable pub bare_outcome : Deed → Outcome
-bare_outcome d = outcome_by bare_rules d.order.verb d
+unfoldable pub act_bare : Deed → Act
+act_bare d = act_by bare_rules d.order.verb d
 
-unfoldable pub object_outcome : Deed → Outcome
-object_outcome d = outcome_by object_rules d.order.verb d
+unfoldable pub act_on : Deed → Act
+act_on d = act_by object_rules d.order.verb d
 
 -- what a verb does by its own rules
-abbrev pub outcome_once : Deed → Outcome
-outcome_once d = if d.order.object == 0 then bare_outcome d else object_outcome d
-
--- the order that a verb goes on with: the command stays
-abbrev pub going_on : Order → ℕ → ℕ → Order
-going_on order v x = record { verb = v; object = x; command = order.command }
+abbrev pub act_once : Deed → Act
+act_once d = if d.order.object == 0 then act_bare d else act_on d
 
 -- what a verb does with those that it goes on with, so many at most
-unfoldable pub outcome_within : ℕ → Deed → Outcome
-outcome_within zero d = outcome_once d
-outcome_within (suc left) d =
-    let o = outcome_once d in
-    elim o.step as (λ _. Outcome) [
-      | Done next ↦ o
-      | GoOn v x ↦ outcome_within left (deed d.cave (going_on d.order v x) o.state o.parts)
+unfoldable pub act_within : ℕ → Deed → Act
+act_within zero d = act_once d
+act_within (suc left) d =
+    let a = act_once d in
+    elim a.step as (λ _. Act) [
+      | Done next ↦ a
+      | GoOn v x ↦ act_within left (deed d.cave (going_on d.order v x) a.scene)
     ]
 
 -- what follows in the end
@@ -131,9 +125,6 @@ abbrev pub next_of_step : Step → Next
 next_of_step (Done next) = next
 next_of_step (GoOn v x) = Stay
 
--- what is commanded is done; no verb goes on more than three times
-unfoldable pub outcome_of_command : CaveView → Command → State → List Part → Outcome
-outcome_of_command cave command s parts =
-    outcome_within 3
-    (deed cave (record { verb = command.verb; object = command.object; command = command }) s
-    parts)
+-- what is ordered is done; no verb goes on more than three times
+unfoldable pub act : CaveView → Order → Scene → Act
+act cave order p = act_within 3 (deed cave order p)

@@ -13,7 +13,7 @@ use Rattle.cave_verbs.specs.Tests.{the, no, near, prop_up_to, cave_closed}
 
 -- the player is at the place that has a role
 abbrev pub at : PlaceRole → Test
-at role d = is_place d.state.trail.here (place_named d.cave role)
+at role d = is_place d.scene.state.trail.here (place_named d.cave role)
 
 unfoldable pub blast_rows : List VerbRow
 blast_rows =

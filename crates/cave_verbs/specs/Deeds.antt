@@ -1,25 +1,31 @@
--- What a verb is at: the order in its cave, the state, and what was said in the turn.
+-- What a verb is at: the order in its cave, and the scene.
 use Rattle.std.specs.Prelude.{ℕ, List}
 use Rattle.cave_data.specs.CaveView.{CaveView}
-use Rattle.cave_world.specs.declared.part.Part.{Part}
-use Rattle.cave_world.specs.declared.state.State.{State}
+use Rattle.cave_scene.specs.Play.{Scene}
 use Rattle.cave_verbs.specs.declared.next.Step.{Step}
 use Rattle.cave_verbs.specs.declared.order.Order.{Order}
 
 pub record Deed : Type 0 where
   pub cave : CaveView
   pub order : Order
-  pub state : State
-  pub parts : List Part
+  pub scene : Scene
 
--- what a verb has come to
-pub record Outcome : Type 0 where
-  pub state : State
-  pub parts : List Part
+-- the scene after a verb, and what follows
+pub record Act : Type 0 where
+  pub scene : Scene
   pub step : Step
 
-abbrev pub deed : CaveView → Order → State → List Part → Deed
-deed cave order state parts = record { cave = cave; order = order; state = state; parts = parts }
+abbrev pub deed : CaveView → Order → Scene → Deed
+deed cave order p = record { cave = cave; order = order; scene = p }
 
-abbrev pub outcome : State → List Part → Step → Outcome
-outcome state parts step = record { state = state; parts = parts; step = step }
+abbrev pub acted : Scene → Step → Act
+acted p step = record { scene = p; step = step }
+
+-- the order of a command
+abbrev pub order_of : ℕ → ℕ → List ℕ → Order
+order_of v x word = record { verb = v; object = x; commanded = v; word = word }
+
+-- the order that a verb goes on with: what the player commands stays
+abbrev pub going_on : Order → ℕ → ℕ → Order
+going_on order v x =
+    record { verb = v; object = x; commanded = order.commanded; word = order.word }

@@ -1,5 +1,5 @@
 -- What rows of verbs do.
-use Rattle.std.specs.Prelude.{ℕ, ℤ, pos, List, [], ◌∷◌, ◌++◌, ◌==◌, if◌then◌else◌}
+use Rattle.std.specs.Prelude.{ℤ, ◌==◌, if◌then◌else◌}
 use Rattle.cave_data.specs.CaveView.{default_message}
 use Rattle.cave_rows.specs.declared.role.Role.{Role}
 use Rattle.cave_objects.specs.Objects.{with_place, with_carried, with_anchor, with_latest, with_prop}
@@ -10,18 +10,22 @@ use Rattle.cave_objects.specs.declared.spot.Anchor.TheVariants as anchor
 use Rattle.cave_world.specs.declared.state.State.{State}
 use Rattle.cave_things.specs.Effects.{put_down, let_go, without_troll, after_loss_to_snake, with_one_more_lost}
 use Rattle.cave_things.specs.Effects.{with_objects}
+use Rattle.cave_scene.specs.Play.{Scene, with_state, after_telling, after_saying, after_look_at}
 use Rattle.cave_verbs.specs.Deeds.{Deed}
 use Rattle.cave_verbs.specs.Rows.{Effect, Thing}
 
+abbrev pub in_scene : Scene → Deed → Deed
+in_scene p d = record d { scene = p }
+
 abbrev pub in_state : State → Deed → Deed
-in_state s d = record d { state = s }
+in_state s d = in_scene (with_state s d.scene) d
 
 abbrev pub tell : Part → Effect
-tell told d = record d { parts = d.parts ++ told ∷ [] }
+tell told d = in_scene (after_telling told d.scene) d
 
 -- a role's message is said
 abbrev pub say : Role → Effect
-say role d = tell (part.Role role) d
+say role d = in_scene (after_saying role d.scene) d
 
 -- the message that the cave gives the verb is said, if there is one
 abbrev pub default : Effect
@@ -31,54 +35,51 @@ default d =
 
 -- the word that was just read is asked back
 abbrev pub ask_what : Effect
-ask_what d = tell (part.Word line.What d.order.command.word) d
+ask_what d = tell (part.Word line.What d.order.word) d
 
 -- the text of an object for a prop, if there is the object
-abbrev pub with_look : ℕ → ℤ → List Part → List Part
-with_look x v parts = if x == 0 then parts else parts ++ part.Object x v ∷ []
-
 abbrev pub look : Thing → ℤ → Effect
-look t v d = record d { parts = with_look (t d) v d.parts }
+look t v d = in_scene (after_look_at (t d) v d.scene) d
 
 abbrev pub carry : Thing → Effect
-carry t d = in_state (with_objects (with_carried d.state.objects (t d)) d.state) d
+carry t d = in_state (with_objects (with_carried d.scene.state.objects (t d)) d.scene.state) d
 
 -- an object is moved to where the player is
 abbrev pub bring : Thing → Effect
-bring t d = in_state (with_objects (with_place d.state.objects (t d) d.state.trail.here) d.state) d
+bring t d = in_state (with_objects (with_place d.scene.state.objects (t d) d.scene.state.trail.here) d.scene.state) d
 
 -- an object is nowhere from now on
 abbrev pub kill : Thing → Effect
-kill t d = in_state (with_objects (with_place d.state.objects (t d) 0) d.state) d
+kill t d = in_state (with_objects (with_place d.scene.state.objects (t d) 0) d.scene.state) d
 
 -- an object can't be moved any more, or can be moved again
 abbrev pub fix : Thing → Effect
-fix t d = in_state (with_objects (with_anchor d.state.objects (t d) anchor.Fixed) d.state) d
+fix t d = in_state (with_objects (with_anchor d.scene.state.objects (t d) anchor.Fixed) d.scene.state) d
 
 abbrev pub loosen : Thing → Effect
-loosen t d = in_state (with_objects (with_anchor d.state.objects (t d) anchor.Loose) d.state) d
+loosen t d = in_state (with_objects (with_anchor d.scene.state.objects (t d) anchor.Loose) d.scene.state) d
 
 abbrev pub juggle : Thing → Effect
-juggle t d = in_state (with_objects (with_latest d.state.objects (t d)) d.state) d
+juggle t d = in_state (with_objects (with_latest d.scene.state.objects (t d)) d.scene.state) d
 
 abbrev pub set_prop : Thing → ℤ → Effect
-set_prop t v d = in_state (with_objects (with_prop d.state.objects (t d) v) d.state) d
+set_prop t v d = in_state (with_objects (with_prop d.scene.state.objects (t d) v) d.scene.state) d
 
 -- an object is put down where the player is
 abbrev pub put : Thing → Effect
-put t d = in_state (put_down d.cave (t d) d.state) d
+put t d = in_state (put_down d.cave (t d) d.scene.state) d
 
 -- an object that is carried is put where the player is
 abbrev pub lay_down : Thing → Effect
-lay_down t d = in_state (let_go d.cave (t d) d.state) d
+lay_down t d = in_state (let_go d.cave (t d) d.scene.state) d
 
 -- the troll is paid, and goes
 abbrev pub trolls : Effect
-trolls d = in_state (without_troll d.cave d.state) d
+trolls d = in_state (without_troll d.cave d.scene.state) d
 
 -- one treasure more is lost, if the snake is at home
 abbrev pub lose_to_snake : Effect
-lose_to_snake d = in_state (after_loss_to_snake d.cave d.state) d
+lose_to_snake d = in_state (after_loss_to_snake d.cave d.scene.state) d
 
 abbrev pub lose_one : Effect
-lose_one d = in_state (with_one_more_lost d.state) d
+lose_one d = in_state (with_one_more_lost d.scene.state) d

@@ -4,7 +4,7 @@ use Rattle.cave_rows.specs.declared.role.Role.TheVariants as role
 use Rattle.cave_words.specs.declared.named.Named.{Named}
 use Rattle.cave_words.specs.declared.named.Named.TheVariants as name
 use Rattle.cave_world.specs.declared.state.State.{State}
-use Rattle.cave_things.specs.Reach.{is_one_of}
+use Rattle.cave_scene.specs.Rules.{is_one_of}
 use Rattle.cave_verbs.specs.Effects.{in_state, say, default, ask_what, kill, loosen, set_prop}
 use Rattle.cave_verbs.specs.Effects.{lose_one}
 use Rattle.cave_verbs.specs.Rows.{VerbRow, Test, Effect, row, row_then, keeps, goes_on}
@@ -22,7 +22,7 @@ with_more_anger s =
     record s { dwarves = record dwarves { anger = min (dwarves.anger + 1) 13 } }
 
 abbrev pub anger : Effect
-anger d = in_state (with_more_anger d.state) d
+anger d = in_state (with_more_anger d.scene.state) d
 
 unfoldable pub feed_rows : List VerbRow
 feed_rows =

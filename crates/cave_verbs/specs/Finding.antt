@@ -5,13 +5,14 @@ use Rattle.std.specs.List.{range_with_len}
 use Rattle.cave_data.specs.CaveView.{CaveView}
 use Rattle.cave_rows.specs.declared.role.Role.TheVariants as role
 use Rattle.cave_words.specs.declared.named.Named.TheVariants as name
-use Rattle.cave_world.specs.declared.part.Part.{Part}
 use Rattle.cave_world.specs.declared.part.Part.TheVariants as part
 use Rattle.cave_world.specs.declared.state.State.{State}
-use Rattle.cave_things.specs.Rules.{thing}
-use Rattle.cave_things.specs.Reach.{is_called, is_in_hand}
+use Rattle.cave_scene.specs.Rules.{thing}
+use Rattle.cave_scene.specs.Rules.{is_called}
+use Rattle.cave_things.specs.Reach.{is_in_hand}
+use Rattle.cave_scene.specs.Play.{Scene, after_saying}
 use Rattle.cave_verbs.specs.Deeds.{Deed}
-use Rattle.cave_verbs.specs.Effects.{say, default}
+use Rattle.cave_verbs.specs.Effects.{in_scene, say, default}
 use Rattle.cave_verbs.specs.Rows.{VerbRow, Test, Effect, row}
 use Rattle.cave_verbs.specs.Tests.{x, the, is, carries, is_here, dwarf, cave_closed, in_bottle}
 use Rattle.cave_verbs.specs.Tests.{in_lake}
@@ -38,23 +39,26 @@ listed_up_to cave s n = filter (is_in_inventory cave s) (range_with_len 1 n)
 
 -- the objects that the inventory lists, ascending
 abbrev pub objects_listed : Deed → List ℕ
-objects_listed d = listed_up_to d.cave d.state 100
+objects_listed d = listed_up_to d.cave d.scene.state 100
 
 abbrev pub nothing_listed : Test
 nothing_listed d = length (objects_listed d) == 0
 
+-- objects are named
+abbrev pub after_naming : List ℕ → Scene → Scene
+after_naming objects p = record p { parts = p.parts ++ map part.Name objects }
+
 -- the objects that the inventory lists are named
 abbrev pub name_them : Effect
-name_them d = record d { parts = d.parts ++ map part.Name (objects_listed d) }
+name_them d = in_scene (after_naming (objects_listed d) d.scene) d
 
 -- it is said that the bear follows, if the player has it
-abbrev pub with_bear_line : CaveView → State → List Part → List Part
-with_bear_line cave s parts =
-    if is_in_hand cave s (thing cave name.Bear) then parts ++ part.Role role.BearFollows ∷ []
-    else parts
+abbrev pub after_telling_bear : CaveView → Scene → Scene
+after_telling_bear cave p =
+    if is_in_hand cave p.state (thing cave name.Bear) then after_saying role.BearFollows p else p
 
 abbrev pub tell_bear : Effect
-tell_bear d = record d { parts = with_bear_line d.cave d.state d.parts }
+tell_bear d = in_scene (after_telling_bear d.cave d.scene) d
 
 unfoldable pub bare_inventory_rows : List VerbRow
 bare_inventory_rows =

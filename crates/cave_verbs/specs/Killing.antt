@@ -14,7 +14,7 @@ use Rattle.cave_verbs.specs.Tests.{dwarf, cave_closed}
 
 -- the player's own verb, which may have gone on to this one
 abbrev pub is_typed : ℕ → Test
-is_typed v d = d.order.command.verb == v
+is_typed v d = d.order.commanded == v
 
 abbrev pub foes : Deed → List ℕ
 foes = objects_meant

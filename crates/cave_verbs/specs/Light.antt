@@ -3,22 +3,22 @@ use Rattle.std.specs.Prelude.{int_lt, pos, List, [], ◌∷◌, if◌then◌else
 use Rattle.cave_rows.specs.declared.role.Role.TheVariants as role
 use Rattle.cave_words.specs.declared.named.Named.TheVariants as name
 use Rattle.cave_world.specs.Sight.{is_dark}
-use Rattle.cave_things.specs.Rules.{thing}
+use Rattle.cave_scene.specs.Rules.{thing}
 use Rattle.cave_verbs.specs.Effects.{say, default, set_prop}
 use Rattle.cave_verbs.specs.Rows.{VerbRow, Test, Effect, row, row_then, describes}
 use Rattle.cave_verbs.specs.Tests.{the, no, near}
 
 -- the lamp went out
 abbrev pub burnt_out : Test
-burnt_out d = int_lt d.state.lamp.charge (pos 0)
+burnt_out d = int_lt d.scene.state.lamp.charge (pos 0)
 
 -- it was dark as the turn began
 abbrev pub was_dark : Test
-was_dark d = d.order.command.was_dark
+was_dark d = d.scene.was_dark
 
 -- that it is dark is said, if it is
 abbrev pub say_dark : Effect
-say_dark d = if is_dark d.cave (thing d.cave name.Lamp) d.state then say role.Dark d else d
+say_dark d = if is_dark d.cave (thing d.cave name.Lamp) d.scene.state then say role.Dark d else d
 
 unfoldable pub on_rows : List VerbRow
 on_rows =

@@ -10,18 +10,19 @@ use Rattle.cave_things.specs.Effects.{with_objects}
 use Rattle.cave_things.specs.Homes.{home, is_at_home, is_home_here}
 use Rattle.cave_things.specs.Reach.{is_near}
 use Rattle.cave_things.specs.SpecialWords.{special}
+use Rattle.cave_scene.specs.Play.{Scene, with_state, after_look_at}
 use Rattle.cave_verbs.specs.Deeds.{Deed}
-use Rattle.cave_verbs.specs.Effects.{in_state, say, look, set_prop}
+use Rattle.cave_verbs.specs.Effects.{in_scene, in_state, say, set_prop}
 use Rattle.cave_verbs.specs.Rows.{VerbRow, Test, Effect, Thing, row}
 use Rattle.cave_verbs.specs.Tests.{the, no, either, there_is, carries, prop}
 
 -- the number of the word that was just read among the special words; 0 if it is none of them
 abbrev pub k : Deed → ℕ
-k d = special d.cave d.order.command.word
+k d = special d.cave d.order.word
 
 -- how far the player has come with the magic words
 abbrev pub foo : Deed → ℤ
-foo d = d.state.talk.magic
+foo d = d.scene.state.talk.magic
 
 -- the word is no special one
 abbrev pub is_plain : Test
@@ -47,26 +48,26 @@ troll = the name.Troll
 
 -- the first half of an object is at home
 abbrev pub at_home : Thing → Test
-at_home t d = is_at_home d.cave d.state (t d)
+at_home t d = is_at_home d.cave d.scene.state (t d)
 
 -- the player is where an object is at home
 abbrev pub home_here : Thing → Test
-home_here t d = is_home_here d.cave d.state (t d)
+home_here t d = is_home_here d.cave d.scene.state (t d)
 
 -- the first half of an object is nowhere
 abbrev pub is_nowhere : Thing → Test
-is_nowhere t d = is_gone d.state.objects (t d)
+is_nowhere t d = is_gone d.scene.state.objects (t d)
 
 abbrev pub with_magic : ℤ → State → State
 with_magic v s = let talk = s.talk in record s { talk = record talk { magic = v } }
 
 -- the word is remembered as the last that was said
 abbrev pub remember : Effect
-remember d = in_state (with_magic (pos (k d)) d.state) d
+remember d = in_state (with_magic (pos (k d)) d.scene.state) d
 
 -- the magic words begin anew
 abbrev pub begin_anew : Effect
-begin_anew d = in_state (with_magic (pos 0) d.state) d
+begin_anew d = in_state (with_magic (pos 0) d.scene.state) d
 
 -- which text is printed of an object that goes home: where it appears, where it vanishes, or
 -- elsewhere
@@ -74,15 +75,17 @@ abbrev pub homing_sight : CaveView → State → ℕ → ℤ
 homing_sight cave s x =
     if is_home_here cave s x then pos 0 else (if is_near cave s x then pos 1 else pos 2)
 
-abbrev pub look_homing : Thing → Effect
-look_homing t d = look t (homing_sight d.cave d.state (t d)) d
-
 abbrev pub with_object_at_home : CaveView → ℕ → State → State
 with_object_at_home cave x s = with_objects (with_place s.objects x (home cave x)) s
 
--- an object is moved to where it is at home
+-- the text of an object that goes home is printed, and the object goes there
+abbrev pub after_sending_home : CaveView → ℕ → Scene → Scene
+after_sending_home cave x p =
+    let q = after_look_at x (homing_sight cave p.state x) p in
+    with_state (with_object_at_home cave x q.state) q
+
 abbrev pub send_home : Thing → Effect
-send_home t d = in_state (with_object_at_home d.cave (t d) d.state) d
+send_home t d = in_scene (after_sending_home d.cave (t d) d.scene) d
 
 unfoldable pub bare_foo_rows : List VerbRow
 bare_foo_rows =
@@ -93,6 +96,6 @@ bare_foo_rows =
     ∷ row (at_home eggs ∷ []) (begin_anew ∷ say role.Magic ∷ [])
     ∷ row (carries eggs ∷ home_here eggs ∷ []) (begin_anew ∷ say role.Magic ∷ [])
     ∷ row (is_nowhere eggs ∷ is_nowhere troll ∷ prop troll (pos 0) ∷ [])
-    (begin_anew ∷ set_prop troll (pos 1) ∷ look_homing eggs ∷ send_home eggs ∷ [])
-    ∷ row [] (begin_anew ∷ look_homing eggs ∷ send_home eggs ∷ [])
+    (begin_anew ∷ set_prop troll (pos 1) ∷ send_home eggs ∷ [])
+    ∷ row [] (begin_anew ∷ send_home eggs ∷ [])
     ∷ []

@@ -12,7 +12,7 @@ use Rattle.cave_things.specs.Homes.{is_home_elsewhere}
 use Rattle.cave_things.specs.Panic.{after_panic}
 use Rattle.cave_things.specs.Places.{place_named}
 use Rattle.cave_things.specs.Reach.{is_near}
-use Rattle.cave_things.specs.Rules.{thing}
+use Rattle.cave_scene.specs.Rules.{thing}
 use Rattle.cave_verbs.specs.Deeds.{Deed}
 use Rattle.cave_verbs.specs.Effects.{in_state, say, default, ask_what, bring, kill, fix, loosen}
 use Rattle.cave_verbs.specs.Effects.{set_prop, lay_down}
@@ -32,11 +32,11 @@ is_locking d = d.order.verb == verb.LOCK
 
 -- the player isn't where the order's object is at home
 abbrev pub away_from_home : Test
-away_from_home d = is_home_elsewhere d.cave d.state d.order.object
+away_from_home d = is_home_elsewhere d.cave d.scene.state d.order.object
 
 -- a player who tries to get out of a closing cave panics
 abbrev pub panic : Effect
-panic d = in_state (after_panic d.state) d
+panic d = in_state (after_panic d.scene.state) d
 
 -- an object is moved to a place, if there is the place
 abbrev pub after_sending : ℕ → Option ℕ → State → State
@@ -44,7 +44,7 @@ after_sending x None s = s
 after_sending x (Some place) s = with_objects (with_place s.objects x place) s
 
 abbrev pub send : Thing → PlaceRole → Effect
-send t role d = in_state (after_sending (t d) (place_named d.cave role) d.state) d
+send t role d = in_state (after_sending (t d) (place_named d.cave role) d.scene.state) d
 
 -- it goes on with the same verb and an object
 abbrev pub goes_on_with : Thing → Deed → Step
@@ -60,7 +60,7 @@ lock_meant cave s =
     else (if is_near cave s (thing cave name.Clam) then thing cave name.Clam else 0)))
 
 abbrev pub lock_at_hand : Thing
-lock_at_hand d = lock_meant d.cave d.state
+lock_at_hand d = lock_meant d.cave d.scene.state
 
 unfoldable pub bare_open_rows : List VerbRow
 bare_open_rows =

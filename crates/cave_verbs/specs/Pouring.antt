@@ -9,7 +9,7 @@ use Rattle.cave_words.specs.declared.named.Named.TheVariants as name
 use Rattle.cave_objects.specs.Objects.{prop_of}
 use Rattle.cave_world.specs.declared.state.State.{State}
 use Rattle.cave_things.specs.Liquids.{liquid_of}
-use Rattle.cave_things.specs.Reach.{is_called}
+use Rattle.cave_scene.specs.Rules.{is_called}
 use Rattle.cave_verbs.specs.Effects.{say, default, ask_what, look, bring, fix, set_prop}
 use Rattle.cave_verbs.specs.Rows.{VerbRow, Test, Effect, Thing, row, row_then, keeps, again, goes_on}
 use Rattle.cave_verbs.specs.Verbs as verb
@@ -23,7 +23,7 @@ poured_of cave s y =
     if y == 0 || is_called cave y name.Bottle then unwrap_or (liquid_of cave s) 0 else y
 
 abbrev pub what_is_poured : Thing
-what_is_poured d = poured_of d.cave d.state d.order.object
+what_is_poured d = poured_of d.cave d.scene.state d.order.object
 
 -- what is poured has a name
 abbrev pub pours : Named → Test
@@ -34,15 +34,15 @@ empty_bottle d = set_prop (the name.Bottle) (pos 1) d
 
 -- the text for the prop above an object's
 abbrev pub look_above : Thing → Effect
-look_above t d = look t (prop_of d.state.objects (t d) +ℤ pos 1) d
+look_above t d = look t (prop_of d.scene.state.objects (t d) +ℤ pos 1) d
 
 -- a prop goes up by two, from 0 to 5 round and round
 abbrev pub grow : Thing → Effect
-grow t d = set_prop t (int_rem_euclid (prop_of d.state.objects (t d) +ℤ pos 2) (pos 6)) d
+grow t d = set_prop t (int_rem_euclid (prop_of d.scene.state.objects (t d) +ℤ pos 2) (pos 6)) d
 
 -- one object's prop becomes half of another's
 abbrev pub halve : Thing → Thing → Effect
-halve t of d = set_prop t (int_div (prop_of d.state.objects (of d)) (pos 2)) d
+halve t of d = set_prop t (int_div (prop_of d.scene.state.objects (of d)) (pos 2)) d
 
 -- the plant and its upper part grow with the water
 abbrev pub plant_watered : List Effect

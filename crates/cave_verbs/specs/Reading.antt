@@ -6,7 +6,7 @@ use Rattle.cave_world.specs.Sight.{is_dark}
 use Rattle.cave_world.specs.declared.ending.Question.TheVariants as question
 use Rattle.cave_world.specs.declared.part.Part.TheVariants as part
 use Rattle.cave_world.specs.declared.part.WordLine.TheVariants as line
-use Rattle.cave_things.specs.Rules.{thing}
+use Rattle.cave_scene.specs.Rules.{thing}
 use Rattle.cave_verbs.specs.Choice.{candidate, objects_meant, only}
 use Rattle.cave_verbs.specs.Deeds.{Deed}
 use Rattle.cave_verbs.specs.Effects.{tell, say, default, ask_what}
@@ -16,14 +16,14 @@ use Rattle.cave_verbs.specs.Tests.{x, the, no, there_is, is, carries, near, cave
 
 -- the player sees nothing
 abbrev pub dark : Test
-dark d = is_dark d.cave (thing d.cave name.Lamp) d.state
+dark d = is_dark d.cave (thing d.cave name.Lamp) d.scene.state
 
 abbrev pub hint_taken : ℕ → Test
-hint_taken number d = slice_index_or d.state.hints.is_taken (number - 1) false
+hint_taken number d = slice_index_or d.scene.state.hints.is_taken (number - 1) false
 
 -- it is said that the word that was just read isn't seen here
 abbrev pub not_seen : Effect
-not_seen d = tell (part.Word line.NotSeen d.order.command.word) d
+not_seen d = tell (part.Word line.NotSeen d.order.word) d
 
 abbrev pub papers : Deed → List ℕ
 papers = objects_meant

@@ -1,12 +1,16 @@
 -- Rules as rows: the first row whose tests hold applies, and its effects follow one another.
-use Rattle.std.specs.Prelude.{ℕ, Bool, true, false, ◌==◌, ◌&&◌, if◌then◌else◌, List, [], ◌∷◌}
-use Rattle.cave_words.specs.Stream.{next, number_drawn}
+use Rattle.std.specs.Prelude.{◌≡◌, ℕ, Bool, true, ◌&&◌, if◌then◌else◌, List, [], ◌∷◌}
 use Rattle.cave_world.specs.declared.ending.Ending.{Ending}
 use Rattle.cave_world.specs.declared.ending.Question.{Question}
-use Rattle.cave_verbs.specs.Deeds.{Deed, Outcome, outcome}
+use Rattle.cave_scene.specs.Play.{scene_of}
+use Rattle.cave_scene.specs.Rules.{cave_of}
+use Rattle.cave_scene.specs.declared.play.Play.{Play}
+use Rattle.cave_scene.specs.declared.rules.Rules.{Rules}
+use Rattle.cave_verbs.specs.Deeds.{Deed, Act, deed, acted}
 use Rattle.cave_verbs.specs.declared.next.Next.TheVariants as next_is
 use Rattle.cave_verbs.specs.declared.next.Step.{Step}
 use Rattle.cave_verbs.specs.declared.next.Step.TheVariants.{Done, GoOn}
+use Rattle.cave_verbs.specs.declared.order.Order.{Order}
 
 abbrev pub Test : Type 0
 Test = Deed → Bool
@@ -37,7 +41,7 @@ describes d = Done next_is.Describe
 
 -- the player arrives again where the player is
 abbrev pub again : Deed → Step
-again d = Done (next_is.Arrive d.state.trail.here)
+again d = Done (next_is.Arrive d.scene.state.trail.here)
 
 abbrev pub asks : Question → Deed → Step
 asks question d = Done (next_is.Ask question)
@@ -66,10 +70,21 @@ abbrev pub after_all : List Effect → Deed → Deed
 after_all [] d = d
 after_all (effect ∷ effects) d = after_all effects (effect d)
 
-abbrev pub outcome_of : VerbRow → Deed → Outcome
-outcome_of r d = let e = after_all r.effects d in outcome e.state e.parts (r.end e)
+abbrev pub act_of_row : VerbRow → Deed → Act
+act_of_row r d = let e = after_all r.effects d in acted e.scene (r.end e)
 
--- the outcome of the first row that fits
-abbrev pub first_fitting : List VerbRow → Deed → Outcome
-first_fitting [] d = outcome d.state d.parts (stays d)
-first_fitting (r ∷ rows) d = if fits r.tests d then outcome_of r d else first_fitting rows d
+-- what the first row that fits does
+abbrev pub first_fitting : List VerbRow → Deed → Act
+first_fitting [] d = acted d.scene (stays d)
+first_fitting (r ∷ rows) d = if fits r.tests d then act_of_row r d else first_fitting rows d
+
+-- a play has come to what a rule says of an order, and so has what follows
+abbrev pub ActsBy : (Deed → Act) → Rules → Order → Play → Play → Step → Type 0
+ActsBy f rules order old new step =
+    acted (scene_of new) step ≡ f (deed (cave_of rules) order (scene_of old))
+
+abbrev pub ByRow : VerbRow → Rules → Order → Play → Play → Step → Type 0
+ByRow r rules order old new step = ActsBy (act_of_row r) rules order old new step
+
+abbrev pub ByRows : List VerbRow → Rules → Order → Play → Play → Step → Type 0
+ByRows rows rules order old new step = ActsBy (first_fitting rows) rules order old new step

@@ -29,7 +29,7 @@ brief s = let talk = s.talk in record s { talk = record talk { is_brief = true; 
 -- places are described briefly from now on, and it was said often enough that there are no more
 -- details
 abbrev pub be_brief : Effect
-be_brief d = in_state (brief d.state) d
+be_brief d = in_state (brief d.scene.state) d
 
 unfoldable pub bare_brief_rows : List VerbRow
 bare_brief_rows = row [] (be_brief ∷ say role.Brief ∷ []) ∷ []

@@ -4,15 +4,14 @@ use Rattle.cave_rows.specs.declared.role.Role.TheVariants as role
 use Rattle.cave_words.specs.declared.named.Named.TheVariants as name
 use Rattle.cave_objects.specs.Halves.{object_of}
 use Rattle.cave_objects.specs.Lists.{halves_at}
-use Rattle.cave_world.specs.declared.ending.Ending.TheVariants as ending
 use Rattle.cave_objects.specs.declared.object.Half.{Half}
-use Rattle.cave_verbs.specs.Effects.{say, default, ask_what, look, carry, bring, kill, fix}
-use Rattle.cave_verbs.specs.Effects.{set_prop, put, trolls, lose_to_snake}
-use Rattle.cave_verbs.specs.Rows.{VerbRow, Thing, row, row_then, keeps, ends, goes_on}
+use Rattle.cave_verbs.specs.Effects.{say, default, ask_what, carry}
+use Rattle.cave_verbs.specs.Effects.{set_prop}
+use Rattle.cave_verbs.specs.Rows.{VerbRow, Thing, row, row_then, keeps, goes_on}
 use Rattle.cave_verbs.specs.Verbs as verb
-use Rattle.cave_verbs.specs.Tests.{x, the, no, either, there_is, is, carries, near, is_here}
+use Rattle.cave_verbs.specs.Tests.{x, the, no, either, there_is, is, carries, near}
 use Rattle.cave_verbs.specs.Tests.{immovable}
-use Rattle.cave_verbs.specs.Tests.{prop, other_prop, prop_up_to, dwarf, cave_closed, in_bottle}
+use Rattle.cave_verbs.specs.Tests.{prop, other_prop, prop_up_to, dwarf, in_bottle}
 use Rattle.cave_verbs.specs.Tests.{full_hands}
 
 -- the object of which a half is here alone; 0 where there are more halves, or none
@@ -21,7 +20,7 @@ lone_object (half ∷ []) = object_of half
 lone_object _ = 0
 
 abbrev pub lone : Thing
-lone d = lone_object (halves_at d.state.trail.here d.state.objects.lists)
+lone d = lone_object (halves_at d.scene.state.trail.here d.scene.state.objects.lists)
 
 unfoldable pub bare_take_rows : List VerbRow
 bare_take_rows =

@@ -9,11 +9,11 @@ use Rattle.cave_world.specs.Fresh.{no_dwarf}
 use Rattle.cave_world.specs.declared.dwarves.Dwarf.{Dwarf}
 use Rattle.cave_world.specs.declared.state.State.{State}
 use Rattle.cave_things.specs.Reach.{is_dwarf_at}
-use Rattle.cave_verbs.specs.Deeds.{Deed, Outcome}
-use Rattle.cave_verbs.specs.Effects.{in_state, say, default, ask_what, bring, kill, fix, juggle}
+use Rattle.cave_verbs.specs.Deeds.{Deed, Act}
+use Rattle.cave_verbs.specs.Effects.{in_state, say, default, bring, kill, fix, juggle}
 use Rattle.cave_verbs.specs.Effects.{set_prop, trolls}
-use Rattle.cave_verbs.specs.Rows.{VerbRow, Test, Effect, Thing, row, row_then, keeps, again, goes_on}
-use Rattle.cave_verbs.specs.Rows.{fits, outcome_of, first_fitting}
+use Rattle.cave_verbs.specs.Rows.{VerbRow, Test, Effect, Thing, row, row_then, again, goes_on}
+use Rattle.cave_verbs.specs.Rows.{fits, act_of_row, first_fitting}
 use Rattle.cave_verbs.specs.Verbs as verb
 use Rattle.cave_verbs.specs.Tests.{x, the, no, is, carries, near, is_here, prop, dwarf, treasure}
 
@@ -44,20 +44,20 @@ with_one_killed s = let dwarves = s.dwarves in
 
 -- the first dwarf that is here is killed
 abbrev pub strike : Effect
-strike d = in_state (with_one_killed d.state) d
+strike d = in_state (with_one_killed d.scene.state) d
 
 -- no dwarf was killed yet
 abbrev pub none_killed : Test
-none_killed d = d.state.dwarves.kills == 0
+none_killed d = d.scene.state.dwarves.kills == 0
 
 abbrev pub after_one_draw : Deed → Deed
-after_one_draw d = let s = d.state in in_state (record s { stream = next s.stream }) d
+after_one_draw d = let s = d.scene.state in in_state (record s { stream = next s.stream }) d
 
--- the outcome of the first row that fits, or what comes of it if none does
-abbrev pub first_fitting_or : List VerbRow → (Deed → Outcome) → Deed → Outcome
+-- what the first row that fits does, or what is done if none does
+abbrev pub first_fitting_or : List VerbRow → (Deed → Act) → Deed → Act
 first_fitting_or [] otherwise d = otherwise d
 first_fitting_or (r ∷ rows) otherwise d =
-    if fits r.tests d then outcome_of r d else first_fitting_or rows otherwise d
+    if fits r.tests d then act_of_row r d else first_fitting_or rows otherwise d
 
 -- what isn't the axe
 unfoldable pub throw_rows : List VerbRow
@@ -94,13 +94,13 @@ axe_rows =
     ∷ []
 
 -- the axe is thrown at a dwarf: one number of three is drawn, and 0 is a miss
-unfoldable pub axe_thrown_at_dwarf : Deed → Outcome
+unfoldable pub axe_thrown_at_dwarf : Deed → Act
 axe_thrown_at_dwarf d =
-    if number_drawn 3 d.state.stream == 0 then first_fitting miss_rows (after_one_draw d)
+    if number_drawn 3 d.scene.state.stream == 0 then first_fitting miss_rows (after_one_draw d)
     else first_fitting hit_rows (after_one_draw d)
 
-unfoldable pub axe_outcome : Deed → Outcome
-axe_outcome d = if dwarf d then axe_thrown_at_dwarf d else first_fitting axe_rows d
+unfoldable pub axe_act : Deed → Act
+axe_act d = if dwarf d then axe_thrown_at_dwarf d else first_fitting axe_rows d
 
-unfoldable pub throw_outcome : Deed → Outcome
-throw_outcome d = first_fitting_or throw_rows axe_outcome d
+unfoldable pub throw_act : Deed → Act
+throw_act d = first_fitting_or throw_rows axe_act d

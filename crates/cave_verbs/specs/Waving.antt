@@ -3,17 +3,17 @@ use Rattle.std.specs.Prelude.{pos, ◌-ℤ◌, List, [], ◌∷◌}
 use Rattle.cave_rows.specs.declared.role.Role.TheVariants as role
 use Rattle.cave_words.specs.declared.named.Named.TheVariants as name
 use Rattle.cave_objects.specs.Objects.{prop_of}
-use Rattle.cave_verbs.specs.Effects.{say, default, ask_what, look, set_prop}
-use Rattle.cave_verbs.specs.Rows.{VerbRow, Effect, Thing, row, row_then, keeps}
+use Rattle.cave_verbs.specs.Effects.{say, default, look, set_prop}
+use Rattle.cave_verbs.specs.Rows.{VerbRow, Effect, Thing, row}
 use Rattle.cave_verbs.specs.Tests.{x, the, no, both, is, carries, is_here, cave_closing}
 
 -- a prop becomes 1 less what it was
 abbrev pub flip : Thing → Effect
-flip t d = set_prop t (pos 1 -ℤ prop_of d.state.objects (t d)) d
+flip t d = set_prop t (pos 1 -ℤ prop_of d.scene.state.objects (t d)) d
 
 -- the text for 2 less the prop: of what was just flipped, the text for 1 more than its prop was
 abbrev pub look_at_flip : Thing → Effect
-look_at_flip t d = look t (pos 2 -ℤ prop_of d.state.objects (t d)) d
+look_at_flip t d = look t (pos 2 -ℤ prop_of d.scene.state.objects (t d)) d
 
 unfoldable pub wave_rows : List VerbRow
 wave_rows =

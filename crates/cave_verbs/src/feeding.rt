@@ -1,20 +1,19 @@
-ghost use Rattle.std.specs.Prelude.{◌≡◌, ◌+◌, ◌≤◌};
-ghost use Rattle.arrayvec.specs.ArrayVec.{array_vec_len};
-ghost use Rattle.cave_things.specs.Rules.{cave_of};
-ghost use Rattle.cave_verbs.specs.Deeds.{deed, outcome};
-ghost use Rattle.cave_verbs.specs.Rows.{first_fitting};
+ghost use Rattle.std.specs.Prelude.{◌≤◌};
+ghost use Rattle.cave_scene.specs.Bounds.{HasRoom, SaysUpTo, parts_of_row};
+ghost use Rattle.cave_scene.specs.Play.{GoesOn};
+ghost use Rattle.cave_verbs.specs.Rows.{ByRows};
+ghost use Rattle.cave_scene.specs.Rules.{cave_of};
 ghost use Rattle.cave_verbs.specs.Ranks.{rank_of};
 ghost use Rattle.cave_verbs.specs.Feeding.{feed_rows, bare_eat_rows, eat_rows};
 
 use crate::next::Step;
 use crate::order::Order;
-use crate::says::{ask_what, say, say_default};
 use crate::verbs::EAT;
 use cave_objects::{Anchor, Prop};
 use cave_rows::Role;
-use cave_things::{Rules, has_other_prop, has_prop, lose_one};
+use cave_scene::{Play, Rules};
+use cave_things::{has_other_prop, has_prop, is_near, lose_one};
 use cave_words::Named;
-use cave_world::{Out, State};
 
 /// Living beings that are no food.
 const LIVING: [Named; 8] = [
@@ -30,11 +29,11 @@ const LIVING: [Named; 8] = [
 
 /// FEED an object.
 #[tactic(auto, unfolding(crate::specs::Feeding::feed_rows))]
-pub fn feed(rules: &Rules<'_>, order: Order, state: &mut State, out: &mut Out) -> Step
-    requires { array_vec_len out.old + 2 ≤ 512 }
-    ensures row { outcome state.new out.new.items result
-        ≡ first_fitting feed_rows (deed (cave_of rules.now) order state.old out.old.items) }
-    ensures few { array_vec_len out.new ≤ array_vec_len out.old + 2 }
+pub fn feed(rules: &Rules<'_>, order: Order, play: &mut Play<'_>) -> Step
+    requires { HasRoom parts_of_row play.old }
+    ensures row { ByRows feed_rows rules.now order play.old play.new result }
+    ensures same { GoesOn play.old play.new }
+    ensures few { SaysUpTo parts_of_row play.old play.new }
     ensures ranks { rank_of (cave_of rules.now) result ≤ 0 }
 {
     let x = order.object;
@@ -42,81 +41,84 @@ pub fn feed(rules: &Rules<'_>, order: Order, state: &mut State, out: &mut Out) -
     let food = rules.object(Named::Food);
     let axe = rules.object(Named::Axe);
     if rules.is(x, Named::Bird) {
-        return say(Role::BirdFeed, out);
+        return Step::say(Role::BirdFeed, play);
     }
-    if rules.is(x, Named::Snake) && !state.closing.is_closed && rules.is_near(state, bird) {
-        state.destroy(bird);
-        state.objects.set_prop(bird, Prop::new(0));
-        lose_one(state);
-        return say(Role::BirdEaten, out);
+    if rules.is(x, Named::Snake)
+        && !play.state.closing.is_closed
+        && is_near(rules, play.state, bird)
+    {
+        play.state.destroy(bird);
+        play.state.objects.set_prop(bird, Prop::new(0));
+        lose_one(play.state);
+        return Step::say(Role::BirdEaten, play);
     }
-    if rules.is(x, Named::Dragon) && has_other_prop(state, x, 0) {
-        return say(Role::Ridiculous, out);
+    if rules.is(x, Named::Dragon) && has_other_prop(play.state, x, 0) {
+        return Step::say(Role::Ridiculous, play);
     }
     if rules.is(x, Named::Snake) || rules.is(x, Named::Dragon) {
-        return say(Role::NotHungry, out);
+        return Step::say(Role::NotHungry, play);
     }
     if rules.is(x, Named::Troll) {
-        return say(Role::TrollFeed, out);
+        return Step::say(Role::TrollFeed, play);
     }
     if rules.is(x, Named::Dwarf) {
-        if !rules.is_near(state, food) {
-            return say_default(rules, order, state, out);
+        if !is_near(rules, play.state, food) {
+            return order.say_default(rules, play);
         }
-        state.dwarves.anger = state.dwarves.anger.up();
-        return say(Role::DwarfFeed, out);
+        play.state.dwarves.anger = play.state.dwarves.anger.up();
+        return Step::say(Role::DwarfFeed, play);
     }
     if !rules.is(x, Named::Bear) {
-        return say(Role::FeedWhat, out);
+        return Step::say(Role::FeedWhat, play);
     }
-    if rules.is_near(state, food) {
-        state.destroy(food);
-        state.objects.set_prop(x, Prop::new(1));
-        state.objects.anchor_to(axe, Anchor::Loose);
-        state.objects.set_prop(axe, Prop::new(0));
-        return say(Role::BearFed, out);
+    if is_near(rules, play.state, food) {
+        play.state.destroy(food);
+        play.state.objects.set_prop(x, Prop::new(1));
+        play.state.objects.anchor_to(axe, Anchor::Loose);
+        play.state.objects.set_prop(axe, Prop::new(0));
+        return Step::say(Role::BearFed, play);
     }
-    if has_prop(state, x, 0) {
-        return say(Role::NotHungry, out);
+    if has_prop(play.state, x, 0) {
+        return Step::say(Role::NotHungry, play);
     }
-    if has_prop(state, x, 3) {
-        return say(Role::Ridiculous, out);
+    if has_prop(play.state, x, 3) {
+        return Step::say(Role::Ridiculous, play);
     }
-    say_default(rules, order, state, out)
+    order.say_default(rules, play)
 }
 
 /// EAT without an object.
 #[tactic(auto, using(crate::proofs::Near::is_something), unfolding(crate::specs::Feeding::bare_eat_rows))]
-pub fn eat_what_is_here(rules: &Rules<'_>, order: Order, state: &mut State, out: &mut Out) -> Step
-    requires { array_vec_len out.old + 2 ≤ 512 }
-    ensures row { outcome state.new out.new.items result
-        ≡ first_fitting bare_eat_rows (deed (cave_of rules.now) order state.old out.old.items) }
-    ensures few { array_vec_len out.new ≤ array_vec_len out.old + 2 }
+pub fn eat_what_is_here(rules: &Rules<'_>, order: Order, play: &mut Play<'_>) -> Step
+    requires { HasRoom parts_of_row play.old }
+    ensures row { ByRows bare_eat_rows rules.now order play.old play.new result }
+    ensures same { GoesOn play.old play.new }
+    ensures few { SaysUpTo parts_of_row play.old play.new }
     ensures ranks { rank_of (cave_of rules.now) result ≤ 1 }
 {
     let food = rules.object(Named::Food);
-    if rules.is_near(state, food) {
+    if is_near(rules, play.state, food) {
         return Step::GoOn(EAT, food);
     }
-    ask_what(rules, order, state, out)
+    order.ask_what(rules, play)
 }
 
 /// EAT an object.
 #[tactic(auto, unfolding(crate::specs::Feeding::eat_rows))]
-pub fn eat(rules: &Rules<'_>, order: Order, state: &mut State, out: &mut Out) -> Step
-    requires { array_vec_len out.old + 2 ≤ 512 }
-    ensures row { outcome state.new out.new.items result
-        ≡ first_fitting eat_rows (deed (cave_of rules.now) order state.old out.old.items) }
-    ensures few { array_vec_len out.new ≤ array_vec_len out.old + 2 }
+pub fn eat(rules: &Rules<'_>, order: Order, play: &mut Play<'_>) -> Step
+    requires { HasRoom parts_of_row play.old }
+    ensures row { ByRows eat_rows rules.now order play.old play.new result }
+    ensures same { GoesOn play.old play.new }
+    ensures few { SaysUpTo parts_of_row play.old play.new }
     ensures ranks { rank_of (cave_of rules.now) result ≤ 0 }
 {
     let x = order.object;
     if rules.is(x, Named::Food) {
-        state.destroy(x);
-        return say(Role::Eaten, out);
+        play.state.destroy(x);
+        return Step::say(Role::Eaten, play);
     }
     if rules.is_one_of(x, &LIVING) {
-        return say(Role::NoAppetite, out);
+        return Step::say(Role::NoAppetite, play);
     }
-    say_default(rules, order, state, out)
+    order.say_default(rules, play)
 }

@@ -16,7 +16,6 @@ pub mod opening;
 pub mod order;
 pub mod pouring;
 pub mod reading;
-pub mod says;
 pub mod small;
 pub mod taking;
 pub mod throwing;
@@ -25,4 +24,4 @@ pub mod waving;
 
 pub use acting::act;
 pub use next::Next;
-pub use order::Command;
+pub use order::Order;

@@ -1,23 +1,22 @@
-ghost use Rattle.std.specs.Prelude.{◌≡◌, ◌+◌, ◌<◌, ◌≤◌, ◌≤ℤ◌, ◌-ℤ◌, not, pos, negsuc};
+ghost use Rattle.std.specs.Prelude.{◌≡◌, ◌<◌, ◌≤◌, ◌≤ℤ◌, ◌-ℤ◌, not, pos, negsuc};
 ghost use Rattle.std.specs.Ordering.{int_eq};
-ghost use Rattle.arrayvec.specs.ArrayVec.{array_vec_len};
-ghost use Rattle.cave_things.specs.Rules.{cave_of};
-ghost use Rattle.cave_verbs.specs.Deeds.{deed, outcome};
+ghost use Rattle.cave_scene.specs.Bounds.{HasRoom, SaysUpTo};
+ghost use Rattle.cave_scene.specs.Play.{scene_of, GoesOn};
+ghost use Rattle.cave_verbs.specs.Rows.{ByRows};
+ghost use Rattle.cave_scene.specs.Rules.{cave_of};
 ghost use Rattle.cave_verbs.specs.declared.next.Next.TheVariants.{Stay};
 ghost use Rattle.cave_verbs.specs.declared.next.Step.TheVariants.{Done};
-ghost use Rattle.cave_verbs.specs.Effects.{with_look};
-ghost use Rattle.cave_verbs.specs.Rows.{first_fitting};
 ghost use Rattle.cave_verbs.specs.Ranks.{rank_of};
-ghost use Rattle.cave_verbs.specs.Magic.{bare_foo_rows, with_magic, homing_sight, with_object_at_home};
+ghost use Rattle.cave_verbs.specs.Magic.{bare_foo_rows, with_magic, homing_sight, after_sending_home};
 
 use crate::next::{Next, Step};
 use crate::order::Order;
-use crate::says::{look, say};
 use cave_objects::{Object, Prop};
 use cave_rows::Role;
-use cave_things::{Rules, has_prop};
+use cave_scene::{Play, Rules};
+use cave_things::{has_prop, home, is_at_home, is_home_here, is_in_hand, is_near, special};
 use cave_words::Named;
-use cave_world::{Magic, Out, State};
+use cave_world::{Magic, State};
 
 /// How far the player has come with the magic words.
 fn magic_of(state: &State) -> i16
@@ -56,9 +55,9 @@ fn remember(state: &mut State, k: u16)
 fn homing_sight(rules: &Rules<'_>, state: &State, object: Object) -> Prop
     ensures { result ≡ homing_sight (cave_of rules.now) state.now object }
 {
-    if rules.is_home_here(state, object) {
+    if is_home_here(rules, state, object) {
         Prop::new(0)
-    } else if rules.is_near(state, object) {
+    } else if is_near(rules, state, object) {
         Prop::new(1)
     } else {
         Prop::new(2)
@@ -66,53 +65,54 @@ fn homing_sight(rules: &Rules<'_>, state: &State, object: Object) -> Prop
 }
 
 /// The text of an object that goes home is printed, and the object goes there.
-fn send_home(rules: &Rules<'_>, object: Object, state: &mut State, out: &mut Out) -> Step
-    requires { array_vec_len out.old < 512 }
-    ensures told { out.new.items ≡
-        with_look object (homing_sight (cave_of rules.now) state.old object) out.old.items }
-    ensures few { array_vec_len out.new ≤ array_vec_len out.old + 1 }
-    ensures moved { state.new ≡ with_object_at_home (cave_of rules.now) object state.old }
+fn send_home(rules: &Rules<'_>, object: Object, play: &mut Play<'_>) -> Step
+    requires { HasRoom 1 play.old }
+    ensures play { scene_of play.new
+        ≡ after_sending_home (cave_of rules.now) object (scene_of play.old) }
+    ensures same { GoesOn play.old play.new }
+    ensures few { SaysUpTo 1 play.old play.new }
     ensures step { result ≡ Done Stay }
 {
-    look(object, homing_sight(rules, state, object).value(), out);
-    state.move_to(object, rules.home(object));
+    let sight = homing_sight(rules, play.state, object);
+    play.look(object, sight.value());
+    play.state.move_to(object, home(rules, object));
     Step::Done(Next::Stay)
 }
 
 /// FOO without an object.
 #[tactic(auto, unfolding(crate::specs::Magic::bare_foo_rows))]
-pub fn foo(rules: &Rules<'_>, order: Order, state: &mut State, out: &mut Out) -> Step
-    requires { array_vec_len out.old < 512 }
-    ensures row { outcome state.new out.new.items result
-        ≡ first_fitting bare_foo_rows (deed (cave_of rules.now) order state.old out.old.items) }
-    ensures few { array_vec_len out.new ≤ array_vec_len out.old + 1 }
+pub fn foo(rules: &Rules<'_>, order: Order, play: &mut Play<'_>) -> Step
+    requires { HasRoom 1 play.old }
+    ensures row { ByRows bare_foo_rows rules.now order play.old play.new result }
+    ensures same { GoesOn play.old play.new }
+    ensures few { SaysUpTo 1 play.old play.new }
     ensures ranks { rank_of (cave_of rules.now) result ≤ 0 }
 {
-    let k = rules.special(order.command.word);
-    if k == 0 || is_out_of_turn(state, k) {
-        if magic_of(state) == 0 {
-            return say(Role::Magic, out);
+    let k = special(rules, order.word);
+    if k == 0 || is_out_of_turn(play.state, k) {
+        if magic_of(play.state) == 0 {
+            return Step::say(Role::Magic, play);
         }
-        return say(Role::FooOrder, out);
+        return Step::say(Role::FooOrder, play);
     }
     if k != 4 {
-        remember(state, k);
-        return say(Role::Ok, out);
+        remember(play.state, k);
+        return Step::say(Role::Ok, play);
     }
     let eggs = rules.object(Named::Eggs);
     let troll = rules.object(Named::Troll);
     if eggs.is_none()
-        || rules.is_at_home(state, eggs)
-        || rules.is_in_hand(state, eggs) && rules.is_home_here(state, eggs)
+        || is_at_home(rules, play.state, eggs)
+        || is_in_hand(rules, play.state, eggs) && is_home_here(rules, play.state, eggs)
     {
-        set_magic(state, 0);
-        return say(Role::Magic, out);
+        set_magic(play.state, 0);
+        return Step::say(Role::Magic, play);
     }
-    if state.is_gone(eggs) && state.is_gone(troll) && has_prop(state, troll, 0) {
-        set_magic(state, 0);
-        state.objects.set_prop(troll, Prop::new(1));
-        return send_home(rules, eggs, state, out);
+    if play.state.is_gone(eggs) && play.state.is_gone(troll) && has_prop(play.state, troll, 0) {
+        set_magic(play.state, 0);
+        play.state.objects.set_prop(troll, Prop::new(1));
+        return send_home(rules, eggs, play);
     }
-    set_magic(state, 0);
-    send_home(rules, eggs, state, out)
+    set_magic(play.state, 0);
+    send_home(rules, eggs, play)
 }

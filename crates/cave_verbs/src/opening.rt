@@ -1,10 +1,11 @@
-ghost use Rattle.std.specs.Prelude.{◌≡◌, ◌+◌, ◌<◌, ◌≤◌, ◌||◌, ◌==◌, [], ◌∷◌, false, IsTrue};
-ghost use Rattle.arrayvec.specs.ArrayVec.{array_vec_len};
+ghost use Rattle.std.specs.Prelude.{◌≡◌, ◌<◌, ◌≤◌, ◌||◌, ◌==◌, [], ◌∷◌, false, IsTrue};
 ghost use Rattle.cave_words.specs.declared.named.Named.TheVariants as name;
-ghost use Rattle.cave_things.specs.Reach.{is_called, is_one_of, is_near};
-ghost use Rattle.cave_things.specs.Rules.{cave_of, thing};
-ghost use Rattle.cave_verbs.specs.Deeds.{deed, outcome};
-ghost use Rattle.cave_verbs.specs.Rows.{first_fitting};
+ghost use Rattle.cave_scene.specs.Rules.{is_called, is_one_of};
+ghost use Rattle.cave_things.specs.Reach.{is_near};
+ghost use Rattle.cave_scene.specs.Bounds.{HasRoom, SaysUpTo, parts_of_row};
+ghost use Rattle.cave_scene.specs.Play.{GoesOn};
+ghost use Rattle.cave_verbs.specs.Rows.{ByRows};
+ghost use Rattle.cave_scene.specs.Rules.{cave_of, thing};
 ghost use Rattle.cave_verbs.specs.Ranks.{rank_of};
 ghost use Rattle.cave_verbs.specs.Verbs as verb;
 ghost use Rattle.cave_verbs.specs.Opening.{after_sending, lock_meant, bare_open_rows, open_rows};
@@ -12,15 +13,15 @@ ghost use Rattle.cave_verbs.specs.declared.next.Step.TheVariants.{GoOn};
 
 use crate::next::Step;
 use crate::order::Order;
-use crate::says::{ask_what, say, say_default};
 use crate::verbs::{LOCK, OPEN};
 use cave_objects::{Anchor, Object, Place, Prop};
 use cave_rows::{PlaceRole, Role};
+use cave_scene::{Play, Rules};
 use cave_things::panic::panic;
 use cave_things::places::place_named;
-use cave_things::{Rules, has_other_prop, has_prop, let_go};
+use cave_things::{has_other_prop, has_prop, is_home_elsewhere, is_in_hand, is_near, let_go};
 use cave_words::Named;
-use cave_world::{Out, State};
+use cave_world::State;
 
 /// What is meant where the order names nothing: the grate or the door that is here, the oyster or
 /// the clam at hand.
@@ -37,11 +38,11 @@ fn lock_meant(rules: &Rules<'_>, state: &State) -> Object
         return door;
     }
     let oyster = rules.object(Named::Oyster);
-    if rules.is_near(state, oyster) {
+    if is_near(rules, state, oyster) {
         return oyster;
     }
     let clam = rules.object(Named::Clam);
-    if rules.is_near(state, clam) {
+    if is_near(rules, state, clam) {
         return clam;
     }
     Object::none()
@@ -62,19 +63,19 @@ fn go_on_with(rules: &Rules<'_>, order: Order, object: Object) -> Step
 
 /// OPEN or LOCK without an object.
 #[tactic(auto, using(crate::proofs::Near::is_something), unfolding(crate::specs::Opening::bare_open_rows))]
-pub fn open_what_is_here(rules: &Rules<'_>, order: Order, state: &mut State, out: &mut Out) -> Step
-    requires room { array_vec_len out.old + 2 ≤ 512 }
+pub fn open_what_is_here(rules: &Rules<'_>, order: Order, play: &mut Play<'_>) -> Step
+    requires room { HasRoom parts_of_row play.old }
     requires verb { IsTrue (order.verb == verb.OPEN || order.verb == verb.LOCK) }
-    ensures row { outcome state.new out.new.items result
-        ≡ first_fitting bare_open_rows (deed (cave_of rules.now) order state.old out.old.items) }
-    ensures few { array_vec_len out.new ≤ array_vec_len out.old + 2 }
+    ensures row { ByRows bare_open_rows rules.now order play.old play.new result }
+    ensures same { GoesOn play.old play.new }
+    ensures few { SaysUpTo parts_of_row play.old play.new }
     ensures ranks { rank_of (cave_of rules.now) result ≤ 1 }
 {
-    let meant = lock_meant(rules, state);
+    let meant = lock_meant(rules, play.state);
     let chain = rules.object(Named::Chain);
-    let is_chain_near = rules.is_near(state, chain);
+    let is_chain_near = is_near(rules, play.state, chain);
     if !meant.is_none() && is_chain_near {
-        return ask_what(rules, order, state, out);
+        return order.ask_what(rules, play);
     }
     if !meant.is_none() {
         return go_on_with(rules, order, meant);
@@ -82,7 +83,7 @@ pub fn open_what_is_here(rules: &Rules<'_>, order: Order, state: &mut State, out
     if is_chain_near {
         return go_on_with(rules, order, chain);
     }
-    say(Role::NoLock, out)
+    Step::say(Role::NoLock, play)
 }
 
 /// An object is moved to a place, if there is the place.
@@ -97,176 +98,176 @@ fn send(object: Object, place: Option<Place>, state: &mut State)
 
 /// OPEN or LOCK the clam or the oyster.
 #[tactic(auto, unfolding(crate::specs::Opening::open_rows))]
-fn open_shell(rules: &Rules<'_>, order: Order, state: &mut State, out: &mut Out) -> Step
-    requires room { array_vec_len out.old + 2 ≤ 512 }
+fn open_shell(rules: &Rules<'_>, order: Order, play: &mut Play<'_>) -> Step
+    requires room { HasRoom parts_of_row play.old }
     requires shell { IsTrue (is_called (cave_of rules.now) order.object name.Clam
         || is_called (cave_of rules.now) order.object name.Oyster) }
-    ensures row { outcome state.new out.new.items result
-        ≡ first_fitting open_rows (deed (cave_of rules.now) order state.old out.old.items) }
-    ensures few { array_vec_len out.new ≤ array_vec_len out.old + 2 }
+    ensures row { ByRows open_rows rules.now order play.old play.new result }
+    ensures same { GoesOn play.old play.new }
+    ensures few { SaysUpTo parts_of_row play.old play.new }
     ensures ranks { rank_of (cave_of rules.now) result ≤ 0 }
 {
     let x = order.object;
     if order.verb == LOCK {
-        return say(Role::LockWhat, out);
+        return Step::say(Role::LockWhat, play);
     }
-    let has_trident = rules.is_in_hand(state, rules.object(Named::Trident));
+    let has_trident = is_in_hand(rules, play.state, rules.object(Named::Trident));
     if !rules.is(x, Named::Clam) {
         if !has_trident {
-            return say(Role::OysterTool, out);
+            return Step::say(Role::OysterTool, play);
         }
-        if rules.is_in_hand(state, x) {
-            return say(Role::OysterHeld, out);
+        if is_in_hand(rules, play.state, x) {
+            return Step::say(Role::OysterHeld, play);
         }
-        return say(Role::OysterOpen, out);
+        return Step::say(Role::OysterOpen, play);
     }
     if !has_trident {
-        return say(Role::ClamTool, out);
+        return Step::say(Role::ClamTool, play);
     }
-    if rules.is_in_hand(state, x) {
-        return say(Role::ClamHeld, out);
+    if is_in_hand(rules, play.state, x) {
+        return Step::say(Role::ClamHeld, play);
     }
-    state.destroy(x);
-    let here = state.trail.here;
-    state.move_to(rules.object(Named::Oyster), here);
+    play.state.destroy(x);
+    let here = play.state.trail.here;
+    play.state.move_to(rules.object(Named::Oyster), here);
     let culdesac = place_named(rules.cave, PlaceRole::Culdesac);
-    send(rules.object(Named::Pearl), culdesac, state);
-    say(Role::Pearl, out)
+    send(rules.object(Named::Pearl), culdesac, play.state);
+    Step::say(Role::Pearl, play)
 }
 
 /// OPEN or LOCK the grate, with the keys.
 #[tactic(auto, unfolding(crate::specs::Opening::open_rows))]
-fn open_grate(rules: &Rules<'_>, order: Order, state: &mut State, out: &mut Out) -> Step
-    requires room { array_vec_len out.old + 2 ≤ 512 }
+fn open_grate(rules: &Rules<'_>, order: Order, play: &mut Play<'_>) -> Step
+    requires room { HasRoom parts_of_row play.old }
     requires grate { IsTrue (is_called (cave_of rules.now) order.object name.Grate) }
     requires other { is_one_of (cave_of rules.now) order.object
         (name.Clam ∷ name.Oyster ∷ name.Door ∷ name.Cage ∷ name.Keys ∷ []) ≡ false }
     requires keys { let cave = cave_of rules.now in
-        IsTrue (is_near cave state.old (thing cave name.Keys)) }
-    ensures row { outcome state.new out.new.items result
-        ≡ first_fitting open_rows (deed (cave_of rules.now) order state.old out.old.items) }
-    ensures few { array_vec_len out.new ≤ array_vec_len out.old + 2 }
+        IsTrue (is_near cave play.old.state.now (thing cave name.Keys)) }
+    ensures row { ByRows open_rows rules.now order play.old play.new result }
+    ensures same { GoesOn play.old play.new }
+    ensures few { SaysUpTo parts_of_row play.old play.new }
     ensures ranks { rank_of (cave_of rules.now) result ≤ 0 }
 {
     let x = order.object;
-    if state.closing.is_closing {
-        panic(state);
-        return say(Role::ClosingExit, out);
+    if play.state.closing.is_closing {
+        panic(play.state);
+        return Step::say(Role::ClosingExit, play);
     }
     if order.verb == OPEN {
-        if has_prop(state, x, 0) {
-            state.objects.set_prop(x, Prop::new(1));
-            return say(Role::Unlocked, out);
+        if has_prop(play.state, x, 0) {
+            play.state.objects.set_prop(x, Prop::new(1));
+            return Step::say(Role::Unlocked, play);
         }
-        return say(Role::WasUnlocked, out);
+        return Step::say(Role::WasUnlocked, play);
     }
-    if has_prop(state, x, 0) {
-        return say(Role::WasLocked, out);
+    if has_prop(play.state, x, 0) {
+        return Step::say(Role::WasLocked, play);
     }
-    state.objects.set_prop(x, Prop::new(0));
-    say(Role::Locked, out)
+    play.state.objects.set_prop(x, Prop::new(0));
+    Step::say(Role::Locked, play)
 }
 
 /// OPEN the chain, with the keys.
 #[tactic(auto, unfolding(crate::specs::Opening::open_rows))]
-fn unlock_chain(rules: &Rules<'_>, order: Order, state: &mut State, out: &mut Out) -> Step
-    requires room { array_vec_len out.old + 2 ≤ 512 }
+fn unlock_chain(rules: &Rules<'_>, order: Order, play: &mut Play<'_>) -> Step
+    requires room { HasRoom parts_of_row play.old }
     requires opening { order.verb ≡ verb.OPEN }
     requires chain { IsTrue (is_called (cave_of rules.now) order.object name.Chain) }
     requires other { is_one_of (cave_of rules.now) order.object
         (name.Clam ∷ name.Oyster ∷ name.Door ∷ name.Cage ∷ name.Keys ∷ name.Grate ∷ []) ≡ false }
     requires keys { let cave = cave_of rules.now in
-        IsTrue (is_near cave state.old (thing cave name.Keys)) }
-    ensures row { outcome state.new out.new.items result
-        ≡ first_fitting open_rows (deed (cave_of rules.now) order state.old out.old.items) }
-    ensures few { array_vec_len out.new ≤ array_vec_len out.old + 2 }
+        IsTrue (is_near cave play.old.state.now (thing cave name.Keys)) }
+    ensures row { ByRows open_rows rules.now order play.old play.new result }
+    ensures same { GoesOn play.old play.new }
+    ensures few { SaysUpTo parts_of_row play.old play.new }
     ensures ranks { rank_of (cave_of rules.now) result ≤ 0 }
 {
     let x = order.object;
     let bear = rules.object(Named::Bear);
-    if has_prop(state, x, 0) {
-        return say(Role::WasUnlocked, out);
+    if has_prop(play.state, x, 0) {
+        return Step::say(Role::WasUnlocked, play);
     }
-    if has_prop(state, bear, 0) {
-        return say(Role::BearBars, out);
+    if has_prop(play.state, bear, 0) {
+        return Step::say(Role::BearBars, play);
     }
-    if has_prop(state, bear, 3) {
-        state.objects.set_prop(x, Prop::new(0));
-        state.objects.anchor_to(x, Anchor::Loose);
-        state.objects.anchor_to(bear, Anchor::Fixed);
-        return say(Role::ChainFree, out);
+    if has_prop(play.state, bear, 3) {
+        play.state.objects.set_prop(x, Prop::new(0));
+        play.state.objects.anchor_to(x, Anchor::Loose);
+        play.state.objects.anchor_to(bear, Anchor::Fixed);
+        return Step::say(Role::ChainFree, play);
     }
-    state.objects.set_prop(x, Prop::new(0));
-    state.objects.anchor_to(x, Anchor::Loose);
-    state.objects.set_prop(bear, Prop::new(2));
-    state.objects.anchor_to(bear, Anchor::Loose);
-    say(Role::ChainFree, out)
+    play.state.objects.set_prop(x, Prop::new(0));
+    play.state.objects.anchor_to(x, Anchor::Loose);
+    play.state.objects.set_prop(bear, Prop::new(2));
+    play.state.objects.anchor_to(bear, Anchor::Loose);
+    Step::say(Role::ChainFree, play)
 }
 
 /// LOCK the chain, with the keys.
 #[tactic(auto, unfolding(crate::specs::Opening::open_rows))]
-fn lock_chain(rules: &Rules<'_>, order: Order, state: &mut State, out: &mut Out) -> Step
-    requires room { array_vec_len out.old + 2 ≤ 512 }
+fn lock_chain(rules: &Rules<'_>, order: Order, play: &mut Play<'_>) -> Step
+    requires room { HasRoom parts_of_row play.old }
     requires locking { (order.verb == verb.OPEN) ≡ false }
     requires chain { IsTrue (is_called (cave_of rules.now) order.object name.Chain) }
     requires other { is_one_of (cave_of rules.now) order.object
         (name.Clam ∷ name.Oyster ∷ name.Door ∷ name.Cage ∷ name.Keys ∷ name.Grate ∷ []) ≡ false }
     requires keys { let cave = cave_of rules.now in
-        IsTrue (is_near cave state.old (thing cave name.Keys)) }
-    ensures row { outcome state.new out.new.items result
-        ≡ first_fitting open_rows (deed (cave_of rules.now) order state.old out.old.items) }
-    ensures few { array_vec_len out.new ≤ array_vec_len out.old + 2 }
+        IsTrue (is_near cave play.old.state.now (thing cave name.Keys)) }
+    ensures row { ByRows open_rows rules.now order play.old play.new result }
+    ensures same { GoesOn play.old play.new }
+    ensures few { SaysUpTo parts_of_row play.old play.new }
     ensures ranks { rank_of (cave_of rules.now) result ≤ 0 }
 {
     let x = order.object;
-    if rules.is_home_elsewhere(state, x) {
-        return say(Role::NoLockHere, out);
+    if is_home_elsewhere(rules, play.state, x) {
+        return Step::say(Role::NoLockHere, play);
     }
-    if has_other_prop(state, x, 0) {
-        return say(Role::WasLocked, out);
+    if has_other_prop(play.state, x, 0) {
+        return Step::say(Role::WasLocked, play);
     }
-    let_go(rules, x, state);
-    state.objects.set_prop(x, Prop::new(2));
-    state.objects.anchor_to(x, Anchor::Fixed);
-    say(Role::ChainLock, out)
+    let_go(rules, x, play.state);
+    play.state.objects.set_prop(x, Prop::new(2));
+    play.state.objects.anchor_to(x, Anchor::Fixed);
+    Step::say(Role::ChainLock, play)
 }
 
 /// OPEN or LOCK an object.
 #[tactic(auto, unfolding(crate::specs::Opening::open_rows))]
-pub fn open(rules: &Rules<'_>, order: Order, state: &mut State, out: &mut Out) -> Step
-    requires { array_vec_len out.old + 2 ≤ 512 }
-    ensures row { outcome state.new out.new.items result
-        ≡ first_fitting open_rows (deed (cave_of rules.now) order state.old out.old.items) }
-    ensures few { array_vec_len out.new ≤ array_vec_len out.old + 2 }
+pub fn open(rules: &Rules<'_>, order: Order, play: &mut Play<'_>) -> Step
+    requires { HasRoom parts_of_row play.old }
+    ensures row { ByRows open_rows rules.now order play.old play.new result }
+    ensures same { GoesOn play.old play.new }
+    ensures few { SaysUpTo parts_of_row play.old play.new }
     ensures ranks { rank_of (cave_of rules.now) result ≤ 0 }
 {
     let x = order.object;
     if rules.is(x, Named::Clam) || rules.is(x, Named::Oyster) {
-        return open_shell(rules, order, state, out);
+        return open_shell(rules, order, play);
     }
     if rules.is(x, Named::Door) {
-        if has_prop(state, x, 1) {
-            return say(Role::Ok, out);
+        if has_prop(play.state, x, 1) {
+            return Step::say(Role::Ok, play);
         }
-        return say(Role::Rusty, out);
+        return Step::say(Role::Rusty, play);
     }
     if rules.is(x, Named::Cage) {
-        return say(Role::NoLatch, out);
+        return Step::say(Role::NoLatch, play);
     }
     if rules.is(x, Named::Keys) {
-        return say(Role::KeysWhat, out);
+        return Step::say(Role::KeysWhat, play);
     }
     if !rules.is(x, Named::Grate) && !rules.is(x, Named::Chain) {
-        return say_default(rules, order, state, out);
+        return order.say_default(rules, play);
     }
-    if !rules.is_near(state, rules.object(Named::Keys)) {
-        return say(Role::NoKeys, out);
+    if !is_near(rules, play.state, rules.object(Named::Keys)) {
+        return Step::say(Role::NoKeys, play);
     }
     if rules.is(x, Named::Grate) {
-        return open_grate(rules, order, state, out);
+        return open_grate(rules, order, play);
     }
     if order.verb == OPEN {
-        return unlock_chain(rules, order, state, out);
+        return unlock_chain(rules, order, play);
     }
-    lock_chain(rules, order, state, out)
+    lock_chain(rules, order, play)
 }

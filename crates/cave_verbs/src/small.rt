@@ -1,61 +1,60 @@
-ghost use Rattle.std.specs.Prelude.{◌≡◌, ◌+◌, ◌<◌, ◌≤◌};
-ghost use Rattle.arrayvec.specs.ArrayVec.{array_vec_len};
-ghost use Rattle.cave_things.specs.Rules.{cave_of};
-ghost use Rattle.cave_verbs.specs.Deeds.{deed, outcome};
-ghost use Rattle.cave_verbs.specs.Rows.{first_fitting};
+ghost use Rattle.std.specs.Prelude.{◌≤◌};
+ghost use Rattle.cave_scene.specs.Bounds.{HasRoom, SaysUpTo};
+ghost use Rattle.cave_scene.specs.Play.{GoesOn};
+ghost use Rattle.cave_verbs.specs.Rows.{ByRows};
+ghost use Rattle.cave_scene.specs.Rules.{cave_of};
 ghost use Rattle.cave_verbs.specs.Ranks.{rank_of};
 ghost use Rattle.cave_verbs.specs.Small.{bare_rows, other_rows, nothing_rows, bare_quit_rows};
 ghost use Rattle.cave_verbs.specs.Small.{bare_score_rows, bare_brief_rows};
 
 use crate::next::{Next, Step};
 use crate::order::Order;
-use crate::says::{ask_what, say, say_default};
 use cave_rows::Role;
-use cave_things::Rules;
-use cave_world::{Count, Out, Question, State};
+use cave_scene::{Play, Rules};
+use cave_world::{Count, Question};
 
 /// A verb that needs an object, without one.
 #[tactic(auto, unfolding(crate::specs::Small::bare_rows))]
-pub fn ask_back(rules: &Rules<'_>, order: Order, state: &mut State, out: &mut Out) -> Step
-    requires { array_vec_len out.old < 512 }
-    ensures row { outcome state.new out.new.items result
-        ≡ first_fitting bare_rows (deed (cave_of rules.now) order state.old out.old.items) }
-    ensures few { array_vec_len out.new ≤ array_vec_len out.old + 1 }
+pub fn ask_back(rules: &Rules<'_>, order: Order, play: &mut Play<'_>) -> Step
+    requires { HasRoom 1 play.old }
+    ensures row { ByRows bare_rows rules.now order play.old play.new result }
+    ensures same { GoesOn play.old play.new }
+    ensures few { SaysUpTo 1 play.old play.new }
     ensures ranks { rank_of (cave_of rules.now) result ≤ 0 }
 {
-    ask_what(rules, order, state, out)
+    order.ask_what(rules, play)
 }
 
 /// A verb for which there is no rule.
 #[tactic(auto, unfolding(crate::specs::Small::other_rows))]
-pub fn other(rules: &Rules<'_>, order: Order, state: &mut State, out: &mut Out) -> Step
-    requires { array_vec_len out.old < 512 }
-    ensures row { outcome state.new out.new.items result
-        ≡ first_fitting other_rows (deed (cave_of rules.now) order state.old out.old.items) }
-    ensures few { array_vec_len out.new ≤ array_vec_len out.old + 1 }
+pub fn other(rules: &Rules<'_>, order: Order, play: &mut Play<'_>) -> Step
+    requires { HasRoom 1 play.old }
+    ensures row { ByRows other_rows rules.now order play.old play.new result }
+    ensures same { GoesOn play.old play.new }
+    ensures few { SaysUpTo 1 play.old play.new }
     ensures ranks { rank_of (cave_of rules.now) result ≤ 0 }
 {
-    say_default(rules, order, state, out)
+    order.say_default(rules, play)
 }
 
 /// NOTHING, with an object or without one.
 #[tactic(auto, unfolding(crate::specs::Small::nothing_rows))]
-pub fn nothing(rules: &Rules<'_>, order: Order, state: &mut State, out: &mut Out) -> Step
-    requires { array_vec_len out.old < 512 }
-    ensures row { outcome state.new out.new.items result
-        ≡ first_fitting nothing_rows (deed (cave_of rules.now) order state.old out.old.items) }
-    ensures few { array_vec_len out.new ≤ array_vec_len out.old + 1 }
+pub fn nothing(rules: &Rules<'_>, order: Order, play: &mut Play<'_>) -> Step
+    requires { HasRoom 1 play.old }
+    ensures row { ByRows nothing_rows rules.now order play.old play.new result }
+    ensures same { GoesOn play.old play.new }
+    ensures few { SaysUpTo 1 play.old play.new }
     ensures ranks { rank_of (cave_of rules.now) result ≤ 0 }
 {
-    say(Role::Ok, out)
+    Step::say(Role::Ok, play)
 }
 
 /// QUIT without an object.
 #[tactic(auto, unfolding(crate::specs::Small::bare_quit_rows))]
-pub fn quit(rules: &Rules<'_>, order: Order, state: &mut State, out: &mut Out) -> Step
-    ensures row { outcome state.new out.new.items result
-        ≡ first_fitting bare_quit_rows (deed (cave_of rules.now) order state.old out.old.items) }
-    ensures few { array_vec_len out.new ≤ array_vec_len out.old }
+pub fn quit(rules: &Rules<'_>, order: Order, play: &mut Play<'_>) -> Step
+    ensures row { ByRows bare_quit_rows rules.now order play.old play.new result }
+    ensures same { GoesOn play.old play.new }
+    ensures few { SaysUpTo 0 play.old play.new }
     ensures ranks { rank_of (cave_of rules.now) result ≤ 0 }
 {
     Step::Done(Next::Ask(Question::Quit))
@@ -63,10 +62,10 @@ pub fn quit(rules: &Rules<'_>, order: Order, state: &mut State, out: &mut Out) -
 
 /// SCORE without an object.
 #[tactic(auto, unfolding(crate::specs::Small::bare_score_rows))]
-pub fn score(rules: &Rules<'_>, order: Order, state: &mut State, out: &mut Out) -> Step
-    ensures row { outcome state.new out.new.items result
-        ≡ first_fitting bare_score_rows (deed (cave_of rules.now) order state.old out.old.items) }
-    ensures few { array_vec_len out.new ≤ array_vec_len out.old }
+pub fn score(rules: &Rules<'_>, order: Order, play: &mut Play<'_>) -> Step
+    ensures row { ByRows bare_score_rows rules.now order play.old play.new result }
+    ensures same { GoesOn play.old play.new }
+    ensures few { SaysUpTo 0 play.old play.new }
     ensures ranks { rank_of (cave_of rules.now) result ≤ 0 }
 {
     Step::Done(Next::Ask(Question::ScoreQuit))
@@ -74,14 +73,14 @@ pub fn score(rules: &Rules<'_>, order: Order, state: &mut State, out: &mut Out) 
 
 /// BRIEF without an object.
 #[tactic(auto, unfolding(crate::specs::Small::bare_brief_rows))]
-pub fn brief(rules: &Rules<'_>, order: Order, state: &mut State, out: &mut Out) -> Step
-    requires { array_vec_len out.old < 512 }
-    ensures row { outcome state.new out.new.items result
-        ≡ first_fitting bare_brief_rows (deed (cave_of rules.now) order state.old out.old.items) }
-    ensures few { array_vec_len out.new ≤ array_vec_len out.old + 1 }
+pub fn brief(rules: &Rules<'_>, order: Order, play: &mut Play<'_>) -> Step
+    requires { HasRoom 1 play.old }
+    ensures row { ByRows bare_brief_rows rules.now order play.old play.new result }
+    ensures same { GoesOn play.old play.new }
+    ensures few { SaysUpTo 1 play.old play.new }
     ensures ranks { rank_of (cave_of rules.now) result ≤ 0 }
 {
-    state.talk.is_brief = true;
-    state.talk.details = Count::new(3);
-    say(Role::Brief, out)
+    play.state.talk.is_brief = true;
+    play.state.talk.details = Count::new(3);
+    Step::say(Role::Brief, play)
 }

@@ -1,19 +1,18 @@
-ghost use Rattle.std.specs.Prelude.{◌≡◌, ◌+◌, ◌≤◌, ◌-ℤ◌, pos};
-ghost use Rattle.arrayvec.specs.ArrayVec.{array_vec_len};
-ghost use Rattle.cave_things.specs.Rules.{cave_of};
-ghost use Rattle.cave_verbs.specs.Deeds.{deed, outcome};
-ghost use Rattle.cave_verbs.specs.Rows.{first_fitting};
+ghost use Rattle.std.specs.Prelude.{◌≡◌, ◌≤◌, ◌-ℤ◌, pos};
+ghost use Rattle.cave_scene.specs.Bounds.{HasRoom, SaysUpTo, parts_of_row};
+ghost use Rattle.cave_scene.specs.Play.{GoesOn};
+ghost use Rattle.cave_verbs.specs.Rows.{ByRows};
+ghost use Rattle.cave_scene.specs.Rules.{cave_of};
 ghost use Rattle.cave_verbs.specs.Ranks.{rank_of};
 ghost use Rattle.cave_verbs.specs.Waving.{wave_rows, rub_rows};
 
 use crate::next::{Next, Step};
 use crate::order::Order;
-use crate::says::{look, say, say_default};
 use cave_objects::Prop;
 use cave_rows::Role;
-use cave_things::Rules;
+use cave_scene::{Play, Rules};
+use cave_things::is_in_hand;
 use cave_words::Named;
-use cave_world::{Out, State};
 
 fn flipped(prop: Prop) -> Prop
     ensures { result ≡ pos 1 -ℤ prop }
@@ -30,46 +29,46 @@ fn text_of_flipped(prop: Prop) -> i8
 
 /// WAVE an object.
 #[tactic(auto, unfolding(crate::specs::Waving::wave_rows))]
-pub fn wave(rules: &Rules<'_>, order: Order, state: &mut State, out: &mut Out) -> Step
-    requires { array_vec_len out.old + 2 ≤ 512 }
-    ensures row { outcome state.new out.new.items result
-        ≡ first_fitting wave_rows (deed (cave_of rules.now) order state.old out.old.items) }
-    ensures few { array_vec_len out.new ≤ array_vec_len out.old + 2 }
+pub fn wave(rules: &Rules<'_>, order: Order, play: &mut Play<'_>) -> Step
+    requires { HasRoom parts_of_row play.old }
+    ensures row { ByRows wave_rows rules.now order play.old play.new result }
+    ensures same { GoesOn play.old play.new }
+    ensures few { SaysUpTo parts_of_row play.old play.new }
     ensures ranks { rank_of (cave_of rules.now) result ≤ 0 }
 {
     let x = order.object;
     let is_rod = rules.is(x, Named::Rod);
-    if !rules.is_in_hand(state, x)
-        && !(is_rod && rules.is_in_hand(state, rules.object(Named::SecondRod)))
+    if !is_in_hand(rules, play.state, x)
+        && !(is_rod && is_in_hand(rules, play.state, rules.object(Named::SecondRod)))
     {
-        return say(Role::NotHeld, out);
+        return Step::say(Role::NotHeld, play);
     }
     let fissure = rules.object(Named::Fissure);
     if is_rod
-        && state.at(fissure)
-        && rules.is_in_hand(state, rules.object(Named::Rod))
-        && !state.closing.is_closing
+        && play.state.at(fissure)
+        && is_in_hand(rules, play.state, rules.object(Named::Rod))
+        && !play.state.closing.is_closing
     {
-        let was = state.objects.prop(fissure);
-        state.objects.set_prop(fissure, flipped(was));
-        let prop = state.objects.prop(fissure);
-        look(fissure, text_of_flipped(prop), out);
+        let was = play.state.objects.prop(fissure);
+        play.state.objects.set_prop(fissure, flipped(was));
+        let prop = play.state.objects.prop(fissure);
+        play.look(fissure, text_of_flipped(prop));
         return Step::Done(Next::Stay);
     }
-    say_default(rules, order, state, out)
+    order.say_default(rules, play)
 }
 
 /// RUB an object.
 #[tactic(auto, unfolding(crate::specs::Waving::rub_rows))]
-pub fn rub(rules: &Rules<'_>, order: Order, state: &mut State, out: &mut Out) -> Step
-    requires { array_vec_len out.old + 2 ≤ 512 }
-    ensures row { outcome state.new out.new.items result
-        ≡ first_fitting rub_rows (deed (cave_of rules.now) order state.old out.old.items) }
-    ensures few { array_vec_len out.new ≤ array_vec_len out.old + 2 }
+pub fn rub(rules: &Rules<'_>, order: Order, play: &mut Play<'_>) -> Step
+    requires { HasRoom parts_of_row play.old }
+    ensures row { ByRows rub_rows rules.now order play.old play.new result }
+    ensures same { GoesOn play.old play.new }
+    ensures few { SaysUpTo parts_of_row play.old play.new }
     ensures ranks { rank_of (cave_of rules.now) result ≤ 0 }
 {
     if rules.is(order.object, Named::Lamp) {
-        return say_default(rules, order, state, out);
+        return order.say_default(rules, play);
     }
-    say(Role::RubOdd, out)
+    Step::say(Role::RubOdd, play)
 }

@@ -19,7 +19,7 @@ returns g c =
     subst (λ cave. Notes (texts_said_in cave c.in_ok-session.session.game) old new)
     c.cave.ensures c.note_session.ensures in
     let noted =
-    subst (λ game. Notes (texts_said_in c.args.machine.cave.now game) old new) made.1.game_is
+    subst (λ game. Notes (texts_said_in c.args.machine.rules.cave.now game) old new) made.1.game_is
     here in
     record { judged = (moves, said, (made.0, noted)) }
 

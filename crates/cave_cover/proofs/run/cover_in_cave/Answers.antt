@@ -27,7 +27,7 @@ pub returns : goal.returns
 returns g c =
     let (moves, said, noted) = c.in_ok-note_logs.ensures.judged in
     let marks = c.note_logs.new.said in
-    let cave = c.new-machine.result.cave.now in
+    let cave = c.new-machine.result.rules.cave.now in
     let count = length c.note_logs.new.logs in
     let kept : count ≡ length c.args.logs.now = omega arith in
     let many : count ≡ length moves = kept ∙ sym (length-map c.args.logs.now g.L.Read.remaining)

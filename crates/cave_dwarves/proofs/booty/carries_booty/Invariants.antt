@@ -1,6 +1,6 @@
 use Rattle.std.proofs.Common.{◌≡◌}
 use Rattle.std.specs.List.{list_any}
-use Rattle.cave_things.specs.Rules.{cave_of}
+use Rattle.cave_scene.specs.Rules.{cave_of}
 use Rattle.cave_things.specs.Treasures.{treasures}
 use Rattle.cave_dwarves.specs.Booty.{is_carried_booty}
 use Rattle.cave_dwarves.proofs.Treasures.{treasures_from}

@@ -1,7 +1,7 @@
 use Rattle.std.proofs.Common.{◌≡◌}
 use Rattle.std.specs.List.{list_any}
 use Rattle.cave_things.specs.Reach.{is_near}
-use Rattle.cave_things.specs.Rules.{cave_of}
+use Rattle.cave_scene.specs.Rules.{cave_of}
 use Rattle.cave_things.specs.Treasures.{treasures}
 use Rattle.cave_dwarves.proofs.Treasures.{treasures_from}
 use Rattle.cave_dwarves.proofs.booty.is_treasure_near.Given as goal

@@ -1,7 +1,7 @@
 use Rattle.std.proofs.Common.{rules, ap, ◌∙◌, arith, take, None}
 use Rattle.std.specs.List.{filter_map}
 use Rattle.cave_data.specs.CaveView.{ways_from}
-use Rattle.cave_things.specs.Rules.{cave_of}
+use Rattle.cave_scene.specs.Rules.{cave_of}
 use Rattle.cave_dwarves.specs.Candidates.{place_ahead, without_repeats, candidates}
 use Rattle.cave_dwarves.proofs.Firsts.{full, short}
 use Rattle.cave_dwarves.proofs.candidates.candidates.Goals as goal

@@ -1,7 +1,7 @@
 use Rattle.std.proofs.Common.{◌≡◌, ◌++◌, ◌≤◌, None, map, drop, take, length}
 use Rattle.std.specs.List.{filter_map}
 use Rattle.cave_rows.specs.RowViews.{going}
-use Rattle.cave_things.specs.Rules.{cave_of}
+use Rattle.cave_scene.specs.Rules.{cave_of}
 use Rattle.cave_dwarves.specs.Candidates.{place_ahead, without_repeats}
 use Rattle.cave_dwarves.proofs.candidates.candidates.Given as goal
 

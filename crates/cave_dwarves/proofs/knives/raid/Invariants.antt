@@ -1,5 +1,5 @@
 use Rattle.std.proofs.Common.{◌≡◌, ◌≤◌}
-use Rattle.cave_things.specs.Rules.{cave_of}
+use Rattle.cave_scene.specs.Rules.{cave_of}
 use Rattle.cave_dwarves.specs.Knives.{raid_of}
 use Rattle.cave_dwarves.proofs.knives.raid.Given as goal
 

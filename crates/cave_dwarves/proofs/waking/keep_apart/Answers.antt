@@ -1,5 +1,5 @@
 use Rattle.std.proofs.Common.{rules, arith, ap, ◌∙◌}
-use Rattle.cave_things.specs.Rules.{cave_of}
+use Rattle.cave_scene.specs.Rules.{cave_of}
 use Rattle.cave_dwarves.specs.Waking.{with_dwarves_apart}
 use Rattle.cave_dwarves.proofs.waking.keep_apart.Goals as goal
 

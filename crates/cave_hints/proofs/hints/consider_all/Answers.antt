@@ -1,6 +1,6 @@
 use Rattle.std.proofs.Common.{rules, ◌≡◌, ◌+◌, ap, sym, ◌∙◌, arith}
-use Rattle.cave_things.specs.Play.{scene_of}
-use Rattle.cave_things.specs.Rules.{cave_of}
+use Rattle.cave_scene.specs.Play.{scene_of}
+use Rattle.cave_scene.specs.Rules.{cave_of}
 use Rattle.cave_hints.specs.Hints.{after_considering, after_hints_up_to}
 use Rattle.cave_hints.proofs.Steps.{after_considering-more, few-asked}
 use Rattle.cave_hints.proofs.hints.consider_all.Goals as goal

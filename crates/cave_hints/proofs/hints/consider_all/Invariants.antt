@@ -1,8 +1,8 @@
 -- The hints so far are considered, and at most one was offered.
 use Rattle.std.proofs.Common.{◌≡◌, false}
-use Rattle.cave_things.specs.Bounds.{SaysUpTo, parts_of_question}
-use Rattle.cave_things.specs.Play.{scene_of, GoesOn}
-use Rattle.cave_things.specs.Rules.{cave_of}
+use Rattle.cave_scene.specs.Bounds.{SaysUpTo, parts_of_question}
+use Rattle.cave_scene.specs.Play.{scene_of, GoesOn}
+use Rattle.cave_scene.specs.Rules.{cave_of}
 use Rattle.cave_hints.specs.Hints.{after_hints_up_to}
 use Rattle.cave_hints.proofs.hints.consider_all.Given as goal
 use Rattle.cave_world.specs.State.{takes_no_command}

@@ -1,6 +1,6 @@
 use Rattle.std.proofs.Common.{arith}
-use Rattle.cave_things.specs.Rules.{cave_of}
-use Rattle.cave_things.specs.Play.{scene_of}
+use Rattle.cave_scene.specs.Rules.{cave_of}
+use Rattle.cave_scene.specs.Play.{scene_of}
 use Rattle.cave_moves.proofs.Carrying.{carried_no_further}
 use Rattle.cave_moves.proofs.arrival.+follow_forced_motions.Goals as goal
 

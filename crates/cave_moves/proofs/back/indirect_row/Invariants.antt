@@ -1,7 +1,7 @@
 use Rattle.std.specs.Option.{option_or}
 use Rattle.std.proofs.Common.{◌≡◌, map, drop, option_map}
 use Rattle.cave_rows.specs.RowViews.{going}
-use Rattle.cave_things.specs.Rules.{cave_of}
+use Rattle.cave_scene.specs.Rules.{cave_of}
 use Rattle.cave_moves.specs.Journeys.{indirect_row}
 use Rattle.cave_moves.proofs.back.indirect_row.Given as goal
 

@@ -1,8 +1,8 @@
 use Rattle.std.proofs.Common.{◌≡◌, ◌+◌, ◌≤◌, drop}
 use Rattle.arrayvec.specs.ArrayVec.{array_vec_len}
-use Rattle.cave_things.specs.Rules.{cave_of}
+use Rattle.cave_scene.specs.Rules.{cave_of}
 use Rattle.cave_moves.specs.Objects.{after_objects}
-use Rattle.cave_things.specs.Play.{scene_of, GoesOn}
+use Rattle.cave_scene.specs.Play.{scene_of, GoesOn}
 use Rattle.cave_moves.proofs.objects.tell_all.Given as goal
 
 -- describing the rest from here is describing all, and there is room for it

@@ -11,7 +11,7 @@ loop-item-init c =
     let first = c.args.session.now in
     record {
       completes =
-          Completes-none c.args.view first.machine.cave.now first.every
+          Completes-none c.args.view first.machine.rules.cave.now first.every
           (map applied_item c.deref-item-items.result.now) first.game first.checkpoints
           c.args.text.now.items;
       game = refl;

@@ -11,11 +11,11 @@ invariant-loop-item l =
     let all = map applied_item l.item-items in
     let first = l.initial.session in
     record {
-      completes : Completes l.view first.machine.cave.now first.every all left first.game
+      completes : Completes l.view first.machine.rules.cave.now first.every all left first.game
           l.session.game first.checkpoints l.session.checkpoints
           l.initial.text.items l.text.items l.totals.played l.totals.lines;
       game : game_after_items left l.session.game ≡ game_after_items all first.game;
-      cave : l.session.machine.cave.now ≡ first.machine.cave.now;
+      cave : l.session.machine.rules.cave.now ≡ first.machine.rules.cave.now;
       every : l.session.every ≡ first.every;
       played_fits : l.totals.played ≤ l.item-index * 2 ^ 32;
       lines_fit : l.totals.lines ≤ l.item-index * 2 ^ 32;

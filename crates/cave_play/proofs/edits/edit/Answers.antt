@@ -30,7 +30,7 @@ returns-in-Ok c =
           lines = c.replay_of.ensures.lines ∙ ap (λ (g : Game). length g.log) made;
         };
         holds = record {
-          cave_is = ap (λ m. m.cave.now) c.in-Ok.ensures.kept.machine;
+          cave_is = ap (λ m. m.rules.cave.now) c.in-Ok.ensures.kept.machine;
           game_is = made;
         };
         every = c.in-Ok.ensures.kept.every;
@@ -58,7 +58,7 @@ returns c =
       applies = record {
         came = some;
         holds = record {
-          cave_is = ap (λ s. s.machine.cave.now) stays;
+          cave_is = ap (λ s. s.machine.rules.cave.now) stays;
           game_is = ap (λ s. s.game) stays
               ∙ sym (game_after_item-refused (applied_item c.args.item.now) game c.in-Err.fault
               some);

@@ -16,7 +16,7 @@ returns-in-Ok c =
       judged = (
         first_decided-one (judging_stage (lines_fault game)) none,
         record {
-          cave_is = ap (λ m. m.cave.now) c.in-Ok.ensures.kept.0;
+          cave_is = ap (λ m. m.rules.cave.now) c.in-Ok.ensures.kept.0;
           game_is = c.in-Ok.ensures.game;
         },
       );

@@ -19,7 +19,7 @@ returns g c =
       judged = (
         bytes,
         said,
-        Judges-log (λ log. HoldsGame c.args.machine.cave.now (game_of c.args.seed log)) bytes
+        Judges-log (λ log. HoldsGame c.args.machine.rules.cave.now (game_of c.args.seed log)) bytes
             _ _ (c.deref.ensures.value ∙ read.0) read.1 c.open_log.ensures.judged,
       );
       every = c.open_log.ensures.every;

@@ -50,7 +50,7 @@ returns g c =
     let (moves, said, made) = c.in_ok-session.ensures.judged in
     let (edits, others, edited) = c.edit_session-text.ensures.judged in
     let editing = c.args.editing in
-    let cave = c.new-machine.result.cave.now in
+    let cave = c.new-machine.result.rules.cave.now in
     let right =
     λ (cave : CaveView) (text : Vec ℕ). IsEditOf editing.view cave editing.every
     (game_of editing.seed (lines moves)) edits text.items in

@@ -1,5 +1,5 @@
 use Rattle.std.proofs.Common.{◌≡◌, ◌+◌, ◌*◌, ◌≤◌}
-use Rattle.cave_things.specs.Rules.{cave_of}
+use Rattle.cave_scene.specs.Rules.{cave_of}
 use Rattle.cave_score.specs.Treasures.{most_treasure_points}
 use Rattle.cave_score.proofs.Sums.{worth_from}
 use Rattle.cave_score.proofs.worths.most_treasure_points.Given as goal

@@ -1,10 +1,12 @@
-use Rattle.std.proofs.Common.{◌≡◌, ◌+◌, ◌++◌, map, take}
+use Rattle.std.proofs.Common.{◌≡◌, ◌+◌, ◌≤◌, take}
 use Rattle.arrayvec.specs.ArrayVec.{array_vec_len}
-use Rattle.cave_world.specs.declared.part.Part.TheVariants as part
+use Rattle.cave_scene.specs.Play.{scene_of, GoesOn}
+use Rattle.cave_verbs.specs.Finding.{after_naming}
 use Rattle.cave_verbs.proofs.finding.name_all.Given as goal
 
 -- the objects before here are named
 abbrev pub invariant-loop-object : goal.invariant-loop-object
 invariant-loop-object l =
-    (l.out.items ≡ l.initial.out.items ++ map part.Name (take l.object-index l.objects))
-    × (array_vec_len l.out ≡ array_vec_len l.initial.out + l.object-index)
+    (scene_of l.play ≡ after_naming (take l.object-index l.objects) (scene_of l.initial.play))
+    × GoesOn l.initial.play l.play
+    × (array_vec_len l.play.out.now ≤ array_vec_len l.initial.play.out.now + l.object-index)

@@ -1,6 +1,5 @@
 -- TAKE goes on from a liquid to its bottle.
-use Rattle.cave_things.specs.Rules.{cave_of}
-use Rattle.cave_verbs.specs.Ranks.{rank}
+use Rattle.cave_scene.specs.Rules.{cave_of}
 use Rattle.cave_verbs.proofs.Falls.{take-falls}
 use Rattle.std.proofs.Common.{rules}
 use Rattle.cave_verbs.proofs.taking.take.Goals as goal
@@ -8,4 +7,4 @@ use Rattle.cave_verbs.proofs.taking.take.Goals as goal
 pub returns-then-is_near-clause-ranks : goal.returns-then-is_near-clause-ranks
 returns-then-is_near-clause-ranks c =
     rw c.object-bottle.ensures
-    (take-falls (cave_of c.args.rules.now) c.args.state.now c.args.order.object (search rules))
+    (take-falls (cave_of c.args.rules.now) c.args.play.now.state.now c.args.order.object (search rules))

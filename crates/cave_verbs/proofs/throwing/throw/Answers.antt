@@ -2,9 +2,9 @@
 use Rattle.std.proofs.Common.{◌≡◌, ℕ, ◌≤◌, suc, true, arith, rules}
 use Rattle.cave_data.specs.CaveView.{CaveView}
 use Rattle.cave_words.specs.declared.named.Named.TheVariants as name
-use Rattle.cave_things.specs.Rules.{cave_of, thing}
-use Rattle.cave_things.specs.Reach.{is_called}
-use Rattle.cave_verbs.specs.Ranks.{rank, throw_rank}
+use Rattle.cave_scene.specs.Rules.{cave_of, thing}
+use Rattle.cave_scene.specs.Rules.{is_called}
+use Rattle.cave_verbs.specs.Ranks.{throw_rank}
 use Rattle.cave_verbs.proofs.Falls.{second-rod}
 use Rattle.cave_verbs.proofs.throwing.throw.Goals as goal
 

@@ -4,7 +4,7 @@ use Rattle.std.specs.Prelude.{IsTrue, is_some}
 use Rattle.cave_world.specs.State.{takes_no_command}
 use Rattle.cave_world.specs.declared.ending.Ending.{Ending}
 use Rattle.cave_world.specs.declared.state.State.{State}
-use Rattle.cave_score.specs.Endings.{with_ending}
+use Rattle.cave_ends.specs.Endings.{with_ending}
 
 pub over_by_ending : (how : Ending) (s : State) → IsTrue (takes_no_command (with_ending how s))
 unfolding takes_no_command

@@ -19,7 +19,8 @@ pub struct Rules<'a> {
 }
 
 impl<'a> Rules<'a> {
-    ghost use Rattle.cave_things.specs.Rules.{cave_of, is_liquid_name, object_called, thing};
+    ghost use Rattle.cave_scene.specs.Rules.{cave_of, is_liquid_name, object_called, thing};
+    ghost use Rattle.cave_scene.specs.Rules.{is_called, is_one_of};
 
     /// The rules of a cave, with the lexicon of that cave.
     pub fn of(cave: &'a Cave, lexicon: &'a Lexicon) -> Rules<'a>
@@ -67,5 +68,20 @@ impl<'a> Rules<'a> {
             return Object::none();
         }
         object
+    }
+
+    /// Whether an object is the one of a name.
+    #[tactic(auto, unfolding(crate::specs::Rules::is_called))]
+    pub fn is(&self, object: Object, name: Named) -> bool
+        ensures { result ≡ is_called (cave_of self.now) object name }
+    {
+        !object.is_none() && self.object(name) == object
+    }
+
+    /// Whether an object is the one of one of the names.
+    pub fn is_one_of(&self, object: Object, names: &[Named]) -> bool
+        ensures { result ≡ is_one_of (cave_of self.now) object names.now }
+    {
+        names.iter().any(|name| self.is(object, *name))
     }
 }

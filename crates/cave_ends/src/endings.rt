@@ -1,15 +1,15 @@
 ghost use Rattle.std.specs.Prelude.{◌≡◌, ◌≤◌, IsTrue};
 ghost use Rattle.cave_data.specs.Printing.{rating};
 ghost use Rattle.cave_world.specs.State.{takes_no_command};
-ghost use Rattle.cave_things.specs.Bounds.{HasRoom, SaysUpTo, parts_of_end};
-ghost use Rattle.cave_things.specs.Play.{scene_of, GoesOn};
-ghost use Rattle.cave_things.specs.Rules.{cave_of};
-ghost use Rattle.cave_score.specs.Endings.{with_ending, after_next_class, after_score, ending_scene};
+ghost use Rattle.cave_scene.specs.Bounds.{HasRoom, SaysUpTo, parts_of_end};
+ghost use Rattle.cave_scene.specs.Play.{scene_of, GoesOn};
+ghost use Rattle.cave_scene.specs.Rules.{cave_of};
+ghost use Rattle.cave_ends.specs.Endings.{with_ending, after_next_class, after_score, ending_scene};
 
-use crate::score::{max_score, score};
 use cave_data::Rating;
 use cave_rows::Role;
-use cave_things::{Play, Rules};
+use cave_scene::{Play, Rules};
+use cave_score::score::{max_score, score};
 use cave_world::{Ending, NumberLine, Part, State};
 
 /// The game ends, and its score is printed.

@@ -1,14 +1,14 @@
 ghost use Rattle.std.specs.Prelude.{◌≡◌, IsTrue};
 ghost use Rattle.cave_world.specs.State.{takes_no_command};
-ghost use Rattle.cave_things.specs.Bounds.{HasRoom, SaysUpTo, parts_of_death};
-ghost use Rattle.cave_things.specs.Play.{scene_of, GoesOn};
-ghost use Rattle.cave_things.specs.Rules.{cave_of};
-ghost use Rattle.cave_score.specs.Deaths.{with_one_death, closing_death_scene, death_scene};
+ghost use Rattle.cave_scene.specs.Bounds.{HasRoom, SaysUpTo, parts_of_death};
+ghost use Rattle.cave_scene.specs.Play.{scene_of, GoesOn};
+ghost use Rattle.cave_scene.specs.Rules.{cave_of};
+ghost use Rattle.cave_ends.specs.Deaths.{with_one_death, closing_death_scene, death_scene};
 
 use crate::endings::end;
 use crate::questions::ask;
 use cave_rows::Role;
-use cave_things::{Play, Rules};
+use cave_scene::{Play, Rules};
 use cave_world::{Ending, Question, State};
 
 /// One death more is counted.

@@ -6,7 +6,7 @@ use Rattle.cave_world.specs.declared.ending.Ending.{Ending}
 use Rattle.cave_world.specs.declared.part.NumberLine.TheVariants as line
 use Rattle.cave_world.specs.declared.part.Part.TheVariants as part
 use Rattle.cave_world.specs.declared.state.State.{State}
-use Rattle.cave_things.specs.Play.{Scene, after_telling, after_saying, with_state}
+use Rattle.cave_scene.specs.Play.{Scene, after_telling, after_saying, with_state}
 use Rattle.cave_score.specs.Score.{score_of, max_score_of}
 
 abbrev pub with_ending : Ending → State → State

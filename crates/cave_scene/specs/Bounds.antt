@@ -1,7 +1,7 @@
 -- How many parts a turn says at most.
 use Rattle.std.specs.Prelude.{ℕ, ◌+◌, ◌*◌, ◌≤◌}
 use Rattle.arrayvec.specs.ArrayVec.{array_vec_len}
-use Rattle.cave_things.specs.declared.play.Play.{Play}
+use Rattle.cave_scene.specs.declared.play.Play.{Play}
 
 -- so many parts more can be said: a turn has room for 512
 abbrev pub HasRoom : ℕ → Play → Type 0
@@ -50,6 +50,22 @@ parts_of_forced_motions left = 5 * left + 209
 -- an arrival: a place, and the forced motions from there
 abbrev pub parts_of_arrival : ℕ → ℕ
 parts_of_arrival left = 5 * left + 213
+
+-- a row of a verb says two parts at most
+abbrev pub parts_of_row : ℕ
+parts_of_row = 2
+
+-- INVENTORY: each of 100 objects between two lines
+abbrev pub parts_of_inventory : ℕ
+parts_of_inventory = 102
+
+-- the rows from which a verb goes on, so many
+abbrev pub parts_of_goings_on : ℕ → ℕ
+parts_of_goings_on left = 2 * left
+
+-- a verb: three rows from which it goes on, and an inventory
+abbrev pub parts_of_verb : ℕ
+parts_of_verb = 108
 
 -- what is read is done: 10 of a verb or a way that leads on, and an arrival; a verb that leads
 -- nowhere says 108 at most

@@ -6,7 +6,7 @@ use Rattle.cave_world.specs.State.{state_with_player_at, state_after_setting_out
 use Rattle.cave_world.specs.declared.part.Part.{Part}
 use Rattle.cave_world.specs.declared.part.Part.TheVariants as part
 use Rattle.cave_world.specs.declared.state.State.{State}
-use Rattle.cave_things.specs.declared.play.Play.{Play}
+use Rattle.cave_scene.specs.declared.play.Play.{Play}
 
 -- the state, what was said, whether it was dark as the turn began, and the forced motions that are
 -- left in it

@@ -1,16 +1,16 @@
 ghost use Rattle.std.specs.Prelude.{◌≡◌, IsTrue};
 ghost use Rattle.std.specs.FinMap.{get};
 ghost use Rattle.cave_world.specs.State.{takes_no_command};
-ghost use Rattle.cave_things.specs.Bounds.{HasRoom, SaysUpTo, parts_of_question};
-ghost use Rattle.cave_things.specs.Play.{scene_of, GoesOn};
-ghost use Rattle.cave_things.specs.Rules.{cave_of};
-ghost use Rattle.cave_score.specs.Questions.{die_role, after_offer, after_question};
-ghost use Rattle.cave_score.specs.Questions.{after_preface, with_question, asking_scene};
+ghost use Rattle.cave_scene.specs.Bounds.{HasRoom, SaysUpTo, parts_of_question};
+ghost use Rattle.cave_scene.specs.Play.{scene_of, GoesOn};
+ghost use Rattle.cave_scene.specs.Rules.{cave_of};
+ghost use Rattle.cave_ends.specs.Questions.{die_role, after_offer, after_question};
+ghost use Rattle.cave_ends.specs.Questions.{after_preface, with_question, asking_scene};
 
-use crate::score::{max_score, score};
 use cave_data::Cave;
 use cave_rows::Role;
-use cave_things::{Play, Rules};
+use cave_scene::{Play, Rules};
+use cave_score::score::{max_score, score};
 use cave_world::{HintNumber, NumberLine, Part, Question, State};
 
 /// A question is asked, and the next line answers it.

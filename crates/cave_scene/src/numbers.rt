@@ -1,5 +1,5 @@
 ghost use Rattle.std.specs.Prelude.{◌≡◌};
-ghost use Rattle.cave_things.specs.Rules.{or_no_object};
+ghost use Rattle.cave_scene.specs.Rules.{or_no_object};
 
 use cave_objects::Object;
 

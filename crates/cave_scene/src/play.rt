@@ -22,11 +22,11 @@ pub struct Play<'a> {
 }
 
 impl<'a> Play<'a> {
-    ghost use Rattle.cave_things.specs.Bounds.{HasRoom, SaysUpTo};
-    ghost use Rattle.cave_things.specs.Play.{scene_of, GoesOn, scene_at_start, after_telling};
-    ghost use Rattle.cave_things.specs.Play.{after_saying};
-    ghost use Rattle.cave_things.specs.Play.{after_look_at};
-    ghost use Rattle.cave_things.specs.Play.{scene_at_place, after_setting_out, after_draw, happens};
+    ghost use Rattle.cave_scene.specs.Bounds.{HasRoom, SaysUpTo};
+    ghost use Rattle.cave_scene.specs.Play.{scene_of, GoesOn, scene_at_start, after_telling};
+    ghost use Rattle.cave_scene.specs.Play.{after_saying};
+    ghost use Rattle.cave_scene.specs.Play.{after_look_at};
+    ghost use Rattle.cave_scene.specs.Play.{scene_at_place, after_setting_out, after_draw, happens};
 
     /// A turn begins with nothing said, and with all its forced motions.
     pub fn open(state: &'a mut State, out: &'a mut Out, was_dark: bool) -> Play<'a>

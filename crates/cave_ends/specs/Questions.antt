@@ -10,7 +10,7 @@ use Rattle.cave_world.specs.declared.ending.Question.TheVariants as question
 use Rattle.cave_world.specs.declared.part.NumberLine.TheVariants as line
 use Rattle.cave_world.specs.declared.part.Part.TheVariants as part
 use Rattle.cave_world.specs.declared.state.State.{State}
-use Rattle.cave_things.specs.Play.{Scene, after_telling, after_saying, with_state}
+use Rattle.cave_scene.specs.Play.{Scene, after_telling, after_saying, with_state}
 use Rattle.cave_score.specs.Score.{score_of, max_score_of}
 
 -- the message that asks a player who has died so often whether to come back

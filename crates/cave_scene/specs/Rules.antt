@@ -1,10 +1,11 @@
 -- The objects that rules name.
-use Rattle.std.specs.Prelude.{ℕ, Bool, true, false, ◌==◌, ◌&&◌, if◌then◌else◌}
+use Rattle.std.specs.Prelude.{ℕ, Bool, true, false, ◌==◌, ◌&&◌, not, if◌then◌else◌, List}
+use Rattle.std.specs.List.{list_any}
 use Rattle.cave_data.specs.CaveView.{CaveView}
 use Rattle.cave_words.specs.Named.{object_named}
 use Rattle.cave_words.specs.declared.named.Named.{Named}
 use Rattle.cave_words.specs.declared.named.Named.TheVariants as named
-use Rattle.cave_things.specs.declared.rules.Rules.{Rules}
+use Rattle.cave_scene.specs.declared.rules.Rules.{Rules}
 use Rattle.std.specs.Prelude.{nat_le, Option, Some, None}
 
 -- an object, or 0 where there is none
@@ -31,3 +32,11 @@ unfoldable pub thing : CaveView → Named → ℕ
 thing cave name =
     if is_liquid_name name && object_called cave name == object_called cave named.Bottle then 0
     else object_called cave name
+
+-- an object is the one of a name
+unfoldable pub is_called : CaveView → ℕ → Named → Bool
+is_called cave x n = not (x == 0) && thing cave n == x
+
+-- an object is the one of one of the names
+abbrev pub is_one_of : CaveView → ℕ → List Named → Bool
+is_one_of cave x names = list_any (is_called cave x) names

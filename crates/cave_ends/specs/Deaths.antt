@@ -5,9 +5,9 @@ use Rattle.cave_rows.specs.declared.role.Role.TheVariants as role
 use Rattle.cave_world.specs.declared.ending.Ending.TheVariants as ending
 use Rattle.cave_world.specs.declared.ending.Question.TheVariants as question
 use Rattle.cave_world.specs.declared.state.State.{State}
-use Rattle.cave_things.specs.Play.{Scene, after_saying, with_state}
-use Rattle.cave_score.specs.Endings.{ending_scene}
-use Rattle.cave_score.specs.Questions.{asking_scene}
+use Rattle.cave_scene.specs.Play.{Scene, after_saying, with_state}
+use Rattle.cave_ends.specs.Endings.{ending_scene}
+use Rattle.cave_ends.specs.Questions.{asking_scene}
 
 -- one death more, up to 3
 abbrev pub with_one_death : State → State

@@ -1,0 +1,3 @@
+pub mod Deaths
+pub mod Endings
+pub mod Questions
