@@ -69,7 +69,7 @@ abbrev pub report_by : Applied → Option GroupFault → List ℕ
 report_by item None = codes "line " ++ (decimal item.line ++ codes ": ok\n")
 report_by item (Some fault) =
     codes "line "
-    ++ (decimal (line_of_refusal item fault.at)
+    ++ (decimal (line_of_refusal item fault.number)
     ++ (codes ": refused " ++ (decimal (refusal_number fault.cause) ++ codes "\n")))
 
 abbrev pub game_by : Applied → Option GroupFault → Game → Game

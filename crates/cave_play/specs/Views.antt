@@ -53,7 +53,7 @@ met_text (Some place) = decimal place
 -- lines it played; or why it was refused
 abbrev pub account : Applied → ItemOutcome → List ℕ
 account item (Refused fault) =
-    codes "line " ++ (decimal (line_of_refusal item fault.at) ++ (codes ": refused "
+    codes "line " ++ (decimal (line_of_refusal item fault.number) ++ (codes ": refused "
     ++ (decimal (refusal_number fault.cause)
     ++ (codes ", " ++ (refusal_words fault.cause ++ codes "\n")))))
 account item (Replayed replay) =

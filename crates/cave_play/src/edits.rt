@@ -60,7 +60,7 @@ pub(crate) fn apply(
         text.old.items text.new.items totals.played totals.lines) }
     ensures memory { IfErr result (λ found. found ≡ PlayFault.Memory) }
 {
-    // As in `replay_of`, for the checkpoints before the first item.
+    // The contract of this call says how the checkpoints are spaced before the first item.
     let _places = session.checkpoints();
     let mut totals = Totals {
         played: 0,
@@ -81,19 +81,17 @@ fn is_memory(fault: EditFault) -> bool
 
 /// What a report says of a replay, with the lines of the log that the session then holds.
 fn replay_of(session: &Session<CaveMachine<'_>>, report: &GroupReport) -> ItemReplay
-    ensures from { result.from ≡ report.now.from }
-    ensures met { result.met ≡ report.now.met }
-    ensures played { result.played ≡ report.now.played }
+    ensures from { result.from ≡ report.now.stretch.from }
+    ensures met { result.met ≡ report.now.stretch.met }
+    ensures played { result.played ≡ report.now.stretch.played }
     ensures lines { result.lines ≡ length session.now.game.log }
     ensures spaced { IsSpaced session.now.every session.now.checkpoints
         (length session.now.game.log) }
 {
-    // The contract of this call says how the checkpoints are spaced.
-    let _places = session.checkpoints();
     ItemReplay {
-        from: report.from,
-        met: report.met,
-        played: report.played,
+        from: report.stretch.from,
+        met: report.stretch.met,
+        played: report.stretch.played,
         lines: session.lines(),
     }
 }

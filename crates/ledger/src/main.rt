@@ -8,15 +8,15 @@ pub mod ledger;
 use crate::ledger::{Ledger, closing_balance};
 use anyhow::Result;
 use log_lines::Meter;
-use log_replay::{Edit, GroupReport, Session};
+use log_replay::{Edit, Session, Stretch};
 use std::str;
 
 const LOG: &[u8] = b"in 100\nout 30\n# October\nout 50\nout 40\nin 60\nout 10\nin 5\n";
 
 /// Prints what was replayed, and what is said at each line of the log as it is now.
-fn tell(rt: &HostRuntime, session: &Session<Ledger>, report: &GroupReport) -> Result<()> {
-    let GroupReport { from, played, .. } = report;
-    match report.met {
+fn tell(rt: &HostRuntime, session: &Session<Ledger>, replayed: Stretch) -> Result<()> {
+    let Stretch { from, met, played } = replayed;
+    match met {
         Some(met) => println!(rt; "from {from}, met {met}, played {played}")?,
         None => println!(rt; "from {from}, met none, played {played}")?,
     }
@@ -40,5 +40,5 @@ fn main(rt: HostRuntime) -> Result<()> {
         Edit::Replace(4, Vec::from_slice(rt.alloc(), b"out 75")?),
     ];
     let report = session.edit_group(&edits, &mut meter)?;
-    tell(&rt, &session, &report)
+    tell(&rt, &session, report.stretch)
 }

@@ -68,7 +68,7 @@ pub IsReached-fault : (all : List Change) (log : List (List ℕ)) (change : Chan
     (rest : List Change) (number before : ℕ) (margins : Margins) (fault : EditFault)
     → (reached : IsReached all log (change ∷ rest) number before margins)
     → fault_of change reached.now ≡ Some fault
-    → fault_of_all all log 0 ≡ Some (record { cause = fault; at = number })
+    → fault_of_all all log 0 ≡ Some (record { cause = fault; number = number })
 IsReached-fault all log change rest number before margins fault reached found =
     sym reached.faults
     ∙ ap (λ f.
@@ -81,21 +81,23 @@ first_is_free None number later free = (refl, free)
 first_is_free (Some fault) number later free = cc
 
 -- edits of a log as it is kept
-pub log_of-insert : (log : List (Vec ℕ)) (at : ℕ) (line : Vec ℕ)
-    → log_of (insert log at line) ≡ insert (log_of log) at line.items
-log_of-insert log at line =
+pub log_of-insert : (log : List (Vec ℕ)) (place : ℕ) (line : Vec ℕ)
+    → log_of (insert log place line) ≡ insert (log_of log) place line.items
+log_of-insert log place line =
     let f : Vec ℕ → List ℕ = λ x. x.items in
-    map-append f (take at log) (line ∷ drop at log) ∙ rw (take-map f at log, drop-map f at log) refl
+    map-append f (take place log) (line ∷ drop place log)
+    ∙ rw (take-map f place log, drop-map f place log) refl
 
-pub log_of-remove : (log : List (Vec ℕ)) (at : ℕ) → log_of (remove log at) ≡ remove (log_of log) at
-log_of-remove log at =
+pub log_of-remove : (log : List (Vec ℕ)) (place : ℕ)
+    → log_of (remove log place) ≡ remove (log_of log) place
+log_of-remove log place =
     let f : Vec ℕ → List ℕ = λ x. x.items in
-    map-append f (take at log) (drop (suc at) log)
-    ∙ rw (take-map f at log, drop-map f (suc at) log) refl
+    map-append f (take place log) (drop (suc place) log)
+    ∙ rw (take-map f place log, drop-map f (suc place) log) refl
 
-pub log_of-set : (log : List (Vec ℕ)) (at : ℕ) (line : Vec ℕ)
-    → log_of (set log at line) ≡ set (log_of log) at line.items
-log_of-set log at line = map-set (λ (x : Vec ℕ). x.items) log at line
+pub log_of-set : (log : List (Vec ℕ)) (place : ℕ) (line : Vec ℕ)
+    → log_of (set log place line) ≡ set (log_of log) place line.items
+log_of-set log place line = map-set (λ (x : Vec ℕ). x.items) log place line
 
 pub changes_of-reverse : (edits : List Edit)
     → changes_of (reverse edits) ≡ reverse (changes_of edits)

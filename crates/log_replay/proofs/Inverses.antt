@@ -25,7 +25,7 @@ use Rattle.log_replay.specs.Play.{IsGame}
 use Rattle.log_replay.proofs.Groups.{first_is_free}
 
 abbrev full_meter : GroupFault
-full_meter = record { cause = MeterFull; at = 0 }
+full_meter = record { cause = MeterFull; number = 0 }
 
 -- where a choice gives no fault, the test failed and the rest gives none
 free_choice : (b : Bool) (fault : EditFault) (rest : Option EditFault)
@@ -90,51 +90,53 @@ game-apply_all [] seed log = refl
 game-apply_all (change ∷ changes) seed log =
     game-apply_all changes (seed_after change seed) (log_after change log)
 
-remove-insert : (log : List (List ℕ)) (at : ℕ) (line : List ℕ) → at ≤ length log
-    → remove (insert log at line) at ≡ log
-remove-insert log at line within =
-    let n : length (take at log) ≡ at = length-take-le at log within in
-    let prefix : take at (insert log at line) ≡ take at log =
-    take_at (take at log) (line ∷ drop at log) at n in
-    let n' : length (take at log ++ line ∷ []) ≡ suc at = length-append (take at log) (line ∷ [])
+remove-insert : (log : List (List ℕ)) (place : ℕ) (line : List ℕ) → place ≤ length log
+    → remove (insert log place line) place ≡ log
+remove-insert log place line within =
+    let n : length (take place log) ≡ place = length-take-le place log within in
+    let prefix : take place (insert log place line) ≡ take place log =
+    take_at (take place log) (line ∷ drop place log) place n in
+    let n' : length (take place log ++ line ∷ []) ≡ suc place =
+    length-append (take place log) (line ∷ [])
     ∙ omega arith in
-    let split : insert log at line ≡ (take at log ++ line ∷ []) ++ drop at log =
+    let split : insert log place line ≡ (take place log ++ line ∷ []) ++ drop place log =
     simp append_assoc in
-    let back : drop (suc at) (insert log at line) ≡ drop at log =
-    rw split (drop_at (take at log ++ line ∷ []) (drop at log) (suc at) n') in
-    rw (prefix, back) (take-append-drop at log)
+    let back : drop (suc place) (insert log place line) ≡ drop place log =
+    rw split (drop_at (take place log ++ line ∷ []) (drop place log) (suc place) n') in
+    rw (prefix, back) (take-append-drop place log)
 
-insert-remove : (log : List (List ℕ)) (at : ℕ) → at < length log
-    → insert (remove log at) at (get_or log at []) ≡ log
-insert-remove log at below =
-    let n : length (take at log) ≡ at = length-take-le at log (omega arith) in
-    let prefix : take at (remove log at) ≡ take at log =
-    take_at (take at log) (drop (suc at) log) at n in
-    let back : drop at (remove log at) ≡ drop (suc at) log =
-    drop_at (take at log) (drop (suc at) log) at n in
-    let more : drop at log ≡ get_or log at [] ∷ drop (suc at) log = drop_more log at [] below
+insert-remove : (log : List (List ℕ)) (place : ℕ) → place < length log
+    → insert (remove log place) place (get_or log place []) ≡ log
+insert-remove log place below =
+    let n : length (take place log) ≡ place = length-take-le place log (omega arith) in
+    let prefix : take place (remove log place) ≡ take place log =
+    take_at (take place log) (drop (suc place) log) place n in
+    let back : drop place (remove log place) ≡ drop (suc place) log =
+    drop_at (take place log) (drop (suc place) log) place n in
+    let more : drop place log ≡ get_or log place [] ∷ drop (suc place) log =
+    drop_more log place [] below
     ∙ simp add-one in
-    rw (prefix, back, ← more) (take-append-drop at log)
+    rw (prefix, back, ← more) (take-append-drop place log)
 
 -- what a change's freedom of faults says
-pub insert_within : (at : ℕ) (line : List ℕ) (log : List (List ℕ))
-    → fault_of (inserts at line) log ≡ None
-    → (at ≤ length log) × (is_line line ≡ true) × (length log < max_log_lines)
-insert_within at line log free =
-    let first = free_choice (ltb (length log) at) NoSuchPlace (added_fault line log) free in
+pub insert_within : (place : ℕ) (line : List ℕ) (log : List (List ℕ))
+    → fault_of (inserts place line) log ≡ None
+    → (place ≤ length log) × (is_line line ≡ true) × (length log < max_log_lines)
+insert_within place line log free =
+    let first = free_choice (ltb (length log) place) NoSuchPlace (added_fault line log) free in
     let second = free_choice (not (is_line line)) BadLine _ first.1 in
     let third = free_choice (leb max_log_lines (length log)) LogFull None second.1 in
     (ltb-false _ _ first.0, good_line _ second.0, leb-false _ _ third.0)
 
-pub delete_within : (at : ℕ) (log : List (List ℕ)) → fault_of (deletes at) log ≡ None
-    → at < length log
-delete_within at log free =
-    leb-false _ _ (free_choice (leb (length log) at) NoSuchPlace None free).0
+pub delete_within : (place : ℕ) (log : List (List ℕ)) → fault_of (deletes place) log ≡ None
+    → place < length log
+delete_within place log free =
+    leb-false _ _ (free_choice (leb (length log) place) NoSuchPlace None free).0
 
-pub replace_within : (at : ℕ) (line : List ℕ) (log : List (List ℕ))
-    → fault_of (replaces at line) log ≡ None → (at < length log) × (is_line line ≡ true)
-replace_within at line log free =
-    let first = free_choice (leb (length log) at) NoSuchPlace (replaced_fault line) free in
+pub replace_within : (place : ℕ) (line : List ℕ) (log : List (List ℕ))
+    → fault_of (replaces place line) log ≡ None → (place < length log) × (is_line line ≡ true)
+replace_within place line log free =
+    let first = free_choice (leb (length log) place) NoSuchPlace (replaced_fault line) free in
     (leb-false _ _ first.0, good_choice (is_line line) BadLine first.1)
 
 reseed_within : (seed : ℕ) (log : List (List ℕ)) → fault_of (reseeds seed) log ≡ None
@@ -144,13 +146,14 @@ reseed_within seed log free = ltb-false _ _ (free_choice (ltb max_seed seed) Bad
 -- a change and its inverse leave the game
 pub apply-inverse_of : (change : Change) (game : Game) → fault_of change game.log ≡ None
     → apply (inverse_of change game) (apply change game) ≡ game
-apply-inverse_of (inserts at line) game free =
-    ap (game_of game.seed) (remove-insert game.log at line (insert_within at line game.log free).0)
-apply-inverse_of (deletes at) game free =
-    ap (game_of game.seed) (insert-remove game.log at (delete_within at game.log free))
-apply-inverse_of (replaces at line) game free =
-    ap (game_of game.seed) (set-set game.log at line (line_at game.log at)
-    ∙ set-get_or game.log at [])
+apply-inverse_of (inserts place line) game free =
+    ap (game_of game.seed)
+    (remove-insert game.log place line (insert_within place line game.log free).0)
+apply-inverse_of (deletes place) game free =
+    ap (game_of game.seed) (insert-remove game.log place (delete_within place game.log free))
+apply-inverse_of (replaces place line) game free =
+    ap (game_of game.seed) (set-set game.log place line (line_at game.log place)
+    ∙ set-get_or game.log place [])
 apply-inverse_of (reseeds seed) game free = refl
 
 -- so do changes and those that take them back
@@ -170,34 +173,34 @@ apply_all-inverses_of (change ∷ changes) game free =
 -- a change without a fault leaves a game that may be held
 pub IsGame-apply : (change : Change) (game : Game) → IsGame game → fault_of change game.log ≡ None
     → IsGame (apply change game)
-IsGame-apply (inserts at line) game good free =
+IsGame-apply (inserts place line) game good free =
     let P : List ℕ → Type 0 = λ l. IsTrue (is_line l) in
-    let said = insert_within at line game.log free in
-    let longer : length (insert game.log at line) ≡ length game.log + 1 =
-    length-insert game.log at line said.0 in
+    let said = insert_within place line game.log free in
+    let longer : length (insert game.log place line) ≡ length game.log + 1 =
+    length-insert game.log place line said.0 in
     record {
-      lines = All-append P (take at game.log) (line ∷ drop at game.log)
-          (All-take P at game.log good.lines)
-          (All-cons P line (drop at game.log) said.1 (All-drop P at game.log good.lines));
+      lines = All-append P (take place game.log) (line ∷ drop place game.log)
+          (All-take P place game.log good.lines)
+          (All-cons P line (drop place game.log) said.1 (All-drop P place game.log good.lines));
       few = let free_place = said.2 in omega arith;
       seed_fits = good.seed_fits;
     }
-IsGame-apply (deletes at) game good free =
+IsGame-apply (deletes place) game good free =
     let P : List ℕ → Type 0 = λ l. IsTrue (is_line l) in
-    let below = delete_within at game.log free in
-    let shorter = length-remove game.log at below in
+    let below = delete_within place game.log free in
+    let shorter = length-remove game.log place below in
     let few = good.few in
     record {
-      lines = All-append P (take at game.log) (drop (suc at) game.log)
-          (All-take P at game.log good.lines) (All-drop P (suc at) game.log good.lines);
+      lines = All-append P (take place game.log) (drop (suc place) game.log)
+          (All-take P place game.log good.lines) (All-drop P (suc place) game.log good.lines);
       few = omega arith;
       seed_fits = good.seed_fits;
     }
-IsGame-apply (replaces at line) game good free =
+IsGame-apply (replaces place line) game good free =
     let P : List ℕ → Type 0 = λ l. IsTrue (is_line l) in
     record {
-      lines = All-set P game.log at line (replace_within at line game.log free).1 good.lines;
-      few = rw (length-set game.log at line) good.few;
+      lines = All-set P game.log place line (replace_within place line game.log free).1 good.lines;
+      few = rw (length-set game.log place line) good.few;
       seed_fits = good.seed_fits;
     }
 IsGame-apply (reseeds seed) game good free = record {
@@ -216,30 +219,30 @@ IsGame-apply_all (change ∷ changes) game good free =
 pub fault_of-inverse_of : (change : Change) (game : Game) → IsGame game
     → fault_of change game.log ≡ None
     → fault_of (inverse_of change game) (log_after change game.log) ≡ None
-fault_of-inverse_of (inserts at line) game good free =
-    let said = insert_within at line game.log free in
-    let longer : length (insert game.log at line) ≡ length game.log + 1 =
-    length-insert game.log at line said.0 in
+fault_of-inverse_of (inserts place line) game good free =
+    let said = insert_within place line game.log free in
+    let longer : length (insert game.log place line) ≡ length game.log + 1 =
+    length-insert game.log place line said.0 in
     let within = said.0 in
-    rw (lt-leb (length (insert game.log at line)) at (omega arith)) refl
-fault_of-inverse_of (deletes at) game good free =
+    rw (lt-leb (length (insert game.log place line)) place (omega arith)) refl
+fault_of-inverse_of (deletes place) game good free =
     let P : List ℕ → Type 0 = λ l. IsTrue (is_line l) in
-    let below = delete_within at game.log free in
-    let shorter : length (remove game.log at) + 1 ≡ length game.log =
-    length-remove game.log at below in
+    let below = delete_within place game.log free in
+    let shorter : length (remove game.log place) + 1 ≡ length game.log =
+    length-remove game.log place below in
     let few = good.few in
     rw (
-      le-ltb (length (remove game.log at)) at (omega arith),
-      All-get_or P game.log at [] below good.lines,
-      lt-leb max_log_lines (length (remove game.log at)) (omega arith),
+      le-ltb (length (remove game.log place)) place (omega arith),
+      All-get_or P game.log place [] below good.lines,
+      lt-leb max_log_lines (length (remove game.log place)) (omega arith),
     ) refl
-fault_of-inverse_of (replaces at line) game good free =
+fault_of-inverse_of (replaces place line) game good free =
     let P : List ℕ → Type 0 = λ l. IsTrue (is_line l) in
-    let said = replace_within at line game.log free in
+    let said = replace_within place line game.log free in
     let below = said.0 in
     rw (
-      lt-leb (length (set game.log at line)) at (rw (length-set game.log at line) below),
-      All-get_or P game.log at [] below good.lines,
+      lt-leb (length (set game.log place line)) place (rw (length-set game.log place line) below),
+      All-get_or P game.log place [] below good.lines,
     ) refl
 fault_of-inverse_of (reseeds seed) game good free =
     rw (le-ltb max_seed game.seed good.seed_fits) refl

@@ -27,66 +27,69 @@ drop_again : (log : List (List ℕ)) (first more all : ℕ) → all ≡ first + 
     → drop more (drop first log) ≡ drop all log
 drop_again log first more all sum = drop-drop more first log ∙ ap (λ k. drop k log) (sym sum)
 
-take_prefix : (log rest : List (List ℕ)) (head at : ℕ) → head ≤ at → at ≤ length log
-    → take head (take at log ++ rest) ≡ take head log
-take_prefix log rest head at before within =
-    let counted = length-take-le at log within in
-    take-append-le head (take at log) rest (omega arith) ∙ take-take head at log before
+take_prefix : (log rest : List (List ℕ)) (head place : ℕ) → head ≤ place → place ≤ length log
+    → take head (take place log ++ rest) ≡ take head log
+take_prefix log rest head place before within =
+    let counted = length-take-le place log within in
+    take-append-le head (take place log) rest (omega arith) ∙ take-take head place log before
 
-insert_around : (log : List (List ℕ)) (at : ℕ) (line : List ℕ) (margins : Margins)
-    → margins.head ≤ at → at + margins.tail ≤ length log
-    → StaysAround log (insert log at line) margins
-insert_around log at line margins before after =
-    let longer : length (insert log at line) ≡ length log + 1 =
-    length-insert log at line (omega arith) in
-    let counted : length (take at log) ≡ at = length-take-le at log (omega arith) in
-    let counted' : length (take at log ++ line ∷ []) ≡ suc at =
-    length-append (take at log) (line ∷ []) ∙ omega arith in
-    let split : insert log at line ≡ (take at log ++ line ∷ []) ++ drop at log =
+insert_around : (log : List (List ℕ)) (place : ℕ) (line : List ℕ) (margins : Margins)
+    → margins.head ≤ place → place + margins.tail ≤ length log
+    → StaysAround log (insert log place line) margins
+insert_around log place line margins before after =
+    let longer : length (insert log place line) ≡ length log + 1 =
+    length-insert log place line (omega arith) in
+    let counted : length (take place log) ≡ place = length-take-le place log (omega arith) in
+    let counted' : length (take place log ++ line ∷ []) ≡ suc place =
+    length-append (take place log) (line ∷ []) ∙ omega arith in
+    let split : insert log place line ≡ (take place log ++ line ∷ []) ++ drop place log =
     simp append_assoc in
-    let more = length log - margins.tail - at in
+    let more = length log - margins.tail - place in
     record {
       within = omega arith;
-      prefix = take_prefix log (line ∷ drop at log) margins.head at before (omega arith);
-      rest = ap (drop (length (insert log at line) - margins.tail)) split
-          ∙ drop_past (take at log ++ line ∷ []) (drop at log) (suc at) more
-          (length (insert log at line) - margins.tail) counted' (omega arith)
-          ∙ drop_again log at more (length log - margins.tail) (omega arith);
+      prefix = take_prefix log (line ∷ drop place log) margins.head place before (omega arith);
+      rest = ap (drop (length (insert log place line) - margins.tail)) split
+          ∙ drop_past (take place log ++ line ∷ []) (drop place log) (suc place) more
+          (length (insert log place line) - margins.tail) counted' (omega arith)
+          ∙ drop_again log place more (length log - margins.tail) (omega arith);
     }
 
-remove_around : (log : List (List ℕ)) (at : ℕ) (margins : Margins) → margins.head ≤ at
-    → at + 1 + margins.tail ≤ length log → StaysAround log (remove log at) margins
-remove_around log at margins before after =
-    let shorter : length (remove log at) + 1 ≡ length log = length-remove log at (omega arith) in
-    let counted : length (take at log) ≡ at = length-take-le at log (omega arith) in
-    let more = length log - margins.tail - at - 1 in
+remove_around : (log : List (List ℕ)) (place : ℕ) (margins : Margins) → margins.head ≤ place
+    → place + 1 + margins.tail ≤ length log → StaysAround log (remove log place) margins
+remove_around log place margins before after =
+    let shorter : length (remove log place) + 1 ≡ length log =
+    length-remove log place (omega arith) in
+    let counted : length (take place log) ≡ place = length-take-le place log (omega arith) in
+    let more = length log - margins.tail - place - 1 in
     record {
       within = omega arith;
-      prefix = take_prefix log (drop (suc at) log) margins.head at before (omega arith);
-      rest = drop_past (take at log) (drop (suc at) log) at more
-          (length (remove log at) - margins.tail) counted (omega arith)
-          ∙ drop_again log (suc at) more (length log - margins.tail) (omega arith);
+      prefix = take_prefix log (drop (suc place) log) margins.head place before (omega arith);
+      rest = drop_past (take place log) (drop (suc place) log) place more
+          (length (remove log place) - margins.tail) counted (omega arith)
+          ∙ drop_again log (suc place) more (length log - margins.tail) (omega arith);
     }
 
-set_around : (log : List (List ℕ)) (at : ℕ) (line : List ℕ) (margins : Margins) → margins.head ≤ at
-    → at + 1 + margins.tail ≤ length log → StaysAround log (set log at line) margins
-set_around log at line margins before after =
-    let same : length (set log at line) ≡ length log = length-set log at line in
+set_around : (log : List (List ℕ)) (place : ℕ) (line : List ℕ) (margins : Margins)
+    → margins.head ≤ place → place + 1 + margins.tail ≤ length log
+    → StaysAround log (set log place line) margins
+set_around log place line margins before after =
+    let same : length (set log place line) ≡ length log = length-set log place line in
     record {
       within = omega arith;
-      prefix = take-set-le margins.head log at line before;
-      rest = ap (λ n. drop (n - margins.tail) (set log at line)) same
-          ∙ drop-set-lt (length log - margins.tail) log at line (omega arith);
+      prefix = take-set-le margins.head log place line before;
+      rest = ap (λ n. drop (n - margins.tail) (set log place line)) same
+          ∙ drop-set-lt (length log - margins.tail) log place line (omega arith);
     }
 
 stays_after : (change : Change) (log : List (List ℕ)) (margins : Margins)
     → Leaves change (length log) margins → margins.head + margins.tail ≤ length log
     → StaysAround log (log_after change log) margins
-stays_after (inserts at line) log margins leaves fits =
-    insert_around log at line margins leaves.0 leaves.1
-stays_after (deletes at) log margins leaves fits = remove_around log at margins leaves.0 leaves.1
-stays_after (replaces at line) log margins leaves fits =
-    set_around log at line margins leaves.0 leaves.1
+stays_after (inserts place line) log margins leaves fits =
+    insert_around log place line margins leaves.0 leaves.1
+stays_after (deletes place) log margins leaves fits =
+    remove_around log place margins leaves.0 leaves.1
+stays_after (replaces place line) log margins leaves fits =
+    set_around log place line margins leaves.0 leaves.1
 stays_after (reseeds seed) log margins leaves fits = record {
   within = fits;
   prefix = refl;

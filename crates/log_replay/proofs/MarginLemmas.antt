@@ -16,9 +16,10 @@ use Rattle.log_replay.proofs.Inverses.{replace_within}
 
 -- a change of a log of so many lines leaves the margins alone
 abbrev pub Leaves : Change → ℕ → Margins → Type 0
-Leaves (inserts at line) lines margins = (margins.head ≤ at) × (at + margins.tail ≤ lines)
-Leaves (deletes at) lines margins = (margins.head ≤ at) × (at + 1 + margins.tail ≤ lines)
-Leaves (replaces at line) lines margins = (margins.head ≤ at) × (at + 1 + margins.tail ≤ lines)
+Leaves (inserts place line) lines margins = (margins.head ≤ place) × (place + margins.tail ≤ lines)
+Leaves (deletes place) lines margins = (margins.head ≤ place) × (place + 1 + margins.tail ≤ lines)
+Leaves (replaces place line) lines margins =
+    (margins.head ≤ place) × (place + 1 + margins.tail ≤ lines)
 Leaves (reseeds seed) lines margins = margins.head ≤ 0
 
 -- so do several changes, each of the log as those before it left it
@@ -38,9 +39,11 @@ narrower_then a b c x y =
 
 after_narrower : (change : Change) (lines : ℕ) (margins : Margins)
     → IsNarrower (margins_after change lines margins) margins
-after_narrower (inserts at line) lines margins = record { head = omega arith; tail = omega arith }
-after_narrower (deletes at) lines margins = record { head = omega arith; tail = omega arith }
-after_narrower (replaces at line) lines margins = record { head = omega arith; tail = omega arith }
+after_narrower (inserts place line) lines margins =
+    record { head = omega arith; tail = omega arith }
+after_narrower (deletes place) lines margins = record { head = omega arith; tail = omega arith }
+after_narrower (replaces place line) lines margins =
+    record { head = omega arith; tail = omega arith }
 after_narrower (reseeds seed) lines margins = record { head = omega arith; tail = omega arith }
 
 pub after_all_narrower : (changes : List Change) (log : List (List ℕ)) (margins : Margins)
@@ -58,16 +61,16 @@ after_all_narrower (change ∷ changes) log margins =
 leaves_after : (change : Change) (log : List (List ℕ)) (margins narrow : Margins)
     → fault_of change log ≡ None → IsNarrower narrow (margins_after change (length log) margins)
     → Leaves change (length log) narrow
-leaves_after (inserts at line) log margins narrow free inner =
-    let within = (insert_within at line log free).0 in
+leaves_after (inserts place line) log margins narrow free inner =
+    let within = (insert_within place line log free).0 in
     let h = inner.head in let t = inner.tail in
     (omega arith, omega arith)
-leaves_after (deletes at) log margins narrow free inner =
-    let below = delete_within at log free in
+leaves_after (deletes place) log margins narrow free inner =
+    let below = delete_within place log free in
     let h = inner.head in let t = inner.tail in
     (omega arith, omega arith)
-leaves_after (replaces at line) log margins narrow free inner =
-    let below = (replace_within at line log free).0 in
+leaves_after (replaces place line) log margins narrow free inner =
+    let below = (replace_within place line log free).0 in
     let h = inner.head in let t = inner.tail in
     (omega arith, omega arith)
 leaves_after (reseeds seed) log margins narrow free inner = let h = inner.head in omega arith
@@ -87,12 +90,12 @@ pub seed_stays : (changes : List Change) (game : Game) (margins : Margins)
     → LeaveAlone changes game.log margins → 0 < margins.head
     → (apply_all changes game).seed ≡ game.seed
 seed_stays [] game margins alone prefix = refl
-seed_stays (inserts at line ∷ changes) game margins alone prefix =
-    seed_stays changes (apply (inserts at line) game) margins alone.1 prefix
-seed_stays (deletes at ∷ changes) game margins alone prefix =
-    seed_stays changes (apply (deletes at) game) margins alone.1 prefix
-seed_stays (replaces at line ∷ changes) game margins alone prefix =
-    seed_stays changes (apply (replaces at line) game) margins alone.1 prefix
+seed_stays (inserts place line ∷ changes) game margins alone prefix =
+    seed_stays changes (apply (inserts place line) game) margins alone.1 prefix
+seed_stays (deletes place ∷ changes) game margins alone prefix =
+    seed_stays changes (apply (deletes place) game) margins alone.1 prefix
+seed_stays (replaces place line ∷ changes) game margins alone prefix =
+    seed_stays changes (apply (replaces place line) game) margins alone.1 prefix
 seed_stays (reseeds seed ∷ changes) game margins alone prefix =
     absurd (let none = alone.0 in omega arith)
 
@@ -101,17 +104,17 @@ pub margins_fits : (changes : List Change) (log : List (List ℕ)) → 0 < lengt
     → IsFree changes log
     → (margins_of changes log).head + (margins_of changes log).tail ≤ length log
 margins_fits [] log some free = absurd (omega arith)
-margins_fits (inserts at line ∷ changes) log some free =
+margins_fits (inserts place line ∷ changes) log some free =
     let alone =
-    (leave_alone (inserts at line ∷ changes) log (record { head = length log; tail = length log })
+    (leave_alone (inserts place line ∷ changes) log (record { head = length log; tail = length log })
     free).0 in let h = alone.0 in let t = alone.1 in omega arith
-margins_fits (deletes at ∷ changes) log some free =
+margins_fits (deletes place ∷ changes) log some free =
     let alone =
-    (leave_alone (deletes at ∷ changes) log (record { head = length log; tail = length log })
+    (leave_alone (deletes place ∷ changes) log (record { head = length log; tail = length log })
     free).0 in let h = alone.0 in let t = alone.1 in omega arith
-margins_fits (replaces at line ∷ changes) log some free =
+margins_fits (replaces place line ∷ changes) log some free =
     let alone =
-    (leave_alone (replaces at line ∷ changes) log (record { head = length log; tail = length log })
+    (leave_alone (replaces place line ∷ changes) log (record { head = length log; tail = length log })
     free).0 in let h = alone.0 in let t = alone.1 in omega arith
 margins_fits (reseeds seed ∷ changes) log some free =
     let alone =

@@ -19,21 +19,21 @@ read_at (y ∷ ys) (suc i) x d read =
     let more = read_at ys i x d read in (let below = more.0 in omega arith, more.1)
 
 -- the state that is read at an index means what the place there has
-pub meaning_at : {S M : Type 0} (meaning : S → M) (is_state : S → Type 0) (at : ℕ → M)
+pub meaning_at : {S M : Type 0} (meaning : S → M) (is_state : S → Type 0) (by_place : ℕ → M)
     (places : List ℕ) (states : List S) (i : ℕ) (state : S)
-    → AreStates meaning is_state at places states → slice_get states i ≡ Some state
-    → (i < length places) × (meaning state ≡ at (slice_index places i)) × is_state state
-meaning_at meaning is_state at places states i state are read =
+    → AreStates meaning is_state by_place places states → slice_get states i ≡ Some state
+    → (i < length places) × (meaning state ≡ by_place (slice_index places i)) × is_state state
+meaning_at meaning is_state by_place places states i state are read =
     let here = read_at states i state state read in
     let below = here.0 in
     let n = length-map states meaning in
-    let m = length-map places at in
+    let m = length-map places by_place in
     let same = ap length are.meanings in
     let within : i < length places = omega arith in
     let e : get_or (map meaning states) i (meaning state) ≡ meaning (get_or states i state) =
     get_or-map meaning states i state (meaning state) below in
-    let e' : get_or (map at places) i (meaning state) ≡ at (get_or places i 0) =
-    get_or-map at places i 0 (meaning state) within in (
+    let e' : get_or (map by_place places) i (meaning state) ≡ by_place (get_or places i 0) =
+    get_or-map by_place places i 0 (meaning state) within in (
       within,
       ap meaning (sym here.1) ∙ sym e ∙ ap (λ xs. get_or xs i (meaning state)) are.meanings ∙ e',
       subst is_state here.1 (All-get_or is_state states i state below are.made),
@@ -120,23 +120,24 @@ before_made is_state true states state made one = All-push is_state states state
 before_made is_state false states state made one = made
 
 -- what is kept of marks before a place
-pub states_of_before : {S M : Type 0} (meaning : S → M) (is_state : S → Type 0) (at : ℕ → M)
-    (marks : MarksView S) (place : ℕ) → IsMarking meaning is_state at marks
-    → AreStates meaning is_state at (places_before marks place) (states_before marks place)
-states_of_before meaning is_state at marks place marking = record {
-  meanings = states_before_follow meaning at marks place marking.kept.meanings marking.next;
+pub states_of_before : {S M : Type 0} (meaning : S → M) (is_state : S → Type 0) (by_place : ℕ → M)
+    (marks : MarksView S) (place : ℕ) → IsMarking meaning is_state by_place marks
+    → AreStates meaning is_state by_place (places_before marks place) (states_before marks place)
+states_of_before meaning is_state by_place marks place marking = record {
+  meanings = states_before_follow meaning by_place marks place marking.kept.meanings marking.next;
   made = before_made is_state (is_far marks.every marks.places place) marks.states marks.state
       marking.kept.made marking.next_made;
 }
 
 -- one place more
-pub marking_more : {S M : Type 0} (meaning : S → M) (is_state : S → Type 0) (at : ℕ → M)
-    (marks marks' : MarksView S) (place : ℕ) → IsMarking meaning is_state at marks
+pub marking_more : {S M : Type 0} (meaning : S → M) (is_state : S → Type 0) (by_place : ℕ → M)
+    (marks marks' : MarksView S) (place : ℕ) → IsMarking meaning is_state by_place marks
     → marks'.places ≡ places_before marks place → marks'.states ≡ states_before marks place
     → marks'.next ≡ place
-    → meaning marks'.state ≡ at place → is_state marks'.state → IsMarking meaning is_state at marks'
-marking_more meaning is_state at marks marks' place marking places states next means made =
-    let before = states_of_before meaning is_state at marks place marking in
+    → meaning marks'.state ≡ by_place place → is_state marks'.state
+    → IsMarking meaning is_state by_place marks'
+marking_more meaning is_state by_place marks marks' place marking places states next means made =
+    let before = states_of_before meaning is_state by_place marks place marking in
     record {
       kept = rw (places, states) before;
       next = rw next means;

@@ -9,11 +9,11 @@ use Rattle.log_replay.specs.declared.ready_edits.ReadyEdits.{ReadyEdits}
 use Rattle.log_replay.specs.Machine.{MachineRules}
 use Rattle.log_replay.specs.Play.{log_of}
 use Rattle.log_replay.specs.Play.{Game, game_of}
-use Rattle.log_replay.specs.Edit.{Change, log_after, apply_all}
+use Rattle.log_replay.specs.Edit.{Change, log_after}
 use Rattle.log_replay.specs.ReadyEdits.{new_game, IsReady, AreEditsOf}
 use Rattle.log_replay.specs.Faults.{fault_of, first_of_two, or_group_meter_full}
 use Rattle.log_replay.specs.Faults.{or_edit_meter_full}
-use Rattle.log_replay.specs.Faults.{group_fault, edit_fault, log_after_all}
+use Rattle.log_replay.specs.Faults.{group_fault, edit_fault}
 use Rattle.log_replay.specs.declared.fault.EditFault.{EditFault}
 use Rattle.log_replay.specs.declared.fault.EditFault.TheVariants.{MeterFull}
 use Rattle.log_replay.specs.declared.fault.GroupFault.{GroupFault}
@@ -22,8 +22,7 @@ use Rattle.log_replay.specs.Play.{IsGame}
 use Rattle.log_replay.specs.Replay.{IsShift, Revision, HasMet, IsWithinBound}
 use Rattle.log_replay.specs.Report.{AreStepsBounded}
 use Rattle.log_replay.proofs.LogAfterLemmas.{stays_after_all}
-use Rattle.log_replay.proofs.Inverses.{IsFree-from_none, IsGame-apply_all, log-apply_all}
-use Rattle.log_replay.proofs.Inverses.{group_free}
+use Rattle.log_replay.proofs.Inverses.{IsFree-from_none, IsGame-apply_all}
 use Rattle.log_replay.proofs.Lines.{length-log_of}
 use Rattle.log_replay.proofs.MarginLemmas.{leave_alone, seed_stays}
 use Rattle.log_replay.proofs.Revisions.{HasCheckpoints, HasEndAt}
@@ -90,15 +89,6 @@ good_of {changes} {seed} {log} edits good =
     rw edits.game (IsGame-apply_all changes (game_of seed (log_of log)) good
     (IsFree-from_none changes (log_of log) 0 edits.accepted))
 
-pub room_of : (changes : List Change) (log : List (List ℕ)) (seed left : ℕ) (new : Game)
-    → group_fault changes log left ≡ None → new ≡ apply_all changes (game_of seed log)
-    → length new.log ≤ left
-room_of changes log seed left new none game =
-    let same : length new.log ≡ length (log_after_all changes log) =
-    ap length (ap (λ (x : Game). x.log) game ∙ log-apply_all changes (game_of seed log)) in
-    let fits = (group_free changes log left none).1 in
-    omega arith
-
 -- a meter that doesn't rise is within every bound
 pub no_steps : {S T F : Type 0} (rules : MachineRules S T) (changes : List Change) (old : Game)
     (every : ℕ)
@@ -131,7 +121,7 @@ met_at_end revision checkpoints None next end end' same m =
 met_at_end revision checkpoints (Some index) next end end' same m = m
 
 abbrev full_meter : GroupFault
-full_meter = record { cause = MeterFull; at = 0 }
+full_meter = record { cause = MeterFull; number = 0 }
 
 alone_full : {S T : Type 0} (rules : MachineRules S T) (changes : List Change) (old : Game)
     (every before after : ℕ) (b : Bool)

@@ -18,28 +18,28 @@ no_fault true rest free = cc
 no_fault false rest free = refl
 
 pub by_table : ByTable
-by_table (inserts at line) game free =
-    let here : at ≤ length game.log =
-    ltb-false _ _ (no_fault (nat_lt (length game.log) at) (added_fault line game.log) free) in
-    let longer = length-insert game.log at line here in
+by_table (inserts edited line) game free =
+    let here : edited ≤ length game.log =
+    ltb-false _ _ (no_fault (nat_lt (length game.log) edited) (added_fault line game.log) free) in
+    let longer = length-insert game.log edited line here in
     record {
       first = omega arith;
       rest = omega arith;
       moved = λ place from within. omega (arith, longer);
     }
-by_table (deletes at) game free =
-    let here : at < length game.log =
-    leb-false _ _ (no_fault (nat_le (length game.log) at) None free) in
-    let shorter = length-remove game.log at here in
+by_table (deletes edited) game free =
+    let here : edited < length game.log =
+    leb-false _ _ (no_fault (nat_le (length game.log) edited) None free) in
+    let shorter = length-remove game.log edited here in
     record {
       first = omega arith;
       rest = omega arith;
       moved = λ place from within. omega (arith, shorter);
     }
-by_table (replaces at line) game free =
-    let here : at < length game.log =
-    leb-false _ _ (no_fault (nat_le (length game.log) at) (replaced_fault line) free) in
-    let same = length-set game.log at line in
+by_table (replaces edited line) game free =
+    let here : edited < length game.log =
+    leb-false _ _ (no_fault (nat_le (length game.log) edited) (replaced_fault line) free) in
+    let same = length-set game.log edited line in
     record {
       first = omega arith;
       rest = omega arith;

@@ -21,8 +21,8 @@ use Rattle.log_replay.specs.ReadyEdits.{new_game, AreEditsOf}
 use Rattle.log_replay.specs.Replay.{Revision, IsShift, AreStates, IsRerun, RerunView, revision_to}
 use Rattle.log_replay.specs.Replay.{HasMet, MetAt, states_of_new}
 use Rattle.log_replay.specs.Report.{IsReport}
-use Rattle.log_replay.specs.Takeover.{end_of_stretch, checkpoints_passed, FitsMarks, MarksEnd}
-use Rattle.log_replay.specs.Takeover.{new_places}
+use Rattle.log_replay.specs.Takeover.{end_of_stretch, checkpoints_passed, FitsMarks, IsStretch}
+use Rattle.log_replay.specs.Takeover.{MarksEnd, lines_gone, new_places}
 use Rattle.log_replay.specs.Takeover.{new_states, new_state}
 use Rattle.log_replay.proofs.Bounds.{bounded_to, near_last, contains_at}
 use Rattle.log_replay.proofs.Joins.{met_texts, met_ticks, met_state, end_texts, end_ticks}
@@ -71,6 +71,17 @@ replay_of {changes} {log} {ready} old_play edits spacing new_play =
       new_is = good_of edits old_play.game_is;
       new_play = new_play;
     }
+
+pub stretch_same : {State : Type 0} (C1 C : CheckpointsView State) → C1.lines ≡ C.lines
+    → C1.places ≡ C.places → (met : Option ℕ) → end_of_stretch C1 met ≡ end_of_stretch C met
+stretch_same C1 C lines places None = lines
+stretch_same C1 C lines places (Some index) = ap (λ p. slice_index p index) places
+
+-- the lines that go are as many where only the room of the checkpoints has changed
+pub gone_same : {State : Type 0} (C1 C : CheckpointsView State) → C1.lines ≡ C.lines
+    → C1.places ≡ C.places → (at : ℕ) (met : Option ℕ) → lines_gone C1 at met ≡ lines_gone C at met
+gone_same C1 C lines places at None = rw (lines, places) refl
+gone_same C1 C lines places at (Some index) = rw places refl
 
 module _ {State S T : Type 0} {meaning : State → S} {is_state : State → Type 0}
     {revision : Revision S T} {opening : T} {pieces : List T} {ticks : List Bool} {state : State}
@@ -287,15 +298,32 @@ module _ {State S T : Type 0} {meaning : State → S} {is_state : State → Type
       let ordered = starts_before index is in
       rw (lines, places) (ordered, inside, omega arith)
 
-  -- the marks end where they are to end
-  pub met_ready : (C1 : CheckpointsView State) → C1.lines ≡ C.lines → C1.places ≡ C.places
-      → MarksEnd C1 rerun.marks rerun.at rerun.met
-  met_ready C1 lines places = end_by rerun.met replay.new_play.met_is C1 lines places
+  forward_by : (met : Option ℕ) → Met met → slice_index C.places rerun.at ≤ end_of_stretch C met
+  forward_by None is =
+      let fits = replay.shift.within_old in
+      let count = replay.old_play.lines in
+      let low = replay.new_play.not_after in
+      omega arith
+  forward_by (Some index) is =
+      let late = is.agrees.late in
+      let fits = replay.shift.within_old in
+      let low = replay.new_play.not_after in
+      omega arith
 
-pub stretch_same : {State : Type 0} (C1 C : CheckpointsView State) → C1.lines ≡ C.lines
-    → C1.places ≡ C.places → (met : Option ℕ) → end_of_stretch C1 met ≡ end_of_stretch C met
-stretch_same C1 C lines places None = lines
-stretch_same C1 C lines places (Some index) = ap (λ p. slice_index p index) places
+  -- what comes in is a stretch of the checkpoints that are kept, also once these have more room
+  pub stretch_ready : (C1 : CheckpointsView State) → C1.every ≡ C.every → C1.lines ≡ C.lines
+      → C1.places ≡ C.places → IsStretch C1 rerun.marks rerun.at rerun.met
+  stretch_ready C1 every lines places = record {
+    begun = record {
+      among = rw places replay.new_play.begun.among;
+      every = replay.new_play.begun.every ∙ sym every;
+      start = rw places replay.new_play.begun.start;
+      from = rw places replay.new_play.begun.from;
+    };
+    ends = end_by rerun.met replay.new_play.met_is C1 lines places;
+    forward = rw (stretch_same C1 C lines places rerun.met, places)
+        (forward_by rerun.met replay.new_play.met_is);
+  }
 
 pub places_same : {State : Type 0} (C1 C : CheckpointsView State) → C1.places ≡ C.places
     → (marks : MarksView State) (at : ℕ) (met : Option ℕ)

@@ -28,7 +28,8 @@ IsTraced-start edits log place count all free below =
       same = rw whole refl;
     }
 
--- the same, with the last of those edits apart from the others
+-- the line at a place after all the edits is the one at the place `now` after the last of the first
+-- edits, `change`, which is apart from those before it
 pub record IsTracedTo (edits : List Edit) (log : List (List ℕ)) (place : ℕ) (before : List (List ℕ))
     (change : Change) (now : ℕ) : Type 0 where
   pub free : fault_of change before ≡ None

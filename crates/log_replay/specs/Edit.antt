@@ -14,9 +14,9 @@ pub data Change : Type 0 where
 
 -- what an edit says
 abbrev pub change_of : Edit → Change
-change_of (Insert at line) = inserts at line.items
-change_of (Delete at) = deletes at
-change_of (Replace at line) = replaces at line.items
+change_of (Insert place line) = inserts place line.items
+change_of (Delete place) = deletes place
+change_of (Replace place line) = replaces place line.items
 change_of (Reseed seed) = reseeds seed
 
 -- what edits say
@@ -25,27 +25,27 @@ changes_of edits = map change_of edits
 
 -- the line at a place of a log
 abbrev pub line_at : List (List ℕ) → ℕ → List ℕ
-line_at log at = slice_index_or log at []
+line_at log place = slice_index_or log place []
 
 -- the log after a change
 abbrev pub log_after : Change → List (List ℕ) → List (List ℕ)
-log_after (inserts at line) log = insert log at line
-log_after (deletes at) log = remove log at
-log_after (replaces at line) log = slice_set log at line
+log_after (inserts place line) log = insert log place line
+log_after (deletes place) log = remove log place
+log_after (replaces place line) log = slice_set log place line
 log_after (reseeds seed) log = log
 
 -- the line that a change brings in, if it brings one
 abbrev pub own_line : Change → List ℕ
-own_line (inserts at line) = line
-own_line (deletes at) = []
-own_line (replaces at line) = line
+own_line (inserts place line) = line
+own_line (deletes place) = []
+own_line (replaces place line) = line
 own_line (reseeds seed) = []
 
 -- how many lines a change inserts
 abbrev pub lines_inserted : Change → ℕ
-lines_inserted (inserts at line) = 1
-lines_inserted (deletes at) = 0
-lines_inserted (replaces at line) = 0
+lines_inserted (inserts place line) = 1
+lines_inserted (deletes place) = 0
+lines_inserted (replaces place line) = 0
 lines_inserted (reseeds seed) = 0
 
 -- how many lines changes insert, all together
@@ -74,9 +74,9 @@ apply_all (change ∷ changes) game = apply_all changes (apply change game)
 
 -- the change that takes this one back
 abbrev pub inverse_of : Change → Game → Change
-inverse_of (inserts at line) game = deletes at
-inverse_of (deletes at) game = inserts at (line_at game.log at)
-inverse_of (replaces at line) game = replaces at (line_at game.log at)
+inverse_of (inserts place line) game = deletes place
+inverse_of (deletes place) game = inserts place (line_at game.log place)
+inverse_of (replaces place line) game = replaces place (line_at game.log place)
 inverse_of (reseeds seed) game = reseeds game.seed
 
 -- the changes that take each of these back, from the game in which it was made

@@ -11,9 +11,10 @@ narrowed_margins margins head tail =
 -- what a change of a log of so many lines leaves alone of margins; another seed is felt from the
 -- first line on
 abbrev pub margins_after : Change → ℕ → Margins → Margins
-margins_after (inserts at line) lines margins = narrowed_margins margins at (lines - at)
-margins_after (deletes at) lines margins = narrowed_margins margins at (lines - at - 1)
-margins_after (replaces at line) lines margins = narrowed_margins margins at (lines - at - 1)
+margins_after (inserts place line) lines margins = narrowed_margins margins place (lines - place)
+margins_after (deletes place) lines margins = narrowed_margins margins place (lines - place - 1)
+margins_after (replaces place line) lines margins =
+    narrowed_margins margins place (lines - place - 1)
 margins_after (reseeds seed) lines margins = narrowed_margins margins 0 margins.tail
 
 -- and what several changes leave alone, one after another

@@ -3,7 +3,7 @@ use Rattle.std.specs.Prelude.{◌≡◌, ℕ, ◌<◌, ◌≤◌, Bool, List, le
 use Rattle.replay_marks.specs.Marks.{CheckpointsView}
 use Rattle.log_replay.specs.declared.playthrough.Playthrough.{Playthrough}
 use Rattle.log_replay.specs.Machine.{MachineRules}
-use Rattle.log_replay.specs.Play.{Game, game_in, IsGame, IsPlay}
+use Rattle.log_replay.specs.Play.{Game, game_in, log_of, IsGame, IsPlay}
 use Rattle.log_replay.specs.Agreement.{state_at}
 use Rattle.log_replay.specs.Replay.{AreStates}
 use Rattle.limits.specs.Limits.{max_every}
@@ -38,6 +38,20 @@ abbrev pub KeepsPlay : {Machine State Piece Meter Meaning Text : Type 0}
 KeepsPlay meaning is_state text rules kept =
     IsPlaythrough meaning is_state rules (kept_game kept) (text kept.opening)
     (map text kept.pieces.items) kept.ticked.items kept.state kept.checkpoints
+
+-- A copy keeps what is kept, by what the pieces say.
+pub record IsCopyOf {Machine State Piece Meter T : Type 0} (text : Piece → T)
+    (kept copy : Playthrough Machine State Piece Meter) : Type 0 where
+  pub seed : copy.seed ≡ kept.seed
+  pub log : log_of copy.log.items ≡ log_of kept.log.items
+  pub opening : text copy.opening ≡ text kept.opening
+  pub pieces : map text copy.pieces.items ≡ map text kept.pieces.items
+  pub ticked : copy.ticked.items ≡ kept.ticked.items
+  pub every : copy.checkpoints.every ≡ kept.checkpoints.every
+  pub lines : copy.checkpoints.lines ≡ kept.checkpoints.lines
+  pub places : copy.checkpoints.places ≡ kept.checkpoints.places
+  pub states : copy.checkpoints.states ≡ kept.checkpoints.states
+  pub state : copy.state ≡ kept.state
 
 -- Only capacity has changed: all that is kept is as it was.
 pub record KeepsAll {Machine State Piece Meter : Type 0}

@@ -3,10 +3,16 @@ use Rattle.std.specs.Prelude.{◌≡◌, ℕ, ◌+◌, ◌-◌, ◌<◌, ◌≤�
 use Rattle.std.specs.Global.{Vec}
 use Rattle.log_replay.specs.declared.ready_edits.ReadyEdits.{ReadyEdits}
 use Rattle.log_replay.specs.declared.segment.OldPlay.{OldPlay}
+use Rattle.log_replay.specs.declared.segment.Segment.{Segment}
+use Rattle.log_replay.specs.declared.playthrough.Playthrough.{Playthrough}
+use Rattle.log_replay.specs.declared.replay.Rerun.{Rerun}
+use Rattle.replay_marks.specs.Marks.{MarksView}
 use Rattle.log_replay.specs.Machine.{MachineRules}
 use Rattle.log_replay.specs.Play.{Game, game_of, log_of, IsGame}
+use Rattle.log_replay.specs.Playthrough.{kept_game}
 use Rattle.log_replay.specs.Margins.{margins_of}
-use Rattle.log_replay.specs.Replay.{Revision, IsShift}
+use Rattle.log_replay.specs.Replay.{Revision, IsShift, MayBegin, IsPlayed, IsWithinBound, IsRerun}
+use Rattle.log_replay.specs.Replay.{revision_to, segment_view, rerun_view}
 use Rattle.log_replay.specs.Edit.{Change, changes_of, apply_all, own_line, line_at, log_after}
 use Rattle.log_replay.specs.Faults.{fault_of_all, log_after_all}
 
@@ -28,6 +34,35 @@ ready_revision rules old ready = record {
   head = ready.head;
   tail = length old.log.now - ready.rest;
 }
+
+-- the replay of an old game by the edits may begin with these marks
+abbrev pub MayReplay : {State S T : Type 0} → (State → S) → (State → Type 0) → MachineRules S T
+    → OldPlay State → ReadyEdits → MarksView State → Type 0
+MayReplay meaning is_state rules old ready marks =
+    MayBegin meaning is_state (ready_revision rules old ready) old.checkpoints.now marks
+
+-- this was played in it, from the open place of the marks on
+abbrev pub IsReplayed : {Machine State Piece Meter S T : Type 0} → (State → S) → (State → Type 0)
+    → (Piece → T) → MachineRules S T → OldPlay State → ReadyEdits → MarksView State
+    → Segment Machine State Piece Meter → Type 0
+IsReplayed meaning is_state text rules old ready marks played =
+    IsPlayed meaning is_state (ready_revision rules old ready) old.checkpoints.now.places marks
+    (segment_view text played)
+
+-- so many steps are within its bound
+abbrev pub IsReplayBounded : {State S T : Type 0} → MachineRules S T → OldPlay State → ReadyEdits
+    → ℕ → ℕ → Type 0
+IsReplayBounded rules old ready every steps =
+    IsWithinBound (ready_revision rules old ready) every steps
+
+-- this is the rerun of the game that is kept, by changes of which the ready edits are made
+abbrev pub IsRerunOf : {Machine State Piece Meter S T : Type 0} → (State → S) → (State → Type 0)
+    → (Piece → T) → MachineRules S T → List Change → Playthrough Machine State Piece Meter
+    → Rerun Machine State Piece Meter → Type 0
+IsRerunOf meaning is_state text rules changes kept rerun =
+    let old = kept_game kept in
+    let revision = revision_to rules changes old (new_game rerun.ready old.log) in
+    IsRerun meaning is_state revision kept.checkpoints (rerun_view text rerun)
 
 -- The edits may be made in a game: they meet no fault, and leave a game that may be held, of so
 -- many lines. Its lines before `head` are those of the log, and its last lines are those of the log

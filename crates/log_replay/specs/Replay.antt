@@ -1,6 +1,6 @@
 -- What a replay is: revisions, marks, and reruns from a checkpoint.
-use Rattle.std.specs.Prelude.{◌≡◌, ℕ, ◌+◌, ◌-◌, ◌<◌, ◌≤◌, ◌++◌, ◌⊎◌, Bool, List, length, map}
-use Rattle.std.specs.Prelude.{Option, None, MatchOption, take, drop, slice_index, All}
+use Rattle.std.specs.Prelude.{◌≡◌, ℕ, ◌+◌, ◌-◌, ◌<◌, ◌≤◌, ◌++◌, ◌⊎◌, Bool, List, [], ◌∷◌, length}
+use Rattle.std.specs.Prelude.{Option, None, MatchOption, map, take, drop, slice_index, All}
 use Rattle.std.specs.Option.{option_map}
 use Rattle.replay_marks.specs.Marks.{MarksView, CheckpointsView, IsBegunAt}
 use Rattle.log_replay.specs.declared.replay.Rerun.{Rerun}
@@ -55,7 +55,8 @@ abbrev pub SaysNew : {S T : Type 0} → Revision S T → ℕ → List T → ℕ 
 SaysNew revision from pieces to =
     texts_at revision.rules revision.new from ++ pieces ≡ texts_at revision.rules revision.new to
 
--- the same of the lines that tick
+-- After what ticked in the new play before the place `from`, these ticks are those before the place
+-- `to`.
 abbrev pub TicksNew : {S T : Type 0} → Revision S T → ℕ → List Bool → ℕ → Type 0
 TicksNew revision from ticks to =
     ticks_at revision.rules revision.new from ++ ticks ≡ ticks_at revision.rules revision.new to
@@ -97,18 +98,18 @@ abbrev pub IsWithinBound : {S T : Type 0} → Revision S T → ℕ → ℕ → T
 IsWithinBound revision every steps =
     IsBounded revision.rules revision.old revision.new revision.head revision.tail every steps
 
--- the states are those that `at` gives for the places
+-- the states are those that `by_place` gives for the places
 pub record AreStates {State Meaning : Type 0} (meaning : State → Meaning)
-    (is_state : State → Type 0) (at : ℕ → Meaning) (places : List ℕ) (states : List State) :
+    (is_state : State → Type 0) (by_place : ℕ → Meaning) (places : List ℕ) (states : List State) :
     Type 0 where
-  pub meanings : map meaning states ≡ map at places
+  pub meanings : map meaning states ≡ map by_place places
   pub made : All is_state states
 
--- so are those of marks, also of the place that is open
+-- the states of marks, also that of the place that is open, are those that it gives
 pub record IsMarking {State Meaning : Type 0} (meaning : State → Meaning)
-    (is_state : State → Type 0) (at : ℕ → Meaning) (marks : MarksView State) : Type 0 where
-  pub kept : AreStates meaning is_state at marks.places marks.states
-  pub next : meaning marks.state ≡ at marks.next
+    (is_state : State → Type 0) (by_place : ℕ → Meaning) (marks : MarksView State) : Type 0 where
+  pub kept : AreStates meaning is_state by_place marks.places marks.states
+  pub next : meaning marks.state ≡ by_place marks.next
   pub next_made : is_state marks.state
 
 -- Marks begin at the checkpoint of the index `at`: they have the states of each play that begins
@@ -152,6 +153,18 @@ segment_view text played = record {
   met = played.met;
 }
 
+-- One line more was played: what it says and whether it ticks come last, and the marks go on by one
+-- place, to the state after it.
+pub record PlaysLine {State S T : Type 0} (meaning : State → S) (is_state : State → Type 0)
+    (rules : MachineRules S T) (line : List ℕ) (old new : SegmentView State T) : Type 0 where
+  pub pieces : new.pieces ≡ old.pieces ++ rules.said (meaning old.marks.state) line ∷ []
+  pub ticks_are : new.ticks ≡ old.ticks ++ rules.ticked (meaning old.marks.state) line ∷ []
+  pub next : new.marks.next ≡ old.marks.next + 1
+  pub marking : MarksGoOn meaning is_state (rules.after (meaning old.marks.state) line) old.marks
+      new.marks
+  pub settings : AreFurther old.marks new.marks
+  pub met : new.met ≡ old.met
+
 -- The new game was played from the open place of the marks `begun` on, until it met the old play
 -- at a checkpoint, or to its end.
 pub record IsPlayed {State S T : Type 0} (meaning : State → S) (is_state : State → Type 0)
@@ -175,6 +188,17 @@ pub record IsBeforeChange {State S T : Type 0} (revision : Revision S T) (every 
   pub apart : 0 < marks.every
   pub from : marks.next ≤ revision.head
   pub near : revision.head ≤ marks.next + marks.every
+
+-- The replay of a revision may begin: the old checkpoints, which are of the old log, have the
+-- states of the old play, and the marks, which are where it may begin, have those of the new one.
+pub record MayBegin {State S T : Type 0} (meaning : State → S) (is_state : State → Type 0)
+    (revision : Revision S T) (checkpoints : CheckpointsView State) (marks : MarksView State) :
+    Type 0 where
+  pub lines : checkpoints.lines ≡ length revision.old.log
+  pub old_states : AreStates meaning is_state (states_of_old revision) checkpoints.places
+      checkpoints.states
+  pub marking : IsMarking meaning is_state (states_of_new revision) marks
+  pub before : IsBeforeChange revision checkpoints.every marks
 
 -- The checkpoint of an index comes to a new place, as `old` comes to `new`; `old_at` and `new_at`
 -- give the states of the old play and of the new one, which agree there.

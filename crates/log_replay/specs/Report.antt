@@ -1,8 +1,10 @@
 -- What a report on edits says of a replay.
-use Rattle.std.specs.Prelude.{◌≡◌, ℕ, ◌+◌, ◌-◌, ◌≤◌, List, length, Option, MatchOption, unwrap_or}
+use Rattle.std.specs.Prelude.{◌≡◌, ℕ, ◌+◌, ◌-◌, ◌≤◌, List, [], ◌∷◌, length, Option, MatchOption}
+use Rattle.std.specs.Prelude.{unwrap_or}
 use Rattle.log_replay.specs.Machine.{MachineRules}
 use Rattle.log_replay.specs.Play.{Game}
 use Rattle.log_replay.specs.Edit.{Change, apply_all}
+use Rattle.log_replay.specs.Faults.{group_fault, edit_fault, steps_left}
 use Rattle.log_replay.specs.Margins.{margins_of}
 use Rattle.log_replay.specs.Agreement.{IsLastTo, IsMeet, IsBounded}
 
@@ -37,3 +39,16 @@ AreStepsBounded rules changes old every fault before after =
     MatchOption fault
     ((before ≤ after) × IsBoundedFor rules changes old every (after - before))
     (λ _. after ≡ before)
+
+-- how a meter rises at a group of changes, by the fault of the group
+abbrev pub AreGroupSteps : {S T : Type 0} → MachineRules S T → List Change → Game → ℕ → ℕ → ℕ
+    → Type 0
+AreGroupSteps rules changes old every before after =
+    let fault = group_fault changes old.log (steps_left before) in
+    AreStepsBounded rules changes old every fault before after
+
+-- how a meter rises at one change, by its fault
+abbrev pub AreEditSteps : {S T : Type 0} → MachineRules S T → Change → Game → ℕ → ℕ → ℕ → Type 0
+AreEditSteps rules change old every before after =
+    let fault = edit_fault change old.log (steps_left before) in
+    AreStepsBounded rules (change ∷ []) old every fault before after

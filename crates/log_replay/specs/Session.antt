@@ -1,6 +1,7 @@
 -- What a session shows, and what its calls say of it.
-use Rattle.std.specs.Prelude.{◌≡◌, ℕ, Bool, List, map, Option}
+use Rattle.std.specs.Prelude.{◌≡◌, ℕ, Bool, List, map}
 use Rattle.log_replay.specs.declared.playthrough.Playthrough.{Playthrough}
+use Rattle.log_replay.specs.declared.report.Stretch.{Stretch}
 use Rattle.log_replay.specs.Machine.{MachineRules}
 use Rattle.log_replay.specs.Play.{Game, IsPlay}
 use Rattle.log_replay.specs.Edit.{Change}
@@ -47,6 +48,7 @@ pub record KeepsSettings {M P S : Type 0} (old new : SessionView M P S) : Type 0
 
 -- what is reported of changes of the game that a session held
 abbrev pub IsReportOn : {M P S Text Meaning : Type 0}
-    → MachineRules Meaning Text → List Change → SessionView M P S → ℕ → Option ℕ → ℕ → Type 0
-IsReportOn rules changes held from met played =
-    IsReport rules changes held.game held.every held.checkpoints from met played
+    → MachineRules Meaning Text → List Change → SessionView M P S → Stretch → Type 0
+IsReportOn rules changes held stretch =
+    IsReport rules changes held.game held.every held.checkpoints stretch.from stretch.met
+    stretch.played

@@ -8,23 +8,23 @@ use Rattle.log_replay.specs.Agreement.{image}
 
 -- the first place that a change changes
 abbrev pub first_changed : Change → ℕ
-first_changed (inserts at line) = at
-first_changed (deletes at) = at
-first_changed (replaces at line) = at
+first_changed (inserts place line) = place
+first_changed (deletes place) = place
+first_changed (replaces place line) = place
 first_changed (reseeds seed) = 0
 
 -- the place of the old log from which its lines stay
 abbrev pub rest_from : Change → ℕ
-rest_from (inserts at line) = at
-rest_from (deletes at) = at + 1
-rest_from (replaces at line) = at + 1
+rest_from (inserts place line) = place
+rest_from (deletes place) = place + 1
+rest_from (replaces place line) = place + 1
 rest_from (reseeds seed) = 0
 
 -- where such a place is in the new log
 abbrev pub place_after : Change → ℕ → ℕ
-place_after (inserts at line) place = place + 1
-place_after (deletes at) place = place - 1
-place_after (replaces at line) place = place
+place_after (inserts edited line) place = place + 1
+place_after (deletes edited) place = place - 1
+place_after (replaces edited line) place = place
 place_after (reseeds seed) place = place
 
 -- what the group of a change alone leaves alone is what this table says

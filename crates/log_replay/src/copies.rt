@@ -1,6 +1,7 @@
 ghost use Rattle.std.specs.Prelude.{◌≡◌, length, map, IfOk};
 ghost use Rattle.log_replay.specs.Play.{log_of};
 ghost use Rattle.log_replay.specs.Edit.{change_of, changes_of};
+ghost use Rattle.log_replay.specs.Playthrough.{IsCopyOf};
 
 use crate::edit::Edit;
 use crate::machine::Machine;
@@ -13,17 +14,7 @@ pub(crate) fn copy_kept<M: Machine>(
     machine: &M,
     kept: &Playthrough<M>,
 ) -> Result<Playthrough<M>, AllocError>
-    ensures seed { IfOk result (λ copy. copy.seed ≡ kept.now.seed) }
-    ensures log { IfOk result (λ copy. log_of copy.log.items ≡ log_of kept.now.log.items) }
-    ensures opening { IfOk result (λ copy. M.text copy.opening ≡ M.text kept.now.opening) }
-    ensures pieces { IfOk result (λ copy.
-        map M.text copy.pieces.items ≡ map M.text kept.now.pieces.items) }
-    ensures ticked { IfOk result (λ copy. copy.ticked.items ≡ kept.now.ticked.items) }
-    ensures every { IfOk result (λ copy. copy.checkpoints.every ≡ kept.now.checkpoints.every) }
-    ensures lines { IfOk result (λ copy. copy.checkpoints.lines ≡ kept.now.checkpoints.lines) }
-    ensures places { IfOk result (λ copy. copy.checkpoints.places ≡ kept.now.checkpoints.places) }
-    ensures states { IfOk result (λ copy. copy.checkpoints.states ≡ kept.now.checkpoints.states) }
-    ensures state { IfOk result (λ copy. copy.state ≡ kept.now.state) }
+    ensures { IfOk result (IsCopyOf M.text kept.now) }
 {
     let log = copy_lines(alloc, &kept.log)?;
     let opening = machine.copy_piece(alloc, &kept.opening)?;
@@ -81,14 +72,14 @@ fn copy_edit(alloc: Global, edit: &Edit) -> Result<Edit, AllocError>
     ensures { IfOk result (λ copy. change_of copy ≡ change_of edit.now) }
 {
     match edit {
-        Edit::Insert(at, line) => {
+        Edit::Insert(place, line) => {
             let copy = Vec::from_slice(alloc, line)?;
-            Ok(Edit::Insert(*at, copy))
+            Ok(Edit::Insert(*place, copy))
         }
-        Edit::Delete(at) => Ok(Edit::Delete(*at)),
-        Edit::Replace(at, line) => {
+        Edit::Delete(place) => Ok(Edit::Delete(*place)),
+        Edit::Replace(place, line) => {
             let copy = Vec::from_slice(alloc, line)?;
-            Ok(Edit::Replace(*at, copy))
+            Ok(Edit::Replace(*place, copy))
         }
         Edit::Reseed(seed) => Ok(Edit::Reseed(*seed)),
     }

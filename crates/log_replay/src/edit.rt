@@ -50,17 +50,17 @@ fn make_edit(edit: Edit, log: &mut Vec<Vec<u8>>, seed: &mut u32) -> Edit
     ensures capacity { vec_capacity log.old ≤ vec_capacity log.new }
 {
     match edit {
-        Edit::Insert(at, line) => match log.insert(at as usize, line) {
-            Ok(()) => Edit::Delete(at),
+        Edit::Insert(place, line) => match log.insert(place as usize, line) {
+            Ok(()) => Edit::Delete(place),
             Err(_) => unreachable!(),
         },
-        Edit::Delete(at) => {
-            let line = log.remove(at as usize);
-            Edit::Insert(at, line)
+        Edit::Delete(place) => {
+            let line = log.remove(place as usize);
+            Edit::Insert(place, line)
         }
-        Edit::Replace(at, line) => {
-            let old = mem::replace(&mut log[at as usize], line);
-            Edit::Replace(at, old)
+        Edit::Replace(place, line) => {
+            let old = mem::replace(&mut log[place as usize], line);
+            Edit::Replace(place, old)
         }
         Edit::Reseed(new) => {
             let old = mem::replace(seed, new);

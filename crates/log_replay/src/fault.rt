@@ -1,5 +1,4 @@
 ghost use Rattle.std.specs.Prelude.{◌≡◌};
-ghost use Rattle.log_replay.specs.declared.fault.EditFault.TheVariants.{Memory};
 
 use log_lines::LineFlaw;
 use std::alloc::AllocError;
@@ -19,6 +18,16 @@ pub enum OpenFault {
     BadSeed,
     #[error("there isn't enough memory")]
     Memory,
+}
+
+impl From<AllocError> for OpenFault {
+    ghost use Rattle.log_replay.specs.declared.fault.OpenFault.TheVariants.{Memory};
+
+    ghost from_gives = { λ _ fault. fault ≡ Memory };
+
+    fn from(_: AllocError) -> OpenFault {
+        OpenFault::Memory
+    }
 }
 
 /// Why an edit was refused. The first of these that holds is answered; `EmptyGroup` is a group's
@@ -46,15 +55,15 @@ pub enum EditFault {
 #[derive(Clone, Copy, Debug, Drop, PartialEq, Eq)]
 pub struct GroupFault {
     pub cause: EditFault,
-    pub at: u32,
+    pub number: u32,
 }
 
 impl fmt::Display for GroupFault {
     fn fmt<W: fmt::Write>(&self, f: &mut fmt::Formatter<W>) -> fmt::Result {
-        let GroupFault { cause, at } = *self;
+        let GroupFault { cause, number } = *self;
         match cause {
             EditFault::NoSuchPlace | EditFault::BadLine | EditFault::LogFull | EditFault::BadSeed =>
-                write!(f, "edit {at} of the group, counted from 0: {cause}"),
+                write!(f, "edit {number} of the group, counted from 0: {cause}"),
             EditFault::MeterFull | EditFault::Memory | EditFault::EmptyGroup => {
                 write!(f, "{cause}")
             }
@@ -65,12 +74,14 @@ impl fmt::Display for GroupFault {
 impl std::error::Error for GroupFault {}
 
 impl From<AllocError> for GroupFault {
-    ghost from_gives = { λ _ fault. fault ≡ record { cause = Memory; at = 0 } };
+    ghost use Rattle.log_replay.specs.declared.fault.EditFault.TheVariants.{Memory};
+
+    ghost from_gives = { λ _ fault. fault ≡ record { cause = Memory; number = 0 } };
 
     fn from(_: AllocError) -> GroupFault {
         GroupFault {
             cause: EditFault::Memory,
-            at: 0,
+            number: 0,
         }
     }
 }

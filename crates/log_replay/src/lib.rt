@@ -22,6 +22,6 @@ pub use edit::Edit;
 pub use fault::{EditFault, GroupFault, OpenFault};
 pub use machine::{Machine, Started, Stepped};
 pub use margins::Margins;
-pub use report::{GroupReport, Report};
+pub use report::{GroupReport, Report, Stretch};
 pub use session::Session;
 pub use tick_counts::TickCounts;

@@ -28,14 +28,14 @@ pub(crate) fn plan_group(edits: &[Edit], lines: usize, left: u64) -> Result<Plan
     if edits.is_empty() {
         return Err(GroupFault {
             cause: EditFault::EmptyGroup,
-            at: 0,
+            number: 0,
         });
     }
     let plan = plan_edits(edits, lines)?;
     if left < plan.lines as u64 {
         return Err(GroupFault {
             cause: EditFault::MeterFull,
-            at: 0,
+            number: 0,
         });
     }
     Ok(plan)
@@ -62,7 +62,7 @@ fn plan_edits(edits: &[Edit], lines: usize) -> Result<Plan, GroupFault>
             Err(cause) => {
                 return Err(GroupFault {
                     cause,
-                    at: number as u32,
+                    number: number as u32,
                 });
             }
         }
@@ -80,8 +80,8 @@ fn lines_after(edit: &Edit, lines: usize) -> Result<usize, EditFault>
         → IsLinesOrFault (change_of edit.now) log result }
 {
     match edit {
-        Edit::Insert(at, line) => {
-            if *at as usize > lines {
+        Edit::Insert(place, line) => {
+            if *place as usize > lines {
                 return Err(EditFault::NoSuchPlace);
             }
             if check_line(line).is_err() {
@@ -92,14 +92,14 @@ fn lines_after(edit: &Edit, lines: usize) -> Result<usize, EditFault>
             }
             Ok(lines + 1)
         }
-        Edit::Delete(at) => {
-            if *at as usize >= lines {
+        Edit::Delete(place) => {
+            if *place as usize >= lines {
                 return Err(EditFault::NoSuchPlace);
             }
             Ok(lines - 1)
         }
-        Edit::Replace(at, line) => {
-            if *at as usize >= lines {
+        Edit::Replace(place, line) => {
+            if *place as usize >= lines {
                 return Err(EditFault::NoSuchPlace);
             }
             if check_line(line).is_err() {
@@ -121,10 +121,12 @@ fn narrow(edit: &Edit, lines: usize, margins: Margins) -> Margins
     ensures { result ≡ margins_after (change_of edit.now) lines margins }
 {
     match edit {
-        Edit::Insert(at, _) => margins.narrow(*at as usize, lines.saturating_sub(*at as usize)),
-        Edit::Delete(at) | Edit::Replace(at, _) => margins.narrow(
-            *at as usize,
-            lines.saturating_sub(*at as usize).saturating_sub(1),
+        Edit::Insert(place, _) => {
+            margins.narrow(*place as usize, lines.saturating_sub(*place as usize))
+        }
+        Edit::Delete(place) | Edit::Replace(place, _) => margins.narrow(
+            *place as usize,
+            lines.saturating_sub(*place as usize).saturating_sub(1),
         ),
         Edit::Reseed(_) => margins.narrow(0, margins.tail),
     }

@@ -13,8 +13,8 @@ ghost use Rattle.limits.specs.Limits.{max_log_lines};
 use crate::copies::copy_edits;
 use crate::edit::Edit;
 use crate::fault::GroupFault;
-use crate::plan::{Plan, plan_group};
-use std::alloc::{AllocError, Global};
+use crate::plan::plan_group;
+use std::alloc::Global;
 use std::cmp::Ordering;
 
 /// Edits of a game that are accepted, copied and not made yet.
@@ -47,29 +47,12 @@ pub(crate) fn prepare(
     ensures faults { IsAnswerTo (group_fault (changes_of edits.now) (log_of log.now) left) result }
 {
     let plan = plan_group(edits, log.len(), left)?;
-    Ok(make_ready(alloc, edits, log.len(), seed, plan)?)
-}
-
-/// The edits of a log of `lines` lines, which were planned, made ready.
-pub(crate) fn make_ready(
-    alloc: Global,
-    edits: &[Edit],
-    lines: usize,
-    seed: u32,
-    plan: Plan,
-) -> Result<ReadyEdits, AllocError>
-    requires { plan.margins.tail ≤ lines }
-    ensures edits { IfOk result (λ ready. changes_of ready.edits.items ≡ changes_of edits.now) }
-    ensures seed { IfOk result (λ ready. ready.seed ≡ seed_after_all (changes_of edits.now) seed) }
-    ensures lines { IfOk result (λ ready. ready.lines ≡ plan.lines) }
-    ensures head { IfOk result (λ ready. ready.head ≡ plan.margins.head) }
-    ensures rest { IfOk result (λ ready. ready.rest + plan.margins.tail ≡ lines) }
-{
+    let rest = log.len() - plan.margins.tail;
     Ok(ReadyEdits {
         seed: seed_after(edits, seed),
         lines: plan.lines,
         head: plan.margins.head,
-        rest: lines - plan.margins.tail,
+        rest,
         edits: copy_edits(alloc, edits)?,
     })
 }
@@ -151,20 +134,20 @@ fn place_before(edit: &Edit, place: usize) -> Option<usize>
     ensures near { IfSome result (λ before. before ≤ place + 1) }
 {
     match edit {
-        Edit::Insert(at, _) => match place.cmp(&(*at as usize)) {
+        Edit::Insert(edited, _) => match place.cmp(&(*edited as usize)) {
             Ordering::Less => Some(place),
             Ordering::Equal => None,
             Ordering::Greater => Some(place - 1),
         },
-        Edit::Delete(at) => {
-            if place < *at as usize {
+        Edit::Delete(edited) => {
+            if place < *edited as usize {
                 Some(place)
             } else {
                 Some(place + 1)
             }
         }
-        Edit::Replace(at, _) => {
-            if place == *at as usize {
+        Edit::Replace(edited, _) => {
+            if place == *edited as usize {
                 None
             } else {
                 Some(place)

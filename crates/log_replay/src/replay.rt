@@ -1,20 +1,20 @@
-ghost use Rattle.std.specs.Prelude.{◌≡◌, ◌≢◌, ℕ, ◌+◌, ◌-◌, ◌^◌, ◌<◌, ◌≤◌, length, slice_index};
-ghost use Rattle.std.specs.Prelude.{IfOk, OnOk, OnErr, MatchOption, None, Option};
+ghost use Rattle.std.specs.Prelude.{◌≡◌, ◌≢◌, ◌+◌, ◌^◌, ◌<◌, ◌≤◌, length, slice_index};
+ghost use Rattle.std.specs.Prelude.{IfOk, OnOk, OnErr, MatchOption, Option};
 ghost use Rattle.std.specs.Option.{option_map};
 ghost use Rattle.replay_marks.specs.Marks.{IsBegunAt};
-ghost use Rattle.log_replay.specs.Edit.{changes_of, apply_all, inverses_of};
-ghost use Rattle.log_replay.specs.ReadyEdits.{new_game, AreEditsOf};
-ghost use Rattle.log_replay.specs.Faults.{fault_of_all, group_fault, steps_left, IsAnswerTo};
+ghost use Rattle.log_replay.specs.Edit.{changes_of, apply_all};
+ghost use Rattle.log_replay.specs.ReadyEdits.{AreEditsOf, IsRerunOf};
+ghost use Rattle.log_replay.specs.Faults.{group_fault, steps_left, IsAnswerTo, TakesBack};
 ghost use Rattle.log_replay.specs.Playthrough.{kept_game, KeepsPlay, KeepsAll};
-ghost use Rattle.log_replay.specs.Replay.{MarksBegin, revision_to, rerun_view, IsRerun};
-ghost use Rattle.log_replay.specs.Report.{IsReport, AreStepsBounded};
+ghost use Rattle.log_replay.specs.Replay.{MarksBegin};
+ghost use Rattle.log_replay.specs.Report.{IsReport, AreGroupSteps};
 
 use crate::edit::Edit;
 use crate::fault::GroupFault;
 use crate::machine::Machine;
 use crate::playthrough::Playthrough;
 use crate::ready_edits::{ReadyEdits, prepare};
-use crate::report::GroupReport;
+use crate::report::{GroupReport, Stretch};
 use crate::segment::{OldPlay, Segment, play_changed};
 use crate::takeover::{make_room, take_over};
 use log_lines::Steps;
@@ -35,45 +35,30 @@ pub(crate) fn edit_kept<M: Machine>(
     ensures game { OnOk result (kept_game kept.new
         ≡ apply_all (changes_of edits.now) (kept_game kept.old)) }
     ensures every { kept.new.checkpoints.every ≡ kept.old.checkpoints.every }
-    ensures inverse { IfOk result (λ report. changes_of report.inverse.items
-        ≡ inverses_of (changes_of edits.now) (kept_game kept.old)) }
-    ensures back { IfOk result (λ report.
-        apply_all (changes_of report.inverse.items) (kept_game kept.new) ≡ kept_game kept.old) }
-    ensures back_accepted { let log = (kept_game kept.new).log in
-        IfOk result (λ report. fault_of_all (changes_of report.inverse.items) log 0 ≡ None) }
-
+    ensures inverse { IfOk result (λ report. TakesBack (changes_of report.inverse.items)
+        (changes_of edits.now) (kept_game kept.old) (kept_game kept.new)) }
     ensures refused { OnErr result (KeepsAll kept.old kept.new) }
-
     ensures faults { let left = steps_left (M.Meter.count meter.old) in
         IsAnswerTo (group_fault (changes_of edits.now) (kept_game kept.old).log left) result }
     ensures report { let checkpoints = kept.old.checkpoints in
         IfOk result (λ report. IsReport (M.rules machine.now) (changes_of edits.now)
         (kept_game kept.old) checkpoints.every checkpoints.places
-        report.from report.met report.played) }
+        report.stretch.from report.stretch.met report.stretch.played) }
     ensures steps { IfOk result (λ report. M.Meter.count meter.new
-        ≡ M.Meter.count meter.old + report.played) }
-    ensures bounded { let changes = changes_of edits.now in
-        let game = kept_game kept.old in
-        let fault = group_fault changes game.log (steps_left (M.Meter.count meter.old)) in
-        AreStepsBounded (M.rules machine.now) changes game kept.old.checkpoints.every fault
-        (M.Meter.count meter.old) (M.Meter.count meter.new) }
+        ≡ M.Meter.count meter.old + report.stretch.played) }
+    ensures bounded { AreGroupSteps (M.rules machine.now) (changes_of edits.now)
+        (kept_game kept.old) kept.old.checkpoints.every (M.Meter.count meter.old)
+        (M.Meter.count meter.new) }
 {
     let rerun = replay(alloc, machine, kept, edits, meter)?;
-    let Rerun {
-        ready,
-        opening,
-        played,
-        at,
-    } = rerun;
-    let from = kept.checkpoints.places()[at];
-    make_room(kept, &ready, &played, at)?;
-    let end = played.marks.next();
-    let met = met_place(played.met, end);
-    let inverse = take_over(kept, ready, opening, played, at);
+    let from = kept.checkpoints.places()[rerun.at];
+    make_room(kept, &rerun)?;
+    let end = rerun.played.marks.next();
+    let met = met_place(rerun.played.met, end);
+    let inverse = take_over(kept, rerun);
+    let played = end - from;
     Ok(GroupReport {
-        from,
-        met,
-        played: end - from,
+        stretch: Stretch { from, met, played },
         inverse,
     })
 }
@@ -99,21 +84,16 @@ fn replay<M: Machine>(
     requires kept { KeepsPlay M.meaning M.is_state M.text (M.rules machine.now) kept.now }
     ensures edits { IfOk result (λ rerun.
         AreEditsOf (changes_of edits.now) kept.now.seed kept.now.log.items rerun.ready) }
-    ensures rerun { let old = kept_game kept.now in
-        IfOk result (λ rerun. let new = new_game rerun.ready old.log in
-        let revision = revision_to (M.rules machine.now) (changes_of edits.now) old new in
-        let view = rerun_view M.text rerun in
-        IsRerun M.meaning M.is_state revision kept.now.checkpoints view) }
+    ensures rerun { let rules = M.rules machine.now in
+        IfOk result (IsRerunOf M.meaning M.is_state M.text rules (changes_of edits.now) kept.now) }
     ensures faults { let left = steps_left (M.Meter.count meter.old) in
         IsAnswerTo (group_fault (changes_of edits.now) (kept_game kept.now).log left) result }
     ensures steps { IfOk result (λ rerun.
         M.Meter.count meter.new + slice_index kept.now.checkpoints.places rerun.at
         ≡ M.Meter.count meter.old + rerun.played.marks.next) }
-    ensures bounded { let changes = changes_of edits.now in
-        let game = kept_game kept.now in
-        let fault = group_fault changes game.log (steps_left (M.Meter.count meter.old)) in
-        AreStepsBounded (M.rules machine.now) changes game kept.now.checkpoints.every fault
-        (M.Meter.count meter.old) (M.Meter.count meter.new) }
+    ensures bounded { AreGroupSteps (M.rules machine.now) (changes_of edits.now)
+        (kept_game kept.now) kept.now.checkpoints.every (M.Meter.count meter.old)
+        (M.Meter.count meter.new) }
 {
     let old = OldPlay {
         seed: kept.seed,
@@ -158,7 +138,6 @@ fn begin<M: Machine>(
     requires fresh { seed ≢ old.now.seed → at ≡ 0 }
     ensures begun { IfOk result (λ start. IsBegunAt old.now.checkpoints.now at start.marks) }
     ensures end { IfOk result (λ start. start.marks.end ≡ end) }
-    ensures every { IfOk result (λ start. start.marks.every ≡ old.now.checkpoints.now.every) }
     ensures next { IfOk result (λ start.
         start.marks.next ≡ slice_index old.now.checkpoints.now.places at) }
     ensures marking { let first = (M.rules machine.now).begun seed in

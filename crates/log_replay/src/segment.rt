@@ -1,11 +1,11 @@
-ghost use Rattle.std.specs.Prelude.{◌≡◌, ℕ, ◌+◌, ◌-◌, ◌^◌, ◌<◌, ◌≤◌, ◌∷◌, [], ◌++◌, ◌↔◌};
-ghost use Rattle.std.specs.Prelude.{length, map, slice_index, IfOk, OnOk, IsTrue, None, Some};
+ghost use Rattle.std.specs.Prelude.{◌≡◌, ℕ, ◌+◌, ◌-◌, ◌^◌, ◌<◌, ◌≤◌, ◌↔◌, length, slice_index};
+ghost use Rattle.std.specs.Prelude.{IfOk, OnOk, IsTrue, None, Some};
 ghost use Rattle.log_lines.specs.Line.{is_line};
 ghost use Rattle.log_replay.specs.Play.{log_of};
-ghost use Rattle.log_replay.specs.ReadyEdits.{log_after_edits, ready_revision, IsReady};
-ghost use Rattle.log_replay.specs.Replay.{AreStates, IsMarking, MarksGoOn, AreFurther};
-ghost use Rattle.log_replay.specs.Replay.{IsBeforeChange, IsNextIndex, IsPlayed, IsWithinBound};
-ghost use Rattle.log_replay.specs.Replay.{segment_view, states_of_old, states_of_new};
+ghost use Rattle.log_replay.specs.ReadyEdits.{log_after_edits, IsReady, MayReplay, IsReplayed};
+ghost use Rattle.log_replay.specs.ReadyEdits.{IsReplayBounded};
+ghost use Rattle.log_replay.specs.Replay.{AreStates, IsMarking, IsNextIndex, PlaysLine};
+ghost use Rattle.log_replay.specs.Replay.{segment_view};
 ghost use Rattle.log_replay.specs.Report.{RisesByAtMost};
 ghost use Rattle.limits.specs.Limits.{max_log_lines};
 
@@ -45,25 +45,16 @@ pub(crate) fn play_changed<M: Machine>(
 ) -> Result<Segment<M>, AllocError>
     requires ready { IsReady old.now.seed old.now.log.now ready.now }
     requires few { length old.now.log.now ≤ max_log_lines }
-    requires old_lines { old.now.checkpoints.now.lines ≡ length old.now.log.now }
-    requires old_states { let revision = ready_revision (M.rules machine.now) old.now ready.now in
-        AreStates M.meaning M.is_state (states_of_old revision) old.now.checkpoints.now.places
-        old.now.checkpoints.now.states }
-    requires marking { let revision = ready_revision (M.rules machine.now) old.now ready.now in
-        IsMarking M.meaning M.is_state (states_of_new revision) marks }
-    requires before { let revision = ready_revision (M.rules machine.now) old.now ready.now in
-        IsBeforeChange revision old.now.checkpoints.now.every marks }
+    requires begun { MayReplay M.meaning M.is_state (M.rules machine.now) old.now ready.now marks }
     requires room { let new = log_after_edits ready.now (log_of old.now.log.now) in
         M.Meter.count meter.old + length new < 2 ^ 64 }
-    ensures played { let revision = ready_revision (M.rules machine.now) old.now ready.now in
-        IfOk result (λ played. let view = segment_view M.text played in
-        IsPlayed M.meaning M.is_state revision old.now.checkpoints.now.places marks view) }
+    ensures played { let rules = M.rules machine.now in
+        IfOk result (IsReplayed M.meaning M.is_state M.text rules old.now ready.now marks) }
     ensures steps { IfOk result (λ played. M.Meter.count meter.new + marks.next
         ≡ M.Meter.count meter.old + played.marks.next) }
     ensures counted { M.Meter.count meter.old ≤ M.Meter.count meter.new }
-    ensures bounded { let revision = ready_revision (M.rules machine.now) old.now ready.now in
-        let steps = M.Meter.count meter.new - M.Meter.count meter.old in
-        IsWithinBound revision marks.every steps }
+    ensures bounded { let steps = M.Meter.count meter.new - M.Meter.count meter.old in
+        IsReplayBounded (M.rules machine.now) old.now ready.now marks.every steps }
 {
     let end = ready.lines;
     let new = ready.rest_after(old.log);
@@ -84,13 +75,8 @@ pub(crate) fn play_changed<M: Machine>(
         if place == end {
             return Ok(played);
         }
-        play_line(
-            alloc,
-            machine,
-            ready.line(old.log, place),
-            &mut played,
-            meter,
-        )?;
+        let line = ready.line(old.log, place);
+        play_line(alloc, machine, line, &mut played, meter)?;
     }
 }
 
@@ -164,19 +150,9 @@ pub(crate) fn play_line<M: Machine>(
     requires apart { 0 < played.old.marks.every }
     ensures counted { OnOk result (M.Meter.count meter.new ≡ M.Meter.count meter.old + 1) }
     ensures risen { RisesByAtMost (M.Meter.count meter.old) (M.Meter.count meter.new) 1 }
-    ensures pieces { let state = M.meaning played.old.marks.state in
-        let said = (M.rules machine.now).said state line.now in
-        OnOk result (map M.text played.new.pieces.items
-        ≡ map M.text played.old.pieces.items ++ said ∷ []) }
-    ensures ticked { let state = M.meaning played.old.marks.state in
-        let ticks = (M.rules machine.now).ticked state line.now in
-        OnOk result (played.new.ticked.items ≡ played.old.ticked.items ++ ticks ∷ []) }
-    ensures next { OnOk result (played.new.marks.next ≡ played.old.marks.next + 1) }
-    ensures marking { let state = M.meaning played.old.marks.state in
-        let next = (M.rules machine.now).after state line.now in
-        OnOk result (MarksGoOn M.meaning M.is_state next played.old.marks played.new.marks) }
-    ensures settings { OnOk result (AreFurther played.old.marks played.new.marks) }
-    ensures met { OnOk result (played.new.met ≡ played.old.met) }
+    ensures plays { let old = segment_view M.text played.old in
+        let new = segment_view M.text played.new in
+        OnOk result (PlaysLine M.meaning M.is_state (M.rules machine.now) line.now old new) }
 {
     let place = played.marks.next() + 1;
     played.marks.advance(place)?;

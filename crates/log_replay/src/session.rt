@@ -12,7 +12,7 @@ ghost use Rattle.log_replay.specs.Faults.{fault_of, fault_of_all, edit_fault, gr
 ghost use Rattle.log_replay.specs.Faults.{steps_left, IsAnswerTo, IsAnswerToEdit};
 ghost use Rattle.log_replay.specs.Opening.{open_fault, IsAnswerToOpen, AreOpenSteps};
 ghost use Rattle.log_replay.specs.Session.{HoldsPlay, KeepsSettings, IsReportOn};
-ghost use Rattle.log_replay.specs.Report.{AreStepsBounded};
+ghost use Rattle.log_replay.specs.Report.{AreGroupSteps, AreEditSteps};
 ghost use Rattle.limits.specs.Limits.{max_log_lines};
 
 use crate::copies::copy_kept;
@@ -77,12 +77,8 @@ impl<M: Machine> Session<M> {
             (M.Meter.count meter.new) }
     {
         let count = check_game(every, log, seed)?;
-        let Ok(lines) = copy_lines(alloc, log, count) else {
-            return Err(OpenFault::Memory);
-        };
-        let Ok(kept) = play_game(alloc, &machine, seed, lines, every, meter) else {
-            return Err(OpenFault::Memory);
-        };
+        let lines = copy_lines(alloc, log, count)?;
+        let kept = play_game(alloc, &machine, seed, lines, every, meter)?;
         Ok(Session {
             alloc,
             machine,
@@ -116,15 +112,12 @@ impl<M: Machine> Session<M> {
             IsAnswerTo (group_fault (changes_of edits.now) self.old.game.log left) result }
 
         ensures report { let rules = M.rules self.old.machine in
-            IfOk result (λ report. IsReportOn rules (changes_of edits.now) self.old
-            report.from report.met report.played) }
+            IfOk result (λ report.
+            IsReportOn rules (changes_of edits.now) self.old report.stretch) }
         ensures steps { IfOk result (λ report. M.Meter.count meter.new
-            ≡ M.Meter.count meter.old + report.played) }
-        ensures bounded { let changes = changes_of edits.now in
-            let left = steps_left (M.Meter.count meter.old) in
-            let fault = group_fault changes self.old.game.log left in
-            AreStepsBounded (M.rules self.old.machine) changes self.old.game self.old.every fault
-            (M.Meter.count meter.old) (M.Meter.count meter.new) }
+            ≡ M.Meter.count meter.old + report.stretch.played) }
+        ensures bounded { AreGroupSteps (M.rules self.old.machine) (changes_of edits.now)
+            self.old.game self.old.every (M.Meter.count meter.old) (M.Meter.count meter.new) }
     {
         edit_kept(self.alloc, &self.machine, &mut self.kept, edits, meter)
     }
@@ -148,22 +141,17 @@ impl<M: Machine> Session<M> {
             IsAnswerToEdit (edit_fault (change_of edit.now) self.old.game.log left) result }
 
         ensures report { let rules = M.rules self.old.machine in
-            IfOk result (λ report. IsReportOn rules (change_of edit.now ∷ []) self.old
-            report.from report.met report.played) }
+            IfOk result (λ report.
+            IsReportOn rules (change_of edit.now ∷ []) self.old report.stretch) }
         ensures steps { IfOk result (λ report. M.Meter.count meter.new
-            ≡ M.Meter.count meter.old + report.played) }
-        ensures bounded { let change = change_of edit.now in
-            let left = steps_left (M.Meter.count meter.old) in
-            let fault = edit_fault change self.old.game.log left in
-            AreStepsBounded (M.rules self.old.machine) (change ∷ []) self.old.game self.old.every
-            fault (M.Meter.count meter.old) (M.Meter.count meter.new) }
+            ≡ M.Meter.count meter.old + report.stretch.played) }
+        ensures bounded { AreEditSteps (M.rules self.old.machine) (change_of edit.now)
+            self.old.game self.old.every (M.Meter.count meter.old) (M.Meter.count meter.new) }
     {
         match self.edit_group(slice::from_ref(edit), meter) {
             Ok(mut report) => match report.inverse.pop() {
                 Some(inverse) => Ok(Report {
-                    from: report.from,
-                    met: report.met,
-                    played: report.played,
+                    stretch: report.stretch,
                     inverse,
                 }),
                 None => unreachable!(),
@@ -211,8 +199,10 @@ impl<M: Machine> Session<M> {
     pub fn lines(&self) -> u32
         ensures lines { result ≡ length self.now.game.log }
         ensures game { IsGame self.now.game }
+        ensures spaced { let lines = length self.now.game.log in
+            IsSpaced self.now.every self.now.checkpoints lines }
     {
-        self.kept.log.len() as u32
+        self.kept.checkpoints.lines()
     }
 
     /// The line of the held log at a place.

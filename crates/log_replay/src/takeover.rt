@@ -1,115 +1,75 @@
-ghost use Rattle.std.specs.Prelude.{◌≡◌, ◌+◌, ◌-◌, ◌^◌, ◌<◌, ◌≤◌, length, take, slice_index};
-ghost use Rattle.std.specs.Prelude.{vec_len, vec_capacity, MatchOption, OnOk, None};
+ghost use Rattle.std.specs.Prelude.{◌≡◌, ◌<◌, ◌≤◌, length, MatchOption, OnOk, None};
 ghost use Rattle.std.specs.Option.{ForSome};
-ghost use Rattle.std.specs.List.{splice};
 ghost use Rattle.replay_marks.specs.Marks.{IsBegunAt};
 ghost use Rattle.log_replay.specs.Playthrough.{kept_game, KeepsAll};
-ghost use Rattle.log_replay.specs.Edit.{changes_of, apply_all, inverses_of};
+ghost use Rattle.log_replay.specs.Edit.{changes_of, inverses_of};
 ghost use Rattle.log_replay.specs.Faults.{fault_of_all};
 ghost use Rattle.log_replay.specs.Takeover.{end_of_stretch, lines_gone, checkpoints_passed};
-ghost use Rattle.log_replay.specs.Takeover.{MarksEnd, FitsMarks, FitsLines, FitsPieces, FitsTicks};
-ghost use Rattle.log_replay.specs.Takeover.{new_places, new_states, new_state};
+ghost use Rattle.log_replay.specs.Takeover.{FitsMarks, HasRoomFor, IsStretch, IsTakenOver, IsWhole};
+ghost use Rattle.log_replay.specs.Takeover.{MarksEnd, new_places, new_states, new_state};
 
 use crate::edit::{Edit, make_edits};
 use crate::machine::Machine;
 use crate::playthrough::Playthrough;
-use crate::ready_edits::{ReadyEdits, lines_inserted};
+use crate::ready_edits::lines_inserted;
+use crate::replay::Rerun;
 use crate::segment::Segment;
 use replay_marks::{Checkpoints, Marks, splice};
 use std::alloc::AllocError;
 
-/// Takes room for what is to be taken over, where the replay began at the checkpoint of the index
-/// `at`. What is kept stays as it is.
+/// Takes room for what a rerun brings, which is to be taken over. What is kept stays as it is.
 pub(crate) fn make_room<M: Machine>(
     kept: &mut Playthrough<M>,
-    ready: &ReadyEdits,
-    played: &Segment<M>,
-    at: usize,
+    rerun: &Rerun<M>,
 ) -> Result<(), AllocError>
-    requires among { at < length kept.old.checkpoints.places }
-    requires passed { at ≤ checkpoints_passed kept.old.checkpoints played.now.met }
+    requires among { rerun.now.at < length kept.old.checkpoints.places }
+    requires passed { rerun.now.at
+        ≤ checkpoints_passed kept.old.checkpoints rerun.now.played.met }
     requires met { let places = kept.old.checkpoints.places in
-        ForSome played.now.met (λ index. index < length places) }
+        ForSome rerun.now.played.met (λ index. index < length places) }
     ensures same { KeepsAll kept.old kept.new }
-    ensures room_log { OnOk result (FitsLines kept.new (changes_of ready.now.edits.items)) }
-    ensures room_pieces { let gone = lines_gone kept.old.checkpoints at played.now.met in
-        OnOk result (FitsPieces kept.new (vec_len played.now.pieces) gone) }
-    ensures room_ticked { let gone = lines_gone kept.old.checkpoints at played.now.met in
-        OnOk result (FitsTicks kept.new (vec_len played.now.ticked) gone) }
-    ensures room_marks { let count = checkpoints_passed kept.old.checkpoints played.now.met in
-        OnOk result (FitsMarks kept.new.checkpoints played.now.marks at count) }
+    ensures room { OnOk result (HasRoomFor kept.new rerun.now) }
 {
-    kept.log.reserve(lines_inserted(&ready.edits))?;
-    let gone = lines_gone(&kept.checkpoints, at, played.met);
-    let pieces = played.pieces.len().saturating_sub(gone);
+    let met = rerun.played.met;
+    kept.log.reserve(lines_inserted(&rerun.ready.edits))?;
+    let gone = lines_gone(&kept.checkpoints, rerun.at, met);
+    let pieces = rerun.played.pieces.len().saturating_sub(gone);
     kept.pieces.reserve(pieces)?;
-    let ticks = played.ticked.len().saturating_sub(gone);
+    let ticks = rerun.played.ticked.len().saturating_sub(gone);
     kept.ticked.reserve(ticks)?;
-    let going = checkpoints_passed(&kept.checkpoints, played.met) - at.saturating_sub(1);
+    let going = checkpoints_passed(&kept.checkpoints, met) - rerun.at.saturating_sub(1);
     kept.checkpoints
-        .reserve(played.marks.len().saturating_sub(going))?;
+        .reserve(rerun.played.marks.len().saturating_sub(going))?;
     Ok(())
 }
 
-/// Makes the edits, and puts what was played in the place of what was there, without memory; gives
-/// the edits that take these back. The play began at the checkpoint of the index `at`.
-pub(crate) fn take_over<M: Machine>(
-    kept: &mut Playthrough<M>,
-    ready: ReadyEdits,
-    opening: Option<M::Piece>,
-    played: Segment<M>,
-    at: usize,
-) -> Vec<Edit>
+/// Makes the edits of a rerun, and puts what was played in the place of what was there, without
+/// memory; gives the edits that take these back.
+pub(crate) fn take_over<M: Machine>(kept: &mut Playthrough<M>, rerun: Rerun<M>) -> Vec<Edit>
     requires free { let log = (kept_game kept.old).log in
-        fault_of_all (changes_of ready.edits.items) log 0 ≡ None }
-    requires pieces { vec_len kept.old.pieces ≡ vec_len kept.old.log }
-    requires ticked { vec_len kept.old.ticked ≡ vec_len kept.old.log }
-    requires lines { kept.old.checkpoints.lines ≡ vec_len kept.old.log }
-    requires begun { IsBegunAt kept.old.checkpoints at played.marks }
-    requires met { MarksEnd kept.old.checkpoints played.marks at played.met }
-    requires stretch { let to = end_of_stretch kept.old.checkpoints played.met in
-        slice_index kept.old.checkpoints.places at ≤ to }
-    requires room_log { FitsLines kept.old (changes_of ready.edits.items) }
-    requires room_pieces { let gone = lines_gone kept.old.checkpoints at played.met in
-        FitsPieces kept.old (vec_len played.pieces) gone }
-    requires room_ticked { let gone = lines_gone kept.old.checkpoints at played.met in
-        FitsTicks kept.old (vec_len played.ticked) gone }
-    requires room_marks { let count = checkpoints_passed kept.old.checkpoints played.met in
-        FitsMarks kept.old.checkpoints played.marks at count }
-    ensures game { kept_game kept.new
-        ≡ apply_all (changes_of ready.edits.items) (kept_game kept.old) }
-    ensures opening { MatchOption opening (kept.new.opening ≡ kept.old.opening)
-        (λ piece. kept.new.opening ≡ piece) }
-    ensures pieces { let from = slice_index kept.old.checkpoints.places at in
-        let to = end_of_stretch kept.old.checkpoints played.met in
-        kept.new.pieces.items ≡ splice kept.old.pieces.items from to played.pieces.items }
-    ensures ticked { let from = slice_index kept.old.checkpoints.places at in
-        let to = end_of_stretch kept.old.checkpoints played.met in
-        kept.new.ticked.items ≡ splice kept.old.ticked.items from to played.ticked.items }
-    ensures every { kept.new.checkpoints.every ≡ kept.old.checkpoints.every }
-    ensures lines { kept.new.checkpoints.lines ≡ played.marks.end }
-    ensures places { kept.new.checkpoints.places
-        ≡ new_places kept.old.checkpoints played.marks at played.met }
-    ensures states { kept.new.checkpoints.states
-        ≡ new_states kept.old.checkpoints played.marks at played.met }
+        fault_of_all (changes_of rerun.ready.edits.items) log 0 ≡ None }
+    requires whole { IsWhole kept.old }
+    requires stretch { let met = rerun.played.met in
+        IsStretch kept.old.checkpoints rerun.played.marks rerun.at met }
+    requires room { HasRoomFor kept.old rerun }
+    ensures taken { IsTakenOver kept.old kept.new rerun }
     ensures inverse { changes_of result.items
-        ≡ inverses_of (changes_of ready.edits.items) (kept_game kept.old) }
-    ensures state { kept.new.state ≡ new_state kept.old.state played.marks played.met }
+        ≡ inverses_of (changes_of rerun.ready.edits.items) (kept_game kept.old) }
 {
-    let mut edits = ready.edits;
+    let mut edits = rerun.ready.edits;
     let Segment {
         mut pieces,
         mut ticked,
         marks,
         met,
-    } = played;
-    let from = kept.checkpoints.places()[at] as usize;
+    } = rerun.played;
+    let from = kept.checkpoints.places()[rerun.at] as usize;
     let to = end_of_stretch(&kept.checkpoints, met);
     make_edits(&mut edits, &mut kept.log, &mut kept.seed);
     splice(&mut kept.pieces, from, to, &mut pieces);
     splice(&mut kept.ticked, from, to, &mut ticked);
-    replace_piece(&mut kept.opening, opening);
-    take_marks(&mut kept.checkpoints, &mut kept.state, marks, at, met);
+    replace_piece(&mut kept.opening, rerun.opening);
+    take_marks(&mut kept.checkpoints, &mut kept.state, marks, rerun.at, met);
     edits
 }
 

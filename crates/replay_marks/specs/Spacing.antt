@@ -15,7 +15,7 @@ pub record IsSpacedFrom (start K : ℕ) (places : List ℕ) (n : ℕ) : Type 0 w
   pub within : (i : ℕ) → i + 1 ≡ length places → slice_index places i ≤ n
   pub end : (i : ℕ) → i + 1 ≡ length places → n ≤ slice_index places i + K
 
--- the same from the start of a log of n lines
+-- places are so spaced from the start of a log of n lines
 abbrev pub IsSpaced : ℕ → List ℕ → ℕ → Type 0
 IsSpaced K places n = IsSpacedFrom 0 K places n
 

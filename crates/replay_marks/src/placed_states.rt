@@ -157,7 +157,7 @@ impl<S: Copy> PlacedStates<S> {
         shift_from(&mut self.places, from, old, new);
     }
 
-    /// The same places, with copies of their states.
+    /// A copy: these places, with copies of their states.
     pub fn copy(&self, alloc: Global) -> Result<Self, AllocError>
         ensures places { IfOk result (λ copied. copied.places ≡ self.now.places) }
         ensures states { IfOk result (λ copied. copied.states ≡ self.now.states) }

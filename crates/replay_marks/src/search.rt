@@ -9,7 +9,7 @@ pub fn first_from(places: &[u32], place: u32) -> usize
     ensures after { (k : ℕ) → result ≤ k → k < length places.now
         → place ≤ slice_index places.now k }
 {
-    places.partition_point(|at| *at < place)
+    places.partition_point(|other| *other < place)
 }
 
 /// The index of the last of the rising places that is not after `place`.
@@ -22,5 +22,5 @@ pub fn last_to(places: &[u32], place: u32) -> usize
     ensures after { (k : ℕ) → result < k → k < length places.now
         → place < slice_index places.now k }
 {
-    places.partition_point(|at| *at <= place) - 1
+    places.partition_point(|other| *other <= place) - 1
 }

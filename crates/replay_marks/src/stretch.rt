@@ -39,12 +39,12 @@ fn take_out<T: Drop>(items: &mut Vec<T>, from: usize, to: usize)
     items.truncate(len - (to - from));
 }
 
-/// Puts `middle` before the items from `at` on, and leaves it empty.
-fn bring_in<T>(items: &mut Vec<T>, at: usize, middle: &mut Vec<T>)
-    requires within { at ≤ vec_len items.old }
+/// Puts `middle` before the items from `from` on, and leaves it empty.
+fn bring_in<T>(items: &mut Vec<T>, from: usize, middle: &mut Vec<T>)
+    requires within { from ≤ vec_len items.old }
     requires room { vec_len items.old + vec_len middle.old ≤ vec_capacity items.old }
     ensures items { items.new.items
-        ≡ take at items.old.items ++ (middle.old.items ++ drop at items.old.items) }
+        ≡ take from items.old.items ++ (middle.old.items ++ drop from items.old.items) }
     ensures len { vec_len items.new ≡ vec_len items.old + vec_len middle.old }
     ensures capacity { vec_capacity items.old ≤ vec_capacity items.new }
     ensures emptied { middle.new.items ≡ [] }
@@ -56,7 +56,7 @@ fn bring_in<T>(items: &mut Vec<T>, at: usize, middle: &mut Vec<T>)
         Err(_) => unreachable!(),
     }
     let len = items.len();
-    turn(items.as_mut_slice(), at, len, old - at);
+    turn(items.as_mut_slice(), from, len, old - from);
 }
 
 /// The first `count` of the items from `from` up to `to` go after the others of them.

@@ -1,4 +1,4 @@
-//! Copies of sessions.
+//! Copies of sessions, which are for users of the library: the program copies none.
 
 use crate::display::show_the_same;
 use crate::edits::STAIRS;

@@ -43,7 +43,7 @@ fn insert<R: RowRule>(
         played: counts.steps().saturating_sub(steps),
         compared: counts.comparisons().saturating_sub(comparisons),
         copied: counts.copies(),
-        met: report.met,
+        met: report.stretch.met,
     })
 }
 

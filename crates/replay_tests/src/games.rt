@@ -35,6 +35,8 @@ fn expect_rows(rt: &impl Abort, session: &Counting<'_>, rows: &[RowState<'_>]) {
 }
 
 /// Expects that a session shows the game of `a`, `bcd`, nothing and `ab` from the seed 263.
+///
+/// `seed` and `every` are for users of the library: the program knows what it opens a session with.
 fn expect_game(rt: &impl Abort, alloc: Global, session: &Counting<'_>) -> Result<(), Fail> {
     assert_eq!(rt; session.seed(), 263);
     assert_eq!(rt; session.every(), 1);
@@ -96,7 +98,11 @@ fn edit_and_back(
     wanted: ReplayCase,
 ) -> Result<(), Fail> {
     let report = session.edit(&change.edit(alloc)?, &mut Meter::new())?;
-    let found = replayed(report.from, report.met, report.played);
+    let found = replayed(
+        report.stretch.from,
+        report.stretch.met,
+        report.stretch.played,
+    );
     assert!(rt; is_replay(found, wanted), "from {}", found.from);
     let _ = session.edit(&report.inverse, &mut Meter::new())?;
     Ok(())
@@ -147,9 +153,9 @@ fn replace_a_stair_of_forty(
 ) -> Result<(), Fail> {
     let edit = LineChange::Replace(5, b"aaaa").edit(alloc)?;
     let report = session.edit(&edit, &mut Meter::new())?;
-    assert!(rt; matches!(report.from, 2..=5));
-    assert!(rt; matches!(report.met, Some(7..=10)));
-    assert!(rt; report.played <= 8);
+    assert!(rt; matches!(report.stretch.from, 2..=5));
+    assert!(rt; matches!(report.stretch.met, Some(7..=10)));
+    assert!(rt; report.stretch.played <= 8);
     assert_eq!(rt; session.number(), 40);
     Ok(())
 }
@@ -179,7 +185,11 @@ fn edit_by_group<R: RowRule>(
 ) -> Result<(), Fail> {
     let changes = [LineChange::Insert(2, b"# note"), LineChange::Delete(3)];
     let report = session.edit_group(rt, &edits_of(alloc, &changes)?, &mut Meter::new())?;
-    let found = replayed(report.from, report.met, report.played);
+    let found = replayed(
+        report.stretch.from,
+        report.stretch.met,
+        report.stretch.played,
+    );
     assert!(rt; is_replay(found, wanted), "from {}", found.from);
     assert!(rt; session.row(2).line == b"# note".as_slice());
     assert!(rt; session.row(3).line == b"on".as_slice());
@@ -188,7 +198,7 @@ fn edit_by_group<R: RowRule>(
     Ok(())
 }
 
-/// The same in a game over a machine.
+/// Edits a game over a machine by this group, and takes it back.
 fn edit_five_by_group<R: RowRule>(
     rt: &impl Abort,
     alloc: Global,

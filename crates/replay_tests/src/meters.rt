@@ -26,7 +26,7 @@ fn expect_refused(rt: &impl Abort, session: &mut Counting<'_>, edit: &Edit, left
     assert_eq!(rt; fault, Some(EditFault::MeterFull), "{edit:?}");
     let full = GroupFault {
         cause: EditFault::MeterFull,
-        at: 0,
+        number: 0,
     };
     let group = session.edit_group(rt, slice::from_ref(edit), &mut meter);
     assert_eq!(rt; group.err(), Some(full), "{edit:?}");
@@ -62,9 +62,9 @@ fn expect_all_refused<'a>(
 fn expect_made(rt: &impl Abort, session: &mut Counting<'_>) -> Result<(), Fail> {
     let mut meter = meter_with(4);
     let report = session.edit(&Edit::Delete(0), &mut meter)?;
-    assert_eq!(rt; report.from, 0);
-    assert_eq!(rt; report.met, Some(1));
-    assert_eq!(rt; report.played, 1);
+    assert_eq!(rt; report.stretch.from, 0);
+    assert_eq!(rt; report.stretch.met, Some(1));
+    assert_eq!(rt; report.stretch.played, 1);
     assert_eq!(rt; meter.left(), 3);
     assert_eq!(rt; session.lines(), 4);
     Ok(())

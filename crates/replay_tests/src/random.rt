@@ -57,7 +57,7 @@ fn expect_counted<R: RowRule>(
 ) -> Result<(), Fail> {
     let before = meter.used();
     let report = session.edit(edit, meter)?;
-    let played = before.saturating_add(u64::from(report.played));
+    let played = before.saturating_add(u64::from(report.stretch.played));
     assert_eq!(rt; meter.used(), played, "{edit:?}");
     assert_eq!(rt; counts.steps(), played, "{edit:?}");
     Ok(())
@@ -81,7 +81,7 @@ fn edit_often<R: RowRule + Default>(
     Ok(())
 }
 
-/// The same from an empty log, with this distance of checkpoints.
+/// Makes two hundred edits of a log that is empty at first, with this distance of checkpoints.
 fn edit_often_from_nothing<R: RowRule + Default>(
     rt: &impl Abort,
     alloc: Global,

@@ -93,7 +93,9 @@ fn edit(
     Ok(())
 }
 
-/// The same of a group.
+/// Makes the edits of a group together, and where memory is refused once more. The refused group
+/// leaves the session as it was, and the later one has the report that it has where nothing
+/// happened.
 fn edit_group(
     rt: &impl Abort,
     alloc: Global,
@@ -105,7 +107,7 @@ fn edit_group(
         return Ok(());
     };
     assert_eq!(rt; fault.cause, EditFault::Memory);
-    assert_eq!(rt; fault.at, 0);
+    assert_eq!(rt; fault.number, 0);
     assert!(rt; show_the_same(session, untouched));
     let later = group_shown(alloc, &session.edit_group(rt, edits, &mut Meter::new())?)?;
     let wanted = group_shown(alloc, &untouched.edit_group(rt, edits, &mut Meter::new())?)?;

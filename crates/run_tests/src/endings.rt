@@ -34,9 +34,9 @@ fn insert_a_turn(
 ) -> Result<(), Fail> {
     let edit = Edit::Insert(1, Vec::from_slice(alloc, b"on")?);
     let report = session.edit(&edit, &mut Meter::new())?;
-    assert_eq!(rt; report.from, 1);
-    assert_eq!(rt; report.met, Some(2));
-    assert_eq!(rt; report.played, 1);
+    assert_eq!(rt; report.stretch.from, 1);
+    assert_eq!(rt; report.stretch.met, Some(2));
+    assert_eq!(rt; report.stretch.played, 1);
     Ok(())
 }
 

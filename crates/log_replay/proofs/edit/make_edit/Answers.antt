@@ -7,15 +7,15 @@ pub returns-in-Ok-clause-game : goal.returns-in-Ok-clause-game
 returns-in-Ok-clause-game c =
     rw (c.in-Insert.is, c.in-Ok.ensures.items)
     (ap (game_of c.args.seed.now)
-    (log_of-insert c.args.log.now.items c.in-Insert.at c.in-Insert.line))
+    (log_of-insert c.args.log.now.items c.in-Insert.place c.in-Insert.line))
 
 pub returns-in-Delete-clause-game : goal.returns-in-Delete-clause-game
 returns-in-Delete-clause-game c =
     rw (c.in-Delete.is, c.remove-line.ensures.items)
-    (ap (game_of c.args.seed.now) (log_of-remove c.args.log.now.items c.in-Delete.at))
+    (ap (game_of c.args.seed.now) (log_of-remove c.args.log.now.items c.in-Delete.place))
 
 pub returns-in-Replace-clause-game : goal.returns-in-Replace-clause-game
 returns-in-Replace-clause-game c =
     rw (c.in-Replace.is, c.replace-old.ensures.after)
     (ap (game_of c.args.seed.now)
-    (log_of-set c.args.log.now.items c.in-Replace.at c.in-Replace.line))
+    (log_of-set c.args.log.now.items c.in-Replace.place c.in-Replace.line))

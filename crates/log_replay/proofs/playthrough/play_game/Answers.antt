@@ -20,7 +20,8 @@ loop-line-preserved g c =
     let log = log_of c.args.log.items in
     let rules = g.M.Machine.rules c.args.machine.now in
     let game = game_of c.args.seed log in
-    let at = c.loop-line.invariant in
+    let before = c.loop-line.invariant in
+    let played = c.in_ok-play_line.ensures.plays in
     let index = c.loop-line.line-index in
     let below_items = rw items at c.loop-line-test.true in
     let n = length-log_of c.args.log.items in
@@ -29,21 +30,21 @@ loop-line-preserved g c =
     ∙ sym (line_at-log_of c.args.log.items index c.line-item.result below_items
     (rw items at c.line-item.is)) in
     let here : g.M.Machine.meaning c.loop-line.played.marks.state ≡ state_at rules game index =
-    at.marking.next ∙ ap (state_at rules game) at.next in
-    let next = c.in_ok-play_line.ensures.next in
-    let next' : c.play_line.new.played.marks.next ≡ index + 1 = next ∙ ap (λ k. k + 1) at.next in
+    before.marking.next ∙ ap (state_at rules game) before.next in
+    let next : c.play_line.new.played.marks.next ≡ index + 1 =
+    played.next ∙ ap (λ k. k + 1) before.next in
     record {
-      texts = c.in_ok-play_line.ensures.pieces
-          ∙ rw (at.texts, here, line) (sym (texts_at-more rules game index below));
-      ticks = c.in_ok-play_line.ensures.ticked
-          ∙ rw (at.ticks, here, line) (sym (ticks_at-more rules game index below));
+      texts = played.pieces
+          ∙ rw (before.texts, here, line) (sym (texts_at-more rules game index below));
+      ticks = played.ticks_are
+          ∙ rw (before.ticks, here, line) (sym (ticks_at-more rules game index below));
       marking =
-          c.in_ok-play_line.ensures.marking (state_at rules game) at.marking
-          (ap (λ k. state_at rules game (k + 1)) at.next ∙ state_at-more rules game index below
-          ∙ rw (here, line) refl);
-      next = next';
-      every = c.in_ok-play_line.ensures.settings.every ∙ at.every;
-      end = c.in_ok-play_line.ensures.settings.end ∙ at.end;
-      first = c.in_ok-play_line.ensures.settings.start ∙ at.first;
-      counted = let counted = at.counted in omega (arith, c.in_ok-play_line.ensures.counted);
+          played.marking (state_at rules game) before.marking
+          (ap (λ k. state_at rules game (k + 1)) before.next
+          ∙ state_at-more rules game index below ∙ rw (here, line) refl);
+      next = next;
+      every = played.settings.every ∙ before.every;
+      end = played.settings.end ∙ before.end;
+      first = played.settings.start ∙ before.first;
+      counted = let counted = before.counted in omega (arith, c.in_ok-play_line.ensures.counted);
     }

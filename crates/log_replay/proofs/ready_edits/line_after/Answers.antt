@@ -22,13 +22,13 @@ pub loop-count-preserved : goal.loop-count-preserved
 loop-count-preserved c =
     let edits = c.args.edits.now in
     let log = log_of c.args.log.now in
-    let at = c.loop-count.invariant in
+    let so_far = c.loop-count.invariant in
     let less = c.loop-count.count - 1 in
-    let within = at.within in
-    let near = at.near in
+    let within = so_far.within in
+    let near = so_far.near in
     let last =
     IsTraced-last edits log c.args.place c.loop-count.count less c.loop-count.source
-    c.index-edits-count.result at.traced (omega arith) (omega arith) c.index-edits-count.is in
+    c.index-edits-count.result so_far.traced (omega arith) (omega arith) c.index-edits-count.is in
     let told = last.1 in
     let moved =
     c.in-Some.ensures.line (log_after_all (changes_of (take less edits)) log) told.free
@@ -47,12 +47,12 @@ pub returns-in-None : goal.returns-in-None
 returns-in-None c =
     let edits = c.args.edits.now in
     let log = log_of c.args.log.now in
-    let at = c.loop-count.invariant in
+    let so_far = c.loop-count.invariant in
     let less = c.loop-count.count - 1 in
-    let within = at.within in
+    let within = so_far.within in
     let last =
     IsTraced-last edits log c.args.place c.loop-count.count less c.loop-count.source
-    c.index-edits-count.result at.traced (omega arith) (omega arith) c.index-edits-count.is in
+    c.index-edits-count.result so_far.traced (omega arith) (omega arith) c.index-edits-count.is in
     let told = last.1 in
     c.own_line.ensures
     ∙ sym (c.in-None.ensures.line (log_after_all (changes_of (take less edits)) log) told.free

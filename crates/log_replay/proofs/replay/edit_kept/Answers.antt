@@ -1,4 +1,4 @@
-use Rattle.std.proofs.Common.{◌≡◌, ℕ, List, length, map, ap, ◌∙◌, refl, sym, arith, rules}
+use Rattle.std.proofs.Common.{◌≡◌, ℕ, List, length, map, ap, ◌∙◌, refl, sym, arith}
 use Rattle.std.specs.Prelude.{slice_index}
 use Rattle.std.proofs.lemmas.List.{length-map}
 use Rattle.std.specs.Global.{Vec}
@@ -15,7 +15,7 @@ use Rattle.log_replay.proofs.Joins.{map-splice}
 use Rattle.log_replay.proofs.Lines.{length-log_of}
 use Rattle.log_replay.proofs.Plays.{length-pieces, length-ticks}
 use Rattle.log_replay.proofs.TakeoverLemmas.{replay_of, kept_after, report_after, met_inside}
-use Rattle.log_replay.proofs.TakeoverLemmas.{met_ready, room_ready, stretch_same, places_same}
+use Rattle.log_replay.proofs.TakeoverLemmas.{stretch_ready, stretch_same, places_same}
 use Rattle.log_replay.proofs.TakeoverLemmas.{states_same, opened_text}
 use Rattle.log_replay.proofs.replay.edit_kept.Goals as goal
 
@@ -27,34 +27,32 @@ make_same : {Machine State Piece Meter X : Type 0} (make : List Change → Game 
     → make (changes_of ready.edits.items) (kept_game roomy) ≡ make changes (kept_game old)
 make_same make edits same = rw (edits.edits, same.seed, same.log) refl
 
-pub take_over-inverse-requires-clause-pieces : goal.take_over-inverse-requires-clause-pieces
-take_over-inverse-requires-clause-pieces g c =
+pub take_over-inverse-requires-clause-whole : goal.take_over-inverse-requires-clause-whole
+take_over-inverse-requires-clause-whole g c =
     let kept = c.args.kept.now in
     let roomy = c.make_room.new.kept in
     let same = c.make_room.ensures.same in
     let n = length-log_of kept.log.items in
     let m = length-map kept.pieces.items g.M.Machine.text in
-    let lengths = length-pieces _ _ _ _ _ _ c.requires.kept.plays in
-    let p = ap length same.pieces in
-    let l = ap length same.log in
-    omega (arith, roomy.pieces.ok, roomy.log.ok)
+    let plays = c.requires.kept.plays in
+    let pieces = length-pieces _ _ _ _ _ _ plays in
+    let ticks = length-ticks _ _ _ _ _ _ plays in
+    let said = ap length same.pieces in
+    let ticked = ap length same.ticked in
+    let lines = ap length same.log in
+    let all = c.requires.kept.lines in
+    record {
+      pieces = omega (arith, roomy.pieces.ok, roomy.log.ok);
+      ticked = omega (arith, roomy.log.ok);
+      lines = omega (arith, same.lines, roomy.log.ok);
+    }
 
-pub take_over-inverse-requires-clause-ticked : goal.take_over-inverse-requires-clause-ticked
-take_over-inverse-requires-clause-ticked g c =
-    let roomy = c.make_room.new.kept in
-    let same = c.make_room.ensures.same in
-    let n = length-log_of c.args.kept.now.log.items in
-    let lengths = length-ticks _ _ _ _ _ _ c.requires.kept.plays in
-    let p = ap length same.ticked in
-    let l = ap length same.log in
-    omega (arith, roomy.log.ok)
-
-pub take_over-inverse-requires-clause-met : goal.take_over-inverse-requires-clause-met
-take_over-inverse-requires-clause-met g c =
+pub take_over-inverse-requires-clause-stretch : goal.take_over-inverse-requires-clause-stretch
+take_over-inverse-requires-clause-stretch g c =
     let replay =
     replay_of c.requires.kept c.in_ok-rerun.ensures.edits c.places.ensures.spaced c.in_ok-rerun.ensures.rerun in
     let same = c.make_room.ensures.same in
-    met_ready replay c.make_room.new.kept.checkpoints same.lines same.places
+    stretch_ready replay c.make_room.new.kept.checkpoints same.every same.lines same.places
 
 pub returns-clause-kept : goal.returns-clause-kept
 returns-clause-kept g c =
@@ -69,14 +67,14 @@ returns-clause-kept g c =
     let played = c.in_ok-rerun.rerun.played in
     let at = c.in_ok-rerun.rerun.at in
     let after = c.take_over-inverse.new.kept in
-    let done = c.take_over-inverse.ensures in
+    let done = c.take_over-inverse.ensures.taken in
     let stretch = stretch_same roomy.checkpoints C same.lines same.places played.met in
     let from = ap (λ x. slice_index x at) same.places in
     rw (done.game ∙ make_same apply_all edits same ∙ sym edits.game)
     (kept_after replay (text after.opening) (map text after.pieces.items) after.ticked.items
     after.state after.checkpoints
     (opened_text text c.in_ok-rerun.rerun.opening after.opening roomy.opening kept.opening same.opening
-    done.opening)
+    done.opening_is)
     (ap (map text) done.pieces
     ∙ map-splice text roomy.pieces.items played.pieces.items
     (slice_index roomy.checkpoints.places at) _ ∙ rw (same.pieces, stretch, from) refl)
@@ -102,43 +100,26 @@ make_room-requires g c =
     let inside = met_inside replay in
     record { among = replay.new_play.begun.among; passed = inside.0; met = inside.1 }
 
-pub take_over-inverse-requires-clause-room_marks : goal.take_over-inverse-requires-clause-room_marks
-take_over-inverse-requires-clause-room_marks g c =
-    room_ready c.make_room.new.kept.checkpoints c.args.kept.now.checkpoints
-    c.make_room.ensures.same.places c.in_ok-rerun.rerun.played.marks c.in_ok-rerun.rerun.at
-    c.in_ok-rerun.rerun.played.met (search rules)
-
 pub returns-clause-game : goal.returns-clause-game
 returns-clause-game g c =
-    c.take_over-inverse.ensures.game
+    c.take_over-inverse.ensures.taken.game
     ∙ make_same apply_all c.in_ok-rerun.ensures.edits c.make_room.ensures.same
 
 pub returns-clause-inverse : goal.returns-clause-inverse
 returns-clause-inverse g c =
-    c.take_over-inverse.ensures.inverse
-    ∙ make_same inverses_of c.in_ok-rerun.ensures.edits c.make_room.ensures.same
-
-pub returns-clause-back : goal.returns-clause-back
-returns-clause-back g c =
     let edits = c.in_ok-rerun.ensures.edits in
     let same = c.make_room.ensures.same in
     let done = c.take_over-inverse.ensures in
     let changes = changes_of c.args.edits.now in
     let old = kept_game c.args.kept.now in
-    rw (done.inverse, done.game, make_same inverses_of edits same, make_same apply_all edits same)
-    (apply_all-inverses_of changes old (IsFree-from_none changes old.log 0 edits.accepted))
-
-pub returns-clause-back_accepted : goal.returns-clause-back_accepted
-returns-clause-back_accepted g c =
-    let edits = c.in_ok-rerun.ensures.edits in
-    let same = c.make_room.ensures.same in
-    let done = c.take_over-inverse.ensures in
-    let changes = changes_of c.args.edits.now in
-    let old = kept_game c.args.kept.now in
-    let log_is = ap (λ (x : Game). x.log) (done.game ∙ make_same apply_all edits same)
-    ∙ log-apply_all changes old in
+    let free = IsFree-from_none changes old.log 0 edits.accepted in
+    let game = done.taken.game ∙ make_same apply_all edits same in
     let inverse = done.inverse ∙ make_same inverses_of edits same in
-    rw (inverse, log_is)
-    (none_from_IsFree (inverses_of changes old) (log_after_all changes old.log) 0
-    (IsFree-inverses_of changes old c.requires.kept.game_is
-    (IsFree-from_none changes old.log 0 edits.accepted)))
+    let log_is = ap (λ (x : Game). x.log) game ∙ log-apply_all changes old in
+    record {
+      inverses = inverse;
+      accepted = rw (inverse, log_is)
+          (none_from_IsFree (inverses_of changes old) (log_after_all changes old.log) 0
+          (IsFree-inverses_of changes old c.requires.kept.game_is free));
+      back = rw (inverse, game) (apply_all-inverses_of changes old free);
+    }

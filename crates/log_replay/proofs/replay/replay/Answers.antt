@@ -19,40 +19,35 @@ last_index : {read places : List ℕ} {place at : ℕ} → read ≡ places → a
 last_index {at} is among before after =
     rw (← is) (record { among = among; before = before at (omega arith); after = after })
 
-pub play_changed-requires-clause-marking : goal.play_changed-requires-clause-marking
-play_changed-requires-clause-marking g c =
+pub play_changed-requires-clause-begun : goal.play_changed-requires-clause-begun
+play_changed-requires-clause-begun g c =
     let log_is = c.deref.ensures.value in
+    let rules = g.M.Machine.rules c.args.machine.now in
     let checkpoints =
-    checkpoints_of (g.M.Machine.rules c.args.machine.now) (rw log_is at c.in_ok-ready.ensures.ready)
+    checkpoints_of rules (rw log_is at c.in_ok-ready.ensures.ready)
     c.requires.kept.every_is.some c.requires.kept.lines c.places.ensures.spaced in
     let last =
     last_index c.places.ensures.places c.last_to-at.ensures.within c.last_to-at.ensures.before
     c.last_to-at.ensures.after in
     let revision =
-    revision_by (g.M.Machine.rules c.args.machine.now) c.args.kept.now.seed
-    c.args.kept.now.log.items c.in_ok-ready.ready in
-    rw log_is (c.in_ok-opening.ensures.marking (states_of_new revision) refl
-    (λ seed. prefix_are seed c.args.kept.now.checkpoints checkpoints c.requires.kept.states
-    c.last_to-at.result last))
-
-pub play_changed-requires-clause-before : goal.play_changed-requires-clause-before
-play_changed-requires-clause-before g c =
-    let log_is = c.deref.ensures.value in
-    let checkpoints =
-    checkpoints_of (g.M.Machine.rules c.args.machine.now) (rw log_is at c.in_ok-ready.ensures.ready)
-    c.requires.kept.every_is.some c.requires.kept.lines c.places.ensures.spaced in
-    let last =
-    last_index c.places.ensures.places c.last_to-at.ensures.within c.last_to-at.ensures.before
-    c.last_to-at.ensures.after in
+    revision_by rules c.args.kept.now.seed c.args.kept.now.log.items c.in_ok-ready.ready in
     let begun = c.in_ok-opening.ensures in
-    record {
-      end = begun.end ∙ c.in_ok-ready.ensures.ready.lines;
-      every_is = begun.every;
-      apart = omega (arith, begun.every, c.requires.kept.every_is.some);
-      from = rw begun.next last.before;
-      near = rw (begun.next, begun.every)
-          (near_last checkpoints.spacing last (omega (arith, checkpoints.shift.within_old)));
-    }
+    rw log_is (record {
+      lines = c.requires.kept.lines;
+      old_states = c.requires.kept.states;
+      marking =
+          begun.marking (states_of_new revision) refl
+          (λ seed. prefix_are seed c.args.kept.now.checkpoints checkpoints c.requires.kept.states
+          c.last_to-at.result last);
+      before = record {
+        end = begun.end ∙ rw log_is at c.in_ok-ready.ensures.ready.lines;
+        every_is = begun.begun.every;
+        apart = omega (arith, begun.begun.every, c.requires.kept.every_is.some);
+        from = rw begun.next last.before;
+        near = rw (begun.next, begun.begun.every)
+            (near_last checkpoints.spacing last (omega (arith, checkpoints.shift.within_old)));
+      };
+    })
 
 pub returns-in_err-played-clause-bounded :
     goal.returns-in_err-played-clause-bounded
@@ -60,7 +55,7 @@ returns-in_err-played-clause-bounded g c =
     let log_is = c.deref.ensures.value in
     let left : 2 ^ 64 - 1 - g.M.Meter.Steps.count c.args.meter.now ≡ c.left-left.result =
     omega (arith, c.left-left.ensures) in
-    rw (left, ← c.in_ok-opening.ensures.every)
+    rw (left, ← c.in_ok-opening.ensures.begun.every)
     (steps_within (g.M.Machine.rules c.args.machine.now) c.in_ok-opening.field-0.marks.every _
     (g.M.Meter.Steps.count c.args.meter.now) (g.M.Meter.Steps.count c.play_changed.new.meter)
     (rw log_is at c.in_ok-ready.ensures.edits) (rw log_is at c.in_ok-ready.ensures.none)
@@ -72,7 +67,7 @@ returns-clause-bounded g c =
     let log_is = c.deref.ensures.value in
     let left : 2 ^ 64 - 1 - g.M.Meter.Steps.count c.args.meter.now ≡ c.left-left.result =
     omega (arith, c.left-left.ensures) in
-    rw (left, ← c.in_ok-opening.ensures.every)
+    rw (left, ← c.in_ok-opening.ensures.begun.every)
     (steps_within (g.M.Machine.rules c.args.machine.now) c.in_ok-opening.field-0.marks.every _
     (g.M.Meter.Steps.count c.args.meter.now) (g.M.Meter.Steps.count c.play_changed.new.meter)
     (rw log_is at c.in_ok-ready.ensures.edits) (rw log_is at c.in_ok-ready.ensures.none)

@@ -4,7 +4,7 @@ use Rattle.log_replay.proofs.session.Session.open.Goals as goal
 
 pub play_game-requires-clause-game : goal.play_game-requires-clause-game
 play_game-requires-clause-game g c =
-    rw c.in-Ok.ensures
+    rw c.in_ok-lines.ensures
     (IsGame-from_no_fault c.args.every (lines c.args.log.now) c.args.seed
     c.in_ok-count.ensures.0)
 
