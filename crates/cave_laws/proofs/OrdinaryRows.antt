@@ -28,8 +28,8 @@ Held P = record {
 }
 
 -- one of two deeds
-pub deed_held : (P : Claim) (b : Bool) (d e : Deed) → On (Held P) d.scene.state → On (Held P) e.state
-    → On (Held P) (if b then d else e).state
+pub deed_held : (P : Claim) (b : Bool) (d e : Deed) → On (Held P) d.scene.state
+    → On (Held P) e.scene.state → On (Held P) (if b then d else e).scene.state
 deed_held P b d e h k =
     choose (λ (one : Deed). On (Held P) one.scene.state) b d e (λ _. h) (λ _. k)
 

@@ -96,7 +96,7 @@ within_kept P (suc left) d h =
         → On P (elim step as (λ _. Act) [
           | Done next ↦ o
           | GoOn v x ↦ act_within left (deed d.cave (going_on d.order v x) o.scene)
-        ]).state
+        ]).scene.state
     stepped o (Done next) here more = here
     stepped o (GoOn v x) here more = more v x
 

@@ -159,9 +159,10 @@ fn do_verb(rules: &Rules<'_>, order: Order, play: &mut Play<'_>) -> Option<HalfC
     ensures same { IsSamePlay play.old play.new }
     ensures few { SaysUpTo (parts_of_deed play.old.left) play.old play.new }
 {
+    let verb = order.verb;
     let next = act(rules, order, play);
     follow(rules, &next, play);
-    half_command_kept(&next, order.verb)
+    half_command_kept(&next, verb)
 }
 
 /// What was read is done. Returns what is kept for the next line.
