@@ -8,7 +8,7 @@ ghost use Rattle.cave_things.specs.Treasures.{known_treasures};
 ghost use Rattle.cave_begin.specs.Placing.{after_placing_all, after_hiding_all};
 
 use cave_data::Cave;
-use cave_objects::object::LAST_OBJECT;
+use cave_objects::object::OBJECTS;
 use cave_objects::{Anchor, Object, Objects, Place, Prop};
 use cave_rows::PlaceRole;
 use cave_things::homes::anchor_by;
@@ -18,7 +18,7 @@ use cave_words::Stream;
 use cave_world::{Count, Dwarf, State};
 
 /// Whether an object is put with those that have two places, or with the others.
-fn is_in_pass(twice: bool, second: i16) -> bool
+fn is_placed_now(twice: bool, second: i16) -> bool
     requires { second ≤ℤ pos 300 }
     ensures { result ≡ is_placed_now twice (anchor_by second) }
 {
@@ -44,10 +44,10 @@ fn place_object(object: Object, home: u16, second: i16, objects: &mut Objects)
 fn place_down(cave: &Cave, twice: bool, objects: &mut Objects)
     ensures { objects.new ≡ after_placing_all cave.now (objects_due cave.now twice) objects.old }
 {
-    for i in 0..LAST_OBJECT as u8 {
-        let object = Object::new(LAST_OBJECT as u8 - i);
+    for i in 0..OBJECTS as u8 {
+        let object = Object::new(OBJECTS as u8 - i);
         let (home, second) = cave.placement(u16::from(object.number()));
-        if is_in_pass(twice, second) {
+        if is_placed_now(twice, second) {
             place_object(object, home, second, objects);
         }
     }

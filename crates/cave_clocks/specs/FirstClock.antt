@@ -78,27 +78,27 @@ start_of_closing cave p =
     with_state (with_closing_begun told.state) told
 
 -- what a turn of the first clock has come to, and whether the cave began to close in it
-pub record Tick : Type 0 where
+pub record ClockTurn : Type 0 where
   pub has_begun : Bool
   pub scene : Scene
 
 -- what it has come to
-abbrev pub tick : Bool → Scene → Tick
-tick begun p = record { has_begun = begun; scene = p }
+abbrev pub clock_turn : Bool → Scene → ClockTurn
+clock_turn begun p = record { has_begun = begun; scene = p }
 
 -- how many parts are said of it at most
 abbrev pub parts_of_beginning : Bool → ℕ
 parts_of_beginning begun = if begun then 1 else 0
 
 -- the cave begins to close in the turn in which the clock comes to 0
-abbrev pub tick_to_end : CaveView → Scene → Tick
-tick_to_end cave p =
-    if int_eq p.state.closing.first_clock (pos 0) then tick true (start_of_closing cave p)
-    else tick false p
+abbrev pub last_clock_turn : CaveView → Scene → ClockTurn
+last_clock_turn cave p =
+    if int_eq p.state.closing.first_clock (pos 0) then clock_turn true (start_of_closing cave p)
+    else clock_turn false p
 
 -- the first clock goes on by a turn, if it goes
-unfoldable pub timing_of_first_clock : CaveView → Scene → Tick
+unfoldable pub timing_of_first_clock : CaveView → Scene → ClockTurn
 timing_of_first_clock cave p =
     if is_first_clock_going cave p.state
-    then tick_to_end cave (with_state (with_first_clock_down p.state) p)
-    else tick false p
+    then last_clock_turn cave (with_state (with_first_clock_down p.state) p)
+    else clock_turn false p

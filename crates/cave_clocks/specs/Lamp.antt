@@ -66,8 +66,8 @@ unfoldable pub lamp_going_out : CaveView → Scene → Scene
 lamp_going_out cave p = after_dead_lamp cave (with_state (with_lamp_out cave p.state) p)
 
 -- the lamp has gone out, and the player is outside the cave
-unfoldable pub is_hopeless : CaveView → State → Bool
-is_hopeless cave s = int_lt s.lamp.charge (pos 0) && nat_le s.trail.here (outside_place cave)
+unfoldable pub is_stranded : CaveView → State → Bool
+is_stranded cave s = int_lt s.lamp.charge (pos 0) && nat_le s.trail.here (outside_place cave)
 
 -- the lamp is low and at hand, and the player wasn't warned
 unfoldable pub is_warning_due : CaveView → State → Bool
@@ -100,7 +100,7 @@ unfoldable pub care_of_lamp : CaveView → Scene → Burning
 care_of_lamp cave p =
     if can_change_batteries cave p.state then burning_of false (change_of_batteries cave p)
     else (if int_eq p.state.lamp.charge (pos 0) then burning_of false (lamp_going_out cave p)
-    else (if is_hopeless cave p.state then burning_of true (after_saying role.GiveUp p)
+    else (if is_stranded cave p.state then burning_of true (after_saying role.GiveUp p)
     else (if is_warning_due cave p.state then burning_of false (after_warning cave p)
     else burning_of false p)))
 

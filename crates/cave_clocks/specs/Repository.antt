@@ -12,6 +12,7 @@ use Rattle.cave_objects.specs.Layout.{Layout}
 use Rattle.cave_objects.specs.Objects.{with_place, with_anchor, with_prop, carried_objects}
 use Rattle.cave_objects.specs.Spots.{anchor_at}
 use Rattle.cave_world.specs.declared.state.State.{State}
+use Rattle.cave_world.specs.State.{with_player_from}
 use Rattle.cave_things.specs.Effects.{with_objects}
 use Rattle.cave_things.specs.Places.{place_named}
 use Rattle.cave_scene.specs.Play.{Scene, after_saying, with_state}
@@ -20,11 +21,11 @@ use Rattle.cave_scene.specs.Rules.{thing}
 -- what is put into the repository, and the prop that it gets once the player has carried it there
 pub record Stored : Type 0 where
   pub name : Named
-  pub text : ℕ
+  pub prop : ℕ
 
 -- a thing of a name, and its prop once it was carried
 abbrev pub stored_thing : Named → ℕ → Stored
-stored_thing n v = record { name = n; text = v }
+stored_thing n v = record { name = n; prop = v }
 
 -- what is put at the northeast end
 unfoldable pub northeast_things : List Stored
@@ -54,7 +55,7 @@ with_thing cave place n v o = with_prop (with_place o (thing cave n) place) (thi
 
 -- until it was carried, the prop of what is stored is -1 less the prop that it then gets
 abbrev pub with_stored : CaveView → ℕ → Stored → Layout → Layout
-with_stored cave place t o = with_thing cave place t.name (negsuc t.text) o
+with_stored cave place t o = with_thing cave place t.name (negsuc t.prop) o
 
 -- things are put at a place one after another
 abbrev pub with_all_stored : CaveView → ℕ → List Stored → Layout → Layout
@@ -78,11 +79,6 @@ abbrev pub without_all : List ℕ → Layout → Layout
 without_all [] o = o
 without_all (x ∷ xs) o = without_all xs (with_place o x 0)
 
--- the player is at a place, and has come from there
-abbrev pub with_player_at : ℕ → State → State
-with_player_at place s = let trail = s.trail in
-    record s { trail = record trail { here = place; last = place } }
-
 -- the player carries nothing any more
 unfoldable pub with_empty_hands : State → State
 with_empty_hands s = with_objects (without_all (carried_objects s.objects) s.objects) s
@@ -96,7 +92,7 @@ with_cave_closed s = let closing = s.closing in
 unfoldable pub closed_cave : CaveView → ℕ → ℕ → Scene → Scene
 closed_cave cave ne sw p =
     let stores = with_objects (furnished_repository cave ne sw p.state.objects) p.state in
-    let left = with_empty_hands (with_player_at ne stores) in
+    let left = with_empty_hands (with_player_from ne stores) in
     let told = after_saying role.Repository (with_state left p) in
     with_state (with_cave_closed told.state) told
 

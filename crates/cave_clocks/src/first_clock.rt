@@ -6,18 +6,18 @@ ghost use Rattle.cave_clocks.specs.FirstClock.{is_first_clock_going, with_ways_b
 ghost use Rattle.cave_clocks.specs.FirstClock.{dismissed_dwarf, without_dwarves, without_bear};
 ghost use Rattle.cave_clocks.specs.FirstClock.{with_loose, with_chain_and_axe_loose, cleared_cave};
 ghost use Rattle.cave_clocks.specs.FirstClock.{with_closing_begun, start_of_closing};
-ghost use Rattle.cave_clocks.specs.FirstClock.{tick, parts_of_beginning, timing_of_first_clock};
+ghost use Rattle.cave_clocks.specs.FirstClock.{clock_turn, parts_of_beginning, timing_of_first_clock};
 
 use cave_objects::{Anchor, Object, Objects, Place, Prop};
 use cave_rows::{PlaceRole, Role};
 use cave_scene::{Play, Rules};
-use cave_things::{deep_place, has_prop, is_place, pay_troll, place_named};
+use cave_things::{deep_place, has_prop, is_place, place_named, remove_troll};
 use cave_words::Named;
 use cave_world::{Dwarf, State};
 
 /// Whether the first clock goes. It doesn't go at y2.
 #[tactic(auto, unfolding(crate::specs::FirstClock::is_first_clock_going))]
-fn is_going(rules: &Rules<'_>, state: &State) -> bool
+fn is_first_clock_going(rules: &Rules<'_>, state: &State) -> bool
     ensures value { result ≡ is_first_clock_going (cave_of rules.now) state.now }
     ensures left { IsTrue result → pos 1 ≤ℤ state.now.closing.first_clock }
 {
@@ -90,7 +90,7 @@ fn clear_cave(rules: &Rules<'_>, state: &mut State)
 {
     bar_ways(rules, &mut state.objects);
     dismiss_dwarves(state);
-    pay_troll(rules, state);
+    remove_troll(rules, state);
     dismiss_bear(rules, state);
     loosen_chain_and_axe(rules, &mut state.objects);
 }
@@ -118,12 +118,12 @@ fn begin_closing(rules: &Rules<'_>, play: &mut Play<'_>)
 #[tactic(auto, unfolding(crate::specs::FirstClock::timing_of_first_clock))]
 pub fn run_first_clock(rules: &Rules<'_>, play: &mut Play<'_>) -> bool
     requires { HasRoom 1 play.old }
-    ensures play { tick result (scene_of play.new)
+    ensures play { clock_turn result (scene_of play.new)
         ≡ timing_of_first_clock (cave_of rules.now) (scene_of play.old) }
     ensures same { GoesOn play.old play.new }
     ensures few { SaysUpTo (parts_of_beginning result) play.old play.new }
 {
-    if !is_going(rules, play.state) {
+    if !is_first_clock_going(rules, play.state) {
         return false;
     }
     play.state.closing.first_clock -= 1;

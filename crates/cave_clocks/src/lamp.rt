@@ -4,7 +4,7 @@ ghost use Rattle.cave_scene.specs.Bounds.{HasRoom, SaysUpTo};
 ghost use Rattle.cave_scene.specs.Play.{scene_of, GoesOn};
 ghost use Rattle.cave_clocks.specs.Lamp.{with_lamp_burnt, is_low, can_change_batteries};
 ghost use Rattle.cave_clocks.specs.Lamp.{with_new_charge, with_batteries_used, change_of_batteries};
-ghost use Rattle.cave_clocks.specs.Lamp.{with_lamp_out, lamp_going_out, is_hopeless};
+ghost use Rattle.cave_clocks.specs.Lamp.{with_lamp_out, lamp_going_out, is_stranded};
 ghost use Rattle.cave_clocks.specs.Lamp.{is_warning_due, warning, with_warning, after_warning};
 ghost use Rattle.cave_clocks.specs.Lamp.{burning_of, care_of_lamp, timing_of_lamp};
 
@@ -104,9 +104,9 @@ fn go_out(rules: &Rules<'_>, play: &mut Play<'_>)
 }
 
 /// Whether the lamp has gone out, and the player is outside the cave.
-#[tactic(auto, unfolding(crate::specs::Lamp::is_hopeless))]
-fn is_hopeless(rules: &Rules<'_>, state: &State) -> bool
-    ensures { result ≡ is_hopeless (cave_of rules.now) state.now }
+#[tactic(auto, unfolding(crate::specs::Lamp::is_stranded))]
+fn is_stranded(rules: &Rules<'_>, state: &State) -> bool
+    ensures { result ≡ is_stranded (cave_of rules.now) state.now }
 {
     state.lamp.charge.turns() < 0 && state.trail.here.number() <= outside_place(rules.cave).number()
 }
@@ -169,7 +169,7 @@ fn care_for_lamp(rules: &Rules<'_>, play: &mut Play<'_>) -> bool
         go_out(rules, play);
         return false;
     }
-    if is_hopeless(rules, play.state) {
+    if is_stranded(rules, play.state) {
         play.say(Role::GiveUp);
         return true;
     }

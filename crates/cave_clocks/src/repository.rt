@@ -4,7 +4,7 @@ ghost use Rattle.cave_scene.specs.Bounds.{HasRoom, SaysUpTo};
 ghost use Rattle.cave_scene.specs.Play.{scene_of, GoesOn};
 ghost use Rattle.cave_clocks.specs.Repository.{northeast_things, southwest_things, with_thing};
 ghost use Rattle.cave_clocks.specs.Repository.{with_all_stored, with_mirror, furnished_repository};
-ghost use Rattle.cave_clocks.specs.Repository.{without_all, with_player_at, with_empty_hands};
+ghost use Rattle.cave_clocks.specs.Repository.{without_all, with_empty_hands};
 ghost use Rattle.cave_clocks.specs.Repository.{with_cave_closed, closed_cave};
 ghost use Rattle.cave_clocks.specs.Repository.{closure, closure_if_due};
 ghost use Rattle.cave_clocks.specs.Repository.{parts_of_closure, is_second_clock_going};
@@ -71,13 +71,6 @@ fn furnish(rules: &Rules<'_>, northeast: Place, southwest: Place, objects: &mut 
     hang_mirror(rules, northeast, southwest, objects);
 }
 
-fn place_player(place: Place, state: &mut State)
-    ensures { state.new ≡ with_player_at place state.old }
-{
-    state.trail.here = place;
-    state.trail.last = place;
-}
-
 fn destroy_all(doomed: &[Object], objects: &mut Objects)
     ensures { objects.new ≡ without_all doomed.now objects.old }
 {
@@ -111,7 +104,7 @@ fn close_cave(rules: &Rules<'_>, northeast: Place, southwest: Place, play: &mut 
     ensures few { SaysUpTo 1 play.old play.new }
 {
     furnish(rules, northeast, southwest, &mut play.state.objects);
-    place_player(northeast, play.state);
+    play.state.put_player_from(northeast);
     empty_hands(play.state);
     play.say(Role::Repository);
     set_closed(play.state);
@@ -135,7 +128,7 @@ fn close_if_due(rules: &Rules<'_>, play: &mut Play<'_>) -> Option<Place>
     Some(northeast)
 }
 
-fn is_going(state: &State) -> bool
+fn is_second_clock_going(state: &State) -> bool
     ensures { result ≡ is_second_clock_going state.now }
 {
     state.closing.first_clock == -1 && 0 <= state.closing.second_clock
@@ -151,7 +144,7 @@ pub fn run_second_clock(rules: &Rules<'_>, play: &mut Play<'_>) -> Option<Place>
     ensures same { GoesOn play.old play.new }
     ensures few { SaysUpTo (parts_of_closure result) play.old play.new }
 {
-    if !is_going(play.state) {
+    if !is_second_clock_going(play.state) {
         return None;
     }
     play.state.closing.second_clock -= 1;

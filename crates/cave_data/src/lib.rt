@@ -16,5 +16,4 @@ mod words;
 
 pub use cave::Cave;
 pub use classes::Rating;
-pub use reader::LAST_OBJECT;
 pub use words::WordTable;

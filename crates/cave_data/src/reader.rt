@@ -6,8 +6,9 @@ ghost use Rattle.cave_data.specs.Steps.{row_step, advance, no_tables};
 use crate::classes::{Classes, MAX_CLASSES};
 use crate::tables::{Table, mark};
 use crate::texts::Texts;
-use crate::ways::{LAST_PLACE, Ways};
+use crate::ways::Ways;
 use crate::words::{MAX_WORDS, WordTable};
+use cave_numbers::{LAST_HINT, LAST_MESSAGE, LAST_OBJECT, LAST_PLACE};
 use cave_rows::field_rows::{
     condition_row, default_row, hint_row, object_line, placement_row, text_line, way_row, word_row,
 };
@@ -22,14 +23,8 @@ const MAX_WAYS: usize = 2000;
 /// The last number that a text of an object may have: a hundred times the object, and a prop.
 const LAST_OBJECT_TEXT: u16 = 100 * LAST_NAMED + 99;
 
-const LAST_MESSAGE: u16 = 499;
-
-/// The last object of a database.
-pub const LAST_OBJECT: u16 = 100;
-
 const LAST_ACTION: u16 = 99;
 
-const LAST_HINT: u16 = 20;
 /// The last object that may have texts.
 pub const LAST_NAMED: u16 = 99;
 
@@ -89,7 +84,7 @@ impl Tables {
     fn add_long_line(&mut self, line: &[u8]) -> Result<(), Cause>
         ensures { Leaves result self.new (row_step self.old Section.LongTexts line.now) }
     {
-        let (place, text) = text_line(line, 1, 300)?;
+        let (place, text) = text_line(line, 1, LAST_PLACE)?;
         self.long.add_line(place, text)?;
         Ok(())
     }
@@ -97,7 +92,7 @@ impl Tables {
     fn add_short_line(&mut self, line: &[u8]) -> Result<(), Cause>
         ensures { Leaves result self.new (row_step self.old Section.ShortTexts line.now) }
     {
-        let (place, text) = text_line(line, 1, 300)?;
+        let (place, text) = text_line(line, 1, LAST_PLACE)?;
         self.short.add_line(place, text)?;
         Ok(())
     }
@@ -143,7 +138,7 @@ impl Tables {
     fn add_message_line(&mut self, line: &[u8]) -> Result<(), Cause>
         ensures { Leaves result self.new (row_step self.old Section.Messages line.now) }
     {
-        let (number, text) = text_line(line, 1, 499)?;
+        let (number, text) = text_line(line, 1, LAST_MESSAGE)?;
         self.messages.add_line(number, text)?;
         Ok(())
     }
@@ -194,7 +189,7 @@ impl Tables {
     fn pass_magic_line(&self, line: &[u8]) -> Result<(), Cause>
         ensures { Answers (λ _. self.now) result (row_step self.now Section.Magic line.now) }
     {
-        text_line(line, 1, 499)?;
+        text_line(line, 1, LAST_MESSAGE)?;
         Ok(())
     }
 }

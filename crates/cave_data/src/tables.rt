@@ -1,8 +1,7 @@
 //! Tables as they are while a database is read.
-ghost use Rattle.std.specs.Prelude.{◌≡◌, ◌<◌, ℕ, OnOk, option_map};
+ghost use Rattle.std.specs.Prelude.{◌≡◌, ◌<◌, OnOk};
 ghost use Rattle.std.specs.FinMap.{get, empty, insert};
 ghost use Rattle.std.specs.List.{fold};
-ghost use Rattle.cave_data.specs.Slots.{slot};
 ghost use Rattle.cave_data.specs.Tables.{with_bit};
 
 use crate::slots::Slots;

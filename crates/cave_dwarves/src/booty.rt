@@ -52,7 +52,7 @@ fn is_booty(rules: &Rules<'_>, state: &State, object: Object) -> bool
     ensures { result ≡ is_booty (cave_of rules.now) state.now object }
 {
     pirate_wants(rules, state, object)
-        && (is_in_hand(rules, state, object) || (state.at(object) && !is_fixed(state, object)))
+        && (is_in_hand(rules, state, object) || (state.is_here(object) && !is_fixed(state, object)))
 }
 
 /// The pirate brings a treasure to its chest, if it takes it.

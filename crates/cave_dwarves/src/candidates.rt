@@ -6,8 +6,8 @@ ghost use Rattle.cave_dwarves.specs.Candidates.{is_haunt, place_ahead, candidate
 
 use crate::haunt::Haunt;
 use arrayvec::ArrayVec;
+use cave_numbers::LAST_PLACE;
 use cave_objects::Place;
-use cave_objects::place::LAST_PLACE;
 use cave_rows::Row;
 use cave_scene::Rules;
 use cave_things::{Condition, has_condition_of};
@@ -35,7 +35,7 @@ fn is_haunt(rules: &Rules<'_>, is_pirate: bool, place: Place) -> bool
 fn place_ahead(rules: &Rules<'_>, is_pirate: bool, dwarf: &Dwarf, row: &Row) -> Option<Place>
     ensures { result ≡ place_ahead (cave_of rules.now) is_pirate dwarf.now (going row.now) }
 {
-    if row.condition() == NOT_FOR_DWARVES || row.number() > LAST_PLACE as u16 {
+    if row.condition() == NOT_FOR_DWARVES || row.number() > LAST_PLACE {
         return None;
     }
     let place = Place::new(row.number());
@@ -46,7 +46,7 @@ fn place_ahead(rules: &Rules<'_>, is_pirate: bool, dwarf: &Dwarf, row: &Row) -> 
 }
 
 /// Whether a place is the last one that was kept.
-fn is_kept(place: Place, last: &Option<Place>) -> bool
+fn is_last_kept(place: Place, last: &Option<Place>) -> bool
     ensures { result ≡ is_place place last.now }
 {
     match last {
@@ -73,7 +73,7 @@ pub fn candidates(
         let Some(place) = place_ahead(rules, is_pirate, dwarf, row) else {
             continue;
         };
-        if is_kept(place, &last) {
+        if is_last_kept(place, &last) {
             continue;
         }
         found.push(Haunt::at(place));

@@ -67,7 +67,7 @@ fn rustle(play: &mut Play<'_>)
     if !is_pirate_new(play.state) {
         return;
     }
-    if play.chance(20) {
+    if play.happens(20) {
         play.say(Role::Rustle);
     }
 }

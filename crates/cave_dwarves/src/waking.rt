@@ -53,7 +53,7 @@ fn perhaps_remove_one(state: &mut State)
     ensures { state.new ≡ perhaps_without_one state.old }
 {
     let number = state.stream.draw(5);
-    if state.stream.pct(50) {
+    if state.stream.is_within_percent(50) {
         remove_dwarf(number as usize, state);
     }
 }
@@ -128,7 +128,7 @@ pub fn awake(rules: &Rules<'_>, play: &mut Play<'_>)
     if play.state.trail.here.number() < deep_place(rules.cave).number() {
         return;
     }
-    if play.chance(95) {
+    if play.happens(95) {
         return;
     }
     throw_first_axe(rules, play);

@@ -1,5 +1,5 @@
 -- Hints: one is offered to a player who stays for long where it helps, and who needs it.
-use Rattle.std.specs.Prelude.{ℕ, pos, negsuc, ◌+◌, ◌-◌, ◌*◌, ◌+ℤ◌, Bool, true, false, ◌==◌, ◌&&◌}
+use Rattle.std.specs.Prelude.{ℕ, pos, negsuc, ◌+◌, ◌-◌, ◌*◌, ◌+ℤ◌, Bool, true, ◌==◌, ◌&&◌}
 use Rattle.std.specs.Prelude.{not, nat_le, nat_lt, int_lt, min, if◌then◌else◌, length, Option, Some}
 use Rattle.std.specs.Prelude.{None, slice_index_or, slice_set, suc, zero}
 use Rattle.std.specs.FinMap as map
@@ -15,7 +15,7 @@ use Rattle.cave_words.specs.declared.named.Named.TheVariants as name
 use Rattle.cave_objects.specs.Lists.{halves_at}
 use Rattle.cave_objects.specs.Objects.{carried_objects}
 use Rattle.cave_world.specs.Sight.{has_condition}
-use Rattle.cave_world.specs.State.{takes_no_command}
+use Rattle.cave_world.specs.State.{takes_no_command, is_hint_taken}
 use Rattle.cave_world.specs.declared.ending.Question.TheVariants as question
 use Rattle.cave_world.specs.declared.part.NumberLine.TheVariants.{HintCosts}
 use Rattle.cave_world.specs.declared.part.Part.TheVariants as part
@@ -49,9 +49,6 @@ abbrev pub with_turns_near : ℕ → ℕ → State → State
 with_turns_near h n s =
     let hints = s.hints in
     record s { hints = record hints { turns = slice_set hints.turns (h - 1) n } }
-
-abbrev pub was_taken : ℕ → State → Bool
-was_taken h s = slice_index_or s.hints.is_taken (h - 1) false
 
 abbrev pub with_hint_taken : ℕ → State → State
 with_hint_taken h s =
@@ -130,7 +127,7 @@ offer_scene cave h hint p =
 abbrev pub after_considering_if : CaveView → ℕ → Option Hint → Scene → Scene
 after_considering_if cave h None p = p
 after_considering_if cave h (Some hint) p =
-    if was_taken h p.state then p
+    if is_hint_taken p.state h then p
     else offer_scene cave h hint (with_state (after_turn_near cave h p.state) p)
 
 unfoldable pub after_considering : CaveView → ℕ → Scene → Scene

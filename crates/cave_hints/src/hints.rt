@@ -4,7 +4,7 @@ ghost use Rattle.std.specs.Prelude.{◌≡◌, ◌<◌, ◌+◌, ◌*◌, false,
 ghost use Rattle.cave_scene.specs.Bounds.{HasRoom, SaysUpTo, parts_of_question};
 ghost use Rattle.cave_scene.specs.Play.{scene_of, GoesOn};
 ghost use Rattle.cave_scene.specs.Rules.{cave_of};
-ghost use Rattle.cave_hints.specs.Hints.{turns_near, with_turns_near, was_taken, with_hint_taken};
+ghost use Rattle.cave_hints.specs.Hints.{turns_near, with_turns_near, with_hint_taken};
 ghost use Rattle.cave_hints.specs.Hints.{is_in_area, after_turn_near, is_due, is_locked_out};
 ghost use Rattle.cave_hints.specs.Hints.{is_after_bird, is_held_by_snake, is_lost_in_maze};
 ghost use Rattle.cave_hints.specs.Hints.{is_short_of_pyramid, is_needed, put_off, offer_scene};
@@ -23,7 +23,7 @@ use cave_world::{Charge, Count, HintNumber, NumberLine, Part, Question, State, h
 const FIRST_HINT: u8 = 4;
 
 /// How many hints are offered.
-const HINTS: u8 = 17;
+const OFFERED_HINTS: u8 = 17;
 
 /// Asks how to come through the grate.
 const GRATE_HINT: u8 = 4;
@@ -53,7 +53,7 @@ pub fn consider_all(rules: &Rules<'_>, play: &mut Play<'_>)
     ensures same { GoesOn play.old play.new }
     ensures few { SaysUpTo parts_of_question play.old play.new }
 {
-    for before in 0..HINTS {
+    for before in 0..OFFERED_HINTS {
         consider(rules, HintNumber::new(before + FIRST_HINT), play);
     }
 }
@@ -99,12 +99,6 @@ fn set_turns_near(hint: HintNumber, turns: Count<10000>, state: &mut State)
     ensures { state.new ≡ with_turns_near hint turns state.old }
 {
     state.hints.turns[usize::from(hint.number()) - 1] = turns;
-}
-
-fn was_taken(hint: HintNumber, state: &State) -> bool
-    ensures { result ≡ was_taken hint state.now }
-{
-    state.hints.is_taken[usize::from(hint.number()) - 1]
 }
 
 fn take_hint(hint: HintNumber, state: &mut State)
@@ -247,7 +241,7 @@ fn consider(rules: &Rules<'_>, number: HintNumber, play: &mut Play<'_>)
         → takes_no_command play.old.state.now ≡ false }
 {
     if let Some(hint) = rules.cave.hint(u16::from(number.number())) {
-        if was_taken(number, play.state) {
+        if play.state.is_hint_taken(number) {
             return;
         }
         wait(rules, number, play.state);

@@ -21,14 +21,14 @@ use Rattle.cave_things.specs.Reach.{is_near, has_prop}
 use Rattle.cave_scene.specs.Rules.{thing}
 use Rattle.cave_clocks.specs.Clocks.{go_on_or_give_up, lamp_last, lamp_unless_closed}
 use Rattle.cave_clocks.specs.Clocks.{second_clock_and_lamp, timing_of_clocks}
-use Rattle.cave_clocks.specs.FirstClock.{Tick, tick, is_first_clock_going, with_first_clock_down}
+use Rattle.cave_clocks.specs.FirstClock.{ClockTurn, tick, is_first_clock_going, with_first_clock_down}
 use Rattle.cave_clocks.specs.FirstClock.{with_ways_barred, without_dwarves, without_bear}
-use Rattle.cave_clocks.specs.FirstClock.{cleared_cave, start_of_closing, tick_to_end}
+use Rattle.cave_clocks.specs.FirstClock.{cleared_cave, start_of_closing, last_clock_turn}
 use Rattle.cave_clocks.specs.FirstClock.{timing_of_first_clock}
 use Rattle.cave_clocks.specs.Lamp.{with_charge, with_lamp_burnt, with_new_charge}
 use Rattle.cave_clocks.specs.Lamp.{can_change_batteries}
 use Rattle.cave_clocks.specs.Lamp.{with_batteries_used, change_of_batteries, with_lamp_out}
-use Rattle.cave_clocks.specs.Lamp.{lamp_going_out, is_hopeless, is_warning_due, after_warning}
+use Rattle.cave_clocks.specs.Lamp.{lamp_going_out, is_stranded, is_warning_due, after_warning}
 use Rattle.cave_clocks.specs.Lamp.{Burning, burning_of, care_of_lamp, timing_of_lamp}
 use Rattle.cave_clocks.specs.Repository.{with_empty_hands, closed_cave, Closure, closure}
 use Rattle.cave_clocks.specs.Repository.{closure_between, closure_if_due, is_second_clock_going}
@@ -80,10 +80,10 @@ first_kept P timed cave p h =
     let q = with_state (with_first_clock_down p.state) p in
     let counted : is_first_clock_going cave p.state ≡ true → On P q.state =
     λ going. timed.counts (facts p.state) (clock_going cave p.state going) h in
-    choose (λ (t : Tick). On P t.scene.state) (is_first_clock_going cave p.state)
-    (tick_to_end cave q)
+    choose (λ (t : ClockTurn). On P t.scene.state) (is_first_clock_going cave p.state)
+    (last_clock_turn cave q)
     (tick false p)
-    (λ going. choose (λ (t : Tick). On P t.scene.state) (int_eq q.state.closing.first_clock (pos 0))
+    (λ going. choose (λ (t : ClockTurn). On P t.scene.state) (int_eq q.state.closing.first_clock (pos 0))
     (tick true (start_of_closing cave q)) (tick false q)
     (λ _. start_kept P timed cave q (counted going)) (λ _. counted going))
     (λ _. h)
@@ -205,7 +205,7 @@ unfolding care_of_lamp
 care_kept P cave p change out stays =
     let warned = if is_warning_due cave p.state then burning_of false (after_warning cave p)
     else burning_of false p in
-    let hopeless = if is_hopeless cave p.state then burning_of true (after_saying role.GiveUp p)
+    let hopeless = if is_stranded cave p.state then burning_of true (after_saying role.GiveUp p)
     else warned in
     let done = if int_eq p.state.lamp.charge (pos 0) then burning_of false (lamp_going_out cave p)
     else hopeless in
@@ -215,7 +215,7 @@ care_kept P cave p change out stays =
     (burning_of false (lamp_going_out cave p)) hopeless
     (λ none. going_out_kept P cave p (out none))
     (λ some. let h = stays some in
-    picked (is_hopeless cave p.state) (burning_of true (after_saying role.GiveUp p)) warned h
+    picked (is_stranded cave p.state) (burning_of true (after_saying role.GiveUp p)) warned h
     (picked (is_warning_due cave p.state) (burning_of false (after_warning cave p))
     (burning_of false p)
     (warned_kept P cave p h) h)))

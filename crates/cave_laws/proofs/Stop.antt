@@ -33,7 +33,7 @@ use Rattle.cave_moves.specs.Description.{Stop, after_bear, after_text, is_hollow
 use Rattle.cave_moves.specs.Description.{after_pit, after_darkness, dark_scene, sight_scene}
 use Rattle.cave_moves.specs.Description.{description_scene, stop_here}
 use Rattle.cave_moves.specs.Falling.{falling_here}
-use Rattle.cave_moves.specs.Objects.{is_kept_back, is_unseen, first_prop, is_beyond_hope}
+use Rattle.cave_moves.specs.Objects.{is_kept_back, is_unseen, first_prop, is_rest_lost}
 use Rattle.cave_moves.specs.Objects.{with_short_lamp, one_less_unseen, after_find, after_find_if_unseen}
 use Rattle.cave_moves.specs.Objects.{described_prop, after_object, after_objects}
 use Rattle.cave_moves.specs.Ways as ways
@@ -96,7 +96,7 @@ found_kept : {P : Claim} (cave : CaveView) (k : IsKept cave P) (x : ℕ) (s : St
 unfolding after_find
 found_kept {P} cave k x s h =
     let t = one_less_unseen (with_objects (with_prop s.objects x (first_prop cave x)) s) in
-    choose (λ (u : State). On P u) (is_beyond_hope t) (with_short_lamp t) t
+    choose (λ (u : State). On P u) (is_rest_lost t) (with_short_lamp t) t
     (λ beyond. k.shortens (facts s)
     (two_unseen s.tallies.unseen (s.tallies.unseen - 1 == s.tallies.lost) beyond) h)
     (λ _. P.goes_on (facts s) (course t) (later_by_sight (course s)) h)

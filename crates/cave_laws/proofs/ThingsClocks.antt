@@ -21,14 +21,14 @@ use Rattle.cave_things.specs.Reach.{is_near, has_prop}
 use Rattle.cave_scene.specs.Rules.{thing}
 use Rattle.cave_clocks.specs.Clocks.{lamp_last, lamp_unless_closed}
 use Rattle.cave_clocks.specs.Clocks.{Timing, second_clock_and_lamp, timing_of_clocks}
-use Rattle.cave_clocks.specs.FirstClock.{Tick, tick, is_first_clock_going, with_first_clock_down}
+use Rattle.cave_clocks.specs.FirstClock.{ClockTurn, tick, is_first_clock_going, with_first_clock_down}
 use Rattle.cave_clocks.specs.FirstClock.{with_ways_barred, without_dwarves, without_bear}
-use Rattle.cave_clocks.specs.FirstClock.{cleared_cave, start_of_closing, tick_to_end}
+use Rattle.cave_clocks.specs.FirstClock.{cleared_cave, start_of_closing, last_clock_turn}
 use Rattle.cave_clocks.specs.FirstClock.{timing_of_first_clock, dismissed_dwarf, with_loose}
 use Rattle.cave_clocks.specs.FirstClock.{with_chain_and_axe_loose}
 use Rattle.cave_clocks.specs.Lamp.{with_charge, with_lamp_burnt, can_change_batteries}
 use Rattle.cave_clocks.specs.Lamp.{with_batteries_used, change_of_batteries, with_lamp_out}
-use Rattle.cave_clocks.specs.Lamp.{lamp_going_out, is_hopeless, is_warning_due, after_warning}
+use Rattle.cave_clocks.specs.Lamp.{lamp_going_out, is_stranded, is_warning_due, after_warning}
 use Rattle.cave_clocks.specs.Lamp.{Burning, burning_of, care_of_lamp, timing_of_lamp}
 use Rattle.cave_clocks.specs.Repository.{with_empty_hands, closed_cave, Closure, closure}
 use Rattle.cave_clocks.specs.Repository.{closure_between, closure_if_due, is_second_clock_going}
@@ -97,10 +97,10 @@ first_kept {Here} {P} k cave p h =
     let down = k.clocks p.state.trail.here p.state.objects p.state.dwarves p.state.closing
     q.state.closing.first_clock q.state.closing.second_clock q.state.closing.is_closed
     q.state.closing.is_panicking h in
-    choose (λ (t : Tick). On P t.scene.state) (is_first_clock_going cave p.state)
-    (tick_to_end cave q)
+    choose (λ (t : ClockTurn). On P t.scene.state) (is_first_clock_going cave p.state)
+    (last_clock_turn cave q)
     (tick false p)
-    (λ _. choose (λ (t : Tick). On P t.scene.state) (int_eq q.state.closing.first_clock (pos 0))
+    (λ _. choose (λ (t : ClockTurn). On P t.scene.state) (int_eq q.state.closing.first_clock (pos 0))
     (tick true (start_of_closing cave q)) (tick false q) (λ _. start_kept k cave q down)
     (λ _. down))
     (λ _. h)
@@ -206,7 +206,7 @@ unfolding care_of_lamp
 care_kept {P} k cave p h =
     let warned = if is_warning_due cave p.state then burning_of false (after_warning cave p)
     else burning_of false p in
-    let hopeless = if is_hopeless cave p.state then burning_of true (after_saying role.GiveUp p)
+    let hopeless = if is_stranded cave p.state then burning_of true (after_saying role.GiveUp p)
     else warned in
     let out = if int_eq p.state.lamp.charge (pos 0) then burning_of false (lamp_going_out cave p)
     else hopeless in
@@ -214,7 +214,7 @@ care_kept {P} k cave p h =
     (replaced_kept k cave p h)
     (picked (int_eq p.state.lamp.charge (pos 0)) (burning_of false (lamp_going_out cave p)) hopeless
     (going_out_kept k cave p h)
-    (picked (is_hopeless cave p.state) (burning_of true (after_saying role.GiveUp p)) warned h
+    (picked (is_stranded cave p.state) (burning_of true (after_saying role.GiveUp p)) warned h
     (picked (is_warning_due cave p.state) (burning_of false (after_warning cave p))
     (burning_of false p)
     (warned_kept P cave p h) h)))

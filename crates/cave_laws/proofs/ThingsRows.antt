@@ -63,8 +63,8 @@ module _ {P : Claim} (k : IsPlayed P) where
   lay_down : (cave : CaveView) (x : ℕ) (s : State) → On P s → On P (let_go cave x s)
   lay_down = effect.let_go_kept k.moved
 
-  trolls : (cave : CaveView) (s : State) → On P s → On P (without_troll cave s)
-  trolls = effect.without_troll_kept k.moved
+  troll_goes : (cave : CaveView) (s : State) → On P s → On P (without_troll cave s)
+  troll_goes = effect.without_troll_kept k.moved
 
   lose_to_snake : (cave : CaveView) (s : State) → On P s → On P (after_loss_to_snake cave s)
   lose_to_snake = effect.lost_kept P
@@ -93,7 +93,7 @@ module _ {P : Claim} (k : IsPlayed P) where
     temper,
     put,
     lay_down,
-    trolls,
+    troll_goes,
     lose_to_snake,
     panic,
     send,

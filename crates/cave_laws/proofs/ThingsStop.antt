@@ -30,7 +30,7 @@ use Rattle.cave_moves.specs.Description.{Stop, after_bear, after_text, is_hollow
 use Rattle.cave_moves.specs.Description.{after_pit, after_darkness, dark_scene, sight_scene}
 use Rattle.cave_moves.specs.Description.{description_scene, stop_here}
 use Rattle.cave_moves.specs.Falling.{falling_here}
-use Rattle.cave_moves.specs.Objects.{is_kept_back, is_unseen, first_prop, is_beyond_hope}
+use Rattle.cave_moves.specs.Objects.{is_kept_back, is_unseen, first_prop, is_rest_lost}
 use Rattle.cave_moves.specs.Objects.{with_short_lamp, one_less_unseen, after_find}
 use Rattle.cave_moves.specs.Objects.{after_find_if_unseen}
 use Rattle.cave_moves.specs.Objects.{described_prop, after_object, after_objects}
@@ -90,7 +90,7 @@ unfolding after_find
 found_kept {Here} {P} k cave x s h =
     let t = one_less_unseen (with_objects (with_prop s.objects x (first_prop cave x)) s) in
     let seen = k.moved.prop s.trail.here s.objects s.dwarves s.closing x (first_prop cave x) h in
-    chosen P (is_beyond_hope t) (with_short_lamp t) t seen seen
+    chosen P (is_rest_lost t) (with_short_lamp t) t seen seen
 
 object_kept : {Here : ℕ → Type 0} {P : Claim} (k : IsKept Here P) (cave : CaveView) (x : ℕ)
     (p : Scene)

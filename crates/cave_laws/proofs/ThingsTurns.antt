@@ -32,26 +32,27 @@ use Rattle.cave_clocks.specs.declared.clocks.Clocks.TheVariants as clocks
 use Rattle.cave_ends.specs.Deaths.{with_one_death}
 use Rattle.cave_ends.specs.Endings.{ending_scene}
 use Rattle.cave_ends.specs.Questions.{asking_scene}
-use Rattle.cave_hints.specs.Hints.{with_turns_near, turns_near, was_taken, is_in_area}
+use Rattle.cave_hints.specs.Hints.{with_turns_near, turns_near, is_in_area}
+use Rattle.cave_world.specs.State.{is_hint_taken, with_player_from}
 use Rattle.cave_hints.specs.Hints.{after_turn_near, after_considering}
 use Rattle.cave_hints.specs.Hints.{is_due, is_needed, put_off, offer_scene, after_considering_if}
 use Rattle.cave_hints.specs.Hints.{after_hints_up_to, after_hints}
 use Rattle.cave_moves.specs.Journeys.{journey_by_request}
 use Rattle.cave_turn.specs.Commands.{after_beginning, travel_scene, puzzled_scene, next_scene}
-use Rattle.cave_turn.specs.Commands.{WordsDone, words_done_by_verb, words_done_by_reading}
+use Rattle.cave_turn.specs.Commands.{WordsDone, words_done_by_verb, words_done_by_request}
 use Rattle.cave_turn.specs.Commands.{after_remembering, kept_scene, scene_of_understood}
 use Rattle.cave_turn.specs.Commands.{scene_of_words, knife_here}
 use Rattle.cave_turn.specs.Commands.{after_clocks, clocks_scene, command_scene}
 use Rattle.cave_turn.specs.Finish.{is_hidden_in_hand, after_oyster_shows, layout_with_shown}
 use Rattle.cave_turn.specs.Finish.{layout_with_shown_up_to, after_hands_show, end_of_turn}
-use Rattle.cave_turn.specs.Reading.{read_words, half_command_of}
-use Rattle.cave_turn.specs.Revival.{revival_role, without_belongings, put_at, revival_scene}
+use Rattle.cave_turn.specs.Request.{read_words, half_command_of}
+use Rattle.cave_turn.specs.Revival.{revival_role, without_belongings, revival_scene}
 use Rattle.cave_turn.specs.Revival.{return_scene, layout_with_lamp_out, layout_after_fall}
 use Rattle.cave_turn.specs.Revival.{layout_after_falls, fallen_place}
-use Rattle.cave_turn.specs.declared.reading.HalfCommand.{HalfCommand}
-use Rattle.cave_turn.specs.declared.reading.Reading.{Reading}
-use Rattle.cave_turn.specs.declared.reading.Reading.TheVariants as reading
-use Rattle.cave_turn.specs.declared.reading.Understood.{Understood}
+use Rattle.cave_turn.specs.declared.request.HalfCommand.{HalfCommand}
+use Rattle.cave_turn.specs.declared.request.Request.{Request}
+use Rattle.cave_turn.specs.declared.request.Request.TheVariants as request
+use Rattle.cave_turn.specs.declared.request.Understood.{Understood}
 use Rattle.cave_laws.specs.Laws.{before_clocks, before_lamp}
 use Rattle.cave_laws.proofs.Clocks as timing
 use Rattle.cave_laws.proofs.Frame as frame
@@ -92,7 +93,7 @@ considered_if_kept : (P : Claim) (cave : CaveView) (i : ℕ)
 considered_if_kept P cave i None p h = h
 considered_if_kept P cave i (Some hint) p h =
     let q = with_state (after_turn_near cave i p.state) p in
-    chosen_scene P (was_taken i p.state) p (offer_scene cave i hint q) h
+    chosen_scene P (is_hint_taken p.state i) p (offer_scene cave i hint q) h
     (offered_kept P cave i hint q (waited_kept P cave i p.state h))
 
 considered_kept : (P : Claim) (cave : CaveView) (i : ℕ) (p : Scene)
@@ -175,17 +176,17 @@ travelling_kept k cave motion p h =
     arriving_kept k cave j.place j.scene (motion_kept k cave motion p h)
 
 done_kept : {Here : ℕ → Type 0} {P : Claim} (k : IsKept Here P) (cave : CaveView)
-    (half : HalfCommand) (r : Reading) (p : Scene) → Here p.state.trail.here → On P p.state
-    → On P (words_done_by_reading cave half r p).scene.state
+    (half : HalfCommand) (r : Request) (p : Scene) → Here p.state.trail.here → On P p.state
+    → On P (words_done_by_request cave half r p).scene.state
 unfolding puzzled_scene
-done_kept k cave half reading.Unknown p here h = h
-done_kept k cave half (reading.Motion motion) p here h = travelling_kept k cave motion p h
-done_kept k cave half (reading.Tell told) p here h = h
-done_kept k cave half reading.Knives p here h =
+done_kept k cave half request.Unknown p here h = h
+done_kept k cave half (request.Motion motion) p here h = travelling_kept k cave motion p h
+done_kept k cave half (request.Tell told) p here h = h
+done_kept k cave half request.Knives p here h =
     (k.played.temper _ _ p.state.dwarves _ p.state.dwarves.anger knife.Vanished (here, h)).1
-done_kept k cave half (reading.Act v x word) p here h =
+done_kept k cave half (request.Act v x word) p here h =
     acting_kept k cave (order_of v x word) p here h
-done_kept k cave half (reading.WhatToDo word) p here h = h
+done_kept k cave half (request.WhatToDo word) p here h = h
 
 remembering_kept : (P : Claim) (o : Option HalfCommand) (x : ℕ) (s : State) → On P s
     → On P (after_remembering o x s)
@@ -203,8 +204,8 @@ carried_out_kept : {Here : ℕ → Type 0} {P : Claim} (k : IsKept Here P) (cave
     → On P (scene_of_understood cave u p).state
 unfolding scene_of_understood
 carried_out_kept {Here} {P} k cave u p here h =
-    settled_kept P u.half.object (words_done_by_reading cave u.half u.reading p)
-    (done_kept k cave u.half u.reading p here h)
+    settled_kept P u.half.object (words_done_by_request cave u.half u.request p)
+    (done_kept k cave u.half u.request p here h)
 
 -- the words of a line are done
 done_for_kept : {Here : ℕ → Type 0} {P : Claim} (k : IsKept Here P) (cave : CaveView)
@@ -310,5 +311,5 @@ reborn_kept {Here} {P} k cave p h =
     (ending_scene cave ending_is.Killed r)
     (revival_scene cave r)
     (λ _. ended_kept P cave ending_is.Killed r h)
-    (λ _. describing_kept k cave (with_state (put_at (building_place cave) t) r)
+    (λ _. describing_kept k cave (with_state (with_player_from (building_place cave) t) r)
     (k.anywhere _ (building_place cave) _ _ _ (left_kept k.moved cave r.state h)))

@@ -28,7 +28,8 @@ use Rattle.cave_clocks.specs.declared.clocks.Clocks.TheVariants as clocks
 use Rattle.cave_ends.specs.Deaths.{with_one_death}
 use Rattle.cave_ends.specs.Endings.{ending_scene}
 use Rattle.cave_ends.specs.Questions.{asking_scene}
-use Rattle.cave_hints.specs.Hints.{with_turns_near, turns_near, was_taken, is_in_area}
+use Rattle.cave_hints.specs.Hints.{with_turns_near, turns_near, is_in_area}
+use Rattle.cave_world.specs.State.{is_hint_taken, with_player_from}
 use Rattle.cave_hints.specs.Hints.{after_turn_near}
 use Rattle.cave_hints.specs.Hints.{is_due, is_needed, put_off, offer_scene, after_considering_if}
 use Rattle.cave_hints.specs.Hints.{after_considering}
@@ -38,18 +39,18 @@ use Rattle.cave_turn.specs.Answers.{without_question}
 use Rattle.cave_turn.specs.Commands.{after_beginning, travel_scene, puzzled_scene, next_scene}
 use Rattle.cave_turn.specs.Commands.{WordsDone}
 use Rattle.cave_turn.specs.Commands.{words_done_by_verb}
-use Rattle.cave_turn.specs.Commands.{words_done_by_reading, after_remembering, kept_scene, scene_of_understood}
+use Rattle.cave_turn.specs.Commands.{words_done_by_request, after_remembering, kept_scene, scene_of_understood}
 use Rattle.cave_turn.specs.Commands.{scene_of_words}
 use Rattle.cave_turn.specs.Commands.{after_clocks, clocks_scene, command_scene}
 use Rattle.cave_turn.specs.Finish.{is_hidden_in_hand, after_oyster_shows, layout_with_shown_up_to, after_hands_show}
 use Rattle.cave_turn.specs.Finish.{end_of_turn}
-use Rattle.cave_turn.specs.Reading.{read_words, half_command_of}
-use Rattle.cave_turn.specs.Revival.{revival_role, without_belongings, put_at, revival_scene}
+use Rattle.cave_turn.specs.Request.{read_words, half_command_of}
+use Rattle.cave_turn.specs.Revival.{revival_role, without_belongings, revival_scene}
 use Rattle.cave_turn.specs.Revival.{return_scene}
-use Rattle.cave_turn.specs.declared.reading.HalfCommand.{HalfCommand}
-use Rattle.cave_turn.specs.declared.reading.Reading.{Reading}
-use Rattle.cave_turn.specs.declared.reading.Reading.TheVariants as reading
-use Rattle.cave_turn.specs.declared.reading.Understood.{Understood}
+use Rattle.cave_turn.specs.declared.request.HalfCommand.{HalfCommand}
+use Rattle.cave_turn.specs.declared.request.Request.{Request}
+use Rattle.cave_turn.specs.declared.request.Request.TheVariants as request
+use Rattle.cave_turn.specs.declared.request.Understood.{Understood}
 use Rattle.cave_laws.specs.Laws.{before_clocks, before_lamp}
 use Rattle.cave_laws.proofs.Frame.{Claim, Facts, On, Calm, Charges, IsBegun, IsKept, IsTimed, Leads}
 use Rattle.cave_laws.proofs.Frame.{choose, chosen, chosen_scene, facts}
@@ -107,7 +108,7 @@ considered_if_kept : {P : Claim} (cave : CaveView) (k : IsKept cave P) (i : ℕ)
 considered_if_kept cave k i None p h = h
 considered_if_kept {P} cave k i (Some hint) p h =
     let q = with_state (after_turn_near cave i p.state) p in
-    chosen_scene P (was_taken i p.state) p (offer_scene cave i hint q) h
+    chosen_scene P (is_hint_taken p.state i) p (offer_scene cave i hint q) h
     (offered_kept cave k i hint q (waited_kept P cave i p.state h))
 
 considered_kept : {P : Claim} (cave : CaveView) (k : IsKept cave P) (i : ℕ) (p : Scene)
@@ -172,16 +173,16 @@ travelling_kept cave k motion p h =
     arriving_kept cave k j.place j.scene (motion_kept cave k motion p h)
 
 done_kept : {P : Claim} (cave : CaveView) (k : IsKept cave P) (half : HalfCommand)
-    (r : Reading)
+    (r : Request)
     (p : Scene)
-    → On (Calm P) p.state → On P (words_done_by_reading cave half r p).scene.state
+    → On (Calm P) p.state → On P (words_done_by_request cave half r p).scene.state
 unfolding puzzled_scene
-done_kept cave k half reading.Unknown p h = h.0
-done_kept cave k half (reading.Motion motion) p h = travelling_kept cave k motion p h
-done_kept cave k half (reading.Tell told) p h = h.0
-done_kept cave k half reading.Knives p h = h.0
-done_kept cave k half (reading.Act v x word) p h = acting_kept cave k (order_of v x word) p h
-done_kept cave k half (reading.WhatToDo word) p h = h.0
+done_kept cave k half request.Unknown p h = h.0
+done_kept cave k half (request.Motion motion) p h = travelling_kept cave k motion p h
+done_kept cave k half (request.Tell told) p h = h.0
+done_kept cave k half request.Knives p h = h.0
+done_kept cave k half (request.Act v x word) p h = acting_kept cave k (order_of v x word) p h
+done_kept cave k half (request.WhatToDo word) p h = h.0
 
 remembering_kept : (P : Claim) (o : Option HalfCommand) (x : ℕ) (s : State) → On P s
     → On P (after_remembering o x s)
@@ -199,8 +200,8 @@ carried_out_kept : {P : Claim} (cave : CaveView) (k : IsKept cave P) (u : Unders
     → On (Calm P) p.state → On P (scene_of_understood cave u p).state
 unfolding scene_of_understood
 carried_out_kept {P} cave k u p h =
-    settled_kept P u.half.object (words_done_by_reading cave u.half u.reading p)
-    (done_kept cave k u.half u.reading p h)
+    settled_kept P u.half.object (words_done_by_request cave u.half u.request p)
+    (done_kept cave k u.half u.request p h)
 
 -- the words of a line are done
 done_for_kept : {P : Claim} (cave : CaveView) (k : IsKept cave P) (words : Words) (p : Scene)
@@ -294,5 +295,5 @@ reborn_kept {Q} {P} cave k b p asked goes h =
     (λ _. ended_kept P cave ending_is.Killed r
     (b.buries ending_is.Killed (facts p.state) asked goes h))
     (λ few. describing_kept cave k
-    (with_state (put_at (building_place cave) (without_belongings cave r.state)) r)
+    (with_state (with_player_from (building_place cave) (without_belongings cave r.state)) r)
     (b.revives (facts p.state) few asked goes h, (refl, goes)))

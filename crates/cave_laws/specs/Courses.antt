@@ -13,7 +13,7 @@ use Rattle.cave_things.specs.Places.{outside_place, place_named}
 use Rattle.cave_scene.specs.Play.{Scene}
 use Rattle.cave_things.specs.Reach.{has_prop}
 use Rattle.cave_scene.specs.Rules.{thing}
-use Rattle.cave_hints.specs.Hints.{was_taken}
+use Rattle.cave_world.specs.State.{is_hint_taken}
 use Rattle.cave_score.specs.Score.{score_of, max_score_of}
 use Rattle.cave_turn.specs.Answers.{without_question}
 use Rattle.cave_turn.specs.Turns.{turn_on_line, game_beginning}
@@ -27,7 +27,7 @@ AreAwake s = 2 ≤ s.dwarves.anger
 pub record IsAfter (s t : State) : Type 0 where
   pub closing : s.closing.is_closing ≡ true → t.closing.is_closing ≡ true
   pub closed : s.closing.is_closed ≡ true → t.closing.is_closed ≡ true
-  pub hints : (h : ℕ) → was_taken h s ≡ true → was_taken h t ≡ true
+  pub hints : (h : ℕ) → is_hint_taken s h ≡ true → is_hint_taken t h ≡ true
   pub awake : AreAwake s → AreAwake t
 
 -- no line takes back that the cave is closing or closed, that a hint was taken, or that the dwarves

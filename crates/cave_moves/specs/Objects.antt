@@ -34,21 +34,21 @@ one_less_unseen s =
     let tallies = s.tallies in record s { tallies = record tallies { unseen = tallies.unseen - 1 } }
 
 -- where as many count as lost as count as unseen, and some do, the lamp burns 35 turns more at most
-abbrev pub is_beyond_hope : State → Bool
-is_beyond_hope s = s.tallies.unseen == s.tallies.lost && not (s.tallies.unseen == 0)
+abbrev pub is_rest_lost : State → Bool
+is_rest_lost s = s.tallies.unseen == s.tallies.lost && not (s.tallies.unseen == 0)
 
 abbrev pub with_short_lamp : State → State
 with_short_lamp s =
     let lamp = s.lamp in record s { lamp = record lamp { charge = int_min lamp.charge (pos 35) } }
 
-abbrev pub with_lamp_of_hopeless : State → State
-with_lamp_of_hopeless s = if is_beyond_hope s then with_short_lamp s else s
+abbrev pub with_lamp_of_rest_lost : State → State
+with_lamp_of_rest_lost s = if is_rest_lost s then with_short_lamp s else s
 
 -- a treasure is seen for the first time
 unfoldable pub after_find : CaveView → ℕ → State → State
 after_find cave x s =
     let t = record s { objects = with_prop s.objects x (first_prop cave x) } in
-    with_lamp_of_hopeless (one_less_unseen t)
+    with_lamp_of_rest_lost (one_less_unseen t)
 
 abbrev pub after_find_if_unseen : CaveView → ℕ → State → State
 after_find_if_unseen cave x s = if is_unseen s x then after_find cave x s else s

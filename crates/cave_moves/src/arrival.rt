@@ -32,7 +32,7 @@ pub fn arrive(rules: &Rules<'_>, place: Place, play: &mut Play<'_>)
     ensures same { IsSamePlay play.old play.new }
     ensures few { SaysUpTo (parts_of_arrival play.old.left) play.old play.new }
 {
-    if show(rules, place, play) {
+    if stop_at(rules, place, play) {
         follow_forced_motions(rules, play);
     }
 }
@@ -146,7 +146,7 @@ fn come_to(rules: &Rules<'_>, place: Place, play: &mut Play<'_>) -> bool
 /// The player arrives at a place, if nothing is in the way. Returns whether a forced motion moves
 /// the player on.
 #[tactic(auto, unfolding(crate::specs::Arrival::stop_at))]
-fn show(rules: &Rules<'_>, place: Place, play: &mut Play<'_>) -> bool
+fn stop_at(rules: &Rules<'_>, place: Place, play: &mut Play<'_>) -> bool
     requires { HasRoom parts_of_stop play.old }
     ensures showing { record { is_moved_on = result; scene = scene_of play.new }
         ≡ stop_at (cave_of rules.now) place (scene_of play.old) }
@@ -178,7 +178,7 @@ fn follow_forced_motions(rules: &Rules<'_>, play: &mut Play<'_>)
     }
     play.left -= 1;
     let next = set_forth(rules, motion::ANY, play);
-    if show(rules, next, play) {
+    if stop_at(rules, next, play) {
         follow_forced_motions(rules, play);
     }
 }

@@ -10,10 +10,10 @@ ghost use Rattle.cave_moves.specs.Journeys.{journey_back};
 ghost use Rattle.cave_scene.specs.Bounds.{HasRoom, SaysUpTo, parts_of_journey};
 ghost use Rattle.cave_scene.specs.Play.{scene_of, GoesOn};
 
-use crate::journeys::route;
+use crate::journeys::journey_by_rows;
 use crate::ways::stay;
+use cave_numbers::LAST_PLACE;
 use cave_objects::Place;
-use cave_objects::place::LAST_PLACE;
 use cave_rows::{Role, Row};
 use cave_scene::{Play, Rules};
 use cave_world::{State, is_forced};
@@ -33,7 +33,7 @@ fn back_place(rules: &Rules<'_>, state: &State) -> Place
 fn leads_through(rules: &Rules<'_>, sought: Place, row: &Row) -> bool
     ensures { result ≡ leads_through (cave_of rules.now) sought (going row.now) }
 {
-    if row.number() > LAST_PLACE as u16 {
+    if row.number() > LAST_PLACE {
         return false;
     }
     let place = Place::new(row.number());
@@ -110,7 +110,7 @@ pub fn go_back(rules: &Rules<'_>, play: &mut Play<'_>) -> Place
         return stay(play, Role::BackNone);
     }
     match motion_back(rules, sought, here) {
-        Some(motion) => route(rules, motion, play),
+        Some(motion) => journey_by_rows(rules, motion, play),
         None => stay(play, Role::BackNo),
     }
 }

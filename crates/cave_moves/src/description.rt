@@ -61,7 +61,7 @@ fn tell_bear(rules: &Rules<'_>, play: &mut Play<'_>)
     ensures same { GoesOn play.old play.new }
     ensures few { SaysUpTo 1 play.old play.new }
 {
-    if play.state.is_carrying(rules.object(Named::Bear)) {
+    if play.state.is_carried(rules.object(Named::Bear)) {
         play.say(Role::BearFollows);
     }
 }
@@ -101,7 +101,7 @@ fn tell_hollow(rules: &Rules<'_>, play: &mut Play<'_>)
     if !is_hollow(rules, play) {
         return;
     }
-    if play.chance(25) {
+    if play.happens(25) {
         play.say(Role::Hollow);
     }
 }
@@ -135,7 +135,7 @@ fn describe_dark(rules: &Rules<'_>, play: &mut Play<'_>)
     ensures same { GoesOn play.old play.new }
     ensures few { SaysUpTo 5 play.old play.new }
 {
-    if play.was_dark && play.chance(35) {
+    if play.was_dark && play.happens(35) {
         fall_into_pit(rules, play);
         return;
     }

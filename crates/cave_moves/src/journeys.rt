@@ -40,7 +40,7 @@ pub fn lead_by_motion(rules: &Rules<'_>, motion: u16, play: &mut Play<'_>) -> Pl
 }
 
 /// What is said of a motion that no row lists.
-fn refusal_of(motion: u16) -> Role
+fn refusal_role(motion: u16) -> Role
     ensures { result ≡ refusal_role motion }
 {
     match motion {
@@ -68,7 +68,7 @@ fn is_slim(rules: &Rules<'_>, state: &State) -> bool
     ensures { result ≡ is_slim (cave_of rules.now) state.now }
 {
     let carried = state.holding();
-    carried == 0 || (carried == 1 && state.is_carrying(rules.object(Named::Emerald)))
+    carried == 0 || (carried == 1 && state.is_carried(rules.object(Named::Emerald)))
 }
 
 /// Through the narrow passage, in which nothing but the emerald may be carried.
@@ -121,14 +121,14 @@ fn lead(rules: &Rules<'_>, motion: u16, outcome: TravelOutcome, play: &mut Play<
             play.tell(Part::Message(message));
             play.state.trail.here
         }
-        TravelOutcome::NoMotion => stay(play, refusal_of(motion)),
+        TravelOutcome::NoMotion => stay(play, refusal_role(motion)),
         TravelOutcome::NoWay => stay(play, Role::NoWay),
     }
 }
 
 /// Where the rows of the place lead by a motion.
 #[tactic(auto, unfolding(crate::specs::Journeys::journey_by_rows))]
-pub fn route(rules: &Rules<'_>, motion: u16, play: &mut Play<'_>) -> Place
+pub fn journey_by_rows(rules: &Rules<'_>, motion: u16, play: &mut Play<'_>) -> Place
     requires { HasRoom parts_of_journey play.old }
     ensures journey { record { place = result; scene = scene_of play.new }
         ≡ journey_by_rows (cave_of rules.now) motion (scene_of play.old) }
@@ -151,7 +151,7 @@ pub fn set_forth(rules: &Rules<'_>, motion: u16, play: &mut Play<'_>) -> Place
     ensures few_on { takes_no_command play.new.state.now ≡ false → SaysUpTo 1 play.old play.new }
 {
     play.set_out();
-    route(rules, motion, play)
+    journey_by_rows(rules, motion, play)
 }
 
 fn say_enough(play: &mut Play<'_>)

@@ -4,7 +4,7 @@ ghost use Rattle.cave_objects.specs.Objects.{anchor_of};
 ghost use Rattle.cave_objects.specs.Spots.{place_of_anchor, is_place};
 ghost use Rattle.cave_scene.specs.Rules.{cave_of};
 ghost use Rattle.cave_moves.specs.Objects.{is_unseen, is_kept_back, first_prop, one_less_unseen};
-ghost use Rattle.cave_moves.specs.Objects.{with_lamp_of_hopeless, after_find, after_find_if_unseen};
+ghost use Rattle.cave_moves.specs.Objects.{with_lamp_of_rest_lost, after_find, after_find_if_unseen};
 ghost use Rattle.cave_moves.specs.Objects.{described_prop};
 ghost use Rattle.cave_moves.specs.Objects.{after_object, after_objects};
 ghost use Rattle.cave_scene.specs.Bounds.{HasRoom, SaysUpTo};
@@ -29,7 +29,7 @@ fn is_unseen(state: &State, object: Object) -> bool
 fn is_kept_back(rules: &Rules<'_>, state: &State, object: Object) -> bool
     ensures { result ≡ is_kept_back (cave_of rules.now) state.now object }
 {
-    (object == rules.object(Named::Steps) && state.is_carrying(rules.object(Named::Gold)))
+    (object == rules.object(Named::Steps) && state.is_carried(rules.object(Named::Gold)))
         || (is_unseen(state, object) && state.closing.is_closed)
 }
 
@@ -50,7 +50,7 @@ fn count_one_less(state: &mut State)
 }
 
 fn shorten_lamp(state: &mut State)
-    ensures { state.new ≡ with_lamp_of_hopeless state.old }
+    ensures { state.new ≡ with_lamp_of_rest_lost state.old }
 {
     let unseen = state.tallies.unseen.number();
     let lost = state.tallies.lost.number();

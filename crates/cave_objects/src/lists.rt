@@ -9,7 +9,7 @@ ghost use Rattle.cave_objects.specs.Spots.{is_place};
 ghost use Rattle.cave_objects.specs.Halves.{object_of, half_number};
 
 use crate::object::Half;
-use crate::place::{LAST_PLACE, Place};
+use crate::place::{PLACES, Place};
 use arrayvec::ArrayVec;
 use std::marker::Model;
 
@@ -27,7 +27,7 @@ pub struct PlacedHalf {
 #[derive(Clone, Copy, Debug)]
 pub struct ObjectLists {
     /// For each place, from 1 on, the number of the first half of its list, or 0.
-    first: [u8; LAST_PLACE],
+    first: [u8; PLACES],
     /// For each number of a half, from 1 on, the number of the half after it in its list, or 0.
     next: [u8; HALVES],
 }
@@ -91,7 +91,7 @@ impl ObjectLists {
         ensures { result ≡ [] }
     {
         ObjectLists {
-            first: [0; LAST_PLACE],
+            first: [0; PLACES],
             next: [0; HALVES],
         }
     }
@@ -218,7 +218,7 @@ impl ObjectLists {
     }
 
     /// Puts a half that is nowhere at the front of the list of a place.
-    fn put_at(&mut self, half: Half, place: Place)
+    fn put_first_at(&mut self, half: Half, place: Place)
         requires new { IsNew half self.old }
         requires somewhere { 0 < place }
         ensures { self.new ≡ put_first (record { place = place; half = half }) self.old }
@@ -236,7 +236,7 @@ impl ObjectLists {
         ensures { self.new ≡ with_half half to self.old }
     {
         match to {
-            Some(place) => self.put_at(half, place),
+            Some(place) => self.put_first_at(half, place),
             None => {}
         }
     }

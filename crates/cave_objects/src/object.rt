@@ -1,10 +1,11 @@
 ghost use Rattle.std.specs.Prelude.{◌≡◌, ◌≤◌, ◌==◌};
 ghost use Rattle.cave_objects.specs.Halves.{object_of, half_number, half_of};
 
+use cave_numbers::LAST_OBJECT;
 use std::marker::Model;
 
-/// The greatest number of an object.
-pub const LAST_OBJECT: usize = 100;
+/// How many objects there may be, each of them in the arrays of a state.
+pub const OBJECTS: usize = LAST_OBJECT as usize;
 
 /// The number of an object. 0 is no object: it is nowhere, and what is done to it does nothing.
 #[derive(Clone, Copy, Debug, PartialEq, Eq)]

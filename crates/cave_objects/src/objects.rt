@@ -12,7 +12,7 @@ ghost use Rattle.cave_objects.specs.Layout.{is_listed};
 ghost use Rattle.cave_objects.specs.Halves.{object_of};
 
 use crate::lists::{HALVES, ObjectLists};
-use crate::object::{Half, LAST_OBJECT, Object};
+use crate::object::{Half, OBJECTS, Object};
 use crate::packed::{PackedAnchor, PackedSpot};
 use crate::place::Place;
 use crate::prop::Prop;
@@ -24,9 +24,9 @@ use std::marker::Model;
 /// there.
 #[derive(Clone, Copy, Debug, PartialEq, Eq)]
 pub struct Objects {
-    first: [PackedSpot; LAST_OBJECT],
-    second: [PackedAnchor; LAST_OBJECT],
-    props: [Prop; LAST_OBJECT],
+    first: [PackedSpot; OBJECTS],
+    second: [PackedAnchor; OBJECTS],
+    props: [Prop; OBJECTS],
     lists: ObjectLists,
 }
 
@@ -53,9 +53,9 @@ impl Objects {
         ensures { result ≡ without_places }
     {
         Objects {
-            first: [PackedSpot::new(Spot::Away); LAST_OBJECT],
-            second: [PackedAnchor::new(Anchor::Loose); LAST_OBJECT],
-            props: [Prop::new(0); LAST_OBJECT],
+            first: [PackedSpot::new(Spot::Away); OBJECTS],
+            second: [PackedAnchor::new(Anchor::Loose); OBJECTS],
+            props: [Prop::new(0); OBJECTS],
             lists: ObjectLists::empty(),
         }
     }
@@ -186,7 +186,7 @@ impl Objects {
 
     /// Brings the first half of an object to a spot.
     #[tactic(auto, unfolding(crate::specs::Objects::with_spot))]
-    pub fn bring(&mut self, object: Object, spot: Spot)
+    pub fn move_to_spot(&mut self, object: Object, spot: Spot)
         ensures value { self.new ≡ with_spot self.old object spot }
         ensures lists { 0 < object
             → AreRelisted self.old.lists self.new.lists (Half.First object) (place_of_spot spot) }
@@ -236,7 +236,7 @@ impl Objects {
             → AreRelisted self.old.lists self.new.lists (Half.First object)
             (place_of_spot (spot_at place)) }
     {
-        self.bring(object, Spot::at(place));
+        self.move_to_spot(object, Spot::at(place));
     }
 
     /// Takes the first half of an object from its list, to be carried, if it isn't carried yet.
@@ -249,7 +249,7 @@ impl Objects {
         if self.is_carried(object) {
             return;
         }
-        self.bring(object, Spot::Carried);
+        self.move_to_spot(object, Spot::Carried);
     }
 
     /// Puts both halves of an object to the front of the lists that they are in, if it isn't
@@ -262,7 +262,7 @@ impl Objects {
             return;
         }
         let spot = self.spot(object);
-        self.bring(object, spot);
+        self.move_to_spot(object, spot);
         let anchor = self.anchor(object);
         self.anchor_to(object, anchor);
     }
@@ -274,7 +274,7 @@ impl Objects {
         ensures within { result ≤ 100 }
     {
         let mut count = 0;
-        for before in 0..LAST_OBJECT {
+        for before in 0..OBJECTS {
             if self.is_carried(Object::new(before as u8 + 1)) {
                 count += 1;
             }
@@ -284,11 +284,11 @@ impl Objects {
 
     /// The objects that are carried, ascending.
     #[tactic(auto, using(crate::proofs::Carried::carrying))]
-    pub fn carried(&self) -> ArrayVec<Object, LAST_OBJECT>
+    pub fn carried(&self) -> ArrayVec<Object, OBJECTS>
         ensures { result.items ≡ carried_objects self.now }
     {
         let mut carried = ArrayVec::new();
-        for before in 0..LAST_OBJECT {
+        for before in 0..OBJECTS {
             let object = Object::new(before as u8 + 1);
             if self.is_carried(object) {
                 carried.push(object);

@@ -7,8 +7,11 @@ use std::marker::Model;
 /// The code of a spot that is away, and of an anchor that is loose.
 const NOWHERE_CODE: u16 = 0;
 
-/// The code of a spot with the player, and of an anchor that is fixed.
-const HELD_CODE: u16 = 1;
+/// The code of the spot of what is carried.
+const CARRIED_CODE: u16 = 1;
+
+/// The code of an anchor that is fixed.
+const FIXED_CODE: u16 = 1;
 
 /// How much greater the code of a place is than its number.
 const FIRST_PLACE_CODE: u16 = 2;
@@ -42,7 +45,7 @@ impl PackedSpot {
     {
         match spot {
             Spot::Away => PackedSpot { code: NOWHERE_CODE },
-            Spot::Carried => PackedSpot { code: HELD_CODE },
+            Spot::Carried => PackedSpot { code: CARRIED_CODE },
             Spot::At(site) => PackedSpot {
                 code: site.place().number() + FIRST_PLACE_CODE,
             },
@@ -55,7 +58,7 @@ impl PackedSpot {
     {
         match self.code {
             NOWHERE_CODE => Spot::Away,
-            HELD_CODE => Spot::Carried,
+            CARRIED_CODE => Spot::Carried,
             code => Spot::at(Place::new(code - FIRST_PLACE_CODE)),
         }
     }
@@ -91,7 +94,7 @@ impl PackedAnchor {
     {
         match anchor {
             Anchor::Loose => PackedAnchor { code: NOWHERE_CODE },
-            Anchor::Fixed => PackedAnchor { code: HELD_CODE },
+            Anchor::Fixed => PackedAnchor { code: FIXED_CODE },
             Anchor::At(site) => PackedAnchor {
                 code: site.place().number() + FIRST_PLACE_CODE,
             },
@@ -104,7 +107,7 @@ impl PackedAnchor {
     {
         match self.code {
             NOWHERE_CODE => Anchor::Loose,
-            HELD_CODE => Anchor::Fixed,
+            FIXED_CODE => Anchor::Fixed,
             code => Anchor::at(Place::new(code - FIRST_PLACE_CODE)),
         }
     }

@@ -1,9 +1,10 @@
 ghost use Rattle.std.specs.Prelude.{◌≡◌, ◌≤◌};
 
+use cave_numbers::LAST_PLACE;
 use std::marker::Model;
 
-/// The greatest number of a place.
-pub const LAST_PLACE: usize = 300;
+/// How many places there may be.
+pub const PLACES: usize = LAST_PLACE as usize;
 
 /// The number of a place. 0 is nowhere: a player who comes there is dead.
 #[derive(Clone, Copy, Debug, PartialEq, Eq)]

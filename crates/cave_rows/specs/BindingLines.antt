@@ -1,12 +1,11 @@
 -- The lines of bindings, which give roles and places their numbers.
-use Rattle.std.specs.Prelude.{ℕ, Bool, false, ◌&&◌, ◌||◌, ◌==◌, nat_eq, nat_le, if◌then◌else◌}
+use Rattle.std.specs.Prelude.{ℕ, ◌&&◌, nat_eq, nat_le, if◌then◌else◌}
 use Rattle.std.specs.Prelude.{codes, List, [], ◌∷◌, ◌++◌, drop, Option, option_to_list, Result, Ok}
 use Rattle.std.specs.Prelude.{Err}
 use Rattle.std.specs.Option.{ok_or}
 use Rattle.std.specs.Result.{result_ok}
 use Rattle.std.specs.List.{starts_with, position_from}
 use Rattle.std.specs.Str.{bytes_eq}
-use Rattle.log_lines.specs.Bytes.{is_all_blank}
 use Rattle.cave_rows.specs.declared.error.Cause.{Cause}
 use Rattle.cave_rows.specs.declared.error.BindingFlaw.TheVariants.{Malformed, BadValue}
 use Rattle.cave_rows.specs.declared.error.Cause.TheVariants.{BadBinding, UnknownRole}

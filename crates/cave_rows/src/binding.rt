@@ -13,6 +13,7 @@ use crate::field_rows::next_field;
 use crate::number::natural;
 use crate::place_role::PLACE_NAMES;
 use crate::role::ROLE_NAMES;
+use cave_numbers::{LAST_MESSAGE, LAST_PLACE};
 
 /// What is bound: the message of a role, the place of a role, or how many letters count.
 #[derive(Clone, Copy, Debug, PartialEq, Eq)]
@@ -84,7 +85,7 @@ fn name_after<'a>(key: &'a [u8], prefix: &[u8]) -> Option<&'a [u8]>
 fn role_binding(name: &[u8], n: u32) -> Result<Binding, Cause>
     ensures { Answers (λ binding. binding) result (role_binding name.now n) }
 {
-    let value = bound_within(n, 1, 499)?;
+    let value = bound_within(n, 1, LAST_MESSAGE)?;
     let number = name_number(&ROLE_NAMES, name).ok_or(Cause::UnknownRole)?;
     Ok(Binding {
         key: Key::RoleKey(number),
@@ -95,7 +96,7 @@ fn role_binding(name: &[u8], n: u32) -> Result<Binding, Cause>
 fn place_binding(name: &[u8], n: u32) -> Result<Binding, Cause>
     ensures { Answers (λ binding. binding) result (place_binding name.now n) }
 {
-    let value = bound_within(n, 1, 300)?;
+    let value = bound_within(n, 1, LAST_PLACE)?;
     let number = name_number(&PLACE_NAMES, name).ok_or(Cause::UnknownRole)?;
     Ok(Binding {
         key: Key::PlaceKey(number),

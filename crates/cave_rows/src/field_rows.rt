@@ -15,6 +15,7 @@ use crate::error::Cause;
 use crate::number::{Number, number_at, number_of};
 use crate::rows::{Hint, MAX_LIST, Placement, Row, WordRow};
 use arrayvec::ArrayVec;
+use cave_numbers::{LAST_HINT, LAST_MESSAGE, LAST_OBJECT, LAST_PLACE};
 use log_lines::bytes::{skip_blanks, split_word};
 use std::alloc::Global;
 
@@ -175,7 +176,7 @@ pub fn way_row(line: &[u8]) -> Result<Row, Cause>
     let (target, rest) = number_in(rest)?;
     let motions = some_of(list_in(rest, 1, 999)?)?;
     Ok(Row {
-        place: within(place, 1, 300)?,
+        place: within(place, 1, LAST_PLACE)?,
         target: wide_within(target, 0, 999_999)?,
         motions: motions?,
     })
@@ -242,7 +243,7 @@ fn second_place(number: Number) -> Result<i16, Cause>
     ensures { result ≡ second_place number }
 {
     match number {
-        Number::Natural(n) if n <= 300 => Ok(n as i16),
+        Number::Natural(n) if n <= u32::from(LAST_PLACE) => Ok(n as i16),
         Number::Negative(1) => Ok(-1),
         _ => Err(Cause::OutOfRange),
     }
@@ -256,8 +257,8 @@ pub fn placement_row(line: &[u8]) -> Result<(u16, Placement), Cause>
     let (object, rest) = number_in(line)?;
     let (first, rest) = number_or_zero(rest)?;
     let (second, _) = number_or_zero(rest)?;
-    let object = within(object, 1, 100)?;
-    let first = within(first, 0, 300)?;
+    let object = within(object, 1, LAST_OBJECT)?;
+    let first = within(first, 0, LAST_PLACE)?;
     let second = second_place(second)?;
     Ok((object, Placement { first, second }))
 }
@@ -270,7 +271,7 @@ pub fn default_row(line: &[u8]) -> Result<(u16, u16), Cause>
     let (action, rest) = number_in(line)?;
     let (message, _) = number_in(rest)?;
     let action = within(action, 1, 99)?;
-    let message = within(message, 0, 499)?;
+    let message = within(message, 0, LAST_MESSAGE)?;
     Ok((action, message))
 }
 
@@ -281,8 +282,8 @@ pub fn condition_row(line: &[u8]) -> Result<(u16, ArrayVec<u16, MAX_LIST>), Caus
     ensures range { IfOk result (λ row. row.0 ≤ 20) }
 {
     let (bit, rest) = number_in(line)?;
-    let places = list_in(rest, 1, 300)?;
-    let bit = within(bit, 0, 20)?;
+    let places = list_in(rest, 1, LAST_PLACE)?;
+    let bit = within(bit, 0, LAST_HINT)?;
     Ok((bit, places?))
 }
 
@@ -296,12 +297,12 @@ pub fn hint_row(line: &[u8]) -> Result<(u16, Hint), Cause>
     let (points, rest) = number_in(rest)?;
     let (question, rest) = number_in(rest)?;
     let (text, _) = number_in(rest)?;
-    let hint = within(hint, 1, 20)?;
+    let hint = within(hint, 1, LAST_HINT)?;
     let row = Hint {
         turns: within(turns, 0, 9999)?,
         points: within(points, 0, 100)?,
-        question: within(question, 0, 499)?,
-        text: within(text, 0, 499)?,
+        question: within(question, 0, LAST_MESSAGE)?,
+        text: within(text, 0, LAST_MESSAGE)?,
     };
     Ok((hint, row))
 }

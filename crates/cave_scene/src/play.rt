@@ -93,11 +93,11 @@ impl<'a> Play<'a> {
     }
 
     /// Draws whether something happens that happens in some of 100 cases.
-    pub fn chance(&mut self, percent: u32) -> bool
+    pub fn happens(&mut self, percent: u32) -> bool
         ensures value { result ≡ happens percent (scene_of self.old) }
         ensures play { scene_of self.new ≡ after_draw (scene_of self.old) }
         ensures same { GoesOn self.old self.new }
     {
-        self.state.stream.pct(percent)
+        self.state.stream.is_within_percent(percent)
     }
 }

@@ -8,7 +8,8 @@ use Rattle.cave_world.specs.declared.state.State.{State}
 use Rattle.cave_things.specs.Treasures.{is_known, treasures, known_treasures}
 use Rattle.cave_score.specs.Treasures.{worth, points_of_treasure}
 use Rattle.cave_score.specs.Treasures.{treasure_points, most_treasure_points}
-use Rattle.cave_score.specs.Score.{is_taken, hints_taken, price_of, hint_costs}
+use Rattle.cave_score.specs.Score.{hints_taken, price_of, hint_costs}
+use Rattle.cave_world.specs.State.{is_hint_taken}
 
 -- what the numbers from one on, up to an end, count of which something holds
 abbrev sum_from : (ℕ → Bool) → (ℕ → ℕ) → ℕ → ℕ → ℕ
@@ -64,7 +65,7 @@ worth_more cave n h = sum_more (is_known cave) (worth cave) n 80 h
 
 -- what the hints from a number on cost that were taken
 unfoldable pub costs_from : CaveView → State → ℕ → ℕ
-costs_from cave s n = sum_from (is_taken s) (price_of cave) n 21
+costs_from cave s n = sum_from (is_hint_taken s) (price_of cave) n 21
 
 pub costs_all : (cave : CaveView) (s : State) → costs_from cave s 1 ≡ hint_costs cave s
 unfolding costs_from hints_taken
@@ -72,12 +73,12 @@ costs_all cave s = refl
 
 pub costs_none : (cave : CaveView) (s : State) (n : ℕ) → 21 ≤ n → costs_from cave s n ≡ 0
 unfolding costs_from
-costs_none cave s n h = sum_none (is_taken s) (price_of cave) n 21 h
+costs_none cave s n h = sum_none (is_hint_taken s) (price_of cave) n 21 h
 
 pub costs_more : (cave : CaveView) (s : State) (n : ℕ) → n < 21
-    → costs_from cave s n ≡ cond (is_taken s n) (price_of cave n) 0 + costs_from cave s (n + 1)
+    → costs_from cave s n ≡ cond (is_hint_taken s n) (price_of cave n) 0 + costs_from cave s (n + 1)
 unfolding costs_from
-costs_more cave s n h = sum_more (is_taken s) (price_of cave) n 21 h
+costs_more cave s n h = sum_more (is_hint_taken s) (price_of cave) n 21 h
 
 pub ruleset points = (points_all, points_none, points_more)
 

@@ -1,5 +1,5 @@
 -- The score, by a table of what counts.
-use Rattle.std.specs.Prelude.{ℕ, ◌+◌, ◌-◌, ◌*◌, Bool, false, ◌==◌, if◌then◌else◌, slice_index_or}
+use Rattle.std.specs.Prelude.{ℕ, ◌+◌, ◌-◌, ◌*◌, Bool, false, ◌==◌, if◌then◌else◌}
 use Rattle.std.specs.Prelude.{List, filter, Option, Some, None}
 use Rattle.std.specs.FinMap as map
 use Rattle.std.specs.List.{sum_by, range_with_len}
@@ -11,6 +11,7 @@ use Rattle.cave_objects.specs.Objects.{is_first_at}
 use Rattle.cave_world.specs.declared.ending.Ending.{Ending}
 use Rattle.cave_world.specs.declared.ending.Ending.TheVariants as ending
 use Rattle.cave_world.specs.declared.state.State.{State}
+use Rattle.cave_world.specs.State.{is_hint_taken}
 use Rattle.cave_things.specs.Places.{place_named}
 use Rattle.cave_scene.specs.Rules.{thing}
 use Rattle.cave_score.specs.Treasures.{treasure_points, most_treasure_points}
@@ -70,12 +71,9 @@ points_of cave s =
     treasure_points cave s + life_points s + ending_points s.ending + dwarf_points s
     + closing_points s + closed_points s + magazine_points cave s + 2
 
-abbrev pub is_taken : State → ℕ → Bool
-is_taken s hint = slice_index_or s.hints.is_taken (hint - 1) false
-
 -- the hints that were taken, of 20
 unfoldable pub hints_taken : State → List ℕ
-hints_taken s = filter (is_taken s) (range_with_len 1 20)
+hints_taken s = filter (is_hint_taken s) (range_with_len 1 20)
 
 -- what a hint costs
 abbrev pub price_in : Option Hint → ℕ

@@ -2,7 +2,7 @@ ghost use Rattle.std.specs.Prelude.{◌≡◌, ◌≤◌, ◌<◌};
 ghost use Rattle.cave_scene.specs.Rules.{cave_of};
 ghost use Rattle.cave_score.specs.Score.{life_points, ending_points, dwarf_points, closing_points};
 ghost use Rattle.cave_score.specs.Score.{escape_points, closed_points, lies_at, magazine_points};
-ghost use Rattle.cave_score.specs.Score.{points_of, is_taken, price_of, hint_costs};
+ghost use Rattle.cave_score.specs.Score.{points_of, price_of, hint_costs};
 ghost use Rattle.cave_score.specs.Score.{score_of, max_score_of};
 
 use crate::treasures::treasure_points;
@@ -13,8 +13,8 @@ use cave_rows::PlaceRole;
 use cave_scene::Rules;
 use cave_things::place_named;
 use cave_words::Named;
-use cave_world::hints::LAST_HINT;
-use cave_world::{Ending, State};
+use cave_world::hints::HINTS;
+use cave_world::{Ending, HintNumber, State};
 
 /// The deaths that a game has.
 const LIVES: u32 = 3;
@@ -154,23 +154,15 @@ fn hint_price(cave: &Cave, hint: u16) -> u32
     }
 }
 
-fn is_taken(state: &State, hint: u16) -> bool
-    requires low { 1 ≤ hint }
-    requires high { hint ≤ 20 }
-    ensures { result ≡ is_taken state.now hint }
-{
-    state.hints.is_taken[usize::from(hint) - 1]
-}
-
 /// What the hints cost that were taken.
 #[tactic(auto, using(crate::proofs::Sums::costs))]
 fn hint_costs(cave: &Cave, state: &State) -> u32
     ensures { result ≡ hint_costs cave.now state.now }
 {
     let mut costs = 0;
-    for hint in 1..LAST_HINT as u16 + 1 {
-        if is_taken(state, hint) {
-            costs += hint_price(cave, hint);
+    for hint in 1..HINTS as u8 + 1 {
+        if state.is_hint_taken(HintNumber::new(hint)) {
+            costs += hint_price(cave, u16::from(hint));
         }
     }
     costs

@@ -1,4 +1,4 @@
-ghost use Rattle.std.specs.Prelude.{◌≡◌, ◌++◌, take, vec_len, decimal, OnOk};
+ghost use Rattle.std.specs.Prelude.{◌≡◌, ◌++◌, take, vec_len, OnOk};
 ghost use Rattle.cave_text.specs.OwnLines.{number_between, score_line, word_between, number_line};
 ghost use Rattle.cave_text.specs.OwnLines.{word_line};
 ghost use Rattle.cave_text.specs.OwnLines.{final_line, points_end, more_points, turn_count};
@@ -9,7 +9,12 @@ use itoa::Buffer;
 use std::alloc::AllocError;
 
 /// Appends a number between two texts.
-fn count(text: &mut Vec<u8>, before: &[u8], number: u32, after: &[u8]) -> Result<(), AllocError>
+fn add_number(
+    text: &mut Vec<u8>,
+    before: &[u8],
+    number: u32,
+    after: &[u8],
+) -> Result<(), AllocError>
     ensures ok { OnOk result (text.new.items ≡ text.old.items
         ++ number_between before.now number after.now) }
     ensures front { take (vec_len text.old) text.new.items ≡ text.old.items }
@@ -21,7 +26,7 @@ fn count(text: &mut Vec<u8>, before: &[u8], number: u32, after: &[u8]) -> Result
 }
 
 /// Appends a word between two texts.
-fn quote(text: &mut Vec<u8>, before: &[u8], word: Word, after: &[u8]) -> Result<(), AllocError>
+fn add_word(text: &mut Vec<u8>, before: &[u8], word: Word, after: &[u8]) -> Result<(), AllocError>
     ensures ok { OnOk result
         (text.new.items ≡ text.old.items ++ word_between before.now word after.now) }
     ensures front { take (vec_len text.old) text.new.items ≡ text.old.items }
@@ -73,8 +78,8 @@ fn append_score(
         ++ score_line before.now score most after.now) }
     ensures front { take (vec_len text.old) text.new.items ≡ text.old.items }
 {
-    count(text, before, score, b" out of a possible ")?;
-    count(text, b"", most, after)
+    add_number(text, before, score, b" out of a possible ")?;
+    add_number(text, b"", most, after)
 }
 
 /// Appends a line with a number.
@@ -89,15 +94,20 @@ pub fn append_number_line(
     ensures front { take (vec_len text.old) text.new.items ≡ text.old.items }
 {
     match line {
-        NumberLine::DwarvesHere => count(
+        NumberLine::DwarvesHere => add_number(
             text,
             b"There are ",
             number,
             b" threatening little dwarves in the room with you.\n",
         ),
-        NumberLine::KnivesThrown => count(text, b"", number, b" of them throw knives at you!\n"),
-        NumberLine::KnivesHit => count(text, b"", number, b" of them get you!\n"),
-        NumberLine::HintCosts => count(
+        NumberLine::KnivesThrown => add_number(
+            text,
+            b"",
+            number,
+            b" of them throw knives at you!\n",
+        ),
+        NumberLine::KnivesHit => add_number(text, b"", number, b" of them get you!\n"),
+        NumberLine::HintCosts => add_number(
             text,
             b"I am prepared to give you a hint, but it will cost you ",
             number,
@@ -110,7 +120,7 @@ pub fn append_number_line(
             most,
             b".\n",
         ),
-        NumberLine::PointsWanted => count(
+        NumberLine::PointsWanted => add_number(
             text,
             b"To achieve the next higher rating, you need ",
             number,
@@ -126,10 +136,10 @@ pub fn append_word_line(text: &mut Vec<u8>, line: WordLine, word: Word) -> Resul
     ensures front { take (vec_len text.old) text.new.items ≡ text.old.items }
 {
     match line {
-        WordLine::NotSeen => quote(text, b"I see no ", word, b" here.\n"),
-        WordLine::WhatToDo => quote(text, b"What do you want to do with the ", word, b"?\n"),
-        WordLine::Okay => quote(text, b"Okay, \"", word, b"\".\n"),
-        WordLine::What => quote(text, b"", word, b" what?\n"),
+        WordLine::NotSeen => add_word(text, b"I see no ", word, b" here.\n"),
+        WordLine::WhatToDo => add_word(text, b"What do you want to do with the ", word, b"?\n"),
+        WordLine::Okay => add_word(text, b"Okay, \"", word, b"\".\n"),
+        WordLine::What => add_word(text, b"", word, b" what?\n"),
     }
 }
 
@@ -145,5 +155,5 @@ pub fn append_final_line(
     ensures front { take (vec_len text.old) text.new.items ≡ text.old.items }
 {
     append_score(text, b"You scored ", score, most, b", using ")?;
-    count(text, b"", turns, turn_count(turns))
+    add_number(text, b"", turns, turn_count(turns))
 }

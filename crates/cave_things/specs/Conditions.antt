@@ -7,7 +7,6 @@ use Rattle.cave_things.specs.declared.conditions.Condition.TheVariants as condit
 
 -- the bit of a condition
 abbrev pub bit_of : Condition → ℕ
-bit_of condition.Light = 0
 bit_of condition.Oil = 1
 bit_of condition.Liquid = 2
 bit_of condition.NoPirate = 3

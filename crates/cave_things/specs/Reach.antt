@@ -47,11 +47,11 @@ unfoldable pub is_dwarf_here : State → Bool
 is_dwarf_here s =
     nat_le 2 s.dwarves.anger && list_any (is_dwarf_at s.trail.here) (take 5 s.dwarves.each)
 
-abbrev pub is_held : Anchor → Bool
-is_held anchor.Loose = false
-is_held anchor.Fixed = true
-is_held (anchor.At place) = true
+abbrev pub is_anchored : Anchor → Bool
+is_anchored anchor.Loose = false
+is_anchored anchor.Fixed = true
+is_anchored (anchor.At place) = true
 
 -- an object can't be moved
 unfoldable pub is_fixed : State → ℕ → Bool
-is_fixed s x = is_held (anchor_of s.objects x)
+is_fixed s x = is_anchored (anchor_of s.objects x)

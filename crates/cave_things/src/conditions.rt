@@ -8,11 +8,10 @@ use cave_objects::Place;
 use cave_scene::Rules;
 use cave_world::has_condition;
 
-/// A condition that a place may have, by a bit of its own.
+/// A condition that rules ask of a place, by a bit of its own. Bit 0, light, is asked where it is
+/// asked whether the player sees anything, by `State::is_dark`.
 #[derive(Clone, Copy, Debug, PartialEq, Eq)]
 pub enum Condition {
-    /// The place has light.
-    Light,
     /// The liquid of the place is oil.
     Oil,
     /// The place has a lake: of oil, or else of water.
@@ -28,7 +27,6 @@ impl Condition {
         ensures within { result < 32 }
     {
         match self {
-            Condition::Light => 0,
             Condition::Oil => 1,
             Condition::Liquid => 2,
             Condition::NoPirate => 3,

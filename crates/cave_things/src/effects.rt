@@ -64,7 +64,7 @@ pub fn let_go(rules: &Rules<'_>, object: Object, state: &mut State)
 
 /// The troll goes, and its second self is at both ends of the bridge.
 #[tactic(auto, unfolding(crate::specs::Effects::without_troll))]
-pub fn pay_troll(rules: &Rules<'_>, state: &mut State)
+pub fn remove_troll(rules: &Rules<'_>, state: &mut State)
     ensures { state.new ≡ without_troll (cave_of rules.now) state.old }
 {
     let troll = rules.object(Named::Troll);

@@ -19,10 +19,10 @@ pub fn is_in_hand(rules: &Rules<'_>, state: &State, object: Object) -> bool
     ensures { result ≡ is_in_hand (cave_of rules.now) state.now object }
 {
     if rules.is(object, Named::Water) || rules.is(object, Named::Oil) {
-        return state.is_carrying(rules.object(Named::Bottle))
+        return state.is_carried(rules.object(Named::Bottle))
             && is_liquid(object, liquid(rules, state));
     }
-    state.is_carrying(object)
+    state.is_carried(object)
 }
 
 /// Whether an object is carried, or its first half is where the player is.

@@ -29,14 +29,14 @@ use Rattle.cave_ends.specs.Endings.{ending_scene}
 use Rattle.cave_ends.specs.Questions.{asking_scene}
 use Rattle.cave_turn.specs.Finish.{end_of_turn}
 use Rattle.cave_world.specs.declared.ending.Ending.TheVariants.{Quit}
-use Rattle.cave_turn.specs.Reading.{read_words, half_command_of}
+use Rattle.cave_turn.specs.Request.{read_words, half_command_of}
 use Rattle.cave_world.specs.declared.part.Part.TheVariants as part
 use Rattle.cave_world.specs.declared.part.WordLine.TheVariants as line
-use Rattle.cave_turn.specs.declared.reading.HalfCommand.{HalfCommand}
-use Rattle.cave_turn.specs.declared.reading.Reading.{Reading}
-use Rattle.cave_turn.specs.declared.reading.Reading.TheVariants.{Unknown, Motion, Tell, Knives, Act}
-use Rattle.cave_turn.specs.declared.reading.Reading.TheVariants.{WhatToDo}
-use Rattle.cave_turn.specs.declared.reading.Understood.{Understood}
+use Rattle.cave_turn.specs.declared.request.HalfCommand.{HalfCommand}
+use Rattle.cave_turn.specs.declared.request.Request.{Request}
+use Rattle.cave_turn.specs.declared.request.Request.TheVariants.{Unknown, Motion, Tell, Knives, Act}
+use Rattle.cave_turn.specs.declared.request.Request.TheVariants.{WhatToDo}
+use Rattle.cave_turn.specs.declared.request.Understood.{Understood}
 
 -- the magic words go on from where the last command left them, and stop where it left them twice
 abbrev pub with_magic_waiting : State → State
@@ -107,14 +107,14 @@ words_done_by_verb cave order p =
 
 -- what was read is done. After an unknown word, or where a verb is missing, the half command stays
 -- as it then is
-abbrev pub words_done_by_reading : CaveView → HalfCommand → Reading → Scene → WordsDone
-words_done_by_reading cave half Unknown p = words_done (puzzled_scene p) (Some half)
-words_done_by_reading cave half (Motion motion) p = words_done (travel_scene cave motion p) None
-words_done_by_reading cave half (Tell told) p = words_done (after_telling told p) None
-words_done_by_reading cave half Knives p = words_done (after_vanished_knives p) None
-words_done_by_reading cave half (Act v x word) p =
+abbrev pub words_done_by_request : CaveView → HalfCommand → Request → Scene → WordsDone
+words_done_by_request cave half Unknown p = words_done (puzzled_scene p) (Some half)
+words_done_by_request cave half (Motion motion) p = words_done (travel_scene cave motion p) None
+words_done_by_request cave half (Tell told) p = words_done (after_telling told p) None
+words_done_by_request cave half Knives p = words_done (after_vanished_knives p) None
+words_done_by_request cave half (Act v x word) p =
     words_done_by_verb cave (order_of v x word) p
-words_done_by_reading cave half (WhatToDo word) p =
+words_done_by_request cave half (WhatToDo word) p =
     words_done (after_telling (part.Word line.WhatToDo word) p) (Some half)
 
 -- what is kept is remembered; where nothing is, the object that was read is the last one
@@ -129,7 +129,7 @@ kept_scene x d = with_state (after_remembering d.kept x d.scene.state) d.scene
 
 unfoldable pub scene_of_understood : CaveView → Understood → Scene → Scene
 scene_of_understood cave u p =
-    kept_scene u.half.object (words_done_by_reading cave u.half u.reading p)
+    kept_scene u.half.object (words_done_by_request cave u.half u.request p)
 
 -- an input line has a first word
 abbrev pub scene_of_words : CaveView → Words → Scene → Scene

@@ -3,6 +3,6 @@ pub mod Commands
 pub mod Dragon
 pub mod Finish
 pub mod ObjectWords
-pub mod Reading
+pub mod Request
 pub mod Revival
 pub mod Turns

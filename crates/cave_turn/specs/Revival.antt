@@ -17,6 +17,7 @@ use Rattle.cave_objects.specs.Layout.{Layout}
 use Rattle.cave_objects.specs.Objects.{is_carried, with_place, with_prop}
 use Rattle.cave_world.specs.declared.ending.Ending.TheVariants.{Killed}
 use Rattle.cave_world.specs.declared.state.State.{State}
+use Rattle.cave_world.specs.State.{with_player_from}
 
 -- what is said of a first, a second, a third revival
 abbrev pub revival_role : ℕ → Role
@@ -50,16 +51,11 @@ unfoldable pub without_belongings : CaveView → State → State
 without_belongings cave s =
     with_objects (layout_after_falls cave s.trail.older 100 (layout_with_lamp_out cave s)) s
 
--- the player is at a place, and came from there
-abbrev pub put_at : ℕ → State → State
-put_at place s =
-    let trail = s.trail in record s { trail = record trail { here = place; last = place } }
-
 -- the player is back, without what was carried
 unfoldable pub revival_scene : CaveView → Scene → Scene
 revival_scene cave p =
     description_anew cave
-    (with_state (put_at (building_place cave) (without_belongings cave p.state)) p)
+    (with_state (with_player_from (building_place cave) (without_belongings cave p.state)) p)
 
 -- a player who wants to come back does so twice; the third death is the last
 unfoldable pub return_scene : CaveView → Scene → Scene

@@ -8,14 +8,14 @@ ghost use Rattle.cave_scene.specs.Rules.{cave_of};
 ghost use Rattle.cave_turn.specs.Commands.{with_magic_waiting, knife_here};
 ghost use Rattle.cave_turn.specs.Commands.{after_beginning};
 ghost use Rattle.cave_turn.specs.Commands.{travel_scene, puzzlement, puzzled_scene, after_vanished_knives};
-ghost use Rattle.cave_turn.specs.Commands.{next_scene, half_command_kept, words_done, words_done_by_verb, words_done_by_reading};
+ghost use Rattle.cave_turn.specs.Commands.{next_scene, half_command_kept, words_done, words_done_by_verb, words_done_by_request};
 ghost use Rattle.cave_turn.specs.Commands.{after_remembering};
 ghost use Rattle.cave_turn.specs.Commands.{kept_scene, scene_of_understood, scene_of_words, unread_scene};
 ghost use Rattle.cave_turn.specs.Commands.{after_clocks};
 ghost use Rattle.cave_turn.specs.Commands.{clocks_scene, command_scene};
 
 use crate::finish::finish;
-use crate::reading::{HalfCommand, Reading, Understood, read_words};
+use crate::request::{HalfCommand, Request, Understood, read_words};
 use cave_clocks::{Clocks, run_clocks};
 use cave_ends::{ask, end};
 use cave_moves::{arrive, describe_here, lead_by_motion};
@@ -105,8 +105,8 @@ fn puzzle(play: &mut Play<'_>)
     ensures same { GoesOn play.old play.new }
     ensures few { SaysUpTo 1 play.old play.new }
 {
-    let first = play.chance(20);
-    let second = play.chance(20);
+    let first = play.happens(20);
+    let second = play.happens(20);
     play.say(puzzlement(first, second));
 }
 
@@ -166,40 +166,40 @@ fn do_verb(rules: &Rules<'_>, order: Order, play: &mut Play<'_>) -> Option<HalfC
 }
 
 /// What was read is done. Returns what is kept for the next line.
-fn do_reading(
+fn do_request(
     rules: &Rules<'_>,
     understood: &Understood,
     play: &mut Play<'_>,
 ) -> Option<HalfCommand>
     requires { HasRoom (room_of_deed play.old.left) play.old }
     ensures play { words_done (scene_of play.new) result
-        ≡ words_done_by_reading (cave_of rules.now) understood.now.half understood.now.reading
+        ≡ words_done_by_request (cave_of rules.now) understood.now.half understood.now.request
         (scene_of play.old) }
     ensures same { IsSamePlay play.old play.new }
     ensures few { SaysUpTo (parts_of_deed play.old.left) play.old play.new }
 {
     let half = understood.half;
-    match &understood.reading {
-        Reading::Unknown => {
+    match &understood.request {
+        Request::Unknown => {
             puzzle(play);
             Some(half)
         }
-        Reading::Motion(motion) => {
+        Request::Motion(motion) => {
             travel_by(rules, *motion, play);
             None
         }
-        Reading::Tell(part) => {
+        Request::Tell(part) => {
             play.tell(*part);
             None
         }
-        Reading::Knives => {
+        Request::Knives => {
             tell_of_knives(play);
             None
         }
-        Reading::Act(verb, object, word) => {
+        Request::Act(verb, object, word) => {
             do_verb(rules, Order::of(*verb, *object, *word), play)
         }
-        Reading::WhatToDo(word) => {
+        Request::WhatToDo(word) => {
             play.tell(Part::Word(WordLine::WhatToDo, *word));
             Some(half)
         }
@@ -232,7 +232,7 @@ fn carry_out(rules: &Rules<'_>, understood: &Understood, play: &mut Play<'_>)
     ensures same { IsSamePlay play.old play.new }
     ensures few { SaysUpTo (parts_of_deed play.old.left) play.old play.new }
 {
-    let kept = do_reading(rules, understood, play);
+    let kept = do_request(rules, understood, play);
     remember_command(kept, understood.half.object, play.state);
 }
 

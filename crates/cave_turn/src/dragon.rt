@@ -7,7 +7,7 @@ ghost use Rattle.cave_turn.specs.Dragon.{after_slaying, after_clearing};
 ghost use Rattle.cave_turn.specs.Dragon.{fight_scene};
 
 use cave_moves::arrive;
-use cave_objects::object::LAST_OBJECT;
+use cave_objects::object::OBJECTS;
 use cave_objects::{Anchor, Object, Objects, Place, Prop};
 use cave_scene::{Play, Rules};
 use cave_things::{home, second_home};
@@ -53,7 +53,7 @@ fn is_by_dragon(rules: &Rules<'_>, objects: &Objects, object: Object) -> bool
 fn gather(rules: &Rules<'_>, place: Place, objects: &mut Objects)
     ensures { objects.new ≡ after_gathering (cave_of rules.now) place 100 objects.old }
 {
-    for before in 0..LAST_OBJECT as u8 {
+    for before in 0..OBJECTS as u8 {
         let object = Object::new(before + 1);
         if is_by_dragon(rules, objects, object) {
             objects.move_to(object, place);

@@ -8,7 +8,7 @@ ghost use Rattle.cave_turn.specs.Finish.{is_hidden_in_hand, after_oyster_shows, 
 ghost use Rattle.cave_turn.specs.Finish.{layout_with_shown_up_to, after_hands_show, end_of_turn};
 
 use cave_hints::consider_all;
-use cave_objects::object::LAST_OBJECT;
+use cave_objects::object::OBJECTS;
 use cave_objects::{Object, Objects, Prop};
 use cave_scene::{Play, Rules};
 use cave_words::Named;
@@ -63,7 +63,7 @@ fn show_object(object: Object, objects: &mut Objects)
 fn show_objects(objects: &mut Objects)
     ensures { objects.new ≡ layout_with_shown_up_to 100 objects.old }
 {
-    for before in 0..LAST_OBJECT as u8 {
+    for before in 0..OBJECTS as u8 {
         show_object(Object::new(before + 1), objects);
     }
 }

@@ -6,7 +6,7 @@ pub mod commands;
 pub mod dragon;
 pub mod finish;
 pub mod object_words;
-pub mod reading;
+pub mod request;
 pub mod revival;
 pub mod turns;
 

@@ -71,7 +71,7 @@ pub fn object_word(
 fn is_there(rules: &Rules<'_>, state: &State, object: Object) -> bool
     ensures { result ≡ is_there (cave_of rules.now) state.now object }
 {
-    state.at(object) || is_in_hand(rules, state, object)
+    state.is_here(object) || is_in_hand(rules, state, object)
 }
 
 /// Whether an object is what a bottle at hand has in it, or what the lake is of.
@@ -89,7 +89,7 @@ fn is_grown_plant(rules: &Rules<'_>, state: &State, object: Object) -> bool
     ensures { result ≡ is_grown_plant (cave_of rules.now) state.now object }
 {
     let grown = rules.object(Named::SecondPlant);
-    rules.is(object, Named::Plant) && state.at(grown) && has_other_prop(state, grown, 0)
+    rules.is(object, Named::Plant) && state.is_here(grown) && has_other_prop(state, grown, 0)
 }
 
 fn is_knife_at(here: Place, knife: Knife) -> bool
@@ -110,6 +110,8 @@ fn is_sought(verb: Option<u16>) -> bool
     }
 }
 
+/// The place before the building, the valley and the slit. No role names them, since nothing else
+/// is asked of them than the way to the grate.
 fn is_above_grate(here: Place) -> bool
     ensures { result ≡ is_above_grate here }
 {

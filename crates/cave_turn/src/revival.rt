@@ -5,12 +5,13 @@ ghost use Rattle.cave_scene.specs.Bounds.{HasRoom, SaysUpTo, parts_of_arrival, p
 ghost use Rattle.cave_scene.specs.Play.{scene_of, GoesOn, IsSamePlay};
 ghost use Rattle.cave_scene.specs.Rules.{cave_of};
 ghost use Rattle.cave_turn.specs.Revival.{revival_role, layout_with_lamp_out, fallen_place};
-ghost use Rattle.cave_turn.specs.Revival.{layout_after_fall, layout_after_falls, without_belongings, put_at};
+ghost use Rattle.cave_turn.specs.Revival.{layout_after_fall, layout_after_falls};
+ghost use Rattle.cave_turn.specs.Revival.{without_belongings};
 ghost use Rattle.cave_turn.specs.Revival.{revival_scene, return_scene, burial_scene};
 
 use cave_ends::{count_death, end};
 use cave_moves::describe_here;
-use cave_objects::object::LAST_OBJECT;
+use cave_objects::object::OBJECTS;
 use cave_objects::{Object, Objects, Place, Prop};
 use cave_rows::Role;
 use cave_scene::{Play, Rules};
@@ -64,8 +65,8 @@ fn let_fall(rules: &Rules<'_>, place: Place, object: Object, objects: &mut Objec
 fn let_all_fall(rules: &Rules<'_>, place: Place, objects: &mut Objects)
     ensures { objects.new ≡ layout_after_falls (cave_of rules.now) place 100 objects.old }
 {
-    for before in 0..LAST_OBJECT as u8 {
-        let object = Object::new(LAST_OBJECT as u8 - before);
+    for before in 0..OBJECTS as u8 {
+        let object = Object::new(OBJECTS as u8 - before);
         let_fall(rules, place, object, objects);
     }
 }
@@ -81,13 +82,6 @@ fn bereave(rules: &Rules<'_>, state: &mut State)
     let_all_fall(rules, older, &mut state.objects);
 }
 
-fn put_at(place: Place, state: &mut State)
-    ensures { state.new ≡ put_at place state.old }
-{
-    state.trail.here = place;
-    state.trail.last = place;
-}
-
 /// The player is back, without what was carried.
 #[tactic(auto, unfolding(crate::specs::Revival::revival_scene))]
 fn revive(rules: &Rules<'_>, play: &mut Play<'_>)
@@ -97,7 +91,7 @@ fn revive(rules: &Rules<'_>, play: &mut Play<'_>)
     ensures few { SaysUpTo (parts_of_arrival play.old.left) play.old play.new }
 {
     bereave(rules, play.state);
-    put_at(building_place(rules.cave), play.state);
+    play.state.put_player_from(building_place(rules.cave));
     describe_here(rules, play);
 }
 

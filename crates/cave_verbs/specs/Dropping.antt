@@ -5,7 +5,7 @@ use Rattle.cave_words.specs.declared.named.Named.TheVariants as name
 use Rattle.cave_world.specs.declared.ending.Ending.TheVariants as ending
 use Rattle.cave_things.specs.Homes.{is_home_elsewhere}
 use Rattle.cave_verbs.specs.Effects.{say, default, look, bring, kill, fix, set_prop, put}
-use Rattle.cave_verbs.specs.Effects.{trolls, lose_to_snake}
+use Rattle.cave_verbs.specs.Effects.{troll_goes, lose_to_snake}
 use Rattle.cave_verbs.specs.Rows.{VerbRow, Test, Thing, row, row_then, ends, goes_on}
 use Rattle.cave_verbs.specs.Verbs as verb
 use Rattle.cave_verbs.specs.Tests.{x, the, no, is, carries, near, is_here, prop, cave_closed}
@@ -28,7 +28,7 @@ drop_rows =
     ∷ row (is name.Bird ∷ is_here (the name.Dragon) ∷ prop (the name.Dragon) (pos 0) ∷ [])
     (say role.BirdDragon ∷ kill x ∷ set_prop x (pos 0) ∷ lose_to_snake ∷ [])
     ∷ row (is name.Bear ∷ is_here (the name.Troll) ∷ [])
-    (say role.TrollFlees ∷ trolls ∷ set_prop (the name.Troll) (pos 2) ∷ put x ∷ [])
+    (say role.TrollFlees ∷ troll_goes ∷ set_prop (the name.Troll) (pos 2) ∷ put x ∷ [])
     ∷ row (is name.Vase ∷ from_home (the name.Pillow) ∷ is_here (the name.Pillow) ∷ [])
     (set_prop x (pos 0) ∷ look x (pos 1) ∷ put x ∷ [])
     ∷ row (is name.Vase ∷ from_home (the name.Pillow) ∷ [])

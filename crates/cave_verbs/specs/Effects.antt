@@ -74,8 +74,8 @@ abbrev pub lay_down : Thing → Effect
 lay_down t d = in_state (let_go d.cave (t d) d.scene.state) d
 
 -- the troll is paid, and goes
-abbrev pub trolls : Effect
-trolls d = in_state (without_troll d.cave d.scene.state) d
+abbrev pub troll_goes : Effect
+troll_goes d = in_state (without_troll d.cave d.scene.state) d
 
 -- one treasure more is lost, if the snake is at home
 abbrev pub lose_to_snake : Effect

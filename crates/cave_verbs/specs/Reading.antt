@@ -1,8 +1,9 @@
 -- READ.
-use Rattle.std.specs.Prelude.{ℕ, ◌-◌, false, ◌&&◌, if◌then◌else◌, List, [], ◌∷◌, slice_index_or}
+use Rattle.std.specs.Prelude.{ℕ, ◌&&◌, if◌then◌else◌, List, [], ◌∷◌}
 use Rattle.cave_rows.specs.declared.role.Role.TheVariants as role
 use Rattle.cave_words.specs.declared.named.Named.TheVariants as name
 use Rattle.cave_world.specs.Sight.{is_dark}
+use Rattle.cave_world.specs.State.{is_hint_taken}
 use Rattle.cave_world.specs.declared.ending.Question.TheVariants as question
 use Rattle.cave_world.specs.declared.part.Part.TheVariants as part
 use Rattle.cave_world.specs.declared.part.WordLine.TheVariants as line
@@ -19,7 +20,7 @@ abbrev pub dark : Test
 dark d = is_dark d.cave (thing d.cave name.Lamp) d.scene.state
 
 abbrev pub hint_taken : ℕ → Test
-hint_taken number d = slice_index_or d.scene.state.hints.is_taken (number - 1) false
+hint_taken number d = is_hint_taken d.scene.state number
 
 -- it is said that the word that was just read isn't seen here
 abbrev pub not_seen : Effect

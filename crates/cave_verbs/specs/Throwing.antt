@@ -11,7 +11,7 @@ use Rattle.cave_world.specs.declared.state.State.{State}
 use Rattle.cave_things.specs.Reach.{is_dwarf_at}
 use Rattle.cave_verbs.specs.Deeds.{Deed, Act}
 use Rattle.cave_verbs.specs.Effects.{in_state, say, default, bring, kill, fix, juggle}
-use Rattle.cave_verbs.specs.Effects.{set_prop, trolls}
+use Rattle.cave_verbs.specs.Effects.{set_prop, troll_goes}
 use Rattle.cave_verbs.specs.Rows.{VerbRow, Test, Effect, Thing, row, row_then, again, goes_on}
 use Rattle.cave_verbs.specs.Rows.{fits, act_of_row, first_fitting}
 use Rattle.cave_verbs.specs.Verbs as verb
@@ -65,7 +65,7 @@ throw_rows =
     row_then (is name.Rod ∷ no (carries x) ∷ carries (the name.SecondRod) ∷ [])
     [] (goes_on verb.THROW (the name.SecondRod))
     ∷ row (no (carries x) ∷ []) (default ∷ [])
-    ∷ row (treasure x ∷ is_here (the name.Troll) ∷ []) (kill x ∷ trolls ∷ say role.TrollPaid ∷ [])
+    ∷ row (treasure x ∷ is_here (the name.Troll) ∷ []) (kill x ∷ troll_goes ∷ say role.TrollPaid ∷ [])
     ∷ row_then (is name.Food ∷ near (the name.Bear) ∷ []) [] (goes_on verb.FEED (the name.Bear))
     ∷ row_then (no (is name.Axe) ∷ []) [] (goes_on verb.DROP x)
     ∷ []

@@ -15,7 +15,7 @@ use crate::verbs::DROP;
 use cave_objects::{Anchor, Prop};
 use cave_rows::Role;
 use cave_scene::{Play, Rules};
-use cave_things::{has_prop, is_home_elsewhere, is_in_hand, is_near, lose, pay_troll, put_down};
+use cave_things::{has_prop, is_home_elsewhere, is_in_hand, is_near, lose, put_down, remove_troll};
 use cave_words::Named;
 
 /// The bird drives the snake away; in the closed cave it wakes the dwarves.
@@ -72,22 +72,22 @@ pub fn drop_object(rules: &Rules<'_>, order: Order, play: &mut Play<'_>) -> Step
         return Step::Done(Next::Stay);
     }
     let dragon = rules.object(Named::Dragon);
-    if rules.is(x, Named::Bird) && play.state.at(dragon) && has_prop(play.state, dragon, 0) {
+    if rules.is(x, Named::Bird) && play.state.is_here(dragon) && has_prop(play.state, dragon, 0) {
         play.state.destroy(x);
         play.state.objects.set_prop(x, Prop::new(0));
         lose(rules, play.state);
         return Step::say(Role::BirdDragon, play);
     }
     let troll = rules.object(Named::Troll);
-    if rules.is(x, Named::Bear) && play.state.at(troll) {
-        pay_troll(rules, play.state);
+    if rules.is(x, Named::Bear) && play.state.is_here(troll) {
+        remove_troll(rules, play.state);
         play.state.objects.set_prop(troll, Prop::new(2));
         put_down(rules, x, play.state);
         return Step::say(Role::TrollFlees, play);
     }
     let pillow = rules.object(Named::Pillow);
     if rules.is(x, Named::Vase) && is_home_elsewhere(rules, play.state, pillow) {
-        if play.state.at(pillow) {
+        if play.state.is_here(pillow) {
             play.state.objects.set_prop(x, Prop::new(0));
             play.look(x, 1);
         } else {

@@ -14,7 +14,7 @@ use crate::next::{Next, Step};
 use crate::order::Order;
 use arrayvec::ArrayVec;
 use cave_objects::Object;
-use cave_objects::object::LAST_OBJECT;
+use cave_objects::object::OBJECTS;
 use cave_rows::Role;
 use cave_scene::{Play, Rules};
 use cave_things::{is_dwarf_here, is_in_hand, is_liquid, lake, liquid};
@@ -37,8 +37,9 @@ pub fn find(rules: &Rules<'_>, order: Order, play: &mut Play<'_>) -> Step
     if play.state.closing.is_closed {
         return Step::say(Role::Around, play);
     }
-    if play.state.at(x)
-        || is_liquid(x, liquid(rules, play.state)) && play.state.at(rules.object(Named::Bottle))
+    if play.state.is_here(x)
+        || is_liquid(x, liquid(rules, play.state))
+            && play.state.is_here(rules.object(Named::Bottle))
         || is_liquid(x, lake(rules, play.state))
         || rules.is(x, Named::Dwarf) && is_dwarf_here(play.state)
     {
@@ -55,11 +56,11 @@ fn is_in_inventory(rules: &Rules<'_>, state: &State, object: Object) -> bool
 
 /// The objects that the inventory lists, ascending.
 #[tactic(auto, using(crate::proofs::Listed::listing))]
-fn listed(rules: &Rules<'_>, state: &State) -> ArrayVec<Object, LAST_OBJECT>
+fn listed(rules: &Rules<'_>, state: &State) -> ArrayVec<Object, OBJECTS>
     ensures { result.items ≡ listed_up_to (cave_of rules.now) state.now 100 }
 {
     let mut listed = ArrayVec::new();
-    for before in 0..LAST_OBJECT {
+    for before in 0..OBJECTS {
         let object = Object::new(before as u8 + 1);
         if is_in_inventory(rules, state, object) {
             listed.push(object);

@@ -35,11 +35,11 @@ fn foes(rules: &Rules<'_>, order: &Order, play: &Play<'_>) -> Meant
     );
     consider(is_near(rules, play.state, snake), snake, &mut foes);
     consider(
-        play.state.at(dragon) && has_prop(play.state, dragon, 0),
+        play.state.is_here(dragon) && has_prop(play.state, dragon, 0),
         dragon,
         &mut foes,
     );
-    consider(play.state.at(troll), troll, &mut foes);
+    consider(play.state.is_here(troll), troll, &mut foes);
     consider(
         is_near(rules, play.state, bear) && has_prop(play.state, bear, 0),
         bear,

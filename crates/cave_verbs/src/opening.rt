@@ -30,11 +30,11 @@ fn lock_meant(rules: &Rules<'_>, state: &State) -> Object
     ensures { result ≡ lock_meant (cave_of rules.now) state.now }
 {
     let grate = rules.object(Named::Grate);
-    if state.at(grate) {
+    if state.is_here(grate) {
         return grate;
     }
     let door = rules.object(Named::Door);
-    if state.at(door) {
+    if state.is_here(door) {
         return door;
     }
     let oyster = rules.object(Named::Oyster);

@@ -95,7 +95,7 @@ pub fn pour(rules: &Rules<'_>, order: Order, play: &mut Play<'_>) -> Step
     }
     let bottle = rules.object(Named::Bottle);
     let door = rules.object(Named::Door);
-    if play.state.at(door) {
+    if play.state.is_here(door) {
         play.state.objects.set_prop(bottle, Prop::new(1));
         if is_oil {
             play.state.objects.set_prop(door, Prop::new(1));
@@ -104,7 +104,7 @@ pub fn pour(rules: &Rules<'_>, order: Order, play: &mut Play<'_>) -> Step
         play.state.objects.set_prop(door, Prop::new(0));
         return Step::say(Role::DoorWet, play);
     }
-    if play.state.at(rules.object(Named::Plant)) {
+    if play.state.is_here(rules.object(Named::Plant)) {
         play.state.objects.set_prop(bottle, Prop::new(1));
         if is_water {
             return water_plant(rules, order, play);

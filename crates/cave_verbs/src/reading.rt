@@ -17,7 +17,10 @@ use cave_rows::Role;
 use cave_scene::{Play, Rules};
 use cave_things::{is_in_hand, is_near};
 use cave_words::Named;
-use cave_world::{Part, Question, WordLine};
+use cave_world::{HintNumber, Part, Question, WordLine};
+
+/// Under the oyster it is written.
+const OYSTER_HINT: u8 = 2;
 
 /// The papers that the player could mean.
 fn papers(rules: &Rules<'_>, order: &Order, play: &Play<'_>) -> Meant
@@ -84,7 +87,7 @@ pub fn read(rules: &Rules<'_>, order: Order, play: &mut Play<'_>) -> Step
         return Step::say(Role::ReadMessage, play);
     }
     if rules.is(x, Named::Oyster) && is_in_hand(rules, play.state, x) {
-        if play.state.hints.is_taken[1] {
+        if play.state.is_hint_taken(HintNumber::new(OYSTER_HINT)) {
             return Step::say(Role::ReadOyster, play);
         }
         if play.state.closing.is_closed {

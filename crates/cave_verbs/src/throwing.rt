@@ -18,7 +18,7 @@ use crate::verbs::{DROP, FEED, KILL, THROW};
 use cave_objects::{Anchor, Object, Place, Prop};
 use cave_rows::Role;
 use cave_scene::{Play, Rules};
-use cave_things::{has_prop, is_dwarf_here, is_in_hand, is_near, is_treasure, pay_troll};
+use cave_things::{has_prop, is_dwarf_here, is_in_hand, is_near, is_treasure, remove_troll};
 use cave_words::Named;
 use cave_world::{Dwarf, State};
 
@@ -101,11 +101,11 @@ fn throw_at_beast(rules: &Rules<'_>, order: Order, play: &mut Play<'_>) -> Step
     let x = order.object;
     let dragon = rules.object(Named::Dragon);
     let bear = rules.object(Named::Bear);
-    if play.state.at(dragon) && has_prop(play.state, dragon, 0) {
+    if play.state.is_here(dragon) && has_prop(play.state, dragon, 0) {
         Step::say(Role::AxeDragon, play);
         return land(x, play.state);
     }
-    if play.state.at(rules.object(Named::Troll)) {
+    if play.state.is_here(rules.object(Named::Troll)) {
         Step::say(Role::AxeTroll, play);
         return land(x, play.state);
     }
@@ -153,9 +153,9 @@ pub fn throw(rules: &Rules<'_>, order: Order, play: &mut Play<'_>) -> Step
         }
         return order.say_default(rules, play);
     }
-    if is_treasure(x) && play.state.at(rules.object(Named::Troll)) {
+    if is_treasure(x) && play.state.is_here(rules.object(Named::Troll)) {
         play.state.destroy(x);
-        pay_troll(rules, play.state);
+        remove_troll(rules, play.state);
         return Step::say(Role::TrollPaid, play);
     }
     if rules.is(x, Named::Food) && is_near(rules, play.state, bear) {

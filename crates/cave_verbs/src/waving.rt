@@ -45,7 +45,7 @@ pub fn wave(rules: &Rules<'_>, order: Order, play: &mut Play<'_>) -> Step
     }
     let fissure = rules.object(Named::Fissure);
     if is_rod
-        && play.state.at(fissure)
+        && play.state.is_here(fissure)
         && is_in_hand(rules, play.state, rules.object(Named::Rod))
         && !play.state.closing.is_closing
     {

@@ -1,5 +1,5 @@
 //! The words of a cave with what they mean, for lookups that neither walk the rows nor take memory.
-ghost use Rattle.std.specs.Prelude.{◌≡◌, ℕ, ◌≤◌, map, IfOk};
+ghost use Rattle.std.specs.Prelude.{◌≡◌, ◌≤◌, map, IfOk};
 ghost use Rattle.cave_data.specs.CaveView.{CaveView};
 ghost use Rattle.cave_words.specs.Meaning.{meaning, meaning_in};
 ghost use Rattle.cave_words.specs.Index.{looked_up, IsIndexOf};
@@ -9,7 +9,8 @@ use crate::meaning::{Class, Meaning};
 use crate::meanings::Meanings;
 use crate::named::{EACH_NAME, NAME_COUNT, Named};
 use crate::word::{NAME_LETTERS, Word};
-use cave_data::{Cave, LAST_OBJECT, WordTable};
+use cave_data::{Cave, WordTable};
+use cave_numbers::LAST_OBJECT;
 use indexmap::IndexMap;
 use std::alloc::{AllocError, Global};
 use std::marker::Model;

@@ -7,6 +7,12 @@ use std::marker::Model;
 /// How many numbers the stream goes through.
 pub const STREAM_SIZE: u32 = 1_048_576;
 
+/// What a number of the stream is multiplied by for the next one.
+const MULTIPLIER: u32 = 1093;
+
+/// What is added then.
+const INCREMENT: u32 = 221_587;
+
 /// Where a random stream is.
 #[derive(Clone, Copy, Debug, PartialEq, Eq)]
 pub struct Stream {
@@ -44,12 +50,12 @@ impl Stream {
         ensures moves_on { self.new ≡ next self.old }
     {
         let value = n * self.x / STREAM_SIZE;
-        self.x = (1093 * self.x + 221_587) % STREAM_SIZE;
+        self.x = (MULTIPLIER * self.x + INCREMENT) % STREAM_SIZE;
         value
     }
 
     /// Draws whether something happens that happens in `p` of 100 cases, and moves on.
-    pub fn pct(&mut self, p: u32) -> bool
+    pub fn is_within_percent(&mut self, p: u32) -> bool
         ensures value { result ≡ is_within_percent p self.old }
         ensures moves_on { self.new ≡ next self.old }
     {

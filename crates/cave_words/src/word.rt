@@ -4,6 +4,7 @@ ghost use Rattle.log_lines.specs.Bytes.{prefix_while, is_nonblank};
 ghost use Rattle.cave_words.specs.Word.{letters_that_count, word_of, is_written};
 
 use log_lines::bytes::split_word;
+use std::hash::{Hash, Hasher};
 use std::marker::Model;
 
 /// The most letters of a word that count.
@@ -14,7 +15,7 @@ pub const NAME_LETTERS: u8 = 5;
 
 /// A word as it is compared: in upper case, cut to the letters that count, and filled up with
 /// spaces.
-#[derive(Clone, Copy, Debug, PartialEq, Eq, Hash)]
+#[derive(Clone, Copy, Debug, PartialEq, Eq)]
 pub struct Word {
     bytes: [u8; MAX_LETTERS],
 }
@@ -27,6 +28,21 @@ impl Model for Word {
     ghost view = { λ w. w.bytes };
 
     ghost inverse = { λ bytes. record { bytes = bytes } };
+}
+
+// A derive would feed each byte by itself.
+impl Hash for Word {
+    ghost use Rattle.std.specs.Prelude.{[], ◌∷◌};
+    ghost use Rattle.std.proofs.Common.{rules};
+    ghost use Rattle.std.specs.Cmp.Rules.{hashing};
+
+    ghost hash_input = { λ w. w ∷ [] };
+
+    ghost respects_eq = { Prim.search (hashing, rules) };
+
+    fn hash<H: Hasher>(&self, state: &mut H) {
+        state.write(&self.bytes);
+    }
 }
 
 impl Word {

@@ -1,5 +1,5 @@
 -- Where the player is, how often places were described, and how a game begins and is over.
-use Rattle.std.specs.Prelude.{ℕ, ◌+◌, ◌-◌, ◌%◌, Bool, ◌==◌, ◌||◌, if◌then◌else◌}
+use Rattle.std.specs.Prelude.{ℕ, ◌+◌, ◌-◌, ◌%◌, Bool, false, ◌==◌, ◌||◌, if◌then◌else◌}
 use Rattle.std.specs.Prelude.{None, Some, is_some, replicate, slice_index_or, slice_set}
 use Rattle.cave_world.specs.declared.state.State.{State}
 use Rattle.cave_world.specs.declared.ending.Question.TheVariants.{Welcome}
@@ -32,6 +32,11 @@ unfoldable pub state_with_player_at : State → ℕ → State
 state_with_player_at s place =
     record s { trail = record { here = place; last = s.trail.last; older = s.trail.older } }
 
+-- the player is at a place, and has come from there
+abbrev pub with_player_from : ℕ → State → State
+with_player_from place s =
+    let trail = s.trail in record s { trail = record trail { here = place; last = place } }
+
 -- the player's place is remembered as where the player comes from
 unfoldable pub state_after_setting_out : State → State
 state_after_setting_out s =
@@ -48,3 +53,7 @@ with_visit s place = if place == 0 then s
 unfoldable pub without_visits : State → ℕ → State
 without_visits s place = if place == 0 then s
     else record s { visits = slice_set s.visits (place - 1) 0 }
+
+-- a hint was taken
+abbrev pub is_hint_taken : State → ℕ → Bool
+is_hint_taken s hint = slice_index_or s.hints.is_taken (hint - 1) false

@@ -43,7 +43,11 @@ MESSAGES_AFTER = 500
 abbrev pub NOT_FOR_DWARVES : ℕ
 NOT_FOR_DWARVES = 100
 
--- a condition up to it asks for an object that is carried, by its number above 100
+-- a condition above it asks for an object that is carried, by its number above it
+abbrev pub CARRIED_AFTER : ℕ
+CARRIED_AFTER = 100
+
+-- a condition up to it asks for an object that is carried
 abbrev pub LAST_CARRIED : ℕ
 LAST_CARRIED = 200
 
@@ -65,7 +69,7 @@ row_number row = number_of_target row.target
 -- a condition over 100: an object is carried, is carried or here, or has another prop
 unfoldable pub allows : ℕ → State → Bool
 allows m s =
-    if nat_le m LAST_CARRIED then is_carried s.objects (m - NOT_FOR_DWARVES)
+    if nat_le m LAST_CARRIED then is_carried s.objects (m - CARRIED_AFTER)
     else (if nat_le m LAST_AT_HAND then is_carried s.objects (m - LAST_CARRIED)
     || is_object_at s.objects s.trail.here (m - LAST_CARRIED)
     else not (int_eq (prop_of s.objects (m % 100)) (pos (m / 100 - 3))))

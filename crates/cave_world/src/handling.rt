@@ -3,39 +3,18 @@ ghost use Rattle.std.specs.Prelude.{false, [], length, All, IsTrue};
 ghost use Rattle.cave_objects.specs.Lists.{halves_at, AreRelisted};
 ghost use Rattle.cave_objects.specs.Layout.{is_listed};
 ghost use Rattle.cave_objects.specs.Halves.{object_of};
-ghost use Rattle.cave_objects.specs.Spots.{place_of_spot, place_of_anchor, spot_at};
-ghost use Rattle.cave_objects.specs.Objects.{spot_of, anchor_of, prop_of, carried_objects};
+ghost use Rattle.cave_objects.specs.Spots.{place_of_spot, spot_at};
+ghost use Rattle.cave_objects.specs.Objects.{carried_objects};
 ghost use Rattle.cave_objects.specs.Objects.{is_carried, is_gone, is_object_at, is_at_hand};
-ghost use Rattle.cave_objects.specs.Objects.{with_anchor, with_prop, with_place, with_carried, with_latest};
+ghost use Rattle.cave_objects.specs.Objects.{with_place, with_carried};
 
 use crate::state::State;
 use arrayvec::ArrayVec;
 use cave_objects::lists::HALVES;
-use cave_objects::object::LAST_OBJECT;
-use cave_objects::{Anchor, Half, Object, Place, Prop, Spot};
+use cave_objects::object::OBJECTS;
+use cave_objects::{Half, Object, Place};
 
 impl State {
-    /// Where the first half of an object is.
-    pub fn spot(&self, object: Object) -> Spot
-        ensures { result ≡ spot_of self.now.objects object }
-    {
-        self.objects.spot(object)
-    }
-
-    /// What holds an object where it is.
-    pub fn anchor(&self, object: Object) -> Anchor
-        ensures { result ≡ anchor_of self.now.objects object }
-    {
-        self.objects.anchor(object)
-    }
-
-    /// The prop of an object.
-    pub fn prop(&self, object: Object) -> Prop
-        ensures { result ≡ prop_of self.now.objects object }
-    {
-        self.objects.prop(object)
-    }
-
     /// Whether there is the object, and its first half is nowhere.
     pub fn is_gone(&self, object: Object) -> bool
         ensures { result ≡ is_gone self.now.objects object }
@@ -44,7 +23,7 @@ impl State {
     }
 
     /// Whether the player carries an object.
-    pub fn is_carrying(&self, object: Object) -> bool
+    pub fn is_carried(&self, object: Object) -> bool
         ensures value { result ≡ is_carried self.now.objects object }
         ensures unlisted { IsTrue result → 0 < object → (q : ℕ)
             → is_listed object (halves_at q self.now.objects.lists) ≡ false }
@@ -53,7 +32,7 @@ impl State {
     }
 
     /// Whether a half of an object is where the player is.
-    pub fn at(&self, object: Object) -> bool
+    pub fn is_here(&self, object: Object) -> bool
         ensures value { result ≡ is_object_at self.now.objects self.now.trail.here object }
         ensures listed { let halves = halves_at self.now.trail.here self.now.objects.lists in
             0 < object → result ≡ (is_listed object halves || is_listed (100 + object) halves) }
@@ -62,7 +41,7 @@ impl State {
     }
 
     /// Whether the player carries an object, or its first half is where the player is.
-    pub fn here(&self, object: Object) -> bool
+    pub fn is_at_hand(&self, object: Object) -> bool
         ensures value { result ≡ is_at_hand self.now.objects self.now.trail.here object }
         ensures listed { let halves = halves_at self.now.trail.here self.now.objects.lists in
             0 < object → result ≡ (is_carried self.now.objects object || is_listed object halves) }
@@ -79,7 +58,7 @@ impl State {
     }
 
     /// The objects that the player carries, ascending.
-    pub fn carried(&self) -> ArrayVec<Object, LAST_OBJECT>
+    pub fn carried(&self) -> ArrayVec<Object, OBJECTS>
         ensures { result.items ≡ carried_objects self.now.objects }
     {
         self.objects.carried()
@@ -122,32 +101,6 @@ impl State {
             (place_of_spot (spot_at place)) }
     {
         self.objects.move_to(object, place);
-    }
-
-    /// Both halves of an object come to the front of the lists that they are in, if the player
-    /// doesn't carry it.
-    pub fn juggle(&mut self, object: Object)
-        ensures { let s = self.old in self.new ≡ record s { objects = with_latest s.objects object } }
-    {
-        self.objects.juggle(object);
-    }
-
-    /// An object is given another anchor.
-    pub fn anchor_to(&mut self, object: Object, anchor: Anchor)
-        ensures value { let s = self.old in
-            self.new ≡ record s { objects = with_anchor s.objects object anchor } }
-        ensures lists { let old = self.old.objects.lists in let new = self.new.objects.lists in
-            0 < object → AreRelisted old new (Half.Second object) (place_of_anchor anchor) }
-    {
-        self.objects.anchor_to(object, anchor);
-    }
-
-    /// An object is given another prop.
-    pub fn set_prop(&mut self, object: Object, prop: Prop)
-        ensures { let s = self.old in
-            self.new ≡ record s { objects = with_prop s.objects object prop } }
-    {
-        self.objects.set_prop(object, prop);
     }
 
     /// An object is nowhere from now on.

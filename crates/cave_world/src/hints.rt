@@ -1,11 +1,14 @@
 ghost use Rattle.std.specs.Prelude.{◌≡◌, ◌≤◌};
 ghost use Rattle.cave_world.specs.Fresh.{no_hint_used};
+ghost use Rattle.cave_world.specs.State.{is_hint_taken};
 
 use crate::count::Count;
+use crate::state::State;
+use cave_numbers::LAST_HINT;
 use std::marker::Model;
 
-/// The greatest number of a hint.
-pub const LAST_HINT: usize = 20;
+/// How many hints there may be.
+pub const HINTS: usize = LAST_HINT as usize;
 
 /// The number of a hint.
 #[derive(Clone, Copy, Debug, PartialEq, Eq)]
@@ -48,8 +51,8 @@ impl HintNumber {
 /// For each hint, how many turns its place was stayed at, and whether it was taken.
 #[derive(Clone, Copy, Debug, PartialEq, Eq)]
 pub struct Hints {
-    pub turns: [Count<10000>; LAST_HINT],
-    pub is_taken: [bool; LAST_HINT],
+    pub turns: [Count<10000>; HINTS],
+    pub is_taken: [bool; HINTS],
 }
 
 impl Hints {
@@ -59,8 +62,17 @@ impl Hints {
         ensures { result ≡ no_hint_used }
     {
         Hints {
-            turns: [Count::new(0); LAST_HINT],
-            is_taken: [false; LAST_HINT],
+            turns: [Count::new(0); HINTS],
+            is_taken: [false; HINTS],
         }
+    }
+}
+
+impl State {
+    /// Whether a hint was taken.
+    pub fn is_hint_taken(&self, hint: HintNumber) -> bool
+        ensures { result ≡ is_hint_taken self.now hint }
+    {
+        self.hints.is_taken[usize::from(hint.number()) - 1]
     }
 }

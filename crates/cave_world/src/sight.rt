@@ -36,6 +36,6 @@ impl State {
         ensures { result ≡ is_dark cave.now lamp self.now }
     {
         !has_condition(cave, self.trail.here, LIGHT_BIT)
-            && !(self.here(lamp) && self.objects.prop(lamp).value() == 1)
+            && !(self.is_at_hand(lamp) && self.objects.prop(lamp).value() == 1)
     }
 }

@@ -1,6 +1,8 @@
 ghost use Rattle.std.specs.Prelude.{◌≡◌, ◌↔◌, IsTrue};
 ghost use Rattle.cave_world.specs.SameGame.{IsSameGame};
-ghost use Rattle.cave_world.specs.State.{starting_state, takes_no_command, state_with_player_at, state_after_setting_out};
+ghost use Rattle.cave_world.specs.State.{starting_state, takes_no_command};
+ghost use Rattle.cave_world.specs.State.{state_with_player_at, with_player_from};
+ghost use Rattle.cave_world.specs.State.{state_after_setting_out};
 
 use crate::closing::Closing;
 use crate::count::Count;
@@ -10,7 +12,7 @@ use crate::hints::Hints;
 use crate::lamp::Lamp;
 use crate::talk::Talk;
 use crate::visits::Visits;
-use cave_objects::place::LAST_PLACE;
+use cave_objects::place::PLACES;
 use cave_objects::{Objects, Place};
 use cave_words::Stream;
 
@@ -40,7 +42,7 @@ pub struct State {
     pub trail: Trail,
     pub objects: Objects,
     /// How often each place was described.
-    pub visits: [Visits; LAST_PLACE],
+    pub visits: [Visits; PLACES],
     pub lamp: Lamp,
     pub closing: Closing,
     pub tallies: Tallies,
@@ -69,7 +71,7 @@ impl State {
                 older: place,
             },
             objects: Objects::unplaced(),
-            visits: [Count::new(0); LAST_PLACE],
+            visits: [Count::new(0); PLACES],
             lamp: Lamp::full(),
             closing: Closing::far(),
             tallies: Tallies {
@@ -100,6 +102,14 @@ impl State {
         ensures { self.new ≡ state_with_player_at self.old place }
     {
         self.trail.here = place;
+    }
+
+    /// Puts the player at a place, as one who has come from there.
+    pub fn put_player_from(&mut self, place: Place)
+        ensures { self.new ≡ with_player_from place self.old }
+    {
+        self.trail.here = place;
+        self.trail.last = place;
     }
 
     /// Remembers the player's place as where the player comes from.

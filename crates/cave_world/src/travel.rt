@@ -1,4 +1,4 @@
-ghost use Rattle.std.specs.Prelude.{◌≡◌, ◌<◌, map, [], length};
+ghost use Rattle.std.specs.Prelude.{◌≡◌, ◌<◌, map, []};
 ghost use Rattle.cave_rows.specs.RowViews.{going};
 ghost use Rattle.cave_world.specs.Travel.{lists_motion, holds, after_condition, allows, leads_to};
 ghost use Rattle.cave_world.specs.Travel.{row_outcome, after_row, rows_to_try, first_way};
@@ -7,7 +7,7 @@ ghost use Rattle.cave_world.specs.Travel.{from_listed, travel_by_rows, travel_by
 use crate::motion::ANY;
 use crate::state::State;
 use cave_data::Cave;
-use cave_objects::place::LAST_PLACE;
+use cave_numbers::LAST_PLACE;
 use cave_objects::{Object, Place};
 use cave_rows::Row;
 
@@ -50,7 +50,10 @@ const MESSAGES_AFTER: u16 = 500;
 /// The condition that always holds and that dwarves don't pass; below it are the chances.
 pub const NOT_FOR_DWARVES: u32 = 100;
 
-/// A condition up to it asks for an object that is carried, by its number above 100.
+/// A condition above it asks for an object that is carried, by its number above it.
+const CARRIED_AFTER: u32 = 100;
+
+/// A condition up to it asks for an object that is carried.
 const LAST_CARRIED: u32 = 200;
 
 /// A condition up to it asks for an object that is here or carried; those above it for a prop.
@@ -82,7 +85,7 @@ fn lists(row: &Row, motion: u16) -> bool
 fn leads_to(number: u16) -> TravelOutcome
     ensures { result ≡ leads_to number }
 {
-    if number <= LAST_PLACE as u16 {
+    if number <= LAST_PLACE {
         return TravelOutcome::Go(Place::new(number));
     }
     if number > MESSAGES_AFTER {
@@ -103,11 +106,11 @@ impl State {
         ensures { result ≡ allows condition self.now }
     {
         if condition <= LAST_CARRIED {
-            return self.is_carrying(Object::new((condition - NOT_FOR_DWARVES) as u8));
+            return self.is_carried(Object::new((condition - CARRIED_AFTER) as u8));
         }
         if condition <= LAST_AT_HAND {
             let object = Object::new((condition - LAST_CARRIED) as u8);
-            return self.is_carrying(object) || self.at(object);
+            return self.is_carried(object) || self.is_here(object);
         }
         let prop = self.objects.prop(Object::new((condition % 100) as u8));
         i64::from(prop.value()) != i64::from(condition / 100 - 3)
@@ -124,7 +127,7 @@ impl State {
             return true;
         }
         if condition < NOT_FOR_DWARVES {
-            return self.stream.pct(condition);
+            return self.stream.is_within_percent(condition);
         }
         self.allows(condition)
     }

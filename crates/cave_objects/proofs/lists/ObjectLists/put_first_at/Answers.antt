@@ -1,7 +1,7 @@
 use Rattle.std.proofs.Common.{ap, ◌∙◌}
 use Rattle.cave_objects.specs.Lists.{put_first}
 use Rattle.cave_objects.proofs.Relinked.{put_at_front}
-use Rattle.cave_objects.proofs.lists.ObjectLists.put_at.Goals as goal
+use Rattle.cave_objects.proofs.lists.ObjectLists.put_first_at.Goals as goal
 
 pub invariant_of-self : goal.invariant_of-self
 invariant_of-self c =

@@ -22,16 +22,16 @@ use Rattle.cave_world.specs.declared.talk.Talk.{Talk}
 use Rattle.cave_turn.specs.ObjectWords.{object_word}
 use Rattle.cave_turn.specs.declared.object_words.ObjectWord.{ObjectWord}
 use Rattle.cave_turn.specs.declared.object_words.ObjectWord.TheVariants as object
-use Rattle.cave_turn.specs.declared.reading.HalfCommand.{HalfCommand}
-use Rattle.cave_turn.specs.declared.reading.Reading.TheVariants.{Unknown, Motion, Tell, Knives, Act}
-use Rattle.cave_turn.specs.declared.reading.Reading.TheVariants.{WhatToDo}
-use Rattle.cave_turn.specs.declared.reading.SaidWord.{SaidWord}
-use Rattle.cave_turn.specs.declared.reading.Understood.{Understood}
-use Rattle.cave_turn.specs.declared.reading.Reading.{Reading}
+use Rattle.cave_turn.specs.declared.request.HalfCommand.{HalfCommand}
+use Rattle.cave_turn.specs.declared.request.Request.TheVariants.{Unknown, Motion, Tell, Knives, Act}
+use Rattle.cave_turn.specs.declared.request.Request.TheVariants.{WhatToDo}
+use Rattle.cave_turn.specs.declared.request.SaidWord.{SaidWord}
+use Rattle.cave_turn.specs.declared.request.Understood.{Understood}
+use Rattle.cave_turn.specs.declared.request.Request.{Request}
 
 -- what is understood of a line, with the half command as the line leaves it
-abbrev pub understanding : HalfCommand → Reading → Understood
-understanding half reading = record { half = half; reading = reading }
+abbrev pub understanding : HalfCommand → Request → Understood
+understanding half request = record { half = half; request = request }
 
 abbrev pub with_verb : Option ℕ → HalfCommand → HalfCommand
 with_verb v half = record { verb = v; object = half.object }

@@ -2,7 +2,7 @@ use Rattle.std.proofs.Common.{◌<◌, sym, ◌∙◌, arith}
 use Rattle.std.proofs.lemmas.Bool.Decides.{nat_tests}
 use Rattle.cave_objects.specs.Layout.{Layout}
 use Rattle.cave_objects.proofs.Laid.{IsLaid-brought}
-use Rattle.cave_objects.proofs.objects.Objects.bring.Goals as goal
+use Rattle.cave_objects.proofs.objects.Objects.move_to_spot.Goals as goal
 
 pub invariant_of-self : goal.invariant_of-self
 invariant_of-self c =

@@ -1,12 +1,12 @@
 ghost use Rattle.std.specs.Prelude.{◌≡◌};
 ghost use Rattle.cave_scene.specs.Rules.{cave_of};
-ghost use Rattle.cave_turn.specs.Reading.{with_verb, with_object, said_word, object_alone};
-ghost use Rattle.cave_turn.specs.Reading.{action_alone, word_alone};
-ghost use Rattle.cave_turn.specs.Reading.{is_magic};
-ghost use Rattle.cave_turn.specs.Reading.{word_aloud, object_before, action_before, before};
-ghost use Rattle.cave_turn.specs.Reading.{enter_stream, enter_word, is_pouring, pour_in};
-ghost use Rattle.cave_turn.specs.Reading.{two_words, is_saying, read_words, half_command_of};
-ghost use Rattle.cave_turn.specs.Reading.{understanding};
+ghost use Rattle.cave_turn.specs.Request.{with_verb, with_object, said_word, object_alone};
+ghost use Rattle.cave_turn.specs.Request.{action_alone, word_alone};
+ghost use Rattle.cave_turn.specs.Request.{is_magic};
+ghost use Rattle.cave_turn.specs.Request.{word_aloud, object_before, action_before, before};
+ghost use Rattle.cave_turn.specs.Request.{enter_stream, enter_word, is_pouring, pour_in};
+ghost use Rattle.cave_turn.specs.Request.{two_words, is_saying, read_words, half_command_of};
+ghost use Rattle.cave_turn.specs.Request.{understanding};
 
 use crate::object_words::{ObjectWord, object_word};
 use cave_objects::Object;
@@ -35,7 +35,7 @@ pub struct SaidWord {
 
 /// What a line asks for.
 #[derive(Clone, Copy, Debug, PartialEq, Eq)]
-pub enum Reading {
+pub enum Request {
     /// The cave doesn't have the word.
     Unknown,
     /// The player travels by a motion.
@@ -54,7 +54,7 @@ pub enum Reading {
 #[derive(Clone, Copy, Debug, PartialEq, Eq)]
 pub struct Understood {
     pub half: HalfCommand,
-    pub reading: Reading,
+    pub request: Request,
 }
 
 impl HalfCommand {
@@ -86,12 +86,12 @@ impl HalfCommand {
         }
     }
 
-    fn asks(self, reading: Reading) -> Understood
-        ensures { result ≡ understanding self reading }
+    fn asks(self, request: Request) -> Understood
+        ensures { result ≡ understanding self request }
     {
         Understood {
             half: self,
-            reading,
+            request,
         }
     }
 }
@@ -141,12 +141,12 @@ fn object_alone(found: ObjectWord, half: HalfCommand, word: Word) -> Understood
         ObjectWord::Is(object) => match half.verb {
             Some(verb) => half
                 .with_object(object)
-                .asks(Reading::Act(verb, object, word)),
-            None => half.with_object(object).asks(Reading::WhatToDo(word)),
+                .asks(Request::Act(verb, object, word)),
+            None => half.with_object(object).asks(Request::WhatToDo(word)),
         },
-        ObjectWord::Leads(motion) => half.asks(Reading::Motion(motion)),
-        ObjectWord::Knives => half.asks(Reading::Knives),
-        ObjectWord::Unseen => half.asks(Reading::Tell(Part::Word(WordLine::NotSeen, word))),
+        ObjectWord::Leads(motion) => half.asks(Request::Motion(motion)),
+        ObjectWord::Knives => half.asks(Request::Knives),
+        ObjectWord::Unseen => half.asks(Request::Tell(Part::Word(WordLine::NotSeen, word))),
     }
 }
 
@@ -155,23 +155,23 @@ fn action_alone(verb: u16, half: HalfCommand, word: Word) -> Understood
 {
     let object = half.object;
     if verb == SAY {
-        half.asks(Reading::Act(verb, Object::none(), word))
+        half.asks(Request::Act(verb, Object::none(), word))
     } else {
         half.with_verb(Some(verb))
-            .asks(Reading::Act(verb, object, word))
+            .asks(Request::Act(verb, object, word))
     }
 }
 
 /// What a word says that no other follows.
-#[tactic(auto, unfolding(crate::specs::Reading::word_alone))]
+#[tactic(auto, unfolding(crate::specs::Request::word_alone))]
 fn alone(rules: &Rules<'_>, state: &State, half: HalfCommand, said: SaidWord) -> Understood
     ensures { result ≡ word_alone (cave_of rules.now) state.now half said }
 {
     let word = said.word;
     match said.meaning {
-        None => half.asks(Reading::Unknown),
+        None => half.asks(Request::Unknown),
         Some(meaning) => match meaning.class {
-            Class::Motion => half.asks(Reading::Motion(meaning.number)),
+            Class::Motion => half.asks(Request::Motion(meaning.number)),
             Class::Object => {
                 let object = or_no_object(Some(meaning.number));
                 object_alone(
@@ -181,7 +181,7 @@ fn alone(rules: &Rules<'_>, state: &State, half: HalfCommand, said: SaidWord) ->
                 )
             }
             Class::Action => action_alone(meaning.number, half, word),
-            Class::Special => half.asks(Reading::Tell(Part::Message(meaning.number))),
+            Class::Special => half.asks(Request::Tell(Part::Message(meaning.number))),
         },
     }
 }
@@ -203,14 +203,14 @@ fn is_magic(meaning: Option<Meaning>) -> bool
 }
 
 /// What is done where a word is said aloud.
-#[tactic(auto, unfolding(crate::specs::Reading::word_aloud))]
+#[tactic(auto, unfolding(crate::specs::Request::word_aloud))]
 fn word_aloud(rules: &Rules<'_>, state: &State, half: HalfCommand, said: SaidWord) -> Understood
     ensures { result ≡ word_aloud (cave_of rules.now) state.now half said }
 {
     if is_magic(said.meaning) {
         return alone(rules, state, half, said);
     }
-    half.asks(Reading::Tell(Part::Word(WordLine::Okay, said.word)))
+    half.asks(Request::Tell(Part::Word(WordLine::Okay, said.word)))
 }
 
 fn object_before(
@@ -248,7 +248,7 @@ fn action_before(
 }
 
 /// What a word says that another follows.
-#[tactic(auto, unfolding(crate::specs::Reading::before))]
+#[tactic(auto, unfolding(crate::specs::Request::before))]
 fn before(
     rules: &Rules<'_>,
     state: &State,
@@ -259,16 +259,16 @@ fn before(
     ensures { result ≡ before (cave_of rules.now) state.now half said next }
 {
     match said.meaning {
-        None => half.asks(Reading::Unknown),
+        None => half.asks(Request::Unknown),
         Some(meaning) => match meaning.class {
-            Class::Motion => half.asks(Reading::Motion(meaning.number)),
+            Class::Motion => half.asks(Request::Motion(meaning.number)),
             Class::Object => {
                 let object = or_no_object(Some(meaning.number));
                 let found = object_word(rules, state, half.verb, false, object);
                 object_before(rules, state, found, half, said.word, next)
             }
             Class::Action => action_before(rules, state, meaning.number, half, next),
-            Class::Special => half.asks(Reading::Tell(Part::Message(meaning.number))),
+            Class::Special => half.asks(Request::Tell(Part::Message(meaning.number))),
         },
     }
 }
@@ -277,14 +277,14 @@ fn enter_stream(rules: &Rules<'_>, state: &State, half: HalfCommand) -> Understo
     ensures { result ≡ enter_stream (cave_of rules.now) state.now half }
 {
     if is_liquid(rules.object(Named::Water), lake(rules, state)) {
-        half.asks(Reading::Tell(Part::Role(Role::FeetWet)))
+        half.asks(Request::Tell(Part::Role(Role::FeetWet)))
     } else {
-        half.asks(Reading::Tell(Part::Role(Role::Where)))
+        half.asks(Request::Tell(Part::Role(Role::Where)))
     }
 }
 
 /// What it says to enter what a word names.
-#[tactic(auto, unfolding(crate::specs::Reading::enter_word))]
+#[tactic(auto, unfolding(crate::specs::Request::enter_word))]
 fn enter_into(rules: &Rules<'_>, state: &State, half: HalfCommand, word: Word) -> Understood
     ensures { result ≡ enter_word (cave_of rules.now) state.now half word }
 {
@@ -295,13 +295,13 @@ fn enter_into(rules: &Rules<'_>, state: &State, half: HalfCommand, word: Word) -
 }
 
 /// Whether two words pour a liquid over what is where the player is.
-#[tactic(auto, unfolding(crate::specs::Reading::is_pouring))]
+#[tactic(auto, unfolding(crate::specs::Request::is_pouring))]
 fn is_pouring(rules: &Rules<'_>, state: &State, word: Word, next: Word) -> bool
     ensures { result ≡ is_pouring (cave_of rules.now) state.now word next }
 {
     (word.is(b"WATER") || word.is(b"OIL"))
-        && ((next.is(b"PLANT") && state.at(rules.object(Named::Plant)))
-            || (next.is(b"DOOR") && state.at(rules.object(Named::Door))))
+        && ((next.is(b"PLANT") && state.is_here(rules.object(Named::Plant)))
+            || (next.is(b"DOOR") && state.is_here(rules.object(Named::Door))))
 }
 
 fn pour_in(rules: &Rules<'_>) -> SaidWord
@@ -316,7 +316,7 @@ fn pour_in(rules: &Rules<'_>) -> SaidWord
     }
 }
 
-#[tactic(auto, unfolding(crate::specs::Reading::two_words))]
+#[tactic(auto, unfolding(crate::specs::Request::two_words))]
 fn two_words(
     rules: &Rules<'_>,
     state: &State,

@@ -1,0 +1,14 @@
+//! The last numbers of what a cave numbers: each is here and in no other crate's code.
+#![tactic(auto)]
+
+/// The last place. Places count from 1; 0 is nowhere.
+pub const LAST_PLACE: u16 = 300;
+
+/// The last object. Objects count from 1; 0 is no object.
+pub const LAST_OBJECT: u16 = 100;
+
+/// The last hint. Hints count from 1.
+pub const LAST_HINT: u16 = 20;
+
+/// The last message. Messages count from 1.
+pub const LAST_MESSAGE: u16 = 499;
