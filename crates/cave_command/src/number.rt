@@ -1,6 +1,6 @@
 //! Numbers of the command line: digits and nothing else.
 
-ghost use Rattle.std.specs.Prelude.{◌≡◌, ◌<◌, ◌^◌};
+ghost use Rattle.std.specs.Prelude.{◌≡◌, ◌<◌};
 ghost use Rattle.std.specs.List.{list_all};
 ghost use Rattle.log_lines.specs.Bytes.{is_digit};
 ghost use Rattle.cave_command.specs.Number.{option_number};

@@ -9,7 +9,7 @@ ghost use Rattle.cave_command.specs.Read.{IsParse};
 ghost use Rattle.cave_command.specs.Line.{IsAsked, IsBadEditing, IsBadEvery, IsBadSeed, IsBadView};
 ghost use Rattle.cave_command.specs.Line.{IsEditing, IsEveryGiven, IsFiles, IsLine, IsLineMet};
 ghost use Rattle.cave_command.specs.Line.{IsLineOf, IsRefusal, IsRefused, IsRequest, IsSeed};
-ghost use Rattle.cave_command.specs.Line.{IsUnmade, IsView, IsWrong, rows_in};
+ghost use Rattle.cave_command.specs.Line.{IsUnmade, IsView, rows_in};
 
 use crate::app::cave_command;
 use crate::fault::CommandFault;

@@ -75,7 +75,6 @@ fn default_place(place: PlaceRole) -> Option<u16>
 impl Model for Cave {
     ghost use Rattle.std.specs.Prelude.{map};
     ghost use Rattle.cave_data.specs.CaveView.{CaveView, cave_code};
-    ghost use Rattle.cave_data.specs.Slots.{by_number};
     ghost use Rattle.cave_data.specs.Printing.{printed_texts, printed_class};
     ghost use Rattle.cave_data.specs.Bindings.{with_defaults};
     ghost use Rattle.cave_data.specs.Ranges.{IsLetters, IsMessage, IsPlace, IsPlacementInRange, HasOnly};

@@ -1,9 +1,9 @@
 -- What one line of a script says.
-use Rattle.std.specs.Prelude.{◌≡◌, ℕ, ◌≤◌, ◌&&◌, ◌||◌, Bool, IsTrue, nat_lt, nat_le, bytes_eq, min}
+use Rattle.std.specs.Prelude.{◌≡◌, ℕ, ◌≤◌, ◌&&◌, Bool, IsTrue, nat_lt, nat_le, bytes_eq, min}
 use Rattle.std.specs.Prelude.{List, [], ◌∷◌, ◌++◌, length, take, drop, Option, Some, None}
 use Rattle.std.specs.Prelude.{option_map, codes, if◌then◌else◌}
 use Rattle.std.specs.List.{list_all}
-use Rattle.log_lines.specs.Bytes.{is_blank, is_all_blank, is_digit, prefix_while, after_prefix}
+use Rattle.log_lines.specs.Bytes.{is_blank, is_digit, prefix_while, after_prefix}
 use Rattle.log_lines.specs.Bytes.{number_of}
 use Rattle.log_lines.specs.LogLine.{is_skipped}
 use Rattle.log_replay.specs.Edit.{Change, inserts, deletes, replaces, reseeds}

@@ -1,11 +1,10 @@
 //! One line of a script.
 
 ghost use Rattle.std.specs.Prelude.{◌≡◌, IfOk, MatchOption, None, Some, option_map, min};
-ghost use Rattle.std.specs.List.{list_all};
 ghost use Rattle.limits.specs.Limits.{max_script_number};
-ghost use Rattle.log_lines.specs.Bytes.{is_blank, is_digit, number_of};
+ghost use Rattle.log_lines.specs.Bytes.{is_blank, number_of};
 ghost use Rattle.log_replay.specs.Edit.{change_of};
-ghost use Rattle.edit_scripts.specs.Line.{is_word_line, number_and_rest, number_after};
+ghost use Rattle.edit_scripts.specs.Line.{is_word_line, number_after};
 ghost use Rattle.edit_scripts.specs.Line.{text_of_edit, edit_of, kind_of_script_line};
 ghost use Rattle.edit_scripts.specs.Line.{kind_said};
 

@@ -1,4 +1,4 @@
-ghost use Rattle.std.specs.Prelude.{◌≡◌, length, map, IfOk};
+ghost use Rattle.std.specs.Prelude.{◌≡◌, map, IfOk};
 ghost use Rattle.log_replay.specs.Play.{log_of};
 ghost use Rattle.log_replay.specs.Edit.{change_of, changes_of};
 ghost use Rattle.log_replay.specs.Playthrough.{IsCopyOf};

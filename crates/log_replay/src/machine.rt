@@ -1,4 +1,4 @@
-ghost use Rattle.std.specs.Prelude.{◌≡◌, ℕ, ◌+◌, ◌^◌, ◌<◌, ◌↔◌, IfOk, OnOk, IsTrue};
+ghost use Rattle.std.specs.Prelude.{◌≡◌, ◌+◌, ◌^◌, ◌<◌, ◌↔◌, IfOk, OnOk, IsTrue};
 ghost use Rattle.log_lines.specs.Line.{is_line};
 ghost use Rattle.log_replay.specs.Machine.{MachineRules};
 

@@ -1,4 +1,4 @@
-ghost use Rattle.std.specs.Prelude.{◌≡◌, ◌+◌, ◌^◌, ◌<◌, ◌≤◌, length, IfOk, OnOk};
+ghost use Rattle.std.specs.Prelude.{◌≡◌, ◌+◌, ◌^◌, ◌<◌, length, IfOk, OnOk};
 ghost use Rattle.log_replay.specs.Play.{IsGame, game_in};
 ghost use Rattle.log_replay.specs.Playthrough.{IsDistance, kept_game, KeepsPlay};
 ghost use Rattle.log_replay.specs.Report.{RisesByAtMost};

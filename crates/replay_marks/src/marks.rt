@@ -1,4 +1,4 @@
-ghost use Rattle.std.specs.Prelude.{◌≡◌, ℕ, ◌+◌, ◌-◌, ◌<◌, ◌≤◌, ◌^◌, [], ◌∷◌, ◌++◌, length};
+ghost use Rattle.std.specs.Prelude.{◌≡◌, ℕ, ◌+◌, ◌-◌, ◌<◌, ◌≤◌, ◌^◌, [], ◌∷◌, length};
 ghost use Rattle.std.specs.Prelude.{slice_index, IfOk, OnOk, OnErr};
 ghost use Rattle.replay_marks.specs.Marks.{places_before, states_before};
 ghost use Rattle.replay_marks.specs.Spacing.{most_spaced};

@@ -1,5 +1,5 @@
 ghost use Rattle.std.specs.Prelude.{◌≡◌, ◌+◌, ◌-◌, ℕ, ◌<◌, ◌≤◌, ◌^◌, [], ◌∷◌, ◌++◌, if◌then◌else◌};
-ghost use Rattle.std.specs.Prelude.{length, take, slice_index, slice_get, Some, IfOk, OnOk, OnErr};
+ghost use Rattle.std.specs.Prelude.{length, take, slice_index, slice_get, Some, IfOk, OnOk};
 ghost use Rattle.std.specs.List.{splice};
 ghost use Rattle.replay_marks.specs.Marks.{is_far};
 ghost use Rattle.replay_marks.specs.PlacedStates.{contents};
