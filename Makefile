@@ -29,11 +29,12 @@ $(PROGRAM): $(SOURCES)
 	@cd crates/cave && ../../bench/progress cave ../../out/build.log rt run -- $(FIRST_GAME)
 	@touch $@
 
-# The lines that must not compile, and what the documents show; then the gate: each proof from
-# nothing, the edits that must fail, the tests and the program; and then the suite with the program
-# that was proved, and what the suite leaves out.
+# The lines that must not compile, names that nobody uses, and what the documents show; then the gate:
+# each proof from nothing, the edits that must fail, the tests and the program; and then the suite with
+# the program that was proved, and what the suite leaves out.
 test:
 	bench/snippets
+	bench/unused
 	logs/documents
 	@mkdir -p out
 	bench/manual docs/PROGRAM.md > out/cave.1
