@@ -1,8 +1,9 @@
-ghost use Rattle.std.specs.Prelude.{◌≡◌, ◌==◌, ℕ, ◌+◌, ◌<◌, ◌≤◌, ◌∷◌, [], length, map};
+ghost use Rattle.std.specs.Prelude.{◌≡◌, ◌==◌, ℕ, ◌+◌, ◌<◌, ◌≤◌, ◌∷◌, ◌++◌, [], length, map};
 ghost use Rattle.std.specs.Prelude.{IfOk, OnOk, All, IsTrue, MatchOption, MatchResult, None, Some};
 ghost use Rattle.std.specs.List.{position, position_or_len};
 ghost use Rattle.std.specs.Str.Lines.{lines, strip_carriage_return};
 ghost use Rattle.log_lines.specs.Line.{is_line};
+ghost use Rattle.log_replay.specs.LogText.{log_text};
 ghost use Rattle.log_replay.specs.Play.{log_of};
 ghost use Rattle.log_replay.specs.Opening.{first_bad_line, open_fault};
 
@@ -68,4 +69,15 @@ pub(crate) fn copy_lines(
         rest = more;
     }
     Ok(copy)
+}
+
+/// Appends lines, each with a line feed after it.
+pub(crate) fn push_lines(lines: &[Vec<u8>], text: &mut Vec<u8>) -> Result<(), AllocError>
+    ensures { OnOk result (text.new.items ≡ text.old.items ++ log_text (log_of lines.now)) }
+{
+    for line in lines {
+        text.extend_from_slice(line)?;
+        text.extend_from_slice(b"\n")?;
+    }
+    Ok(())
 }
