@@ -1,7 +1,6 @@
 mod EditLemmas
 pub mod InputLemmas
 mod JudgeLemmas
-mod LogLemmas
 mod OneOutputLemmas
 mod RefusalLemmas
 mod RunLemmas

@@ -6,13 +6,14 @@ use Rattle.cave_data.specs.CaveView.{CaveView}
 use Rattle.edit_options.specs.declared.editing.View.{View}
 use Rattle.edit_options.specs.declared.editing.View.TheVariants.{Transcript, Log, Reports}
 use Rattle.replay_marks.specs.Spacing.{IsSpaced}
+use Rattle.log_replay.specs.LogText.{log_text}
 use Rattle.log_replay.specs.Play.{Game}
 use Rattle.edit_scripts.specs.Item.{Applied}
 use Rattle.cave_play.specs.Edits.{ReadsBack, text_at_end, text_of_item}
 use Rattle.cave_play.specs.Outcome.{AreOutcomes, IsOutcome, lines_in, played_in, refusal_in}
 use Rattle.cave_play.specs.Output.{game_after_item, game_after_items, play_text, group_refusal}
 use Rattle.cave_play.specs.Output.{report, report_by, reports}
-use Rattle.cave_play.specs.Views.{IsViewOf, log_text, text_of_items, totals_line}
+use Rattle.cave_play.specs.Views.{IsViewOf, text_of_items, totals_line}
 use Rattle.cave_play.specs.declared.outcome.ItemOutcome.{ItemOutcome}
 use Rattle.cave_play.specs.declared.outcome.ItemOutcome.TheVariants.{Refused, Replayed}
 

@@ -7,6 +7,7 @@ use Rattle.cave_data.specs.CaveView.{CaveView}
 use Rattle.edit_options.specs.declared.editing.View.{View}
 use Rattle.edit_options.specs.declared.editing.View.TheVariants.{Transcript, Log, Reports}
 use Rattle.log_replay.specs.Session.{SessionView}
+use Rattle.log_replay.specs.LogText.{log_text}
 use Rattle.log_replay.specs.Play.{Game}
 use Rattle.edit_scripts.specs.Item.{Applied}
 use Rattle.cave_world.specs.declared.part.Part.{Part}
@@ -14,7 +15,7 @@ use Rattle.cave_world.specs.declared.state.State.{State}
 use Rattle.cave_play.specs.Outcome.{IsOutcome, AreLeft, AreOutcomes, lines_in, played_in}
 use Rattle.cave_play.specs.Outcome.{refusal_in}
 use Rattle.cave_play.specs.Output.{game_after_item, play_text, report_by}
-use Rattle.cave_play.specs.Views.{account, log_text, text_of_items, totals_line}
+use Rattle.cave_play.specs.Views.{account, text_of_items, totals_line}
 use Rattle.cave_play.specs.declared.machine.CaveMachine.{CaveMachine}
 use Rattle.cave_play.specs.declared.outcome.ItemOutcome.{ItemOutcome}
 

@@ -1,7 +1,7 @@
 -- What an edit of a log writes, by what is asked for.
 use Rattle.std.specs.Prelude.{◌≡◌, ℕ, List, [], ◌∷◌, ◌++◌, length, codes, Option, None, Some}
 use Rattle.std.specs.Fmt.{decimal}
-use Rattle.std.specs.List.{flat_map, sum_by}
+use Rattle.std.specs.List.{sum_by}
 use Rattle.std.specs.Str.Lines.{lines}
 use Rattle.cave_data.specs.CaveView.{CaveView}
 use Rattle.cave_data.specs.Reads.{Reads}
@@ -9,6 +9,7 @@ use Rattle.edit_options.specs.declared.editing.Editing.{Editing}
 use Rattle.edit_options.specs.declared.editing.View.{View}
 use Rattle.edit_options.specs.declared.editing.View.TheVariants.{Transcript, Log, Reports}
 use Rattle.replay_marks.specs.Spacing.{IsSpaced}
+use Rattle.log_replay.specs.LogText.{log_text}
 use Rattle.log_replay.specs.Play.{Game, game_of}
 use Rattle.log_replay.specs.declared.fault.EditFault.{EditFault}
 use Rattle.log_replay.specs.declared.fault.EditFault.TheVariants.{NoSuchPlace, BadLine, LogFull}
@@ -22,10 +23,6 @@ use Rattle.cave_play.specs.declared.outcome.ItemOutcome.{ItemOutcome}
 use Rattle.cave_play.specs.declared.outcome.ItemOutcome.TheVariants.{Refused, Replayed}
 
 -- ---- the edited log
-
--- a log as a file, each line with a line feed after it
-abbrev pub log_text : List (List ℕ) → List ℕ
-log_text log = flat_map (λ line. line ++ codes "\n") log
 
 -- the text is the log of the game, and reads back as that log
 pub record IsLogOf (game : Game) (text : List ℕ) : Type 0 where

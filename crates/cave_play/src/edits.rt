@@ -1,6 +1,6 @@
 //! Applying a script to a session, with what comes of each of its items.
 
-ghost use Rattle.std.specs.Prelude.{◌≡◌, ◌+◌, ◌++◌, ◌<◌, ◌≤◌, ◌^◌, length, vec_len, All, IfOk};
+ghost use Rattle.std.specs.Prelude.{◌≡◌, ◌+◌, ◌++◌, ◌<◌, ◌≤◌, ◌^◌, length, IfOk};
 ghost use Rattle.std.specs.Prelude.{IfErr, IsTrue, OnOk, ◌↔◌};
 ghost use Rattle.replay_marks.specs.Spacing.{IsSpaced};
 ghost use Rattle.edit_scripts.specs.Views.{applied_item, items_of};
@@ -50,8 +50,7 @@ pub(crate) fn apply(
     view: View,
     text: &mut Vec<u8>,
 ) -> Result<Totals, PlayFault>
-    requires few_edits { All (λ item. vec_len item.edits < 2 ^ 32) script.now.items.items }
-    requires few_items { length script.now.items.items < 2 ^ 32 }
+    requires { length script.now.items.items < 2 ^ 32 }
     ensures spaced { IsSpaced session.old.every session.old.checkpoints
         (length session.old.game.log) }
     ensures held { OnOk result (HoldsGame session.old.machine.rules.cave.now
@@ -98,7 +97,6 @@ fn replay_of(session: &Session<CaveMachine<'_>>, report: &GroupReport) -> ItemRe
 
 /// Applies an item to the held game, all of it or nothing, and returns what came of it.
 fn edit(session: &mut Session<CaveMachine<'_>>, item: &Item) -> Result<ItemOutcome, PlayFault>
-    requires { vec_len item.now.edits < 2 ^ 32 }
     ensures applies { IfOk result (Applies (applied_item item.now) session.old session.new) }
     ensures memory { IfErr result (λ found. found ≡ PlayFault.Memory) }
 {
@@ -121,7 +119,6 @@ fn apply_item(
     view: View,
     text: &mut Vec<u8>,
 ) -> Result<ItemOutcome, PlayFault>
-    requires { vec_len item.now.edits < 2 ^ 32 }
     ensures applies { IfOk result (Applies (applied_item item.now) session.old session.new) }
     ensures told { IfOk result (λ outcome.
         text.new.items ≡ text.old.items ++ text_of_item view (applied_item item.now) outcome) }

@@ -1,7 +1,7 @@
 //! Reading the inputs of a run, each of which is judged before the next.
 
-ghost use Rattle.std.specs.Prelude.{◌≡◌, ℕ, ◌^◌, ◌<◌, List, [], ◌∷◌, None, Some, Ok, All, IfOk};
-ghost use Rattle.std.specs.Prelude.{MatchResult, length, vec_len};
+ghost use Rattle.std.specs.Prelude.{◌≡◌, ℕ, ◌^◌, ◌<◌, List, [], ◌∷◌, None, Some, Ok, IfOk};
+ghost use Rattle.std.specs.Prelude.{MatchResult, length};
 ghost use Rattle.std.specs.Str.Lines.{lines};
 ghost use Rattle.cave_data.specs.Reads.{Reads};
 ghost use Rattle.log_replay.specs.Play.{game_of};
@@ -128,7 +128,6 @@ pub(crate) fn read_script<S: Read>(alloc: Global, script: &mut S) -> Result<Scri
     ensures judged { (bytes : List ℕ) × Says (S.remaining script.old) bytes
         × Judges (script_stage bytes ∷ [])
         (λ script. IsScript 1 (lines bytes) (items_of script.items)
-        × All (λ item. vec_len item.edits < 2 ^ 32) script.items.items
         × (length script.items.items < 2 ^ 32)) result }
 {
     let text = read(alloc, Input::Script, script)?;

@@ -2,7 +2,6 @@
 #![tactic(auto)]
 
 pub mod bindings;
-mod edited_log;
 mod edits;
 pub mod fault;
 pub mod input;

@@ -94,7 +94,7 @@ fn push_report(
             format!(in alloc; "line {line}: ok\n")?
         }
         Some(fault) => {
-            let line = item.line_of(fault.number as usize);
+            let line = item.line_of(fault.number);
             let number = refusal_number(fault.cause);
             format!(in alloc; "line {line}: refused {number}\n")?
         }
@@ -140,7 +140,7 @@ fn push_account(
 {
     let told = match outcome {
         ItemOutcome::Refused(fault) => {
-            let line = item.line_of(fault.number as usize);
+            let line = item.line_of(fault.number);
             let number = refusal_number(fault.cause);
             let words = refusal_words(fault.cause);
             format!(in alloc; "line {line}: refused {number}, {words}\n")?

@@ -15,7 +15,6 @@ ghost use Rattle.cave_play.specs.Views.{IsEditOf, IsEdited};
 ghost use Rattle.cave_play.specs.Edits.{ReadsBack, text_at_end};
 
 use crate::bindings::CaveReaders;
-use crate::edited_log::push_log;
 use crate::edits::{Totals, apply};
 use crate::fault::PlayFault;
 use crate::judge::{check_every, check_seed, read_cave, read_log, read_script};
@@ -279,7 +278,7 @@ fn push_end(
 {
     match view {
         View::Transcript => tell(alloc, machine, session, text),
-        View::Log => push_log(session, text),
+        View::Log => session.push_log(text),
         View::Reports => push_totals(alloc, text, totals),
     }
 }

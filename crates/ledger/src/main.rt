@@ -20,9 +20,9 @@ fn tell(rt: &HostRuntime, session: &Session<Ledger>, replayed: Stretch) -> Resul
         Some(met) => println!(rt; "from {from}, met {met}, played {played}")?,
         None => println!(rt; "from {from}, met none, played {played}")?,
     }
-    for place in 0..session.lines() {
-        let line = str::from_utf8(session.line(place))?;
-        match session.pieces()[place as usize] {
+    for played in session.played_lines() {
+        let line = str::from_utf8(played.line)?;
+        match *played.piece {
             Some(balance) => println!(rt; "{line}: {balance}")?,
             None => println!(rt; "{line}: refused")?,
         }

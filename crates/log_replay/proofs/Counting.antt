@@ -5,10 +5,10 @@ use Rattle.std.specs.Prelude.{slice_index, if◌then◌else◌}
 use Rattle.std.proofs.lemmas.List.Sums.{sum_by-cons}
 use Rattle.log_replay.specs.Play.{counts_after}
 
-abbrev total : List Bool → ℕ
+abbrev pub total : List Bool → ℕ
 total ticked = count_by (λ ticks. ticks) ticked
 
-total-cons : (t : Bool) (ts : List Bool) → total (t ∷ ts) ≡ (if t then 1 else 0) + total ts
+pub total-cons : (t : Bool) (ts : List Bool) → total (t ∷ ts) ≡ (if t then 1 else 0) + total ts
 total-cons t ts = sum_by-cons (λ x. if x then 1 else 0) t ts
 
 pub length-counts_after : (count : ℕ) (ts : List Bool) → length (counts_after count ts) ≡ length ts

@@ -6,9 +6,11 @@ pub mod Groups
 pub mod Inverses
 pub mod Joins
 pub mod Lines
+pub mod LogTextLemmas
 pub mod Makings
 pub mod Marking
 pub mod Openings
+pub mod PlayedRows
 pub mod Plays
 pub mod ReadyLemmas
 pub mod Revisions

@@ -1,11 +1,13 @@
 pub mod Agreement
 pub mod Edit
 pub mod Faults
+pub mod LogText
 pub mod Machine
 pub mod Margins
 pub mod Opening
 pub mod Plan
 pub mod Play
+pub mod PlayedRow
 pub mod Playthrough
 pub mod ReadyEdits
 pub mod Replay

@@ -55,7 +55,7 @@ pub enum EditFault {
 #[derive(Clone, Copy, Debug, Drop, PartialEq, Eq)]
 pub struct GroupFault {
     pub cause: EditFault,
-    pub number: u32,
+    pub number: usize,
 }
 
 impl fmt::Display for GroupFault {

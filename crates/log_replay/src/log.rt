@@ -1,6 +1,7 @@
-ghost use Rattle.std.specs.Prelude.{◌≡◌, ◌+◌, ◌<◌, length};
-ghost use Rattle.std.specs.Prelude.{IfOk, MatchResult, None, Some};
+ghost use Rattle.std.specs.Prelude.{◌≡◌, ◌+◌, ◌<◌, ◌++◌, length};
+ghost use Rattle.std.specs.Prelude.{IfOk, OnOk, MatchResult, None, Some};
 ghost use Rattle.std.specs.Str.Lines.{lines};
+ghost use Rattle.log_replay.specs.LogText.{log_text};
 ghost use Rattle.log_replay.specs.Play.{log_of};
 ghost use Rattle.log_replay.specs.Opening.{first_bad_line, open_fault};
 
@@ -66,4 +67,15 @@ pub(crate) fn copy_lines(
         rest = more;
     }
     Ok(copy)
+}
+
+/// Appends lines, each with a line feed after it.
+pub(crate) fn push_lines(lines: &[Vec<u8>], text: &mut Vec<u8>) -> Result<(), AllocError>
+    ensures { OnOk result (text.new.items ≡ text.old.items ++ log_text (log_of lines.now)) }
+{
+    for line in lines {
+        text.extend_from_slice(line)?;
+        text.extend_from_slice(b"\n")?;
+    }
+    Ok(())
 }

@@ -1,4 +1,4 @@
-ghost use Rattle.std.specs.Prelude.{◌≡◌, ℕ, List, ◌^◌, ◌<◌, length};
+ghost use Rattle.std.specs.Prelude.{◌≡◌, ℕ, List, length};
 ghost use Rattle.log_replay.specs.Edit.{change_of, changes_of};
 ghost use Rattle.log_replay.specs.Faults.{fault_of_all, group_fault};
 ghost use Rattle.log_replay.specs.Margins.{margins_after};
@@ -20,7 +20,6 @@ pub(crate) struct Plan {
 /// What a group of edits makes of a log of `lines` lines, or the first fault of the group, memory
 /// aside. The meter has `left` steps left.
 pub(crate) fn plan_group(edits: &[Edit], lines: usize, left: u64) -> Result<Plan, GroupFault>
-    requires { length edits.now < 2 ^ 32 }
     ensures { let changes = changes_of edits.now in
         (log : List (List ℕ)) → length log ≡ lines
         → IsPlanOrFault changes log (group_fault changes log left) result }
@@ -43,7 +42,6 @@ pub(crate) fn plan_group(edits: &[Edit], lines: usize, left: u64) -> Result<Plan
 
 /// What the edits make of a log of `lines` lines, or the first fault that one of them meets.
 fn plan_edits(edits: &[Edit], lines: usize) -> Result<Plan, GroupFault>
-    requires { length edits.now < 2 ^ 32 }
     ensures { let changes = changes_of edits.now in
         (log : List (List ℕ)) → length log ≡ lines
         → IsPlanOrFault changes log (fault_of_all changes log 0) result }
@@ -60,10 +58,7 @@ fn plan_edits(edits: &[Edit], lines: usize) -> Result<Plan, GroupFault>
                 after = more;
             }
             Err(cause) => {
-                return Err(GroupFault {
-                    cause,
-                    number: number as u32,
-                });
+                return Err(GroupFault { cause, number });
             }
         }
     }

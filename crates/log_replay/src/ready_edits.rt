@@ -38,7 +38,6 @@ pub(crate) fn prepare(
     edits: &[Edit],
     left: u64,
 ) -> Result<ReadyEdits, GroupFault>
-    requires few { length edits.now < 2 ^ 32 }
     requires game { IsGame (game_of seed (log_of log.now)) }
     ensures none { OnOk result (group_fault (changes_of edits.now) (log_of log.now) left ≡ None) }
     ensures edits { IfOk result (AreEditsOf (changes_of edits.now) seed log.now) }

@@ -1,4 +1,4 @@
-ghost use Rattle.std.specs.Prelude.{◌≡◌, ◌≢◌, ◌+◌, ◌^◌, ◌<◌, ◌≤◌, length, slice_index};
+ghost use Rattle.std.specs.Prelude.{◌≡◌, ◌≢◌, ◌+◌, ◌<◌, ◌≤◌, length, slice_index};
 ghost use Rattle.std.specs.Prelude.{IfOk, OnOk, OnErr, MatchOption, Option};
 ghost use Rattle.std.specs.Option.{option_map};
 ghost use Rattle.replay_marks.specs.Marks.{IsBegunAt};
@@ -29,7 +29,6 @@ pub(crate) fn edit_kept<M: Machine>(
     edits: &[Edit],
     meter: &mut M::Meter,
 ) -> Result<GroupReport, GroupFault>
-    requires few { length edits.now < 2 ^ 32 }
     requires kept { KeepsPlay M.meaning M.is_state M.text (M.rules machine.now) kept.old }
     ensures kept { KeepsPlay M.meaning M.is_state M.text (M.rules machine.now) kept.new }
     ensures game { OnOk result (kept_game kept.new
@@ -80,7 +79,6 @@ fn replay<M: Machine>(
     edits: &[Edit],
     meter: &mut M::Meter,
 ) -> Result<Rerun<M>, GroupFault>
-    requires few { length edits.now < 2 ^ 32 }
     requires kept { KeepsPlay M.meaning M.is_state M.text (M.rules machine.now) kept.now }
     ensures edits { IfOk result (λ rerun.
         AreEditsOf (changes_of edits.now) kept.now.seed kept.now.log.items rerun.ready) }

@@ -1,7 +1,7 @@
-ghost use Rattle.std.specs.Prelude.{◌≡◌, ℕ, ◌+◌, ◌-◌, ◌^◌, ◌<◌, ◌≤◌, ◌∷◌, []};
+ghost use Rattle.std.specs.Prelude.{◌≡◌, ℕ, ◌+◌, ◌-◌, ◌^◌, ◌<◌, ◌≤◌, ◌∷◌, ◌++◌, []};
 ghost use Rattle.std.specs.Prelude.{length, map, take, slice_get, slice_index, count_by};
 ghost use Rattle.std.specs.Prelude.{IsTrue, None, Some};
-ghost use Rattle.std.specs.Prelude.{IfOk, OnOk, OnErr};
+ghost use Rattle.std.specs.Prelude.{IfOk, IfSome, OnOk, OnErr};
 ghost use Rattle.std.specs.Str.Lines.{lines};
 ghost use Rattle.replay_marks.specs.Spacing.{IsSpaced, most_spaced};
 ghost use Rattle.log_lines.specs.Line.{is_line};
@@ -11,6 +11,8 @@ ghost use Rattle.log_replay.specs.Edit.{inverse_of, inverses_of, line_at};
 ghost use Rattle.log_replay.specs.Faults.{fault_of, fault_of_all, edit_fault, group_fault};
 ghost use Rattle.log_replay.specs.Faults.{steps_left, IsAnswerTo, IsAnswerToEdit};
 ghost use Rattle.log_replay.specs.Opening.{open_fault, IsAnswerToOpen, AreOpenSteps};
+ghost use Rattle.log_replay.specs.LogText.{log_text};
+ghost use Rattle.log_replay.specs.PlayedRow.{IsRowOf};
 ghost use Rattle.log_replay.specs.Session.{HoldsPlay, KeepsSettings, IsReportOn};
 ghost use Rattle.log_replay.specs.Report.{AreGroupSteps, AreEditSteps};
 ghost use Rattle.limits.specs.Limits.{max_log_lines};
@@ -18,8 +20,9 @@ ghost use Rattle.limits.specs.Limits.{max_log_lines};
 use crate::copies::copy_kept;
 use crate::edit::Edit;
 use crate::fault::{EditFault, GroupFault, OpenFault};
-use crate::log::{check_game, copy_lines};
+use crate::log::{check_game, copy_lines, push_lines};
 use crate::machine::Machine;
+use crate::played_lines::PlayedLines;
 use crate::playthrough::{Playthrough, play_game};
 use crate::replay::edit_kept;
 use crate::report::{GroupReport, Report};
@@ -93,8 +96,6 @@ impl<M: Machine> Session<M> {
         edits: &[Edit],
         meter: &mut M::Meter,
     ) -> Result<GroupReport, GroupFault>
-        requires { length edits.now < 2 ^ 32 }
-
         ensures game { OnOk result (self.new.game
             ≡ apply_all (changes_of edits.now) self.old.game) }
         ensures kept { OnOk result (KeepsSettings self.old self.new) }
@@ -181,6 +182,13 @@ impl<M: Machine> Session<M> {
         })
     }
 
+    /// The machine that plays.
+    pub fn machine(&self) -> &M
+        ensures { result.now ≡ self.now.machine }
+    {
+        &self.machine
+    }
+
     /// The seed of the held game.
     pub fn seed(&self) -> u32
         ensures { result ≡ self.now.game.seed }
@@ -212,6 +220,16 @@ impl<M: Machine> Session<M> {
         ensures valid { IsTrue (is_line result.now) }
     {
         &self.kept.log[place as usize]
+    }
+
+    /// Appends the held log, each line with a line feed after it. It reads back as the log that it
+    /// is.
+    pub fn push_log(&self, text: &mut Vec<u8>) -> Result<(), AllocError>
+        ensures written { OnOk result
+            (text.new.items ≡ text.old.items ++ log_text self.now.game.log) }
+        ensures reads_back { lines (log_text self.now.game.log) ≡ self.now.game.log }
+    {
+        push_lines(&self.kept.log, text)
     }
 
     /// The places of which the states are kept.
@@ -275,5 +293,14 @@ impl<M: Machine> Session<M> {
             ≡ count_by (λ ticks. ticks) (take (place + 1) self.now.ticks) }
     {
         TickCounts::of(&self.kept.ticked)
+    }
+
+    /// The lines of the held log as they were played, from the first to the last.
+    pub fn played_lines(&self) -> PlayedLines<'_, M::Piece>
+        ensures each_line { length result ≡ length self.now.game.log }
+        ensures rows { (place : ℕ) → place < length self.now.game.log
+            → IfSome (slice_get result place) (IsRowOf self.now place) }
+    {
+        PlayedLines::of(&self.kept.log, &self.kept.pieces, &self.kept.ticked)
     }
 }

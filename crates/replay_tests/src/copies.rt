@@ -22,7 +22,7 @@ fn expect_copy<'a>(
     assert!(rt; show_the_same(&copied, session));
     drop(copied);
     assert_eq!(rt; counts.steps(), steps);
-    assert_eq!(rt; counts.copies(), 11);
+    assert_eq!(rt; session.counts().copies(), 11);
     Ok(())
 }
 

@@ -89,7 +89,7 @@ fn change(rt: &impl Abort, alloc: Global, session: &mut Counting<'_>) -> Result<
         LineChange::Insert(65_534, longest.as_slice()),
         LineChange::Reseed(2_147_483_646),
     ];
-    let report = session.edit_group(rt, &edits_of(alloc, &changes)?, &mut Meter::new())?;
+    let report = session.edit_group(&edits_of(alloc, &changes)?, &mut Meter::new())?;
     assert_eq!(rt; report.inverse.len(), 3);
     assert_eq!(rt; session.lines(), 65_535);
     assert_eq!(rt; session.number(), 255);

@@ -184,7 +184,7 @@ fn edit_by_group<R: RowRule>(
     wanted: ReplayCase,
 ) -> Result<(), Fail> {
     let changes = [LineChange::Insert(2, b"# note"), LineChange::Delete(3)];
-    let report = session.edit_group(rt, &edits_of(alloc, &changes)?, &mut Meter::new())?;
+    let report = session.edit_group(&edits_of(alloc, &changes)?, &mut Meter::new())?;
     let found = replayed(
         report.stretch.from,
         report.stretch.met,
@@ -193,8 +193,10 @@ fn edit_by_group<R: RowRule>(
     assert!(rt; is_replay(found, wanted), "from {}", found.from);
     assert!(rt; session.row(2).line == b"# note".as_slice());
     assert!(rt; session.row(3).line == b"on".as_slice());
-    let _ = session.edit_group(rt, &report.inverse, &mut Meter::new())?;
+    let _ = session.edit_group(&report.inverse, &mut Meter::new())?;
     assert!(rt; session.row(2).line == b"take lamp".as_slice());
+    assert!(rt; session.log_text(alloc)?.as_slice() == FIVE);
+    assert!(rt; session.plays_its_rows());
     Ok(())
 }
 

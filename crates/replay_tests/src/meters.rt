@@ -28,7 +28,7 @@ fn expect_refused(rt: &impl Abort, session: &mut Counting<'_>, edit: &Edit, left
         cause: EditFault::MeterFull,
         number: 0,
     };
-    let group = session.edit_group(rt, slice::from_ref(edit), &mut meter);
+    let group = session.edit_group(slice::from_ref(edit), &mut meter);
     assert_eq!(rt; group.err(), Some(full), "{edit:?}");
     assert_eq!(rt; meter.left(), left);
 }

@@ -9,7 +9,6 @@ use crate::row::RowState;
 use log_lines::Meter;
 use log_replay::{Edit, EditFault, GroupFault, GroupReport, OpenFault, Report, Session};
 use std::alloc::{AllocError, Global};
-use std::process::Abort;
 
 /// A session over a machine of a rule.
 pub(crate) struct TestSession<'a, R: RowRule> {
@@ -46,14 +45,12 @@ impl<'a, R: RowRule> TestSession<'a, R> {
         self.session.edit(edit, meter)
     }
 
-    /// Edits the game by each of the edits, of which there are few.
+    /// Edits the game by each of the edits.
     pub(crate) fn edit_group(
         &mut self,
-        rt: &impl Abort,
         edits: &[Edit],
         meter: &mut Meter,
     ) -> Result<GroupReport, GroupFault> {
-        assert!(rt; edits.len() < 100);
         self.session.edit_group(edits, meter)
     }
 
@@ -65,6 +62,37 @@ impl<'a, R: RowRule> TestSession<'a, R> {
     ) -> Result<TestSession<'a, R>, AllocError> {
         let session = self.session.copy(Told::new(rule, counts))?;
         Ok(TestSession { session })
+    }
+
+    /// The counts of what its machine did.
+    pub(crate) fn counts(&self) -> &'a Counts {
+        self.session.machine().counts
+    }
+
+    /// The held log as a file.
+    pub(crate) fn log_text(&self, alloc: Global) -> Result<Vec<u8>, AllocError> {
+        let mut text = Vec::new(alloc);
+        self.session.push_log(&mut text)?;
+        Ok(text)
+    }
+
+    /// Whether the lines as they were played are the rows, one after another, each with how many
+    /// lines ticked up to it and with it.
+    pub(crate) fn plays_its_rows(&self) -> bool {
+        let mut place = 0;
+        for played in self.session.played_lines() {
+            let row = RowState {
+                line: played.line,
+                piece: played.piece.as_slice(),
+                ticked: played.ticked,
+                ticks: played.ticks.saturating_sub(u32::from(played.ticked)),
+            };
+            if played.place != place || self.row(place) != row {
+                return false;
+            }
+            place = place.saturating_add(1);
+        }
+        place == self.session.lines()
     }
 
     /// The seed of the held game.

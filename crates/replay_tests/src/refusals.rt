@@ -103,14 +103,14 @@ fn edit_group(
     untouched: &mut Counting<'_>,
     edits: &[Edit],
 ) -> Result<(), Fail> {
-    let Err(fault) = session.edit_group(rt, edits, &mut Meter::new()) else {
+    let Err(fault) = session.edit_group(edits, &mut Meter::new()) else {
         return Ok(());
     };
     assert_eq!(rt; fault.cause, EditFault::Memory);
     assert_eq!(rt; fault.number, 0);
     assert!(rt; show_the_same(session, untouched));
-    let later = group_shown(alloc, &session.edit_group(rt, edits, &mut Meter::new())?)?;
-    let wanted = group_shown(alloc, &untouched.edit_group(rt, edits, &mut Meter::new())?)?;
+    let later = group_shown(alloc, &session.edit_group(edits, &mut Meter::new())?)?;
+    let wanted = group_shown(alloc, &untouched.edit_group(edits, &mut Meter::new())?)?;
     assert_eq!(rt; later.as_str(), wanted.as_str());
     assert!(rt; show_the_same(session, untouched));
     Ok(())

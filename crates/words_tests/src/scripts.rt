@@ -76,12 +76,12 @@ const FAULTS: [(&[u8], &str); 5] = [
     (
         b"delete 0\ninsert 9 a\n# x\nbegone\nend\n",
         "line 4 of the script: expected `insert N TEXT`, `delete N`, `replace N TEXT`, `seed N`, \
-        `begin` or `end`, with one blank between the words and N of 1 to 10 digits",
+        `begin` or `end`",
     ),
     (
         b"delete 00000000000",
         "line 1 of the script: expected `insert N TEXT`, `delete N`, `replace N TEXT`, `seed N`, \
-        `begin` or `end`, with one blank between the words and N of 1 to 10 digits",
+        `begin` or `end`",
     ),
     (
         b"begin\nbegin\nend\nend\n",

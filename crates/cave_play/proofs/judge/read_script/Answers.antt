@@ -4,7 +4,7 @@ use Rattle.std.proofs.lemmas.Result.{err_from_is_err_and}
 use Rattle.edit_scripts.specs.Script.{IsScript, script_of}
 use Rattle.edit_scripts.specs.Views.{items_of}
 use Rattle.cave_play.specs.Stages.{script_stage}
-use Rattle.cave_play.proofs.ScriptLemmas.{few_edits, few_items}
+use Rattle.cave_play.proofs.ScriptLemmas.{few_items}
 use Rattle.cave_play.proofs.StageLemmas.{first_decided-one}
 use Rattle.cave_play.proofs.JudgeLemmas.{IsFoundIn-script, script_fault-none, IsFoundIn-refused}
 use Rattle.cave_play.proofs.judge.read_script.Goals as goal
@@ -30,7 +30,6 @@ returns-in-Ok g c =
           first_decided-one (script_stage bytes) (script_fault-none bytes _ read.1 is),
           (
             spelled,
-            few_edits items _ bytes c.in-Ok.ensures.grammar same read.1,
             few_items items _ bytes c.in-Ok.ensures.grammar same read.1,
           ),
         ),

@@ -12,7 +12,7 @@ use Rattle.std.proofs.lemmas.List.Splits.{slice_split_at}
 use Rattle.log_lines.specs.Line.{is_line_byte, line_fault, is_line}
 use Rattle.log_lines.specs.declared.line.LineFault.TheVariants.{TooLong, BadByte}
 use Rattle.limits.specs.Limits.{max_line_bytes}
-use Rattle.cave_play.specs.Views.{log_text}
+use Rattle.log_replay.specs.LogText.{log_text}
 
 abbrev is_feed : ℕ → Bool
 is_feed byte = byte == 10

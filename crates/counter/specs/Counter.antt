@@ -1,0 +1,25 @@
+-- The rules of a counter of four digits.
+use Rattle.std.specs.Prelude.{ℕ, ◌+◌, ◌%◌, ◌<◌, Bool, List, bytes_eq, codes, if◌then◌else◌}
+use Rattle.log_replay.specs.Machine.{MachineRules}
+
+-- a line that counts
+abbrev pub is_click : List ℕ → Bool
+is_click line = bytes_eq line (codes "click")
+
+-- the number after a line: after 9,999 it begins again at 0
+abbrev pub number_after : ℕ → List ℕ → ℕ
+number_after number line = if is_click line then (number + 1) % 10000 else number
+
+-- a number of four digits
+abbrev pub IsNumber : ℕ → Type 0
+IsNumber number = number < 10000
+
+-- it begins with the last digits of the seed; each line says the number, and those that count tick
+abbrev pub counter_rules : MachineRules ℕ ℕ
+counter_rules = record {
+  begun = λ seed. seed % 10000;
+  greeting = λ seed. seed % 10000;
+  after = number_after;
+  said = number_after;
+  ticked = λ number line. is_click line;
+}

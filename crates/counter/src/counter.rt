@@ -1,0 +1,65 @@
+//! The machine.
+
+use log_lines::Meter;
+use log_replay::{Machine, Started, Stepped};
+use std::alloc::{AllocError, Global};
+
+/// A counter of four digits.
+#[derive(Clone, Copy)]
+pub struct Counter;
+
+impl Machine for Counter {
+    ghost use Rattle.std.specs.Prelude.{ℕ};
+    ghost use Rattle.std.proofs.Common.{rules};
+    ghost use Rattle.counter.specs.Counter.{counter_rules, IsNumber};
+
+    type State = u32;
+
+    type Piece = u32;
+
+    type Meter = Meter;
+
+    ghost Meaning = { ℕ };
+
+    ghost Text = { ℕ };
+
+    ghost meaning = { λ number. number };
+
+    ghost text = { λ piece. piece };
+
+    ghost rules = { λ _. counter_rules };
+
+    ghost is_state = { IsNumber };
+
+    ghost exact = { Prim.search rules };
+
+    fn start(&self, _alloc: Global, seed: u32) -> Result<Started<u32, u32>, AllocError> {
+        let state = seed % 10_000;
+        Ok(Started {
+            state,
+            piece: state,
+        })
+    }
+
+    fn step(
+        &self,
+        _alloc: Global,
+        number: &mut u32,
+        line: &[u8],
+        meter: &mut Meter,
+    ) -> Result<Stepped<u32>, AllocError> {
+        meter.tick();
+        let clicks = line == b"click";
+        if clicks {
+            *number = (*number + 1) % 10_000;
+        }
+        Ok(Stepped {
+            piece: *number,
+            ticked: clicks,
+        })
+    }
+
+    fn copy_piece(&self, _alloc: Global, piece: &u32) -> Result<u32, AllocError> {
+        Ok(*piece)
+    }
+}

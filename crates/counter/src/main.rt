@@ -1,0 +1,51 @@
+//! The smallest machine of one's own, with a program that edits its log by a script.
+#![tactic(auto)]
+
+mod counter;
+
+use crate::counter::Counter;
+use anyhow::Result;
+use edit_scripts::Script;
+use log_lines::Meter;
+use log_replay::Session;
+use std::str;
+
+const LOG: &[u8] = b"click\nclick\n# a rest\nclick\n";
+
+const SCRIPT: &[u8] = b"# one click more\ninsert 1 click\nbegin\ndelete 0\ndelete 9\nend\n";
+
+/// Makes each item of a script, and says of it where its replay began and how many lines it played,
+/// or the line of the script that is refused.
+fn edit(rt: &HostRuntime, session: &mut Session<Counter>, script: &Script) -> Result<()> {
+    for item in &script.items {
+        match session.edit_group(&item.edits, &mut Meter::new()) {
+            Ok(report) => {
+                let (line, from, played) = (item.line, report.stretch.from, report.stretch.played);
+                println!(rt; "line {line}: from {from}, played {played}")?;
+            }
+            Err(fault) => {
+                let (line, cause) = (item.line_of(fault.number), fault.cause);
+                println!(rt; "line {line}: {cause}")?;
+            }
+        }
+    }
+    Ok(())
+}
+
+/// Prints each line of the log with what was said at it.
+fn tell(rt: &HostRuntime, session: &Session<Counter>) -> Result<()> {
+    for played in session.played_lines() {
+        let line = str::from_utf8(played.line)?;
+        let (number, clicks) = (*played.piece, played.ticks);
+        println!(rt; "{line}: {number} after {clicks}")?;
+    }
+    Ok(())
+}
+
+fn main(rt: HostRuntime) -> Result<()> {
+    let seed = 9_998;
+    let mut session = Session::open(rt.alloc(), Counter, seed, LOG, 2, &mut Meter::new())?;
+    let script = Script::read(rt.alloc(), SCRIPT)?;
+    edit(&rt, &mut session, &script)?;
+    tell(&rt, &session)
+}
