@@ -17,15 +17,14 @@ use crate::parts::note_parts;
 use cave_data::Cave;
 use cave_play::fault::PlayFault;
 use cave_play::judge::read_log;
-use cave_play::machine::CaveMachine;
-use cave_world::Part;
+use cave_play::machine::{CaveMachine, Piece};
 use limits::USUAL_EVERY;
 use log_replay::Session;
 use std::alloc::Global;
 use std::io::Read;
 
 /// Notes what was said at each line.
-fn note_pieces(said: &mut SaidTexts, cave: &Cave, pieces: &[Vec<Part>])
+fn note_pieces(said: &mut SaidTexts, cave: &Cave, pieces: &[Piece])
     ensures { Notes (flat_map (λ piece. said_by_all cave.now piece.items) pieces.now)
         said.old said.new }
 {
