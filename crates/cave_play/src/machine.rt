@@ -11,7 +11,7 @@ use cave_data::Cave;
 use cave_scene::Rules;
 use cave_score::max_score;
 use cave_score::score::score;
-use cave_turn::{start, stream_passed, take_line};
+use cave_turn::{start, take_line};
 use cave_words::Lexicon;
 use cave_world::{Out, Part, State};
 use log_lines::Meter;
@@ -112,14 +112,6 @@ impl<'a> Machine for CaveMachine<'a> {
         line: &[u8],
         meter: &mut Meter,
     ) -> Result<Stepped<Piece>, AllocError> {
-        if let Some(stream) = stream_passed(state, line) {
-            meter.tick();
-            state.stream = stream;
-            return Ok(Stepped {
-                piece: Piece::new(alloc),
-                ticked: false,
-            });
-        }
         out.clear();
         let ticked = take_line(&self.rules, state, line, out, meter);
         let piece = keep(alloc, out.as_slice())?;

@@ -11,6 +11,6 @@ loop-line-preserved c =
     let f : SmallVec ℕ → List ℕ = λ line. line.items in
     ap log_of c.in_ok-push.ensures.items
     ∙ map-append f c.loop-line.copy.items (c.in_ok-from_slice.field-0 ∷ [])
-    ∙ rw (c.loop-line.invariant, c.in_ok-from_slice.ensures.items, c.deref.ensures.value)
+    ∙ rw (c.loop-line.invariant, c.in_ok-from_slice.ensures.ok, c.deref.ensures)
     (sym (take-log_of_more c.args.lines.now c.loop-line.line-index c.line-item.result
     c.loop-line-test.true c.line-item.is))
