@@ -17,15 +17,14 @@ use crate::parts::note_parts;
 use cave_data::Cave;
 use cave_play::fault::PlayFault;
 use cave_play::judge::read_log;
-use cave_play::machine::CaveMachine;
-use cave_world::Part;
-use limits::USUAL_EVERY;
+use cave_play::machine::{CaveMachine, Piece};
+use limits::MAX_EVERY;
 use log_replay::Session;
 use std::alloc::Global;
 use std::io::Read;
 
 /// Notes what was said at each line.
-fn note_pieces(said: &mut SaidTexts, cave: &Cave, pieces: &[Vec<Part>])
+fn note_pieces(said: &mut SaidTexts, cave: &Cave, pieces: &[Piece])
     ensures { Notes (flat_map (λ piece. said_by_all cave.now piece.items) pieces.now)
         said.old said.new }
 {
@@ -56,7 +55,8 @@ fn note_log<L: Read>(
         × Judges (log_stage moves ∷ [])
         (λ _. Notes (said_in_log machine.entry.rules.cave.now seed moves) said.old said.new) result }
 {
-    let session = read_log(alloc, machine, log, seed, USUAL_EVERY)?;
+    // Nothing is edited, so hardly any state is kept.
+    let session = read_log(alloc, machine, log, seed, MAX_EVERY)?;
     note_session(said, machine.cave(), &session);
     // The checker can't drop a session over a borrowed machine at the end of a block.
     drop(session);

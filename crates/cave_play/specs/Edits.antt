@@ -1,6 +1,6 @@
 -- What a session holds after items of a script, and what is written of them.
 use Rattle.std.specs.Prelude.{◌≡◌, ℕ, List, [], ◌++◌, ⊤}
-use Rattle.std.specs.Global.{Vec}
+use Rattle.smallvec.specs.SmallVec.{SmallVec}
 use Rattle.std.specs.List.{sum_by}
 use Rattle.std.specs.Str.Lines.{lines}
 use Rattle.cave_data.specs.CaveView.{CaveView}
@@ -21,12 +21,12 @@ use Rattle.cave_play.specs.declared.outcome.ItemOutcome.{ItemOutcome}
 
 -- the session is one of the cave's machine, and holds the game
 pub record HoldsGame (cave : CaveView) (game : Game)
-    (session : SessionView CaveMachine (Vec Part) State) : Type 0 where
+    (session : SessionView CaveMachine (SmallVec Part) State) : Type 0 where
   pub cave_is : session.machine.rules.cave.now ≡ cave
   pub game_is : session.game ≡ game
 
 -- an item was applied to what a session held, and this came of it
-pub record Applies (item : Applied) (old new : SessionView CaveMachine (Vec Part) State)
+pub record Applies (item : Applied) (old new : SessionView CaveMachine (SmallVec Part) State)
     (outcome : ItemOutcome) : Type 0 where
   pub came : IsOutcome old.machine.rules.cave.now old.every item old.game old.checkpoints outcome
   pub holds : HoldsGame old.machine.rules.cave.now (game_after_item item old.game) new
@@ -42,7 +42,7 @@ text_of_item Reports item outcome = account item outcome
 -- items were applied to what a session held: the text grew by what is written of each, and the
 -- totals are theirs
 pub record IsApplied (view : View) (items : List Applied)
-    (old : SessionView CaveMachine (Vec Part) State) (before after : List ℕ)
+    (old : SessionView CaveMachine (SmallVec Part) State) (before after : List ℕ)
     (played lines : ℕ) : Type 0 where
   pub outcomes : List ItemOutcome
   pub came : AreOutcomes old.machine.rules.cave.now old.every items old.game old.checkpoints outcomes

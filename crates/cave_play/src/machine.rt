@@ -11,12 +11,16 @@ use cave_data::Cave;
 use cave_scene::Rules;
 use cave_score::max_score;
 use cave_score::score::score;
-use cave_turn::{start, stream_passed, take_line};
+use cave_turn::{start, take_line};
 use cave_words::Lexicon;
 use cave_world::{Out, Part, State};
 use log_lines::Meter;
 use log_replay::{Machine, Started, Stepped};
+use smallvec::SmallVec;
 use std::alloc::{AllocError, Global};
+
+/// What a turn said. Most turns say one part or two, which lie in the value itself.
+pub type Piece = SmallVec<Part, 2>;
 
 /// What plays a log in a cave, with the words of that cave.
 #[derive(Clone, Copy)]
@@ -58,10 +62,10 @@ impl<'a> CaveMachine<'a> {
 }
 
 /// The parts as a list of their own.
-fn keep(alloc: Global, parts: &[Part]) -> Result<Vec<Part>, AllocError>
+fn keep(alloc: Global, parts: &[Part]) -> Result<Piece, AllocError>
     ensures { IfOk result (λ kept. kept.items ≡ parts.now) }
 {
-    Vec::from_slice(alloc, parts)
+    Piece::from_slice(alloc, parts)
 }
 
 impl<'a> Machine for CaveMachine<'a> {
@@ -71,9 +75,11 @@ impl<'a> Machine for CaveMachine<'a> {
 
     type State = State;
 
-    type Piece = Vec<Part>;
+    type Piece = Piece;
 
     type Meter = Meter;
+
+    type Scratch = Out;
 
     ghost Meaning = { State };
 
@@ -87,35 +93,32 @@ impl<'a> Machine for CaveMachine<'a> {
 
     ghost exact = { λ a b _ _. state_equality a b };
 
-    fn start(&self, alloc: Global, seed: u32) -> Result<Started<State, Vec<Part>>, AllocError> {
+    fn start(&self, alloc: Global, seed: u32) -> Result<Started<State, Piece>, AllocError> {
         let mut out = Out::new();
         let state = start(self.rules.cave, seed, &mut out);
         let piece = keep(alloc, out.as_slice())?;
         Ok(Started { state, piece })
     }
 
+    fn scratch(&self, _alloc: Global) -> Result<Out, AllocError> {
+        Ok(Out::new())
+    }
+
     fn step(
         &self,
         alloc: Global,
+        out: &mut Out,
         state: &mut State,
         line: &[u8],
         meter: &mut Meter,
-    ) -> Result<Stepped<Vec<Part>>, AllocError> {
-        if let Some(stream) = stream_passed(state, line) {
-            meter.tick();
-            state.stream = stream;
-            return Ok(Stepped {
-                piece: Vec::new(alloc),
-                ticked: false,
-            });
-        }
-        let mut out = Out::new();
-        let ticked = take_line(&self.rules, state, line, &mut out, meter);
+    ) -> Result<Stepped<Piece>, AllocError> {
+        out.clear();
+        let ticked = take_line(&self.rules, state, line, out, meter);
         let piece = keep(alloc, out.as_slice())?;
         Ok(Stepped { piece, ticked })
     }
 
-    fn copy_piece(&self, alloc: Global, piece: &Vec<Part>) -> Result<Vec<Part>, AllocError> {
+    fn copy_piece(&self, alloc: Global, piece: &Piece) -> Result<Piece, AllocError> {
         keep(alloc, piece)
     }
 }

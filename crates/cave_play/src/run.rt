@@ -27,7 +27,7 @@ use cave_scene::Rules;
 use cave_score::max_score;
 use cave_words::Lexicon;
 use edit_options::{Editing, View};
-use limits::USUAL_EVERY;
+use limits::MAX_EVERY;
 use log_replay::Session;
 use std::alloc::{AllocError, Global};
 use std::io::{Read, Write};
@@ -171,7 +171,8 @@ fn play_in_cave<L: Read>(
 {
     let lexicon = Lexicon::build(alloc, cave)?;
     let machine = CaveMachine::new(cave, &lexicon);
-    let session = read_log(alloc, machine, log, seed, USUAL_EVERY)?;
+    // Nothing is edited, so hardly any state is kept.
+    let session = read_log(alloc, machine, log, seed, MAX_EVERY)?;
     let text = transcript_of(alloc, machine, &session);
     // The checker can't drop a session over a borrowed machine at the end of a block.
     drop(session);

@@ -11,7 +11,7 @@ ghost use Rattle.edit_scripts.specs.Line.{kind_said};
 use limits::{is_long_number, with_digit};
 use log_lines::bytes::{is_all_blank, is_blank, split_digits};
 use log_lines::is_skipped;
-use log_replay::Edit;
+use log_replay::{Edit, LineText};
 use std::alloc::{AllocError, Global};
 
 /// What a line says.
@@ -103,7 +103,7 @@ fn edit_of(alloc: Global, line: &[u8]) -> Result<Option<Edit>, AllocError>
         let Some(text) = text_in(rest) else {
             return Ok(None);
         };
-        return Ok(Some(Edit::Insert(at, Vec::from_slice(alloc, text)?)));
+        return Ok(Some(Edit::Insert(at, LineText::from_slice(alloc, text)?)));
     }
     if let Some((at, rest)) = number_after(b"delete", line) {
         return Ok(is_all_blank(rest).then_some(Edit::Delete(at)));
@@ -112,7 +112,7 @@ fn edit_of(alloc: Global, line: &[u8]) -> Result<Option<Edit>, AllocError>
         let Some(text) = text_in(rest) else {
             return Ok(None);
         };
-        return Ok(Some(Edit::Replace(at, Vec::from_slice(alloc, text)?)));
+        return Ok(Some(Edit::Replace(at, LineText::from_slice(alloc, text)?)));
     }
     if let Some((seed, rest)) = number_after(b"seed", line) {
         return Ok(is_all_blank(rest).then_some(Edit::Reseed(seed)));

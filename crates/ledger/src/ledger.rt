@@ -22,6 +22,8 @@ impl Machine for Ledger {
 
     type Meter = Meter;
 
+    type Scratch = ();
+
     ghost Meaning = { Account };
 
     ghost Text = { Option ℕ };
@@ -50,9 +52,14 @@ impl Machine for Ledger {
         })
     }
 
+    fn scratch(&self, _alloc: Global) -> Result<(), AllocError> {
+        Ok(())
+    }
+
     fn step(
         &self,
         _alloc: Global,
+        _scratch: &mut (),
         account: &mut Account,
         line: &[u8],
         meter: &mut Meter,

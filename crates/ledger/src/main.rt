@@ -8,7 +8,7 @@ pub mod ledger;
 use crate::ledger::{Ledger, closing_balance};
 use anyhow::Result;
 use log_lines::Meter;
-use log_replay::{Edit, Session, Stretch};
+use log_replay::{Edit, LineText, Session, Stretch};
 use std::str;
 
 const LOG: &[u8] = b"in 100\nout 30\n# October\nout 50\nout 40\nin 60\nout 10\nin 5\n";
@@ -36,8 +36,8 @@ fn main(rt: HostRuntime) -> Result<()> {
     let mut meter = Meter::new();
     let mut session = Session::open(rt.alloc(), Ledger, 0, LOG, 2, &mut meter)?;
     let edits = [
-        Edit::Insert(2, Vec::from_slice(rt.alloc(), b"in 25")?),
-        Edit::Replace(4, Vec::from_slice(rt.alloc(), b"out 75")?),
+        Edit::Insert(2, LineText::from_slice(rt.alloc(), b"in 25")?),
+        Edit::Replace(4, LineText::from_slice(rt.alloc(), b"out 75")?),
     ];
     let report = session.edit_group(&edits, &mut meter)?;
     tell(&rt, &session, report.stretch)

@@ -1,6 +1,7 @@
 -- A game, and its play by a machine: states, texts and ticks.
 use Rattle.std.specs.Prelude.{◌≡◌, ℕ, ◌≤◌, Bool, IsTrue, List, [], ◌∷◌, length, map, All}
 use Rattle.std.specs.Global.{Vec}
+use Rattle.smallvec.specs.SmallVec.{SmallVec}
 use Rattle.log_lines.specs.Line.{is_line}
 use Rattle.log_replay.specs.Machine.{MachineRules}
 use Rattle.limits.specs.Limits.{max_log_lines, max_seed}
@@ -15,11 +16,11 @@ abbrev pub game_of : ℕ → List (List ℕ) → Game
 game_of seed log = record { seed = seed; log = log }
 
 -- a log, by the bytes of its lines
-abbrev pub log_of : List (Vec ℕ) → List (List ℕ)
+abbrev pub log_of : List (SmallVec ℕ) → List (List ℕ)
 log_of lines = map (λ line. line.items) lines
 
 -- the game of a seed and a log as they are kept
-abbrev pub game_in : ℕ → Vec (Vec ℕ) → Game
+abbrev pub game_in : ℕ → Vec (SmallVec ℕ) → Game
 game_in seed log = game_of seed (log_of log.items)
 
 -- a game that a session may hold

@@ -1,6 +1,6 @@
 -- Edits that are accepted, and what is known of them before anything is replayed.
 use Rattle.std.specs.Prelude.{◌≡◌, ℕ, ◌+◌, ◌-◌, ◌<◌, ◌≤◌, List, length, Option, None, MatchOption}
-use Rattle.std.specs.Global.{Vec}
+use Rattle.smallvec.specs.SmallVec.{SmallVec}
 use Rattle.log_replay.specs.declared.ready_edits.ReadyEdits.{ReadyEdits}
 use Rattle.log_replay.specs.declared.segment.OldPlay.{OldPlay}
 use Rattle.log_replay.specs.declared.segment.Segment.{Segment}
@@ -67,7 +67,7 @@ IsRerunOf meaning is_state text rules changes kept rerun =
 -- The edits may be made in a game: they meet no fault, and leave a game that may be held, of so
 -- many lines. Its lines before `head` are those of the log, and its last lines are those of the log
 -- from `rest` on; with another seed `head` is 0.
-pub record IsReady (seed : ℕ) (log : List (Vec ℕ)) (ready : ReadyEdits) : Type 0 where
+pub record IsReady (seed : ℕ) (log : List (SmallVec ℕ)) (ready : ReadyEdits) : Type 0 where
   pub free : fault_of_all (changes_of ready.edits.items) (log_of log) 0 ≡ None
   pub lines : ready.lines ≡ length (log_after_edits ready (log_of log))
   pub ordered : ready.head ≤ ready.rest
@@ -78,7 +78,7 @@ pub record IsReady (seed : ℕ) (log : List (Vec ℕ)) (ready : ReadyEdits) : Ty
 
 -- They are these changes of a game, which meet no fault and leave its new game; and `head` and
 -- `rest` bound the lines that the changes don't leave alone.
-pub record AreEditsOf (changes : List Change) (seed : ℕ) (log : List (Vec ℕ))
+pub record AreEditsOf (changes : List Change) (seed : ℕ) (log : List (SmallVec ℕ))
     (ready : ReadyEdits) : Type 0 where
   pub accepted : fault_of_all changes (log_of log) 0 ≡ None
   pub edits : changes_of ready.edits.items ≡ changes

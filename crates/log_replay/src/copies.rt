@@ -3,7 +3,7 @@ ghost use Rattle.log_replay.specs.Play.{log_of};
 ghost use Rattle.log_replay.specs.Edit.{change_of, changes_of};
 ghost use Rattle.log_replay.specs.Playthrough.{IsCopyOf};
 
-use crate::edit::Edit;
+use crate::edit::{Edit, LineText};
 use crate::machine::Machine;
 use crate::playthrough::Playthrough;
 use std::alloc::{AllocError, Global};
@@ -32,12 +32,12 @@ pub(crate) fn copy_kept<M: Machine>(
     })
 }
 
-fn copy_lines(alloc: Global, lines: &[Vec<u8>]) -> Result<Vec<Vec<u8>>, AllocError>
+fn copy_lines(alloc: Global, lines: &[LineText]) -> Result<Vec<LineText>, AllocError>
     ensures { IfOk result (λ copy. log_of copy.items ≡ log_of lines.now) }
 {
     let mut copy = Vec::with_capacity(alloc, lines.len())?;
     for line in lines {
-        copy.push(Vec::from_slice(alloc, line)?)?;
+        copy.push(LineText::from_slice(alloc, line)?)?;
     }
     Ok(copy)
 }
@@ -73,12 +73,12 @@ fn copy_edit(alloc: Global, edit: &Edit) -> Result<Edit, AllocError>
 {
     match edit {
         Edit::Insert(place, line) => {
-            let copy = Vec::from_slice(alloc, line)?;
+            let copy = LineText::from_slice(alloc, line)?;
             Ok(Edit::Insert(*place, copy))
         }
         Edit::Delete(place) => Ok(Edit::Delete(*place)),
         Edit::Replace(place, line) => {
-            let copy = Vec::from_slice(alloc, line)?;
+            let copy = LineText::from_slice(alloc, line)?;
             Ok(Edit::Replace(*place, copy))
         }
         Edit::Reseed(seed) => Ok(Edit::Reseed(*seed)),

@@ -5,24 +5,29 @@ ghost use Rattle.log_replay.specs.Edit.{inverse_of, inverses_of};
 ghost use Rattle.log_replay.specs.Edit.{lines_inserted, lines_inserted_by_all};
 ghost use Rattle.log_replay.specs.Faults.{fault_of, fault_of_all};
 
+use smallvec::SmallVec;
 use std::mem;
+
+/// The bytes of a line of a log. Few of them lie in the value itself, so that a short line takes no
+/// memory of its own.
+pub type LineText = SmallVec<u8, 16>;
 
 /// A change of a game: of one line of its log, or of its seed. Places count the log's lines from 0.
 #[derive(Debug, Drop)]
 pub enum Edit {
     /// The line is put in at the place; those from there on move back by one.
-    Insert(u32, Vec<u8>),
+    Insert(u32, LineText),
     /// The line at the place goes; those after it move forward by one.
     Delete(u32),
     /// The line replaces the one at the place.
-    Replace(u32, Vec<u8>),
+    Replace(u32, LineText),
     /// The game begins with another seed.
     Reseed(u32),
 }
 
 /// Makes edits in a game, one after another, and leaves those that take them back, the last one
 /// first. No memory is taken and no line is copied.
-pub(crate) fn make_edits(edits: &mut Vec<Edit>, log: &mut Vec<Vec<u8>>, seed: &mut u32)
+pub(crate) fn make_edits(edits: &mut Vec<Edit>, log: &mut Vec<LineText>, seed: &mut u32)
     requires free { fault_of_all (changes_of edits.old.items) (log_of log.old.items) 0 ≡ None }
     requires room { let inserted = lines_inserted_by_all (changes_of edits.old.items) in
         vec_len log.old + inserted ≤ vec_capacity log.old }
@@ -40,7 +45,7 @@ pub(crate) fn make_edits(edits: &mut Vec<Edit>, log: &mut Vec<Vec<u8>>, seed: &m
 
 /// Makes an edit in a game, and gives the edit that takes it back. No memory is taken and no line
 /// is copied.
-fn make_edit(edit: Edit, log: &mut Vec<Vec<u8>>, seed: &mut u32) -> Edit
+fn make_edit(edit: Edit, log: &mut Vec<LineText>, seed: &mut u32) -> Edit
     requires free { fault_of (change_of edit) (log_of log.old.items) ≡ None }
     requires room { vec_len log.old + lines_inserted (change_of edit) ≤ vec_capacity log.old }
     ensures game { game_in seed.new log.new ≡ apply (change_of edit) (game_in seed.old log.old) }

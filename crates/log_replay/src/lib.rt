@@ -18,8 +18,9 @@ mod segment;
 pub mod session;
 mod takeover;
 mod tick_counts;
+mod workspace;
 
-pub use edit::Edit;
+pub use edit::{Edit, LineText};
 pub use fault::{EditFault, GroupFault, OpenFault};
 pub use machine::{Machine, Started, Stepped};
 pub use margins::Margins;

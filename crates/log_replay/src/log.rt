@@ -5,6 +5,7 @@ ghost use Rattle.log_replay.specs.LogText.{log_text};
 ghost use Rattle.log_replay.specs.Play.{log_of};
 ghost use Rattle.log_replay.specs.Opening.{first_bad_line, open_fault};
 
+use crate::edit::LineText;
 use crate::fault::OpenFault;
 use limits::{is_bad_every, is_large_seed, is_long_log};
 use log_lines::{LineFlaw, check_line, flaw_of, split_line};
@@ -57,13 +58,13 @@ pub(crate) fn copy_lines(
     alloc: Global,
     log: &[u8],
     count: usize,
-) -> Result<Vec<Vec<u8>>, AllocError>
+) -> Result<Vec<LineText>, AllocError>
     ensures { IfOk result (λ copy. log_of copy.items ≡ lines log.now) }
 {
     let mut copy = Vec::with_capacity(alloc, count)?;
     let mut rest = log;
     while let Some((line, more)) = split_line(rest) {
-        copy.push(Vec::from_slice(alloc, line)?)?;
+        copy.push(LineText::from_slice(alloc, line)?)?;
         rest = more;
     }
     Ok(copy)

@@ -31,6 +31,10 @@ pub trait Machine: Drop {
     /// What counts the lines that it plays.
     type Meter: Steps;
 
+    /// What it works in at a step, which is made once for all steps. No answer depends on what is
+    /// left in it.
+    type Scratch: Drop;
+
     /// What a state means, and what a piece says.
     ghost Meaning: { Type 0 };
 
@@ -55,11 +59,16 @@ pub trait Machine: Drop {
         ensures state { IfOk result (λ made. meaning made.state ≡ (rules self.now).begun seed) }
         ensures piece { IfOk result (λ made. text made.piece ≡ (rules self.now).greeting seed) };
 
+    /// What the machine works in.
+    fn scratch(&self, alloc: Global) -> Result<Self::Scratch, AllocError>;
+
     /// Plays one line in the state itself, so that no state is copied for it. The meter counts the
-    /// line, also where memory is refused; then the state is of no more use to its owner.
+    /// line, also where memory is refused; then the state is of no more use to its owner. Whatever
+    /// earlier steps left in the scratch, the answer is the same.
     fn step(
         &self,
         alloc: Global,
+        scratch: &mut Self::Scratch,
         state: &mut Self::State,
         line: &[u8],
         meter: &mut Self::Meter,

@@ -3,16 +3,18 @@ ghost use Rattle.log_replay.specs.Play.{IsGame, game_in};
 ghost use Rattle.log_replay.specs.Playthrough.{IsDistance, kept_game, KeepsPlay};
 ghost use Rattle.log_replay.specs.Report.{RisesByAtMost};
 
+use crate::edit::LineText;
 use crate::machine::Machine;
 use crate::segment::{Segment, play_line};
+use crate::workspace::Workspace;
 use replay_marks::{Checkpoints, Marks};
-use std::alloc::{AllocError, Global};
+use std::alloc::AllocError;
 
 /// A game, its play, and the states at its checkpoints and at its end.
 #[derive(Drop)]
 pub(crate) struct Playthrough<M: Machine> {
     pub(crate) seed: u32,
-    pub(crate) log: Vec<Vec<u8>>,
+    pub(crate) log: Vec<LineText>,
     pub(crate) opening: M::Piece,
     pub(crate) pieces: Vec<M::Piece>,
     pub(crate) ticked: Vec<bool>,
@@ -22,10 +24,10 @@ pub(crate) struct Playthrough<M: Machine> {
 
 /// Plays a game from its first line to its last.
 pub(crate) fn play_game<M: Machine>(
-    alloc: Global,
+    workspace: &mut Workspace<M>,
     machine: &M,
     seed: u32,
-    log: Vec<Vec<u8>>,
+    log: Vec<LineText>,
     every: u32,
     meter: &mut M::Meter,
 ) -> Result<Playthrough<M>, AllocError>
@@ -40,6 +42,7 @@ pub(crate) fn play_game<M: Machine>(
     ensures counted { RisesByAtMost (M.Meter.count meter.old) (M.Meter.count meter.new)
         (length log.items) }
 {
+    let alloc = workspace.alloc;
     let started = machine.start(alloc, seed)?;
     let opening = started.piece;
     let mut played = Segment {
@@ -49,7 +52,7 @@ pub(crate) fn play_game<M: Machine>(
         met: None,
     };
     for line in &log {
-        play_line(alloc, machine, line, &mut played, meter)?;
+        play_line(workspace, machine, line, &mut played, meter)?;
     }
     let Segment {
         pieces,

@@ -11,7 +11,7 @@ ghost use Rattle.log_replay.specs.Replay.{IsShift};
 ghost use Rattle.limits.specs.Limits.{max_log_lines};
 
 use crate::copies::copy_edits;
-use crate::edit::Edit;
+use crate::edit::{Edit, LineText};
 use crate::fault::GroupFault;
 use crate::plan::plan_group;
 use std::alloc::Global;
@@ -34,7 +34,7 @@ pub(crate) struct ReadyEdits {
 pub(crate) fn prepare(
     alloc: Global,
     seed: u32,
-    log: &[Vec<u8>],
+    log: &[LineText],
     edits: &[Edit],
     left: u64,
 ) -> Result<ReadyEdits, GroupFault>
@@ -72,7 +72,7 @@ fn seed_after(edits: &[Edit], seed: u32) -> u32
 
 impl ReadyEdits {
     /// Where the lines after the edits are once these are made.
-    pub(crate) fn rest_after(&self, log: &[Vec<u8>]) -> usize
+    pub(crate) fn rest_after(&self, log: &[LineText]) -> usize
         requires within { self.now.rest ≤ length log.now }
         requires fits { length log.now ≤ self.now.lines + self.now.rest }
         ensures { result + (length log.now - self.now.rest) ≡ self.now.lines }
@@ -81,7 +81,7 @@ impl ReadyEdits {
     }
 
     /// The line at a place of the log after the edits.
-    pub(crate) fn line<'a>(&'a self, log: &'a [Vec<u8>], place: usize) -> &'a [u8]
+    pub(crate) fn line<'a>(&'a self, log: &'a [LineText], place: usize) -> &'a [u8]
         requires free { fault_of_all (changes_of self.now.edits.items) (log_of log.now) 0 ≡ None }
         requires lines { self.now.lines ≡ length (log_after_edits self.now (log_of log.now)) }
         requires few { self.now.lines ≤ max_log_lines }
@@ -104,7 +104,7 @@ impl ReadyEdits {
 }
 
 /// The line at a place of a log after the edits, which is looked for from the last of them back.
-fn line_after<'a>(edits: &'a [Edit], log: &'a [Vec<u8>], place: usize) -> &'a [u8]
+fn line_after<'a>(edits: &'a [Edit], log: &'a [LineText], place: usize) -> &'a [u8]
     requires free { fault_of_all (changes_of edits.now) (log_of log.now) 0 ≡ None }
     requires place { place < length (log_after_all (changes_of edits.now) (log_of log.now)) }
     requires few { place + length edits.now < 2 ^ 63 }

@@ -17,13 +17,14 @@ use crate::ready_edits::{ReadyEdits, prepare};
 use crate::report::{GroupReport, Stretch};
 use crate::segment::{OldPlay, Segment, play_changed};
 use crate::takeover::{make_room, take_over};
+use crate::workspace::Workspace;
 use log_lines::Steps;
 use replay_marks::{Marks, last_to};
 use std::alloc::{AllocError, Global};
 
 /// Makes the edits in what is kept, and replays it once. All of them are made, or none.
 pub(crate) fn edit_kept<M: Machine>(
-    alloc: Global,
+    workspace: &mut Workspace<M>,
     machine: &M,
     kept: &mut Playthrough<M>,
     edits: &[Edit],
@@ -49,7 +50,7 @@ pub(crate) fn edit_kept<M: Machine>(
         (kept_game kept.old) kept.old.checkpoints.every (M.Meter.count meter.old)
         (M.Meter.count meter.new) }
 {
-    let rerun = replay(alloc, machine, kept, edits, meter)?;
+    let rerun = replay(workspace, machine, kept, edits, meter)?;
     let from = kept.checkpoints.places()[rerun.at];
     make_room(kept, &rerun)?;
     let end = rerun.played.marks.next();
@@ -73,7 +74,7 @@ pub(crate) struct Rerun<M: Machine> {
 
 /// Plays the game that the edits make of the one that is kept, which stays as it is.
 fn replay<M: Machine>(
-    alloc: Global,
+    workspace: &mut Workspace<M>,
     machine: &M,
     kept: &Playthrough<M>,
     edits: &[Edit],
@@ -98,12 +99,13 @@ fn replay<M: Machine>(
         log: &kept.log,
         checkpoints: &kept.checkpoints,
     };
+    let alloc = workspace.alloc;
     let left = meter.left();
     let ready = prepare(alloc, old.seed, old.log, edits, left)?;
     let at = last_to(kept.checkpoints.places(), ready.head as u32);
     let end = ready.lines as u32;
     let ReplayStart { opening, marks } = begin(alloc, machine, &old, ready.seed, at, end)?;
-    let played = play_changed(alloc, machine, &old, &ready, marks, meter)?;
+    let played = play_changed(workspace, machine, &old, &ready, marks, meter)?;
     Ok(Rerun {
         ready,
         opening,

@@ -9,10 +9,12 @@ ghost use Rattle.log_replay.specs.Replay.{segment_view};
 ghost use Rattle.log_replay.specs.Report.{RisesByAtMost};
 ghost use Rattle.limits.specs.Limits.{max_log_lines};
 
+use crate::edit::LineText;
 use crate::machine::Machine;
 use crate::ready_edits::ReadyEdits;
+use crate::workspace::Workspace;
 use replay_marks::{Checkpoints, Marks, first_from};
-use std::alloc::{AllocError, Global};
+use std::alloc::AllocError;
 
 /// Lines that were played from a checkpoint on: what was said, which ticked, and the new marks.
 ///
@@ -29,14 +31,14 @@ pub(crate) struct Segment<M: Machine> {
 #[derive(Drop)]
 pub(crate) struct OldPlay<'a, S: Copy> {
     pub(crate) seed: u32,
-    pub(crate) log: &'a [Vec<u8>],
+    pub(crate) log: &'a [LineText],
     pub(crate) checkpoints: &'a Checkpoints<S>,
 }
 
 /// Plays a changed game from the open place of the marks on, until the play meets the old one at a
 /// checkpoint, or to the end.
 pub(crate) fn play_changed<M: Machine>(
-    alloc: Global,
+    workspace: &mut Workspace<M>,
     machine: &M,
     old: &OldPlay<'_, M::State>,
     ready: &ReadyEdits,
@@ -60,8 +62,8 @@ pub(crate) fn play_changed<M: Machine>(
     let new = ready.rest_after(old.log);
     let mut index = first_from(old.checkpoints.places(), ready.rest as u32);
     let mut played = Segment {
-        pieces: Vec::new(alloc),
-        ticked: Vec::new(alloc),
+        pieces: Vec::new(workspace.alloc),
+        ticked: Vec::new(workspace.alloc),
         marks,
         met: None,
     };
@@ -76,7 +78,7 @@ pub(crate) fn play_changed<M: Machine>(
             return Ok(played);
         }
         let line = ready.line(old.log, place);
-        play_line(alloc, machine, line, &mut played, meter)?;
+        play_line(workspace, machine, line, &mut played, meter)?;
     }
 }
 
@@ -136,7 +138,7 @@ fn agrees<M: Machine>(
 
 /// Plays one line more.
 pub(crate) fn play_line<M: Machine>(
-    alloc: Global,
+    workspace: &mut Workspace<M>,
     machine: &M,
     line: &[u8],
     played: &mut Segment<M>,
@@ -156,7 +158,8 @@ pub(crate) fn play_line<M: Machine>(
 {
     let place = played.marks.next() + 1;
     played.marks.advance(place)?;
-    let stepped = machine.step(alloc, played.marks.state_mut(), line, meter)?;
+    let Workspace { alloc, scratch } = workspace;
+    let stepped = machine.step(*alloc, scratch, played.marks.state_mut(), line, meter)?;
     played.pieces.push(stepped.piece)?;
     played.ticked.push(stepped.ticked)?;
     Ok(())

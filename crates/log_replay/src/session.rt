@@ -27,6 +27,7 @@ use crate::playthrough::{Playthrough, play_game};
 use crate::replay::edit_kept;
 use crate::report::{GroupReport, Report};
 use crate::tick_counts::{TickCounts, count_ticks};
+use crate::workspace::Workspace;
 use log_lines::Steps;
 use std::alloc::{AllocError, Global};
 use std::marker::Model;
@@ -37,7 +38,7 @@ use std::slice;
 /// The states at its checkpoints and the last state are kept, and what was said at each line.
 #[derive(Drop)]
 pub struct Session<M: Machine> {
-    alloc: Global,
+    workspace: Workspace<M>,
     machine: M,
     kept: Playthrough<M>,
 }
@@ -81,9 +82,10 @@ impl<M: Machine> Session<M> {
     {
         let count = check_game(every, log, seed)?;
         let lines = copy_lines(alloc, log, count)?;
-        let kept = play_game(alloc, &machine, seed, lines, every, meter)?;
+        let mut workspace = Workspace::open(alloc, &machine)?;
+        let kept = play_game(&mut workspace, &machine, seed, lines, every, meter)?;
         Ok(Session {
-            alloc,
+            workspace,
             machine,
             kept,
         })
@@ -120,7 +122,8 @@ impl<M: Machine> Session<M> {
         ensures bounded { AreGroupSteps (M.rules self.old.machine) (changes_of edits.now)
             self.old.game self.old.every (M.Meter.count meter.old) (M.Meter.count meter.new) }
     {
-        edit_kept(self.alloc, &self.machine, &mut self.kept, edits, meter)
+        let workspace = &mut self.workspace;
+        edit_kept(workspace, &self.machine, &mut self.kept, edits, meter)
     }
 
     /// Edits the held game, and plays it. It is the group of this edit alone. What such a group
@@ -174,9 +177,11 @@ impl<M: Machine> Session<M> {
         ensures checkpoints { IfOk result (λ copy. copy.checkpoints ≡ self.now.checkpoints) }
         ensures plays { IfOk result (HoldsPlay M.rules M.text M.meaning) }
     {
-        let kept = copy_kept(self.alloc, &machine, &self.kept)?;
+        let alloc = self.workspace.alloc;
+        let workspace = Workspace::open(alloc, &machine)?;
+        let kept = copy_kept(alloc, &machine, &self.kept)?;
         Ok(Session {
-            alloc: self.alloc,
+            workspace,
             machine,
             kept,
         })

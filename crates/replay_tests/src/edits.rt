@@ -1,6 +1,6 @@
 //! Edits and logs of the tests.
 
-use log_replay::Edit;
+use log_replay::{Edit, LineText};
 use std::alloc::{AllocError, Global};
 
 /// A log of ten lines, the line of the place i of i + 1 letters.
@@ -52,9 +52,9 @@ impl LineChange<'_> {
     /// The edit.
     pub(crate) fn edit(&self, alloc: Global) -> Result<Edit, AllocError> {
         let edit = match self {
-            LineChange::Insert(at, line) => Edit::Insert(*at, Vec::from_slice(alloc, line)?),
+            LineChange::Insert(at, line) => Edit::Insert(*at, LineText::from_slice(alloc, line)?),
             LineChange::Delete(at) => Edit::Delete(*at),
-            LineChange::Replace(at, line) => Edit::Replace(*at, Vec::from_slice(alloc, line)?),
+            LineChange::Replace(at, line) => Edit::Replace(*at, LineText::from_slice(alloc, line)?),
             LineChange::Reseed(seed) => Edit::Reseed(*seed),
         };
         Ok(edit)

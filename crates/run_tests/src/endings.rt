@@ -6,7 +6,7 @@ use cave_data::Cave;
 use cave_play::machine::CaveMachine;
 use cave_text::render;
 use log_lines::Meter;
-use log_replay::Edit;
+use log_replay::{Edit, LineText};
 use std::alloc::{AllocError, Global};
 use std::process::Abort;
 use std::test::Fail;
@@ -32,7 +32,7 @@ fn insert_a_turn(
     alloc: Global,
     session: &mut TestSession<CaveMachine<'_>>,
 ) -> Result<(), Fail> {
-    let edit = Edit::Insert(1, Vec::from_slice(alloc, b"on")?);
+    let edit = Edit::Insert(1, LineText::from_slice(alloc, b"on")?);
     let report = session.edit(&edit, &mut Meter::new())?;
     assert_eq!(rt; report.stretch.from, 1);
     assert_eq!(rt; report.stretch.met, Some(2));

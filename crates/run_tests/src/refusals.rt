@@ -2,16 +2,15 @@
 
 use crate::caves::{CAVE, LONG_LOG};
 use crate::games::{TestCave, TestSession};
-use cave_play::machine::CaveMachine;
-use cave_world::Part;
+use cave_play::machine::{CaveMachine, Piece};
 use log_lines::Meter;
-use log_replay::{Edit, EditFault, Report};
+use log_replay::{Edit, EditFault, LineText, Report};
 use std::alloc::{AllocError, Global};
 use std::process::Abort;
 use std::test::Fail;
 
 /// Whether two lists of pieces are the same.
-fn are_same(pieces: &[Vec<Part>], others: &[Vec<Part>]) -> bool {
+fn are_same(pieces: &[Piece], others: &[Piece]) -> bool {
     pieces.len() == others.len()
         && pieces
             .iter()
@@ -73,8 +72,8 @@ fn edit_both<'a>(
 /// Edits of each kind.
 fn edits(alloc: Global) -> Result<Vec<Edit>, AllocError> {
     let mut edits = Vec::new(alloc);
-    edits.push(Edit::Insert(3, Vec::from_slice(alloc, b"look")?))?;
-    edits.push(Edit::Replace(2, Vec::from_slice(alloc, b"out")?))?;
+    edits.push(Edit::Insert(3, LineText::from_slice(alloc, b"look")?))?;
+    edits.push(Edit::Replace(2, LineText::from_slice(alloc, b"out")?))?;
     edits.push(Edit::Delete(0))?;
     edits.push(Edit::Reseed(7))?;
     Ok(edits)

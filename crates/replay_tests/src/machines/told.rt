@@ -30,6 +30,8 @@ impl<'a, R: RowRule> Machine for Told<'a, R> {
 
     type Meter = Meter;
 
+    type Scratch = ();
+
     ghost Meaning = { ℕ };
 
     ghost Text = { List ℕ };
@@ -55,9 +57,14 @@ impl<'a, R: RowRule> Machine for Told<'a, R> {
         Ok(Started { state, piece })
     }
 
+    fn scratch(&self, _alloc: Global) -> Result<(), AllocError> {
+        Ok(())
+    }
+
     fn step(
         &self,
         alloc: Global,
+        _scratch: &mut (),
         state: &mut State<'a>,
         line: &[u8],
         meter: &mut Meter,

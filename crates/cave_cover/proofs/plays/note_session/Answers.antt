@@ -13,7 +13,7 @@ returns c =
     let new = c.note_pieces.new.said in
     let first =
     subst (λ parts. Notes (said_by_all cave parts) c.args.said.now between)
-    (c.deref.ensures.value ∙ ap (λ o. o.items) c.opening.ensures.opening)
+    (c.deref.ensures ∙ ap (λ o. o.items) c.opening.ensures.opening)
     c.note_parts.ensures in
     let later =
     subst (λ ps. Notes (flat_map (λ piece. said_by_all cave piece.items) ps) between new)

@@ -1,6 +1,6 @@
 use Rattle.std.proofs.Common.{◌∷◌, [], ap, ◌∙◌, sym}
 use Rattle.std.proofs.lemmas.List.{map-append}
-use Rattle.std.specs.Global.{Vec}
+use Rattle.smallvec.specs.SmallVec.{SmallVec}
 use Rattle.std.proofs.Common.{ℕ, List}
 use Rattle.log_replay.specs.Play.{log_of}
 use Rattle.log_replay.proofs.Lines.{take-log_of_more}
@@ -8,9 +8,9 @@ use Rattle.log_replay.proofs.copies.copy_lines.Goals as goal
 
 pub loop-line-preserved : goal.loop-line-preserved
 loop-line-preserved c =
-    let f : Vec ℕ → List ℕ = λ line. line.items in
+    let f : SmallVec ℕ → List ℕ = λ line. line.items in
     ap log_of c.in_ok-push.ensures.items
     ∙ map-append f c.loop-line.copy.items (c.in_ok-from_slice.field-0 ∷ [])
-    ∙ rw (c.loop-line.invariant, c.in_ok-from_slice.ensures.items, c.deref.ensures.value)
+    ∙ rw (c.loop-line.invariant, c.in_ok-from_slice.ensures.ok, c.deref.ensures)
     (sym (take-log_of_more c.args.lines.now c.loop-line.line-index c.line-item.result
     c.loop-line-test.true c.line-item.is))

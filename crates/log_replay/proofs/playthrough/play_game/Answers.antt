@@ -10,7 +10,7 @@ use Rattle.log_replay.proofs.playthrough.play_game.Goals as goal
 pub play_line-requires-clause-line : goal.play_line-requires-clause-line
 play_line-requires-clause-line g c =
     let items = c.deref-line-items.ensures.value in
-    rw c.deref.ensures.value
+    rw c.deref.ensures
     (is_line-read c.args.log.items c.loop-line.line-index c.line-item.result
     (rw items at c.loop-line-test.true) (rw items at c.line-item.is) c.requires.game.lines)
 
@@ -26,7 +26,7 @@ loop-line-preserved g c =
     let below_items = rw items at c.loop-line-test.true in
     let n = length-log_of c.args.log.items in
     let below : index < length log = omega arith in
-    let line : c.deref.result.now ≡ line_at log index = c.deref.ensures.value
+    let line : c.deref.result.now ≡ line_at log index = c.deref.ensures
     ∙ sym (line_at-log_of c.args.log.items index c.line-item.result below_items
     (rw items at c.line-item.is)) in
     let here : g.M.Machine.meaning c.loop-line.played.marks.state ≡ state_at rules game index =

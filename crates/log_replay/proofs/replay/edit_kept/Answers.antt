@@ -1,7 +1,7 @@
 use Rattle.std.proofs.Common.{◌≡◌, ℕ, List, length, map, ap, ◌∙◌, refl, sym, arith}
 use Rattle.std.specs.Prelude.{slice_index}
 use Rattle.std.proofs.lemmas.List.{length-map}
-use Rattle.std.specs.Global.{Vec}
+use Rattle.smallvec.specs.SmallVec.{SmallVec}
 use Rattle.log_replay.specs.declared.playthrough.Playthrough.{Playthrough}
 use Rattle.log_replay.specs.declared.ready_edits.ReadyEdits.{ReadyEdits}
 use Rattle.log_replay.specs.Play.{Game}
@@ -21,7 +21,7 @@ use Rattle.log_replay.proofs.replay.edit_kept.Goals as goal
 
 -- what the edits make of the game, once there is room, is what the changes make of the old one
 make_same : {Machine State Piece Meter X : Type 0} (make : List Change → Game → X)
-    {changes : List Change} {seed : ℕ} {log : List (Vec ℕ)} {ready : ReadyEdits}
+    {changes : List Change} {seed : ℕ} {log : List (SmallVec ℕ)} {ready : ReadyEdits}
     {old roomy : Playthrough Machine State Piece Meter} → AreEditsOf changes seed log ready
     → KeepsAll old roomy
     → make (changes_of ready.edits.items) (kept_game roomy) ≡ make changes (kept_game old)

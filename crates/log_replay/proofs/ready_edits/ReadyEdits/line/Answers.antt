@@ -12,7 +12,7 @@ returns-then-place-self c =
     let fits = c.requires.shift.within_old in
     let before = c.if-place-self.true in
     let below : c.args.place < length c.args.log.now = omega arith in
-    c.deref.ensures.value
+    c.deref.ensures
     ∙ sym (line_at-log_of c.args.log.now c.args.place c.index-log-place.result below
     c.index-log-place.is)
     ∙ sym (line_in_prefix log (log_after_edits c.args.self.now log) c.args.self.now.head
@@ -36,6 +36,6 @@ returns-then-place-rest c =
     let item = c.index-log-place-then-place-rest in
     let below : c.args.place - start + was < length c.args.log.now =
     omega (arith, c.rest_after-rest.ensures, c.requires.place, c.requires.within) in
-    c.deref-then-place-rest.ensures.value
+    c.deref-then-place-rest.ensures
     ∙ sym (line_at-log_of c.args.log.now (c.args.place - start + was) item.result below item.is)
     ∙ sym (line_in_rest log new start was c.args.place same behind)

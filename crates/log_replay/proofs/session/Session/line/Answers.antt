@@ -5,6 +5,6 @@ pub returns-clause-valid : goal.returns-clause-valid
 returns-clause-valid g c =
     let log = c.self.inside.kept.log.items in
     let below = rw (← c.self.view_is, length-log_of log) at c.requires in
-    rw c.deref.ensures.value
+    rw c.deref.ensures
     (is_line-read log c.args.place c.index.result.now below c.index.ensures
     c.self.invariant.game_is.lines)

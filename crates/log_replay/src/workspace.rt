@@ -1,0 +1,17 @@
+use crate::machine::Machine;
+use std::alloc::{AllocError, Global};
+
+/// What a session plays with: where memory comes from, and what its machine works in.
+#[derive(Drop)]
+pub(crate) struct Workspace<M: Machine> {
+    pub(crate) alloc: Global,
+    pub(crate) scratch: M::Scratch,
+}
+
+impl<M: Machine> Workspace<M> {
+    /// The workspace of a machine.
+    pub(crate) fn open(alloc: Global, machine: &M) -> Result<Workspace<M>, AllocError> {
+        let scratch = machine.scratch(alloc)?;
+        Ok(Workspace { alloc, scratch })
+    }
+}
