@@ -19,6 +19,8 @@ impl Machine for Counter {
 
     type Meter = Meter;
 
+    type Scratch = ();
+
     ghost Meaning = { ℕ };
 
     ghost Text = { ℕ };
@@ -41,9 +43,14 @@ impl Machine for Counter {
         })
     }
 
+    fn scratch(&self, _alloc: Global) -> Result<(), AllocError> {
+        Ok(())
+    }
+
     fn step(
         &self,
         _alloc: Global,
+        _scratch: &mut (),
         number: &mut u32,
         line: &[u8],
         meter: &mut Meter,
