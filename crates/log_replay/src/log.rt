@@ -71,7 +71,7 @@ pub(crate) fn copy_lines(
 }
 
 /// Appends lines, each with a line feed after it.
-pub(crate) fn push_lines(lines: &[Vec<u8>], text: &mut Vec<u8>) -> Result<(), AllocError>
+pub(crate) fn push_lines(lines: &[LineText], text: &mut Vec<u8>) -> Result<(), AllocError>
     ensures { OnOk result (text.new.items ≡ text.old.items ++ log_text (log_of lines.now)) }
 {
     for line in lines {

@@ -2,6 +2,7 @@ ghost use Rattle.std.specs.Prelude.{◌≡◌, ℕ, ◌<◌, ◌^◌, length, sl
 ghost use Rattle.log_replay.specs.Play.{log_of};
 ghost use Rattle.log_replay.specs.PlayedRow.{IsRowAt};
 
+use crate::edit::LineText;
 use std::marker::Model;
 
 /// A line of a log as it was played.
@@ -20,7 +21,7 @@ pub struct PlayedLine<'a, P> {
 /// The lines of a log as they were played, one after another.
 #[derive(Drop)]
 pub struct PlayedLines<'a, P> {
-    log: &'a [Vec<u8>],
+    log: &'a [LineText],
     pieces: &'a [P],
     ticked: &'a [bool],
     place: u32,
@@ -37,14 +38,14 @@ impl<'a, P> Model for PlayedLines<'a, P> {
     ghost view = { λ l. rows_from l.place l.ticks (log_of l.log.now) l.pieces.now l.ticked.now };
 
     ghost invariant = { λ l. record {
-        places : l.place + length l.log.now < 2 ^ 32;
-        ticks : l.ticks + length l.ticked.now < 2 ^ 32;
+      places : l.place + length l.log.now < 2 ^ 32;
+      ticks : l.ticks + length l.ticked.now < 2 ^ 32;
     } };
 }
 
 impl<'a, P> PlayedLines<'a, P> {
     /// Lines, of which these pieces were said, and of which each ticked or not.
-    pub(crate) fn of(log: &'a [Vec<u8>], pieces: &'a [P], ticked: &'a [bool]) -> Self
+    pub(crate) fn of(log: &'a [LineText], pieces: &'a [P], ticked: &'a [bool]) -> Self
         requires few { length log.now < 2 ^ 32 }
         requires pieces { length pieces.now ≡ length log.now }
         requires ticked { length ticked.now ≡ length log.now }
