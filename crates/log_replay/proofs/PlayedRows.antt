@@ -45,8 +45,7 @@ rows_from-at first count (line ∷ log) (piece ∷ pieces) (ticked ∷ ticks) p 
 rows_from-at first count (line ∷ log) (piece ∷ pieces) (ticked ∷ ticks) p t (suc k) below =
     let (row, is, its) =
     rows_from-at (first + 1) (count + (if ticked then 1 else 0)) log pieces ticks (omega arith)
-    (omega arith) k (omega arith) in
-    (
+    (omega arith) k (omega arith) in (
       row,
       is,
       record {

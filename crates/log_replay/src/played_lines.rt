@@ -37,8 +37,8 @@ impl<'a, P> Model for PlayedLines<'a, P> {
     ghost view = { λ l. rows_from l.place l.ticks (log_of l.log.now) l.pieces.now l.ticked.now };
 
     ghost invariant = { λ l. record {
-        places : l.place + length l.log.now < 2 ^ 32;
-        ticks : l.ticks + length l.ticked.now < 2 ^ 32;
+      places : l.place + length l.log.now < 2 ^ 32;
+      ticks : l.ticks + length l.ticked.now < 2 ^ 32;
     } };
 }
 
