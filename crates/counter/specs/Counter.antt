@@ -14,7 +14,7 @@ number_after number line = if is_click line then (number + 1) % 10000 else numbe
 abbrev pub IsNumber : ℕ → Type 0
 IsNumber number = number < 10000
 
--- it begins with the last digits of the seed; each line says the number, and those that count tick
+-- it begins with the last digits of the seed; each line says the number, and a click ticks
 abbrev pub counter_rules : MachineRules ℕ ℕ
 counter_rules = record {
   begun = λ seed. seed % 10000;

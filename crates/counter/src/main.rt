@@ -14,13 +14,14 @@ const LOG: &[u8] = b"click\nclick\n# a rest\nclick\n";
 
 const SCRIPT: &[u8] = b"# one click more\ninsert 1 click\nbegin\ndelete 0\ndelete 9\nend\n";
 
-/// Makes each item of a script, and says of it where its replay began and how many lines it played,
-/// or the line of the script that is refused.
+/// Makes each item of a script, and says where its replay began and how many lines it played, or
+/// which line of the script is refused.
 fn edit(rt: &HostRuntime, session: &mut Session<Counter>, script: &Script) -> Result<()> {
     for item in &script.items {
         match session.edit_group(&item.edits, &mut Meter::new()) {
             Ok(report) => {
-                let (line, from, played) = (item.line, report.stretch.from, report.stretch.played);
+                let (line, stretch) = (item.line, report.stretch);
+                let (from, played) = (stretch.from, stretch.played);
                 println!(rt; "line {line}: from {from}, played {played}")?;
             }
             Err(fault) => {

@@ -1,5 +1,6 @@
 pub mod Agreement
 pub mod Edit
+pub mod Equality
 pub mod Faults
 pub mod LogText
 pub mod Machine
