@@ -1,8 +1,5 @@
 -- What a line of a log makes of a game.
-use Rattle.std.proofs.Common.{ap}
-use Rattle.std.proofs.lemmas.Bool.{false≢true}
-use Rattle.std.specs.Prelude.{◌≡◌, ℕ, Bool, true, false, if◌then◌else◌, List, [], ◌∷◌, Option, Some}
-use Rattle.std.specs.Prelude.{None, is_some}
+use Rattle.std.specs.Prelude.{ℕ, Bool, true, false, if◌then◌else◌, List, [], ◌∷◌, Option, Some, None}
 use Rattle.cave_data.specs.CaveView.{CaveView}
 use Rattle.cave_rows.specs.declared.role.Role.TheVariants as role
 use Rattle.log_lines.specs.LogLine.{log_line}
@@ -54,44 +51,6 @@ turn_on_log_line cave line kind.Input s = turn_of_input cave line s.ending s.que
 
 unfoldable pub turn_on_line : CaveView → State → List ℕ → Turn
 turn_on_line cave s line = turn_on_log_line cave line (log_line line) s
-
--- nothing is played at a comment, a blank line, a seed line, and at any line after the end: the
--- random stream that such a line leaves
-abbrev pub stream_passed : LogLine → State → Option ℕ
-stream_passed kind.Comment s = Some s.stream
-stream_passed kind.Blank s = Some s.stream
-stream_passed (kind.Seed seed) s = Some (stream_of_seed seed)
-stream_passed kind.Input s = if is_some s.ending then Some s.stream else None
-
--- so such a line changes the stream alone, says nothing, and is no turn
-pub passed_is_silent :
-    (cave : CaveView) (s : State) (line : List ℕ) (stream : ℕ)
-    → stream_passed (log_line line) s ≡ Some stream
-    → turn_on_line cave s line ≡ silent_turn (record s { stream = stream })
-unfolding turn_on_line
-passed_is_silent cave s line stream h = silent_as (log_line line) h
-  where
-    same : (a b : ℕ) → Some a ≡ Some b → a ≡ b
-    same a b e = cc
-
-    kept : (a : ℕ) → Some s.stream ≡ Some a → silent_turn s ≡ silent_turn (record s { stream = a })
-    kept a e = ap (λ (x : ℕ). silent_turn (record s { stream = x })) (same s.stream a e)
-
-    over :
-        (ending : Option Ending) (a : ℕ)
-        → (if is_some ending then Some s.stream else None) ≡ Some a
-        → turn_of_input cave line ending s.question s ≡ silent_turn (record s { stream = a })
-    over (Some how) a e = kept a e
-    over None a e = absurd (false≢true (ap is_some e))
-
-    silent_as :
-        (k : LogLine) → stream_passed k s ≡ Some stream
-        → turn_on_log_line cave line k s ≡ silent_turn (record s { stream = stream })
-    silent_as kind.Comment e = kept stream e
-    silent_as kind.Blank e = kept stream e
-    silent_as (kind.Seed seed) e =
-        ap (λ (x : ℕ). silent_turn (record s { stream = x })) (same (stream_of_seed seed) stream e)
-    silent_as kind.Input e = over s.ending stream e
 
 -- a state, and what is said as it begins
 pub record Beginning : Type 0 where

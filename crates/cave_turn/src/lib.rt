@@ -10,4 +10,4 @@ pub mod request;
 pub mod revival;
 pub mod turns;
 
-pub use turns::{Turned, start, stream_passed, take_line, turn};
+pub use turns::{start, take_line};

@@ -1,11 +1,9 @@
 ghost use Rattle.std.specs.Prelude.{◌≡◌, ◌+◌, ◌^◌, ◌<◌, ◌≤◌, [], false, IsTrue};
 ghost use Rattle.arrayvec.specs.ArrayVec.{array_vec_len};
-ghost use Rattle.cave_words.specs.Lexicon.{IsLexiconOf};
 ghost use Rattle.log_lines.specs.Line.{is_line};
-ghost use Rattle.log_lines.specs.LogLine.{log_line};
 ghost use Rattle.cave_scene.specs.Bounds.{parts_of_turn};
 ghost use Rattle.cave_scene.specs.Rules.{cave_of};
-ghost use Rattle.cave_turn.specs.Turns.{game_beginning, turn_on_line, turn_of_input, stream_passed};
+ghost use Rattle.cave_turn.specs.Turns.{game_beginning, turn_on_line, turn_of_input};
 
 use crate::answers::{answers, close, take_answer};
 use crate::commands::command;
@@ -13,16 +11,9 @@ use cave_begin::begun_state;
 use cave_data::Cave;
 use cave_rows::Role;
 use cave_scene::Rules;
-use cave_words::{Lexicon, Stream};
+use cave_words::Stream;
 use cave_world::{Out, Part, State};
 use log_lines::{LogLine, Meter};
-
-/// The state after a line, and whether the line was a turn of the game.
-#[derive(Clone, Copy, Debug, PartialEq, Eq)]
-pub struct Turned {
-    pub state: State,
-    pub ticked: bool,
-}
 
 /// Plays a line of a log in the state itself. Returns whether it is a turn of the game.
 #[tactic(auto, unfolding(crate::specs::Turns::turn_on_line))]
@@ -88,43 +79,4 @@ fn play(rules: &Rules<'_>, line: &[u8], state: &mut State, out: &mut Out) -> boo
             true
         }
     }
-}
-
-/// The random stream that a line leaves at which nothing is played: a comment, a blank line, a seed
-/// line, and any line after the end. None for a line that is played.
-pub fn stream_passed(state: &State, line: &[u8]) -> Option<Stream>
-    requires { IsTrue (is_line line.now) }
-    ensures { result ≡ stream_passed (log_line line.now) state.now }
-{
-    match LogLine::of(line) {
-        LogLine::Comment | LogLine::Blank => Some(state.stream),
-        LogLine::Seed(seed) => Some(Stream::seeded(seed)),
-        LogLine::Input if state.ending.is_some() => Some(state.stream),
-        LogLine::Input => None,
-    }
-}
-
-/// Plays a line of a log in a copy of the state, for users of this crate: the program plays by
-/// [`take_line`].
-pub fn turn(
-    cave: &Cave,
-    lexicon: &Lexicon,
-    state: &State,
-    line: &[u8],
-    out: &mut Out,
-    meter: &mut Meter,
-) -> Turned
-    requires lexicon { IsLexiconOf cave.now lexicon.now }
-    requires line { IsTrue (is_line line.now) }
-    requires empty { out.old.items ≡ [] }
-    requires room { meter.old + 1 < 2 ^ 64 }
-
-    ensures turn { record { state = result.state; parts = out.new.items; ticked = result.ticked }
-        ≡ turn_on_line cave.now state.now line.now }
-    ensures few { array_vec_len out.new ≤ parts_of_turn }
-    ensures counted { meter.new ≡ meter.old + 1 }
-{
-    let mut state = *state;
-    let ticked = take_line(&Rules::of(cave, lexicon), &mut state, line, out, meter);
-    Turned { state, ticked }
 }
