@@ -1,5 +1,5 @@
 -- The rows of lines, at their places.
-use Rattle.std.proofs.Common.{◌≡◌, ◌×◌, ℕ, ◌+◌, ◌<◌, zero, suc, Bool, List, [], ◌∷◌, length, take}
+use Rattle.std.proofs.Common.{◌≡◌, ℕ, ◌+◌, ◌<◌, zero, suc, Bool, List, [], ◌∷◌, length, take}
 use Rattle.std.proofs.Common.{count_by, arith, refl, sym, subst, ap, ◌∙◌, Some}
 use Rattle.std.specs.Prelude.{slice_get, IfSome, if◌then◌else◌}
 use Rattle.log_replay.specs.Edit.{line_at}
