@@ -49,7 +49,7 @@ impl Machine for Counter {
         meter: &mut Meter,
     ) -> Result<Stepped<u32>, AllocError> {
         meter.tick();
-        let clicks = line == b"click";
+        let clicks = line == b"click".as_slice();
         if clicks {
             *number = (*number + 1) % 10_000;
         }
