@@ -1,5 +1,5 @@
 -- The rows of lines, at their places.
-use Rattle.std.proofs.Common.{◌≡◌, ◌×◌, ℕ, ◌+◌, ◌<◌, zero, suc, Bool, List, [], ◌∷◌, length, take}
+use Rattle.std.proofs.Common.{◌≡◌, ℕ, ◌+◌, ◌<◌, zero, suc, Bool, List, [], ◌∷◌, length, take}
 use Rattle.std.proofs.Common.{arith, refl, sym, subst, ap, ◌∙◌, Some}
 use Rattle.std.specs.Prelude.{slice_get, IfSome, if◌then◌else◌}
 use Rattle.log_replay.specs.Edit.{line_at}
@@ -71,11 +71,11 @@ rows-at log pieces ticks p t k below =
     let (row, is, its) = rows_from-at 0 0 log pieces ticks p t k below in
     subst (λ found. IfSome found (IsRowAt log pieces ticks k)) (sym is)
     (record {
-      place_is = its.place_is;
+      place_is = omega (arith, its.place_is);
       line_is = its.line_is;
       piece_is = its.piece_is;
       ticked_is = its.ticked_is;
-      ticks_are = its.ticks_are;
+      ticks_are = omega (arith, its.ticks_are);
     })
 
 pub length-rows_from : {Piece : Type 0} (first count : ℕ) (log : List (List ℕ))
