@@ -69,13 +69,13 @@ pub ruleset equality =
     (by_number, by_signed, by_bool, by_array, by_variant, by_no_field, by_last_field, by_field, by_moved)
 
 -- the law, where `==` tells the values of the type apart
-pub exact_value : {A : Type 0} {E : A → A → Bool} {P : A → Type 0}
+pub exact_value : {A : Type 0} {E : A → A → Bool} (P : A → Type 0)
     → ((a b : A) → TellsApart (E a b) a b) → (a b : A) → P a → P b → Decides (E a b) (a ≡ b)
-exact_value each a b _ _ = (each a b).decides
+exact_value P each a b _ _ = (each a b).decides
 
 -- the law of a struct, where `==` tells its fields apart
-pub exact_struct : (T : Declared) {E : T.D → T.D → Bool} {P : T.D → Type 0}
+pub exact_struct : (T : Declared) {E : T.D → T.D → Bool} (P : T.D → Type 0)
     → ((a b : T.D) → TellsApart (E a b) (T.as_values a) (T.as_values b))
     → (a b : T.D) → P a → P b → Decides (E a b) (a ≡ b)
-exact_struct T each a b _ _ =
+exact_struct T P each a b _ _ =
     Decides-like _ (Cover-one T.cover T.propositions a b) (λ e. ap T.as_values e) (each a b).decides
