@@ -21,7 +21,7 @@ use Rattle.cave_things.specs.Reach.{is_near, has_prop}
 use Rattle.cave_scene.specs.Rules.{thing}
 use Rattle.cave_clocks.specs.Clocks.{go_on_or_give_up, lamp_last, lamp_unless_closed}
 use Rattle.cave_clocks.specs.Clocks.{second_clock_and_lamp, timing_of_clocks}
-use Rattle.cave_clocks.specs.FirstClock.{ClockTurn, tick, is_first_clock_going, with_first_clock_down}
+use Rattle.cave_clocks.specs.FirstClock.{ClockTurn, clock_turn, is_first_clock_going, with_first_clock_down}
 use Rattle.cave_clocks.specs.FirstClock.{with_ways_barred, without_dwarves, without_bear}
 use Rattle.cave_clocks.specs.FirstClock.{cleared_cave, start_of_closing, last_clock_turn}
 use Rattle.cave_clocks.specs.FirstClock.{timing_of_first_clock}
@@ -82,9 +82,9 @@ first_kept P timed cave p h =
     λ going. timed.counts (facts p.state) (clock_going cave p.state going) h in
     choose (λ (t : ClockTurn). On P t.scene.state) (is_first_clock_going cave p.state)
     (last_clock_turn cave q)
-    (tick false p)
+    (clock_turn false p)
     (λ going. choose (λ (t : ClockTurn). On P t.scene.state) (int_eq q.state.closing.first_clock (pos 0))
-    (tick true (start_of_closing cave q)) (tick false q)
+    (clock_turn true (start_of_closing cave q)) (clock_turn false q)
     (λ _. start_kept P timed cave q (counted going)) (λ _. counted going))
     (λ _. h)
 

@@ -21,7 +21,7 @@ use Rattle.cave_things.specs.Reach.{is_near, has_prop}
 use Rattle.cave_scene.specs.Rules.{thing}
 use Rattle.cave_clocks.specs.Clocks.{lamp_last, lamp_unless_closed}
 use Rattle.cave_clocks.specs.Clocks.{Timing, second_clock_and_lamp, timing_of_clocks}
-use Rattle.cave_clocks.specs.FirstClock.{ClockTurn, tick, is_first_clock_going, with_first_clock_down}
+use Rattle.cave_clocks.specs.FirstClock.{ClockTurn, clock_turn, is_first_clock_going, with_first_clock_down}
 use Rattle.cave_clocks.specs.FirstClock.{with_ways_barred, without_dwarves, without_bear}
 use Rattle.cave_clocks.specs.FirstClock.{cleared_cave, start_of_closing, last_clock_turn}
 use Rattle.cave_clocks.specs.FirstClock.{timing_of_first_clock, dismissed_dwarf, with_loose}
@@ -99,9 +99,9 @@ first_kept {Here} {P} k cave p h =
     q.state.closing.is_panicking h in
     choose (λ (t : ClockTurn). On P t.scene.state) (is_first_clock_going cave p.state)
     (last_clock_turn cave q)
-    (tick false p)
+    (clock_turn false p)
     (λ _. choose (λ (t : ClockTurn). On P t.scene.state) (int_eq q.state.closing.first_clock (pos 0))
-    (tick true (start_of_closing cave q)) (tick false q) (λ _. start_kept k cave q down)
+    (clock_turn true (start_of_closing cave q)) (clock_turn false q) (λ _. start_kept k cave q down)
     (λ _. down))
     (λ _. h)
 
@@ -112,7 +112,7 @@ stored_kept : {P : Claim} (k : IsMoved P) (cave : CaveView) (place : ℕ) (thing
 stored_kept k cave place [] n o w c h = h
 stored_kept k cave place (t ∷ things) n o w c h =
     stored_kept k cave place things n (with_stored cave place t o) w c
-    (k.prop n (with_place o (thing cave t.name) place) w c (thing cave t.name) (negsuc t.text)
+    (k.prop n (with_place o (thing cave t.name) place) w c (thing cave t.name) (negsuc t.prop)
     (k.place n o w c (thing cave t.name) place h))
 
 furnished_kept : {P : Claim} (k : IsMoved P) (cave : CaveView) (ne sw n : ℕ) (o : Layout)
