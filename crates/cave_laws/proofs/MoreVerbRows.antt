@@ -102,30 +102,3 @@ wave_rows_kept P = rows_kept P wave_rows (search ordinary parts 60)
 pub rub_rows_kept : (P : Claim) → KeepsRows P rub_rows
 unfolding rub_rows
 rub_rows_kept P = rows_kept P rub_rows (search ordinary parts 60)
-
--- the rows of all these verbs
-pub ruleset more_verb_rows_kept = (
-  bare_open_rows_kept,
-  open_rows_kept,
-  pour_rows_kept,
-  drink_rows_kept,
-  bare_fill_rows_kept,
-  fill_rows_kept,
-  bare_read_rows_kept,
-  read_rows_kept,
-  bare_rows_kept,
-  other_rows_kept,
-  nothing_rows_kept,
-  bare_quit_rows_kept,
-  bare_score_rows_kept,
-  bare_brief_rows_kept,
-  bare_take_rows_kept,
-  free_take_rows_kept,
-  take_rows_kept,
-  throw_rows_kept,
-  miss_rows_kept,
-  hit_rows_kept,
-  axe_rows_kept,
-  wave_rows_kept,
-  rub_rows_kept,
-)

@@ -1,5 +1,5 @@
 -- OPEN and LOCK.
-use Rattle.std.specs.Prelude.{ℕ, pos, List, [], ◌∷◌, ◌==◌, if◌then◌else◌, Option, Some, None}
+use Rattle.std.specs.Prelude.{ℕ, pos, Bool, true, false, List, [], ◌∷◌, if◌then◌else◌, Option, Some, None}
 use Rattle.cave_data.specs.CaveView.{CaveView}
 use Rattle.cave_rows.specs.declared.place_role.PlaceRole.{PlaceRole}
 use Rattle.cave_rows.specs.declared.place_role.PlaceRole.TheVariants as place
@@ -17,18 +17,25 @@ use Rattle.cave_verbs.specs.Deeds.{Deed}
 use Rattle.cave_verbs.specs.Effects.{in_state, say, default, ask_what, bring, kill, fix, loosen}
 use Rattle.cave_verbs.specs.Effects.{set_prop, lay_down}
 use Rattle.cave_verbs.specs.Rows.{VerbRow, Test, Effect, Thing, row, row_then, keeps}
-use Rattle.cave_verbs.specs.Verbs as verb
+use Rattle.cave_verbs.specs.declared.verb.Verb.{Verb}
+use Rattle.cave_verbs.specs.declared.verb.Verb.TheVariants as verb
 use Rattle.cave_verbs.specs.Tests.{x, the, no, either, there_is, is, carries, near, prop}
 use Rattle.cave_verbs.specs.Tests.{other_prop}
 use Rattle.cave_verbs.specs.Tests.{cave_closing}
+use Rattle.cave_verbs.specs.Verbs.{is_verb}
 use Rattle.cave_verbs.specs.declared.next.Step.{Step}
 use Rattle.cave_verbs.specs.declared.next.Step.TheVariants.{GoOn}
 
+abbrev pub opens_or_locks : Verb → Bool
+opens_or_locks verb.Open = true
+opens_or_locks verb.Lock = true
+opens_or_locks _ = false
+
 abbrev pub is_opening : Test
-is_opening d = d.order.verb == verb.OPEN
+is_opening d = is_verb d.order.verb verb.Open
 
 abbrev pub is_locking : Test
-is_locking d = d.order.verb == verb.LOCK
+is_locking d = is_verb d.order.verb verb.Lock
 
 -- the player isn't where the order's object is at home
 abbrev pub away_from_home : Test

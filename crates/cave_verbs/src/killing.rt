@@ -1,8 +1,8 @@
 ghost use Rattle.std.specs.Prelude.{◌≡◌, ◌≤◌};
-ghost use Rattle.cave_scene.specs.Bounds.{HasRoom, SaysUpTo, parts_of_row};
-ghost use Rattle.cave_scene.specs.Play.{scene_of, GoesOn};
+ghost use Rattle.cave_scene.specs.Bounds.{HasRoom, parts_of_row};
+ghost use Rattle.cave_scene.specs.Play.{scene_of};
 ghost use Rattle.cave_verbs.specs.Deeds.{deed};
-ghost use Rattle.cave_verbs.specs.Rows.{ByRows};
+ghost use Rattle.cave_verbs.specs.Rows.{ByRows, DoneByRows};
 ghost use Rattle.cave_scene.specs.Rules.{cave_of};
 ghost use Rattle.cave_verbs.specs.Ranks.{rank_of};
 ghost use Rattle.cave_verbs.specs.Killing.{foes, prey, bare_kill_rows, kill_rows};
@@ -10,7 +10,7 @@ ghost use Rattle.cave_verbs.specs.Killing.{foes, prey, bare_kill_rows, kill_rows
 use crate::choice::{Meant, consider, first, several};
 use crate::next::{Next, Step};
 use crate::order::Order;
-use crate::verbs::{KILL, THROW};
+use crate::verb::Verb;
 use arrayvec::ArrayVec;
 use cave_objects::Prop;
 use cave_rows::Role;
@@ -57,7 +57,7 @@ fn prey(rules: &Rules<'_>, order: &Order, play: &Play<'_>) -> Meant
     let oyster = rules.object(Named::Oyster);
     let mut prey = ArrayVec::new();
     consider(
-        is_near(rules, play.state, bird) && order.commanded != THROW,
+        is_near(rules, play.state, bird) && !order.commanded.is(Verb::Throw),
         bird,
         &mut prey,
     );
@@ -74,77 +74,72 @@ fn prey(rules: &Rules<'_>, order: &Order, play: &Play<'_>) -> Meant
 pub fn kill_what_is_here(rules: &Rules<'_>, order: Order, play: &mut Play<'_>) -> Step
     requires { HasRoom parts_of_row play.old }
     ensures row { ByRows bare_kill_rows rules.now order play.old play.new result }
-    ensures same { GoesOn play.old play.new }
-    ensures few { SaysUpTo parts_of_row play.old play.new }
     ensures ranks { rank_of (cave_of rules.now) result ≤ 1 }
 {
     let foes = foes(rules, &order, play);
     if several(foes.as_slice()) {
-        return order.ask_what(rules, play);
+        return Step::Done(order.ask_what(rules, play));
     }
     let foe = first(foes.as_slice());
     if !foe.is_none() {
-        return Step::GoOn(KILL, foe);
+        return Step::GoOn(Verb::Kill, foe);
     }
     let prey = prey(rules, &order, play);
     if several(prey.as_slice()) {
-        return order.ask_what(rules, play);
+        return Step::Done(order.ask_what(rules, play));
     }
     let game = first(prey.as_slice());
     if !game.is_none() {
-        return Step::GoOn(KILL, game);
+        return Step::GoOn(Verb::Kill, game);
     }
-    Step::say(Role::NoneToKill, play)
+    Step::Done(Next::say(Role::NoneToKill, play))
 }
 
 /// KILL an object.
 #[tactic(auto, unfolding(crate::specs::Killing::kill_rows))]
-pub fn kill(rules: &Rules<'_>, order: Order, play: &mut Play<'_>) -> Step
+pub fn kill(rules: &Rules<'_>, order: Order, play: &mut Play<'_>) -> Next
     requires { HasRoom parts_of_row play.old }
-    ensures row { ByRows kill_rows rules.now order play.old play.new result }
-    ensures same { GoesOn play.old play.new }
-    ensures few { SaysUpTo parts_of_row play.old play.new }
-    ensures ranks { rank_of (cave_of rules.now) result ≤ 0 }
+    ensures row { DoneByRows kill_rows rules.now order play.old play.new result }
 {
     let x = order.object;
     if rules.is(x, Named::Bird) {
         if play.state.closing.is_closed {
-            return Step::say(Role::BirdNo, play);
+            return Next::say(Role::BirdNo, play);
         }
         play.state.destroy(x);
         play.state.objects.set_prop(x, Prop::new(0));
         lose(rules, play.state);
-        return Step::say(Role::BirdDead, play);
+        return Next::say(Role::BirdDead, play);
     }
     if rules.is(x, Named::Clam) || rules.is(x, Named::Oyster) {
-        return Step::say(Role::Shell, play);
+        return Next::say(Role::Shell, play);
     }
     if rules.is(x, Named::Snake) {
-        return Step::say(Role::SnakeNo, play);
+        return Next::say(Role::SnakeNo, play);
     }
     if rules.is(x, Named::Dwarf) {
         if play.state.closing.is_closed {
-            return Step::disturb(play);
+            return Next::disturb(play);
         }
-        return Step::say(Role::WithWhat, play);
+        return Next::say(Role::WithWhat, play);
     }
     if rules.is(x, Named::Dragon) {
         if has_prop(play.state, x, 0) {
-            return Step::Done(Next::Ask(Question::Dragon));
+            return Next::Ask(Question::Dragon);
         }
-        return Step::say(Role::DeadAlready, play);
+        return Next::say(Role::DeadAlready, play);
     }
     if rules.is(x, Named::Troll) {
-        return Step::say(Role::TrollNo, play);
+        return Next::say(Role::TrollNo, play);
     }
     if rules.is(x, Named::Bear) {
         if has_prop(play.state, x, 0) {
-            return Step::say(Role::BearFight, play);
+            return Next::say(Role::BearFight, play);
         }
         if has_prop(play.state, x, 3) {
-            return Step::say(Role::DeadAlready, play);
+            return Next::say(Role::DeadAlready, play);
         }
-        return Step::say(Role::BearFriend, play);
+        return Next::say(Role::BearFriend, play);
     }
     order.say_default(rules, play)
 }
