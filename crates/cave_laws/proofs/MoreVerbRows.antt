@@ -1,5 +1,5 @@
 -- The rows of verbs, from OPEN to RUB, keep each claim.
-use Rattle.cave_verbs.specs.Opening.{bare_open_rows, open_rows}
+use Rattle.cave_verbs.specs.Opening.{bare_open_rows, chain_rows, lock_rows, open_rows}
 use Rattle.cave_verbs.specs.Pouring.{pour_rows, drink_rows, bare_fill_rows, fill_rows}
 use Rattle.cave_verbs.specs.Reading.{bare_read_rows, read_rows}
 use Rattle.cave_verbs.specs.Small.{bare_rows, other_rows, nothing_rows, bare_quit_rows}
@@ -16,7 +16,7 @@ unfolding bare_open_rows
 bare_open_rows_kept P = rows_kept P bare_open_rows (search ordinary parts 60)
 
 pub open_rows_kept : (P : Claim) → KeepsRows P open_rows
-unfolding open_rows
+unfolding open_rows lock_rows chain_rows
 open_rows_kept P = rows_kept P open_rows (search ordinary parts 60)
 
 pub pour_rows_kept : (P : Claim) → KeepsRows P pour_rows

@@ -17,7 +17,7 @@ use Rattle.cave_verbs.specs.Finding.{find_rows, bare_inventory_rows}
 use Rattle.cave_verbs.specs.Killing.{bare_kill_rows, kill_rows}
 use Rattle.cave_verbs.specs.Light.{on_rows, off_rows}
 use Rattle.cave_verbs.specs.Magic.{bare_foo_rows}
-use Rattle.cave_verbs.specs.Opening.{bare_open_rows, open_rows}
+use Rattle.cave_verbs.specs.Opening.{bare_open_rows, chain_rows, lock_rows, open_rows}
 use Rattle.cave_verbs.specs.Pouring.{pour_rows, drink_rows, bare_fill_rows, fill_rows}
 use Rattle.cave_verbs.specs.Reading.{bare_read_rows, read_rows}
 use Rattle.cave_verbs.specs.Rows.{VerbRow, after_all, first_fitting, fits, act_of_row}
@@ -135,7 +135,7 @@ throw_spares = first_or_spares throw_rows axe_act (λ d. refl) axe
         (λ _. first_spares axe_rows (λ e. refl) d)
 
 object_spare : (v : Verb) → Spares (object_act v)
-unfolding other_rows take_rows free_take_rows drop_rows open_rows nothing_rows on_rows off_rows wave_rows
+unfolding other_rows take_rows free_take_rows drop_rows open_rows lock_rows chain_rows nothing_rows on_rows off_rows wave_rows
     kill_rows pour_rows eat_rows drink_rows rub_rows find_rows feed_rows fill_rows blast_rows
     read_rows break_rows wake_rows
 object_spare verb.Take d = first_spares take_rows (λ e. refl) d

@@ -77,6 +77,33 @@ bare_open_rows =
     ∷ row [] (say role.NoLock ∷ [])
     ∷ []
 
+-- with the keys: what is done to the chain, and of what is neither grate nor chain the default
+unfoldable pub chain_rows : List VerbRow
+chain_rows =
+    row (is name.Chain ∷ is_opening ∷ prop x (pos 0) ∷ []) (say role.WasUnlocked ∷ [])
+    ∷ row (is name.Chain ∷ is_opening ∷ prop (the name.Bear) (pos 0) ∷ []) (say role.BearBars ∷ [])
+    ∷ row (is name.Chain ∷ is_opening ∷ prop (the name.Bear) (pos 3) ∷ [])
+    (set_prop x (pos 0) ∷ loosen x ∷ fix (the name.Bear) ∷ say role.ChainFree ∷ [])
+    ∷ row (is name.Chain ∷ is_opening ∷ [])
+    (set_prop x (pos 0) ∷ loosen x ∷ set_prop (the name.Bear) (pos 2) ∷ loosen (the name.Bear)
+    ∷ say role.ChainFree ∷ [])
+    ∷ row (is name.Chain ∷ away_from_home ∷ []) (say role.NoLockHere ∷ [])
+    ∷ row (is name.Chain ∷ other_prop x (pos 0) ∷ []) (say role.WasLocked ∷ [])
+    ∷ row (is name.Chain ∷ []) (lay_down x ∷ set_prop x (pos 2) ∷ fix x ∷ say role.ChainLock ∷ [])
+    ∷ row [] (default ∷ [])
+    ∷ []
+
+-- with the keys: what is done to the grate, and then to the chain
+unfoldable pub lock_rows : List VerbRow
+lock_rows =
+    row (is name.Grate ∷ cave_closing ∷ []) (say role.ClosingExit ∷ panic ∷ [])
+    ∷ row (is name.Grate ∷ is_opening ∷ prop x (pos 0) ∷ [])
+    (set_prop x (pos 1) ∷ say role.Unlocked ∷ [])
+    ∷ row (is name.Grate ∷ is_opening ∷ []) (say role.WasUnlocked ∷ [])
+    ∷ row (is name.Grate ∷ prop x (pos 0) ∷ []) (say role.WasLocked ∷ [])
+    ∷ row (is name.Grate ∷ []) (set_prop x (pos 0) ∷ say role.Locked ∷ [])
+    ∷ chain_rows
+
 unfoldable pub open_rows : List VerbRow
 open_rows =
     row (either (is name.Clam) (is name.Oyster) ∷ is_locking ∷ []) (say role.LockWhat ∷ [])
@@ -93,21 +120,4 @@ open_rows =
     ∷ row (is name.Keys ∷ []) (say role.KeysWhat ∷ [])
     ∷ row (either (is name.Grate) (is name.Chain) ∷ no (near (the name.Keys)) ∷ [])
     (say role.NoKeys ∷ [])
-    ∷ row (is name.Grate ∷ cave_closing ∷ []) (say role.ClosingExit ∷ panic ∷ [])
-    ∷ row (is name.Grate ∷ is_opening ∷ prop x (pos 0) ∷ [])
-    (set_prop x (pos 1) ∷ say role.Unlocked ∷ [])
-    ∷ row (is name.Grate ∷ is_opening ∷ []) (say role.WasUnlocked ∷ [])
-    ∷ row (is name.Grate ∷ prop x (pos 0) ∷ []) (say role.WasLocked ∷ [])
-    ∷ row (is name.Grate ∷ []) (set_prop x (pos 0) ∷ say role.Locked ∷ [])
-    ∷ row (is name.Chain ∷ is_opening ∷ prop x (pos 0) ∷ []) (say role.WasUnlocked ∷ [])
-    ∷ row (is name.Chain ∷ is_opening ∷ prop (the name.Bear) (pos 0) ∷ []) (say role.BearBars ∷ [])
-    ∷ row (is name.Chain ∷ is_opening ∷ prop (the name.Bear) (pos 3) ∷ [])
-    (set_prop x (pos 0) ∷ loosen x ∷ fix (the name.Bear) ∷ say role.ChainFree ∷ [])
-    ∷ row (is name.Chain ∷ is_opening ∷ [])
-    (set_prop x (pos 0) ∷ loosen x ∷ set_prop (the name.Bear) (pos 2) ∷ loosen (the name.Bear)
-    ∷ say role.ChainFree ∷ [])
-    ∷ row (is name.Chain ∷ away_from_home ∷ []) (say role.NoLockHere ∷ [])
-    ∷ row (is name.Chain ∷ other_prop x (pos 0) ∷ []) (say role.WasLocked ∷ [])
-    ∷ row (is name.Chain ∷ []) (lay_down x ∷ set_prop x (pos 2) ∷ fix x ∷ say role.ChainLock ∷ [])
-    ∷ row [] (default ∷ [])
-    ∷ []
+    ∷ lock_rows

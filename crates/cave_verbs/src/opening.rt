@@ -1,14 +1,14 @@
-ghost use Rattle.std.specs.Prelude.{◌≡◌, ◌≤◌, ◌||◌, [], ◌∷◌, false, IsTrue};
+ghost use Rattle.std.specs.Prelude.{◌≡◌, ◌≤◌, ◌||◌, false, IsTrue};
 ghost use Rattle.cave_words.specs.declared.named.Named.TheVariants as name;
-ghost use Rattle.cave_scene.specs.Rules.{is_called, is_one_of};
-ghost use Rattle.cave_things.specs.Reach.{is_near};
+ghost use Rattle.cave_scene.specs.Rules.{is_called};
 ghost use Rattle.cave_scene.specs.Bounds.{HasRoom, parts_of_row};
 ghost use Rattle.cave_verbs.specs.Rows.{ByRows, DoneByRows};
-ghost use Rattle.cave_scene.specs.Rules.{cave_of, thing};
+ghost use Rattle.cave_scene.specs.Rules.{cave_of};
 ghost use Rattle.cave_verbs.specs.Ranks.{rank_of};
 ghost use Rattle.cave_verbs.specs.Verbs.{is_verb};
 ghost use Rattle.cave_verbs.specs.declared.verb.Verb.TheVariants as verb;
-ghost use Rattle.cave_verbs.specs.Opening.{after_sending, lock_meant, bare_open_rows, open_rows, opens_or_locks};
+ghost use Rattle.cave_verbs.specs.Opening.{after_sending, bare_open_rows, chain_rows, lock_meant};
+ghost use Rattle.cave_verbs.specs.Opening.{lock_rows, open_rows, opens_or_locks};
 
 use crate::next::{Next, Step};
 use crate::order::Order;
@@ -117,15 +117,11 @@ fn open_shell(rules: &Rules<'_>, order: Order, play: &mut Play<'_>) -> Next
 }
 
 /// OPEN or LOCK the grate, with the keys.
-#[tactic(auto, unfolding(crate::specs::Opening::open_rows))]
+#[tactic(auto, unfolding(crate::specs::Opening::lock_rows))]
 fn open_grate(rules: &Rules<'_>, order: Order, play: &mut Play<'_>) -> Next
     requires room { HasRoom parts_of_row play.old }
     requires grate { IsTrue (is_called (cave_of rules.now) order.object name.Grate) }
-    requires other { is_one_of (cave_of rules.now) order.object
-        (name.Clam ∷ name.Oyster ∷ name.Door ∷ name.Cage ∷ name.Keys ∷ []) ≡ false }
-    requires keys { let cave = cave_of rules.now in
-        IsTrue (is_near cave play.old.state.now (thing cave name.Keys)) }
-    ensures row { DoneByRows open_rows rules.now order play.old play.new result }
+    ensures row { DoneByRows lock_rows rules.now order play.old play.new result }
 {
     let x = order.object;
     if play.state.closing.is_closing {
@@ -147,16 +143,12 @@ fn open_grate(rules: &Rules<'_>, order: Order, play: &mut Play<'_>) -> Next
 }
 
 /// OPEN the chain, with the keys.
-#[tactic(auto, unfolding(crate::specs::Opening::open_rows))]
+#[tactic(auto, unfolding(crate::specs::Opening::chain_rows))]
 fn unlock_chain(rules: &Rules<'_>, order: Order, play: &mut Play<'_>) -> Next
     requires room { HasRoom parts_of_row play.old }
     requires opening { IsTrue (is_verb order.verb verb.Open) }
     requires chain { IsTrue (is_called (cave_of rules.now) order.object name.Chain) }
-    requires other { is_one_of (cave_of rules.now) order.object
-        (name.Clam ∷ name.Oyster ∷ name.Door ∷ name.Cage ∷ name.Keys ∷ name.Grate ∷ []) ≡ false }
-    requires keys { let cave = cave_of rules.now in
-        IsTrue (is_near cave play.old.state.now (thing cave name.Keys)) }
-    ensures row { DoneByRows open_rows rules.now order play.old play.new result }
+    ensures row { DoneByRows chain_rows rules.now order play.old play.new result }
 {
     let x = order.object;
     let bear = rules.object(Named::Bear);
@@ -180,16 +172,12 @@ fn unlock_chain(rules: &Rules<'_>, order: Order, play: &mut Play<'_>) -> Next
 }
 
 /// LOCK the chain, with the keys.
-#[tactic(auto, unfolding(crate::specs::Opening::open_rows))]
+#[tactic(auto, unfolding(crate::specs::Opening::chain_rows))]
 fn lock_chain(rules: &Rules<'_>, order: Order, play: &mut Play<'_>) -> Next
     requires room { HasRoom parts_of_row play.old }
     requires locking { is_verb order.verb verb.Open ≡ false }
     requires chain { IsTrue (is_called (cave_of rules.now) order.object name.Chain) }
-    requires other { is_one_of (cave_of rules.now) order.object
-        (name.Clam ∷ name.Oyster ∷ name.Door ∷ name.Cage ∷ name.Keys ∷ name.Grate ∷ []) ≡ false }
-    requires keys { let cave = cave_of rules.now in
-        IsTrue (is_near cave play.old.state.now (thing cave name.Keys)) }
-    ensures row { DoneByRows open_rows rules.now order play.old play.new result }
+    ensures row { DoneByRows chain_rows rules.now order play.old play.new result }
 {
     let x = order.object;
     if is_home_elsewhere(rules, play.state, x) {
@@ -205,7 +193,7 @@ fn lock_chain(rules: &Rules<'_>, order: Order, play: &mut Play<'_>) -> Next
 }
 
 /// OPEN or LOCK an object.
-#[tactic(auto, unfolding(crate::specs::Opening::open_rows))]
+#[tactic(auto, unfolding(crate::specs::Opening::open_rows, crate::specs::Opening::lock_rows))]
 pub fn open(rules: &Rules<'_>, order: Order, play: &mut Play<'_>) -> Next
     requires { HasRoom parts_of_row play.old }
     ensures row { DoneByRows open_rows rules.now order play.old play.new result }
