@@ -24,10 +24,8 @@ pub fn blast(rules: &Rules<'_>, order: Order, play: &mut Play<'_>) -> Next
         play.say(Role::Klutz);
         return Next::End(Ending::Klutz);
     }
-    if is_place(
-        play.state.trail.here,
-        place_named(rules.cave, PlaceRole::Ne),
-    ) {
+    let northeast = place_named(rules.cave, PlaceRole::Ne);
+    if is_place(play.state.trail.here, northeast) {
         play.say(Role::WrongWay);
         return Next::End(Ending::WrongWay);
     }

@@ -23,28 +23,19 @@ use cave_world::Question;
 fn foes(rules: &Rules<'_>, order: &Order, play: &Play<'_>) -> Meant
     ensures { result.items ≡ foes (deed (cave_of rules.now) order.now (scene_of play.now)) }
 {
+    let dwarf = rules.object(Named::Dwarf);
     let snake = rules.object(Named::Snake);
     let dragon = rules.object(Named::Dragon);
     let troll = rules.object(Named::Troll);
     let bear = rules.object(Named::Bear);
+    let is_dragon_alive = play.state.is_here(dragon) && has_prop(play.state, dragon, 0);
+    let is_bear_wild = is_near(rules, play.state, bear) && has_prop(play.state, bear, 0);
     let mut foes = ArrayVec::new();
-    consider(
-        is_dwarf_here(play.state),
-        rules.object(Named::Dwarf),
-        &mut foes,
-    );
+    consider(is_dwarf_here(play.state), dwarf, &mut foes);
     consider(is_near(rules, play.state, snake), snake, &mut foes);
-    consider(
-        play.state.is_here(dragon) && has_prop(play.state, dragon, 0),
-        dragon,
-        &mut foes,
-    );
+    consider(is_dragon_alive, dragon, &mut foes);
     consider(play.state.is_here(troll), troll, &mut foes);
-    consider(
-        is_near(rules, play.state, bear) && has_prop(play.state, bear, 0),
-        bear,
-        &mut foes,
-    );
+    consider(is_bear_wild, bear, &mut foes);
     foes
 }
 
@@ -55,17 +46,11 @@ fn prey(rules: &Rules<'_>, order: &Order, play: &Play<'_>) -> Meant
     let bird = rules.object(Named::Bird);
     let clam = rules.object(Named::Clam);
     let oyster = rules.object(Named::Oyster);
+    let is_bird_meant = is_near(rules, play.state, bird) && !order.commanded.is(Verb::Throw);
+    let is_shell_near = is_near(rules, play.state, clam) || is_near(rules, play.state, oyster);
     let mut prey = ArrayVec::new();
-    consider(
-        is_near(rules, play.state, bird) && !order.commanded.is(Verb::Throw),
-        bird,
-        &mut prey,
-    );
-    consider(
-        is_near(rules, play.state, clam) || is_near(rules, play.state, oyster),
-        clam,
-        &mut prey,
-    );
+    consider(is_bird_meant, bird, &mut prey);
+    consider(is_shell_near, clam, &mut prey);
     prey
 }
 
@@ -102,44 +87,36 @@ pub fn kill(rules: &Rules<'_>, order: Order, play: &mut Play<'_>) -> Next
     ensures row { DoneByRows kill_rows rules.now order play.old play.new result }
 {
     let x = order.object;
-    if rules.is(x, Named::Bird) {
-        if play.state.closing.is_closed {
-            return Next::say(Role::BirdNo, play);
-        }
+    let is_closed = play.state.closing.is_closed;
+    let role = if rules.is(x, Named::Bird) && is_closed {
+        Role::BirdNo
+    } else if rules.is(x, Named::Bird) {
         play.state.destroy(x);
         play.state.objects.set_prop(x, Prop::new(0));
         lose(rules, play.state);
-        return Next::say(Role::BirdDead, play);
-    }
-    if rules.is(x, Named::Clam) || rules.is(x, Named::Oyster) {
-        return Next::say(Role::Shell, play);
-    }
-    if rules.is(x, Named::Snake) {
-        return Next::say(Role::SnakeNo, play);
-    }
-    if rules.is(x, Named::Dwarf) {
-        if play.state.closing.is_closed {
-            return Next::disturb(play);
-        }
-        return Next::say(Role::WithWhat, play);
-    }
-    if rules.is(x, Named::Dragon) {
-        if has_prop(play.state, x, 0) {
-            return Next::Ask(Question::Dragon);
-        }
-        return Next::say(Role::DeadAlready, play);
-    }
-    if rules.is(x, Named::Troll) {
-        return Next::say(Role::TrollNo, play);
-    }
-    if rules.is(x, Named::Bear) {
-        if has_prop(play.state, x, 0) {
-            return Next::say(Role::BearFight, play);
-        }
-        if has_prop(play.state, x, 3) {
-            return Next::say(Role::DeadAlready, play);
-        }
-        return Next::say(Role::BearFriend, play);
-    }
-    order.say_default(rules, play)
+        Role::BirdDead
+    } else if rules.is(x, Named::Clam) || rules.is(x, Named::Oyster) {
+        Role::Shell
+    } else if rules.is(x, Named::Snake) {
+        Role::SnakeNo
+    } else if rules.is(x, Named::Dwarf) && is_closed {
+        return Next::disturb(play);
+    } else if rules.is(x, Named::Dwarf) {
+        Role::WithWhat
+    } else if rules.is(x, Named::Dragon) && has_prop(play.state, x, 0) {
+        return Next::Ask(Question::Dragon);
+    } else if rules.is(x, Named::Dragon) {
+        Role::DeadAlready
+    } else if rules.is(x, Named::Troll) {
+        Role::TrollNo
+    } else if rules.is(x, Named::Bear) && has_prop(play.state, x, 0) {
+        Role::BearFight
+    } else if rules.is(x, Named::Bear) && has_prop(play.state, x, 3) {
+        Role::DeadAlready
+    } else if rules.is(x, Named::Bear) {
+        Role::BearFriend
+    } else {
+        return order.say_default(rules, play);
+    };
+    Next::say(role, play)
 }

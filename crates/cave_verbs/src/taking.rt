@@ -55,19 +55,17 @@ pub fn take(rules: &Rules<'_>, order: Order, play: &mut Play<'_>) -> Step
     if is_in_hand(rules, play.state, x) {
         return Step::Done(order.say_default(rules, play));
     }
-    if is_fixed(play.state, x) && rules.is(x, Named::Plant) && has_prop_up_to(play.state, x, 0) {
-        return Step::Done(Next::say(Role::PlantRoots, play));
-    }
-    if is_fixed(play.state, x) && rules.is(x, Named::Bear) && has_prop(play.state, x, 1) {
-        return Step::Done(Next::say(Role::BearChained, play));
-    }
-    if is_fixed(play.state, x)
-        && rules.is(x, Named::Chain)
-        && has_other_prop(play.state, rules.object(Named::Bear), 0)
-    {
-        return Step::Done(Next::say(Role::ChainLocked, play));
-    }
     if is_fixed(play.state, x) {
+        let bear = rules.object(Named::Bear);
+        if rules.is(x, Named::Plant) && has_prop_up_to(play.state, x, 0) {
+            return Step::Done(Next::say(Role::PlantRoots, play));
+        }
+        if rules.is(x, Named::Bear) && has_prop(play.state, x, 1) {
+            return Step::Done(Next::say(Role::BearChained, play));
+        }
+        if rules.is(x, Named::Chain) && has_other_prop(play.state, bear, 0) {
+            return Step::Done(Next::say(Role::ChainLocked, play));
+        }
         return Step::Done(Next::say(Role::Immovable, play));
     }
     if is_liquid(x, liquid(rules, play.state)) && is_near(rules, play.state, bottle) {
@@ -95,6 +93,7 @@ fn take_freely(rules: &Rules<'_>, order: Order, play: &mut Play<'_>) -> Next
     ensures row { DoneByRows free_take_rows rules.now order play.old play.new result }
 {
     let x = order.object;
+    let bird = rules.object(Named::Bird);
     if rules.is(x, Named::Bird) {
         let cage = rules.object(Named::Cage);
         if has_prop(play.state, x, 0) {
@@ -105,18 +104,10 @@ fn take_freely(rules: &Rules<'_>, order: Order, play: &mut Play<'_>) -> Next
                 return Next::say(Role::NoCage, play);
             }
             play.state.objects.set_prop(x, Prop::new(1));
-            play.state.carry(cage);
-            play.state.carry(x);
-            return Next::say(Role::Ok, play);
         }
         play.state.carry(cage);
-        play.state.carry(x);
-        return Next::say(Role::Ok, play);
-    }
-    if rules.is(x, Named::Cage) && has_other_prop(play.state, rules.object(Named::Bird), 0) {
-        play.state.carry(rules.object(Named::Bird));
-        play.state.carry(x);
-        return Next::say(Role::Ok, play);
+    } else if rules.is(x, Named::Cage) && has_other_prop(play.state, bird, 0) {
+        play.state.carry(bird);
     }
     play.state.carry(x);
     Next::say(Role::Ok, play)
