@@ -1,5 +1,5 @@
 -- The actions that have rules of their own, and their numbers in a database.
-use Rattle.std.specs.Prelude.{◌≡◌, ℕ, Bool, ◌==◌, Option, Some, None, Result, MatchResult}
+use Rattle.std.specs.Prelude.{◌≡◌, ℕ, Bool, ◌==◌, List, Option, Some, None, Result, MatchResult}
 use Rattle.std.specs.List.{find}
 use Rattle.cave_verbs.specs.declared.verb.NoRules.{NoRules}
 use Rattle.cave_verbs.specs.declared.verb.TheConstants.{EACH_VERB}
@@ -40,9 +40,13 @@ verb_number verb.Wake = 29
 abbrev pub is_verb : Verb → Verb → Bool
 is_verb v other = verb_number v == verb_number other
 
+-- the first of some verbs with a number
+unfoldable pub verb_among : List Verb → ℕ → Option Verb
+verb_among verbs number = find (λ v. verb_number v == number) verbs
+
 -- the verb of a number, if it has rules
 unfoldable pub verb_of : ℕ → Option Verb
-verb_of number = find (λ v. verb_number v == number) EACH_VERB
+verb_of number = verb_among EACH_VERB number
 
 abbrev pub IsVerbOf : ℕ → Result Verb NoRules → Type 0
 IsVerbOf number r = MatchResult r (λ v. verb_of number ≡ Some v) (λ e. verb_of number ≡ None)

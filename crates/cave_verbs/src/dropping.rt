@@ -1,10 +1,9 @@
 ghost use Rattle.std.specs.Prelude.{◌≤◌, IsTrue};
 ghost use Rattle.cave_words.specs.declared.named.Named.TheVariants as name;
-ghost use Rattle.cave_scene.specs.Rules.{is_called};
+ghost use Rattle.cave_scene.specs.Rules.{is_called, cave_of, thing};
 ghost use Rattle.cave_things.specs.Reach.{is_in_hand, is_near};
 ghost use Rattle.cave_scene.specs.Bounds.{HasRoom, parts_of_row};
 ghost use Rattle.cave_verbs.specs.Rows.{ByRows, DoneByRows};
-ghost use Rattle.cave_scene.specs.Rules.{cave_of, thing};
 ghost use Rattle.cave_verbs.specs.Ranks.{rank_of, drop_rank};
 ghost use Rattle.cave_verbs.specs.Dropping.{drop_rows};
 

@@ -36,51 +36,43 @@ pub fn feed(rules: &Rules<'_>, order: Order, play: &mut Play<'_>) -> Next
     let bird = rules.object(Named::Bird);
     let food = rules.object(Named::Food);
     let axe = rules.object(Named::Axe);
-    if rules.is(x, Named::Bird) {
-        return Next::say(Role::BirdFeed, play);
-    }
-    if rules.is(x, Named::Snake)
+    let role = if rules.is(x, Named::Bird) {
+        Role::BirdFeed
+    } else if rules.is(x, Named::Snake)
         && !play.state.closing.is_closed
         && is_near(rules, play.state, bird)
     {
         play.state.destroy(bird);
         play.state.objects.set_prop(bird, Prop::new(0));
         lose_one(play.state);
-        return Next::say(Role::BirdEaten, play);
-    }
-    if rules.is(x, Named::Dragon) && has_other_prop(play.state, x, 0) {
-        return Next::say(Role::Ridiculous, play);
-    }
-    if rules.is(x, Named::Snake) || rules.is(x, Named::Dragon) {
-        return Next::say(Role::NotHungry, play);
-    }
-    if rules.is(x, Named::Troll) {
-        return Next::say(Role::TrollFeed, play);
-    }
-    if rules.is(x, Named::Dwarf) {
-        if !is_near(rules, play.state, food) {
-            return order.say_default(rules, play);
-        }
+        Role::BirdEaten
+    } else if rules.is(x, Named::Dragon) && has_other_prop(play.state, x, 0) {
+        Role::Ridiculous
+    } else if rules.is(x, Named::Snake) || rules.is(x, Named::Dragon) {
+        Role::NotHungry
+    } else if rules.is(x, Named::Troll) {
+        Role::TrollFeed
+    } else if rules.is(x, Named::Dwarf) && is_near(rules, play.state, food) {
         play.state.dwarves.anger = play.state.dwarves.anger.up();
-        return Next::say(Role::DwarfFeed, play);
-    }
-    if !rules.is(x, Named::Bear) {
-        return Next::say(Role::FeedWhat, play);
-    }
-    if is_near(rules, play.state, food) {
+        Role::DwarfFeed
+    } else if rules.is(x, Named::Dwarf) {
+        return order.say_default(rules, play);
+    } else if !rules.is(x, Named::Bear) {
+        Role::FeedWhat
+    } else if is_near(rules, play.state, food) {
         play.state.destroy(food);
         play.state.objects.set_prop(x, Prop::new(1));
         play.state.objects.anchor_to(axe, Anchor::Loose);
         play.state.objects.set_prop(axe, Prop::new(0));
-        return Next::say(Role::BearFed, play);
-    }
-    if has_prop(play.state, x, 0) {
-        return Next::say(Role::NotHungry, play);
-    }
-    if has_prop(play.state, x, 3) {
-        return Next::say(Role::Ridiculous, play);
-    }
-    order.say_default(rules, play)
+        Role::BearFed
+    } else if has_prop(play.state, x, 0) {
+        Role::NotHungry
+    } else if has_prop(play.state, x, 3) {
+        Role::Ridiculous
+    } else {
+        return order.say_default(rules, play);
+    };
+    Next::say(role, play)
 }
 
 /// EAT without an object.

@@ -4,8 +4,7 @@ ghost use Rattle.cave_scene.specs.Play.{scene_of, GoesOn};
 ghost use Rattle.cave_scene.specs.Rules.{cave_of};
 ghost use Rattle.cave_verbs.specs.declared.next.Next.TheVariants.{Stay};
 ghost use Rattle.cave_verbs.specs.Finding.{find_rows, bare_inventory_rows, is_in_inventory};
-ghost use Rattle.cave_verbs.specs.Finding.{listed_up_to};
-ghost use Rattle.cave_verbs.specs.Finding.{after_naming, after_telling_bear};
+ghost use Rattle.cave_verbs.specs.Finding.{listed_up_to, after_naming, after_telling_bear};
 ghost use Rattle.cave_verbs.specs.Rows.{DoneByRows};
 
 use crate::next::Next;
@@ -26,21 +25,21 @@ pub fn find(rules: &Rules<'_>, order: Order, play: &mut Play<'_>) -> Next
     ensures row { DoneByRows find_rows rules.now order play.old play.new result }
 {
     let x = order.object;
-    if is_in_hand(rules, play.state, x) {
-        return Next::say(Role::HeldIt, play);
-    }
-    if play.state.closing.is_closed {
-        return Next::say(Role::Around, play);
-    }
-    if play.state.is_here(x)
+    let role = if is_in_hand(rules, play.state, x) {
+        Role::HeldIt
+    } else if play.state.closing.is_closed {
+        Role::Around
+    } else if play.state.is_here(x)
         || is_liquid(x, liquid(rules, play.state))
             && play.state.is_here(rules.object(Named::Bottle))
         || is_liquid(x, lake(rules, play.state))
         || rules.is(x, Named::Dwarf) && is_dwarf_here(play.state)
     {
-        return Next::say(Role::HereIt, play);
-    }
-    order.say_default(rules, play)
+        Role::HereIt
+    } else {
+        return order.say_default(rules, play);
+    };
+    Next::say(role, play)
 }
 
 fn is_in_inventory(rules: &Rules<'_>, state: &State, object: Object) -> bool

@@ -1,12 +1,9 @@
-ghost use Rattle.std.specs.Prelude.{◌≡◌, ◌≤◌, ◌||◌, false, IsTrue};
+ghost use Rattle.std.specs.Prelude.{◌≡◌, ◌≤◌, ◌||◌, IsTrue};
 ghost use Rattle.cave_words.specs.declared.named.Named.TheVariants as name;
-ghost use Rattle.cave_scene.specs.Rules.{is_called};
+ghost use Rattle.cave_scene.specs.Rules.{is_called, cave_of};
 ghost use Rattle.cave_scene.specs.Bounds.{HasRoom, parts_of_row};
 ghost use Rattle.cave_verbs.specs.Rows.{ByRows, DoneByRows};
-ghost use Rattle.cave_scene.specs.Rules.{cave_of};
 ghost use Rattle.cave_verbs.specs.Ranks.{rank_of};
-ghost use Rattle.cave_verbs.specs.Verbs.{is_verb};
-ghost use Rattle.cave_verbs.specs.declared.verb.Verb.TheVariants as verb;
 ghost use Rattle.cave_verbs.specs.Opening.{after_sending, bare_open_rows, chain_rows, lock_meant};
 ghost use Rattle.cave_verbs.specs.Opening.{lock_rows, open_rows, opens_or_locks};
 
@@ -89,31 +86,29 @@ fn open_shell(rules: &Rules<'_>, order: Order, play: &mut Play<'_>) -> Next
     ensures row { DoneByRows open_rows rules.now order play.old play.new result }
 {
     let x = order.object;
-    if order.verb.is(Verb::Lock) {
-        return Next::say(Role::LockWhat, play);
-    }
+    let is_clam = rules.is(x, Named::Clam);
     let has_trident = is_in_hand(rules, play.state, rules.object(Named::Trident));
-    if !rules.is(x, Named::Clam) {
-        if !has_trident {
-            return Next::say(Role::OysterTool, play);
-        }
-        if is_in_hand(rules, play.state, x) {
-            return Next::say(Role::OysterHeld, play);
-        }
-        return Next::say(Role::OysterOpen, play);
-    }
-    if !has_trident {
-        return Next::say(Role::ClamTool, play);
-    }
-    if is_in_hand(rules, play.state, x) {
-        return Next::say(Role::ClamHeld, play);
-    }
-    play.state.destroy(x);
-    let here = play.state.trail.here;
-    play.state.move_to(rules.object(Named::Oyster), here);
-    let culdesac = place_named(rules.cave, PlaceRole::Culdesac);
-    send(rules.object(Named::Pearl), culdesac, play.state);
-    Next::say(Role::Pearl, play)
+    let role = if order.verb.is(Verb::Lock) {
+        Role::LockWhat
+    } else if is_clam && !has_trident {
+        Role::ClamTool
+    } else if !has_trident {
+        Role::OysterTool
+    } else if is_clam && is_in_hand(rules, play.state, x) {
+        Role::ClamHeld
+    } else if is_in_hand(rules, play.state, x) {
+        Role::OysterHeld
+    } else if is_clam {
+        play.state.destroy(x);
+        let here = play.state.trail.here;
+        play.state.move_to(rules.object(Named::Oyster), here);
+        let culdesac = place_named(rules.cave, PlaceRole::Culdesac);
+        send(rules.object(Named::Pearl), culdesac, play.state);
+        Role::Pearl
+    } else {
+        Role::OysterOpen
+    };
+    Next::say(role, play)
 }
 
 /// OPEN or LOCK the grate, with the keys.
@@ -124,107 +119,90 @@ fn open_grate(rules: &Rules<'_>, order: Order, play: &mut Play<'_>) -> Next
     ensures row { DoneByRows lock_rows rules.now order play.old play.new result }
 {
     let x = order.object;
-    if play.state.closing.is_closing {
+    let is_opening = order.verb.is(Verb::Open);
+    let role = if play.state.closing.is_closing {
         panic(play.state);
-        return Next::say(Role::ClosingExit, play);
-    }
-    if order.verb.is(Verb::Open) {
-        if has_prop(play.state, x, 0) {
-            play.state.objects.set_prop(x, Prop::new(1));
-            return Next::say(Role::Unlocked, play);
-        }
-        return Next::say(Role::WasUnlocked, play);
-    }
-    if has_prop(play.state, x, 0) {
-        return Next::say(Role::WasLocked, play);
-    }
-    play.state.objects.set_prop(x, Prop::new(0));
-    Next::say(Role::Locked, play)
+        Role::ClosingExit
+    } else if is_opening && has_prop(play.state, x, 0) {
+        play.state.objects.set_prop(x, Prop::new(1));
+        Role::Unlocked
+    } else if is_opening {
+        Role::WasUnlocked
+    } else if has_prop(play.state, x, 0) {
+        Role::WasLocked
+    } else {
+        play.state.objects.set_prop(x, Prop::new(0));
+        Role::Locked
+    };
+    Next::say(role, play)
 }
 
-/// OPEN the chain, with the keys.
+/// OPEN or LOCK the chain, with the keys.
 #[tactic(auto, unfolding(crate::specs::Opening::chain_rows))]
-fn unlock_chain(rules: &Rules<'_>, order: Order, play: &mut Play<'_>) -> Next
+fn open_chain(rules: &Rules<'_>, order: Order, play: &mut Play<'_>) -> Next
     requires room { HasRoom parts_of_row play.old }
-    requires opening { IsTrue (is_verb order.verb verb.Open) }
     requires chain { IsTrue (is_called (cave_of rules.now) order.object name.Chain) }
     ensures row { DoneByRows chain_rows rules.now order play.old play.new result }
 {
     let x = order.object;
     let bear = rules.object(Named::Bear);
-    if has_prop(play.state, x, 0) {
-        return Next::say(Role::WasUnlocked, play);
-    }
-    if has_prop(play.state, bear, 0) {
-        return Next::say(Role::BearBars, play);
-    }
-    if has_prop(play.state, bear, 3) {
+    let is_opening = order.verb.is(Verb::Open);
+    let role = if is_opening && has_prop(play.state, x, 0) {
+        Role::WasUnlocked
+    } else if is_opening && has_prop(play.state, bear, 0) {
+        Role::BearBars
+    } else if is_opening && has_prop(play.state, bear, 3) {
         play.state.objects.set_prop(x, Prop::new(0));
         play.state.objects.anchor_to(x, Anchor::Loose);
         play.state.objects.anchor_to(bear, Anchor::Fixed);
-        return Next::say(Role::ChainFree, play);
-    }
-    play.state.objects.set_prop(x, Prop::new(0));
-    play.state.objects.anchor_to(x, Anchor::Loose);
-    play.state.objects.set_prop(bear, Prop::new(2));
-    play.state.objects.anchor_to(bear, Anchor::Loose);
-    Next::say(Role::ChainFree, play)
-}
-
-/// LOCK the chain, with the keys.
-#[tactic(auto, unfolding(crate::specs::Opening::chain_rows))]
-fn lock_chain(rules: &Rules<'_>, order: Order, play: &mut Play<'_>) -> Next
-    requires room { HasRoom parts_of_row play.old }
-    requires locking { is_verb order.verb verb.Open ≡ false }
-    requires chain { IsTrue (is_called (cave_of rules.now) order.object name.Chain) }
-    ensures row { DoneByRows chain_rows rules.now order play.old play.new result }
-{
-    let x = order.object;
-    if is_home_elsewhere(rules, play.state, x) {
-        return Next::say(Role::NoLockHere, play);
-    }
-    if has_other_prop(play.state, x, 0) {
-        return Next::say(Role::WasLocked, play);
-    }
-    let_go(rules, x, play.state);
-    play.state.objects.set_prop(x, Prop::new(2));
-    play.state.objects.anchor_to(x, Anchor::Fixed);
-    Next::say(Role::ChainLock, play)
+        Role::ChainFree
+    } else if is_opening {
+        play.state.objects.set_prop(x, Prop::new(0));
+        play.state.objects.anchor_to(x, Anchor::Loose);
+        play.state.objects.set_prop(bear, Prop::new(2));
+        play.state.objects.anchor_to(bear, Anchor::Loose);
+        Role::ChainFree
+    } else if is_home_elsewhere(rules, play.state, x) {
+        Role::NoLockHere
+    } else if has_other_prop(play.state, x, 0) {
+        Role::WasLocked
+    } else {
+        let_go(rules, x, play.state);
+        play.state.objects.set_prop(x, Prop::new(2));
+        play.state.objects.anchor_to(x, Anchor::Fixed);
+        Role::ChainLock
+    };
+    Next::say(role, play)
 }
 
 /// OPEN or LOCK an object.
-#[tactic(auto, unfolding(crate::specs::Opening::open_rows, crate::specs::Opening::lock_rows))]
+#[tactic(auto, unfolding(crate::specs::Opening::open_rows, crate::specs::Opening::lock_rows, crate::specs::Opening::chain_rows))]
 pub fn open(rules: &Rules<'_>, order: Order, play: &mut Play<'_>) -> Next
     requires { HasRoom parts_of_row play.old }
     ensures row { DoneByRows open_rows rules.now order play.old play.new result }
 {
     let x = order.object;
-    if rules.is(x, Named::Clam) || rules.is(x, Named::Oyster) {
+    let is_grate = rules.is(x, Named::Grate);
+    let is_chain = rules.is(x, Named::Chain);
+    let has_keys = is_near(rules, play.state, rules.object(Named::Keys));
+    let role = if rules.is(x, Named::Clam) || rules.is(x, Named::Oyster) {
         return open_shell(rules, order, play);
-    }
-    if rules.is(x, Named::Door) {
-        if has_prop(play.state, x, 1) {
-            return Next::say(Role::Ok, play);
-        }
-        return Next::say(Role::Rusty, play);
-    }
-    if rules.is(x, Named::Cage) {
-        return Next::say(Role::NoLatch, play);
-    }
-    if rules.is(x, Named::Keys) {
-        return Next::say(Role::KeysWhat, play);
-    }
-    if !rules.is(x, Named::Grate) && !rules.is(x, Named::Chain) {
-        return order.say_default(rules, play);
-    }
-    if !is_near(rules, play.state, rules.object(Named::Keys)) {
-        return Next::say(Role::NoKeys, play);
-    }
-    if rules.is(x, Named::Grate) {
+    } else if rules.is(x, Named::Door) && has_prop(play.state, x, 1) {
+        Role::Ok
+    } else if rules.is(x, Named::Door) {
+        Role::Rusty
+    } else if rules.is(x, Named::Cage) {
+        Role::NoLatch
+    } else if rules.is(x, Named::Keys) {
+        Role::KeysWhat
+    } else if (is_grate || is_chain) && !has_keys {
+        Role::NoKeys
+    } else if is_grate {
         return open_grate(rules, order, play);
-    }
-    if order.verb.is(Verb::Open) {
-        return unlock_chain(rules, order, play);
-    }
-    lock_chain(rules, order, play)
+    } else if is_chain {
+        return open_chain(rules, order, play);
+    } else {
+        return order.say_default(rules, play);
+    };
+    Next::say(role, play)
 }

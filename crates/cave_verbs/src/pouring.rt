@@ -1,11 +1,8 @@
-ghost use Rattle.std.specs.Prelude.{◌≡◌, ◌+◌, ◌≤◌, ◌+ℤ◌, pos, int_div, [], IsTrue};
+ghost use Rattle.std.specs.Prelude.{◌≡◌, ◌+◌, ◌≤◌, ◌+ℤ◌, pos, int_div, []};
 ghost use Rattle.std.specs.Int.{int_rem_euclid};
-ghost use Rattle.cave_words.specs.declared.named.Named.TheVariants as name;
-ghost use Rattle.cave_scene.specs.Rules.{is_called};
 ghost use Rattle.cave_scene.specs.Bounds.{HasRoom, parts_of_row};
-ghost use Rattle.cave_verbs.specs.Rows.{ByRows, DoneByRow, DoneByRows};
+ghost use Rattle.cave_verbs.specs.Rows.{ByRows, DoneByRow, DoneByRows, row_then, again};
 ghost use Rattle.cave_scene.specs.Rules.{cave_of};
-ghost use Rattle.cave_verbs.specs.Rows.{row_then, again};
 ghost use Rattle.cave_verbs.specs.Ranks.{rank_of};
 ghost use Rattle.cave_verbs.specs.Pouring.{poured_of, plant_watered, pour_rows, drink_rows};
 ghost use Rattle.cave_verbs.specs.Pouring.{bare_fill_rows, fill_rows};
@@ -147,27 +144,6 @@ pub fn fill_what(rules: &Rules<'_>, order: Order, play: &mut Play<'_>) -> Step
     Step::Done(order.ask_what(rules, play))
 }
 
-/// The vase breaks if it is filled.
-#[tactic(auto, unfolding(crate::specs::Pouring::fill_rows))]
-fn fill_vase(rules: &Rules<'_>, order: Order, play: &mut Play<'_>) -> Next
-    requires room { HasRoom parts_of_row play.old }
-    requires vase { IsTrue (is_called (cave_of rules.now) order.object name.Vase) }
-    ensures row { DoneByRows fill_rows rules.now order play.old play.new result }
-{
-    let x = order.object;
-    if lake(rules, play.state).is_none() {
-        return Next::say(Role::VaseDry, play);
-    }
-    if !is_in_hand(rules, play.state, x) {
-        return Next::say(Role::NotHeld, play);
-    }
-    play.state.objects.set_prop(x, Prop::new(2));
-    play.state.objects.anchor_to(x, Anchor::Fixed);
-    let here = play.state.trail.here;
-    play.state.move_to(x, here);
-    Next::say(Role::VaseBreak, play)
-}
-
 /// FILL an object.
 #[tactic(auto, unfolding(crate::specs::Pouring::fill_rows))]
 pub fn fill(rules: &Rules<'_>, order: Order, play: &mut Play<'_>) -> Next
@@ -175,22 +151,30 @@ pub fn fill(rules: &Rules<'_>, order: Order, play: &mut Play<'_>) -> Next
     ensures row { DoneByRows fill_rows rules.now order play.old play.new result }
 {
     let x = order.object;
-    if rules.is(x, Named::Vase) {
-        return fill_vase(rules, order, play);
-    }
-    if !rules.is(x, Named::Bottle) {
-        return order.say_default(rules, play);
-    }
-    if liquid(rules, play.state).is_some() {
-        return Next::say(Role::BottleFull, play);
-    }
-    if lake(rules, play.state).is_none() {
-        return Next::say(Role::NoLake, play);
-    }
-    if is_liquid(rules.object(Named::Oil), lake(rules, play.state)) {
+    let is_vase = rules.is(x, Named::Vase);
+    let lake_here = lake(rules, play.state);
+    let role = if is_vase && lake_here.is_none() {
+        Role::VaseDry
+    } else if is_vase && !is_in_hand(rules, play.state, x) {
+        Role::NotHeld
+    } else if is_vase {
         play.state.objects.set_prop(x, Prop::new(2));
-        return Next::say(Role::FilledOil, play);
-    }
-    play.state.objects.set_prop(x, Prop::new(0));
-    Next::say(Role::FilledWater, play)
+        play.state.objects.anchor_to(x, Anchor::Fixed);
+        let here = play.state.trail.here;
+        play.state.move_to(x, here);
+        Role::VaseBreak
+    } else if !rules.is(x, Named::Bottle) {
+        return order.say_default(rules, play);
+    } else if liquid(rules, play.state).is_some() {
+        Role::BottleFull
+    } else if lake_here.is_none() {
+        Role::NoLake
+    } else if is_liquid(rules.object(Named::Oil), lake_here) {
+        play.state.objects.set_prop(x, Prop::new(2));
+        Role::FilledOil
+    } else {
+        play.state.objects.set_prop(x, Prop::new(0));
+        Role::FilledWater
+    };
+    Next::say(role, play)
 }

@@ -72,22 +72,19 @@ pub fn read(rules: &Rules<'_>, order: Order, play: &mut Play<'_>) -> Next
         play.tell(Part::Word(WordLine::NotSeen, order.word));
         return Next::Stay;
     }
-    if rules.is(x, Named::Magazine) {
-        return Next::say(Role::ReadMagazine, play);
-    }
-    if rules.is(x, Named::Tablet) {
-        return Next::say(Role::ReadTablet, play);
-    }
-    if rules.is(x, Named::Message) {
-        return Next::say(Role::ReadMessage, play);
-    }
-    if rules.is(x, Named::Oyster) && is_in_hand(rules, play.state, x) {
-        if play.state.is_hint_taken(HintNumber::new(OYSTER_HINT)) {
-            return Next::say(Role::ReadOyster, play);
-        }
-        if play.state.closing.is_closed {
-            return Next::Ask(Question::Oyster);
-        }
-    }
-    order.say_default(rules, play)
+    let is_oyster_held = rules.is(x, Named::Oyster) && is_in_hand(rules, play.state, x);
+    let role = if rules.is(x, Named::Magazine) {
+        Role::ReadMagazine
+    } else if rules.is(x, Named::Tablet) {
+        Role::ReadTablet
+    } else if rules.is(x, Named::Message) {
+        Role::ReadMessage
+    } else if is_oyster_held && play.state.is_hint_taken(HintNumber::new(OYSTER_HINT)) {
+        Role::ReadOyster
+    } else if is_oyster_held && play.state.closing.is_closed {
+        return Next::Ask(Question::Oyster);
+    } else {
+        return order.say_default(rules, play);
+    };
+    Next::say(role, play)
 }

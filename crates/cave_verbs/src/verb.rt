@@ -1,6 +1,6 @@
 //! The actions that have rules of their own.
 ghost use Rattle.std.specs.Prelude.{◌≡◌};
-ghost use Rattle.cave_verbs.specs.Verbs.{IsVerbOf, is_verb, verb_number};
+ghost use Rattle.cave_verbs.specs.Verbs.{IsVerbOf, is_verb, verb_among, verb_number};
 
 /// An action that has rules of its own, with its number in a database.
 #[derive(Clone, Copy, Debug, PartialEq, Eq)]
@@ -87,6 +87,14 @@ impl Verb {
     }
 }
 
+/// The first verb with a number, if one has it.
+#[tactic(auto, unfolding(crate::specs::Verbs::verb_among))]
+fn verb_among(verbs: &[Verb], number: u16) -> Option<Verb>
+    ensures { result ≡ verb_among verbs.now number }
+{
+    verbs.iter().copied().find(|verb| verb.number() == number)
+}
+
 impl TryFrom<u16> for Verb {
     type Error = NoRules;
 
@@ -94,10 +102,6 @@ impl TryFrom<u16> for Verb {
 
     #[tactic(auto, unfolding(crate::specs::Verbs::verb_of))]
     fn try_from(number: u16) -> Result<Verb, NoRules> {
-        EACH_VERB
-            .iter()
-            .copied()
-            .find(|verb| verb.number() == number)
-            .ok_or(NoRules)
+        verb_among(&EACH_VERB, number).ok_or(NoRules)
     }
 }
