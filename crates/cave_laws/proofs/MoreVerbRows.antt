@@ -1,5 +1,5 @@
 -- The rows of verbs, from OPEN to RUB, keep each claim.
-use Rattle.cave_verbs.specs.Opening.{bare_open_rows, open_rows}
+use Rattle.cave_verbs.specs.Opening.{bare_open_rows, chain_rows, lock_rows, open_rows}
 use Rattle.cave_verbs.specs.Pouring.{pour_rows, drink_rows, bare_fill_rows, fill_rows}
 use Rattle.cave_verbs.specs.Reading.{bare_read_rows, read_rows}
 use Rattle.cave_verbs.specs.Small.{bare_rows, other_rows, nothing_rows, bare_quit_rows}
@@ -16,7 +16,7 @@ unfolding bare_open_rows
 bare_open_rows_kept P = rows_kept P bare_open_rows (search ordinary parts 60)
 
 pub open_rows_kept : (P : Claim) → KeepsRows P open_rows
-unfolding open_rows
+unfolding open_rows lock_rows chain_rows
 open_rows_kept P = rows_kept P open_rows (search ordinary parts 60)
 
 pub pour_rows_kept : (P : Claim) → KeepsRows P pour_rows
@@ -102,30 +102,3 @@ wave_rows_kept P = rows_kept P wave_rows (search ordinary parts 60)
 pub rub_rows_kept : (P : Claim) → KeepsRows P rub_rows
 unfolding rub_rows
 rub_rows_kept P = rows_kept P rub_rows (search ordinary parts 60)
-
--- the rows of all these verbs
-pub ruleset more_verb_rows_kept = (
-  bare_open_rows_kept,
-  open_rows_kept,
-  pour_rows_kept,
-  drink_rows_kept,
-  bare_fill_rows_kept,
-  fill_rows_kept,
-  bare_read_rows_kept,
-  read_rows_kept,
-  bare_rows_kept,
-  other_rows_kept,
-  nothing_rows_kept,
-  bare_quit_rows_kept,
-  bare_score_rows_kept,
-  bare_brief_rows_kept,
-  bare_take_rows_kept,
-  free_take_rows_kept,
-  take_rows_kept,
-  throw_rows_kept,
-  miss_rows_kept,
-  hit_rows_kept,
-  axe_rows_kept,
-  wave_rows_kept,
-  rub_rows_kept,
-)

@@ -24,7 +24,7 @@ use Rattle.cave_verbs.specs.Finding.{find_rows, bare_inventory_rows}
 use Rattle.cave_verbs.specs.Killing.{bare_kill_rows, kill_rows}
 use Rattle.cave_verbs.specs.Light.{on_rows, off_rows}
 use Rattle.cave_verbs.specs.Magic.{bare_foo_rows}
-use Rattle.cave_verbs.specs.Opening.{bare_open_rows, open_rows}
+use Rattle.cave_verbs.specs.Opening.{bare_open_rows, chain_rows, lock_rows, open_rows}
 use Rattle.cave_verbs.specs.Pouring.{pour_rows, drink_rows, bare_fill_rows, fill_rows}
 use Rattle.cave_verbs.specs.Reading.{bare_read_rows, read_rows}
 use Rattle.cave_verbs.specs.Small.{bare_rows, other_rows, nothing_rows, bare_quit_rows}
@@ -163,7 +163,7 @@ module _ {P : Claim} (k : IsPlayed P) where
   bare_open_rows_kept = search effects parts 40
 
   pub open_rows_kept : KeepsRows P open_rows
-  unfolding open_rows
+  unfolding open_rows lock_rows chain_rows
   open_rows_kept = search effects parts 40
 
   pub pour_rows_kept : KeepsRows P pour_rows

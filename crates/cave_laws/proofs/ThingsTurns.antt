@@ -23,9 +23,11 @@ use Rattle.cave_things.specs.Reach.{is_in_hand}
 use Rattle.cave_scene.specs.Rules.{thing}
 use Rattle.cave_verbs.specs.Acting.{act, next_of_step}
 use Rattle.cave_verbs.specs.Deeds.{order_of}
+use Rattle.cave_verbs.specs.Verbs.{verb_of}
 use Rattle.cave_verbs.specs.declared.next.Next.{Next}
 use Rattle.cave_verbs.specs.declared.next.Next.TheVariants as next_is
 use Rattle.cave_verbs.specs.declared.order.Order.{Order}
+use Rattle.cave_verbs.specs.declared.verb.Verb.{Verb}
 use Rattle.cave_clocks.specs.Clocks.{timing_of_clocks}
 use Rattle.cave_clocks.specs.declared.clocks.Clocks.{Clocks}
 use Rattle.cave_clocks.specs.declared.clocks.Clocks.TheVariants as clocks
@@ -40,6 +42,7 @@ use Rattle.cave_hints.specs.Hints.{after_hints_up_to, after_hints}
 use Rattle.cave_moves.specs.Journeys.{journey_by_request}
 use Rattle.cave_turn.specs.Commands.{after_beginning, travel_scene, puzzled_scene, next_scene}
 use Rattle.cave_turn.specs.Commands.{WordsDone, words_done_by_verb, words_done_by_request}
+use Rattle.cave_turn.specs.Commands.{words_done_by_action}
 use Rattle.cave_turn.specs.Commands.{after_remembering, kept_scene, scene_of_understood}
 use Rattle.cave_turn.specs.Commands.{scene_of_words, knife_here}
 use Rattle.cave_turn.specs.Commands.{after_clocks, clocks_scene, command_scene}
@@ -60,6 +63,7 @@ use Rattle.cave_laws.proofs.ThingsFrame.{Claim, On, IsMoved, IsKept, choose, cho
 use Rattle.cave_laws.proofs.ThingsClocks.{clocks_kept}
 use Rattle.cave_laws.proofs.ThingsMoves.{looking_kept, arriving_kept, describing_kept, motion_kept}
 use Rattle.cave_laws.proofs.ThingsScores.{ended_kept, asking_kept}
+use Rattle.cave_laws.proofs.ThingsEffects.{said_kept}
 use Rattle.cave_laws.proofs.ThingsVerbs.{acted_kept}
 
 waited_kept : (P : Claim) (cave : CaveView) (n : ℕ) (s : State) → On P s
@@ -175,6 +179,14 @@ travelling_kept k cave motion p h =
     let j = journey_by_request cave motion p in
     arriving_kept k cave j.place j.scene (motion_kept k cave motion p h)
 
+-- an action is done, or what the cave says of it is said
+acting_if_kept : {Here : ℕ → Type 0} {P : Claim} (k : IsKept Here P) (cave : CaveView)
+    (o : Option Verb) (number x : ℕ) (word : List ℕ) (p : Scene) → Here p.state.trail.here
+    → On P p.state → On P (words_done_by_action cave o number x word p).scene.state
+acting_if_kept k cave (Some v) number x word p here h =
+    acting_kept k cave (order_of v x word) p here h
+acting_if_kept {Here} {P} k cave None number x word p here h = said_kept P cave number p h
+
 done_kept : {Here : ℕ → Type 0} {P : Claim} (k : IsKept Here P) (cave : CaveView)
     (half : HalfCommand) (r : Request) (p : Scene) → Here p.state.trail.here → On P p.state
     → On P (words_done_by_request cave half r p).scene.state
@@ -184,8 +196,8 @@ done_kept k cave half (request.Motion motion) p here h = travelling_kept k cave 
 done_kept k cave half (request.Tell told) p here h = h
 done_kept k cave half request.Knives p here h =
     (k.played.temper _ _ p.state.dwarves _ p.state.dwarves.anger knife.Vanished (here, h)).1
-done_kept k cave half (request.Act v x word) p here h =
-    acting_kept k cave (order_of v x word) p here h
+done_kept k cave half (request.Act number x word) p here h =
+    acting_if_kept k cave (verb_of number) number x word p here h
 done_kept k cave half (request.WhatToDo word) p here h = h
 
 remembering_kept : (P : Claim) (o : Option HalfCommand) (x : ℕ) (s : State) → On P s

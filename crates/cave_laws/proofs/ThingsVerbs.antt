@@ -1,5 +1,5 @@
 -- What verbs do keeps each claim that what happens in a game keeps.
-use Rattle.std.proofs.Common.{◌≡◌, ℕ, zero, suc, List, [], ◌∷◌, Bool, true, false, sym}
+use Rattle.std.proofs.Common.{◌≡◌, ℕ, zero, suc, Bool, true, false, sym}
 use Rattle.std.proofs.lemmas.Bool.{true≢false}
 use Rattle.std.specs.Prelude.{◌==◌, ◌&&◌, nat_le, take}
 use Rattle.std.specs.List.{list_any}
@@ -7,21 +7,34 @@ use Rattle.cave_data.specs.CaveView.{CaveView}
 use Rattle.cave_words.specs.Stream.{number_drawn}
 use Rattle.cave_things.specs.Reach.{is_dwarf_at, is_dwarf_here}
 use Rattle.cave_scene.specs.Play.{Scene}
-use Rattle.cave_verbs.specs.Acting.{Rule, act_by, bare_rules, object_rules, act_bare}
+use Rattle.cave_verbs.specs.Acting.{bare_rows_of, object_act, act_bare}
 use Rattle.cave_verbs.specs.Acting.{act_on, act_once, act_within}
 use Rattle.cave_verbs.specs.Acting.{act}
 use Rattle.cave_verbs.specs.Deeds.{Deed, Act, deed, going_on}
 use Rattle.cave_verbs.specs.Rows.{first_fitting}
+use Rattle.cave_verbs.specs.Blasting.{blast_rows}
+use Rattle.cave_verbs.specs.Breaking.{break_rows, wake_rows}
+use Rattle.cave_verbs.specs.Dropping.{drop_rows}
+use Rattle.cave_verbs.specs.Feeding.{feed_rows, eat_rows}
+use Rattle.cave_verbs.specs.Finding.{find_rows}
+use Rattle.cave_verbs.specs.Killing.{kill_rows}
+use Rattle.cave_verbs.specs.Light.{on_rows, off_rows}
+use Rattle.cave_verbs.specs.Opening.{open_rows}
+use Rattle.cave_verbs.specs.Pouring.{pour_rows, drink_rows, fill_rows}
+use Rattle.cave_verbs.specs.Reading.{read_rows}
+use Rattle.cave_verbs.specs.Small.{other_rows, nothing_rows}
+use Rattle.cave_verbs.specs.Waving.{wave_rows, rub_rows}
 use Rattle.cave_verbs.specs.Tests.{dwarf}
 use Rattle.cave_verbs.specs.declared.next.Step.{Step}
 use Rattle.cave_verbs.specs.declared.next.Step.TheVariants.{Done, GoOn}
 use Rattle.cave_verbs.specs.declared.order.Order.{Order}
-use Rattle.cave_verbs.specs.Small.{other_rows}
+use Rattle.cave_verbs.specs.declared.verb.Verb.{Verb}
+use Rattle.cave_verbs.specs.declared.verb.Verb.TheVariants as verb
 use Rattle.cave_verbs.specs.Throwing.{throw_rows, miss_rows, hit_rows, axe_rows, none_killed}
 use Rattle.cave_verbs.specs.Throwing.{axe_thrown_at_dwarf, axe_act, throw_act}
 use Rattle.cave_verbs.specs.Throwing.{after_one_draw}
 use Rattle.cave_laws.proofs.ThingsFrame.{Claim, On, IsPlayed, choose}
-use Rattle.cave_laws.proofs.ThingsEffects.{KeepsAct, KeepsRules}
+use Rattle.cave_laws.proofs.ThingsEffects.{KeepsAct, KeepsRows}
 use Rattle.cave_laws.proofs.ThingsEffects.{first_kept, first_or_kept}
 use Rattle.cave_laws.proofs.ThingsRows as rows
 
@@ -67,77 +80,78 @@ unfolding throw_act
 thrown_kept {P} k d h =
     first_or_kept P throw_rows axe_act (rows.throw_rows_kept k) (axe_kept k) d h
 
--- the rules of verbs keep a claim
-by_kept : {P : Claim} (k : IsPlayed P) (rules : List Rule) → KeepsRules P rules → (v : ℕ)
-    → KeepsAct P (act_by rules v)
-by_kept {P} k [] each v d h = first_kept P other_rows (rows.other_rows_kept k) d h
-by_kept {P} k (r ∷ rules) each v d h =
-    choose (λ (o : Act). On P o.scene.state) (v == r.verb) (r.act d) (act_by rules v d)
-    (λ _. each.0 d h) (λ _. by_kept k rules each.1 v d h)
+-- the rows of verbs without an object keep a claim
+bare_verb_kept : {P : Claim} (k : IsPlayed P) (v : Verb) → KeepsRows P (bare_rows_of v)
+bare_verb_kept k verb.Take = rows.bare_take_rows_kept k
+bare_verb_kept k verb.Drop = rows.bare_rows_kept k
+bare_verb_kept k verb.Say = rows.bare_rows_kept k
+bare_verb_kept k verb.Open = rows.bare_open_rows_kept k
+bare_verb_kept k verb.Nothing = rows.nothing_rows_kept k
+bare_verb_kept k verb.Lock = rows.bare_open_rows_kept k
+bare_verb_kept k verb.On = rows.on_rows_kept k
+bare_verb_kept k verb.Off = rows.off_rows_kept k
+bare_verb_kept k verb.Wave = rows.bare_rows_kept k
+bare_verb_kept k verb.Calm = rows.bare_rows_kept k
+bare_verb_kept k verb.Kill = rows.bare_kill_rows_kept k
+bare_verb_kept k verb.Pour = rows.pour_rows_kept k
+bare_verb_kept k verb.Eat = rows.bare_eat_rows_kept k
+bare_verb_kept k verb.Drink = rows.drink_rows_kept k
+bare_verb_kept k verb.Rub = rows.bare_rows_kept k
+bare_verb_kept k verb.Throw = rows.bare_rows_kept k
+bare_verb_kept k verb.Quit = rows.bare_quit_rows_kept k
+bare_verb_kept k verb.Find = rows.bare_rows_kept k
+bare_verb_kept k verb.Inventory = rows.bare_inventory_rows_kept k
+bare_verb_kept k verb.Feed = rows.bare_rows_kept k
+bare_verb_kept k verb.Fill = rows.bare_fill_rows_kept k
+bare_verb_kept k verb.Blast = rows.blast_rows_kept k
+bare_verb_kept k verb.Score = rows.bare_score_rows_kept k
+bare_verb_kept k verb.Foo = rows.bare_foo_rows_kept k
+bare_verb_kept k verb.Brief = rows.bare_brief_rows_kept k
+bare_verb_kept k verb.Read = rows.bare_read_rows_kept k
+bare_verb_kept k verb.Break = rows.bare_rows_kept k
+bare_verb_kept k verb.Wake = rows.bare_rows_kept k
 
--- the rules of verbs without an object keep a claim
-bare_rules_kept : {P : Claim} (k : IsPlayed P) → KeepsRules P bare_rules
-bare_rules_kept {P} k =
-    search (
-      first_kept P,
-      rows.bare_take_rows_kept k,
-      rows.bare_rows_kept k,
-      rows.bare_open_rows_kept k,
-      rows.nothing_rows_kept k,
-      rows.on_rows_kept k,
-      rows.off_rows_kept
-          k,
-      rows.bare_kill_rows_kept k,
-      rows.pour_rows_kept k,
-      rows.bare_eat_rows_kept k,
-      rows.drink_rows_kept k,
-      rows.bare_quit_rows_kept k,
-      rows.bare_inventory_rows_kept k,
-      rows.bare_fill_rows_kept k,
-      rows.blast_rows_kept k,
-      rows.bare_score_rows_kept k,
-      rows.bare_foo_rows_kept k,
-      rows.bare_brief_rows_kept k,
-      rows.bare_read_rows_kept k,
-    ) parts 40
-
--- the rules of verbs with an object keep a claim
-object_rules_kept : {P : Claim} (k : IsPlayed P) → KeepsRules P object_rules
-object_rules_kept {P} k =
-    search (
-      first_kept P,
-      k.takes,
-      thrown_kept k,
-      rows.drop_rows_kept k,
-      rows.open_rows_kept k,
-      rows.nothing_rows_kept k,
-      rows.on_rows_kept k,
-      rows.off_rows_kept k,
-      rows.wave_rows_kept k,
-      rows.kill_rows_kept k,
-      rows.pour_rows_kept k,
-      rows.eat_rows_kept k,
-      rows.drink_rows_kept k,
-      rows.rub_rows_kept k,
-      rows.find_rows_kept k,
-      rows.feed_rows_kept k,
-      rows.fill_rows_kept k,
-      rows.blast_rows_kept k,
-      rows.read_rows_kept k,
-      rows.break_rows_kept k,
-      rows.wake_rows_kept k,
-    )
-    parts 40
+-- what verbs do to an object keeps a claim
+object_verb_kept : {P : Claim} (k : IsPlayed P) (v : Verb) → KeepsAct P (object_act v)
+object_verb_kept k verb.Take d h = k.takes d h
+object_verb_kept {P} k verb.Drop d h = first_kept P drop_rows (rows.drop_rows_kept k) d h
+object_verb_kept {P} k verb.Open d h = first_kept P open_rows (rows.open_rows_kept k) d h
+object_verb_kept {P} k verb.Nothing d h = first_kept P nothing_rows (rows.nothing_rows_kept k) d h
+object_verb_kept {P} k verb.Lock d h = first_kept P open_rows (rows.open_rows_kept k) d h
+object_verb_kept {P} k verb.On d h = first_kept P on_rows (rows.on_rows_kept k) d h
+object_verb_kept {P} k verb.Off d h = first_kept P off_rows (rows.off_rows_kept k) d h
+object_verb_kept {P} k verb.Wave d h = first_kept P wave_rows (rows.wave_rows_kept k) d h
+object_verb_kept {P} k verb.Kill d h = first_kept P kill_rows (rows.kill_rows_kept k) d h
+object_verb_kept {P} k verb.Pour d h = first_kept P pour_rows (rows.pour_rows_kept k) d h
+object_verb_kept {P} k verb.Eat d h = first_kept P eat_rows (rows.eat_rows_kept k) d h
+object_verb_kept {P} k verb.Drink d h = first_kept P drink_rows (rows.drink_rows_kept k) d h
+object_verb_kept {P} k verb.Rub d h = first_kept P rub_rows (rows.rub_rows_kept k) d h
+object_verb_kept k verb.Throw d h = thrown_kept k d h
+object_verb_kept {P} k verb.Find d h = first_kept P find_rows (rows.find_rows_kept k) d h
+object_verb_kept {P} k verb.Inventory d h = first_kept P find_rows (rows.find_rows_kept k) d h
+object_verb_kept {P} k verb.Feed d h = first_kept P feed_rows (rows.feed_rows_kept k) d h
+object_verb_kept {P} k verb.Fill d h = first_kept P fill_rows (rows.fill_rows_kept k) d h
+object_verb_kept {P} k verb.Blast d h = first_kept P blast_rows (rows.blast_rows_kept k) d h
+object_verb_kept {P} k verb.Read d h = first_kept P read_rows (rows.read_rows_kept k) d h
+object_verb_kept {P} k verb.Break d h = first_kept P break_rows (rows.break_rows_kept k) d h
+object_verb_kept {P} k verb.Wake d h = first_kept P wake_rows (rows.wake_rows_kept k) d h
+object_verb_kept {P} k verb.Say d h = first_kept P other_rows (rows.other_rows_kept k) d h
+object_verb_kept {P} k verb.Calm d h = first_kept P other_rows (rows.other_rows_kept k) d h
+object_verb_kept {P} k verb.Quit d h = first_kept P other_rows (rows.other_rows_kept k) d h
+object_verb_kept {P} k verb.Score d h = first_kept P other_rows (rows.other_rows_kept k) d h
+object_verb_kept {P} k verb.Foo d h = first_kept P other_rows (rows.other_rows_kept k) d h
+object_verb_kept {P} k verb.Brief d h = first_kept P other_rows (rows.other_rows_kept k) d h
 
 -- a verb without an object keeps a claim
 bare_kept : {P : Claim} (k : IsPlayed P) → KeepsAct P act_bare
 unfolding act_bare
-bare_kept k d h = by_kept k bare_rules (bare_rules_kept k) d.order.verb d h
+bare_kept {P} k d h =
+    first_kept P (bare_rows_of d.order.verb) (bare_verb_kept k d.order.verb) d h
 
 -- a verb with an object keeps a claim
 object_kept : {P : Claim} (k : IsPlayed P) → KeepsAct P act_on
 unfolding act_on
-object_kept k d h = by_kept k object_rules (object_rules_kept k) d.order.verb d h
+object_kept k d h = object_verb_kept k d.order.verb d h
 
 -- a verb keeps a claim by its own rules
 once_kept : {P : Claim} (k : IsPlayed P) → KeepsAct P act_once
@@ -156,7 +170,7 @@ within_kept {P} k (suc left) d h =
     (once_kept k d h))
   where
     stepped : (o : Act) (step : Step) → On P o.scene.state
-        → ((v x : ℕ) → On P
+        → ((v : Verb) (x : ℕ) → On P
         (act_within left (deed d.cave (going_on d.order v x) o.scene)).scene.state)
         → On P (elim step as (λ _. Act) [
           | Done next ↦ o

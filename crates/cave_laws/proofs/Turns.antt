@@ -19,9 +19,11 @@ use Rattle.cave_scene.specs.Play.{Scene, after_saying, after_look_at, with_state
 use Rattle.cave_scene.specs.Rules.{thing}
 use Rattle.cave_verbs.specs.Acting.{act, next_of_step}
 use Rattle.cave_verbs.specs.Deeds.{order_of}
+use Rattle.cave_verbs.specs.Verbs.{verb_of}
 use Rattle.cave_verbs.specs.declared.next.Next.{Next}
 use Rattle.cave_verbs.specs.declared.next.Next.TheVariants as next_is
 use Rattle.cave_verbs.specs.declared.order.Order.{Order}
+use Rattle.cave_verbs.specs.declared.verb.Verb.{Verb}
 use Rattle.cave_clocks.specs.Clocks.{timing_of_clocks}
 use Rattle.cave_clocks.specs.declared.clocks.Clocks.{Clocks}
 use Rattle.cave_clocks.specs.declared.clocks.Clocks.TheVariants as clocks
@@ -38,7 +40,7 @@ use Rattle.cave_moves.specs.Journeys.{journey_by_request}
 use Rattle.cave_turn.specs.Answers.{without_question}
 use Rattle.cave_turn.specs.Commands.{after_beginning, travel_scene, puzzled_scene, next_scene}
 use Rattle.cave_turn.specs.Commands.{WordsDone}
-use Rattle.cave_turn.specs.Commands.{words_done_by_verb}
+use Rattle.cave_turn.specs.Commands.{words_done_by_action, words_done_by_verb}
 use Rattle.cave_turn.specs.Commands.{words_done_by_request, after_remembering, kept_scene, scene_of_understood}
 use Rattle.cave_turn.specs.Commands.{scene_of_words}
 use Rattle.cave_turn.specs.Commands.{after_clocks, clocks_scene, command_scene}
@@ -59,6 +61,7 @@ use Rattle.cave_laws.proofs.Moves.{looking_kept, arriving_kept, arriving_open, d
 use Rattle.cave_laws.proofs.Moves.{motion_kept}
 use Rattle.cave_laws.proofs.Scores.{ended_kept, asking_kept}
 use Rattle.cave_laws.proofs.Stop.{none_over}
+use Rattle.cave_laws.proofs.VerbEffects.{said_kept}
 use Rattle.cave_laws.proofs.VerbQuestions.{order_spares, is_asking_die}
 use Rattle.cave_laws.proofs.Verbs.{acted_kept}
 
@@ -172,6 +175,13 @@ travelling_kept cave k motion p h =
     let j = journey_by_request cave motion p in
     arriving_kept cave k j.place j.scene (motion_kept cave k motion p h)
 
+-- an action is done, or what the cave says of it is said
+acting_if_kept : {P : Claim} (cave : CaveView) (k : IsKept cave P) (o : Option Verb)
+    (number x : ℕ) (word : List ℕ) (p : Scene)
+    → On (Calm P) p.state → On P (words_done_by_action cave o number x word p).scene.state
+acting_if_kept cave k (Some v) number x word p h = acting_kept cave k (order_of v x word) p h
+acting_if_kept {P} cave k None number x word p h = said_kept P cave number p h.0
+
 done_kept : {P : Claim} (cave : CaveView) (k : IsKept cave P) (half : HalfCommand)
     (r : Request)
     (p : Scene)
@@ -181,7 +191,8 @@ done_kept cave k half request.Unknown p h = h.0
 done_kept cave k half (request.Motion motion) p h = travelling_kept cave k motion p h
 done_kept cave k half (request.Tell told) p h = h.0
 done_kept cave k half request.Knives p h = h.0
-done_kept cave k half (request.Act v x word) p h = acting_kept cave k (order_of v x word) p h
+done_kept cave k half (request.Act number x word) p h =
+    acting_if_kept cave k (verb_of number) number x word p h
 done_kept cave k half (request.WhatToDo word) p h = h.0
 
 remembering_kept : (P : Claim) (o : Option HalfCommand) (x : ℕ) (s : State) → On P s

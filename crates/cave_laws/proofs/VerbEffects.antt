@@ -16,15 +16,16 @@ use Rattle.cave_things.specs.Panic.{after_panic}
 use Rattle.cave_scene.specs.Rules.{is_called}
 use Rattle.cave_things.specs.Reach.{is_in_hand, has_other_prop}
 use Rattle.cave_scene.specs.Rules.{thing}
-use Rattle.cave_verbs.specs.Acting.{Rule}
+use Rattle.cave_scene.specs.Play.{Scene, after_telling}
 use Rattle.cave_verbs.specs.Deeds.{Deed, Act}
-use Rattle.cave_verbs.specs.Effects.{default, tell, say}
+use Rattle.cave_verbs.specs.Effects.{after_default, default, say}
 use Rattle.cave_verbs.specs.Rows.{Effect, VerbRow, first_fitting, fits, after_all, act_of_row}
 use Rattle.cave_verbs.specs.Feeding.{with_more_anger}
 use Rattle.cave_verbs.specs.Light.{say_dark}
 use Rattle.cave_verbs.specs.Opening.{after_sending}
+use Rattle.cave_verbs.specs.Verbs.{verb_number}
 use Rattle.cave_verbs.specs.Throwing.{first_fitting_or}
-use Rattle.cave_laws.proofs.Frame.{Claim, On, choose, chosen, course, facts}
+use Rattle.cave_laws.proofs.Frame.{Claim, On, choose, chosen, course, facts, chosen_scene}
 use Rattle.cave_laws.proofs.Later.{later_by_anger, later_by_loss}
 
 -- effects one after another keep a claim
@@ -40,16 +41,15 @@ KeepsRows P (r ∷ rows) = KeepsAll P r.effects × KeepsRows P rows
 abbrev pub KeepsAct : Claim → (Deed → Act) → Type 0
 KeepsAct P f = (d : Deed) → On P d.scene.state → On P (f d).scene.state
 
--- rules keep a claim
-abbrev pub KeepsRules : Claim → List Rule → Type 0
-KeepsRules P [] = Unit {0}
-KeepsRules P (r ∷ rules) = KeepsAct P r.act × KeepsRules P rules
-
 -- a default message keeps a claim
+pub said_kept : (P : Claim) (cave : CaveView) (number : ℕ) (p : Scene) → On P p.state
+    → On P (after_default cave number p).state
+said_kept P cave number p h =
+    chosen_scene P (default_message cave number == 0) p
+    (after_telling (part.Message (default_message cave number)) p) h h
+
 pub default_kept : (P : Claim) (d : Deed) → On P d.scene.state → On P (default d).scene.state
-default_kept P d h =
-    choose (λ (e : Deed). On P e.scene.state) (default_message d.cave d.order.verb == 0) d
-    (tell (part.Message (default_message d.cave d.order.verb)) d) (λ _. h) (λ _. h)
+default_kept P d h = said_kept P d.cave (verb_number d.order.verb) d.scene h
 
 -- saying that it is dark keeps a claim
 pub say_dark_kept : (P : Claim) (d : Deed) → On P d.scene.state → On P (say_dark d).scene.state

@@ -5,7 +5,7 @@ use Rattle.std.specs.Prelude.{◌==◌, ◌&&◌, not}
 use Rattle.cave_data.specs.CaveView.{CaveView}
 use Rattle.cave_words.specs.Stream.{number_drawn}
 use Rattle.cave_scene.specs.Play.{Scene}
-use Rattle.cave_verbs.specs.Acting.{Rule, act_by, bare_rules, object_rules, act_bare}
+use Rattle.cave_verbs.specs.Acting.{bare_rows_of, object_act, act_bare}
 use Rattle.cave_verbs.specs.Acting.{act_on, act_once, act_within}
 use Rattle.cave_verbs.specs.Acting.{act, next_of_step}
 use Rattle.cave_verbs.specs.Blasting.{blast_rows}
@@ -17,7 +17,7 @@ use Rattle.cave_verbs.specs.Finding.{find_rows, bare_inventory_rows}
 use Rattle.cave_verbs.specs.Killing.{bare_kill_rows, kill_rows}
 use Rattle.cave_verbs.specs.Light.{on_rows, off_rows}
 use Rattle.cave_verbs.specs.Magic.{bare_foo_rows}
-use Rattle.cave_verbs.specs.Opening.{bare_open_rows, open_rows}
+use Rattle.cave_verbs.specs.Opening.{bare_open_rows, chain_rows, lock_rows, open_rows}
 use Rattle.cave_verbs.specs.Pouring.{pour_rows, drink_rows, bare_fill_rows, fill_rows}
 use Rattle.cave_verbs.specs.Reading.{bare_read_rows, read_rows}
 use Rattle.cave_verbs.specs.Rows.{VerbRow, after_all, first_fitting, fits, act_of_row}
@@ -34,6 +34,8 @@ use Rattle.cave_verbs.specs.declared.next.Next.TheVariants.{Stay, Keep, Describe
 use Rattle.cave_verbs.specs.declared.next.Step.{Step}
 use Rattle.cave_verbs.specs.declared.next.Step.TheVariants.{Done, GoOn}
 use Rattle.cave_verbs.specs.declared.order.Order.{Order}
+use Rattle.cave_verbs.specs.declared.verb.Verb.{Verb}
+use Rattle.cave_verbs.specs.declared.verb.Verb.TheVariants as verb
 use Rattle.cave_laws.proofs.Frame.{choose, is_die}
 
 -- it is asked next whether to come back
@@ -53,11 +55,6 @@ Spares f = (d : Deed) → is_asking_die (next_of_step (f d).step) ≡ false
 abbrev spares : List VerbRow → Deed → Bool
 spares [] d = true
 spares (r ∷ rows) d = not (is_asking_die (next_of_step (r.end d))) && spares rows d
-
--- rules don't ask it
-abbrev SpareRules : List Rule → Type 0
-SpareRules [] = Unit {0}
-SpareRules (r ∷ rules) = Spares r.act × SpareRules rules
 
 first_of : (a b : Bool) → (not a && b) ≡ true → a ≡ false
 first_of true b h = absurd (true≢false (sym h))
@@ -89,95 +86,38 @@ first_spares (r ∷ rows) all d =
     (λ _. first_spares rows
     (λ e. rest_of (is_asking_die (next_of_step (r.end e))) (spares rows e) (all e)) d)
 
-bare_spare : SpareRules bare_rules
+bare_spare : (v : Verb) → Spares (first_fitting (bare_rows_of v))
 unfolding bare_take_rows bare_rows bare_open_rows nothing_rows on_rows off_rows bare_kill_rows
     pour_rows bare_eat_rows drink_rows bare_quit_rows bare_inventory_rows bare_fill_rows blast_rows
     bare_score_rows bare_foo_rows bare_brief_rows bare_read_rows
-bare_spare = (
-  first_spares bare_take_rows (λ d. refl),
-  (
-    first_spares bare_rows (λ d. refl),
-    (
-      first_spares bare_rows (λ d. refl),
-      (
-        first_spares bare_open_rows (λ d. refl),
-        (
-          first_spares nothing_rows (λ d. refl),
-          (
-            first_spares bare_open_rows (λ d. refl),
-            (
-              first_spares on_rows (λ d. refl),
-              (
-                first_spares off_rows (λ d. refl),
-                (
-                  first_spares bare_rows (λ d. refl),
-                  (
-                    first_spares bare_rows (λ d. refl),
-                    (
-                      first_spares bare_kill_rows (λ d. refl),
-                      (
-                        first_spares pour_rows (λ d. refl),
-                        (
-                          first_spares bare_eat_rows (λ d. refl),
-                          (
-                            first_spares drink_rows (λ d. refl),
-                            (
-                              first_spares bare_rows (λ d. refl),
-                              (
-                                first_spares bare_rows (λ d. refl),
-                                (
-                                  first_spares bare_quit_rows (λ d. refl),
-                                  (
-                                    first_spares bare_rows (λ d. refl),
-                                    (
-                                      first_spares bare_inventory_rows (λ d. refl),
-                                      (
-                                        first_spares bare_rows (λ d. refl),
-                                        (
-                                          first_spares bare_fill_rows (λ d. refl),
-                                          (
-                                            first_spares blast_rows (λ d. refl),
-                                            (
-                                              first_spares bare_score_rows (λ d. refl),
-                                              (
-                                                first_spares bare_foo_rows (λ d. refl),
-                                                (
-                                                  first_spares bare_brief_rows (λ d. refl),
-                                                  (
-                                                    first_spares bare_read_rows (λ d. refl),
-                                                    (
-                                                      first_spares bare_rows (λ d. refl),
-                                                      (
-                                                        first_spares bare_rows (λ d. refl),
-                                                        tt,
-                                                      ),
-                                                    ),
-                                                  ),
-                                                ),
-                                              ),
-                                            ),
-                                          ),
-                                        ),
-                                      ),
-                                    ),
-                                  ),
-                                ),
-                              ),
-                            ),
-                          ),
-                        ),
-                      ),
-                    ),
-                  ),
-                ),
-              ),
-            ),
-          ),
-        ),
-      ),
-    ),
-  ),
-)
+bare_spare verb.Take = first_spares bare_take_rows (λ d. refl)
+bare_spare verb.Drop = first_spares bare_rows (λ d. refl)
+bare_spare verb.Say = first_spares bare_rows (λ d. refl)
+bare_spare verb.Open = first_spares bare_open_rows (λ d. refl)
+bare_spare verb.Nothing = first_spares nothing_rows (λ d. refl)
+bare_spare verb.Lock = first_spares bare_open_rows (λ d. refl)
+bare_spare verb.On = first_spares on_rows (λ d. refl)
+bare_spare verb.Off = first_spares off_rows (λ d. refl)
+bare_spare verb.Wave = first_spares bare_rows (λ d. refl)
+bare_spare verb.Calm = first_spares bare_rows (λ d. refl)
+bare_spare verb.Kill = first_spares bare_kill_rows (λ d. refl)
+bare_spare verb.Pour = first_spares pour_rows (λ d. refl)
+bare_spare verb.Eat = first_spares bare_eat_rows (λ d. refl)
+bare_spare verb.Drink = first_spares drink_rows (λ d. refl)
+bare_spare verb.Rub = first_spares bare_rows (λ d. refl)
+bare_spare verb.Throw = first_spares bare_rows (λ d. refl)
+bare_spare verb.Quit = first_spares bare_quit_rows (λ d. refl)
+bare_spare verb.Find = first_spares bare_rows (λ d. refl)
+bare_spare verb.Inventory = first_spares bare_inventory_rows (λ d. refl)
+bare_spare verb.Feed = first_spares bare_rows (λ d. refl)
+bare_spare verb.Fill = first_spares bare_fill_rows (λ d. refl)
+bare_spare verb.Blast = first_spares blast_rows (λ d. refl)
+bare_spare verb.Score = first_spares bare_score_rows (λ d. refl)
+bare_spare verb.Foo = first_spares bare_foo_rows (λ d. refl)
+bare_spare verb.Brief = first_spares bare_brief_rows (λ d. refl)
+bare_spare verb.Read = first_spares bare_read_rows (λ d. refl)
+bare_spare verb.Break = first_spares bare_rows (λ d. refl)
+bare_spare verb.Wake = first_spares bare_rows (λ d. refl)
 
 throw_spares : Spares throw_act
 unfolding throw_act axe_act axe_thrown_at_dwarf throw_rows axe_rows miss_rows hit_rows
@@ -194,93 +134,46 @@ throw_spares = first_or_spares throw_rows axe_act (λ d. refl) axe
         (λ _. first_spares hit_rows (λ e. refl) (after_one_draw d)))
         (λ _. first_spares axe_rows (λ e. refl) d)
 
-object_spare : SpareRules object_rules
-unfolding take_rows free_take_rows drop_rows open_rows nothing_rows on_rows off_rows wave_rows
+object_spare : (v : Verb) → Spares (object_act v)
+unfolding other_rows take_rows free_take_rows drop_rows open_rows lock_rows chain_rows nothing_rows on_rows off_rows wave_rows
     kill_rows pour_rows eat_rows drink_rows rub_rows find_rows feed_rows fill_rows blast_rows
     read_rows break_rows wake_rows
-object_spare = (
-  first_spares take_rows (λ d. refl),
-  (
-    first_spares drop_rows (λ d. refl),
-    (
-      first_spares open_rows (λ d. refl),
-      (
-        first_spares nothing_rows (λ d. refl),
-        (
-          first_spares open_rows (λ d. refl),
-          (
-            first_spares on_rows (λ d. refl),
-            (
-              first_spares off_rows (λ d. refl),
-              (
-                first_spares wave_rows (λ d. refl),
-                (
-                  first_spares kill_rows (λ d. refl),
-                  (
-                    first_spares pour_rows (λ d. refl),
-                    (
-                      first_spares eat_rows (λ d. refl),
-                      (
-                        first_spares drink_rows (λ d. refl),
-                        (
-                          first_spares rub_rows (λ d. refl),
-                          (
-                            throw_spares,
-                            (
-                              first_spares find_rows (λ d. refl),
-                              (
-                                first_spares find_rows (λ d. refl),
-                                (
-                                  first_spares feed_rows (λ d. refl),
-                                  (
-                                    first_spares fill_rows (λ d. refl),
-                                    (
-                                      first_spares blast_rows (λ d. refl),
-                                      (
-                                        first_spares read_rows (λ d. refl),
-                                        (
-                                          first_spares break_rows (λ d. refl),
-                                          (
-                                            first_spares wake_rows (λ d. refl),
-                                            tt,
-                                          ),
-                                        ),
-                                      ),
-                                    ),
-                                  ),
-                                ),
-                              ),
-                            ),
-                          ),
-                        ),
-                      ),
-                    ),
-                  ),
-                ),
-              ),
-            ),
-          ),
-        ),
-      ),
-    ),
-  ),
-)
-
-by_spares : (rules : List Rule) → SpareRules rules → (v : ℕ) → Spares (act_by rules v)
-unfolding other_rows
-by_spares [] all v d = first_spares other_rows (λ e. refl) d
-by_spares (r ∷ rules) all v d =
-    choose (λ (o : Act). is_asking_die (next_of_step o.step) ≡ false) (v == r.verb)
-    (r.act d) (act_by rules v d)
-    (λ _. all.0 d) (λ _. by_spares rules all.1 v d)
+object_spare verb.Take d = first_spares take_rows (λ e. refl) d
+object_spare verb.Drop d = first_spares drop_rows (λ e. refl) d
+object_spare verb.Open d = first_spares open_rows (λ e. refl) d
+object_spare verb.Nothing d = first_spares nothing_rows (λ e. refl) d
+object_spare verb.Lock d = first_spares open_rows (λ e. refl) d
+object_spare verb.On d = first_spares on_rows (λ e. refl) d
+object_spare verb.Off d = first_spares off_rows (λ e. refl) d
+object_spare verb.Wave d = first_spares wave_rows (λ e. refl) d
+object_spare verb.Kill d = first_spares kill_rows (λ e. refl) d
+object_spare verb.Pour d = first_spares pour_rows (λ e. refl) d
+object_spare verb.Eat d = first_spares eat_rows (λ e. refl) d
+object_spare verb.Drink d = first_spares drink_rows (λ e. refl) d
+object_spare verb.Rub d = first_spares rub_rows (λ e. refl) d
+object_spare verb.Throw d = throw_spares d
+object_spare verb.Find d = first_spares find_rows (λ e. refl) d
+object_spare verb.Inventory d = first_spares find_rows (λ e. refl) d
+object_spare verb.Feed d = first_spares feed_rows (λ e. refl) d
+object_spare verb.Fill d = first_spares fill_rows (λ e. refl) d
+object_spare verb.Blast d = first_spares blast_rows (λ e. refl) d
+object_spare verb.Read d = first_spares read_rows (λ e. refl) d
+object_spare verb.Break d = first_spares break_rows (λ e. refl) d
+object_spare verb.Wake d = first_spares wake_rows (λ e. refl) d
+object_spare verb.Say d = first_spares other_rows (λ e. refl) d
+object_spare verb.Calm d = first_spares other_rows (λ e. refl) d
+object_spare verb.Quit d = first_spares other_rows (λ e. refl) d
+object_spare verb.Score d = first_spares other_rows (λ e. refl) d
+object_spare verb.Foo d = first_spares other_rows (λ e. refl) d
+object_spare verb.Brief d = first_spares other_rows (λ e. refl) d
 
 once_spares : Spares act_once
 unfolding act_bare act_on
 once_spares d =
     choose (λ (o : Act). is_asking_die (next_of_step o.step) ≡ false) (d.order.object == 0)
     (act_bare d) (act_on d)
-    (λ _. by_spares bare_rules bare_spare d.order.verb d)
-    (λ _. by_spares object_rules object_spare d.order.verb d)
+    (λ _. bare_spare d.order.verb d)
+    (λ _. object_spare d.order.verb d)
 
 within_spares : (left : ℕ) → Spares (act_within left)
 unfolding act_within
@@ -292,7 +185,7 @@ within_spares (suc left) d =
   where
     stepped : (o : Act) (step : Step) → o.step ≡ step
         → is_asking_die (next_of_step o.step) ≡ false
-        → ((v x : ℕ) → is_asking_die (next_of_step
+        → ((v : Verb) (x : ℕ) → is_asking_die (next_of_step
         (act_within left (deed d.cave (going_on d.order v x) o.scene)).step) ≡ false)
         → is_asking_die (next_of_step (elim step as (λ _. Act) [
           | Done next ↦ o

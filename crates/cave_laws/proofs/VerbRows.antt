@@ -66,21 +66,3 @@ off_rows_kept P = rows_kept P off_rows (search ordinary parts 60)
 pub bare_foo_rows_kept : (P : Claim) → KeepsRows P bare_foo_rows
 unfolding bare_foo_rows
 bare_foo_rows_kept P = rows_kept P bare_foo_rows (search ordinary parts 60)
-
--- the rows of all these verbs
-pub ruleset verb_rows_kept = (
-  blast_rows_kept,
-  break_rows_kept,
-  wake_rows_kept,
-  drop_rows_kept,
-  feed_rows_kept,
-  bare_eat_rows_kept,
-  eat_rows_kept,
-  find_rows_kept,
-  bare_inventory_rows_kept,
-  bare_kill_rows_kept,
-  kill_rows_kept,
-  on_rows_kept,
-  off_rows_kept,
-  bare_foo_rows_kept,
-)

@@ -1,29 +1,53 @@
 -- What verbs do keeps each claim: no verb moves the player, changes the lamp's charge, counts a
 -- death, opens a question or ends the game by its rows alone.
-use Rattle.std.proofs.Common.{ℕ, zero, suc, List, [], ◌∷◌}
+use Rattle.std.proofs.Common.{ℕ, zero, suc}
 use Rattle.std.specs.Prelude.{◌==◌}
 use Rattle.cave_data.specs.CaveView.{CaveView}
 use Rattle.cave_words.specs.Stream.{number_drawn}
 use Rattle.cave_scene.specs.Play.{Scene}
-use Rattle.cave_verbs.specs.Acting.{Rule, act_by, bare_rules, object_rules, act_bare}
+use Rattle.cave_verbs.specs.Acting.{bare_rows_of, object_act, act_bare}
 use Rattle.cave_verbs.specs.Acting.{act_on, act_once, act_within}
 use Rattle.cave_verbs.specs.Acting.{act}
 use Rattle.cave_verbs.specs.Deeds.{Act, deed, going_on}
 use Rattle.cave_verbs.specs.Rows.{first_fitting}
+use Rattle.cave_verbs.specs.Blasting.{blast_rows}
+use Rattle.cave_verbs.specs.Breaking.{break_rows, wake_rows}
+use Rattle.cave_verbs.specs.Dropping.{drop_rows}
+use Rattle.cave_verbs.specs.Feeding.{feed_rows, eat_rows}
+use Rattle.cave_verbs.specs.Finding.{find_rows}
+use Rattle.cave_verbs.specs.Killing.{kill_rows}
+use Rattle.cave_verbs.specs.Light.{on_rows, off_rows}
+use Rattle.cave_verbs.specs.Opening.{open_rows}
+use Rattle.cave_verbs.specs.Pouring.{pour_rows, drink_rows, fill_rows}
+use Rattle.cave_verbs.specs.Reading.{read_rows}
+use Rattle.cave_verbs.specs.Small.{other_rows, nothing_rows}
+use Rattle.cave_verbs.specs.Taking.{take_rows}
+use Rattle.cave_verbs.specs.Waving.{wave_rows, rub_rows}
 use Rattle.cave_verbs.specs.Tests.{dwarf}
 use Rattle.cave_verbs.specs.declared.next.Step.{Step}
 use Rattle.cave_verbs.specs.declared.next.Step.TheVariants.{Done, GoOn}
 use Rattle.cave_verbs.specs.declared.order.Order.{Order}
-use Rattle.cave_verbs.specs.Small.{other_rows}
+use Rattle.cave_verbs.specs.declared.verb.Verb.{Verb}
+use Rattle.cave_verbs.specs.declared.verb.Verb.TheVariants as verb
 use Rattle.cave_verbs.specs.Throwing.{throw_rows, miss_rows, hit_rows, axe_rows}
 use Rattle.cave_verbs.specs.Throwing.{axe_thrown_at_dwarf, axe_act, throw_act}
 use Rattle.cave_verbs.specs.Throwing.{after_one_draw}
 use Rattle.cave_laws.proofs.Frame.{Claim, On, choose}
-use Rattle.cave_laws.proofs.VerbEffects.{KeepsAct, KeepsRules}
+use Rattle.cave_laws.proofs.VerbEffects.{KeepsAct, KeepsRows}
 use Rattle.cave_laws.proofs.VerbEffects.{first_kept, first_or_kept}
-use Rattle.cave_laws.proofs.VerbRows.{verb_rows_kept}
-use Rattle.cave_laws.proofs.MoreVerbRows.{axe_rows_kept, hit_rows_kept, miss_rows_kept}
-use Rattle.cave_laws.proofs.MoreVerbRows.{more_verb_rows_kept, other_rows_kept, throw_rows_kept}
+use Rattle.cave_laws.proofs.VerbRows.{blast_rows_kept, break_rows_kept, wake_rows_kept}
+use Rattle.cave_laws.proofs.VerbRows.{drop_rows_kept, feed_rows_kept, bare_eat_rows_kept}
+use Rattle.cave_laws.proofs.VerbRows.{eat_rows_kept, find_rows_kept, bare_inventory_rows_kept}
+use Rattle.cave_laws.proofs.VerbRows.{bare_kill_rows_kept, kill_rows_kept, on_rows_kept}
+use Rattle.cave_laws.proofs.VerbRows.{off_rows_kept, bare_foo_rows_kept}
+use Rattle.cave_laws.proofs.MoreVerbRows.{bare_open_rows_kept, open_rows_kept, pour_rows_kept}
+use Rattle.cave_laws.proofs.MoreVerbRows.{drink_rows_kept, bare_fill_rows_kept, fill_rows_kept}
+use Rattle.cave_laws.proofs.MoreVerbRows.{bare_read_rows_kept, read_rows_kept, bare_rows_kept}
+use Rattle.cave_laws.proofs.MoreVerbRows.{other_rows_kept, nothing_rows_kept, bare_quit_rows_kept}
+use Rattle.cave_laws.proofs.MoreVerbRows.{bare_score_rows_kept, bare_brief_rows_kept}
+use Rattle.cave_laws.proofs.MoreVerbRows.{bare_take_rows_kept, take_rows_kept, throw_rows_kept}
+use Rattle.cave_laws.proofs.MoreVerbRows.{miss_rows_kept, hit_rows_kept, axe_rows_kept}
+use Rattle.cave_laws.proofs.MoreVerbRows.{wave_rows_kept, rub_rows_kept}
 
 -- an axe that is thrown at a dwarf keeps a claim
 pub at_dwarf_kept : (P : Claim) → KeepsAct P axe_thrown_at_dwarf
@@ -47,32 +71,78 @@ pub thrown_kept : (P : Claim) → KeepsAct P throw_act
 unfolding throw_act
 thrown_kept P d h = first_or_kept P throw_rows axe_act (throw_rows_kept P) (axe_kept P) d h
 
--- the rules of verbs keep a claim
-pub by_kept : (P : Claim) (rules : List Rule) → KeepsRules P rules → (v : ℕ)
-    → KeepsAct P (act_by rules v)
-by_kept P [] k v d h = first_kept P other_rows (other_rows_kept P) d h
-by_kept P (r ∷ rules) k v d h =
-    choose (λ (o : Act). On P o.scene.state) (v == r.verb) (r.act d) (act_by rules v d)
-    (λ _. k.0 d h) (λ _. by_kept P rules k.1 v d h)
+-- the rows of verbs without an object keep a claim
+pub bare_verb_kept : (P : Claim) (v : Verb) → KeepsRows P (bare_rows_of v)
+bare_verb_kept P verb.Take = bare_take_rows_kept P
+bare_verb_kept P verb.Drop = bare_rows_kept P
+bare_verb_kept P verb.Say = bare_rows_kept P
+bare_verb_kept P verb.Open = bare_open_rows_kept P
+bare_verb_kept P verb.Nothing = nothing_rows_kept P
+bare_verb_kept P verb.Lock = bare_open_rows_kept P
+bare_verb_kept P verb.On = on_rows_kept P
+bare_verb_kept P verb.Off = off_rows_kept P
+bare_verb_kept P verb.Wave = bare_rows_kept P
+bare_verb_kept P verb.Calm = bare_rows_kept P
+bare_verb_kept P verb.Kill = bare_kill_rows_kept P
+bare_verb_kept P verb.Pour = pour_rows_kept P
+bare_verb_kept P verb.Eat = bare_eat_rows_kept P
+bare_verb_kept P verb.Drink = drink_rows_kept P
+bare_verb_kept P verb.Rub = bare_rows_kept P
+bare_verb_kept P verb.Throw = bare_rows_kept P
+bare_verb_kept P verb.Quit = bare_quit_rows_kept P
+bare_verb_kept P verb.Find = bare_rows_kept P
+bare_verb_kept P verb.Inventory = bare_inventory_rows_kept P
+bare_verb_kept P verb.Feed = bare_rows_kept P
+bare_verb_kept P verb.Fill = bare_fill_rows_kept P
+bare_verb_kept P verb.Blast = blast_rows_kept P
+bare_verb_kept P verb.Score = bare_score_rows_kept P
+bare_verb_kept P verb.Foo = bare_foo_rows_kept P
+bare_verb_kept P verb.Brief = bare_brief_rows_kept P
+bare_verb_kept P verb.Read = bare_read_rows_kept P
+bare_verb_kept P verb.Break = bare_rows_kept P
+bare_verb_kept P verb.Wake = bare_rows_kept P
 
--- the rules of verbs without an object keep a claim
-pub bare_rules_kept : (P : Claim) → KeepsRules P bare_rules
-bare_rules_kept P = search (first_kept P, verb_rows_kept, more_verb_rows_kept) parts 60
-
--- the rules of verbs with an object keep a claim
-pub object_rules_kept : (P : Claim) → KeepsRules P object_rules
-object_rules_kept P =
-    search (first_kept P, thrown_kept P, verb_rows_kept, more_verb_rows_kept) parts 60
+-- what verbs do to an object keeps a claim
+pub object_verb_kept : (P : Claim) (v : Verb) → KeepsAct P (object_act v)
+object_verb_kept P verb.Take d h = first_kept P take_rows (take_rows_kept P) d h
+object_verb_kept P verb.Drop d h = first_kept P drop_rows (drop_rows_kept P) d h
+object_verb_kept P verb.Open d h = first_kept P open_rows (open_rows_kept P) d h
+object_verb_kept P verb.Nothing d h = first_kept P nothing_rows (nothing_rows_kept P) d h
+object_verb_kept P verb.Lock d h = first_kept P open_rows (open_rows_kept P) d h
+object_verb_kept P verb.On d h = first_kept P on_rows (on_rows_kept P) d h
+object_verb_kept P verb.Off d h = first_kept P off_rows (off_rows_kept P) d h
+object_verb_kept P verb.Wave d h = first_kept P wave_rows (wave_rows_kept P) d h
+object_verb_kept P verb.Kill d h = first_kept P kill_rows (kill_rows_kept P) d h
+object_verb_kept P verb.Pour d h = first_kept P pour_rows (pour_rows_kept P) d h
+object_verb_kept P verb.Eat d h = first_kept P eat_rows (eat_rows_kept P) d h
+object_verb_kept P verb.Drink d h = first_kept P drink_rows (drink_rows_kept P) d h
+object_verb_kept P verb.Rub d h = first_kept P rub_rows (rub_rows_kept P) d h
+object_verb_kept P verb.Throw d h = thrown_kept P d h
+object_verb_kept P verb.Find d h = first_kept P find_rows (find_rows_kept P) d h
+object_verb_kept P verb.Inventory d h = first_kept P find_rows (find_rows_kept P) d h
+object_verb_kept P verb.Feed d h = first_kept P feed_rows (feed_rows_kept P) d h
+object_verb_kept P verb.Fill d h = first_kept P fill_rows (fill_rows_kept P) d h
+object_verb_kept P verb.Blast d h = first_kept P blast_rows (blast_rows_kept P) d h
+object_verb_kept P verb.Read d h = first_kept P read_rows (read_rows_kept P) d h
+object_verb_kept P verb.Break d h = first_kept P break_rows (break_rows_kept P) d h
+object_verb_kept P verb.Wake d h = first_kept P wake_rows (wake_rows_kept P) d h
+object_verb_kept P verb.Say d h = first_kept P other_rows (other_rows_kept P) d h
+object_verb_kept P verb.Calm d h = first_kept P other_rows (other_rows_kept P) d h
+object_verb_kept P verb.Quit d h = first_kept P other_rows (other_rows_kept P) d h
+object_verb_kept P verb.Score d h = first_kept P other_rows (other_rows_kept P) d h
+object_verb_kept P verb.Foo d h = first_kept P other_rows (other_rows_kept P) d h
+object_verb_kept P verb.Brief d h = first_kept P other_rows (other_rows_kept P) d h
 
 -- a verb without an object keeps a claim
 pub bare_kept : (P : Claim) → KeepsAct P act_bare
 unfolding act_bare
-bare_kept P d h = by_kept P bare_rules (bare_rules_kept P) d.order.verb d h
+bare_kept P d h =
+    first_kept P (bare_rows_of d.order.verb) (bare_verb_kept P d.order.verb) d h
 
 -- a verb with an object keeps a claim
 pub object_kept : (P : Claim) → KeepsAct P act_on
 unfolding act_on
-object_kept P d h = by_kept P object_rules (object_rules_kept P) d.order.verb d h
+object_kept P d h = object_verb_kept P d.order.verb d h
 
 -- a verb keeps a claim by its own rules
 pub once_kept : (P : Claim) → KeepsAct P act_once
@@ -91,7 +161,7 @@ within_kept P (suc left) d h =
     (once_kept P d h))
   where
     stepped : (o : Act) (step : Step) → On P o.scene.state
-        → ((v x : ℕ) → On P
+        → ((v : Verb) (x : ℕ) → On P
         (act_within left (deed d.cave (going_on d.order v x) o.scene)).scene.state)
         → On P (elim step as (λ _. Act) [
           | Done next ↦ o

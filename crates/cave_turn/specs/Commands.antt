@@ -12,9 +12,12 @@ use Rattle.cave_scene.specs.Play.{happens}
 use Rattle.cave_scene.specs.Rules.{thing}
 use Rattle.cave_verbs.specs.Acting.{act, next_of_step}
 use Rattle.cave_verbs.specs.Deeds.{order_of}
+use Rattle.cave_verbs.specs.Effects.{after_default}
+use Rattle.cave_verbs.specs.Verbs.{verb_number, verb_of}
 use Rattle.cave_verbs.specs.declared.next.Next.{Next}
 use Rattle.cave_verbs.specs.declared.next.Next.TheVariants.{Stay, Keep, Describe, Arrive, Ask, End}
 use Rattle.cave_verbs.specs.declared.order.Order.{Order}
+use Rattle.cave_verbs.specs.declared.verb.Verb.{Verb}
 use Rattle.cave_words.specs.Words.{words_of}
 use Rattle.cave_words.specs.declared.named.Named.TheVariants as name
 use Rattle.cave_words.specs.declared.words.Words.{Words}
@@ -103,7 +106,13 @@ unfoldable pub words_done_by_verb : CaveView → Order → Scene → WordsDone
 words_done_by_verb cave order p =
     let a = act cave order p in
     let next = next_of_step a.step in
-    words_done (next_scene cave next a.scene) (half_command_kept next order.verb)
+    words_done (next_scene cave next a.scene) (half_command_kept next (verb_number order.verb))
+
+-- an action that has rules is done by them; of another it is said what the cave says of it
+abbrev pub words_done_by_action : CaveView → Option Verb → ℕ → ℕ → List ℕ → Scene → WordsDone
+words_done_by_action cave (Some v) number x word p =
+    words_done_by_verb cave (order_of v x word) p
+words_done_by_action cave None number x word p = words_done (after_default cave number p) None
 
 -- what was read is done. After an unknown word, or where a verb is missing, the half command stays
 -- as it then is
@@ -112,8 +121,8 @@ words_done_by_request cave half Unknown p = words_done (puzzled_scene p) (Some h
 words_done_by_request cave half (Motion motion) p = words_done (travel_scene cave motion p) None
 words_done_by_request cave half (Tell told) p = words_done (after_telling told p) None
 words_done_by_request cave half Knives p = words_done (after_vanished_knives p) None
-words_done_by_request cave half (Act v x word) p =
-    words_done_by_verb cave (order_of v x word) p
+words_done_by_request cave half (Act number x word) p =
+    words_done_by_action cave (verb_of number) number x word p
 words_done_by_request cave half (WhatToDo word) p =
     words_done (after_telling (part.Word line.WhatToDo word) p) (Some half)
 

@@ -6,7 +6,8 @@ use Rattle.cave_things.specs.Liquids.{liquid_of, lake_of, is_liquid}
 use Rattle.cave_scene.specs.Rules.{is_called}
 use Rattle.cave_things.specs.Reach.{is_in_hand, is_near, has_other_prop, is_dwarf_here}
 use Rattle.cave_scene.specs.Rules.{thing}
-use Rattle.cave_verbs.specs.Verbs as verb
+use Rattle.cave_verbs.specs.Verbs.{verb_number}
+use Rattle.cave_verbs.specs.declared.verb.Verb.TheVariants as verb
 use Rattle.cave_words.specs.declared.named.Named.TheVariants as name
 use Rattle.cave_objects.specs.Objects.{is_object_at}
 use Rattle.cave_world.specs.Motion.{DEPRESSION, ENTRANCE}
@@ -49,7 +50,7 @@ is_knife_at here (knife.At place) = place == here
 -- what isn't here can still be sought
 abbrev pub is_sought : Option ℕ → Bool
 is_sought None = false
-is_sought (Some v) = v == verb.FIND || v == verb.INVENTORY
+is_sought (Some v) = v == verb_number verb.Find || v == verb_number verb.Inventory
 
 -- the first that fits, or else the object isn't seen
 abbrev pub first_that_fits : List (Bool × ObjectWord) → ObjectWord

@@ -6,7 +6,8 @@ use Rattle.cave_rows.specs.declared.role.Role.TheVariants as role
 use Rattle.cave_things.specs.Liquids.{lake_of, is_liquid}
 use Rattle.cave_scene.specs.Rules.{or_no_object}
 use Rattle.cave_scene.specs.Rules.{thing}
-use Rattle.cave_verbs.specs.Verbs as verb
+use Rattle.cave_verbs.specs.Verbs.{verb_number}
+use Rattle.cave_verbs.specs.declared.verb.Verb.TheVariants as verb
 use Rattle.cave_words.specs.Meaning.{meaning}
 use Rattle.cave_words.specs.Word.{is_written, word_of}
 use Rattle.cave_words.specs.declared.meaning.Class.{Class}
@@ -57,7 +58,7 @@ object_alone object.Unseen half word = understanding half (Tell (part.Word line.
 -- SAY alone is done to no object, also where one was named before
 abbrev pub action_alone : ℕ → HalfCommand → List ℕ → Understood
 action_alone v half word =
-    if v == verb.SAY then understanding half (Act v 0 word)
+    if v == verb_number verb.Say then understanding half (Act v 0 word)
     else understanding (with_verb (Some v) half) (Act v half.object word)
 
 abbrev pub class_alone : CaveView → State → HalfCommand → List ℕ → Class → ℕ → Understood
@@ -79,7 +80,7 @@ word_alone cave s half w = meaning_alone cave s half w.word w.meaning
 abbrev pub is_magic_by : Class → ℕ → Bool
 is_magic_by class.Motion n = n == XYZZY || n == PLUGH || n == PLOVER
 is_magic_by class.Object n = false
-is_magic_by class.Action n = n == verb.FOO
+is_magic_by class.Action n = n == verb_number verb.Foo
 is_magic_by class.Special n = false
 
 abbrev pub is_magic : Option Meaning → Bool
@@ -101,7 +102,7 @@ object_before cave s object.Unseen half word next =
 
 abbrev pub action_before : CaveView → State → ℕ → HalfCommand → SaidWord → Understood
 action_before cave s v half next =
-    if v == verb.SAY then word_aloud cave s half next
+    if v == verb_number verb.Say then word_aloud cave s half next
     else word_alone cave s (with_verb (Some v) half) next
 
 abbrev pub class_before : CaveView → State → HalfCommand → List ℕ → Class → ℕ → SaidWord
@@ -149,7 +150,7 @@ abbrev pub pour_in : CaveView → SaidWord
 pour_in cave =
     record {
       word = word_of cave.letters (codes "POUR");
-      meaning = Some (record { class = class.Action; number = verb.POUR });
+      meaning = Some (record { class = class.Action; number = verb_number verb.Pour });
     }
 
 unfoldable pub two_words : CaveView → State → HalfCommand → List ℕ → List ℕ → Understood
@@ -161,7 +162,7 @@ two_words cave s half word next =
 
 abbrev pub is_saying : Option ℕ → Bool
 is_saying None = false
-is_saying (Some v) = v == verb.SAY
+is_saying (Some v) = v == verb_number verb.Say
 
 -- after SAY alone a word is said, and of two words SAY is forgotten
 abbrev pub read_words : CaveView → State → HalfCommand → List ℕ → Option (List ℕ) → Understood

@@ -12,7 +12,8 @@ ghost use Rattle.cave_turn.specs.Commands.{next_scene, half_command_kept, words_
 ghost use Rattle.cave_turn.specs.Commands.{after_remembering};
 ghost use Rattle.cave_turn.specs.Commands.{kept_scene, scene_of_understood, scene_of_words, unread_scene};
 ghost use Rattle.cave_turn.specs.Commands.{after_clocks};
-ghost use Rattle.cave_turn.specs.Commands.{clocks_scene, command_scene};
+ghost use Rattle.cave_turn.specs.Commands.{clocks_scene, command_scene, words_done_by_action};
+ghost use Rattle.cave_verbs.specs.Verbs.{verb_of};
 
 use crate::finish::finish;
 use crate::request::{HalfCommand, Request, Understood, read_words};
@@ -22,7 +23,7 @@ use cave_moves::{arrive, describe_here, lead_by_motion};
 use cave_objects::{Object, Place};
 use cave_rows::Role;
 use cave_scene::{Play, Rules};
-use cave_verbs::{Next, Order, act};
+use cave_verbs::{Next, Order, Verb, act, tell_default};
 use cave_words::{Named, Word, Words};
 use cave_world::{Ending, Knife, Magic, Out, Part, State, WordLine};
 
@@ -159,10 +160,34 @@ fn do_verb(rules: &Rules<'_>, order: Order, play: &mut Play<'_>) -> Option<HalfC
     ensures same { IsSamePlay play.old play.new }
     ensures few { SaysUpTo (parts_of_deed play.old.left) play.old play.new }
 {
-    let verb = order.verb;
+    let verb = order.verb.number();
     let next = act(rules, order, play);
     follow(rules, &next, play);
     half_command_kept(&next, verb)
+}
+
+/// An action that has rules is done by them; of another it is said what the cave says of it.
+fn do_action(
+    rules: &Rules<'_>,
+    number: u16,
+    object: Object,
+    word: Word,
+    play: &mut Play<'_>,
+) -> Option<HalfCommand>
+    requires { HasRoom (room_of_deed play.old.left) play.old }
+    ensures play { words_done (scene_of play.new) result
+        ≡ words_done_by_action (cave_of rules.now) (verb_of number) number object word
+        (scene_of play.old) }
+    ensures same { IsSamePlay play.old play.new }
+    ensures few { SaysUpTo (parts_of_deed play.old.left) play.old play.new }
+{
+    match Verb::try_from(number) {
+        Ok(verb) => do_verb(rules, Order::of(verb, object, word), play),
+        Err(_) => {
+            tell_default(rules, number, play);
+            None
+        }
+    }
 }
 
 /// What was read is done. Returns what is kept for the next line.
@@ -196,9 +221,7 @@ fn do_request(
             tell_of_knives(play);
             None
         }
-        Request::Act(verb, object, word) => {
-            do_verb(rules, Order::of(*verb, *object, *word), play)
-        }
+        Request::Act(number, object, word) => do_action(rules, *number, *object, *word, play),
         Request::WhatToDo(word) => {
             play.tell(Part::Word(WordLine::WhatToDo, *word));
             Some(half)

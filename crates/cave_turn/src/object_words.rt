@@ -7,7 +7,7 @@ ghost use Rattle.cave_turn.specs.ObjectWords.{is_below_grate, object_word};
 use cave_objects::{Object, Place};
 use cave_scene::Rules;
 use cave_things::{has_other_prop, is_dwarf_here, is_in_hand, is_liquid, is_near, lake, liquid};
-use cave_verbs::verbs::{FIND, INVENTORY};
+use cave_verbs::Verb;
 use cave_words::Named;
 use cave_world::{Knife, State, motion};
 
@@ -105,7 +105,7 @@ fn is_sought(verb: Option<u16>) -> bool
     ensures { result ≡ is_sought verb }
 {
     match verb {
-        Some(verb) => verb == FIND || verb == INVENTORY,
+        Some(verb) => verb == Verb::Find.number() || verb == Verb::Inventory.number(),
         None => false,
     }
 }

@@ -13,7 +13,7 @@ use cave_objects::Object;
 use cave_rows::Role;
 use cave_scene::{Rules, or_no_object};
 use cave_things::{is_liquid, lake};
-use cave_verbs::verbs::{FOO, POUR, SAY};
+use cave_verbs::Verb;
 use cave_words::{Class, Meaning, Named, Word};
 use cave_world::{Part, State, Talk, WordLine, motion};
 
@@ -154,7 +154,7 @@ fn action_alone(verb: u16, half: HalfCommand, word: Word) -> Understood
     ensures { result ≡ action_alone verb half word }
 {
     let object = half.object;
-    if verb == SAY {
+    if verb == Verb::Say.number() {
         half.asks(Request::Act(verb, Object::none(), word))
     } else {
         half.with_verb(Some(verb))
@@ -196,7 +196,7 @@ fn is_magic(meaning: Option<Meaning>) -> bool
                 meaning.number,
                 motion::XYZZY | motion::PLUGH | motion::PLOVER
             ),
-            Class::Action => meaning.number == FOO,
+            Class::Action => meaning.number == Verb::Foo.number(),
             Class::Object | Class::Special => false,
         },
     }
@@ -240,7 +240,7 @@ fn action_before(
 ) -> Understood
     ensures { result ≡ action_before (cave_of rules.now) state.now verb half next }
 {
-    if verb == SAY {
+    if verb == Verb::Say.number() {
         word_aloud(rules, state, half, next)
     } else {
         alone(rules, state, half.with_verb(Some(verb)), next)
@@ -311,7 +311,7 @@ fn pour_in(rules: &Rules<'_>) -> SaidWord
         word: Word::of(b"POUR", rules.lexicon.letters()),
         meaning: Some(Meaning {
             class: Class::Action,
-            number: POUR,
+            number: Verb::Pour.number(),
         }),
     }
 }
@@ -340,7 +340,7 @@ fn is_saying(verb: Option<u16>) -> bool
     ensures { result ≡ is_saying verb }
 {
     match verb {
-        Some(verb) => verb == SAY,
+        Some(verb) => verb == Verb::Say.number(),
         None => false,
     }
 }

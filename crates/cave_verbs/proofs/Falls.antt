@@ -1,7 +1,7 @@
 -- Where a verb goes on, the rank falls.
-use Rattle.std.proofs.Common.{◌≡◌, ℕ, ◌≤◌, zero, suc, true, false, arith, refl, sym, ◌∙◌}
+use Rattle.std.proofs.Common.{◌≡◌, ℕ, ◌<◌, ◌≤◌, zero, suc, true, false, arith, refl, sym, ◌∙◌}
 use Rattle.std.proofs.Common.{◌==◌, not}
-use Rattle.std.proofs.lemmas.Bool.{true≢false}
+use Rattle.std.proofs.lemmas.Bool.{true≢false, false≢true}
 use Rattle.std.specs.Prelude.{◌||◌, ◌&&◌, Option, Some, None, option_and_then}
 use Rattle.cave_data.specs.CaveView.{CaveView}
 use Rattle.cave_words.specs.Named.{object_named, object_of_word, next_object, name_of}
@@ -13,6 +13,9 @@ use Rattle.cave_scene.specs.Rules.{is_called}
 use Rattle.cave_things.specs.Reach.{is_in_hand, is_near}
 use Rattle.cave_objects.specs.Objects.{is_carried, is_first_at, spot_of}
 use Rattle.cave_things.specs.Liquids.{liquid_of, is_liquid}
+use Rattle.cave_verbs.specs.Opening.{opens_or_locks}
+use Rattle.cave_verbs.specs.declared.verb.Verb.{Verb}
+use Rattle.cave_verbs.specs.declared.verb.Verb.TheVariants as verb
 use Rattle.cave_verbs.specs.Ranks.{take_rank, drop_rank, bare_rank, rank}
 
 -- the bottle is no liquid
@@ -76,6 +79,22 @@ pub fill_falls : (cave : CaveView) (s : State) (x : ℕ) → is_near cave s x �
     → suc (bare_rank x) ≤ 1
 fill_falls cave s x near = let there = near-there cave s x near in grind (arith, there)
 
+-- from no object to one the rank of OPEN and LOCK falls
+pub lock_falls : (cave : CaveView) (v : Verb) (x : ℕ) → opens_or_locks v ≡ true → 0 < x
+    → suc (rank cave v x) ≤ 1
+lock_falls cave verb.Open x is some = grind (arith, some)
+lock_falls cave verb.Lock x is some = grind (arith, some)
+lock_falls cave _ x is some = absurd (false≢true is)
+
 -- no verb goes on more than three times
-pub few_ranks : (cave : CaveView) (v x : ℕ) → rank cave v x ≤ 3
-few_ranks cave v x = grind arith
+pub few_ranks : (cave : CaveView) (v : Verb) (x : ℕ) → rank cave v x ≤ 3
+few_ranks cave verb.Take x = grind arith
+few_ranks cave verb.Drop x = grind arith
+few_ranks cave verb.Throw x = grind arith
+few_ranks cave verb.Open x = grind arith
+few_ranks cave verb.Lock x = grind arith
+few_ranks cave verb.Kill x = grind arith
+few_ranks cave verb.Eat x = grind arith
+few_ranks cave verb.Fill x = grind arith
+few_ranks cave verb.Read x = grind arith
+few_ranks cave _ x = omega arith

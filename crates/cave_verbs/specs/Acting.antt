@@ -1,5 +1,5 @@
 -- What a verb does by its rules, and by those that it goes on with.
-use Rattle.std.specs.Prelude.{ℕ, ◌==◌, if◌then◌else◌, List, [], ◌∷◌, suc, zero}
+use Rattle.std.specs.Prelude.{ℕ, ◌==◌, if◌then◌else◌, List, suc, zero}
 use Rattle.cave_data.specs.CaveView.{CaveView}
 use Rattle.cave_scene.specs.Play.{Scene}
 use Rattle.cave_verbs.specs.Blasting.{blast_rows}
@@ -14,97 +14,82 @@ use Rattle.cave_verbs.specs.Magic.{bare_foo_rows}
 use Rattle.cave_verbs.specs.Opening.{bare_open_rows, open_rows}
 use Rattle.cave_verbs.specs.Pouring.{pour_rows, drink_rows, bare_fill_rows, fill_rows}
 use Rattle.cave_verbs.specs.Reading.{bare_read_rows, read_rows}
-use Rattle.cave_verbs.specs.Rows.{first_fitting}
+use Rattle.cave_verbs.specs.Rows.{VerbRow, first_fitting}
 use Rattle.cave_verbs.specs.Small.{bare_rows, other_rows, nothing_rows, bare_quit_rows}
 use Rattle.cave_verbs.specs.Small.{bare_score_rows, bare_brief_rows}
 use Rattle.cave_verbs.specs.Taking.{bare_take_rows, take_rows}
 use Rattle.cave_verbs.specs.Throwing.{throw_act}
-use Rattle.cave_verbs.specs.Verbs as verb
 use Rattle.cave_verbs.specs.Waving.{wave_rows, rub_rows}
 use Rattle.cave_verbs.specs.declared.next.Next.{Next}
 use Rattle.cave_verbs.specs.declared.next.Next.TheVariants.{Stay}
 use Rattle.cave_verbs.specs.declared.next.Step.{Step}
 use Rattle.cave_verbs.specs.declared.next.Step.TheVariants.{Done, GoOn}
 use Rattle.cave_verbs.specs.declared.order.Order.{Order}
+use Rattle.cave_verbs.specs.declared.verb.Verb.{Verb}
+use Rattle.cave_verbs.specs.declared.verb.Verb.TheVariants as verb
 
--- the rules of a verb
-pub record Rule : Type 0 where
-  pub verb : ℕ
-  pub act : Deed → Act
+-- the rows of a verb without an object
+abbrev pub bare_rows_of : Verb → List VerbRow
+bare_rows_of verb.Take = bare_take_rows
+bare_rows_of verb.Drop = bare_rows
+bare_rows_of verb.Say = bare_rows
+bare_rows_of verb.Open = bare_open_rows
+bare_rows_of verb.Nothing = nothing_rows
+bare_rows_of verb.Lock = bare_open_rows
+bare_rows_of verb.On = on_rows
+bare_rows_of verb.Off = off_rows
+bare_rows_of verb.Wave = bare_rows
+bare_rows_of verb.Calm = bare_rows
+bare_rows_of verb.Kill = bare_kill_rows
+bare_rows_of verb.Pour = pour_rows
+bare_rows_of verb.Eat = bare_eat_rows
+bare_rows_of verb.Drink = drink_rows
+bare_rows_of verb.Rub = bare_rows
+bare_rows_of verb.Throw = bare_rows
+bare_rows_of verb.Quit = bare_quit_rows
+bare_rows_of verb.Find = bare_rows
+bare_rows_of verb.Inventory = bare_inventory_rows
+bare_rows_of verb.Feed = bare_rows
+bare_rows_of verb.Fill = bare_fill_rows
+bare_rows_of verb.Blast = blast_rows
+bare_rows_of verb.Score = bare_score_rows
+bare_rows_of verb.Foo = bare_foo_rows
+bare_rows_of verb.Brief = bare_brief_rows
+bare_rows_of verb.Read = bare_read_rows
+bare_rows_of verb.Break = bare_rows
+bare_rows_of verb.Wake = bare_rows
 
-abbrev pub rule : ℕ → (Deed → Act) → Rule
-rule v f = record { verb = v; act = f }
-
--- the act by the rules of a verb; a verb that has none says what the cave has for it
-abbrev pub act_by : List Rule → ℕ → Deed → Act
-act_by [] v d = first_fitting other_rows d
-act_by (r ∷ rules) v d = if v == r.verb then r.act d else act_by rules v d
-
--- without an object
-abbrev pub bare_rules : List Rule
-bare_rules =
-    rule verb.TAKE (first_fitting bare_take_rows)
-    ∷ rule verb.DROP (first_fitting bare_rows)
-    ∷ rule verb.SAY (first_fitting bare_rows)
-    ∷ rule verb.OPEN (first_fitting bare_open_rows)
-    ∷ rule verb.NOTHING (first_fitting nothing_rows)
-    ∷ rule verb.LOCK (first_fitting bare_open_rows)
-    ∷ rule verb.ON (first_fitting on_rows)
-    ∷ rule verb.OFF (first_fitting off_rows)
-    ∷ rule verb.WAVE (first_fitting bare_rows)
-    ∷ rule verb.CALM (first_fitting bare_rows)
-    ∷ rule verb.KILL (first_fitting bare_kill_rows)
-    ∷ rule verb.POUR (first_fitting pour_rows)
-    ∷ rule verb.EAT (first_fitting bare_eat_rows)
-    ∷ rule verb.DRINK (first_fitting drink_rows)
-    ∷ rule verb.RUB (first_fitting bare_rows)
-    ∷ rule verb.THROW (first_fitting bare_rows)
-    ∷ rule verb.QUIT (first_fitting bare_quit_rows)
-    ∷ rule verb.FIND (first_fitting bare_rows)
-    ∷ rule verb.INVENTORY (first_fitting bare_inventory_rows)
-    ∷ rule verb.FEED (first_fitting bare_rows)
-    ∷ rule verb.FILL (first_fitting bare_fill_rows)
-    ∷ rule verb.BLAST (first_fitting blast_rows)
-    ∷ rule verb.SCORE (first_fitting bare_score_rows)
-    ∷ rule verb.FOO (first_fitting bare_foo_rows)
-    ∷ rule verb.BRIEF (first_fitting bare_brief_rows)
-    ∷ rule verb.READ (first_fitting bare_read_rows)
-    ∷ rule verb.BREAK (first_fitting bare_rows)
-    ∷ rule verb.WAKE (first_fitting bare_rows)
-    ∷ []
-
--- done to an object
-abbrev pub object_rules : List Rule
-object_rules =
-    rule verb.TAKE (first_fitting take_rows)
-    ∷ rule verb.DROP (first_fitting drop_rows)
-    ∷ rule verb.OPEN (first_fitting open_rows)
-    ∷ rule verb.NOTHING (first_fitting nothing_rows)
-    ∷ rule verb.LOCK (first_fitting open_rows)
-    ∷ rule verb.ON (first_fitting on_rows)
-    ∷ rule verb.OFF (first_fitting off_rows)
-    ∷ rule verb.WAVE (first_fitting wave_rows)
-    ∷ rule verb.KILL (first_fitting kill_rows)
-    ∷ rule verb.POUR (first_fitting pour_rows)
-    ∷ rule verb.EAT (first_fitting eat_rows)
-    ∷ rule verb.DRINK (first_fitting drink_rows)
-    ∷ rule verb.RUB (first_fitting rub_rows)
-    ∷ rule verb.THROW throw_act
-    ∷ rule verb.FIND (first_fitting find_rows)
-    ∷ rule verb.INVENTORY (first_fitting find_rows)
-    ∷ rule verb.FEED (first_fitting feed_rows)
-    ∷ rule verb.FILL (first_fitting fill_rows)
-    ∷ rule verb.BLAST (first_fitting blast_rows)
-    ∷ rule verb.READ (first_fitting read_rows)
-    ∷ rule verb.BREAK (first_fitting break_rows)
-    ∷ rule verb.WAKE (first_fitting wake_rows)
-    ∷ []
+-- what a verb does that is done to an object
+abbrev pub object_act : Verb → Deed → Act
+object_act verb.Take d = first_fitting take_rows d
+object_act verb.Drop d = first_fitting drop_rows d
+object_act verb.Open d = first_fitting open_rows d
+object_act verb.Nothing d = first_fitting nothing_rows d
+object_act verb.Lock d = first_fitting open_rows d
+object_act verb.On d = first_fitting on_rows d
+object_act verb.Off d = first_fitting off_rows d
+object_act verb.Wave d = first_fitting wave_rows d
+object_act verb.Kill d = first_fitting kill_rows d
+object_act verb.Pour d = first_fitting pour_rows d
+object_act verb.Eat d = first_fitting eat_rows d
+object_act verb.Drink d = first_fitting drink_rows d
+object_act verb.Rub d = first_fitting rub_rows d
+object_act verb.Throw d = throw_act d
+object_act verb.Find d = first_fitting find_rows d
+object_act verb.Inventory d = first_fitting find_rows d
+object_act verb.Feed d = first_fitting feed_rows d
+object_act verb.Fill d = first_fitting fill_rows d
+object_act verb.Blast d = first_fitting blast_rows d
+object_act verb.Read d = first_fitting read_rows d
+object_act verb.Break d = first_fitting break_rows d
+object_act verb.Wake d = first_fitting wake_rows d
+object_act _ d = first_fitting other_rows d
 
 unfoldable pub act_bare : Deed → Act
-act_bare d = act_by bare_rules d.order.verb d
+act_bare d = first_fitting (bare_rows_of d.order.verb) d
 
 unfoldable pub act_on : Deed → Act
-act_on d = act_by object_rules d.order.verb d
+act_on d = object_act d.order.verb d
 
 -- what a verb does by its own rules
 abbrev pub act_once : Deed → Act

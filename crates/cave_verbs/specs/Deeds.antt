@@ -4,6 +4,7 @@ use Rattle.cave_data.specs.CaveView.{CaveView}
 use Rattle.cave_scene.specs.Play.{Scene}
 use Rattle.cave_verbs.specs.declared.next.Step.{Step}
 use Rattle.cave_verbs.specs.declared.order.Order.{Order}
+use Rattle.cave_verbs.specs.declared.verb.Verb.{Verb}
 
 pub record Deed : Type 0 where
   pub cave : CaveView
@@ -22,10 +23,10 @@ abbrev pub acted : Scene → Step → Act
 acted p step = record { scene = p; step = step }
 
 -- the order of a command
-abbrev pub order_of : ℕ → ℕ → List ℕ → Order
+abbrev pub order_of : Verb → ℕ → List ℕ → Order
 order_of v x word = record { verb = v; object = x; commanded = v; word = word }
 
 -- the order that a verb goes on with: what the player commands stays
-abbrev pub going_on : Order → ℕ → ℕ → Order
+abbrev pub going_on : Order → Verb → ℕ → Order
 going_on order v x =
     record { verb = v; object = x; commanded = order.commanded; word = order.word }

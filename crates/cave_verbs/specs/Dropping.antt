@@ -7,7 +7,7 @@ use Rattle.cave_things.specs.Homes.{is_home_elsewhere}
 use Rattle.cave_verbs.specs.Effects.{say, default, look, bring, kill, fix, set_prop, put}
 use Rattle.cave_verbs.specs.Effects.{troll_goes, lose_to_snake}
 use Rattle.cave_verbs.specs.Rows.{VerbRow, Test, Thing, row, row_then, ends, goes_on}
-use Rattle.cave_verbs.specs.Verbs as verb
+use Rattle.cave_verbs.specs.declared.verb.Verb.TheVariants as verb
 use Rattle.cave_verbs.specs.Tests.{x, the, no, is, carries, near, is_here, prop, cave_closed}
 
 -- the player is elsewhere than where an object is at home
@@ -17,7 +17,7 @@ from_home t d = is_home_elsewhere d.cave d.scene.state (t d)
 unfoldable pub drop_rows : List VerbRow
 drop_rows =
     row_then (is name.Rod ∷ no (carries x) ∷ carries (the name.SecondRod) ∷ [])
-    [] (goes_on verb.DROP (the name.SecondRod))
+    [] (goes_on verb.Drop (the name.SecondRod))
     ∷ row (no (carries x) ∷ []) (default ∷ [])
     ∷ row_then (is name.Bird ∷ near (the name.Snake) ∷ cave_closed ∷ [])
     (say role.BirdSnake ∷ say role.Disturbed ∷ []) (ends ending.Killed)

@@ -1,6 +1,6 @@
 -- What rows of verbs do.
-use Rattle.std.specs.Prelude.{ℤ, ◌==◌, if◌then◌else◌}
-use Rattle.cave_data.specs.CaveView.{default_message}
+use Rattle.std.specs.Prelude.{ℕ, ℤ, ◌==◌, if◌then◌else◌}
+use Rattle.cave_data.specs.CaveView.{CaveView, default_message}
 use Rattle.cave_rows.specs.declared.role.Role.{Role}
 use Rattle.cave_objects.specs.Objects.{with_place, with_carried, with_anchor, with_latest, with_prop}
 use Rattle.cave_world.specs.declared.part.Part.{Part}
@@ -13,6 +13,7 @@ use Rattle.cave_things.specs.Effects.{with_objects}
 use Rattle.cave_scene.specs.Play.{Scene, with_state, after_telling, after_saying, after_look_at}
 use Rattle.cave_verbs.specs.Deeds.{Deed}
 use Rattle.cave_verbs.specs.Rows.{Effect, Thing}
+use Rattle.cave_verbs.specs.Verbs.{verb_number}
 
 abbrev pub in_scene : Scene → Deed → Deed
 in_scene p d = record d { scene = p }
@@ -27,11 +28,15 @@ tell told d = in_scene (after_telling told d.scene) d
 abbrev pub say : Role → Effect
 say role d = in_scene (after_saying role d.scene) d
 
--- the message that the cave gives the verb is said, if there is one
+-- the message that the cave gives an action is said, if there is one
+abbrev pub after_default : CaveView → ℕ → Scene → Scene
+after_default cave number p =
+    if default_message cave number == 0 then p
+    else after_telling (part.Message (default_message cave number)) p
+
+-- the message that the cave gives the verb
 abbrev pub default : Effect
-default d =
-    if default_message d.cave d.order.verb == 0 then d
-    else tell (part.Message (default_message d.cave d.order.verb)) d
+default d = in_scene (after_default d.cave (verb_number d.order.verb) d.scene) d
 
 -- the word that was just read is asked back
 abbrev pub ask_what : Effect

@@ -8,7 +8,7 @@ use Rattle.cave_scene.specs.Rules.{is_one_of}
 use Rattle.cave_verbs.specs.Effects.{in_state, say, default, ask_what, kill, loosen, set_prop}
 use Rattle.cave_verbs.specs.Effects.{lose_one}
 use Rattle.cave_verbs.specs.Rows.{VerbRow, Test, Effect, row, row_then, keeps, goes_on}
-use Rattle.cave_verbs.specs.Verbs as verb
+use Rattle.cave_verbs.specs.declared.verb.Verb.TheVariants as verb
 use Rattle.cave_verbs.specs.Tests.{x, the, no, either, is, near, prop, other_prop, cave_closed}
 
 -- the order's object has one of the names
@@ -45,7 +45,7 @@ feed_rows =
 
 unfoldable pub bare_eat_rows : List VerbRow
 bare_eat_rows =
-    row_then (near (the name.Food) ∷ []) [] (goes_on verb.EAT (the name.Food))
+    row_then (near (the name.Food) ∷ []) [] (goes_on verb.Eat (the name.Food))
     ∷ row_then [] (ask_what ∷ []) keeps
     ∷ []
 

@@ -1,5 +1,5 @@
 -- KILL.
-use Rattle.std.specs.Prelude.{ℕ, pos, ◌==◌, List, [], ◌∷◌}
+use Rattle.std.specs.Prelude.{ℕ, pos, List, [], ◌∷◌}
 use Rattle.cave_rows.specs.declared.role.Role.TheVariants as role
 use Rattle.cave_words.specs.declared.named.Named.TheVariants as name
 use Rattle.cave_world.specs.declared.ending.Ending.TheVariants as ending
@@ -8,13 +8,15 @@ use Rattle.cave_verbs.specs.Choice.{candidate, objects_meant, several, first}
 use Rattle.cave_verbs.specs.Deeds.{Deed}
 use Rattle.cave_verbs.specs.Effects.{say, default, ask_what, kill, set_prop, lose_to_snake}
 use Rattle.cave_verbs.specs.Rows.{VerbRow, Test, row, row_then, keeps, asks, ends, goes_on}
-use Rattle.cave_verbs.specs.Verbs as verb
+use Rattle.cave_verbs.specs.Verbs.{is_verb}
+use Rattle.cave_verbs.specs.declared.verb.Verb.{Verb}
+use Rattle.cave_verbs.specs.declared.verb.Verb.TheVariants as verb
 use Rattle.cave_verbs.specs.Tests.{x, the, no, either, both, there_is, is, near, is_here, prop}
 use Rattle.cave_verbs.specs.Tests.{dwarf, cave_closed}
 
 -- the player's own verb, which may have gone on to this one
-abbrev pub is_typed : ℕ → Test
-is_typed v d = d.order.commanded == v
+abbrev pub is_typed : Verb → Test
+is_typed v d = is_verb d.order.commanded v
 
 abbrev pub foes : Deed → List ℕ
 foes = objects_meant
@@ -28,16 +30,16 @@ foes = objects_meant
 -- what is killed where there is no foe
 abbrev pub prey : Deed → List ℕ
 prey = objects_meant
-    (candidate name.Bird (both (near (the name.Bird)) (no (is_typed verb.THROW)))
+    (candidate name.Bird (both (near (the name.Bird)) (no (is_typed verb.Throw)))
     ∷ candidate name.Clam (either (near (the name.Clam)) (near (the name.Oyster)))
     ∷ [])
 
 unfoldable pub bare_kill_rows : List VerbRow
 bare_kill_rows =
     row_then (several foes ∷ []) (ask_what ∷ []) keeps
-    ∷ row_then (there_is (first foes) ∷ []) [] (goes_on verb.KILL (first foes))
+    ∷ row_then (there_is (first foes) ∷ []) [] (goes_on verb.Kill (first foes))
     ∷ row_then (several prey ∷ []) (ask_what ∷ []) keeps
-    ∷ row_then (there_is (first prey) ∷ []) [] (goes_on verb.KILL (first prey))
+    ∷ row_then (there_is (first prey) ∷ []) [] (goes_on verb.Kill (first prey))
     ∷ row [] (say role.NoneToKill ∷ [])
     ∷ []
 

@@ -1,5 +1,5 @@
 -- OPEN and LOCK.
-use Rattle.std.specs.Prelude.{ℕ, pos, List, [], ◌∷◌, ◌==◌, if◌then◌else◌, Option, Some, None}
+use Rattle.std.specs.Prelude.{ℕ, pos, Bool, true, false, List, [], ◌∷◌, if◌then◌else◌, Option, Some, None}
 use Rattle.cave_data.specs.CaveView.{CaveView}
 use Rattle.cave_rows.specs.declared.place_role.PlaceRole.{PlaceRole}
 use Rattle.cave_rows.specs.declared.place_role.PlaceRole.TheVariants as place
@@ -17,18 +17,25 @@ use Rattle.cave_verbs.specs.Deeds.{Deed}
 use Rattle.cave_verbs.specs.Effects.{in_state, say, default, ask_what, bring, kill, fix, loosen}
 use Rattle.cave_verbs.specs.Effects.{set_prop, lay_down}
 use Rattle.cave_verbs.specs.Rows.{VerbRow, Test, Effect, Thing, row, row_then, keeps}
-use Rattle.cave_verbs.specs.Verbs as verb
+use Rattle.cave_verbs.specs.declared.verb.Verb.{Verb}
+use Rattle.cave_verbs.specs.declared.verb.Verb.TheVariants as verb
 use Rattle.cave_verbs.specs.Tests.{x, the, no, either, there_is, is, carries, near, prop}
 use Rattle.cave_verbs.specs.Tests.{other_prop}
 use Rattle.cave_verbs.specs.Tests.{cave_closing}
+use Rattle.cave_verbs.specs.Verbs.{is_verb}
 use Rattle.cave_verbs.specs.declared.next.Step.{Step}
 use Rattle.cave_verbs.specs.declared.next.Step.TheVariants.{GoOn}
 
+abbrev pub opens_or_locks : Verb → Bool
+opens_or_locks verb.Open = true
+opens_or_locks verb.Lock = true
+opens_or_locks _ = false
+
 abbrev pub is_opening : Test
-is_opening d = d.order.verb == verb.OPEN
+is_opening d = is_verb d.order.verb verb.Open
 
 abbrev pub is_locking : Test
-is_locking d = d.order.verb == verb.LOCK
+is_locking d = is_verb d.order.verb verb.Lock
 
 -- the player isn't where the order's object is at home
 abbrev pub away_from_home : Test
@@ -70,6 +77,33 @@ bare_open_rows =
     ∷ row [] (say role.NoLock ∷ [])
     ∷ []
 
+-- with the keys: what is done to the chain, and of what is neither grate nor chain the default
+unfoldable pub chain_rows : List VerbRow
+chain_rows =
+    row (is name.Chain ∷ is_opening ∷ prop x (pos 0) ∷ []) (say role.WasUnlocked ∷ [])
+    ∷ row (is name.Chain ∷ is_opening ∷ prop (the name.Bear) (pos 0) ∷ []) (say role.BearBars ∷ [])
+    ∷ row (is name.Chain ∷ is_opening ∷ prop (the name.Bear) (pos 3) ∷ [])
+    (set_prop x (pos 0) ∷ loosen x ∷ fix (the name.Bear) ∷ say role.ChainFree ∷ [])
+    ∷ row (is name.Chain ∷ is_opening ∷ [])
+    (set_prop x (pos 0) ∷ loosen x ∷ set_prop (the name.Bear) (pos 2) ∷ loosen (the name.Bear)
+    ∷ say role.ChainFree ∷ [])
+    ∷ row (is name.Chain ∷ away_from_home ∷ []) (say role.NoLockHere ∷ [])
+    ∷ row (is name.Chain ∷ other_prop x (pos 0) ∷ []) (say role.WasLocked ∷ [])
+    ∷ row (is name.Chain ∷ []) (lay_down x ∷ set_prop x (pos 2) ∷ fix x ∷ say role.ChainLock ∷ [])
+    ∷ row [] (default ∷ [])
+    ∷ []
+
+-- with the keys: what is done to the grate, and then to the chain
+unfoldable pub lock_rows : List VerbRow
+lock_rows =
+    row (is name.Grate ∷ cave_closing ∷ []) (say role.ClosingExit ∷ panic ∷ [])
+    ∷ row (is name.Grate ∷ is_opening ∷ prop x (pos 0) ∷ [])
+    (set_prop x (pos 1) ∷ say role.Unlocked ∷ [])
+    ∷ row (is name.Grate ∷ is_opening ∷ []) (say role.WasUnlocked ∷ [])
+    ∷ row (is name.Grate ∷ prop x (pos 0) ∷ []) (say role.WasLocked ∷ [])
+    ∷ row (is name.Grate ∷ []) (set_prop x (pos 0) ∷ say role.Locked ∷ [])
+    ∷ chain_rows
+
 unfoldable pub open_rows : List VerbRow
 open_rows =
     row (either (is name.Clam) (is name.Oyster) ∷ is_locking ∷ []) (say role.LockWhat ∷ [])
@@ -86,21 +120,4 @@ open_rows =
     ∷ row (is name.Keys ∷ []) (say role.KeysWhat ∷ [])
     ∷ row (either (is name.Grate) (is name.Chain) ∷ no (near (the name.Keys)) ∷ [])
     (say role.NoKeys ∷ [])
-    ∷ row (is name.Grate ∷ cave_closing ∷ []) (say role.ClosingExit ∷ panic ∷ [])
-    ∷ row (is name.Grate ∷ is_opening ∷ prop x (pos 0) ∷ [])
-    (set_prop x (pos 1) ∷ say role.Unlocked ∷ [])
-    ∷ row (is name.Grate ∷ is_opening ∷ []) (say role.WasUnlocked ∷ [])
-    ∷ row (is name.Grate ∷ prop x (pos 0) ∷ []) (say role.WasLocked ∷ [])
-    ∷ row (is name.Grate ∷ []) (set_prop x (pos 0) ∷ say role.Locked ∷ [])
-    ∷ row (is name.Chain ∷ is_opening ∷ prop x (pos 0) ∷ []) (say role.WasUnlocked ∷ [])
-    ∷ row (is name.Chain ∷ is_opening ∷ prop (the name.Bear) (pos 0) ∷ []) (say role.BearBars ∷ [])
-    ∷ row (is name.Chain ∷ is_opening ∷ prop (the name.Bear) (pos 3) ∷ [])
-    (set_prop x (pos 0) ∷ loosen x ∷ fix (the name.Bear) ∷ say role.ChainFree ∷ [])
-    ∷ row (is name.Chain ∷ is_opening ∷ [])
-    (set_prop x (pos 0) ∷ loosen x ∷ set_prop (the name.Bear) (pos 2) ∷ loosen (the name.Bear)
-    ∷ say role.ChainFree ∷ [])
-    ∷ row (is name.Chain ∷ away_from_home ∷ []) (say role.NoLockHere ∷ [])
-    ∷ row (is name.Chain ∷ other_prop x (pos 0) ∷ []) (say role.WasLocked ∷ [])
-    ∷ row (is name.Chain ∷ []) (lay_down x ∷ set_prop x (pos 2) ∷ fix x ∷ say role.ChainLock ∷ [])
-    ∷ row [] (default ∷ [])
-    ∷ []
+    ∷ lock_rows

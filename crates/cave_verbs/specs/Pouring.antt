@@ -12,7 +12,7 @@ use Rattle.cave_things.specs.Liquids.{liquid_of}
 use Rattle.cave_scene.specs.Rules.{is_called}
 use Rattle.cave_verbs.specs.Effects.{say, default, ask_what, look, bring, fix, set_prop}
 use Rattle.cave_verbs.specs.Rows.{VerbRow, Test, Effect, Thing, row, row_then, keeps, again, goes_on}
-use Rattle.cave_verbs.specs.Verbs as verb
+use Rattle.cave_verbs.specs.declared.verb.Verb.TheVariants as verb
 use Rattle.cave_verbs.specs.Tests.{x, the, bare, no, either, both, is, carries, near, is_here}
 use Rattle.cave_verbs.specs.Tests.{in_bottle, bottle_full, in_lake, lake}
 
@@ -79,7 +79,7 @@ drink_rows =
 
 unfoldable pub bare_fill_rows : List VerbRow
 bare_fill_rows =
-    row_then (near (the name.Bottle) ∷ []) [] (goes_on verb.FILL (the name.Bottle))
+    row_then (near (the name.Bottle) ∷ []) [] (goes_on verb.Fill (the name.Bottle))
     ∷ row_then [] (ask_what ∷ []) keeps
     ∷ []
 

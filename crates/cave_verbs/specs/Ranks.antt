@@ -4,9 +4,10 @@ use Rattle.std.specs.Prelude.{ℕ, suc, ◌==◌, ◌||◌, if◌then◌else◌}
 use Rattle.cave_data.specs.CaveView.{CaveView}
 use Rattle.cave_words.specs.declared.named.Named.TheVariants as name
 use Rattle.cave_scene.specs.Rules.{is_called}
-use Rattle.cave_verbs.specs.Verbs as verb
 use Rattle.cave_verbs.specs.declared.next.Step.{Step}
 use Rattle.cave_verbs.specs.declared.next.Step.TheVariants.{Done, GoOn}
+use Rattle.cave_verbs.specs.declared.verb.Verb.{Verb}
+use Rattle.cave_verbs.specs.declared.verb.Verb.TheVariants as verb
 
 -- TAKE goes on from no object to one, and from a liquid to the bottle, or to FILL it
 abbrev pub take_rank : CaveView → ℕ → ℕ
@@ -26,14 +27,17 @@ throw_rank cave x = if is_called cave x name.Rod then 3 else 2
 abbrev pub bare_rank : ℕ → ℕ
 bare_rank x = if x == 0 then 1 else 0
 
-abbrev pub rank : CaveView → ℕ → ℕ → ℕ
-rank cave v x =
-    if v == verb.TAKE then take_rank cave x
-    else (if v == verb.DROP then drop_rank cave x
-    else (if v == verb.THROW then throw_rank cave x
-    else (if v == verb.OPEN || v == verb.LOCK || v == verb.KILL || v == verb.EAT || v == verb.FILL
-    || v == verb.READ then bare_rank x
-    else 0)))
+abbrev pub rank : CaveView → Verb → ℕ → ℕ
+rank cave verb.Take x = take_rank cave x
+rank cave verb.Drop x = drop_rank cave x
+rank cave verb.Throw x = throw_rank cave x
+rank cave verb.Open x = bare_rank x
+rank cave verb.Lock x = bare_rank x
+rank cave verb.Kill x = bare_rank x
+rank cave verb.Eat x = bare_rank x
+rank cave verb.Fill x = bare_rank x
+rank cave verb.Read x = bare_rank x
+rank cave _ x = 0
 
 -- a verb that goes on is above what it goes on with
 abbrev pub rank_of : CaveView → Step → ℕ

@@ -12,7 +12,7 @@ use Rattle.cave_verbs.specs.Choice.{candidate, objects_meant, only}
 use Rattle.cave_verbs.specs.Deeds.{Deed}
 use Rattle.cave_verbs.specs.Effects.{tell, say, default, ask_what}
 use Rattle.cave_verbs.specs.Rows.{VerbRow, Test, Effect, Thing, row, row_then, keeps, asks, goes_on}
-use Rattle.cave_verbs.specs.Verbs as verb
+use Rattle.cave_verbs.specs.declared.verb.Verb.TheVariants as verb
 use Rattle.cave_verbs.specs.Tests.{x, the, no, there_is, is, carries, near, cave_closed}
 
 -- the player sees nothing
@@ -41,7 +41,7 @@ what_to_read d =
 
 unfoldable pub bare_read_rows : List VerbRow
 bare_read_rows =
-    row_then (there_is what_to_read ∷ no dark ∷ []) [] (goes_on verb.READ what_to_read)
+    row_then (there_is what_to_read ∷ no dark ∷ []) [] (goes_on verb.Read what_to_read)
     ∷ row_then [] (ask_what ∷ []) keeps
     ∷ []
 

@@ -2,15 +2,19 @@
 use Rattle.std.specs.Prelude.{◌≡◌, ℕ, Bool, true, ◌&&◌, if◌then◌else◌, List, [], ◌∷◌}
 use Rattle.cave_world.specs.declared.ending.Ending.{Ending}
 use Rattle.cave_world.specs.declared.ending.Question.{Question}
-use Rattle.cave_scene.specs.Play.{scene_of}
+use Rattle.cave_scene.specs.Bounds.{SaysUpTo}
+use Rattle.cave_scene.specs.Play.{scene_of, GoesOn}
 use Rattle.cave_scene.specs.Rules.{cave_of}
 use Rattle.cave_scene.specs.declared.play.Play.{Play}
 use Rattle.cave_scene.specs.declared.rules.Rules.{Rules}
 use Rattle.cave_verbs.specs.Deeds.{Deed, Act, deed, acted}
+use Rattle.cave_verbs.specs.Room.{parts_by}
+use Rattle.cave_verbs.specs.declared.next.Next.{Next}
 use Rattle.cave_verbs.specs.declared.next.Next.TheVariants as next_is
 use Rattle.cave_verbs.specs.declared.next.Step.{Step}
 use Rattle.cave_verbs.specs.declared.next.Step.TheVariants.{Done, GoOn}
 use Rattle.cave_verbs.specs.declared.order.Order.{Order}
+use Rattle.cave_verbs.specs.declared.verb.Verb.{Verb}
 
 abbrev pub Test : Type 0
 Test = Deed → Bool
@@ -50,7 +54,7 @@ abbrev pub ends : Ending → Deed → Step
 ends how d = Done (next_is.End how)
 
 -- it goes on with a verb and an object
-abbrev pub goes_on : ℕ → Thing → Deed → Step
+abbrev pub goes_on : Verb → Thing → Deed → Step
 goes_on verb x d = GoOn verb (x d)
 
 -- a row after which nothing follows
@@ -78,13 +82,23 @@ abbrev pub first_fitting : List VerbRow → Deed → Act
 first_fitting [] d = acted d.scene (stays d)
 first_fitting (r ∷ rows) d = if fits r.tests d then act_of_row r d else first_fitting rows d
 
--- a play has come to what a rule says of an order, and so has what follows
+-- the same play has come to what a rule says of an order, and so has what follows; it said so many
+-- parts at most
 abbrev pub ActsBy : (Deed → Act) → Rules → Order → Play → Play → Step → Type 0
 ActsBy f rules order old new step =
-    acted (scene_of new) step ≡ f (deed (cave_of rules) order (scene_of old))
-
-abbrev pub ByRow : VerbRow → Rules → Order → Play → Play → Step → Type 0
-ByRow r rules order old new step = ActsBy (act_of_row r) rules order old new step
+    (acted (scene_of new) step ≡ f (deed (cave_of rules) order (scene_of old)))
+    × GoesOn old new
+    × SaysUpTo (parts_by step) old new
 
 abbrev pub ByRows : List VerbRow → Rules → Order → Play → Play → Step → Type 0
 ByRows rows rules order old new step = ActsBy (first_fitting rows) rules order old new step
+
+-- the same where nothing is gone on with
+abbrev pub DoneBy : (Deed → Act) → Rules → Order → Play → Play → Next → Type 0
+DoneBy f rules order old new next = ActsBy f rules order old new (Done next)
+
+abbrev pub DoneByRow : VerbRow → Rules → Order → Play → Play → Next → Type 0
+DoneByRow r rules order old new next = DoneBy (act_of_row r) rules order old new next
+
+abbrev pub DoneByRows : List VerbRow → Rules → Order → Play → Play → Next → Type 0
+DoneByRows rows rules order old new next = DoneBy (first_fitting rows) rules order old new next

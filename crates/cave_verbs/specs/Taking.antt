@@ -8,7 +8,7 @@ use Rattle.cave_objects.specs.declared.object.Half.{Half}
 use Rattle.cave_verbs.specs.Effects.{say, default, ask_what, carry}
 use Rattle.cave_verbs.specs.Effects.{set_prop}
 use Rattle.cave_verbs.specs.Rows.{VerbRow, Thing, row, row_then, keeps, goes_on}
-use Rattle.cave_verbs.specs.Verbs as verb
+use Rattle.cave_verbs.specs.declared.verb.Verb.TheVariants as verb
 use Rattle.cave_verbs.specs.Tests.{x, the, no, either, there_is, is, carries, near}
 use Rattle.cave_verbs.specs.Tests.{immovable}
 use Rattle.cave_verbs.specs.Tests.{prop, other_prop, prop_up_to, dwarf, in_bottle}
@@ -24,7 +24,7 @@ lone d = lone_object (halves_at d.scene.state.trail.here d.scene.state.objects.l
 
 unfoldable pub bare_take_rows : List VerbRow
 bare_take_rows =
-    row_then (there_is lone ∷ no dwarf ∷ []) [] (goes_on verb.TAKE lone)
+    row_then (there_is lone ∷ no dwarf ∷ []) [] (goes_on verb.Take lone)
     ∷ row_then [] (ask_what ∷ []) keeps
     ∷ []
 
@@ -49,9 +49,9 @@ take_rows =
     ∷ row (immovable x ∷ is name.Chain ∷ other_prop (the name.Bear) (pos 0) ∷ [])
     (say role.ChainLocked ∷ [])
     ∷ row (immovable x ∷ []) (say role.Immovable ∷ [])
-    ∷ row_then (in_bottle x ∷ near (the name.Bottle) ∷ []) [] (goes_on verb.TAKE (the name.Bottle))
+    ∷ row_then (in_bottle x ∷ near (the name.Bottle) ∷ []) [] (goes_on verb.Take (the name.Bottle))
     ∷ row_then (either (is name.Water) (is name.Oil) ∷ carries (the name.Bottle)
-    ∷ prop (the name.Bottle) (pos 1) ∷ []) [] (goes_on verb.FILL (the name.Bottle))
+    ∷ prop (the name.Bottle) (pos 1) ∷ []) [] (goes_on verb.Fill (the name.Bottle))
     ∷ row (either (is name.Water) (is name.Oil) ∷ carries (the name.Bottle) ∷ [])
     (say role.BottleFull ∷ [])
     ∷ row (either (is name.Water) (is name.Oil) ∷ []) (say role.NoBottle ∷ [])

@@ -14,7 +14,7 @@ use Rattle.cave_verbs.specs.Effects.{in_state, say, default, bring, kill, fix, j
 use Rattle.cave_verbs.specs.Effects.{set_prop, troll_goes}
 use Rattle.cave_verbs.specs.Rows.{VerbRow, Test, Effect, Thing, row, row_then, again, goes_on}
 use Rattle.cave_verbs.specs.Rows.{fits, act_of_row, first_fitting}
-use Rattle.cave_verbs.specs.Verbs as verb
+use Rattle.cave_verbs.specs.declared.verb.Verb.TheVariants as verb
 use Rattle.cave_verbs.specs.Tests.{x, the, no, is, carries, near, is_here, prop, dwarf, treasure}
 
 -- no object
@@ -63,11 +63,11 @@ first_fitting_or (r ∷ rows) otherwise d =
 unfoldable pub throw_rows : List VerbRow
 throw_rows =
     row_then (is name.Rod ∷ no (carries x) ∷ carries (the name.SecondRod) ∷ [])
-    [] (goes_on verb.THROW (the name.SecondRod))
+    [] (goes_on verb.Throw (the name.SecondRod))
     ∷ row (no (carries x) ∷ []) (default ∷ [])
     ∷ row (treasure x ∷ is_here (the name.Troll) ∷ []) (kill x ∷ troll_goes ∷ say role.TrollPaid ∷ [])
-    ∷ row_then (is name.Food ∷ near (the name.Bear) ∷ []) [] (goes_on verb.FEED (the name.Bear))
-    ∷ row_then (no (is name.Axe) ∷ []) [] (goes_on verb.DROP x)
+    ∷ row_then (is name.Food ∷ near (the name.Bear) ∷ []) [] (goes_on verb.Feed (the name.Bear))
+    ∷ row_then (no (is name.Axe) ∷ []) [] (goes_on verb.Drop x)
     ∷ []
 
 -- the axe at a dwarf, once it is drawn whether it hits
@@ -90,7 +90,7 @@ axe_rows =
     ∷ row_then (is_here (the name.Troll) ∷ []) (say role.AxeTroll ∷ bring x ∷ []) again
     ∷ row (near (the name.Bear) ∷ prop (the name.Bear) (pos 0) ∷ [])
     (bring x ∷ fix x ∷ set_prop x (pos 1) ∷ juggle (the name.Bear) ∷ say role.AxeBear ∷ [])
-    ∷ row_then [] [] (goes_on verb.KILL no_thing)
+    ∷ row_then [] [] (goes_on verb.Kill no_thing)
     ∷ []
 
 -- the axe is thrown at a dwarf: one number of three is drawn, and 0 is a miss

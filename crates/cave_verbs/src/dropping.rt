@@ -1,17 +1,15 @@
 ghost use Rattle.std.specs.Prelude.{◌≤◌, IsTrue};
 ghost use Rattle.cave_words.specs.declared.named.Named.TheVariants as name;
-ghost use Rattle.cave_scene.specs.Rules.{is_called};
+ghost use Rattle.cave_scene.specs.Rules.{is_called, cave_of, thing};
 ghost use Rattle.cave_things.specs.Reach.{is_in_hand, is_near};
-ghost use Rattle.cave_scene.specs.Bounds.{HasRoom, SaysUpTo, parts_of_row};
-ghost use Rattle.cave_scene.specs.Play.{GoesOn};
-ghost use Rattle.cave_verbs.specs.Rows.{ByRows};
-ghost use Rattle.cave_scene.specs.Rules.{cave_of, thing};
+ghost use Rattle.cave_scene.specs.Bounds.{HasRoom, parts_of_row};
+ghost use Rattle.cave_verbs.specs.Rows.{ByRows, DoneByRows};
 ghost use Rattle.cave_verbs.specs.Ranks.{rank_of, drop_rank};
 ghost use Rattle.cave_verbs.specs.Dropping.{drop_rows};
 
 use crate::next::{Next, Step};
 use crate::order::Order;
-use crate::verbs::DROP;
+use crate::verb::Verb;
 use cave_objects::{Anchor, Prop};
 use cave_rows::Role;
 use cave_scene::{Play, Rules};
@@ -20,26 +18,23 @@ use cave_words::Named;
 
 /// The bird drives the snake away; in the closed cave it wakes the dwarves.
 #[tactic(auto, unfolding(crate::specs::Dropping::drop_rows))]
-fn drop_bird_by_snake(rules: &Rules<'_>, order: Order, play: &mut Play<'_>) -> Step
+fn drop_bird_by_snake(rules: &Rules<'_>, order: Order, play: &mut Play<'_>) -> Next
     requires room { HasRoom parts_of_row play.old }
     requires held { IsTrue (is_in_hand (cave_of rules.now) play.old.state.now order.object) }
     requires bird { IsTrue (is_called (cave_of rules.now) order.object name.Bird) }
     requires snake { let cave = cave_of rules.now in
         IsTrue (is_near cave play.old.state.now (thing cave name.Snake)) }
-    ensures row { ByRows drop_rows rules.now order play.old play.new result }
-    ensures same { GoesOn play.old play.new }
-    ensures few { SaysUpTo parts_of_row play.old play.new }
-    ensures ranks { rank_of (cave_of rules.now) result ≤ 0 }
+    ensures row { DoneByRows drop_rows rules.now order play.old play.new result }
 {
     if play.state.closing.is_closed {
-        Step::say(Role::BirdSnake, play);
-        return Step::disturb(play);
+        play.say(Role::BirdSnake);
+        return Next::disturb(play);
     }
     let snake = rules.object(Named::Snake);
     play.state.destroy(snake);
     play.state.objects.set_prop(snake, Prop::new(1));
     put_down(rules, order.object, play.state);
-    Step::say(Role::BirdSnake, play)
+    Next::say(Role::BirdSnake, play)
 }
 
 /// DROP an object.
@@ -47,8 +42,6 @@ fn drop_bird_by_snake(rules: &Rules<'_>, order: Order, play: &mut Play<'_>) -> S
 pub fn drop_object(rules: &Rules<'_>, order: Order, play: &mut Play<'_>) -> Step
     requires { HasRoom parts_of_row play.old }
     ensures row { ByRows drop_rows rules.now order play.old play.new result }
-    ensures same { GoesOn play.old play.new }
-    ensures few { SaysUpTo parts_of_row play.old play.new }
     ensures ranks { let cave = cave_of rules.now in
         rank_of cave result ≤ drop_rank cave order.object }
 {
@@ -56,12 +49,12 @@ pub fn drop_object(rules: &Rules<'_>, order: Order, play: &mut Play<'_>) -> Step
     if !is_in_hand(rules, play.state, x) {
         let second_rod = rules.object(Named::SecondRod);
         if rules.is(x, Named::Rod) && is_in_hand(rules, play.state, second_rod) {
-            return Step::GoOn(DROP, second_rod);
+            return Step::GoOn(Verb::Drop, second_rod);
         }
-        return order.say_default(rules, play);
+        return Step::Done(order.say_default(rules, play));
     }
     if rules.is(x, Named::Bird) && is_near(rules, play.state, rules.object(Named::Snake)) {
-        return drop_bird_by_snake(rules, order, play);
+        return Step::Done(drop_bird_by_snake(rules, order, play));
     }
     if rules.is(x, Named::Coins) && is_near(rules, play.state, rules.object(Named::Vending)) {
         let batteries = rules.object(Named::Batteries);
@@ -76,14 +69,14 @@ pub fn drop_object(rules: &Rules<'_>, order: Order, play: &mut Play<'_>) -> Step
         play.state.destroy(x);
         play.state.objects.set_prop(x, Prop::new(0));
         lose(rules, play.state);
-        return Step::say(Role::BirdDragon, play);
+        return Step::Done(Next::say(Role::BirdDragon, play));
     }
     let troll = rules.object(Named::Troll);
     if rules.is(x, Named::Bear) && play.state.is_here(troll) {
         remove_troll(rules, play.state);
         play.state.objects.set_prop(troll, Prop::new(2));
         put_down(rules, x, play.state);
-        return Step::say(Role::TrollFlees, play);
+        return Step::Done(Next::say(Role::TrollFlees, play));
     }
     let pillow = rules.object(Named::Pillow);
     if rules.is(x, Named::Vase) && is_home_elsewhere(rules, play.state, pillow) {
@@ -99,5 +92,5 @@ pub fn drop_object(rules: &Rules<'_>, order: Order, play: &mut Play<'_>) -> Step
         return Step::Done(Next::Stay);
     }
     put_down(rules, x, play.state);
-    Step::say(Role::Ok, play)
+    Step::Done(Next::say(Role::Ok, play))
 }

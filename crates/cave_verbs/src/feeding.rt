@@ -1,14 +1,13 @@
 ghost use Rattle.std.specs.Prelude.{◌≤◌};
-ghost use Rattle.cave_scene.specs.Bounds.{HasRoom, SaysUpTo, parts_of_row};
-ghost use Rattle.cave_scene.specs.Play.{GoesOn};
-ghost use Rattle.cave_verbs.specs.Rows.{ByRows};
+ghost use Rattle.cave_scene.specs.Bounds.{HasRoom, parts_of_row};
+ghost use Rattle.cave_verbs.specs.Rows.{ByRows, DoneByRows};
 ghost use Rattle.cave_scene.specs.Rules.{cave_of};
 ghost use Rattle.cave_verbs.specs.Ranks.{rank_of};
 ghost use Rattle.cave_verbs.specs.Feeding.{feed_rows, bare_eat_rows, eat_rows};
 
-use crate::next::Step;
+use crate::next::{Next, Step};
 use crate::order::Order;
-use crate::verbs::EAT;
+use crate::verb::Verb;
 use cave_objects::{Anchor, Prop};
 use cave_rows::Role;
 use cave_scene::{Play, Rules};
@@ -29,62 +28,51 @@ const LIVING: [Named; 8] = [
 
 /// FEED an object.
 #[tactic(auto, unfolding(crate::specs::Feeding::feed_rows))]
-pub fn feed(rules: &Rules<'_>, order: Order, play: &mut Play<'_>) -> Step
+pub fn feed(rules: &Rules<'_>, order: Order, play: &mut Play<'_>) -> Next
     requires { HasRoom parts_of_row play.old }
-    ensures row { ByRows feed_rows rules.now order play.old play.new result }
-    ensures same { GoesOn play.old play.new }
-    ensures few { SaysUpTo parts_of_row play.old play.new }
-    ensures ranks { rank_of (cave_of rules.now) result ≤ 0 }
+    ensures row { DoneByRows feed_rows rules.now order play.old play.new result }
 {
     let x = order.object;
     let bird = rules.object(Named::Bird);
     let food = rules.object(Named::Food);
     let axe = rules.object(Named::Axe);
-    if rules.is(x, Named::Bird) {
-        return Step::say(Role::BirdFeed, play);
-    }
-    if rules.is(x, Named::Snake)
+    let role = if rules.is(x, Named::Bird) {
+        Role::BirdFeed
+    } else if rules.is(x, Named::Snake)
         && !play.state.closing.is_closed
         && is_near(rules, play.state, bird)
     {
         play.state.destroy(bird);
         play.state.objects.set_prop(bird, Prop::new(0));
         lose_one(play.state);
-        return Step::say(Role::BirdEaten, play);
-    }
-    if rules.is(x, Named::Dragon) && has_other_prop(play.state, x, 0) {
-        return Step::say(Role::Ridiculous, play);
-    }
-    if rules.is(x, Named::Snake) || rules.is(x, Named::Dragon) {
-        return Step::say(Role::NotHungry, play);
-    }
-    if rules.is(x, Named::Troll) {
-        return Step::say(Role::TrollFeed, play);
-    }
-    if rules.is(x, Named::Dwarf) {
-        if !is_near(rules, play.state, food) {
-            return order.say_default(rules, play);
-        }
+        Role::BirdEaten
+    } else if rules.is(x, Named::Dragon) && has_other_prop(play.state, x, 0) {
+        Role::Ridiculous
+    } else if rules.is(x, Named::Snake) || rules.is(x, Named::Dragon) {
+        Role::NotHungry
+    } else if rules.is(x, Named::Troll) {
+        Role::TrollFeed
+    } else if rules.is(x, Named::Dwarf) && is_near(rules, play.state, food) {
         play.state.dwarves.anger = play.state.dwarves.anger.up();
-        return Step::say(Role::DwarfFeed, play);
-    }
-    if !rules.is(x, Named::Bear) {
-        return Step::say(Role::FeedWhat, play);
-    }
-    if is_near(rules, play.state, food) {
+        Role::DwarfFeed
+    } else if rules.is(x, Named::Dwarf) {
+        return order.say_default(rules, play);
+    } else if !rules.is(x, Named::Bear) {
+        Role::FeedWhat
+    } else if is_near(rules, play.state, food) {
         play.state.destroy(food);
         play.state.objects.set_prop(x, Prop::new(1));
         play.state.objects.anchor_to(axe, Anchor::Loose);
         play.state.objects.set_prop(axe, Prop::new(0));
-        return Step::say(Role::BearFed, play);
-    }
-    if has_prop(play.state, x, 0) {
-        return Step::say(Role::NotHungry, play);
-    }
-    if has_prop(play.state, x, 3) {
-        return Step::say(Role::Ridiculous, play);
-    }
-    order.say_default(rules, play)
+        Role::BearFed
+    } else if has_prop(play.state, x, 0) {
+        Role::NotHungry
+    } else if has_prop(play.state, x, 3) {
+        Role::Ridiculous
+    } else {
+        return order.say_default(rules, play);
+    };
+    Next::say(role, play)
 }
 
 /// EAT without an object.
@@ -92,33 +80,28 @@ pub fn feed(rules: &Rules<'_>, order: Order, play: &mut Play<'_>) -> Step
 pub fn eat_what_is_here(rules: &Rules<'_>, order: Order, play: &mut Play<'_>) -> Step
     requires { HasRoom parts_of_row play.old }
     ensures row { ByRows bare_eat_rows rules.now order play.old play.new result }
-    ensures same { GoesOn play.old play.new }
-    ensures few { SaysUpTo parts_of_row play.old play.new }
     ensures ranks { rank_of (cave_of rules.now) result ≤ 1 }
 {
     let food = rules.object(Named::Food);
     if is_near(rules, play.state, food) {
-        return Step::GoOn(EAT, food);
+        return Step::GoOn(Verb::Eat, food);
     }
-    order.ask_what(rules, play)
+    Step::Done(order.ask_what(rules, play))
 }
 
 /// EAT an object.
 #[tactic(auto, unfolding(crate::specs::Feeding::eat_rows))]
-pub fn eat(rules: &Rules<'_>, order: Order, play: &mut Play<'_>) -> Step
+pub fn eat(rules: &Rules<'_>, order: Order, play: &mut Play<'_>) -> Next
     requires { HasRoom parts_of_row play.old }
-    ensures row { ByRows eat_rows rules.now order play.old play.new result }
-    ensures same { GoesOn play.old play.new }
-    ensures few { SaysUpTo parts_of_row play.old play.new }
-    ensures ranks { rank_of (cave_of rules.now) result ≤ 0 }
+    ensures row { DoneByRows eat_rows rules.now order play.old play.new result }
 {
     let x = order.object;
     if rules.is(x, Named::Food) {
         play.state.destroy(x);
-        return Step::say(Role::Eaten, play);
+        return Next::say(Role::Eaten, play);
     }
     if rules.is_one_of(x, &LIVING) {
-        return Step::say(Role::NoAppetite, play);
+        return Next::say(Role::NoAppetite, play);
     }
     order.say_default(rules, play)
 }

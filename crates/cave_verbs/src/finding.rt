@@ -1,16 +1,13 @@
-ghost use Rattle.std.specs.Prelude.{◌≡◌, ◌+◌, ◌≤◌, length};
+ghost use Rattle.std.specs.Prelude.{◌≡◌, ◌+◌, length};
 ghost use Rattle.cave_scene.specs.Bounds.{HasRoom, SaysUpTo, parts_of_inventory};
 ghost use Rattle.cave_scene.specs.Play.{scene_of, GoesOn};
-ghost use Rattle.cave_verbs.specs.Rows.{ByRows};
 ghost use Rattle.cave_scene.specs.Rules.{cave_of};
 ghost use Rattle.cave_verbs.specs.declared.next.Next.TheVariants.{Stay};
-ghost use Rattle.cave_verbs.specs.declared.next.Step.TheVariants.{Done};
-ghost use Rattle.cave_verbs.specs.Ranks.{rank_of};
 ghost use Rattle.cave_verbs.specs.Finding.{find_rows, bare_inventory_rows, is_in_inventory};
-ghost use Rattle.cave_verbs.specs.Finding.{listed_up_to};
-ghost use Rattle.cave_verbs.specs.Finding.{after_naming, after_telling_bear};
+ghost use Rattle.cave_verbs.specs.Finding.{listed_up_to, after_naming, after_telling_bear};
+ghost use Rattle.cave_verbs.specs.Rows.{DoneByRows};
 
-use crate::next::{Next, Step};
+use crate::next::Next;
 use crate::order::Order;
 use arrayvec::ArrayVec;
 use cave_objects::Object;
@@ -23,29 +20,26 @@ use cave_world::{Part, State};
 
 /// FIND an object, or INVENTORY of one.
 #[tactic(auto, unfolding(crate::specs::Finding::find_rows))]
-pub fn find(rules: &Rules<'_>, order: Order, play: &mut Play<'_>) -> Step
+pub fn find(rules: &Rules<'_>, order: Order, play: &mut Play<'_>) -> Next
     requires { HasRoom 1 play.old }
-    ensures row { ByRows find_rows rules.now order play.old play.new result }
-    ensures same { GoesOn play.old play.new }
-    ensures few { SaysUpTo 1 play.old play.new }
-    ensures ranks { rank_of (cave_of rules.now) result ≤ 0 }
+    ensures row { DoneByRows find_rows rules.now order play.old play.new result }
 {
     let x = order.object;
-    if is_in_hand(rules, play.state, x) {
-        return Step::say(Role::HeldIt, play);
-    }
-    if play.state.closing.is_closed {
-        return Step::say(Role::Around, play);
-    }
-    if play.state.is_here(x)
+    let role = if is_in_hand(rules, play.state, x) {
+        Role::HeldIt
+    } else if play.state.closing.is_closed {
+        Role::Around
+    } else if play.state.is_here(x)
         || is_liquid(x, liquid(rules, play.state))
             && play.state.is_here(rules.object(Named::Bottle))
         || is_liquid(x, lake(rules, play.state))
         || rules.is(x, Named::Dwarf) && is_dwarf_here(play.state)
     {
-        return Step::say(Role::HereIt, play);
-    }
-    order.say_default(rules, play)
+        Role::HereIt
+    } else {
+        return order.say_default(rules, play);
+    };
+    Next::say(role, play)
 }
 
 fn is_in_inventory(rules: &Rules<'_>, state: &State, object: Object) -> bool
@@ -81,28 +75,24 @@ fn name_all(objects: &[Object], play: &mut Play<'_>)
 }
 
 /// It is said that the bear follows, if it does, and nothing more is done.
-fn tell_bear(rules: &Rules<'_>, play: &mut Play<'_>) -> Step
+fn tell_bear(rules: &Rules<'_>, play: &mut Play<'_>) -> Next
     requires { HasRoom 1 play.old }
     ensures play { scene_of play.new ≡ after_telling_bear (cave_of rules.now) (scene_of play.old) }
     ensures same { GoesOn play.old play.new }
     ensures few { SaysUpTo 1 play.old play.new }
-    ensures step { result ≡ Done Stay }
+    ensures next { result ≡ Stay }
 {
     if is_in_hand(rules, play.state, rules.object(Named::Bear)) {
         play.say(Role::BearFollows);
     }
-    Step::Done(Next::Stay)
+    Next::Stay
 }
 
 /// INVENTORY without an object.
 #[tactic(auto, unfolding(crate::specs::Finding::bare_inventory_rows))]
-pub fn inventory(rules: &Rules<'_>, order: Order, play: &mut Play<'_>) -> Step
+pub fn inventory(rules: &Rules<'_>, order: Order, play: &mut Play<'_>) -> Next
     requires { HasRoom parts_of_inventory play.old }
-    ensures row { ByRows bare_inventory_rows rules.now order play.old play.new result }
-    ensures same { GoesOn play.old play.new }
-    ensures few { SaysUpTo parts_of_inventory play.old play.new }
-    ensures step { result ≡ Done Stay }
-    ensures ranks { rank_of (cave_of rules.now) result ≤ 0 }
+    ensures row { DoneByRows bare_inventory_rows rules.now order play.old play.new result }
 {
     let listed = listed(rules, play.state);
     if listed.is_empty() {

@@ -1,8 +1,8 @@
 ghost use Rattle.std.specs.Prelude.{◌≡◌, ◌≤◌};
-ghost use Rattle.cave_scene.specs.Bounds.{HasRoom, SaysUpTo, parts_of_row};
-ghost use Rattle.cave_scene.specs.Play.{scene_of, GoesOn};
+ghost use Rattle.cave_scene.specs.Bounds.{HasRoom, parts_of_row};
+ghost use Rattle.cave_scene.specs.Play.{scene_of};
 ghost use Rattle.cave_verbs.specs.Deeds.{deed};
-ghost use Rattle.cave_verbs.specs.Rows.{ByRows};
+ghost use Rattle.cave_verbs.specs.Rows.{ByRows, DoneByRows};
 ghost use Rattle.cave_scene.specs.Rules.{cave_of};
 ghost use Rattle.cave_verbs.specs.Ranks.{rank_of};
 ghost use Rattle.cave_verbs.specs.Killing.{foes, prey, bare_kill_rows, kill_rows};
@@ -10,7 +10,7 @@ ghost use Rattle.cave_verbs.specs.Killing.{foes, prey, bare_kill_rows, kill_rows
 use crate::choice::{Meant, consider, first, several};
 use crate::next::{Next, Step};
 use crate::order::Order;
-use crate::verbs::{KILL, THROW};
+use crate::verb::Verb;
 use arrayvec::ArrayVec;
 use cave_objects::Prop;
 use cave_rows::Role;
@@ -23,28 +23,19 @@ use cave_world::Question;
 fn foes(rules: &Rules<'_>, order: &Order, play: &Play<'_>) -> Meant
     ensures { result.items ≡ foes (deed (cave_of rules.now) order.now (scene_of play.now)) }
 {
+    let dwarf = rules.object(Named::Dwarf);
     let snake = rules.object(Named::Snake);
     let dragon = rules.object(Named::Dragon);
     let troll = rules.object(Named::Troll);
     let bear = rules.object(Named::Bear);
+    let is_dragon_alive = play.state.is_here(dragon) && has_prop(play.state, dragon, 0);
+    let is_bear_wild = is_near(rules, play.state, bear) && has_prop(play.state, bear, 0);
     let mut foes = ArrayVec::new();
-    consider(
-        is_dwarf_here(play.state),
-        rules.object(Named::Dwarf),
-        &mut foes,
-    );
+    consider(is_dwarf_here(play.state), dwarf, &mut foes);
     consider(is_near(rules, play.state, snake), snake, &mut foes);
-    consider(
-        play.state.is_here(dragon) && has_prop(play.state, dragon, 0),
-        dragon,
-        &mut foes,
-    );
+    consider(is_dragon_alive, dragon, &mut foes);
     consider(play.state.is_here(troll), troll, &mut foes);
-    consider(
-        is_near(rules, play.state, bear) && has_prop(play.state, bear, 0),
-        bear,
-        &mut foes,
-    );
+    consider(is_bear_wild, bear, &mut foes);
     foes
 }
 
@@ -55,17 +46,11 @@ fn prey(rules: &Rules<'_>, order: &Order, play: &Play<'_>) -> Meant
     let bird = rules.object(Named::Bird);
     let clam = rules.object(Named::Clam);
     let oyster = rules.object(Named::Oyster);
+    let is_bird_meant = is_near(rules, play.state, bird) && !order.commanded.is(Verb::Throw);
+    let is_shell_near = is_near(rules, play.state, clam) || is_near(rules, play.state, oyster);
     let mut prey = ArrayVec::new();
-    consider(
-        is_near(rules, play.state, bird) && order.commanded != THROW,
-        bird,
-        &mut prey,
-    );
-    consider(
-        is_near(rules, play.state, clam) || is_near(rules, play.state, oyster),
-        clam,
-        &mut prey,
-    );
+    consider(is_bird_meant, bird, &mut prey);
+    consider(is_shell_near, clam, &mut prey);
     prey
 }
 
@@ -74,77 +59,64 @@ fn prey(rules: &Rules<'_>, order: &Order, play: &Play<'_>) -> Meant
 pub fn kill_what_is_here(rules: &Rules<'_>, order: Order, play: &mut Play<'_>) -> Step
     requires { HasRoom parts_of_row play.old }
     ensures row { ByRows bare_kill_rows rules.now order play.old play.new result }
-    ensures same { GoesOn play.old play.new }
-    ensures few { SaysUpTo parts_of_row play.old play.new }
     ensures ranks { rank_of (cave_of rules.now) result ≤ 1 }
 {
     let foes = foes(rules, &order, play);
     if several(foes.as_slice()) {
-        return order.ask_what(rules, play);
+        return Step::Done(order.ask_what(rules, play));
     }
     let foe = first(foes.as_slice());
     if !foe.is_none() {
-        return Step::GoOn(KILL, foe);
+        return Step::GoOn(Verb::Kill, foe);
     }
     let prey = prey(rules, &order, play);
     if several(prey.as_slice()) {
-        return order.ask_what(rules, play);
+        return Step::Done(order.ask_what(rules, play));
     }
     let game = first(prey.as_slice());
     if !game.is_none() {
-        return Step::GoOn(KILL, game);
+        return Step::GoOn(Verb::Kill, game);
     }
-    Step::say(Role::NoneToKill, play)
+    Step::Done(Next::say(Role::NoneToKill, play))
 }
 
 /// KILL an object.
 #[tactic(auto, unfolding(crate::specs::Killing::kill_rows))]
-pub fn kill(rules: &Rules<'_>, order: Order, play: &mut Play<'_>) -> Step
+pub fn kill(rules: &Rules<'_>, order: Order, play: &mut Play<'_>) -> Next
     requires { HasRoom parts_of_row play.old }
-    ensures row { ByRows kill_rows rules.now order play.old play.new result }
-    ensures same { GoesOn play.old play.new }
-    ensures few { SaysUpTo parts_of_row play.old play.new }
-    ensures ranks { rank_of (cave_of rules.now) result ≤ 0 }
+    ensures row { DoneByRows kill_rows rules.now order play.old play.new result }
 {
     let x = order.object;
-    if rules.is(x, Named::Bird) {
-        if play.state.closing.is_closed {
-            return Step::say(Role::BirdNo, play);
-        }
+    let is_closed = play.state.closing.is_closed;
+    let role = if rules.is(x, Named::Bird) && is_closed {
+        Role::BirdNo
+    } else if rules.is(x, Named::Bird) {
         play.state.destroy(x);
         play.state.objects.set_prop(x, Prop::new(0));
         lose(rules, play.state);
-        return Step::say(Role::BirdDead, play);
-    }
-    if rules.is(x, Named::Clam) || rules.is(x, Named::Oyster) {
-        return Step::say(Role::Shell, play);
-    }
-    if rules.is(x, Named::Snake) {
-        return Step::say(Role::SnakeNo, play);
-    }
-    if rules.is(x, Named::Dwarf) {
-        if play.state.closing.is_closed {
-            return Step::disturb(play);
-        }
-        return Step::say(Role::WithWhat, play);
-    }
-    if rules.is(x, Named::Dragon) {
-        if has_prop(play.state, x, 0) {
-            return Step::Done(Next::Ask(Question::Dragon));
-        }
-        return Step::say(Role::DeadAlready, play);
-    }
-    if rules.is(x, Named::Troll) {
-        return Step::say(Role::TrollNo, play);
-    }
-    if rules.is(x, Named::Bear) {
-        if has_prop(play.state, x, 0) {
-            return Step::say(Role::BearFight, play);
-        }
-        if has_prop(play.state, x, 3) {
-            return Step::say(Role::DeadAlready, play);
-        }
-        return Step::say(Role::BearFriend, play);
-    }
-    order.say_default(rules, play)
+        Role::BirdDead
+    } else if rules.is(x, Named::Clam) || rules.is(x, Named::Oyster) {
+        Role::Shell
+    } else if rules.is(x, Named::Snake) {
+        Role::SnakeNo
+    } else if rules.is(x, Named::Dwarf) && is_closed {
+        return Next::disturb(play);
+    } else if rules.is(x, Named::Dwarf) {
+        Role::WithWhat
+    } else if rules.is(x, Named::Dragon) && has_prop(play.state, x, 0) {
+        return Next::Ask(Question::Dragon);
+    } else if rules.is(x, Named::Dragon) {
+        Role::DeadAlready
+    } else if rules.is(x, Named::Troll) {
+        Role::TrollNo
+    } else if rules.is(x, Named::Bear) && has_prop(play.state, x, 0) {
+        Role::BearFight
+    } else if rules.is(x, Named::Bear) && has_prop(play.state, x, 3) {
+        Role::DeadAlready
+    } else if rules.is(x, Named::Bear) {
+        Role::BearFriend
+    } else {
+        return order.say_default(rules, play);
+    };
+    Next::say(role, play)
 }

@@ -19,9 +19,10 @@ pub mod reading;
 pub mod small;
 pub mod taking;
 pub mod throwing;
-pub mod verbs;
+pub mod verb;
 pub mod waving;
 
 pub use acting::act;
 pub use next::Next;
-pub use order::Order;
+pub use order::{Order, tell_default};
+pub use verb::{NoRules, Verb};

@@ -1,12 +1,8 @@
-ghost use Rattle.std.specs.Prelude.{◌≤◌};
-ghost use Rattle.cave_scene.specs.Bounds.{HasRoom, SaysUpTo, parts_of_row};
-ghost use Rattle.cave_scene.specs.Play.{GoesOn};
-ghost use Rattle.cave_verbs.specs.Rows.{ByRows};
-ghost use Rattle.cave_scene.specs.Rules.{cave_of};
-ghost use Rattle.cave_verbs.specs.Ranks.{rank_of};
+ghost use Rattle.cave_scene.specs.Bounds.{HasRoom, parts_of_row};
 ghost use Rattle.cave_verbs.specs.Light.{on_rows, off_rows};
+ghost use Rattle.cave_verbs.specs.Rows.{DoneByRows};
 
-use crate::next::{Next, Step};
+use crate::next::Next;
 use crate::order::Order;
 use cave_objects::Prop;
 use cave_rows::Role;
@@ -16,45 +12,39 @@ use cave_words::Named;
 
 /// ON, whatever it is done to.
 #[tactic(auto, unfolding(crate::specs::Light::on_rows))]
-pub fn turn_on(rules: &Rules<'_>, order: Order, play: &mut Play<'_>) -> Step
+pub fn turn_on(rules: &Rules<'_>, order: Order, play: &mut Play<'_>) -> Next
     requires { HasRoom parts_of_row play.old }
-    ensures row { ByRows on_rows rules.now order play.old play.new result }
-    ensures same { GoesOn play.old play.new }
-    ensures few { SaysUpTo parts_of_row play.old play.new }
-    ensures ranks { rank_of (cave_of rules.now) result ≤ 0 }
+    ensures row { DoneByRows on_rows rules.now order play.old play.new result }
 {
     let lamp = rules.object(Named::Lamp);
     if !is_near(rules, play.state, lamp) {
         return order.say_default(rules, play);
     }
     if play.state.lamp.charge.turns() < 0 {
-        return Step::say(Role::LampDead, play);
+        return Next::say(Role::LampDead, play);
     }
     play.state.objects.set_prop(lamp, Prop::new(1));
-    Step::say(Role::LampOn, play);
+    play.say(Role::LampOn);
     if play.was_dark {
-        return Step::Done(Next::Describe);
+        return Next::Describe;
     }
-    Step::Done(Next::Stay)
+    Next::Stay
 }
 
 /// OFF, whatever it is done to.
 #[tactic(auto, unfolding(crate::specs::Light::off_rows))]
-pub fn turn_off(rules: &Rules<'_>, order: Order, play: &mut Play<'_>) -> Step
+pub fn turn_off(rules: &Rules<'_>, order: Order, play: &mut Play<'_>) -> Next
     requires { HasRoom parts_of_row play.old }
-    ensures row { ByRows off_rows rules.now order play.old play.new result }
-    ensures same { GoesOn play.old play.new }
-    ensures few { SaysUpTo parts_of_row play.old play.new }
-    ensures ranks { rank_of (cave_of rules.now) result ≤ 0 }
+    ensures row { DoneByRows off_rows rules.now order play.old play.new result }
 {
     let lamp = rules.object(Named::Lamp);
     if !is_near(rules, play.state, lamp) {
         return order.say_default(rules, play);
     }
     play.state.objects.set_prop(lamp, Prop::new(0));
-    Step::say(Role::LampOff, play);
+    play.say(Role::LampOff);
     if play.state.is_dark(rules.cave, lamp) {
-        return Step::say(Role::Dark, play);
+        return Next::say(Role::Dark, play);
     }
-    Step::Done(Next::Stay)
+    Next::Stay
 }

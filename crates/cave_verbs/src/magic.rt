@@ -2,14 +2,12 @@ ghost use Rattle.std.specs.Prelude.{◌≡◌, ◌<◌, ◌≤◌, ◌≤ℤ◌,
 ghost use Rattle.std.specs.Ordering.{int_eq};
 ghost use Rattle.cave_scene.specs.Bounds.{HasRoom, SaysUpTo};
 ghost use Rattle.cave_scene.specs.Play.{scene_of, GoesOn};
-ghost use Rattle.cave_verbs.specs.Rows.{ByRows};
 ghost use Rattle.cave_scene.specs.Rules.{cave_of};
 ghost use Rattle.cave_verbs.specs.declared.next.Next.TheVariants.{Stay};
-ghost use Rattle.cave_verbs.specs.declared.next.Step.TheVariants.{Done};
-ghost use Rattle.cave_verbs.specs.Ranks.{rank_of};
 ghost use Rattle.cave_verbs.specs.Magic.{bare_foo_rows, with_magic, homing_sight, after_sending_home};
+ghost use Rattle.cave_verbs.specs.Rows.{DoneByRows};
 
-use crate::next::{Next, Step};
+use crate::next::Next;
 use crate::order::Order;
 use cave_objects::{Object, Prop};
 use cave_rows::Role;
@@ -65,39 +63,36 @@ fn homing_sight(rules: &Rules<'_>, state: &State, object: Object) -> Prop
 }
 
 /// The text of an object that goes home is printed, and the object goes there.
-fn send_home(rules: &Rules<'_>, object: Object, play: &mut Play<'_>) -> Step
+fn send_home(rules: &Rules<'_>, object: Object, play: &mut Play<'_>) -> Next
     requires { HasRoom 1 play.old }
     ensures play { scene_of play.new
         ≡ after_sending_home (cave_of rules.now) object (scene_of play.old) }
     ensures same { GoesOn play.old play.new }
     ensures few { SaysUpTo 1 play.old play.new }
-    ensures step { result ≡ Done Stay }
+    ensures next { result ≡ Stay }
 {
     let sight = homing_sight(rules, play.state, object);
     play.look(object, sight.value());
     play.state.move_to(object, home(rules, object));
-    Step::Done(Next::Stay)
+    Next::Stay
 }
 
 /// FOO without an object.
 #[tactic(auto, unfolding(crate::specs::Magic::bare_foo_rows))]
-pub fn foo(rules: &Rules<'_>, order: Order, play: &mut Play<'_>) -> Step
+pub fn foo(rules: &Rules<'_>, order: Order, play: &mut Play<'_>) -> Next
     requires { HasRoom 1 play.old }
-    ensures row { ByRows bare_foo_rows rules.now order play.old play.new result }
-    ensures same { GoesOn play.old play.new }
-    ensures few { SaysUpTo 1 play.old play.new }
-    ensures ranks { rank_of (cave_of rules.now) result ≤ 0 }
+    ensures row { DoneByRows bare_foo_rows rules.now order play.old play.new result }
 {
     let k = special(rules, order.word);
     if k == 0 || is_out_of_turn(play.state, k) {
         if magic_of(play.state) == 0 {
-            return Step::say(Role::Magic, play);
+            return Next::say(Role::Magic, play);
         }
-        return Step::say(Role::FooOrder, play);
+        return Next::say(Role::FooOrder, play);
     }
     if k != 4 {
         remember(play.state, k);
-        return Step::say(Role::Ok, play);
+        return Next::say(Role::Ok, play);
     }
     let eggs = rules.object(Named::Eggs);
     let troll = rules.object(Named::Troll);
@@ -106,7 +101,7 @@ pub fn foo(rules: &Rules<'_>, order: Order, play: &mut Play<'_>) -> Step
         || is_in_hand(rules, play.state, eggs) && is_home_here(rules, play.state, eggs)
     {
         set_magic(play.state, 0);
-        return Step::say(Role::Magic, play);
+        return Next::say(Role::Magic, play);
     }
     if play.state.is_gone(eggs) && play.state.is_gone(troll) && has_prop(play.state, troll, 0) {
         set_magic(play.state, 0);

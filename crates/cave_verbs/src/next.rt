@@ -4,6 +4,7 @@ ghost use Rattle.cave_scene.specs.Bounds.{HasRoom, SaysUpTo};
 ghost use Rattle.cave_scene.specs.Play.{scene_of, GoesOn, after_saying};
 ghost use Rattle.cave_world.specs.declared.ending.Ending.TheVariants.{Killed};
 
+use crate::verb::Verb;
 use cave_objects::{Object, Place};
 use cave_rows::Role;
 use cave_scene::Play;
@@ -32,45 +33,33 @@ pub enum Step {
     /// The verb is done.
     Done(Next),
     /// It goes on with another verb, or on another object; object 0 is none.
-    GoOn(u16, Object),
+    GoOn(Verb, Object),
 }
 
-impl Step {
+impl Next {
     ghost use Rattle.cave_verbs.specs.declared.next.Next.TheVariants.{Stay, End};
-    ghost use Rattle.cave_verbs.specs.declared.next.Step.TheVariants.{Done};
 
     /// The message of a role is said, and nothing follows.
-    pub fn say(role: Role, play: &mut Play<'_>) -> Step
+    pub fn say(role: Role, play: &mut Play<'_>) -> Next
         requires { HasRoom 1 play.old }
         ensures play { scene_of play.new ≡ after_saying role (scene_of play.old) }
         ensures same { GoesOn play.old play.new }
         ensures few { SaysUpTo 1 play.old play.new }
-        ensures step { result ≡ Done Stay }
+        ensures next { result ≡ Stay }
     {
         play.say(role);
-        Step::Done(Next::Stay)
-    }
-
-    /// The message of a role is said, and the game ends.
-    pub fn end(role: Role, ending: Ending, play: &mut Play<'_>) -> Step
-        requires { HasRoom 1 play.old }
-        ensures play { scene_of play.new ≡ after_saying role (scene_of play.old) }
-        ensures same { GoesOn play.old play.new }
-        ensures few { SaysUpTo 1 play.old play.new }
-        ensures step { result ≡ Done (End ending) }
-    {
-        play.say(role);
-        Step::Done(Next::End(ending))
+        Next::Stay
     }
 
     /// The dwarves wake, and the game ends.
-    pub fn disturb(play: &mut Play<'_>) -> Step
+    pub fn disturb(play: &mut Play<'_>) -> Next
         requires { HasRoom 1 play.old }
         ensures play { scene_of play.new ≡ after_saying Disturbed (scene_of play.old) }
         ensures same { GoesOn play.old play.new }
         ensures few { SaysUpTo 1 play.old play.new }
-        ensures step { result ≡ Done (End Killed) }
+        ensures next { result ≡ End Killed }
     {
-        Step::end(Role::Disturbed, Ending::Killed, play)
+        play.say(Role::Disturbed);
+        Next::End(Ending::Killed)
     }
 }

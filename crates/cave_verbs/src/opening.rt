@@ -1,19 +1,15 @@
-ghost use Rattle.std.specs.Prelude.{◌≡◌, ◌<◌, ◌≤◌, ◌||◌, ◌==◌, [], ◌∷◌, false, IsTrue};
+ghost use Rattle.std.specs.Prelude.{◌≡◌, ◌≤◌, ◌||◌, IsTrue};
 ghost use Rattle.cave_words.specs.declared.named.Named.TheVariants as name;
-ghost use Rattle.cave_scene.specs.Rules.{is_called, is_one_of};
-ghost use Rattle.cave_things.specs.Reach.{is_near};
-ghost use Rattle.cave_scene.specs.Bounds.{HasRoom, SaysUpTo, parts_of_row};
-ghost use Rattle.cave_scene.specs.Play.{GoesOn};
-ghost use Rattle.cave_verbs.specs.Rows.{ByRows};
-ghost use Rattle.cave_scene.specs.Rules.{cave_of, thing};
+ghost use Rattle.cave_scene.specs.Rules.{is_called, cave_of};
+ghost use Rattle.cave_scene.specs.Bounds.{HasRoom, parts_of_row};
+ghost use Rattle.cave_verbs.specs.Rows.{ByRows, DoneByRows};
 ghost use Rattle.cave_verbs.specs.Ranks.{rank_of};
-ghost use Rattle.cave_verbs.specs.Verbs as verb;
-ghost use Rattle.cave_verbs.specs.Opening.{after_sending, lock_meant, bare_open_rows, open_rows};
-ghost use Rattle.cave_verbs.specs.declared.next.Step.TheVariants.{GoOn};
+ghost use Rattle.cave_verbs.specs.Opening.{after_sending, bare_open_rows, chain_rows, lock_meant};
+ghost use Rattle.cave_verbs.specs.Opening.{lock_rows, open_rows, opens_or_locks};
 
-use crate::next::Step;
+use crate::next::{Next, Step};
 use crate::order::Order;
-use crate::verbs::{LOCK, OPEN};
+use crate::verb::Verb;
 use cave_objects::{Anchor, Object, Place, Prop};
 use cave_rows::{PlaceRole, Role};
 use cave_scene::{Play, Rules};
@@ -48,42 +44,27 @@ fn lock_meant(rules: &Rules<'_>, state: &State) -> Object
     Object::none()
 }
 
-/// An order to open or to lock goes on with an object.
-fn go_on_with(rules: &Rules<'_>, order: Order, object: Object) -> Step
-    requires verb { IsTrue (order.verb == verb.OPEN || order.verb == verb.LOCK) }
-    requires some { 0 < object }
-    ensures step { result ≡ GoOn order.verb object }
-    ensures ranks { rank_of (cave_of rules.now) result ≤ 1 }
-{
-    if order.verb == OPEN {
-        return Step::GoOn(OPEN, object);
-    }
-    Step::GoOn(LOCK, object)
-}
-
 /// OPEN or LOCK without an object.
-#[tactic(auto, using(crate::proofs::Near::is_something), unfolding(crate::specs::Opening::bare_open_rows))]
+#[tactic(auto, using(crate::proofs::Near::is_something, crate::proofs::Falls::lock_falls), unfolding(crate::specs::Opening::bare_open_rows))]
 pub fn open_what_is_here(rules: &Rules<'_>, order: Order, play: &mut Play<'_>) -> Step
     requires room { HasRoom parts_of_row play.old }
-    requires verb { IsTrue (order.verb == verb.OPEN || order.verb == verb.LOCK) }
+    requires verb { IsTrue (opens_or_locks order.verb) }
     ensures row { ByRows bare_open_rows rules.now order play.old play.new result }
-    ensures same { GoesOn play.old play.new }
-    ensures few { SaysUpTo parts_of_row play.old play.new }
     ensures ranks { rank_of (cave_of rules.now) result ≤ 1 }
 {
     let meant = lock_meant(rules, play.state);
     let chain = rules.object(Named::Chain);
     let is_chain_near = is_near(rules, play.state, chain);
     if !meant.is_none() && is_chain_near {
-        return order.ask_what(rules, play);
+        return Step::Done(order.ask_what(rules, play));
     }
     if !meant.is_none() {
-        return go_on_with(rules, order, meant);
+        return Step::GoOn(order.verb, meant);
     }
     if is_chain_near {
-        return go_on_with(rules, order, chain);
+        return Step::GoOn(order.verb, chain);
     }
-    Step::say(Role::NoLock, play)
+    Step::Done(Next::say(Role::NoLock, play))
 }
 
 /// An object is moved to a place, if there is the place.
@@ -98,176 +79,130 @@ fn send(object: Object, place: Option<Place>, state: &mut State)
 
 /// OPEN or LOCK the clam or the oyster.
 #[tactic(auto, unfolding(crate::specs::Opening::open_rows))]
-fn open_shell(rules: &Rules<'_>, order: Order, play: &mut Play<'_>) -> Step
+fn open_shell(rules: &Rules<'_>, order: Order, play: &mut Play<'_>) -> Next
     requires room { HasRoom parts_of_row play.old }
     requires shell { IsTrue (is_called (cave_of rules.now) order.object name.Clam
         || is_called (cave_of rules.now) order.object name.Oyster) }
-    ensures row { ByRows open_rows rules.now order play.old play.new result }
-    ensures same { GoesOn play.old play.new }
-    ensures few { SaysUpTo parts_of_row play.old play.new }
-    ensures ranks { rank_of (cave_of rules.now) result ≤ 0 }
+    ensures row { DoneByRows open_rows rules.now order play.old play.new result }
 {
     let x = order.object;
-    if order.verb == LOCK {
-        return Step::say(Role::LockWhat, play);
-    }
+    let is_clam = rules.is(x, Named::Clam);
     let has_trident = is_in_hand(rules, play.state, rules.object(Named::Trident));
-    if !rules.is(x, Named::Clam) {
-        if !has_trident {
-            return Step::say(Role::OysterTool, play);
-        }
-        if is_in_hand(rules, play.state, x) {
-            return Step::say(Role::OysterHeld, play);
-        }
-        return Step::say(Role::OysterOpen, play);
-    }
-    if !has_trident {
-        return Step::say(Role::ClamTool, play);
-    }
-    if is_in_hand(rules, play.state, x) {
-        return Step::say(Role::ClamHeld, play);
-    }
-    play.state.destroy(x);
-    let here = play.state.trail.here;
-    play.state.move_to(rules.object(Named::Oyster), here);
-    let culdesac = place_named(rules.cave, PlaceRole::Culdesac);
-    send(rules.object(Named::Pearl), culdesac, play.state);
-    Step::say(Role::Pearl, play)
+    let role = if order.verb.is(Verb::Lock) {
+        Role::LockWhat
+    } else if is_clam && !has_trident {
+        Role::ClamTool
+    } else if !has_trident {
+        Role::OysterTool
+    } else if is_clam && is_in_hand(rules, play.state, x) {
+        Role::ClamHeld
+    } else if is_in_hand(rules, play.state, x) {
+        Role::OysterHeld
+    } else if is_clam {
+        play.state.destroy(x);
+        let here = play.state.trail.here;
+        play.state.move_to(rules.object(Named::Oyster), here);
+        let culdesac = place_named(rules.cave, PlaceRole::Culdesac);
+        send(rules.object(Named::Pearl), culdesac, play.state);
+        Role::Pearl
+    } else {
+        Role::OysterOpen
+    };
+    Next::say(role, play)
 }
 
 /// OPEN or LOCK the grate, with the keys.
-#[tactic(auto, unfolding(crate::specs::Opening::open_rows))]
-fn open_grate(rules: &Rules<'_>, order: Order, play: &mut Play<'_>) -> Step
+#[tactic(auto, unfolding(crate::specs::Opening::lock_rows))]
+fn open_grate(rules: &Rules<'_>, order: Order, play: &mut Play<'_>) -> Next
     requires room { HasRoom parts_of_row play.old }
     requires grate { IsTrue (is_called (cave_of rules.now) order.object name.Grate) }
-    requires other { is_one_of (cave_of rules.now) order.object
-        (name.Clam ∷ name.Oyster ∷ name.Door ∷ name.Cage ∷ name.Keys ∷ []) ≡ false }
-    requires keys { let cave = cave_of rules.now in
-        IsTrue (is_near cave play.old.state.now (thing cave name.Keys)) }
-    ensures row { ByRows open_rows rules.now order play.old play.new result }
-    ensures same { GoesOn play.old play.new }
-    ensures few { SaysUpTo parts_of_row play.old play.new }
-    ensures ranks { rank_of (cave_of rules.now) result ≤ 0 }
+    ensures row { DoneByRows lock_rows rules.now order play.old play.new result }
 {
     let x = order.object;
-    if play.state.closing.is_closing {
+    let is_opening = order.verb.is(Verb::Open);
+    let role = if play.state.closing.is_closing {
         panic(play.state);
-        return Step::say(Role::ClosingExit, play);
-    }
-    if order.verb == OPEN {
-        if has_prop(play.state, x, 0) {
-            play.state.objects.set_prop(x, Prop::new(1));
-            return Step::say(Role::Unlocked, play);
-        }
-        return Step::say(Role::WasUnlocked, play);
-    }
-    if has_prop(play.state, x, 0) {
-        return Step::say(Role::WasLocked, play);
-    }
-    play.state.objects.set_prop(x, Prop::new(0));
-    Step::say(Role::Locked, play)
+        Role::ClosingExit
+    } else if is_opening && has_prop(play.state, x, 0) {
+        play.state.objects.set_prop(x, Prop::new(1));
+        Role::Unlocked
+    } else if is_opening {
+        Role::WasUnlocked
+    } else if has_prop(play.state, x, 0) {
+        Role::WasLocked
+    } else {
+        play.state.objects.set_prop(x, Prop::new(0));
+        Role::Locked
+    };
+    Next::say(role, play)
 }
 
-/// OPEN the chain, with the keys.
-#[tactic(auto, unfolding(crate::specs::Opening::open_rows))]
-fn unlock_chain(rules: &Rules<'_>, order: Order, play: &mut Play<'_>) -> Step
+/// OPEN or LOCK the chain, with the keys.
+#[tactic(auto, unfolding(crate::specs::Opening::chain_rows))]
+fn open_chain(rules: &Rules<'_>, order: Order, play: &mut Play<'_>) -> Next
     requires room { HasRoom parts_of_row play.old }
-    requires opening { order.verb ≡ verb.OPEN }
     requires chain { IsTrue (is_called (cave_of rules.now) order.object name.Chain) }
-    requires other { is_one_of (cave_of rules.now) order.object
-        (name.Clam ∷ name.Oyster ∷ name.Door ∷ name.Cage ∷ name.Keys ∷ name.Grate ∷ []) ≡ false }
-    requires keys { let cave = cave_of rules.now in
-        IsTrue (is_near cave play.old.state.now (thing cave name.Keys)) }
-    ensures row { ByRows open_rows rules.now order play.old play.new result }
-    ensures same { GoesOn play.old play.new }
-    ensures few { SaysUpTo parts_of_row play.old play.new }
-    ensures ranks { rank_of (cave_of rules.now) result ≤ 0 }
+    ensures row { DoneByRows chain_rows rules.now order play.old play.new result }
 {
     let x = order.object;
     let bear = rules.object(Named::Bear);
-    if has_prop(play.state, x, 0) {
-        return Step::say(Role::WasUnlocked, play);
-    }
-    if has_prop(play.state, bear, 0) {
-        return Step::say(Role::BearBars, play);
-    }
-    if has_prop(play.state, bear, 3) {
+    let is_opening = order.verb.is(Verb::Open);
+    let role = if is_opening && has_prop(play.state, x, 0) {
+        Role::WasUnlocked
+    } else if is_opening && has_prop(play.state, bear, 0) {
+        Role::BearBars
+    } else if is_opening && has_prop(play.state, bear, 3) {
         play.state.objects.set_prop(x, Prop::new(0));
         play.state.objects.anchor_to(x, Anchor::Loose);
         play.state.objects.anchor_to(bear, Anchor::Fixed);
-        return Step::say(Role::ChainFree, play);
-    }
-    play.state.objects.set_prop(x, Prop::new(0));
-    play.state.objects.anchor_to(x, Anchor::Loose);
-    play.state.objects.set_prop(bear, Prop::new(2));
-    play.state.objects.anchor_to(bear, Anchor::Loose);
-    Step::say(Role::ChainFree, play)
-}
-
-/// LOCK the chain, with the keys.
-#[tactic(auto, unfolding(crate::specs::Opening::open_rows))]
-fn lock_chain(rules: &Rules<'_>, order: Order, play: &mut Play<'_>) -> Step
-    requires room { HasRoom parts_of_row play.old }
-    requires locking { (order.verb == verb.OPEN) ≡ false }
-    requires chain { IsTrue (is_called (cave_of rules.now) order.object name.Chain) }
-    requires other { is_one_of (cave_of rules.now) order.object
-        (name.Clam ∷ name.Oyster ∷ name.Door ∷ name.Cage ∷ name.Keys ∷ name.Grate ∷ []) ≡ false }
-    requires keys { let cave = cave_of rules.now in
-        IsTrue (is_near cave play.old.state.now (thing cave name.Keys)) }
-    ensures row { ByRows open_rows rules.now order play.old play.new result }
-    ensures same { GoesOn play.old play.new }
-    ensures few { SaysUpTo parts_of_row play.old play.new }
-    ensures ranks { rank_of (cave_of rules.now) result ≤ 0 }
-{
-    let x = order.object;
-    if is_home_elsewhere(rules, play.state, x) {
-        return Step::say(Role::NoLockHere, play);
-    }
-    if has_other_prop(play.state, x, 0) {
-        return Step::say(Role::WasLocked, play);
-    }
-    let_go(rules, x, play.state);
-    play.state.objects.set_prop(x, Prop::new(2));
-    play.state.objects.anchor_to(x, Anchor::Fixed);
-    Step::say(Role::ChainLock, play)
+        Role::ChainFree
+    } else if is_opening {
+        play.state.objects.set_prop(x, Prop::new(0));
+        play.state.objects.anchor_to(x, Anchor::Loose);
+        play.state.objects.set_prop(bear, Prop::new(2));
+        play.state.objects.anchor_to(bear, Anchor::Loose);
+        Role::ChainFree
+    } else if is_home_elsewhere(rules, play.state, x) {
+        Role::NoLockHere
+    } else if has_other_prop(play.state, x, 0) {
+        Role::WasLocked
+    } else {
+        let_go(rules, x, play.state);
+        play.state.objects.set_prop(x, Prop::new(2));
+        play.state.objects.anchor_to(x, Anchor::Fixed);
+        Role::ChainLock
+    };
+    Next::say(role, play)
 }
 
 /// OPEN or LOCK an object.
-#[tactic(auto, unfolding(crate::specs::Opening::open_rows))]
-pub fn open(rules: &Rules<'_>, order: Order, play: &mut Play<'_>) -> Step
+#[tactic(auto, unfolding(crate::specs::Opening::open_rows, crate::specs::Opening::lock_rows, crate::specs::Opening::chain_rows))]
+pub fn open(rules: &Rules<'_>, order: Order, play: &mut Play<'_>) -> Next
     requires { HasRoom parts_of_row play.old }
-    ensures row { ByRows open_rows rules.now order play.old play.new result }
-    ensures same { GoesOn play.old play.new }
-    ensures few { SaysUpTo parts_of_row play.old play.new }
-    ensures ranks { rank_of (cave_of rules.now) result ≤ 0 }
+    ensures row { DoneByRows open_rows rules.now order play.old play.new result }
 {
     let x = order.object;
-    if rules.is(x, Named::Clam) || rules.is(x, Named::Oyster) {
+    let is_grate = rules.is(x, Named::Grate);
+    let is_chain = rules.is(x, Named::Chain);
+    let has_keys = is_near(rules, play.state, rules.object(Named::Keys));
+    let role = if rules.is(x, Named::Clam) || rules.is(x, Named::Oyster) {
         return open_shell(rules, order, play);
-    }
-    if rules.is(x, Named::Door) {
-        if has_prop(play.state, x, 1) {
-            return Step::say(Role::Ok, play);
-        }
-        return Step::say(Role::Rusty, play);
-    }
-    if rules.is(x, Named::Cage) {
-        return Step::say(Role::NoLatch, play);
-    }
-    if rules.is(x, Named::Keys) {
-        return Step::say(Role::KeysWhat, play);
-    }
-    if !rules.is(x, Named::Grate) && !rules.is(x, Named::Chain) {
-        return order.say_default(rules, play);
-    }
-    if !is_near(rules, play.state, rules.object(Named::Keys)) {
-        return Step::say(Role::NoKeys, play);
-    }
-    if rules.is(x, Named::Grate) {
+    } else if rules.is(x, Named::Door) && has_prop(play.state, x, 1) {
+        Role::Ok
+    } else if rules.is(x, Named::Door) {
+        Role::Rusty
+    } else if rules.is(x, Named::Cage) {
+        Role::NoLatch
+    } else if rules.is(x, Named::Keys) {
+        Role::KeysWhat
+    } else if (is_grate || is_chain) && !has_keys {
+        Role::NoKeys
+    } else if is_grate {
         return open_grate(rules, order, play);
-    }
-    if order.verb == OPEN {
-        return unlock_chain(rules, order, play);
-    }
-    lock_chain(rules, order, play)
+    } else if is_chain {
+        return open_chain(rules, order, play);
+    } else {
+        return order.say_default(rules, play);
+    };
+    Next::say(role, play)
 }

@@ -1,19 +1,15 @@
-ghost use Rattle.std.specs.Prelude.{◌≡◌, ◌+◌, ◌≤◌, ◌+ℤ◌, pos, int_div, [], IsTrue};
+ghost use Rattle.std.specs.Prelude.{◌≡◌, ◌+◌, ◌≤◌, ◌+ℤ◌, pos, int_div, []};
 ghost use Rattle.std.specs.Int.{int_rem_euclid};
-ghost use Rattle.cave_words.specs.declared.named.Named.TheVariants as name;
-ghost use Rattle.cave_scene.specs.Rules.{is_called};
-ghost use Rattle.cave_scene.specs.Bounds.{HasRoom, SaysUpTo, parts_of_row};
-ghost use Rattle.cave_scene.specs.Play.{GoesOn};
-ghost use Rattle.cave_verbs.specs.Rows.{ByRow, ByRows};
+ghost use Rattle.cave_scene.specs.Bounds.{HasRoom, parts_of_row};
+ghost use Rattle.cave_verbs.specs.Rows.{ByRows, DoneByRow, DoneByRows, row_then, again};
 ghost use Rattle.cave_scene.specs.Rules.{cave_of};
-ghost use Rattle.cave_verbs.specs.Rows.{row_then, again};
-ghost use Rattle.cave_verbs.specs.Ranks.{rank_of, bare_rank};
+ghost use Rattle.cave_verbs.specs.Ranks.{rank_of};
 ghost use Rattle.cave_verbs.specs.Pouring.{poured_of, plant_watered, pour_rows, drink_rows};
 ghost use Rattle.cave_verbs.specs.Pouring.{bare_fill_rows, fill_rows};
 
 use crate::next::{Next, Step};
 use crate::order::Order;
-use crate::verbs::FILL;
+use crate::verb::Verb;
 use cave_objects::{Anchor, Object, Prop};
 use cave_rows::Role;
 use cave_scene::{Play, Rules};
@@ -54,11 +50,9 @@ fn half(prop: Prop) -> Prop
 }
 
 /// The plant is watered, and the player arrives again where the player is.
-fn water_plant(rules: &Rules<'_>, order: Order, play: &mut Play<'_>) -> Step
+fn water_plant(rules: &Rules<'_>, order: Order, play: &mut Play<'_>) -> Next
     requires { HasRoom 1 play.old }
-    ensures grown { ByRow (row_then [] plant_watered again) rules.now order play.old play.new result }
-    ensures same { GoesOn play.old play.new }
-    ensures few { SaysUpTo 1 play.old play.new }
+    ensures row { DoneByRow (row_then [] plant_watered again) rules.now order play.old play.new result }
 {
     let plant = rules.object(Named::Plant);
     let prop = play.state.objects.prop(plant);
@@ -67,17 +61,14 @@ fn water_plant(rules: &Rules<'_>, order: Order, play: &mut Play<'_>) -> Step
     let second_plant = rules.object(Named::SecondPlant);
     let half = half(play.state.objects.prop(plant));
     play.state.objects.set_prop(second_plant, half);
-    Step::Done(Next::Arrive(play.state.trail.here))
+    Next::Arrive(play.state.trail.here)
 }
 
 /// POUR, with an object or without one.
 #[tactic(auto, unfolding(crate::specs::Pouring::pour_rows))]
-pub fn pour(rules: &Rules<'_>, order: Order, play: &mut Play<'_>) -> Step
+pub fn pour(rules: &Rules<'_>, order: Order, play: &mut Play<'_>) -> Next
     requires { HasRoom parts_of_row play.old }
-    ensures row { ByRows pour_rows rules.now order play.old play.new result }
-    ensures same { GoesOn play.old play.new }
-    ensures few { SaysUpTo parts_of_row play.old play.new }
-    ensures ranks { rank_of (cave_of rules.now) result ≤ 0 }
+    ensures row { DoneByRows pour_rows rules.now order play.old play.new result }
 {
     if (order.object.is_none() || rules.is(order.object, Named::Bottle))
         && liquid(rules, play.state).is_none()
@@ -91,7 +82,7 @@ pub fn pour(rules: &Rules<'_>, order: Order, play: &mut Play<'_>) -> Step
     let is_water = rules.is(x, Named::Water);
     let is_oil = rules.is(x, Named::Oil);
     if !is_water && !is_oil {
-        return Step::say(Role::CantPour, play);
+        return Next::say(Role::CantPour, play);
     }
     let bottle = rules.object(Named::Bottle);
     let door = rules.object(Named::Door);
@@ -99,30 +90,27 @@ pub fn pour(rules: &Rules<'_>, order: Order, play: &mut Play<'_>) -> Step
         play.state.objects.set_prop(bottle, Prop::new(1));
         if is_oil {
             play.state.objects.set_prop(door, Prop::new(1));
-            return Step::say(Role::DoorOiled, play);
+            return Next::say(Role::DoorOiled, play);
         }
         play.state.objects.set_prop(door, Prop::new(0));
-        return Step::say(Role::DoorWet, play);
+        return Next::say(Role::DoorWet, play);
     }
     if play.state.is_here(rules.object(Named::Plant)) {
         play.state.objects.set_prop(bottle, Prop::new(1));
         if is_water {
             return water_plant(rules, order, play);
         }
-        return Step::say(Role::PlantOil, play);
+        return Next::say(Role::PlantOil, play);
     }
     play.state.objects.set_prop(bottle, Prop::new(1));
-    Step::say(Role::PourGround, play)
+    Next::say(Role::PourGround, play)
 }
 
 /// DRINK, with an object or without one.
 #[tactic(auto, unfolding(crate::specs::Pouring::drink_rows))]
-pub fn drink(rules: &Rules<'_>, order: Order, play: &mut Play<'_>) -> Step
+pub fn drink(rules: &Rules<'_>, order: Order, play: &mut Play<'_>) -> Next
     requires { HasRoom parts_of_row play.old }
-    ensures row { ByRows drink_rows rules.now order play.old play.new result }
-    ensures same { GoesOn play.old play.new }
-    ensures few { SaysUpTo parts_of_row play.old play.new }
-    ensures ranks { rank_of (cave_of rules.now) result ≤ 0 }
+    ensures row { DoneByRows drink_rows rules.now order play.old play.new result }
 {
     let x = order.object;
     let water = rules.object(Named::Water);
@@ -133,11 +121,11 @@ pub fn drink(rules: &Rules<'_>, order: Order, play: &mut Play<'_>) -> Step
         return order.ask_what(rules, play);
     }
     if !x.is_none() && !rules.is(x, Named::Water) {
-        return Step::say(Role::Ridiculous, play);
+        return Next::say(Role::Ridiculous, play);
     }
     if has_water {
         play.state.objects.set_prop(bottle, Prop::new(1));
-        return Step::say(Role::Drunk, play);
+        return Next::say(Role::Drunk, play);
     }
     order.say_default(rules, play)
 }
@@ -147,67 +135,46 @@ pub fn drink(rules: &Rules<'_>, order: Order, play: &mut Play<'_>) -> Step
 pub fn fill_what(rules: &Rules<'_>, order: Order, play: &mut Play<'_>) -> Step
     requires { HasRoom parts_of_row play.old }
     ensures row { ByRows bare_fill_rows rules.now order play.old play.new result }
-    ensures same { GoesOn play.old play.new }
-    ensures few { SaysUpTo parts_of_row play.old play.new }
     ensures ranks { rank_of (cave_of rules.now) result ≤ 1 }
 {
     let bottle = rules.object(Named::Bottle);
     if is_near(rules, play.state, bottle) {
-        return Step::GoOn(FILL, bottle);
+        return Step::GoOn(Verb::Fill, bottle);
     }
-    order.ask_what(rules, play)
-}
-
-/// The vase breaks if it is filled.
-#[tactic(auto, unfolding(crate::specs::Pouring::fill_rows))]
-fn fill_vase(rules: &Rules<'_>, order: Order, play: &mut Play<'_>) -> Step
-    requires room { HasRoom parts_of_row play.old }
-    requires vase { IsTrue (is_called (cave_of rules.now) order.object name.Vase) }
-    ensures row { ByRows fill_rows rules.now order play.old play.new result }
-    ensures same { GoesOn play.old play.new }
-    ensures few { SaysUpTo parts_of_row play.old play.new }
-    ensures ranks { rank_of (cave_of rules.now) result ≤ 0 }
-{
-    let x = order.object;
-    if lake(rules, play.state).is_none() {
-        return Step::say(Role::VaseDry, play);
-    }
-    if !is_in_hand(rules, play.state, x) {
-        return Step::say(Role::NotHeld, play);
-    }
-    play.state.objects.set_prop(x, Prop::new(2));
-    play.state.objects.anchor_to(x, Anchor::Fixed);
-    let here = play.state.trail.here;
-    play.state.move_to(x, here);
-    Step::say(Role::VaseBreak, play)
+    Step::Done(order.ask_what(rules, play))
 }
 
 /// FILL an object.
 #[tactic(auto, unfolding(crate::specs::Pouring::fill_rows))]
-pub fn fill(rules: &Rules<'_>, order: Order, play: &mut Play<'_>) -> Step
+pub fn fill(rules: &Rules<'_>, order: Order, play: &mut Play<'_>) -> Next
     requires { HasRoom parts_of_row play.old }
-    ensures row { ByRows fill_rows rules.now order play.old play.new result }
-    ensures same { GoesOn play.old play.new }
-    ensures few { SaysUpTo parts_of_row play.old play.new }
-    ensures ranks { rank_of (cave_of rules.now) result ≤ bare_rank order.object }
+    ensures row { DoneByRows fill_rows rules.now order play.old play.new result }
 {
     let x = order.object;
-    if rules.is(x, Named::Vase) {
-        return fill_vase(rules, order, play);
-    }
-    if !rules.is(x, Named::Bottle) {
-        return order.say_default(rules, play);
-    }
-    if liquid(rules, play.state).is_some() {
-        return Step::say(Role::BottleFull, play);
-    }
-    if lake(rules, play.state).is_none() {
-        return Step::say(Role::NoLake, play);
-    }
-    if is_liquid(rules.object(Named::Oil), lake(rules, play.state)) {
+    let is_vase = rules.is(x, Named::Vase);
+    let lake_here = lake(rules, play.state);
+    let role = if is_vase && lake_here.is_none() {
+        Role::VaseDry
+    } else if is_vase && !is_in_hand(rules, play.state, x) {
+        Role::NotHeld
+    } else if is_vase {
         play.state.objects.set_prop(x, Prop::new(2));
-        return Step::say(Role::FilledOil, play);
-    }
-    play.state.objects.set_prop(x, Prop::new(0));
-    Step::say(Role::FilledWater, play)
+        play.state.objects.anchor_to(x, Anchor::Fixed);
+        let here = play.state.trail.here;
+        play.state.move_to(x, here);
+        Role::VaseBreak
+    } else if !rules.is(x, Named::Bottle) {
+        return order.say_default(rules, play);
+    } else if liquid(rules, play.state).is_some() {
+        Role::BottleFull
+    } else if lake_here.is_none() {
+        Role::NoLake
+    } else if is_liquid(rules.object(Named::Oil), lake_here) {
+        play.state.objects.set_prop(x, Prop::new(2));
+        Role::FilledOil
+    } else {
+        play.state.objects.set_prop(x, Prop::new(0));
+        Role::FilledWater
+    };
+    Next::say(role, play)
 }

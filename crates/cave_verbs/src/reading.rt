@@ -1,8 +1,8 @@
 ghost use Rattle.std.specs.Prelude.{◌≡◌, ◌≤◌};
-ghost use Rattle.cave_scene.specs.Bounds.{HasRoom, SaysUpTo, parts_of_row};
-ghost use Rattle.cave_scene.specs.Play.{scene_of, GoesOn};
+ghost use Rattle.cave_scene.specs.Bounds.{HasRoom, parts_of_row};
+ghost use Rattle.cave_scene.specs.Play.{scene_of};
 ghost use Rattle.cave_verbs.specs.Deeds.{deed};
-ghost use Rattle.cave_verbs.specs.Rows.{ByRows};
+ghost use Rattle.cave_verbs.specs.Rows.{ByRows, DoneByRows};
 ghost use Rattle.cave_scene.specs.Rules.{cave_of};
 ghost use Rattle.cave_verbs.specs.Ranks.{rank_of};
 ghost use Rattle.cave_verbs.specs.Reading.{papers, what_to_read, bare_read_rows, read_rows};
@@ -10,7 +10,7 @@ ghost use Rattle.cave_verbs.specs.Reading.{papers, what_to_read, bare_read_rows,
 use crate::choice::{Meant, consider, only};
 use crate::next::{Next, Step};
 use crate::order::Order;
-use crate::verbs::READ;
+use crate::verb::Verb;
 use arrayvec::ArrayVec;
 use cave_objects::Object;
 use cave_rows::Role;
@@ -52,47 +52,39 @@ fn what_to_read(rules: &Rules<'_>, order: &Order, play: &Play<'_>) -> Object
 pub fn read_what_is_here(rules: &Rules<'_>, order: Order, play: &mut Play<'_>) -> Step
     requires { HasRoom parts_of_row play.old }
     ensures row { ByRows bare_read_rows rules.now order play.old play.new result }
-    ensures same { GoesOn play.old play.new }
-    ensures few { SaysUpTo parts_of_row play.old play.new }
     ensures ranks { rank_of (cave_of rules.now) result ≤ 1 }
 {
     let paper = what_to_read(rules, &order, play);
     if !paper.is_none() && !play.state.is_dark(rules.cave, rules.object(Named::Lamp)) {
-        return Step::GoOn(READ, paper);
+        return Step::GoOn(Verb::Read, paper);
     }
-    order.ask_what(rules, play)
+    Step::Done(order.ask_what(rules, play))
 }
 
 /// READ an object.
 #[tactic(auto, unfolding(crate::specs::Reading::read_rows))]
-pub fn read(rules: &Rules<'_>, order: Order, play: &mut Play<'_>) -> Step
+pub fn read(rules: &Rules<'_>, order: Order, play: &mut Play<'_>) -> Next
     requires { HasRoom parts_of_row play.old }
-    ensures row { ByRows read_rows rules.now order play.old play.new result }
-    ensures same { GoesOn play.old play.new }
-    ensures few { SaysUpTo parts_of_row play.old play.new }
-    ensures ranks { rank_of (cave_of rules.now) result ≤ 0 }
+    ensures row { DoneByRows read_rows rules.now order play.old play.new result }
 {
     let x = order.object;
     if play.state.is_dark(rules.cave, rules.object(Named::Lamp)) {
         play.tell(Part::Word(WordLine::NotSeen, order.word));
-        return Step::Done(Next::Stay);
+        return Next::Stay;
     }
-    if rules.is(x, Named::Magazine) {
-        return Step::say(Role::ReadMagazine, play);
-    }
-    if rules.is(x, Named::Tablet) {
-        return Step::say(Role::ReadTablet, play);
-    }
-    if rules.is(x, Named::Message) {
-        return Step::say(Role::ReadMessage, play);
-    }
-    if rules.is(x, Named::Oyster) && is_in_hand(rules, play.state, x) {
-        if play.state.is_hint_taken(HintNumber::new(OYSTER_HINT)) {
-            return Step::say(Role::ReadOyster, play);
-        }
-        if play.state.closing.is_closed {
-            return Step::Done(Next::Ask(Question::Oyster));
-        }
-    }
-    order.say_default(rules, play)
+    let is_oyster_held = rules.is(x, Named::Oyster) && is_in_hand(rules, play.state, x);
+    let role = if rules.is(x, Named::Magazine) {
+        Role::ReadMagazine
+    } else if rules.is(x, Named::Tablet) {
+        Role::ReadTablet
+    } else if rules.is(x, Named::Message) {
+        Role::ReadMessage
+    } else if is_oyster_held && play.state.is_hint_taken(HintNumber::new(OYSTER_HINT)) {
+        Role::ReadOyster
+    } else if is_oyster_held && play.state.closing.is_closed {
+        return Next::Ask(Question::Oyster);
+    } else {
+        return order.say_default(rules, play);
+    };
+    Next::say(role, play)
 }

@@ -1,14 +1,13 @@
 ghost use Rattle.std.specs.Prelude.{◌≡◌, ◌≤◌};
-ghost use Rattle.cave_scene.specs.Bounds.{HasRoom, SaysUpTo};
-ghost use Rattle.cave_scene.specs.Play.{GoesOn};
-ghost use Rattle.cave_verbs.specs.Rows.{ByRows};
+ghost use Rattle.cave_scene.specs.Bounds.{HasRoom};
+ghost use Rattle.cave_verbs.specs.Rows.{ByRows, DoneByRows};
 ghost use Rattle.cave_scene.specs.Rules.{cave_of};
 ghost use Rattle.cave_verbs.specs.Ranks.{rank_of, take_rank};
 ghost use Rattle.cave_verbs.specs.Taking.{bare_take_rows, take_rows, free_take_rows, lone_object};
 
-use crate::next::Step;
+use crate::next::{Next, Step};
 use crate::order::Order;
-use crate::verbs::{FILL, TAKE};
+use crate::verb::Verb;
 use cave_objects::{Half, Object, Prop};
 use cave_rows::Role;
 use cave_scene::{Play, Rules};
@@ -33,16 +32,14 @@ fn lone_object(halves: &[Half]) -> Object
 pub fn take_what_is_here(rules: &Rules<'_>, order: Order, play: &mut Play<'_>) -> Step
     requires { HasRoom 1 play.old }
     ensures row { ByRows bare_take_rows rules.now order play.old play.new result }
-    ensures same { GoesOn play.old play.new }
-    ensures few { SaysUpTo 1 play.old play.new }
     ensures ranks { rank_of (cave_of rules.now) result ≤ 3 }
 {
     let here = play.state.trail.here;
     let lone = lone_object(play.state.objects_at(here).as_slice());
     if !lone.is_none() && !is_dwarf_here(play.state) {
-        return Step::GoOn(TAKE, lone);
+        return Step::GoOn(Verb::Take, lone);
     }
-    order.ask_what(rules, play)
+    Step::Done(order.ask_what(rules, play))
 }
 
 /// TAKE an object.
@@ -50,82 +47,68 @@ pub fn take_what_is_here(rules: &Rules<'_>, order: Order, play: &mut Play<'_>) -
 pub fn take(rules: &Rules<'_>, order: Order, play: &mut Play<'_>) -> Step
     requires { HasRoom 1 play.old }
     ensures row { ByRows take_rows rules.now order play.old play.new result }
-    ensures same { GoesOn play.old play.new }
-    ensures few { SaysUpTo 1 play.old play.new }
     ensures ranks { let cave = cave_of rules.now in
         rank_of cave result ≤ take_rank cave order.object }
 {
     let x = order.object;
     let bottle = rules.object(Named::Bottle);
     if is_in_hand(rules, play.state, x) {
-        return order.say_default(rules, play);
-    }
-    if is_fixed(play.state, x) && rules.is(x, Named::Plant) && has_prop_up_to(play.state, x, 0) {
-        return Step::say(Role::PlantRoots, play);
-    }
-    if is_fixed(play.state, x) && rules.is(x, Named::Bear) && has_prop(play.state, x, 1) {
-        return Step::say(Role::BearChained, play);
-    }
-    if is_fixed(play.state, x)
-        && rules.is(x, Named::Chain)
-        && has_other_prop(play.state, rules.object(Named::Bear), 0)
-    {
-        return Step::say(Role::ChainLocked, play);
+        return Step::Done(order.say_default(rules, play));
     }
     if is_fixed(play.state, x) {
-        return Step::say(Role::Immovable, play);
+        let bear = rules.object(Named::Bear);
+        if rules.is(x, Named::Plant) && has_prop_up_to(play.state, x, 0) {
+            return Step::Done(Next::say(Role::PlantRoots, play));
+        }
+        if rules.is(x, Named::Bear) && has_prop(play.state, x, 1) {
+            return Step::Done(Next::say(Role::BearChained, play));
+        }
+        if rules.is(x, Named::Chain) && has_other_prop(play.state, bear, 0) {
+            return Step::Done(Next::say(Role::ChainLocked, play));
+        }
+        return Step::Done(Next::say(Role::Immovable, play));
     }
     if is_liquid(x, liquid(rules, play.state)) && is_near(rules, play.state, bottle) {
-        return Step::GoOn(TAKE, bottle);
+        return Step::GoOn(Verb::Take, bottle);
     }
     if rules.is(x, Named::Water) || rules.is(x, Named::Oil) {
         if !is_in_hand(rules, play.state, bottle) {
-            return Step::say(Role::NoBottle, play);
+            return Step::Done(Next::say(Role::NoBottle, play));
         }
         if has_prop(play.state, bottle, 1) {
-            return Step::GoOn(FILL, bottle);
+            return Step::GoOn(Verb::Fill, bottle);
         }
-        return Step::say(Role::BottleFull, play);
+        return Step::Done(Next::say(Role::BottleFull, play));
     }
     if play.state.holding() >= 7 {
-        return Step::say(Role::TooMuch, play);
+        return Step::Done(Next::say(Role::TooMuch, play));
     }
-    take_freely(rules, order, play)
+    Step::Done(take_freely(rules, order, play))
 }
 
 /// TAKE an object that isn't fixed, with hands that aren't full.
 #[tactic(auto, unfolding(crate::specs::Taking::free_take_rows))]
-fn take_freely(rules: &Rules<'_>, order: Order, play: &mut Play<'_>) -> Step
+fn take_freely(rules: &Rules<'_>, order: Order, play: &mut Play<'_>) -> Next
     requires { HasRoom 1 play.old }
-    ensures row { ByRows free_take_rows rules.now order play.old play.new result }
-    ensures same { GoesOn play.old play.new }
-    ensures few { SaysUpTo 1 play.old play.new }
-    ensures ranks { rank_of (cave_of rules.now) result ≤ 0 }
+    ensures row { DoneByRows free_take_rows rules.now order play.old play.new result }
 {
     let x = order.object;
+    let bird = rules.object(Named::Bird);
     if rules.is(x, Named::Bird) {
         let cage = rules.object(Named::Cage);
         if has_prop(play.state, x, 0) {
             if is_in_hand(rules, play.state, rules.object(Named::Rod)) {
-                return Step::say(Role::BirdRod, play);
+                return Next::say(Role::BirdRod, play);
             }
             if !is_in_hand(rules, play.state, cage) {
-                return Step::say(Role::NoCage, play);
+                return Next::say(Role::NoCage, play);
             }
             play.state.objects.set_prop(x, Prop::new(1));
-            play.state.carry(cage);
-            play.state.carry(x);
-            return Step::say(Role::Ok, play);
         }
         play.state.carry(cage);
-        play.state.carry(x);
-        return Step::say(Role::Ok, play);
-    }
-    if rules.is(x, Named::Cage) && has_other_prop(play.state, rules.object(Named::Bird), 0) {
-        play.state.carry(rules.object(Named::Bird));
-        play.state.carry(x);
-        return Step::say(Role::Ok, play);
+    } else if rules.is(x, Named::Cage) && has_other_prop(play.state, bird, 0) {
+        play.state.carry(bird);
     }
     play.state.carry(x);
-    Step::say(Role::Ok, play)
+    Next::say(Role::Ok, play)
 }

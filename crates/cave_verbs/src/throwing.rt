@@ -1,20 +1,18 @@
 ghost use Rattle.std.specs.Prelude.{◌≡◌, ◌≤◌};
 ghost use Rattle.std.specs.List.{position};
-ghost use Rattle.cave_scene.specs.Bounds.{HasRoom, SaysUpTo, parts_of_row};
-ghost use Rattle.cave_scene.specs.Play.{GoesOn};
-ghost use Rattle.cave_verbs.specs.Rows.{ActsBy, ByRows};
+ghost use Rattle.cave_scene.specs.Bounds.{HasRoom, parts_of_row};
+ghost use Rattle.cave_verbs.specs.Rows.{ActsBy, ByRows, DoneBy, DoneByRows};
 ghost use Rattle.cave_scene.specs.Rules.{cave_of};
 ghost use Rattle.cave_things.specs.Reach.{is_dwarf_at};
 ghost use Rattle.cave_things.specs.Effects.{put_here};
 ghost use Rattle.cave_verbs.specs.declared.next.Next.TheVariants.{Arrive};
-ghost use Rattle.cave_verbs.specs.declared.next.Step.TheVariants.{Done};
 ghost use Rattle.cave_verbs.specs.Ranks.{rank_of, throw_rank};
 ghost use Rattle.cave_verbs.specs.Throwing.{with_one_killed, hit_rows, axe_rows};
 ghost use Rattle.cave_verbs.specs.Throwing.{axe_thrown_at_dwarf, axe_act, throw_act};
 
 use crate::next::{Next, Step};
 use crate::order::Order;
-use crate::verbs::{DROP, FEED, KILL, THROW};
+use crate::verb::Verb;
 use cave_objects::{Anchor, Object, Place, Prop};
 use cave_rows::Role;
 use cave_scene::{Play, Rules};
@@ -46,44 +44,38 @@ fn strike(state: &mut State)
 }
 
 /// The axe is put where the player is, and the player arrives there again.
-fn land(axe: Object, state: &mut State) -> Step
+fn land(axe: Object, state: &mut State) -> Next
     ensures state { state.new ≡ put_here axe state.old }
-    ensures step { result ≡ Done (Arrive state.old.trail.here) }
+    ensures next { result ≡ Arrive state.old.trail.here }
 {
     let here = state.trail.here;
     state.move_to(axe, here);
-    Step::Done(Next::Arrive(here))
+    Next::Arrive(here)
 }
 
 #[tactic(auto, unfolding(crate::specs::Throwing::hit_rows))]
-fn hit_dwarf(rules: &Rules<'_>, order: Order, play: &mut Play<'_>) -> Step
+fn hit_dwarf(rules: &Rules<'_>, order: Order, play: &mut Play<'_>) -> Next
     requires { HasRoom parts_of_row play.old }
-    ensures row { ByRows hit_rows rules.now order play.old play.new result }
-    ensures same { GoesOn play.old play.new }
-    ensures few { SaysUpTo parts_of_row play.old play.new }
-    ensures ranks { rank_of (cave_of rules.now) result ≤ 0 }
+    ensures row { DoneByRows hit_rows rules.now order play.old play.new result }
 {
     if play.state.dwarves.kills.number() == 0 {
         strike(play.state);
-        Step::say(Role::AxeFirst, play);
+        play.say(Role::AxeFirst);
         return land(order.object, play.state);
     }
     strike(play.state);
-    Step::say(Role::AxeKill, play);
+    play.say(Role::AxeKill);
     land(order.object, play.state)
 }
 
 /// The axe is thrown at a dwarf: one number of three is drawn, and 0 is a miss.
 #[tactic(auto, unfolding(crate::specs::Throwing::axe_thrown_at_dwarf, crate::specs::Throwing::miss_rows))]
-fn throw_at_dwarf(rules: &Rules<'_>, order: Order, play: &mut Play<'_>) -> Step
+fn throw_at_dwarf(rules: &Rules<'_>, order: Order, play: &mut Play<'_>) -> Next
     requires { HasRoom parts_of_row play.old }
-    ensures row { ActsBy axe_thrown_at_dwarf rules.now order play.old play.new result }
-    ensures same { GoesOn play.old play.new }
-    ensures few { SaysUpTo parts_of_row play.old play.new }
-    ensures ranks { rank_of (cave_of rules.now) result ≤ 0 }
+    ensures row { DoneBy axe_thrown_at_dwarf rules.now order play.old play.new result }
 {
     if play.state.stream.draw(3) == 0 {
-        Step::say(Role::AxeMiss, play);
+        play.say(Role::AxeMiss);
         return land(order.object, play.state);
     }
     hit_dwarf(rules, order, play)
@@ -94,20 +86,18 @@ fn throw_at_dwarf(rules: &Rules<'_>, order: Order, play: &mut Play<'_>) -> Step
 fn throw_at_beast(rules: &Rules<'_>, order: Order, play: &mut Play<'_>) -> Step
     requires { HasRoom parts_of_row play.old }
     ensures row { ByRows axe_rows rules.now order play.old play.new result }
-    ensures same { GoesOn play.old play.new }
-    ensures few { SaysUpTo parts_of_row play.old play.new }
     ensures ranks { rank_of (cave_of rules.now) result ≤ 2 }
 {
     let x = order.object;
     let dragon = rules.object(Named::Dragon);
     let bear = rules.object(Named::Bear);
     if play.state.is_here(dragon) && has_prop(play.state, dragon, 0) {
-        Step::say(Role::AxeDragon, play);
-        return land(x, play.state);
+        play.say(Role::AxeDragon);
+        return Step::Done(land(x, play.state));
     }
     if play.state.is_here(rules.object(Named::Troll)) {
-        Step::say(Role::AxeTroll, play);
-        return land(x, play.state);
+        play.say(Role::AxeTroll);
+        return Step::Done(land(x, play.state));
     }
     if is_near(rules, play.state, bear) && has_prop(play.state, bear, 0) {
         let here = play.state.trail.here;
@@ -115,21 +105,19 @@ fn throw_at_beast(rules: &Rules<'_>, order: Order, play: &mut Play<'_>) -> Step
         play.state.objects.anchor_to(x, Anchor::Fixed);
         play.state.objects.set_prop(x, Prop::new(1));
         play.state.objects.juggle(bear);
-        return Step::say(Role::AxeBear, play);
+        return Step::Done(Next::say(Role::AxeBear, play));
     }
-    Step::GoOn(KILL, Object::none())
+    Step::GoOn(Verb::Kill, Object::none())
 }
 
 #[tactic(auto, unfolding(crate::specs::Throwing::axe_act))]
 fn throw_axe(rules: &Rules<'_>, order: Order, play: &mut Play<'_>) -> Step
     requires { HasRoom parts_of_row play.old }
     ensures row { ActsBy axe_act rules.now order play.old play.new result }
-    ensures same { GoesOn play.old play.new }
-    ensures few { SaysUpTo parts_of_row play.old play.new }
     ensures ranks { rank_of (cave_of rules.now) result ≤ 2 }
 {
     if is_dwarf_here(play.state) {
-        return throw_at_dwarf(rules, order, play);
+        return Step::Done(throw_at_dwarf(rules, order, play));
     }
     throw_at_beast(rules, order, play)
 }
@@ -139,8 +127,6 @@ fn throw_axe(rules: &Rules<'_>, order: Order, play: &mut Play<'_>) -> Step
 pub fn throw(rules: &Rules<'_>, order: Order, play: &mut Play<'_>) -> Step
     requires { HasRoom parts_of_row play.old }
     ensures row { ActsBy throw_act rules.now order play.old play.new result }
-    ensures same { GoesOn play.old play.new }
-    ensures few { SaysUpTo parts_of_row play.old play.new }
     ensures ranks { let cave = cave_of rules.now in
         rank_of cave result ≤ throw_rank cave order.object }
 {
@@ -149,20 +135,20 @@ pub fn throw(rules: &Rules<'_>, order: Order, play: &mut Play<'_>) -> Step
     if !is_in_hand(rules, play.state, x) {
         let second_rod = rules.object(Named::SecondRod);
         if rules.is(x, Named::Rod) && is_in_hand(rules, play.state, second_rod) {
-            return Step::GoOn(THROW, second_rod);
+            return Step::GoOn(Verb::Throw, second_rod);
         }
-        return order.say_default(rules, play);
+        return Step::Done(order.say_default(rules, play));
     }
     if is_treasure(x) && play.state.is_here(rules.object(Named::Troll)) {
         play.state.destroy(x);
         remove_troll(rules, play.state);
-        return Step::say(Role::TrollPaid, play);
+        return Step::Done(Next::say(Role::TrollPaid, play));
     }
     if rules.is(x, Named::Food) && is_near(rules, play.state, bear) {
-        return Step::GoOn(FEED, bear);
+        return Step::GoOn(Verb::Feed, bear);
     }
     if !rules.is(x, Named::Axe) {
-        return Step::GoOn(DROP, x);
+        return Step::GoOn(Verb::Drop, x);
     }
     throw_axe(rules, order, play)
 }

@@ -1,12 +1,9 @@
-ghost use Rattle.std.specs.Prelude.{◌≡◌, ◌≤◌, ◌-ℤ◌, pos};
-ghost use Rattle.cave_scene.specs.Bounds.{HasRoom, SaysUpTo, parts_of_row};
-ghost use Rattle.cave_scene.specs.Play.{GoesOn};
-ghost use Rattle.cave_verbs.specs.Rows.{ByRows};
-ghost use Rattle.cave_scene.specs.Rules.{cave_of};
-ghost use Rattle.cave_verbs.specs.Ranks.{rank_of};
+ghost use Rattle.std.specs.Prelude.{◌≡◌, ◌-ℤ◌, pos};
+ghost use Rattle.cave_scene.specs.Bounds.{HasRoom, parts_of_row};
 ghost use Rattle.cave_verbs.specs.Waving.{wave_rows, rub_rows};
+ghost use Rattle.cave_verbs.specs.Rows.{DoneByRows};
 
-use crate::next::{Next, Step};
+use crate::next::Next;
 use crate::order::Order;
 use cave_objects::Prop;
 use cave_rows::Role;
@@ -29,19 +26,16 @@ fn text_of_flipped(prop: Prop) -> i8
 
 /// WAVE an object.
 #[tactic(auto, unfolding(crate::specs::Waving::wave_rows))]
-pub fn wave(rules: &Rules<'_>, order: Order, play: &mut Play<'_>) -> Step
+pub fn wave(rules: &Rules<'_>, order: Order, play: &mut Play<'_>) -> Next
     requires { HasRoom parts_of_row play.old }
-    ensures row { ByRows wave_rows rules.now order play.old play.new result }
-    ensures same { GoesOn play.old play.new }
-    ensures few { SaysUpTo parts_of_row play.old play.new }
-    ensures ranks { rank_of (cave_of rules.now) result ≤ 0 }
+    ensures row { DoneByRows wave_rows rules.now order play.old play.new result }
 {
     let x = order.object;
     let is_rod = rules.is(x, Named::Rod);
     if !is_in_hand(rules, play.state, x)
         && !(is_rod && is_in_hand(rules, play.state, rules.object(Named::SecondRod)))
     {
-        return Step::say(Role::NotHeld, play);
+        return Next::say(Role::NotHeld, play);
     }
     let fissure = rules.object(Named::Fissure);
     if is_rod
@@ -53,22 +47,19 @@ pub fn wave(rules: &Rules<'_>, order: Order, play: &mut Play<'_>) -> Step
         play.state.objects.set_prop(fissure, flipped(was));
         let prop = play.state.objects.prop(fissure);
         play.look(fissure, text_of_flipped(prop));
-        return Step::Done(Next::Stay);
+        return Next::Stay;
     }
     order.say_default(rules, play)
 }
 
 /// RUB an object.
 #[tactic(auto, unfolding(crate::specs::Waving::rub_rows))]
-pub fn rub(rules: &Rules<'_>, order: Order, play: &mut Play<'_>) -> Step
+pub fn rub(rules: &Rules<'_>, order: Order, play: &mut Play<'_>) -> Next
     requires { HasRoom parts_of_row play.old }
-    ensures row { ByRows rub_rows rules.now order play.old play.new result }
-    ensures same { GoesOn play.old play.new }
-    ensures few { SaysUpTo parts_of_row play.old play.new }
-    ensures ranks { rank_of (cave_of rules.now) result ≤ 0 }
+    ensures row { DoneByRows rub_rows rules.now order play.old play.new result }
 {
     if rules.is(order.object, Named::Lamp) {
         return order.say_default(rules, play);
     }
-    Step::say(Role::RubOdd, play)
+    Next::say(Role::RubOdd, play)
 }

@@ -4,6 +4,7 @@ use Rattle.cave_scene.specs.Rules.{cave_of}
 use Rattle.cave_verbs.specs.Acting.{act_within, act_once}
 use Rattle.cave_verbs.specs.Deeds.{Deed, Act, deed, acted, going_on}
 use Rattle.cave_verbs.specs.declared.next.Step.TheVariants.{Done, GoOn}
+use Rattle.cave_verbs.specs.declared.verb.Verb.{Verb}
 use Rattle.cave_verbs.proofs.acting.+act_within.Goals as goal
 
 -- what a greater rank doesn't exceed isn't 0
@@ -11,7 +12,7 @@ above : (low high left : ℕ) → suc low ≤ high → high ≤ left → 0 < lef
 above low high left greater fits = omega arith
 
 -- what goes on has one verb less left
-going_within : (left : ℕ) (d : Deed) (v x : ℕ) → 0 < left → (act_once d).step ≡ GoOn v x
+going_within : (left : ℕ) (d : Deed) (v : Verb) (x : ℕ) → 0 < left → (act_once d).step ≡ GoOn v x
     → act_within left d
     ≡ act_within (left - 1) (deed d.cave (going_on d.order v x) (act_once d).scene)
 unfolding act_within
@@ -21,7 +22,7 @@ going_within (suc left) d v x some is = grind (arith, is)
 pub returns-in-GoOn-clause-rules : goal.returns-in-GoOn-clause-rules
 returns-in-GoOn-clause-rules t c =
     let deed_now = deed (cave_of c.args.rules.now) c.args.order (scene_of c.args.play.now) in
-    let once = c.act_once.ensures.rules in
+    let once = c.act_once.ensures.rules.0 in
     let some = above _ _ c.args.left c.in-GoOn.ensures.ranks c.requires.rank in
     let step = sym (ap (λ (a : Act). a.step) once) ∙ c.in-GoOn.is in
     let here =
