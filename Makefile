@@ -35,6 +35,7 @@ $(PROGRAM): $(SOURCES)
 test:
 	bench/snippets
 	logs/documents
+	logs/strict
 	@mkdir -p out
 	bench/manual docs/PROGRAM.md > out/cave.1
 	bench/progress all out/test.log rt ci
@@ -51,6 +52,7 @@ soak: $(PROGRAM)
 # Plays each log of logs/ with the program, and compares what it says with the transcript beside it.
 suite: $(PROGRAM)
 	@logs/documents
+	@logs/strict
 	@logs/run $(PROGRAM)
 	@logs/large $(PROGRAM)
 	@logs/coverage $(PROGRAM)
