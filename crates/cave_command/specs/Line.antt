@@ -28,10 +28,11 @@ MetCommand = Option (List ℕ × List Row)
 abbrev pub rows_in : ArgMatches → List Row
 rows_in found = rows_of (found_of found)
 
--- the files of a cave are what was found for them
+-- the files of a cave and of the output are what was found for them
 pub record IsFiles (rows : List Row) (files : Files) : Type 0 where
   pub cave : first_of (codes "cave") rows ≡ Some files.cave.now
   pub bind : first_of (codes "bind") rows ≡ option_map (λ s. s.now) files.bind
+  pub output : first_of (codes "output") rows ≡ option_map (λ s. s.now) files.output
 
 -- a seed is what was found for it, or 0
 abbrev pub IsSeed : List Row → ℕ → Type 0

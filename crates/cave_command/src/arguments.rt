@@ -3,7 +3,7 @@
 ghost use Rattle.std.specs.Prelude.{◌≡◌, false};
 ghost use Rattle.clap.specs.Words.{rule_of};
 ghost use Rattle.cave_command.specs.App.{bind_rule, cave_rule, every_rule, log_rule, logs_rule};
-ghost use Rattle.cave_command.specs.App.{print_rule, script_rule, seed_rule};
+ghost use Rattle.cave_command.specs.App.{output_rule, print_rule, script_rule, seed_rule};
 
 use clap::{Arg, ArgAction};
 use std::alloc::Global;
@@ -78,6 +78,19 @@ pub(crate) fn every_argument<'a>(alloc: Global) -> Arg<'a>
         "The most lines between two checkpoints, from 1 to 10000: the fewer, the less an \
          edit replays and the more is kept [default: 50]",
     )
+}
+
+pub(crate) fn output_argument<'a>(alloc: Global) -> Arg<'a>
+    ensures rule { rule_of result ≡ output_rule }
+    ensures local { result.global ≡ false }
+{
+    Arg::new(alloc, "output")
+        .long("output")
+        .value_name("FILE")
+        .help(
+            "The file that the output goes into, whole or not at all, in the place of standard \
+             output; it may be one of the files that are read",
+        )
 }
 
 pub(crate) fn print_argument<'a>(alloc: Global) -> Arg<'a>

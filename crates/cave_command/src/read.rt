@@ -150,7 +150,7 @@ fn value_in<'a>(found: &ArgMatches<'a>, id: &str) -> Option<&'a str>
     found.get_str(id)
 }
 
-/// The files of a cave, if they were found.
+/// The files of a cave and of the output, if the cave's was found.
 fn files_in<'a>(found: &ArgMatches<'a>) -> Option<Files<'a>>
     ensures { MatchOption result (first_of (codes "cave") (rows_in found.now) ≡ None)
         (IsFiles (rows_in found.now)) }
@@ -159,6 +159,7 @@ fn files_in<'a>(found: &ArgMatches<'a>) -> Option<Files<'a>>
     Some(Files {
         cave,
         bind: value_in(found, "bind"),
+        output: value_in(found, "output"),
     })
 }
 

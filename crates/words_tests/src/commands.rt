@@ -25,19 +25,19 @@ fn shown(alloc: Global, words: &[&str]) -> Result<String, AllocError> {
 const ANSWERS: [(&[&str], &str); 24] = [
     (
         &["cave", "check", "a"],
-        "Check { files: Files { cave: \"a\", bind: None } }",
+        "Check { files: Files { cave: \"a\", bind: None, output: None } }",
     ),
     (
         &["cave", "play", "a", "--bind=c", "b", "--seed", "2147483647"],
-        "Play { files: Files { cave: \"a\", bind: Some(\"c\") }, log: \"b\", seed: 2147483647 }",
+        "Play { files: Files { cave: \"a\", bind: Some(\"c\"), output: None }, log: \"b\", seed: 2147483647 }",
     ),
     (
         &["cave", "play", "--", "-a", "--seed"],
-        "Play { files: Files { cave: \"-a\", bind: None }, log: \"--seed\", seed: 0 }",
+        "Play { files: Files { cave: \"-a\", bind: None, output: None }, log: \"--seed\", seed: 0 }",
     ),
     (
         &["cave", "edit", "a", "b", "c"],
-        "Edit { files: Files { cave: \"a\", bind: None }, log: \"b\", script: \"c\", \
+        "Edit { files: Files { cave: \"a\", bind: None, output: None }, log: \"b\", script: \"c\", \
         editing: Editing { seed: 0, every: 50, view: Transcript } }",
     ),
     (
@@ -50,17 +50,17 @@ const ANSWERS: [(&[&str], &str); 24] = [
             "b",
             "c",
         ],
-        "Edit { files: Files { cave: \"a\", bind: None }, log: \"b\", script: \"c\", \
+        "Edit { files: Files { cave: \"a\", bind: None, output: None }, log: \"b\", script: \"c\", \
         editing: Editing { seed: 3, every: 10000, view: Transcript } }",
     ),
     (
         &["cave", "edit", "a", "--print", "log", "b", "c"],
-        "Edit { files: Files { cave: \"a\", bind: None }, log: \"b\", script: \"c\", \
+        "Edit { files: Files { cave: \"a\", bind: None, output: None }, log: \"b\", script: \"c\", \
         editing: Editing { seed: 0, every: 50, view: Log } }",
     ),
     (
         &["cave", "edit", "a", "b", "c", "--print=reports"],
-        "Edit { files: Files { cave: \"a\", bind: None }, log: \"b\", script: \"c\", \
+        "Edit { files: Files { cave: \"a\", bind: None, output: None }, log: \"b\", script: \"c\", \
         editing: Editing { seed: 0, every: 50, view: Reports } }",
     ),
     (&["cave", "help", "edit"], "text DisplayHelp"),
@@ -70,7 +70,7 @@ const ANSWERS: [(&[&str], &str); 24] = [
         &[
             "cave", "cover", "a", "b", "--seed=7", "c", "--bind", "d", "e",
         ],
-        "Cover { files: Files { cave: \"a\", bind: Some(\"d\") }, logs: [\"b\", \"c\", \"e\"], \
+        "Cover { files: Files { cave: \"a\", bind: Some(\"d\"), output: None }, logs: [\"b\", \"c\", \"e\"], \
         seed: 7 }",
     ),
     (&["cave", "play", "a"], "2 MissingRequiredArgument"),
