@@ -56,7 +56,7 @@ impl<'a, F: Files> FileBeside<'a, F> {
                 return Err(io::Error::from(io::ErrorKind::IsADirectory));
             }
             Ok(found) if !found.is_file() => {
-                return Err(io::Error::from(io::ErrorKind::InvalidInput));
+                return Err(io::Error::other("is no regular file"));
             }
             Ok(found) => {
                 let path = files.canonicalize(alloc, path)?;
