@@ -9,7 +9,7 @@ ghost use Rattle.cave_command.specs.App.{with_options, with_output, with_view};
 
 use crate::arguments::{
     bind_argument, cave_argument, every_argument, log_argument, logs_argument, output_argument,
-    print_argument, script_argument, seed_argument,
+    print_argument, script_argument, seed_argument, strict_argument,
 };
 use clap::Command;
 use std::alloc::{AllocError, Global};
@@ -49,7 +49,7 @@ A script has lines as these, whose places count the lines of the log from 0:
   seed 7
   end
 
-An edit that is refused is reported by a number:
+An edit that is refused is reported by a number, or ends the run under --strict:
 
   1  no such line: the log has none at that place
   2  a bad line: too long, or with a byte that no line may have
@@ -93,14 +93,16 @@ fn with_options<'a>(alloc: Global, command: Command<'a>) -> Result<Command<'a>, 
     command.arg(bind_argument(alloc))?.arg(seed_argument(alloc))
 }
 
-/// Adds the options of an edit alone: the distance of checkpoints, and what is printed.
+/// Adds the options of an edit alone: the distance of checkpoints, what is printed, and whether a
+/// refused edit ends the run.
 fn with_view<'a>(alloc: Global, command: Command<'a>) -> Result<Command<'a>, AllocError>
     requires { (out-Command command).has_globals ≡ false }
     ensures { IfOk result (IsLocal (with_view (app_of command.entry))) }
 {
     command
         .arg(every_argument(alloc))?
-        .arg(print_argument(alloc))
+        .arg(print_argument(alloc))?
+        .arg(strict_argument(alloc))
 }
 
 fn play_command<'a>(alloc: Global) -> Result<Command<'a>, AllocError>

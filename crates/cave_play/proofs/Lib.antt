@@ -7,5 +7,6 @@ mod RefusalLemmas
 mod RunLemmas
 mod ScriptLemmas
 pub mod StageLemmas
+mod StrictLemmas
 mod TranscriptLemmas
 mod ViewLemmas

@@ -4,7 +4,7 @@ use Rattle.std.specs.List.{sum_by}
 use Rattle.std.specs.Str.Lines.{lines}
 use Rattle.cave_data.specs.CaveView.{CaveView}
 use Rattle.edit_options.specs.declared.editing.View.{View}
-use Rattle.edit_options.specs.declared.editing.View.TheVariants.{Transcript, Log, Reports}
+use Rattle.edit_options.specs.declared.editing.View.TheVariants.{Transcript, Play, Log, Reports}
 use Rattle.replay_marks.specs.Spacing.{IsSpaced}
 use Rattle.log_replay.specs.Play.{Game}
 use Rattle.edit_scripts.specs.Item.{Applied}
@@ -17,7 +17,7 @@ use Rattle.cave_play.specs.declared.outcome.ItemOutcome.{ItemOutcome}
 use Rattle.cave_play.specs.declared.outcome.ItemOutcome.TheVariants.{Refused, Replayed}
 
 -- what came of an item says whether it was refused
-group_refusal-outcome : (cave : CaveView) (every : ℕ) (item : Applied) (game : Game)
+pub group_refusal-outcome : (cave : CaveView) (every : ℕ) (item : Applied) (game : Game)
     (checkpoints : List ℕ) (outcome : ItemOutcome)
     → IsOutcome cave every item game checkpoints outcome
     → group_refusal item.changes game.log ≡ refusal_in outcome
@@ -39,9 +39,9 @@ told-reports cave every (item ∷ items) game checkpoints (outcome ∷ outcomes)
     ap (λ t. report_by item (refusal_in outcome) ++ t) rest
     ∙ ap (λ refusal. report_by item refusal ++ reports items (game_after_item item game)) (sym same)
 
--- and for a log nothing is written of them
+-- and for a log, or a play alone, nothing is written of them
 told-nothing : (items : List Applied) (outcomes : List ItemOutcome)
-    → text_of_items (text_of_item Log) items outcomes ≡ []
+    → text_of_items (λ item outcome. []) items outcomes ≡ []
 told-nothing [] outcomes = refl
 told-nothing (item ∷ items) [] = refl
 told-nothing (item ∷ items) (outcome ∷ outcomes) = told-nothing items outcomes
@@ -59,6 +59,10 @@ told-whole Transcript cave every items game opened outcomes played counted text 
     told plays counts ends back =
     ends ∙ ap (λ t. t ++ play_text cave (game_after_items items game))
     (told ∙ told-reports cave every items game opened outcomes came)
+told-whole Play cave every items game opened outcomes played counted text whole spaced came told
+    plays counts ends back =
+    ends ∙ ap (λ t. t ++ play_text cave (game_after_items items game))
+    (told ∙ told-nothing items outcomes)
 told-whole Log cave every items game opened outcomes played counted text whole spaced came told
     plays counts ends back =
     let log = (game_after_items items game).log in

@@ -1,18 +1,19 @@
 //! Applying a script to a session, with what comes of each of its items.
 
 ghost use Rattle.std.specs.Prelude.{◌≡◌, ◌+◌, ◌++◌, ◌<◌, ◌≤◌, ◌^◌, length, vec_len, All, IfOk};
-ghost use Rattle.std.specs.Prelude.{IfErr, IsTrue, OnOk, ◌↔◌};
+ghost use Rattle.std.specs.Prelude.{IfErr, IsTrue, MatchResult, None, OnOk, Some, ◌⊎◌, ◌↔◌};
 ghost use Rattle.replay_marks.specs.Spacing.{IsSpaced};
 ghost use Rattle.edit_scripts.specs.Views.{applied_item, items_of};
 ghost use Rattle.cave_play.specs.Edits.{Applies, HoldsGame, IsApplied, text_of_item};
-ghost use Rattle.cave_play.specs.Outcome.{lines_in, played_in};
+ghost use Rattle.cave_play.specs.Outcome.{lines_in, played_in, refusal_in};
 ghost use Rattle.cave_play.specs.Output.{game_after_items};
+ghost use Rattle.cave_play.specs.Strict.{first_strict_fault, strict_fault, strict_fault_by};
 
-use crate::fault::PlayFault;
+use crate::fault::{PlayFault, Refusal, ScriptFault};
 use crate::machine::CaveMachine;
 use crate::outcome::{ItemOutcome, ItemReplay};
 use crate::reports::push_outcome;
-use edit_options::View;
+use edit_options::Editing;
 use edit_scripts::{Item, Script};
 use log_lines::Meter;
 use log_replay::{EditFault, GroupReport, Session};
@@ -47,7 +48,7 @@ pub(crate) fn apply(
     alloc: Global,
     session: &mut Session<CaveMachine<'_>>,
     script: &Script,
-    view: View,
+    editing: Editing,
     text: &mut Vec<u8>,
 ) -> Result<Totals, PlayFault>
     requires few_edits { All (λ item. vec_len item.edits < 2 ^ 32) script.now.items.items }
@@ -56,9 +57,13 @@ pub(crate) fn apply(
         (length session.old.game.log) }
     ensures held { OnOk result (HoldsGame session.old.machine.rules.cave.now
         (game_after_items (items_of script.now.items) session.old.game) session.new) }
-    ensures applied { IfOk result (λ totals. IsApplied view (items_of script.now.items) session.old
+    ensures applied { IfOk result (λ totals. IsApplied editing.view (items_of script.now.items) session.old
         text.old.items text.new.items totals.played totals.lines) }
-    ensures memory { IfErr result (λ found. found ≡ PlayFault.Memory) }
+    ensures accepted { OnOk result (first_strict_fault editing.strict (items_of script.now.items)
+        session.old.game ≡ None) }
+    ensures refused { IfErr result (λ found. (found ≡ PlayFault.Memory)
+        ⊎ (first_strict_fault editing.strict (items_of script.now.items) session.old.game
+        ≡ Some found)) }
 {
     // The contract of this call says how the checkpoints are spaced before the first item.
     let _places = session.checkpoints();
@@ -67,7 +72,7 @@ pub(crate) fn apply(
         lines: 0,
     };
     for item in &script.items {
-        let outcome = apply_item(alloc, session, item, view, text)?;
+        let outcome = apply_item(alloc, session, item, editing, text)?;
         totals = totals.with(outcome);
     }
     Ok(totals)
@@ -113,21 +118,42 @@ fn edit(session: &mut Session<CaveMachine<'_>>, item: &Item) -> Result<ItemOutco
     Ok(ItemOutcome::Refused(fault))
 }
 
+/// Whether a run goes on after an item: it does, unless the item was refused and the run is strict.
+fn check_strict(strict: bool, item: &Item, outcome: ItemOutcome) -> Result<(), PlayFault>
+    ensures { MatchResult result
+        (λ _. strict_fault_by strict (applied_item item.now) (refusal_in outcome) ≡ None)
+        (λ found. strict_fault_by strict (applied_item item.now) (refusal_in outcome)
+        ≡ Some found) }
+{
+    match outcome {
+        ItemOutcome::Refused(fault) if strict => {
+            let line = item.line_of(fault.number as usize);
+            let refusal = Refusal { cause: fault.cause };
+            Err(PlayFault::Script(ScriptFault::Refused(line, refusal)))
+        }
+        _ => Ok(()),
+    }
+}
+
 /// Applies an item to the held game, and writes of it what is asked for.
 fn apply_item(
     alloc: Global,
     session: &mut Session<CaveMachine<'_>>,
     item: &Item,
-    view: View,
+    editing: Editing,
     text: &mut Vec<u8>,
 ) -> Result<ItemOutcome, PlayFault>
     requires { vec_len item.now.edits < 2 ^ 32 }
     ensures applies { IfOk result (Applies (applied_item item.now) session.old session.new) }
-    ensures told { IfOk result (λ outcome.
-        text.new.items ≡ text.old.items ++ text_of_item view (applied_item item.now) outcome) }
-    ensures memory { IfErr result (λ found. found ≡ PlayFault.Memory) }
+    ensures told { IfOk result (λ outcome. text.new.items ≡ text.old.items
+        ++ text_of_item editing.view (applied_item item.now) outcome) }
+    ensures accepted { OnOk result
+        (strict_fault editing.strict (applied_item item.now) session.old.game ≡ None) }
+    ensures refused { IfErr result (λ found. (found ≡ PlayFault.Memory)
+        ⊎ (strict_fault editing.strict (applied_item item.now) session.old.game ≡ Some found)) }
 {
     let outcome = edit(session, item)?;
-    push_outcome(alloc, text, item, view, outcome)?;
+    check_strict(editing.strict, item, outcome)?;
+    push_outcome(alloc, text, item, editing.view, outcome)?;
     Ok(outcome)
 }

@@ -12,6 +12,7 @@ pub mod machine;
 pub mod outcome;
 pub mod output;
 mod read;
+mod refusal;
 mod reports;
 pub mod run;
 mod transcript;

@@ -38,7 +38,7 @@ const ANSWERS: [(&[&str], &str); 24] = [
     (
         &["cave", "edit", "a", "b", "c"],
         "Edit { files: Files { cave: \"a\", bind: None, output: None }, log: \"b\", script: \"c\", \
-        editing: Editing { seed: 0, every: 50, view: Transcript } }",
+        editing: Editing { seed: 0, every: 50, view: Transcript, strict: false } }",
     ),
     (
         &[
@@ -51,17 +51,17 @@ const ANSWERS: [(&[&str], &str); 24] = [
             "c",
         ],
         "Edit { files: Files { cave: \"a\", bind: None, output: None }, log: \"b\", script: \"c\", \
-        editing: Editing { seed: 3, every: 10000, view: Transcript } }",
+        editing: Editing { seed: 3, every: 10000, view: Transcript, strict: false } }",
     ),
     (
-        &["cave", "edit", "a", "--print", "log", "b", "c"],
-        "Edit { files: Files { cave: \"a\", bind: None, output: None }, log: \"b\", script: \"c\", \
-        editing: Editing { seed: 0, every: 50, view: Log } }",
+        &["cave", "edit", "a", "--print", "log", "b", "c", "--strict", "--output=d"],
+        "Edit { files: Files { cave: \"a\", bind: None, output: Some(\"d\") }, log: \"b\", script: \"c\", \
+        editing: Editing { seed: 0, every: 50, view: Log, strict: true } }",
     ),
     (
         &["cave", "edit", "a", "b", "c", "--print=reports"],
         "Edit { files: Files { cave: \"a\", bind: None, output: None }, log: \"b\", script: \"c\", \
-        editing: Editing { seed: 0, every: 50, view: Reports } }",
+        editing: Editing { seed: 0, every: 50, view: Reports, strict: false } }",
     ),
     (&["cave", "help", "edit"], "text DisplayHelp"),
     (&["cave", "-V"], "text DisplayVersion"),
@@ -201,6 +201,7 @@ fn refused_memory_is_no_other_fault(rt: HostRuntime) {
                         seed: 3,
                         every: 7,
                         view: View::Transcript,
+                        strict: false,
                     },
                     ..
                 }

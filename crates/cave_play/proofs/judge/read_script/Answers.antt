@@ -32,6 +32,7 @@ returns-in-Ok g c =
             spelled,
             few_edits items _ bytes c.in-Ok.ensures.grammar same read.1,
             few_items items _ bytes c.in-Ok.ensures.grammar same read.1,
+            is,
           ),
         ),
       );
