@@ -23,7 +23,7 @@ const STATUSES: &str = "Exit status:
   1  the cave or its bindings are refused
   2  the command line is wrong
   3  the log is refused
-  4  the script is refused
+  4  the script is refused, or an edit under --strict
   5  a file can't be opened or read
   6  the output can't be written
   7  memory ran out";
