@@ -7,6 +7,7 @@ mod RefusalLemmas
 mod RunLemmas
 mod ScriptLemmas
 pub mod StageLemmas
+mod StandingLemmas
 mod StrictLemmas
 mod TranscriptLemmas
 mod ViewLemmas

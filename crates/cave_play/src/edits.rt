@@ -5,13 +5,13 @@ ghost use Rattle.std.specs.Prelude.{IfErr, IsTrue, MatchResult, None, OnOk, Some
 ghost use Rattle.replay_marks.specs.Spacing.{IsSpaced};
 ghost use Rattle.edit_scripts.specs.Views.{applied_item, items_of};
 ghost use Rattle.cave_play.specs.Edits.{Applies, HoldsGame, IsApplied, text_of_item};
-ghost use Rattle.cave_play.specs.Outcome.{lines_in, played_in, refusal_in};
+ghost use Rattle.cave_play.specs.Outcome.{lines_in, played_in, refusal_in, standing_of};
 ghost use Rattle.cave_play.specs.Output.{game_after_items};
 ghost use Rattle.cave_play.specs.Strict.{first_strict_fault, strict_fault, strict_fault_by};
 
 use crate::fault::{PlayFault, Refusal, ScriptFault};
 use crate::machine::CaveMachine;
-use crate::outcome::{ItemOutcome, ItemReplay};
+use crate::outcome::{ItemOutcome, ItemReplay, Standing};
 use crate::reports::push_outcome;
 use edit_options::Editing;
 use edit_scripts::{Item, Script};
@@ -46,11 +46,13 @@ impl Totals {
 /// Applies the items of a script to the held game, and writes of each what is asked for.
 pub(crate) fn apply(
     alloc: Global,
+    machine: CaveMachine<'_>,
     session: &mut Session<CaveMachine<'_>>,
     script: &Script,
     editing: Editing,
     text: &mut Vec<u8>,
 ) -> Result<Totals, PlayFault>
+    requires same { session.old.machine.rules.cave.now ≡ machine.rules.cave.now }
     requires few_edits { All (λ item. vec_len item.edits < 2 ^ 32) script.now.items.items }
     requires few_items { length script.now.items.items < 2 ^ 32 }
     ensures spaced { IsSpaced session.old.every session.old.checkpoints
@@ -72,7 +74,7 @@ pub(crate) fn apply(
         lines: 0,
     };
     for item in &script.items {
-        let outcome = apply_item(alloc, session, item, editing, text)?;
+        let outcome = apply_item(alloc, machine, session, item, editing, text)?;
         totals = totals.with(outcome);
     }
     Ok(totals)
@@ -84,12 +86,35 @@ fn is_memory(fault: EditFault) -> bool
     matches!(fault, EditFault::Memory)
 }
 
-/// What a report says of a replay, with the lines of the log that the session then holds.
-fn replay_of(session: &Session<CaveMachine<'_>>, report: &GroupReport) -> ItemReplay
+/// Where the held game is after its last line.
+fn standing_of(machine: CaveMachine<'_>, session: &Session<CaveMachine<'_>>) -> Standing
+    requires { session.now.machine.rules.cave.now ≡ machine.rules.cave.now }
+    ensures { result ≡ standing_of machine.entry.rules.cave.now session.now.game }
+{
+    let state = session.state();
+    Standing {
+        score: machine.score(state),
+        most: machine.max_score(),
+        turns: session.ticks(session.lines()),
+        place: state.trail.here.number(),
+        ending: state.ending,
+    }
+}
+
+/// What a report says of a replay, with the lines of the log that the session then holds, and where
+/// the game is after them.
+fn replay_of(
+    machine: CaveMachine<'_>,
+    session: &Session<CaveMachine<'_>>,
+    report: &GroupReport,
+) -> ItemReplay
+    requires { session.now.machine.rules.cave.now ≡ machine.rules.cave.now }
     ensures from { result.from ≡ report.now.stretch.from }
     ensures met { result.met ≡ report.now.stretch.met }
     ensures played { result.played ≡ report.now.stretch.played }
     ensures lines { result.lines ≡ length session.now.game.log }
+    ensures standing { result.standing
+        ≡ standing_of machine.entry.rules.cave.now session.now.game }
     ensures spaced { IsSpaced session.now.every session.now.checkpoints
         (length session.now.game.log) }
 {
@@ -98,18 +123,24 @@ fn replay_of(session: &Session<CaveMachine<'_>>, report: &GroupReport) -> ItemRe
         met: report.stretch.met,
         played: report.stretch.played,
         lines: session.lines(),
+        standing: standing_of(machine, session),
     }
 }
 
 /// Applies an item to the held game, all of it or nothing, and returns what came of it.
-fn edit(session: &mut Session<CaveMachine<'_>>, item: &Item) -> Result<ItemOutcome, PlayFault>
-    requires { vec_len item.now.edits < 2 ^ 32 }
+fn edit(
+    machine: CaveMachine<'_>,
+    session: &mut Session<CaveMachine<'_>>,
+    item: &Item,
+) -> Result<ItemOutcome, PlayFault>
+    requires few { vec_len item.now.edits < 2 ^ 32 }
+    requires same { session.old.machine.rules.cave.now ≡ machine.rules.cave.now }
     ensures applies { IfOk result (Applies (applied_item item.now) session.old session.new) }
     ensures memory { IfErr result (λ found. found ≡ PlayFault.Memory) }
 {
     let mut meter = Meter::new();
     let fault = match session.edit_group(&item.edits, &mut meter) {
-        Ok(report) => return Ok(ItemOutcome::Replayed(replay_of(session, &report))),
+        Ok(report) => return Ok(ItemOutcome::Replayed(replay_of(machine, session, &report))),
         Err(fault) => fault,
     };
     if is_memory(fault.cause) {
@@ -138,12 +169,14 @@ fn check_strict(strict: bool, item: &Item, outcome: ItemOutcome) -> Result<(), P
 /// Applies an item to the held game, and writes of it what is asked for.
 fn apply_item(
     alloc: Global,
+    machine: CaveMachine<'_>,
     session: &mut Session<CaveMachine<'_>>,
     item: &Item,
     editing: Editing,
     text: &mut Vec<u8>,
 ) -> Result<ItemOutcome, PlayFault>
-    requires { vec_len item.now.edits < 2 ^ 32 }
+    requires few { vec_len item.now.edits < 2 ^ 32 }
+    requires same { session.old.machine.rules.cave.now ≡ machine.rules.cave.now }
     ensures applies { IfOk result (Applies (applied_item item.now) session.old session.new) }
     ensures told { IfOk result (λ outcome. text.new.items ≡ text.old.items
         ++ text_of_item editing.view (applied_item item.now) outcome) }
@@ -152,7 +185,7 @@ fn apply_item(
     ensures refused { IfErr result (λ found. (found ≡ PlayFault.Memory)
         ⊎ (strict_fault editing.strict (applied_item item.now) session.old.game ≡ Some found)) }
 {
-    let outcome = edit(session, item)?;
+    let outcome = edit(machine, session, item)?;
     check_strict(editing.strict, item, outcome)?;
     push_outcome(alloc, text, item, editing.view, outcome)?;
     Ok(outcome)

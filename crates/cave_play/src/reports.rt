@@ -4,12 +4,14 @@ ghost use Rattle.std.specs.Prelude.{◌≡◌, ◌++◌, IfOk, OnOk, string_byte
 ghost use Rattle.edit_scripts.specs.Views.{applied_item};
 ghost use Rattle.cave_play.specs.Edits.{text_of_item};
 ghost use Rattle.cave_play.specs.Output.{report_by};
-ghost use Rattle.cave_play.specs.Views.{account, met_text, totals_line};
+ghost use Rattle.cave_play.specs.Views.{account, ending_text, ending_words, met_text};
+ghost use Rattle.cave_play.specs.Views.{standing_text, totals_line};
 ghost use Rattle.cave_play.specs.declared.outcome.ItemOutcome.TheVariants.{Replayed};
 
 use crate::edits::Totals;
-use crate::outcome::{ItemOutcome, ItemReplay};
+use crate::outcome::{ItemOutcome, ItemReplay, Standing};
 use crate::refusal::{refusal_number, refusal_words};
+use cave_world::Ending;
 use edit_options::View;
 use edit_scripts::Item;
 use log_replay::GroupFault;
@@ -83,6 +85,44 @@ fn met_text(alloc: Global, met: Option<u32>) -> Result<String, AllocError>
     }
 }
 
+/// How a game has ended, in a few words.
+fn ending_words(ending: Ending) -> &'static str
+    ensures { result.now ≡ ending_words ending }
+{
+    match ending {
+        Ending::Quit => ", ended: quit",
+        Ending::Killed => ", ended: killed",
+        Ending::Klutz => ", ended: klutz",
+        Ending::WrongWay => ", ended: wrong way",
+        Ending::Success => ", ended: success",
+    }
+}
+
+/// How a game has ended, as it is written, if it has.
+fn ending_text(ending: Option<Ending>) -> &'static str
+    ensures { result.now ≡ ending_text ending }
+{
+    match ending {
+        None => "",
+        Some(ending) => ending_words(ending),
+    }
+}
+
+/// Where a game is after its last line, as it is written.
+fn standing_text(alloc: Global, standing: Standing) -> Result<String, AllocError>
+    ensures { IfOk result (λ told. string_bytes told ≡ standing_text standing) }
+{
+    let Standing {
+        score,
+        most,
+        turns,
+        place,
+        ending,
+    } = standing;
+    let ended = ending_text(ending);
+    format!(in alloc; ", score {score} of {most}, turns {turns}, at {place}{ended}")
+}
+
 /// The line of an item that was replayed.
 fn account_text(alloc: Global, item: &Item, replay: ItemReplay) -> Result<String, AllocError>
     ensures { IfOk result (λ told.
@@ -94,9 +134,11 @@ fn account_text(alloc: Global, item: &Item, replay: ItemReplay) -> Result<String
         met,
         played,
         lines,
+        standing,
     } = replay;
     let met = met_text(alloc, met)?;
-    format!(in alloc; "line {line}: ok, from {from}, met {met}, played {played} of {lines}\n")
+    let told = standing_text(alloc, standing)?;
+    format!(in alloc; "line {line}: ok, from {from}, met {met}, played {played} of {lines}{told}\n")
 }
 
 /// Writes what an item replayed, or why it was refused.

@@ -283,7 +283,7 @@ fn edit_by(
         session.old.game (items_of script.now.items) text.items) result }
 {
     let mut text = Vec::new(alloc);
-    let totals = apply(alloc, session, script, editing, &mut text)?;
+    let totals = apply(alloc, machine, session, script, editing, &mut text)?;
     push_end(alloc, machine, session, editing.view, totals, &mut text)?;
     Ok(text)
 }
