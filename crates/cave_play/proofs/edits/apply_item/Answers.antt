@@ -13,7 +13,8 @@ returns-clause-accepted c =
 
 pub returns-in_err-check_strict : goal.returns-in_err-check_strict
 returns-in_err-check_strict c =
-    let exit = err_from_is_err_and c.from_residual.result c.from_residual.ensures.1 in
+    let exit = err_from_is_err_and c.from_residual-in_err-check_strict.result
+    c.from_residual-in_err-check_strict.ensures.1 in
     let old = c.args.session.now in
     rw (exit.1, exit.2)
     (inr (strict_fault-outcome c.args.editing.strict old.machine.rules.cave.now old.every
