@@ -1,6 +1,6 @@
 //! Files of the system, each with a draft in the same folder.
 
-ghost use Rattle.std.specs.Prelude.{◌≡◌, IfOk, string_bytes};
+ghost use Rattle.std.specs.Prelude.{◌≡◌, IfOk, None, string_bytes};
 ghost use Rattle.whole_file.specs.Name.{draft_name};
 
 use crate::place::Place;

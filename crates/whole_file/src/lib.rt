@@ -3,8 +3,8 @@
 
 pub mod beside;
 pub mod place;
-pub mod replace;
+pub mod whole;
 
 pub use beside::FileBeside;
 pub use place::Place;
-pub use replace::replace;
+pub use whole::replace;
