@@ -41,10 +41,10 @@ strict_fault-outcome strict cave every item game checkpoints outcome is =
 module _ (strict : Bool) (items : List Item) (place : ℕ) (item : Item) (game : Game)
     (whole : Option PlayFault) (inside : place < length items)
     (is : item ≡ get_or items place item) where
-  left : List Applied
+  abbrev left : List Applied
   left = map applied_item (drop (place + 1) items)
 
-  next : Game
+  abbrev next : Game
   next = game_after_item (applied_item item) game
 
   at_item : first_strict_fault strict (map applied_item (drop place items)) game
@@ -130,5 +130,5 @@ unwritten_items strict (item ∷ items) game =
 pub unwritten_by_strict : (strict : Bool) (game : Game)
     (answer : Result (List Applied) ScriptRefusal)
     → fault_of_items strict game answer ≡ Some fault.Write → ⊥
-unwritten_by_strict strict game (Ok items) = unwritten_items strict items game
-unwritten_by_strict strict game (Err refusal) = λ found. cc
+unwritten_by_strict strict game (Ok items) found = unwritten_items strict items game found
+unwritten_by_strict strict game (Err refusal) found = cc

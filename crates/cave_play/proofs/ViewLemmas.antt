@@ -40,11 +40,14 @@ told-reports cave every (item ∷ items) game checkpoints (outcome ∷ outcomes)
     ∙ ap (λ refusal. report_by item refusal ++ reports items (game_after_item item game)) (sym same)
 
 -- and for a log, or a play alone, nothing is written of them
-told-nothing : (items : List Applied) (outcomes : List ItemOutcome)
-    → text_of_items (λ item outcome. []) items outcomes ≡ []
-told-nothing [] outcomes = refl
-told-nothing (item ∷ items) [] = refl
-told-nothing (item ∷ items) (outcome ∷ outcomes) = told-nothing items outcomes
+told-nothing : (tell : Applied → ItemOutcome → List ℕ)
+    → ((item : Applied) (outcome : ItemOutcome) → tell item outcome ≡ [])
+    → (items : List Applied) (outcomes : List ItemOutcome) → text_of_items tell items outcomes ≡ []
+told-nothing tell none [] outcomes = refl
+told-nothing tell none (item ∷ items) [] = refl
+told-nothing tell none (item ∷ items) (outcome ∷ outcomes) =
+    ap (λ t. t ++ text_of_items tell items outcomes) (none item outcome)
+    ∙ told-nothing tell none items outcomes
 
 -- what is written of items, and then what is written after them, is what was asked for
 pub told-whole : (view : View) (cave : CaveView) (every : ℕ) (items : List Applied) (game : Game)
@@ -62,11 +65,12 @@ told-whole Transcript cave every items game opened outcomes played counted text 
 told-whole Play cave every items game opened outcomes played counted text whole spaced came told
     plays counts ends back =
     ends ∙ ap (λ t. t ++ play_text cave (game_after_items items game))
-    (told ∙ told-nothing items outcomes)
+    (told ∙ told-nothing (text_of_item Play) (λ item outcome. refl) items outcomes)
 told-whole Log cave every items game opened outcomes played counted text whole spaced came told
     plays counts ends back =
     let log = (game_after_items items game).log in
-    let written = ends ∙ ap (λ t. t ++ log_text log) (told ∙ told-nothing items outcomes) in
+    let nothing = told-nothing (text_of_item Log) (λ item outcome. refl) items outcomes in
+    let written = ends ∙ ap (λ t. t ++ log_text log) (told ∙ nothing) in
     record { written = written; reads_back = ap lines written ∙ back }
 told-whole Reports cave every items game opened outcomes played counted text whole spaced came told
     plays counts ends back = (
