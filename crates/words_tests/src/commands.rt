@@ -29,15 +29,18 @@ const ANSWERS: [(&[&str], &str); 24] = [
     ),
     (
         &["cave", "play", "a", "--bind=c", "b", "--seed", "2147483647"],
-        "Play { files: Files { cave: \"a\", bind: Some(\"c\"), output: None }, log: \"b\", seed: 2147483647 }",
+        "Play { files: Files { cave: \"a\", bind: Some(\"c\"), output: None }, \
+        log: \"b\", seed: 2147483647 }",
     ),
     (
         &["cave", "play", "--", "-a", "--seed"],
-        "Play { files: Files { cave: \"-a\", bind: None, output: None }, log: \"--seed\", seed: 0 }",
+        "Play { files: Files { cave: \"-a\", bind: None, output: None }, \
+        log: \"--seed\", seed: 0 }",
     ),
     (
         &["cave", "edit", "a", "b", "c"],
-        "Edit { files: Files { cave: \"a\", bind: None, output: None }, log: \"b\", script: \"c\", \
+        "Edit { files: Files { cave: \"a\", bind: None, output: None }, \
+        log: \"b\", script: \"c\", \
         editing: Editing { seed: 0, every: 50, view: Transcript, strict: false } }",
     ),
     (
@@ -50,17 +53,30 @@ const ANSWERS: [(&[&str], &str); 24] = [
             "b",
             "c",
         ],
-        "Edit { files: Files { cave: \"a\", bind: None, output: None }, log: \"b\", script: \"c\", \
+        "Edit { files: Files { cave: \"a\", bind: None, output: None }, \
+        log: \"b\", script: \"c\", \
         editing: Editing { seed: 3, every: 10000, view: Transcript, strict: false } }",
     ),
     (
-        &["cave", "edit", "a", "--print", "log", "b", "c", "--strict", "--output=d"],
-        "Edit { files: Files { cave: \"a\", bind: None, output: Some(\"d\") }, log: \"b\", script: \"c\", \
+        &[
+            "cave",
+            "edit",
+            "a",
+            "--print",
+            "log",
+            "b",
+            "c",
+            "--strict",
+            "--output=d",
+        ],
+        "Edit { files: Files { cave: \"a\", bind: None, output: Some(\"d\") }, \
+        log: \"b\", script: \"c\", \
         editing: Editing { seed: 0, every: 50, view: Log, strict: true } }",
     ),
     (
         &["cave", "edit", "a", "b", "c", "--print=reports"],
-        "Edit { files: Files { cave: \"a\", bind: None, output: None }, log: \"b\", script: \"c\", \
+        "Edit { files: Files { cave: \"a\", bind: None, output: None }, \
+        log: \"b\", script: \"c\", \
         editing: Editing { seed: 0, every: 50, view: Reports, strict: false } }",
     ),
     (&["cave", "help", "edit"], "text DisplayHelp"),
@@ -70,8 +86,8 @@ const ANSWERS: [(&[&str], &str); 24] = [
         &[
             "cave", "cover", "a", "b", "--seed=7", "c", "--bind", "d", "e",
         ],
-        "Cover { files: Files { cave: \"a\", bind: Some(\"d\"), output: None }, logs: [\"b\", \"c\", \"e\"], \
-        seed: 7 }",
+        "Cover { files: Files { cave: \"a\", bind: Some(\"d\"), output: None }, \
+        logs: [\"b\", \"c\", \"e\"], seed: 7 }",
     ),
     (&["cave", "play", "a"], "2 MissingRequiredArgument"),
     (&["cave", "cover", "a"], "2 MissingRequiredArgument"),
