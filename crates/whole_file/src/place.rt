@@ -21,7 +21,7 @@ pub trait Place {
     /// Puts a draft in the place of the file. Where that fails the draft is gone.
     fn publish(&mut self, draft: Self::Draft) -> io::Result<()>
         ensures published { OnOk result (Becomes (shown self.old) (shown self.new)
-            (Self.Draft.contents draft.entry)) }
+            (Self.Draft.contents draft)) }
         ensures kept { OnErr result (shown self.new ≡ shown self.old) };
 
     /// Removes a draft.
