@@ -123,9 +123,9 @@ unwritten_either (Some other) later not_first not_later found = not_first found
 unwritten_items : (strict : Bool) (items : List Applied) (game : Game)
     → first_strict_fault strict items game ≡ Some fault.Write → ⊥
 unwritten_items strict [] game found = cc
-unwritten_items strict (item ∷ items) game =
+unwritten_items strict (item ∷ items) game found =
     unwritten_either _ _ (unwritten_item strict item game)
-    (unwritten_items strict items (game_after_item item game))
+    (unwritten_items strict items (game_after_item item game)) found
 
 pub unwritten_by_strict : (strict : Bool) (game : Game)
     (answer : Result (List Applied) ScriptRefusal)

@@ -71,12 +71,12 @@ returns-clause-accepted c =
     subst (λ (items : List Item). first_strict_fault c.args.editing.strict (map applied_item items)
     c.args.session.now.game ≡ None) c.deref-item-items.ensures.value none
 
-pub returns-in_err-outcome : goal.returns-in_err-outcome
-returns-in_err-outcome c =
+pub returns-in_err-outcome-clause-refused : goal.returns-in_err-outcome-clause-refused
+returns-in_err-outcome-clause-refused c =
     let exit = err_from_is_err_and c.from_residual.result c.from_residual.ensures.1 in
     let items = c.deref-item-items.result.now in
     let first = c.args.session.now in
-    let found = c.in_err-outcome.error in
+    let found = c.in_err-outcome.field-0.0 in
     let refused =
     first_strict_fault-here c.args.editing.strict items c.loop-item.item-index c.item-item.result
     c.loop-item.session.game _ c.loop-item-test.true c.item-item.is found

@@ -11,8 +11,8 @@ returns-clause-accepted c =
     (applied_item c.args.item.now) old.game old.checkpoints _ c.in_ok-outcome.ensures.applies.came
     ∙ c.in_ok-check_strict.ensures
 
-pub returns-in_err-check_strict : goal.returns-in_err-check_strict
-returns-in_err-check_strict c =
+pub returns-in_err-check_strict-clause-refused : goal.returns-in_err-check_strict-clause-refused
+returns-in_err-check_strict-clause-refused c =
     let exit = err_from_is_err_and c.from_residual-in_err-check_strict.result
     c.from_residual-in_err-check_strict.ensures.1 in
     let old = c.args.session.now in

@@ -34,7 +34,7 @@ returns g c =
     let whole : Vec ℕ → Type 0 =
     λ text. IsEditOf editing.view cave old.every old.game edits text.items in
     let judged =
-    Judges-strict editing.strict old.game edits items right _ made.1.3 c.edit_by.ensures.judged in
+    Judges-strict editing.strict old.game edits items right _ made.1.2 c.edit_by.ensures.judged in
     let strict = strict_stage editing.strict old.game edits in
     record {
       judged = (
