@@ -14,7 +14,9 @@ pub struct Ledger;
 impl Machine for Ledger {
     ghost use Rattle.std.specs.Prelude.{ℕ, Option};
     ghost use Rattle.ledger.specs.declared.account.Account.{Account};
-    ghost use Rattle.ledger.specs.SameAccounts.{same_accounts};
+    ghost use Rattle.std.proofs.Common.{rules};
+    ghost use Rattle.log_replay.specs.Equality.{equality, exact_struct};
+    ghost use Rattle.ledger.specs.contracts.account.Account as account;
 
     type State = Account;
 
@@ -34,7 +36,7 @@ impl Machine for Ledger {
 
     ghost rules = { λ _. ledger_rules };
 
-    ghost exact = { λ a b _ _. same_accounts a b };
+    ghost exact = { exact_struct account.the_type _ (Prim.search (equality, rules)) };
 
     fn start(
         &self,
