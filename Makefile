@@ -36,6 +36,7 @@ test:
 	bench/snippets
 	bench/unused
 	logs/documents
+	logs/strict
 	@mkdir -p out
 	bench/manual docs/PROGRAM.md > out/cave.1
 	bench/progress all out/test.log rt ci
@@ -52,6 +53,7 @@ soak: $(PROGRAM)
 # Plays each log of logs/ with the program, and compares what it says with the transcript beside it.
 suite: $(PROGRAM)
 	@logs/documents
+	@logs/strict
 	@logs/run $(PROGRAM)
 	@logs/large $(PROGRAM)
 	@logs/coverage $(PROGRAM)

@@ -2,7 +2,7 @@
 //! logs never show.
 #![tactic(auto)]
 
-use cave_command::{Files, Line, command_line};
+use cave_command::{CommandFault, Files, Line, command_line};
 use cave_cover::fault::CoverFault;
 use cave_cover::run::run_cover;
 use cave_play::bindings::{BindingsReader, CaveReaders};
@@ -10,8 +10,10 @@ use cave_play::fault::{Complaint, Input, PlayFault, Unopened};
 use cave_play::run::{run_check, run_edit, run_play};
 use edit_options::Editing;
 use std::fs::File;
+use std::io::{ErrorKind, Write};
 use std::process::ExitCode;
 use std::{env, io};
+use whole_file::{FileBeside, replace};
 
 /// The status that the program ends with where its words can't be read.
 const WRONG_WORDS: u8 = 2;
@@ -19,29 +21,41 @@ const WRONG_WORDS: u8 = 2;
 /// The files that a command line names.
 #[derive(Clone, Copy)]
 struct Names<'a> {
-    files: Files<'a>,
+    files: Option<Files<'a>>,
     log: Option<&'a str>,
     script: Option<&'a str>,
 }
 
 impl<'a> Names<'a> {
-    /// The files of a cave, without a log or a script.
-    fn of_cave(files: Files<'a>) -> Names<'a> {
-        Names {
-            files,
-            log: None,
-            script: None,
-        }
+    /// The files of the run that a command line asks for, but for several logs.
+    fn in_line(line: &Line<'a>) -> Names<'a> {
+        let (files, log, script) = match line {
+            Line::Check { files } | Line::Cover { files, .. } => (Some(*files), None, None),
+            Line::Play { files, log, .. } => (Some(*files), Some(*log), None),
+            Line::Edit {
+                files,
+                log,
+                script,
+                ..
+            } => (Some(*files), Some(*log), Some(*script)),
+            Line::Text(_) => (None, None, None),
+        };
+        Names { files, log, script }
     }
 
     /// The file of an input, where one is named.
     fn of(self, input: Input) -> Option<&'a str> {
         match input {
-            Input::Cave => Some(self.files.cave),
-            Input::Bindings => self.files.bind,
+            Input::Cave => Some(self.files?.cave),
+            Input::Bindings => self.files?.bind,
             Input::Log => self.log,
             Input::Script => self.script,
         }
+    }
+
+    /// The file that the output goes into, where one is named.
+    fn output(self) -> Option<&'a str> {
+        self.files?.output
     }
 }
 
@@ -53,6 +67,8 @@ enum Failure<'a> {
     Run(PlayFault),
     /// A fault that is met at the log of this file, one of several.
     AtLog(PlayFault, &'a str),
+    /// The system can't write the file of the output, for this reason.
+    Unwritten(&'a str, io::Error),
 }
 
 impl<'a> From<PlayFault> for Failure<'a> {
@@ -61,12 +77,21 @@ impl<'a> From<PlayFault> for Failure<'a> {
     }
 }
 
+/// Opens a file that is no folder: a folder opens, and can't be read.
+fn open_file(rt: &HostRuntime, file: &str) -> io::Result<File> {
+    let opened = File::open(rt, file)?;
+    if opened.metadata()?.is_dir() {
+        return Err(io::Error::from(ErrorKind::IsADirectory));
+    }
+    Ok(opened)
+}
+
 /// Opens the file of an input.
 fn open<'a>(rt: &HostRuntime, input: Input, file: &'a str) -> Result<File, Failure<'a>> {
-    match File::open(rt, file) {
+    match open_file(rt, file) {
         Ok(opened) => Ok(opened),
         Err(reason) => {
-            if reason.kind() == io::ErrorKind::OutOfMemory {
+            if reason.kind() == ErrorKind::OutOfMemory {
                 return Err(Failure::Run(PlayFault::Memory));
             }
             Err(Failure::Unopened(input, file, reason))
@@ -87,44 +112,47 @@ fn open_cave<'a>(
     Ok(CaveReaders { database, bindings })
 }
 
-fn check<'a>(rt: &HostRuntime, files: Files<'a>) -> Result<(), Failure<'a>> {
+fn check<'a, W: Write>(
+    rt: &HostRuntime,
+    files: Files<'a>,
+    output: &mut W,
+) -> Result<(), Failure<'a>> {
     let mut cave = open_cave(rt, files)?;
-    let mut output = io::writer(rt);
-    run_check(rt.alloc(), &mut cave, &mut output)?;
+    run_check(rt.alloc(), &mut cave, output)?;
     Ok(())
 }
 
-fn play<'a>(
+fn play<'a, W: Write>(
     rt: &HostRuntime,
     files: Files<'a>,
     log: &'a str,
     seed: u32,
+    output: &mut W,
 ) -> Result<(), Failure<'a>> {
     let mut cave = open_cave(rt, files)?;
     let mut log = open(rt, Input::Log, log)?;
-    let mut output = io::writer(rt);
-    run_play(rt.alloc(), &mut cave, &mut log, seed, &mut output)?;
+    run_play(rt.alloc(), &mut cave, &mut log, seed, output)?;
     Ok(())
 }
 
-fn edit<'a>(
+fn edit<'a, W: Write>(
     rt: &HostRuntime,
     files: Files<'a>,
     log: &'a str,
     script: &'a str,
     editing: Editing,
+    output: &mut W,
 ) -> Result<(), Failure<'a>> {
     let mut cave = open_cave(rt, files)?;
     let mut log = open(rt, Input::Log, log)?;
     let mut script = open(rt, Input::Script, script)?;
-    let mut output = io::writer(rt);
     run_edit(
         rt.alloc(),
         &mut cave,
         &mut log,
         &mut script,
         editing,
-        &mut output,
+        output,
     )?;
     Ok(())
 }
@@ -148,22 +176,16 @@ fn failure_of<'a>(found: CoverFault, logs: &[&'a str]) -> Failure<'a> {
     }
 }
 
-fn cover<'a>(
+fn cover<'a, W: Write>(
     rt: &HostRuntime,
     files: Files<'a>,
     logs: &[&'a str],
     seed: u32,
+    output: &mut W,
 ) -> Result<(), Failure<'a>> {
     let mut cave = open_cave(rt, files)?;
     let mut opened = open_logs(rt, logs)?;
-    let mut output = io::writer(rt);
-    match run_cover(
-        rt.alloc(),
-        &mut cave,
-        opened.as_mut_slice(),
-        seed,
-        &mut output,
-    ) {
+    match run_cover(rt.alloc(), &mut cave, opened.as_mut_slice(), seed, output) {
         Ok(()) => Ok(()),
         Err(found) => Err(failure_of(found, logs)),
     }
@@ -172,6 +194,28 @@ fn cover<'a>(
 /// Prints a fault in one line, and returns the status that goes with it.
 fn fail(rt: &HostRuntime, fault: PlayFault, file: Option<&str>) -> ExitCode {
     let _ = eprintln!(rt; "{}", Complaint { fault, file });
+    ExitCode::from(fault.status())
+}
+
+/// A text without the parser's tip to put `--` before an option that isn't known, so that it would be
+/// taken for a file.
+fn without_tip(text: &str) -> (&str, &str) {
+    let Some((before, tip)) = text.split_once("\n  tip: to pass ") else {
+        return (text, "");
+    };
+    match tip.split_once('\n') {
+        Some((_, after)) => (before, after),
+        None => (before, ""),
+    }
+}
+
+/// Prints what is wrong with a command line, and returns the status that goes with it.
+fn refuse(rt: &HostRuntime, fault: &CommandFault<'_>) -> ExitCode {
+    let Ok(text) = format!(in rt.alloc(); "{fault}") else {
+        return fail(rt, PlayFault::Memory, None);
+    };
+    let (before, after) = without_tip(&text);
+    let _ = eprint!(rt; "{before}{after}");
     ExitCode::from(fault.status())
 }
 
@@ -197,42 +241,71 @@ fn tell(rt: &HostRuntime, names: Names<'_>, ended: Result<(), Failure<'_>>) -> E
             let _ = eprintln!(rt; "{}", Unopened { file, reason });
             ExitCode::from(PlayFault::Read(input).status())
         }
+        Err(Failure::Unwritten(file, reason)) => {
+            let _ = eprintln!(rt; "cave: {file}: {}: {reason}", PlayFault::Write);
+            ExitCode::from(PlayFault::Write.status())
+        }
     }
 }
 
-/// Does what a command line asks for.
-fn run(rt: &HostRuntime, line: Line<'_>) -> ExitCode {
+/// Does the run that a command line asks for, whose output goes to a writer.
+fn run_into<'a, W: Write>(
+    rt: &HostRuntime,
+    line: &Line<'a>,
+    output: &mut W,
+) -> Result<(), Failure<'a>> {
     match line {
-        Line::Check { files } => tell(rt, Names::of_cave(files), check(rt, files)),
-        Line::Play { files, log, seed } => {
-            let names = Names {
-                log: Some(log),
-                ..Names::of_cave(files)
-            };
-            tell(rt, names, play(rt, files, log, seed))
-        }
+        Line::Check { files } => check(rt, *files, output),
+        Line::Play { files, log, seed } => play(rt, *files, *log, *seed, output),
         Line::Edit {
             files,
             log,
             script,
             editing,
-        } => {
-            let names = Names {
-                files,
-                log: Some(log),
-                script: Some(script),
-            };
-            tell(rt, names, edit(rt, files, log, script, editing))
-        }
-        Line::Cover { files, logs, seed } => {
-            let covered = cover(rt, files, logs.as_slice(), seed);
-            tell(rt, Names::of_cave(files), covered)
-        }
-        Line::Text(text) => match rt.print(&text) {
-            Ok(()) => ExitCode::SUCCESS,
-            Err(_) => fail(rt, PlayFault::Write, None),
+        } => edit(rt, *files, *log, *script, *editing, output),
+        Line::Cover { files, logs, seed } => cover(rt, *files, logs.as_slice(), *seed, output),
+        Line::Text(text) => match write!(output, "{text}") {
+            Ok(()) => Ok(()),
+            Err(_) => Err(Failure::Run(PlayFault::Write)),
         },
     }
+}
+
+/// Puts an output that is whole into a file.
+fn put<'a>(rt: &HostRuntime, file: &'a str, output: &[u8]) -> Result<(), Failure<'a>> {
+    let written = match FileBeside::at(rt, rt.alloc(), file) {
+        Ok(mut place) => replace(&mut place, output),
+        Err(reason) => Err(reason),
+    };
+    match written {
+        Ok(()) => Ok(()),
+        Err(reason) if reason.kind() == ErrorKind::OutOfMemory => {
+            Err(Failure::Run(PlayFault::Memory))
+        }
+        Err(reason) => Err(Failure::Unwritten(file, reason)),
+    }
+}
+
+/// Does the run that a command line asks for, whose output goes into a file: it is kept until it is
+/// whole, so that a file that the run reads can be the one that is written.
+fn run_into_file<'a>(rt: &HostRuntime, line: &Line<'a>, file: &'a str) -> Result<(), Failure<'a>> {
+    let mut output = Vec::new(rt.alloc());
+    match run_into(rt, line, &mut output) {
+        Ok(()) => put(rt, file, &output),
+        // A list of bytes takes each write, unless memory runs out.
+        Err(Failure::Run(PlayFault::Write)) => Err(Failure::Run(PlayFault::Memory)),
+        Err(failure) => Err(failure),
+    }
+}
+
+/// Does what a command line asks for.
+fn run(rt: &HostRuntime, line: &Line<'_>) -> ExitCode {
+    let names = Names::in_line(line);
+    let ended = match names.output() {
+        Some(file) => run_into_file(rt, line, file),
+        None => run_into(rt, line, &mut io::writer(rt)),
+    };
+    tell(rt, names, ended)
 }
 
 fn main(rt: HostRuntime) -> ExitCode {
@@ -250,10 +323,7 @@ fn main(rt: HostRuntime) -> ExitCode {
         return fail(&rt, PlayFault::Memory, None);
     };
     match command_line(rt.alloc(), words.as_slice()) {
-        Ok(line) => run(&rt, line),
-        Err(fault) => {
-            let _ = eprint!(rt; "{fault}");
-            ExitCode::from(fault.status())
-        }
+        Ok(line) => run(&rt, &line),
+        Err(fault) => refuse(&rt, &fault),
     }
 }

@@ -1,7 +1,7 @@
 -- The commands and their arguments.
 use Rattle.std.specs.Prelude.{◌≡◌, true, false, Some, codes}
 use Rattle.clap.specs.Words.{App, Rule, app_of, new_app, new_rule, with_rule, with_subcommand}
-use Rattle.clap.specs.declared.builder.action.ArgAction.TheVariants.{Append}
+use Rattle.clap.specs.declared.builder.action.ArgAction.TheVariants.{Append, SetTrue}
 use Rattle.clap.specs.declared.builder.command.Command.{Command}
 use Rattle.clap.specs.declared.builder.command.Command.TheViews.{out-Command}
 
@@ -37,9 +37,20 @@ every_rule = record (new_rule (codes "every")) { long = Some (codes "every"); va
 abbrev pub print_rule : Rule
 print_rule = record (new_rule (codes "print")) { long = Some (codes "print"); value_names = 1 }
 
+abbrev pub strict_rule : Rule
+strict_rule =
+    record (new_rule (codes "strict")) { long = Some (codes "strict"); action = Some SetTrue }
+
+abbrev pub output_rule : Rule
+output_rule = record (new_rule (codes "output")) { long = Some (codes "output"); value_names = 1 }
+
+-- a command whose output may go into a file
+abbrev pub with_output : App → App
+with_output app = with_rule app output_rule
+
 -- the commands
 abbrev pub check_app : App
-check_app = with_rule (with_rule (new_app (codes "check")) cave_rule) bind_rule
+check_app = with_output (with_rule (with_rule (new_app (codes "check")) cave_rule) bind_rule)
 
 -- a command with the files of a game
 abbrev pub with_game : App → App
@@ -51,16 +62,18 @@ with_options app = with_rule (with_rule app bind_rule) seed_rule
 
 -- a command with the options of an edit alone
 abbrev pub with_view : App → App
-with_view app = with_rule (with_rule app every_rule) print_rule
+with_view app = with_rule (with_rule (with_rule app every_rule) print_rule) strict_rule
 
 abbrev pub play_app : App
-play_app = with_options (with_game (new_app (codes "play")))
+play_app = with_output (with_options (with_game (new_app (codes "play"))))
 
 abbrev pub edit_app : App
-edit_app = with_view (with_options (with_rule (with_game (new_app (codes "edit"))) script_rule))
+edit_app = with_output
+    (with_view (with_options (with_rule (with_game (new_app (codes "edit"))) script_rule)))
 
 abbrev pub cover_app : App
-cover_app = with_options (with_rule (with_rule (new_app (codes "cover")) cave_rule) logs_rule)
+cover_app = with_output
+    (with_options (with_rule (with_rule (new_app (codes "cover")) cave_rule) logs_rule))
 
 -- the program, which requires one of the commands
 abbrev pub plain_app : App

@@ -1,6 +1,7 @@
 -- Which run the words ask for.
 use Rattle.std.specs.Prelude.{◌≡◌, ◌≢◌, ◌⊎◌, ◌&&◌, ◌||◌, ℕ, Bool, false, bytes_eq, is_some, List}
 use Rattle.std.specs.Prelude.{[], Option, Some, None, option_map, map, codes}
+use Rattle.std.specs.Option.{option_map_or}
 use Rattle.clap.specs.Words.{IsAmong, Kinds, Row, all_of, first_of, found_of, kind_of, rows_of}
 use Rattle.clap.specs.declared.error.Error.{Error}
 use Rattle.clap.specs.declared.error.kind.ErrorKind.{ErrorKind}
@@ -28,10 +29,11 @@ MetCommand = Option (List ℕ × List Row)
 abbrev pub rows_in : ArgMatches → List Row
 rows_in found = rows_of (found_of found)
 
--- the files of a cave are what was found for them
+-- the files of a cave and of the output are what was found for them
 pub record IsFiles (rows : List Row) (files : Files) : Type 0 where
   pub cave : first_of (codes "cave") rows ≡ Some files.cave.now
   pub bind : first_of (codes "bind") rows ≡ option_map (λ s. s.now) files.bind
+  pub output : first_of (codes "output") rows ≡ option_map (λ s. s.now) files.output
 
 -- a seed is what was found for it, or 0
 abbrev pub IsSeed : List Row → ℕ → Type 0
@@ -50,11 +52,16 @@ IsViewGiven (Some name) view = view_named name ≡ Some view
 abbrev pub IsView : List Row → View → Type 0
 IsView rows view = IsViewGiven (first_of (codes "print") rows) view
 
+-- whether a run is strict is what was found for it, or it isn't
+abbrev pub is_strict : List Row → Bool
+is_strict rows = option_map_or (bytes_eq (codes "true")) (first_of (codes "strict") rows) false
+
 -- an edit is what was found for its options
 pub record IsEditing (rows : List Row) (editing : Editing) : Type 0 where
   pub seed : IsSeed rows editing.seed
   pub every : IsEveryGiven rows editing.every
   pub view : IsView rows editing.view
+  pub strict : editing.strict ≡ is_strict rows
 
 -- the line is what was found for the command of this name
 abbrev pub IsLineOf : List ℕ → List Row → Line → Type 0

@@ -5,11 +5,11 @@ ghost use Rattle.clap.specs.Words.{App, app_of, with_subcommand};
 ghost use Rattle.clap.specs.declared.builder.command.Command.TheViews.{out-Command};
 ghost use Rattle.cave_command.specs.App.{IsLocal, cave_app, check_app, cover_app, edit_app};
 ghost use Rattle.cave_command.specs.App.{check_and_play_app, plain_app, play_app, with_game};
-ghost use Rattle.cave_command.specs.App.{with_options, with_view};
+ghost use Rattle.cave_command.specs.App.{with_options, with_output, with_view};
 
 use crate::arguments::{
-    bind_argument, cave_argument, every_argument, log_argument, logs_argument, print_argument,
-    script_argument, seed_argument,
+    bind_argument, cave_argument, every_argument, log_argument, logs_argument, output_argument,
+    print_argument, script_argument, seed_argument, strict_argument,
 };
 use clap::Command;
 use std::alloc::{AllocError, Global};
@@ -23,13 +23,23 @@ const STATUSES: &str = "Exit status:
   1  the cave or its bindings are refused
   2  the command line is wrong
   3  the log is refused
-  4  the script is refused
+  4  the script is refused, or an edit under --strict
   5  a file can't be opened or read
   6  the output can't be written
   7  memory ran out";
 
+/// What is under the help of `play`.
+const PLAY_EXAMPLE: &str =
+    "Example: cave play caves/b.txt logs/first.log --bind caves/b.bind --seed 7
+
+A log has a command a line, of at most 255 printable bytes and tabs, and at most
+65535 lines. A line that begins with # is a comment, and a line as this begins the
+random numbers anew:
+
+  seed 7";
+
 /// What is under the help of `edit`.
-const EDIT_EXAMPLE: &str = "Example: cave edit caves/a.txt logs/first.log logs/edits.script
+const EDIT_EXAMPLE: &str = "Example: cave edit caves/a.txt logs/first.log logs/first.script
 
 A script has lines as these, whose places count the lines of the log from 0:
 
@@ -39,7 +49,7 @@ A script has lines as these, whose places count the lines of the log from 0:
   seed 7
   end
 
-An edit that is refused is reported by a number:
+An edit that is refused is reported by a number, or ends the run under --strict:
 
   1  no such line: the log has none at that place
   2  a bad line: too long, or with a byte that no line may have
@@ -53,7 +63,18 @@ fn check_command<'a>(alloc: Global) -> Result<Command<'a>, AllocError>
     let command = Command::new(alloc, "check")
         .about("Reads a cave and says whether it is one that can be played")
         .after_help("Example: cave check caves/b.txt --bind caves/b.bind");
-    command.arg(cave_argument(alloc))?.arg(bind_argument(alloc))
+    let command = command
+        .arg(cave_argument(alloc))?
+        .arg(bind_argument(alloc))?;
+    with_output(alloc, command)
+}
+
+/// Adds the option of a file that the output goes into.
+fn with_output<'a>(alloc: Global, command: Command<'a>) -> Result<Command<'a>, AllocError>
+    requires { (out-Command command).has_globals ≡ false }
+    ensures { IfOk result (IsLocal (with_output (app_of command.entry))) }
+{
+    command.arg(output_argument(alloc))
 }
 
 /// Adds the files of a game: the cave and the log.
@@ -72,14 +93,16 @@ fn with_options<'a>(alloc: Global, command: Command<'a>) -> Result<Command<'a>, 
     command.arg(bind_argument(alloc))?.arg(seed_argument(alloc))
 }
 
-/// Adds the options of an edit alone: the distance of checkpoints, and what is printed.
+/// Adds the options of an edit alone: the distance of checkpoints, what is printed, and whether a
+/// refused edit ends the run.
 fn with_view<'a>(alloc: Global, command: Command<'a>) -> Result<Command<'a>, AllocError>
     requires { (out-Command command).has_globals ≡ false }
     ensures { IfOk result (IsLocal (with_view (app_of command.entry))) }
 {
     command
         .arg(every_argument(alloc))?
-        .arg(print_argument(alloc))
+        .arg(print_argument(alloc))?
+        .arg(strict_argument(alloc))
 }
 
 fn play_command<'a>(alloc: Global) -> Result<Command<'a>, AllocError>
@@ -87,8 +110,9 @@ fn play_command<'a>(alloc: Global) -> Result<Command<'a>, AllocError>
 {
     let command = Command::new(alloc, "play")
         .about("Plays a log from its first line to its last and prints what the game says")
-        .after_help("Example: cave play caves/b.txt logs/first.log --bind caves/b.bind --seed 7");
-    with_options(alloc, with_game(alloc, command)?)
+        .after_help(PLAY_EXAMPLE);
+    let command = with_options(alloc, with_game(alloc, command)?)?;
+    with_output(alloc, command)
 }
 
 fn edit_command<'a>(alloc: Global) -> Result<Command<'a>, AllocError>
@@ -100,7 +124,8 @@ fn edit_command<'a>(alloc: Global) -> Result<Command<'a>, AllocError>
         )
         .after_help(EDIT_EXAMPLE);
     let command = with_game(alloc, command)?.arg(script_argument(alloc))?;
-    with_view(alloc, with_options(alloc, command)?)
+    let command = with_view(alloc, with_options(alloc, command)?)?;
+    with_output(alloc, command)
 }
 
 fn cover_command<'a>(alloc: Global) -> Result<Command<'a>, AllocError>
@@ -112,7 +137,8 @@ fn cover_command<'a>(alloc: Global) -> Result<Command<'a>, AllocError>
     let command = command
         .arg(cave_argument(alloc))?
         .arg(logs_argument(alloc))?;
-    with_options(alloc, command)
+    let command = with_options(alloc, command)?;
+    with_output(alloc, command)
 }
 
 /// The program's command, with its four subcommands.

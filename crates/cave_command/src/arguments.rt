@@ -3,7 +3,7 @@
 ghost use Rattle.std.specs.Prelude.{◌≡◌, false};
 ghost use Rattle.clap.specs.Words.{rule_of};
 ghost use Rattle.cave_command.specs.App.{bind_rule, cave_rule, every_rule, log_rule, logs_rule};
-ghost use Rattle.cave_command.specs.App.{print_rule, script_rule, seed_rule};
+ghost use Rattle.cave_command.specs.App.{output_rule, print_rule, script_rule, seed_rule, strict_rule};
 
 use clap::{Arg, ArgAction};
 use std::alloc::Global;
@@ -80,6 +80,19 @@ pub(crate) fn every_argument<'a>(alloc: Global) -> Arg<'a>
     )
 }
 
+pub(crate) fn output_argument<'a>(alloc: Global) -> Arg<'a>
+    ensures rule { rule_of result ≡ output_rule }
+    ensures local { result.global ≡ false }
+{
+    Arg::new(alloc, "output")
+        .long("output")
+        .value_name("FILE")
+        .help(
+            "The file that the output goes into, whole or not at all, in the place of standard \
+             output; it may be one of the files that are read",
+        )
+}
+
 pub(crate) fn print_argument<'a>(alloc: Global) -> Arg<'a>
     ensures rule { rule_of result ≡ print_rule }
     ensures local { result.global ≡ false }
@@ -88,8 +101,18 @@ pub(crate) fn print_argument<'a>(alloc: Global) -> Arg<'a>
         .long("print")
         .value_name("WHAT")
         .help(
-            "What is printed: `transcript`, the reports and what the game says, `log`, the \
-             edited log without its seed, or `reports`, what each edit replayed \
-             [default: transcript]",
+            "What is printed: `transcript`, the reports and what the game says, `play`, what it \
+             says alone, `log`, the edited log without its seed, or `reports`, what each edit \
+             replayed [default: transcript]",
         )
+}
+
+pub(crate) fn strict_argument<'a>(alloc: Global) -> Arg<'a>
+    ensures rule { rule_of result ≡ strict_rule }
+    ensures local { result.global ≡ false }
+{
+    Arg::new(alloc, "strict")
+        .long("strict")
+        .action(ArgAction::SetTrue)
+        .help("Ends the run at the first edit that is refused, and prints nothing else")
 }

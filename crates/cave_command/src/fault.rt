@@ -24,7 +24,7 @@ pub enum CommandFault<'a> {
         For more information, try '--help'.\n")]
     BadEvery(&'a str),
     #[error("error: invalid value '{0}' for '--print <WHAT>': wanted is transcript, \
-        log or reports\n\n\
+        play, log or reports\n\n\
         For more information, try '--help'.\n")]
     BadView(&'a str),
     #[error("cave: there isn't enough memory\n")]

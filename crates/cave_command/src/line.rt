@@ -1,12 +1,14 @@
 use clap::Error;
 use edit_options::Editing;
 
-/// The files of a cave.
+/// The files of a cave, and the one that the output goes into.
 #[derive(Clone, Copy, Debug, PartialEq, Eq)]
 pub struct Files<'a> {
     pub cave: &'a str,
     /// The bindings, where there are any.
     pub bind: Option<&'a str>,
+    /// The file of the output, where it doesn't go to standard output.
+    pub output: Option<&'a str>,
 }
 
 /// What the words ask for.

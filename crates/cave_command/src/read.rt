@@ -9,7 +9,7 @@ ghost use Rattle.cave_command.specs.Read.{IsParse};
 ghost use Rattle.cave_command.specs.Line.{IsAsked, IsBadEditing, IsBadEvery, IsBadSeed, IsBadView};
 ghost use Rattle.cave_command.specs.Line.{IsEditing, IsEveryGiven, IsFiles, IsLine, IsLineMet};
 ghost use Rattle.cave_command.specs.Line.{IsLineOf, IsRefusal, IsRefused, IsRequest, IsSeed};
-ghost use Rattle.cave_command.specs.Line.{IsUnmade, IsView, rows_in};
+ghost use Rattle.cave_command.specs.Line.{IsUnmade, IsView, is_strict, rows_in};
 
 use crate::app::cave_command;
 use crate::fault::CommandFault;
@@ -150,7 +150,7 @@ fn value_in<'a>(found: &ArgMatches<'a>, id: &str) -> Option<&'a str>
     found.get_str(id)
 }
 
-/// The files of a cave, if they were found.
+/// The files of a cave and of the output, if the cave's was found.
 fn files_in<'a>(found: &ArgMatches<'a>) -> Option<Files<'a>>
     ensures { MatchOption result (first_of (codes "cave") (rows_in found.now) ≡ None)
         (IsFiles (rows_in found.now)) }
@@ -159,6 +159,7 @@ fn files_in<'a>(found: &ArgMatches<'a>) -> Option<Files<'a>>
     Some(Files {
         cave,
         bind: value_in(found, "bind"),
+        output: value_in(found, "output"),
     })
 }
 
@@ -190,6 +191,16 @@ fn view_in<'a>(found: &ArgMatches<'a>) -> Result<View, CommandFault<'a>>
     }
 }
 
+/// Whether a refused edit ends the run.
+fn strict_in(found: &ArgMatches<'_>) -> bool
+    ensures { result ≡ is_strict (rows_in found.now) }
+{
+    match value_in(found, "strict") {
+        Some(text) => text == "true",
+        None => false,
+    }
+}
+
 /// How a log is to be edited.
 fn editing_in<'a>(found: &ArgMatches<'a>) -> Result<Editing, CommandFault<'a>>
     ensures { MatchResult result (IsEditing (rows_in found.now))
@@ -199,5 +210,6 @@ fn editing_in<'a>(found: &ArgMatches<'a>) -> Result<Editing, CommandFault<'a>>
         seed: seed_in(found)?,
         every: every_in(found)?,
         view: view_in(found)?,
+        strict: strict_in(found),
     })
 }

@@ -32,7 +32,7 @@ use Rattle.cave_play.specs.declared.machine.CaveMachine.{CaveMachine}
 use Rattle.cave_play.specs.declared.outcome.ItemOutcome.{ItemOutcome}
 
 -- the items from a place on: the one there, and those after it
-applied_item-drop : (items : List Item) (place : ℕ) (item : Item) → place < length items
+pub applied_item-drop : (items : List Item) (place : ℕ) (item : Item) → place < length items
     → item ≡ get_or items place item
     → map applied_item (drop place items) ≡ applied_item item
     ∷ map applied_item (drop (place + 1) items)

@@ -6,5 +6,7 @@ mod RefusalLemmas
 mod RunLemmas
 mod ScriptLemmas
 pub mod StageLemmas
+mod StandingLemmas
+mod StrictLemmas
 mod TranscriptLemmas
 mod ViewLemmas

@@ -4,7 +4,7 @@ use Rattle.std.specs.Str.Lines.{lines}
 use Rattle.cave_data.specs.CaveView.{CaveView}
 use Rattle.cave_data.proofs.ReadLemmas.{same_cave}
 use Rattle.edit_options.specs.declared.editing.View.{View}
-use Rattle.edit_options.specs.declared.editing.View.TheVariants.{Transcript, Log, Reports}
+use Rattle.edit_options.specs.declared.editing.View.TheVariants.{Transcript, Play, Log, Reports}
 use Rattle.log_replay.specs.Play.{Game, game_of}
 use Rattle.edit_scripts.proofs.Grammar.{script_of-only}
 use Rattle.edit_scripts.specs.Item.{Applied}
@@ -42,11 +42,12 @@ one_view : (view : View) (cave : CaveView) (game : Game) (items : List Applied) 
     (one other : List ℕ) → KnowsNoCheckpoints view → IsViewOf view cave near game items one
     → IsViewOf view cave far game items other → one ≡ other
 one_view Transcript cave game items near far one other free is same = is ∙ sym same
+one_view Play cave game items near far one other free is same = is ∙ sym same
 one_view Log cave game items near far one other free is same = is.written ∙ sym same.written
 one_view Reports cave game items near far one other free is same = absurd free
 
 pub one_edited_output : OneEditedOutput
-one_edited_output database bindings log script seed near far view free =
+one_edited_output database bindings log script seed near far view strict lenient free =
     λ one other first second.
     let (cave, reads, (items, spelled, is)) = first in
     let (kept, rereads, (others, respelled, same)) = second in

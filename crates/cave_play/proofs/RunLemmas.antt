@@ -9,7 +9,7 @@ use Rattle.std.specs.Str.Lines.{lines}
 use Rattle.cave_data.specs.CaveView.{CaveView}
 use Rattle.cave_data.specs.Reads.{fault as cave_fault}
 use Rattle.cave_rows.specs.declared.error.CaveError.{CaveError}
-use Rattle.log_replay.specs.Play.{Game, IsPlay}
+use Rattle.log_replay.specs.Play.{Game, IsPlay, game_of}
 use Rattle.log_lines.specs.declared.line_flaw.LineFlaw.{LineFlaw}
 use Rattle.log_replay.specs.Opening.{first_bad_line}
 use Rattle.limits.specs.Limits.{max_seed, max_every, max_log_lines, max_input_bytes}
@@ -28,7 +28,10 @@ use Rattle.cave_play.specs.Laws.{IsDecided}
 use Rattle.cave_play.specs.Output.{play_text}
 use Rattle.cave_play.specs.Run.{EndsBy, Runs}
 use Rattle.cave_play.specs.Stage.{Stage, first_decided, IsFoundIn}
-use Rattle.cave_play.specs.Stages.{cave_stages, log_stage, script_stage, play_stages, edit_stages}
+use Rattle.cave_play.specs.Stages.{cave_stages, log_stage, script_stage, strict_stage}
+use Rattle.cave_play.specs.Stages.{play_stages, edit_stages}
+use Rattle.cave_play.proofs.StrictLemmas.{unwritten_by_strict}
+use Rattle.edit_options.specs.declared.editing.Editing.{Editing}
 use Rattle.cave_play.specs.Transcript.{transcript}
 use Rattle.cave_play.specs.declared.fault.Input.{Input}
 use Rattle.cave_play.specs.declared.fault.Input.TheVariants as input
@@ -135,14 +138,18 @@ unwritten_by_play database bindings moves seed =
     (unwritten_by_cave database bindings (log_stage moves ∷ [])
     (unwritten_by_both _ _ (unwritten_by_log moves) unwritten_by_none))
 
-pub unwritten_by_edit : (database bindings moves edits : List ℕ) (seed every : ℕ)
-    → first_decided (edit_stages database bindings moves edits seed every) ≡ Some fault.Write → ⊥
-unwritten_by_edit database bindings moves edits seed every =
-    unwritten_by_both _ _ (unwritten_by_seed seed)
-    (unwritten_by_both _ _ (unwritten_by_every every)
-    (unwritten_by_cave database bindings (log_stage moves ∷ script_stage edits ∷ [])
+pub unwritten_by_edit : (database bindings moves edits : List ℕ) (editing : Editing)
+    → first_decided (edit_stages database bindings moves edits editing) ≡ Some fault.Write → ⊥
+unwritten_by_edit database bindings moves edits editing =
+    let game = game_of editing.seed (lines moves) in
+    let strict = strict_stage editing.strict game edits in
+    unwritten_by_both _ _ (unwritten_by_seed editing.seed)
+    (unwritten_by_both _ _ (unwritten_by_every editing.every)
+    (unwritten_by_cave database bindings (log_stage moves ∷ script_stage edits ∷ strict ∷ [])
     (unwritten_by_both _ _ (unwritten_by_log moves)
-    (unwritten_by_both _ _ (unwritten_by_script edits) unwritten_by_none))))
+    (unwritten_by_both _ _ (unwritten_by_script edits)
+    (unwritten_by_both _ _ (unwritten_by_strict editing.strict game (script_of edits))
+    unwritten_by_none)))))
 
 unwritten : (stages : List Stage) → (first_decided stages ≡ Some fault.Write → ⊥)
     → IsDecided stages fault.Write → ⊥

@@ -4,7 +4,7 @@ use Rattle.std.specs.List.{sum_by}
 use Rattle.std.specs.Str.Lines.{lines}
 use Rattle.cave_data.specs.CaveView.{CaveView}
 use Rattle.edit_options.specs.declared.editing.View.{View}
-use Rattle.edit_options.specs.declared.editing.View.TheVariants.{Transcript, Log, Reports}
+use Rattle.edit_options.specs.declared.editing.View.TheVariants.{Transcript, Play, Log, Reports}
 use Rattle.replay_marks.specs.Spacing.{IsSpaced}
 use Rattle.log_replay.specs.LogText.{log_text}
 use Rattle.log_replay.specs.Play.{Game}
@@ -18,7 +18,7 @@ use Rattle.cave_play.specs.declared.outcome.ItemOutcome.{ItemOutcome}
 use Rattle.cave_play.specs.declared.outcome.ItemOutcome.TheVariants.{Refused, Replayed}
 
 -- what came of an item says whether it was refused
-group_refusal-outcome : (cave : CaveView) (every : ℕ) (item : Applied) (game : Game)
+pub group_refusal-outcome : (cave : CaveView) (every : ℕ) (item : Applied) (game : Game)
     (checkpoints : List ℕ) (outcome : ItemOutcome)
     → IsOutcome cave every item game checkpoints outcome
     → group_refusal item.changes game.log ≡ refusal_in outcome
@@ -40,12 +40,15 @@ told-reports cave every (item ∷ items) game checkpoints (outcome ∷ outcomes)
     ap (λ t. report_by item (refusal_in outcome) ++ t) rest
     ∙ ap (λ refusal. report_by item refusal ++ reports items (game_after_item item game)) (sym same)
 
--- and for a log nothing is written of them
-told-nothing : (items : List Applied) (outcomes : List ItemOutcome)
-    → text_of_items (text_of_item Log) items outcomes ≡ []
-told-nothing [] outcomes = refl
-told-nothing (item ∷ items) [] = refl
-told-nothing (item ∷ items) (outcome ∷ outcomes) = told-nothing items outcomes
+-- and for a log, or a play alone, nothing is written of them
+told-nothing : (tell : Applied → ItemOutcome → List ℕ)
+    → ((item : Applied) (outcome : ItemOutcome) → tell item outcome ≡ [])
+    → (items : List Applied) (outcomes : List ItemOutcome) → text_of_items tell items outcomes ≡ []
+told-nothing tell none [] outcomes = refl
+told-nothing tell none (item ∷ items) [] = refl
+told-nothing tell none (item ∷ items) (outcome ∷ outcomes) =
+    ap (λ t. t ++ text_of_items tell items outcomes) (none item outcome)
+    ∙ told-nothing tell none items outcomes
 
 -- what is written of items, and then what is written after them, is what was asked for
 pub told-whole : (view : View) (cave : CaveView) (every : ℕ) (items : List Applied) (game : Game)
@@ -60,10 +63,15 @@ told-whole Transcript cave every items game opened outcomes played counted text 
     told plays counts ends back =
     ends ∙ ap (λ t. t ++ play_text cave (game_after_items items game))
     (told ∙ told-reports cave every items game opened outcomes came)
+told-whole Play cave every items game opened outcomes played counted text whole spaced came told
+    plays counts ends back =
+    ends ∙ ap (λ t. t ++ play_text cave (game_after_items items game))
+    (told ∙ told-nothing (text_of_item Play) (λ item outcome. refl) items outcomes)
 told-whole Log cave every items game opened outcomes played counted text whole spaced came told
     plays counts ends back =
     let log = (game_after_items items game).log in
-    let written = ends ∙ ap (λ t. t ++ log_text log) (told ∙ told-nothing items outcomes) in
+    let nothing = told-nothing (text_of_item Log) (λ item outcome. refl) items outcomes in
+    let written = ends ∙ ap (λ t. t ++ log_text log) (told ∙ nothing) in
     record { written = written; reads_back = ap lines written ∙ back }
 told-whole Reports cave every items game opened outcomes played counted text whole spaced came told
     plays counts ends back = (

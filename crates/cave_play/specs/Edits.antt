@@ -5,7 +5,7 @@ use Rattle.std.specs.List.{sum_by}
 use Rattle.std.specs.Str.Lines.{lines}
 use Rattle.cave_data.specs.CaveView.{CaveView}
 use Rattle.edit_options.specs.declared.editing.View.{View}
-use Rattle.edit_options.specs.declared.editing.View.TheVariants.{Transcript, Log, Reports}
+use Rattle.edit_options.specs.declared.editing.View.TheVariants.{Transcript, Play, Log, Reports}
 use Rattle.log_replay.specs.Session.{SessionView}
 use Rattle.log_replay.specs.LogText.{log_text}
 use Rattle.log_replay.specs.Play.{Game}
@@ -36,6 +36,7 @@ pub record Applies (item : Applied) (old new : SessionView CaveMachine (SmallVec
 -- what is written of an item, by what is asked for
 abbrev pub text_of_item : View → Applied → ItemOutcome → List ℕ
 text_of_item Transcript item outcome = report_by item (refusal_in outcome)
+text_of_item Play item outcome = []
 text_of_item Log item outcome = []
 text_of_item Reports item outcome = account item outcome
 
@@ -53,11 +54,13 @@ pub record IsApplied (view : View) (items : List Applied)
 -- what is written after all items, by what is asked for
 abbrev pub text_at_end : View → CaveView → Game → ℕ → ℕ → List ℕ
 text_at_end Transcript cave game played lines = play_text cave game
+text_at_end Play cave game played lines = play_text cave game
 text_at_end Log cave game played lines = log_text game.log
 text_at_end Reports cave game played lines = totals_line played lines
 
 -- the written log reads back
 abbrev pub ReadsBack : View → List (List ℕ) → Type 0
 ReadsBack Transcript log = ⊤
+ReadsBack Play log = ⊤
 ReadsBack Log log = lines (log_text log) ≡ log
 ReadsBack Reports log = ⊤

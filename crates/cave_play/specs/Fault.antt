@@ -41,6 +41,7 @@ log_line_of _ = None
 
 abbrev pub script_line_of : ScriptFault → Option ℕ
 script_line_of (script.Malformed line flaw) = Some line
+script_line_of (script.Refused line refusal) = Some line
 script_line_of _ = None
 
 -- the line of the input that is at fault

@@ -1,6 +1,7 @@
 pub mod Input
 pub mod Fault
 pub mod Judge
+pub mod Strict
 pub mod Stage
 pub mod Stages
 pub mod Laws

@@ -1,8 +1,8 @@
 -- The inputs of a run and its seed determine what it writes, except where an edit reports what it
 -- replayed. So the distance of checkpoints shows there alone.
-use Rattle.std.specs.Prelude.{◌≡◌, ℕ, ⊤, List}
+use Rattle.std.specs.Prelude.{◌≡◌, ℕ, ⊤, Bool, List}
 use Rattle.edit_options.specs.declared.editing.View.{View}
-use Rattle.edit_options.specs.declared.editing.View.TheVariants.{Transcript, Log, Reports}
+use Rattle.edit_options.specs.declared.editing.View.TheVariants.{Transcript, Play, Log, Reports}
 use Rattle.cave_play.specs.Output.{IsChecked, IsPlayed}
 use Rattle.cave_play.specs.Run.{AtMostOne}
 use Rattle.cave_play.specs.Views.{IsEdited}
@@ -19,16 +19,20 @@ OnePlayedOutput =
 -- what is asked for knows nothing of checkpoints
 abbrev pub KnowsNoCheckpoints : View → Type 0
 KnowsNoCheckpoints Transcript = ⊤
+KnowsNoCheckpoints Play = ⊤
 KnowsNoCheckpoints Log = ⊤
 KnowsNoCheckpoints Reports = ⊥
 
--- with a log, a script and a seed, one output of an edit, of the transcript and of the edited log,
--- whatever the distances of checkpoints
+-- with a log, a script and a seed, one output of an edit, of the transcript, with reports or without,
+-- and of the edited log, whatever the distances of checkpoints, and whether the runs are strict
 abbrev pub OneEditedOutput : Type 0
 OneEditedOutput =
     (database bindings log script : List ℕ) (seed near far : ℕ) (view : View)
+    (first second : Bool)
     → KnowsNoCheckpoints view
     → (one other : List ℕ)
-    → IsEdited database bindings log script (record { seed = seed; every = near; view = view }) one
-    → IsEdited database bindings log script (record { seed = seed; every = far; view = view }) other
+    → IsEdited database bindings log script
+    (record { seed = seed; every = near; view = view; strict = first }) one
+    → IsEdited database bindings log script
+    (record { seed = seed; every = far; view = view; strict = second }) other
     → one ≡ other

@@ -2,7 +2,9 @@
 use Rattle.std.specs.Prelude.{◌≡◌, ℕ, List, [], ◌∷◌, length, Option, None, Some}
 use Rattle.cave_data.specs.CaveView.{CaveView}
 use Rattle.replay_marks.specs.Spacing.{IsSpaced}
-use Rattle.log_replay.specs.Play.{Game}
+use Rattle.log_replay.specs.Play.{Game, state_after, ticks_of}
+use Rattle.cave_score.specs.Score.{score_of, max_score_of}
+use Rattle.cave_play.specs.Transcript.{ticks}
 use Rattle.log_replay.specs.Report.{IsReport}
 use Rattle.log_replay.specs.declared.fault.GroupFault.{GroupFault}
 use Rattle.edit_scripts.specs.Item.{Applied}
@@ -11,6 +13,7 @@ use Rattle.cave_play.specs.Output.{group_refusal, game_after_item}
 use Rattle.cave_play.specs.declared.outcome.ItemOutcome.{ItemOutcome}
 use Rattle.cave_play.specs.declared.outcome.ItemOutcome.TheVariants.{Refused, Replayed}
 use Rattle.cave_play.specs.declared.outcome.ItemReplay.{ItemReplay}
+use Rattle.cave_play.specs.declared.outcome.Standing.{Standing}
 
 -- why an item was refused, if it was
 abbrev pub refusal_in : ItemOutcome → Option GroupFault
@@ -27,14 +30,29 @@ abbrev pub lines_in : ItemOutcome → ℕ
 lines_in (Refused fault) = 0
 lines_in (Replayed replay) = replay.lines
 
+-- where the game is after its last line, by playing it from its first
+unfoldable pub standing_of : CaveView → Game → Standing
+standing_of cave game =
+    let rules = cave_rules cave in
+    let begun = rules.begun game.seed in
+    let state = state_after rules begun game.log in
+    record {
+      score = score_of cave state;
+      most = max_score_of cave;
+      turns = ticks (ticks_of rules begun game.log) (length game.log);
+      place = state.trail.here;
+      ending = state.ending;
+    }
+
 -- An item was accepted in the game, whose play is held with these checkpoints, and it was replayed
--- so far; the log that it leaves has this many lines.
+-- so far; the log that it leaves has this many lines, and playing it leaves the game there.
 pub record IsReplay (cave : CaveView) (every : ℕ) (item : Applied) (game : Game)
     (checkpoints : List ℕ) (replay : ItemReplay) : Type 0 where
   pub accepted : group_refusal item.changes game.log ≡ None
   pub report : IsReport (cave_rules cave) item.changes game every checkpoints
       replay.from replay.met replay.played
   pub lines : replay.lines ≡ length (game_after_item item game).log
+  pub standing : replay.standing ≡ standing_of cave (game_after_item item game)
 
 -- what came of an item in the game
 abbrev pub IsOutcome : CaveView → ℕ → Applied → Game → List ℕ → ItemOutcome → Type 0

@@ -1,7 +1,12 @@
 -- The stages of each run, in their order.
-use Rattle.std.specs.Prelude.{ℕ, List, [], ◌∷◌, ◌++◌}
+use Rattle.std.specs.Prelude.{ℕ, Bool, List, [], ◌∷◌, ◌++◌}
+use Rattle.std.specs.Str.Lines.{lines}
+use Rattle.edit_options.specs.declared.editing.Editing.{Editing}
+use Rattle.log_replay.specs.Play.{Game, game_of}
+use Rattle.edit_scripts.specs.Script.{script_of}
 use Rattle.cave_play.specs.Judge.{large_seed, every_fault, input_size_fault, inputs_fault}
 use Rattle.cave_play.specs.Judge.{log_fault, script_fault}
+use Rattle.cave_play.specs.Strict.{fault_of_items}
 use Rattle.cave_play.specs.Stage.{Stage, reading_stage, judging_stage}
 use Rattle.cave_play.specs.declared.fault.Input.TheVariants as input
 
@@ -26,8 +31,15 @@ abbrev pub play_stages : List ℕ → List ℕ → List ℕ → ℕ → List Sta
 play_stages database bindings log seed =
     judging_stage (large_seed seed) ∷ cave_stages database bindings ++ log_stage log ∷ []
 
--- first the seed is judged, then the distance of checkpoints, the cave, the log, and the script
-abbrev pub edit_stages : List ℕ → List ℕ → List ℕ → List ℕ → ℕ → ℕ → List Stage
-edit_stages database bindings log script seed every =
-    judging_stage (large_seed seed) ∷ judging_stage (every_fault every)
-    ∷ cave_stages database bindings ++ log_stage log ∷ script_stage script ∷ []
+-- where the run is strict, the items of the script are judged in the game
+abbrev pub strict_stage : Bool → Game → List ℕ → Stage
+strict_stage strict game script = judging_stage (fault_of_items strict game (script_of script))
+
+-- first the seed is judged, then the distance of checkpoints, the cave, the log, the script, and
+-- last its items
+abbrev pub edit_stages : List ℕ → List ℕ → List ℕ → List ℕ → Editing → List Stage
+edit_stages database bindings log script editing =
+    judging_stage (large_seed editing.seed) ∷ judging_stage (every_fault editing.every)
+    ∷ cave_stages database bindings
+    ++ log_stage log ∷ script_stage script
+    ∷ strict_stage editing.strict (game_of editing.seed (lines log)) script ∷ []

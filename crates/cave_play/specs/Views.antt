@@ -7,7 +7,7 @@ use Rattle.cave_data.specs.CaveView.{CaveView}
 use Rattle.cave_data.specs.Reads.{Reads}
 use Rattle.edit_options.specs.declared.editing.Editing.{Editing}
 use Rattle.edit_options.specs.declared.editing.View.{View}
-use Rattle.edit_options.specs.declared.editing.View.TheVariants.{Transcript, Log, Reports}
+use Rattle.edit_options.specs.declared.editing.View.TheVariants.{Transcript, Play, Log, Reports}
 use Rattle.replay_marks.specs.Spacing.{IsSpaced}
 use Rattle.log_replay.specs.LogText.{log_text}
 use Rattle.log_replay.specs.Play.{Game, game_of}
@@ -18,7 +18,11 @@ use Rattle.log_replay.specs.declared.fault.EditFault.TheVariants.{EmptyGroup}
 use Rattle.edit_scripts.specs.Item.{Applied, line_of_refusal}
 use Rattle.edit_scripts.specs.Script.{IsScript}
 use Rattle.cave_play.specs.Outcome.{AreOutcomes, lines_in, played_in}
-use Rattle.cave_play.specs.Output.{edit_text, game_after_items, refusal_number}
+use Rattle.cave_play.specs.Output.{edit_text, game_after_items, play_text, refusal_number}
+use Rattle.cave_play.specs.declared.outcome.Standing.{Standing}
+use Rattle.cave_world.specs.declared.ending.Ending.{Ending}
+use Rattle.cave_world.specs.declared.ending.Ending.TheVariants.{Quit, Killed, Klutz, WrongWay}
+use Rattle.cave_world.specs.declared.ending.Ending.TheVariants.{Success}
 use Rattle.cave_play.specs.declared.outcome.ItemOutcome.{ItemOutcome}
 use Rattle.cave_play.specs.declared.outcome.ItemOutcome.TheVariants.{Refused, Replayed}
 
@@ -46,8 +50,28 @@ abbrev pub met_text : Option ℕ → List ℕ
 met_text None = codes "none"
 met_text (Some place) = decimal place
 
--- what is written of an item: where its replay began and met the old play, and how many of the
--- lines it played; or why it was refused
+-- how a game has ended
+abbrev pub ending_words : Ending → List ℕ
+ending_words Quit = codes ", ended: quit"
+ending_words Killed = codes ", ended: killed"
+ending_words Klutz = codes ", ended: klutz"
+ending_words WrongWay = codes ", ended: wrong way"
+ending_words Success = codes ", ended: success"
+
+abbrev pub ending_text : Option Ending → List ℕ
+ending_text None = []
+ending_text (Some ending) = ending_words ending
+
+-- where a game is after its last line: its score, the greatest one, its turns, the player's place,
+-- and how it has ended
+abbrev pub standing_text : Standing → List ℕ
+standing_text standing =
+    codes ", score " ++ (decimal standing.score ++ (codes " of " ++ (decimal standing.most
+    ++ (codes ", turns " ++ (decimal standing.turns ++ (codes ", at " ++ (decimal standing.place
+    ++ ending_text standing.ending)))))))
+
+-- what is written of an item: where its replay began and met the old play, how many of the lines it
+-- played, and where the game is then; or why it was refused
 abbrev pub account : Applied → ItemOutcome → List ℕ
 account item (Refused fault) =
     codes "line " ++ (decimal (line_of_refusal item fault.number) ++ (codes ": refused "
@@ -56,7 +80,8 @@ account item (Refused fault) =
 account item (Replayed replay) =
     codes "line " ++ (decimal item.line ++ (codes ": ok, from " ++ (decimal replay.from
     ++ (codes ", met " ++ (met_text replay.met ++ (codes ", played " ++ (decimal replay.played
-    ++ (codes " of " ++ (decimal replay.lines ++ codes "\n")))))))))
+    ++ (codes " of " ++ (decimal replay.lines ++ (standing_text replay.standing
+    ++ codes "\n"))))))))))
 
 -- what is written of items, one after another
 abbrev pub text_of_items : (Applied → ItemOutcome → List ℕ) → List Applied → List ItemOutcome
@@ -91,6 +116,7 @@ IsAccount cave every game items text =
 -- the text is what was asked for of the items that edit the game in the cave
 abbrev pub IsViewOf : View → CaveView → ℕ → Game → List Applied → List ℕ → Type 0
 IsViewOf Transcript cave every game items text = text ≡ edit_text cave game items
+IsViewOf Play cave every game items text = text ≡ play_text cave (game_after_items items game)
 IsViewOf Log cave every game items text = IsLogOf (game_after_items items game) text
 IsViewOf Reports cave every game items text = IsAccount cave every game items text
 

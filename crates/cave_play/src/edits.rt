@@ -1,18 +1,19 @@
 //! Applying a script to a session, with what comes of each of its items.
 
 ghost use Rattle.std.specs.Prelude.{◌≡◌, ◌+◌, ◌++◌, ◌<◌, ◌≤◌, ◌^◌, length, IfOk};
-ghost use Rattle.std.specs.Prelude.{IfErr, IsTrue, OnOk, ◌↔◌};
+ghost use Rattle.std.specs.Prelude.{IfErr, IsTrue, MatchResult, None, OnOk, Some, ◌⊎◌, ◌↔◌};
 ghost use Rattle.replay_marks.specs.Spacing.{IsSpaced};
 ghost use Rattle.edit_scripts.specs.Views.{applied_item, items_of};
 ghost use Rattle.cave_play.specs.Edits.{Applies, HoldsGame, IsApplied, text_of_item};
-ghost use Rattle.cave_play.specs.Outcome.{lines_in, played_in};
+ghost use Rattle.cave_play.specs.Outcome.{lines_in, played_in, refusal_in, standing_of};
 ghost use Rattle.cave_play.specs.Output.{game_after_items};
+ghost use Rattle.cave_play.specs.Strict.{first_strict_fault, strict_fault, strict_fault_by};
 
-use crate::fault::PlayFault;
+use crate::fault::{PlayFault, Refusal, ScriptFault};
 use crate::machine::CaveMachine;
-use crate::outcome::{ItemOutcome, ItemReplay};
+use crate::outcome::{ItemOutcome, ItemReplay, Standing};
 use crate::reports::push_outcome;
-use edit_options::View;
+use edit_options::Editing;
 use edit_scripts::{Item, Script};
 use log_lines::Meter;
 use log_replay::{EditFault, GroupReport, Session};
@@ -45,19 +46,25 @@ impl Totals {
 /// Applies the items of a script to the held game, and writes of each what is asked for.
 pub(crate) fn apply(
     alloc: Global,
+    machine: CaveMachine<'_>,
     session: &mut Session<CaveMachine<'_>>,
     script: &Script,
-    view: View,
+    editing: Editing,
     text: &mut Vec<u8>,
 ) -> Result<Totals, PlayFault>
-    requires { length script.now.items.items < 2 ^ 32 }
+    requires same { session.old.machine.rules.cave.now ≡ machine.rules.cave.now }
+    requires few_items { length script.now.items.items < 2 ^ 32 }
     ensures spaced { IsSpaced session.old.every session.old.checkpoints
         (length session.old.game.log) }
     ensures held { OnOk result (HoldsGame session.old.machine.rules.cave.now
         (game_after_items (items_of script.now.items) session.old.game) session.new) }
-    ensures applied { IfOk result (λ totals. IsApplied view (items_of script.now.items) session.old
+    ensures applied { IfOk result (λ totals. IsApplied editing.view (items_of script.now.items) session.old
         text.old.items text.new.items totals.played totals.lines) }
-    ensures memory { IfErr result (λ found. found ≡ PlayFault.Memory) }
+    ensures accepted { OnOk result (first_strict_fault editing.strict (items_of script.now.items)
+        session.old.game ≡ None) }
+    ensures refused { IfErr result (λ found. (found ≡ PlayFault.Memory)
+        ⊎ (first_strict_fault editing.strict (items_of script.now.items) session.old.game
+        ≡ Some found)) }
 {
     // The contract of this call says how the checkpoints are spaced before the first item.
     let _places = session.checkpoints();
@@ -66,7 +73,7 @@ pub(crate) fn apply(
         lines: 0,
     };
     for item in &script.items {
-        let outcome = apply_item(alloc, session, item, view, text)?;
+        let outcome = apply_item(alloc, machine, session, item, editing, text)?;
         totals = totals.with(outcome);
     }
     Ok(totals)
@@ -78,12 +85,35 @@ fn is_memory(fault: EditFault) -> bool
     matches!(fault, EditFault::Memory)
 }
 
-/// What a report says of a replay, with the lines of the log that the session then holds.
-fn replay_of(session: &Session<CaveMachine<'_>>, report: &GroupReport) -> ItemReplay
+/// Where the held game is after its last line.
+fn standing_of(machine: CaveMachine<'_>, session: &Session<CaveMachine<'_>>) -> Standing
+    requires { session.now.machine.rules.cave.now ≡ machine.rules.cave.now }
+    ensures { result ≡ standing_of machine.entry.rules.cave.now session.now.game }
+{
+    let state = session.state();
+    Standing {
+        score: machine.score(state),
+        most: machine.max_score(),
+        turns: session.ticks(session.lines()),
+        place: state.trail.here.number(),
+        ending: state.ending,
+    }
+}
+
+/// What a report says of a replay, with the lines of the log that the session then holds, and where
+/// the game is after them.
+fn replay_of(
+    machine: CaveMachine<'_>,
+    session: &Session<CaveMachine<'_>>,
+    report: &GroupReport,
+) -> ItemReplay
+    requires { session.now.machine.rules.cave.now ≡ machine.rules.cave.now }
     ensures from { result.from ≡ report.now.stretch.from }
     ensures met { result.met ≡ report.now.stretch.met }
     ensures played { result.played ≡ report.now.stretch.played }
     ensures lines { result.lines ≡ length session.now.game.log }
+    ensures standing { result.standing
+        ≡ standing_of machine.entry.rules.cave.now session.now.game }
     ensures spaced { IsSpaced session.now.every session.now.checkpoints
         (length session.now.game.log) }
 {
@@ -92,17 +122,23 @@ fn replay_of(session: &Session<CaveMachine<'_>>, report: &GroupReport) -> ItemRe
         met: report.stretch.met,
         played: report.stretch.played,
         lines: session.lines(),
+        standing: standing_of(machine, session),
     }
 }
 
 /// Applies an item to the held game, all of it or nothing, and returns what came of it.
-fn edit(session: &mut Session<CaveMachine<'_>>, item: &Item) -> Result<ItemOutcome, PlayFault>
+fn edit(
+    machine: CaveMachine<'_>,
+    session: &mut Session<CaveMachine<'_>>,
+    item: &Item,
+) -> Result<ItemOutcome, PlayFault>
+    requires same { session.old.machine.rules.cave.now ≡ machine.rules.cave.now }
     ensures applies { IfOk result (Applies (applied_item item.now) session.old session.new) }
     ensures memory { IfErr result (λ found. found ≡ PlayFault.Memory) }
 {
     let mut meter = Meter::new();
     let fault = match session.edit_group(&item.edits, &mut meter) {
-        Ok(report) => return Ok(ItemOutcome::Replayed(replay_of(session, &report))),
+        Ok(report) => return Ok(ItemOutcome::Replayed(replay_of(machine, session, &report))),
         Err(fault) => fault,
     };
     if is_memory(fault.cause) {
@@ -111,20 +147,43 @@ fn edit(session: &mut Session<CaveMachine<'_>>, item: &Item) -> Result<ItemOutco
     Ok(ItemOutcome::Refused(fault))
 }
 
+/// Whether a run goes on after an item: it does, unless the item was refused and the run is strict.
+fn check_strict(strict: bool, item: &Item, outcome: ItemOutcome) -> Result<(), PlayFault>
+    ensures { MatchResult result
+        (λ _. strict_fault_by strict (applied_item item.now) (refusal_in outcome) ≡ None)
+        (λ found. strict_fault_by strict (applied_item item.now) (refusal_in outcome)
+        ≡ Some found) }
+{
+    match outcome {
+        ItemOutcome::Refused(fault) if strict => {
+            let line = item.line_of(fault.number as usize);
+            let refusal = Refusal { cause: fault.cause };
+            Err(PlayFault::Script(ScriptFault::Refused(line, refusal)))
+        }
+        _ => Ok(()),
+    }
+}
+
 /// Applies an item to the held game, and writes of it what is asked for.
 fn apply_item(
     alloc: Global,
+    machine: CaveMachine<'_>,
     session: &mut Session<CaveMachine<'_>>,
     item: &Item,
-    view: View,
+    editing: Editing,
     text: &mut Vec<u8>,
 ) -> Result<ItemOutcome, PlayFault>
+    requires same { session.old.machine.rules.cave.now ≡ machine.rules.cave.now }
     ensures applies { IfOk result (Applies (applied_item item.now) session.old session.new) }
-    ensures told { IfOk result (λ outcome.
-        text.new.items ≡ text.old.items ++ text_of_item view (applied_item item.now) outcome) }
-    ensures memory { IfErr result (λ found. found ≡ PlayFault.Memory) }
+    ensures told { IfOk result (λ outcome. text.new.items ≡ text.old.items
+        ++ text_of_item editing.view (applied_item item.now) outcome) }
+    ensures accepted { OnOk result
+        (strict_fault editing.strict (applied_item item.now) session.old.game ≡ None) }
+    ensures refused { IfErr result (λ found. (found ≡ PlayFault.Memory)
+        ⊎ (strict_fault editing.strict (applied_item item.now) session.old.game ≡ Some found)) }
 {
-    let outcome = edit(session, item)?;
-    push_outcome(alloc, text, item, view, outcome)?;
+    let outcome = edit(machine, session, item)?;
+    check_strict(editing.strict, item, outcome)?;
+    push_outcome(alloc, text, item, editing.view, outcome)?;
     Ok(outcome)
 }

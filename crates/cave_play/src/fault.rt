@@ -4,9 +4,11 @@ ghost use Rattle.std.specs.Prelude.{◌≡◌};
 ghost use Rattle.cave_play.specs.declared.fault.PlayFault.TheVariants.{Memory};
 ghost use Rattle.cave_play.specs.Fault.{status_of, input_of, faulty_line};
 
+use crate::refusal::{refusal_number, refusal_words};
 use cave_rows::{CaveError, Expected, FaultSite};
 use edit_scripts::Flaw;
 use log_lines::LineFlaw;
+use log_replay::EditFault;
 use std::alloc::AllocError;
 use std::{fmt, io};
 use thiserror::Error;
@@ -34,6 +36,19 @@ pub enum LogFault {
     Full,
 }
 
+/// Why an item of a script is refused, as reports say it.
+#[derive(Clone, Copy, Debug, PartialEq, Eq)]
+pub struct Refusal {
+    pub cause: EditFault,
+}
+
+impl fmt::Display for Refusal {
+    fn fmt<W: fmt::Write>(&self, f: &mut fmt::Formatter<W>) -> fmt::Result {
+        let number = refusal_number(self.cause);
+        write!(f, "refused {number}, {}", refusal_words(self.cause))
+    }
+}
+
 /// Why a script is refused.
 #[derive(Clone, Copy, Debug, PartialEq, Eq, Error)]
 pub enum ScriptFault {
@@ -43,6 +58,9 @@ pub enum ScriptFault {
     /// The line with this number, from 1, is malformed.
     #[error("{1}")]
     Malformed(usize, Flaw),
+    /// The item of the line with this number is refused, where the run is strict.
+    #[error("{1}")]
+    Refused(usize, Refusal),
 }
 
 /// Why a run failed. The text says what is wrong, and not where: that is `Complaint`.
@@ -119,7 +137,9 @@ impl PlayFault {
         match self {
             PlayFault::Cave(error) if error.line > 0 => Some(error.line),
             PlayFault::Log(LogFault::BadLine(line, _)) => Some(line),
-            PlayFault::Script(ScriptFault::Malformed(line, _)) => Some(line),
+            PlayFault::Script(ScriptFault::Malformed(line, _) | ScriptFault::Refused(line, _)) => {
+                Some(line)
+            }
             _ => None,
         }
     }

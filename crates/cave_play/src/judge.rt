@@ -5,7 +5,7 @@ ghost use Rattle.std.specs.Prelude.{MatchResult, length};
 ghost use Rattle.std.specs.Str.Lines.{lines};
 ghost use Rattle.cave_data.specs.Reads.{Reads};
 ghost use Rattle.log_replay.specs.Play.{game_of};
-ghost use Rattle.edit_scripts.specs.Script.{IsScript};
+ghost use Rattle.edit_scripts.specs.Script.{IsScript, script_of};
 ghost use Rattle.edit_scripts.specs.Views.{items_of};
 ghost use Rattle.cave_play.specs.Input.{Says};
 ghost use Rattle.cave_play.specs.Judge.{large_seed, every_fault, lines_fault};
@@ -128,7 +128,8 @@ pub(crate) fn read_script<S: Read>(alloc: Global, script: &mut S) -> Result<Scri
     ensures judged { (bytes : List ℕ) × Says (S.remaining script.old) bytes
         × Judges (script_stage bytes ∷ [])
         (λ script. IsScript 1 (lines bytes) (items_of script.items)
-        × (length script.items.items < 2 ^ 32)) result }
+        × (length script.items.items < 2 ^ 32)
+        × (script_of bytes ≡ Ok (items_of script.items))) result }
 {
     let text = read(alloc, Input::Script, script)?;
     match Script::read(alloc, &text) {

@@ -11,6 +11,7 @@ pub mod machine;
 pub mod outcome;
 pub mod output;
 mod read;
+mod refusal;
 mod reports;
 pub mod run;
 mod transcript;

@@ -3,9 +3,23 @@
 ghost use Rattle.std.specs.Prelude.{◌≡◌};
 ghost use Rattle.cave_play.specs.Outcome.{lines_in, played_in, refusal_in};
 
+use cave_world::Ending;
 use log_replay::GroupFault;
 
-/// How far the replay of an accepted item went.
+/// Where a game is after its last line.
+#[derive(Clone, Copy, Debug, PartialEq, Eq)]
+pub struct Standing {
+    pub score: u32,
+    /// The greatest score of the cave.
+    pub most: u32,
+    pub turns: u32,
+    /// The place of the player.
+    pub place: u16,
+    /// How the game has ended, if it has.
+    pub ending: Option<Ending>,
+}
+
+/// How far the replay of an accepted item went, and where the game is then.
 #[derive(Clone, Copy, Debug, PartialEq, Eq)]
 pub struct ItemReplay {
     /// The place that it began at.
@@ -16,6 +30,7 @@ pub struct ItemReplay {
     pub played: u32,
     /// How many lines the edited log has.
     pub lines: u32,
+    pub standing: Standing,
 }
 
 /// What came of an item of a script.

@@ -3,15 +3,18 @@
 ghost use Rattle.std.specs.Prelude.{◌≡◌, ◌++◌, IfOk, OnOk, string_bytes};
 ghost use Rattle.edit_scripts.specs.Views.{applied_item};
 ghost use Rattle.cave_play.specs.Edits.{text_of_item};
-ghost use Rattle.cave_play.specs.Output.{refusal_number, report_by};
-ghost use Rattle.cave_play.specs.Views.{account, met_text, refusal_words, totals_line};
+ghost use Rattle.cave_play.specs.Output.{report_by};
+ghost use Rattle.cave_play.specs.Views.{account, ending_text, ending_words, met_text};
+ghost use Rattle.cave_play.specs.Views.{standing_text, totals_line};
 ghost use Rattle.cave_play.specs.declared.outcome.ItemOutcome.TheVariants.{Replayed};
 
 use crate::edits::Totals;
-use crate::outcome::{ItemOutcome, ItemReplay};
+use crate::outcome::{ItemOutcome, ItemReplay, Standing};
+use crate::refusal::{refusal_number, refusal_words};
+use cave_world::Ending;
 use edit_options::View;
 use edit_scripts::Item;
-use log_replay::{EditFault, GroupFault};
+use log_replay::GroupFault;
 use std::alloc::{AllocError, Global};
 
 /// Writes of an item what is asked for.
@@ -27,7 +30,7 @@ pub(crate) fn push_outcome(
 {
     match view {
         View::Transcript => push_report(alloc, text, item, outcome.refusal()),
-        View::Log => Ok(()),
+        View::Play | View::Log => Ok(()),
         View::Reports => push_account(alloc, text, item, outcome),
     }
 }
@@ -46,36 +49,6 @@ pub(crate) fn push_totals(
         "played {played} lines; from the start it would have been {lines}\n"
     )?;
     text.extend_from_slice(told.as_bytes())
-}
-
-/// The number by which a report names a refusal.
-fn refusal_number(fault: EditFault) -> u8
-    ensures { result ≡ refusal_number fault }
-{
-    match fault {
-        EditFault::NoSuchPlace => 1,
-        EditFault::BadLine => 2,
-        EditFault::LogFull => 3,
-        EditFault::BadSeed => 4,
-        EditFault::MeterFull => 5,
-        EditFault::Memory => 6,
-        EditFault::EmptyGroup => 7,
-    }
-}
-
-/// What is said beside the number of a refusal.
-fn refusal_words(fault: EditFault) -> &'static str
-    ensures { result.now ≡ refusal_words fault }
-{
-    match fault {
-        EditFault::NoSuchPlace => "no such line",
-        EditFault::BadLine => "a bad line",
-        EditFault::LogFull => "a full log",
-        EditFault::BadSeed => "a bad seed",
-        EditFault::MeterFull => "a full meter",
-        EditFault::Memory => "no memory",
-        EditFault::EmptyGroup => "an empty group",
-    }
 }
 
 /// Reports on an item: that it was accepted, or why it was refused.
@@ -112,6 +85,44 @@ fn met_text(alloc: Global, met: Option<u32>) -> Result<String, AllocError>
     }
 }
 
+/// How a game has ended, in a few words.
+fn ending_words(ending: Ending) -> &'static str
+    ensures { result.now ≡ ending_words ending }
+{
+    match ending {
+        Ending::Quit => ", ended: quit",
+        Ending::Killed => ", ended: killed",
+        Ending::Klutz => ", ended: klutz",
+        Ending::WrongWay => ", ended: wrong way",
+        Ending::Success => ", ended: success",
+    }
+}
+
+/// How a game has ended, as it is written, if it has.
+fn ending_text(ending: Option<Ending>) -> &'static str
+    ensures { result.now ≡ ending_text ending }
+{
+    match ending {
+        None => "",
+        Some(ending) => ending_words(ending),
+    }
+}
+
+/// Where a game is after its last line, as it is written.
+fn standing_text(alloc: Global, standing: Standing) -> Result<String, AllocError>
+    ensures { IfOk result (λ told. string_bytes told ≡ standing_text standing) }
+{
+    let Standing {
+        score,
+        most,
+        turns,
+        place,
+        ending,
+    } = standing;
+    let ended = ending_text(ending);
+    format!(in alloc; ", score {score} of {most}, turns {turns}, at {place}{ended}")
+}
+
 /// The line of an item that was replayed.
 fn account_text(alloc: Global, item: &Item, replay: ItemReplay) -> Result<String, AllocError>
     ensures { IfOk result (λ told.
@@ -123,9 +134,11 @@ fn account_text(alloc: Global, item: &Item, replay: ItemReplay) -> Result<String
         met,
         played,
         lines,
+        standing,
     } = replay;
     let met = met_text(alloc, met)?;
-    format!(in alloc; "line {line}: ok, from {from}, met {met}, played {played} of {lines}\n")
+    let told = standing_text(alloc, standing)?;
+    format!(in alloc; "line {line}: ok, from {from}, met {met}, played {played} of {lines}{told}\n")
 }
 
 /// Writes what an item replayed, or why it was refused.

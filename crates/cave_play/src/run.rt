@@ -1,17 +1,21 @@
 //! Runs: from readers of the inputs to a writer of the output.
 
-ghost use Rattle.std.specs.Prelude.{◌≡◌, ℕ, List, [], ◌∷◌, ◌++◌, None, take, MatchResult, OnOk};
+ghost use Rattle.std.specs.Prelude.{◌≡◌, ◌<◌, ◌^◌, ℕ, List, [], ◌∷◌, ◌++◌, None, take, length};
+ghost use Rattle.std.specs.Prelude.{MatchResult, OnOk};
 ghost use Rattle.std.specs.Io.KnownBytes.{Appends};
 ghost use Rattle.std.specs.Str.Lines.{lines};
+ghost use Rattle.edit_scripts.specs.Views.{items_of};
 ghost use Rattle.log_replay.specs.Play.{game_of};
 ghost use Rattle.cave_play.specs.Input.{Says};
 ghost use Rattle.cave_play.specs.Judge.{large_seed, every_fault};
 ghost use Rattle.cave_play.specs.Output.{check_text, play_text};
 ghost use Rattle.cave_play.specs.Output.{IsChecked, IsPlayed};
 ghost use Rattle.cave_play.specs.Run.{Judges, Runs};
-ghost use Rattle.cave_play.specs.Stages.{cave_stages, log_stage, script_stage};
+ghost use Rattle.cave_play.specs.Stage.{judging_stage};
+ghost use Rattle.cave_play.specs.Stages.{cave_stages, log_stage, script_stage, strict_stage};
 ghost use Rattle.cave_play.specs.Stages.{play_stages, edit_stages};
-ghost use Rattle.cave_play.specs.Views.{IsEditOf, IsEdited};
+ghost use Rattle.cave_play.specs.Strict.{first_strict_fault};
+ghost use Rattle.cave_play.specs.Views.{IsEditOf, IsEdited, IsViewOf};
 ghost use Rattle.cave_play.specs.Edits.{ReadsBack, text_at_end};
 
 use crate::bindings::CaveReaders;
@@ -27,6 +31,7 @@ use cave_scene::Rules;
 use cave_score::max_score;
 use cave_words::Lexicon;
 use edit_options::{Editing, View};
+use edit_scripts::Script;
 use limits::MAX_EVERY;
 use log_replay::Session;
 use std::alloc::{AllocError, Global};
@@ -82,7 +87,7 @@ pub fn run_edit<C: Read, B: Read, L: Read, S: Read, W: Write>(
         × Says (C.remaining cave.old.database) database
         × Says (B.remaining cave.old.bindings) bindings
         × Says (L.remaining log.old) moves × Says (S.remaining script.old) edits
-        × Runs (edit_stages database bindings moves edits editing.seed editing.every)
+        × Runs (edit_stages database bindings moves edits editing)
         (IsEdited database bindings moves edits editing)
         (W.contents output.old) (W.contents output.new) result }
 {
@@ -207,7 +212,7 @@ fn edit_inputs<C: Read, B: Read, L: Read, S: Read>(
         × Says (C.remaining cave.old.database) database
         × Says (B.remaining cave.old.bindings) bindings
         × Says (L.remaining log.old) moves × Says (S.remaining script.old) edits
-        × Judges (edit_stages database bindings moves edits editing.seed editing.every)
+        × Judges (edit_stages database bindings moves edits editing)
         (λ text. IsEdited database bindings moves edits editing text.items) result }
 {
     check_seed(editing.seed)?;
@@ -230,14 +235,15 @@ fn edit_in_cave<L: Read, S: Read>(
     requires every_fits { every_fault editing.every ≡ None }
     ensures judged { (moves : List ℕ) × (edits : List ℕ)
         × Says (L.remaining log.old) moves × Says (S.remaining script.old) edits
-        × Judges (log_stage moves ∷ script_stage edits ∷ [])
+        × Judges (log_stage moves ∷ script_stage edits
+        ∷ strict_stage editing.strict (game_of editing.seed (lines moves)) edits ∷ [])
         (λ text. IsEditOf editing.view cave.now editing.every
         (game_of editing.seed (lines moves)) edits text.items) result }
 {
     let lexicon = Lexicon::build(alloc, cave)?;
     let machine = CaveMachine::new(cave, &lexicon);
     let mut session = read_log(alloc, machine, log, editing.seed, editing.every)?;
-    let text = edit_session(alloc, machine, &mut session, script, editing.view);
+    let text = edit_session(alloc, machine, &mut session, script, editing);
     drop(session);
     text
 }
@@ -248,18 +254,36 @@ fn edit_session<S: Read>(
     machine: CaveMachine<'_>,
     session: &mut Session<CaveMachine<'_>>,
     script: &mut S,
-    view: View,
+    editing: Editing,
 ) -> Result<Vec<u8>, PlayFault>
     requires { session.old.machine.rules.cave.now ≡ machine.rules.cave.now }
     ensures judged { (edits : List ℕ) × Says (S.remaining script.old) edits
-        × Judges (script_stage edits ∷ [])
-        (λ text. IsEditOf view machine.entry.rules.cave.now session.old.every session.old.game edits
-        text.items) result }
+        × Judges (script_stage edits ∷ strict_stage editing.strict session.old.game edits ∷ [])
+        (λ text. IsEditOf editing.view machine.entry.rules.cave.now session.old.every
+        session.old.game edits text.items) result }
 {
     let script = read_script(alloc, script)?;
+    edit_by(alloc, machine, session, &script, editing)
+}
+
+/// What is asked for of the items of a script that are applied to a session of the machine.
+fn edit_by(
+    alloc: Global,
+    machine: CaveMachine<'_>,
+    session: &mut Session<CaveMachine<'_>>,
+    script: &Script,
+    editing: Editing,
+) -> Result<Vec<u8>, PlayFault>
+    requires same { session.old.machine.rules.cave.now ≡ machine.rules.cave.now }
+    requires few_items { length script.now.items.items < 2 ^ 32 }
+    ensures judged { Judges (judging_stage
+        (first_strict_fault editing.strict (items_of script.now.items) session.old.game) ∷ [])
+        (λ text. IsViewOf editing.view machine.entry.rules.cave.now session.old.every
+        session.old.game (items_of script.now.items) text.items) result }
+{
     let mut text = Vec::new(alloc);
-    let totals = apply(alloc, session, &script, view, &mut text)?;
-    push_end(alloc, machine, session, view, totals, &mut text)?;
+    let totals = apply(alloc, machine, session, script, editing, &mut text)?;
+    push_end(alloc, machine, session, editing.view, totals, &mut text)?;
     Ok(text)
 }
 
@@ -278,7 +302,7 @@ fn push_end(
     ensures reads_back { OnOk result (ReadsBack view session.now.game.log) }
 {
     match view {
-        View::Transcript => tell(alloc, machine, session, text),
+        View::Transcript | View::Play => tell(alloc, machine, session, text),
         View::Log => session.push_log(text),
         View::Reports => push_totals(alloc, text, totals),
     }

@@ -6,6 +6,8 @@ ghost use Rattle.edit_options.specs.Editing.{view_named};
 pub enum View {
     /// Whether each edit was accepted, and what playing the edited log prints.
     Transcript,
+    /// What playing the edited log prints.
+    Play,
     /// The lines of the edited log.
     Log,
     /// What each edit replayed.
@@ -19,6 +21,7 @@ impl View {
     {
         match name {
             "transcript" => Some(View::Transcript),
+            "play" => Some(View::Play),
             "log" => Some(View::Log),
             "reports" => Some(View::Reports),
             _ => None,
@@ -35,4 +38,6 @@ pub struct Editing {
     pub every: u32,
     /// What is printed.
     pub view: View,
+    /// Whether nothing is printed where an edit is refused.
+    pub strict: bool,
 }

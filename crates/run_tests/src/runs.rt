@@ -178,6 +178,7 @@ impl Run for Changing {
             seed: feeds.seed,
             every: feeds.every,
             view: feeds.view,
+            strict: false,
         };
         edit_into(
             alloc,

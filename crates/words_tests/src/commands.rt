@@ -25,20 +25,23 @@ fn shown(alloc: Global, words: &[&str]) -> Result<String, AllocError> {
 const ANSWERS: [(&[&str], &str); 24] = [
     (
         &["cave", "check", "a"],
-        "Check { files: Files { cave: \"a\", bind: None } }",
+        "Check { files: Files { cave: \"a\", bind: None, output: None } }",
     ),
     (
         &["cave", "play", "a", "--bind=c", "b", "--seed", "2147483647"],
-        "Play { files: Files { cave: \"a\", bind: Some(\"c\") }, log: \"b\", seed: 2147483647 }",
+        "Play { files: Files { cave: \"a\", bind: Some(\"c\"), output: None }, \
+        log: \"b\", seed: 2147483647 }",
     ),
     (
         &["cave", "play", "--", "-a", "--seed"],
-        "Play { files: Files { cave: \"-a\", bind: None }, log: \"--seed\", seed: 0 }",
+        "Play { files: Files { cave: \"-a\", bind: None, output: None }, \
+        log: \"--seed\", seed: 0 }",
     ),
     (
         &["cave", "edit", "a", "b", "c"],
-        "Edit { files: Files { cave: \"a\", bind: None }, log: \"b\", script: \"c\", \
-        editing: Editing { seed: 0, every: 50, view: Transcript } }",
+        "Edit { files: Files { cave: \"a\", bind: None, output: None }, \
+        log: \"b\", script: \"c\", \
+        editing: Editing { seed: 0, every: 50, view: Transcript, strict: false } }",
     ),
     (
         &[
@@ -50,18 +53,31 @@ const ANSWERS: [(&[&str], &str); 24] = [
             "b",
             "c",
         ],
-        "Edit { files: Files { cave: \"a\", bind: None }, log: \"b\", script: \"c\", \
-        editing: Editing { seed: 3, every: 10000, view: Transcript } }",
+        "Edit { files: Files { cave: \"a\", bind: None, output: None }, \
+        log: \"b\", script: \"c\", \
+        editing: Editing { seed: 3, every: 10000, view: Transcript, strict: false } }",
     ),
     (
-        &["cave", "edit", "a", "--print", "log", "b", "c"],
-        "Edit { files: Files { cave: \"a\", bind: None }, log: \"b\", script: \"c\", \
-        editing: Editing { seed: 0, every: 50, view: Log } }",
+        &[
+            "cave",
+            "edit",
+            "a",
+            "--print",
+            "log",
+            "b",
+            "c",
+            "--strict",
+            "--output=d",
+        ],
+        "Edit { files: Files { cave: \"a\", bind: None, output: Some(\"d\") }, \
+        log: \"b\", script: \"c\", \
+        editing: Editing { seed: 0, every: 50, view: Log, strict: true } }",
     ),
     (
         &["cave", "edit", "a", "b", "c", "--print=reports"],
-        "Edit { files: Files { cave: \"a\", bind: None }, log: \"b\", script: \"c\", \
-        editing: Editing { seed: 0, every: 50, view: Reports } }",
+        "Edit { files: Files { cave: \"a\", bind: None, output: None }, \
+        log: \"b\", script: \"c\", \
+        editing: Editing { seed: 0, every: 50, view: Reports, strict: false } }",
     ),
     (&["cave", "help", "edit"], "text DisplayHelp"),
     (&["cave", "-V"], "text DisplayVersion"),
@@ -70,8 +86,8 @@ const ANSWERS: [(&[&str], &str); 24] = [
         &[
             "cave", "cover", "a", "b", "--seed=7", "c", "--bind", "d", "e",
         ],
-        "Cover { files: Files { cave: \"a\", bind: Some(\"d\") }, logs: [\"b\", \"c\", \"e\"], \
-        seed: 7 }",
+        "Cover { files: Files { cave: \"a\", bind: Some(\"d\"), output: None }, \
+        logs: [\"b\", \"c\", \"e\"], seed: 7 }",
     ),
     (&["cave", "play", "a"], "2 MissingRequiredArgument"),
     (&["cave", "cover", "a"], "2 MissingRequiredArgument"),
@@ -201,6 +217,7 @@ fn refused_memory_is_no_other_fault(rt: HostRuntime) {
                         seed: 3,
                         every: 7,
                         view: View::Transcript,
+                        strict: false,
                     },
                     ..
                 }

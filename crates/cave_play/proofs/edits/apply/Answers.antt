@@ -1,9 +1,15 @@
-use Rattle.std.proofs.Common.{List, ◌∙◌, refl, map, subst, arith}
+use Rattle.std.proofs.Common.{◌≡◌, List, None, Some, ◌∙◌, refl, map, subst, arith}
+use Rattle.std.specs.Prelude.{◌⊎◌}
+use Rattle.std.proofs.lemmas.Result.{err_from_is_err_and}
+use Rattle.cave_play.specs.Strict.{first_strict_fault}
+use Rattle.cave_play.specs.declared.fault.PlayFault.TheVariants as fault
 use Rattle.edit_scripts.specs.Views.{applied_item}
 use Rattle.edit_scripts.specs.declared.script.Item.{Item}
 use Rattle.cave_play.specs.Edits.{IsApplied}
 use Rattle.cave_play.proofs.EditLemmas.{Completes-none, Completes-more, IsApplied-whole}
 use Rattle.cave_play.proofs.EditLemmas.{game_after_items-more}
+use Rattle.cave_play.proofs.StrictLemmas.{first_strict_fault-more, first_strict_fault-here}
+use Rattle.cave_play.proofs.StrictLemmas.{first_strict_fault-end}
 use Rattle.cave_play.proofs.edits.apply.Goals as goal
 
 pub loop-item-init : goal.loop-item-init
@@ -11,9 +17,10 @@ loop-item-init c =
     let first = c.args.session.now in
     record {
       completes =
-          Completes-none c.args.view first.machine.rules.cave.now first.every
+          Completes-none c.args.editing.view first.machine.rules.cave.now first.every
           (map applied_item c.deref-item-items.result.now) first.game first.checkpoints
           c.args.text.now.items;
+      strict = refl;
       game = refl;
       cave = refl;
       every = refl;
@@ -33,6 +40,9 @@ loop-item-preserved c =
           _ _ _ _ _ _ _ _ _ _ _ _ c.loop-item-test.true c.item-item.is before.cave before.every
           applies c.in_ok-outcome.ensures.told c.with-totals.ensures.played
           c.with-totals.ensures.lines before.completes;
+      strict = first_strict_fault-more c.args.editing.strict items place c.item-item.result
+          _ _ c.loop-item-test.true c.item-item.is _ applies.holds.game_is
+          c.in_ok-outcome.ensures.accepted before.strict;
       game = game_after_items-more items place c.item-item.result _ _ _ c.loop-item-test.true
           c.item-item.is applies.holds.game_is before.game;
       cave = applies.holds.cave_is ∙ before.cave;
@@ -45,8 +55,34 @@ pub returns-clause-applied : goal.returns-clause-applied
 returns-clause-applied c =
     let last = c.loop-item in
     let whole =
-    IsApplied-whole c.args.view c.deref-item-items.result.now last.item-index c.args.session.now
+    IsApplied-whole c.args.editing.view c.deref-item-items.result.now last.item-index c.args.session.now
     _ _ _ _ _ _ (omega (arith, c.loop-item-test.false)) last.invariant.completes in
-    subst (λ (items : List Item). IsApplied c.args.view (map applied_item items) c.args.session.now
+    subst (λ (items : List Item). IsApplied c.args.editing.view (map applied_item items) c.args.session.now
     c.args.text.now.items last.text.items last.totals.played last.totals.lines)
     c.deref-item-items.ensures.value whole
+
+pub returns-clause-accepted : goal.returns-clause-accepted
+returns-clause-accepted c =
+    let last = c.loop-item in
+    let items = c.deref-item-items.result.now in
+    let none =
+    first_strict_fault-end c.args.editing.strict items last.item-index last.session.game
+    _ (omega (arith, c.loop-item-test.false)) last.invariant.strict in
+    subst (λ (items : List Item). first_strict_fault c.args.editing.strict (map applied_item items)
+    c.args.session.now.game ≡ None) c.deref-item-items.ensures.value none
+
+pub returns-in_err-outcome-clause-refused : goal.returns-in_err-outcome-clause-refused
+returns-in_err-outcome-clause-refused c =
+    let exit = err_from_is_err_and c.from_residual.result c.from_residual.ensures.1 in
+    let items = c.deref-item-items.result.now in
+    let first = c.args.session.now in
+    let found = c.in_err-outcome.field-0.0 in
+    let refused =
+    first_strict_fault-here c.args.editing.strict items c.loop-item.item-index c.item-item.result
+    c.loop-item.session.game _ c.loop-item-test.true c.item-item.is found
+    c.in_err-outcome.ensures.refused c.loop-item.invariant.strict in
+    let here =
+    subst (λ (items : List Item). (found ≡ fault.Memory) ⊎ (first_strict_fault
+    c.args.editing.strict (map applied_item items) first.game ≡ Some found))
+    c.deref-item-items.ensures.value refused in
+    rw (exit.1, exit.2) here

@@ -2,6 +2,7 @@
 use Rattle.std.proofs.Common.{◌≡◌, ◌≤◌, ◌*◌, ◌^◌, drop, map}
 use Rattle.edit_scripts.specs.Views.{applied_item}
 use Rattle.cave_play.specs.Output.{game_after_items}
+use Rattle.cave_play.specs.Strict.{first_strict_fault}
 use Rattle.cave_play.proofs.EditLemmas.{Completes}
 use Rattle.cave_play.proofs.edits.apply.Given as goal
 
@@ -11,9 +12,11 @@ invariant-loop-item l =
     let all = map applied_item l.item-items in
     let first = l.initial.session in
     record {
-      completes : Completes l.view first.machine.rules.cave.now first.every all left first.game
+      completes : Completes l.editing.view first.machine.rules.cave.now first.every all left first.game
           l.session.game first.checkpoints l.session.checkpoints
           l.initial.text.items l.text.items l.totals.played l.totals.lines;
+      strict : first_strict_fault l.editing.strict left l.session.game
+          ≡ first_strict_fault l.editing.strict all first.game;
       game : game_after_items left l.session.game ≡ game_after_items all first.game;
       cave : l.session.machine.rules.cave.now ≡ first.machine.rules.cave.now;
       every : l.session.every ≡ first.every;

@@ -31,6 +31,7 @@ returns-in-Ok g c =
           (
             spelled,
             few_items items _ bytes c.in-Ok.ensures.grammar same read.1,
+            is,
           ),
         ),
       );

@@ -1,15 +1,22 @@
-use Rattle.std.proofs.Common.{ℕ, [], ◌∷◌, subst}
+use Rattle.std.proofs.Common.{ℕ, List, [], ◌∷◌, subst}
 use Rattle.std.specs.Global.{Vec}
 use Rattle.std.specs.Str.Lines.{lines}
 use Rattle.std.proofs.lemmas.Result.{err_from_is_err_and}
 use Rattle.cave_data.specs.CaveView.{CaveView}
-use Rattle.log_replay.specs.Play.{game_of}
+use Rattle.edit_options.specs.declared.editing.Editing.{Editing}
+use Rattle.log_replay.specs.Play.{Game, game_of}
 use Rattle.cave_play.specs.Views.{IsEditOf}
 use Rattle.cave_play.specs.Run.{Judges}
-use Rattle.cave_play.specs.Stages.{log_stage, script_stage}
+use Rattle.cave_play.specs.Stage.{Stage}
+use Rattle.cave_play.specs.Stages.{log_stage, script_stage, strict_stage}
 use Rattle.cave_play.proofs.InputLemmas.{Says-some}
 use Rattle.cave_play.proofs.StageLemmas.{IsFoundIn-first, IsFoundIn-memory, Judges-later}
 use Rattle.cave_play.proofs.run.edit_in_cave.Goals as goal
+
+-- the stage of the items of the script
+abbrev strict_of : Editing → List ℕ → List ℕ → Stage
+strict_of editing moves edits =
+    strict_stage editing.strict (game_of editing.seed (lines moves)) edits
 
 pub returns-in_err-lexicon : goal.returns-in_err-lexicon
 returns-in_err-lexicon g c =
@@ -23,7 +30,8 @@ returns-in_err-lexicon g c =
         edits,
         said,
         others,
-        IsFoundIn-memory (log_stage moves ∷ script_stage edits ∷ []),
+        IsFoundIn-memory (log_stage moves ∷ script_stage edits
+            ∷ strict_of c.args.editing moves edits ∷ []),
       );
     })
 
@@ -41,7 +49,8 @@ returns-in_err-session g c =
         edits,
         said,
         others,
-        IsFoundIn-first (log_stage moves ∷ []) (script_stage edits ∷ []) _ found,
+        IsFoundIn-first (log_stage moves ∷ [])
+            (script_stage edits ∷ strict_of c.args.editing moves edits ∷ []) _ found,
       );
     })
 
@@ -61,10 +70,17 @@ returns g c =
     made.1.game_is
     (subst (λ every. IsEditOf editing.view cave every held.game edits text.items)
     c.in_ok-session.ensures.every is) in
+    let strict = strict_of editing moves edits in
+    let held_right =
+    λ (text : Vec ℕ). IsEditOf editing.view cave held.every held.game edits text.items in
+    let staged =
+    subst (λ (game : Game). Judges (script_stage edits
+    ∷ strict_stage editing.strict game edits ∷ []) held_right c.edit_session-text.result)
+    made.1.game_is edited in
     let judged =
-    Judges-later (log_stage moves ∷ []) (script_stage edits ∷ []) _ (right cave) _ made.0 gives
-    edited in
+    Judges-later (log_stage moves ∷ []) (script_stage edits ∷ strict ∷ []) held_right (right cave)
+    _ made.0 gives staged in
     let here =
-    λ (cave : CaveView). Judges (log_stage moves ∷ script_stage edits ∷ []) (right cave)
+    λ (cave : CaveView). Judges (log_stage moves ∷ script_stage edits ∷ strict ∷ []) (right cave)
     c.edit_session-text.result in
     record { judged = (moves, edits, said, others, subst here c.new-machine.ensures judged) }

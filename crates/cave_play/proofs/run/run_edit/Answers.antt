@@ -22,8 +22,8 @@ returns-in_err-text g c =
         third,
         last,
         EndsBy-unwritten
-            _ _ _ _ _ (unwritten_by_edit database bindings lines edits c.args.editing.seed
-            c.args.editing.every) decided (Keeps-refl _),
+            _ _ _ _ _ (unwritten_by_edit database bindings lines edits c.args.editing) decided
+            (Keeps-refl _),
       );
     })
 
@@ -34,8 +34,7 @@ returns g c =
     let output =
     subst (IsEdited database bindings lines edits c.args.editing) (sym c.deref.ensures.value)
     made.1 in
-    let stages =
-    edit_stages database bindings lines edits c.args.editing.seed c.args.editing.every in
+    let stages = edit_stages database bindings lines edits c.args.editing in
     record {
       runs = (
         database,

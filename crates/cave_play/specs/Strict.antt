@@ -1,0 +1,39 @@
+-- Runs that end where an item is refused.
+use Rattle.std.specs.Prelude.{Bool, List, [], ◌∷◌, Option, None, Some, Result, Ok, Err}
+use Rattle.std.specs.Prelude.{if◌then◌else◌}
+use Rattle.std.specs.Option.{option_or}
+use Rattle.log_replay.specs.Play.{Game}
+use Rattle.log_replay.specs.declared.fault.GroupFault.{GroupFault}
+use Rattle.edit_scripts.specs.Item.{Applied, line_of_refusal}
+use Rattle.edit_scripts.specs.declared.fault.ScriptRefusal.{ScriptRefusal}
+use Rattle.cave_play.specs.Output.{game_after_item, group_refusal}
+use Rattle.cave_play.specs.declared.fault.ScriptFault.TheVariants as script
+use Rattle.cave_play.specs.declared.fault.PlayFault.{PlayFault}
+use Rattle.cave_play.specs.declared.fault.PlayFault.TheVariants as fault
+
+-- the fault that a refusal of an item is
+abbrev pub refusal_fault : Applied → GroupFault → PlayFault
+refusal_fault item found = fault.Script
+    (script.Refused (line_of_refusal item found.number) (record { cause = found.cause }))
+
+-- where the run is strict, the fault of an item that is refused
+abbrev pub strict_fault_by : Bool → Applied → Option GroupFault → Option PlayFault
+strict_fault_by strict item None = None
+strict_fault_by strict item (Some found) =
+    if strict then Some (refusal_fault item found) else None
+
+-- the fault of an item in the game
+unfoldable pub strict_fault : Bool → Applied → Game → Option PlayFault
+strict_fault strict item game = strict_fault_by strict item (group_refusal item.changes game.log)
+
+-- the first fault of items, each in the game that those before it left
+abbrev pub first_strict_fault : Bool → List Applied → Game → Option PlayFault
+first_strict_fault strict [] game = None
+first_strict_fault strict (item ∷ items) game =
+    option_or (strict_fault strict item game)
+    (first_strict_fault strict items (game_after_item item game))
+
+-- the first fault of the items of a script, where it spells some
+abbrev pub fault_of_items : Bool → Game → Result (List Applied) ScriptRefusal → Option PlayFault
+fault_of_items strict game (Ok items) = first_strict_fault strict items game
+fault_of_items strict game (Err refusal) = None
