@@ -87,7 +87,7 @@ pub fn take(rules: &Rules<'_>, order: Order, play: &mut Play<'_>) -> Step
         }
         return Step::say(Role::BottleFull, play);
     }
-    if play.state.holding() >= 7 {
+    if play.state.count_carried() >= 7 {
         return Step::say(Role::TooMuch, play);
     }
     take_freely(rules, order, play)
