@@ -19,10 +19,11 @@ use Rattle.cave_world.specs.declared.state.State.{State}
 use Rattle.cave_things.specs.Homes.{home, hold_of}
 use Rattle.cave_things.specs.Places.{place_named, place_or, start_place}
 use Rattle.cave_things.specs.Treasures.{known_treasures}
+use Rattle.cave_numbers.specs.Numbers.{last_object}
 
 -- the objects by their numbers
 unfoldable pub all_objects : List ℕ
-all_objects = range_with_len 1 100
+all_objects = range_with_len 1 last_object
 
 -- a known treasure wasn't seen yet
 abbrev pub start_prop : CaveView → ℕ → ℤ

@@ -2,10 +2,12 @@ ghost use Rattle.std.specs.Prelude.{◌≡◌, ℕ, ◌≤◌, ◌≤ℤ◌, len
 ghost use Rattle.cave_objects.specs.Lists.{halves_at};
 ghost use Rattle.cave_objects.specs.Objects.{with_place, with_anchor, without_places};
 ghost use Rattle.cave_things.specs.Homes.{anchor_by};
-ghost use Rattle.cave_begin.specs.Begin.{is_placed_now, objects_due, starting_objects, dwarf_by_role};
+ghost use Rattle.cave_begin.specs.Begin.{is_placed_now, objects_due, starting_objects};
+ghost use Rattle.cave_begin.specs.Begin.{dwarf_by_role};
 ghost use Rattle.cave_begin.specs.Begin.{starting_dwarves, start_list, begun_state};
 ghost use Rattle.cave_things.specs.Treasures.{known_treasures};
 ghost use Rattle.cave_begin.specs.Placing.{after_placing_all, after_hiding_all};
+ghost use Rattle.cave_numbers.specs.Numbers.{last_place};
 
 use cave_data::Cave;
 use cave_objects::object::OBJECTS;
@@ -15,11 +17,11 @@ use cave_things::homes::anchor_by;
 use cave_things::places::{place_named, place_or, start_place};
 use cave_things::treasures::{FIRST_TREASURE, LAST_TREASURE};
 use cave_words::Stream;
-use cave_world::{Count, Dwarf, State};
+use cave_world::{Count, DWARVES, Dwarf, State};
 
 /// Whether an object is put with those that have two places, or with the others.
 fn is_placed_now(twice: bool, second: i16) -> bool
-    requires { second ≤ℤ pos 300 }
+    requires { second ≤ℤ pos last_place }
     ensures { result ≡ is_placed_now twice (anchor_by second) }
 {
     match anchor_by(second) {
@@ -30,8 +32,8 @@ fn is_placed_now(twice: bool, second: i16) -> bool
 
 /// Puts an object at a place, its second half first.
 fn place_object(object: Object, home: u16, second: i16, objects: &mut Objects)
-    requires first { home ≤ 300 }
-    requires second { second ≤ℤ pos 300 }
+    requires first { home ≤ last_place }
+    requires second { second ≤ℤ pos last_place }
     ensures { objects.new
         ≡ with_place (with_anchor objects.old object (anchor_by second)) object home }
 {
@@ -94,7 +96,7 @@ fn dwarf_by_role(cave: &Cave, role: PlaceRole) -> Dwarf
 }
 
 #[tactic(auto, unfolding(crate::specs::Begin::starting_dwarves))]
-fn place_dwarves(cave: &Cave) -> [Dwarf; 6]
+fn place_dwarves(cave: &Cave) -> [Dwarf; DWARVES]
     ensures { result ≡ starting_dwarves cave.now }
 {
     [

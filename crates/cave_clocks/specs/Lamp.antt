@@ -14,6 +14,7 @@ use Rattle.cave_things.specs.Places.{outside_place}
 use Rattle.cave_scene.specs.Play.{Scene, after_saying, with_state}
 use Rattle.cave_things.specs.Reach.{is_near, has_prop}
 use Rattle.cave_scene.specs.Rules.{thing}
+use Rattle.cave_world.specs.Lamp.{low_charge, max_lamp_turns}
 
 abbrev pub with_charge : ℤ → State → State
 with_charge turns s = let lamp = s.lamp in record s { lamp = record lamp { charge = turns } }
@@ -25,9 +26,9 @@ with_lamp_burnt cave s =
     then with_charge (int_max (s.lamp.charge -ℤ pos 1) (negsuc 0)) s
     else s
 
--- the lamp burns 30 turns more at most
+-- the lamp is low
 abbrev pub is_low : State → Bool
-is_low s = int_le s.lamp.charge (pos 30)
+is_low s = int_le s.lamp.charge (pos low_charge)
 
 -- the lamp is low, and both it and new batteries are at hand
 unfoldable pub can_change_batteries : CaveView → State → Bool
@@ -35,10 +36,10 @@ can_change_batteries cave s = let batteries = thing cave name.Batteries in
     is_low s && is_near cave s batteries && has_prop s batteries (pos 0)
     && is_near cave s (thing cave name.Lamp)
 
--- the lamp burns 2,500 turns more, up to 100,000, and the player isn't warned yet
+-- the lamp burns 2,500 turns more, up to the most, and the player isn't warned yet
 abbrev pub with_new_charge : State → State
 with_new_charge s = let lamp = s.lamp in
-    let charge = int_min (lamp.charge +ℤ pos 2500) (pos 100000) in
+    let charge = int_min (lamp.charge +ℤ pos 2500) (pos max_lamp_turns) in
     record s { lamp = record lamp { charge = charge; is_warned = false } }
 
 -- the batteries are used up, and let go

@@ -1,8 +1,9 @@
 ghost use Rattle.std.specs.Prelude.{◌≡◌};
 ghost use Rattle.cave_scene.specs.Rules.{cave_of};
-ghost use Rattle.cave_scene.specs.Bounds.{HasRoom, SaysUpTo};
+ghost use Rattle.cave_scene.specs.Bounds.{HasRoom, SaysUpTo, parts_of_clocks};
 ghost use Rattle.cave_scene.specs.Play.{scene_of, GoesOn};
-ghost use Rattle.cave_clocks.specs.Clocks.{timing_of, lamp_last, second_clock_and_lamp, timing_of_clocks};
+ghost use Rattle.cave_clocks.specs.Clocks.{timing_of, lamp_last, second_clock_and_lamp};
+ghost use Rattle.cave_clocks.specs.Clocks.{timing_of_clocks};
 
 use crate::first_clock::run_first_clock;
 use crate::lamp::run_lamp;
@@ -24,11 +25,11 @@ pub enum Clocks {
 /// The clocks and the lamp go on by a turn. Returns what follows.
 #[tactic(auto, unfolding(crate::specs::Clocks::timing_of_clocks))]
 pub fn run_clocks(rules: &Rules<'_>, play: &mut Play<'_>) -> Clocks
-    requires { HasRoom 2 play.old }
+    requires { HasRoom parts_of_clocks play.old }
     ensures clocks { timing_of result (scene_of play.new)
         ≡ timing_of_clocks (cave_of rules.now) (scene_of play.old) }
     ensures same { GoesOn play.old play.new }
-    ensures few { SaysUpTo 2 play.old play.new }
+    ensures few { SaysUpTo parts_of_clocks play.old play.new }
 {
     if run_first_clock(rules, play) {
         return finish_with_lamp(rules, play);

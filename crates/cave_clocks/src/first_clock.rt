@@ -6,7 +6,8 @@ ghost use Rattle.cave_clocks.specs.FirstClock.{is_first_clock_going, with_ways_b
 ghost use Rattle.cave_clocks.specs.FirstClock.{dismissed_dwarf, without_dwarves, without_bear};
 ghost use Rattle.cave_clocks.specs.FirstClock.{with_loose, with_chain_and_axe_loose, cleared_cave};
 ghost use Rattle.cave_clocks.specs.FirstClock.{with_closing_begun, start_of_closing};
-ghost use Rattle.cave_clocks.specs.FirstClock.{clock_turn, parts_of_beginning, timing_of_first_clock};
+ghost use Rattle.cave_clocks.specs.FirstClock.{clock_turn, parts_of_beginning};
+ghost use Rattle.cave_clocks.specs.FirstClock.{timing_of_first_clock};
 
 use cave_objects::{Anchor, Object, Objects, Place, Prop};
 use cave_rows::{PlaceRole, Role};

@@ -13,10 +13,7 @@ use cave_rows::Role;
 use cave_scene::{Play, Rules};
 use cave_things::{has_prop, is_near, let_go, outside_place};
 use cave_words::Named;
-use cave_world::{Charge, State};
-
-/// The most turns for which a lamp is low.
-const LOW: i32 = 30;
+use cave_world::{Charge, LOW_CHARGE, State};
 
 const BATTERY_TURNS: i32 = 2500;
 
@@ -34,7 +31,7 @@ fn burn(rules: &Rules<'_>, state: &mut State)
 fn is_low(state: &State) -> bool
     ensures { result ≡ is_low state.now }
 {
-    state.lamp.charge.turns() <= LOW
+    state.lamp.charge.turns() <= LOW_CHARGE
 }
 
 /// Whether the lamp is low, and both it and new batteries are at hand.

@@ -38,15 +38,33 @@ value_of (RoleKey number) bindings = last_of number (filter_map role_value bindi
 value_of (PlaceKey number) bindings = last_of number (filter_map place_value bindings)
 value_of LettersKey bindings = fold latest None (filter_map letters_value bindings)
 
+-- the place where a game begins, where bindings say nothing
+abbrev pub default_start : ℕ
+default_start = 1
+
+-- the place where treasures are to be brought, where bindings say nothing
+abbrev pub default_building : ℕ
+default_building = 3
+
+-- the last place outside the cave, where bindings say nothing
+abbrev pub default_outside : ℕ
+default_outside = 8
+
+-- the first place of the cave's depths, where bindings say nothing
+abbrev pub default_deep : ℕ
+default_deep = 15
+
 -- the places that have a role where bindings say nothing: start, building, outside and deep
 abbrev pub default_place : ℕ → Option ℕ
-default_place n = if n == 0 then Some 1
-    else (if n == 1 then Some 3
-    else (if n == 2 then Some 8 else (if n == 3 then Some 15 else None)))
+default_place n = if n == 0 then Some default_start
+    else (if n == 1 then Some default_building
+    else (if n == 2 then Some default_outside else (if n == 3 then Some default_deep else None)))
 
 abbrev pub or_default : ℕ → ℕ → map.FinMap nat_cmp ℕ → map.FinMap nat_cmp ℕ
 or_default n place m = if is_some (map.get m n) then m else map.insert m n place
 
 -- start, building, outside and deep
 unfoldable pub with_defaults : map.FinMap nat_cmp ℕ → map.FinMap nat_cmp ℕ
-with_defaults m = or_default 0 1 (or_default 1 3 (or_default 2 8 (or_default 3 15 m)))
+with_defaults m =
+    or_default 0 default_start (or_default 1 default_building
+    (or_default 2 default_outside (or_default 3 default_deep m)))

@@ -7,6 +7,7 @@ use Rattle.std.specs.FinMap as map
 use Rattle.cave_rows.specs.declared.rows.Placement.{Placement}
 use Rattle.cave_rows.specs.declared.rows.Hint.{Hint}
 use Rattle.cave_rows.specs.Rows.{Going, WordEntry}
+use Rattle.cave_numbers.specs.Numbers.{last_named, last_prop}
 
 -- a class of players: its greatest score and its text
 pub record ClassEntry : Type 0 where
@@ -112,11 +113,11 @@ cave_code =
 
 -- the inventory text of an object
 abbrev pub inventory_text : CaveView → ℕ → Option (List ℕ)
-inventory_text c object = if nat_le object 99 then map.get c.objects object else None
+inventory_text c object = if nat_le object last_named then map.get c.objects object else None
 
 -- the text of an object as it lies there with that prop
 abbrev pub look_of : CaveView → ℕ → ℕ → Option (List ℕ)
-look_of c object prop = if nat_lt 0 object && nat_le object 99 && nat_le prop 99
+look_of c object prop = if nat_lt 0 object && nat_le object last_named && nat_le prop last_prop
     then map.get c.objects (100 * object + prop) else None
 
 -- the ways out of a place, in the order of the file

@@ -13,6 +13,7 @@ use Rattle.cave_rows.specs.Grammar.{IsValidLine, position_after, entries}
 use Rattle.cave_rows.specs.SectionRows.{way_of, word_entry_of, class_line_of, object_line_of}
 use Rattle.cave_rows.specs.SectionRows.{long_line_of, short_line_of, message_line_of}
 use Rattle.cave_rows.specs.SectionRows.{placement_of_row, default_of_row, marks_of_row, hint_of_row}
+use Rattle.cave_data.specs.Limits.{max_ways, max_words, max_classes}
 
 -- What the rows of a section say of a number.
 
@@ -45,9 +46,9 @@ BeginWithObject (line ∷ lines) = names_object line ≡ true
 
 -- The rows are valid together.
 pub record AreValidTogether (rows : List Entry) : Type 0 where
-  pub ways : length (filter_map way_of rows) ≤ 2000
-  pub words : length (filter_map word_entry_of rows) ≤ 1000
-  pub classes : length (filter_map class_line_of rows) ≤ 50
+  pub ways : length (filter_map way_of rows) ≤ max_ways
+  pub words : length (filter_map word_entry_of rows) ≤ max_words
+  pub classes : length (filter_map class_line_of rows) ≤ max_classes
   pub objects : BeginWithObject (filter_map object_line_of rows)
 
 -- The lines are those of a database: each is valid where it is, the rows are valid together, and

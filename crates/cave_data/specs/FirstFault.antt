@@ -18,6 +18,7 @@ use Rattle.cave_rows.specs.Rows.{Entry, Way, Word, ObjectLine, ClassLine, entry_
 use Rattle.cave_rows.specs.Grammar.{position_after_heading, closes, position_after, entry_at}
 use Rattle.cave_rows.specs.Grammar.{entries}
 use Rattle.cave_rows.specs.SectionRows.{way_of, word_entry_of, class_line_of, object_line_of}
+use Rattle.cave_data.specs.Limits.{max_ways, max_words, max_classes}
 
 abbrev pub shape_here : Position → List ℕ → Option Cause
 shape_here Outside line = if is_some (position_after_heading line) then None else Some BadSection
@@ -33,9 +34,9 @@ at_most limit before = if nat_lt before limit then None else Some TooManyRows
 
 -- what is wrong with a row after these rows: one too many, or a prop of no object
 abbrev pub limit_cause : List Entry → Entry → Option Cause
-limit_cause before (Way place going) = at_most 2000 (length (filter_map way_of before))
-limit_cause before (Word word) = at_most 1000 (length (filter_map word_entry_of before))
-limit_cause before (ClassLine line) = at_most 50 (length (filter_map class_line_of before))
+limit_cause before (Way place going) = at_most max_ways (length (filter_map way_of before))
+limit_cause before (Word word) = at_most max_words (length (filter_map word_entry_of before))
+limit_cause before (ClassLine line) = at_most max_classes (length (filter_map class_line_of before))
 limit_cause before (ObjectLine line) =
     if object_after (object_after_lines (filter_map object_line_of before)) line == 0
     then Some OutOfRange else None

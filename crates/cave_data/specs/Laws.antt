@@ -9,6 +9,7 @@ use Rattle.cave_rows.specs.Rows.{Entry, TextLine}
 use Rattle.cave_data.specs.Texts.{line_text, by_object}
 use Rattle.cave_rows.specs.SectionRows.{way_of, object_line_of, long_line_of, short_line_of}
 use Rattle.cave_rows.specs.SectionRows.{message_line_of}
+use Rattle.cave_numbers.specs.Numbers.{last_named}
 
 abbrev pub has_number : ℕ → TextLine → Bool
 has_number n line = line.number == n
@@ -39,6 +40,6 @@ pub record Laws (rows : List Entry) (c : CaveView) : Type 0 where
       → ways_from c place
       ≡ map (λ row. row.1) (filter (λ row. row.0 == place) (filter_map way_of rows))
   -- an object, and so a treasure, is known exactly where a row of section 5 has its number
-  pub known : (object : ℕ) → 1 ≤ object → object ≤ 99
+  pub known : (object : ℕ) → 1 ≤ object → object ≤ last_named
       → is_some (inventory_text c object)
       ≡ list_any (has_number object) (filter_map object_line_of rows)

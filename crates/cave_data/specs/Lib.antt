@@ -16,4 +16,5 @@ pub mod Reads
 pub mod LowestCause
 pub mod Laws
 pub mod Cave
+pub mod Limits
 pub mod Ranges

@@ -13,6 +13,7 @@ use Rattle.cave_rows.specs.Rows.{◌>>=◌, number_or_cause, list_in, some_of, w
 use Rattle.cave_rows.specs.Rows.{number_or_zero, within, all_within, entry_in}
 use Rattle.cave_rows.specs.Grammar.{position_after}
 use Rattle.cave_data.specs.FirstFault.{line_cause}
+use Rattle.cave_numbers.specs.Numbers.{last_place, last_hint}
 
 -- whether the numbers and words of a row of the section are there
 abbrev pub has_parts : Section → List ℕ → Bool
@@ -36,11 +37,11 @@ has_parts s line = is_ok (number_or_cause line)
 abbrev pub is_in_range : Section → List ℕ → Bool
 is_in_range section.Travel line =
     is_ok (number_or_cause line >>= λ place. number_or_cause place.1 >>= λ target. list_in target.1
-    >>= λ motions. within 1 300 place.0 >>= λ from. within 0 999999 target.0
+    >>= λ motions. within 1 last_place place.0 >>= λ from. within 0 999999 target.0
     >>= λ to. all_within 1 999 motions)
 is_in_range section.Conditions line =
-    is_ok (number_or_cause line >>= λ bit. list_in bit.1 >>= λ places. within 0 20 bit.0
-    >>= λ number. all_within 1 300 places)
+    is_ok (number_or_cause line >>= λ bit. list_in bit.1 >>= λ places. within 0 last_hint bit.0
+    >>= λ number. all_within 1 last_place places)
 is_in_range s line = is_ok (entry_in s line)
 
 -- no cause below this one is there too, where these parts are there, and in their ranges

@@ -12,12 +12,14 @@ use Rattle.cave_data.specs.declared.reader.DatabaseReader.{DatabaseReader}
 use Rattle.cave_data.specs.CaveView.{ClassEntry}
 use Rattle.log_lines.specs.Bytes.{is_all_blank}
 use Rattle.cave_rows.specs.Rows.{◌>>=◌, Entry, TextLine, LongLine, ShortLine, Way, Word, ObjectLine}
-use Rattle.cave_rows.specs.Rows.{MessageLine, PlacementRow, DefaultRow, ConditionRow, ClassLine, HintRow, MagicLine}
+use Rattle.cave_rows.specs.Rows.{MessageLine, PlacementRow, DefaultRow, ConditionRow, ClassLine}
+use Rattle.cave_rows.specs.Rows.{HintRow, MagicLine}
 use Rattle.cave_rows.specs.Rows.{entry_in}
 use Rattle.cave_data.specs.FirstFault.{at_most}
 use Rattle.cave_rows.specs.Grammar.{position_after_heading, closes}
 use Rattle.cave_data.specs.Texts.{line_text, with_key, object_after}
 use Rattle.cave_data.specs.Tables.{TextsSoFar, with_line, with_way, with_bit}
+use Rattle.cave_data.specs.Limits.{max_ways, max_words, max_classes}
 
 abbrev pub class_of_line : TextLine → ClassEntry
 class_of_line line = record { bound = line.number; text = line_text line }
@@ -46,9 +48,9 @@ with_entry t (MagicLine line) = t
 
 -- what is wrong with a row after those that the tables have
 abbrev pub table_limit : Tables → Entry → Option Cause
-table_limit t (Way place going) = at_most 2000 t.ways.count
-table_limit t (Word word) = at_most 1000 (length t.words)
-table_limit t (ClassLine line) = at_most 50 (length t.classes)
+table_limit t (Way place going) = at_most max_ways t.ways.count
+table_limit t (Word word) = at_most max_words (length t.words)
+table_limit t (ClassLine line) = at_most max_classes (length t.classes)
 table_limit t (ObjectLine line) = if object_after t.object line == 0 then Some OutOfRange else None
 table_limit t entry = None
 

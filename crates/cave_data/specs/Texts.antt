@@ -4,6 +4,7 @@ use Rattle.std.specs.Prelude.{List, [], ◌∷◌, ◌++◌, reverse, fold, Opti
 use Rattle.std.specs.List.{flat_map}
 use Rattle.cave_rows.specs.Rows.{TextLine}
 use Rattle.cave_data.specs.Printing.{printed_text}
+use Rattle.cave_numbers.specs.Numbers.{last_named}
 
 -- a line with the line feed that ends it
 abbrev pub line_text : TextLine → List ℕ
@@ -33,12 +34,12 @@ unfoldable pub text_of_number : ℕ → List TextLine → Option (List ℕ)
 text_of_number n lines =
     option_map (λ run. printed_text (run_text run)) (nonempty (first_lines_of n (reverse lines)))
 
--- Lines of section 5. A number from 1 to 99 is an object, another one a hundred times a prop of the
--- object before.
+-- Lines of section 5. A number up to the last named object is an object, another one a hundred
+-- times a prop of the object before.
 
 -- whether the line is of an object's inventory text, and not of a prop
 abbrev pub names_object : TextLine → Bool
-names_object line = nat_lt 0 line.number && nat_le line.number 99
+names_object line = nat_lt 0 line.number && nat_le line.number last_named
 
 -- the object whose texts come after a line
 abbrev pub object_after : ℕ → TextLine → ℕ

@@ -9,7 +9,8 @@ ghost use Rattle.cave_data.specs.CaveView.{rating_of_score};
 ghost use Rattle.cave_data.specs.Bindings.{default_place};
 ghost use Rattle.cave_data.specs.Faults.{FaultIs, no_memory};
 ghost use Rattle.cave_data.specs.Cave.{Finished};
-ghost use Rattle.cave_data.specs.Ranges.{IsLetters, IsMessage, IsPlace, IsPlacementInRange, HasOnly};
+ghost use Rattle.cave_data.specs.Ranges.{IsLetters, IsMessage, IsPlace, IsPlacementInRange};
+ghost use Rattle.cave_data.specs.Ranges.{HasOnly};
 ghost use Rattle.cave_data.specs.Ranges.{AreInRange};
 ghost use Rattle.cave_rows.specs.Grammar.{entries};
 ghost use Rattle.cave_data.specs.Laws.{Laws};
@@ -24,20 +25,29 @@ ghost use Rattle.cave_rows.specs.PlaceRole.{place_number};
 use crate::bindings::{Bindings, read_bindings};
 use crate::classes::{Classes, Rating};
 use crate::database::read_database;
-use crate::reader::{LAST_NAMED, Tables};
-use crate::slots::Slots;
+use crate::reader::Tables;
 use crate::tables::Table;
 use crate::texts::Texts;
 use crate::ways::Ways;
 use crate::words::WordTable;
+use cave_numbers::{LAST_NAMED, LAST_PROP};
 use cave_rows::rows::Placement;
 use cave_rows::{Cause, CaveError, FaultSite, Hint, PlaceRole, Role, Row};
 use limits::is_large_input;
 use std::alloc::Global;
 use std::marker::Model;
 
-/// The last prop that may have a text.
-const LAST_PROP: u16 = 99;
+/// The place where a game begins, where bindings say nothing.
+pub const DEFAULT_START: u16 = 1;
+
+/// The place where treasures are to be brought, where bindings say nothing.
+pub const DEFAULT_BUILDING: u16 = 3;
+
+/// The last place outside the cave, where bindings say nothing.
+pub const DEFAULT_OUTSIDE: u16 = 8;
+
+/// The first place of the cave's depths, where bindings say nothing.
+pub const DEFAULT_DEEP: u16 = 15;
 
 /// A cave that was read from a database and its bindings.
 #[derive(Drop)]
@@ -64,10 +74,10 @@ fn default_place(place: PlaceRole) -> Option<u16>
     ensures within { IfSome result IsPlace }
 {
     match place {
-        PlaceRole::Start => Some(1),
-        PlaceRole::Building => Some(3),
-        PlaceRole::Outside => Some(8),
-        PlaceRole::Deep => Some(15),
+        PlaceRole::Start => Some(DEFAULT_START),
+        PlaceRole::Building => Some(DEFAULT_BUILDING),
+        PlaceRole::Outside => Some(DEFAULT_OUTSIDE),
+        PlaceRole::Deep => Some(DEFAULT_DEEP),
         _ => None,
     }
 }
@@ -77,7 +87,8 @@ impl Model for Cave {
     ghost use Rattle.cave_data.specs.CaveView.{CaveView, cave_code};
     ghost use Rattle.cave_data.specs.Printing.{printed_texts, printed_class};
     ghost use Rattle.cave_data.specs.Bindings.{with_defaults};
-    ghost use Rattle.cave_data.specs.Ranges.{IsLetters, IsMessage, IsPlace, IsPlacementInRange, HasOnly};
+    ghost use Rattle.cave_data.specs.Ranges.{IsLetters, IsMessage, IsPlace, HasOnly};
+    ghost use Rattle.cave_data.specs.Ranges.{IsPlacementInRange};
 
     ghost Value = { CaveView };
 
@@ -127,7 +138,7 @@ fn letters_of(bound: Option<u16>) -> u8
 /// The cave of tables and bindings.
 fn finish(tables: Tables, bindings: Bindings) -> Cave
     requires bindings { AreInRange bindings }
-    requires standing { HasOnly IsPlacementInRange tables.placements }
+    requires placements { HasOnly IsPlacementInRange tables.placements }
     ensures { Finished tables bindings result }
 {
     Cave {

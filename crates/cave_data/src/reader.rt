@@ -2,13 +2,16 @@
 ghost use Rattle.std.specs.Prelude.{◌≡◌, ◌&&◌, nat_lt, nat_le};
 ghost use Rattle.cave_rows.specs.Answers.{Answers, Leaves};
 ghost use Rattle.cave_data.specs.Steps.{row_step, advance, no_tables};
+ghost use Rattle.cave_numbers.specs.Numbers.{last_named};
 
 use crate::classes::{Classes, MAX_CLASSES};
 use crate::tables::{Table, mark};
 use crate::texts::Texts;
 use crate::ways::Ways;
 use crate::words::{MAX_WORDS, WordTable};
-use cave_numbers::{LAST_HINT, LAST_MESSAGE, LAST_OBJECT, LAST_PLACE};
+use cave_numbers::{
+    LAST_ACTION, LAST_HINT, LAST_MESSAGE, LAST_NAMED, LAST_OBJECT, LAST_PLACE, LAST_PROP,
+};
 use cave_rows::field_rows::{
     condition_row, default_row, hint_row, object_line, placement_row, text_line, way_row, word_row,
 };
@@ -18,15 +21,11 @@ use cave_rows::{Cause, Hint, Position, Section};
 use log_lines::bytes::is_all_blank;
 use std::alloc::Global;
 
+/// The most ways out of places.
 const MAX_WAYS: usize = 2000;
 
 /// The last number that a text of an object may have: a hundred times the object, and a prop.
-const LAST_OBJECT_TEXT: u16 = 100 * LAST_NAMED + 99;
-
-const LAST_ACTION: u16 = 99;
-
-/// The last object that may have texts.
-pub const LAST_NAMED: u16 = 99;
+const LAST_OBJECT_TEXT: u16 = 100 * LAST_NAMED + LAST_PROP;
 
 /// The tables of the rows so far, and the object whose texts come, or 0.
 #[derive(Drop)]
@@ -54,7 +53,7 @@ pub struct DatabaseReader {
 
 /// Whether a line of this number is of an object's inventory text.
 fn names_object(number: u16) -> bool
-    ensures { result ≡ (nat_lt 0 number && nat_le number 99) }
+    ensures { result ≡ (nat_lt 0 number && nat_le number last_named) }
 {
     0 < number && number <= LAST_NAMED
 }

@@ -1,5 +1,5 @@
 //! A table with a slot for each number, in which looking up takes one step.
-ghost use Rattle.std.specs.Prelude.{◌≡◌, ◌<◌, [], None, Some, option_map, OnOk, OnErr, vec_len};
+ghost use Rattle.std.specs.Prelude.{◌≡◌, ◌<◌, [], Some, option_map, OnOk, OnErr, vec_len};
 ghost use Rattle.cave_data.specs.Slots.{slot, SameSlots, ChangesSlot};
 
 use std::alloc::{AllocError, Global};
@@ -12,16 +12,6 @@ pub struct Slots<T> {
 }
 
 impl<T: Drop> Slots<T> {
-    /// A table with nothing in it.
-    pub fn new(alloc: Global) -> Self
-        ensures { result.items.items ≡ [] }
-    {
-        Self {
-            items: Vec::new(alloc),
-            room: 0,
-        }
-    }
-
     /// A table with nothing in it, which takes room for the numbers up to the last at once.
     pub fn with_room(alloc: Global, last: u16) -> Self
         ensures { result.items.items ≡ [] }
@@ -36,10 +26,7 @@ impl<T: Drop> Slots<T> {
     pub fn get(&self, number: u16) -> Option<&T>
         ensures { option_map (λ x. x.now) result ≡ slot self.now.items.items number }
     {
-        match self.items.get(number as usize) {
-            Some(slot) => slot.as_ref(),
-            None => None,
-        }
+        self.items.get(number as usize)?.as_ref()
     }
 
     /// Makes a slot for the number.
@@ -54,17 +41,6 @@ impl<T: Drop> Slots<T> {
             self.items.push(None)?;
         }
         Ok(())
-    }
-
-    /// Takes out the value at the number.
-    pub fn take(&mut self, number: u16) -> Option<T>
-        ensures value { result ≡ slot self.old.items.items number }
-        ensures change { ChangesSlot self.old.items.items self.new.items.items number None }
-    {
-        if number as usize >= self.items.len() {
-            return None;
-        }
-        self.items[number as usize].take()
     }
 
     /// Replaces the value at the number.

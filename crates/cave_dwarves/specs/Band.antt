@@ -6,9 +6,6 @@ use Rattle.cave_world.specs.declared.dwarves.Dwarf.{Dwarf}
 use Rattle.cave_world.specs.declared.dwarves.Dwarves.{Dwarves}
 use Rattle.cave_world.specs.declared.state.State.{State}
 
-abbrev pub pirate : ℕ
-pirate = 5
-
 unfoldable pub dwarf_of : State → ℕ → Dwarf
 dwarf_of s number = slice_index_or s.dwarves.each number no_dwarf
 

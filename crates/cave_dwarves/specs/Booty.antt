@@ -15,7 +15,8 @@ use Rattle.cave_scene.specs.Rules.{is_called}
 use Rattle.cave_things.specs.Reach.{is_in_hand, is_near, is_fixed}
 use Rattle.cave_scene.specs.Rules.{thing}
 use Rattle.cave_things.specs.Treasures.{treasures}
-use Rattle.cave_dwarves.specs.Band.{pirate, dwarf_of, with_dwarf}
+use Rattle.cave_dwarves.specs.Band.{dwarf_of, with_dwarf}
+use Rattle.cave_world.specs.Dwarves.{pirate}
 
 -- an object is moved to the place that is named, if one is
 unfoldable pub after_move_to_named : ℕ → Option ℕ → State → State

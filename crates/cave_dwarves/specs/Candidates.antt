@@ -6,10 +6,11 @@ use Rattle.std.specs.List.{filter_map}
 use Rattle.cave_rows.specs.Rows.{Going}
 use Rattle.cave_data.specs.CaveView.{CaveView, ways_from}
 use Rattle.cave_world.specs.Sight.{is_forced}
-use Rattle.cave_world.specs.Travel.{row_condition, row_number, LAST_PLACE, NOT_FOR_DWARVES}
+use Rattle.cave_world.specs.Travel.{row_condition, row_number, NOT_FOR_DWARVES}
 use Rattle.cave_world.specs.declared.dwarves.Dwarf.{Dwarf}
-use Rattle.cave_things.specs.Conditions.{meets_condition}
+use Rattle.cave_things.specs.Conditions.{has_condition_of}
 use Rattle.cave_things.specs.declared.conditions.Condition.TheVariants as condition
+use Rattle.cave_numbers.specs.Numbers.{last_place}
 
 -- the first of the places where dwarves go
 abbrev pub FIRST_HAUNT : ℕ
@@ -19,8 +20,8 @@ FIRST_HAUNT = 15
 -- pirate doesn't come
 unfoldable pub is_haunt : CaveView → Bool → ℕ → Bool
 is_haunt cave is_pirate place =
-    nat_le FIRST_HAUNT place && nat_le place LAST_PLACE && not (is_forced cave place)
-    && not (is_pirate && meets_condition cave place condition.NoPirate)
+    nat_le FIRST_HAUNT place && nat_le place last_place && not (is_forced cave place)
+    && not (is_pirate && has_condition_of cave place condition.NoPirate)
 
 -- a row leads a dwarf on if its condition doesn't close it to dwarves
 -- and it leads to a place where the dwarf goes and neither is nor was before

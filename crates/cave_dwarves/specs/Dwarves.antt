@@ -6,6 +6,7 @@ use Rattle.cave_dwarves.specs.Knives.{raid_of}
 use Rattle.cave_dwarves.specs.Lines.{after_attack}
 use Rattle.cave_dwarves.specs.Pirate.{after_pirate}
 use Rattle.cave_dwarves.specs.Waking.{after_stirring, waking_scene}
+use Rattle.cave_world.specs.Dwarves.{pirate}
 
 -- whether a knife hit the player, and the scene after that
 pub record Encounter : Type 0 where
@@ -16,10 +17,10 @@ pub record Encounter : Type 0 where
 abbrev pub without_hit : Scene → Encounter
 without_hit p = record { is_hit = false; scene = p }
 
--- five dwarves act and then the pirate; then the lines of the dwarves are printed
+-- the dwarves before the pirate act, and then the pirate; then the lines of the dwarves are printed
 unfoldable pub encounter_of : CaveView → Scene → Encounter
 encounter_of cave p =
-    let raid = raid_of cave 5 p.state in
+    let raid = raid_of cave pirate p.state in
     let q = after_pirate cave (with_state raid.state p) in
     record { is_hit = not (raid.attack.hits == 0); scene = after_attack raid.attack q }
 

@@ -6,8 +6,9 @@ use Rattle.cave_words.specs.Stream.{number_drawn}
 use Rattle.cave_world.specs.declared.dwarves.Dwarf.{Dwarf}
 use Rattle.cave_world.specs.declared.state.State.{State}
 use Rattle.cave_things.specs.Places.{deep_place}
-use Rattle.cave_dwarves.specs.Band.{pirate, dwarf_of, with_dwarf, state_after_draw}
+use Rattle.cave_dwarves.specs.Band.{dwarf_of, with_dwarf, state_after_draw}
 use Rattle.cave_dwarves.specs.Candidates.{ways_of_dwarf}
+use Rattle.cave_world.specs.Dwarves.{pirate}
 
 -- one of the ways is drawn, also where there is but one
 unfoldable pub chosen_way : CaveView → Bool → Dwarf → ℕ → ℕ

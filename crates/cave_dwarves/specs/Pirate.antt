@@ -11,10 +11,11 @@ use Rattle.cave_things.specs.Places.{place_named}
 use Rattle.cave_scene.specs.Play.{Scene, with_state, after_saying, after_draw, happens}
 use Rattle.cave_things.specs.Reach.{is_near, has_prop}
 use Rattle.cave_scene.specs.Rules.{thing}
-use Rattle.cave_dwarves.specs.Band.{pirate, dwarf_of}
+use Rattle.cave_dwarves.specs.Band.{dwarf_of}
 use Rattle.cave_dwarves.specs.Moving.{after_dwarf_move}
 use Rattle.cave_dwarves.specs.Booty.{carries_booty, is_treasure_near, after_robbery}
 use Rattle.cave_dwarves.specs.Booty.{with_hidden_chest}
+use Rattle.cave_world.specs.Dwarves.{pirate}
 
 unfoldable pub is_chest_seen : CaveView → State → Bool
 is_chest_seen cave s =
@@ -27,7 +28,7 @@ is_after_player cave s =
     (dwarf_of s pirate).has_seen && not (is_place s.trail.here (place_named cave landmark.Chest))
     && not (is_chest_seen cave s)
 
--- no treasure is at hand, only the chest is left to be found and is nowhere yet,
+-- no treasure is at hand, one more counts as unseen than count as lost, the chest is nowhere yet,
 -- and the lamp burns at hand
 unfoldable pub hides_chest : CaveView → State → Bool
 hides_chest cave s =

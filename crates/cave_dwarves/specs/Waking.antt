@@ -12,6 +12,7 @@ use Rattle.cave_things.specs.Places.{place_named, place_or, deep_place}
 use Rattle.cave_scene.specs.Play.{Scene, with_state, here_of, after_saying, after_draw, happens}
 use Rattle.cave_scene.specs.Rules.{thing}
 use Rattle.cave_dwarves.specs.Band.{dwarf_of, with_dwarf, with_dwarves, state_after_draw}
+use Rattle.cave_world.specs.Dwarves.{pirate}
 
 -- another anger of the dwarves
 abbrev pub with_anger : ℕ → State → State
@@ -26,10 +27,10 @@ unfoldable pub without_dwarf : ℕ → State → State
 without_dwarf number s =
     let dwarf = dwarf_of s number in with_dwarf number (record dwarf { place = 0 }) s
 
--- one of the five is drawn, and in half of the cases it is gone
+-- one of those before the pirate is drawn, and in half of the cases it is gone
 unfoldable pub perhaps_without_one : State → State
 perhaps_without_one s =
-    let one = number_drawn 5 s.stream in let t = state_after_draw s in
+    let one = number_drawn pirate s.stream in let t = state_after_draw s in
     if is_within_percent 50 t.stream then without_dwarf one (state_after_draw t)
     else state_after_draw t
 
@@ -53,7 +54,7 @@ with_dwarves_apart cave (suc number) s =
 -- the dwarves are awake, and two of them may be gone
 unfoldable pub after_waking : CaveView → State → State
 after_waking cave s =
-    with_dwarves_apart cave 5 (perhaps_without_one (perhaps_without_one (with_anger 2 s)))
+    with_dwarves_apart cave pirate (perhaps_without_one (perhaps_without_one (with_anger 2 s)))
 
 -- a dwarf throws its axe, which stays at the player's place
 unfoldable pub axe_scene : CaveView → Scene → Scene

@@ -2,16 +2,14 @@
 
 ghost use Rattle.std.specs.Prelude.{◌≡◌, ◌<◌};
 ghost use Rattle.cave_dwarves.specs.Band.{dwarf_of, with_dwarf};
+ghost use Rattle.cave_world.specs.Dwarves.{dwarf_count};
 
 use cave_world::{Dwarf, State};
-
-/// The number of the pirate.
-pub const PIRATE: usize = 5;
 
 /// The dwarf of a number.
 #[tactic(auto, unfolding(crate::specs::Band::dwarf_of))]
 pub fn dwarf_of(state: &State, number: usize) -> Dwarf
-    requires { number < 6 }
+    requires { number < dwarf_count }
     ensures { result ≡ dwarf_of state.now number }
 {
     state.dwarves.each[number]
@@ -20,7 +18,7 @@ pub fn dwarf_of(state: &State, number: usize) -> Dwarf
 /// Changes the dwarf of a number.
 #[tactic(auto, unfolding(crate::specs::Band::with_dwarf))]
 pub fn set_dwarf(number: usize, dwarf: Dwarf, state: &mut State)
-    requires { number < 6 }
+    requires { number < dwarf_count }
     ensures { state.new ≡ with_dwarf number dwarf state.old }
 {
     state.dwarves.each[number] = dwarf;

@@ -2,21 +2,22 @@
 
 ghost use Rattle.std.specs.Prelude.{◌≡◌};
 ghost use Rattle.cave_scene.specs.Rules.{cave_of};
-ghost use Rattle.cave_dwarves.specs.Booty.{after_move_to_named, pirate_wants, is_carried_booty, is_booty};
+ghost use Rattle.cave_dwarves.specs.Booty.{after_move_to_named, pirate_wants, is_carried_booty};
+ghost use Rattle.cave_dwarves.specs.Booty.{is_booty};
 ghost use Rattle.cave_dwarves.specs.Booty.{after_theft, after_thefts, carries_booty};
 ghost use Rattle.cave_dwarves.specs.Booty.{is_treasure_near};
 ghost use Rattle.cave_dwarves.specs.Booty.{with_chest, with_chest_at_first, with_message};
 ghost use Rattle.cave_dwarves.specs.Booty.{with_pirate_home, after_robbery, with_hidden_chest};
 ghost use Rattle.cave_things.specs.Treasures.{treasures};
 
-use crate::band::{PIRATE, dwarf_of, set_dwarf};
+use crate::band::{dwarf_of, set_dwarf};
 use cave_objects::{Object, Place};
 use cave_rows::PlaceRole;
 use cave_scene::Rules;
 use cave_things::treasures::{FIRST_TREASURE, LAST_TREASURE};
 use cave_things::{is_fixed, is_home_here, is_in_hand, is_near, place_named, place_or};
 use cave_words::Named;
-use cave_world::{Dwarf, State};
+use cave_world::{Dwarf, PIRATE, State};
 
 /// An object is moved to the place that is named, if one is.
 #[tactic(auto, unfolding(crate::specs::Booty::after_move_to_named))]

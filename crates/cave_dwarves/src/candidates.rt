@@ -1,4 +1,3 @@
-ghost use Rattle.cave_objects.specs.Spots.{is_place};
 ghost use Rattle.std.specs.Prelude.{◌≡◌};
 ghost use Rattle.cave_rows.specs.RowViews.{going};
 ghost use Rattle.cave_scene.specs.Rules.{cave_of};
@@ -10,7 +9,7 @@ use cave_numbers::LAST_PLACE;
 use cave_objects::Place;
 use cave_rows::Row;
 use cave_scene::Rules;
-use cave_things::{Condition, has_condition_of};
+use cave_things::{Condition, has_condition_of, is_place};
 use cave_world::travel::NOT_FOR_DWARVES;
 use cave_world::{Dwarf, is_forced};
 
@@ -45,16 +44,6 @@ fn place_ahead(rules: &Rules<'_>, is_pirate: bool, dwarf: &Dwarf, row: &Row) -> 
     Some(place)
 }
 
-/// Whether a place is the last one that was kept.
-fn is_last_kept(place: Place, last: &Option<Place>) -> bool
-    ensures { result ≡ is_place place last.now }
-{
-    match last {
-        Some(kept) => *kept == place,
-        None => false,
-    }
-}
-
 /// The places to which the rows of a dwarf's place lead it, in the order of the rows.
 #[tactic(auto, unfolding(crate::specs::Candidates::candidates))]
 pub fn candidates(
@@ -73,7 +62,7 @@ pub fn candidates(
         let Some(place) = place_ahead(rules, is_pirate, dwarf, row) else {
             continue;
         };
-        if is_last_kept(place, &last) {
+        if is_place(place, last) {
             continue;
         }
         found.push(Haunt::at(place));

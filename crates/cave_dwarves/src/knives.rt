@@ -3,12 +3,13 @@ ghost use Rattle.cave_scene.specs.Rules.{cave_of};
 ghost use Rattle.cave_dwarves.specs.Knives.{fallen_knife, with_knife_here, throw_act};
 ghost use Rattle.cave_dwarves.specs.Knives.{threatening_act, act_of_dwarf, with_threat, no_attack};
 ghost use Rattle.cave_dwarves.specs.Knives.{raid_of};
+ghost use Rattle.cave_world.specs.Dwarves.{pirate, dwarf_count};
 
 use crate::band::dwarf_of;
 use crate::moving::move_on;
 use cave_objects::Place;
 use cave_scene::Rules;
-use cave_world::{Knife, State};
+use cave_world::{Knife, PIRATE, State};
 
 /// What a dwarf does to the player.
 #[derive(Clone, Copy, Debug, PartialEq, Eq)]
@@ -48,9 +49,9 @@ impl Attack {
 
     /// What a dwarf does is added.
     pub fn with(self, threat: Threat) -> Attack
-        requires dwarves { self.dwarves < 5 }
-        requires knives { self.knives < 5 }
-        requires hits { self.hits < 5 }
+        requires dwarves { self.dwarves < pirate }
+        requires knives { self.knives < pirate }
+        requires hits { self.hits < pirate }
         ensures value { result ≡ with_threat threat self }
         ensures dwarf { result.dwarves ≤ self.dwarves + 1 }
         ensures knife { result.knives ≤ self.knives + 1 }
@@ -102,7 +103,7 @@ fn throw_knife(state: &mut State) -> Threat
 /// A dwarf that sees the player is here, and throws a knife if it was here before.
 #[tactic(auto, unfolding(crate::specs::Knives::threatening_act))]
 fn threaten(number: usize, state: &mut State) -> Threat
-    requires { number < 6 }
+    requires { number < dwarf_count }
     ensures { record { threat = result; state = state.new } ≡ threatening_act number state.old }
 {
     let dwarf = dwarf_of(state, number);
@@ -118,7 +119,7 @@ fn threaten(number: usize, state: &mut State) -> Threat
 /// A dwarf moves and then threatens the player. One that is gone does nothing.
 #[tactic(auto, unfolding(crate::specs::Knives::act_of_dwarf))]
 fn move_and_threaten(rules: &Rules<'_>, number: usize, state: &mut State) -> Threat
-    requires { number < 6 }
+    requires { number < dwarf_count }
     ensures { record { threat = result; state = state.new }
         ≡ act_of_dwarf (cave_of rules.now) number state.old }
 {
@@ -129,16 +130,16 @@ fn move_and_threaten(rules: &Rules<'_>, number: usize, state: &mut State) -> Thr
     threaten(number, state)
 }
 
-/// The five dwarves act, one after another.
+/// The dwarves before the pirate act, one after another.
 pub fn raid(rules: &Rules<'_>, state: &mut State) -> Attack
     ensures raid { record { attack = result; state = state.new }
-        ≡ raid_of (cave_of rules.now) 5 state.old }
-    ensures dwarves { result.dwarves ≤ 5 }
-    ensures knives { result.knives ≤ 5 }
-    ensures hits { result.hits ≤ 5 }
+        ≡ raid_of (cave_of rules.now) pirate state.old }
+    ensures dwarves { result.dwarves ≤ pirate }
+    ensures knives { result.knives ≤ pirate }
+    ensures hits { result.hits ≤ pirate }
 {
     let mut attack = Attack::none();
-    for number in 0..5 {
+    for number in 0..PIRATE {
         attack = attack.with(move_and_threaten(rules, number, state));
     }
     attack

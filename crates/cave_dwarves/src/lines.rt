@@ -1,7 +1,8 @@
 ghost use Rattle.std.specs.Prelude.{◌≡◌};
-ghost use Rattle.cave_scene.specs.Bounds.{HasRoom, SaysUpTo};
+ghost use Rattle.cave_scene.specs.Bounds.{HasRoom, SaysUpTo, parts_of_attack, parts_of_throws};
 ghost use Rattle.cave_scene.specs.Play.{scene_of, GoesOn};
-ghost use Rattle.cave_dwarves.specs.Lines.{telling_number, after_dwarf_count, after_one_knife, after_some_knives};
+ghost use Rattle.cave_dwarves.specs.Lines.{telling_number, after_dwarf_count, after_one_knife};
+ghost use Rattle.cave_dwarves.specs.Lines.{after_some_knives};
 ghost use Rattle.cave_dwarves.specs.Lines.{after_first_knives, after_throws, after_attack};
 
 use crate::knives::Attack;
@@ -38,10 +39,10 @@ fn tell_dwarves(dwarves: u32, play: &mut Play<'_>)
 /// The line of one knife is printed, and whether it hit.
 #[tactic(auto, unfolding(crate::specs::Lines::after_one_knife))]
 fn tell_knife(hits: u32, play: &mut Play<'_>)
-    requires { HasRoom 2 play.old }
+    requires { HasRoom parts_of_throws play.old }
     ensures play { scene_of play.new ≡ after_one_knife hits (scene_of play.old) }
     ensures same { GoesOn play.old play.new }
-    ensures few { SaysUpTo 2 play.old play.new }
+    ensures few { SaysUpTo parts_of_throws play.old play.new }
 {
     play.say(Role::KnifeOne);
     if hits == 0 {
@@ -54,10 +55,10 @@ fn tell_knife(hits: u32, play: &mut Play<'_>)
 /// The line of several knives is printed, and how many hit.
 #[tactic(auto, unfolding(crate::specs::Lines::after_some_knives))]
 fn tell_knives(knives: u32, hits: u32, play: &mut Play<'_>)
-    requires { HasRoom 2 play.old }
+    requires { HasRoom parts_of_throws play.old }
     ensures play { scene_of play.new ≡ after_some_knives knives hits (scene_of play.old) }
     ensures same { GoesOn play.old play.new }
-    ensures few { SaysUpTo 2 play.old play.new }
+    ensures few { SaysUpTo parts_of_throws play.old play.new }
 {
     tell_number(NumberLine::KnivesThrown, knives, play);
     match hits {
@@ -80,10 +81,10 @@ fn enrage(state: &mut State)
 /// The lines of the knives are printed, if any were thrown.
 #[tactic(auto, unfolding(crate::specs::Lines::after_throws))]
 fn tell_throws(attack: Attack, play: &mut Play<'_>)
-    requires { HasRoom 2 play.old }
+    requires { HasRoom parts_of_throws play.old }
     ensures play { scene_of play.new ≡ after_throws attack (scene_of play.old) }
     ensures same { GoesOn play.old play.new }
-    ensures few { SaysUpTo 2 play.old play.new }
+    ensures few { SaysUpTo parts_of_throws play.old play.new }
 {
     if attack.knives == 0 {
         return;
@@ -99,10 +100,10 @@ fn tell_throws(attack: Attack, play: &mut Play<'_>)
 /// The line of the dwarves is printed, and then those of their knives.
 #[tactic(auto, unfolding(crate::specs::Lines::after_attack))]
 pub fn tell_attack(attack: Attack, play: &mut Play<'_>)
-    requires { HasRoom 3 play.old }
+    requires { HasRoom parts_of_attack play.old }
     ensures play { scene_of play.new ≡ after_attack attack (scene_of play.old) }
     ensures same { GoesOn play.old play.new }
-    ensures few { SaysUpTo 3 play.old play.new }
+    ensures few { SaysUpTo parts_of_attack play.old play.new }
 {
     tell_dwarves(attack.dwarves, play);
     tell_throws(attack, play);

@@ -2,14 +2,15 @@ ghost use Rattle.std.specs.Prelude.{◌≡◌, ◌<◌, ◌==◌};
 ghost use Rattle.cave_words.specs.Stream.{next};
 ghost use Rattle.cave_scene.specs.Rules.{cave_of};
 ghost use Rattle.cave_dwarves.specs.Moving.{chosen_way, sees, dwarf_after_move, after_dwarf_move};
+ghost use Rattle.cave_world.specs.Dwarves.{dwarf_count};
 
-use crate::band::{PIRATE, dwarf_of, set_dwarf};
+use crate::band::{dwarf_of, set_dwarf};
 use crate::candidates::candidates;
 use cave_objects::Place;
 use cave_scene::Rules;
 use cave_things::deep_place;
 use cave_words::Stream;
-use cave_world::{Dwarf, State};
+use cave_world::{Dwarf, PIRATE, State};
 
 /// Draws one of the ways of a dwarf, also where there is but one.
 #[tactic(auto, unfolding(crate::specs::Moving::chosen_way, crate::specs::Candidates::ways_of_dwarf))]
@@ -50,7 +51,7 @@ fn go_on(rules: &Rules<'_>, here: Place, dwarf: &Dwarf, place: Place) -> Dwarf
 /// The dwarf of a number moves.
 #[tactic(auto, unfolding(crate::specs::Moving::after_dwarf_move))]
 pub fn move_on(rules: &Rules<'_>, number: usize, state: &mut State)
-    requires { number < 6 }
+    requires { number < dwarf_count }
     ensures { state.new ≡ after_dwarf_move (cave_of rules.now) number state.old }
 {
     let dwarf = dwarf_of(state, number);

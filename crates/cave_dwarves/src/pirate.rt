@@ -7,14 +7,14 @@ ghost use Rattle.cave_dwarves.specs.Pirate.{is_pirate_new, rustling_scene, pirat
 ghost use Rattle.cave_dwarves.specs.Pirate.{after_pirate_meeting};
 ghost use Rattle.cave_dwarves.specs.Pirate.{after_pirate};
 
-use crate::band::{PIRATE, dwarf_of};
+use crate::band::dwarf_of;
 use crate::booty::{carries_booty, hide_chest, is_treasure_near, rob};
 use crate::moving::move_on;
 use cave_rows::{PlaceRole, Role};
 use cave_scene::{Play, Rules};
 use cave_things::{has_prop, is_near, is_place, place_named};
 use cave_words::Named;
-use cave_world::State;
+use cave_world::{PIRATE, State};
 
 #[tactic(auto, unfolding(crate::specs::Pirate::is_chest_seen))]
 fn is_chest_seen(rules: &Rules<'_>, state: &State) -> bool
@@ -34,7 +34,8 @@ fn is_after_player(rules: &Rules<'_>, state: &State) -> bool
         && !is_chest_seen(rules, state)
 }
 
-/// Whether the pirate hides its chest: nothing else is left to be found, and the player has light.
+/// Whether the pirate hides its chest, which is nowhere yet: no treasure is at hand, one more
+/// counts as unseen than count as lost, and the player has light.
 #[tactic(auto, unfolding(crate::specs::Pirate::hides_chest))]
 fn hides_chest(rules: &Rules<'_>, state: &State) -> bool
     ensures { result ≡ hides_chest (cave_of rules.now) state.now }

@@ -4,7 +4,9 @@ ghost use Rattle.cave_scene.specs.Play.{scene_of, GoesOn};
 ghost use Rattle.cave_scene.specs.Rules.{cave_of};
 ghost use Rattle.cave_dwarves.specs.Waking.{with_anger, after_stirring, without_dwarf};
 ghost use Rattle.cave_dwarves.specs.Waking.{perhaps_without_one, place_apart, dwarf_apart};
-ghost use Rattle.cave_dwarves.specs.Waking.{with_dwarves_apart, after_waking, axe_scene, waking_scene};
+ghost use Rattle.cave_dwarves.specs.Waking.{with_dwarves_apart, after_waking, axe_scene};
+ghost use Rattle.cave_dwarves.specs.Waking.{waking_scene};
+ghost use Rattle.cave_world.specs.Dwarves.{pirate};
 
 use crate::band::{dwarf_of, set_dwarf};
 use cave_objects::Place;
@@ -12,7 +14,7 @@ use cave_rows::{PlaceRole, Role};
 use cave_scene::{Play, Rules};
 use cave_things::{deep_place, place_named, place_or};
 use cave_words::Named;
-use cave_world::{Count, Dwarf, State};
+use cave_world::{Count, Dwarf, PIRATE, State};
 
 /// The dwarves are so angry from now on.
 pub fn set_anger(degree: u16, state: &mut State)
@@ -35,7 +37,7 @@ pub fn stir(rules: &Rules<'_>, state: &mut State)
 /// A dwarf goes nowhere.
 #[tactic(auto, unfolding(crate::specs::Waking::without_dwarf))]
 fn remove_dwarf(number: usize, state: &mut State)
-    requires { number < 5 }
+    requires { number < pirate }
     ensures { state.new ≡ without_dwarf number state.old }
 {
     let dwarf = dwarf_of(state, number);
@@ -47,12 +49,12 @@ fn remove_dwarf(number: usize, state: &mut State)
     set_dwarf(number, gone, state);
 }
 
-/// One of the five is drawn, and in half of the cases it is gone.
+/// One of those before the pirate is drawn, and in half of the cases it is gone.
 #[tactic(auto, unfolding(crate::specs::Waking::perhaps_without_one))]
 fn perhaps_remove_one(state: &mut State)
     ensures { state.new ≡ perhaps_without_one state.old }
 {
-    let number = state.stream.draw(5);
+    let number = state.stream.draw(PIRATE as u32);
     if state.stream.is_within_percent(50) {
         remove_dwarf(number as usize, state);
     }
@@ -81,11 +83,11 @@ fn dwarf_apart(rules: &Rules<'_>, here: Place, dwarf: &Dwarf) -> Dwarf
     }
 }
 
-/// The five dwarves are kept apart from the player, and forget where they came from.
+/// The dwarves before the pirate are kept apart from the player, and forget where they came from.
 fn keep_apart(rules: &Rules<'_>, state: &mut State)
-    ensures { state.new ≡ with_dwarves_apart (cave_of rules.now) 5 state.old }
+    ensures { state.new ≡ with_dwarves_apart (cave_of rules.now) pirate state.old }
 {
-    for number in 0..5 {
+    for number in 0..PIRATE {
         let dwarf = dwarf_of(state, number);
         let dwarf = dwarf_apart(rules, state.trail.here, &dwarf);
         set_dwarf(number, dwarf, state);

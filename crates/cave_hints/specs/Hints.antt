@@ -20,6 +20,7 @@ use Rattle.cave_world.specs.declared.ending.Question.TheVariants as question
 use Rattle.cave_world.specs.declared.part.NumberLine.TheVariants.{HintCosts}
 use Rattle.cave_world.specs.declared.part.Part.TheVariants as part
 use Rattle.cave_world.specs.declared.state.State.{State}
+use Rattle.cave_world.specs.Lamp.{low_charge, max_lamp_turns}
 
 -- asks how to come through the grate
 abbrev pub GRATE_HINT : ℕ
@@ -111,8 +112,8 @@ is_needed cave h s =
     else (if h == PYRAMID_HINT then is_short_of_pyramid cave s else true))))
 
 -- the turns of a hint that isn't needed are counted from 0 again, except those of the bird's hint
-abbrev pub put_off : ℕ → State → State
-put_off h s = if h == BIRD_HINT then s else with_turns_near h 0 s
+abbrev pub after_putting_off : ℕ → State → State
+after_putting_off h s = if h == BIRD_HINT then s else with_turns_near h 0 s
 
 -- a hint that is due is offered to a player who needs it
 unfoldable pub offer_scene : CaveView → ℕ → Hint → Scene → Scene
@@ -120,7 +121,7 @@ offer_scene cave h hint p =
     if is_due cave h hint p.state
     then (if is_needed cave h p.state
     then asking_scene cave (question.Hint h) (with_state (with_turns_near h 0 p.state) p)
-    else with_state (put_off h p.state) p)
+    else with_state (after_putting_off h p.state) p)
     else p
 
 -- a hint that the cave has and that wasn't taken counts its turns, and is offered
@@ -151,13 +152,14 @@ price_scene_if cave h (Some hint) p =
 unfoldable pub price_scene : CaveView → ℕ → Scene → Scene
 price_scene cave h p = price_scene_if cave h (map.get cave.hints h) p
 
--- a hint lets a lamp that isn't low burn 30 turns more for each point that it costs, up to 100,000
+-- a hint lets a lamp that isn't low burn 30 turns more for each point that it costs,
+-- up to the most
 abbrev pub after_reward : ℕ → State → State
 after_reward points s =
     let lamp = s.lamp in
-    if int_lt (pos 30) lamp.charge
+    if int_lt (pos low_charge) lamp.charge
     then record s
-    { lamp = record lamp { charge = int_min (lamp.charge +ℤ pos (30 * points)) (pos 100000) } }
+    { lamp = record lamp { charge = int_min (lamp.charge +ℤ pos (30 * points)) (pos max_lamp_turns) } }
     else s
 
 -- a hint is given

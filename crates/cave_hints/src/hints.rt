@@ -7,7 +7,8 @@ ghost use Rattle.cave_scene.specs.Rules.{cave_of};
 ghost use Rattle.cave_hints.specs.Hints.{turns_near, with_turns_near, with_hint_taken};
 ghost use Rattle.cave_hints.specs.Hints.{is_in_area, after_turn_near, is_due, is_locked_out};
 ghost use Rattle.cave_hints.specs.Hints.{is_after_bird, is_held_by_snake, is_lost_in_maze};
-ghost use Rattle.cave_hints.specs.Hints.{is_short_of_pyramid, is_needed, put_off, offer_scene};
+ghost use Rattle.cave_hints.specs.Hints.{is_short_of_pyramid, is_needed, after_putting_off};
+ghost use Rattle.cave_hints.specs.Hints.{offer_scene};
 ghost use Rattle.cave_hints.specs.Hints.{after_considering, after_hints, price_scene};
 ghost use Rattle.cave_hints.specs.Hints.{after_reward, hint_scene};
 ghost use Rattle.cave_world.specs.State.{takes_no_command};
@@ -17,7 +18,9 @@ use cave_rows::Hint;
 use cave_scene::{Play, Rules};
 use cave_things::{has_other_prop, has_prop, is_in_hand, is_near};
 use cave_words::Named;
-use cave_world::{Charge, Count, HintNumber, NumberLine, Part, Question, State, has_condition};
+use cave_world::{
+    Charge, Count, HintNumber, LOW_CHARGE, NumberLine, Part, Question, State, has_condition,
+};
 
 /// The hints that are offered begin with this one.
 const FIRST_HINT: u8 = 4;
@@ -39,9 +42,6 @@ const MAZE_HINT: u8 = 7;
 
 /// Asks how to take the pyramid out.
 const PYRAMID_HINT: u8 = 8;
-
-/// A lamp with so many turns left is low.
-const LOW_CHARGE: i32 = 30;
 
 /// How many turns more the lamp burns for each point that a hint costs.
 const TURNS_A_POINT: i32 = 30;
@@ -169,7 +169,7 @@ fn is_lost_in_maze(state: &State) -> bool
     state.is_bare(state.trail.here)
         && state.is_bare(state.trail.last)
         && state.is_bare(state.trail.older)
-        && 1 < state.holding()
+        && 1 < state.count_carried()
 }
 
 #[tactic(auto, unfolding(crate::specs::Hints::is_short_of_pyramid))]
@@ -195,7 +195,7 @@ fn is_needed(rules: &Rules<'_>, hint: HintNumber, state: &State) -> bool
 
 #[tactic(auto, unfolding(cave_world::specs::State::takes_no_command))]
 fn put_off(hint: HintNumber, state: &mut State)
-    ensures state { state.new ≡ put_off hint state.old }
+    ensures state { state.new ≡ after_putting_off hint state.old }
     ensures over { takes_no_command state.new ≡ takes_no_command state.old }
 {
     if hint.number() != BIRD_HINT {

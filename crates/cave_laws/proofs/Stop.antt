@@ -17,7 +17,7 @@ use Rattle.cave_world.specs.declared.ending.Question.{Question}
 use Rattle.cave_world.specs.declared.part.Part.TheVariants as part
 use Rattle.cave_objects.specs.declared.object.Half.{Half}
 use Rattle.cave_world.specs.declared.state.State.{State}
-use Rattle.cave_things.specs.Conditions.{meets_condition}
+use Rattle.cave_things.specs.Conditions.{has_condition_of}
 use Rattle.cave_things.specs.Effects.{with_objects}
 use Rattle.cave_things.specs.Panic.{after_panic}
 use Rattle.cave_scene.specs.Play.{Scene, after_telling, after_saying, with_state}
@@ -172,7 +172,7 @@ met_kept : {P : Claim} (cave : CaveView) (k : IsKept cave P) (p : Scene) → On 
     → On P (meeting_scene cave p).state
 unfolding meeting_scene
 met_kept {P} cave k p h =
-    chosen_scene P (meets_condition cave (here_of p) NoPirate) (description_scene cave p)
+    chosen_scene P (has_condition_of cave (here_of p) NoPirate) (description_scene cave p)
     (after_dwarves cave (encounter_in_turn cave p)) (described_kept cave k p h)
     (after_dwarves_kept cave k (encounter_in_turn cave p) (dwarves_kept (Calm P) cave p h))
 

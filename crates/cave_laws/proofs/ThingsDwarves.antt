@@ -16,7 +16,8 @@ use Rattle.cave_things.specs.Places.{place_named, deep_place}
 use Rattle.cave_scene.specs.Play.{Scene, after_saying, with_state, after_draw, happens, here_of}
 use Rattle.cave_scene.specs.Rules.{thing}
 use Rattle.cave_things.specs.Treasures.{treasures}
-use Rattle.cave_dwarves.specs.Band.{pirate, dwarf_of, with_dwarf, state_after_draw}
+use Rattle.cave_dwarves.specs.Band.{dwarf_of, with_dwarf, state_after_draw}
+use Rattle.cave_world.specs.Dwarves.{pirate}
 use Rattle.cave_dwarves.specs.Dwarves.{Encounter, without_hit, encounter_of, encounter_in_turn}
 use Rattle.cave_dwarves.specs.Knives.{Act, throw_act, with_knife_here, threatening_act}
 use Rattle.cave_dwarves.specs.Knives.{act_of_dwarf, raid_of}

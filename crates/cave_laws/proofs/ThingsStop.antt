@@ -13,7 +13,7 @@ use Rattle.cave_world.specs.State.{takes_no_command, visits_of, with_visit, stat
 use Rattle.cave_world.specs.declared.part.Part.TheVariants as part
 use Rattle.cave_objects.specs.declared.object.Half.{Half}
 use Rattle.cave_world.specs.declared.state.State.{State}
-use Rattle.cave_things.specs.Conditions.{meets_condition}
+use Rattle.cave_things.specs.Conditions.{has_condition_of}
 use Rattle.cave_things.specs.Effects.{with_objects}
 use Rattle.cave_things.specs.Panic.{after_panic}
 use Rattle.cave_scene.specs.Play.{Scene, after_telling, after_saying, with_state}
@@ -160,7 +160,7 @@ met_kept : {Here : ℕ → Type 0} {P : Claim} (k : IsKept Here P) (cave : CaveV
     → Here p.state.trail.here → On P p.state → On P (meeting_scene cave p).state
 unfolding meeting_scene
 met_kept {Here} {P} k cave p here h =
-    chosen_scene P (meets_condition cave (here_of p) NoPirate) (description_scene cave p)
+    chosen_scene P (has_condition_of cave (here_of p) NoPirate) (description_scene cave p)
     (after_dwarves cave (encounter_in_turn cave p)) (described_kept k cave p h)
     (after_dwarves_kept k cave (encounter_in_turn cave p)
     (dwarves_kept k.played cave p (here, h)).1)

@@ -37,7 +37,7 @@ use Rattle.cave_ends.specs.Questions.{asking_scene}
 use Rattle.cave_hints.specs.Hints.{with_turns_near, turns_near, is_in_area}
 use Rattle.cave_world.specs.State.{is_hint_taken, with_player_from}
 use Rattle.cave_hints.specs.Hints.{after_turn_near, after_considering}
-use Rattle.cave_hints.specs.Hints.{is_due, is_needed, put_off, offer_scene, after_considering_if}
+use Rattle.cave_hints.specs.Hints.{is_due, is_needed, after_putting_off, offer_scene, after_considering_if}
 use Rattle.cave_hints.specs.Hints.{after_hints_up_to, after_hints}
 use Rattle.cave_moves.specs.Journeys.{journey_by_request}
 use Rattle.cave_turn.specs.Commands.{after_beginning, travel_scene, puzzled_scene, next_scene}
@@ -73,7 +73,7 @@ waited_kept P cave n s h =
     chosen P (is_in_area cave n s) (with_turns_near n (min (turns_near n s + 1) 10000) s)
     (with_turns_near n 0 s) h h
 
-put_off_kept : (P : Claim) (n : ℕ) (s : State) → On P s → On P (put_off n s)
+put_off_kept : (P : Claim) (n : ℕ) (s : State) → On P s → On P (after_putting_off n s)
 put_off_kept P n s h = chosen P (n == 5) s (with_turns_near n 0 s) h h
 
 offered_kept : (P : Claim) (cave : CaveView) (i : ℕ) (hint : Hint)
@@ -82,7 +82,7 @@ offered_kept : (P : Claim) (cave : CaveView) (i : ℕ) (hint : Hint)
 unfolding offer_scene
 offered_kept P cave i hint p h =
     let asks = asking_scene cave (question.Hint i) (with_state (with_turns_near i 0 p.state) p) in
-    let off = with_state (put_off i p.state) p in
+    let off = with_state (after_putting_off i p.state) p in
     choose (λ (r : Scene). On P r.state) (is_due cave i hint p.state)
     (if is_needed cave i p.state then asks else off) p
     (λ _. choose (λ (r : Scene). On P r.state) (is_needed cave i p.state) asks off

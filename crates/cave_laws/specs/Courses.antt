@@ -48,8 +48,8 @@ pub record ClosedIsClosing : Type 0 where
       (cave : CaveView) (s : State) (line : List ℕ) → ClosesInOrder s
       → ClosesInOrder (turn_on_line cave s line).state
 
--- no more treasures are unseen than were, and, of the 60,000 that are counted at most, no fewer
--- are lost
+-- no more treasures count as unseen than did, and, of the 60,000 that are counted at most, no fewer
+-- count as lost
 pub record TreasuresAfter (s t : State) : Type 0 where
   pub unseen : t.tallies.unseen ≤ s.tallies.unseen
   pub lost : s.tallies.lost ≤ 60000 → s.tallies.lost ≤ t.tallies.lost

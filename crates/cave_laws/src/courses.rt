@@ -14,7 +14,7 @@ pub fn closed_is_closing()
     ensures { ClosedIsClosing }
 {}
 
-/// The treasures that weren't seen yet never rise, and those that are lost never fall.
+/// No more treasures count as unseen than did, and no fewer count as lost.
 pub fn treasures_go_one_way()
     ensures { TreasuresGoOneWay }
 {}

@@ -9,7 +9,7 @@ use Rattle.cave_world.specs.Sight.{is_forced}
 use Rattle.cave_world.specs.State.{takes_no_command}
 use Rattle.cave_world.specs.declared.dwarves.Dwarf.{Dwarf}
 use Rattle.cave_world.specs.declared.state.State.{State}
-use Rattle.cave_things.specs.Conditions.{meets_condition}
+use Rattle.cave_things.specs.Conditions.{has_condition_of}
 use Rattle.cave_things.specs.Panic.{after_panic}
 use Rattle.cave_things.specs.Places.{outside_place}
 use Rattle.cave_things.specs.declared.conditions.Condition.TheVariants.{NoPirate}
@@ -21,6 +21,7 @@ use Rattle.cave_moves.specs.Journeys.{set_forth}
 use Rattle.cave_moves.specs.Ways.{Journey, journey_here}
 use Rattle.cave_scene.specs.Play.{Scene, after_saying, with_state, with_left, scene_at_place}
 use Rattle.cave_scene.specs.Play.{here_of}
+use Rattle.cave_world.specs.Dwarves.{pirate}
 
 -- a cave that is closing has no way out
 unfoldable pub is_shut : CaveView → ℕ → State → Bool
@@ -40,8 +41,8 @@ comes_from new dwarf = dwarf.has_seen && dwarf.last == new
 unfoldable pub is_barred : CaveView → ℕ → State → Bool
 is_barred cave new s =
     not (new == s.trail.here) && not (is_forced cave s.trail.here)
-    && not (meets_condition cave s.trail.here NoPirate)
-    && list_any (comes_from new) (take 5 s.dwarves.each)
+    && not (has_condition_of cave s.trail.here NoPirate)
+    && list_any (comes_from new) (take pirate s.dwarves.each)
 
 unfoldable pub journey_unless_barred : CaveView → ℕ → Scene → Journey
 journey_unless_barred cave new p =
@@ -56,7 +57,7 @@ after_dwarves cave h = if h.is_hit then falling_here cave h.scene
 -- the dwarves move before a place is described, except at one to which the pirate doesn't come
 unfoldable pub meeting_scene : CaveView → Scene → Scene
 meeting_scene cave p =
-    if meets_condition cave (here_of p) NoPirate then description_scene cave p
+    if has_condition_of cave (here_of p) NoPirate then description_scene cave p
     else after_dwarves cave (encounter_in_turn cave p)
 
 -- the player comes to a place: 0 is death, of a place of forced motion the text alone is printed,

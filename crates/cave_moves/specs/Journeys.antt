@@ -14,7 +14,7 @@ use Rattle.cave_world.specs.Motion.{FORWARD, BACK, OUT, CRAWL, INSIDE, NOWHERE, 
 use Rattle.cave_world.specs.Motion.{RIGHT, EAST, NORTHWEST, LOOK, XYZZY, PLUGH, CAVE}
 use Rattle.cave_world.specs.Sight.{is_forced}
 use Rattle.cave_world.specs.State.{without_visits}
-use Rattle.cave_world.specs.Travel.{travel_by_motion, row_number, LAST_PLACE}
+use Rattle.cave_world.specs.Travel.{travel_by_motion, row_number}
 use Rattle.cave_world.specs.declared.part.Part.TheVariants as part
 use Rattle.cave_world.specs.declared.travel.TravelOutcome.{TravelOutcome}
 use Rattle.cave_world.specs.declared.travel.TravelOutcome.TheVariants as outcome
@@ -27,6 +27,7 @@ use Rattle.cave_things.specs.Places.{place_named, outside_place}
 use Rattle.cave_scene.specs.Rules.{thing}
 use Rattle.cave_scene.specs.Play.{Scene, after_telling, after_saying, with_state, here_of}
 use Rattle.cave_scene.specs.Play.{after_setting_out}
+use Rattle.cave_numbers.specs.Numbers.{last_place}
 
 -- the eight points of the compass follow one another
 abbrev pub is_compass_point : ℕ → Bool
@@ -124,7 +125,7 @@ first_number (row ∷ rows) = Some (row_number row)
 -- the row leads to a place whose forced motion leads to the place that is sought
 abbrev pub leads_through : CaveView → ℕ → Going → Bool
 leads_through cave sought row =
-    nat_le (row_number row) LAST_PLACE && is_forced cave (row_number row)
+    nat_le (row_number row) last_place && is_forced cave (row_number row)
     && is_place sought (first_number (ways_from cave (row_number row)))
 
 -- the first row with the number that is sought

@@ -2,15 +2,17 @@ ghost use Rattle.std.specs.Prelude.{◌≡◌, ◌+◌, true, false, IsTrue};
 ghost use Rattle.std.specs.List.{list_any};
 ghost use Rattle.cave_scene.specs.Rules.{cave_of};
 ghost use Rattle.cave_world.specs.State.{takes_no_command};
-ghost use Rattle.cave_moves.specs.Arrival.{is_shut, journey_unless_shut, comes_from, is_barred, meeting_scene};
-ghost use Rattle.cave_moves.specs.Arrival.{journey_unless_barred, come_to, stop_at, after_forced_motions};
+ghost use Rattle.cave_moves.specs.Arrival.{is_shut, journey_unless_shut, comes_from, is_barred};
+ghost use Rattle.cave_moves.specs.Arrival.{meeting_scene};
+ghost use Rattle.cave_moves.specs.Arrival.{journey_unless_barred, come_to, stop_at};
+ghost use Rattle.cave_moves.specs.Arrival.{after_forced_motions};
 ghost use Rattle.cave_moves.specs.Arrival.{arrival_scene, description_anew};
 ghost use Rattle.cave_scene.specs.Bounds.{HasRoom, SaysUpTo, parts_of_dwarves, parts_of_place};
-ghost use Rattle.cave_scene.specs.Bounds.{parts_of_passing, parts_of_stop};
+ghost use Rattle.cave_scene.specs.Bounds.{parts_of_passing, parts_of_stop, parts_of_text};
 ghost use Rattle.cave_scene.specs.Bounds.{parts_of_forced_motions, parts_of_arrival};
 ghost use Rattle.cave_scene.specs.Play.{scene_of, GoesOn, IsSamePlay};
 
-use crate::description::{describe, see_here, tell_text};
+use crate::description::{describe, stop_here, tell_text};
 use crate::falling::fall_here;
 use crate::journeys::set_forth;
 use crate::ways::stay;
@@ -22,7 +24,7 @@ use cave_scene::{Play, Rules};
 use cave_things::panic::panic;
 use cave_things::places::outside_place;
 use cave_things::{Condition, has_condition_of};
-use cave_world::{Dwarf, State, is_forced, motion};
+use cave_world::{Dwarf, PIRATE, State, is_forced, motion};
 
 /// The player arrives at a place, and is moved on from there while forced motions are left.
 #[tactic(auto, unfolding(crate::specs::Arrival::after_forced_motions))]
@@ -83,7 +85,7 @@ fn is_barred(rules: &Rules<'_>, place: Place, state: &State) -> bool
     place != here
         && !is_forced(rules.cave, here)
         && !has_condition_of(rules, here, Condition::NoPirate)
-        && some_comes_from(place, &state.dwarves.each[..5])
+        && some_comes_from(place, &state.dwarves.each[..PIRATE])
 }
 
 #[tactic(auto, unfolding(crate::specs::Arrival::journey_unless_barred))]
@@ -124,11 +126,11 @@ fn meet(rules: &Rules<'_>, play: &mut Play<'_>)
 #[tactic(auto, unfolding(crate::specs::Arrival::come_to))]
 fn come_to(rules: &Rules<'_>, place: Place, play: &mut Play<'_>) -> bool
     requires { HasRoom (parts_of_dwarves + parts_of_place) play.old }
-    ensures showing { record { is_moved_on = result; scene = scene_of play.new }
+    ensures stop { record { is_moved_on = result; scene = scene_of play.new }
         ≡ come_to (cave_of rules.now) place (scene_of play.old) }
     ensures same { GoesOn play.old play.new }
     ensures few { SaysUpTo (parts_of_dwarves + parts_of_place) play.old play.new }
-    ensures few_on { IsTrue result → SaysUpTo 2 play.old play.new }
+    ensures few_on { IsTrue result → SaysUpTo parts_of_text play.old play.new }
 {
     play.put_player_at(place);
     if place.number() == 0 {
@@ -148,7 +150,7 @@ fn come_to(rules: &Rules<'_>, place: Place, play: &mut Play<'_>) -> bool
 #[tactic(auto, unfolding(crate::specs::Arrival::stop_at))]
 fn stop_at(rules: &Rules<'_>, place: Place, play: &mut Play<'_>) -> bool
     requires { HasRoom parts_of_stop play.old }
-    ensures showing { record { is_moved_on = result; scene = scene_of play.new }
+    ensures stop { record { is_moved_on = result; scene = scene_of play.new }
         ≡ stop_at (cave_of rules.now) place (scene_of play.old) }
     ensures same { GoesOn play.old play.new }
     ensures few { SaysUpTo parts_of_stop play.old play.new }
@@ -191,7 +193,7 @@ pub fn describe_here(rules: &Rules<'_>, play: &mut Play<'_>)
     ensures same { IsSamePlay play.old play.new }
     ensures few { SaysUpTo (parts_of_arrival play.old.left) play.old play.new }
 {
-    if see_here(rules, play) {
+    if stop_here(rules, play) {
         follow_forced_motions(rules, play);
     }
 }

@@ -66,7 +66,7 @@ fn bridge_end(rules: &Rules<'_>, here: Place) -> Option<Place>
 
 /// The troll is at both ends of the bridge again, and its second self is gone.
 #[tactic(auto, unfolding(crate::specs::Bridge::with_troll))]
-fn bring_troll(rules: &Rules<'_>, objects: &mut Objects)
+fn move_troll_home(rules: &Rules<'_>, objects: &mut Objects)
     ensures { objects.new ≡ with_troll (cave_of rules.now) objects.old }
 {
     let troll = rules.object(Named::Troll);
@@ -88,7 +88,7 @@ fn stop(rules: &Rules<'_>, play: &mut Play<'_>)
     ensures few { SaysUpTo 1 play.old play.new }
 {
     play.look(rules.object(Named::Troll), 1);
-    bring_troll(rules, &mut play.state.objects);
+    move_troll_home(rules, &mut play.state.objects);
 }
 
 /// A player whom the troll lets pass is stopped the next time.

@@ -1,11 +1,13 @@
 ghost use Rattle.std.specs.Prelude.{◌≡◌, ◌<◌, IsTrue};
 ghost use Rattle.cave_scene.specs.Rules.{cave_of};
-ghost use Rattle.cave_moves.specs.Description.{is_described_at_length, place_text, after_bear, after_text};
+ghost use Rattle.cave_moves.specs.Description.{is_described_at_length, place_text, after_bear};
+ghost use Rattle.cave_moves.specs.Description.{after_text};
 ghost use Rattle.cave_moves.specs.Description.{is_hollow, after_hollow, after_pit, after_darkness};
 ghost use Rattle.cave_moves.specs.Description.{dark_scene, sight_scene, description_scene};
 ghost use Rattle.cave_moves.specs.Description.{stop_here};
 ghost use Rattle.cave_scene.specs.Bounds.{HasRoom, SaysUpTo, parts_of_place};
 ghost use Rattle.cave_scene.specs.Play.{scene_of, GoesOn};
+ghost use Rattle.cave_scene.specs.Bounds.{parts_of_text, parts_of_darkness, parts_of_fall};
 
 use crate::falling::fall_here;
 use crate::objects::tell_objects;
@@ -69,10 +71,10 @@ fn tell_bear(rules: &Rules<'_>, play: &mut Play<'_>)
 /// The text of the player's place is printed.
 #[tactic(auto, unfolding(crate::specs::Description::after_text))]
 pub fn tell_text(rules: &Rules<'_>, play: &mut Play<'_>)
-    requires { HasRoom 2 play.old }
+    requires { HasRoom parts_of_text play.old }
     ensures play { scene_of play.new ≡ after_text (cave_of rules.now) (scene_of play.old) }
     ensures same { GoesOn play.old play.new }
-    ensures few { SaysUpTo 2 play.old play.new }
+    ensures few { SaysUpTo parts_of_text play.old play.new }
 {
     tell_bear(rules, play);
     let here = play.state.trail.here;
@@ -107,20 +109,20 @@ fn tell_hollow(rules: &Rules<'_>, play: &mut Play<'_>)
 }
 
 fn fall_into_pit(rules: &Rules<'_>, play: &mut Play<'_>)
-    requires { HasRoom 5 play.old }
+    requires { HasRoom parts_of_fall play.old }
     ensures play { scene_of play.new ≡ after_pit (cave_of rules.now) (scene_of play.old) }
     ensures same { GoesOn play.old play.new }
-    ensures few { SaysUpTo 5 play.old play.new }
+    ensures few { SaysUpTo parts_of_fall play.old play.new }
 {
     play.say(Role::Pit);
     fall_here(rules, play);
 }
 
 fn tell_darkness(rules: &Rules<'_>, play: &mut Play<'_>)
-    requires { HasRoom 3 play.old }
+    requires { HasRoom parts_of_darkness play.old }
     ensures play { scene_of play.new ≡ after_darkness (cave_of rules.now) (scene_of play.old) }
     ensures same { GoesOn play.old play.new }
-    ensures few { SaysUpTo 3 play.old play.new }
+    ensures few { SaysUpTo parts_of_darkness play.old play.new }
 {
     tell_bear(rules, play);
     play.say(Role::Dark);
@@ -130,10 +132,10 @@ fn tell_darkness(rules: &Rules<'_>, play: &mut Play<'_>)
 /// Describes a place where the player sees nothing.
 #[tactic(auto, unfolding(crate::specs::Description::dark_scene))]
 fn describe_dark(rules: &Rules<'_>, play: &mut Play<'_>)
-    requires { HasRoom 5 play.old }
+    requires { HasRoom parts_of_fall play.old }
     ensures play { scene_of play.new ≡ dark_scene (cave_of rules.now) (scene_of play.old) }
     ensures same { GoesOn play.old play.new }
-    ensures few { SaysUpTo 5 play.old play.new }
+    ensures few { SaysUpTo parts_of_fall play.old play.new }
 {
     if play.was_dark && play.happens(35) {
         fall_into_pit(rules, play);
@@ -160,13 +162,13 @@ fn describe_sight(rules: &Rules<'_>, play: &mut Play<'_>)
 /// Prints what is seen at the player's place. Returns whether a forced motion moves the player on
 /// from there.
 #[tactic(auto, unfolding(crate::specs::Description::stop_here))]
-pub fn see_here(rules: &Rules<'_>, play: &mut Play<'_>) -> bool
+pub fn stop_here(rules: &Rules<'_>, play: &mut Play<'_>) -> bool
     requires { HasRoom parts_of_place play.old }
-    ensures showing { record { is_moved_on = result; scene = scene_of play.new }
+    ensures stop { record { is_moved_on = result; scene = scene_of play.new }
         ≡ stop_here (cave_of rules.now) (scene_of play.old) }
     ensures same { GoesOn play.old play.new }
     ensures few { SaysUpTo parts_of_place play.old play.new }
-    ensures few_on { IsTrue result → SaysUpTo 2 play.old play.new }
+    ensures few_on { IsTrue result → SaysUpTo parts_of_text play.old play.new }
 {
     if is_forced(rules.cave, play.state.trail.here) {
         tell_text(rules, play);

@@ -20,6 +20,9 @@ use cave_things::places::{outside_place, place_named};
 use cave_words::Named;
 use cave_world::{Part, Special, State, TravelOutcome, motion, travel_by_motion};
 
+/// How often it is said that there are no more details.
+const MOST_DETAILS: u16 = 3;
+
 /// Where a motion that the player asks for leads.
 #[tactic(auto, unfolding(crate::specs::Journeys::journey_by_request))]
 pub fn lead_by_motion(rules: &Rules<'_>, motion: u16, play: &mut Play<'_>) -> Place
@@ -67,7 +70,7 @@ fn squeeze_end(rules: &Rules<'_>, here: Place) -> Option<Place>
 fn is_slim(rules: &Rules<'_>, state: &State) -> bool
     ensures { result ≡ is_slim (cave_of rules.now) state.now }
 {
-    let carried = state.holding();
+    let carried = state.count_carried();
     carried == 0 || (carried == 1 && state.is_carried(rules.object(Named::Emerald)))
 }
 
@@ -160,7 +163,7 @@ fn say_enough(play: &mut Play<'_>)
     ensures same { GoesOn play.old play.new }
     ensures few { SaysUpTo 1 play.old play.new }
 {
-    if play.state.talk.details.number() < 3 {
+    if play.state.talk.details.number() < MOST_DETAILS {
         play.state.talk.details = play.state.talk.details.up();
         play.say(Role::Enough);
     }

@@ -4,11 +4,13 @@ ghost use Rattle.cave_objects.specs.Objects.{anchor_of};
 ghost use Rattle.cave_objects.specs.Spots.{place_of_anchor, is_place};
 ghost use Rattle.cave_scene.specs.Rules.{cave_of};
 ghost use Rattle.cave_moves.specs.Objects.{is_unseen, is_kept_back, first_prop, one_less_unseen};
-ghost use Rattle.cave_moves.specs.Objects.{with_lamp_of_rest_lost, after_find, after_find_if_unseen};
+ghost use Rattle.cave_moves.specs.Objects.{with_lamp_of_rest_lost, after_find};
+ghost use Rattle.cave_moves.specs.Objects.{after_find_if_unseen};
 ghost use Rattle.cave_moves.specs.Objects.{described_prop};
 ghost use Rattle.cave_moves.specs.Objects.{after_object, after_objects};
 ghost use Rattle.cave_scene.specs.Bounds.{HasRoom, SaysUpTo};
 ghost use Rattle.cave_scene.specs.Play.{scene_of, GoesOn};
+ghost use Rattle.cave_objects.specs.Halves.{last_half};
 
 use cave_objects::{Half, Object, Prop};
 use cave_scene::{Play, Rules};
@@ -131,12 +133,12 @@ fn tell_all(rules: &Rules<'_>, halves: &[Half], play: &mut Play<'_>)
 
 /// The objects at the player's place are described, latest first.
 pub fn tell_objects(rules: &Rules<'_>, play: &mut Play<'_>)
-    requires { HasRoom 200 play.old }
+    requires { HasRoom last_half play.old }
     ensures play { let state = play.old.state.now in
         let halves = halves_at state.trail.here state.objects.lists in
         scene_of play.new ≡ after_objects (cave_of rules.now) halves (scene_of play.old) }
     ensures same { GoesOn play.old play.new }
-    ensures few { SaysUpTo 200 play.old play.new }
+    ensures few { SaysUpTo last_half play.old play.new }
 {
     let here = play.state.trail.here;
     let halves = play.state.objects_at(here);

@@ -2,6 +2,11 @@
 use Rattle.std.specs.Prelude.{ℕ, ◌+◌, ◌-◌, nat_lt, if◌then◌else◌}
 use Rattle.cave_objects.specs.declared.object.Half.{Half}
 use Rattle.cave_objects.specs.declared.object.Half.TheVariants.{First, Second}
+use Rattle.cave_numbers.specs.Numbers.{last_object}
+
+-- the last number of a half: two for each object
+abbrev pub last_half : ℕ
+last_half = 200
 
 -- the object that a half belongs to
 abbrev pub object_of : Half → ℕ
@@ -11,10 +16,10 @@ object_of (Second x) = x
 -- first halves have the numbers of their objects, second ones come after them
 abbrev pub half_number : Half → ℕ
 half_number (First x) = x
-half_number (Second x) = 100 + x
+half_number (Second x) = last_object + x
 
 abbrev pub half_of : ℕ → Half
-half_of number = if nat_lt 100 number then Second (number - 100) else First number
+half_of number = if nat_lt last_object number then Second (number - last_object) else First number
 
 abbrev pub no_half : Half
 no_half = First 0

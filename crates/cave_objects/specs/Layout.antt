@@ -8,6 +8,7 @@ use Rattle.cave_objects.specs.declared.spot.Anchor.{Anchor}
 use Rattle.cave_objects.specs.declared.spot.Anchor.TheVariants as anchor
 use Rattle.cave_objects.specs.declared.lists.PlacedHalf.{PlacedHalf}
 use Rattle.cave_objects.specs.Halves.{half_number}
+use Rattle.cave_numbers.specs.Numbers.{last_object}
 use Rattle.cave_objects.specs.Lists.{halves_at}
 use Rattle.cave_objects.specs.Spots.{place_of_spot, place_of_anchor, is_place}
 
@@ -25,11 +26,11 @@ is_listed number halves = list_any (λ h. half_number h == number) halves
 -- the lists and the objects agree: a half is in the list of a place exactly where its object says
 -- so
 pub record IsLaid (l : Layout) : Type 0 where
-  pub firsts : (x q : ℕ) → x < 100
+  pub firsts : (x q : ℕ) → x < last_object
       → is_listed (1 + x) (halves_at q l.lists)
       ≡ is_place q (place_of_spot (slice_index_or l.first x spot.Away))
-  pub seconds : (x q : ℕ) → x < 100
+  pub seconds : (x q : ℕ) → x < last_object
       → is_listed (101 + x) (halves_at q l.lists)
       ≡ is_place q (place_of_anchor (slice_index_or l.second x anchor.Loose))
-  pub all_first : length l.first ≡ 100
-  pub all_second : length l.second ≡ 100
+  pub all_first : length l.first ≡ last_object
+  pub all_second : length l.second ≡ last_object

@@ -6,8 +6,9 @@ use Rattle.std.specs.List.{range_with_len}
 use Rattle.cave_objects.specs.declared.object.Half.{Half}
 use Rattle.cave_objects.specs.declared.lists.PlacedHalf.{PlacedHalf}
 use Rattle.cave_objects.specs.declared.lists.ObjectLists.TheInside.{Inside}
-use Rattle.cave_objects.specs.Halves.{object_of, half_number, half_of}
+use Rattle.cave_objects.specs.Halves.{object_of, half_number, half_of, last_half}
 use Rattle.cave_objects.specs.Lists.{AreLists}
+use Rattle.cave_numbers.specs.Numbers.{last_place, last_object}
 
 -- the number of the first half at a place
 unfoldable pub first_half : ℕ → List PlacedHalf → ℕ
@@ -30,8 +31,8 @@ value_at numbers number = slice_index numbers (number - 1)
 
 unfoldable pub links_of : List PlacedHalf → Inside
 links_of es = record {
-  first = table (λ place. first_half place es) 300;
-  next = table (λ number. next_half number es) 200;
+  first = table (λ place. first_half place es) last_place;
+  next = table (λ number. next_half number es) last_half;
 }
 
 -- the halves from a number on, at most so many, where each leads to the next
@@ -51,12 +52,13 @@ entries_of_places lists place (suc more) =
 unfoldable pub entries_of : Inside → List PlacedHalf
 entries_of l =
     entries_of_places
-    (λ place. halves_along (value_at l.next) 200 (value_at l.first place)) 1 300
+    (λ place. halves_along (value_at l.next) last_half (value_at l.first place)) 1 last_place
 
--- each place is at most 300, and each object at most 100
+-- each place and each object has a number that there may be
 abbrev pub AreEntriesWithin : List PlacedHalf → Type 0
 AreEntriesWithin [] = Unit {0}
-AreEntriesWithin (e ∷ es) = ((e.place ≤ 300) × (object_of e.half ≤ 100)) × AreEntriesWithin es
+AreEntriesWithin (e ∷ es) =
+    ((e.place ≤ last_place) × (object_of e.half ≤ last_object)) × AreEntriesWithin es
 
 -- the links make up lists, and nothing is linked besides
 pub record AreLinks (l : Inside) : Type 0 where

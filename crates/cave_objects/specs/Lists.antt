@@ -3,7 +3,7 @@ use Rattle.std.specs.Prelude.{◌≡◌, ℕ, ◌<◌, ◌≤◌, ◌==◌, Bool
 use Rattle.std.specs.Prelude.{◌∷◌, map, filter, Option, Some, None}
 use Rattle.cave_objects.specs.declared.object.Half.{Half}
 use Rattle.cave_objects.specs.declared.lists.PlacedHalf.{PlacedHalf}
-use Rattle.cave_objects.specs.Halves.{object_of, half_number}
+use Rattle.cave_objects.specs.Halves.{object_of, half_number, last_half}
 
 -- the entries are in the order of their places, and those of one place are its list
 abbrev pub halves_at : ℕ → List PlacedHalf → List Half
@@ -24,7 +24,8 @@ abbrev pub with_half : Half → Option ℕ → List PlacedHalf → List PlacedHa
 with_half half None lists = lists
 with_half half (Some place) lists = put_first (record { place = place; half = half }) lists
 
--- the same, once it was taken from the list in which it was
+-- a half at the front of the list of the place, or in no list, once it was taken from the list in
+-- which it was
 unfoldable pub with_half_moved : Half → Option ℕ → List PlacedHalf → List PlacedHalf
 with_half_moved half place lists = with_half half place (without (half_number half) lists)
 
@@ -63,7 +64,7 @@ abbrev pub AreLists : List PlacedHalf → Type 0
 AreLists [] = Unit {0}
 AreLists (e ∷ es) =
     IsEntry e
-    × ((half_number e.half ≤ 200)
+    × ((half_number e.half ≤ last_half)
     × (Lacks (half_number e.half) es × (StartsAt e.place es × AreLists es)))
 
 -- the half of a number is nowhere but at the place
@@ -74,7 +75,8 @@ IsOnlyAt number from (e ∷ es) = (half_number e.half ≡ number → from ≡ So
 
 -- a half of an object, which is nowhere
 abbrev pub IsNew : Half → List PlacedHalf → Type 0
-IsNew half es = (0 < object_of half) × ((half_number half ≤ 200) × Lacks (half_number half) es)
+IsNew half es =
+    (0 < object_of half) × ((half_number half ≤ last_half) × Lacks (half_number half) es)
 
 -- the entry has the half of a number
 abbrev pub has_half : ℕ → PlacedHalf → Bool

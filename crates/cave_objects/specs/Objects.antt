@@ -12,6 +12,7 @@ use Rattle.cave_objects.specs.Layout.{Layout}
 use Rattle.cave_objects.specs.Lists.{with_half_moved}
 use Rattle.cave_objects.specs.Spots.{spot_at, place_of_spot, is_carried_spot, is_away_spot}
 use Rattle.cave_objects.specs.Spots.{place_of_anchor, is_place}
+use Rattle.cave_numbers.specs.Numbers.{last_object}
 
 -- where the first half of an object is
 unfoldable pub spot_of : Layout → ℕ → Spot
@@ -49,9 +50,9 @@ carried_up_to o n = filter (is_carried o) (range_with_len 1 n)
 
 -- the objects that are carried, ascending
 abbrev pub carried_objects : Layout → List ℕ
-carried_objects o = carried_up_to o 100
+carried_objects o = carried_up_to o last_object
 
--- the first half of an object brought to a spot
+-- the first half of an object moved to a spot
 unfoldable pub with_spot : Layout → ℕ → Spot → Layout
 with_spot o x s = if x == 0 then o
     else record o {
@@ -89,8 +90,8 @@ with_latest o x = if is_carried o x then o else let once = with_spot o x (spot_o
 unfoldable pub without_places : Layout
 without_places =
     record {
-      first = replicate 100 spot.Away;
-      second = replicate 100 anchor.Loose;
-      props = replicate 100 (pos 0);
+      first = replicate last_object spot.Away;
+      second = replicate last_object anchor.Loose;
+      props = replicate last_object (pos 0);
       lists = [];
     }

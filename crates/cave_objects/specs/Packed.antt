@@ -1,10 +1,11 @@
 -- Spots and anchors as numbers: two are for what is at no place, and each further one is for a
 -- place.
-use Rattle.std.specs.Prelude.{◌≡◌, ◌≢◌, ℕ, zero, suc, ◌≤◌, refl}
+use Rattle.std.specs.Prelude.{◌≡◌, ◌≢◌, ℕ, zero, suc, ◌+◌, ◌≤◌, refl}
 use Rattle.cave_objects.specs.declared.spot.Spot.{Spot}
 use Rattle.cave_objects.specs.declared.spot.Spot.TheVariants as spot
 use Rattle.cave_objects.specs.declared.spot.Anchor.{Anchor}
 use Rattle.cave_objects.specs.declared.spot.Anchor.TheVariants as anchor
+use Rattle.cave_numbers.specs.Numbers.{last_place}
 
 abbrev pub code_of_spot : Spot → ℕ
 code_of_spot spot.Away = 0
@@ -28,7 +29,7 @@ anchor_of_code (suc (suc place)) = anchor.At place
 
 -- a code is of a place where something can be, or of no place
 abbrev pub IsCode : ℕ → Type 0
-IsCode code = (code ≤ 302) × (code ≢ 2)
+IsCode code = (code ≤ last_place + 2) × (code ≢ 2)
 
 pub spot_back : (code : ℕ) → code_of_spot (spot_of_code code) ≡ code
 spot_back zero = refl

@@ -6,15 +6,15 @@ ghost use Rattle.cave_objects.specs.Lists.{with_half_moved, AreRelisted, halves_
 ghost use Rattle.cave_objects.specs.Lists.{without, put_first, with_half, AreLists, IsOnlyAt};
 ghost use Rattle.cave_objects.specs.Lists.{IsNew};
 ghost use Rattle.cave_objects.specs.Spots.{is_place};
-ghost use Rattle.cave_objects.specs.Halves.{object_of, half_number};
+ghost use Rattle.cave_objects.specs.Halves.{object_of, half_number, last_half};
 
-use crate::object::Half;
+use crate::object::{Half, OBJECTS};
 use crate::place::{PLACES, Place};
 use arrayvec::ArrayVec;
 use std::marker::Model;
 
-/// The most halves that can be somewhere.
-pub const HALVES: usize = 200;
+/// The most halves that can be somewhere: two of each object.
+pub const HALVES: usize = 2 * OBJECTS;
 
 /// A half and the place where it is.
 #[derive(Clone, Copy, Debug, PartialEq, Eq)]
@@ -75,7 +75,7 @@ impl Eq for ObjectLists {
 /// Takes the link from a half away, and returns where it led.
 fn unlink(next: &mut [u8; HALVES], number: u8) -> u8
     requires some { 0 < number }
-    requires within { number ≤ 200 }
+    requires within { number ≤ last_half }
     ensures value { result ≡ slice_index next.old (number - 1) }
     ensures unlinked { next.new ≡ slice_set next.old (number - 1) 0 }
 {
@@ -150,7 +150,7 @@ impl ObjectLists {
     /// The number of the half after another one in its list, or 0.
     fn after(&self, number: u8) -> u8
         requires some { 0 < number }
-        requires within { number ≤ 200 }
+        requires within { number ≤ last_half }
         ensures { result ≡ next_half number self.now }
     {
         self.next[usize::from(number) - 1]
@@ -235,9 +235,8 @@ impl ObjectLists {
         requires somewhere { to ≢ Some 0 }
         ensures { self.new ≡ with_half half to self.old }
     {
-        match to {
-            Some(place) => self.put_first_at(half, place),
-            None => {}
+        if let Some(place) = to {
+            self.put_first_at(half, place);
         }
     }
 

@@ -1,11 +1,15 @@
 ghost use Rattle.std.specs.Prelude.{◌≡◌, ◌≤◌, ◌==◌};
-ghost use Rattle.cave_objects.specs.Halves.{object_of, half_number, half_of};
+ghost use Rattle.cave_objects.specs.Halves.{object_of, half_number, half_of, last_half};
+ghost use Rattle.cave_numbers.specs.Numbers.{last_object};
 
 use cave_numbers::LAST_OBJECT;
 use std::marker::Model;
 
 /// How many objects there may be, each of them in the arrays of a state.
 pub const OBJECTS: usize = LAST_OBJECT as usize;
+
+/// The number of the last first half.
+const LAST_FIRST: u8 = LAST_OBJECT as u8;
 
 /// The number of an object. 0 is no object: it is nowhere, and what is done to it does nothing.
 #[derive(Clone, Copy, Debug, PartialEq, Eq)]
@@ -15,12 +19,13 @@ pub struct Object {
 
 impl Model for Object {
     ghost use Rattle.std.specs.Prelude.{ℕ, ◌≤◌};
+    ghost use Rattle.cave_numbers.specs.Numbers.{last_object};
 
     ghost Value = { ℕ };
 
     ghost view = { λ x. x.number };
 
-    ghost invariant = { λ x. x.number ≤ 100 };
+    ghost invariant = { λ x. x.number ≤ last_object };
 
     ghost inverse = { λ n. record { number = n } };
 }
@@ -36,7 +41,7 @@ impl Default for Object {
 impl Object {
     /// The object of a number.
     pub fn new(number: u8) -> Object
-        requires { number ≤ 100 }
+        requires { number ≤ last_object }
         ensures { result ≡ number }
     {
         Object { number }
@@ -52,7 +57,7 @@ impl Object {
     /// The number of the object.
     pub fn number(self) -> u8
         ensures value { result ≡ self }
-        ensures within { result ≤ 100 }
+        ensures within { result ≤ last_object }
     {
         self.number
     }
@@ -93,25 +98,25 @@ impl Half {
         }
     }
 
-    /// A number of its own: the object's for a first half, 100 more for a second.
+    /// A number of its own: first halves have those of their objects, second ones come after them.
     pub fn number(&self) -> u8
         ensures value { result ≡ half_number self.now }
-        ensures within { result ≤ 200 }
-        ensures object { object_of self.now ≤ 100 }
+        ensures within { result ≤ last_half }
+        ensures object { object_of self.now ≤ last_object }
     {
         match self {
             Half::First(object) => object.number(),
-            Half::Second(object) => 100 + object.number(),
+            Half::Second(object) => LAST_FIRST + object.number(),
         }
     }
 
     /// The half of a number.
     pub fn numbered(number: u8) -> Half
-        requires { number ≤ 200 }
+        requires { number ≤ last_half }
         ensures { result ≡ half_of number }
     {
-        if number > 100 {
-            Half::Second(Object::new(number - 100))
+        if number > LAST_FIRST {
+            Half::Second(Object::new(number - LAST_FIRST))
         } else {
             Half::First(Object::new(number))
         }

@@ -10,6 +10,7 @@ ghost use Rattle.cave_objects.specs.Spots.{place_of_spot, place_of_anchor, spot_
 ghost use Rattle.cave_objects.specs.Lists.{halves_at, AreLists, AreRelisted};
 ghost use Rattle.cave_objects.specs.Layout.{is_listed};
 ghost use Rattle.cave_objects.specs.Halves.{object_of};
+ghost use Rattle.cave_numbers.specs.Numbers.{last_object};
 
 use crate::lists::{HALVES, ObjectLists};
 use crate::object::{Half, OBJECTS, Object};
@@ -37,13 +38,23 @@ impl Model for Objects {
 
     ghost use Rattle.cave_objects.specs.Layout.{IsLaid};
 
-    ghost view = { λ o. record { first = o.first; second = o.second; props = o.props; lists = o.lists } };
+    ghost view = { λ o. record {
+      first = o.first;
+      second = o.second;
+      props = o.props;
+      lists = o.lists;
+    } };
 
     ghost invariant = { λ o. let l : Layout =
         record { first = o.first; second = o.second; props = o.props; lists = o.lists } in
         IsLaid l };
 
-    ghost inverse = { λ l. record { first = l.first; second = l.second; props = l.props; lists = l.lists } };
+    ghost inverse = { λ l. record {
+      first = l.first;
+      second = l.second;
+      props = l.props;
+      lists = l.lists;
+    } };
 }
 
 impl Objects {
@@ -102,7 +113,7 @@ impl Objects {
     pub fn anchor(&self, object: Object) -> Anchor
         ensures value { result ≡ anchor_of self.now object }
         ensures listed { 0 < object → (q : ℕ)
-            → is_listed (100 + object) (halves_at q self.now.lists)
+            → is_listed (last_object + object) (halves_at q self.now.lists)
             ≡ is_place q (place_of_anchor result) }
     {
         if object.is_none() {
@@ -155,7 +166,7 @@ impl Objects {
     fn is_second_at(&self, place: Place, object: Object) -> bool
         ensures value { result ≡ is_place place (place_of_anchor (anchor_of self.now object)) }
         ensures listed { 0 < object
-            → result ≡ is_listed (100 + object) (halves_at place self.now.lists) }
+            → result ≡ is_listed (last_object + object) (halves_at place self.now.lists) }
     {
         match self.anchor(object).place() {
             Some(anchor) => anchor == place,
@@ -168,7 +179,8 @@ impl Objects {
     pub fn is_object_at(&self, place: Place, object: Object) -> bool
         ensures value { result ≡ is_object_at self.now place object }
         ensures listed { let halves = halves_at place self.now.lists in
-            0 < object → result ≡ (is_listed object halves || is_listed (100 + object) halves) }
+            0 < object
+            → result ≡ (is_listed object halves || is_listed (last_object + object) halves) }
     {
         self.is_first_at(place, object) || self.is_second_at(place, object)
     }
@@ -184,7 +196,7 @@ impl Objects {
         self.is_carried(object) || self.is_first_at(place, object)
     }
 
-    /// Brings the first half of an object to a spot.
+    /// Moves the first half of an object to a spot.
     #[tactic(auto, unfolding(crate::specs::Objects::with_spot))]
     pub fn move_to_spot(&mut self, object: Object, spot: Spot)
         ensures value { self.new ≡ with_spot self.old object spot }
@@ -271,7 +283,7 @@ impl Objects {
     #[tactic(auto, using(crate::proofs::Carried::counting_carried))]
     pub fn count_carried(&self) -> usize
         ensures value { result ≡ length (carried_objects self.now) }
-        ensures within { result ≤ 100 }
+        ensures within { result ≤ last_object }
     {
         let mut count = 0;
         for before in 0..OBJECTS {

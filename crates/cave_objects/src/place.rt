@@ -1,4 +1,5 @@
 ghost use Rattle.std.specs.Prelude.{◌≡◌, ◌≤◌};
+ghost use Rattle.cave_numbers.specs.Numbers.{last_place};
 
 use cave_numbers::LAST_PLACE;
 use std::marker::Model;
@@ -14,12 +15,13 @@ pub struct Place {
 
 impl Model for Place {
     ghost use Rattle.std.specs.Prelude.{ℕ, ◌≤◌};
+    ghost use Rattle.cave_numbers.specs.Numbers.{last_place};
 
     ghost Value = { ℕ };
 
     ghost view = { λ p. p.number };
 
-    ghost invariant = { λ p. p.number ≤ 300 };
+    ghost invariant = { λ p. p.number ≤ last_place };
 
     ghost inverse = { λ n. record { number = n } };
 }
@@ -27,7 +29,7 @@ impl Model for Place {
 impl Place {
     /// The place of a number.
     pub fn new(number: u16) -> Place
-        requires { number ≤ 300 }
+        requires { number ≤ last_place }
         ensures { result ≡ number }
     {
         Place { number }
@@ -36,7 +38,7 @@ impl Place {
     /// The number of the place.
     pub fn number(self) -> u16
         ensures value { result ≡ self }
-        ensures within { result ≤ 300 }
+        ensures within { result ≤ last_place }
     {
         self.number
     }

@@ -12,12 +12,13 @@ pub struct Site {
 
 impl Model for Site {
     ghost use Rattle.std.specs.Prelude.{ℕ, ◌≤◌};
+    ghost use Rattle.cave_numbers.specs.Numbers.{last_place};
 
     ghost Value = { ℕ };
 
     ghost view = { λ s. s.number };
 
-    ghost invariant = { λ s. (1 ≤ s.number) × (s.number ≤ 300) };
+    ghost invariant = { λ s. (1 ≤ s.number) × (s.number ≤ last_place) };
 
     ghost inverse = { λ n. record { number = n } };
 }

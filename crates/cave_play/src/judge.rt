@@ -21,7 +21,6 @@ use crate::machine::CaveMachine;
 use crate::read::read;
 use cave_data::Cave;
 use cave_rows::Cause;
-use cave_words::Lexicon;
 use edit_scripts::{Script, ScriptRefusal};
 use limits::{is_bad_every, is_large_seed};
 use log_lines::Meter;

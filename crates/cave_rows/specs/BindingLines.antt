@@ -16,6 +16,7 @@ use Rattle.cave_rows.specs.Fields.{fields, natural}
 use Rattle.cave_rows.specs.Rows.{◌>>=◌}
 use Rattle.cave_rows.specs.Role.{role_names}
 use Rattle.cave_rows.specs.PlaceRole.{place_names}
+use Rattle.cave_numbers.specs.Numbers.{last_place, last_message}
 
 -- a binding is two fields, a key and a number of 1 to 9 digits
 abbrev pub two_fields : List (List ℕ) → Result (List ℕ × List ℕ) Cause
@@ -31,12 +32,12 @@ position_of_name names name = position_from (λ known. bytes_eq known name) 0 na
 
 abbrev pub role_binding : List ℕ → ℕ → Result Binding Cause
 role_binding name n =
-    bound_within 1 499 n >>= λ value. ok_or (position_of_name role_names name) UnknownRole
+    bound_within 1 last_message n >>= λ value. ok_or (position_of_name role_names name) UnknownRole
     >>= λ number. Ok (record { key = RoleKey number; value = value })
 
 abbrev pub place_binding : List ℕ → ℕ → Result Binding Cause
 place_binding name n =
-    bound_within 1 300 n >>= λ value. ok_or (position_of_name place_names name) UnknownRole
+    bound_within 1 last_place n >>= λ value. ok_or (position_of_name place_names name) UnknownRole
     >>= λ number. Ok (record { key = PlaceKey number; value = value })
 
 abbrev pub letters_binding : ℕ → Result Binding Cause

@@ -12,6 +12,8 @@ use Rattle.cave_rows.specs.declared.number.Number.TheVariants.{Natural, Negative
 use Rattle.cave_rows.specs.declared.rows.Placement.{Placement}
 use Rattle.cave_rows.specs.declared.rows.Hint.{Hint}
 use Rattle.cave_rows.specs.Fields.{after_blanks, field, fields, number_of_field, number_at}
+use Rattle.cave_numbers.specs.Numbers.{last_place, last_object, last_named, last_action, last_hint}
+use Rattle.cave_numbers.specs.Numbers.{last_message}
 
 infixl 10 ◌>>=◌
 abbrev pub ◌>>=◌ : {A B : Type 0} → Result A Cause → (A → Result B Cause) → Result B Cause
@@ -31,6 +33,10 @@ pub record Going : Type 0 where
 -- a target says under which condition a row is taken, and after that what it leads to
 abbrev pub condition_of_target : ℕ → ℕ
 condition_of_target target = target / 1000
+
+-- the greatest condition, which the greatest target has: targets are numbers of 32 bits
+abbrev pub max_condition : ℕ
+max_condition = 4294967
 
 abbrev pub number_of_target : ℕ → ℕ
 number_of_target target = target % 1000
@@ -108,7 +114,7 @@ text_line low high line = do
 -- an object, or a hundred times a prop of the object before
 abbrev pub object_or_prop : Number → Result ℕ Cause
 object_or_prop (Natural n) =
-    if nat_le n 99 || (nat_le n 9900 && n % 100 == 0) then Ok n else Err OutOfRange
+    if nat_le n last_named || (nat_le n 9900 && n % 100 == 0) then Ok n else Err OutOfRange
 object_or_prop (Negative n) = Err OutOfRange
 
 unfoldable pub object_line : List ℕ → Result TextLine Cause
@@ -124,7 +130,7 @@ way_row line = do
   y ← number_or_cause x.1
   list ← list_in y.1
   ns ← some_of list
-  place ← within 1 300 x.0
+  place ← within 1 last_place x.0
   target ← within 0 999999 y.0
   all ← all_within 1 999 ns
   motions ← few_of all
@@ -160,7 +166,7 @@ number_or_zero bytes = if length (after_blanks bytes) == 0 then Ok (Natural 0, [
     else number_or_cause bytes
 
 abbrev pub second_place : Number → Result ℤ Cause
-second_place (Natural n) = if nat_le n 300 then Ok (pos n) else Err OutOfRange
+second_place (Natural n) = if nat_le n last_place then Ok (pos n) else Err OutOfRange
 second_place (Negative n) = if n == 1 then Ok (negsuc 0) else Err OutOfRange
 
 unfoldable pub placement_row : List ℕ → Result (ℕ × Placement) Cause
@@ -168,8 +174,8 @@ placement_row line = do
   x ← number_or_cause line
   p ← number_or_zero x.1
   q ← number_or_zero p.1
-  object ← within 1 100 x.0
-  first ← within 0 300 p.0
+  object ← within 1 last_object x.0
+  first ← within 0 last_place p.0
   second ← second_place q.0
   Ok (object, record { first = first; second = second })
 
@@ -177,16 +183,16 @@ unfoldable pub default_row : List ℕ → Result (ℕ × ℕ) Cause
 default_row line = do
   a ← number_or_cause line
   m ← number_or_cause a.1
-  action ← within 1 99 a.0
-  message ← within 0 499 m.0
+  action ← within 1 last_action a.0
+  message ← within 0 last_message m.0
   Ok (action, message)
 
 unfoldable pub condition_row : List ℕ → Result (ℕ × List ℕ) Cause
 condition_row line = do
   b ← number_or_cause line
   ns ← list_in b.1
-  bit ← within 0 20 b.0
-  all ← all_within 1 300 ns
+  bit ← within 0 last_hint b.0
+  all ← all_within 1 last_place ns
   places ← few_of all
   Ok (bit, places)
 
@@ -197,24 +203,24 @@ hint_row line = do
   p ← number_or_cause t.1
   q ← number_or_cause p.1
   x ← number_or_cause q.1
-  hint ← within 1 20 h.0
+  hint ← within 1 last_hint h.0
   turns ← within 0 9999 t.0
   points ← within 0 100 p.0
-  question ← within 0 499 q.0
-  text ← within 0 499 x.0
+  question ← within 0 last_message q.0
+  text ← within 0 last_message x.0
   Ok (hint, record { turns = turns; points = points; question = question; text = text })
 
 -- the row of a section that a line is
 abbrev pub entry_in : Section → List ℕ → Result Entry Cause
-entry_in section.LongTexts line = text_line 1 300 line >>= λ row. Ok (LongLine row)
-entry_in section.ShortTexts line = text_line 1 300 line >>= λ row. Ok (ShortLine row)
+entry_in section.LongTexts line = text_line 1 last_place line >>= λ row. Ok (LongLine row)
+entry_in section.ShortTexts line = text_line 1 last_place line >>= λ row. Ok (ShortLine row)
 entry_in section.Travel line = way_row line >>= λ row. Ok (Way row.0 row.1)
 entry_in section.Words line = word_row line >>= λ row. Ok (Word row)
 entry_in section.Objects line = object_line line >>= λ row. Ok (ObjectLine row)
-entry_in section.Messages line = text_line 1 499 line >>= λ row. Ok (MessageLine row)
+entry_in section.Messages line = text_line 1 last_message line >>= λ row. Ok (MessageLine row)
 entry_in section.Placements line = placement_row line >>= λ row. Ok (PlacementRow row.0 row.1)
 entry_in section.Defaults line = default_row line >>= λ row. Ok (DefaultRow row.0 row.1)
 entry_in section.Conditions line = condition_row line >>= λ row. Ok (ConditionRow row.0 row.1)
 entry_in section.Classes line = text_line 0 9999 line >>= λ row. Ok (ClassLine row)
 entry_in section.Hints line = hint_row line >>= λ row. Ok (HintRow row.0 row.1)
-entry_in section.Magic line = text_line 1 499 line >>= λ row. Ok (MagicLine row)
+entry_in section.Magic line = text_line 1 last_message line >>= λ row. Ok (MagicLine row)

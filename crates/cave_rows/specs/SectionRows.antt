@@ -3,7 +3,8 @@ use Rattle.std.specs.Prelude.{ℕ, List, Option, Some, None}
 use Rattle.cave_rows.specs.declared.rows.Placement.{Placement}
 use Rattle.cave_rows.specs.declared.rows.Hint.{Hint}
 use Rattle.cave_rows.specs.Rows.{Entry, TextLine, Going, WordEntry, LongLine, ShortLine, Way, Word}
-use Rattle.cave_rows.specs.Rows.{ObjectLine, MessageLine, PlacementRow, DefaultRow, ConditionRow, ClassLine, HintRow}
+use Rattle.cave_rows.specs.Rows.{ObjectLine, MessageLine, PlacementRow, DefaultRow, ConditionRow}
+use Rattle.cave_rows.specs.Rows.{ClassLine, HintRow}
 
 abbrev pub way_of : Entry → Option (ℕ × Going)
 way_of (Way place going) = Some (place, going)

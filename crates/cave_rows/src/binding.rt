@@ -58,7 +58,7 @@ fn bound_within(n: u32, low: u16, high: u16) -> Result<u16, Cause>
 }
 
 /// The number of the name in a table of names.
-fn name_number(names: &[&str], name: &[u8]) -> Option<u16>
+fn position_of_name(names: &[&str], name: &[u8]) -> Option<u16>
     requires { length names.now < 2 ^ 16 }
     ensures { result ≡ position_of_name (map (λ known. known.now) names.now) name.now }
 {
@@ -86,7 +86,7 @@ fn role_binding(name: &[u8], n: u32) -> Result<Binding, Cause>
     ensures { Answers (λ binding. binding) result (role_binding name.now n) }
 {
     let value = bound_within(n, 1, LAST_MESSAGE)?;
-    let number = name_number(&ROLE_NAMES, name).ok_or(Cause::UnknownRole)?;
+    let number = position_of_name(&ROLE_NAMES, name).ok_or(Cause::UnknownRole)?;
     Ok(Binding {
         key: Key::RoleKey(number),
         value,
@@ -97,7 +97,7 @@ fn place_binding(name: &[u8], n: u32) -> Result<Binding, Cause>
     ensures { Answers (λ binding. binding) result (place_binding name.now n) }
 {
     let value = bound_within(n, 1, LAST_PLACE)?;
-    let number = name_number(&PLACE_NAMES, name).ok_or(Cause::UnknownRole)?;
+    let number = position_of_name(&PLACE_NAMES, name).ok_or(Cause::UnknownRole)?;
     Ok(Binding {
         key: Key::PlaceKey(number),
         value,

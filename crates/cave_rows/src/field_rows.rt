@@ -10,14 +10,14 @@ ghost use Rattle.cave_rows.specs.Rows.{object_or_prop, object_line, way_row, is_
 ghost use Rattle.cave_rows.specs.Rows.{word_number, word_or_cause, word_row, number_or_zero};
 ghost use Rattle.cave_rows.specs.Rows.{second_place, placement_row, default_row, condition_row};
 ghost use Rattle.cave_rows.specs.Rows.{hint_row};
+ghost use Rattle.cave_numbers.specs.Numbers.{last_hint};
 
 use crate::error::Cause;
-use crate::number::{Number, number_at, number_of};
+use crate::number::{Number, number_at, number_of_field};
 use crate::rows::{Hint, MAX_LIST, Placement, Row, WordRow};
 use arrayvec::ArrayVec;
-use cave_numbers::{LAST_HINT, LAST_MESSAGE, LAST_OBJECT, LAST_PLACE};
+use cave_numbers::{LAST_ACTION, LAST_HINT, LAST_MESSAGE, LAST_NAMED, LAST_OBJECT, LAST_PLACE};
 use log_lines::bytes::{skip_blanks, split_word};
-use std::alloc::Global;
 
 /// The greatest length of a line of a text.
 const MAX_TEXT: usize = 255;
@@ -38,7 +38,7 @@ pub(crate) fn next_field(bytes: &[u8]) -> Option<(&[u8], &[u8])>
 }
 
 /// The number in the first field and what follows it.
-fn number_in(bytes: &[u8]) -> Result<(Number, &[u8]), Cause>
+fn number_or_cause(bytes: &[u8]) -> Result<(Number, &[u8]), Cause>
     ensures { Answers (λ found. (found.0, found.1.now)) result (number_or_cause bytes.now) }
 {
     number_at(bytes).ok_or(Cause::BadNumber)
@@ -96,7 +96,7 @@ fn list_in(bytes: &[u8], low: u16, high: u16) -> Result<List, Cause>
     let mut list = Ok(ArrayVec::new());
     let mut rest = bytes;
     while let Some((field, after)) = next_field(rest) {
-        let Some(number) = number_of(field) else {
+        let Some(number) = number_of_field(field) else {
             return Err(Cause::BadNumber);
         };
         if is_zero(number) {
@@ -128,7 +128,7 @@ fn text_in(bytes: &[u8]) -> Result<&[u8], Cause>
 pub fn text_line(line: &[u8], low: u16, high: u16) -> Result<(u16, &[u8]), Cause>
     ensures { Answers text_line_of result (text_line low high line.now) }
 {
-    let (number, rest) = number_in(line)?;
+    let (number, rest) = number_or_cause(line)?;
     let number = within(number, low, high)?;
     let text = text_in(rest)?;
     Ok((number, text))
@@ -140,7 +140,9 @@ fn object_or_prop(number: Number) -> Result<u16, Cause>
     ensures range { IfOk result (λ n. n ≤ 9900) }
 {
     match number {
-        Number::Natural(n) if n <= 99 || (n <= 9900 && n % 100 == 0) => Ok(n as u16),
+        Number::Natural(n) if n <= u32::from(LAST_NAMED) || (n <= 9900 && n % 100 == 0) => Ok(
+            n as u16,
+        ),
         _ => Err(Cause::OutOfRange),
     }
 }
@@ -151,7 +153,7 @@ pub fn object_line(line: &[u8]) -> Result<(u16, &[u8]), Cause>
     ensures value { Answers text_line_of result (object_line line.now) }
     ensures range { IfOk result (λ row. row.0 ≤ 9900) }
 {
-    let (number, rest) = number_in(line)?;
+    let (number, rest) = number_or_cause(line)?;
     let number = object_or_prop(number)?;
     let text = text_in(rest)?;
     Ok((number, text))
@@ -172,8 +174,8 @@ fn some_of(list: List) -> Result<List, Cause>
 pub fn way_row(line: &[u8]) -> Result<Row, Cause>
     ensures { Answers (λ row. (row.place, going row)) result (way_row line.now) }
 {
-    let (place, rest) = number_in(line)?;
-    let (target, rest) = number_in(rest)?;
+    let (place, rest) = number_or_cause(line)?;
+    let (target, rest) = number_or_cause(rest)?;
     let motions = some_of(list_in(rest, 1, 999)?)?;
     Ok(Row {
         place: within(place, 1, LAST_PLACE)?,
@@ -221,7 +223,7 @@ fn word_in(bytes: &[u8]) -> Result<&[u8], Cause>
 pub fn word_row(line: &[u8]) -> Result<WordRow<'_>, Cause>
     ensures { Answers word_entry result (word_row line.now) }
 {
-    let (number, rest) = number_in(line)?;
+    let (number, rest) = number_or_cause(line)?;
     let word = word_in(rest)?;
     let number = word_number(number)?;
     Ok(WordRow { number, word })
@@ -234,7 +236,7 @@ fn number_or_zero(bytes: &[u8]) -> Result<(Number, &[u8]), Cause>
     if skip_blanks(bytes).is_empty() {
         Ok((Number::Natural(0), &[]))
     } else {
-        number_in(bytes)
+        number_or_cause(bytes)
     }
 }
 
@@ -254,7 +256,7 @@ fn second_place(number: Number) -> Result<i16, Cause>
 pub fn placement_row(line: &[u8]) -> Result<(u16, Placement), Cause>
     ensures { Answers (λ row. row) result (placement_row line.now) }
 {
-    let (object, rest) = number_in(line)?;
+    let (object, rest) = number_or_cause(line)?;
     let (first, rest) = number_or_zero(rest)?;
     let (second, _) = number_or_zero(rest)?;
     let object = within(object, 1, LAST_OBJECT)?;
@@ -268,9 +270,9 @@ pub fn placement_row(line: &[u8]) -> Result<(u16, Placement), Cause>
 pub fn default_row(line: &[u8]) -> Result<(u16, u16), Cause>
     ensures { Answers (λ row. row) result (default_row line.now) }
 {
-    let (action, rest) = number_in(line)?;
-    let (message, _) = number_in(rest)?;
-    let action = within(action, 1, 99)?;
+    let (action, rest) = number_or_cause(line)?;
+    let (message, _) = number_or_cause(rest)?;
+    let action = within(action, 1, LAST_ACTION)?;
     let message = within(message, 0, LAST_MESSAGE)?;
     Ok((action, message))
 }
@@ -279,9 +281,9 @@ pub fn default_row(line: &[u8]) -> Result<(u16, u16), Cause>
 #[tactic(auto, unfolding(crate::specs::Rows::condition_row))]
 pub fn condition_row(line: &[u8]) -> Result<(u16, ArrayVec<u16, MAX_LIST>), Cause>
     ensures value { Answers (λ row. (row.0, row.1.items)) result (condition_row line.now) }
-    ensures range { IfOk result (λ row. row.0 ≤ 20) }
+    ensures range { IfOk result (λ row. row.0 ≤ last_hint) }
 {
-    let (bit, rest) = number_in(line)?;
+    let (bit, rest) = number_or_cause(line)?;
     let places = list_in(rest, 1, LAST_PLACE)?;
     let bit = within(bit, 0, LAST_HINT)?;
     Ok((bit, places?))
@@ -292,11 +294,11 @@ pub fn condition_row(line: &[u8]) -> Result<(u16, ArrayVec<u16, MAX_LIST>), Caus
 pub fn hint_row(line: &[u8]) -> Result<(u16, Hint), Cause>
     ensures { Answers (λ row. row) result (hint_row line.now) }
 {
-    let (hint, rest) = number_in(line)?;
-    let (turns, rest) = number_in(rest)?;
-    let (points, rest) = number_in(rest)?;
-    let (question, rest) = number_in(rest)?;
-    let (text, _) = number_in(rest)?;
+    let (hint, rest) = number_or_cause(line)?;
+    let (turns, rest) = number_or_cause(rest)?;
+    let (points, rest) = number_or_cause(rest)?;
+    let (question, rest) = number_or_cause(rest)?;
+    let (text, _) = number_or_cause(rest)?;
     let hint = within(hint, 1, LAST_HINT)?;
     let row = Hint {
         turns: within(turns, 0, 9999)?,

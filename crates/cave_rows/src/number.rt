@@ -33,7 +33,7 @@ pub fn natural(digits: &[u8]) -> Option<u32>
 
 /// The number that a field spells.
 #[tactic(auto, unfolding(crate::specs::Fields::number_of_field))]
-pub fn number_of(field: &[u8]) -> Option<Number>
+pub fn number_of_field(field: &[u8]) -> Option<Number>
     ensures { result ≡ number_of_field field.now }
 {
     match field {
@@ -60,6 +60,6 @@ pub fn number_at(bytes: &[u8]) -> Option<(Number, &[u8])>
     ensures { option_map (λ found. (found.0, found.1.now)) result ≡ number_at bytes.now }
 {
     let (field, after) = split_word(skip_blanks(bytes));
-    let number = number_of(field)?;
+    let number = number_of_field(field)?;
     Some((number, after))
 }

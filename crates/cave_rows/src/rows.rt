@@ -1,6 +1,6 @@
 //! Rows of a database.
-ghost use Rattle.std.specs.Prelude.{◌≡◌, ◌<◌};
-ghost use Rattle.cave_rows.specs.Rows.{condition_of_target, number_of_target};
+ghost use Rattle.std.specs.Prelude.{◌≡◌, ◌≤◌};
+ghost use Rattle.cave_rows.specs.Rows.{condition_of_target, number_of_target, max_condition};
 
 use arrayvec::ArrayVec;
 
@@ -19,7 +19,7 @@ impl Row {
     /// The condition under which the row is taken.
     pub fn condition(&self) -> u32
         ensures value { result ≡ condition_of_target self.now.target }
-        ensures within { result < 4294968 }
+        ensures within { result ≤ max_condition }
     {
         self.target / 1000
     }

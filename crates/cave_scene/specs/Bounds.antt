@@ -27,6 +27,30 @@ parts_of_question = 2
 abbrev pub parts_of_dwarves : ℕ
 parts_of_dwarves = 4
 
+-- knives: how many were thrown, how many hit
+abbrev pub parts_of_throws : ℕ
+parts_of_throws = 2
+
+-- what dwarves do: how many they are, and their knives
+abbrev pub parts_of_attack : ℕ
+parts_of_attack = 3
+
+-- the text of a place, after the bear
+abbrev pub parts_of_text : ℕ
+parts_of_text = 2
+
+-- darkness: the bear, that it is dark, something hollow
+abbrev pub parts_of_darkness : ℕ
+parts_of_darkness = 3
+
+-- a fall into a pit: a line and a death
+abbrev pub parts_of_fall : ℕ
+parts_of_fall = 5
+
+-- the clocks: the cave begins to close, and the lamp
+abbrev pub parts_of_clocks : ℕ
+parts_of_clocks = 2
+
 -- a place that is described: the bear, its text, something hollow, and 200 halves of objects
 abbrev pub parts_of_place : ℕ
 parts_of_place = 203
@@ -76,7 +100,7 @@ parts_of_deed left = 5 * left + 223
 abbrev pub room_of_deed : ℕ → ℕ
 room_of_deed left = 5 * left + 323
 
--- the same after 2 of the clocks
+-- what is read is done after 2 of the clocks
 abbrev pub parts_of_timed_deed : ℕ → ℕ
 parts_of_timed_deed left = 5 * left + 225
 

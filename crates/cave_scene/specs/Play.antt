@@ -35,9 +35,14 @@ IsSamePlay old new =
 abbrev pub GoesOn : Play → Play → Type 0
 GoesOn old new = IsSamePlay old new × (new.left ≡ old.left)
 
+-- the most forced motions of a turn
+abbrev pub max_forced_motions : ℕ
+max_forced_motions = 20
+
 -- a turn begins with nothing said, and with all its forced motions
 abbrev pub scene_at_start : Bool → State → Scene
-scene_at_start was_dark s = record { state = s; parts = []; was_dark = was_dark; left = 20 }
+scene_at_start was_dark s =
+    record { state = s; parts = []; was_dark = was_dark; left = max_forced_motions }
 
 abbrev pub with_state : State → Scene → Scene
 with_state s p = record p { state = s }

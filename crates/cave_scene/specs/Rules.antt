@@ -7,11 +7,12 @@ use Rattle.cave_words.specs.declared.named.Named.{Named}
 use Rattle.cave_words.specs.declared.named.Named.TheVariants as named
 use Rattle.cave_scene.specs.declared.rules.Rules.{Rules}
 use Rattle.std.specs.Prelude.{nat_le, Option, Some, None}
+use Rattle.cave_numbers.specs.Numbers.{last_object}
 
 -- an object, or 0 where there is none
 abbrev pub or_no_object : Option ℕ → ℕ
 or_no_object None = 0
-or_no_object (Some object) = if nat_le object 100 then object else 0
+or_no_object (Some object) = if nat_le object last_object then object else 0
 
 -- the cave that the rules are of
 abbrev pub cave_of : Rules → CaveView

@@ -1,4 +1,5 @@
-//! The scene of a turn: the rules of a cave, what a turn changes and says, and how many parts that is.
+//! The scene of a turn: the rules of a cave, what a turn changes and says, and how many parts that
+//! is.
 #![tactic(auto)]
 
 pub mod numbers;

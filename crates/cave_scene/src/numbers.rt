@@ -1,6 +1,7 @@
 ghost use Rattle.std.specs.Prelude.{◌≡◌};
 ghost use Rattle.cave_scene.specs.Rules.{or_no_object};
 
+use cave_numbers::LAST_OBJECT;
 use cave_objects::Object;
 
 /// The object of a number; object 0 where there is none.
@@ -8,7 +9,7 @@ pub fn or_no_object(object: Option<u16>) -> Object
     ensures { result ≡ or_no_object object }
 {
     match object {
-        Some(number) if number <= 100 => Object::new(number as u8),
+        Some(number) if number <= LAST_OBJECT => Object::new(number as u8),
         _ => Object::none(),
     }
 }

@@ -1,9 +1,12 @@
-ghost use Rattle.std.specs.Prelude.{◌≡◌, ◌≤◌, ◌<◌};
+ghost use Rattle.std.specs.Prelude.{◌≡◌, ◌≤◌, ◌<◌, ◌*◌};
 ghost use Rattle.cave_scene.specs.Rules.{cave_of};
 ghost use Rattle.cave_score.specs.Score.{life_points, ending_points, dwarf_points, closing_points};
 ghost use Rattle.cave_score.specs.Score.{escape_points, closed_points, lies_at, magazine_points};
 ghost use Rattle.cave_score.specs.Score.{points_of, price_of, hint_costs};
 ghost use Rattle.cave_score.specs.Score.{score_of, max_score_of};
+ghost use Rattle.cave_score.specs.Score.{LIVES, POINTS_OF_LIFE, POINTS_OF_ENDING};
+ghost use Rattle.cave_score.specs.Score.{POINTS_OF_DWARVES, POINTS_OF_CLOSING, POINTS_OF_SUCCESS};
+ghost use Rattle.cave_score.specs.Score.{POINTS_OF_MAGAZINE};
 
 use crate::treasures::treasure_points;
 use crate::worths::most_treasure_points;
@@ -34,6 +37,15 @@ const POINTS_OF_CLOSING: u32 = 25;
 /// What it counts at most that the cave closed.
 const POINTS_OF_SUCCESS: u32 = 45;
 
+/// What it counts that the player got out of the closed cave the wrong way.
+const POINTS_OF_WRONG_WAY: u32 = 30;
+
+/// What it counts that the player blew up the closed cave, and the player with it.
+const POINTS_OF_KLUTZ: u32 = 25;
+
+/// What it counts that the cave closed, where the game went on or ended otherwise.
+const POINTS_OF_CLOSED: u32 = 10;
+
 /// What it counts that the magazine is at its place.
 const POINTS_OF_MAGAZINE: u32 = 1;
 
@@ -42,7 +54,7 @@ const POINTS_OF_PLAYING: u32 = 2;
 
 fn life_points(state: &State) -> u32
     ensures value { result ≡ life_points state.now }
-    ensures most { result ≤ 30 }
+    ensures most { result ≤ LIVES * POINTS_OF_LIFE }
 {
     POINTS_OF_LIFE * (LIVES - u32::from(state.tallies.deaths.number()))
 }
@@ -50,7 +62,7 @@ fn life_points(state: &State) -> u32
 /// What a game counts that has ended in another way than by quitting.
 fn ending_points(ending: Option<Ending>) -> u32
     ensures value { result ≡ ending_points ending }
-    ensures most { result ≤ 4 }
+    ensures most { result ≤ POINTS_OF_ENDING }
 {
     match ending {
         None | Some(Ending::Quit) => 0,
@@ -62,7 +74,7 @@ fn ending_points(ending: Option<Ending>) -> u32
 
 fn dwarf_points(state: &State) -> u32
     ensures value { result ≡ dwarf_points state.now }
-    ensures most { result ≤ 25 }
+    ensures most { result ≤ POINTS_OF_DWARVES }
 {
     if state.dwarves.anger.number() == 0 {
         0
@@ -73,7 +85,7 @@ fn dwarf_points(state: &State) -> u32
 
 fn closing_points(state: &State) -> u32
     ensures value { result ≡ closing_points state.now }
-    ensures most { result ≤ 25 }
+    ensures most { result ≤ POINTS_OF_CLOSING }
 {
     if state.closing.is_closing {
         POINTS_OF_CLOSING
@@ -85,19 +97,19 @@ fn closing_points(state: &State) -> u32
 /// What it counts to have got out of the closed cave, or to be in it.
 fn escape_points(ending: Option<Ending>) -> u32
     ensures value { result ≡ escape_points ending }
-    ensures most { result ≤ 45 }
+    ensures most { result ≤ POINTS_OF_SUCCESS }
 {
     match ending {
         Some(Ending::Success) => POINTS_OF_SUCCESS,
-        Some(Ending::WrongWay) => 30,
-        Some(Ending::Klutz) => 25,
-        None | Some(Ending::Quit | Ending::Killed) => 10,
+        Some(Ending::WrongWay) => POINTS_OF_WRONG_WAY,
+        Some(Ending::Klutz) => POINTS_OF_KLUTZ,
+        None | Some(Ending::Quit | Ending::Killed) => POINTS_OF_CLOSED,
     }
 }
 
 fn closed_points(state: &State) -> u32
     ensures value { result ≡ closed_points state.now }
-    ensures most { result ≤ 45 }
+    ensures most { result ≤ POINTS_OF_SUCCESS }
 {
     if state.closing.is_closed {
         escape_points(state.ending)
@@ -117,7 +129,7 @@ fn lies_at(state: &State, object: Object, place: Option<Place>) -> bool
 
 fn magazine_points(rules: &Rules<'_>, state: &State) -> u32
     ensures value { result ≡ magazine_points (cave_of rules.now) state.now }
-    ensures most { result ≤ 1 }
+    ensures most { result ≤ POINTS_OF_MAGAZINE }
 {
     let witt = place_named(rules.cave, PlaceRole::Witt);
     if lies_at(state, rules.object(Named::Magazine), witt) {
@@ -144,7 +156,7 @@ fn points(rules: &Rules<'_>, state: &State) -> u32
 }
 
 #[tactic(auto, unfolding(crate::specs::Score::price_of))]
-fn hint_price(cave: &Cave, hint: u16) -> u32
+fn price_of(cave: &Cave, hint: u16) -> u32
     ensures value { result ≡ price_of cave.now hint }
     ensures most { result ≤ 65535 }
 {
@@ -162,7 +174,7 @@ fn hint_costs(cave: &Cave, state: &State) -> u32
     let mut costs = 0;
     for hint in 1..HINTS as u8 + 1 {
         if state.is_hint_taken(HintNumber::new(hint)) {
-            costs += hint_price(cave, u16::from(hint));
+            costs += price_of(cave, u16::from(hint));
         }
     }
     costs

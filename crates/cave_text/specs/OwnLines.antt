@@ -35,7 +35,8 @@ number_line number.KnivesThrown n most =
     number_between (codes "") n (codes " of them throw knives at you!\n")
 number_line number.KnivesHit n most = number_between (codes "") n (codes " of them get you!\n")
 number_line number.HintCosts n most =
-    number_between (codes "I am prepared to give you a hint, but it will cost you ") n (points_end n)
+    number_between (codes "I am prepared to give you a hint, but it will cost you ") n
+    (points_end n)
 number_line number.ScoreNow n most =
     score_line (codes "If you were to quit now, you would score ") n most (codes ".\n")
 number_line number.PointsWanted n most =

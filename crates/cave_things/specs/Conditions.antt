@@ -12,5 +12,5 @@ bit_of condition.Liquid = 2
 bit_of condition.NoPirate = 3
 
 -- a place has a condition
-abbrev pub meets_condition : CaveView → ℕ → Condition → Bool
-meets_condition cave place c = has_condition cave place (bit_of c)
+abbrev pub has_condition_of : CaveView → ℕ → Condition → Bool
+has_condition_of cave place c = has_condition cave place (bit_of c)

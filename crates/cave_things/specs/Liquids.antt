@@ -6,7 +6,7 @@ use Rattle.cave_data.specs.CaveView.{CaveView}
 use Rattle.cave_words.specs.declared.named.Named.TheVariants as name
 use Rattle.cave_objects.specs.Objects.{prop_of}
 use Rattle.cave_world.specs.declared.state.State.{State}
-use Rattle.cave_things.specs.Conditions.{meets_condition}
+use Rattle.cave_things.specs.Conditions.{has_condition_of}
 use Rattle.cave_scene.specs.Rules.{thing}
 use Rattle.cave_things.specs.declared.conditions.Condition.TheVariants as condition
 
@@ -18,8 +18,8 @@ is_liquid x (Some liquid) = not (x == 0) && liquid == x
 -- the liquid of the lake where the player is: oil where the place says so, and else water
 unfoldable pub lake_of : CaveView → State → Option ℕ
 lake_of cave s =
-    if meets_condition cave s.trail.here condition.Liquid
-    then (if meets_condition cave s.trail.here condition.Oil then Some (thing cave name.Oil)
+    if has_condition_of cave s.trail.here condition.Liquid
+    then (if has_condition_of cave s.trail.here condition.Oil then Some (thing cave name.Oil)
     else Some (thing cave name.Water))
     else None
 

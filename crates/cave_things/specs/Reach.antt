@@ -13,6 +13,8 @@ use Rattle.cave_world.specs.declared.dwarves.Dwarf.{Dwarf}
 use Rattle.cave_world.specs.declared.state.State.{State}
 use Rattle.cave_scene.specs.Rules.{is_called, thing}
 use Rattle.cave_things.specs.Liquids.{liquid_of, is_liquid}
+use Rattle.cave_things.specs.Treasures.{first_treasure, last_treasure}
+use Rattle.cave_world.specs.Dwarves.{pirate}
 
 -- an object is carried: a liquid where the bottle is carried and has it
 unfoldable pub is_in_hand : CaveView → State → ℕ → Bool
@@ -35,17 +37,17 @@ has_other_prop s x v = not (x == 0) && not (int_eq (prop_of s.objects x) v)
 unfoldable pub has_prop_up_to : State → ℕ → ℤ → Bool
 has_prop_up_to s x v = not (x == 0) && int_le (prop_of s.objects x) v
 
--- the treasures are the objects from 50 to 79
+-- an object is a treasure, by its number
 abbrev pub is_treasure : ℕ → Bool
-is_treasure x = nat_le 50 x && nat_le x 79
+is_treasure x = nat_le first_treasure x && nat_le x last_treasure
 
 abbrev pub is_dwarf_at : ℕ → Dwarf → Bool
 is_dwarf_at place dwarf = dwarf.place == place
 
--- one of the five dwarves, once they are angry, is where the player is
+-- one of the dwarves before the pirate, once they are angry, is where the player is
 unfoldable pub is_dwarf_here : State → Bool
 is_dwarf_here s =
-    nat_le 2 s.dwarves.anger && list_any (is_dwarf_at s.trail.here) (take 5 s.dwarves.each)
+    nat_le 2 s.dwarves.anger && list_any (is_dwarf_at s.trail.here) (take pirate s.dwarves.each)
 
 abbrev pub is_anchored : Anchor → Bool
 is_anchored anchor.Loose = false

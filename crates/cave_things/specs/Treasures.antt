@@ -3,9 +3,21 @@ use Rattle.std.specs.Prelude.{ℕ, Bool, List, filter, is_some}
 use Rattle.std.specs.List.{range_with_len}
 use Rattle.cave_data.specs.CaveView.{CaveView, inventory_text}
 
--- the treasures by their numbers, from 50 to 79
+-- the least number of a treasure
+abbrev pub first_treasure : ℕ
+first_treasure = 50
+
+-- the greatest number of a treasure
+abbrev pub last_treasure : ℕ
+last_treasure = 79
+
+-- how many treasures there may be
+abbrev pub most_treasures : ℕ
+most_treasures = 30
+
+-- the treasures by their numbers
 unfoldable pub treasures : List ℕ
-treasures = range_with_len 50 30
+treasures = range_with_len first_treasure most_treasures
 
 -- a cave knows the objects that have an inventory text
 abbrev pub is_known : CaveView → ℕ → Bool

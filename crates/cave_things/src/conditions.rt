@@ -1,7 +1,7 @@
 //! The conditions that a place may have.
 
 ghost use Rattle.std.specs.Prelude.{◌≡◌, ◌<◌};
-ghost use Rattle.cave_things.specs.Conditions.{bit_of, meets_condition};
+ghost use Rattle.cave_things.specs.Conditions.{bit_of, has_condition_of};
 ghost use Rattle.cave_scene.specs.Rules.{cave_of};
 
 use cave_objects::Place;
@@ -36,7 +36,7 @@ impl Condition {
 
 /// Whether a place has a condition.
 pub fn has_condition_of(rules: &Rules<'_>, place: Place, condition: Condition) -> bool
-    ensures { result ≡ meets_condition (cave_of rules.now) place condition }
+    ensures { result ≡ has_condition_of (cave_of rules.now) place condition }
 {
     has_condition(rules.cave, place, condition.bit())
 }

@@ -1,7 +1,8 @@
 ghost use Rattle.std.specs.Prelude.{◌≡◌};
 ghost use Rattle.cave_scene.specs.Rules.{cave_of};
 ghost use Rattle.cave_things.specs.Effects.{vessel, with_bird_in_cage, with_free_bird, put_down};
-ghost use Rattle.cave_things.specs.Effects.{let_go, without_troll, with_one_more_lost, after_loss_to_snake};
+ghost use Rattle.cave_things.specs.Effects.{let_go, without_troll, with_one_more_lost};
+ghost use Rattle.cave_things.specs.Effects.{after_loss_to_snake};
 
 use crate::homes::{hold, home, is_at_home};
 use crate::liquids::{is_liquid, liquid};
@@ -21,7 +22,7 @@ fn vessel(rules: &Rules<'_>, state: &State, object: Object) -> Object
     }
 }
 
-fn bring_bird(rules: &Rules<'_>, object: Object, state: &mut State)
+fn put_bird_down(rules: &Rules<'_>, object: Object, state: &mut State)
     ensures { state.new ≡ with_bird_in_cage (cave_of rules.now) object state.old }
 {
     let bird = rules.object(Named::Bird);
@@ -45,7 +46,7 @@ pub fn put_down(rules: &Rules<'_>, object: Object, state: &mut State)
     ensures { state.new ≡ put_down (cave_of rules.now) object state.old }
 {
     let object = vessel(rules, state, object);
-    bring_bird(rules, object, state);
+    put_bird_down(rules, object, state);
     free_bird(rules, object, state);
     let here = state.trail.here;
     state.move_to(object, here);

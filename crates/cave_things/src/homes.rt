@@ -2,6 +2,7 @@ ghost use Rattle.std.specs.Prelude.{◌≡◌, ◌≤ℤ◌, pos};
 ghost use Rattle.cave_scene.specs.Rules.{cave_of};
 ghost use Rattle.cave_things.specs.Homes.{home, anchor_by, hold_of, second_home, is_at_home};
 ghost use Rattle.cave_things.specs.Homes.{is_home_here, is_home_elsewhere};
+ghost use Rattle.cave_numbers.specs.Numbers.{last_place};
 
 use cave_objects::{Anchor, Object, Place, Spot};
 use cave_scene::Rules;
@@ -9,7 +10,7 @@ use cave_world::State;
 
 /// What a second number of a row of places says of the object's second half.
 pub fn anchor_by(second: i16) -> Anchor
-    requires { second ≤ℤ pos 300 }
+    requires { second ≤ℤ pos last_place }
     ensures { result ≡ anchor_by second }
 {
     if second < 0 {

@@ -4,6 +4,7 @@ ghost use Rattle.cave_things.specs.Places.{place_named, place_or};
 ghost use Rattle.cave_things.specs.Places.{start_place, outside_place, deep_place, building_place};
 
 use cave_data::Cave;
+use cave_data::cave::{DEFAULT_BUILDING, DEFAULT_DEEP, DEFAULT_OUTSIDE, DEFAULT_START};
 use cave_objects::Place;
 use cave_rows::PlaceRole;
 
@@ -12,10 +13,7 @@ use cave_rows::PlaceRole;
 pub fn place_named(cave: &Cave, role: PlaceRole) -> Option<Place>
     ensures { result ≡ place_named cave.now role }
 {
-    match cave.place(role) {
-        Some(number) => Some(Place::new(number)),
-        None => None,
-    }
+    Some(Place::new(cave.place(role)?))
 }
 
 /// Whether a place is the one that is named, if one is.
@@ -43,7 +41,10 @@ pub fn place_or(other: Place, named: Option<Place>) -> Place
 pub fn start_place(cave: &Cave) -> Place
     ensures { result ≡ start_place cave.now }
 {
-    place_or(Place::new(1), place_named(cave, PlaceRole::Start))
+    place_or(
+        Place::new(DEFAULT_START),
+        place_named(cave, PlaceRole::Start),
+    )
 }
 
 /// The last place outside the cave.
@@ -51,7 +52,10 @@ pub fn start_place(cave: &Cave) -> Place
 pub fn outside_place(cave: &Cave) -> Place
     ensures { result ≡ outside_place cave.now }
 {
-    place_or(Place::new(8), place_named(cave, PlaceRole::Outside))
+    place_or(
+        Place::new(DEFAULT_OUTSIDE),
+        place_named(cave, PlaceRole::Outside),
+    )
 }
 
 /// The first place of the cave's depths.
@@ -59,7 +63,7 @@ pub fn outside_place(cave: &Cave) -> Place
 pub fn deep_place(cave: &Cave) -> Place
     ensures { result ≡ deep_place cave.now }
 {
-    place_or(Place::new(15), place_named(cave, PlaceRole::Deep))
+    place_or(Place::new(DEFAULT_DEEP), place_named(cave, PlaceRole::Deep))
 }
 
 /// The place where treasures are to be brought.
@@ -67,5 +71,8 @@ pub fn deep_place(cave: &Cave) -> Place
 pub fn building_place(cave: &Cave) -> Place
     ensures { result ≡ building_place cave.now }
 {
-    place_or(Place::new(3), place_named(cave, PlaceRole::Building))
+    place_or(
+        Place::new(DEFAULT_BUILDING),
+        place_named(cave, PlaceRole::Building),
+    )
 }

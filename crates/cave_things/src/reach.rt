@@ -11,7 +11,7 @@ use crate::treasures::{FIRST_TREASURE, LAST_TREASURE};
 use cave_objects::{Anchor, Object, Place};
 use cave_scene::Rules;
 use cave_words::Named;
-use cave_world::{Dwarf, State};
+use cave_world::{Dwarf, PIRATE, State};
 
 /// Whether an object is carried: a liquid where the bottle is carried and has it.
 #[tactic(auto, unfolding(crate::specs::Reach::is_in_hand))]
@@ -76,12 +76,12 @@ fn some_is_at(place: Place, dwarves: &[Dwarf]) -> bool
     dwarves.iter().any(|dwarf| is_at(place, dwarf))
 }
 
-/// Whether one of the five dwarves, once they are angry, is where the player is.
+/// Whether one of the dwarves before the pirate, once they are angry, is where the player is.
 #[tactic(auto, unfolding(crate::specs::Reach::is_dwarf_here))]
 pub fn is_dwarf_here(state: &State) -> bool
     ensures { result ≡ is_dwarf_here state.now }
 {
-    2 <= state.dwarves.anger.number() && some_is_at(state.trail.here, &state.dwarves.each[..5])
+    2 <= state.dwarves.anger.number() && some_is_at(state.trail.here, &state.dwarves.each[..PIRATE])
 }
 
 /// Whether an object can't be moved.

@@ -80,7 +80,7 @@ pub fn take(rules: &Rules<'_>, order: Order, play: &mut Play<'_>) -> Step
         }
         return Step::Done(Next::say(Role::BottleFull, play));
     }
-    if play.state.holding() >= 7 {
+    if play.state.count_carried() >= 7 {
         return Step::Done(Next::say(Role::TooMuch, play));
     }
     Step::Done(take_freely(rules, order, play))

@@ -9,7 +9,7 @@ use Rattle.std.proofs.lemmas.Option.{get_or_from_slice_get, slice_get_within}
 use Rattle.std.proofs.lemmas.List.Sums.{fold_push}
 use Rattle.std.proofs.lemmas.Slice.Eq.{bytes_eq-Decides}
 use Rattle.cave_rows.specs.Rows.{WordEntry}
-use Rattle.cave_words.specs.Index.{Index, looked_up}
+use Rattle.cave_words.specs.Index.{Index, meanings_in}
 use Rattle.cave_words.specs.Meaning.{meaning_of, same_class, is_word, is_word_in, first_meaning}
 use Rattle.cave_words.specs.Meanings.{meaning_in_class, with_in_class, with_meaning, with_row}
 use Rattle.cave_words.specs.Meanings.{only_first, meanings_of}
@@ -165,22 +165,22 @@ meanings_of_more letters i rows row word is =
     rw last (fold_push (with_row letters word) None (take i rows) row)
 
 known_step : (hit : Bool) (key word : List ℕ) (m : Meaning) (old : Index) → bytes_eq key word ≡ hit
-    → cond hit (Some (with_meaning (looked_up old key) m)) (looked_up old word)
-    ≡ cond hit (Some (with_meaning (looked_up old word) m)) (looked_up old word)
+    → cond hit (Some (with_meaning (meanings_in old key) m)) (meanings_in old word)
+    ≡ cond hit (Some (with_meaning (meanings_in old word) m)) (meanings_in old word)
 known_step true key word m old is =
-    ap (λ (w : List ℕ). Some (with_meaning (looked_up old w) m)) ((bytes_eq-Decides key word).0 is)
+    ap (λ (w : List ℕ). Some (with_meaning (meanings_in old w) m)) ((bytes_eq-Decides key word).0 is)
 known_step false key word m old is = refl
 
 -- a lookup after one more row
 pub index_more : (letters i : ℕ) (rows : List WordEntry) (row : WordEntry) (old new : Index)
     → slice_get rows i ≡ Some row
-    → ((word : List ℕ) → looked_up old word ≡ meanings_of letters (take i rows) word)
+    → ((word : List ℕ) → meanings_in old word ≡ meanings_of letters (take i rows) word)
     → ((word : List ℕ)
-    → looked_up new word
+    → meanings_in new word
     ≡ cond (bytes_eq (word_of letters row.word) word)
-    (Some (with_meaning (looked_up old (word_of letters row.word)) (meaning_of row.number)))
-    (looked_up old word))
-    → (word : List ℕ) → looked_up new word ≡ meanings_of letters (take (i + 1) rows) word
+    (Some (with_meaning (meanings_in old (word_of letters row.word)) (meaning_of row.number)))
+    (meanings_in old word))
+    → (word : List ℕ) → meanings_in new word ≡ meanings_of letters (take (i + 1) rows) word
 index_more letters i rows row old new is before after word =
     after word
     ∙ known_step (is_word letters word row) (word_of letters row.word) word (meaning_of row.number)

@@ -2,7 +2,7 @@ use Rattle.std.proofs.Common.{◌≡◌, ℕ, List, map, get_or, ap, ◌∙◌, 
 use Rattle.std.proofs.Common.{Option, None, option_map, option_and_then}
 use Rattle.cave_data.specs.CaveView.{CaveView}
 use Rattle.cave_words.proofs.Indexes.{first-meanings_of, in_class-meanings_of}
-use Rattle.cave_words.specs.Index.{Index, LexiconView, IsIndexOf, looked_up}
+use Rattle.cave_words.specs.Index.{Index, LexiconView, IsIndexOf, meanings_in}
 use Rattle.cave_words.specs.Lexicon.{IsLexiconOf, meaning_of_word, found_in, found_object}
 use Rattle.cave_words.specs.Meaning.{meaning, meaning_in}
 use Rattle.cave_words.specs.Meanings.{meaning_in_class}
@@ -32,7 +32,7 @@ found_object_means cave lexicon name is = is.finds_objects name
 pub object_of_word_means : (cave : CaveView) (index : Index) (written : List ℕ)
     → IsIndexOf 5 cave.words index
     → option_map (λ (m : Meaning). m.number)
-    (option_and_then (meaning_in_class Object) (looked_up index (word_of 5 written)))
+    (option_and_then (meaning_in_class Object) (meanings_in index (word_of 5 written)))
     ≡ object_of_word cave written
 unfolding object_of_word
 object_of_word_means cave index written is =

@@ -9,13 +9,13 @@ abbrev pub Index : Type 0
 Index = List (List ℕ × Meanings)
 
 -- the meanings of a word
-abbrev pub looked_up : Index → List ℕ → Option Meanings
-looked_up index word = lookup (bytes_eq word) index
+abbrev pub meanings_in : Index → List ℕ → Option Meanings
+meanings_in index word = lookup (bytes_eq word) index
 
 -- the index says what the rows say of each word, where so many letters count
 abbrev pub IsIndexOf : ℕ → List WordEntry → Index → Type 0
 IsIndexOf letters rows index = (word : List ℕ)
-    → looked_up index word ≡ meanings_of letters rows word
+    → meanings_in index word ≡ meanings_of letters rows word
 
 -- what a lexicon is: the words with their meanings, and the objects of the names by their numbers
 pub record LexiconView : Type 0 where

@@ -1,7 +1,7 @@
 use Rattle.std.specs.Prelude.{◌≡◌, ℕ, List, slice_index_or}
 use Rattle.std.specs.Prelude.{Option, None, option_map, option_and_then}
 use Rattle.cave_data.specs.CaveView.{CaveView}
-use Rattle.cave_words.specs.Index.{LexiconView, looked_up}
+use Rattle.cave_words.specs.Index.{LexiconView, meanings_in}
 use Rattle.cave_words.specs.Meaning.{meaning, meaning_in}
 use Rattle.cave_words.specs.Meanings.{meaning_in_class}
 use Rattle.cave_words.specs.Named.{name_number, object_named}
@@ -12,12 +12,12 @@ use Rattle.cave_words.specs.declared.named.Named.{Named}
 -- what a lexicon says that a word means
 unfoldable pub meaning_of_word : LexiconView → List ℕ → Option Meaning
 meaning_of_word lexicon word =
-    option_map (λ meanings. meanings.first) (looked_up lexicon.words word)
+    option_map (λ meanings. meanings.first) (meanings_in lexicon.words word)
 
 -- what a lexicon says that a word means in a class
 unfoldable pub found_in : LexiconView → List ℕ → Class → Option Meaning
 found_in lexicon word class =
-    option_and_then (meaning_in_class class) (looked_up lexicon.words word)
+    option_and_then (meaning_in_class class) (meanings_in lexicon.words word)
 
 -- the object that a lexicon has for a name
 abbrev pub found_object : LexiconView → Named → Option ℕ

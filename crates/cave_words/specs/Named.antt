@@ -7,6 +7,7 @@ use Rattle.cave_words.specs.Word.{word_of}
 use Rattle.cave_words.specs.declared.meaning.Class.TheVariants.{Object}
 use Rattle.cave_words.specs.declared.named.Named.{Named}
 use Rattle.cave_words.specs.declared.named.Named.TheVariants as name
+use Rattle.cave_numbers.specs.Numbers.{last_object}
 
 -- the words of the names, in the order of their numbers
 abbrev pub names : List (List ℕ)
@@ -19,6 +20,10 @@ names =
     codes "BATTE" ∷ codes "GOLD" ∷ codes "COINS" ∷ codes "CHEST" ∷ codes "EGGS" ∷ codes "TRIDE" ∷
     codes "VASE" ∷ codes "EMERA" ∷ codes "PYRAM" ∷ codes "PEARL" ∷ codes "RUG" ∷ codes "SPICE" ∷
     codes "CHAIN" ∷ codes "ROD" ∷ codes "PLANT" ∷ codes "TROLL" ∷ []
+
+-- how many names there are
+abbrev pub name_count : ℕ
+name_count = 46
 
 -- its place in the table of words
 abbrev pub name_number : Named → ℕ
@@ -88,7 +93,7 @@ object_of_word cave word =
 
 -- the object after, if there may be one
 abbrev pub next_object : ℕ → Option ℕ
-next_object object = if nat_lt object 100 then Some (object + 1) else None
+next_object object = if nat_lt object last_object then Some (object + 1) else None
 
 -- the object of a name in a cave
 unfoldable pub object_named : CaveView → Named → Option ℕ

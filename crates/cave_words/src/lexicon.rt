@@ -2,7 +2,7 @@
 ghost use Rattle.std.specs.Prelude.{◌≡◌, ◌≤◌, map, IfOk};
 ghost use Rattle.cave_data.specs.CaveView.{CaveView};
 ghost use Rattle.cave_words.specs.Meaning.{meaning, meaning_in};
-ghost use Rattle.cave_words.specs.Index.{looked_up, IsIndexOf};
+ghost use Rattle.cave_words.specs.Index.{meanings_in, IsIndexOf};
 ghost use Rattle.cave_words.specs.Named.{object_of_word, object_named};
 
 use crate::meaning::{Class, Meaning};
@@ -138,7 +138,7 @@ fn objects_of_names(index: &IndexMap<Word, Meanings>) -> [Option<u16>; NAME_COUN
 
 /// The meanings of a word.
 fn look_up(index: &IndexMap<Word, Meanings>, word: Word) -> Option<Meanings>
-    ensures { result ≡ looked_up index.now.entries word }
+    ensures { result ≡ meanings_in index.now.entries word }
 {
     index.get(&word).copied()
 }

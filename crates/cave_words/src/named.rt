@@ -1,6 +1,6 @@
 //! The objects that rules of play name by a word.
 ghost use Rattle.std.specs.Prelude.{◌≡◌, ◌<◌};
-ghost use Rattle.cave_words.specs.Named.{name_number, name_of, is_second};
+ghost use Rattle.cave_words.specs.Named.{name_count, name_number, name_of, is_second};
 
 /// An object that rules of play name by a word of the cave.
 #[derive(Clone, Copy, Debug, PartialEq, Eq)]
@@ -122,7 +122,7 @@ impl Named {
     /// Its place in the tables of names, from 0.
     pub fn number(self) -> usize
         ensures value { result ≡ name_number self }
-        ensures within { result < 46 }
+        ensures within { result < name_count }
     {
         self as usize
     }

@@ -21,12 +21,13 @@ pub struct Stream {
 
 impl Model for Stream {
     ghost use Rattle.std.specs.Prelude.{ℕ, ◌<◌};
+    ghost use Rattle.cave_words.specs.Stream.{stream_size};
 
     ghost Value = { ℕ };
 
     ghost view = { λ s. s.x };
 
-    ghost invariant = { λ s. s.x < 1048576 };
+    ghost invariant = { λ s. s.x < stream_size };
 
     ghost inverse = { λ x. record { x = x } };
 }

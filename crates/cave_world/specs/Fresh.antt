@@ -7,6 +7,8 @@ use Rattle.cave_world.specs.declared.dwarves.Dwarf.{Dwarf}
 use Rattle.cave_world.specs.declared.dwarves.Dwarves.{Dwarves}
 use Rattle.cave_world.specs.declared.dwarves.Knife.TheVariants.{Unthrown}
 use Rattle.cave_world.specs.declared.hints.Hints.{Hints}
+use Rattle.cave_numbers.specs.Numbers.{last_hint}
+use Rattle.cave_world.specs.Dwarves.{dwarf_count}
 
 unfoldable pub full_lamp : Lamp
 full_lamp = record { charge = pos 330; is_warned = false }
@@ -29,7 +31,7 @@ abbrev pub no_dwarf : Dwarf
 no_dwarf = record { place = 0; last = 0; has_seen = false }
 
 unfoldable pub asleep : Dwarves
-asleep = record { anger = 0; kills = 0; knife = Unthrown; each = replicate 6 no_dwarf }
+asleep = record { anger = 0; kills = 0; knife = Unthrown; each = replicate dwarf_count no_dwarf }
 
 unfoldable pub no_hint_used : Hints
-no_hint_used = record { turns = replicate 20 0; is_taken = replicate 20 false }
+no_hint_used = record { turns = replicate last_hint 0; is_taken = replicate last_hint false }

@@ -1,4 +1,6 @@
+pub mod Dwarves
 pub mod Equality
+pub mod Lamp
 pub mod Fresh
 pub mod Motion
 pub mod Part

@@ -5,13 +5,14 @@ use Rattle.cave_world.specs.declared.state.State.{State}
 use Rattle.cave_world.specs.declared.ending.Question.TheVariants.{Welcome}
 use Rattle.cave_objects.specs.Objects.{without_places}
 use Rattle.cave_world.specs.Fresh.{full_lamp, far_closing, nothing_said, asleep, no_hint_used}
+use Rattle.cave_numbers.specs.Numbers.{last_place}
 
 -- a game begins: the player is at a place and is greeted, and nothing is placed yet
 unfoldable pub starting_state : ℕ → ℕ → State
 starting_state place x = record {
   trail = record { here = place; last = place; older = place };
   objects = without_places;
-  visits = replicate 300 0;
+  visits = replicate last_place 0;
   lamp = full_lamp;
   closing = far_closing;
   tallies = record { unseen = 0; lost = 0; deaths = 0 };

@@ -13,15 +13,12 @@ use Rattle.cave_world.specs.declared.travel.TravelOutcome.TheVariants.{Go, Speci
 use Rattle.cave_world.specs.declared.travel.TravelOutcome.TheVariants.{NoWay}
 use Rattle.cave_world.specs.declared.travel.Special.TheVariants.{Squeeze, Bridge}
 use Rattle.cave_objects.specs.Objects.{is_carried, is_object_at, prop_of, with_place}
+use Rattle.cave_numbers.specs.Numbers.{last_place}
 
 -- a state, and where a motion leads
 pub record TravelResult : Type 0 where
   pub state : State
   pub outcome : TravelOutcome
-
--- the last place, which is the greatest target of a row that is a place
-abbrev pub LAST_PLACE : ℕ
-LAST_PLACE = 300
 
 -- the target of the narrow passage
 abbrev pub SQUEEZE : ℕ
@@ -55,6 +52,14 @@ LAST_CARRIED = 200
 abbrev pub LAST_AT_HAND : ℕ
 LAST_AT_HAND = 300
 
+-- how many conditions ask for a prop, one for each number of an object
+abbrev pub PER_PROP : ℕ
+PER_PROP = 100
+
+-- how often a condition that asks for a prop has PER_PROP besides the prop
+abbrev pub PROPS_AFTER : ℕ
+PROPS_AFTER = 3
+
 -- a row lists a motion by its number, or each motion by 1
 abbrev pub lists_motion : ℕ → Going → Bool
 lists_motion motion row = list_any (λ m. m == motion || m == ANY) row.motions
@@ -66,13 +71,13 @@ row_condition row = condition_of_target row.target
 abbrev pub row_number : Going → ℕ
 row_number row = number_of_target row.target
 
--- a condition over 100: an object is carried, is carried or here, or has another prop
+-- a condition over the chances: an object is carried, is carried or here, or has another prop
 unfoldable pub allows : ℕ → State → Bool
 allows m s =
     if nat_le m LAST_CARRIED then is_carried s.objects (m - CARRIED_AFTER)
     else (if nat_le m LAST_AT_HAND then is_carried s.objects (m - LAST_CARRIED)
     || is_object_at s.objects s.trail.here (m - LAST_CARRIED)
-    else not (int_eq (prop_of s.objects (m % 100)) (pos (m / 100 - 3))))
+    else not (int_eq (prop_of s.objects (m % PER_PROP)) (pos (m / PER_PROP - PROPS_AFTER))))
 
 -- condition 0 and that of rows that aren't for dwarves hold always, those between by chance
 unfoldable pub holds : ℕ → State → Bool
@@ -84,10 +89,10 @@ unfoldable pub after_condition : ℕ → State → State
 after_condition m s =
     if nat_lt 0 m && nat_lt m NOT_FOR_DWARVES then record s { stream = next s.stream } else s
 
--- a place up to 300, a message from 501 on, and between them the ways with rules of their own
+-- a place, a message, and between them the ways with rules of their own
 unfoldable pub leads_to : ℕ → TravelOutcome
 leads_to n =
-    if nat_le n LAST_PLACE then Go n
+    if nat_le n last_place then Go n
     else (if nat_lt MESSAGES_AFTER n then Say (n - MESSAGES_AFTER)
     else (if n == SQUEEZE then Special Squeeze
     else (if n == BRIDGE then Special Bridge else NoWay)))

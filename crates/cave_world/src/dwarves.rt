@@ -4,8 +4,11 @@ ghost use Rattle.cave_world.specs.Fresh.{no_dwarf, asleep};
 use crate::count::Count;
 use cave_objects::Place;
 
-/// How many dwarves there are. The last is the pirate.
+/// How many dwarves there are, with the pirate.
 pub const DWARVES: usize = 6;
+
+/// The number of the pirate, who comes after the other dwarves. They count from 0.
+pub const PIRATE: usize = DWARVES - 1;
 
 /// A dwarf: where it is and was, place 0 where it is gone, and whether it has seen the player.
 #[derive(Clone, Copy, Debug, PartialEq, Eq)]

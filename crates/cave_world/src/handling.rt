@@ -7,6 +7,7 @@ ghost use Rattle.cave_objects.specs.Spots.{place_of_spot, spot_at};
 ghost use Rattle.cave_objects.specs.Objects.{carried_objects};
 ghost use Rattle.cave_objects.specs.Objects.{is_carried, is_gone, is_object_at, is_at_hand};
 ghost use Rattle.cave_objects.specs.Objects.{with_place, with_carried};
+ghost use Rattle.cave_numbers.specs.Numbers.{last_object};
 
 use crate::state::State;
 use arrayvec::ArrayVec;
@@ -35,7 +36,8 @@ impl State {
     pub fn is_here(&self, object: Object) -> bool
         ensures value { result ≡ is_object_at self.now.objects self.now.trail.here object }
         ensures listed { let halves = halves_at self.now.trail.here self.now.objects.lists in
-            0 < object → result ≡ (is_listed object halves || is_listed (100 + object) halves) }
+            0 < object
+            → result ≡ (is_listed object halves || is_listed (last_object + object) halves) }
     {
         self.objects.is_object_at(self.trail.here, object)
     }
@@ -50,9 +52,9 @@ impl State {
     }
 
     /// How many objects the player carries.
-    pub fn holding(&self) -> usize
+    pub fn count_carried(&self) -> usize
         ensures value { result ≡ length (carried_objects self.now.objects) }
-        ensures within { result ≤ 100 }
+        ensures within { result ≤ last_object }
     {
         self.objects.count_carried()
     }

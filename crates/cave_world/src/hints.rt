@@ -1,6 +1,7 @@
 ghost use Rattle.std.specs.Prelude.{◌≡◌, ◌≤◌};
 ghost use Rattle.cave_world.specs.Fresh.{no_hint_used};
 ghost use Rattle.cave_world.specs.State.{is_hint_taken};
+ghost use Rattle.cave_numbers.specs.Numbers.{last_hint};
 
 use crate::count::Count;
 use crate::state::State;
@@ -18,12 +19,13 @@ pub struct HintNumber {
 
 impl Model for HintNumber {
     ghost use Rattle.std.specs.Prelude.{ℕ, ◌≤◌};
+    ghost use Rattle.cave_numbers.specs.Numbers.{last_hint};
 
     ghost Value = { ℕ };
 
     ghost view = { λ h. h.number };
 
-    ghost invariant = { λ h. (1 ≤ h.number) × (h.number ≤ 20) };
+    ghost invariant = { λ h. (1 ≤ h.number) × (h.number ≤ last_hint) };
 
     ghost inverse = { λ n. record { number = n } };
 }
@@ -32,7 +34,7 @@ impl HintNumber {
     /// The hint of a number.
     pub fn new(number: u8) -> HintNumber
         requires low { 1 ≤ number }
-        requires high { number ≤ 20 }
+        requires high { number ≤ last_hint }
         ensures { result ≡ number }
     {
         HintNumber { number }
@@ -42,7 +44,7 @@ impl HintNumber {
     pub fn number(self) -> u8
         ensures value { result ≡ self }
         ensures low { 1 ≤ result }
-        ensures high { result ≤ 20 }
+        ensures high { result ≤ last_hint }
     {
         self.number
     }

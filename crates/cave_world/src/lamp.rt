@@ -1,10 +1,14 @@
 ghost use Rattle.std.specs.Prelude.{◌≡◌, pos, negsuc, ◌≤ℤ◌};
 ghost use Rattle.std.specs.Int.{int_min};
+ghost use Rattle.cave_world.specs.Lamp.{max_lamp_turns};
 
 use std::marker::Model;
 
 /// The most turns that a lamp can still burn.
 const MAX_LAMP_TURNS: i32 = 100_000;
+
+/// A lamp that burns so many turns more, or fewer, is low.
+pub const LOW_CHARGE: i32 = 30;
 
 /// The turns that a lamp still burns. -1 says that it went out.
 #[derive(Clone, Copy, Debug, PartialEq, Eq)]
@@ -14,12 +18,13 @@ pub struct Charge {
 
 impl Model for Charge {
     ghost use Rattle.std.specs.Prelude.{ℤ, pos, negsuc, ◌≤ℤ◌};
+    ghost use Rattle.cave_world.specs.Lamp.{max_lamp_turns};
 
     ghost Value = { ℤ };
 
     ghost view = { λ c. c.turns };
 
-    ghost invariant = { λ c. (negsuc 0 ≤ℤ c.turns) × (c.turns ≤ℤ pos 100000) };
+    ghost invariant = { λ c. (negsuc 0 ≤ℤ c.turns) × (c.turns ≤ℤ pos max_lamp_turns) };
 
     ghost inverse = { λ n. record { turns = n } };
 }
@@ -28,7 +33,7 @@ impl Charge {
     /// The charge of a number of turns.
     pub fn new(turns: i32) -> Charge
         requires low { negsuc 0 ≤ℤ turns }
-        requires high { turns ≤ℤ pos 100000 }
+        requires high { turns ≤ℤ pos max_lamp_turns }
         ensures { result ≡ turns }
     {
         Charge { turns }
@@ -37,7 +42,7 @@ impl Charge {
     /// The charge of a number of turns, or the greatest one where there are more.
     pub fn capped(turns: i32) -> Charge
         requires { negsuc 0 ≤ℤ turns }
-        ensures { result ≡ int_min turns (pos 100000) }
+        ensures { result ≡ int_min turns (pos max_lamp_turns) }
     {
         Charge {
             turns: turns.min(MAX_LAMP_TURNS),
@@ -48,7 +53,7 @@ impl Charge {
     pub fn turns(self) -> i32
         ensures value { result ≡ self }
         ensures low { negsuc 0 ≤ℤ result }
-        ensures high { result ≤ℤ pos 100000 }
+        ensures high { result ≤ℤ pos max_lamp_turns }
     {
         self.turns
     }

@@ -1,5 +1,4 @@
-ghost use Rattle.std.specs.Prelude.{◌≡◌, ◌↔◌, IsTrue};
-ghost use Rattle.cave_world.specs.SameGame.{IsSameGame};
+ghost use Rattle.std.specs.Prelude.{◌≡◌};
 ghost use Rattle.cave_world.specs.State.{starting_state, takes_no_command};
 ghost use Rattle.cave_world.specs.State.{state_with_player_at, with_player_from};
 ghost use Rattle.cave_world.specs.State.{state_after_setting_out};
@@ -119,17 +118,5 @@ impl State {
     {
         self.trail.older = self.trail.last;
         self.trail.last = self.trail.here;
-    }
-
-    /// Whether two states are the same state, as by `==`: each field is the same, and of the lists
-    /// of halves the list of each place.
-    pub fn is_same(&self, other: &State) -> bool
-        ensures value { IsTrue result ↔ (self.now ≡ other.now) }
-        ensures equality { result ≡ ⟦<State as PartialEq>⟧.eq self.now other.now }
-        ensures lists { IsTrue result ↔ IsSameGame self.now other.now }
-    {
-        self.objects.lists_are_in_order();
-        other.objects.lists_are_in_order();
-        self == other
     }
 }

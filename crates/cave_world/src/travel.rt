@@ -1,8 +1,10 @@
-ghost use Rattle.std.specs.Prelude.{◌≡◌, ◌<◌, map, []};
+ghost use Rattle.std.specs.Prelude.{◌≡◌, ◌<◌, ◌≤◌, map, []};
 ghost use Rattle.cave_rows.specs.RowViews.{going};
 ghost use Rattle.cave_world.specs.Travel.{lists_motion, holds, after_condition, allows, leads_to};
 ghost use Rattle.cave_world.specs.Travel.{row_outcome, after_row, rows_to_try, first_way};
 ghost use Rattle.cave_world.specs.Travel.{from_listed, travel_by_rows, travel_by_motion};
+ghost use Rattle.cave_world.specs.Travel.{NOT_FOR_DWARVES};
+ghost use Rattle.cave_rows.specs.Rows.{max_condition};
 
 use crate::motion::ANY;
 use crate::state::State;
@@ -59,6 +61,12 @@ const LAST_CARRIED: u32 = 200;
 /// A condition up to it asks for an object that is here or carried; those above it for a prop.
 const LAST_AT_HAND: u32 = 300;
 
+/// How many conditions ask for a prop, one for each number of an object.
+const PER_PROP: u32 = 100;
+
+/// How often a condition that asks for a prop has `PER_PROP` besides the prop.
+const PROPS_AFTER: u32 = 3;
+
 /// Where a motion leads from where the player is, by the rows of the place. A row may
 /// move the emerald here on the way.
 #[tactic(auto, unfolding(crate::specs::Travel::travel_by_motion))]
@@ -101,8 +109,8 @@ fn leads_to(number: u16) -> TravelOutcome
 impl State {
     #[tactic(auto, unfolding(crate::specs::Travel::allows))]
     fn allows(&self, condition: u32) -> bool
-        requires low { 100 < condition }
-        requires high { condition < 4294968 }
+        requires low { NOT_FOR_DWARVES < condition }
+        requires high { condition ≤ max_condition }
         ensures { result ≡ allows condition self.now }
     {
         if condition <= LAST_CARRIED {
@@ -112,14 +120,14 @@ impl State {
             let object = Object::new((condition - LAST_CARRIED) as u8);
             return self.is_carried(object) || self.is_here(object);
         }
-        let prop = self.objects.prop(Object::new((condition % 100) as u8));
-        i64::from(prop.value()) != i64::from(condition / 100 - 3)
+        let prop = self.objects.prop(Object::new((condition % PER_PROP) as u8));
+        i64::from(prop.value()) != i64::from(condition / PER_PROP - PROPS_AFTER)
     }
 
     /// Whether the condition of a row holds. A condition by chance takes a draw.
     #[tactic(auto, unfolding(crate::specs::Travel::holds, crate::specs::Travel::after_condition))]
-    pub fn meets(&mut self, condition: u32) -> bool
-        requires { condition < 4294968 }
+    pub fn holds(&mut self, condition: u32) -> bool
+        requires { condition ≤ max_condition }
         ensures value { result ≡ holds condition self.old }
         ensures after { self.new ≡ after_condition condition self.old }
     {
@@ -138,7 +146,7 @@ impl State {
         ensures value { result ≡ row_outcome self.old (going row.now) }
         ensures after { self.new ≡ after_row emerald self.old (going row.now) }
     {
-        if !self.meets(row.condition()) {
+        if !self.holds(row.condition()) {
             return None;
         }
         let number = row.number();

@@ -1,4 +1,4 @@
-ghost use Rattle.std.specs.Prelude.{◌≡◌, ℕ, ◌+◌, ◌-◌, ◌^◌, ◌<◌, ◌↔◌, IsTrue};
+ghost use Rattle.std.specs.Prelude.{◌≡◌, ℕ, ◌+◌, ◌-◌, ◌^◌, ◌<◌};
 
 use std::marker::Model;
 
@@ -14,10 +14,6 @@ pub trait Steps {
     /// How many steps may still be taken.
     fn left(&self) -> u64
         ensures { result + count self.now ≡ 2 ^ 64 - 1 };
-
-    /// Whether no step may be taken any more.
-    fn full(&self) -> bool
-        ensures { IsTrue result ↔ (count self.now ≡ 2 ^ 64 - 1) };
 }
 
 /// The number of steps taken so far.
@@ -65,9 +61,5 @@ impl Steps for Meter {
 
     fn left(&self) -> u64 {
         u64::MAX - self.used
-    }
-
-    fn full(&self) -> bool {
-        self.used == u64::MAX
     }
 }

@@ -22,10 +22,10 @@
 //! |---|---|
 //! | `last_to`, `first_from` | a binary search |
 //! | `Checkpoints::marks` | two states copied, each into a Box of its own |
-//! | `Marks::open` | the same for the state at the start, and room for all places that can be kept |
-//! | `Marks::advance` | a comparison; where the open place is kept, a copy of its state, and room for it |
-//! | `meet`, `replace_from` | a `splice` of those passed; where the length changed, a pass over those after |
-//! | `splice` | the stretch item by item; where its length changes, a turn of it with the items after |
+//! | `Marks::open` | two more for the start, and room for all places that can be kept |
+//! | `Marks::advance` | a comparison; where the open place is kept, its state copied into a Box |
+//! | `meet`, `replace_from` | a `splice` of those passed; a pass over later ones that move |
+//! | `splice` | the stretch item by item; a turn with the items after it that move |
 //!
 //! A turn is a block move where either side of it is one item or has at most 4,096 bytes; else it
 //! exchanges items. A state that is kept stays where it is until its checkpoint goes: what moves is

@@ -107,8 +107,8 @@ impl<S: Copy> Marks<S> {
         })
     }
 
-    /// Goes on to the next place. The one before it, which was open till now, is kept if it has to
-    /// be; its state is also the one that the caller finds at the next place, to change it there.
+    /// Goes on to the next place. The one before it, which was open until now, is kept if it has
+    /// to be; its state is also the one that the caller finds at the next place, to change it there.
     pub fn advance(&mut self, place: u32) -> Result<(), AllocError>
         requires later { self.old.next < place }
         requires near { place ≤ self.old.next + self.old.every }

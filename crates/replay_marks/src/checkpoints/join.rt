@@ -7,8 +7,8 @@ use super::Checkpoints;
 use crate::marks::Marks;
 use crate::placed_states::PlacedStates;
 
-/// Where new checkpoints join the old ones: those before the index `at` stay, and those from the index
-/// `rest` on move as the place `old` to `new`.
+/// Where new checkpoints join the old ones: those before the index `at` stay, and those from the
+/// index `rest` on move as the place `old` to `new`.
 #[derive(Clone, Copy)]
 struct Seam {
     at: usize,

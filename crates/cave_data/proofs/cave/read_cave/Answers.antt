@@ -38,7 +38,7 @@ finish-requires c = record {
   bindings =
       subst AreInRange (sym c.in_ok-bindings.ensures.found)
       (bound_in_range (lines c.args.bindings.now));
-  standing =
+  placements =
       subst (λ (t : Tables). HasOnly IsPlacementInRange t.placements)
       (sym c.in_ok-tables.ensures.found)
       (standing_in_range (lines c.args.database.now));

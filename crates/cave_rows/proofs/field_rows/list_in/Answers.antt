@@ -8,7 +8,7 @@ pub returns-then-is_zero : goal.returns-then-is_zero
 returns-then-is_zero c =
     list_read _ _ _ _ (sym c.loop-field.invariant
     ∙ zero_read _ _ (list_or_cause c.loop-field.list) _ _ _ _ c.in-Some.ensures.value
-    c.in-Some-number_of.ensures (sym c.if-is_zero.true ∙ c.is_zero.ensures))
+    c.in-Some-number_of_field.ensures (sym c.if-is_zero.true ∙ c.is_zero.ensures))
 
 pub returns : goal.returns
 returns c =

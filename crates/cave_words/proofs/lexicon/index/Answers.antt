@@ -2,7 +2,7 @@ use Rattle.std.proofs.Common.{◌≡◌, length, take, refl, ap, ◌∙◌, arit
 use Rattle.std.proofs.Math.Seq.{take-length}
 use Rattle.cave_rows.specs.RowViews.{word_entry}
 use Rattle.cave_words.proofs.Indexes.{index_more}
-use Rattle.cave_words.specs.Index.{looked_up}
+use Rattle.cave_words.specs.Index.{meanings_in}
 use Rattle.cave_words.specs.Meaning.{meaning_of}
 use Rattle.cave_words.specs.Meanings.{meanings_of, with_meaning}
 use Rattle.cave_words.specs.Word.{word_of}
@@ -18,7 +18,7 @@ loop-i-preserved c =
     let old = c.loop-i.index.entries in
     let key : c.of-word.result ≡ word_of c.args.letters row.word.now = c.of-word.ensures.word in
     let meanings : c.with-meanings.result
-    ≡ with_meaning (looked_up old c.of-word.result) (meaning_of row.number) =
+    ≡ with_meaning (meanings_in old c.of-word.result) (meaning_of row.number) =
     cc (c.with-meanings.ensures, c.look_up-known.ensures, c.of.ensures) in
     index_more c.args.letters c.loop-i.i c.args.words.now (word_entry row) old _ c.row-row.ensures
     c.loop-i.invariant

@@ -2,7 +2,7 @@ use Rattle.std.proofs.Common.{◌+◌, cond, drop, map, Some, sym, ap, ◌∙◌
 use Rattle.std.specs.List.{position_from}
 use Rattle.std.specs.Str.{bytes_eq}
 use Rattle.cave_rows.proofs.NameLemmas.{name_here}
-use Rattle.cave_rows.proofs.binding.name_number.Goals as goal
+use Rattle.cave_rows.proofs.binding.position_of_name.Goals as goal
 
 pub returns-then-eq : goal.returns-then-eq
 returns-then-eq c =

@@ -2,7 +2,7 @@ use Rattle.std.proofs.Common.{◌≡◌, map, drop}
 use Rattle.std.specs.List.{position_from}
 use Rattle.std.specs.Str.{bytes_eq}
 use Rattle.cave_rows.specs.BindingLines.{position_of_name}
-use Rattle.cave_rows.proofs.binding.name_number.Given as goal
+use Rattle.cave_rows.proofs.binding.position_of_name.Given as goal
 
 abbrev pub invariant-loop-number : goal.invariant-loop-number
 invariant-loop-number l =

@@ -1,0 +1,10 @@
+-- The numbers of the dwarves, which count from 0.
+use Rattle.std.specs.Prelude.{ℕ}
+
+-- how many dwarves there are, with the pirate
+abbrev pub dwarf_count : ℕ
+dwarf_count = 6
+
+-- the number of the pirate, who comes after the other dwarves
+abbrev pub pirate : ℕ
+pirate = 5

@@ -1,0 +1,17 @@
+//! What follows from the definitions of equality: a law's function does nothing.
+ghost use Rattle.std.specs.Prelude.{◌↔◌, IsTrue};
+ghost use Rattle.cave_world.specs.SameGame.{IsSameGame};
+
+use crate::state::State;
+
+impl State {
+    /// Two states are equal, by `==`, exactly where each field is the same, and of the lists of
+    /// halves the list of each place.
+    pub fn equal_states_are_one_game(&self, other: &State)
+        ensures { IsTrue (⟦<State as PartialEq>⟧.eq self.now other.now)
+            ↔ IsSameGame self.now other.now }
+    {
+        self.objects.lists_are_in_order();
+        other.objects.lists_are_in_order();
+    }
+}
