@@ -1,8 +1,8 @@
 -- What motions and places make of a claim.
-use Rattle.std.proofs.Common.{ℕ, zero, suc, ◌+◌, ◌-◌, pos, negsuc, ℤ, Bool, List}
+use Rattle.std.proofs.Common.{ℕ, zero, suc, ◌+◌, ◌-◌, pos, negsuc, ℤ, List}
 use Rattle.std.proofs.Common.{[], ◌∷◌}
 use Rattle.std.specs.Prelude.{◌==◌, ◌&&◌, nat_lt, Option, None, Some}
-use Rattle.std.specs.Prelude.{if◌then◌else◌, length, slice_set, option_map}
+use Rattle.std.specs.Prelude.{length, slice_set, option_map}
 use Rattle.cave_rows.specs.Rows.{Going}
 use Rattle.cave_data.specs.CaveView.{CaveView, ways_from}
 use Rattle.cave_rows.specs.declared.role.Role.TheVariants as role
@@ -11,6 +11,9 @@ use Rattle.cave_words.specs.Stream.{next}
 use Rattle.cave_objects.specs.Objects.{with_place, with_anchor, with_prop}
 use Rattle.cave_objects.specs.declared.spot.Anchor.TheVariants as anchor
 use Rattle.cave_things.specs.Homes.{home, hold_of}
+use Rattle.cave_world.specs.Motions.{motion_of}
+use Rattle.cave_world.specs.declared.motion.Motion.{Motion}
+use Rattle.cave_world.specs.declared.motion.Motion.TheVariants as motion
 use Rattle.cave_world.specs.State.{without_visits}
 use Rattle.cave_world.specs.State.{state_after_setting_out}
 use Rattle.cave_world.specs.Travel.{TravelResult, travel_by_motion, travel_by_rows, first_way}
@@ -43,7 +46,7 @@ use Rattle.cave_moves.specs.Journeys.{journey_of_outcome, journey_by_rows}
 use Rattle.cave_moves.specs.Journeys.{set_forth, after_enough, journey_of_look, journey_of_seeking}
 use Rattle.cave_moves.specs.Journeys.{back_place}
 use Rattle.cave_moves.specs.Journeys.{first_motion, row_back, journey_by_motion_back}
-use Rattle.cave_moves.specs.Journeys.{journey_back, journey_by_request}
+use Rattle.cave_moves.specs.Journeys.{journey_back, journey_by_named, journey_by_request}
 use Rattle.cave_moves.specs.Ways as ways
 use Rattle.cave_moves.specs.Ways.{journey_here}
 use Rattle.cave_laws.proofs.ThingsFrame.{Claim, On, IsMoved, IsKept, choose, chosen}
@@ -272,22 +275,18 @@ back_kept {Here} {P} k cave p h =
     (journey_here (after_saying role.BackNone q))
     (journey_by_motion_back cave way q) (λ _. h) (λ _. back_by_kept k cave way q h)
 
+-- a motion keeps a claim by its own rules, or else by those of the place
+named_kept : {Here : ℕ → Type 0} {P : Claim} (k : IsKept Here P) (cave : CaveView)
+    (o : Option Motion) (number : ℕ) (p : Scene) → On P p.state
+    → On P (journey_by_named cave o number p).scene.state
+named_kept k cave (Some motion.Nowhere) number p h = h
+named_kept {Here} {P} k cave (Some motion.Look) number p h = looking_round_kept P p h
+named_kept {Here} {P} k cave (Some motion.Cave) number p h = seeking_kept P cave p h
+named_kept k cave (Some motion.Back) number p h = back_kept k cave p h
+named_kept k cave _ number p h = forth_kept k cave number p h
+
 pub motion_kept : {Here : ℕ → Type 0} {P : Claim} (k : IsKept Here P) (cave : CaveView)
     (motion : ℕ) (p : Scene)
     → On P p.state → On P (journey_by_request cave motion p).scene.state
 unfolding journey_by_request
-motion_kept {Here} {P} k cave motion p h =
-    let forth = set_forth cave motion p in
-    let back = if motion == 8 then journey_back cave p else forth in
-    let seek = if motion == 67 then journey_of_seeking cave p else back in
-    let look = if motion == 57 then journey_of_look p else seek in
-    picked (motion == 21) (journey_here p) look h
-    (picked (motion == 57) (journey_of_look p) seek (looking_round_kept P p h)
-    (picked (motion == 67) (journey_of_seeking cave p) back (seeking_kept P cave p h)
-    (picked (motion == 8) (journey_back cave p) forth (back_kept k cave p h)
-    (forth_kept k cave motion p h))))
-  where
-    picked : (b : Bool) (i j : ways.Journey) → On P i.scene.state → On P j.scene.state
-        → On P (if b then i else j).scene.state
-    picked b i j one other =
-        choose (λ (r : ways.Journey). On P r.scene.state) b i j (λ _. one) (λ _. other)
+motion_kept k cave motion p h = named_kept k cave (motion_of motion) motion p h

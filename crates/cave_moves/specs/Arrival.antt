@@ -4,7 +4,7 @@ use Rattle.std.specs.Prelude.{if◌then◌else◌, take, suc, zero}
 use Rattle.std.specs.List.{list_any}
 use Rattle.cave_data.specs.CaveView.{CaveView}
 use Rattle.cave_rows.specs.declared.role.Role.TheVariants as role
-use Rattle.cave_world.specs.Motion.{ANY}
+use Rattle.cave_world.specs.Motions.{any_motion}
 use Rattle.cave_world.specs.Sight.{is_forced}
 use Rattle.cave_world.specs.State.{takes_no_command}
 use Rattle.cave_world.specs.declared.dwarves.Dwarf.{Dwarf}
@@ -83,7 +83,7 @@ unfoldable pub after_forced_motions : ℕ → CaveView → Stop → Scene
 after_forced_motions zero cave s =
     if s.is_moved_on then after_saying role.ForcedLimit s.scene else s.scene
 after_forced_motions (suc left) cave s =
-    let j = set_forth cave ANY (with_left left s.scene) in
+    let j = set_forth cave any_motion (with_left left s.scene) in
     if s.is_moved_on then after_forced_motions left cave (stop_at cave j.place j.scene) else s.scene
 
 -- the player arrives at a place; the forced motions that are left are those of the whole turn

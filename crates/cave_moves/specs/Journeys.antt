@@ -10,8 +10,9 @@ use Rattle.cave_rows.specs.declared.role.Role.{Role}
 use Rattle.cave_rows.specs.declared.role.Role.TheVariants as role
 use Rattle.cave_words.specs.declared.named.Named.TheVariants as name
 use Rattle.cave_objects.specs.Objects.{is_carried, carried_objects}
-use Rattle.cave_world.specs.Motion.{FORWARD, BACK, OUT, CRAWL, INSIDE, NOWHERE, UP, DOWN, LEFT}
-use Rattle.cave_world.specs.Motion.{RIGHT, EAST, NORTHWEST, LOOK, XYZZY, PLUGH, CAVE}
+use Rattle.cave_world.specs.Motions.{motion_of}
+use Rattle.cave_world.specs.declared.motion.Motion.{Motion}
+use Rattle.cave_world.specs.declared.motion.Motion.TheVariants as motion
 use Rattle.cave_world.specs.Sight.{is_forced}
 use Rattle.cave_world.specs.State.{without_visits}
 use Rattle.cave_world.specs.Travel.{travel_by_motion, row_number}
@@ -29,19 +30,28 @@ use Rattle.cave_scene.specs.Play.{Scene, after_telling, after_saying, with_state
 use Rattle.cave_scene.specs.Play.{after_setting_out}
 use Rattle.cave_numbers.specs.Numbers.{last_place}
 
--- the eight points of the compass follow one another
-abbrev pub is_compass_point : ℕ → Bool
-is_compass_point motion = nat_le EAST motion && nat_le motion NORTHWEST
-
 -- what is said of a motion that no row lists: of a direction, of facing one, of in and out, of a
 -- magic word, of crawling, and of the rest
-abbrev pub refusal_role : ℕ → Role
-refusal_role motion =
-    if motion == UP || motion == DOWN || is_compass_point motion then role.NoDir
-    else (if motion == FORWARD || motion == LEFT || motion == RIGHT then role.Facing
-    else (if motion == OUT || motion == INSIDE then role.Inout
-    else (if motion == XYZZY || motion == PLUGH then role.Magic
-    else (if motion == CRAWL then role.Crawl else role.NoMotion))))
+abbrev pub refusal_role : Option Motion → Role
+refusal_role (Some motion.Up) = role.NoDir
+refusal_role (Some motion.Down) = role.NoDir
+refusal_role (Some motion.East) = role.NoDir
+refusal_role (Some motion.West) = role.NoDir
+refusal_role (Some motion.North) = role.NoDir
+refusal_role (Some motion.South) = role.NoDir
+refusal_role (Some motion.Northeast) = role.NoDir
+refusal_role (Some motion.Southeast) = role.NoDir
+refusal_role (Some motion.Southwest) = role.NoDir
+refusal_role (Some motion.Northwest) = role.NoDir
+refusal_role (Some motion.Forward) = role.Facing
+refusal_role (Some motion.Left) = role.Facing
+refusal_role (Some motion.Right) = role.Facing
+refusal_role (Some motion.Out) = role.Inout
+refusal_role (Some motion.Inside) = role.Inout
+refusal_role (Some motion.Xyzzy) = role.Magic
+refusal_role (Some motion.Plugh) = role.Magic
+refusal_role (Some motion.Crawl) = role.Crawl
+refusal_role _ = role.NoMotion
 
 -- the other end of the narrow passage
 unfoldable pub squeeze_end : CaveView → ℕ → Option ℕ
@@ -76,7 +86,7 @@ journey_of_outcome cave motion (outcome.Special special) p = journey_by_special 
 journey_of_outcome cave motion (outcome.Say message) p =
     journey_here (after_telling (part.Message message) p)
 journey_of_outcome cave motion outcome.NoMotion p =
-    journey_here (after_saying (refusal_role motion) p)
+    journey_here (after_saying (refusal_role (motion_of motion)) p)
 journey_of_outcome cave motion outcome.NoWay p = journey_here (after_saying role.NoWay p)
 
 -- where the rows of the place lead by a motion
@@ -159,10 +169,14 @@ journey_back cave p =
     else journey_by_motion_back cave
     (option_map first_motion (row_back cave sought (ways_from cave here))) q
 
--- where a motion that the player asks for leads: four motions have rules of their own
+-- where a motion leads by rules of its own, or else by those of the place
+abbrev pub journey_by_named : CaveView → Option Motion → ℕ → Scene → Journey
+journey_by_named cave (Some motion.Nowhere) number p = journey_here p
+journey_by_named cave (Some motion.Look) number p = journey_of_look p
+journey_by_named cave (Some motion.Cave) number p = journey_of_seeking cave p
+journey_by_named cave (Some motion.Back) number p = journey_back cave p
+journey_by_named cave _ number p = set_forth cave number p
+
+-- where a motion that the player asks for leads
 unfoldable pub journey_by_request : CaveView → ℕ → Scene → Journey
-journey_by_request cave motion p =
-    if motion == NOWHERE then journey_here p
-    else (if motion == LOOK then journey_of_look p
-    else (if motion == CAVE then journey_of_seeking cave p
-    else (if motion == BACK then journey_back cave p else set_forth cave motion p)))
+journey_by_request cave number p = journey_by_named cave (motion_of number) number p

@@ -24,7 +24,7 @@ use cave_scene::{Play, Rules};
 use cave_things::panic::panic;
 use cave_things::places::outside_place;
 use cave_things::{Condition, has_condition_of};
-use cave_world::{Dwarf, PIRATE, State, is_forced, motion};
+use cave_world::{Dwarf, Motion, PIRATE, State, is_forced};
 
 /// The player arrives at a place, and is moved on from there while forced motions are left.
 #[tactic(auto, unfolding(crate::specs::Arrival::after_forced_motions))]
@@ -179,7 +179,7 @@ fn follow_forced_motions(rules: &Rules<'_>, play: &mut Play<'_>)
         return;
     }
     play.left -= 1;
-    let next = set_forth(rules, motion::ANY, play);
+    let next = set_forth(rules, Motion::Any.number(), play);
     if stop_at(rules, next, play) {
         follow_forced_motions(rules, play);
     }

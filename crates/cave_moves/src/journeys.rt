@@ -1,5 +1,6 @@
 ghost use Rattle.std.specs.Prelude.{◌≡◌, false};
 ghost use Rattle.cave_scene.specs.Rules.{cave_of};
+ghost use Rattle.cave_world.specs.Motions.{motion_of};
 ghost use Rattle.cave_world.specs.State.{takes_no_command};
 ghost use Rattle.cave_scene.specs.Bounds.{HasRoom, SaysUpTo, parts_of_journey};
 ghost use Rattle.cave_scene.specs.Play.{scene_of, GoesOn};
@@ -18,7 +19,7 @@ use cave_rows::{PlaceRole, Role};
 use cave_scene::{Play, Rules};
 use cave_things::places::{outside_place, place_named};
 use cave_words::Named;
-use cave_world::{Part, Special, State, TravelOutcome, motion, travel_by_motion};
+use cave_world::{Motion, Part, Special, State, TravelOutcome, travel_by_motion};
 
 /// How often it is said that there are no more details.
 const MOST_DETAILS: u16 = 3;
@@ -33,25 +34,36 @@ pub fn lead_by_motion(rules: &Rules<'_>, motion: u16, play: &mut Play<'_>) -> Pl
     ensures few { SaysUpTo parts_of_journey play.old play.new }
     ensures few_on { takes_no_command play.new.state.now ≡ false → SaysUpTo 1 play.old play.new }
 {
-    match motion {
-        motion::NOWHERE => play.state.trail.here,
-        motion::LOOK => look(play),
-        motion::CAVE => seek_cave(rules, play),
-        motion::BACK => go_back(rules, play),
+    match Motion::try_from(motion) {
+        Ok(Motion::Nowhere) => play.state.trail.here,
+        Ok(Motion::Look) => look(play),
+        Ok(Motion::Cave) => seek_cave(rules, play),
+        Ok(Motion::Back) => go_back(rules, play),
         _ => set_forth(rules, motion, play),
     }
 }
 
 /// What is said of a motion that no row lists.
 fn refusal_role(motion: u16) -> Role
-    ensures { result ≡ refusal_role motion }
+    ensures { result ≡ refusal_role (motion_of motion) }
 {
-    match motion {
-        motion::UP | motion::DOWN | motion::EAST..=motion::NORTHWEST => Role::NoDir,
-        motion::FORWARD | motion::LEFT | motion::RIGHT => Role::Facing,
-        motion::OUT | motion::INSIDE => Role::Inout,
-        motion::XYZZY | motion::PLUGH => Role::Magic,
-        motion::CRAWL => Role::Crawl,
+    match Motion::try_from(motion) {
+        Ok(
+            Motion::Up
+            | Motion::Down
+            | Motion::East
+            | Motion::West
+            | Motion::North
+            | Motion::South
+            | Motion::Northeast
+            | Motion::Southeast
+            | Motion::Southwest
+            | Motion::Northwest,
+        ) => Role::NoDir,
+        Ok(Motion::Forward | Motion::Left | Motion::Right) => Role::Facing,
+        Ok(Motion::Out | Motion::Inside) => Role::Inout,
+        Ok(Motion::Xyzzy | Motion::Plugh) => Role::Magic,
+        Ok(Motion::Crawl) => Role::Crawl,
         _ => Role::NoMotion,
     }
 }

@@ -10,7 +10,8 @@ use Rattle.cave_verbs.specs.Verbs.{verb_number}
 use Rattle.cave_verbs.specs.declared.verb.Verb.TheVariants as verb
 use Rattle.cave_words.specs.declared.named.Named.TheVariants as name
 use Rattle.cave_objects.specs.Objects.{is_object_at}
-use Rattle.cave_world.specs.Motion.{DEPRESSION, ENTRANCE}
+use Rattle.cave_world.specs.Motions.{motion_number}
+use Rattle.cave_world.specs.declared.motion.Motion.TheVariants as motion
 use Rattle.cave_world.specs.declared.dwarves.Knife.{Knife}
 use Rattle.cave_world.specs.declared.dwarves.Knife.TheVariants as knife
 use Rattle.cave_world.specs.declared.state.State.{State}
@@ -63,8 +64,8 @@ unfoldable pub object_word : CaveView → State → Option ℕ → Bool → ℕ 
 object_word cave s v is_alone k =
     first_that_fits (
     (is_there cave s k, Is k)
-    ∷ (is_called cave k name.Grate && is_above_grate s.trail.here, Leads DEPRESSION)
-    ∷ (is_called cave k name.Grate && is_below_grate s.trail.here, Leads ENTRANCE)
+    ∷ (is_called cave k name.Grate && is_above_grate s.trail.here, Leads (motion_number motion.Depression))
+    ∷ (is_called cave k name.Grate && is_below_grate s.trail.here, Leads (motion_number motion.Entrance))
     ∷ (is_called cave k name.Dwarf && is_dwarf_here s, Is k)
     ∷ (is_liquid_here cave s k, Is k)
     ∷ (is_grown_plant cave s k, Is (thing cave name.SecondPlant))

@@ -15,7 +15,9 @@ use Rattle.cave_words.specs.declared.meaning.Class.TheVariants as class
 use Rattle.cave_words.specs.declared.meaning.Meaning.{Meaning}
 use Rattle.cave_words.specs.declared.named.Named.TheVariants as name
 use Rattle.cave_objects.specs.Objects.{is_object_at}
-use Rattle.cave_world.specs.Motion.{XYZZY, PLUGH, PLOVER}
+use Rattle.cave_world.specs.Motions.{motion_of}
+use Rattle.cave_world.specs.declared.motion.Motion.{Motion as NamedMotion}
+use Rattle.cave_world.specs.declared.motion.Motion.TheVariants as motion
 use Rattle.cave_world.specs.declared.part.Part.TheVariants as part
 use Rattle.cave_world.specs.declared.part.WordLine.TheVariants as line
 use Rattle.cave_world.specs.declared.state.State.{State}
@@ -76,9 +78,16 @@ meaning_alone cave s half word (Some m) = class_alone cave s half word m.class m
 unfoldable pub word_alone : CaveView → State → HalfCommand → SaidWord → Understood
 word_alone cave s half w = meaning_alone cave s half w.word w.meaning
 
--- three motions and the magic words are done where they are said aloud
+-- three motions are done where they are said aloud
+abbrev pub is_magic_motion : Option NamedMotion → Bool
+is_magic_motion (Some motion.Xyzzy) = true
+is_magic_motion (Some motion.Plugh) = true
+is_magic_motion (Some motion.Plover) = true
+is_magic_motion _ = false
+
+-- and so are the magic words
 abbrev pub is_magic_by : Class → ℕ → Bool
-is_magic_by class.Motion n = n == XYZZY || n == PLUGH || n == PLOVER
+is_magic_by class.Motion n = is_magic_motion (motion_of n)
 is_magic_by class.Object n = false
 is_magic_by class.Action n = n == verb_number verb.Foo
 is_magic_by class.Special n = false

@@ -9,7 +9,7 @@ use cave_scene::Rules;
 use cave_things::{has_other_prop, is_dwarf_here, is_in_hand, is_liquid, is_near, lake, liquid};
 use cave_verbs::Verb;
 use cave_words::Named;
-use cave_world::{Knife, State, motion};
+use cave_world::{Knife, Motion, State};
 
 /// What a word says that names an object.
 #[derive(Clone, Copy, Debug, PartialEq, Eq)]
@@ -40,10 +40,10 @@ pub fn object_word(
         return ObjectWord::Is(object);
     }
     if rules.is(object, Named::Grate) && is_above_grate(here) {
-        return ObjectWord::Leads(motion::DEPRESSION);
+        return ObjectWord::Leads(Motion::Depression.number());
     }
     if rules.is(object, Named::Grate) && is_below_grate(here) {
-        return ObjectWord::Leads(motion::ENTRANCE);
+        return ObjectWord::Leads(Motion::Entrance.number());
     }
     if rules.is(object, Named::Dwarf) && is_dwarf_here(state) {
         return ObjectWord::Is(object);

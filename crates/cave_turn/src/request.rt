@@ -1,8 +1,9 @@
 ghost use Rattle.std.specs.Prelude.{◌≡◌};
 ghost use Rattle.cave_scene.specs.Rules.{cave_of};
+ghost use Rattle.cave_world.specs.Motions.{motion_of};
 ghost use Rattle.cave_turn.specs.Request.{with_verb, with_object, said_word, object_alone};
 ghost use Rattle.cave_turn.specs.Request.{action_alone, word_alone};
-ghost use Rattle.cave_turn.specs.Request.{is_magic};
+ghost use Rattle.cave_turn.specs.Request.{is_magic, is_magic_motion};
 ghost use Rattle.cave_turn.specs.Request.{word_aloud, object_before, action_before, before};
 ghost use Rattle.cave_turn.specs.Request.{enter_stream, enter_word, is_pouring, pour_in};
 ghost use Rattle.cave_turn.specs.Request.{two_words, is_saying, read_words, half_command_of};
@@ -15,7 +16,7 @@ use cave_scene::{Rules, or_no_object};
 use cave_things::{is_liquid, lake};
 use cave_verbs::Verb;
 use cave_words::{Class, Meaning, Named, Word};
-use cave_world::{Part, State, Talk, WordLine, motion};
+use cave_world::{Motion, Part, State, Talk, WordLine};
 
 /// Half a command: what was said of it before its other half.
 #[derive(Clone, Copy, Debug, PartialEq, Eq)]
@@ -186,16 +187,23 @@ fn alone(rules: &Rules<'_>, state: &State, half: HalfCommand, said: SaidWord) ->
     }
 }
 
+/// Whether a motion is done where it is said aloud.
+fn is_magic_motion(number: u16) -> bool
+    ensures { result ≡ is_magic_motion (motion_of number) }
+{
+    matches!(
+        Motion::try_from(number),
+        Ok(Motion::Xyzzy | Motion::Plugh | Motion::Plover)
+    )
+}
+
 fn is_magic(meaning: Option<Meaning>) -> bool
     ensures { result ≡ is_magic meaning }
 {
     match meaning {
         None => false,
         Some(meaning) => match meaning.class {
-            Class::Motion => matches!(
-                meaning.number,
-                motion::XYZZY | motion::PLUGH | motion::PLOVER
-            ),
+            Class::Motion => is_magic_motion(meaning.number),
             Class::Action => meaning.number == Verb::Foo.number(),
             Class::Object | Class::Special => false,
         },

@@ -2,7 +2,7 @@ pub mod Dwarves
 pub mod Equality
 pub mod Lamp
 pub mod Fresh
-pub mod Motion
+pub mod Motions
 pub mod Part
 pub mod SameGame
 pub mod Sight

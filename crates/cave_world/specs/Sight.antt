@@ -3,7 +3,7 @@ use Rattle.std.specs.Prelude.{ℕ, pos, ◌/◌, ◌%◌, ◌^◌, Bool, false, 
 use Rattle.std.specs.Ordering.{int_eq}
 use Rattle.cave_rows.specs.Rows.{Going}
 use Rattle.cave_data.specs.CaveView.{CaveView, ways_from, conditions_of}
-use Rattle.cave_world.specs.Motion.{ANY}
+use Rattle.cave_world.specs.Motions.{any_motion}
 use Rattle.cave_world.specs.declared.state.State.{State}
 use Rattle.cave_objects.specs.Objects.{is_at_hand, prop_of}
 
@@ -18,7 +18,7 @@ has_condition cave place bit = conditions_of cave place / 2 ^ bit % 2 == 1
 -- the first motion of the first way out is the one that any motion is
 abbrev pub starts_with_any : List ℕ → Bool
 starts_with_any [] = false
-starts_with_any (motion ∷ motions) = motion == ANY
+starts_with_any (motion ∷ motions) = motion == any_motion
 
 abbrev pub leads_on : List Going → Bool
 leads_on [] = false

@@ -6,7 +6,7 @@ use Rattle.std.specs.List.{list_any}
 use Rattle.cave_rows.specs.Rows.{Going, condition_of_target, number_of_target}
 use Rattle.cave_data.specs.CaveView.{CaveView, ways_from}
 use Rattle.cave_words.specs.Stream.{next, is_within_percent}
-use Rattle.cave_world.specs.Motion.{ANY}
+use Rattle.cave_world.specs.Motions.{any_motion}
 use Rattle.cave_world.specs.declared.state.State.{State}
 use Rattle.cave_world.specs.declared.travel.TravelOutcome.{TravelOutcome}
 use Rattle.cave_world.specs.declared.travel.TravelOutcome.TheVariants.{Go, Special, Say, NoMotion}
@@ -62,7 +62,7 @@ PROPS_AFTER = 3
 
 -- a row lists a motion by its number, or each motion by 1
 abbrev pub lists_motion : ℕ → Going → Bool
-lists_motion motion row = list_any (λ m. m == motion || m == ANY) row.motions
+lists_motion motion row = list_any (λ m. m == motion || m == any_motion) row.motions
 
 -- the condition of a row and the number after it
 abbrev pub row_condition : Going → ℕ

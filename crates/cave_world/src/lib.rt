@@ -25,6 +25,7 @@ pub use ending::{Ending, Question};
 pub use hints::{HintNumber, Hints};
 pub use lamp::{Charge, LOW_CHARGE, Lamp};
 pub use magic::Magic;
+pub use motion::{Motion, NoNamedMotion};
 pub use part::{NumberLine, Out, Part, WordLine};
 pub use sight::{has_condition, is_forced};
 pub use state::{State, Tallies, Trail};

@@ -1,47 +1,103 @@
-//! The motions that rules name, by their numbers in a database.
+//! The motions that rules name.
+ghost use Rattle.std.specs.Prelude.{◌≡◌};
+ghost use Rattle.cave_world.specs.Motions.{IsMotionOf, motion_among, motion_number};
 
-/// A row that lists it is taken by every motion. A place has a forced motion where its first row
-/// begins with it.
-pub const ANY: u16 = 1;
+/// A motion that rules name, with its number in a database.
+#[derive(Clone, Copy, Debug, PartialEq, Eq)]
+pub enum Motion {
+    /// A row that lists it is taken by every motion. A place has a forced motion where its first row
+    /// begins with it.
+    Any = 1,
+    Forward = 7,
+    Back = 8,
+    Out = 11,
+    Crawl = 17,
+    Inside = 19,
+    Nowhere = 21,
+    Up = 29,
+    Down = 30,
+    Left = 36,
+    Right = 37,
+    East = 43,
+    West = 44,
+    North = 45,
+    South = 46,
+    Northeast = 47,
+    Southeast = 48,
+    Southwest = 49,
+    Northwest = 50,
+    Look = 57,
+    Xyzzy = 62,
+    /// To the grate from before the cave.
+    Depression = 63,
+    /// To the grate from inside the cave.
+    Entrance = 64,
+    Plugh = 65,
+    Cave = 67,
+    Plover = 71,
+}
 
-pub const FORWARD: u16 = 7;
+/// Each of them.
+pub const EACH_MOTION: [Motion; 26] = [
+    Motion::Any,
+    Motion::Forward,
+    Motion::Back,
+    Motion::Out,
+    Motion::Crawl,
+    Motion::Inside,
+    Motion::Nowhere,
+    Motion::Up,
+    Motion::Down,
+    Motion::Left,
+    Motion::Right,
+    Motion::East,
+    Motion::West,
+    Motion::North,
+    Motion::South,
+    Motion::Northeast,
+    Motion::Southeast,
+    Motion::Southwest,
+    Motion::Northwest,
+    Motion::Look,
+    Motion::Xyzzy,
+    Motion::Depression,
+    Motion::Entrance,
+    Motion::Plugh,
+    Motion::Cave,
+    Motion::Plover,
+];
 
-pub const BACK: u16 = 8;
+/// No rule names the motion.
+#[derive(Clone, Copy, Debug, PartialEq, Eq)]
+pub struct NoNamedMotion;
 
-pub const OUT: u16 = 11;
+impl Motion {
+    /// Its number in a database.
+    pub fn number(self) -> u16
+        ensures { result ≡ motion_number self }
+    {
+        self as u16
+    }
+}
 
-pub const CRAWL: u16 = 17;
+/// The first motion with a number, if one has it.
+#[tactic(auto, unfolding(crate::specs::Motions::motion_among))]
+fn motion_among(motions: &[Motion], number: u16) -> Option<Motion>
+    ensures { result ≡ motion_among motions.now number }
+{
+    motions
+        .iter()
+        .copied()
+        .find(|motion| motion.number() == number)
+}
 
-pub const INSIDE: u16 = 19;
+impl TryFrom<u16> for Motion {
+    type Error = NoNamedMotion;
 
-pub const NOWHERE: u16 = 21;
+    ghost try_from_gives = { IsMotionOf };
 
-pub const UP: u16 = 29;
-
-pub const DOWN: u16 = 30;
-
-pub const LEFT: u16 = 36;
-
-pub const RIGHT: u16 = 37;
-
-/// The first of the eight points of the compass, which follow one another.
-pub const EAST: u16 = 43;
-
-/// The last of them.
-pub const NORTHWEST: u16 = 50;
-
-pub const LOOK: u16 = 57;
-
-pub const XYZZY: u16 = 62;
-
-/// To the grate from before the cave.
-pub const DEPRESSION: u16 = 63;
-
-/// To the grate from inside the cave.
-pub const ENTRANCE: u16 = 64;
-
-pub const PLUGH: u16 = 65;
-
-pub const CAVE: u16 = 67;
-
-pub const PLOVER: u16 = 71;
+    #[tactic(auto, unfolding(crate::specs::Motions::motion_of))]
+    fn try_from(number: u16) -> Result<Motion, NoNamedMotion> {
+        motion_among(&EACH_MOTION, number).ok_or(NoNamedMotion)
+    }
+}

@@ -1,7 +1,7 @@
 ghost use Rattle.std.specs.Prelude.{◌≡◌, ◌<◌};
 ghost use Rattle.cave_world.specs.Sight.{has_condition, is_forced, is_dark};
 
-use crate::motion::ANY;
+use crate::motion::Motion;
 use crate::state::State;
 use cave_data::Cave;
 use cave_objects::{Object, Place};
@@ -23,8 +23,9 @@ pub fn has_condition(cave: &Cave, place: Place, bit: u8) -> bool
 pub fn is_forced(cave: &Cave, place: Place) -> bool
     ensures { result ≡ is_forced cave.now place }
 {
+    let any = Motion::Any.number();
     match cave.travel(place.number()) {
-        [row, ..] => row.motions.first() == Some(&ANY),
+        [row, ..] => row.motions.first() == Some(&any),
         [] => false,
     }
 }

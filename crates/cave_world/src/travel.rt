@@ -6,7 +6,7 @@ ghost use Rattle.cave_world.specs.Travel.{from_listed, travel_by_rows, travel_by
 ghost use Rattle.cave_world.specs.Travel.{NOT_FOR_DWARVES};
 ghost use Rattle.cave_rows.specs.Rows.{max_condition};
 
-use crate::motion::ANY;
+use crate::motion::Motion;
 use crate::state::State;
 use cave_data::Cave;
 use cave_numbers::LAST_PLACE;
@@ -86,7 +86,8 @@ pub fn travel_by_motion(
 fn lists(row: &Row, motion: u16) -> bool
     ensures { result ≡ lists_motion motion (going row.now) }
 {
-    row.motions.iter().any(|&m| m == motion || m == ANY)
+    let any = Motion::Any.number();
+    row.motions.iter().any(|&m| m == motion || m == any)
 }
 
 #[tactic(auto, unfolding(crate::specs::Travel::leads_to))]
