@@ -5,7 +5,8 @@ use Rattle.std.specs.List.{flat_map}
 use Rattle.std.proofs.lemmas.List.Folds.{flat_map-map}
 use Rattle.cave_data.specs.CaveView.{CaveView}
 use Rattle.cave_play.specs.Machine.{cave_rules}
-use Rattle.log_replay.specs.Play.{Game, IsPlay}
+use Rattle.log_edits.specs.Game.{Game}
+use Rattle.log_replay.specs.Play.{IsPlay}
 use Rattle.cave_world.specs.declared.part.Part.{Part}
 use Rattle.cave_world.specs.declared.state.State.{State}
 use Rattle.cave_cover.specs.Marks.{Notes}

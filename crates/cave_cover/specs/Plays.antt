@@ -5,7 +5,8 @@ use Rattle.std.specs.Str.Lines.{lines}
 use Rattle.cave_data.specs.CaveView.{CaveView}
 use Rattle.cave_data.specs.Reads.{Reads}
 use Rattle.cave_play.specs.Machine.{cave_rules}
-use Rattle.log_replay.specs.Play.{Game, game_of, texts_of}
+use Rattle.log_edits.specs.Game.{Game, game_of}
+use Rattle.log_replay.specs.Play.{texts_of}
 use Rattle.cave_cover.specs.Report.{report}
 use Rattle.cave_cover.specs.Texts.{is_among, said_by_all}
 use Rattle.cave_cover.specs.declared.text.Text.{Text}

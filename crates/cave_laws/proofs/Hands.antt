@@ -22,8 +22,8 @@ use Rattle.cave_world.specs.declared.state.State.{State}
 use Rattle.cave_things.specs.Homes.{home}
 use Rattle.cave_begin.specs.Begin.{begun_state, starting_objects, all_objects}
 use Rattle.cave_turn.specs.Turns.{game_beginning, turn_on_line}
-use Rattle.cave_verbs.specs.Deeds.{Deed, Act}
-use Rattle.cave_verbs.specs.Rows.{VerbRow, fits, after_all, act_of_row, first_fitting}
+use Rattle.cave_orders.specs.Deeds.{Deed, Act}
+use Rattle.cave_orders.specs.Rows.{VerbRow, fits, after_all, act_of_row, first_fitting}
 use Rattle.cave_verbs.specs.Taking.{free_take_rows, take_rows}
 use Rattle.cave_laws.proofs.ThingsEffects.{default_kept}
 use Rattle.cave_laws.proofs.ThingsFrame.{Claim, On, IsMoved, IsKept, choose}

@@ -7,10 +7,10 @@ use Rattle.cave_world.specs.declared.state.State.{State}
 use Rattle.cave_things.specs.Effects.{put_down, let_go, without_troll, after_loss_to_snake}
 use Rattle.cave_things.specs.Effects.{with_one_more_lost}
 use Rattle.cave_scene.specs.Play.{Scene}
-use Rattle.cave_verbs.specs.Deeds.{Deed}
+use Rattle.cave_orders.specs.Deeds.{Deed}
 use Rattle.cave_verbs.specs.Feeding.{with_more_anger}
 use Rattle.cave_verbs.specs.Opening.{after_sending}
-use Rattle.cave_verbs.specs.Rows.{VerbRow}
+use Rattle.cave_orders.specs.Rows.{VerbRow}
 use Rattle.cave_laws.proofs.Frame.{Claim, Facts, On, choose, chosen}
 use Rattle.cave_laws.proofs.VerbEffects.{KeepsRows, angered_kept, let_go_kept, loss_kept}
 use Rattle.cave_laws.proofs.VerbEffects.{lost_kept, put_down_kept}

@@ -19,12 +19,12 @@ use Rattle.cave_scene.specs.Rules.{is_called}
 use Rattle.cave_things.specs.Reach.{is_in_hand, has_other_prop}
 use Rattle.cave_scene.specs.Rules.{thing}
 use Rattle.cave_scene.specs.Play.{Scene, after_telling}
-use Rattle.cave_verbs.specs.Deeds.{Deed, Act}
-use Rattle.cave_verbs.specs.Effects.{after_default, default, say}
-use Rattle.cave_verbs.specs.Rows.{Effect, VerbRow, first_fitting, fits, after_all, act_of_row}
+use Rattle.cave_orders.specs.Deeds.{Deed, Act}
+use Rattle.cave_orders.specs.Effects.{after_default, default, say}
+use Rattle.cave_orders.specs.Rows.{Effect, VerbRow, first_fitting, fits, after_all, act_of_row}
 use Rattle.cave_verbs.specs.Light.{say_dark}
 use Rattle.cave_verbs.specs.Opening.{after_sending}
-use Rattle.cave_verbs.specs.Verbs.{verb_number}
+use Rattle.cave_orders.specs.Verbs.{verb_number}
 use Rattle.cave_verbs.specs.Throwing.{first_fitting_or}
 use Rattle.cave_laws.proofs.ThingsFrame.{Claim, On, IsMoved, Clocked, choose, chosen, chosen_scene}
 

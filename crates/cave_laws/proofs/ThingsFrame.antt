@@ -16,8 +16,8 @@ use Rattle.cave_scene.specs.Play.{Scene}
 use Rattle.cave_things.specs.Reach.{is_dwarf_at}
 use Rattle.cave_clocks.specs.FirstClock.{dismissed_dwarf}
 use Rattle.cave_dwarves.specs.Waking.{dwarf_apart}
-use Rattle.cave_verbs.specs.Deeds.{Deed}
-use Rattle.cave_verbs.specs.Rows.{first_fitting}
+use Rattle.cave_orders.specs.Deeds.{Deed}
+use Rattle.cave_orders.specs.Rows.{first_fitting}
 use Rattle.cave_verbs.specs.Taking.{take_rows}
 use Rattle.cave_verbs.specs.Throwing.{without_first_at}
 use Rattle.cave_laws.proofs.Frame as frame

@@ -12,8 +12,8 @@ use Rattle.cave_world.specs.declared.state.State.{State}
 use Rattle.cave_things.specs.Effects.{put_down, let_go, without_troll, after_loss_to_snake}
 use Rattle.cave_things.specs.Panic.{after_panic}
 use Rattle.cave_scene.specs.Play.{Scene}
-use Rattle.cave_verbs.specs.Deeds.{Deed}
-use Rattle.cave_verbs.specs.Effects.{default}
+use Rattle.cave_orders.specs.Deeds.{Deed}
+use Rattle.cave_orders.specs.Effects.{default}
 use Rattle.cave_verbs.specs.Light.{say_dark}
 use Rattle.cave_verbs.specs.Opening.{after_sending}
 use Rattle.cave_verbs.specs.Blasting.{blast_rows}

@@ -18,12 +18,12 @@ use Rattle.cave_things.specs.Places.{building_place}
 use Rattle.cave_scene.specs.Play.{Scene, after_saying, after_look_at, with_state}
 use Rattle.cave_scene.specs.Rules.{thing}
 use Rattle.cave_verbs.specs.Acting.{act, next_of_step}
-use Rattle.cave_verbs.specs.Deeds.{order_of}
-use Rattle.cave_verbs.specs.Verbs.{verb_of}
-use Rattle.cave_verbs.specs.declared.next.Next.{Next}
-use Rattle.cave_verbs.specs.declared.next.Next.TheVariants as next_is
-use Rattle.cave_verbs.specs.declared.order.Order.{Order}
-use Rattle.cave_verbs.specs.declared.verb.Verb.{Verb}
+use Rattle.cave_orders.specs.Deeds.{order_of}
+use Rattle.cave_orders.specs.Verbs.{verb_of}
+use Rattle.cave_orders.specs.declared.next.Next.{Next}
+use Rattle.cave_orders.specs.declared.next.Next.TheVariants as next_is
+use Rattle.cave_orders.specs.declared.order.Order.{Order}
+use Rattle.cave_orders.specs.declared.verb.Verb.{Verb}
 use Rattle.cave_clocks.specs.Clocks.{timing_of_clocks}
 use Rattle.cave_clocks.specs.declared.clocks.Clocks.{Clocks}
 use Rattle.cave_clocks.specs.declared.clocks.Clocks.TheVariants as clocks

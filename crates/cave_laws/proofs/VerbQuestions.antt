@@ -10,7 +10,7 @@ use Rattle.cave_verbs.specs.Acting.{act_on, act_once, act_within}
 use Rattle.cave_verbs.specs.Acting.{act, next_of_step}
 use Rattle.cave_verbs.specs.Blasting.{blast_rows}
 use Rattle.cave_verbs.specs.Breaking.{break_rows, wake_rows}
-use Rattle.cave_verbs.specs.Deeds.{Deed, Act, deed, going_on}
+use Rattle.cave_orders.specs.Deeds.{Deed, Act, deed, going_on}
 use Rattle.cave_verbs.specs.Dropping.{drop_rows}
 use Rattle.cave_verbs.specs.Feeding.{feed_rows, bare_eat_rows, eat_rows}
 use Rattle.cave_verbs.specs.Finding.{find_rows, bare_inventory_rows}
@@ -20,22 +20,22 @@ use Rattle.cave_verbs.specs.Magic.{bare_foo_rows}
 use Rattle.cave_verbs.specs.Opening.{bare_open_rows, chain_rows, lock_rows, open_rows}
 use Rattle.cave_verbs.specs.Pouring.{pour_rows, drink_rows, bare_fill_rows, fill_rows}
 use Rattle.cave_verbs.specs.Reading.{bare_read_rows, read_rows}
-use Rattle.cave_verbs.specs.Rows.{VerbRow, after_all, first_fitting, fits, act_of_row}
+use Rattle.cave_orders.specs.Rows.{VerbRow, after_all, first_fitting, fits, act_of_row}
 use Rattle.cave_verbs.specs.Small.{bare_rows, other_rows, nothing_rows, bare_quit_rows}
 use Rattle.cave_verbs.specs.Small.{bare_score_rows, bare_brief_rows}
 use Rattle.cave_verbs.specs.Taking.{bare_take_rows, take_rows, free_take_rows}
-use Rattle.cave_verbs.specs.Tests.{dwarf}
+use Rattle.cave_orders.specs.Tests.{dwarf}
 use Rattle.cave_verbs.specs.Throwing.{throw_rows, miss_rows, hit_rows, axe_rows, first_fitting_or}
 use Rattle.cave_verbs.specs.Throwing.{after_one_draw, axe_thrown_at_dwarf, axe_act}
 use Rattle.cave_verbs.specs.Throwing.{throw_act}
 use Rattle.cave_verbs.specs.Waving.{wave_rows, rub_rows}
-use Rattle.cave_verbs.specs.declared.next.Next.{Next}
-use Rattle.cave_verbs.specs.declared.next.Next.TheVariants.{Stay, Keep, Describe, Arrive, Ask, End}
-use Rattle.cave_verbs.specs.declared.next.Step.{Step}
-use Rattle.cave_verbs.specs.declared.next.Step.TheVariants.{Done, GoOn}
-use Rattle.cave_verbs.specs.declared.order.Order.{Order}
-use Rattle.cave_verbs.specs.declared.verb.Verb.{Verb}
-use Rattle.cave_verbs.specs.declared.verb.Verb.TheVariants as verb
+use Rattle.cave_orders.specs.declared.next.Next.{Next}
+use Rattle.cave_orders.specs.declared.next.Next.TheVariants.{Stay, Keep, Describe, Arrive, Ask, End}
+use Rattle.cave_orders.specs.declared.next.Step.{Step}
+use Rattle.cave_orders.specs.declared.next.Step.TheVariants.{Done, GoOn}
+use Rattle.cave_orders.specs.declared.order.Order.{Order}
+use Rattle.cave_orders.specs.declared.verb.Verb.{Verb}
+use Rattle.cave_orders.specs.declared.verb.Verb.TheVariants as verb
 use Rattle.cave_laws.proofs.Frame.{choose, is_die}
 
 -- it is asked next whether to come back

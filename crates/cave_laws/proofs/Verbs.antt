@@ -8,8 +8,8 @@ use Rattle.cave_scene.specs.Play.{Scene}
 use Rattle.cave_verbs.specs.Acting.{bare_rows_of, object_act, act_bare}
 use Rattle.cave_verbs.specs.Acting.{act_on, act_once, act_within}
 use Rattle.cave_verbs.specs.Acting.{act}
-use Rattle.cave_verbs.specs.Deeds.{Act, deed, going_on}
-use Rattle.cave_verbs.specs.Rows.{first_fitting}
+use Rattle.cave_orders.specs.Deeds.{Act, deed, going_on}
+use Rattle.cave_orders.specs.Rows.{first_fitting}
 use Rattle.cave_verbs.specs.Blasting.{blast_rows}
 use Rattle.cave_verbs.specs.Breaking.{break_rows, wake_rows}
 use Rattle.cave_verbs.specs.Dropping.{drop_rows}
@@ -23,12 +23,12 @@ use Rattle.cave_verbs.specs.Reading.{read_rows}
 use Rattle.cave_verbs.specs.Small.{other_rows, nothing_rows}
 use Rattle.cave_verbs.specs.Taking.{take_rows}
 use Rattle.cave_verbs.specs.Waving.{wave_rows, rub_rows}
-use Rattle.cave_verbs.specs.Tests.{dwarf}
-use Rattle.cave_verbs.specs.declared.next.Step.{Step}
-use Rattle.cave_verbs.specs.declared.next.Step.TheVariants.{Done, GoOn}
-use Rattle.cave_verbs.specs.declared.order.Order.{Order}
-use Rattle.cave_verbs.specs.declared.verb.Verb.{Verb}
-use Rattle.cave_verbs.specs.declared.verb.Verb.TheVariants as verb
+use Rattle.cave_orders.specs.Tests.{dwarf}
+use Rattle.cave_orders.specs.declared.next.Step.{Step}
+use Rattle.cave_orders.specs.declared.next.Step.TheVariants.{Done, GoOn}
+use Rattle.cave_orders.specs.declared.order.Order.{Order}
+use Rattle.cave_orders.specs.declared.verb.Verb.{Verb}
+use Rattle.cave_orders.specs.declared.verb.Verb.TheVariants as verb
 use Rattle.cave_verbs.specs.Throwing.{throw_rows, miss_rows, hit_rows, axe_rows}
 use Rattle.cave_verbs.specs.Throwing.{axe_thrown_at_dwarf, axe_act, throw_act}
 use Rattle.cave_verbs.specs.Throwing.{after_one_draw}

@@ -6,11 +6,11 @@ use Rattle.std.proofs.lemmas.List.{drop_more, drop_all}
 use Rattle.std.specs.Prelude.{Result, IfErr}
 use Rattle.std.specs.declared.option.Option.{Option}
 use Rattle.std.proofs.lemmas.Result.{IfErr-at_err}
-use Rattle.log_replay.specs.Edit.{Change, apply_all}
-use Rattle.log_replay.specs.Faults.{group_fault}
-use Rattle.log_replay.specs.declared.fault.EditFault.TheVariants as cause
-use Rattle.log_replay.specs.declared.fault.GroupFault.{GroupFault}
-use Rattle.log_replay.specs.Play.{Game}
+use Rattle.log_edits.specs.Edit.{Change, apply_all}
+use Rattle.log_edits.specs.Faults.{group_fault}
+use Rattle.log_edits.specs.declared.fault.EditFault.TheVariants as cause
+use Rattle.log_edits.specs.declared.fault.GroupFault.{GroupFault}
+use Rattle.log_edits.specs.Game.{Game}
 use Rattle.log_replay.specs.Report.{IsReport}
 use Rattle.log_replay.specs.Machine.{MachineRules}
 use Rattle.edit_scripts.specs.Item.{Applied}

@@ -5,7 +5,7 @@ use Rattle.cave_data.specs.CaveView.{CaveView}
 use Rattle.cave_data.proofs.ReadLemmas.{same_cave}
 use Rattle.edit_options.specs.declared.editing.View.{View}
 use Rattle.edit_options.specs.declared.editing.View.TheVariants.{Transcript, Play, Log, Reports}
-use Rattle.log_replay.specs.Play.{Game, game_of}
+use Rattle.log_edits.specs.Game.{Game, game_of}
 use Rattle.edit_scripts.proofs.Grammar.{script_of-only}
 use Rattle.edit_scripts.specs.Item.{Applied}
 use Rattle.edit_scripts.specs.Script.{IsScript}

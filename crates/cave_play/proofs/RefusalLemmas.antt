@@ -7,17 +7,17 @@ use Rattle.limits.specs.Limits.{max_input_bytes, max_log_lines, max_seed}
 use Rattle.log_lines.specs.Line.{is_line}
 use Rattle.log_lines.specs.declared.line_flaw.LineFlaw.{LineFlaw}
 use Rattle.edit_scripts.specs.Item.{Applied}
-use Rattle.log_replay.specs.Edit.{Change, inserts, deletes, replaces, reseeds, log_after}
-use Rattle.log_replay.specs.Faults.{fault_of, fault_of_all, first_of_two, log_after_all}
-use Rattle.log_replay.specs.Faults.{or_group_meter_full}
+use Rattle.log_edits.specs.Edit.{Change, inserts, deletes, replaces, reseeds, log_after}
+use Rattle.log_edits.specs.Faults.{fault_of, fault_of_all, first_of_two, log_after_all}
+use Rattle.log_edits.specs.Faults.{or_group_meter_full}
 use Rattle.log_replay.specs.Opening.{first_bad_line, or_game_fault}
-use Rattle.log_replay.specs.Play.{Game, game_of, IsGame}
-use Rattle.log_replay.specs.declared.fault.EditFault.{EditFault}
-use Rattle.log_replay.specs.declared.fault.EditFault.TheVariants.{NoSuchPlace, BadLine, LogFull}
-use Rattle.log_replay.specs.declared.fault.EditFault.TheVariants.{BadSeed}
-use Rattle.log_replay.specs.declared.fault.GroupFault.{GroupFault}
+use Rattle.log_edits.specs.Game.{Game, game_of, IsGame}
+use Rattle.log_edits.specs.declared.fault.EditFault.{EditFault}
+use Rattle.log_edits.specs.declared.fault.EditFault.TheVariants.{NoSuchPlace, BadLine, LogFull}
+use Rattle.log_edits.specs.declared.fault.EditFault.TheVariants.{BadSeed}
+use Rattle.log_edits.specs.declared.fault.GroupFault.{GroupFault}
 use Rattle.log_replay.specs.declared.fault.OpenFault.TheVariants as session
-use Rattle.log_replay.proofs.Inverses.{IsFree-from_none, IsGame-apply_all, group_free, log-apply_all}
+use Rattle.log_edits.proofs.Inverses.{IsFree-from_none, IsGame-apply_all, group_free, log-apply_all}
 use Rattle.log_replay.proofs.Openings.{IsGame-from_no_fault}
 use Rattle.cave_play.specs.Judge.{large_seed, lines_fault, log_fault, or_too_many}
 use Rattle.cave_play.specs.Laws.{IsOfChange, RefusalsAreOfChanges}

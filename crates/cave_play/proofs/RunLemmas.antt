@@ -9,7 +9,8 @@ use Rattle.std.specs.Str.Lines.{lines}
 use Rattle.cave_data.specs.CaveView.{CaveView}
 use Rattle.cave_data.specs.Reads.{fault as cave_fault}
 use Rattle.cave_rows.specs.declared.error.CaveError.{CaveError}
-use Rattle.log_replay.specs.Play.{Game, IsPlay, game_of}
+use Rattle.log_edits.specs.Game.{Game, game_of}
+use Rattle.log_replay.specs.Play.{IsPlay}
 use Rattle.log_lines.specs.declared.line_flaw.LineFlaw.{LineFlaw}
 use Rattle.log_replay.specs.Opening.{first_bad_line}
 use Rattle.limits.specs.Limits.{max_seed, max_every, max_log_lines, max_input_bytes}

@@ -6,7 +6,8 @@ use Rattle.cave_score.specs.Score.{score_of, max_score_of}
 use Rattle.cave_world.specs.declared.ending.Ending.{Ending}
 use Rattle.cave_world.specs.declared.part.Part.{Part}
 use Rattle.cave_world.specs.declared.state.State.{State}
-use Rattle.log_replay.specs.Play.{Game, IsPlay}
+use Rattle.log_edits.specs.Game.{Game}
+use Rattle.log_replay.specs.Play.{IsPlay}
 use Rattle.cave_play.specs.Machine.{cave_rules}
 use Rattle.cave_play.specs.Outcome.{standing_of}
 use Rattle.cave_play.specs.Transcript.{ticks as ticks_of}

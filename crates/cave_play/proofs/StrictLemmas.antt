@@ -6,8 +6,8 @@ use Rattle.std.specs.Option.{option_or}
 use Rattle.std.specs.declared.option.Option.{Option}
 use Rattle.std.proofs.lemmas.List.{drop_all}
 use Rattle.cave_data.specs.CaveView.{CaveView}
-use Rattle.log_replay.specs.Play.{Game}
-use Rattle.log_replay.specs.declared.fault.GroupFault.{GroupFault}
+use Rattle.log_edits.specs.Game.{Game}
+use Rattle.log_edits.specs.declared.fault.GroupFault.{GroupFault}
 use Rattle.edit_scripts.specs.Item.{Applied}
 use Rattle.edit_scripts.specs.Script.{script_of}
 use Rattle.edit_scripts.specs.Views.{applied_item}

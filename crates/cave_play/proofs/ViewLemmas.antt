@@ -7,7 +7,7 @@ use Rattle.edit_options.specs.declared.editing.View.{View}
 use Rattle.edit_options.specs.declared.editing.View.TheVariants.{Transcript, Play, Log, Reports}
 use Rattle.replay_marks.specs.Spacing.{IsSpaced}
 use Rattle.log_replay.specs.LogText.{log_text}
-use Rattle.log_replay.specs.Play.{Game}
+use Rattle.log_edits.specs.Game.{Game}
 use Rattle.edit_scripts.specs.Item.{Applied}
 use Rattle.cave_play.specs.Edits.{ReadsBack, text_at_end, text_of_item}
 use Rattle.cave_play.specs.Outcome.{AreOutcomes, IsOutcome, lines_in, played_in, refusal_in}

@@ -8,7 +8,7 @@ use Rattle.edit_options.specs.declared.editing.View.{View}
 use Rattle.edit_options.specs.declared.editing.View.TheVariants.{Transcript, Play, Log, Reports}
 use Rattle.log_replay.specs.Session.{SessionView}
 use Rattle.log_replay.specs.LogText.{log_text}
-use Rattle.log_replay.specs.Play.{Game}
+use Rattle.log_edits.specs.Game.{Game}
 use Rattle.edit_scripts.specs.Item.{Applied}
 use Rattle.cave_world.specs.declared.part.Part.{Part}
 use Rattle.cave_world.specs.declared.state.State.{State}

@@ -2,11 +2,12 @@
 use Rattle.std.specs.Prelude.{◌≡◌, ℕ, List, [], ◌∷◌, length, Option, None, Some}
 use Rattle.cave_data.specs.CaveView.{CaveView}
 use Rattle.replay_marks.specs.Spacing.{IsSpaced}
-use Rattle.log_replay.specs.Play.{Game, state_after, ticks_of}
+use Rattle.log_edits.specs.Game.{Game}
+use Rattle.log_replay.specs.Play.{state_after, ticks_of}
 use Rattle.cave_score.specs.Score.{score_of, max_score_of}
 use Rattle.cave_play.specs.Transcript.{ticks}
 use Rattle.log_replay.specs.Report.{IsReport}
-use Rattle.log_replay.specs.declared.fault.GroupFault.{GroupFault}
+use Rattle.log_edits.specs.declared.fault.GroupFault.{GroupFault}
 use Rattle.edit_scripts.specs.Item.{Applied}
 use Rattle.cave_play.specs.Machine.{cave_rules}
 use Rattle.cave_play.specs.Output.{group_refusal, game_after_item}

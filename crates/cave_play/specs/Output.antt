@@ -4,14 +4,15 @@ use Rattle.std.specs.Fmt.{decimal}
 use Rattle.std.specs.Str.Lines.{lines}
 use Rattle.cave_data.specs.CaveView.{CaveView}
 use Rattle.cave_data.specs.Reads.{Reads}
-use Rattle.log_replay.specs.Edit.{Change, apply_all}
-use Rattle.log_replay.specs.Faults.{group_fault}
-use Rattle.log_replay.specs.Play.{Game, game_of, texts_of, ticks_of, state_after}
-use Rattle.log_replay.specs.declared.fault.EditFault.{EditFault}
-use Rattle.log_replay.specs.declared.fault.EditFault.TheVariants.{NoSuchPlace, BadLine, LogFull}
-use Rattle.log_replay.specs.declared.fault.EditFault.TheVariants.{BadSeed, MeterFull, Memory}
-use Rattle.log_replay.specs.declared.fault.EditFault.TheVariants.{EmptyGroup}
-use Rattle.log_replay.specs.declared.fault.GroupFault.{GroupFault}
+use Rattle.log_edits.specs.Edit.{Change, apply_all}
+use Rattle.log_edits.specs.Faults.{group_fault}
+use Rattle.log_edits.specs.Game.{Game, game_of}
+use Rattle.log_replay.specs.Play.{texts_of, ticks_of, state_after}
+use Rattle.log_edits.specs.declared.fault.EditFault.{EditFault}
+use Rattle.log_edits.specs.declared.fault.EditFault.TheVariants.{NoSuchPlace, BadLine, LogFull}
+use Rattle.log_edits.specs.declared.fault.EditFault.TheVariants.{BadSeed, MeterFull, Memory}
+use Rattle.log_edits.specs.declared.fault.EditFault.TheVariants.{EmptyGroup}
+use Rattle.log_edits.specs.declared.fault.GroupFault.{GroupFault}
 use Rattle.cave_score.specs.Score.{score_of, max_score_of}
 use Rattle.edit_scripts.specs.Item.{Applied, line_of_refusal}
 use Rattle.cave_play.specs.Machine.{cave_rules, rendering_of}

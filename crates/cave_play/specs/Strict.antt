@@ -2,8 +2,8 @@
 use Rattle.std.specs.Prelude.{Bool, List, [], ◌∷◌, Option, None, Some, Result, Ok, Err}
 use Rattle.std.specs.Prelude.{if◌then◌else◌}
 use Rattle.std.specs.Option.{option_or}
-use Rattle.log_replay.specs.Play.{Game}
-use Rattle.log_replay.specs.declared.fault.GroupFault.{GroupFault}
+use Rattle.log_edits.specs.Game.{Game}
+use Rattle.log_edits.specs.declared.fault.GroupFault.{GroupFault}
 use Rattle.edit_scripts.specs.Item.{Applied, line_of_refusal}
 use Rattle.edit_scripts.specs.declared.fault.ScriptRefusal.{ScriptRefusal}
 use Rattle.cave_play.specs.Output.{game_after_item, group_refusal}

@@ -10,11 +10,11 @@ use Rattle.edit_options.specs.declared.editing.View.{View}
 use Rattle.edit_options.specs.declared.editing.View.TheVariants.{Transcript, Play, Log, Reports}
 use Rattle.replay_marks.specs.Spacing.{IsSpaced}
 use Rattle.log_replay.specs.LogText.{log_text}
-use Rattle.log_replay.specs.Play.{Game, game_of}
-use Rattle.log_replay.specs.declared.fault.EditFault.{EditFault}
-use Rattle.log_replay.specs.declared.fault.EditFault.TheVariants.{NoSuchPlace, BadLine, LogFull}
-use Rattle.log_replay.specs.declared.fault.EditFault.TheVariants.{BadSeed, MeterFull, Memory}
-use Rattle.log_replay.specs.declared.fault.EditFault.TheVariants.{EmptyGroup}
+use Rattle.log_edits.specs.Game.{Game, game_of}
+use Rattle.log_edits.specs.declared.fault.EditFault.{EditFault}
+use Rattle.log_edits.specs.declared.fault.EditFault.TheVariants.{NoSuchPlace, BadLine, LogFull}
+use Rattle.log_edits.specs.declared.fault.EditFault.TheVariants.{BadSeed, MeterFull, Memory}
+use Rattle.log_edits.specs.declared.fault.EditFault.TheVariants.{EmptyGroup}
 use Rattle.edit_scripts.specs.Item.{Applied, line_of_refusal}
 use Rattle.edit_scripts.specs.Script.{IsScript}
 use Rattle.cave_play.specs.Outcome.{AreOutcomes, lines_in, played_in}

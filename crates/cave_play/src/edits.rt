@@ -15,8 +15,9 @@ use crate::outcome::{ItemOutcome, ItemReplay, Standing};
 use crate::reports::push_outcome;
 use edit_options::Editing;
 use edit_scripts::{Item, Script};
+use log_edits::EditFault;
 use log_lines::Meter;
-use log_replay::{EditFault, GroupReport, Session};
+use log_replay::{GroupReport, Session};
 use std::alloc::Global;
 
 /// How many lines were played for items, and how many lines the logs had that they left.

@@ -4,7 +4,7 @@ ghost use Rattle.std.specs.Prelude.{◌≡◌, ℕ, ◌^◌, ◌<◌, List, [], 
 ghost use Rattle.std.specs.Prelude.{MatchResult, length};
 ghost use Rattle.std.specs.Str.Lines.{lines};
 ghost use Rattle.cave_data.specs.Reads.{Reads};
-ghost use Rattle.log_replay.specs.Play.{game_of};
+ghost use Rattle.log_edits.specs.Game.{game_of};
 ghost use Rattle.edit_scripts.specs.Script.{IsScript, script_of};
 ghost use Rattle.edit_scripts.specs.Views.{items_of};
 ghost use Rattle.cave_play.specs.Input.{Says};

@@ -4,7 +4,7 @@ ghost use Rattle.std.specs.Prelude.{◌≡◌};
 ghost use Rattle.cave_play.specs.Outcome.{lines_in, played_in, refusal_in};
 
 use cave_world::Ending;
-use log_replay::GroupFault;
+use log_edits::GroupFault;
 
 /// Where a game is after its last line.
 #[derive(Clone, Copy, Debug, PartialEq, Eq)]

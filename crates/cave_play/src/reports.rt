@@ -14,7 +14,7 @@ use crate::refusal::{refusal_number, refusal_words};
 use cave_world::Ending;
 use edit_options::View;
 use edit_scripts::Item;
-use log_replay::GroupFault;
+use log_edits::GroupFault;
 use std::alloc::{AllocError, Global};
 
 /// Writes of an item what is asked for.

@@ -5,7 +5,7 @@ ghost use Rattle.std.specs.Prelude.{MatchResult, OnOk};
 ghost use Rattle.std.specs.Io.KnownBytes.{Appends};
 ghost use Rattle.std.specs.Str.Lines.{lines};
 ghost use Rattle.edit_scripts.specs.Views.{items_of};
-ghost use Rattle.log_replay.specs.Play.{game_of};
+ghost use Rattle.log_edits.specs.Game.{game_of};
 ghost use Rattle.cave_play.specs.Input.{Says};
 ghost use Rattle.cave_play.specs.Judge.{large_seed, every_fault};
 ghost use Rattle.cave_play.specs.Output.{check_text, play_text};

@@ -11,13 +11,13 @@ use Rattle.cave_scene.specs.Play.{after_draw}
 use Rattle.cave_scene.specs.Play.{happens}
 use Rattle.cave_scene.specs.Rules.{thing}
 use Rattle.cave_verbs.specs.Acting.{act, next_of_step}
-use Rattle.cave_verbs.specs.Deeds.{order_of}
-use Rattle.cave_verbs.specs.Effects.{after_default}
-use Rattle.cave_verbs.specs.Verbs.{verb_number, verb_of}
-use Rattle.cave_verbs.specs.declared.next.Next.{Next}
-use Rattle.cave_verbs.specs.declared.next.Next.TheVariants.{Stay, Keep, Describe, Arrive, Ask, End}
-use Rattle.cave_verbs.specs.declared.order.Order.{Order}
-use Rattle.cave_verbs.specs.declared.verb.Verb.{Verb}
+use Rattle.cave_orders.specs.Deeds.{order_of}
+use Rattle.cave_orders.specs.Effects.{after_default}
+use Rattle.cave_orders.specs.Verbs.{verb_number, verb_of}
+use Rattle.cave_orders.specs.declared.next.Next.{Next}
+use Rattle.cave_orders.specs.declared.next.Next.TheVariants.{Stay, Keep, Describe, Arrive, Ask, End}
+use Rattle.cave_orders.specs.declared.order.Order.{Order}
+use Rattle.cave_orders.specs.declared.verb.Verb.{Verb}
 use Rattle.cave_words.specs.Words.{words_of}
 use Rattle.cave_words.specs.declared.named.Named.TheVariants as name
 use Rattle.cave_words.specs.declared.words.Words.{Words}

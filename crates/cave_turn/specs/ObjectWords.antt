@@ -6,8 +6,8 @@ use Rattle.cave_things.specs.Liquids.{liquid_of, lake_of, is_liquid}
 use Rattle.cave_scene.specs.Rules.{is_called}
 use Rattle.cave_things.specs.Reach.{is_in_hand, is_near, has_other_prop, is_dwarf_here}
 use Rattle.cave_scene.specs.Rules.{thing}
-use Rattle.cave_verbs.specs.Verbs.{verb_number}
-use Rattle.cave_verbs.specs.declared.verb.Verb.TheVariants as verb
+use Rattle.cave_orders.specs.Verbs.{verb_number}
+use Rattle.cave_orders.specs.declared.verb.Verb.TheVariants as verb
 use Rattle.cave_words.specs.declared.named.Named.TheVariants as name
 use Rattle.cave_objects.specs.Objects.{is_object_at}
 use Rattle.cave_world.specs.Motions.{motion_number}

@@ -6,8 +6,8 @@ use Rattle.cave_rows.specs.declared.role.Role.TheVariants as role
 use Rattle.cave_things.specs.Liquids.{lake_of, is_liquid}
 use Rattle.cave_scene.specs.Rules.{or_no_object}
 use Rattle.cave_scene.specs.Rules.{thing}
-use Rattle.cave_verbs.specs.Verbs.{verb_number}
-use Rattle.cave_verbs.specs.declared.verb.Verb.TheVariants as verb
+use Rattle.cave_orders.specs.Verbs.{verb_number}
+use Rattle.cave_orders.specs.declared.verb.Verb.TheVariants as verb
 use Rattle.cave_words.specs.Meaning.{meaning}
 use Rattle.cave_words.specs.Word.{is_written, word_of}
 use Rattle.cave_words.specs.declared.meaning.Class.{Class}

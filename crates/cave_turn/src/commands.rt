@@ -13,7 +13,7 @@ ghost use Rattle.cave_turn.specs.Commands.{after_remembering};
 ghost use Rattle.cave_turn.specs.Commands.{kept_scene, scene_of_understood, scene_of_words, unread_scene};
 ghost use Rattle.cave_turn.specs.Commands.{after_clocks};
 ghost use Rattle.cave_turn.specs.Commands.{clocks_scene, command_scene, words_done_by_action};
-ghost use Rattle.cave_verbs.specs.Verbs.{verb_of};
+ghost use Rattle.cave_orders.specs.Verbs.{verb_of};
 
 use crate::finish::finish;
 use crate::request::{HalfCommand, Request, Understood, read_words};
@@ -21,9 +21,10 @@ use cave_clocks::{Clocks, run_clocks};
 use cave_ends::{ask, end};
 use cave_moves::{arrive, describe_here, lead_by_motion};
 use cave_objects::{Object, Place};
+use cave_orders::{Next, Order, Verb, tell_default};
 use cave_rows::Role;
 use cave_scene::{Play, Rules};
-use cave_verbs::{Next, Order, Verb, act, tell_default};
+use cave_verbs::act;
 use cave_words::{Named, Word, Words};
 use cave_world::{Ending, Knife, Magic, Out, Part, State, WordLine};
 

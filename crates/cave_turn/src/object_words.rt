@@ -5,9 +5,9 @@ ghost use Rattle.cave_turn.specs.ObjectWords.{is_knife_at, is_sought, is_above_g
 ghost use Rattle.cave_turn.specs.ObjectWords.{is_below_grate, object_word};
 
 use cave_objects::{Object, Place};
+use cave_orders::Verb;
 use cave_scene::Rules;
 use cave_things::{has_other_prop, is_dwarf_here, is_in_hand, is_liquid, is_near, lake, liquid};
-use cave_verbs::Verb;
 use cave_words::Named;
 use cave_world::{Knife, Motion, State};
 

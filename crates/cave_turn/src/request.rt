@@ -11,10 +11,10 @@ ghost use Rattle.cave_turn.specs.Request.{understanding};
 
 use crate::object_words::{ObjectWord, object_word};
 use cave_objects::Object;
+use cave_orders::Verb;
 use cave_rows::Role;
 use cave_scene::{Rules, or_no_object};
 use cave_things::{is_liquid, lake};
-use cave_verbs::Verb;
 use cave_words::{Class, Meaning, Named, Word};
 use cave_world::{Motion, Part, State, Talk, WordLine};
 

@@ -14,8 +14,8 @@ use Rattle.cave_things.specs.Reach.{is_in_hand, is_near}
 use Rattle.cave_objects.specs.Objects.{is_carried, is_first_at, spot_of}
 use Rattle.cave_things.specs.Liquids.{liquid_of, is_liquid}
 use Rattle.cave_verbs.specs.Opening.{opens_or_locks}
-use Rattle.cave_verbs.specs.declared.verb.Verb.{Verb}
-use Rattle.cave_verbs.specs.declared.verb.Verb.TheVariants as verb
+use Rattle.cave_orders.specs.declared.verb.Verb.{Verb}
+use Rattle.cave_orders.specs.declared.verb.Verb.TheVariants as verb
 use Rattle.cave_verbs.specs.Ranks.{take_rank, drop_rank, bare_rank, rank}
 
 -- the bottle is no liquid

@@ -4,7 +4,7 @@ use Rattle.cave_data.specs.CaveView.{CaveView}
 use Rattle.cave_scene.specs.Play.{Scene}
 use Rattle.cave_verbs.specs.Blasting.{blast_rows}
 use Rattle.cave_verbs.specs.Breaking.{break_rows, wake_rows}
-use Rattle.cave_verbs.specs.Deeds.{Deed, Act, deed, going_on}
+use Rattle.cave_orders.specs.Deeds.{Deed, Act, deed, going_on}
 use Rattle.cave_verbs.specs.Dropping.{drop_rows}
 use Rattle.cave_verbs.specs.Feeding.{feed_rows, bare_eat_rows, eat_rows}
 use Rattle.cave_verbs.specs.Finding.{find_rows, bare_inventory_rows}
@@ -14,19 +14,19 @@ use Rattle.cave_verbs.specs.Magic.{bare_foo_rows}
 use Rattle.cave_verbs.specs.Opening.{bare_open_rows, open_rows}
 use Rattle.cave_verbs.specs.Pouring.{pour_rows, drink_rows, bare_fill_rows, fill_rows}
 use Rattle.cave_verbs.specs.Reading.{bare_read_rows, read_rows}
-use Rattle.cave_verbs.specs.Rows.{VerbRow, first_fitting}
+use Rattle.cave_orders.specs.Rows.{VerbRow, first_fitting}
 use Rattle.cave_verbs.specs.Small.{bare_rows, other_rows, nothing_rows, bare_quit_rows}
 use Rattle.cave_verbs.specs.Small.{bare_score_rows, bare_brief_rows}
 use Rattle.cave_verbs.specs.Taking.{bare_take_rows, take_rows}
 use Rattle.cave_verbs.specs.Throwing.{throw_act}
 use Rattle.cave_verbs.specs.Waving.{wave_rows, rub_rows}
-use Rattle.cave_verbs.specs.declared.next.Next.{Next}
-use Rattle.cave_verbs.specs.declared.next.Next.TheVariants.{Stay}
-use Rattle.cave_verbs.specs.declared.next.Step.{Step}
-use Rattle.cave_verbs.specs.declared.next.Step.TheVariants.{Done, GoOn}
-use Rattle.cave_verbs.specs.declared.order.Order.{Order}
-use Rattle.cave_verbs.specs.declared.verb.Verb.{Verb}
-use Rattle.cave_verbs.specs.declared.verb.Verb.TheVariants as verb
+use Rattle.cave_orders.specs.declared.next.Next.{Next}
+use Rattle.cave_orders.specs.declared.next.Next.TheVariants.{Stay}
+use Rattle.cave_orders.specs.declared.next.Step.{Step}
+use Rattle.cave_orders.specs.declared.next.Step.TheVariants.{Done, GoOn}
+use Rattle.cave_orders.specs.declared.order.Order.{Order}
+use Rattle.cave_orders.specs.declared.verb.Verb.{Verb}
+use Rattle.cave_orders.specs.declared.verb.Verb.TheVariants as verb
 
 -- the rows of a verb without an object
 abbrev pub bare_rows_of : Verb → List VerbRow

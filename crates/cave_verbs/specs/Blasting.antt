@@ -7,9 +7,9 @@ use Rattle.cave_rows.specs.declared.role.Role.TheVariants as role
 use Rattle.cave_words.specs.declared.named.Named.TheVariants as name
 use Rattle.cave_world.specs.declared.ending.Ending.TheVariants as ending
 use Rattle.cave_things.specs.Places.{place_named}
-use Rattle.cave_verbs.specs.Effects.{say, default}
-use Rattle.cave_verbs.specs.Rows.{VerbRow, Test, row, row_then, ends}
-use Rattle.cave_verbs.specs.Tests.{the, no, near, prop_up_to, cave_closed}
+use Rattle.cave_orders.specs.Effects.{say, default}
+use Rattle.cave_orders.specs.Rows.{VerbRow, Test, row, row_then, ends}
+use Rattle.cave_orders.specs.Tests.{the, no, near, prop_up_to, cave_closed}
 
 -- the player is at the place that has a role
 abbrev pub at : PlaceRole → Test

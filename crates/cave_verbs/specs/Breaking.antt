@@ -3,9 +3,9 @@ use Rattle.std.specs.Prelude.{pos, List, [], ◌∷◌}
 use Rattle.cave_rows.specs.declared.role.Role.TheVariants as role
 use Rattle.cave_words.specs.declared.named.Named.TheVariants as name
 use Rattle.cave_world.specs.declared.ending.Ending.TheVariants as ending
-use Rattle.cave_verbs.specs.Effects.{say, default, fix, set_prop, lay_down}
-use Rattle.cave_verbs.specs.Rows.{VerbRow, row, row_then, ends}
-use Rattle.cave_verbs.specs.Tests.{x, is, prop, cave_closed}
+use Rattle.cave_orders.specs.Effects.{say, default, fix, set_prop, lay_down}
+use Rattle.cave_orders.specs.Rows.{VerbRow, row, row_then, ends}
+use Rattle.cave_orders.specs.Tests.{x, is, prop, cave_closed}
 
 unfoldable pub break_rows : List VerbRow
 break_rows =

@@ -4,11 +4,11 @@ use Rattle.cave_rows.specs.declared.role.Role.TheVariants as role
 use Rattle.cave_words.specs.declared.named.Named.TheVariants as name
 use Rattle.cave_world.specs.declared.ending.Ending.TheVariants as ending
 use Rattle.cave_things.specs.Homes.{is_home_elsewhere}
-use Rattle.cave_verbs.specs.Effects.{say, default, look, bring, kill, fix, set_prop, put}
-use Rattle.cave_verbs.specs.Effects.{troll_goes, lose_to_snake}
-use Rattle.cave_verbs.specs.Rows.{VerbRow, Test, Thing, row, row_then, ends, goes_on}
-use Rattle.cave_verbs.specs.declared.verb.Verb.TheVariants as verb
-use Rattle.cave_verbs.specs.Tests.{x, the, no, is, carries, near, is_here, prop, cave_closed}
+use Rattle.cave_orders.specs.Effects.{say, default, look, bring, kill, fix, set_prop, put}
+use Rattle.cave_orders.specs.Effects.{troll_goes, lose_to_snake}
+use Rattle.cave_orders.specs.Rows.{VerbRow, Test, Thing, row, row_then, ends, goes_on}
+use Rattle.cave_orders.specs.declared.verb.Verb.TheVariants as verb
+use Rattle.cave_orders.specs.Tests.{x, the, no, is, carries, near, is_here, prop, cave_closed}
 
 -- the player is elsewhere than where an object is at home
 abbrev pub from_home : Thing → Test

@@ -5,11 +5,11 @@ use Rattle.cave_words.specs.declared.named.Named.{Named}
 use Rattle.cave_words.specs.declared.named.Named.TheVariants as name
 use Rattle.cave_world.specs.declared.state.State.{State}
 use Rattle.cave_scene.specs.Rules.{is_one_of}
-use Rattle.cave_verbs.specs.Effects.{in_state, say, default, ask_what, kill, loosen, set_prop}
-use Rattle.cave_verbs.specs.Effects.{lose_one}
-use Rattle.cave_verbs.specs.Rows.{VerbRow, Test, Effect, row, row_then, keeps, goes_on}
-use Rattle.cave_verbs.specs.declared.verb.Verb.TheVariants as verb
-use Rattle.cave_verbs.specs.Tests.{x, the, no, either, is, near, prop, other_prop, cave_closed}
+use Rattle.cave_orders.specs.Effects.{in_state, say, default, ask_what, kill, loosen, set_prop}
+use Rattle.cave_orders.specs.Effects.{lose_one}
+use Rattle.cave_orders.specs.Rows.{VerbRow, Test, Effect, row, row_then, keeps, goes_on}
+use Rattle.cave_orders.specs.declared.verb.Verb.TheVariants as verb
+use Rattle.cave_orders.specs.Tests.{x, the, no, either, is, near, prop, other_prop, cave_closed}
 
 -- the order's object has one of the names
 abbrev pub is_any : List Named → Test

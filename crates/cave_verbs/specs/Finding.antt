@@ -11,11 +11,11 @@ use Rattle.cave_scene.specs.Rules.{thing}
 use Rattle.cave_scene.specs.Rules.{is_called}
 use Rattle.cave_things.specs.Reach.{is_in_hand}
 use Rattle.cave_scene.specs.Play.{Scene, after_saying}
-use Rattle.cave_verbs.specs.Deeds.{Deed}
-use Rattle.cave_verbs.specs.Effects.{in_scene, say, default}
-use Rattle.cave_verbs.specs.Rows.{VerbRow, Test, Effect, row}
-use Rattle.cave_verbs.specs.Tests.{x, the, is, carries, is_here, dwarf, cave_closed, in_bottle}
-use Rattle.cave_verbs.specs.Tests.{in_lake}
+use Rattle.cave_orders.specs.Deeds.{Deed}
+use Rattle.cave_orders.specs.Effects.{in_scene, say, default}
+use Rattle.cave_orders.specs.Rows.{VerbRow, Test, Effect, row}
+use Rattle.cave_orders.specs.Tests.{x, the, is, carries, is_here, dwarf, cave_closed, in_bottle}
+use Rattle.cave_orders.specs.Tests.{in_lake}
 
 -- FIND an object, and INVENTORY of one
 unfoldable pub find_rows : List VerbRow

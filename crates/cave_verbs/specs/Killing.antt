@@ -4,15 +4,15 @@ use Rattle.cave_rows.specs.declared.role.Role.TheVariants as role
 use Rattle.cave_words.specs.declared.named.Named.TheVariants as name
 use Rattle.cave_world.specs.declared.ending.Ending.TheVariants as ending
 use Rattle.cave_world.specs.declared.ending.Question.TheVariants as question
-use Rattle.cave_verbs.specs.Choice.{candidate, objects_meant, several, first}
-use Rattle.cave_verbs.specs.Deeds.{Deed}
-use Rattle.cave_verbs.specs.Effects.{say, default, ask_what, kill, set_prop, lose_to_snake}
-use Rattle.cave_verbs.specs.Rows.{VerbRow, Test, row, row_then, keeps, asks, ends, goes_on}
-use Rattle.cave_verbs.specs.Verbs.{is_verb}
-use Rattle.cave_verbs.specs.declared.verb.Verb.{Verb}
-use Rattle.cave_verbs.specs.declared.verb.Verb.TheVariants as verb
-use Rattle.cave_verbs.specs.Tests.{x, the, no, either, both, there_is, is, near, is_here, prop}
-use Rattle.cave_verbs.specs.Tests.{dwarf, cave_closed}
+use Rattle.cave_orders.specs.Choice.{candidate, objects_meant, several, first}
+use Rattle.cave_orders.specs.Deeds.{Deed}
+use Rattle.cave_orders.specs.Effects.{say, default, ask_what, kill, set_prop, lose_to_snake}
+use Rattle.cave_orders.specs.Rows.{VerbRow, Test, row, row_then, keeps, asks, ends, goes_on}
+use Rattle.cave_orders.specs.Verbs.{is_verb}
+use Rattle.cave_orders.specs.declared.verb.Verb.{Verb}
+use Rattle.cave_orders.specs.declared.verb.Verb.TheVariants as verb
+use Rattle.cave_orders.specs.Tests.{x, the, no, either, both, there_is, is, near, is_here, prop}
+use Rattle.cave_orders.specs.Tests.{dwarf, cave_closed}
 
 -- the player's own verb, which may have gone on to this one
 abbrev pub is_typed : Verb → Test

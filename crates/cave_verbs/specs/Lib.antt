@@ -1,10 +1,7 @@
 pub mod Acting
 pub mod Blasting
 pub mod Breaking
-pub mod Choice
-pub mod Deeds
 pub mod Dropping
-pub mod Effects
 pub mod Feeding
 pub mod Finding
 pub mod Killing
@@ -14,11 +11,7 @@ pub mod Opening
 pub mod Pouring
 pub mod Ranks
 pub mod Reading
-pub mod Room
-pub mod Rows
 pub mod Small
 pub mod Taking
-pub mod Tests
 pub mod Throwing
-pub mod Verbs
 pub mod Waving

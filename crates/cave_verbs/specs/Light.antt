@@ -4,9 +4,9 @@ use Rattle.cave_rows.specs.declared.role.Role.TheVariants as role
 use Rattle.cave_words.specs.declared.named.Named.TheVariants as name
 use Rattle.cave_world.specs.Sight.{is_dark}
 use Rattle.cave_scene.specs.Rules.{thing}
-use Rattle.cave_verbs.specs.Effects.{say, default, set_prop}
-use Rattle.cave_verbs.specs.Rows.{VerbRow, Test, Effect, row, row_then, describes}
-use Rattle.cave_verbs.specs.Tests.{the, no, near}
+use Rattle.cave_orders.specs.Effects.{say, default, set_prop}
+use Rattle.cave_orders.specs.Rows.{VerbRow, Test, Effect, row, row_then, describes}
+use Rattle.cave_orders.specs.Tests.{the, no, near}
 
 -- the lamp went out
 abbrev pub burnt_out : Test

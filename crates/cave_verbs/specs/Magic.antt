@@ -11,10 +11,10 @@ use Rattle.cave_things.specs.Homes.{home, is_at_home, is_home_here}
 use Rattle.cave_things.specs.Reach.{is_near}
 use Rattle.cave_things.specs.SpecialWords.{special}
 use Rattle.cave_scene.specs.Play.{Scene, with_state, after_look_at}
-use Rattle.cave_verbs.specs.Deeds.{Deed}
-use Rattle.cave_verbs.specs.Effects.{in_scene, in_state, say, set_prop}
-use Rattle.cave_verbs.specs.Rows.{VerbRow, Test, Effect, Thing, row}
-use Rattle.cave_verbs.specs.Tests.{the, no, either, there_is, carries, prop}
+use Rattle.cave_orders.specs.Deeds.{Deed}
+use Rattle.cave_orders.specs.Effects.{in_scene, in_state, say, set_prop}
+use Rattle.cave_orders.specs.Rows.{VerbRow, Test, Effect, Thing, row}
+use Rattle.cave_orders.specs.Tests.{the, no, either, there_is, carries, prop}
 
 -- the number of the word that was just read among the special words; 0 if it is none of them
 abbrev pub k : Deed → ℕ

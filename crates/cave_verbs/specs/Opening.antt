@@ -13,18 +13,18 @@ use Rattle.cave_things.specs.Panic.{after_panic}
 use Rattle.cave_things.specs.Places.{place_named}
 use Rattle.cave_things.specs.Reach.{is_near}
 use Rattle.cave_scene.specs.Rules.{thing}
-use Rattle.cave_verbs.specs.Deeds.{Deed}
-use Rattle.cave_verbs.specs.Effects.{in_state, say, default, ask_what, bring, kill, fix, loosen}
-use Rattle.cave_verbs.specs.Effects.{set_prop, lay_down}
-use Rattle.cave_verbs.specs.Rows.{VerbRow, Test, Effect, Thing, row, row_then, keeps}
-use Rattle.cave_verbs.specs.declared.verb.Verb.{Verb}
-use Rattle.cave_verbs.specs.declared.verb.Verb.TheVariants as verb
-use Rattle.cave_verbs.specs.Tests.{x, the, no, either, there_is, is, carries, near, prop}
-use Rattle.cave_verbs.specs.Tests.{other_prop}
-use Rattle.cave_verbs.specs.Tests.{cave_closing}
-use Rattle.cave_verbs.specs.Verbs.{is_verb}
-use Rattle.cave_verbs.specs.declared.next.Step.{Step}
-use Rattle.cave_verbs.specs.declared.next.Step.TheVariants.{GoOn}
+use Rattle.cave_orders.specs.Deeds.{Deed}
+use Rattle.cave_orders.specs.Effects.{in_state, say, default, ask_what, bring, kill, fix, loosen}
+use Rattle.cave_orders.specs.Effects.{set_prop, lay_down}
+use Rattle.cave_orders.specs.Rows.{VerbRow, Test, Effect, Thing, row, row_then, keeps}
+use Rattle.cave_orders.specs.declared.verb.Verb.{Verb}
+use Rattle.cave_orders.specs.declared.verb.Verb.TheVariants as verb
+use Rattle.cave_orders.specs.Tests.{x, the, no, either, there_is, is, carries, near, prop}
+use Rattle.cave_orders.specs.Tests.{other_prop}
+use Rattle.cave_orders.specs.Tests.{cave_closing}
+use Rattle.cave_orders.specs.Verbs.{is_verb}
+use Rattle.cave_orders.specs.declared.next.Step.{Step}
+use Rattle.cave_orders.specs.declared.next.Step.TheVariants.{GoOn}
 
 abbrev pub opens_or_locks : Verb → Bool
 opens_or_locks verb.Open = true

@@ -8,12 +8,12 @@ use Rattle.cave_world.specs.declared.ending.Question.TheVariants as question
 use Rattle.cave_world.specs.declared.part.Part.TheVariants as part
 use Rattle.cave_world.specs.declared.part.WordLine.TheVariants as line
 use Rattle.cave_scene.specs.Rules.{thing}
-use Rattle.cave_verbs.specs.Choice.{candidate, objects_meant, only}
-use Rattle.cave_verbs.specs.Deeds.{Deed}
-use Rattle.cave_verbs.specs.Effects.{tell, say, default, ask_what}
-use Rattle.cave_verbs.specs.Rows.{VerbRow, Test, Effect, Thing, row, row_then, keeps, asks, goes_on}
-use Rattle.cave_verbs.specs.declared.verb.Verb.TheVariants as verb
-use Rattle.cave_verbs.specs.Tests.{x, the, no, there_is, is, carries, near, cave_closed}
+use Rattle.cave_orders.specs.Choice.{candidate, objects_meant, only}
+use Rattle.cave_orders.specs.Deeds.{Deed}
+use Rattle.cave_orders.specs.Effects.{tell, say, default, ask_what}
+use Rattle.cave_orders.specs.Rows.{VerbRow, Test, Effect, Thing, row, row_then, keeps, asks, goes_on}
+use Rattle.cave_orders.specs.declared.verb.Verb.TheVariants as verb
+use Rattle.cave_orders.specs.Tests.{x, the, no, there_is, is, carries, near, cave_closed}
 
 -- the player sees nothing
 abbrev pub dark : Test

@@ -5,14 +5,14 @@ use Rattle.cave_words.specs.declared.named.Named.TheVariants as name
 use Rattle.cave_objects.specs.Halves.{object_of}
 use Rattle.cave_objects.specs.Lists.{halves_at}
 use Rattle.cave_objects.specs.declared.object.Half.{Half}
-use Rattle.cave_verbs.specs.Effects.{say, default, ask_what, carry}
-use Rattle.cave_verbs.specs.Effects.{set_prop}
-use Rattle.cave_verbs.specs.Rows.{VerbRow, Thing, row, row_then, keeps, goes_on}
-use Rattle.cave_verbs.specs.declared.verb.Verb.TheVariants as verb
-use Rattle.cave_verbs.specs.Tests.{x, the, no, either, there_is, is, carries, near}
-use Rattle.cave_verbs.specs.Tests.{immovable}
-use Rattle.cave_verbs.specs.Tests.{prop, other_prop, prop_up_to, dwarf, in_bottle}
-use Rattle.cave_verbs.specs.Tests.{full_hands}
+use Rattle.cave_orders.specs.Effects.{say, default, ask_what, carry}
+use Rattle.cave_orders.specs.Effects.{set_prop}
+use Rattle.cave_orders.specs.Rows.{VerbRow, Thing, row, row_then, keeps, goes_on}
+use Rattle.cave_orders.specs.declared.verb.Verb.TheVariants as verb
+use Rattle.cave_orders.specs.Tests.{x, the, no, either, there_is, is, carries, near}
+use Rattle.cave_orders.specs.Tests.{immovable}
+use Rattle.cave_orders.specs.Tests.{prop, other_prop, prop_up_to, dwarf, in_bottle}
+use Rattle.cave_orders.specs.Tests.{full_hands}
 
 -- the object of which a half is here alone; 0 where there are more halves, or none
 abbrev pub lone_object : List Half → ℕ

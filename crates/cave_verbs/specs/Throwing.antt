@@ -9,13 +9,13 @@ use Rattle.cave_world.specs.Fresh.{no_dwarf}
 use Rattle.cave_world.specs.declared.dwarves.Dwarf.{Dwarf}
 use Rattle.cave_world.specs.declared.state.State.{State}
 use Rattle.cave_things.specs.Reach.{is_dwarf_at}
-use Rattle.cave_verbs.specs.Deeds.{Deed, Act}
-use Rattle.cave_verbs.specs.Effects.{in_state, say, default, bring, kill, fix, juggle}
-use Rattle.cave_verbs.specs.Effects.{set_prop, troll_goes}
-use Rattle.cave_verbs.specs.Rows.{VerbRow, Test, Effect, Thing, row, row_then, again, goes_on}
-use Rattle.cave_verbs.specs.Rows.{fits, act_of_row, first_fitting}
-use Rattle.cave_verbs.specs.declared.verb.Verb.TheVariants as verb
-use Rattle.cave_verbs.specs.Tests.{x, the, no, is, carries, near, is_here, prop, dwarf, treasure}
+use Rattle.cave_orders.specs.Deeds.{Deed, Act}
+use Rattle.cave_orders.specs.Effects.{in_state, say, default, bring, kill, fix, juggle}
+use Rattle.cave_orders.specs.Effects.{set_prop, troll_goes}
+use Rattle.cave_orders.specs.Rows.{VerbRow, Test, Effect, Thing, row, row_then, again, goes_on}
+use Rattle.cave_orders.specs.Rows.{fits, act_of_row, first_fitting}
+use Rattle.cave_orders.specs.declared.verb.Verb.TheVariants as verb
+use Rattle.cave_orders.specs.Tests.{x, the, no, is, carries, near, is_here, prop, dwarf, treasure}
 
 -- no object
 abbrev pub no_thing : Thing

@@ -3,9 +3,9 @@ use Rattle.std.specs.Prelude.{pos, ◌-ℤ◌, List, [], ◌∷◌}
 use Rattle.cave_rows.specs.declared.role.Role.TheVariants as role
 use Rattle.cave_words.specs.declared.named.Named.TheVariants as name
 use Rattle.cave_objects.specs.Objects.{prop_of}
-use Rattle.cave_verbs.specs.Effects.{say, default, look, set_prop}
-use Rattle.cave_verbs.specs.Rows.{VerbRow, Effect, Thing, row}
-use Rattle.cave_verbs.specs.Tests.{x, the, no, both, is, carries, is_here, cave_closing}
+use Rattle.cave_orders.specs.Effects.{say, default, look, set_prop}
+use Rattle.cave_orders.specs.Rows.{VerbRow, Effect, Thing, row}
+use Rattle.cave_orders.specs.Tests.{x, the, no, both, is, carries, is_here, cave_closing}
 
 -- a prop becomes 1 less what it was
 abbrev pub flip : Thing → Effect

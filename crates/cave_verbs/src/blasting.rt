@@ -1,9 +1,8 @@
 ghost use Rattle.cave_scene.specs.Bounds.{HasRoom};
 ghost use Rattle.cave_verbs.specs.Blasting.{blast_rows};
-ghost use Rattle.cave_verbs.specs.Rows.{DoneByRows};
+ghost use Rattle.cave_orders.specs.Rows.{DoneByRows};
 
-use crate::next::Next;
-use crate::order::Order;
+use cave_orders::{Next, Order};
 use cave_rows::{PlaceRole, Role};
 use cave_scene::{Play, Rules};
 use cave_things::{has_prop_up_to, is_near, is_place, place_named};

@@ -3,14 +3,12 @@ ghost use Rattle.cave_words.specs.declared.named.Named.TheVariants as name;
 ghost use Rattle.cave_scene.specs.Rules.{is_called, cave_of, thing};
 ghost use Rattle.cave_things.specs.Reach.{is_in_hand, is_near};
 ghost use Rattle.cave_scene.specs.Bounds.{HasRoom, parts_of_row};
-ghost use Rattle.cave_verbs.specs.Rows.{ByRows, DoneByRows};
+ghost use Rattle.cave_orders.specs.Rows.{ByRows, DoneByRows};
 ghost use Rattle.cave_verbs.specs.Ranks.{rank_of, drop_rank};
 ghost use Rattle.cave_verbs.specs.Dropping.{drop_rows};
 
-use crate::next::{Next, Step};
-use crate::order::Order;
-use crate::verb::Verb;
 use cave_objects::{Anchor, Prop};
+use cave_orders::{Next, Order, Step, Verb};
 use cave_rows::Role;
 use cave_scene::{Play, Rules};
 use cave_things::{has_prop, is_home_elsewhere, is_in_hand, is_near, lose, put_down, remove_troll};

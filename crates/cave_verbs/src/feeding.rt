@@ -1,14 +1,12 @@
 ghost use Rattle.std.specs.Prelude.{◌≤◌};
 ghost use Rattle.cave_scene.specs.Bounds.{HasRoom, parts_of_row};
-ghost use Rattle.cave_verbs.specs.Rows.{ByRows, DoneByRows};
+ghost use Rattle.cave_orders.specs.Rows.{ByRows, DoneByRows};
 ghost use Rattle.cave_scene.specs.Rules.{cave_of};
 ghost use Rattle.cave_verbs.specs.Ranks.{rank_of};
 ghost use Rattle.cave_verbs.specs.Feeding.{feed_rows, bare_eat_rows, eat_rows};
 
-use crate::next::{Next, Step};
-use crate::order::Order;
-use crate::verb::Verb;
 use cave_objects::{Anchor, Prop};
+use cave_orders::{Next, Order, Step, Verb};
 use cave_rows::Role;
 use cave_scene::{Play, Rules};
 use cave_things::{has_other_prop, has_prop, is_near, lose_one};

@@ -1,18 +1,16 @@
 ghost use Rattle.std.specs.Prelude.{◌≡◌, ◌≤◌};
 ghost use Rattle.cave_scene.specs.Bounds.{HasRoom, parts_of_row};
 ghost use Rattle.cave_scene.specs.Play.{scene_of};
-ghost use Rattle.cave_verbs.specs.Deeds.{deed};
-ghost use Rattle.cave_verbs.specs.Rows.{ByRows, DoneByRows};
+ghost use Rattle.cave_orders.specs.Deeds.{deed};
+ghost use Rattle.cave_orders.specs.Rows.{ByRows, DoneByRows};
 ghost use Rattle.cave_scene.specs.Rules.{cave_of};
 ghost use Rattle.cave_verbs.specs.Ranks.{rank_of};
 ghost use Rattle.cave_verbs.specs.Killing.{foes, prey, bare_kill_rows, kill_rows};
 
-use crate::choice::{Meant, consider, first, several};
-use crate::next::{Next, Step};
-use crate::order::Order;
-use crate::verb::Verb;
 use arrayvec::ArrayVec;
 use cave_objects::Prop;
+use cave_orders::choice::{Meant, consider, first, several};
+use cave_orders::{Next, Order, Step, Verb};
 use cave_rows::Role;
 use cave_scene::{Play, Rules};
 use cave_things::{has_prop, is_dwarf_here, is_near, lose};

@@ -1,10 +1,9 @@
 ghost use Rattle.cave_scene.specs.Bounds.{HasRoom, parts_of_row};
 ghost use Rattle.cave_verbs.specs.Light.{on_rows, off_rows};
-ghost use Rattle.cave_verbs.specs.Rows.{DoneByRows};
+ghost use Rattle.cave_orders.specs.Rows.{DoneByRows};
 
-use crate::next::Next;
-use crate::order::Order;
 use cave_objects::Prop;
+use cave_orders::{Next, Order};
 use cave_rows::Role;
 use cave_scene::{Play, Rules};
 use cave_things::is_near;

@@ -3,13 +3,12 @@ ghost use Rattle.std.specs.Ordering.{int_eq};
 ghost use Rattle.cave_scene.specs.Bounds.{HasRoom, SaysUpTo};
 ghost use Rattle.cave_scene.specs.Play.{scene_of, GoesOn};
 ghost use Rattle.cave_scene.specs.Rules.{cave_of};
-ghost use Rattle.cave_verbs.specs.declared.next.Next.TheVariants.{Stay};
+ghost use Rattle.cave_orders.specs.declared.next.Next.TheVariants.{Stay};
 ghost use Rattle.cave_verbs.specs.Magic.{bare_foo_rows, with_magic, homing_sight, after_sending_home};
-ghost use Rattle.cave_verbs.specs.Rows.{DoneByRows};
+ghost use Rattle.cave_orders.specs.Rows.{DoneByRows};
 
-use crate::next::Next;
-use crate::order::Order;
 use cave_objects::{Object, Prop};
+use cave_orders::{Next, Order};
 use cave_rows::Role;
 use cave_scene::{Play, Rules};
 use cave_things::{has_prop, home, is_at_home, is_home_here, is_in_hand, is_near, special};

@@ -2,15 +2,13 @@ ghost use Rattle.std.specs.Prelude.{◌≡◌, ◌≤◌, ◌||◌, IsTrue};
 ghost use Rattle.cave_words.specs.declared.named.Named.TheVariants as name;
 ghost use Rattle.cave_scene.specs.Rules.{is_called, cave_of};
 ghost use Rattle.cave_scene.specs.Bounds.{HasRoom, parts_of_row};
-ghost use Rattle.cave_verbs.specs.Rows.{ByRows, DoneByRows};
+ghost use Rattle.cave_orders.specs.Rows.{ByRows, DoneByRows};
 ghost use Rattle.cave_verbs.specs.Ranks.{rank_of};
 ghost use Rattle.cave_verbs.specs.Opening.{after_sending, bare_open_rows, chain_rows, lock_meant};
 ghost use Rattle.cave_verbs.specs.Opening.{lock_rows, open_rows, opens_or_locks};
 
-use crate::next::{Next, Step};
-use crate::order::Order;
-use crate::verb::Verb;
 use cave_objects::{Anchor, Object, Place, Prop};
+use cave_orders::{Next, Order, Step, Verb};
 use cave_rows::{PlaceRole, Role};
 use cave_scene::{Play, Rules};
 use cave_things::panic::panic;

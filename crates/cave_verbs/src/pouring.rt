@@ -1,16 +1,14 @@
 ghost use Rattle.std.specs.Prelude.{◌≡◌, ◌+◌, ◌≤◌, ◌+ℤ◌, pos, int_div, []};
 ghost use Rattle.std.specs.Int.{int_rem_euclid};
 ghost use Rattle.cave_scene.specs.Bounds.{HasRoom, parts_of_row};
-ghost use Rattle.cave_verbs.specs.Rows.{ByRows, DoneByRow, DoneByRows, row_then, again};
+ghost use Rattle.cave_orders.specs.Rows.{ByRows, DoneByRow, DoneByRows, row_then, again};
 ghost use Rattle.cave_scene.specs.Rules.{cave_of};
 ghost use Rattle.cave_verbs.specs.Ranks.{rank_of};
 ghost use Rattle.cave_verbs.specs.Pouring.{poured_of, plant_watered, pour_rows, drink_rows};
 ghost use Rattle.cave_verbs.specs.Pouring.{bare_fill_rows, fill_rows};
 
-use crate::next::{Next, Step};
-use crate::order::Order;
-use crate::verb::Verb;
 use cave_objects::{Anchor, Object, Prop};
+use cave_orders::{Next, Order, Step, Verb};
 use cave_rows::Role;
 use cave_scene::{Play, Rules};
 use cave_things::{is_in_hand, is_liquid, is_near, lake, liquid};

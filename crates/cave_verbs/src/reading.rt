@@ -1,18 +1,16 @@
 ghost use Rattle.std.specs.Prelude.{◌≡◌, ◌≤◌};
 ghost use Rattle.cave_scene.specs.Bounds.{HasRoom, parts_of_row};
 ghost use Rattle.cave_scene.specs.Play.{scene_of};
-ghost use Rattle.cave_verbs.specs.Deeds.{deed};
-ghost use Rattle.cave_verbs.specs.Rows.{ByRows, DoneByRows};
+ghost use Rattle.cave_orders.specs.Deeds.{deed};
+ghost use Rattle.cave_orders.specs.Rows.{ByRows, DoneByRows};
 ghost use Rattle.cave_scene.specs.Rules.{cave_of};
 ghost use Rattle.cave_verbs.specs.Ranks.{rank_of};
 ghost use Rattle.cave_verbs.specs.Reading.{papers, what_to_read, bare_read_rows, read_rows};
 
-use crate::choice::{Meant, consider, only};
-use crate::next::{Next, Step};
-use crate::order::Order;
-use crate::verb::Verb;
 use arrayvec::ArrayVec;
 use cave_objects::Object;
+use cave_orders::choice::{Meant, consider, only};
+use cave_orders::{Next, Order, Step, Verb};
 use cave_rows::Role;
 use cave_scene::{Play, Rules};
 use cave_things::{is_in_hand, is_near};

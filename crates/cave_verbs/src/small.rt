@@ -1,9 +1,8 @@
 ghost use Rattle.cave_scene.specs.Bounds.{HasRoom};
-ghost use Rattle.cave_verbs.specs.Rows.{DoneByRows};
+ghost use Rattle.cave_orders.specs.Rows.{DoneByRows};
 ghost use Rattle.cave_verbs.specs.Small.{bare_brief_rows};
 
-use crate::next::Next;
-use crate::order::Order;
+use cave_orders::{Next, Order};
 use cave_rows::Role;
 use cave_scene::{Play, Rules};
 use cave_world::Count;

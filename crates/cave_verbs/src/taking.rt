@@ -1,14 +1,12 @@
 ghost use Rattle.std.specs.Prelude.{◌≡◌, ◌≤◌};
 ghost use Rattle.cave_scene.specs.Bounds.{HasRoom};
-ghost use Rattle.cave_verbs.specs.Rows.{ByRows, DoneByRows};
+ghost use Rattle.cave_orders.specs.Rows.{ByRows, DoneByRows};
 ghost use Rattle.cave_scene.specs.Rules.{cave_of};
 ghost use Rattle.cave_verbs.specs.Ranks.{rank_of, take_rank};
 ghost use Rattle.cave_verbs.specs.Taking.{bare_take_rows, take_rows, free_take_rows, lone_object};
 
-use crate::next::{Next, Step};
-use crate::order::Order;
-use crate::verb::Verb;
 use cave_objects::{Half, Object, Prop};
+use cave_orders::{Next, Order, Step, Verb};
 use cave_rows::Role;
 use cave_scene::{Play, Rules};
 use cave_things::{

@@ -1,19 +1,17 @@
 ghost use Rattle.std.specs.Prelude.{◌≡◌, ◌≤◌};
 ghost use Rattle.std.specs.List.{position};
 ghost use Rattle.cave_scene.specs.Bounds.{HasRoom, parts_of_row};
-ghost use Rattle.cave_verbs.specs.Rows.{ActsBy, ByRows, DoneBy, DoneByRows};
+ghost use Rattle.cave_orders.specs.Rows.{ActsBy, ByRows, DoneBy, DoneByRows};
 ghost use Rattle.cave_scene.specs.Rules.{cave_of};
 ghost use Rattle.cave_things.specs.Reach.{is_dwarf_at};
 ghost use Rattle.cave_things.specs.Effects.{put_here};
-ghost use Rattle.cave_verbs.specs.declared.next.Next.TheVariants.{Arrive};
+ghost use Rattle.cave_orders.specs.declared.next.Next.TheVariants.{Arrive};
 ghost use Rattle.cave_verbs.specs.Ranks.{rank_of, throw_rank};
 ghost use Rattle.cave_verbs.specs.Throwing.{with_one_killed, hit_rows, axe_rows};
 ghost use Rattle.cave_verbs.specs.Throwing.{axe_thrown_at_dwarf, axe_act, throw_act};
 
-use crate::next::{Next, Step};
-use crate::order::Order;
-use crate::verb::Verb;
 use cave_objects::{Anchor, Object, Place, Prop};
+use cave_orders::{Next, Order, Step, Verb};
 use cave_rows::Role;
 use cave_scene::{Play, Rules};
 use cave_things::{has_prop, is_dwarf_here, is_in_hand, is_near, is_treasure, remove_troll};

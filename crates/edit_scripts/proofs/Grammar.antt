@@ -3,7 +3,7 @@ use Rattle.std.proofs.Common.{◌≡◌, ℕ, ◌+◌, List, [], ◌∷◌, ◌+
 use Rattle.std.proofs.Common.{Ok, Err, MatchResult, IfErr, IfOk, codes, refl, sym, ap, ap₂, ◌∙◌}
 use Rattle.std.proofs.Common.{◌⊎◌, inl, inr, append_assoc, append-nil, arith}
 use Rattle.std.specs.Str.Lines.{lines}
-use Rattle.log_replay.specs.Edit.{Change}
+use Rattle.log_edits.specs.Edit.{Change}
 use Rattle.edit_scripts.specs.declared.fault.ScriptRefusal.{ScriptRefusal}
 use Rattle.edit_scripts.specs.declared.fault.ScriptRefusal.TheVariants.{Malformed, Memory}
 use Rattle.edit_scripts.specs.declared.script.Script.{Script}

@@ -6,7 +6,7 @@ use Rattle.std.proofs.Common.{inl, inr}
 use Rattle.std.specs.List.{list_all}
 use Rattle.std.proofs.lemmas.Bool.{false≢true}
 use Rattle.log_lines.specs.Bytes.{is_blank}
-use Rattle.log_replay.specs.Edit.{Change, inserts, deletes, replaces, reseeds}
+use Rattle.log_edits.specs.Edit.{Change, inserts, deletes, replaces, reseeds}
 use Rattle.edit_scripts.specs.Line.{LineKind, nothing, begin, end, edit, nonsense, IsKind}
 use Rattle.edit_scripts.specs.Line.{IsNumbered}
 use Rattle.edit_scripts.specs.Line.{IsText, IsWord, Spells, change_without_text, edit_of}

@@ -3,7 +3,7 @@ use Rattle.std.proofs.Common.{◌≡◌, ℕ, ◌+◌, List, [], ◌∷◌, ◌+
 use Rattle.std.proofs.Common.{Ok, Err, MatchResult, IfErr, codes, refl, sym, ap, subst, ◌∙◌, ◌⊎◌}
 use Rattle.std.proofs.Common.{inl, inr, append_assoc, length-append, arith}
 use Rattle.std.specs.Str.Lines.{lines}
-use Rattle.log_replay.specs.Edit.{Change}
+use Rattle.log_edits.specs.Edit.{Change}
 use Rattle.edit_scripts.specs.declared.fault.Flaw.{Flaw}
 use Rattle.edit_scripts.specs.declared.fault.Flaw.TheVariants.{NoEdit, BeginInGroup}
 use Rattle.edit_scripts.specs.declared.fault.Flaw.TheVariants.{EndOutsideGroup, NoEnd}

@@ -1,6 +1,6 @@
 -- What an item of a script says of a game.
 use Rattle.std.specs.Prelude.{ℕ, List, [], ◌∷◌, ◌++◌, slice_get, unwrap_or}
-use Rattle.log_replay.specs.Edit.{Change}
+use Rattle.log_edits.specs.Edit.{Change}
 
 -- what a script applies as a whole: one change, or a group of them. It has a line by which it is
 -- reported, and each of its changes has its own line

@@ -6,9 +6,9 @@ use Rattle.std.specs.List.{list_all}
 use Rattle.log_lines.specs.Bytes.{is_blank, is_digit, prefix_while, after_prefix}
 use Rattle.log_lines.specs.Bytes.{number_of}
 use Rattle.log_lines.specs.LogLine.{is_skipped}
-use Rattle.log_replay.specs.Edit.{Change, inserts, deletes, replaces, reseeds}
+use Rattle.log_edits.specs.Edit.{Change, inserts, deletes, replaces, reseeds}
 use Rattle.limits.specs.Limits.{max_digits, max_script_number}
-use Rattle.log_replay.specs.Edit.{change_of}
+use Rattle.log_edits.specs.Edit.{change_of}
 use Rattle.edit_scripts.specs.declared.line.ScriptLine.{ScriptLine}
 use Rattle.edit_scripts.specs.declared.line.ScriptLine.TheVariants.{Nothing, Begin, End, Edit}
 use Rattle.edit_scripts.specs.declared.line.ScriptLine.TheVariants.{Nonsense}

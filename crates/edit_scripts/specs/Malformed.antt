@@ -1,6 +1,6 @@
 -- Where a script is malformed first: all lines before are well formed.
 use Rattle.std.specs.Prelude.{◌≡◌, ◌⊎◌, ℕ, ◌+◌, List, ◌∷◌, ◌++◌, length, codes}
-use Rattle.log_replay.specs.Edit.{Change}
+use Rattle.log_edits.specs.Edit.{Change}
 use Rattle.edit_scripts.specs.Line.{IsKind, IsWord, nonsense}
 use Rattle.edit_scripts.specs.Item.{Applied}
 use Rattle.edit_scripts.specs.Script.{IsBody, IsScript}

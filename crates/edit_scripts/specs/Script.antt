@@ -2,7 +2,7 @@
 use Rattle.std.specs.Prelude.{ℕ, ◌+◌, List, [], ◌∷◌, ◌++◌, length, Option, Some, None, Result, Ok}
 use Rattle.std.specs.Prelude.{Err, codes, IsTrue}
 use Rattle.std.specs.Str.Lines.{lines}
-use Rattle.log_replay.specs.Edit.{Change}
+use Rattle.log_edits.specs.Edit.{Change}
 use Rattle.edit_scripts.specs.Line.{LineKind, nothing, begin, end, edit, nonsense, kind_of_script_line}
 use Rattle.log_lines.specs.LogLine.{is_skipped}
 use Rattle.edit_scripts.specs.Line.{IsWord, Spells}

@@ -1,7 +1,7 @@
 -- What the items of a script show.
 use Rattle.std.specs.Prelude.{◌≡◌, ℕ, List, map, Option, option_map, Result, Ok, Err}
 use Rattle.std.specs.Global.{Vec}
-use Rattle.log_replay.specs.Edit.{changes_of}
+use Rattle.log_edits.specs.Edit.{changes_of}
 use Rattle.edit_scripts.specs.Item.{Applied}
 use Rattle.edit_scripts.specs.Line.{LineKind}
 use Rattle.edit_scripts.specs.Script.{ScriptReading, reading_after_line, reading_with}

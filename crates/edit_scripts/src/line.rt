@@ -3,15 +3,15 @@
 ghost use Rattle.std.specs.Prelude.{◌≡◌, IfOk, MatchOption, None, Some, option_map, min};
 ghost use Rattle.limits.specs.Limits.{max_script_number};
 ghost use Rattle.log_lines.specs.Bytes.{is_blank, number_of};
-ghost use Rattle.log_replay.specs.Edit.{change_of};
+ghost use Rattle.log_edits.specs.Edit.{change_of};
 ghost use Rattle.edit_scripts.specs.Line.{is_word_line, number_after};
 ghost use Rattle.edit_scripts.specs.Line.{text_of_edit, edit_of, kind_of_script_line};
 ghost use Rattle.edit_scripts.specs.Line.{kind_said};
 
 use limits::{is_long_number, with_digit};
+use log_edits::{Edit, LineText};
 use log_lines::bytes::{is_all_blank, is_blank, split_digits};
 use log_lines::is_skipped;
-use log_replay::{Edit, LineText};
 use std::alloc::{AllocError, Global};
 
 /// What a line says.

@@ -1,6 +1,6 @@
 ghost use Rattle.std.specs.Prelude.{◌≡◌, ◌⊎◌, List, IfErr, IfOk, MatchResult, Ok, Err};
 ghost use Rattle.std.specs.Str.Lines.{lines};
-ghost use Rattle.log_replay.specs.Edit.{change_of};
+ghost use Rattle.log_edits.specs.Edit.{change_of};
 ghost use Rattle.edit_scripts.specs.Item.{Applied, group_at_line, group_with_change};
 ghost use Rattle.edit_scripts.specs.Item.{line_of_refusal};
 ghost use Rattle.edit_scripts.specs.Line.{begin, end, edit, kind_of_script_line};
@@ -11,8 +11,8 @@ ghost use Rattle.edit_scripts.specs.Views.{reading_of, step_of};
 
 use crate::fault::{Flaw, ScriptRefusal};
 use crate::line::{ScriptLine, read_line};
+use log_edits::Edit;
 use log_lines::split_line;
-use log_replay::Edit;
 use std::alloc::Global;
 
 /// What a script applies as a whole: one edit, or a group of them.

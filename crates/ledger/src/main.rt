@@ -7,8 +7,9 @@ pub mod ledger;
 
 use crate::ledger::{Ledger, closing_balance};
 use anyhow::Result;
+use log_edits::{Edit, LineText};
 use log_lines::Meter;
-use log_replay::{Edit, LineText, Session, Stretch};
+use log_replay::{Session, Stretch};
 use std::str;
 
 const LOG: &[u8] = b"in 100\nout 30\n# October\nout 50\nout 40\nin 60\nout 10\nin 5\n";

@@ -15,7 +15,8 @@ use Rattle.replay_marks.specs.Thinning.{after_shift}
 use Rattle.replay_marks.proofs.Counts.{place_within}
 use Rattle.replay_marks.proofs.NextPlaceLemmas.{states_joined_follow}
 use Rattle.log_replay.specs.Machine.{MachineRules}
-use Rattle.log_replay.specs.Play.{Game, state_after, texts_of, ticks_of}
+use Rattle.log_edits.specs.Game.{Game}
+use Rattle.log_replay.specs.Play.{state_after, texts_of, ticks_of}
 use Rattle.log_replay.specs.Agreement.{state_at, image, AgreesAt}
 use Rattle.log_replay.specs.Replay.{Revision, IsShift, texts_at, ticks_at, AreStates, IsMarking}
 use Rattle.log_replay.specs.Replay.{states_of_old, states_of_new, MetAt}

@@ -1,13 +1,8 @@
 pub mod AgreementLemmas
 pub mod Bounds
 pub mod Counting
-pub mod LogAfterLemmas
-pub mod Groups
-pub mod Inverses
 pub mod Joins
-pub mod Lines
 pub mod LogTextLemmas
-pub mod Makings
 pub mod Marking
 pub mod Openings
 pub mod PlayedRows
@@ -15,8 +10,6 @@ pub mod Plays
 pub mod ReadyLemmas
 pub mod Revisions
 pub mod Shifts
-pub mod MarginLemmas
 pub mod TableLemmas
 pub mod TakeoverLemmas
-pub mod Traces
 pub mod Underways

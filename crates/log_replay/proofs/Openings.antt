@@ -8,9 +8,9 @@ use Rattle.log_lines.specs.declared.line_flaw.LineFlaw.{LineFlaw}
 use Rattle.log_replay.specs.declared.fault.OpenFault.{OpenFault}
 use Rattle.log_replay.specs.declared.fault.OpenFault.TheVariants.{BadEvery, LogFull, BadSeed}
 use Rattle.limits.specs.Limits.{max_log_lines, max_seed, max_every}
-use Rattle.log_replay.specs.Play.{game_of}
+use Rattle.log_edits.specs.Game.{game_of}
 use Rattle.log_replay.specs.Opening.{first_bad_line, game_fault, or_game_fault, open_fault}
-use Rattle.log_replay.specs.Play.{IsGame}
+use Rattle.log_edits.specs.Game.{IsGame}
 use Rattle.log_replay.specs.Playthrough.{IsDistance}
 
 free_choice : (b : Bool) (fault : OpenFault) (rest : Option OpenFault)

@@ -2,7 +2,7 @@
 use Rattle.std.proofs.Common.{◌≡◌, ℕ, ◌+◌, ◌<◌, zero, suc, Bool, List, [], ◌∷◌, length, take}
 use Rattle.std.proofs.Common.{arith, refl, sym, subst, ap, ◌∙◌, Some}
 use Rattle.std.specs.Prelude.{slice_get, IfSome, if◌then◌else◌}
-use Rattle.log_replay.specs.Edit.{line_at}
+use Rattle.log_edits.specs.Edit.{line_at}
 use Rattle.log_replay.specs.PlayedRow.{PlayedRow, rows_from, IsRowAt}
 use Rattle.log_replay.proofs.Counting.{total, total-cons}
 

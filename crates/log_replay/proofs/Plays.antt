@@ -3,9 +3,10 @@ use Rattle.std.proofs.Common.{◌≡◌, ℕ, suc, ◌+◌, ◌<◌, get_or, tak
 use Rattle.std.proofs.Common.{length, refl, ap, ◌∙◌}
 use Rattle.smallvec.specs.SmallVec.{SmallVec}
 use Rattle.log_replay.specs.Machine.{MachineRules}
-use Rattle.log_replay.specs.Play.{log_of}
-use Rattle.log_replay.proofs.Lines.{take-log_of_more}
-use Rattle.log_replay.specs.Play.{Game, game_of, state_after, texts_of, ticks_of, IsPlay}
+use Rattle.log_edits.specs.Game.{log_of}
+use Rattle.log_edits.proofs.Lines.{take-log_of_more}
+use Rattle.log_edits.specs.Game.{Game, game_of}
+use Rattle.log_replay.specs.Play.{state_after, texts_of, ticks_of, IsPlay}
 
 pub length-texts_of : {S T : Type 0} (rules : MachineRules S T) (state : S) (lines : List (List ℕ))
     → length (texts_of rules state lines) ≡ length lines

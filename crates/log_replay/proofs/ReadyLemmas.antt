@@ -7,24 +7,24 @@ use Rattle.smallvec.specs.SmallVec.{SmallVec}
 use Rattle.replay_marks.specs.Spacing.{IsSpaced}
 use Rattle.log_replay.specs.declared.ready_edits.ReadyEdits.{ReadyEdits}
 use Rattle.log_replay.specs.Machine.{MachineRules}
-use Rattle.log_replay.specs.Play.{log_of}
-use Rattle.log_replay.specs.Play.{Game, game_of}
-use Rattle.log_replay.specs.Edit.{Change, log_after}
+use Rattle.log_edits.specs.Game.{log_of}
+use Rattle.log_edits.specs.Game.{Game, game_of}
+use Rattle.log_edits.specs.Edit.{Change, log_after}
 use Rattle.log_replay.specs.ReadyEdits.{new_game, IsReady, AreEditsOf}
-use Rattle.log_replay.specs.Faults.{fault_of, first_of_two, or_group_meter_full}
-use Rattle.log_replay.specs.Faults.{or_edit_meter_full}
-use Rattle.log_replay.specs.Faults.{group_fault, edit_fault}
-use Rattle.log_replay.specs.declared.fault.EditFault.{EditFault}
-use Rattle.log_replay.specs.declared.fault.EditFault.TheVariants.{MeterFull}
-use Rattle.log_replay.specs.declared.fault.GroupFault.{GroupFault}
-use Rattle.log_replay.specs.Margins.{margins_of}
-use Rattle.log_replay.specs.Play.{IsGame}
+use Rattle.log_edits.specs.Faults.{fault_of, first_of_two, or_group_meter_full}
+use Rattle.log_edits.specs.Faults.{or_edit_meter_full}
+use Rattle.log_edits.specs.Faults.{group_fault, edit_fault}
+use Rattle.log_edits.specs.declared.fault.EditFault.{EditFault}
+use Rattle.log_edits.specs.declared.fault.EditFault.TheVariants.{MeterFull}
+use Rattle.log_edits.specs.declared.fault.GroupFault.{GroupFault}
+use Rattle.log_edits.specs.Margins.{margins_of}
+use Rattle.log_edits.specs.Game.{IsGame}
 use Rattle.log_replay.specs.Replay.{IsShift, Revision, HasMet, IsWithinBound}
 use Rattle.log_replay.specs.Report.{AreStepsBounded}
-use Rattle.log_replay.proofs.LogAfterLemmas.{stays_after_all}
-use Rattle.log_replay.proofs.Inverses.{IsFree-from_none, IsGame-apply_all}
-use Rattle.log_replay.proofs.Lines.{length-log_of}
-use Rattle.log_replay.proofs.MarginLemmas.{leave_alone, seed_stays}
+use Rattle.log_edits.proofs.LogAfterLemmas.{stays_after_all}
+use Rattle.log_edits.proofs.Inverses.{IsFree-from_none, IsGame-apply_all}
+use Rattle.log_edits.proofs.Lines.{length-log_of}
+use Rattle.log_edits.proofs.MarginLemmas.{leave_alone, seed_stays}
 use Rattle.log_replay.proofs.Revisions.{HasCheckpoints, HasEndAt}
 
 -- the revision of a game by ready edits

@@ -5,8 +5,9 @@ use Rattle.std.proofs.Math.Seq.{take-add}
 use Rattle.std.proofs.lemmas.List.{take-append-drop, take-take, drop-drop, length-take-le, take_at}
 use Rattle.std.proofs.lemmas.List.{drop_at, take_more, append_assoc}
 use Rattle.log_replay.specs.Machine.{MachineRules}
-use Rattle.log_replay.specs.Play.{Game, state_after, texts_of, ticks_of}
-use Rattle.log_replay.specs.Edit.{line_at}
+use Rattle.log_edits.specs.Game.{Game}
+use Rattle.log_replay.specs.Play.{state_after, texts_of, ticks_of}
+use Rattle.log_edits.specs.Edit.{line_at}
 use Rattle.log_replay.specs.Agreement.{state_at, image, AgreesAt}
 use Rattle.log_replay.specs.Replay.{IsShift, texts_at, ticks_at}
 use Rattle.log_replay.proofs.Plays.{state_after-append, texts_of-append, ticks_of-append}

@@ -5,10 +5,10 @@ use Rattle.std.proofs.lemmas.List.{length-set}
 use Rattle.std.proofs.lemmas.List.Edits.{length-insert, length-remove}
 use Rattle.std.specs.Prelude.{◌≡◌, ◌<◌, ◌≤◌, Bool, true, false, nat_lt, nat_le}
 use Rattle.std.specs.Prelude.{length, Option, Some, None, if◌then◌else◌}
-use Rattle.log_replay.specs.declared.fault.EditFault.{EditFault}
-use Rattle.log_replay.specs.declared.fault.EditFault.TheVariants.{NoSuchPlace}
-use Rattle.log_replay.specs.Edit.{inserts, deletes, replaces, reseeds}
-use Rattle.log_replay.specs.Faults.{added_fault, replaced_fault}
+use Rattle.log_edits.specs.declared.fault.EditFault.{EditFault}
+use Rattle.log_edits.specs.declared.fault.EditFault.TheVariants.{NoSuchPlace}
+use Rattle.log_edits.specs.Edit.{inserts, deletes, replaces, reseeds}
+use Rattle.log_edits.specs.Faults.{added_fault, replaced_fault}
 use Rattle.log_replay.specs.Table.{ByTable}
 
 -- a change that meets no fault of its place has that place in the log

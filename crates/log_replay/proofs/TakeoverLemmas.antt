@@ -12,9 +12,10 @@ use Rattle.replay_marks.specs.Spacing.{IsSpaced}
 use Rattle.replay_marks.specs.Marks.{MarksView, CheckpointsView}
 use Rattle.log_replay.specs.Machine.{MachineRules}
 use Rattle.log_replay.specs.declared.ready_edits.ReadyEdits.{ReadyEdits}
-use Rattle.log_replay.specs.Play.{game_of, log_of, IsGame, state_after, texts_of, ticks_of}
-use Rattle.log_replay.specs.Edit.{Change, apply_all}
-use Rattle.log_replay.specs.Margins.{margins_of}
+use Rattle.log_edits.specs.Game.{game_of, log_of, IsGame}
+use Rattle.log_replay.specs.Play.{state_after, texts_of, ticks_of}
+use Rattle.log_edits.specs.Edit.{Change, apply_all}
+use Rattle.log_edits.specs.Margins.{margins_of}
 use Rattle.log_replay.specs.Playthrough.{IsPlaythrough}
 use Rattle.log_replay.specs.Agreement.{IsMeet, IsLastTo}
 use Rattle.log_replay.specs.ReadyEdits.{new_game, AreEditsOf}

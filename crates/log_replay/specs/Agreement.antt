@@ -2,7 +2,8 @@
 use Rattle.std.specs.Prelude.{◌≡◌, ℕ, ◌+◌, ◌-◌, ◌*◌, ◌<◌, ◌≤◌, List, length, take}
 use Rattle.std.specs.Prelude.{Contains, Option, None, Some}
 use Rattle.log_replay.specs.Machine.{MachineRules}
-use Rattle.log_replay.specs.Play.{Game, state_after}
+use Rattle.log_edits.specs.Game.{Game}
+use Rattle.log_replay.specs.Play.{state_after}
 
 -- the state of a play at a place: after so many lines
 abbrev pub state_at : {S T : Type 0} → MachineRules S T → Game → ℕ → S

@@ -1,12 +1,8 @@
 pub mod Agreement
-pub mod Edit
 pub mod Equality
-pub mod Faults
 pub mod LogText
 pub mod Machine
-pub mod Margins
 pub mod Opening
-pub mod Plan
 pub mod Play
 pub mod PlayedRow
 pub mod Playthrough

@@ -6,7 +6,7 @@ use Rattle.log_lines.specs.declared.line_flaw.LineFlaw.{LineFlaw}
 use Rattle.log_replay.specs.declared.fault.OpenFault.{OpenFault}
 use Rattle.log_replay.specs.declared.fault.OpenFault.TheVariants.{BadEvery, BadLine, LogFull}
 use Rattle.log_replay.specs.declared.fault.OpenFault.TheVariants.{BadSeed, Memory}
-use Rattle.log_replay.specs.Faults.{IsFaultOr}
+use Rattle.log_edits.specs.Faults.{IsFaultOr}
 use Rattle.log_replay.specs.Report.{RisesByAtMost}
 use Rattle.limits.specs.Limits.{max_log_lines, max_seed, max_every}
 

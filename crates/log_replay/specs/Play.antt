@@ -1,33 +1,7 @@
 -- A game, and its play by a machine: states, texts and ticks.
-use Rattle.std.specs.Prelude.{◌≡◌, ℕ, ◌≤◌, Bool, IsTrue, List, [], ◌∷◌, length, map, All}
-use Rattle.std.specs.Global.{Vec}
-use Rattle.smallvec.specs.SmallVec.{SmallVec}
-use Rattle.log_lines.specs.Line.{is_line}
+use Rattle.std.specs.Prelude.{◌≡◌, ℕ, ◌+◌, Bool, if◌then◌else◌, List, [], ◌∷◌}
+use Rattle.log_edits.specs.Game.{Game}
 use Rattle.log_replay.specs.Machine.{MachineRules}
-use Rattle.limits.specs.Limits.{max_log_lines, max_seed}
-use Rattle.std.specs.Prelude.{◌+◌, if◌then◌else◌}
-
--- what is played: a seed, and a log of lines
-pub record Game : Type 0 where
-  pub seed : ℕ
-  pub log : List (List ℕ)
-
-abbrev pub game_of : ℕ → List (List ℕ) → Game
-game_of seed log = record { seed = seed; log = log }
-
--- a log, by the bytes of its lines
-abbrev pub log_of : List (SmallVec ℕ) → List (List ℕ)
-log_of lines = map (λ line. line.items) lines
-
--- the game of a seed and a log as they are kept
-abbrev pub game_in : ℕ → Vec (SmallVec ℕ) → Game
-game_in seed log = game_of seed (log_of log.items)
-
--- a game that a session may hold
-pub record IsGame (game : Game) : Type 0 where
-  pub lines : All (λ line. IsTrue (is_line line)) game.log
-  pub few : length game.log ≤ max_log_lines
-  pub seed_fits : game.seed ≤ max_seed
 
 -- the state after the lines
 abbrev pub state_after : {S T : Type 0} → MachineRules S T → S → List (List ℕ) → S

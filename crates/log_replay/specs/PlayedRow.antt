@@ -2,7 +2,7 @@
 use Rattle.std.specs.Prelude.{◌≡◌, ℕ, ◌+◌, Bool, List, [], ◌∷◌, take, slice_get, count_by, Some}
 use Rattle.std.specs.Prelude.{if◌then◌else◌}
 use Rattle.log_replay.specs.declared.played_lines.PlayedLine.{PlayedLine}
-use Rattle.log_replay.specs.Edit.{line_at}
+use Rattle.log_edits.specs.Edit.{line_at}
 use Rattle.log_replay.specs.Session.{SessionView}
 
 -- a line with its place, with what was said at it, whether it ticked, and how many lines ticked up

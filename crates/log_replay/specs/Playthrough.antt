@@ -3,7 +3,8 @@ use Rattle.std.specs.Prelude.{◌≡◌, ℕ, ◌<◌, ◌≤◌, Bool, List, le
 use Rattle.replay_marks.specs.Marks.{CheckpointsView}
 use Rattle.log_replay.specs.declared.playthrough.Playthrough.{Playthrough}
 use Rattle.log_replay.specs.Machine.{MachineRules}
-use Rattle.log_replay.specs.Play.{Game, game_in, log_of, IsGame, IsPlay}
+use Rattle.log_edits.specs.Game.{Game, game_in, log_of, IsGame}
+use Rattle.log_replay.specs.Play.{IsPlay}
 use Rattle.log_replay.specs.Agreement.{state_at}
 use Rattle.log_replay.specs.Replay.{AreStates}
 use Rattle.limits.specs.Limits.{max_every}

@@ -1,5 +1,5 @@
 -- Edits that are accepted, and what is known of them before anything is replayed.
-use Rattle.std.specs.Prelude.{◌≡◌, ℕ, ◌+◌, ◌-◌, ◌<◌, ◌≤◌, List, length, Option, None, MatchOption}
+use Rattle.std.specs.Prelude.{◌≡◌, ℕ, ◌+◌, ◌-◌, ◌≤◌, List, length, None}
 use Rattle.smallvec.specs.SmallVec.{SmallVec}
 use Rattle.log_replay.specs.declared.ready_edits.ReadyEdits.{ReadyEdits}
 use Rattle.log_replay.specs.declared.segment.OldPlay.{OldPlay}
@@ -8,13 +8,13 @@ use Rattle.log_replay.specs.declared.playthrough.Playthrough.{Playthrough}
 use Rattle.log_replay.specs.declared.replay.Rerun.{Rerun}
 use Rattle.replay_marks.specs.Marks.{MarksView}
 use Rattle.log_replay.specs.Machine.{MachineRules}
-use Rattle.log_replay.specs.Play.{Game, game_of, log_of, IsGame}
+use Rattle.log_edits.specs.Game.{Game, game_of, log_of, IsGame}
 use Rattle.log_replay.specs.Playthrough.{kept_game}
-use Rattle.log_replay.specs.Margins.{margins_of}
+use Rattle.log_edits.specs.Margins.{margins_of}
 use Rattle.log_replay.specs.Replay.{Revision, IsShift, MayBegin, IsPlayed, IsWithinBound, IsRerun}
 use Rattle.log_replay.specs.Replay.{revision_to, segment_view, rerun_view}
-use Rattle.log_replay.specs.Edit.{Change, changes_of, apply_all, own_line, line_at, log_after}
-use Rattle.log_replay.specs.Faults.{fault_of_all, log_after_all}
+use Rattle.log_edits.specs.Edit.{Change, changes_of, apply_all}
+use Rattle.log_edits.specs.Faults.{fault_of_all, log_after_all}
 
 -- a log after the edits
 abbrev pub log_after_edits : ReadyEdits → List (List ℕ) → List (List ℕ)
@@ -86,15 +86,3 @@ pub record AreEditsOf (changes : List Change) (seed : ℕ) (log : List (SmallVec
   pub ordered : ready.head ≤ ready.rest
   pub head : ready.head ≡ (margins_of changes (log_of log)).head
   pub tail : ready.rest + (margins_of changes (log_of log)).tail ≡ length log
-
--- the line at a place of a log after a change is the one that was at the place `old`
-pub record IsOldLine (change : Change) (log : List (List ℕ)) (place old : ℕ) : Type 0 where
-  pub inside : old < length log
-  pub same : line_at (log_after change log) place ≡ line_at log old
-
--- The line at a place of a log after a change is the one that was at the place `before`; where that
--- is none, it is the change's own.
-abbrev pub ComesFrom : Change → List (List ℕ) → ℕ → Option ℕ → Type 0
-ComesFrom change log place before =
-    MatchOption before (line_at (log_after change log) place ≡ own_line change)
-    (IsOldLine change log place)

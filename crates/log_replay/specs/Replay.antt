@@ -6,9 +6,10 @@ use Rattle.replay_marks.specs.Marks.{MarksView, CheckpointsView, IsBegunAt}
 use Rattle.log_replay.specs.declared.replay.Rerun.{Rerun}
 use Rattle.log_replay.specs.declared.segment.Segment.{Segment}
 use Rattle.log_replay.specs.Machine.{MachineRules}
-use Rattle.log_replay.specs.Play.{Game, texts_of, ticks_of}
-use Rattle.log_replay.specs.Edit.{Change}
-use Rattle.log_replay.specs.Margins.{margins_of}
+use Rattle.log_edits.specs.Game.{Game}
+use Rattle.log_replay.specs.Play.{texts_of, ticks_of}
+use Rattle.log_edits.specs.Edit.{Change}
+use Rattle.log_edits.specs.Margins.{margins_of}
 use Rattle.log_replay.specs.Agreement.{state_at, image, AgreesAt, NoneMeetsBefore, IsMeet}
 use Rattle.log_replay.specs.Agreement.{IsBounded}
 

@@ -2,10 +2,10 @@
 use Rattle.std.specs.Prelude.{◌≡◌, ℕ, ◌+◌, ◌-◌, ◌≤◌, List, [], ◌∷◌, length, Option, MatchOption}
 use Rattle.std.specs.Prelude.{unwrap_or}
 use Rattle.log_replay.specs.Machine.{MachineRules}
-use Rattle.log_replay.specs.Play.{Game}
-use Rattle.log_replay.specs.Edit.{Change, apply_all}
-use Rattle.log_replay.specs.Faults.{group_fault, edit_fault, steps_left}
-use Rattle.log_replay.specs.Margins.{margins_of}
+use Rattle.log_edits.specs.Game.{Game}
+use Rattle.log_edits.specs.Edit.{Change, apply_all}
+use Rattle.log_edits.specs.Faults.{group_fault, edit_fault, steps_left}
+use Rattle.log_edits.specs.Margins.{margins_of}
 use Rattle.log_replay.specs.Agreement.{IsLastTo, IsMeet, IsBounded}
 
 -- a count that was `old` has risen by at most `most`

@@ -3,8 +3,9 @@ use Rattle.std.specs.Prelude.{◌≡◌, ℕ, Bool, List, map}
 use Rattle.log_replay.specs.declared.playthrough.Playthrough.{Playthrough}
 use Rattle.log_replay.specs.declared.report.Stretch.{Stretch}
 use Rattle.log_replay.specs.Machine.{MachineRules}
-use Rattle.log_replay.specs.Play.{Game, IsPlay}
-use Rattle.log_replay.specs.Edit.{Change}
+use Rattle.log_edits.specs.Game.{Game}
+use Rattle.log_replay.specs.Play.{IsPlay}
+use Rattle.log_edits.specs.Edit.{Change}
 use Rattle.log_replay.specs.Playthrough.{kept_game}
 use Rattle.log_replay.specs.Report.{IsReport}
 

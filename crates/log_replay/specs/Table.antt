@@ -1,9 +1,9 @@
 -- What one change leaves alone of a log, by its kind.
 use Rattle.std.specs.Prelude.{◌≡◌, ℕ, ◌+◌, ◌-◌, ◌≤◌, [], ◌∷◌, length, None}
-use Rattle.log_replay.specs.Play.{Game}
-use Rattle.log_replay.specs.Edit.{Change, inserts, deletes, replaces, reseeds, apply}
-use Rattle.log_replay.specs.Faults.{fault_of}
-use Rattle.log_replay.specs.Margins.{margins_of}
+use Rattle.log_edits.specs.Game.{Game}
+use Rattle.log_edits.specs.Edit.{Change, inserts, deletes, replaces, reseeds, apply}
+use Rattle.log_edits.specs.Faults.{fault_of}
+use Rattle.log_edits.specs.Margins.{margins_of}
 use Rattle.log_replay.specs.Agreement.{image}
 
 -- the first place that a change changes

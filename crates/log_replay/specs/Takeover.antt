@@ -5,7 +5,7 @@ use Rattle.std.specs.List.{splice}
 use Rattle.replay_marks.specs.Marks.{MarksView, CheckpointsView, IsBegunAt, places_met, states_met}
 use Rattle.log_replay.specs.declared.playthrough.Playthrough.{Playthrough}
 use Rattle.log_replay.specs.declared.replay.Rerun.{Rerun}
-use Rattle.log_replay.specs.Edit.{changes_of, lines_inserted_by_all, apply_all}
+use Rattle.log_edits.specs.Edit.{changes_of, lines_inserted_by_all, apply_all}
 use Rattle.log_replay.specs.Playthrough.{kept_game}
 
 -- the old place up to which what was played comes in: the checkpoint that was met, or the end

@@ -2,13 +2,10 @@
 #![tactic(auto)]
 
 mod copies;
-pub mod edit;
 pub mod fault;
 pub mod laws;
 mod log;
 pub mod machine;
-mod margins;
-mod plan;
 mod played_lines;
 mod playthrough;
 mod ready_edits;
@@ -20,10 +17,8 @@ mod takeover;
 mod tick_counts;
 mod workspace;
 
-pub use edit::{Edit, LineText};
-pub use fault::{EditFault, GroupFault, OpenFault};
+pub use fault::OpenFault;
 pub use machine::{Machine, Started, Stepped};
-pub use margins::Margins;
 pub use played_lines::{PlayedLine, PlayedLines};
 pub use report::{GroupReport, Report, Stretch};
 pub use session::Session;

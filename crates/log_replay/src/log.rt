@@ -2,12 +2,12 @@ ghost use Rattle.std.specs.Prelude.{◌≡◌, ◌+◌, ◌<◌, ◌++◌, lengt
 ghost use Rattle.std.specs.Prelude.{IfOk, OnOk, MatchResult, None, Some};
 ghost use Rattle.std.specs.Str.Lines.{lines};
 ghost use Rattle.log_replay.specs.LogText.{log_text};
-ghost use Rattle.log_replay.specs.Play.{log_of};
+ghost use Rattle.log_edits.specs.Game.{log_of};
 ghost use Rattle.log_replay.specs.Opening.{first_bad_line, open_fault};
 
-use crate::edit::LineText;
 use crate::fault::OpenFault;
 use limits::{is_bad_every, is_large_seed, is_long_log};
+use log_edits::LineText;
 use log_lines::{LineFlaw, check_line, flaw_of, split_line};
 use std::alloc::{AllocError, Global};
 

@@ -1,8 +1,8 @@
 ghost use Rattle.std.specs.Prelude.{◌≡◌, ℕ, ◌<◌, ◌^◌, length, slice_get, IfSome};
-ghost use Rattle.log_replay.specs.Play.{log_of};
+ghost use Rattle.log_edits.specs.Game.{log_of};
 ghost use Rattle.log_replay.specs.PlayedRow.{IsRowAt};
 
-use crate::edit::LineText;
+use log_edits::LineText;
 use std::marker::Model;
 
 /// A line of a log as it was played.
@@ -30,7 +30,7 @@ pub struct PlayedLines<'a, P> {
 
 impl<'a, P> Model for PlayedLines<'a, P> {
     ghost use Rattle.std.specs.Prelude.{◌+◌, ◌<◌, ◌^◌, List, length};
-    ghost use Rattle.log_replay.specs.Play.{log_of};
+    ghost use Rattle.log_edits.specs.Game.{log_of};
     ghost use Rattle.log_replay.specs.PlayedRow.{PlayedRow, rows_from};
 
     ghost Value = { List (PlayedRow P) };

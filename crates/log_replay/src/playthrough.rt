@@ -1,12 +1,12 @@
 ghost use Rattle.std.specs.Prelude.{◌≡◌, ◌+◌, ◌^◌, ◌<◌, length, IfOk, OnOk};
-ghost use Rattle.log_replay.specs.Play.{IsGame, game_in};
+ghost use Rattle.log_edits.specs.Game.{IsGame, game_in};
 ghost use Rattle.log_replay.specs.Playthrough.{IsDistance, kept_game, KeepsPlay};
 ghost use Rattle.log_replay.specs.Report.{RisesByAtMost};
 
-use crate::edit::LineText;
 use crate::machine::Machine;
 use crate::segment::{Segment, play_line};
 use crate::workspace::Workspace;
+use log_edits::LineText;
 use replay_marks::{Checkpoints, Marks};
 use std::alloc::AllocError;
 

@@ -1,21 +1,19 @@
-ghost use Rattle.std.specs.Prelude.{◌≡◌, ℕ, List, ◌+◌, ◌-◌, ◌^◌, ◌<◌, ◌≤◌, length};
-ghost use Rattle.std.specs.Prelude.{IfOk, IfSome, OnOk, None};
-ghost use Rattle.log_replay.specs.Play.{game_of, log_of, IsGame};
-ghost use Rattle.log_replay.specs.Edit.{change_of, changes_of, own_line, line_at, log_after};
-ghost use Rattle.log_replay.specs.Edit.{seed_after_all, lines_inserted_by_all};
-ghost use Rattle.log_replay.specs.Faults.{fault_of, fault_of_all, log_after_all};
-ghost use Rattle.log_replay.specs.Faults.{group_fault, IsAnswerTo};
+ghost use Rattle.std.specs.Prelude.{◌≡◌, ◌+◌, ◌-◌, ◌<◌, ◌≤◌, length};
+ghost use Rattle.std.specs.Prelude.{IfOk, OnOk, None};
+ghost use Rattle.log_edits.specs.Game.{game_of, log_of, IsGame};
+ghost use Rattle.log_edits.specs.Edit.{changes_of, line_at};
+ghost use Rattle.log_edits.specs.Faults.{fault_of_all};
+ghost use Rattle.log_edits.specs.Faults.{group_fault, IsAnswerTo};
 ghost use Rattle.log_replay.specs.ReadyEdits.{log_after_edits, new_game, IsReady, AreEditsOf};
-ghost use Rattle.log_replay.specs.ReadyEdits.{ComesFrom};
 ghost use Rattle.log_replay.specs.Replay.{IsShift};
 ghost use Rattle.limits.specs.Limits.{max_log_lines};
 
-use crate::copies::copy_edits;
-use crate::edit::{Edit, LineText};
-use crate::fault::GroupFault;
-use crate::plan::plan_group;
+use log_edits::copies::copy_edits;
+use log_edits::edit::seed_after;
+use log_edits::plan::plan_group;
+use log_edits::trace::line_after;
+use log_edits::{Edit, GroupFault, LineText};
 use std::alloc::Global;
-use std::cmp::Ordering;
 
 /// Edits of a game that are accepted, copied and not made yet.
 ///
@@ -56,20 +54,6 @@ pub(crate) fn prepare(
     })
 }
 
-/// The seed after the edits.
-fn seed_after(edits: &[Edit], seed: u32) -> u32
-    ensures { result ≡ seed_after_all (changes_of edits.now) seed }
-{
-    let mut last = seed;
-    for edit in edits {
-        match edit {
-            Edit::Reseed(new) => last = *new,
-            Edit::Insert(_, _) | Edit::Delete(_) | Edit::Replace(_, _) => {}
-        }
-    }
-    last
-}
-
 impl ReadyEdits {
     /// Where the lines after the edits are once these are made.
     pub(crate) fn rest_after(&self, log: &[LineText]) -> usize
@@ -101,81 +85,4 @@ impl ReadyEdits {
         }
         line_after(&self.edits, log, place)
     }
-}
-
-/// The line at a place of a log after the edits, which is looked for from the last of them back.
-fn line_after<'a>(edits: &'a [Edit], log: &'a [LineText], place: usize) -> &'a [u8]
-    requires free { fault_of_all (changes_of edits.now) (log_of log.now) 0 ≡ None }
-    requires place { place < length (log_after_all (changes_of edits.now) (log_of log.now)) }
-    requires few { place + length edits.now < 2 ^ 63 }
-    ensures { result.now ≡ line_at (log_after_all (changes_of edits.now) (log_of log.now)) place }
-{
-    let mut count = edits.len();
-    let mut source = place;
-    while count > 0 {
-        count -= 1;
-        let edit = &edits[count];
-        match place_before(edit, source) {
-            Some(before) => source = before,
-            None => return own_line(edit),
-        }
-    }
-    &log[source]
-}
-
-/// Where the line at a place of a log after an edit was before it; none where the edit brings the
-/// line in.
-fn place_before(edit: &Edit, place: usize) -> Option<usize>
-    requires { place + 1 < 2 ^ 64 }
-    ensures line { let change = change_of edit.now in
-        (log : List (List ℕ)) → fault_of change log ≡ None → place < length (log_after change log)
-        → ComesFrom change log place result }
-    ensures near { IfSome result (λ before. before ≤ place + 1) }
-{
-    match edit {
-        Edit::Insert(edited, _) => match place.cmp(&(*edited as usize)) {
-            Ordering::Less => Some(place),
-            Ordering::Equal => None,
-            Ordering::Greater => Some(place - 1),
-        },
-        Edit::Delete(edited) => {
-            if place < *edited as usize {
-                Some(place)
-            } else {
-                Some(place + 1)
-            }
-        }
-        Edit::Replace(edited, _) => {
-            if place == *edited as usize {
-                None
-            } else {
-                Some(place)
-            }
-        }
-        Edit::Reseed(_) => Some(place),
-    }
-}
-
-/// The line that an edit brings in, if it brings one.
-fn own_line(edit: &Edit) -> &[u8]
-    ensures { result.now ≡ own_line (change_of edit.now) }
-{
-    match edit {
-        Edit::Insert(_, line) | Edit::Replace(_, line) => line,
-        Edit::Delete(_) | Edit::Reseed(_) => &[],
-    }
-}
-
-/// How many lines the edits insert.
-pub(crate) fn lines_inserted(edits: &[Edit]) -> usize
-    ensures { result ≡ lines_inserted_by_all (changes_of edits.now) }
-{
-    let mut lines = 0;
-    for edit in edits {
-        match edit {
-            Edit::Insert(_, _) => lines += 1,
-            Edit::Delete(_) | Edit::Replace(_, _) | Edit::Reseed(_) => {}
-        }
-    }
-    lines
 }

@@ -2,15 +2,13 @@ ghost use Rattle.std.specs.Prelude.{◌≡◌, ◌≢◌, ◌+◌, ◌<◌, ◌�
 ghost use Rattle.std.specs.Prelude.{IfOk, OnOk, OnErr, MatchOption, Option};
 ghost use Rattle.std.specs.Option.{option_map};
 ghost use Rattle.replay_marks.specs.Marks.{IsBegunAt};
-ghost use Rattle.log_replay.specs.Edit.{changes_of, apply_all};
+ghost use Rattle.log_edits.specs.Edit.{changes_of, apply_all};
 ghost use Rattle.log_replay.specs.ReadyEdits.{AreEditsOf, IsRerunOf};
-ghost use Rattle.log_replay.specs.Faults.{group_fault, steps_left, IsAnswerTo, TakesBack};
+ghost use Rattle.log_edits.specs.Faults.{group_fault, steps_left, IsAnswerTo, TakesBack};
 ghost use Rattle.log_replay.specs.Playthrough.{kept_game, KeepsPlay, KeepsAll};
 ghost use Rattle.log_replay.specs.Replay.{MarksBegin};
 ghost use Rattle.log_replay.specs.Report.{IsReport, AreGroupSteps};
 
-use crate::edit::Edit;
-use crate::fault::GroupFault;
 use crate::machine::Machine;
 use crate::playthrough::Playthrough;
 use crate::ready_edits::{ReadyEdits, prepare};
@@ -18,6 +16,7 @@ use crate::report::{GroupReport, Stretch};
 use crate::segment::{OldPlay, Segment, play_changed};
 use crate::takeover::{make_room, take_over};
 use crate::workspace::Workspace;
+use log_edits::{Edit, GroupFault};
 use log_lines::Steps;
 use replay_marks::{Marks, last_to};
 use std::alloc::{AllocError, Global};

@@ -1,4 +1,4 @@
-use crate::edit::Edit;
+use log_edits::Edit;
 
 /// The stretch of a log that was replayed: the place that the replay began at, the place at which
 /// it met the old play, if it did, and how many lines were played.

@@ -1,7 +1,7 @@
 ghost use Rattle.std.specs.Prelude.{◌≡◌, ℕ, ◌+◌, ◌-◌, ◌^◌, ◌<◌, ◌≤◌, ◌↔◌, length, slice_index};
 ghost use Rattle.std.specs.Prelude.{IfOk, OnOk, IsTrue, None, Some};
 ghost use Rattle.log_lines.specs.Line.{is_line};
-ghost use Rattle.log_replay.specs.Play.{log_of};
+ghost use Rattle.log_edits.specs.Game.{log_of};
 ghost use Rattle.log_replay.specs.ReadyEdits.{log_after_edits, IsReady, MayReplay, IsReplayed};
 ghost use Rattle.log_replay.specs.ReadyEdits.{IsReplayBounded};
 ghost use Rattle.log_replay.specs.Replay.{AreStates, IsMarking, IsNextIndex, PlaysLine};
@@ -9,10 +9,10 @@ ghost use Rattle.log_replay.specs.Replay.{segment_view};
 ghost use Rattle.log_replay.specs.Report.{RisesByAtMost};
 ghost use Rattle.limits.specs.Limits.{max_log_lines};
 
-use crate::edit::LineText;
 use crate::machine::Machine;
 use crate::ready_edits::ReadyEdits;
 use crate::workspace::Workspace;
+use log_edits::LineText;
 use replay_marks::{Checkpoints, Marks, first_from};
 use std::alloc::AllocError;
 

@@ -2,18 +2,18 @@ ghost use Rattle.std.specs.Prelude.{◌≡◌, ◌<◌, ◌≤◌, length, Match
 ghost use Rattle.std.specs.Option.{ForSome};
 ghost use Rattle.replay_marks.specs.Marks.{IsBegunAt};
 ghost use Rattle.log_replay.specs.Playthrough.{kept_game, KeepsAll};
-ghost use Rattle.log_replay.specs.Edit.{changes_of, inverses_of};
-ghost use Rattle.log_replay.specs.Faults.{fault_of_all};
+ghost use Rattle.log_edits.specs.Edit.{changes_of, inverses_of};
+ghost use Rattle.log_edits.specs.Faults.{fault_of_all};
 ghost use Rattle.log_replay.specs.Takeover.{end_of_stretch, lines_gone, checkpoints_passed};
 ghost use Rattle.log_replay.specs.Takeover.{FitsMarks, HasRoomFor, IsStretch, IsTakenOver, IsWhole};
 ghost use Rattle.log_replay.specs.Takeover.{MarksEnd, new_places, new_states, new_state};
 
-use crate::edit::{Edit, make_edits};
 use crate::machine::Machine;
 use crate::playthrough::Playthrough;
-use crate::ready_edits::lines_inserted;
 use crate::replay::Rerun;
 use crate::segment::Segment;
+use log_edits::Edit;
+use log_edits::edit::{lines_inserted, make_edits};
 use replay_marks::{Checkpoints, Marks, splice};
 use std::alloc::AllocError;
 

@@ -1,6 +1,6 @@
 //! Edits and logs of the tests.
 
-use log_replay::{Edit, LineText};
+use log_edits::{Edit, LineText};
 use std::alloc::{AllocError, Global};
 
 /// A log of ten lines, the line of the place i of i + 1 letters.

@@ -6,8 +6,9 @@ use crate::machines::counts::Counts;
 use crate::machines::rule::RowRule;
 use crate::machines::told::Told;
 use crate::row::RowState;
+use log_edits::{Edit, EditFault, GroupFault};
 use log_lines::Meter;
-use log_replay::{Edit, EditFault, GroupFault, GroupReport, OpenFault, Report, Session};
+use log_replay::{GroupReport, OpenFault, Report, Session};
 use std::alloc::{AllocError, Global};
 
 /// A session over a machine of a rule.

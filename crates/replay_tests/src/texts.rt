@@ -1,7 +1,8 @@
 //! What faults say.
 
+use log_edits::{EditFault, GroupFault};
 use log_lines::LineFlaw;
-use log_replay::{EditFault, GroupFault, OpenFault};
+use log_replay::OpenFault;
 use std::test::Fail;
 
 #[test]

@@ -6,8 +6,9 @@ ghost use Rattle.cave_words.specs.Lexicon.{IsLexiconOf};
 use cave_data::Cave;
 use cave_play::machine::CaveMachine;
 use cave_words::Lexicon;
+use log_edits::{Edit, EditFault};
 use log_lines::Steps;
-use log_replay::{Edit, EditFault, Machine, OpenFault, Report, Session};
+use log_replay::{Machine, OpenFault, Report, Session};
 use std::alloc::Global;
 use std::process::Abort;
 

@@ -3,8 +3,9 @@
 use crate::caves::{CAVE, LONG_LOG};
 use crate::games::{TestCave, TestSession};
 use cave_play::machine::{CaveMachine, Piece};
+use log_edits::{Edit, EditFault, LineText};
 use log_lines::Meter;
-use log_replay::{Edit, EditFault, LineText, Report};
+use log_replay::Report;
 use std::alloc::{AllocError, Global};
 use std::process::Abort;
 use std::test::Fail;

@@ -1,8 +1,8 @@
 use Rattle.std.proofs.Common.{◌≡◌, Some, length, sym, subst, ap, ◌∙◌}
 use Rattle.replay_marks.specs.Spacing.{IsSpaced}
-use Rattle.log_replay.specs.Edit.{changes_of, apply_all}
-use Rattle.log_replay.specs.Play.{Game}
-use Rattle.log_replay.specs.declared.fault.EditFault.TheVariants as cause
+use Rattle.log_edits.specs.Edit.{changes_of, apply_all}
+use Rattle.log_edits.specs.Game.{Game}
+use Rattle.log_edits.specs.declared.fault.EditFault.TheVariants as cause
 use Rattle.edit_scripts.specs.Views.{applied_item}
 use Rattle.cave_data.specs.CaveView.{CaveView}
 use Rattle.cave_play.specs.Outcome.{standing_of}

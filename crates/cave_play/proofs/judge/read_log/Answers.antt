@@ -1,6 +1,6 @@
 use Rattle.std.proofs.Common.{◌∙◌}
 use Rattle.std.proofs.lemmas.Result.{err_from_is_err_and}
-use Rattle.log_replay.specs.Play.{game_of}
+use Rattle.log_edits.specs.Game.{game_of}
 use Rattle.cave_play.specs.Edits.{HoldsGame}
 use Rattle.cave_play.proofs.JudgeLemmas.{IsFoundIn-log, Judges-log}
 use Rattle.cave_play.proofs.judge.read_log.Goals as goal

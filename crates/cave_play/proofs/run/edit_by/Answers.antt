@@ -1,6 +1,6 @@
 use Rattle.std.proofs.Common.{◌++◌, subst, ap, ◌∙◌}
 use Rattle.cave_data.specs.CaveView.{CaveView}
-use Rattle.log_replay.specs.Play.{Game}
+use Rattle.log_edits.specs.Game.{Game}
 use Rattle.edit_scripts.specs.Views.{items_of}
 use Rattle.cave_play.specs.Edits.{ReadsBack, text_at_end, text_of_item}
 use Rattle.cave_play.specs.Outcome.{AreOutcomes}

@@ -4,7 +4,7 @@ use Rattle.std.specs.Str.Lines.{lines}
 use Rattle.std.proofs.lemmas.Result.{err_from_is_err_and}
 use Rattle.cave_data.specs.CaveView.{CaveView}
 use Rattle.edit_options.specs.declared.editing.Editing.{Editing}
-use Rattle.log_replay.specs.Play.{Game, game_of}
+use Rattle.log_edits.specs.Game.{Game, game_of}
 use Rattle.cave_play.specs.Views.{IsEditOf}
 use Rattle.cave_play.specs.Run.{Judges}
 use Rattle.cave_play.specs.Stage.{Stage}

@@ -2,7 +2,7 @@ use Rattle.std.proofs.Common.{ℕ, List, [], ◌∷◌, ◌++◌, inl, inr}
 use Rattle.std.specs.Global.{Vec}
 use Rattle.std.specs.Str.Lines.{lines}
 use Rattle.edit_options.specs.declared.editing.Editing.{Editing}
-use Rattle.log_replay.specs.Play.{game_of}
+use Rattle.log_edits.specs.Game.{game_of}
 use Rattle.std.proofs.lemmas.Result.{err_from_is_err_and}
 use Rattle.cave_play.specs.Judge.{large_seed, every_fault}
 use Rattle.cave_play.specs.Views.{IsEdited}

@@ -2,9 +2,9 @@ use Rattle.std.proofs.Common.{◌≡◌, ℕ, ◌<◌, ◌≤◌, ◌-◌, suc, 
 use Rattle.cave_scene.specs.Play.{scene_of}
 use Rattle.cave_scene.specs.Rules.{cave_of}
 use Rattle.cave_verbs.specs.Acting.{act_within, act_once}
-use Rattle.cave_verbs.specs.Deeds.{Deed, Act, deed, acted, going_on}
-use Rattle.cave_verbs.specs.declared.next.Step.TheVariants.{Done, GoOn}
-use Rattle.cave_verbs.specs.declared.verb.Verb.{Verb}
+use Rattle.cave_orders.specs.Deeds.{Deed, Act, deed, acted, going_on}
+use Rattle.cave_orders.specs.declared.next.Step.TheVariants.{Done, GoOn}
+use Rattle.cave_orders.specs.declared.verb.Verb.{Verb}
 use Rattle.cave_verbs.proofs.acting.+act_within.Goals as goal
 
 -- what a greater rank doesn't exceed isn't 0

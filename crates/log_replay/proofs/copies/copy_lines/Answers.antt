@@ -2,8 +2,8 @@ use Rattle.std.proofs.Common.{◌∷◌, [], ap, ◌∙◌, sym}
 use Rattle.std.proofs.lemmas.List.{map-append}
 use Rattle.smallvec.specs.SmallVec.{SmallVec}
 use Rattle.std.proofs.Common.{ℕ, List}
-use Rattle.log_replay.specs.Play.{log_of}
-use Rattle.log_replay.proofs.Lines.{take-log_of_more}
+use Rattle.log_edits.specs.Game.{log_of}
+use Rattle.log_edits.proofs.Lines.{take-log_of_more}
 use Rattle.log_replay.proofs.copies.copy_lines.Goals as goal
 
 pub loop-line-preserved : goal.loop-line-preserved

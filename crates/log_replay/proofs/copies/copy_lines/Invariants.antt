@@ -1,5 +1,5 @@
 use Rattle.std.proofs.Common.{◌≡◌, take}
-use Rattle.log_replay.specs.Play.{log_of}
+use Rattle.log_edits.specs.Game.{log_of}
 use Rattle.log_replay.proofs.copies.copy_lines.Given as goal
 
 abbrev pub invariant-loop-line : goal.invariant-loop-line

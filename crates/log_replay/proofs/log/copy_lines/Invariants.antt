@@ -1,6 +1,6 @@
 use Rattle.std.proofs.Common.{◌≡◌, ◌++◌, length}
 use Rattle.std.specs.Str.Lines.{lines}
-use Rattle.log_replay.specs.Play.{log_of}
+use Rattle.log_edits.specs.Game.{log_of}
 use Rattle.log_replay.proofs.log.copy_lines.Given as goal
 
 abbrev pub invariant-loop-line : goal.invariant-loop-line

@@ -1,7 +1,7 @@
 -- What was written, with the lines that are left, is the whole.
 use Rattle.std.proofs.Common.{◌≡◌, ◌++◌, drop}
 use Rattle.log_replay.specs.LogText.{log_text}
-use Rattle.log_replay.specs.Play.{log_of}
+use Rattle.log_edits.specs.Game.{log_of}
 use Rattle.log_replay.proofs.log.push_lines.Given as goal
 
 abbrev pub invariant-loop-line : goal.invariant-loop-line

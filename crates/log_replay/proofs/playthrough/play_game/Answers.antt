@@ -1,9 +1,9 @@
 use Rattle.std.proofs.Common.{◌≡◌, ◌+◌, ◌<◌, length, ap, ◌∙◌, sym, refl, arith}
-use Rattle.log_replay.specs.Play.{log_of}
-use Rattle.log_replay.specs.Play.{game_of}
-use Rattle.log_replay.specs.Edit.{line_at}
+use Rattle.log_edits.specs.Game.{log_of}
+use Rattle.log_edits.specs.Game.{game_of}
+use Rattle.log_edits.specs.Edit.{line_at}
 use Rattle.log_replay.specs.Agreement.{state_at}
-use Rattle.log_replay.proofs.Lines.{length-log_of, line_at-log_of, is_line-read}
+use Rattle.log_edits.proofs.Lines.{length-log_of, line_at-log_of, is_line-read}
 use Rattle.log_replay.proofs.Shifts.{state_at-more, texts_at-more, ticks_at-more}
 use Rattle.log_replay.proofs.playthrough.play_game.Goals as goal
 

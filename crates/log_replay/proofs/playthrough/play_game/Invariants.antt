@@ -1,7 +1,7 @@
 use Rattle.std.proofs.Common.{◌≡◌, ◌+◌, map, length}
 use Rattle.std.specs.Prelude.{slice_index}
-use Rattle.log_replay.specs.Play.{log_of}
-use Rattle.log_replay.specs.Play.{game_of}
+use Rattle.log_edits.specs.Game.{log_of}
+use Rattle.log_edits.specs.Game.{game_of}
 use Rattle.log_replay.specs.Agreement.{state_at}
 use Rattle.log_replay.specs.Replay.{texts_at, ticks_at, IsMarking}
 use Rattle.log_replay.proofs.playthrough.play_game.Given as goal

@@ -1,18 +1,18 @@
 use Rattle.std.proofs.Common.{◌≡◌, ℕ, ◌+◌, ◌-◌, ◌≤◌, List, length, ap, ◌∙◌, refl, arith, Option}
 use Rattle.smallvec.specs.SmallVec.{SmallVec}
-use Rattle.log_replay.specs.declared.fault.GroupFault.{GroupFault}
-use Rattle.log_replay.specs.declared.margins.Margins.{Margins}
-use Rattle.log_replay.specs.declared.plan.Plan.{Plan}
+use Rattle.log_edits.specs.declared.fault.GroupFault.{GroupFault}
+use Rattle.log_edits.specs.declared.margins.Margins.{Margins}
+use Rattle.log_edits.specs.declared.plan.Plan.{Plan}
 use Rattle.log_replay.specs.declared.ready_edits.ReadyEdits.{ReadyEdits}
-use Rattle.log_replay.specs.Play.{log_of, game_of, IsGame}
-use Rattle.log_replay.specs.Edit.{Change, changes_of, seed_after_all}
-use Rattle.log_replay.specs.Faults.{group_fault, log_after_all}
-use Rattle.log_replay.specs.Plan.{IsPlan}
+use Rattle.log_edits.specs.Game.{log_of, game_of, IsGame}
+use Rattle.log_edits.specs.Edit.{Change, changes_of, seed_after_all}
+use Rattle.log_edits.specs.Faults.{group_fault, log_after_all}
+use Rattle.log_edits.specs.Plan.{IsPlan}
 use Rattle.log_replay.specs.ReadyEdits.{AreEditsOf, IsReady}
-use Rattle.log_replay.proofs.Inverses.{IsFree-from_none, game-apply_all, group_free, group_some}
-use Rattle.log_replay.proofs.Lines.{length-log_of}
+use Rattle.log_edits.proofs.Inverses.{IsFree-from_none, game-apply_all, group_free, group_some}
+use Rattle.log_edits.proofs.Lines.{length-log_of}
 use Rattle.log_replay.proofs.ReadyLemmas.{shift_of, good_of}
-use Rattle.log_replay.proofs.MarginLemmas.{after_all_narrower, margins_fits}
+use Rattle.log_edits.proofs.MarginLemmas.{after_all_narrower, margins_fits}
 use Rattle.log_replay.proofs.ready_edits.prepare.Goals as goal
 
 -- what is left alone at the end is within the log

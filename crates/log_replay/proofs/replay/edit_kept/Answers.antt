@@ -4,15 +4,15 @@ use Rattle.std.proofs.lemmas.List.{length-map}
 use Rattle.smallvec.specs.SmallVec.{SmallVec}
 use Rattle.log_replay.specs.declared.playthrough.Playthrough.{Playthrough}
 use Rattle.log_replay.specs.declared.ready_edits.ReadyEdits.{ReadyEdits}
-use Rattle.log_replay.specs.Play.{Game}
-use Rattle.log_replay.specs.Edit.{Change, changes_of, apply_all, inverses_of}
-use Rattle.log_replay.specs.Faults.{log_after_all}
+use Rattle.log_edits.specs.Game.{Game}
+use Rattle.log_edits.specs.Edit.{Change, changes_of, apply_all, inverses_of}
+use Rattle.log_edits.specs.Faults.{log_after_all}
 use Rattle.log_replay.specs.Playthrough.{kept_game, KeepsAll}
 use Rattle.log_replay.specs.ReadyEdits.{AreEditsOf}
-use Rattle.log_replay.proofs.Inverses.{IsFree-from_none, none_from_IsFree, log-apply_all}
-use Rattle.log_replay.proofs.Inverses.{apply_all-inverses_of, IsFree-inverses_of}
+use Rattle.log_edits.proofs.Inverses.{IsFree-from_none, none_from_IsFree, log-apply_all}
+use Rattle.log_edits.proofs.Inverses.{apply_all-inverses_of, IsFree-inverses_of}
 use Rattle.log_replay.proofs.Joins.{map-splice}
-use Rattle.log_replay.proofs.Lines.{length-log_of}
+use Rattle.log_edits.proofs.Lines.{length-log_of}
 use Rattle.log_replay.proofs.Plays.{length-pieces, length-ticks}
 use Rattle.log_replay.proofs.TakeoverLemmas.{replay_of, kept_after, report_after, met_inside}
 use Rattle.log_replay.proofs.TakeoverLemmas.{stretch_ready, stretch_same, places_same}

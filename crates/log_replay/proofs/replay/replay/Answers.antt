@@ -1,8 +1,8 @@
 use Rattle.std.proofs.Common.{◌≡◌, ℕ, ◌-◌, ◌^◌, ◌<◌, ◌≤◌, List, length, ◌∙◌, refl, arith}
 use Rattle.std.specs.Prelude.{slice_index}
-use Rattle.log_replay.specs.Edit.{changes_of}
-use Rattle.log_replay.specs.Margins.{margins_of}
-use Rattle.log_replay.specs.Play.{log_of}
+use Rattle.log_edits.specs.Edit.{changes_of}
+use Rattle.log_edits.specs.Margins.{margins_of}
+use Rattle.log_edits.specs.Game.{log_of}
 use Rattle.log_replay.specs.Replay.{states_of_new}
 use Rattle.log_replay.proofs.Bounds.{near_last}
 use Rattle.log_replay.proofs.Joins.{prefix_are}

@@ -1,11 +1,11 @@
 use Rattle.std.proofs.Common.{◌≡◌, ◌+◌, ◌<◌, length, ap, ◌∙◌, refl, arith}
 use Rattle.std.proofs.lemmas.List.{append-nil}
-use Rattle.log_replay.specs.Edit.{line_at}
-use Rattle.log_replay.specs.Play.{log_of}
+use Rattle.log_edits.specs.Edit.{line_at}
+use Rattle.log_edits.specs.Game.{log_of}
 use Rattle.log_replay.specs.ReadyEdits.{ready_revision, new_game}
 use Rattle.log_replay.specs.Replay.{states_of_new}
 use Rattle.log_replay.proofs.Bounds.{bounded_to, underway_none}
-use Rattle.log_replay.proofs.Lines.{length-log_of}
+use Rattle.log_edits.proofs.Lines.{length-log_of}
 use Rattle.log_replay.proofs.ReadyLemmas.{checkpoints_of, end_of}
 use Rattle.log_replay.proofs.Shifts.{texts_on, ticks_on, state_at-more}
 use Rattle.log_replay.proofs.Underways.{underway_start, underway_further, underway_agrees}

@@ -1,6 +1,6 @@
 use Rattle.std.proofs.Common.{◌∙◌, arith}
-use Rattle.log_replay.specs.Play.{log_of}
-use Rattle.log_replay.proofs.Lines.{length-log_of}
+use Rattle.log_edits.specs.Game.{log_of}
+use Rattle.log_edits.proofs.Lines.{length-log_of}
 use Rattle.log_replay.proofs.PlayedRows.{length-rows_from, rows-at}
 use Rattle.log_replay.proofs.played_lines.PlayedLines.of.Goals as goal
 

@@ -1,8 +1,8 @@
 use Rattle.std.proofs.Common.{◌≡◌, ◌+◌, ◌-◌, ◌<◌, length, drop, ap, ◌∙◌, sym, arith}
-use Rattle.log_replay.specs.Play.{log_of}
+use Rattle.log_edits.specs.Game.{log_of}
 use Rattle.log_replay.specs.ReadyEdits.{log_after_edits}
-use Rattle.log_replay.proofs.Lines.{length-log_of, line_at-log_of}
-use Rattle.log_replay.proofs.LogAfterLemmas.{line_in_prefix, line_in_rest}
+use Rattle.log_edits.proofs.Lines.{length-log_of, line_at-log_of}
+use Rattle.log_edits.proofs.LogAfterLemmas.{line_in_prefix, line_in_rest}
 use Rattle.log_replay.proofs.ready_edits.ReadyEdits.line.Goals as goal
 
 pub returns-then-place-self : goal.returns-then-place-self

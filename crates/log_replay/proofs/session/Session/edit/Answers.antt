@@ -1,5 +1,5 @@
 use Rattle.std.proofs.Common.{◌-◌, ◌^◌}
-use Rattle.log_replay.specs.Edit.{change_of}
+use Rattle.log_edits.specs.Edit.{change_of}
 use Rattle.log_replay.proofs.ReadyLemmas.{bounded_alone}
 use Rattle.log_replay.proofs.session.Session.edit.Goals as goal
 

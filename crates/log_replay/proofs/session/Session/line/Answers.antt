@@ -1,4 +1,4 @@
-use Rattle.log_replay.proofs.Lines.{is_line-read, length-log_of}
+use Rattle.log_edits.proofs.Lines.{is_line-read, length-log_of}
 use Rattle.log_replay.proofs.session.Session.line.Goals as goal
 
 pub returns-clause-valid : goal.returns-clause-valid

@@ -1,7 +1,7 @@
 use Rattle.std.proofs.Common.{map, ◌∙◌, sym}
 use Rattle.std.proofs.lemmas.List.{length-map}
-use Rattle.log_replay.specs.Play.{log_of}
-use Rattle.log_replay.specs.Play.{game_of}
+use Rattle.log_edits.specs.Game.{log_of}
+use Rattle.log_edits.specs.Game.{game_of}
 use Rattle.log_replay.proofs.Plays.{length-pieces}
 use Rattle.log_replay.proofs.session.Session.pieces.Goals as goal
 

@@ -1,7 +1,7 @@
 use Rattle.std.proofs.Common.{length, map, ap, ◌∙◌, sym, arith}
 use Rattle.std.proofs.lemmas.List.{length-map}
-use Rattle.log_replay.specs.Play.{game_of, log_of}
-use Rattle.log_replay.proofs.Lines.{length-log_of}
+use Rattle.log_edits.specs.Game.{game_of, log_of}
+use Rattle.log_edits.proofs.Lines.{length-log_of}
 use Rattle.log_replay.proofs.Plays.{length-pieces, length-ticks}
 use Rattle.log_replay.proofs.session.Session.played_lines.Goals as goal
 

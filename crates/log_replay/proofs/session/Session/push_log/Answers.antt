@@ -1,4 +1,4 @@
-use Rattle.log_replay.specs.Play.{log_of}
+use Rattle.log_edits.specs.Game.{log_of}
 use Rattle.log_replay.proofs.LogTextLemmas.{reads_back}
 use Rattle.log_replay.proofs.session.Session.push_log.Goals as goal
 

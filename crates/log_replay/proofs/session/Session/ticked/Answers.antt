@@ -1,7 +1,7 @@
 use Rattle.std.proofs.Common.{◌<◌, length, map, arith, refl}
 use Rattle.std.proofs.lemmas.Option.{slice_get_read}
-use Rattle.log_replay.specs.Play.{log_of}
-use Rattle.log_replay.specs.Play.{game_of}
+use Rattle.log_edits.specs.Game.{log_of}
+use Rattle.log_edits.specs.Game.{game_of}
 use Rattle.log_replay.proofs.Plays.{length-ticks}
 use Rattle.log_replay.proofs.session.Session.ticked.Goals as goal
 

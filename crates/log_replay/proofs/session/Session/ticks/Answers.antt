@@ -1,7 +1,7 @@
 use Rattle.std.proofs.Common.{take, count_by, map, ap, ◌∙◌, arith}
-use Rattle.log_replay.specs.Play.{log_of}
-use Rattle.log_replay.specs.Play.{game_of}
-use Rattle.log_replay.proofs.Lines.{length-log_of}
+use Rattle.log_edits.specs.Game.{log_of}
+use Rattle.log_edits.specs.Game.{game_of}
+use Rattle.log_edits.proofs.Lines.{length-log_of}
 use Rattle.log_replay.proofs.Plays.{length-ticks}
 use Rattle.log_replay.proofs.session.Session.ticks.Goals as goal
 

@@ -1,0 +1,104 @@
+-- Rules as rows: the first row whose tests hold applies, and its effects follow one another.
+use Rattle.std.specs.Prelude.{◌≡◌, ℕ, Bool, true, ◌&&◌, if◌then◌else◌, List, [], ◌∷◌}
+use Rattle.cave_world.specs.declared.ending.Ending.{Ending}
+use Rattle.cave_world.specs.declared.ending.Question.{Question}
+use Rattle.cave_scene.specs.Bounds.{SaysUpTo}
+use Rattle.cave_scene.specs.Play.{scene_of, GoesOn}
+use Rattle.cave_scene.specs.Rules.{cave_of}
+use Rattle.cave_scene.specs.declared.play.Play.{Play}
+use Rattle.cave_scene.specs.declared.rules.Rules.{Rules}
+use Rattle.cave_orders.specs.Deeds.{Deed, Act, deed, acted}
+use Rattle.cave_orders.specs.Room.{parts_by}
+use Rattle.cave_orders.specs.declared.next.Next.{Next}
+use Rattle.cave_orders.specs.declared.next.Next.TheVariants as next_is
+use Rattle.cave_orders.specs.declared.next.Step.{Step}
+use Rattle.cave_orders.specs.declared.next.Step.TheVariants.{Done, GoOn}
+use Rattle.cave_orders.specs.declared.order.Order.{Order}
+use Rattle.cave_orders.specs.declared.verb.Verb.{Verb}
+
+abbrev pub Test : Type 0
+Test = Deed → Bool
+
+abbrev pub Effect : Type 0
+Effect = Deed → Deed
+
+-- an object by what it is in a deed; 0 is none
+abbrev pub Thing : Type 0
+Thing = Deed → ℕ
+
+-- tests, effects, and what follows
+pub record VerbRow : Type 0 where
+  pub tests : List Test
+  pub effects : List Effect
+  pub end : Deed → Step
+
+-- nothing follows
+abbrev pub stays : Deed → Step
+stays d = Done next_is.Stay
+
+-- the verb is kept for the next line
+abbrev pub keeps : Deed → Step
+keeps d = Done next_is.Keep
+
+abbrev pub describes : Deed → Step
+describes d = Done next_is.Describe
+
+-- the player arrives again where the player is
+abbrev pub again : Deed → Step
+again d = Done (next_is.Arrive d.scene.state.trail.here)
+
+abbrev pub asks : Question → Deed → Step
+asks question d = Done (next_is.Ask question)
+
+abbrev pub ends : Ending → Deed → Step
+ends how d = Done (next_is.End how)
+
+-- it goes on with a verb and an object
+abbrev pub goes_on : Verb → Thing → Deed → Step
+goes_on verb x d = GoOn verb (x d)
+
+-- a row after which nothing follows
+abbrev pub row : List Test → List Effect → VerbRow
+row tests effects = record { tests = tests; effects = effects; end = stays }
+
+-- a row with what follows
+abbrev pub row_then : List Test → List Effect → (Deed → Step) → VerbRow
+row_then tests effects end = record { tests = tests; effects = effects; end = end }
+
+-- tests are made from the left, and none after one that fails
+abbrev pub fits : List Test → Deed → Bool
+fits [] d = true
+fits (test ∷ tests) d = test d && fits tests d
+
+abbrev pub after_all : List Effect → Deed → Deed
+after_all [] d = d
+after_all (effect ∷ effects) d = after_all effects (effect d)
+
+abbrev pub act_of_row : VerbRow → Deed → Act
+act_of_row r d = let e = after_all r.effects d in acted e.scene (r.end e)
+
+-- what the first row that fits does
+abbrev pub first_fitting : List VerbRow → Deed → Act
+first_fitting [] d = acted d.scene (stays d)
+first_fitting (r ∷ rows) d = if fits r.tests d then act_of_row r d else first_fitting rows d
+
+-- the same play has come to what a rule says of an order, and so has what follows; it said so many
+-- parts at most
+abbrev pub ActsBy : (Deed → Act) → Rules → Order → Play → Play → Step → Type 0
+ActsBy f rules order old new step =
+    (acted (scene_of new) step ≡ f (deed (cave_of rules) order (scene_of old)))
+    × GoesOn old new
+    × SaysUpTo (parts_by step) old new
+
+abbrev pub ByRows : List VerbRow → Rules → Order → Play → Play → Step → Type 0
+ByRows rows rules order old new step = ActsBy (first_fitting rows) rules order old new step
+
+-- the same where nothing is gone on with
+abbrev pub DoneBy : (Deed → Act) → Rules → Order → Play → Play → Next → Type 0
+DoneBy f rules order old new next = ActsBy f rules order old new (Done next)
+
+abbrev pub DoneByRow : VerbRow → Rules → Order → Play → Play → Next → Type 0
+DoneByRow r rules order old new next = DoneBy (act_of_row r) rules order old new next
+
+abbrev pub DoneByRows : List VerbRow → Rules → Order → Play → Play → Next → Type 0
+DoneByRows rows rules order old new next = DoneBy (first_fitting rows) rules order old new next

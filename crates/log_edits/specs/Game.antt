@@ -1,0 +1,28 @@
+-- What is played: a seed and a log of lines.
+use Rattle.std.specs.Prelude.{ℕ, ◌≤◌, IsTrue, List, length, map, All}
+use Rattle.std.specs.Global.{Vec}
+use Rattle.smallvec.specs.SmallVec.{SmallVec}
+use Rattle.log_lines.specs.Line.{is_line}
+use Rattle.limits.specs.Limits.{max_log_lines, max_seed}
+
+-- what is played: a seed, and a log of lines
+pub record Game : Type 0 where
+  pub seed : ℕ
+  pub log : List (List ℕ)
+
+abbrev pub game_of : ℕ → List (List ℕ) → Game
+game_of seed log = record { seed = seed; log = log }
+
+-- a log, by the bytes of its lines
+abbrev pub log_of : List (SmallVec ℕ) → List (List ℕ)
+log_of lines = map (λ line. line.items) lines
+
+-- the game of a seed and a log as they are kept
+abbrev pub game_in : ℕ → Vec (SmallVec ℕ) → Game
+game_in seed log = game_of seed (log_of log.items)
+
+-- a game that a session may hold
+pub record IsGame (game : Game) : Type 0 where
+  pub lines : All (λ line. IsTrue (is_line line)) game.log
+  pub few : length game.log ≤ max_log_lines
+  pub seed_fits : game.seed ≤ max_seed
