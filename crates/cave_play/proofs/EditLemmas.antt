@@ -12,6 +12,7 @@ use Rattle.log_edits.specs.declared.fault.EditFault.TheVariants as cause
 use Rattle.log_edits.specs.declared.fault.GroupFault.{GroupFault}
 use Rattle.log_edits.specs.Game.{Game}
 use Rattle.log_replay.specs.Report.{IsReport}
+use Rattle.log_replay.specs.declared.report.Stretch.{Stretch}
 use Rattle.log_replay.specs.Machine.{MachineRules}
 use Rattle.edit_scripts.specs.Item.{Applied}
 use Rattle.edit_scripts.specs.Views.{applied_item}
@@ -222,11 +223,9 @@ game_after_item-refused item game fault some = ap (λ refusal. game_by item refu
 
 -- what a report says of a replay, in other words
 pub IsReport-same : {S T : Type 0} (rules : MachineRules S T) (changes same : List Change)
-    (old : Game)
-    (every : ℕ) (checkpoints : List ℕ) (from begun : ℕ) (met at : Option ℕ) (played steps : ℕ)
-    → changes ≡ same → begun ≡ from → at ≡ met → steps ≡ played
-    → IsReport rules changes old every checkpoints from met played
-    → IsReport rules same old every checkpoints begun at steps
-IsReport-same rules changes same old every checkpoints from begun met at played steps is from_is
-    met_is played_is report =
-    rw (from_is, met_is, played_is, ← is) report
+    (old : Game) (every : ℕ) (checkpoints : List ℕ) (told stretch : Stretch)
+    → changes ≡ same → stretch ≡ told
+    → IsReport rules changes old every checkpoints told.from told.met told.played
+    → IsReport rules same old every checkpoints stretch.from stretch.met stretch.played
+IsReport-same rules changes same old every checkpoints told stretch is stretch_is report =
+    rw (stretch_is, ← is) report

@@ -24,7 +24,7 @@ refusal_in (Replayed replay) = None
 -- how many lines were played for an item
 abbrev pub played_in : ItemOutcome → ℕ
 played_in (Refused fault) = 0
-played_in (Replayed replay) = replay.played
+played_in (Replayed replay) = replay.stretch.played
 
 -- how many lines playing the edited log from its first line would have played
 abbrev pub lines_in : ItemOutcome → ℕ
@@ -51,7 +51,7 @@ pub record IsReplay (cave : CaveView) (every : ℕ) (item : Applied) (game : Gam
     (checkpoints : List ℕ) (replay : ItemReplay) : Type 0 where
   pub accepted : group_refusal item.changes game.log ≡ None
   pub report : IsReport (cave_rules cave) item.changes game every checkpoints
-      replay.from replay.met replay.played
+      replay.stretch.from replay.stretch.met replay.stretch.played
   pub lines : replay.lines ≡ length (game_after_item item game).log
   pub standing : replay.standing ≡ standing_of cave (game_after_item item game)
 

@@ -78,8 +78,9 @@ account item (Refused fault) =
     ++ (decimal (refusal_number fault.cause)
     ++ (codes ", " ++ (refusal_words fault.cause ++ codes "\n")))))
 account item (Replayed replay) =
-    codes "line " ++ (decimal item.line ++ (codes ": ok, from " ++ (decimal replay.from
-    ++ (codes ", met " ++ (met_text replay.met ++ (codes ", played " ++ (decimal replay.played
+    let stretch = replay.stretch in
+    codes "line " ++ (decimal item.line ++ (codes ": ok, from " ++ (decimal stretch.from
+    ++ (codes ", met " ++ (met_text stretch.met ++ (codes ", played " ++ (decimal stretch.played
     ++ (codes " of " ++ (decimal replay.lines ++ (standing_text replay.standing
     ++ codes "\n"))))))))))
 

@@ -109,9 +109,7 @@ fn replay_of(
     report: &GroupReport,
 ) -> ItemReplay
     requires { session.now.machine.rules.cave.now ≡ machine.rules.cave.now }
-    ensures from { result.from ≡ report.now.stretch.from }
-    ensures met { result.met ≡ report.now.stretch.met }
-    ensures played { result.played ≡ report.now.stretch.played }
+    ensures stretch { result.stretch ≡ report.now.stretch }
     ensures lines { result.lines ≡ length session.now.game.log }
     ensures standing { result.standing
         ≡ standing_of machine.entry.rules.cave.now session.now.game }
@@ -119,9 +117,7 @@ fn replay_of(
         (length session.now.game.log) }
 {
     ItemReplay {
-        from: report.stretch.from,
-        met: report.stretch.met,
-        played: report.stretch.played,
+        stretch: report.stretch,
         lines: session.lines(),
         standing: standing_of(machine, session),
     }

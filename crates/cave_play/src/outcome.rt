@@ -5,6 +5,7 @@ ghost use Rattle.cave_play.specs.Outcome.{lines_in, played_in, refusal_in};
 
 use cave_world::Ending;
 use log_edits::GroupFault;
+use log_replay::Stretch;
 
 /// Where a game is after its last line.
 #[derive(Clone, Copy, Debug, PartialEq, Eq)]
@@ -22,12 +23,7 @@ pub struct Standing {
 /// How far the replay of an accepted item went, and where the game is then.
 #[derive(Clone, Copy, Debug, PartialEq, Eq)]
 pub struct ItemReplay {
-    /// The place that it began at.
-    pub from: u32,
-    /// The place at which it met the old play, if it did.
-    pub met: Option<u32>,
-    /// How many lines it played.
-    pub played: u32,
+    pub stretch: Stretch,
     /// How many lines the edited log has.
     pub lines: u32,
     pub standing: Standing,
@@ -57,7 +53,7 @@ impl ItemOutcome {
     {
         match self {
             ItemOutcome::Refused(_) => 0,
-            ItemOutcome::Replayed(replay) => replay.played,
+            ItemOutcome::Replayed(replay) => replay.stretch.played,
         }
     }
 

@@ -15,6 +15,7 @@ use cave_world::Ending;
 use edit_options::View;
 use edit_scripts::Item;
 use log_edits::GroupFault;
+use log_replay::Stretch;
 use std::alloc::{AllocError, Global};
 
 /// Writes of an item what is asked for.
@@ -130,9 +131,7 @@ fn account_text(alloc: Global, item: &Item, replay: ItemReplay) -> Result<String
 {
     let line = item.line;
     let ItemReplay {
-        from,
-        met,
-        played,
+        stretch: Stretch { from, met, played },
         lines,
         standing,
     } = replay;

@@ -2,7 +2,7 @@ use log_edits::Edit;
 
 /// The stretch of a log that was replayed: the place that the replay began at, the place at which
 /// it met the old play, if it did, and how many lines were played.
-#[derive(Clone, Copy, Debug)]
+#[derive(Clone, Copy, Debug, PartialEq, Eq)]
 pub struct Stretch {
     pub from: u32,
     pub met: Option<u32>,

@@ -28,8 +28,8 @@ returns-in-Ok c =
         came = record {
           accepted = none;
           report =
-              IsReport-same _ _ _ _ _ _ _ _ _ _ _ _ same c.replay_of.ensures.from
-              c.replay_of.ensures.met c.replay_of.ensures.played c.in-Ok.ensures.report;
+              IsReport-same _ _ _ _ _ _ _ _ same c.replay_of.ensures.stretch
+              c.in-Ok.ensures.report;
           lines = c.replay_of.ensures.lines ∙ ap (λ (g : Game). length g.log) made;
           standing = c.replay_of.ensures.standing ∙ ap (standing_of cave) made
               ∙ ap (λ (k : CaveView). standing_of k
