@@ -1,6 +1,7 @@
 -- The dragon that is fought with bare hands.
 use Rattle.std.specs.Prelude.{ℕ, pos, zero, suc, ◌+◌, ◌/◌, Bool, ◌==◌, ◌&&◌, ◌||◌, not}
 use Rattle.std.specs.Prelude.{if◌then◌else◌}
+use Rattle.cave_numbers.specs.Numbers.{last_object}
 use Rattle.cave_data.specs.CaveView.{CaveView}
 use Rattle.cave_moves.specs.Arrival.{arrival_scene}
 use Rattle.cave_scene.specs.Play.{Scene, after_look_at, with_state, scene_at_place}
@@ -49,7 +50,7 @@ after_slaying cave place o =
 -- the dragon is dead, and all that was by it is at one place
 unfoldable pub after_clearing : CaveView → ℕ → State → State
 after_clearing cave place s =
-    with_objects (after_gathering cave place 100 (after_slaying cave place s.objects)) s
+    with_objects (after_gathering cave place last_object (after_slaying cave place s.objects)) s
 
 -- the dragon's text is printed, and all that was there is where the player goes on
 unfoldable pub fight_scene : CaveView → Scene → Scene

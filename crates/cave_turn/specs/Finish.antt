@@ -1,5 +1,6 @@
 -- How a turn ends that leaves no question open.
 use Rattle.std.specs.Prelude.{ℕ, pos, negsuc, ◌-ℤ◌, Bool, ◌&&◌, if◌then◌else◌, int_lt, suc, zero}
+use Rattle.cave_numbers.specs.Numbers.{last_object}
 use Rattle.cave_data.specs.CaveView.{CaveView}
 use Rattle.cave_things.specs.Effects.{with_objects}
 use Rattle.cave_scene.specs.Play.{Scene, after_look_at, with_state}
@@ -35,7 +36,7 @@ unfoldable pub after_hands_show : CaveView → Scene → Scene
 after_hands_show cave p =
     if p.state.closing.is_closed
     then (let q = after_oyster_shows cave p in
-    with_state (with_objects (layout_with_shown_up_to 100 q.state.objects) q.state) q)
+    with_state (with_objects (layout_with_shown_up_to last_object q.state.objects) q.state) q)
     else p
 
 -- a turn ends: after a question or the end of the game nothing more is done

@@ -1,5 +1,6 @@
 -- How a player comes back from death.
 use Rattle.std.specs.Prelude.{ℕ, pos, ◌==◌, nat_le, if◌then◌else◌, suc, zero}
+use Rattle.cave_numbers.specs.Numbers.{last_object}
 use Rattle.cave_data.specs.CaveView.{CaveView}
 use Rattle.cave_rows.specs.declared.role.Role.{Role}
 use Rattle.cave_rows.specs.declared.role.Role.TheVariants as role
@@ -49,7 +50,7 @@ layout_after_falls cave place (suc n) o =
 -- it leaves things, except a death at place 0
 unfoldable pub without_belongings : CaveView → State → State
 without_belongings cave s =
-    with_objects (layout_after_falls cave s.trail.older 100 (layout_with_lamp_out cave s)) s
+    with_objects (layout_after_falls cave s.trail.older last_object (layout_with_lamp_out cave s)) s
 
 -- the player is back, without what was carried
 unfoldable pub revival_scene : CaveView → Scene → Scene

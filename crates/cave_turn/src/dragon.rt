@@ -1,4 +1,5 @@
 ghost use Rattle.std.specs.Prelude.{◌≡◌, ◌+◌, ◌<◌};
+ghost use Rattle.cave_numbers.specs.Numbers.{last_object};
 ghost use Rattle.cave_scene.specs.Bounds.{HasRoom, SaysUpTo, parts_of_arrival};
 ghost use Rattle.cave_scene.specs.Play.{scene_of, IsSamePlay};
 ghost use Rattle.cave_scene.specs.Rules.{cave_of};
@@ -51,7 +52,7 @@ fn is_by_dragon(rules: &Rules<'_>, objects: &Objects, object: Object) -> bool
 
 /// All that is at the places of the dragon is moved to one place.
 fn gather(rules: &Rules<'_>, place: Place, objects: &mut Objects)
-    ensures { objects.new ≡ after_gathering (cave_of rules.now) place 100 objects.old }
+    ensures { objects.new ≡ after_gathering (cave_of rules.now) place last_object objects.old }
 {
     for before in 0..OBJECTS as u8 {
         let object = Object::new(before + 1);

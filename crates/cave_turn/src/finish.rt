@@ -1,6 +1,7 @@
 //! How a turn ends that leaves no question open.
 
 ghost use Rattle.std.specs.Prelude.{◌≡◌, ◌+◌};
+ghost use Rattle.cave_numbers.specs.Numbers.{last_object};
 ghost use Rattle.cave_scene.specs.Bounds.{HasRoom, SaysUpTo, parts_of_finish, parts_of_question};
 ghost use Rattle.cave_scene.specs.Play.{scene_of, GoesOn};
 ghost use Rattle.cave_scene.specs.Rules.{cave_of};
@@ -61,7 +62,7 @@ fn show_object(object: Object, objects: &mut Objects)
 
 /// All objects that are carried show themselves.
 fn show_objects(objects: &mut Objects)
-    ensures { objects.new ≡ layout_with_shown_up_to 100 objects.old }
+    ensures { objects.new ≡ layout_with_shown_up_to last_object objects.old }
 {
     for before in 0..OBJECTS as u8 {
         show_object(Object::new(before + 1), objects);

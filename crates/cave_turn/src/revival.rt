@@ -1,6 +1,7 @@
 //! How a player comes back from death.
 
 ghost use Rattle.std.specs.Prelude.{◌≡◌, ◌+◌};
+ghost use Rattle.cave_numbers.specs.Numbers.{last_object};
 ghost use Rattle.cave_scene.specs.Bounds.{HasRoom, SaysUpTo, parts_of_arrival, parts_of_end};
 ghost use Rattle.cave_scene.specs.Play.{scene_of, GoesOn, IsSamePlay};
 ghost use Rattle.cave_scene.specs.Rules.{cave_of};
@@ -63,7 +64,7 @@ fn let_fall(rules: &Rules<'_>, place: Place, object: Object, objects: &mut Objec
 
 /// What was carried falls, the last object first.
 fn let_all_fall(rules: &Rules<'_>, place: Place, objects: &mut Objects)
-    ensures { objects.new ≡ layout_after_falls (cave_of rules.now) place 100 objects.old }
+    ensures { objects.new ≡ layout_after_falls (cave_of rules.now) place last_object objects.old }
 {
     for before in 0..OBJECTS as u8 {
         let object = Object::new(OBJECTS as u8 - before);

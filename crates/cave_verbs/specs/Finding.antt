@@ -2,6 +2,7 @@
 use Rattle.std.specs.Prelude.{ℕ, Bool, ◌==◌, ◌&&◌, not, if◌then◌else◌, List, [], ◌∷◌, ◌++◌, length}
 use Rattle.std.specs.Prelude.{map, filter}
 use Rattle.std.specs.List.{range_with_len}
+use Rattle.cave_numbers.specs.Numbers.{last_object}
 use Rattle.cave_data.specs.CaveView.{CaveView}
 use Rattle.cave_rows.specs.declared.role.Role.TheVariants as role
 use Rattle.cave_words.specs.declared.named.Named.TheVariants as name
@@ -39,7 +40,7 @@ listed_up_to cave s n = filter (is_in_inventory cave s) (range_with_len 1 n)
 
 -- the objects that the inventory lists, ascending
 abbrev pub objects_listed : Deed → List ℕ
-objects_listed d = listed_up_to d.cave d.scene.state 100
+objects_listed d = listed_up_to d.cave d.scene.state last_object
 
 abbrev pub nothing_listed : Test
 nothing_listed d = length (objects_listed d) == 0

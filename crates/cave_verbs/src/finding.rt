@@ -1,4 +1,5 @@
 ghost use Rattle.std.specs.Prelude.{◌≡◌, ◌+◌, length};
+ghost use Rattle.cave_numbers.specs.Numbers.{last_object};
 ghost use Rattle.cave_scene.specs.Bounds.{HasRoom, SaysUpTo, parts_of_inventory};
 ghost use Rattle.cave_scene.specs.Play.{scene_of, GoesOn};
 ghost use Rattle.cave_scene.specs.Rules.{cave_of};
@@ -50,7 +51,7 @@ fn is_in_inventory(rules: &Rules<'_>, state: &State, object: Object) -> bool
 /// The objects that the inventory lists, ascending.
 #[tactic(auto, using(crate::proofs::Listed::listing))]
 fn listed(rules: &Rules<'_>, state: &State) -> ArrayVec<Object, OBJECTS>
-    ensures { result.items ≡ listed_up_to (cave_of rules.now) state.now 100 }
+    ensures { result.items ≡ listed_up_to (cave_of rules.now) state.now last_object }
 {
     let mut listed = ArrayVec::new();
     for before in 0..OBJECTS {
