@@ -2,7 +2,7 @@ ghost use Rattle.std.specs.Prelude.{◌≡◌, ◌+◌, ◌≤◌, ◌<◌, vec_
 ghost use Rattle.log_edits.specs.Game.{game_in, log_of};
 ghost use Rattle.log_edits.specs.Edit.{change_of, changes_of, apply, apply_all};
 ghost use Rattle.log_edits.specs.Edit.{inverse_of, inverses_of};
-ghost use Rattle.log_edits.specs.Edit.{lines_inserted, lines_inserted_by_all};
+ghost use Rattle.log_edits.specs.Edit.{lines_inserted, lines_inserted_by_all, seed_after_all};
 ghost use Rattle.log_edits.specs.Faults.{fault_of, fault_of_all};
 
 use smallvec::SmallVec;
