@@ -15,7 +15,8 @@ use Rattle.cave_objects.specs.Halves.{half_number}
 use Rattle.cave_objects.specs.Layout.{Layout}
 use Rattle.cave_objects.specs.Lists.{halves_at, has_half, with_half, put_first, with_half_moved}
 use Rattle.cave_objects.specs.Lists.{without}
-use Rattle.cave_objects.specs.Objects.{with_anchor, with_spot, with_place, without_places, with_prop}
+use Rattle.cave_objects.specs.Objects.{with_anchor, with_spot, with_place, without_places}
+use Rattle.cave_objects.specs.Objects.{with_prop}
 use Rattle.cave_objects.specs.Spots.{is_place, spot_at}
 use Rattle.cave_objects.specs.declared.lists.PlacedHalf.{PlacedHalf}
 use Rattle.cave_objects.specs.declared.object.Half.{Half}
@@ -25,7 +26,8 @@ use Rattle.cave_objects.specs.declared.spot.Spot.TheVariants as spot
 use Rattle.cave_objects.proofs.Places.{halves_at-put_first}
 use Rattle.cave_things.specs.Homes.{home, hold_of}
 use Rattle.cave_begin.specs.Begin.{all_objects, start_prop, start_order}
-use Rattle.cave_begin.specs.Begin.{start_halves, start_list, both_halves, place_of_half, lists_of_halves}
+use Rattle.cave_begin.specs.Begin.{start_halves, start_list, both_halves, place_of_half}
+use Rattle.cave_begin.specs.Begin.{lists_of_halves}
 use Rattle.cave_begin.specs.Begin.{starting_objects}
 use Rattle.cave_things.specs.Treasures.{treasures, known_treasures}
 use Rattle.cave_begin.specs.Placing.{after_placing, after_placing_all, after_hiding_all}

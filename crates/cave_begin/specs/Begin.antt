@@ -1,5 +1,6 @@
 -- The state that a game begins with.
 use Rattle.std.specs.Prelude.{ℕ, ℤ, pos, negsuc, ◌==◌, Bool, true, false, not, if◌then◌else◌, List}
+use Rattle.std.specs.Prelude.{unwrap_or}
 use Rattle.std.specs.Prelude.{[], ◌∷◌, ◌++◌, length, map, filter, flat_map, Option}
 use Rattle.std.specs.List.{list_any, range_with_len}
 use Rattle.cave_data.specs.CaveView.{CaveView}
@@ -17,7 +18,7 @@ use Rattle.cave_objects.specs.declared.spot.Anchor.{Anchor}
 use Rattle.cave_objects.specs.declared.spot.Anchor.TheVariants as anchor
 use Rattle.cave_world.specs.declared.state.State.{State}
 use Rattle.cave_things.specs.Homes.{home, hold_of}
-use Rattle.cave_things.specs.Places.{place_named, place_or, start_place}
+use Rattle.cave_things.specs.Places.{place_named, start_place}
 use Rattle.cave_things.specs.Treasures.{known_treasures}
 use Rattle.cave_numbers.specs.Numbers.{last_object}
 
@@ -81,7 +82,7 @@ abbrev pub dwarf_at : ℕ → Dwarf
 dwarf_at place = record { place = place; last = place; has_seen = false }
 
 unfoldable pub dwarf_by_role : CaveView → PlaceRole → Dwarf
-dwarf_by_role cave role = dwarf_at (place_or 0 (place_named cave role))
+dwarf_by_role cave role = dwarf_at (unwrap_or (place_named cave role) 0)
 
 unfoldable pub starting_dwarves : CaveView → List Dwarf
 starting_dwarves cave =

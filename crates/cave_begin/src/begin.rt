@@ -14,7 +14,7 @@ use cave_objects::object::OBJECTS;
 use cave_objects::{Anchor, Object, Objects, Place, Prop};
 use cave_rows::PlaceRole;
 use cave_things::homes::anchor_by;
-use cave_things::places::{place_named, place_or, start_place};
+use cave_things::places::{place_named, start_place};
 use cave_things::treasures::{FIRST_TREASURE, LAST_TREASURE};
 use cave_words::Stream;
 use cave_world::{Count, DWARVES, Dwarf, State};
@@ -87,7 +87,7 @@ fn place_all(cave: &Cave, objects: &mut Objects) -> Count<30>
 fn dwarf_by_role(cave: &Cave, role: PlaceRole) -> Dwarf
     ensures { result ≡ dwarf_by_role cave.now role }
 {
-    let place = place_or(Place::new(0), place_named(cave, role));
+    let place = place_named(cave, role).unwrap_or(Place::new(0));
     Dwarf {
         place,
         last: place,

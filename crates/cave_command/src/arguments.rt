@@ -3,7 +3,8 @@
 ghost use Rattle.std.specs.Prelude.{◌≡◌, false};
 ghost use Rattle.clap.specs.Words.{rule_of};
 ghost use Rattle.cave_command.specs.App.{bind_rule, cave_rule, every_rule, log_rule, logs_rule};
-ghost use Rattle.cave_command.specs.App.{output_rule, print_rule, script_rule, seed_rule, strict_rule};
+ghost use Rattle.cave_command.specs.App.{output_rule, print_rule, script_rule, seed_rule};
+ghost use Rattle.cave_command.specs.App.{strict_rule};
 
 use clap::{Arg, ArgAction};
 use std::alloc::Global;

@@ -1,5 +1,5 @@
 -- What the pirate does to the treasures.
-use Rattle.std.specs.Prelude.{ℕ, Bool, false, ◌&&◌, ◌||◌, not, if◌then◌else◌}
+use Rattle.std.specs.Prelude.{ℕ, Bool, false, ◌&&◌, ◌||◌, not, if◌then◌else◌, unwrap_or}
 use Rattle.std.specs.Prelude.{List, [], ◌∷◌, Option, None, Some}
 use Rattle.std.specs.List.{list_any}
 use Rattle.cave_data.specs.CaveView.{CaveView}
@@ -10,7 +10,7 @@ use Rattle.cave_world.specs.declared.dwarves.Dwarf.{Dwarf}
 use Rattle.cave_world.specs.declared.state.State.{State}
 use Rattle.cave_things.specs.Effects.{with_objects}
 use Rattle.cave_things.specs.Homes.{is_home_here}
-use Rattle.cave_things.specs.Places.{place_named, place_or}
+use Rattle.cave_things.specs.Places.{place_named}
 use Rattle.cave_scene.specs.Rules.{is_called}
 use Rattle.cave_things.specs.Reach.{is_in_hand, is_near, is_fixed}
 use Rattle.cave_scene.specs.Rules.{thing}
@@ -76,8 +76,8 @@ unfoldable pub with_pirate_home : CaveView → State → State
 with_pirate_home cave s =
     let chest = place_named cave landmark.Chest in let one = dwarf_of s pirate in
     let home : Dwarf = record {
-      place = place_or one.place chest;
-      last = place_or one.last chest;
+      place = unwrap_or chest one.place;
+      last = unwrap_or chest one.last;
       has_seen = false;
     } in
     with_dwarf pirate home s

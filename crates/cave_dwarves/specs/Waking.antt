@@ -1,5 +1,5 @@
 -- How the dwarves wake.
-use Rattle.std.specs.Prelude.{ℕ, zero, suc, ◌==◌, nat_lt, nat_le, if◌then◌else◌}
+use Rattle.std.specs.Prelude.{ℕ, zero, suc, ◌==◌, nat_lt, nat_le, if◌then◌else◌, unwrap_or}
 use Rattle.cave_data.specs.CaveView.{CaveView}
 use Rattle.cave_rows.specs.declared.place_role.PlaceRole.TheVariants as landmark
 use Rattle.cave_rows.specs.declared.role.Role.TheVariants as role
@@ -8,7 +8,7 @@ use Rattle.cave_words.specs.declared.named.Named.TheVariants as name
 use Rattle.cave_world.specs.declared.dwarves.Dwarf.{Dwarf}
 use Rattle.cave_world.specs.declared.state.State.{State}
 use Rattle.cave_things.specs.Effects.{put_here}
-use Rattle.cave_things.specs.Places.{place_named, place_or, deep_place}
+use Rattle.cave_things.specs.Places.{place_named, deep_place}
 use Rattle.cave_scene.specs.Play.{Scene, with_state, here_of, after_saying, after_draw, happens}
 use Rattle.cave_scene.specs.Rules.{thing}
 use Rattle.cave_dwarves.specs.Band.{dwarf_of, with_dwarf, with_dwarves, state_after_draw}
@@ -37,7 +37,7 @@ perhaps_without_one s =
 -- a dwarf that is where the player is goes to another place, if one is named for it
 abbrev pub place_apart : CaveView → ℕ → ℕ → ℕ
 place_apart cave here place =
-    if place == here then place_or place (place_named cave landmark.Dwarfalt) else place
+    if place == here then unwrap_or (place_named cave landmark.Dwarfalt) place else place
 
 -- it forgets where it came from
 unfoldable pub dwarf_apart : CaveView → ℕ → Dwarf → Dwarf

@@ -15,7 +15,7 @@ use cave_objects::{Object, Place};
 use cave_rows::PlaceRole;
 use cave_scene::Rules;
 use cave_things::treasures::{FIRST_TREASURE, LAST_TREASURE};
-use cave_things::{is_fixed, is_home_here, is_in_hand, is_near, place_named, place_or};
+use cave_things::{is_fixed, is_home_here, is_in_hand, is_near, place_named};
 use cave_words::Named;
 use cave_world::{Dwarf, PIRATE, State};
 
@@ -135,10 +135,11 @@ fn leave_message(rules: &Rules<'_>, state: &mut State)
 fn send_pirate_home(rules: &Rules<'_>, state: &mut State)
     ensures { state.new ≡ with_pirate_home (cave_of rules.now) state.old }
 {
+    let chest = place_named(rules.cave, PlaceRole::Chest);
     let pirate = dwarf_of(state, PIRATE);
     let pirate = Dwarf {
-        place: place_or(pirate.place, place_named(rules.cave, PlaceRole::Chest)),
-        last: place_or(pirate.last, place_named(rules.cave, PlaceRole::Chest)),
+        place: chest.unwrap_or(pirate.place),
+        last: chest.unwrap_or(pirate.last),
         has_seen: false,
     };
     set_dwarf(PIRATE, pirate, state);

@@ -12,7 +12,7 @@ use crate::band::{dwarf_of, set_dwarf};
 use cave_objects::Place;
 use cave_rows::{PlaceRole, Role};
 use cave_scene::{Play, Rules};
-use cave_things::{deep_place, place_named, place_or};
+use cave_things::{deep_place, place_named};
 use cave_words::Named;
 use cave_world::{Count, Dwarf, PIRATE, State};
 
@@ -65,7 +65,7 @@ fn place_apart(rules: &Rules<'_>, here: Place, place: Place) -> Place
     ensures { result ≡ place_apart (cave_of rules.now) here place }
 {
     if place == here {
-        place_or(place, place_named(rules.cave, PlaceRole::Dwarfalt))
+        place_named(rules.cave, PlaceRole::Dwarfalt).unwrap_or(place)
     } else {
         place
     }

@@ -159,7 +159,9 @@ after_reward points s =
     let lamp = s.lamp in
     if int_lt (pos low_charge) lamp.charge
     then record s
-    { lamp = record lamp { charge = int_min (lamp.charge +ℤ pos (30 * points)) (pos max_lamp_turns) } }
+    { lamp = record lamp {
+      charge = int_min (lamp.charge +ℤ pos (30 * points)) (pos max_lamp_turns)
+    } }
     else s
 
 -- a hint is given

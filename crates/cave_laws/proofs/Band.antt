@@ -6,7 +6,8 @@ use Rattle.std.proofs.lemmas.List.{get_or-set_other}
 use Rattle.std.proofs.lemmas.Bool.Decides.{nat_tests}
 use Rattle.std.proofs.lemmas.Grind.{common_steps}
 use Rattle.std.proofs.lemmas.List.Quantifiers.{position-Some}
-use Rattle.std.specs.Prelude.{◌==◌, ◌||◌, ◌&&◌, not, is_some, filter, map, min, take, Option, None, Some, if◌then◌else◌}
+use Rattle.std.specs.Prelude.{◌==◌, ◌||◌, ◌&&◌, not, is_some, filter, map, min, take, Option, None}
+use Rattle.std.specs.Prelude.{Some, if◌then◌else◌, unwrap_or}
 use Rattle.std.specs.List.{list_any, position, prefix_len}
 use Rattle.cave_world.specs.Fresh.{no_dwarf}
 use Rattle.cave_world.specs.declared.closing.Closing.{Closing}
@@ -24,7 +25,7 @@ use Rattle.cave_world.specs.declared.ending.Ending.{Ending}
 use Rattle.cave_world.specs.declared.ending.Question.{Question}
 use Rattle.cave_world.specs.declared.ending.Question.TheVariants as question
 use Rattle.cave_world.specs.declared.state.State.{State}
-use Rattle.cave_things.specs.Places.{place_named, place_or}
+use Rattle.cave_things.specs.Places.{place_named}
 use Rattle.cave_begin.specs.Begin.{begun_state}
 use Rattle.cave_dwarves.specs.Band.{dwarf_of}
 use Rattle.cave_dwarves.specs.Waking.{dwarf_apart}
@@ -195,7 +196,7 @@ apart_gone cave n d some gone = by_test (d.place == n) refl
     here same = grind (arith, nat_tests)
 
     by_test : (b : Bool) → (d.place == n) ≡ b
-        → (if b then place_or d.place (place_named cave landmark.Dwarfalt) else d.place) ≡ 0
+        → (if b then unwrap_or (place_named cave landmark.Dwarfalt) d.place else d.place) ≡ 0
     by_test true same = absurd (here same)
     by_test false other = gone
 

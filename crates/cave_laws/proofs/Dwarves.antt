@@ -19,7 +19,8 @@ use Rattle.cave_world.specs.Dwarves.{pirate}
 use Rattle.cave_dwarves.specs.Dwarves.{Encounter, without_hit, encounter_of, encounter_in_turn}
 use Rattle.cave_dwarves.specs.Knives.{Act, throw_act, with_knife_here, threatening_act}
 use Rattle.cave_dwarves.specs.Knives.{act_of_dwarf, raid_of}
-use Rattle.cave_dwarves.specs.Lines.{telling_number, after_dwarf_count, after_one_knife, after_some_knives}
+use Rattle.cave_dwarves.specs.Lines.{telling_number, after_dwarf_count, after_one_knife}
+use Rattle.cave_dwarves.specs.Lines.{after_some_knives}
 use Rattle.cave_dwarves.specs.Lines.{after_first_knives}
 use Rattle.cave_dwarves.specs.Lines.{after_throws, after_attack}
 use Rattle.cave_dwarves.specs.Moving.{after_dwarf_move}

@@ -26,7 +26,8 @@ use Rattle.cave_scene.specs.Play.{with_state}
 use Rattle.cave_scene.specs.Play.{scene_at_place}
 use Rattle.cave_scene.specs.Rules.{thing}
 use Rattle.cave_ends.specs.Deaths.{with_one_death}
-use Rattle.cave_hints.specs.Hints.{with_hint_taken, price_scene_if, price_scene, hint_scene_if, hint_scene}
+use Rattle.cave_hints.specs.Hints.{with_hint_taken, price_scene_if, price_scene, hint_scene_if}
+use Rattle.cave_hints.specs.Hints.{hint_scene}
 use Rattle.cave_turn.specs.Answers.{answer_in, is_dragon, is_yes, without_question, entrance_scene}
 use Rattle.cave_turn.specs.Answers.{after_instructions, with_oyster_hint}
 use Rattle.cave_turn.specs.Answers.{yes_scene}

@@ -14,7 +14,8 @@ use Rattle.cave_world.specs.declared.motion.Motion.{Motion}
 use Rattle.cave_world.specs.declared.motion.Motion.TheVariants as motion
 use Rattle.cave_world.specs.State.{without_visits}
 use Rattle.cave_world.specs.State.{state_after_setting_out}
-use Rattle.cave_world.specs.Travel.{TravelResult, travel_by_motion, travel_by_rows, first_way, outcome_or}
+use Rattle.cave_world.specs.Travel.{TravelResult, travel_by_motion, travel_by_rows, first_way}
+use Rattle.cave_world.specs.Travel.{outcome_or}
 use Rattle.cave_world.specs.Travel.{rows_to_try}
 use Rattle.cave_world.specs.Travel.{from_listed, after_row, after_condition, row_outcome, holds}
 use Rattle.cave_world.specs.Travel.{row_condition, row_number}
@@ -32,15 +33,18 @@ use Rattle.cave_things.specs.Reach.{is_in_hand, has_prop, has_prop_up_to}
 use Rattle.cave_scene.specs.Rules.{thing}
 use Rattle.cave_moves.specs.Arrival.{stop_at, after_forced_motions, arrival_scene, description_anew}
 use Rattle.cave_moves.specs.Bridge.{bridge_end, toll_scene, let_pass, without_bridge}
-use Rattle.cave_moves.specs.Bridge.{with_broken_bridge, broken_bridge_scene, journey_across, journey_over_bridge}
+use Rattle.cave_moves.specs.Bridge.{with_broken_bridge, broken_bridge_scene, journey_across}
+use Rattle.cave_moves.specs.Bridge.{journey_over_bridge}
 use Rattle.cave_moves.specs.Bridge.{journey_by_bridge}
 use Rattle.cave_moves.specs.Description.{Stop}
 use Rattle.cave_moves.specs.Description.{stop_here}
-use Rattle.cave_moves.specs.Journeys.{squeeze_end, is_slim, journey_through_squeeze, journey_by_squeeze}
+use Rattle.cave_moves.specs.Journeys.{squeeze_end, is_slim, journey_through_squeeze}
+use Rattle.cave_moves.specs.Journeys.{journey_by_squeeze}
 use Rattle.cave_moves.specs.Journeys.{journey_of_outcome, journey_by_rows}
 use Rattle.cave_moves.specs.Journeys.{set_forth, after_enough, journey_of_look, journey_of_seeking}
 use Rattle.cave_moves.specs.Journeys.{back_place}
-use Rattle.cave_moves.specs.Journeys.{first_motion, row_back, journey_by_motion_back, journey_back, journey_by_named, journey_by_request}
+use Rattle.cave_moves.specs.Journeys.{first_motion, row_back, journey_by_motion_back, journey_back}
+use Rattle.cave_moves.specs.Journeys.{journey_by_named, journey_by_request}
 use Rattle.cave_moves.specs.Ways as ways
 use Rattle.cave_moves.specs.Ways.{journey_here}
 use Rattle.cave_laws.proofs.Frame.{Claim, IsKept, On, At, Calm, choose, chosen, chosen_scene}

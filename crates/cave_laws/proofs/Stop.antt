@@ -26,7 +26,8 @@ use Rattle.cave_scene.specs.Rules.{thing}
 use Rattle.cave_things.specs.declared.conditions.Condition.TheVariants.{NoPirate}
 use Rattle.cave_dwarves.specs.Dwarves.{Encounter, encounter_in_turn}
 use Rattle.cave_ends.specs.Deaths.{death_scene}
-use Rattle.cave_moves.specs.Arrival.{is_shut, journey_unless_shut, is_barred, journey_unless_barred, after_dwarves}
+use Rattle.cave_moves.specs.Arrival.{is_shut, journey_unless_shut, is_barred, journey_unless_barred}
+use Rattle.cave_moves.specs.Arrival.{after_dwarves}
 use Rattle.cave_moves.specs.Arrival.{meeting_scene}
 use Rattle.cave_moves.specs.Arrival.{come_to, stop_at}
 use Rattle.cave_moves.specs.Description.{Stop, after_bear, after_text, is_hollow, after_hollow}
@@ -34,7 +35,8 @@ use Rattle.cave_moves.specs.Description.{after_pit, after_darkness, dark_scene, 
 use Rattle.cave_moves.specs.Description.{description_scene, stop_here}
 use Rattle.cave_moves.specs.Falling.{falling_here}
 use Rattle.cave_moves.specs.Objects.{is_kept_back, is_unseen, first_prop, is_rest_lost}
-use Rattle.cave_moves.specs.Objects.{with_short_lamp, one_less_unseen, after_find, after_find_if_unseen}
+use Rattle.cave_moves.specs.Objects.{with_short_lamp, one_less_unseen, after_find}
+use Rattle.cave_moves.specs.Objects.{after_find_if_unseen}
 use Rattle.cave_moves.specs.Objects.{described_prop, after_object, after_objects}
 use Rattle.cave_moves.specs.Ways as ways
 use Rattle.cave_moves.specs.Ways.{journey_here}

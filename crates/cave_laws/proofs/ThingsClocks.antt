@@ -21,7 +21,8 @@ use Rattle.cave_things.specs.Reach.{is_near, has_prop}
 use Rattle.cave_scene.specs.Rules.{thing}
 use Rattle.cave_clocks.specs.Clocks.{lamp_last, lamp_unless_closed}
 use Rattle.cave_clocks.specs.Clocks.{Timing, second_clock_and_lamp, timing_of_clocks}
-use Rattle.cave_clocks.specs.FirstClock.{ClockTurn, clock_turn, is_first_clock_going, with_first_clock_down}
+use Rattle.cave_clocks.specs.FirstClock.{ClockTurn, clock_turn, is_first_clock_going}
+use Rattle.cave_clocks.specs.FirstClock.{with_first_clock_down}
 use Rattle.cave_clocks.specs.FirstClock.{with_ways_barred, without_dwarves, without_bear}
 use Rattle.cave_clocks.specs.FirstClock.{cleared_cave, start_of_closing, last_clock_turn}
 use Rattle.cave_clocks.specs.FirstClock.{timing_of_first_clock, dismissed_dwarf, with_loose}

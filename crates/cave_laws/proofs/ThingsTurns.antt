@@ -37,7 +37,8 @@ use Rattle.cave_ends.specs.Questions.{asking_scene}
 use Rattle.cave_hints.specs.Hints.{with_turns_near, turns_near, is_in_area}
 use Rattle.cave_world.specs.State.{is_hint_taken, with_player_from}
 use Rattle.cave_hints.specs.Hints.{after_turn_near, after_considering}
-use Rattle.cave_hints.specs.Hints.{is_due, is_needed, after_putting_off, offer_scene, after_considering_if}
+use Rattle.cave_hints.specs.Hints.{is_due, is_needed, after_putting_off, offer_scene}
+use Rattle.cave_hints.specs.Hints.{after_considering_if}
 use Rattle.cave_hints.specs.Hints.{after_hints_up_to, after_hints}
 use Rattle.cave_moves.specs.Journeys.{journey_by_request}
 use Rattle.cave_turn.specs.Commands.{after_beginning, travel_scene, puzzled_scene, next_scene}

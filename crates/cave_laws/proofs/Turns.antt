@@ -33,7 +33,8 @@ use Rattle.cave_ends.specs.Questions.{asking_scene}
 use Rattle.cave_hints.specs.Hints.{with_turns_near, turns_near, is_in_area}
 use Rattle.cave_world.specs.State.{is_hint_taken, with_player_from}
 use Rattle.cave_hints.specs.Hints.{after_turn_near}
-use Rattle.cave_hints.specs.Hints.{is_due, is_needed, after_putting_off, offer_scene, after_considering_if}
+use Rattle.cave_hints.specs.Hints.{is_due, is_needed, after_putting_off, offer_scene}
+use Rattle.cave_hints.specs.Hints.{after_considering_if}
 use Rattle.cave_hints.specs.Hints.{after_considering}
 use Rattle.cave_hints.specs.Hints.{after_hints_up_to, after_hints}
 use Rattle.cave_moves.specs.Journeys.{journey_by_request}
@@ -41,10 +42,12 @@ use Rattle.cave_turn.specs.Answers.{without_question}
 use Rattle.cave_turn.specs.Commands.{after_beginning, travel_scene, puzzled_scene, next_scene}
 use Rattle.cave_turn.specs.Commands.{WordsDone}
 use Rattle.cave_turn.specs.Commands.{words_done_by_action, words_done_by_verb}
-use Rattle.cave_turn.specs.Commands.{words_done_by_request, after_remembering, kept_scene, scene_of_understood}
+use Rattle.cave_turn.specs.Commands.{words_done_by_request, after_remembering, kept_scene}
+use Rattle.cave_turn.specs.Commands.{scene_of_understood}
 use Rattle.cave_turn.specs.Commands.{scene_of_words}
 use Rattle.cave_turn.specs.Commands.{after_clocks, clocks_scene, command_scene}
-use Rattle.cave_turn.specs.Finish.{is_hidden_in_hand, after_oyster_shows, layout_with_shown_up_to, after_hands_show}
+use Rattle.cave_turn.specs.Finish.{is_hidden_in_hand, after_oyster_shows, layout_with_shown_up_to}
+use Rattle.cave_turn.specs.Finish.{after_hands_show}
 use Rattle.cave_turn.specs.Finish.{end_of_turn}
 use Rattle.cave_turn.specs.Request.{read_words, half_command_of}
 use Rattle.cave_turn.specs.Revival.{revival_role, without_belongings, revival_scene}

@@ -8,7 +8,8 @@ use Rattle.cave_objects.specs.Objects.{with_place, with_prop}
 use Rattle.cave_world.specs.Sight.{is_dark}
 use Rattle.cave_world.specs.declared.part.Part.TheVariants as part
 use Rattle.cave_world.specs.declared.state.State.{State}
-use Rattle.cave_things.specs.Effects.{put_down, let_go, without_troll, after_loss_to_snake, with_one_more_lost}
+use Rattle.cave_things.specs.Effects.{put_down, let_go, without_troll, after_loss_to_snake}
+use Rattle.cave_things.specs.Effects.{with_one_more_lost}
 use Rattle.cave_things.specs.Effects.{with_objects, put_here, vessel, with_free_bird}
 use Rattle.cave_things.specs.Effects.{with_bird_in_cage}
 use Rattle.cave_things.specs.Homes.{is_at_home}

@@ -115,7 +115,8 @@ burns cave s line =
     is_command cave s line
     && is_lit cave (before_lamp cave (before_clocks cave (without_question s)))
 
--- the charge after a turn in which the lamp burns, or doesn't: it goes out as its last turn is burnt
+-- the charge after a turn in which the lamp burns, or doesn't: it goes out as its last turn is
+-- burnt
 abbrev pub charge_after : Bool → ℤ → ℤ
 charge_after burns charge =
     if burns then (if int_eq charge (pos 1) then negsuc 0 else charge -ℤ pos 1) else charge

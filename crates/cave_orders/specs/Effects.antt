@@ -2,13 +2,15 @@
 use Rattle.std.specs.Prelude.{ℕ, ℤ, ◌==◌, if◌then◌else◌}
 use Rattle.cave_data.specs.CaveView.{CaveView, default_message}
 use Rattle.cave_rows.specs.declared.role.Role.{Role}
-use Rattle.cave_objects.specs.Objects.{with_place, with_carried, with_anchor, with_latest, with_prop}
+use Rattle.cave_objects.specs.Objects.{with_place, with_carried, with_anchor, with_latest}
+use Rattle.cave_objects.specs.Objects.{with_prop}
 use Rattle.cave_world.specs.declared.part.Part.{Part}
 use Rattle.cave_world.specs.declared.part.Part.TheVariants as part
 use Rattle.cave_world.specs.declared.part.WordLine.TheVariants as line
 use Rattle.cave_objects.specs.declared.spot.Anchor.TheVariants as anchor
 use Rattle.cave_world.specs.declared.state.State.{State}
-use Rattle.cave_things.specs.Effects.{put_down, let_go, without_troll, after_loss_to_snake, with_one_more_lost}
+use Rattle.cave_things.specs.Effects.{put_down, let_go, without_troll, after_loss_to_snake}
+use Rattle.cave_things.specs.Effects.{with_one_more_lost}
 use Rattle.cave_things.specs.Effects.{with_objects}
 use Rattle.cave_scene.specs.Play.{Scene, with_state, after_telling, after_saying, after_look_at}
 use Rattle.cave_orders.specs.Deeds.{Deed}
@@ -51,7 +53,9 @@ carry t d = in_state (with_objects (with_carried d.scene.state.objects (t d)) d.
 
 -- an object is moved to where the player is
 abbrev pub bring : Thing → Effect
-bring t d = in_state (with_objects (with_place d.scene.state.objects (t d) d.scene.state.trail.here) d.scene.state) d
+bring t d =
+    in_state (with_objects (with_place d.scene.state.objects (t d) d.scene.state.trail.here)
+    d.scene.state) d
 
 -- an object is nowhere from now on
 abbrev pub kill : Thing → Effect
@@ -59,10 +63,12 @@ kill t d = in_state (with_objects (with_place d.scene.state.objects (t d) 0) d.s
 
 -- an object can't be moved any more, or can be moved again
 abbrev pub fix : Thing → Effect
-fix t d = in_state (with_objects (with_anchor d.scene.state.objects (t d) anchor.Fixed) d.scene.state) d
+fix t d =
+    in_state (with_objects (with_anchor d.scene.state.objects (t d) anchor.Fixed) d.scene.state) d
 
 abbrev pub loosen : Thing → Effect
-loosen t d = in_state (with_objects (with_anchor d.scene.state.objects (t d) anchor.Loose) d.scene.state) d
+loosen t d =
+    in_state (with_objects (with_anchor d.scene.state.objects (t d) anchor.Loose) d.scene.state) d
 
 abbrev pub juggle : Thing → Effect
 juggle t d = in_state (with_objects (with_latest d.scene.state.objects (t d)) d.scene.state) d

@@ -27,7 +27,8 @@ pub struct Order {
 /// The message that the cave gives an action is said, if there is one.
 pub fn tell_default(rules: &Rules<'_>, number: u16, play: &mut Play<'_>)
     requires { HasRoom 1 play.old }
-    ensures play { scene_of play.new ≡ after_default (cave_of rules.now) number (scene_of play.old) }
+    ensures play { scene_of play.new
+        ≡ after_default (cave_of rules.now) number (scene_of play.old) }
     ensures same { GoesOn play.old play.new }
     ensures few { SaysUpTo 1 play.old play.new }
 {
@@ -64,7 +65,8 @@ impl Order {
     /// The word that was just read is asked back, and the verb is kept for the next line.
     pub fn ask_what(self, rules: &Rules<'_>, play: &mut Play<'_>) -> Next
         requires { HasRoom 1 play.old }
-        ensures row { DoneByRow (row_then [] (ask_what ∷ []) keeps) rules.now self play.old play.new result }
+        ensures row { DoneByRow (row_then [] (ask_what ∷ []) keeps) rules.now self play.old
+            play.new result }
     {
         play.tell(Part::Word(WordLine::What, self.word));
         Next::Keep

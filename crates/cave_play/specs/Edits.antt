@@ -46,7 +46,8 @@ pub record IsApplied (view : View) (items : List Applied)
     (old : SessionView CaveMachine (SmallVec Part) State) (before after : List ℕ)
     (played lines : ℕ) : Type 0 where
   pub outcomes : List ItemOutcome
-  pub came : AreOutcomes old.machine.rules.cave.now old.every items old.game old.checkpoints outcomes
+  pub came : AreOutcomes old.machine.rules.cave.now old.every items old.game old.checkpoints
+      outcomes
   pub told : after ≡ before ++ text_of_items (text_of_item view) items outcomes
   pub played_is : played ≡ sum_by played_in outcomes
   pub lines_are : lines ≡ sum_by lines_in outcomes

@@ -23,7 +23,8 @@ KnowsNoCheckpoints Play = ⊤
 KnowsNoCheckpoints Log = ⊤
 KnowsNoCheckpoints Reports = ⊥
 
--- with a log, a script and a seed, one output of an edit, of the transcript, with reports or without,
+-- with a log, a script and a seed, one output of an edit, of the transcript, with reports or
+-- without,
 -- and of the edited log, whatever the distances of checkpoints, and whether the runs are strict
 abbrev pub OneEditedOutput : Type 0
 OneEditedOutput =

@@ -59,8 +59,8 @@ pub(crate) fn apply(
         (length session.old.game.log) }
     ensures held { OnOk result (HoldsGame session.old.machine.rules.cave.now
         (game_after_items (items_of script.now.items) session.old.game) session.new) }
-    ensures applied { IfOk result (λ totals. IsApplied editing.view (items_of script.now.items) session.old
-        text.old.items text.new.items totals.played totals.lines) }
+    ensures applied { IfOk result (λ totals. IsApplied editing.view (items_of script.now.items)
+        session.old text.old.items text.new.items totals.played totals.lines) }
     ensures accepted { OnOk result (first_strict_fault editing.strict (items_of script.now.items)
         session.old.game ≡ None) }
     ensures refused { IfErr result (λ found. (found ≡ PlayFault.Memory)

@@ -298,7 +298,8 @@ fn push_end(
 ) -> Result<(), AllocError>
     requires { session.now.machine.rules.cave.now ≡ machine.rules.cave.now }
     ensures told { OnOk result (text.new.items ≡ text.old.items
-        ++ text_at_end view machine.entry.rules.cave.now session.now.game totals.played totals.lines) }
+        ++ text_at_end view machine.entry.rules.cave.now session.now.game totals.played
+        totals.lines) }
     ensures reads_back { OnOk result (ReadsBack view session.now.game.log) }
 {
     match view {

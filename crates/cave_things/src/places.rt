@@ -1,6 +1,6 @@
 ghost use Rattle.cave_objects.specs.Spots.{is_place};
 ghost use Rattle.std.specs.Prelude.{◌≡◌};
-ghost use Rattle.cave_things.specs.Places.{place_named, place_or};
+ghost use Rattle.cave_things.specs.Places.{place_named};
 ghost use Rattle.cave_things.specs.Places.{start_place, outside_place, deep_place, building_place};
 
 use cave_data::Cave;
@@ -20,20 +20,7 @@ pub fn place_named(cave: &Cave, role: PlaceRole) -> Option<Place>
 pub fn is_place(place: Place, named: Option<Place>) -> bool
     ensures { result ≡ is_place place named }
 {
-    match named {
-        Some(named) => named == place,
-        None => false,
-    }
-}
-
-/// The place that is named, or another.
-pub fn place_or(other: Place, named: Option<Place>) -> Place
-    ensures { result ≡ place_or other named }
-{
-    match named {
-        Some(place) => place,
-        None => other,
-    }
+    named == Some(place)
 }
 
 /// The place where a game begins.
@@ -41,10 +28,7 @@ pub fn place_or(other: Place, named: Option<Place>) -> Place
 pub fn start_place(cave: &Cave) -> Place
     ensures { result ≡ start_place cave.now }
 {
-    place_or(
-        Place::new(DEFAULT_START),
-        place_named(cave, PlaceRole::Start),
-    )
+    place_named(cave, PlaceRole::Start).unwrap_or(Place::new(DEFAULT_START))
 }
 
 /// The last place outside the cave.
@@ -52,10 +36,7 @@ pub fn start_place(cave: &Cave) -> Place
 pub fn outside_place(cave: &Cave) -> Place
     ensures { result ≡ outside_place cave.now }
 {
-    place_or(
-        Place::new(DEFAULT_OUTSIDE),
-        place_named(cave, PlaceRole::Outside),
-    )
+    place_named(cave, PlaceRole::Outside).unwrap_or(Place::new(DEFAULT_OUTSIDE))
 }
 
 /// The first place of the cave's depths.
@@ -63,7 +44,7 @@ pub fn outside_place(cave: &Cave) -> Place
 pub fn deep_place(cave: &Cave) -> Place
     ensures { result ≡ deep_place cave.now }
 {
-    place_or(Place::new(DEFAULT_DEEP), place_named(cave, PlaceRole::Deep))
+    place_named(cave, PlaceRole::Deep).unwrap_or(Place::new(DEFAULT_DEEP))
 }
 
 /// The place where treasures are to be brought.
@@ -71,8 +52,5 @@ pub fn deep_place(cave: &Cave) -> Place
 pub fn building_place(cave: &Cave) -> Place
     ensures { result ≡ building_place cave.now }
 {
-    place_or(
-        Place::new(DEFAULT_BUILDING),
-        place_named(cave, PlaceRole::Building),
-    )
+    place_named(cave, PlaceRole::Building).unwrap_or(Place::new(DEFAULT_BUILDING))
 }

@@ -11,6 +11,7 @@ use Rattle.cave_orders.specs.declared.verb.Verb.TheVariants as verb
 use Rattle.cave_words.specs.declared.named.Named.TheVariants as name
 use Rattle.cave_objects.specs.Objects.{is_object_at}
 use Rattle.cave_world.specs.Motions.{motion_number}
+use Rattle.cave_world.specs.declared.motion.Motion.{Motion}
 use Rattle.cave_world.specs.declared.motion.Motion.TheVariants as motion
 use Rattle.cave_world.specs.declared.dwarves.Knife.{Knife}
 use Rattle.cave_world.specs.declared.dwarves.Knife.TheVariants as knife
@@ -53,6 +54,10 @@ abbrev pub is_sought : Option ℕ → Bool
 is_sought None = false
 is_sought (Some v) = v == verb_number verb.Find || v == verb_number verb.Inventory
 
+-- it is taken for a motion
+abbrev pub leads_by : Motion → ObjectWord
+leads_by m = Leads (motion_number m)
+
 -- the first that fits, or else the object isn't seen
 abbrev pub first_that_fits : List (Bool × ObjectWord) → ObjectWord
 first_that_fits [] = Unseen
@@ -64,8 +69,8 @@ unfoldable pub object_word : CaveView → State → Option ℕ → Bool → ℕ 
 object_word cave s v is_alone k =
     first_that_fits (
     (is_there cave s k, Is k)
-    ∷ (is_called cave k name.Grate && is_above_grate s.trail.here, Leads (motion_number motion.Depression))
-    ∷ (is_called cave k name.Grate && is_below_grate s.trail.here, Leads (motion_number motion.Entrance))
+    ∷ (is_called cave k name.Grate && is_above_grate s.trail.here, leads_by motion.Depression)
+    ∷ (is_called cave k name.Grate && is_below_grate s.trail.here, leads_by motion.Entrance)
     ∷ (is_called cave k name.Dwarf && is_dwarf_here s, Is k)
     ∷ (is_liquid_here cave s k, Is k)
     ∷ (is_grown_plant cave s k, Is (thing cave name.SecondPlant))

@@ -4,7 +4,8 @@ ghost use Rattle.cave_scene.specs.Bounds.{HasRoom, SaysUpTo, parts_of_arrival, p
 ghost use Rattle.cave_scene.specs.Bounds.{parts_of_finish, parts_of_question, parts_of_answer};
 ghost use Rattle.cave_scene.specs.Play.{scene_of, IsSamePlay, GoesOn};
 ghost use Rattle.cave_scene.specs.Rules.{cave_of};
-ghost use Rattle.cave_turn.specs.Answers.{answer_of, answer_in, after_instructions, with_oyster_hint};
+ghost use Rattle.cave_turn.specs.Answers.{answer_of, answer_in, after_instructions};
+ghost use Rattle.cave_turn.specs.Answers.{with_oyster_hint};
 ghost use Rattle.cave_turn.specs.Answers.{entrance_scene, quit_scene, yes_scene, no_scene};
 ghost use Rattle.cave_turn.specs.Answers.{reply_scene};
 ghost use Rattle.cave_turn.specs.Answers.{is_of_hint};

@@ -1,5 +1,6 @@
 -- OPEN and LOCK.
-use Rattle.std.specs.Prelude.{ℕ, pos, Bool, true, false, List, [], ◌∷◌, if◌then◌else◌, Option, Some, None}
+use Rattle.std.specs.Prelude.{ℕ, pos, Bool, true, false, List, [], ◌∷◌, if◌then◌else◌, Option, Some}
+use Rattle.std.specs.Prelude.{None}
 use Rattle.cave_data.specs.CaveView.{CaveView}
 use Rattle.cave_rows.specs.declared.place_role.PlaceRole.{PlaceRole}
 use Rattle.cave_rows.specs.declared.place_role.PlaceRole.TheVariants as place

@@ -11,7 +11,8 @@ use Rattle.cave_world.specs.declared.state.State.{State}
 use Rattle.cave_things.specs.Liquids.{liquid_of}
 use Rattle.cave_scene.specs.Rules.{is_called}
 use Rattle.cave_orders.specs.Effects.{say, default, ask_what, look, bring, fix, set_prop}
-use Rattle.cave_orders.specs.Rows.{VerbRow, Test, Effect, Thing, row, row_then, keeps, again, goes_on}
+use Rattle.cave_orders.specs.Rows.{VerbRow, Test, Effect, Thing, row, row_then, keeps, again}
+use Rattle.cave_orders.specs.Rows.{goes_on}
 use Rattle.cave_orders.specs.declared.verb.Verb.TheVariants as verb
 use Rattle.cave_orders.specs.Tests.{x, the, bare, no, either, both, is, carries, near, is_here}
 use Rattle.cave_orders.specs.Tests.{in_bottle, bottle_full, in_lake, lake}

@@ -11,7 +11,8 @@ use Rattle.cave_scene.specs.Rules.{thing}
 use Rattle.cave_orders.specs.Choice.{candidate, objects_meant, only}
 use Rattle.cave_orders.specs.Deeds.{Deed}
 use Rattle.cave_orders.specs.Effects.{tell, say, default, ask_what}
-use Rattle.cave_orders.specs.Rows.{VerbRow, Test, Effect, Thing, row, row_then, keeps, asks, goes_on}
+use Rattle.cave_orders.specs.Rows.{VerbRow, Test, Effect, Thing, row, row_then, keeps, asks}
+use Rattle.cave_orders.specs.Rows.{goes_on}
 use Rattle.cave_orders.specs.declared.verb.Verb.TheVariants as verb
 use Rattle.cave_orders.specs.Tests.{x, the, no, there_is, is, carries, near, cave_closed}
 

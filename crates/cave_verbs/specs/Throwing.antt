@@ -65,7 +65,8 @@ throw_rows =
     row_then (is name.Rod ∷ no (carries x) ∷ carries (the name.SecondRod) ∷ [])
     [] (goes_on verb.Throw (the name.SecondRod))
     ∷ row (no (carries x) ∷ []) (default ∷ [])
-    ∷ row (treasure x ∷ is_here (the name.Troll) ∷ []) (kill x ∷ troll_goes ∷ say role.TrollPaid ∷ [])
+    ∷ row (treasure x ∷ is_here (the name.Troll) ∷ [])
+    (kill x ∷ troll_goes ∷ say role.TrollPaid ∷ [])
     ∷ row_then (is name.Food ∷ near (the name.Bear) ∷ []) [] (goes_on verb.Feed (the name.Bear))
     ∷ row_then (no (is name.Axe) ∷ []) [] (goes_on verb.Drop x)
     ∷ []

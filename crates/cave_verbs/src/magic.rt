@@ -4,7 +4,8 @@ ghost use Rattle.cave_scene.specs.Bounds.{HasRoom, SaysUpTo};
 ghost use Rattle.cave_scene.specs.Play.{scene_of, GoesOn};
 ghost use Rattle.cave_scene.specs.Rules.{cave_of};
 ghost use Rattle.cave_orders.specs.declared.next.Next.TheVariants.{Stay};
-ghost use Rattle.cave_verbs.specs.Magic.{bare_foo_rows, with_magic, homing_sight, after_sending_home};
+ghost use Rattle.cave_verbs.specs.Magic.{bare_foo_rows, with_magic, homing_sight};
+ghost use Rattle.cave_verbs.specs.Magic.{after_sending_home};
 ghost use Rattle.cave_orders.specs.Rows.{DoneByRows};
 
 use cave_objects::{Object, Prop};

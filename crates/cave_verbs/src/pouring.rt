@@ -50,7 +50,8 @@ fn half(prop: Prop) -> Prop
 /// The plant is watered, and the player arrives again where the player is.
 fn water_plant(rules: &Rules<'_>, order: Order, play: &mut Play<'_>) -> Next
     requires { HasRoom 1 play.old }
-    ensures row { DoneByRow (row_then [] plant_watered again) rules.now order play.old play.new result }
+    ensures row { DoneByRow (row_then [] plant_watered again) rules.now order play.old play.new
+        result }
 {
     let plant = rules.object(Named::Plant);
     let prop = play.state.objects.prop(plant);

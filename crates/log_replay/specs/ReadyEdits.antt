@@ -42,8 +42,8 @@ MayReplay meaning is_state rules old ready marks =
     MayBegin meaning is_state (ready_revision rules old ready) old.checkpoints.now marks
 
 -- this was played in it, from the open place of the marks on
-abbrev pub IsReplayed : {Machine State Piece Meter Scratch S T : Type 0} → (State → S) → (State → Type 0)
-    → (Piece → T) → MachineRules S T → OldPlay State → ReadyEdits → MarksView State
+abbrev pub IsReplayed : {Machine State Piece Meter Scratch S T : Type 0} → (State → S)
+    → (State → Type 0) → (Piece → T) → MachineRules S T → OldPlay State → ReadyEdits → MarksView State
     → Segment Machine State Piece Meter Scratch → Type 0
 IsReplayed meaning is_state text rules old ready marks played =
     IsPlayed meaning is_state (ready_revision rules old ready) old.checkpoints.now.places marks
@@ -56,8 +56,8 @@ IsReplayBounded rules old ready every steps =
     IsWithinBound (ready_revision rules old ready) every steps
 
 -- this is the rerun of the game that is kept, by changes of which the ready edits are made
-abbrev pub IsRerunOf : {Machine State Piece Meter Scratch S T : Type 0} → (State → S) → (State → Type 0)
-    → (Piece → T) → MachineRules S T → List Change → Playthrough Machine State Piece Meter Scratch
+abbrev pub IsRerunOf : {Machine State Piece Meter Scratch S T : Type 0} → (State → S)
+    → (State → Type 0) → (Piece → T) → MachineRules S T → List Change → Playthrough Machine State Piece Meter Scratch
     → Rerun Machine State Piece Meter Scratch → Type 0
 IsRerunOf meaning is_state text rules changes kept rerun =
     let old = kept_game kept in
