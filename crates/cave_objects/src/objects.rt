@@ -9,6 +9,7 @@ ghost use Rattle.cave_objects.specs.Objects.{with_carried, with_latest};
 ghost use Rattle.cave_objects.specs.Spots.{place_of_spot, place_of_anchor, spot_at, is_place};
 ghost use Rattle.cave_objects.specs.Lists.{halves_at, AreLists, AreRelisted};
 ghost use Rattle.cave_objects.specs.Layout.{is_listed};
+ghost use Rattle.cave_objects.specs.Links.{AreEntriesWithin};
 ghost use Rattle.cave_objects.specs.Halves.{object_of};
 ghost use Rattle.cave_numbers.specs.Numbers.{last_object};
 
@@ -57,6 +58,13 @@ impl Model for Objects {
     } };
 }
 
+/// There is a prop for each object. It is a law, so nothing is done.
+fn are_all_props(props: &[Prop; OBJECTS])
+    ensures { length props.now ≡ last_object }
+{
+    let _ = props;
+}
+
 impl Objects {
     /// Objects of which none is placed.
     #[tactic(auto, unfolding(crate::specs::Objects::without_places))]
@@ -93,6 +101,18 @@ impl Objects {
         ensures { AreLists self.now.lists }
     {
         self.lists.are_in_order();
+    }
+
+    /// Each object has a spot, an anchor and a prop, and no half is at a place after the last. It is
+    /// a law, so nothing is done.
+    pub fn are_complete(&self)
+        ensures spots { length self.now.first ≡ last_object }
+        ensures anchors { length self.now.second ≡ last_object }
+        ensures props { length self.now.props ≡ last_object }
+        ensures places { AreEntriesWithin self.now.lists }
+    {
+        are_all_props(&self.props);
+        self.lists.are_within();
     }
 
     /// Where the first half of an object is.
