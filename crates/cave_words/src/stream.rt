@@ -1,6 +1,7 @@
 //! The random stream of a play.
 ghost use Rattle.std.specs.Prelude.{◌≡◌, ◌<◌, ◌≤◌};
 ghost use Rattle.cave_words.specs.Stream.{stream_of_seed, number_drawn, next, is_within_percent};
+ghost use Rattle.cave_words.specs.Stream.{stream_size};
 
 use std::marker::Model;
 
