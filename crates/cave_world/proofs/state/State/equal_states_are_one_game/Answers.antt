@@ -1,5 +1,5 @@
 use Rattle.cave_world.specs.Equality.{same_game}
-use Rattle.cave_world.proofs.laws.State.equal_states_are_one_game.Goals as goal
+use Rattle.cave_world.proofs.state.State.equal_states_are_one_game.Goals as goal
 
 pub returns : goal.returns
 returns c =
