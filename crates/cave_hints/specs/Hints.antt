@@ -158,10 +158,11 @@ abbrev pub after_reward : ℕ → State → State
 after_reward points s =
     let lamp = s.lamp in
     if int_lt (pos low_charge) lamp.charge
-    then record s
-    { lamp = record lamp {
-      charge = int_min (lamp.charge +ℤ pos (30 * points)) (pos max_lamp_turns)
-    } }
+    then record s {
+      lamp = record lamp {
+        charge = int_min (lamp.charge +ℤ pos (30 * points)) (pos max_lamp_turns);
+      };
+    }
     else s
 
 -- a hint is given

@@ -55,8 +55,6 @@ pub(crate) fn apply(
 ) -> Result<Totals, PlayFault>
     requires same { session.old.machine.rules.cave.now ≡ machine.rules.cave.now }
     requires few_items { length script.now.items.items < 2 ^ 32 }
-    ensures spaced { IsSpaced session.old.every session.old.checkpoints
-        (length session.old.game.log) }
     ensures held { OnOk result (HoldsGame session.old.machine.rules.cave.now
         (game_after_items (items_of script.now.items) session.old.game) session.new) }
     ensures applied { IfOk result (λ totals. IsApplied editing.view (items_of script.now.items)
@@ -67,8 +65,6 @@ pub(crate) fn apply(
         ⊎ (first_strict_fault editing.strict (items_of script.now.items) session.old.game
         ≡ Some found)) }
 {
-    // The contract of this call says how the checkpoints are spaced before the first item.
-    let _places = session.checkpoints();
     let mut totals = Totals {
         played: 0,
         lines: 0,

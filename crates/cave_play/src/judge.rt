@@ -3,6 +3,7 @@
 ghost use Rattle.std.specs.Prelude.{◌≡◌, ℕ, ◌^◌, ◌<◌, List, [], ◌∷◌, None, Some, Ok, IfOk};
 ghost use Rattle.std.specs.Prelude.{MatchResult, length};
 ghost use Rattle.std.specs.Str.Lines.{lines};
+ghost use Rattle.replay_marks.specs.Spacing.{IsSpaced};
 ghost use Rattle.cave_data.specs.Reads.{Reads};
 ghost use Rattle.log_edits.specs.Game.{game_of};
 ghost use Rattle.edit_scripts.specs.Script.{IsScript, script_of};
@@ -95,6 +96,8 @@ fn open_log<'a>(
     ensures judged { Judges (judging_stage (lines_fault (lines log.now)) ∷ [])
         (HoldsGame machine.entry.rules.cave.now (game_of seed (lines log.now))) result }
     ensures every { IfOk result (λ session. session.every ≡ every) }
+    ensures spaced { IfOk result (λ session.
+        IsSpaced session.every session.checkpoints (length session.game.log)) }
 {
     let mut meter = Meter::new();
     match Session::open(alloc, machine, seed, log, every, &mut meter) {
@@ -117,6 +120,8 @@ pub fn read_log<'a, L: Read>(
         × Judges (log_stage bytes ∷ [])
         (HoldsGame machine.entry.rules.cave.now (game_of seed (lines bytes))) result }
     ensures every { IfOk result (λ session. session.every ≡ every) }
+    ensures spaced { IfOk result (λ session.
+        IsSpaced session.every session.checkpoints (length session.game.log)) }
 {
     let log = read(alloc, Input::Log, log)?;
     open_log(alloc, machine, &log, seed, every)

@@ -4,6 +4,7 @@ ghost use Rattle.std.specs.Prelude.{◌≡◌, ◌<◌, ◌^◌, ℕ, List, [], 
 ghost use Rattle.std.specs.Prelude.{MatchResult, OnOk};
 ghost use Rattle.std.specs.Io.KnownBytes.{Appends};
 ghost use Rattle.std.specs.Str.Lines.{lines};
+ghost use Rattle.replay_marks.specs.Spacing.{IsSpaced};
 ghost use Rattle.edit_scripts.specs.Views.{items_of};
 ghost use Rattle.log_edits.specs.Game.{game_of};
 ghost use Rattle.cave_play.specs.Input.{Says};
@@ -256,7 +257,9 @@ fn edit_session<S: Read>(
     script: &mut S,
     editing: Editing,
 ) -> Result<Vec<u8>, PlayFault>
-    requires { session.old.machine.rules.cave.now ≡ machine.rules.cave.now }
+    requires same { session.old.machine.rules.cave.now ≡ machine.rules.cave.now }
+    requires spaced { IsSpaced session.old.every session.old.checkpoints
+        (length session.old.game.log) }
     ensures judged { (edits : List ℕ) × Says (S.remaining script.old) edits
         × Judges (script_stage edits ∷ strict_stage editing.strict session.old.game edits ∷ [])
         (λ text. IsEditOf editing.view machine.entry.rules.cave.now session.old.every
@@ -275,6 +278,8 @@ fn edit_by(
     editing: Editing,
 ) -> Result<Vec<u8>, PlayFault>
     requires same { session.old.machine.rules.cave.now ≡ machine.rules.cave.now }
+    requires spaced { IsSpaced session.old.every session.old.checkpoints
+        (length session.old.game.log) }
     requires few_items { length script.now.items.items < 2 ^ 32 }
     ensures judged { Judges (judging_stage
         (first_strict_fault editing.strict (items_of script.now.items) session.old.game) ∷ [])

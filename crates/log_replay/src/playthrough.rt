@@ -1,4 +1,5 @@
 ghost use Rattle.std.specs.Prelude.{◌≡◌, ◌+◌, ◌^◌, ◌<◌, length, IfOk, OnOk};
+ghost use Rattle.replay_marks.specs.Spacing.{IsSpaced};
 ghost use Rattle.log_edits.specs.Game.{IsGame, game_in};
 ghost use Rattle.log_replay.specs.Playthrough.{IsDistance, kept_game, KeepsPlay};
 ghost use Rattle.log_replay.specs.Report.{RisesByAtMost};
@@ -37,6 +38,8 @@ pub(crate) fn play_game<M: Machine>(
     ensures kept { IfOk result (KeepsPlay M.meaning M.is_state M.text (M.rules machine.now)) }
     ensures game { IfOk result (λ kept. kept_game kept ≡ game_in seed log) }
     ensures every { IfOk result (λ kept. kept.checkpoints.every ≡ every) }
+    ensures spaced { IfOk result (λ kept. let checkpoints = kept.checkpoints in
+        IsSpaced checkpoints.every checkpoints.places checkpoints.lines) }
     ensures steps { OnOk result (M.Meter.count meter.new
         ≡ M.Meter.count meter.old + length log.items) }
     ensures counted { RisesByAtMost (M.Meter.count meter.old) (M.Meter.count meter.new)

@@ -70,6 +70,8 @@ impl<M: Machine> Session<M> {
         ensures kept { IfOk result (λ session.
             (session.machine ≡ machine) × (session.every ≡ every)) }
         ensures plays { IfOk result (HoldsPlay M.rules M.text M.meaning) }
+        ensures spaced { IfOk result (λ session.
+            IsSpaced session.every session.checkpoints (length session.game.log)) }
 
         ensures faults { IsAnswerToOpen (open_fault every (lines log.now) seed) result }
 

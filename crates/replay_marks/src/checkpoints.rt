@@ -43,6 +43,7 @@ impl<S: Copy> Checkpoints<S> {
         ensures settings { (result.every ≡ marks.every) × (result.lines ≡ marks.end) }
         ensures places { result.places ≡ marks.places }
         ensures states { result.states ≡ marks.states }
+        ensures spaced { IsSpaced result.every result.places result.lines }
     {
         let every = marks.every();
         let lines = marks.end();

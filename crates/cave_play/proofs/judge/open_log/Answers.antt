@@ -21,6 +21,7 @@ returns-in-Ok c =
         },
       );
       every = c.in-Ok.ensures.kept.1;
+      spaced = c.in-Ok.ensures.spaced;
     }
 
 pub returns-in-Err : goal.returns-in-Err
@@ -30,4 +31,5 @@ returns-in-Err c =
           IsFoundIn-opened c.args.every (lines c.args.log.now) c.args.seed c.in-Err.fault
           _ c.requires.seed_fits c.requires.every_fits c.in-Err.is c.open.ensures.faults;
       every = tt;
+      spaced = tt;
     })

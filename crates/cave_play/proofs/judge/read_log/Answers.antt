@@ -10,7 +10,7 @@ returns-in_err-log g c =
     let exit = err_from_is_err_and c.from_residual.result c.from_residual.ensures.1 in
     let (bytes, said, refused) = c.in_err-log.ensures.read in
     rw (exit.1, exit.2)
-    (record { judged = (bytes, said, IsFoundIn-log bytes _ refused); every = tt })
+    (record { judged = (bytes, said, IsFoundIn-log bytes _ refused); every = tt; spaced = tt })
 
 pub returns : goal.returns
 returns g c =
@@ -23,4 +23,5 @@ returns g c =
             _ _ (c.deref.ensures.value ∙ read.0) read.1 c.open_log.ensures.judged,
       );
       every = c.open_log.ensures.every;
+      spaced = c.open_log.ensures.spaced;
     }

@@ -37,7 +37,7 @@ returns c =
     let whole =
     told-whole view cave old.every items old.game old.checkpoints applied.outcomes totals.played
     totals.lines c.apply.new.text.items c.push_end.new.text.items
-    c.in_ok-totals.ensures.spaced came told applied.played_is applied.lines_are ends back in
+    c.requires.spaced came told applied.played_is applied.lines_are ends back in
     let decides = first_strict_fault c.args.editing.strict items old.game in
     record {
       judged = (
