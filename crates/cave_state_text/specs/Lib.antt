@@ -1,0 +1,6 @@
+pub mod Entries
+pub mod Facts
+pub mod Laws
+pub mod StateText
+pub mod Things
+pub mod Within
