@@ -78,7 +78,7 @@ tallies_text tallies =
 
 -- the verb of half a command
 abbrev pub verb_text : Option ℕ → List ℕ
-verb_text None = codes "half verb none\n"
+verb_text None = codes "half command none\n"
 verb_text (Some verb) = number_line (codes "half verb ") verb
 
 -- what is remembered of what was said

@@ -1,5 +1,5 @@
 -- The numbers of a state are within what is written of numbers.
-use Rattle.std.specs.Prelude.{◌≡◌, ℕ, ℤ, ◌≤◌, ◌<◌, ◌^◌, mag, ⊤, length, Option, None, Some}
+use Rattle.std.specs.Prelude.{◌≡◌, ℕ, ⊤, length, Option, None, Some}
 use Rattle.cave_objects.specs.Layout.{Layout}
 use Rattle.cave_objects.specs.Lists.{AreLists, halves_at}
 use Rattle.cave_objects.specs.Links.{AreEntriesWithin}
@@ -19,13 +19,8 @@ use Rattle.cave_world.specs.declared.state.State.{State}
 use Rattle.cave_world.specs.declared.state.Tallies.{Tallies}
 use Rattle.cave_world.specs.declared.state.Trail.{Trail}
 use Rattle.cave_world.specs.declared.talk.Talk.{Talk}
+use Rattle.cave_state_text.specs.Numbers.{IsNumber, IsSigned, IsUpTo}
 use Rattle.cave_state_text.specs.Things.{dwarf_of, hint_turns}
-
-abbrev pub IsNumber : ℕ → Type 0
-IsNumber n = n < 2 ^ 64
-
-abbrev pub IsSigned : ℤ → Type 0
-IsSigned z = mag z < 2 ^ 63
 
 abbrev pub IsTrailWithin : Trail → Type 0
 IsTrailWithin trail = IsNumber trail.here × (IsNumber trail.last × IsNumber trail.older)
@@ -65,10 +60,6 @@ IsSpotWithin _ = ⊤
 abbrev pub IsAnchorWithin : Anchor → Type 0
 IsAnchorWithin (anchor.At place) = IsNumber place
 IsAnchorWithin _ = ⊤
-
--- the number is one of those from 1 to the last
-abbrev pub IsUpTo : ℕ → ℕ → Type 0
-IsUpTo last n = (1 ≤ n) × (n ≤ last)
 
 abbrev pub IsThingWithin : Layout → ℕ → Type 0
 IsThingWithin o x =

@@ -145,7 +145,7 @@ fn push_verb(alloc: Global, text: &mut Vec<u8>, verb: Option<u16>) -> Result<(),
     ensures { OnOk result (text.new.items ≡ text.old.items ++ verb_text verb) }
 {
     match verb {
-        None => text.extend_from_slice(b"half verb none\n"),
+        None => text.extend_from_slice(b"half command none\n"),
         Some(verb) => push_number(alloc, text, "half verb ", u32::from(verb)),
     }
 }

@@ -1,0 +1,5 @@
+pub mod EntryLemmas
+pub mod FactLemmas
+pub mod Reading
+pub mod StateLemmas
+pub mod ThingLemmas
