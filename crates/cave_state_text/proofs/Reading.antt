@@ -1,8 +1,8 @@
 -- A number is read back from a text that goes on after it with something that is no number.
-use Rattle.std.proofs.Common.{◌≡◌, ℕ, suc, zero, ℤ, pos, negsuc, ◌<◌, ◌^◌, Bool, true, false, List}
+use Rattle.std.proofs.Common.{◌≡◌, ℕ, suc, ℤ, pos, negsuc, ◌<◌, Bool, true, false, List}
 use Rattle.std.proofs.Common.{[], ◌∷◌, ◌++◌, refl, sym, ap, ◌∙◌, arith, append_assoc}
 use Rattle.std.proofs.Common.{length}
-use Rattle.std.specs.Prelude.{⊤, ◌==◌, ◌||◌, codes, mag}
+use Rattle.std.specs.Prelude.{⊤, ◌==◌, ◌&&◌, ◌||◌, codes}
 use Rattle.std.proofs.lemmas.List.{append_cancel_left}
 use Rattle.cave_state_text.specs.Facts.{yes_or_no}
 use Rattle.std.specs.Char.{is_ascii_digit}
@@ -44,15 +44,15 @@ apart (x ∷ xs) (y ∷ ys) s t m n g h e =
     let rest = apart xs ys s t m.1 n.1 g h others in
     (λ i. first i ∷ rest.0 i, rest.1)
 
+pub both_true : (a b : Bool) → (a && b) ≡ true → (a ≡ true) × (b ≡ true)
+both_true true b e = (refl, e)
+both_true false b e = absurd (false≢true e)
+
 number_bytes : (bytes : List ℕ) → all_ascii_digits bytes ≡ true → AreNumberBytes bytes
 number_bytes [] h = tt
-number_bytes (byte ∷ bytes) h = split (is_ascii_digit byte) (all_ascii_digits bytes) refl refl h
-  where
-    split : (b d : Bool) → is_ascii_digit byte ≡ b → all_ascii_digits bytes ≡ d
-        → all_ascii_digits (byte ∷ bytes) ≡ true → AreNumberBytes (byte ∷ bytes)
-    split true true e f g = (ap (λ x. x || byte == 45) e, number_bytes bytes f)
-    split true false e f g = let no : false ≡ true = rw (e, f) at g in absurd (false≢true no)
-    split false d e f g = let no : false ≡ true = rw e at g in absurd (false≢true no)
+number_bytes (byte ∷ bytes) h =
+    let both = both_true (is_ascii_digit byte) (all_ascii_digits bytes) h in
+    (ap (λ x. x || byte == 45) both.0, number_bytes bytes both.1)
 
 decimal_bytes : (n : ℕ) → IsNumber n → AreNumberBytes (decimal n)
 decimal_bytes n h =

@@ -1,20 +1,27 @@
 -- A state is read back from its text.
 use Rattle.std.proofs.Common.{◌≡◌, ℕ, ◌<◌, List, [], ◌∷◌, ◌++◌, refl, sym, ap, ◌∙◌, arith}
-use Rattle.std.proofs.Common.{append_assoc, append-nil}
+use Rattle.std.proofs.Common.{append_assoc, Option, Some, None}
+use Rattle.std.proofs.lemmas.List.{append-nil}
 use Rattle.std.specs.Prelude.{codes}
 use Rattle.cave_data.specs.CaveView.{CaveView}
 use Rattle.cave_objects.specs.Layout.{Layout}
+use Rattle.cave_objects.specs.Lists.{halves_at}
 use Rattle.cave_world.specs.SameGame.{IsSameGame, same_state}
+use Rattle.cave_world.specs.declared.dwarves.Knife.{Knife}
+use Rattle.cave_world.specs.declared.dwarves.Knife.TheVariants.{Unthrown, At, Vanished}
 use Rattle.cave_world.specs.declared.state.State.{State}
+use Rattle.cave_world.specs.declared.talk.Talk.{Talk}
 use Rattle.cave_state_text.specs.Entries.{text_up_to}
 use Rattle.cave_state_text.specs.Facts.{counts_text, trail_text, question_text, ending_text}
 use Rattle.cave_state_text.specs.Facts.{lamp_text, closing_text, tallies_text, talk_text}
+use Rattle.cave_state_text.specs.Facts.{verb_text}
 use Rattle.cave_state_text.specs.Facts.{anger_text, knife_text, number_line}
 use Rattle.cave_state_text.specs.Laws.{AreToldApart}
 use Rattle.cave_state_text.specs.StateText.{state_text, game_text, objects_text, rest_text}
 use Rattle.cave_state_text.specs.Things.{object_line, place_line, visits_line, dwarf_line}
 use Rattle.cave_state_text.specs.Things.{hint_line}
 use Rattle.cave_state_text.specs.Within.{IsWithin}
+use Rattle.cave_state_text.proofs.EntryLemmas.{IsPast}
 use Rattle.cave_state_text.proofs.FactLemmas.{counts_read, trail_read, question_read, ending_read}
 use Rattle.cave_state_text.proofs.FactLemmas.{lamp_read, closing_read, tallies_read, talk_read}
 use Rattle.cave_state_text.proofs.FactLemmas.{anger_read, knife_read, line_read}
@@ -61,6 +68,22 @@ game_read a b s t ha hb e =
     },
       tallies.1)
 
+verb_past : (verb : Option ℕ) (s : List ℕ) → IsPast (codes "object ") 100 (verb_text verb ++ s)
+verb_past None s number more within clash = cc
+verb_past (Some verb) s number more within clash = cc
+
+talk_past : (talk : Talk) (lists s : List ℕ)
+    → IsPast (codes "object ") 100 ((talk_text talk ++ lists) ++ s)
+talk_past talk lists s number more within clash =
+    verb_past talk.verb _ number more within
+    (sym (append_assoc (verb_text talk.verb) _ s)
+    ∙ (ap (λ t. t ++ s) (sym (append_assoc (verb_text talk.verb) _ lists)) ∙ clash))
+
+knife_past : (knife : Knife) (s : List ℕ) → IsPast (codes "dwarf ") 6 (knife_text knife ++ s)
+knife_past Unthrown s number more within clash = cc
+knife_past (At place) s number more within clash = cc
+knife_past Vanished s number more within clash = cc
+
 record AreSameObjects (a b : State) : Type 0 where
   spots : a.objects.first ≡ b.objects.first
   anchors : a.objects.second ≡ b.objects.second
@@ -80,7 +103,7 @@ things_read cave begun a b s t ha hb e =
     let others = text_up_to (place_line begun b.objects) 300 in
     let objects =
     objects_read cave begun a.objects b.objects _ _ ha.objects hb.objects
-    (λ number more within clash. cc) (λ number more within clash. cc)
+    (talk_past a.talk lists rest) (talk_past b.talk others other)
     (peel (text_up_to (object_line cave begun a.objects) 100)
     (text_up_to (object_line cave begun b.objects) 100) (talk_text a.talk ++ lists)
     (talk_text b.talk ++ others) rest other e) in
@@ -113,8 +136,8 @@ rest_read a b ha hb e =
     anger_read a.dwarves b.dwarves _ _ ha.facts.anger hb.facts.anger ha.facts.kills
     hb.facts.kills e in
     let each =
-    dwarves_read a b _ _ ha.dwarves hb.dwarves (λ number more within clash. knife_past a.dwarves.knife _ clash)
-    (λ number more within clash. knife_past b.dwarves.knife _ clash) anger.1.1 in
+    dwarves_read a b _ _ ha.dwarves hb.dwarves (knife_past a.dwarves.knife _)
+    (knife_past b.dwarves.knife _) anger.1.1 in
     let knife =
     knife_read a.dwarves.knife b.dwarves.knife _ _ ha.facts.knife hb.facts.knife each.1 in
     let hints =
@@ -139,9 +162,6 @@ rest_read a b ha hb e =
       hints = hints.0;
       stream = stream.0;
     }
-  where
-    knife_past : ?
-    knife_past = ?
 
 pub told_apart : (cave : CaveView) (begun : Layout) (a b : State) → IsWithin a → IsWithin b
     → AreToldApart cave begun a b

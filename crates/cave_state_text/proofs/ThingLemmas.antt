@@ -45,7 +45,7 @@ use Rattle.cave_state_text.proofs.EntryLemmas.{IsPast, entries_read}
 use Rattle.cave_state_text.proofs.FactLemmas.{line_read}
 use Rattle.cave_state_text.proofs.Reading.{GoesOn, number_first, number_read, number_step}
 use Rattle.cave_state_text.proofs.Reading.{signed_step}
-use Rattle.cave_state_text.proofs.Reading.{answer_step, after_name, peel}
+use Rattle.cave_state_text.proofs.Reading.{answer_step, after_name, both_true, peel}
 
 -- ---- objects
 
@@ -137,10 +137,6 @@ anchor_decides anchor.Fixed anchor.Fixed = (λ _. refl, λ _. refl)
 anchor_decides (anchor.At x) (anchor.At y) =
     (λ e i. anchor.At ((unsigned_Decides x y).0 e i), λ e. (unsigned_Decides x y).1 cc)
 anchor_decides _ _ = (λ e. absurd (false≢true e), λ e. cc)
-
-both_true : (a b : Bool) → (a && b) ≡ true → (a ≡ true) × (b ≡ true)
-both_true true b e = (refl, e)
-both_true false b e = absurd (false≢true e)
 
 as_begun : (begun o : Layout) (x : ℕ) → is_as_in begun o x ≡ true → AreSameThings o begun x
 as_begun begun o x e =
@@ -310,7 +306,15 @@ listed d xs ys last hx hy each =
     subst (λ k. get_or xs k d ≡ get_or ys k d) next
     (each (i + 1) (omega arith, omega (arith, below, hx))))
 
+not_zero : (n : ℕ) → 1 ≤ n → n == 0 ≡ false
+not_zero n h = grind (arith, nat_tests)
+
 -- ---- how often places were described
+
+visits_at : (a b : State) (n : ℕ) → n == 0 ≡ false → visits_of a n ≡ visits_of b n
+    → slice_index_or a.visits (n - 1) 0 ≡ slice_index_or b.visits (n - 1) 0
+unfolding visits_of
+visits_at a b n some e = rw some at e
 
 pub visits_read : (a b : State) (s t : List ℕ) → AreVisitsWithin a → AreVisitsWithin b
     → IsPast (codes "visits ") 300 s → IsPast (codes "visits ") 300 t
@@ -328,11 +332,8 @@ visits_read a b s t ha hb past other e =
       line_read (codes " ") (visits_of a n) (visits_of b n) _ _ (ha.each n up) (hb.each n up),
     ))
     past other e in
-    (listed 0 a.visits b.visits 300 ha.all hb.all (λ n up. at n up (read.0 n up)), read.1)
-  where
-    at : (n : ℕ) → IsUpTo 300 n → visits_of a n ≡ visits_of b n
-        → slice_index_or a.visits (n - 1) 0 ≡ slice_index_or b.visits (n - 1) 0
-    at n up e = ?
+    (listed 0 a.visits b.visits 300 ha.all hb.all
+    (λ n up. visits_at a b n (not_zero n up.0) (read.0 n up)), read.1)
 
 -- ---- dwarves and hints
 
@@ -410,25 +411,31 @@ hints_read a b s t ha hb past other e =
 
 -- ---- the arrays of objects
 
+spot_at : (o p : Layout) (n : ℕ) → n == 0 ≡ false → spot_of o n ≡ spot_of p n
+    → slice_index_or o.first (n - 1) spot.Away ≡ slice_index_or p.first (n - 1) spot.Away
+unfolding spot_of
+spot_at o p n some e = rw some at e
+
+anchor_at : (o p : Layout) (n : ℕ) → n == 0 ≡ false → anchor_of o n ≡ anchor_of p n
+    → slice_index_or o.second (n - 1) anchor.Loose ≡ slice_index_or p.second (n - 1) anchor.Loose
+unfolding anchor_of
+anchor_at o p n some e = rw some at e
+
+prop_at : (o p : Layout) (n : ℕ) → n == 0 ≡ false → prop_of o n ≡ prop_of p n
+    → slice_index_or o.props (n - 1) (pos 0) ≡ slice_index_or p.props (n - 1) (pos 0)
+unfolding prop_of
+prop_at o p n some e = rw some at e
+
 pub things_same : (o p : Layout) → AreObjectsWithin o → AreObjectsWithin p
     → ((x : ℕ) → IsUpTo 100 x → AreSameThings o p x)
     → (o.first ≡ p.first) × ((o.second ≡ p.second) × (o.props ≡ p.props))
 things_same o p ho hp each = (
-  listed spot.Away o.first p.first 100 ho.spots hp.spots (λ n up. at_spot n up (each n up).0),
+  listed spot.Away o.first p.first 100 ho.spots hp.spots
+  (λ n up. spot_at o p n (not_zero n up.0) (each n up).0),
   (
     listed anchor.Loose o.second p.second 100 ho.anchors hp.anchors
-    (λ n up. at_anchor n up (each n up).1.0),
-    listed (pos 0) o.props p.props 100 ho.props hp.props (λ n up. at_prop n up (each n up).1.1),
+    (λ n up. anchor_at o p n (not_zero n up.0) (each n up).1.0),
+    listed (pos 0) o.props p.props 100 ho.props hp.props
+    (λ n up. prop_at o p n (not_zero n up.0) (each n up).1.1),
   ),
 )
-  where
-    at_spot : (n : ℕ) → IsUpTo 100 n → spot_of o n ≡ spot_of p n
-        → slice_index_or o.first (n - 1) spot.Away ≡ slice_index_or p.first (n - 1) spot.Away
-    at_spot n up e = ?
-    at_anchor : (n : ℕ) → IsUpTo 100 n → anchor_of o n ≡ anchor_of p n
-        → slice_index_or o.second (n - 1) anchor.Loose
-        ≡ slice_index_or p.second (n - 1) anchor.Loose
-    at_anchor n up e = ?
-    at_prop : (n : ℕ) → IsUpTo 100 n → prop_of o n ≡ prop_of p n
-        → slice_index_or o.props (n - 1) (pos 0) ≡ slice_index_or p.props (n - 1) (pos 0)
-    at_prop n up e = ?
