@@ -10,6 +10,14 @@ use Rattle.cave_state_text.specs.Entries.{entry, text_up_to}
 use Rattle.cave_state_text.specs.Numbers.{IsNumber, IsUpTo}
 use Rattle.cave_state_text.proofs.Reading.{number_read, GoesOn}
 
+up_or_last : {P : ℕ → Type 0} (last n : ℕ) → IsUpTo (suc last) n
+    → ((m : ℕ) → IsUpTo last m → P m) → P (suc last) → P n
+up_or_last {P = P} last n up before here = choose (cases_lt last n)
+  where
+    choose : (last < n) ⊎ (n ≤ last) → P n
+    choose (inl more) = let is : suc last ≡ n = omega (arith, more, up.1) in subst P is here
+    choose (inr less) = before n (up.0, less)
+
 module _ (name : List ℕ) where
   -- no line of a number up to this one begins the text
   abbrev pub IsPast : ℕ → List ℕ → Type 0
@@ -48,16 +56,16 @@ module _ (name : List ℕ) where
       → ((u v : List ℕ) → x ++ u ≡ y ++ v → Same × (u ≡ v))
       → IsPast n s → IsPast n t → entry name b n x ++ s ≡ entry name d n y ++ t
       → Same × (s ≡ t)
-  one_read n true true x y s t Same out in p q e = (out refl refl, e)
-  one_read n true false x y s t Same out in p q e =
+  one_read n true true x y s t Same out told p q e = (out refl refl, e)
+  one_read n true false x y s t Same out told p q e =
       absurd (p n (y ++ t) (omega arith) (e ∙ line_first n y t))
-  one_read n false true x y s t Same out in p q e =
+  one_read n false true x y s t Same out told p q e =
       absurd (q n (x ++ s) (omega arith) (sym e ∙ line_first n x s))
-  one_read n false false x y s t Same out in p q e =
+  one_read n false false x y s t Same out told p q e =
       let lines = sym (line_first n x s) ∙ (e ∙ line_first n y t) in
       let numbers = append_cancel_left name _ _ lines in
       let rests : 58 ∷ (x ++ s) ≡ 58 ∷ (y ++ t) = append_cancel_left (decimal n) _ _ numbers in
-      in s t cc
+      told s t cc
 
   module _ (b d : ℕ → Bool) (x y : ℕ → List ℕ) (Same : ℕ → Type 0) where
     -- each line of the first or of both tells the same
@@ -85,12 +93,4 @@ module _ (name : List ℕ) where
         let told = tells (suc last) (omega arith, omega arith) in
         let here = one_read (suc last) (b (suc last)) (d (suc last)) (x (suc last)) (y (suc last))
         s t (Same (suc last)) told.0 told.1 p q before.1 in
-        (λ n up. each n up before.0 here.0, here.1)
-      where
-        each : (n : ℕ) → IsUpTo (suc last) n → ((m : ℕ) → IsUpTo last m → Same m)
-            → Same (suc last) → Same n
-        each n up before here = choose (cases_lt last n)
-          where
-            choose : (last < n) ⊎ (n ≤ last) → Same n
-            choose (inl more) = let is : suc last ≡ n = omega (arith, more, up.1) in subst Same is here
-            choose (inr less) = before n (up.0, less)
+        (λ n up. up_or_last last n up before.0 here.0, here.1)

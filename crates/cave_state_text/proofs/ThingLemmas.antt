@@ -228,17 +228,28 @@ halves_read (a ∷ as) (b ∷ bs) s t ha hb e =
 halves_read [] (b ∷ bs) s t ha hb e = absurd (not_nothing b bs t s hb.0 (sym e))
 halves_read (a ∷ as) [] s t ha hb e = absurd (not_nothing a as s t ha.0 e)
 
+object_within : (half : Half) → half_number half ≤ 200 → IsNumber (object_of half)
+object_within (First x) h = omega (arith, h)
+object_within (Second x) h = omega (arith, h)
+
+more_halves : (place : ℕ) (e : PlacedHalf) (es : List PlacedHalf) (b : Bool) → e.place == place ≡ b
+    → IsNumber (object_of e.half) → AreHalvesWithin (halves_at place es)
+    → AreHalvesWithin (halves_at place (e ∷ es))
+more_halves place e es true here h rest = rw here (h, rest)
+more_halves place e es false here h rest = rw here rest
+
 halves_of_lists : (place : ℕ) (es : List PlacedHalf) → AreLists es
     → AreHalvesWithin (halves_at place es)
 halves_of_lists place [] l = tt
-halves_of_lists place (e ∷ es) l = split (e.place == place) refl
-  where
-    split : (b : Bool) → e.place == place ≡ b → AreHalvesWithin (halves_at place (e ∷ es))
-    split true here = rw here (of_object e.half l.1.0, halves_of_lists place es l.1.1.1.1)
-    split false here = rw here (halves_of_lists place es l.1.1.1.1)
-    of_object : (half : Half) → half_number half ≤ 200 → IsNumber (object_of half)
-    of_object (First x) h = omega (arith, h)
-    of_object (Second x) h = omega (arith, h)
+halves_of_lists place (e ∷ es) l =
+    more_halves place e es (e.place == place) refl (object_within e.half l.1.0)
+    (halves_of_lists place es l.1.1.1.1)
+
+unequal : (a b : ℕ) → a < b → a == b ≡ false
+unequal a b h = grind (arith, nat_tests)
+
+not_zero : (n : ℕ) → 0 < n → n == 0 ≡ false
+not_zero n h = grind (arith, nat_tests)
 
 -- nothing is at a place after the last
 past_places : (place : ℕ) (es : List PlacedHalf) → AreEntriesWithin es → 300 < place
@@ -247,18 +258,13 @@ past_places place [] w h = refl
 past_places place (e ∷ es) w h =
     let other : e.place == place ≡ false = unequal e.place place (omega (arith, w.0.0, h)) in
     rw other (past_places place es w.1 h)
-  where
-    unequal : (a b : ℕ) → a < b → a == b ≡ false
-    unequal a b h = grind (arith, nat_tests)
 
 -- nothing is at place 0
 no_place : (es : List PlacedHalf) → AreLists es → halves_at 0 es ≡ []
 no_place [] l = refl
 no_place (e ∷ es) l =
-    let other : e.place == 0 ≡ false = unequal e.place l.0.1 in rw other (no_place es l.1.1.1.1)
-  where
-    unequal : (a : ℕ) → 0 < a → a == 0 ≡ false
-    unequal a h = grind (arith, nat_tests)
+    let other : e.place == 0 ≡ false = not_zero e.place l.0.1 in
+    rw other (no_place es l.1.1.1.1)
 
 abbrev AreSameAt : Layout → Layout → ℕ → Type 0
 AreSameAt o p place = halves_at place o.lists ≡ halves_at place p.lists
@@ -305,9 +311,6 @@ listed d xs ys last hx hy each =
     let next : i + 1 - 1 ≡ i = omega arith in
     subst (λ k. get_or xs k d ≡ get_or ys k d) next
     (each (i + 1) (omega arith, omega (arith, below, hx))))
-
-not_zero : (n : ℕ) → 1 ≤ n → n == 0 ≡ false
-not_zero n h = grind (arith, nat_tests)
 
 -- ---- how often places were described
 
