@@ -5,6 +5,7 @@ pub mod bindings;
 mod edited_log;
 mod edits;
 pub mod fault;
+mod final_state;
 pub mod input;
 pub mod judge;
 pub mod laws;

@@ -14,7 +14,7 @@ use Rattle.cave_world.specs.declared.state.Tallies.{Tallies}
 use Rattle.cave_world.specs.declared.lamp.Lamp.{Lamp}
 use Rattle.cave_world.specs.declared.closing.Closing.{Closing}
 use Rattle.cave_world.specs.declared.talk.Talk.{Talk}
-use Rattle.cave_state_text.specs.Facts.{counts_text, trail_text, question_text, ending_text}
+use Rattle.cave_state_text.specs.Facts.{counts_text, trail_text, question_text, end_line}
 use Rattle.cave_state_text.specs.Facts.{lamp_text, closing_text, tallies_text, verb_text, talk_text}
 use Rattle.cave_state_text.specs.Facts.{anger_text, knife_text, number_line}
 use Rattle.cave_state_text.specs.Numbers.{IsNumber, IsSigned}
@@ -69,7 +69,7 @@ question_read (Some question.Dragon) (Some question.Dragon) s t hp hq e =
 question_read _ _ s t hp hq e = cc
 
 pub ending_read : (p q : Option Ending) (s t : List ℕ)
-    → ending_text p ++ s ≡ ending_text q ++ t → (p ≡ q) × (s ≡ t)
+    → end_line p ++ s ≡ end_line q ++ t → (p ≡ q) × (s ≡ t)
 ending_read None None s t e = (refl, append_cancel_left (codes "ended no\n") s t e)
 ending_read (Some ending.Quit) (Some ending.Quit) s t e =
     (refl, append_cancel_left (codes "ended quit\n") s t e)

@@ -12,7 +12,7 @@ use Rattle.cave_world.specs.declared.dwarves.Knife.TheVariants.{Unthrown, At, Va
 use Rattle.cave_world.specs.declared.state.State.{State}
 use Rattle.cave_world.specs.declared.talk.Talk.{Talk}
 use Rattle.cave_state_text.specs.Entries.{text_up_to}
-use Rattle.cave_state_text.specs.Facts.{counts_text, trail_text, question_text, ending_text}
+use Rattle.cave_state_text.specs.Facts.{counts_text, trail_text, question_text, end_line}
 use Rattle.cave_state_text.specs.Facts.{lamp_text, closing_text, tallies_text, talk_text}
 use Rattle.cave_state_text.specs.Facts.{verb_text}
 use Rattle.cave_state_text.specs.Facts.{anger_text, knife_text, number_line}
@@ -49,7 +49,7 @@ game_read a b s t ha hb e =
     (peel (question_text a.question) (question_text b.question) _ _ s t trail.1) in
     let ending =
     ending_read a.ending b.ending _ _
-    (peel (ending_text a.ending) (ending_text b.ending) _ _ s t question.1) in
+    (peel (end_line a.ending) (end_line b.ending) _ _ s t question.1) in
     let lamp =
     lamp_read a.lamp b.lamp _ _ ha.facts.lamp hb.facts.lamp
     (peel (lamp_text a.lamp) (lamp_text b.lamp) _ _ s t ending.1) in

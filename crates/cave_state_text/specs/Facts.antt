@@ -46,13 +46,13 @@ question_text (Some question.Oyster) = codes "question oyster\n"
 question_text (Some question.Dragon) = codes "question dragon\n"
 
 -- how the game has ended
-abbrev pub ending_text : Option Ending → List ℕ
-ending_text None = codes "ended no\n"
-ending_text (Some ending.Quit) = codes "ended quit\n"
-ending_text (Some ending.Killed) = codes "ended killed\n"
-ending_text (Some ending.Klutz) = codes "ended klutz\n"
-ending_text (Some ending.WrongWay) = codes "ended wrong way\n"
-ending_text (Some ending.Success) = codes "ended success\n"
+abbrev pub end_line : Option Ending → List ℕ
+end_line None = codes "ended no\n"
+end_line (Some ending.Quit) = codes "ended quit\n"
+end_line (Some ending.Killed) = codes "ended killed\n"
+end_line (Some ending.Klutz) = codes "ended klutz\n"
+end_line (Some ending.WrongWay) = codes "ended wrong way\n"
+end_line (Some ending.Success) = codes "ended success\n"
 
 -- the turns that the lamp still burns, and whether the player was warned
 abbrev pub lamp_text : Lamp → List ℕ

@@ -4,7 +4,7 @@ use Rattle.cave_data.specs.CaveView.{CaveView}
 use Rattle.cave_objects.specs.Layout.{Layout}
 use Rattle.cave_world.specs.declared.state.State.{State}
 use Rattle.cave_state_text.specs.Entries.{text_up_to}
-use Rattle.cave_state_text.specs.Facts.{counts_text, trail_text, question_text, ending_text}
+use Rattle.cave_state_text.specs.Facts.{counts_text, trail_text, question_text, end_line}
 use Rattle.cave_state_text.specs.Facts.{lamp_text, closing_text, tallies_text, talk_text}
 use Rattle.cave_state_text.specs.Facts.{anger_text, knife_text, number_line}
 use Rattle.cave_state_text.specs.Things.{object_line, place_line, visits_line, dwarf_line}
@@ -13,7 +13,7 @@ use Rattle.cave_state_text.specs.Things.{hint_line}
 -- where the game is
 abbrev pub game_text : State → List ℕ
 game_text s =
-    trail_text s.trail ++ (question_text s.question ++ (ending_text s.ending
+    trail_text s.trail ++ (question_text s.question ++ (end_line s.ending
     ++ (lamp_text s.lamp ++ (closing_text s.closing ++ tallies_text s.tallies))))
 
 -- the objects, what is remembered of what was said, and what is at places

@@ -2,7 +2,7 @@
 
 ghost use Rattle.std.specs.Prelude.{◌≡◌, ◌++◌, OnOk};
 ghost use Rattle.cave_state_text.specs.Facts.{number_line, yes_or_no, counts_text, trail_text};
-ghost use Rattle.cave_state_text.specs.Facts.{question_text, ending_text, lamp_text, closing_text};
+ghost use Rattle.cave_state_text.specs.Facts.{question_text, end_line, lamp_text, closing_text};
 ghost use Rattle.cave_state_text.specs.Facts.{tallies_text, verb_text, talk_text, anger_text};
 ghost use Rattle.cave_state_text.specs.Facts.{knife_text};
 
@@ -85,7 +85,7 @@ pub(crate) fn push_question(
 
 /// Appends how the game has ended.
 pub(crate) fn push_ending(text: &mut Vec<u8>, ending: Option<Ending>) -> Result<(), AllocError>
-    ensures { OnOk result (text.new.items ≡ text.old.items ++ ending_text ending) }
+    ensures { OnOk result (text.new.items ≡ text.old.items ++ end_line ending) }
 {
     match ending {
         None => text.extend_from_slice(b"ended no\n"),
