@@ -8,4 +8,4 @@ pub mod things;
 pub mod within;
 
 pub use laws::are_told_apart;
-pub use state_text::push_state;
+pub use state_text::{Counts, push_state};
