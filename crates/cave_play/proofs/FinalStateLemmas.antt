@@ -26,3 +26,16 @@ unfolding final_state_text
 final_state-played cave kept game opening pieces ticked state same played =
     let here = subst (λ k. IsPlay (cave_rules k) game opening pieces ticked state) same played in
     rw (here.ticks_are, here.state_is) refl
+
+-- what is written of the state that a session holds is the text of the one that playing leads to
+pub final_state-shown : (cave kept : CaveView) (game : Game) (opening : List Part)
+    (pieces : List (List Part)) (ticked : List Bool) (state now : State) (begun : Layout)
+    (turns score : ℕ)
+    → kept ≡ cave → IsPlay (cave_rules kept) game opening pieces ticked state
+    → begun ≡ starting_objects cave → turns ≡ ticks ticked (length game.log)
+    → score ≡ score_of cave now → now ≡ state
+    → state_text cave begun turns score now ≡ final_state_text cave game
+final_state-shown cave kept game opening pieces ticked state now begun turns score same played
+    begins taken scored is =
+    rw (begins, taken, scored, is)
+    (final_state-played cave kept game opening pieces ticked state same played)

@@ -22,11 +22,11 @@ pub(crate) fn push_final_state(
         ++ final_state_text machine.entry.rules.cave.now session.now.game) }
 {
     let cave = machine.cave();
-    let begun = begun_state(cave, Stream::seeded(0)).objects;
+    let begun = begun_state(cave, Stream::seeded(0));
     let state = session.state();
-    let counts = Counts {
-        turns: session.ticks(session.lines()),
-        score: machine.score(state),
-    };
-    push_state(alloc, text, cave, &begun, counts, state)
+    let lines = session.lines();
+    let turns = session.ticks(lines);
+    let score = machine.score(state);
+    let counts = Counts { turns, score };
+    push_state(alloc, text, cave, &begun.objects, counts, state)
 }

@@ -3,3 +3,4 @@ pub mod FactLemmas
 pub mod Reading
 pub mod StateLemmas
 pub mod ThingLemmas
+pub mod WithinLemmas

@@ -1,8 +1,8 @@
 -- What there is more than once in a state is read back from its lines.
 use Rattle.std.proofs.Common.{◌≡◌, ℕ, ℤ, ◌+◌, ◌-◌, ◌≤◌, ◌<◌, Bool, true, false, List, [], ◌∷◌, ◌++◌}
-use Rattle.std.proofs.Common.{refl, sym, ap, ◌∙◌, arith, append_assoc, length, subst, pos}
+use Rattle.std.proofs.Common.{refl, sym, ap, ◌∙◌, arith, append_assoc, length, subst, pos, get_or}
 use Rattle.std.proofs.Common.{◌⊎◌, inl, inr}
-use Rattle.std.specs.Prelude.{◌==◌, ◌&&◌, not, codes, IsTrue, slice_index_or, get_or}
+use Rattle.std.specs.Prelude.{◌==◌, ◌&&◌, not, codes, slice_index_or}
 use Rattle.std.specs.Bool.{Decides}
 use Rattle.std.specs.Cmp.{unsigned_Decides, signed_Decides}
 use Rattle.std.specs.Cmp.Lexicographic.{pointwise, pointwise_decides}
@@ -140,9 +140,18 @@ anchor_decides _ _ = (λ e. absurd (false≢true e), λ e. cc)
 
 as_begun : (begun o : Layout) (x : ℕ) → is_as_in begun o x ≡ true → AreSameThings o begun x
 as_begun begun o x e =
-    let one = both_true _ _ e in
-    let two = both_true _ _ one.1 in
-    ((spot_decides _ _).0 one.0, ((anchor_decides _ _).0 two.0, (signed_Decides _ _).0 two.1))
+    let spots = spot_eq.eq-value.it (spot_of o x) (spot_of begun x) in
+    let anchors = anchor_eq.eq-value.it (anchor_of o x) (anchor_of begun x) in
+    let props = int_eq (prop_of o x) (prop_of begun x) in
+    let one = both_true spots (anchors && props) e in
+    let two = both_true anchors props one.1 in
+    (
+      (spot_decides (spot_of o x) (spot_of begun x)).0 one.0,
+      (
+        (anchor_decides (anchor_of o x) (anchor_of begun x)).0 two.0,
+        (signed_Decides (prop_of o x) (prop_of begun x)).0 two.1,
+      ),
+    )
 
 pub objects_read : (cave : CaveView) (begun o p : Layout) (s t : List ℕ) → AreObjectsWithin o
     → AreObjectsWithin p → IsPast (codes "object ") 100 s → IsPast (codes "object ") 100 t
@@ -283,9 +292,10 @@ places_read begun o p s t ho hp past other e =
     (λ place. halves_text (halves_at place p.lists)) (AreSameAt o p) 300 s t (omega arith)
     (λ place up. (
       λ here there.
-      (pointwise_decides half_decides _ _).0 here
-      ∙ sym ((pointwise_decides half_decides _ _).0 there),
-      λ u v. halves_read _ _ u v (halves_of_lists place o.lists ho.lists)
+      (pointwise_decides half_decides (halves_at place o.lists) (halves_at place begun.lists)).0 here
+      ∙ sym ((pointwise_decides half_decides (halves_at place p.lists)
+      (halves_at place begun.lists)).0 there),
+      λ u v. halves_read (halves_at place o.lists) (halves_at place p.lists) u v (halves_of_lists place o.lists ho.lists)
           (halves_of_lists place p.lists hp.lists),
     ))
     past other e in
@@ -331,7 +341,9 @@ visits_read a b s t ha hb past other e =
     (λ n. codes " " ++ (decimal (visits_of b n) ++ codes "\n"))
     (λ n. visits_of a n ≡ visits_of b n) 300 s t (omega arith)
     (λ n up. (
-      λ here there. (unsigned_Decides _ _).0 here ∙ sym ((unsigned_Decides _ _).0 there),
+      λ here there.
+      (unsigned_Decides (visits_of a n) 0).0 here
+      ∙ sym ((unsigned_Decides (visits_of b n) 0).0 there),
       line_read (codes " ") (visits_of a n) (visits_of b n) _ _ (ha.each n up) (hb.each n up),
     ))
     past other e in
@@ -383,8 +395,9 @@ hint_read m n a b s t hm hn e =
 
 unused : (turns : ℕ) (taken : Bool) → (turns == 0 && not taken) ≡ true
     → (turns ≡ 0) × (taken ≡ false)
-unused turns true e = let both = both_true _ _ e in absurd (false≢true both.1)
-unused turns false e = ((unsigned_Decides turns 0).0 (both_true _ _ e).0, refl)
+unused turns true e = absurd (false≢true (both_true (turns == 0) (not true) e).1)
+unused turns false e =
+    ((unsigned_Decides turns 0).0 (both_true (turns == 0) (not false) e).0, refl)
 
 pub hints_read : (a b : State) (s t : List ℕ) → AreHintsWithin a → AreHintsWithin b
     → IsPast (codes "hint ") 20 s → IsPast (codes "hint ") 20 t
@@ -399,8 +412,9 @@ hints_read a b s t ha hb past other e =
     (λ n. hint_text (hint_turns b n) (is_hint_taken b n)) (AreSameHints a b) 20 s t (omega arith)
     (λ n up. (
       λ here there.
-      let one = unused _ _ here in
-      let two = unused _ _ there in (one.0 ∙ sym two.0, one.1 ∙ sym two.1),
+      let one = unused (hint_turns a n) (is_hint_taken a n) here in
+      let two = unused (hint_turns b n) (is_hint_taken b n) there in
+      (one.0 ∙ sym two.0, one.1 ∙ sym two.1),
       λ u v. hint_read (hint_turns a n) (hint_turns b n) (is_hint_taken a n) (is_hint_taken b n) u v
           (ha.each n up) (hb.each n up),
     ))

@@ -47,6 +47,7 @@ fn tallies(tallies: Tallies)
     let _ = (tallies.unseen.number(), tallies.lost.number(), tallies.deaths.number());
 }
 
+#[tactic(auto, using(crate::proofs::WithinLemmas::within))]
 fn talk(talk: Talk)
     ensures { IsTalkWithin talk }
 {
@@ -61,6 +62,7 @@ fn knife(knife: Knife)
     }
 }
 
+#[tactic(auto, using(crate::proofs::WithinLemmas::within))]
 fn facts(state: &State)
     ensures { AreFactsWithin state.now }
 {
@@ -90,6 +92,7 @@ fn anchor(anchor: Anchor)
     }
 }
 
+#[tactic(auto, using(crate::proofs::WithinLemmas::within))]
 fn thing(objects: &Objects, object: Object)
     ensures { IsThingWithin objects.now object }
 {
