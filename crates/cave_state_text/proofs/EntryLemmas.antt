@@ -5,7 +5,7 @@ use Rattle.std.proofs.Common.{subst, ◌⊎◌, inl, inr}
 use Rattle.std.specs.Prelude.{codes}
 use Rattle.std.specs.Fmt.{decimal}
 use Rattle.std.proofs.lemmas.Bool.{cases_lt}
-use Rattle.std.proofs.lemmas.List.{append_cancel_left}
+use Rattle.std.proofs.lemmas.List.{append_cancel_left, append-nil}
 use Rattle.cave_state_text.specs.Entries.{entry, text_up_to}
 use Rattle.cave_state_text.specs.Numbers.{IsNumber, IsUpTo}
 use Rattle.cave_state_text.proofs.Reading.{number_read, GoesOn}
@@ -94,3 +94,22 @@ module _ (name : List ℕ) where
         let here = one_read (suc last) (b (suc last)) (d (suc last)) (x (suc last)) (y (suc last))
         s t (Same (suc last)) told.0 told.1 p q before.1 in
         (λ n up. up_or_last last n up before.0 here.0, here.1)
+
+-- ---- how lines are written, one after another
+
+pub no_lines : (f : ℕ → List ℕ) (start : List ℕ) → start ≡ start ++ text_up_to f 0
+unfolding text_up_to
+no_lines f start = sym (append-nil start)
+
+pub one_line : (f : ℕ → List ℕ) (before next : ℕ) (start old now : List ℕ)
+    → old ≡ start ++ text_up_to f before → next ≡ before + 1 → now ≡ old ++ f next
+    → now ≡ start ++ text_up_to f next
+unfolding text_up_to
+one_line f before next start old now so_far is more =
+    let same : next ≡ suc before = omega (arith, is) in
+    let whole : now ≡ (start ++ text_up_to f before) ++ f (suc before) =
+    more ∙ (ap (λ t. t ++ f next) so_far
+    ∙ ap (λ n. (start ++ text_up_to f before) ++ f n) same) in
+    rw same (whole ∙ append_assoc start (text_up_to f before) (f (suc before)))
+
+pub ruleset lines = (no_lines, one_line)

@@ -101,6 +101,7 @@ fn push_object(
 }
 
 /// Appends the lines of objects that aren't as they were when the game began.
+#[tactic(auto, using(crate::proofs::EntryLemmas::lines))]
 pub(crate) fn push_objects(
     alloc: Global,
     text: &mut Vec<u8>,
@@ -170,6 +171,7 @@ fn push_place(
 }
 
 /// Appends the lists of places that aren't as they were when the game began.
+#[tactic(auto, using(crate::proofs::EntryLemmas::lines))]
 pub(crate) fn push_places(
     alloc: Global,
     text: &mut Vec<u8>,
@@ -205,6 +207,7 @@ fn push_visits_of(
 }
 
 /// Appends how often each place was described that was.
+#[tactic(auto, using(crate::proofs::EntryLemmas::lines))]
 pub(crate) fn push_visits(
     alloc: Global,
     text: &mut Vec<u8>,
@@ -230,7 +233,7 @@ fn push_dwarf(alloc: Global, text: &mut Vec<u8>, dwarf: Dwarf) -> Result<(), All
 }
 
 /// Appends the line of each dwarf.
-#[tactic(auto, unfolding(crate::specs::Things::dwarf_line))]
+#[tactic(auto, using(crate::proofs::EntryLemmas::lines), unfolding(crate::specs::Things::dwarf_line))]
 pub(crate) fn push_dwarves(
     alloc: Global,
     text: &mut Vec<u8>,
@@ -269,6 +272,7 @@ fn push_hint(
 }
 
 /// Appends the lines of hints that were waited for or taken.
+#[tactic(auto, using(crate::proofs::EntryLemmas::lines))]
 pub(crate) fn push_hints(
     alloc: Global,
     text: &mut Vec<u8>,
