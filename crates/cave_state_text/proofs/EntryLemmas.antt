@@ -45,7 +45,8 @@ module _ (name : List ℕ) where
 
   past_entry : (b : Bool) (k : ℕ) (rest s : List ℕ) → IsNumber (suc k) → IsPast (suc k) s
       → IsPast k (entry name b (suc k) rest ++ s)
-  past_entry true k rest s h past = fewer (suc k) k s (omega arith) past
+  past_entry true k rest s h past m more within e =
+      fewer (suc k) k s (omega arith) past m more within e
   past_entry false k rest s h past m more within e =
       later (suc k) k (rest ++ s) h (omega arith) m more within
       (sym (line_first (suc k) rest s) ∙ e)
@@ -65,7 +66,7 @@ module _ (name : List ℕ) where
       let lines = sym (line_first n x s) ∙ (e ∙ line_first n y t) in
       let numbers = append_cancel_left name _ _ lines in
       let rests : 58 ∷ (x ++ s) ≡ 58 ∷ (y ++ t) = append_cancel_left (decimal n) _ _ numbers in
-      told s t cc
+      told s t (append_cancel_left (codes ":") (x ++ s) (y ++ t) rests)
 
   module _ (b d : ℕ → Bool) (x y : ℕ → List ℕ) (Same : ℕ → Type 0) where
     -- each line of the first or of both tells the same

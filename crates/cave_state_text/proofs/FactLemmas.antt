@@ -1,6 +1,7 @@
 -- What there is once in a state is read back from its lines.
 use Rattle.std.proofs.Common.{◌≡◌, ℕ, Bool, List, ◌++◌, Option, Some, None, refl, ap}
 use Rattle.std.specs.Prelude.{codes}
+use Rattle.std.proofs.lemmas.Bool.{false≢true}
 use Rattle.std.proofs.lemmas.List.{append_cancel_left}
 use Rattle.cave_world.specs.declared.dwarves.Dwarves.{Dwarves}
 use Rattle.cave_world.specs.declared.dwarves.Knife.{Knife}
@@ -21,7 +22,7 @@ use Rattle.cave_state_text.specs.Numbers.{IsNumber, IsSigned}
 use Rattle.cave_state_text.specs.Within.{IsTrailWithin, IsQuestionWithin, IsClosingWithin}
 use Rattle.cave_state_text.specs.Within.{AreTalliesWithin, IsVerbWithin, IsTalkWithin}
 use Rattle.cave_state_text.specs.Within.{IsKnifeWithin}
-use Rattle.cave_state_text.proofs.Reading.{number_step, signed_step, answer_step, peel}
+use Rattle.cave_state_text.proofs.Reading.{number_step, signed_step, answer_step, differ, peel}
 
 -- a line with a number
 pub line_read : (name : List ℕ) (m n : ℕ) (s t : List ℕ) → IsNumber m → IsNumber n
@@ -55,7 +56,7 @@ question_read (Some question.Quit) (Some question.Quit) s t hp hq e =
 question_read (Some question.ScoreQuit) (Some question.ScoreQuit) s t hp hq e =
     (refl, append_cancel_left (codes "question score, quit\n") s t e)
 question_read (Some question.Die) (Some question.Die) s t hp hq e =
-    (refl, append_cancel_left (codes "question die\n") s t e)
+    (refl, append_cancel_left (codes "question revive\n") s t e)
 question_read (Some (question.Hint m)) (Some (question.Hint n)) s t hp hq e =
     let number = line_read (codes "question hint ") m n s t hp hq e in
     (λ i. Some (question.Hint (number.0 i)), number.1)
@@ -66,7 +67,7 @@ question_read (Some question.Oyster) (Some question.Oyster) s t hp hq e =
     (refl, append_cancel_left (codes "question oyster\n") s t e)
 question_read (Some question.Dragon) (Some question.Dragon) s t hp hq e =
     (refl, append_cancel_left (codes "question dragon\n") s t e)
-question_read _ _ s t hp hq e = cc
+question_read _ _ s t hp hq e = absurd (false≢true (differ 9 _ _ e))
 
 pub ending_read : (p q : Option Ending) (s t : List ℕ)
     → end_line p ++ s ≡ end_line q ++ t → (p ≡ q) × (s ≡ t)
@@ -81,7 +82,11 @@ ending_read (Some ending.WrongWay) (Some ending.WrongWay) s t e =
     (refl, append_cancel_left (codes "ended wrong way\n") s t e)
 ending_read (Some ending.Success) (Some ending.Success) s t e =
     (refl, append_cancel_left (codes "ended success\n") s t e)
-ending_read _ _ s t e = cc
+ending_read (Some ending.Killed) (Some ending.Klutz) s t e =
+    absurd (false≢true (differ 7 _ _ e))
+ending_read (Some ending.Klutz) (Some ending.Killed) s t e =
+    absurd (false≢true (differ 7 _ _ e))
+ending_read _ _ s t e = absurd (false≢true (differ 6 _ _ e))
 
 pub lamp_read : (a b : Lamp) (s t : List ℕ) → IsSigned a.charge → IsSigned b.charge
     → lamp_text a ++ s ≡ lamp_text b ++ t → (a ≡ b) × (s ≡ t)
@@ -128,7 +133,7 @@ verb_read None None s t hp hq e = (refl, append_cancel_left (codes "half command
 verb_read (Some m) (Some n) s t hp hq e =
     let number = line_read (codes "half verb ") m n s t hp hq e in
     (λ i. Some (number.0 i), number.1)
-verb_read _ _ s t hp hq e = cc
+verb_read _ _ s t hp hq e = absurd (false≢true (differ 5 _ _ e))
 
 pub talk_read : (a b : Talk) (s t : List ℕ) → IsTalkWithin a → IsTalkWithin b
     → talk_text a ++ s ≡ talk_text b ++ t → (a ≡ b) × (s ≡ t)
@@ -173,4 +178,4 @@ knife_read (At m) (At n) s t hp hq e =
     (λ i. At (number.0 i), number.1)
 knife_read Vanished Vanished s t hp hq e =
     (refl, append_cancel_left (codes "knife vanished\n") s t e)
-knife_read _ _ s t hp hq e = cc
+knife_read _ _ s t hp hq e = absurd (false≢true (differ 6 _ _ e))

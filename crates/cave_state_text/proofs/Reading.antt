@@ -1,7 +1,7 @@
 -- A number is read back from a text that goes on after it with something that is no number.
 use Rattle.std.proofs.Common.{◌≡◌, ℕ, suc, ℤ, pos, negsuc, ◌<◌, Bool, true, false, List}
 use Rattle.std.proofs.Common.{[], ◌∷◌, ◌++◌, refl, sym, ap, ◌∙◌, arith, append_assoc}
-use Rattle.std.proofs.Common.{length}
+use Rattle.std.proofs.Common.{length, get_or}
 use Rattle.std.specs.Prelude.{⊤, ◌==◌, ◌&&◌, ◌||◌, codes}
 use Rattle.std.proofs.lemmas.List.{append_cancel_left}
 use Rattle.cave_state_text.specs.Facts.{yes_or_no}
@@ -76,6 +76,11 @@ signed_read y z s t hy hz g h e =
     apart (signed_decimal y) (signed_decimal z) s t (signed_bytes y hy) (signed_bytes z hz) g h e in
     (signed_decimal_injective y z hy hz both.0, both.1)
 
+-- texts are other ones where they have other bytes at an index
+pub differ : (k : ℕ) (x y : List ℕ) → x ≡ y
+    → (get_or x k 0 == get_or y k 0) ≡ (get_or y k 0 == get_or y k 0)
+differ k x y e = ap (λ l. get_or l k 0 == get_or y k 0) e
+
 -- a number begins with a byte of its own kind
 pub number_first : (n byte : ℕ) (s t : List ℕ) → IsNumber n → is_number_byte byte ≡ false
     → decimal n ++ s ≡ byte ∷ t → ⊥
@@ -122,5 +127,7 @@ answer_step name true true x y s t e =
     (refl, append_cancel_left (codes "yes") _ _ (after_name name _ _ s t e))
 answer_step name false false x y s t e =
     (refl, append_cancel_left (codes "no") _ _ (after_name name _ _ s t e))
-answer_step name true false x y s t e = let clash = after_name name _ _ s t e in cc
-answer_step name false true x y s t e = let clash = after_name name _ _ s t e in cc
+answer_step name true false x y s t e =
+    absurd (false≢true (differ 0 _ _ (after_name name _ _ s t e)))
+answer_step name false true x y s t e =
+    absurd (false≢true (differ 0 _ _ (after_name name _ _ s t e)))

@@ -1,6 +1,7 @@
 -- A state is read back from its text.
 use Rattle.std.proofs.Common.{◌≡◌, ℕ, ◌<◌, List, [], ◌∷◌, ◌++◌, refl, sym, ap, ◌∙◌, arith}
 use Rattle.std.proofs.Common.{append_assoc, Option, Some, None}
+use Rattle.std.proofs.lemmas.Bool.{false≢true}
 use Rattle.std.proofs.lemmas.List.{append-nil}
 use Rattle.std.specs.Prelude.{codes}
 use Rattle.cave_data.specs.CaveView.{CaveView}
@@ -25,7 +26,7 @@ use Rattle.cave_state_text.proofs.EntryLemmas.{IsPast}
 use Rattle.cave_state_text.proofs.FactLemmas.{counts_read, trail_read, question_read, ending_read}
 use Rattle.cave_state_text.proofs.FactLemmas.{lamp_read, closing_read, tallies_read, talk_read}
 use Rattle.cave_state_text.proofs.FactLemmas.{anger_read, knife_read, line_read}
-use Rattle.cave_state_text.proofs.Reading.{peel}
+use Rattle.cave_state_text.proofs.Reading.{differ, peel}
 use Rattle.cave_state_text.proofs.ThingLemmas.{objects_read, places_read, visits_read}
 use Rattle.cave_state_text.proofs.ThingLemmas.{dwarves_read, hints_read, things_same}
 
@@ -69,8 +70,8 @@ game_read a b s t ha hb e =
       tallies.1)
 
 verb_past : (verb : Option ℕ) (s : List ℕ) → IsPast (codes "object ") 100 (verb_text verb ++ s)
-verb_past None s number more within clash = cc
-verb_past (Some verb) s number more within clash = cc
+verb_past None s number more within clash = false≢true (differ 0 _ _ clash)
+verb_past (Some verb) s number more within clash = false≢true (differ 0 _ _ clash)
 
 talk_past : (talk : Talk) (lists s : List ℕ)
     → IsPast (codes "object ") 100 ((talk_text talk ++ lists) ++ s)
@@ -80,9 +81,9 @@ talk_past talk lists s number more within clash =
     ∙ (ap (λ t. t ++ s) (sym (append_assoc (verb_text talk.verb) _ lists)) ∙ clash))
 
 knife_past : (knife : Knife) (s : List ℕ) → IsPast (codes "dwarf ") 6 (knife_text knife ++ s)
-knife_past Unthrown s number more within clash = cc
-knife_past (At place) s number more within clash = cc
-knife_past Vanished s number more within clash = cc
+knife_past Unthrown s number more within clash = false≢true (differ 0 _ _ clash)
+knife_past (At place) s number more within clash = false≢true (differ 0 _ _ clash)
+knife_past Vanished s number more within clash = false≢true (differ 0 _ _ clash)
 
 record AreSameObjects (a b : State) : Type 0 where
   spots : a.objects.first ≡ b.objects.first
@@ -112,7 +113,7 @@ things_read cave begun a b s t ha hb e =
     (peel (talk_text a.talk) (talk_text b.talk) lists others rest other objects.1) in
     let places =
     places_read begun a.objects b.objects rest other ha.objects hb.objects
-    (λ number more within clash. cc) (λ number more within clash. cc) talk.1 in
+    (λ number more within clash. false≢true (differ 0 _ _ clash)) (λ number more within clash. false≢true (differ 0 _ _ clash)) talk.1 in
     let same = things_same a.objects b.objects ha.objects hb.objects objects.0 in
     (record {
       spots = same.0;
@@ -141,16 +142,16 @@ rest_read a b ha hb e =
     let knife =
     knife_read a.dwarves.knife b.dwarves.knife _ _ ha.facts.knife hb.facts.knife each.1 in
     let hints =
-    hints_read a b _ _ ha.hints hb.hints (λ number more within clash. cc)
-    (λ number more within clash. cc) knife.1 in
+    hints_read a b _ _ ha.hints hb.hints (λ number more within clash. false≢true (differ 0 _ _ clash))
+    (λ number more within clash. false≢true (differ 0 _ _ clash)) knife.1 in
     let stream =
     line_read (codes "stream ") a.stream b.stream _ _ ha.facts.stream hb.facts.stream hints.1 in
     let nothing : (z : State)
         → text_up_to (visits_line z) 300 ++ [] ≡ text_up_to (visits_line z) 300 =
     λ z. append-nil _ in
     let visits =
-    visits_read a b [] [] ha.visits hb.visits (λ number more within clash. cc)
-    (λ number more within clash. cc) (nothing a ∙ (stream.1 ∙ sym (nothing b))) in
+    visits_read a b [] [] ha.visits hb.visits (λ number more within clash. false≢true (differ 0 _ _ clash))
+    (λ number more within clash. false≢true (differ 0 _ _ clash)) (nothing a ∙ (stream.1 ∙ sym (nothing b))) in
     record {
       visits = visits.0;
       dwarves = λ i. record {

@@ -45,7 +45,7 @@ use Rattle.cave_state_text.proofs.EntryLemmas.{IsPast, entries_read}
 use Rattle.cave_state_text.proofs.FactLemmas.{line_read}
 use Rattle.cave_state_text.proofs.Reading.{GoesOn, number_first, number_read, number_step}
 use Rattle.cave_state_text.proofs.Reading.{signed_step}
-use Rattle.cave_state_text.proofs.Reading.{answer_step, after_name, both_true, peel}
+use Rattle.cave_state_text.proofs.Reading.{answer_step, after_name, both_true, differ, peel}
 
 -- ---- objects
 
@@ -57,12 +57,9 @@ spot_read spot.Carried spot.Carried s t hp hq g h e =
 spot_read (spot.At m) (spot.At n) s t hp hq g h e =
     let number = number_read m n s t hp hq g h (after_name (codes " at ") _ _ s t e) in
     (λ i. spot.At (number.0 i), number.1)
-spot_read spot.Away (spot.At n) s t hp hq g h e = cc
-spot_read (spot.At m) spot.Away s t hp hq g h e = cc
-spot_read spot.Carried (spot.At n) s t hp hq g h e = cc
-spot_read (spot.At m) spot.Carried s t hp hq g h e = cc
-spot_read spot.Away spot.Carried s t hp hq g h e = cc
-spot_read spot.Carried spot.Away s t hp hq g h e = cc
+spot_read spot.Away (spot.At n) s t hp hq g h e = absurd (false≢true (differ 2 _ _ e))
+spot_read (spot.At m) spot.Away s t hp hq g h e = absurd (false≢true (differ 2 _ _ e))
+spot_read _ _ s t hp hq g h e = absurd (false≢true (differ 1 _ _ e))
 
 -- what comes after an anchor
 abbrev prop_text : List ℕ → List ℕ
@@ -79,12 +76,7 @@ anchor_read (anchor.At m) (anchor.At n) s t hp hq e =
     number_read m n (prop_text s) (prop_text t) hp hq refl refl
     (after_name (codes ", also at ") _ _ (prop_text s) (prop_text t) e) in
     (λ i. anchor.At (number.0 i), append_cancel_left (codes ", prop ") s t number.1)
-anchor_read anchor.Loose anchor.Fixed s t hp hq e = cc
-anchor_read anchor.Fixed anchor.Loose s t hp hq e = cc
-anchor_read anchor.Loose (anchor.At n) s t hp hq e = cc
-anchor_read (anchor.At m) anchor.Loose s t hp hq e = cc
-anchor_read anchor.Fixed (anchor.At n) s t hp hq e = cc
-anchor_read (anchor.At m) anchor.Fixed s t hp hq e = cc
+anchor_read _ _ s t hp hq e = absurd (false≢true (differ 2 _ _ e))
 
 anchor_goes_on : (p : Anchor) (s : List ℕ) → GoesOn (anchor_text p ++ prop_text s)
 anchor_goes_on anchor.Loose s = refl
@@ -205,10 +197,10 @@ halves_go_on (Second x ∷ halves) s = refl
 each_read : (as bs : List Half) (s t : List ℕ) → AreHalvesWithin as → AreHalvesWithin bs
     → each_half as ++ (codes "\n" ++ s) ≡ each_half bs ++ (codes "\n" ++ t) → (as ≡ bs) × (s ≡ t)
 each_read [] [] s t ha hb e = (refl, append_cancel_left (codes "\n") s t e)
-each_read [] (First b ∷ bs) s t ha hb e = cc
-each_read [] (Second b ∷ bs) s t ha hb e = cc
-each_read (First a ∷ as) [] s t ha hb e = cc
-each_read (Second a ∷ as) [] s t ha hb e = cc
+each_read [] (First b ∷ bs) s t ha hb e = absurd (false≢true (differ 0 _ _ e))
+each_read [] (Second b ∷ bs) s t ha hb e = absurd (false≢true (differ 0 _ _ e))
+each_read (First a ∷ as) [] s t ha hb e = absurd (false≢true (differ 0 _ _ e))
+each_read (Second a ∷ as) [] s t ha hb e = absurd (false≢true (differ 0 _ _ e))
 each_read (a ∷ as) (b ∷ bs) s t ha hb e =
     let first =
     half_read a b _ _ ha.0 hb.0 (halves_go_on as s) (halves_go_on bs t)
@@ -226,7 +218,7 @@ not_nothing (First m) as s t h e =
     number_first m 110 _ _ h refl
     (after_name (codes " ") (decimal m) (codes "nothing\n") (each_half as ++ (codes "\n" ++ s)) t
     lists)
-not_nothing (Second m) as s t h e = cc
+not_nothing (Second m) as s t h e = false≢true (differ 1 _ _ e)
 
 halves_read : (as bs : List Half) (s t : List ℕ) → AreHalvesWithin as → AreHalvesWithin bs
     → halves_text as ++ s ≡ halves_text bs ++ t → (as ≡ bs) × (s ≡ t)

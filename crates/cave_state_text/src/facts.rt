@@ -71,7 +71,7 @@ pub(crate) fn push_question(
         Question::Welcome => text.extend_from_slice(b"question welcome\n"),
         Question::Quit => text.extend_from_slice(b"question quit\n"),
         Question::ScoreQuit => text.extend_from_slice(b"question score, quit\n"),
-        Question::Die => text.extend_from_slice(b"question die\n"),
+        Question::Die => text.extend_from_slice(b"question revive\n"),
         Question::Hint(hint) => {
             push_number(alloc, text, "question hint ", u32::from(hint.number()))
         }
