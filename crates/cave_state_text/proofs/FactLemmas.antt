@@ -92,9 +92,10 @@ pub lamp_read : (a b : Lamp) (s t : List ℕ) → IsSigned a.charge → IsSigned
     → lamp_text a ++ s ≡ lamp_text b ++ t → (a ≡ b) × (s ≡ t)
 lamp_read a b s t ha hb e =
     let charge = signed_step (codes "lamp ") a.charge b.charge _ _ s t ha hb refl refl e in
-    let warned = answer_step (codes "\nlamp warned ") a.is_warned b.is_warned _ _ s t charge.1 in
-    (λ i. record { charge = charge.0 i; is_warned = warned.0 i },
-      append_cancel_left (codes "\n") s t warned.1)
+    let warned = answer_step (codes "\nlamp warned ") a.is_warned b.is_warned _ _ s t charge.1 in (
+      λ i. record { charge = charge.0 i; is_warned = warned.0 i },
+      append_cancel_left (codes "\n") s t warned.1,
+    )
 
 pub closing_read : (a b : Closing) (s t : List ℕ) → IsClosingWithin a → IsClosingWithin b
     → closing_text a ++ s ≡ closing_text b ++ t → (a ≡ b) × (s ≡ t)
@@ -106,15 +107,16 @@ closing_read a b s t ha hb e =
     first.1 in
     let closing = answer_step (codes "\nclosing ") a.is_closing b.is_closing _ _ s t second.1 in
     let closed = answer_step (codes "\nclosed ") a.is_closed b.is_closed _ _ s t closing.1 in
-    let panic = answer_step (codes "\npanic ") a.is_panicking b.is_panicking _ _ s t closed.1 in
-    (λ i. record {
-      first_clock = first.0 i;
-      second_clock = second.0 i;
-      is_closing = closing.0 i;
-      is_closed = closed.0 i;
-      is_panicking = panic.0 i;
-    },
-      append_cancel_left (codes "\n") s t panic.1)
+    let panic = answer_step (codes "\npanic ") a.is_panicking b.is_panicking _ _ s t closed.1 in (
+      λ i. record {
+        first_clock = first.0 i;
+        second_clock = second.0 i;
+        is_closing = closing.0 i;
+        is_closed = closed.0 i;
+        is_panicking = panic.0 i;
+      },
+      append_cancel_left (codes "\n") s t panic.1,
+    )
 
 pub tallies_read : (a b : Tallies) (s t : List ℕ) → AreTalliesWithin a → AreTalliesWithin b
     → tallies_text a ++ s ≡ tallies_text b ++ t → (a ≡ b) × (s ≡ t)
@@ -151,16 +153,17 @@ talk_read a b s t ha hb e =
     brief.1 in
     let magic =
     signed_step (codes "\nmagic ") a.magic b.magic _ _ s t ha.1.1.1.1 hb.1.1.1.1 refl refl
-    details.1 in
-    (λ i. record {
-      verb = verb.0 i;
-      object = object.0 i;
-      last = last.0 i;
-      is_brief = brief.0 i;
-      details = details.0 i;
-      magic = magic.0 i;
-    },
-      append_cancel_left (codes "\n") s t magic.1)
+    details.1 in (
+      λ i. record {
+        verb = verb.0 i;
+        object = object.0 i;
+        last = last.0 i;
+        is_brief = brief.0 i;
+        details = details.0 i;
+        magic = magic.0 i;
+      },
+      append_cancel_left (codes "\n") s t magic.1,
+    )
 
 pub anger_read : (a b : Dwarves) (s t : List ℕ) → IsNumber a.anger → IsNumber b.anger
     → IsNumber a.kills → IsNumber b.kills → anger_text a ++ s ≡ anger_text b ++ t

@@ -58,16 +58,17 @@ game_read a b s t ha hb e =
     closing_read a.closing b.closing _ _ ha.facts.closing hb.facts.closing
     (peel (closing_text a.closing) (closing_text b.closing) _ _ s t lamp.1) in
     let tallies =
-    tallies_read a.tallies b.tallies s t ha.facts.tallies hb.facts.tallies closing.1 in
-    (record {
-      trail = trail.0;
-      question = question.0;
-      ending = ending.0;
-      lamp = lamp.0;
-      closing = closing.0;
-      tallies = tallies.0;
-    },
-      tallies.1)
+    tallies_read a.tallies b.tallies s t ha.facts.tallies hb.facts.tallies closing.1 in (
+      record {
+        trail = trail.0;
+        question = question.0;
+        ending = ending.0;
+        lamp = lamp.0;
+        closing = closing.0;
+        tallies = tallies.0;
+      },
+      tallies.1,
+    )
 
 verb_past : (verb : Option ℕ) (s : List ℕ) → IsPast (codes "object ") 100 (verb_text verb ++ s)
 verb_past None s number more within clash = false≢true (differ 0 _ _ clash)
@@ -114,15 +115,16 @@ things_read cave begun a b s t ha hb e =
     let places =
     places_read begun a.objects b.objects rest other ha.objects hb.objects
     (λ number more within clash. false≢true (differ 0 _ _ clash)) (λ number more within clash. false≢true (differ 0 _ _ clash)) talk.1 in
-    let same = things_same a.objects b.objects ha.objects hb.objects objects.0 in
-    (record {
-      spots = same.0;
-      anchors = same.1.0;
-      props = same.1.1;
-      lists = places.0;
-      talk = talk.0;
-    },
-      places.1)
+    let same = things_same a.objects b.objects ha.objects hb.objects objects.0 in (
+      record {
+        spots = same.0;
+        anchors = same.1.0;
+        props = same.1.1;
+        lists = places.0;
+        talk = talk.0;
+      },
+      places.1,
+    )
 
 record AreSameOthers (a b : State) : Type 0 where
   visits : a.visits ≡ b.visits
@@ -147,7 +149,7 @@ rest_read a b ha hb e =
     let stream =
     line_read (codes "stream ") a.stream b.stream _ _ ha.facts.stream hb.facts.stream hints.1 in
     let nothing : (z : State)
-        → text_up_to (visits_line z) 300 ++ [] ≡ text_up_to (visits_line z) 300 =
+    → text_up_to (visits_line z) 300 ++ [] ≡ text_up_to (visits_line z) 300 =
     λ z. append-nil _ in
     let visits =
     visits_read a b [] [] ha.visits hb.visits (λ number more within clash. false≢true (differ 0 _ _ clash))

@@ -6,7 +6,7 @@ ghost use Rattle.cave_state_text.specs.Facts.{question_text, end_line, lamp_text
 ghost use Rattle.cave_state_text.specs.Facts.{tallies_text, verb_text, talk_text, anger_text};
 ghost use Rattle.cave_state_text.specs.Facts.{knife_text};
 
-use cave_world::{Closing, Dwarves, Ending, Knife, Lamp, Question, Tallies, Talk, Trail};
+use cave_world::{Closing, Dwarves, Ending, Knife, Lamp, Question, Talk, Tallies, Trail};
 use std::alloc::{AllocError, Global};
 
 pub(crate) fn yes_or_no(answer: bool) -> &'static str
@@ -42,11 +42,7 @@ pub(crate) fn push_counts(
 }
 
 /// Appends where the player is and was.
-pub(crate) fn push_trail(
-    alloc: Global,
-    text: &mut Vec<u8>,
-    trail: Trail,
-) -> Result<(), AllocError>
+pub(crate) fn push_trail(alloc: Global, text: &mut Vec<u8>, trail: Trail) -> Result<(), AllocError>
     ensures { OnOk result (text.new.items ≡ text.old.items ++ trail_text trail) }
 {
     let here = trail.here.number();
@@ -137,7 +133,8 @@ pub(crate) fn push_tallies(
     let lost = tallies.lost.number();
     let deaths = tallies.deaths.number();
     let lines = format!(in alloc;
-        "unseen treasures {unseen}\nlost treasures {lost}\ndeaths {deaths}\n")?;
+        "unseen treasures {unseen}\nlost treasures {lost}\ndeaths {deaths}\n"
+    )?;
     text.extend_from_slice(lines.as_bytes())
 }
 

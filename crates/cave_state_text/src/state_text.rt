@@ -3,8 +3,10 @@
 ghost use Rattle.std.specs.Prelude.{◌≡◌, ◌++◌, OnOk, codes};
 ghost use Rattle.cave_state_text.specs.StateText.{state_text, game_text, objects_text, rest_text};
 
-use crate::facts::{push_anger, push_closing, push_counts, push_ending, push_knife, push_lamp};
-use crate::facts::{push_number, push_question, push_talk, push_tallies, push_trail};
+use crate::facts::{
+    push_anger, push_closing, push_counts, push_ending, push_knife, push_lamp, push_number,
+    push_question, push_talk, push_tallies, push_trail,
+};
 use crate::things::{push_dwarves, push_hints, push_objects, push_places, push_visits};
 use cave_data::Cave;
 use cave_objects::Objects;

@@ -273,11 +273,7 @@ fn push_hint(
 
 /// Appends the lines of hints that were waited for or taken.
 #[tactic(auto, using(crate::proofs::EntryLemmas::lines))]
-pub(crate) fn push_hints(
-    alloc: Global,
-    text: &mut Vec<u8>,
-    state: &State,
-) -> Result<(), AllocError>
+pub(crate) fn push_hints(alloc: Global, text: &mut Vec<u8>, state: &State) -> Result<(), AllocError>
     ensures { OnOk result (text.new.items ≡ text.old.items ++ text_up_to (hint_line state.now) 20) }
 {
     for before in 0..HINTS as u8 {

@@ -13,12 +13,16 @@ use cave_objects::place::PLACES;
 use cave_objects::{Anchor, Object, Objects, Place, Spot};
 use cave_world::dwarves::DWARVES;
 use cave_world::hints::HINTS;
-use cave_world::{Closing, Dwarf, Knife, Question, State, Tallies, Talk, Trail};
+use cave_world::{Closing, Dwarf, Knife, Question, State, Talk, Tallies, Trail};
 
 fn trail(trail: Trail)
     ensures { IsTrailWithin trail }
 {
-    let _ = (trail.here.number(), trail.last.number(), trail.older.number());
+    let _ = (
+        trail.here.number(),
+        trail.last.number(),
+        trail.older.number(),
+    );
 }
 
 fn question(question: Option<Question>)
@@ -44,14 +48,23 @@ fn closing(closing: Closing)
 fn tallies(tallies: Tallies)
     ensures { AreTalliesWithin tallies }
 {
-    let _ = (tallies.unseen.number(), tallies.lost.number(), tallies.deaths.number());
+    let _ = (
+        tallies.unseen.number(),
+        tallies.lost.number(),
+        tallies.deaths.number(),
+    );
 }
 
 #[tactic(auto, using(crate::proofs::WithinLemmas::within))]
 fn talk(talk: Talk)
     ensures { IsTalkWithin talk }
 {
-    let _ = (talk.object.number(), talk.last.number(), talk.details.number(), talk.magic.value());
+    let _ = (
+        talk.object.number(),
+        talk.last.number(),
+        talk.details.number(),
+        talk.magic.value(),
+    );
 }
 
 fn knife(knife: Knife)

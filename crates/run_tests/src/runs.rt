@@ -173,7 +173,10 @@ impl Run for Checking {
 impl Run for Playing {
     fn run_into(feeds: &mut Feeds<'_>, alloc: Global, sink: &mut Sink) -> Result<(), PlayFault> {
         let Feeds {
-            cave, log, seed, ..
+            cave,
+            log,
+            seed,
+            ..
         } = feeds;
         play_into(alloc, cave, log, *seed, PlayView::Transcript, sink)
     }
@@ -182,7 +185,10 @@ impl Run for Playing {
 impl Run for Leading {
     fn run_into(feeds: &mut Feeds<'_>, alloc: Global, sink: &mut Sink) -> Result<(), PlayFault> {
         let Feeds {
-            cave, log, seed, ..
+            cave,
+            log,
+            seed,
+            ..
         } = feeds;
         play_into(alloc, cave, log, *seed, PlayView::FinalState, sink)
     }
