@@ -172,25 +172,29 @@ impl Run for Checking {
 
 impl Run for Playing {
     fn run_into(feeds: &mut Feeds<'_>, alloc: Global, sink: &mut Sink) -> Result<(), PlayFault> {
-        let Feeds {
-            cave,
-            log,
-            seed,
-            ..
-        } = feeds;
-        play_into(alloc, cave, log, *seed, PlayView::Transcript, sink)
+        let view = PlayView::Transcript;
+        play_into(
+            alloc,
+            &mut feeds.cave,
+            &mut feeds.log,
+            feeds.seed,
+            view,
+            sink,
+        )
     }
 }
 
 impl Run for Leading {
     fn run_into(feeds: &mut Feeds<'_>, alloc: Global, sink: &mut Sink) -> Result<(), PlayFault> {
-        let Feeds {
-            cave,
-            log,
-            seed,
-            ..
-        } = feeds;
-        play_into(alloc, cave, log, *seed, PlayView::FinalState, sink)
+        let view = PlayView::FinalState;
+        play_into(
+            alloc,
+            &mut feeds.cave,
+            &mut feeds.log,
+            feeds.seed,
+            view,
+            sink,
+        )
     }
 }
 
