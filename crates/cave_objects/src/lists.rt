@@ -112,6 +112,13 @@ impl ObjectLists {
         let _ = &self.first;
     }
 
+    /// No half is at a place after the last. It is a law, so nothing is done.
+    pub fn are_within(&self)
+        ensures { AreEntriesWithin self.now }
+    {
+        let _ = &self.first;
+    }
+
     /// The halves at a place, latest first. Each is of an object, and none is at place 0.
     pub fn at(&self, place: Place) -> ArrayVec<Half, HALVES>
         ensures value { result.items ≡ halves_at place self.now }

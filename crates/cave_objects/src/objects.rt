@@ -9,6 +9,7 @@ ghost use Rattle.cave_objects.specs.Objects.{with_carried, with_latest};
 ghost use Rattle.cave_objects.specs.Spots.{place_of_spot, place_of_anchor, spot_at, is_place};
 ghost use Rattle.cave_objects.specs.Lists.{halves_at, AreLists, AreRelisted};
 ghost use Rattle.cave_objects.specs.Layout.{is_listed};
+ghost use Rattle.cave_objects.specs.Links.{AreEntriesWithin};
 ghost use Rattle.cave_objects.specs.Halves.{object_of};
 
 use crate::lists::{HALVES, ObjectLists};
@@ -82,6 +83,17 @@ impl Objects {
         ensures { AreLists self.now.lists }
     {
         self.lists.are_in_order();
+    }
+
+    /// Each object has a spot, an anchor and a prop, and no half is at a place after the last. It is
+    /// a law, so nothing is done.
+    pub fn are_complete(&self)
+        ensures spots { length self.now.first ≡ 100 }
+        ensures anchors { length self.now.second ≡ 100 }
+        ensures props { length self.now.props ≡ 100 }
+        ensures places { AreEntriesWithin self.now.lists }
+    {
+        self.lists.are_within();
     }
 
     /// Where the first half of an object is.

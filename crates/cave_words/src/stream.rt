@@ -41,6 +41,14 @@ impl Stream {
         }
     }
 
+    /// The number at which the stream is, which as a seed begins it there.
+    pub fn position(self) -> u32
+        ensures value { result ≡ self }
+        ensures within { result < 1048576 }
+    {
+        self.x
+    }
+
     /// Draws a number below `n`, and moves on.
     pub fn draw(&mut self, n: u32) -> u32
         requires low { 1 ≤ n }
