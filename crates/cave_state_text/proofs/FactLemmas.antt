@@ -67,6 +67,7 @@ question_read (Some question.Oyster) (Some question.Oyster) s t hp hq e =
     (refl, append_cancel_left (codes "question oyster\n") s t e)
 question_read (Some question.Dragon) (Some question.Dragon) s t hp hq e =
     (refl, append_cancel_left (codes "question dragon\n") s t e)
+question_read None (Some question.Welcome) s t hp hq e = absurd (false≢true (differ 9 _ _ e))
 question_read _ _ s t hp hq e = absurd (false≢true (differ 9 _ _ e))
 
 pub ending_read : (p q : Option Ending) (s t : List ℕ)
@@ -86,6 +87,7 @@ ending_read (Some ending.Killed) (Some ending.Klutz) s t e =
     absurd (false≢true (differ 7 _ _ e))
 ending_read (Some ending.Klutz) (Some ending.Killed) s t e =
     absurd (false≢true (differ 7 _ _ e))
+ending_read None (Some ending.Quit) s t e = absurd (false≢true (differ 6 _ _ e))
 ending_read _ _ s t e = absurd (false≢true (differ 6 _ _ e))
 
 pub lamp_read : (a b : Lamp) (s t : List ℕ) → IsSigned a.charge → IsSigned b.charge

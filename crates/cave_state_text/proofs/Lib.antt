@@ -1,6 +1,11 @@
+pub mod DwarfLemmas
 pub mod EntryLemmas
 pub mod FactLemmas
+pub mod HintLemmas
+pub mod ListedLemmas
+pub mod ObjectLemmas
+pub mod PlaceLemmas
 pub mod Reading
 pub mod StateLemmas
-pub mod ThingLemmas
+pub mod VisitLemmas
 pub mod WithinLemmas

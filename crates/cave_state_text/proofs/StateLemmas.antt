@@ -27,8 +27,11 @@ use Rattle.cave_state_text.proofs.FactLemmas.{counts_read, trail_read, question_
 use Rattle.cave_state_text.proofs.FactLemmas.{lamp_read, closing_read, tallies_read, talk_read}
 use Rattle.cave_state_text.proofs.FactLemmas.{anger_read, knife_read, line_read}
 use Rattle.cave_state_text.proofs.Reading.{differ, peel}
-use Rattle.cave_state_text.proofs.ThingLemmas.{objects_read, places_read, visits_read}
-use Rattle.cave_state_text.proofs.ThingLemmas.{dwarves_read, hints_read, things_same}
+use Rattle.cave_state_text.proofs.DwarfLemmas.{dwarves_read}
+use Rattle.cave_state_text.proofs.HintLemmas.{hints_read}
+use Rattle.cave_state_text.proofs.ObjectLemmas.{objects_read, things_same}
+use Rattle.cave_state_text.proofs.PlaceLemmas.{places_read}
+use Rattle.cave_state_text.proofs.VisitLemmas.{visits_read}
 
 -- where the game is
 record AreSameGames (a b : State) : Type 0 where

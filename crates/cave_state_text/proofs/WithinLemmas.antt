@@ -2,12 +2,13 @@
 use Rattle.std.proofs.Common.{◌≡◌, ℕ, ℤ, pos, negsuc, ◌+◌, ◌<◌, ◌≤◌, ◌^◌, arith, subst, ◌⊎◌, inl, inr}
 use Rattle.std.specs.Prelude.{◌≤ℤ◌}
 use Rattle.std.proofs.lemmas.Bool.{cases_lt}
+use Rattle.std.proofs.lemmas.Int.{ints}
 use Rattle.cave_state_text.specs.Numbers.{IsSigned, IsUpTo}
 
 signed_within : (z : ℤ) (least most : ℕ) → negsuc least ≤ℤ z → z ≤ℤ pos most → least < 2 ^ 63
     → most < 2 ^ 63 → IsSigned z
-signed_within (pos n) least most low high few many = omega (arith, high, many)
-signed_within (negsuc n) least most low high few many = omega (arith, low, few)
+signed_within (pos n) least most low high few many = omega (arith, ints, high, many)
+signed_within (negsuc n) least most low high few many = omega (arith, ints, low, few)
 
 pub charge_within : (z : ℤ) → negsuc 0 ≤ℤ z → z ≤ℤ pos 100000 → IsSigned z
 charge_within z low high = signed_within z 0 100000 low high (omega arith) (omega arith)
