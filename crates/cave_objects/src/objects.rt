@@ -47,6 +47,13 @@ impl Model for Objects {
     ghost inverse = { λ l. record { first = l.first; second = l.second; props = l.props; lists = l.lists } };
 }
 
+/// There is a prop for each object. It is a law, so nothing is done.
+fn are_all_props(props: &[Prop; OBJECTS])
+    ensures { length props.now ≡ 100 }
+{
+    let _ = props;
+}
+
 impl Objects {
     /// Objects of which none is placed.
     #[tactic(auto, unfolding(crate::specs::Objects::without_places))]
@@ -93,6 +100,7 @@ impl Objects {
         ensures props { length self.now.props ≡ 100 }
         ensures places { AreEntriesWithin self.now.lists }
     {
+        are_all_props(&self.props);
         self.lists.are_within();
     }
 

@@ -2,7 +2,6 @@
 use Rattle.std.proofs.Common.{◌≡◌, ℕ, ◌+◌, true, false, List, ◌++◌, refl, arith}
 use Rattle.std.specs.Prelude.{codes}
 use Rattle.std.proofs.lemmas.Bool.{false≢true}
-use Rattle.std.proofs.lemmas.List.{append_cancel_left}
 use Rattle.cave_world.specs.Fresh.{no_dwarf}
 use Rattle.cave_world.specs.declared.dwarves.Dwarf.{Dwarf}
 use Rattle.cave_world.specs.declared.state.State.{State}
@@ -10,18 +9,20 @@ use Rattle.cave_state_text.specs.Entries.{text_up_to}
 use Rattle.cave_state_text.specs.Things.{dwarf_of, dwarf_text, dwarf_line}
 use Rattle.cave_state_text.specs.Within.{IsDwarfWithin, AreDwarvesWithin}
 use Rattle.cave_state_text.proofs.EntryLemmas.{IsPast, entries_read}
-use Rattle.cave_state_text.proofs.Reading.{number_step, answer_step}
+use Rattle.cave_state_text.proofs.FactLemmas.{answer_line_read}
+use Rattle.cave_state_text.proofs.Reading.{number_step}
 use Rattle.cave_state_text.proofs.ListedLemmas.{listed}
+use Rattle.cave_state_text.specs.Facts.{numbered, answer_line}
 
 dwarf_read : (a b : Dwarf) (s t : List ℕ) → IsDwarfWithin a → IsDwarfWithin b
     → dwarf_text a ++ s ≡ dwarf_text b ++ t → (a ≡ b) × (s ≡ t)
+unfolding dwarf_text numbered answer_line
 dwarf_read a b s t ha hb e =
     let place = number_step (codes " at ") a.place b.place _ _ s t ha.0 hb.0 refl refl e in
     let last = number_step (codes ", was at ") a.last b.last _ _ s t ha.1 hb.1 refl refl place.1 in
     let seen =
-    answer_step (codes ", has seen the player ") a.has_seen b.has_seen _ _ s t last.1 in
-    (λ i. record { place = place.0 i; last = last.0 i; has_seen = seen.0 i },
-      append_cancel_left (codes "\n") s t seen.1)
+    answer_line_read (codes ", has seen the player ") a.has_seen b.has_seen s t last.1 in
+    (λ i. record { place = place.0 i; last = last.0 i; has_seen = seen.0 i }, seen.1)
 
 pub dwarves_read : (a b : State) (s t : List ℕ) → AreDwarvesWithin a → AreDwarvesWithin b
     → IsPast (codes "dwarf ") 6 s → IsPast (codes "dwarf ") 6 t

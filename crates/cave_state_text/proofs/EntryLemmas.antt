@@ -1,7 +1,7 @@
 -- Lines for what numbers name are read back, each by its number.
 use Rattle.std.proofs.Common.{◌≡◌, ℕ, suc, zero, ◌+◌, ◌<◌, ◌≤◌, Bool, true, false, List}
 use Rattle.std.proofs.Common.{[], ◌∷◌, ◌++◌, refl, sym, ap, ◌∙◌, arith, append_assoc}
-use Rattle.std.proofs.Common.{subst, ◌⊎◌, inl, inr}
+use Rattle.std.proofs.Common.{add-one, subst, ◌⊎◌, inl, inr}
 use Rattle.std.specs.Prelude.{codes}
 use Rattle.std.specs.Fmt.{decimal}
 use Rattle.std.proofs.lemmas.Bool.{cases_lt}
@@ -102,15 +102,13 @@ pub no_lines : (f : ℕ → List ℕ) (start : List ℕ) → start ≡ start ++ 
 unfolding text_up_to
 no_lines f start = sym (append-nil start)
 
-pub one_line : (f : ℕ → List ℕ) (before next : ℕ) (start old now : List ℕ)
-    → old ≡ start ++ text_up_to f before → next ≡ before + 1 → now ≡ old ++ f next
-    → now ≡ start ++ text_up_to f next
+pub one_line : (f : ℕ → List ℕ) (before number : ℕ) (start old now : List ℕ)
+    → old ≡ start ++ text_up_to f before → number ≡ before + 1 → now ≡ old ++ f number
+    → now ≡ start ++ text_up_to f (before + 1)
 unfolding text_up_to
-one_line f before next start old now so_far is more =
-    let same : next ≡ suc before = omega (arith, is) in
+one_line f before number start old now so_far is more =
+    let same : number ≡ suc before = omega (arith, is) in
     let whole : now ≡ (start ++ text_up_to f before) ++ f (suc before) =
-    more ∙ (ap (λ t. t ++ f next) so_far
+    more ∙ (ap (λ t. t ++ f number) so_far
     ∙ ap (λ n. (start ++ text_up_to f before) ++ f n) same) in
-    rw same (whole ∙ append_assoc start (text_up_to f before) (f (suc before)))
-
-pub ruleset lines = (no_lines, one_line)
+    rw add-one (whole ∙ append_assoc start (text_up_to f before) (f (suc before)))

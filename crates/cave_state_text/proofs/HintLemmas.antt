@@ -2,34 +2,30 @@
 use Rattle.std.proofs.Common.{◌≡◌, ℕ, ◌+◌, Bool, true, false, List, ◌++◌, refl, sym, ◌∙◌, arith}
 use Rattle.std.specs.Prelude.{◌==◌, ◌&&◌, not, codes}
 use Rattle.std.specs.Cmp.{unsigned_Decides}
-use Rattle.std.specs.Fmt.{decimal}
 use Rattle.std.proofs.lemmas.Bool.{false≢true}
-use Rattle.std.proofs.lemmas.List.{append_cancel_left}
 use Rattle.cave_world.specs.State.{is_hint_taken}
 use Rattle.cave_world.specs.declared.state.State.{State}
 use Rattle.cave_state_text.specs.Entries.{text_up_to}
-use Rattle.cave_state_text.specs.Facts.{yes_or_no}
 use Rattle.cave_state_text.specs.Numbers.{IsNumber}
-use Rattle.cave_state_text.specs.Things.{hint_turns, hint_line}
+use Rattle.cave_state_text.specs.Things.{hint_turns, hint_text, hint_line}
 use Rattle.cave_state_text.specs.Within.{AreHintsWithin}
 use Rattle.cave_state_text.proofs.EntryLemmas.{IsPast, entries_read}
-use Rattle.cave_state_text.proofs.Reading.{number_step, answer_step, both_true}
+use Rattle.cave_state_text.proofs.FactLemmas.{answer_line_read}
+use Rattle.cave_state_text.proofs.Reading.{number_step, both_true}
 use Rattle.cave_state_text.proofs.ListedLemmas.{listed}
+use Rattle.cave_state_text.specs.Facts.{numbered, answer_line}
 
 abbrev AreSameHints : State → State → ℕ → Type 0
 AreSameHints a b n =
     (hint_turns a n ≡ hint_turns b n) × (is_hint_taken a n ≡ is_hint_taken b n)
 
-abbrev hint_text : ℕ → Bool → List ℕ
-hint_text turns taken =
-    codes " waited " ++ (decimal turns ++ (codes ", taken " ++ (yes_or_no taken ++ codes "\n")))
-
 hint_read : (m n : ℕ) (a b : Bool) (s t : List ℕ) → IsNumber m → IsNumber n
     → hint_text m a ++ s ≡ hint_text n b ++ t → ((m ≡ n) × (a ≡ b)) × (s ≡ t)
+unfolding hint_text numbered answer_line
 hint_read m n a b s t hm hn e =
     let turns = number_step (codes " waited ") m n _ _ s t hm hn refl refl e in
-    let taken = answer_step (codes ", taken ") a b _ _ s t turns.1 in
-    ((turns.0, taken.0), append_cancel_left (codes "\n") s t taken.1)
+    let taken = answer_line_read (codes ", taken ") a b s t turns.1 in
+    ((turns.0, taken.0), taken.1)
 
 unused : (turns : ℕ) (taken : Bool) → (turns == 0 && not taken) ≡ true
     → (turns ≡ 0) × (taken ≡ false)

@@ -1,3 +1,4 @@
+pub mod AppendLemmas
 pub mod DwarfLemmas
 pub mod EntryLemmas
 pub mod FactLemmas
@@ -9,3 +10,4 @@ pub mod Reading
 pub mod StateLemmas
 pub mod VisitLemmas
 pub mod WithinLemmas
+pub mod WordLemmas

@@ -20,16 +20,18 @@ use Rattle.cave_objects.specs.contracts.spot.AnchorPartialEq.TheImpl as anchor_e
 use Rattle.cave_state_text.specs.Entries.{text_up_to}
 use Rattle.cave_state_text.specs.Numbers.{IsUpTo}
 use Rattle.cave_state_text.specs.Things.{word_of_object, spot_text, anchor_text, is_as_in}
-use Rattle.cave_state_text.specs.Things.{object_line}
+use Rattle.cave_state_text.specs.Things.{object_line, thing_text}
 use Rattle.cave_state_text.specs.Within.{AreObjectsWithin, IsSpotWithin, IsAnchorWithin}
 use Rattle.cave_state_text.specs.Within.{IsThingWithin}
 use Rattle.cave_state_text.proofs.EntryLemmas.{IsPast, entries_read}
 use Rattle.cave_state_text.proofs.Reading.{GoesOn, number_read, signed_step, after_name, both_true}
 use Rattle.cave_state_text.proofs.Reading.{differ, peel}
 use Rattle.cave_state_text.proofs.ListedLemmas.{listed, not_zero}
+use Rattle.cave_state_text.specs.Facts.{numbered, signed_line}
 
 spot_read : (p q : Spot) (s t : List ℕ) → IsSpotWithin p → IsSpotWithin q → GoesOn s → GoesOn t
     → spot_text p ++ s ≡ spot_text q ++ t → (p ≡ q) × (s ≡ t)
+unfolding numbered
 spot_read spot.Away spot.Away s t hp hq g h e = (refl, append_cancel_left (codes " away") s t e)
 spot_read spot.Carried spot.Carried s t hp hq g h e =
     (refl, append_cancel_left (codes " carried") s t e)
@@ -46,6 +48,7 @@ prop_text s = codes ", prop " ++ s
 
 anchor_read : (p q : Anchor) (s t : List ℕ) → IsAnchorWithin p → IsAnchorWithin q
     → anchor_text p ++ prop_text s ≡ anchor_text q ++ prop_text t → (p ≡ q) × (s ≡ t)
+unfolding numbered
 anchor_read anchor.Loose anchor.Loose s t hp hq e =
     (refl, append_cancel_left (codes ", prop ") s t e)
 anchor_read anchor.Fixed anchor.Fixed s t hp hq e =
@@ -58,6 +61,7 @@ anchor_read (anchor.At m) (anchor.At n) s t hp hq e =
 anchor_read _ _ s t hp hq e = absurd (false≢true (differ 2 _ _ e))
 
 anchor_goes_on : (p : Anchor) (s : List ℕ) → GoesOn (anchor_text p ++ prop_text s)
+unfolding numbered
 anchor_goes_on anchor.Loose s = refl
 anchor_goes_on anchor.Fixed s = refl
 anchor_goes_on (anchor.At place) s = refl
@@ -66,14 +70,10 @@ abbrev AreSameThings : Layout → Layout → ℕ → Type 0
 AreSameThings o p x =
     (spot_of o x ≡ spot_of p x) × ((anchor_of o x ≡ anchor_of p x) × (prop_of o x ≡ prop_of p x))
 
-abbrev thing_text : CaveView → Layout → ℕ → List ℕ
-thing_text cave o x =
-    codes " " ++ (word_of_object cave x ++ (spot_text (spot_of o x) ++ (anchor_text (anchor_of o x)
-    ++ (codes ", prop " ++ (signed_decimal (prop_of o x) ++ codes "\n")))))
-
 thing_read : (cave : CaveView) (o p : Layout) (x : ℕ) → IsThingWithin o x → IsThingWithin p x
     → (s t : List ℕ) → thing_text cave o x ++ s ≡ thing_text cave p x ++ t
     → AreSameThings o p x × (s ≡ t)
+unfolding thing_text signed_line
 thing_read cave o p x ho hp s t e =
     let word = after_name (codes " ") _ _ s t e in
     let rest = after_name (word_of_object cave x) _ _ s t word in

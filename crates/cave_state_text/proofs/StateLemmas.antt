@@ -74,17 +74,20 @@ game_read a b s t ha hb e =
     )
 
 verb_past : (verb : Option ℕ) (s : List ℕ) → IsPast (codes "object ") 100 (verb_text verb ++ s)
+unfolding number_line
 verb_past None s number more within clash = false≢true (differ 0 _ _ clash)
 verb_past (Some verb) s number more within clash = false≢true (differ 0 _ _ clash)
 
 talk_past : (talk : Talk) (lists s : List ℕ)
     → IsPast (codes "object ") 100 ((talk_text talk ++ lists) ++ s)
+unfolding talk_text
 talk_past talk lists s number more within clash =
     verb_past talk.verb _ number more within
     (sym (append_assoc (verb_text talk.verb) _ s)
     ∙ (ap (λ t. t ++ s) (sym (append_assoc (verb_text talk.verb) _ lists)) ∙ clash))
 
 knife_past : (knife : Knife) (s : List ℕ) → IsPast (codes "dwarf ") 6 (knife_text knife ++ s)
+unfolding number_line
 knife_past Unthrown s number more within clash = false≢true (differ 0 _ _ clash)
 knife_past (At place) s number more within clash = false≢true (differ 0 _ _ clash)
 knife_past Vanished s number more within clash = false≢true (differ 0 _ _ clash)
@@ -101,6 +104,7 @@ things_read : (cave : CaveView) (begun : Layout) (a b : State) (s t : List ℕ) 
     → objects_text cave begun a ++ (anger_text a.dwarves ++ s)
     ≡ objects_text cave begun b ++ (anger_text b.dwarves ++ t)
     → AreSameObjects a b × (anger_text a.dwarves ++ s ≡ anger_text b.dwarves ++ t)
+unfolding anger_text number_line
 things_read cave begun a b s t ha hb e =
     let rest = anger_text a.dwarves ++ s in
     let other = anger_text b.dwarves ++ t in
@@ -137,6 +141,7 @@ record AreSameOthers (a b : State) : Type 0 where
 
 rest_read : (a b : State) → IsWithin a → IsWithin b → rest_text a ≡ rest_text b
     → AreSameOthers a b
+unfolding number_line
 rest_read a b ha hb e =
     let anger =
     anger_read a.dwarves b.dwarves _ _ ha.facts.anger hb.facts.anger ha.facts.kills

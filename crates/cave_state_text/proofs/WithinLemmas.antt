@@ -23,7 +23,7 @@ pub ruleset within = (charge_within, magic_within, prop_within)
 
 -- what holds of each number up to one, and of the next, holds of each up to the next
 pub one_more : {P : ℕ → Type 0} (last next n : ℕ) → next ≡ last + 1
-    → ((m : ℕ) → IsUpTo last m → P m) → P next → IsUpTo next n → P n
+    → ((m : ℕ) → IsUpTo last m → P m) → P next → IsUpTo (last + 1) n → P n
 one_more {P = P} last next n is before here up = choose (cases_lt last n)
   where
     choose : (last < n) ⊎ (n ≤ last) → P n

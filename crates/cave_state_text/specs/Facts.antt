@@ -1,5 +1,5 @@
 -- Lines for what there is once in a state.
-use Rattle.std.specs.Prelude.{ℕ, Bool, true, false, List, ◌++◌, codes, decimal, Option, None, Some}
+use Rattle.std.specs.Prelude.{ℕ, ℤ, Bool, true, false, List, ◌++◌, codes, decimal, Option, None, Some}
 use Rattle.std.specs.Fmt.{signed_decimal}
 use Rattle.cave_world.specs.declared.dwarves.Knife.{Knife}
 use Rattle.cave_world.specs.declared.dwarves.Knife.TheVariants.{Unthrown, At, Vanished}
@@ -18,20 +18,32 @@ abbrev pub yes_or_no : Bool → List ℕ
 yes_or_no true = codes "yes"
 yes_or_no false = codes "no"
 
+-- a number after what says what it is of
+unfoldable pub numbered : List ℕ → ℕ → List ℕ
+numbered before n = before ++ decimal n
+
 -- a line with a number
-abbrev pub number_line : List ℕ → ℕ → List ℕ
+unfoldable pub number_line : List ℕ → ℕ → List ℕ
 number_line before n = before ++ (decimal n ++ codes "\n")
 
+-- the same, of a number that may be below 0
+unfoldable pub signed_line : List ℕ → ℤ → List ℕ
+signed_line before z = before ++ (signed_decimal z ++ codes "\n")
+
+-- a line with yes or no
+unfoldable pub answer_line : List ℕ → Bool → List ℕ
+answer_line before answer = before ++ (yes_or_no answer ++ codes "\n")
+
 -- the turns and the score
-abbrev pub counts_text : ℕ → ℕ → List ℕ
+unfoldable pub counts_text : ℕ → ℕ → List ℕ
 counts_text turns score =
-    codes "turns " ++ (decimal turns ++ (codes "\nscore " ++ (decimal score ++ codes "\n")))
+    number_line (codes "turns ") turns ++ number_line (codes "score ") score
 
 -- where the player is, where the player came from, and where from before that
-abbrev pub trail_text : Trail → List ℕ
+unfoldable pub trail_text : Trail → List ℕ
 trail_text trail =
-    codes "here " ++ (decimal trail.here ++ (codes "\nlast " ++ (decimal trail.last
-    ++ (codes "\nolder " ++ (decimal trail.older ++ codes "\n")))))
+    number_line (codes "here ") trail.here
+    ++ (number_line (codes "last ") trail.last ++ number_line (codes "older ") trail.older)
 
 -- the question that is open
 abbrev pub question_text : Option Question → List ℕ
@@ -55,26 +67,25 @@ end_line (Some ending.WrongWay) = codes "ended wrong way\n"
 end_line (Some ending.Success) = codes "ended success\n"
 
 -- the turns that the lamp still burns, and whether the player was warned
-abbrev pub lamp_text : Lamp → List ℕ
+unfoldable pub lamp_text : Lamp → List ℕ
 lamp_text lamp =
-    codes "lamp " ++ (signed_decimal lamp.charge
-    ++ (codes "\nlamp warned " ++ (yes_or_no lamp.is_warned ++ codes "\n")))
+    signed_line (codes "lamp ") lamp.charge ++ answer_line (codes "lamp warned ") lamp.is_warned
 
 -- the two clocks, and how far the cave is closed
-abbrev pub closing_text : Closing → List ℕ
+unfoldable pub closing_text : Closing → List ℕ
 closing_text closing =
-    codes "first clock " ++ (signed_decimal closing.first_clock
-    ++ (codes "\nsecond clock " ++ (signed_decimal closing.second_clock
-    ++ (codes "\nclosing " ++ (yes_or_no closing.is_closing
-    ++ (codes "\nclosed " ++ (yes_or_no closing.is_closed
-    ++ (codes "\npanic " ++ (yes_or_no closing.is_panicking ++ codes "\n")))))))))
+    signed_line (codes "first clock ") closing.first_clock
+    ++ (signed_line (codes "second clock ") closing.second_clock
+    ++ (answer_line (codes "closing ") closing.is_closing
+    ++ (answer_line (codes "closed ") closing.is_closed
+    ++ answer_line (codes "panic ") closing.is_panicking)))
 
 -- the treasures that weren't seen yet, those that are lost, and the deaths
-abbrev pub tallies_text : Tallies → List ℕ
+unfoldable pub tallies_text : Tallies → List ℕ
 tallies_text tallies =
-    codes "unseen treasures " ++ (decimal tallies.unseen
-    ++ (codes "\nlost treasures " ++ (decimal tallies.lost
-    ++ (codes "\ndeaths " ++ (decimal tallies.deaths ++ codes "\n")))))
+    number_line (codes "unseen treasures ") tallies.unseen
+    ++ (number_line (codes "lost treasures ") tallies.lost
+    ++ number_line (codes "deaths ") tallies.deaths)
 
 -- the verb of half a command
 abbrev pub verb_text : Option ℕ → List ℕ
@@ -82,20 +93,19 @@ verb_text None = codes "half command none\n"
 verb_text (Some verb) = number_line (codes "half verb ") verb
 
 -- what is remembered of what was said
-abbrev pub talk_text : Talk → List ℕ
+unfoldable pub talk_text : Talk → List ℕ
 talk_text talk =
     verb_text talk.verb
-    ++ (codes "half object " ++ (decimal talk.object
-    ++ (codes "\nlast object " ++ (decimal talk.last
-    ++ (codes "\nbrief " ++ (yes_or_no talk.is_brief
-    ++ (codes "\ndetails " ++ (decimal talk.details
-    ++ (codes "\nmagic " ++ (signed_decimal talk.magic ++ codes "\n"))))))))))
+    ++ (number_line (codes "half object ") talk.object
+    ++ (number_line (codes "last object ") talk.last
+    ++ (answer_line (codes "brief ") talk.is_brief
+    ++ (number_line (codes "details ") talk.details
+    ++ signed_line (codes "magic ") talk.magic))))
 
 -- how angry the dwarves are, and how many were killed
-abbrev pub anger_text : Dwarves → List ℕ
+unfoldable pub anger_text : Dwarves → List ℕ
 anger_text dwarves =
-    codes "anger " ++ (decimal dwarves.anger
-    ++ (codes "\nkills " ++ (decimal dwarves.kills ++ codes "\n")))
+    number_line (codes "anger ") dwarves.anger ++ number_line (codes "kills ") dwarves.kills
 
 -- the knife that a dwarf threw
 abbrev pub knife_text : Knife → List ℕ

@@ -1,7 +1,6 @@
 -- Lines for what there is more than once in a state: objects, places, dwarves, hints.
 use Rattle.std.specs.Prelude.{ℕ, ℤ, ◌+◌, ◌-◌, Bool, false, ◌==◌, ◌&&◌, not, List, [], ◌∷◌, ◌++◌}
-use Rattle.std.specs.Prelude.{find, codes, decimal, Option, option_map, unwrap_or, slice_index_or}
-use Rattle.std.specs.Fmt.{signed_decimal}
+use Rattle.std.specs.Prelude.{find, codes, Option, option_map, unwrap_or, slice_index_or}
 use Rattle.std.specs.Ordering.{int_eq}
 use Rattle.std.specs.Cmp.Lexicographic.{pointwise}
 use Rattle.cave_data.specs.CaveView.{CaveView}
@@ -22,7 +21,7 @@ use Rattle.cave_world.specs.State.{visits_of, is_hint_taken}
 use Rattle.cave_world.specs.declared.dwarves.Dwarf.{Dwarf}
 use Rattle.cave_world.specs.declared.state.State.{State}
 use Rattle.cave_state_text.specs.Entries.{entry}
-use Rattle.cave_state_text.specs.Facts.{yes_or_no}
+use Rattle.cave_state_text.specs.Facts.{numbered, number_line, signed_line, answer_line}
 
 -- ---- objects
 
@@ -35,12 +34,12 @@ word_of_object cave x =
 abbrev pub spot_text : Spot → List ℕ
 spot_text spot.Away = codes " away"
 spot_text spot.Carried = codes " carried"
-spot_text (spot.At place) = codes " at " ++ decimal place
+spot_text (spot.At place) = numbered (codes " at ") place
 
 abbrev pub anchor_text : Anchor → List ℕ
 anchor_text anchor.Loose = []
 anchor_text anchor.Fixed = codes ", fixed"
-anchor_text (anchor.At place) = codes ", also at " ++ decimal place
+anchor_text (anchor.At place) = numbered (codes ", also at ") place
 
 -- an object is as another layout has it
 abbrev pub is_as_in : Layout → Layout → ℕ → Bool
@@ -49,19 +48,23 @@ is_as_in begun o x =
     && (anchor_eq.eq-value.it (anchor_of o x) (anchor_of begun x)
     && int_eq (prop_of o x) (prop_of begun x))
 
--- an object with its word, where it isn't as it was when the game began
+-- the word of an object, where it is, what holds it there, and its prop
+unfoldable pub thing_text : CaveView → Layout → ℕ → List ℕ
+thing_text cave o x =
+    codes " " ++ (word_of_object cave x ++ (spot_text (spot_of o x)
+    ++ (anchor_text (anchor_of o x) ++ signed_line (codes ", prop ") (prop_of o x))))
+
+-- an object, where it isn't as it was when the game began
 unfoldable pub object_line : CaveView → Layout → Layout → ℕ → List ℕ
 object_line cave begun o x =
-    entry (codes "object ") (is_as_in begun o x) x
-    (codes " " ++ (word_of_object cave x ++ (spot_text (spot_of o x) ++ (anchor_text (anchor_of o x)
-    ++ (codes ", prop " ++ (signed_decimal (prop_of o x) ++ codes "\n"))))))
+    entry (codes "object ") (is_as_in begun o x) x (thing_text cave o x)
 
 -- ---- what is at places
 
 -- a half by the number of its object
 abbrev pub half_text : Half → List ℕ
-half_text (First x) = codes " " ++ decimal x
-half_text (Second x) = codes " also " ++ decimal x
+half_text (First x) = numbered (codes " ") x
+half_text (Second x) = numbered (codes " also ") x
 
 abbrev pub each_half : List Half → List ℕ
 each_half [] = []
@@ -82,17 +85,18 @@ place_line begun o place =
 unfoldable pub visits_line : State → ℕ → List ℕ
 visits_line s place =
     entry (codes "visits ") (visits_of s place == 0) place
-    (codes " " ++ (decimal (visits_of s place) ++ codes "\n"))
+    (number_line (codes " ") (visits_of s place))
 
 -- ---- dwarves and hints
 
 abbrev pub dwarf_of : State → ℕ → Dwarf
 dwarf_of s number = slice_index_or s.dwarves.each (number - 1) no_dwarf
 
-abbrev pub dwarf_text : Dwarf → List ℕ
+unfoldable pub dwarf_text : Dwarf → List ℕ
 dwarf_text dwarf =
-    codes " at " ++ (decimal dwarf.place ++ (codes ", was at " ++ (decimal dwarf.last
-    ++ (codes ", has seen the player " ++ (yes_or_no dwarf.has_seen ++ codes "\n")))))
+    numbered (codes " at ") dwarf.place
+    ++ (numbered (codes ", was at ") dwarf.last
+    ++ answer_line (codes ", has seen the player ") dwarf.has_seen)
 
 unfoldable pub dwarf_line : State → ℕ → List ℕ
 dwarf_line s number = entry (codes "dwarf ") false number (dwarf_text (dwarf_of s number))
@@ -101,9 +105,12 @@ dwarf_line s number = entry (codes "dwarf ") false number (dwarf_text (dwarf_of 
 abbrev pub hint_turns : State → ℕ → ℕ
 hint_turns s hint = slice_index_or s.hints.turns (hint - 1) 0
 
+unfoldable pub hint_text : ℕ → Bool → List ℕ
+hint_text turns is_taken =
+    numbered (codes " waited ") turns ++ answer_line (codes ", taken ") is_taken
+
 -- a hint that was waited for or taken
 unfoldable pub hint_line : State → ℕ → List ℕ
 hint_line s hint =
     entry (codes "hint ") (hint_turns s hint == 0 && not (is_hint_taken s hint)) hint
-    (codes " waited " ++ (decimal (hint_turns s hint)
-    ++ (codes ", taken " ++ (yes_or_no (is_hint_taken s hint) ++ codes "\n"))))
+    (hint_text (hint_turns s hint) (is_hint_taken s hint))

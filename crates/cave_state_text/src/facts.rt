@@ -1,12 +1,14 @@
 //! Lines for what there is once in a state.
 
-ghost use Rattle.std.specs.Prelude.{◌≡◌, ◌++◌, OnOk};
-ghost use Rattle.cave_state_text.specs.Facts.{number_line, yes_or_no, counts_text, trail_text};
-ghost use Rattle.cave_state_text.specs.Facts.{question_text, end_line, lamp_text, closing_text};
-ghost use Rattle.cave_state_text.specs.Facts.{tallies_text, verb_text, talk_text, anger_text};
-ghost use Rattle.cave_state_text.specs.Facts.{knife_text};
+ghost use Rattle.std.specs.Prelude.{◌≡◌, ◌++◌, OnOk, codes};
+ghost use Rattle.cave_state_text.specs.Facts.{yes_or_no, numbered, number_line, signed_line, answer_line};
+ghost use Rattle.cave_state_text.specs.Facts.{counts_text, trail_text, question_text, end_line};
+ghost use Rattle.cave_state_text.specs.Facts.{lamp_text, closing_text, tallies_text, verb_text};
+ghost use Rattle.cave_state_text.specs.Facts.{talk_text, anger_text, knife_text};
 
-use cave_world::{Closing, Dwarves, Ending, Knife, Lamp, Question, Talk, Tallies, Trail};
+use cave_objects::Object;
+use cave_world::{Closing, Count, Dwarves, Ending, Knife, Lamp, Magic, Question, Talk};
+use cave_world::{Tallies, Trail};
 use std::alloc::{AllocError, Global};
 
 pub(crate) fn yes_or_no(answer: bool) -> &'static str
@@ -15,7 +17,22 @@ pub(crate) fn yes_or_no(answer: bool) -> &'static str
     if answer { "yes" } else { "no" }
 }
 
+/// Appends a number after what says what it is of.
+#[tactic(auto, unfolding(crate::specs::Facts::numbered))]
+pub(crate) fn push_numbered(
+    alloc: Global,
+    text: &mut Vec<u8>,
+    before: &str,
+    number: u32,
+) -> Result<(), AllocError>
+    ensures { OnOk result (text.new.items ≡ text.old.items ++ numbered before.now number) }
+{
+    let words = format!(in alloc; "{before}{number}")?;
+    text.extend_from_slice(words.as_bytes())
+}
+
 /// Appends a line with a number.
+#[tactic(auto, unfolding(crate::specs::Facts::number_line))]
 pub(crate) fn push_number(
     alloc: Global,
     text: &mut Vec<u8>,
@@ -28,7 +45,61 @@ pub(crate) fn push_number(
     text.extend_from_slice(line.as_bytes())
 }
 
+/// Appends a line with a number that may be below 0.
+#[tactic(auto, unfolding(crate::specs::Facts::signed_line))]
+pub(crate) fn push_signed(
+    alloc: Global,
+    text: &mut Vec<u8>,
+    before: &str,
+    number: i32,
+) -> Result<(), AllocError>
+    ensures { OnOk result (text.new.items ≡ text.old.items ++ signed_line before.now number) }
+{
+    let line = format!(in alloc; "{before}{number}\n")?;
+    text.extend_from_slice(line.as_bytes())
+}
+
+/// Appends a line with yes or no.
+#[tactic(auto, unfolding(crate::specs::Facts::answer_line))]
+pub(crate) fn push_answer(
+    alloc: Global,
+    text: &mut Vec<u8>,
+    before: &str,
+    answer: bool,
+) -> Result<(), AllocError>
+    ensures { OnOk result (text.new.items ≡ text.old.items ++ answer_line before.now answer) }
+{
+    let word = yes_or_no(answer);
+    let line = format!(in alloc; "{before}{word}\n")?;
+    text.extend_from_slice(line.as_bytes())
+}
+
+/// Appends a line with a count.
+fn push_count<const MOST: u16>(
+    alloc: Global,
+    text: &mut Vec<u8>,
+    before: &str,
+    count: Count<MOST>,
+) -> Result<(), AllocError>
+    ensures { OnOk result (text.new.items ≡ text.old.items ++ number_line before.now count.entry) }
+{
+    push_number(alloc, text, before, u32::from(count.number()))
+}
+
+/// Appends a line with the number of an object.
+fn push_object_number(
+    alloc: Global,
+    text: &mut Vec<u8>,
+    before: &str,
+    object: Object,
+) -> Result<(), AllocError>
+    ensures { OnOk result (text.new.items ≡ text.old.items ++ number_line before.now object) }
+{
+    push_number(alloc, text, before, u32::from(object.number()))
+}
+
 /// Appends how many turns were taken, and the score.
+#[tactic(auto, unfolding(crate::specs::Facts::counts_text))]
 pub(crate) fn push_counts(
     alloc: Global,
     text: &mut Vec<u8>,
@@ -37,19 +108,18 @@ pub(crate) fn push_counts(
 ) -> Result<(), AllocError>
     ensures { OnOk result (text.new.items ≡ text.old.items ++ counts_text turns score) }
 {
-    let lines = format!(in alloc; "turns {turns}\nscore {score}\n")?;
-    text.extend_from_slice(lines.as_bytes())
+    push_number(alloc, text, "turns ", turns)?;
+    push_number(alloc, text, "score ", score)
 }
 
 /// Appends where the player is and was.
+#[tactic(auto, unfolding(crate::specs::Facts::trail_text))]
 pub(crate) fn push_trail(alloc: Global, text: &mut Vec<u8>, trail: Trail) -> Result<(), AllocError>
     ensures { OnOk result (text.new.items ≡ text.old.items ++ trail_text trail) }
 {
-    let here = trail.here.number();
-    let last = trail.last.number();
-    let older = trail.older.number();
-    let lines = format!(in alloc; "here {here}\nlast {last}\nolder {older}\n")?;
-    text.extend_from_slice(lines.as_bytes())
+    push_number(alloc, text, "here ", u32::from(trail.here.number()))?;
+    push_number(alloc, text, "last ", u32::from(trail.last.number()))?;
+    push_number(alloc, text, "older ", u32::from(trail.older.number()))
 }
 
 /// Appends the question that is open.
@@ -94,16 +164,27 @@ pub(crate) fn push_ending(text: &mut Vec<u8>, ending: Option<Ending>) -> Result<
 }
 
 /// Appends how long the lamp still burns, and whether the player was warned.
+#[tactic(auto, unfolding(crate::specs::Facts::lamp_text))]
 pub(crate) fn push_lamp(alloc: Global, text: &mut Vec<u8>, lamp: Lamp) -> Result<(), AllocError>
     ensures { OnOk result (text.new.items ≡ text.old.items ++ lamp_text lamp) }
 {
-    let turns = lamp.charge.turns();
-    let warned = yes_or_no(lamp.is_warned);
-    let lines = format!(in alloc; "lamp {turns}\nlamp warned {warned}\n")?;
-    text.extend_from_slice(lines.as_bytes())
+    push_signed(alloc, text, "lamp ", lamp.charge.turns())?;
+    push_answer(alloc, text, "lamp warned ", lamp.is_warned)
+}
+
+fn push_clock(
+    alloc: Global,
+    text: &mut Vec<u8>,
+    before: &str,
+    clock: i8,
+) -> Result<(), AllocError>
+    ensures { OnOk result (text.new.items ≡ text.old.items ++ signed_line before.now clock) }
+{
+    push_signed(alloc, text, before, i32::from(clock))
 }
 
 /// Appends the two clocks, and how far the cave is closed.
+#[tactic(auto, unfolding(crate::specs::Facts::closing_text))]
 pub(crate) fn push_closing(
     alloc: Global,
     text: &mut Vec<u8>,
@@ -111,17 +192,15 @@ pub(crate) fn push_closing(
 ) -> Result<(), AllocError>
     ensures { OnOk result (text.new.items ≡ text.old.items ++ closing_text closing) }
 {
-    let (first, second) = (closing.first_clock, closing.second_clock);
-    let clocks = format!(in alloc; "first clock {first}\nsecond clock {second}\n")?;
-    let is_closing = yes_or_no(closing.is_closing);
-    let closed = yes_or_no(closing.is_closed);
-    let panic = yes_or_no(closing.is_panicking);
-    let rest = format!(in alloc; "closing {is_closing}\nclosed {closed}\npanic {panic}\n")?;
-    text.extend_from_slice(clocks.as_bytes())?;
-    text.extend_from_slice(rest.as_bytes())
+    push_clock(alloc, text, "first clock ", closing.first_clock)?;
+    push_clock(alloc, text, "second clock ", closing.second_clock)?;
+    push_answer(alloc, text, "closing ", closing.is_closing)?;
+    push_answer(alloc, text, "closed ", closing.is_closed)?;
+    push_answer(alloc, text, "panic ", closing.is_panicking)
 }
 
 /// Appends the counts of treasures, and the deaths.
+#[tactic(auto, unfolding(crate::specs::Facts::tallies_text))]
 pub(crate) fn push_tallies(
     alloc: Global,
     text: &mut Vec<u8>,
@@ -129,13 +208,9 @@ pub(crate) fn push_tallies(
 ) -> Result<(), AllocError>
     ensures { OnOk result (text.new.items ≡ text.old.items ++ tallies_text tallies) }
 {
-    let unseen = tallies.unseen.number();
-    let lost = tallies.lost.number();
-    let deaths = tallies.deaths.number();
-    let lines = format!(in alloc;
-        "unseen treasures {unseen}\nlost treasures {lost}\ndeaths {deaths}\n"
-    )?;
-    text.extend_from_slice(lines.as_bytes())
+    push_count(alloc, text, "unseen treasures ", tallies.unseen)?;
+    push_count(alloc, text, "lost treasures ", tallies.lost)?;
+    push_count(alloc, text, "deaths ", tallies.deaths)
 }
 
 fn push_verb(alloc: Global, text: &mut Vec<u8>, verb: Option<u16>) -> Result<(), AllocError>
@@ -147,23 +222,27 @@ fn push_verb(alloc: Global, text: &mut Vec<u8>, verb: Option<u16>) -> Result<(),
     }
 }
 
+fn push_magic(alloc: Global, text: &mut Vec<u8>, magic: Magic) -> Result<(), AllocError>
+    ensures { OnOk result (text.new.items ≡ text.old.items ++ signed_line (codes "magic ") magic) }
+{
+    push_signed(alloc, text, "magic ", i32::from(magic.value()))
+}
+
 /// Appends what is remembered of what was said.
+#[tactic(auto, unfolding(crate::specs::Facts::talk_text))]
 pub(crate) fn push_talk(alloc: Global, text: &mut Vec<u8>, talk: Talk) -> Result<(), AllocError>
     ensures { OnOk result (text.new.items ≡ text.old.items ++ talk_text talk) }
 {
-    let object = talk.object.number();
-    let last = talk.last.number();
-    let brief = yes_or_no(talk.is_brief);
-    let details = talk.details.number();
-    let magic = talk.magic.value();
-    let objects = format!(in alloc; "half object {object}\nlast object {last}\n")?;
-    let rest = format!(in alloc; "brief {brief}\ndetails {details}\nmagic {magic}\n")?;
     push_verb(alloc, text, talk.verb)?;
-    text.extend_from_slice(objects.as_bytes())?;
-    text.extend_from_slice(rest.as_bytes())
+    push_object_number(alloc, text, "half object ", talk.object)?;
+    push_object_number(alloc, text, "last object ", talk.last)?;
+    push_answer(alloc, text, "brief ", talk.is_brief)?;
+    push_count(alloc, text, "details ", talk.details)?;
+    push_magic(alloc, text, talk.magic)
 }
 
 /// Appends how angry the dwarves are, and how many were killed.
+#[tactic(auto, unfolding(crate::specs::Facts::anger_text))]
 pub(crate) fn push_anger(
     alloc: Global,
     text: &mut Vec<u8>,
@@ -171,10 +250,8 @@ pub(crate) fn push_anger(
 ) -> Result<(), AllocError>
     ensures { OnOk result (text.new.items ≡ text.old.items ++ anger_text dwarves.now) }
 {
-    let anger = dwarves.anger.number();
-    let kills = dwarves.kills.number();
-    let lines = format!(in alloc; "anger {anger}\nkills {kills}\n")?;
-    text.extend_from_slice(lines.as_bytes())
+    push_count(alloc, text, "anger ", dwarves.anger)?;
+    push_count(alloc, text, "kills ", dwarves.kills)
 }
 
 /// Appends the knife that a dwarf threw.

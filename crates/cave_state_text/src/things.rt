@@ -1,14 +1,14 @@
 //! Lines for what there is more than once in a state: objects, places, dwarves, hints.
 
-ghost use Rattle.std.specs.Prelude.{◌≡◌, ◌++◌, ◌≤◌, OnOk};
+ghost use Rattle.std.specs.Prelude.{◌≡◌, ◌++◌, ◌≤◌, OnOk, codes, decimal};
 ghost use Rattle.cave_objects.specs.Lists.{halves_at};
 ghost use Rattle.cave_state_text.specs.Entries.{text_up_to};
 ghost use Rattle.cave_state_text.specs.Things.{word_of_object, spot_text, anchor_text, is_as_in};
-ghost use Rattle.cave_state_text.specs.Things.{object_line, half_text, halves_text, each_half};
-ghost use Rattle.cave_state_text.specs.Things.{place_line, visits_line, dwarf_text, dwarf_line};
-ghost use Rattle.cave_state_text.specs.Things.{hint_line};
+ghost use Rattle.cave_state_text.specs.Things.{thing_text, object_line, half_text, halves_text};
+ghost use Rattle.cave_state_text.specs.Things.{each_half, place_line, visits_line, dwarf_text};
+ghost use Rattle.cave_state_text.specs.Things.{dwarf_line, hint_text, hint_line};
 
-use crate::facts::yes_or_no;
+use crate::facts::{push_answer, push_number, push_numbered, push_signed};
 use cave_data::Cave;
 use cave_objects::object::OBJECTS;
 use cave_objects::place::PLACES;
@@ -43,9 +43,7 @@ fn push_spot(alloc: Global, text: &mut Vec<u8>, spot: Spot) -> Result<(), AllocE
         Spot::Away => text.extend_from_slice(b" away"),
         Spot::Carried => text.extend_from_slice(b" carried"),
         Spot::At(site) => {
-            let place = site.place().number();
-            let at = format!(in alloc; " at {place}")?;
-            text.extend_from_slice(at.as_bytes())
+            push_numbered(alloc, text, " at ", u32::from(site.place().number()))
         }
     }
 }
@@ -57,9 +55,7 @@ fn push_anchor(alloc: Global, text: &mut Vec<u8>, anchor: Anchor) -> Result<(), 
         Anchor::Loose => Ok(()),
         Anchor::Fixed => text.extend_from_slice(b", fixed"),
         Anchor::At(site) => {
-            let place = site.place().number();
-            let at = format!(in alloc; ", also at {place}")?;
-            text.extend_from_slice(at.as_bytes())
+            push_numbered(alloc, text, ", also at ", u32::from(site.place().number()))
         }
     }
 }
@@ -71,6 +67,39 @@ fn is_as_in(begun: &Objects, objects: &Objects, object: Object) -> bool
     objects.spot(object) == begun.spot(object)
         && objects.anchor(object) == begun.anchor(object)
         && objects.prop(object).value() == begun.prop(object).value()
+}
+
+/// Appends the start of a line for what a number names.
+fn push_start(
+    alloc: Global,
+    text: &mut Vec<u8>,
+    name: &str,
+    number: u32,
+) -> Result<(), AllocError>
+    ensures { OnOk result (text.new.items ≡ text.old.items
+        ++ (name.now ++ (decimal number ++ codes ":"))) }
+{
+    let start = format!(in alloc; "{name}{number}:")?;
+    text.extend_from_slice(start.as_bytes())
+}
+
+/// Appends the word of an object, where it is, what holds it there, and its prop.
+#[tactic(auto, unfolding(crate::specs::Things::thing_text))]
+fn push_thing(
+    alloc: Global,
+    text: &mut Vec<u8>,
+    cave: &Cave,
+    objects: &Objects,
+    object: Object,
+) -> Result<(), AllocError>
+    ensures { OnOk result (text.new.items ≡ text.old.items
+        ++ thing_text cave.now objects.now object) }
+{
+    text.extend_from_slice(b" ")?;
+    text.extend_from_slice(word_of_object(cave, object))?;
+    push_spot(alloc, text, objects.spot(object))?;
+    push_anchor(alloc, text, objects.anchor(object))?;
+    push_signed(alloc, text, ", prop ", i32::from(objects.prop(object).value()))
 }
 
 /// Appends the line of an object, if it isn't as it was when the game began.
@@ -89,19 +118,12 @@ fn push_object(
     if is_as_in(begun, objects, object) {
         return Ok(());
     }
-    let number = object.number();
-    let prop = objects.prop(object).value();
-    let before = format!(in alloc; "object {number}: ")?;
-    let after = format!(in alloc; ", prop {prop}\n")?;
-    text.extend_from_slice(before.as_bytes())?;
-    text.extend_from_slice(word_of_object(cave, object))?;
-    push_spot(alloc, text, objects.spot(object))?;
-    push_anchor(alloc, text, objects.anchor(object))?;
-    text.extend_from_slice(after.as_bytes())
+    push_start(alloc, text, "object ", u32::from(object.number()))?;
+    push_thing(alloc, text, cave, objects, object)
 }
 
 /// Appends the lines of objects that aren't as they were when the game began.
-#[tactic(auto, using(crate::proofs::EntryLemmas::lines))]
+#[tactic(auto, using(crate::proofs::EntryLemmas::no_lines))]
 pub(crate) fn push_objects(
     alloc: Global,
     text: &mut Vec<u8>,
@@ -121,12 +143,10 @@ pub(crate) fn push_objects(
 fn push_half(alloc: Global, text: &mut Vec<u8>, half: Half) -> Result<(), AllocError>
     ensures { OnOk result (text.new.items ≡ text.old.items ++ half_text half) }
 {
-    let number = half.object().number();
-    let words = match half {
-        Half::First(_) => format!(in alloc; " {number}")?,
-        Half::Second(_) => format!(in alloc; " also {number}")?,
-    };
-    text.extend_from_slice(words.as_bytes())
+    match half {
+        Half::First(object) => push_numbered(alloc, text, " ", u32::from(object.number())),
+        Half::Second(object) => push_numbered(alloc, text, " also ", u32::from(object.number())),
+    }
 }
 
 fn push_halves(alloc: Global, text: &mut Vec<u8>, halves: &[Half]) -> Result<(), AllocError>
@@ -164,14 +184,12 @@ fn push_place(
     if halves.as_slice() == begun_halves.as_slice() {
         return Ok(());
     }
-    let number = place.number();
-    let before = format!(in alloc; "place {number}:")?;
-    text.extend_from_slice(before.as_bytes())?;
+    push_start(alloc, text, "place ", u32::from(place.number()))?;
     push_list(alloc, text, halves.as_slice())
 }
 
 /// Appends the lists of places that aren't as they were when the game began.
-#[tactic(auto, using(crate::proofs::EntryLemmas::lines))]
+#[tactic(auto, using(crate::proofs::EntryLemmas::no_lines))]
 pub(crate) fn push_places(
     alloc: Global,
     text: &mut Vec<u8>,
@@ -201,13 +219,12 @@ fn push_visits_of(
     if visits == 0 {
         return Ok(());
     }
-    let number = place.number();
-    let line = format!(in alloc; "visits {number}: {visits}\n")?;
-    text.extend_from_slice(line.as_bytes())
+    push_start(alloc, text, "visits ", u32::from(place.number()))?;
+    push_number(alloc, text, " ", u32::from(visits))
 }
 
 /// Appends how often each place was described that was.
-#[tactic(auto, using(crate::proofs::EntryLemmas::lines))]
+#[tactic(auto, using(crate::proofs::EntryLemmas::no_lines))]
 pub(crate) fn push_visits(
     alloc: Global,
     text: &mut Vec<u8>,
@@ -222,18 +239,33 @@ pub(crate) fn push_visits(
     Ok(())
 }
 
-fn push_dwarf(alloc: Global, text: &mut Vec<u8>, dwarf: Dwarf) -> Result<(), AllocError>
+#[tactic(auto, unfolding(crate::specs::Things::dwarf_text))]
+fn push_dwarf_text(alloc: Global, text: &mut Vec<u8>, dwarf: Dwarf) -> Result<(), AllocError>
     ensures { OnOk result (text.new.items ≡ text.old.items ++ dwarf_text dwarf) }
 {
-    let place = dwarf.place.number();
-    let last = dwarf.last.number();
-    let seen = yes_or_no(dwarf.has_seen);
-    let line = format!(in alloc; " at {place}, was at {last}, has seen the player {seen}\n")?;
-    text.extend_from_slice(line.as_bytes())
+    push_numbered(alloc, text, " at ", u32::from(dwarf.place.number()))?;
+    push_numbered(alloc, text, ", was at ", u32::from(dwarf.last.number()))?;
+    push_answer(alloc, text, ", has seen the player ", dwarf.has_seen)
+}
+
+/// Appends the line of the dwarf of a number.
+#[tactic(auto, unfolding(crate::specs::Things::dwarf_line))]
+fn push_dwarf(
+    alloc: Global,
+    text: &mut Vec<u8>,
+    state: &State,
+    number: u8,
+) -> Result<(), AllocError>
+    requires some { 1 ≤ number }
+    requires within { number ≤ 6 }
+    ensures { OnOk result (text.new.items ≡ text.old.items ++ dwarf_line state.now number) }
+{
+    push_start(alloc, text, "dwarf ", u32::from(number))?;
+    push_dwarf_text(alloc, text, state.dwarves.each[usize::from(number) - 1])
 }
 
 /// Appends the line of each dwarf.
-#[tactic(auto, using(crate::proofs::EntryLemmas::lines), unfolding(crate::specs::Things::dwarf_line))]
+#[tactic(auto, using(crate::proofs::EntryLemmas::no_lines))]
 pub(crate) fn push_dwarves(
     alloc: Global,
     text: &mut Vec<u8>,
@@ -241,13 +273,23 @@ pub(crate) fn push_dwarves(
 ) -> Result<(), AllocError>
     ensures { OnOk result (text.new.items ≡ text.old.items ++ text_up_to (dwarf_line state.now) 6) }
 {
-    for before in 0..DWARVES {
-        let number = before + 1;
-        let start = format!(in alloc; "dwarf {number}:")?;
-        text.extend_from_slice(start.as_bytes())?;
-        push_dwarf(alloc, text, state.dwarves.each[before])?;
+    for before in 0..DWARVES as u8 {
+        push_dwarf(alloc, text, state, before + 1)?;
     }
     Ok(())
+}
+
+#[tactic(auto, unfolding(crate::specs::Things::hint_text))]
+fn push_hint_text(
+    alloc: Global,
+    text: &mut Vec<u8>,
+    turns: u16,
+    is_taken: bool,
+) -> Result<(), AllocError>
+    ensures { OnOk result (text.new.items ≡ text.old.items ++ hint_text turns is_taken) }
+{
+    push_numbered(alloc, text, " waited ", u32::from(turns))?;
+    push_answer(alloc, text, ", taken ", is_taken)
 }
 
 /// Appends the line of a hint that was waited for or taken.
@@ -260,19 +302,17 @@ fn push_hint(
 ) -> Result<(), AllocError>
     ensures { OnOk result (text.new.items ≡ text.old.items ++ hint_line state.now hint) }
 {
-    let number = hint.number();
-    let turns = state.hints.turns[usize::from(number) - 1].number();
+    let turns = state.hints.turns[usize::from(hint.number()) - 1].number();
     let is_taken = state.is_hint_taken(hint);
     if turns == 0 && !is_taken {
         return Ok(());
     }
-    let taken = yes_or_no(is_taken);
-    let line = format!(in alloc; "hint {number}: waited {turns}, taken {taken}\n")?;
-    text.extend_from_slice(line.as_bytes())
+    push_start(alloc, text, "hint ", u32::from(hint.number()))?;
+    push_hint_text(alloc, text, turns, is_taken)
 }
 
 /// Appends the lines of hints that were waited for or taken.
-#[tactic(auto, using(crate::proofs::EntryLemmas::lines))]
+#[tactic(auto, using(crate::proofs::EntryLemmas::no_lines))]
 pub(crate) fn push_hints(alloc: Global, text: &mut Vec<u8>, state: &State) -> Result<(), AllocError>
     ensures { OnOk result (text.new.items ≡ text.old.items ++ text_up_to (hint_line state.now) 20) }
 {

@@ -1,6 +1,10 @@
 //! The numbers of a state are within what is written of numbers. It is a law, so nothing is done
 //! but that the numbers are gone over, of which each says its range.
 
+ghost use Rattle.std.specs.Prelude.{◌≡◌, ◌≤◌, length, Some};
+ghost use Rattle.cave_world.specs.State.{visits_of};
+ghost use Rattle.cave_state_text.specs.Numbers.{IsNumber};
+ghost use Rattle.cave_state_text.specs.Things.{dwarf_of, hint_turns};
 ghost use Rattle.cave_state_text.specs.Within.{IsWithin, AreFactsWithin, AreObjectsWithin};
 ghost use Rattle.cave_state_text.specs.Within.{AreVisitsWithin, AreDwarvesWithin, AreHintsWithin};
 ghost use Rattle.cave_state_text.specs.Within.{IsTrailWithin, IsQuestionWithin, IsClosingWithin};
@@ -13,7 +17,7 @@ use cave_objects::place::PLACES;
 use cave_objects::{Anchor, Object, Objects, Place, Spot};
 use cave_world::dwarves::DWARVES;
 use cave_world::hints::HINTS;
-use cave_world::{Closing, Dwarf, Knife, Question, State, Talk, Tallies, Trail};
+use cave_world::{Closing, Knife, Question, State, Talk, Tallies, Trail};
 
 fn trail(trail: Trail)
     ensures { IsTrailWithin trail }
@@ -25,17 +29,30 @@ fn trail(trail: Trail)
     );
 }
 
+fn asked(question: Question)
+    ensures { IsQuestionWithin (Some question) }
+{
+    match question {
+        Question::Hint(hint) => {
+            let _ = hint.number();
+        }
+        Question::Take(hint) => {
+            let _ = hint.number();
+        }
+        Question::Welcome => {}
+        Question::Quit => {}
+        Question::ScoreQuit => {}
+        Question::Die => {}
+        Question::Oyster => {}
+        Question::Dragon => {}
+    }
+}
+
 fn question(question: Option<Question>)
     ensures { IsQuestionWithin question }
 {
-    match question {
-        Some(Question::Hint(hint)) => {
-            let _ = hint.number();
-        }
-        Some(Question::Take(hint)) => {
-            let _ = hint.number();
-        }
-        _ => {}
+    if let Some(question) = question {
+        asked(question);
     }
 }
 
@@ -124,33 +141,60 @@ fn objects(objects: &Objects)
     }
 }
 
+fn has_all<T, const N: usize>(items: &[T; N])
+    ensures { length items.now ≡ N }
+{
+    let _ = items;
+}
+
+fn visits_of(state: &State, place: Place)
+    ensures { IsNumber (visits_of state.now place) }
+{
+    let _ = state.visits(place).number();
+}
+
 fn visits(state: &State)
     ensures { AreVisitsWithin state.now }
 {
+    has_all(&state.visits);
     for before in 0..PLACES as u16 {
-        let _ = state.visits(Place::new(before + 1)).number();
+        visits_of(state, Place::new(before + 1));
     }
 }
 
-fn dwarf(dwarf: Dwarf)
-    ensures { IsDwarfWithin dwarf }
+fn dwarf(state: &State, number: u8)
+    requires some { 1 ≤ number }
+    requires within { number ≤ 6 }
+    ensures { IsDwarfWithin (dwarf_of state.now number) }
 {
+    let dwarf = state.dwarves.each[usize::from(number) - 1];
     let _ = (dwarf.place.number(), dwarf.last.number());
 }
 
 fn dwarves(state: &State)
     ensures { AreDwarvesWithin state.now }
 {
-    for before in 0..DWARVES {
-        dwarf(state.dwarves.each[before]);
+    has_all(&state.dwarves.each);
+    for before in 0..DWARVES as u8 {
+        dwarf(state, before + 1);
     }
+}
+
+fn hint(state: &State, number: u8)
+    requires some { 1 ≤ number }
+    requires within { number ≤ 20 }
+    ensures { IsNumber (hint_turns state.now number) }
+{
+    let _ = state.hints.turns[usize::from(number) - 1].number();
 }
 
 fn hints(state: &State)
     ensures { AreHintsWithin state.now }
 {
-    for before in 0..HINTS {
-        let _ = state.hints.turns[before].number();
+    has_all(&state.hints.turns);
+    has_all(&state.hints.is_taken);
+    for before in 0..HINTS as u8 {
+        hint(state, before + 1);
     }
 }
 

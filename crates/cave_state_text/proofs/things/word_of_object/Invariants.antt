@@ -5,5 +5,5 @@ use Rattle.cave_state_text.proofs.things.word_of_object.Given as goal
 
 abbrev pub invariant-loop-i : goal.invariant-loop-i
 invariant-loop-i l =
-    find (λ row. row.number == 1000 + l.object) (drop l.i l.cave.words)
-    ≡ find (λ row. row.number == 1000 + l.object) l.cave.words
+    find (λ row. row.number == 1000 + l.fn.object) (drop l.i l.cave.words)
+    ≡ find (λ row. row.number == 1000 + l.fn.object) l.cave.words
