@@ -46,9 +46,9 @@ hints_read a b s t ha hb past other e =
     (λ n. hint_text (hint_turns b n) (is_hint_taken b n)) (AreSameHints a b) 20 s t (omega arith)
     (λ n up. (
       λ here there.
-      let one = unused (hint_turns a n) (is_hint_taken a n) here in
-      let two = unused (hint_turns b n) (is_hint_taken b n) there in
-      (one.0 ∙ sym two.0, one.1 ∙ sym two.1),
+          let one = unused (hint_turns a n) (is_hint_taken a n) here in
+          let two = unused (hint_turns b n) (is_hint_taken b n) there in
+          (one.0 ∙ sym two.0, one.1 ∙ sym two.1),
       λ u v. hint_read (hint_turns a n) (hint_turns b n) (is_hint_taken a n) (is_hint_taken b n) u v
           (ha.each n up) (hb.each n up),
     ))

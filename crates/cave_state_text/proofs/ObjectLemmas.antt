@@ -81,8 +81,8 @@ thing_read cave o p x ho hp s t e =
     let more = codes "\n" in
     let tail : ℤ → List ℕ → List ℕ = λ z u. prop_text ((signed_decimal z ++ codes "\n") ++ u) in
     let split : (a : Anchor) (z : ℤ) (u : List ℕ)
-        → (anchor_text a ++ (codes ", prop " ++ (signed_decimal z ++ codes "\n"))) ++ u
-        ≡ anchor_text a ++ tail z u = λ a z u. append_assoc (anchor_text a) _ u in
+    → (anchor_text a ++ (codes ", prop " ++ (signed_decimal z ++ codes "\n"))) ++ u
+    ≡ anchor_text a ++ tail z u = λ a z u. append_assoc (anchor_text a) _ u in
     let anchors = ap (λ r. spot_text (spot_of o x) ++ r)
     (sym (split (anchor_of o x) (prop_of o x) s))
     ∙ (spots ∙ ap (λ r. spot_text (spot_of p x) ++ r) (split (anchor_of p x) (prop_of p x) t)) in
@@ -115,8 +115,7 @@ as_begun begun o x e =
     let anchors = anchor_eq.eq-value.it (anchor_of o x) (anchor_of begun x) in
     let props = int_eq (prop_of o x) (prop_of begun x) in
     let one = both_true spots (anchors && props) e in
-    let two = both_true anchors props one.1 in
-    (
+    let two = both_true anchors props one.1 in (
       (spot_decides (spot_of o x) (spot_of begun x)).0 one.0,
       (
         (anchor_decides (anchor_of o x) (anchor_of begun x)).0 two.0,
@@ -135,9 +134,9 @@ objects_read cave begun o p s t ho hp past other e =
     (thing_text cave p) (AreSameThings o p) 100 s t (omega arith)
     (λ x up. (
       λ here there.
-      let one = as_begun begun o x here in
-      let two = as_begun begun p x there in
-      (one.0 ∙ sym two.0, (one.1.0 ∙ sym two.1.0, one.1.1 ∙ sym two.1.1)),
+          let one = as_begun begun o x here in
+          let two = as_begun begun p x there in
+          (one.0 ∙ sym two.0, (one.1.0 ∙ sym two.1.0, one.1.1 ∙ sym two.1.1)),
       thing_read cave o p x (ho.things x up) (hp.things x up),
     ))
     past other e
@@ -164,11 +163,11 @@ pub things_same : (o p : Layout) → AreObjectsWithin o → AreObjectsWithin p
     → (o.first ≡ p.first) × ((o.second ≡ p.second) × (o.props ≡ p.props))
 things_same o p ho hp each = (
   listed spot.Away o.first p.first 100 ho.spots hp.spots
-  (λ n up. spot_at o p n (not_zero n up.0) (each n up).0),
+      (λ n up. spot_at o p n (not_zero n up.0) (each n up).0),
   (
     listed anchor.Loose o.second p.second 100 ho.anchors hp.anchors
-    (λ n up. anchor_at o p n (not_zero n up.0) (each n up).1.0),
+        (λ n up. anchor_at o p n (not_zero n up.0) (each n up).1.0),
     listed (pos 0) o.props p.props 100 ho.props hp.props
-    (λ n up. prop_at o p n (not_zero n up.0) (each n up).1.1),
+        (λ n up. prop_at o p n (not_zero n up.0) (each n up).1.1),
   ),
 )

@@ -145,9 +145,9 @@ places_read begun o p s t ho hp past other e =
     (λ place. halves_text (halves_at place p.lists)) (AreSameAt o p) 300 s t (omega arith)
     (λ place up. (
       λ here there.
-      (pointwise_decides half_decides (halves_at place o.lists) (halves_at place begun.lists)).0 here
-      ∙ sym ((pointwise_decides half_decides (halves_at place p.lists)
-      (halves_at place begun.lists)).0 there),
+          (pointwise_decides half_decides (halves_at place o.lists) (halves_at place begun.lists)).0 here
+          ∙ sym ((pointwise_decides half_decides (halves_at place p.lists)
+          (halves_at place begun.lists)).0 there),
       λ u v. halves_read (halves_at place o.lists) (halves_at place p.lists) u v (halves_of_lists place o.lists ho.lists)
           (halves_of_lists place p.lists hp.lists),
     ))

@@ -29,10 +29,12 @@ visits_read a b s t ha hb past other e =
     (λ n. visits_of a n ≡ visits_of b n) 300 s t (omega arith)
     (λ n up. (
       λ here there.
-      (unsigned_Decides (visits_of a n) 0).0 here
-      ∙ sym ((unsigned_Decides (visits_of b n) 0).0 there),
+          (unsigned_Decides (visits_of a n) 0).0 here
+          ∙ sym ((unsigned_Decides (visits_of b n) 0).0 there),
       λ u v. line_read (codes " ") (visits_of a n) (visits_of b n) u v (ha.each n up) (hb.each n up),
     ))
-    past other e in
-    (listed 0 a.visits b.visits 300 ha.all hb.all
-    (λ n up. visits_at a b n (not_zero n up.0) (read.0 n up)), read.1)
+    past other e in (
+      listed 0 a.visits b.visits 300 ha.all hb.all
+          (λ n up. visits_at a b n (not_zero n up.0) (read.0 n up)),
+      read.1,
+    )

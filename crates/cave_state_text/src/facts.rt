@@ -7,8 +7,9 @@ ghost use Rattle.cave_state_text.specs.Facts.{lamp_text, closing_text, tallies_t
 ghost use Rattle.cave_state_text.specs.Facts.{talk_text, anger_text, knife_text};
 
 use cave_objects::Object;
-use cave_world::{Closing, Count, Dwarves, Ending, Knife, Lamp, Magic, Question, Talk};
-use cave_world::{Tallies, Trail};
+use cave_world::{
+    Closing, Count, Dwarves, Ending, Knife, Lamp, Magic, Question, Talk, Tallies, Trail,
+};
 use std::alloc::{AllocError, Global};
 
 pub(crate) fn yes_or_no(answer: bool) -> &'static str
@@ -172,12 +173,7 @@ pub(crate) fn push_lamp(alloc: Global, text: &mut Vec<u8>, lamp: Lamp) -> Result
     push_answer(alloc, text, "lamp warned ", lamp.is_warned)
 }
 
-fn push_clock(
-    alloc: Global,
-    text: &mut Vec<u8>,
-    before: &str,
-    clock: i8,
-) -> Result<(), AllocError>
+fn push_clock(alloc: Global, text: &mut Vec<u8>, before: &str, clock: i8) -> Result<(), AllocError>
     ensures { OnOk result (text.new.items ≡ text.old.items ++ signed_line before.now clock) }
 {
     push_signed(alloc, text, before, i32::from(clock))

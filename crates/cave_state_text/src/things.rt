@@ -42,9 +42,7 @@ fn push_spot(alloc: Global, text: &mut Vec<u8>, spot: Spot) -> Result<(), AllocE
     match spot {
         Spot::Away => text.extend_from_slice(b" away"),
         Spot::Carried => text.extend_from_slice(b" carried"),
-        Spot::At(site) => {
-            push_numbered(alloc, text, " at ", u32::from(site.place().number()))
-        }
+        Spot::At(site) => { push_numbered(alloc, text, " at ", u32::from(site.place().number())) }
     }
 }
 
@@ -70,12 +68,7 @@ fn is_as_in(begun: &Objects, objects: &Objects, object: Object) -> bool
 }
 
 /// Appends the start of a line for what a number names.
-fn push_start(
-    alloc: Global,
-    text: &mut Vec<u8>,
-    name: &str,
-    number: u32,
-) -> Result<(), AllocError>
+fn push_start(alloc: Global, text: &mut Vec<u8>, name: &str, number: u32) -> Result<(), AllocError>
     ensures { OnOk result (text.new.items ≡ text.old.items
         ++ (name.now ++ (decimal number ++ codes ":"))) }
 {
@@ -99,7 +92,12 @@ fn push_thing(
     text.extend_from_slice(word_of_object(cave, object))?;
     push_spot(alloc, text, objects.spot(object))?;
     push_anchor(alloc, text, objects.anchor(object))?;
-    push_signed(alloc, text, ", prop ", i32::from(objects.prop(object).value()))
+    push_signed(
+        alloc,
+        text,
+        ", prop ",
+        i32::from(objects.prop(object).value()),
+    )
 }
 
 /// Appends the line of an object, if it isn't as it was when the game began.
