@@ -1,6 +1,6 @@
 //! Lines for what there is once in a state.
 
-ghost use Rattle.std.specs.Prelude.{◌≡◌, ◌++◌, OnOk, codes};
+ghost use Rattle.std.specs.Prelude.{◌≡◌, ◌++◌, OnOk, codes, decimal};
 ghost use Rattle.cave_state_text.specs.Facts.{yes_or_no, numbered, number_line, signed_line, answer_line};
 ghost use Rattle.cave_state_text.specs.Facts.{counts_text, trail_text, question_text, end_line};
 ghost use Rattle.cave_state_text.specs.Facts.{lamp_text, closing_text, tallies_text, verb_text};
@@ -30,6 +30,20 @@ pub(crate) fn push_numbered(
 {
     let words = format!(in alloc; "{before}{number}")?;
     text.extend_from_slice(words.as_bytes())
+}
+
+/// Appends the start of a line for what a number names.
+pub(crate) fn push_start(
+    alloc: Global,
+    text: &mut Vec<u8>,
+    name: &str,
+    number: u32,
+) -> Result<(), AllocError>
+    ensures { OnOk result (text.new.items ≡ text.old.items
+        ++ (name.now ++ (decimal number ++ codes ":"))) }
+{
+    let start = format!(in alloc; "{name}{number}:")?;
+    text.extend_from_slice(start.as_bytes())
 }
 
 /// Appends a line with a number.

@@ -3,11 +3,14 @@
 ghost use Rattle.std.specs.Prelude.{◌≡◌, ◌++◌, OnOk, codes};
 ghost use Rattle.cave_state_text.specs.StateText.{state_text, game_text, objects_text, rest_text};
 
+use crate::dwarves::push_dwarves;
 use crate::facts::{
     push_anger, push_closing, push_counts, push_ending, push_knife, push_lamp, push_number,
     push_question, push_talk, push_tallies, push_trail,
 };
-use crate::things::{push_dwarves, push_hints, push_objects, push_places, push_visits};
+use crate::hints::push_hints;
+use crate::objects::push_objects;
+use crate::places::{push_places, push_visits};
 use cave_data::Cave;
 use cave_objects::Objects;
 use cave_world::State;

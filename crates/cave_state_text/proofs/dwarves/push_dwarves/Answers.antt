@@ -1,7 +1,7 @@
 use Rattle.std.proofs.Common.{refl, ◌+◌}
 use Rattle.cave_state_text.specs.Things.{dwarf_line}
 use Rattle.cave_state_text.proofs.EntryLemmas.{one_line}
-use Rattle.cave_state_text.proofs.things.push_dwarves.Goals as goal
+use Rattle.cave_state_text.proofs.dwarves.push_dwarves.Goals as goal
 
 pub loop-before-preserved : goal.loop-before-preserved
 loop-before-preserved c =

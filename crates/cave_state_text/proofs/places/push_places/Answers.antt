@@ -1,6 +1,6 @@
 use Rattle.cave_state_text.specs.Things.{place_line}
 use Rattle.cave_state_text.proofs.EntryLemmas.{one_line}
-use Rattle.cave_state_text.proofs.things.push_places.Goals as goal
+use Rattle.cave_state_text.proofs.places.push_places.Goals as goal
 
 pub loop-before-preserved : goal.loop-before-preserved
 loop-before-preserved c =

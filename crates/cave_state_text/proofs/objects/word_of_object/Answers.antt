@@ -2,7 +2,7 @@ use Rattle.std.proofs.Common.{◌≡◌, ◌≤◌, arith, subst, length, Some}
 use Rattle.std.specs.Prelude.{slice_get}
 use Rattle.cave_rows.specs.RowViews.{word_entry}
 use Rattle.cave_state_text.proofs.WordLemmas.{found_word, passed_row, no_word}
-use Rattle.cave_state_text.proofs.things.word_of_object.Goals as goal
+use Rattle.cave_state_text.proofs.objects.word_of_object.Goals as goal
 
 pub returns-then-row-number : goal.returns-then-row-number
 returns-then-row-number c =

@@ -2,7 +2,7 @@
 use Rattle.std.proofs.Common.{◌≡◌, ◌++◌}
 use Rattle.cave_state_text.specs.Entries.{text_up_to}
 use Rattle.cave_state_text.specs.Things.{hint_line}
-use Rattle.cave_state_text.proofs.things.push_hints.Given as goal
+use Rattle.cave_state_text.proofs.hints.push_hints.Given as goal
 
 abbrev pub invariant-loop-before : goal.invariant-loop-before
 invariant-loop-before l =

@@ -1,7 +1,7 @@
 -- No row so far is of the object.
 use Rattle.std.proofs.Common.{◌≡◌, ◌+◌, drop}
 use Rattle.std.specs.Prelude.{◌==◌, find}
-use Rattle.cave_state_text.proofs.things.word_of_object.Given as goal
+use Rattle.cave_state_text.proofs.objects.word_of_object.Given as goal
 
 abbrev pub invariant-loop-i : goal.invariant-loop-i
 invariant-loop-i l =
