@@ -109,9 +109,7 @@ fn play_command<'a>(alloc: Global) -> Result<Command<'a>, AllocError>
     ensures { IfOk result (IsLocal play_app) }
 {
     let command = Command::new(alloc, "play")
-        .about(
-            "Plays a log from its first line to its last and prints what the game says or its state",
-        )
+        .about("Plays a log from its first line to its last and prints what is said or the state")
         .after_help(PLAY_EXAMPLE);
     let command = with_options(alloc, with_game(alloc, command)?)?;
     with_output(alloc, command.arg(play_print_argument(alloc))?)

@@ -28,7 +28,9 @@ one_played_output database bindings log seed view =
     let (cave, reads, is) = first in
     let (kept, rereads, same) = second in
     let game = game_of seed (lines log) in
-    is ∙ ap (λ c. play_view_text view c game) (same_cave database bindings kept cave rereads reads) ∙ sym same
+    is
+    ∙ ap (λ c. play_view_text view c game) (same_cave database bindings kept cave rereads reads)
+    ∙ sym same
 
 -- a script spells the same items, whoever reads it
 same_items : (script : List ℕ) (items others : List Applied)

@@ -27,8 +27,9 @@ KnowsNoCheckpoints Log = ⊤
 KnowsNoCheckpoints Reports = ⊥
 KnowsNoCheckpoints FinalState = ⊤
 
--- with a log, a script and a seed, one output of an edit, of the transcript, with reports or without,
--- of the edited log and of the final state, whatever the distances of checkpoints, and whether the runs are strict
+-- with a log, a script and a seed, one output of an edit, of the transcript, with reports or
+-- without, of the edited log and of the final state, whatever the distances of checkpoints, and
+-- whether the runs are strict
 abbrev pub OneEditedOutput : Type 0
 OneEditedOutput =
     (database bindings log script : List ℕ) (seed near far : ℕ) (view : View)

@@ -1,6 +1,6 @@
 -- Lines for what numbers name are read back, each by its number.
 use Rattle.std.proofs.Common.{◌≡◌, ℕ, suc, zero, ◌+◌, ◌<◌, ◌≤◌, Bool, true, false, List}
-use Rattle.std.proofs.Common.{[], ◌∷◌, ◌++◌, refl, sym, ap, ◌∙◌, arith, append_assoc}
+use Rattle.std.proofs.Common.{◌∷◌, ◌++◌, refl, sym, ap, ◌∙◌, arith, append_assoc}
 use Rattle.std.proofs.Common.{add-one, subst, ◌⊎◌, inl, inr}
 use Rattle.std.specs.Prelude.{codes}
 use Rattle.std.specs.Fmt.{decimal}
@@ -8,7 +8,7 @@ use Rattle.std.proofs.lemmas.Bool.{cases_lt}
 use Rattle.std.proofs.lemmas.List.{append_cancel_left, append-nil}
 use Rattle.cave_state_text.specs.Entries.{entry, text_up_to}
 use Rattle.cave_state_text.specs.Numbers.{IsNumber, IsUpTo}
-use Rattle.cave_state_text.proofs.Reading.{number_read, GoesOn}
+use Rattle.cave_state_text.proofs.Reading.{number_read}
 
 up_or_last : {P : ℕ → Type 0} (last n : ℕ) → IsUpTo (suc last) n
     → ((m : ℕ) → IsUpTo last m → P m) → P (suc last) → P n
@@ -36,8 +36,8 @@ module _ (name : List ℕ) where
       → IsPast k (name ++ (decimal n ++ (58 ∷ rest)))
   later n k rest h less m more within e =
       let text = append_cancel_left name _ _ e in
-      let both = number_read n m (58 ∷ rest) (58 ∷ more) h (omega (arith, h, less, within)) refl refl
-      text in
+      let both =
+      number_read n m (58 ∷ rest) (58 ∷ more) h (omega (arith, h, less, within)) refl refl text in
       absurd (omega (arith, both.0, less, within))
 
   fewer : (n k : ℕ) (s : List ℕ) → k ≤ n → IsPast n s → IsPast k s

@@ -1,5 +1,5 @@
 -- What there is once in a state is read back from its lines.
-use Rattle.std.proofs.Common.{◌≡◌, ℕ, ℤ, Bool, List, ◌++◌, Option, Some, None, refl, ap}
+use Rattle.std.proofs.Common.{◌≡◌, ℕ, ℤ, Bool, List, ◌++◌, Option, Some, None, refl}
 use Rattle.std.specs.Prelude.{codes}
 use Rattle.std.proofs.lemmas.Bool.{false≢true}
 use Rattle.std.proofs.lemmas.List.{append_cancel_left}
@@ -17,7 +17,8 @@ use Rattle.cave_world.specs.declared.closing.Closing.{Closing}
 use Rattle.cave_world.specs.declared.talk.Talk.{Talk}
 use Rattle.cave_state_text.specs.Facts.{counts_text, trail_text, question_text, end_line}
 use Rattle.cave_state_text.specs.Facts.{lamp_text, closing_text, tallies_text, verb_text, talk_text}
-use Rattle.cave_state_text.specs.Facts.{anger_text, knife_text, number_line, signed_line, answer_line}
+use Rattle.cave_state_text.specs.Facts.{anger_text, knife_text, number_line, signed_line}
+use Rattle.cave_state_text.specs.Facts.{answer_line}
 use Rattle.cave_state_text.specs.Numbers.{IsNumber, IsSigned}
 use Rattle.cave_state_text.specs.Within.{IsTrailWithin, IsQuestionWithin, IsClosingWithin}
 use Rattle.cave_state_text.specs.Within.{AreTalliesWithin, IsVerbWithin, IsTalkWithin}

@@ -131,6 +131,12 @@ no_place (e ∷ es) l =
 abbrev AreSameAt : Layout → Layout → ℕ → Type 0
 AreSameAt o p place = halves_at place o.lists ≡ halves_at place p.lists
 
+as_begun : (begun o : Layout) (place : ℕ)
+    → pointwise half_eq.eq-value.it (halves_at place o.lists) (halves_at place begun.lists) ≡ true
+    → AreSameAt o begun place
+as_begun begun o place e =
+    (pointwise_decides half_decides (halves_at place o.lists) (halves_at place begun.lists)).0 e
+
 pub places_read : (begun o p : Layout) (s t : List ℕ) → AreObjectsWithin o → AreObjectsWithin p
     → IsPast (codes "place ") 300 s → IsPast (codes "place ") 300 t
     → text_up_to (place_line begun o) 300 ++ s ≡ text_up_to (place_line begun p) 300 ++ t
@@ -145,11 +151,9 @@ places_read begun o p s t ho hp past other e =
     (λ place. halves_text (halves_at place p.lists)) (AreSameAt o p) 300 s t (omega arith)
     (λ place up. (
       λ here there.
-          (pointwise_decides half_decides (halves_at place o.lists) (halves_at place begun.lists)).0 here
-          ∙ sym ((pointwise_decides half_decides (halves_at place p.lists)
-          (halves_at place begun.lists)).0 there),
-      λ u v. halves_read (halves_at place o.lists) (halves_at place p.lists) u v (halves_of_lists place o.lists ho.lists)
-          (halves_of_lists place p.lists hp.lists),
+          as_begun begun o place here ∙ sym (as_begun begun p place there),
+      λ u v. halves_read (halves_at place o.lists) (halves_at place p.lists) u v
+          (halves_of_lists place o.lists ho.lists) (halves_of_lists place p.lists hp.lists),
     ))
     past other e in
     (λ place. everywhere place read.0 (cases_lt 300 place) (cases_lt 0 place), read.1)

@@ -1,5 +1,5 @@
 -- A state is read back from its text.
-use Rattle.std.proofs.Common.{◌≡◌, ℕ, ◌<◌, List, [], ◌∷◌, ◌++◌, refl, sym, ap, ◌∙◌, arith}
+use Rattle.std.proofs.Common.{◌≡◌, ℕ, List, [], ◌++◌, sym, ap, ◌∙◌, arith}
 use Rattle.std.proofs.Common.{append_assoc, Option, Some, None}
 use Rattle.std.proofs.lemmas.Bool.{false≢true}
 use Rattle.std.proofs.lemmas.List.{append-nil}
@@ -8,19 +8,19 @@ use Rattle.cave_data.specs.CaveView.{CaveView}
 use Rattle.cave_objects.specs.Layout.{Layout}
 use Rattle.cave_objects.specs.Lists.{halves_at}
 use Rattle.cave_world.specs.SameGame.{IsSameGame, same_state}
+use Rattle.cave_world.specs.declared.dwarves.Dwarves.{Dwarves}
 use Rattle.cave_world.specs.declared.dwarves.Knife.{Knife}
 use Rattle.cave_world.specs.declared.dwarves.Knife.TheVariants.{Unthrown, At, Vanished}
 use Rattle.cave_world.specs.declared.state.State.{State}
 use Rattle.cave_world.specs.declared.talk.Talk.{Talk}
 use Rattle.cave_state_text.specs.Entries.{text_up_to}
-use Rattle.cave_state_text.specs.Facts.{counts_text, trail_text, question_text, end_line}
-use Rattle.cave_state_text.specs.Facts.{lamp_text, closing_text, tallies_text, talk_text}
+use Rattle.cave_state_text.specs.Facts.{trail_text, question_text, end_line}
+use Rattle.cave_state_text.specs.Facts.{lamp_text, closing_text, talk_text}
 use Rattle.cave_state_text.specs.Facts.{verb_text}
 use Rattle.cave_state_text.specs.Facts.{anger_text, knife_text, number_line}
 use Rattle.cave_state_text.specs.Laws.{AreToldApart}
 use Rattle.cave_state_text.specs.StateText.{state_text, game_text, objects_text, rest_text}
-use Rattle.cave_state_text.specs.Things.{object_line, place_line, visits_line, dwarf_line}
-use Rattle.cave_state_text.specs.Things.{hint_line}
+use Rattle.cave_state_text.specs.Things.{object_line, place_line, visits_line}
 use Rattle.cave_state_text.specs.Within.{IsWithin}
 use Rattle.cave_state_text.proofs.EntryLemmas.{IsPast}
 use Rattle.cave_state_text.proofs.FactLemmas.{counts_read, trail_read, question_read, ending_read}
@@ -92,6 +92,19 @@ knife_past Unthrown s number more within clash = false≢true (differ 0 _ _ clas
 knife_past (At place) s number more within clash = false≢true (differ 0 _ _ clash)
 knife_past Vanished s number more within clash = false≢true (differ 0 _ _ clash)
 
+anger_past : (dwarves : Dwarves) (s : List ℕ)
+    → IsPast (codes "place ") 300 (anger_text dwarves ++ s)
+unfolding anger_text number_line
+anger_past dwarves s number more within clash = false≢true (differ 0 _ _ clash)
+
+stream_past : (stream : ℕ) (s : List ℕ)
+    → IsPast (codes "hint ") 20 (number_line (codes "stream ") stream ++ s)
+unfolding number_line
+stream_past stream s number more within clash = false≢true (differ 0 _ _ clash)
+
+nothing_past : IsPast (codes "visits ") 300 []
+nothing_past number more within clash = false≢true (differ 0 _ _ clash)
+
 record AreSameObjects (a b : State) : Type 0 where
   spots : a.objects.first ≡ b.objects.first
   anchors : a.objects.second ≡ b.objects.second
@@ -104,7 +117,6 @@ things_read : (cave : CaveView) (begun : Layout) (a b : State) (s t : List ℕ) 
     → objects_text cave begun a ++ (anger_text a.dwarves ++ s)
     ≡ objects_text cave begun b ++ (anger_text b.dwarves ++ t)
     → AreSameObjects a b × (anger_text a.dwarves ++ s ≡ anger_text b.dwarves ++ t)
-unfolding anger_text number_line
 things_read cave begun a b s t ha hb e =
     let rest = anger_text a.dwarves ++ s in
     let other = anger_text b.dwarves ++ t in
@@ -121,7 +133,7 @@ things_read cave begun a b s t ha hb e =
     (peel (talk_text a.talk) (talk_text b.talk) lists others rest other objects.1) in
     let places =
     places_read begun a.objects b.objects rest other ha.objects hb.objects
-    (λ number more within clash. false≢true (differ 0 _ _ clash)) (λ number more within clash. false≢true (differ 0 _ _ clash)) talk.1 in
+    (anger_past a.dwarves s) (anger_past b.dwarves t) talk.1 in
     let same = things_same a.objects b.objects ha.objects hb.objects objects.0 in (
       record {
         spots = same.0;
@@ -141,7 +153,6 @@ record AreSameOthers (a b : State) : Type 0 where
 
 rest_read : (a b : State) → IsWithin a → IsWithin b → rest_text a ≡ rest_text b
     → AreSameOthers a b
-unfolding number_line
 rest_read a b ha hb e =
     let anger =
     anger_read a.dwarves b.dwarves _ _ ha.facts.anger hb.facts.anger ha.facts.kills
@@ -152,16 +163,16 @@ rest_read a b ha hb e =
     let knife =
     knife_read a.dwarves.knife b.dwarves.knife _ _ ha.facts.knife hb.facts.knife each.1 in
     let hints =
-    hints_read a b _ _ ha.hints hb.hints (λ number more within clash. false≢true (differ 0 _ _ clash))
-    (λ number more within clash. false≢true (differ 0 _ _ clash)) knife.1 in
+    hints_read a b _ _ ha.hints hb.hints (stream_past a.stream _) (stream_past b.stream _)
+    knife.1 in
     let stream =
     line_read (codes "stream ") a.stream b.stream _ _ ha.facts.stream hb.facts.stream hints.1 in
     let nothing : (z : State)
     → text_up_to (visits_line z) 300 ++ [] ≡ text_up_to (visits_line z) 300 =
     λ z. append-nil _ in
     let visits =
-    visits_read a b [] [] ha.visits hb.visits (λ number more within clash. false≢true (differ 0 _ _ clash))
-    (λ number more within clash. false≢true (differ 0 _ _ clash)) (nothing a ∙ (stream.1 ∙ sym (nothing b))) in
+    visits_read a b [] [] ha.visits hb.visits nothing_past nothing_past
+    (nothing a ∙ (stream.1 ∙ sym (nothing b))) in
     record {
       visits = visits.0;
       dwarves = λ i. record {

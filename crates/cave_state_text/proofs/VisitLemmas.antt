@@ -31,7 +31,8 @@ visits_read a b s t ha hb past other e =
       λ here there.
           (unsigned_Decides (visits_of a n) 0).0 here
           ∙ sym ((unsigned_Decides (visits_of b n) 0).0 there),
-      λ u v. line_read (codes " ") (visits_of a n) (visits_of b n) u v (ha.each n up) (hb.each n up),
+      λ u v. line_read (codes " ") (visits_of a n) (visits_of b n) u v (ha.each n up)
+          (hb.each n up),
     ))
     past other e in (
       listed 0 a.visits b.visits 300 ha.all hb.all

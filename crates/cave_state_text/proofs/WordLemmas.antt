@@ -1,7 +1,7 @@
 -- The first row of an object is found among the words of a cave.
 use Rattle.std.proofs.Common.{◌≡◌, ℕ, zero, suc, ◌+◌, ◌≤◌, Bool, true, false, List, [], ◌∷◌}
 use Rattle.std.proofs.Common.{Some, None, refl, sym, ap, ◌∙◌, add-one, drop, length, arith}
-use Rattle.std.specs.Prelude.{◌==◌, find, codes, Option, option_map, unwrap_or, slice_get}
+use Rattle.std.specs.Prelude.{◌==◌, find, codes, slice_get}
 use Rattle.std.proofs.lemmas.Bool.Decides.{nat_tests}
 use Rattle.std.proofs.lemmas.List.{drop_all}
 use Rattle.cave_data.specs.CaveView.{CaveView}

@@ -1,7 +1,7 @@
 -- The numbers of a state are within what is written of numbers.
 use Rattle.std.specs.Prelude.{◌≡◌, ℕ, ⊤, length, Option, None, Some}
 use Rattle.cave_objects.specs.Layout.{Layout}
-use Rattle.cave_objects.specs.Lists.{AreLists, halves_at}
+use Rattle.cave_objects.specs.Lists.{AreLists}
 use Rattle.cave_objects.specs.Links.{AreEntriesWithin}
 use Rattle.cave_objects.specs.Objects.{spot_of, anchor_of, prop_of}
 use Rattle.cave_objects.specs.declared.spot.Spot.{Spot}
@@ -12,7 +12,7 @@ use Rattle.cave_world.specs.State.{visits_of}
 use Rattle.cave_world.specs.declared.closing.Closing.{Closing}
 use Rattle.cave_world.specs.declared.dwarves.Dwarf.{Dwarf}
 use Rattle.cave_world.specs.declared.dwarves.Knife.{Knife}
-use Rattle.cave_world.specs.declared.dwarves.Knife.TheVariants.{Unthrown, At, Vanished}
+use Rattle.cave_world.specs.declared.dwarves.Knife.TheVariants.{At}
 use Rattle.cave_world.specs.declared.ending.Question.{Question}
 use Rattle.cave_world.specs.declared.ending.Question.TheVariants as question
 use Rattle.cave_world.specs.declared.state.State.{State}

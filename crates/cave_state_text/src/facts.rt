@@ -1,7 +1,8 @@
 //! Lines for what there is once in a state.
 
 ghost use Rattle.std.specs.Prelude.{◌≡◌, ◌++◌, OnOk, codes, decimal};
-ghost use Rattle.cave_state_text.specs.Facts.{yes_or_no, numbered, number_line, signed_line, answer_line};
+ghost use Rattle.cave_state_text.specs.Facts.{yes_or_no, numbered, number_line, signed_line};
+ghost use Rattle.cave_state_text.specs.Facts.{answer_line};
 ghost use Rattle.cave_state_text.specs.Facts.{counts_text, trail_text, question_text, end_line};
 ghost use Rattle.cave_state_text.specs.Facts.{lamp_text, closing_text, tallies_text, verb_text};
 ghost use Rattle.cave_state_text.specs.Facts.{talk_text, anger_text, knife_text};

@@ -1,7 +1,6 @@
 //! Lines for what is at places, and for how often they were described.
 
 ghost use Rattle.std.specs.Prelude.{◌≡◌, ◌++◌, OnOk};
-ghost use Rattle.cave_objects.specs.Lists.{halves_at};
 ghost use Rattle.cave_state_text.specs.Entries.{text_up_to};
 ghost use Rattle.cave_state_text.specs.Things.{half_text, halves_text, each_half, place_line};
 ghost use Rattle.cave_state_text.specs.Things.{visits_line};

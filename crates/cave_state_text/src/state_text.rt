@@ -1,6 +1,6 @@
 //! The text of a state.
 
-ghost use Rattle.std.specs.Prelude.{◌≡◌, ◌++◌, OnOk, codes};
+ghost use Rattle.std.specs.Prelude.{◌≡◌, ◌++◌, OnOk};
 ghost use Rattle.cave_state_text.specs.StateText.{state_text, game_text, objects_text, rest_text};
 
 use crate::dwarves::push_dwarves;

@@ -1,4 +1,4 @@
-use Rattle.std.proofs.Common.{◌++◌, ap, sym, ◌∙◌, refl, map}
+use Rattle.std.proofs.Common.{◌++◌, ap, sym, ◌∙◌}
 use Rattle.std.proofs.lemmas.Result.{on_ok_weaker}
 use Rattle.cave_play.proofs.FinalStateLemmas.{begun_objects, final_state-shown}
 use Rattle.cave_play.specs.FinalState.{final_state_text}

@@ -6,4 +6,5 @@ use Rattle.cave_state_text.proofs.objects.push_objects.Given as goal
 
 abbrev pub invariant-loop-before : goal.invariant-loop-before
 invariant-loop-before l =
-    l.text.items ≡ l.initial.text.items ++ text_up_to (object_line l.cave l.begun l.objects) l.before
+    l.text.items
+    ≡ l.initial.text.items ++ text_up_to (object_line l.cave l.begun l.objects) l.before

@@ -1,6 +1,6 @@
 -- Those so far are within.
 use Rattle.std.proofs.Common.{ℕ}
-use Rattle.cave_state_text.specs.Numbers.{IsNumber, IsUpTo}
+use Rattle.cave_state_text.specs.Numbers.{IsUpTo}
 use Rattle.cave_state_text.specs.Things.{dwarf_of}
 use Rattle.cave_state_text.specs.Within.{IsDwarfWithin}
 use Rattle.cave_state_text.proofs.within.dwarves.Given as goal

@@ -9,7 +9,9 @@ loop-before-init c = λ n up. absurd (omega (arith, up.0, up.1))
 
 pub loop-before-preserved : goal.loop-before-preserved
 loop-before-preserved c = λ n up.
-    one_more {P = (λ k. IsNumber (hint_turns c.args.state.now k))} c.loop-before.before (c.loop-before.before + 1) n refl c.loop-before.invariant c.hint.ensures up
+    one_more {P = (λ k. IsNumber (hint_turns c.args.state.now k))} c.loop-before.before
+    (c.loop-before.before + 1) n refl
+    c.loop-before.invariant c.hint.ensures up
 
 pub returns : goal.returns
 returns c = record {

@@ -1,4 +1,4 @@
-use Rattle.std.proofs.Common.{arith, refl, ◌+◌}
+use Rattle.std.proofs.Common.{arith}
 use Rattle.cave_state_text.specs.Within.{IsThingWithin}
 use Rattle.cave_state_text.proofs.WithinLemmas.{one_more}
 use Rattle.cave_state_text.proofs.within.objects.Goals as goal
@@ -8,7 +8,9 @@ loop-before-init c = λ n up. absurd (omega (arith, up.0, up.1))
 
 pub loop-before-preserved : goal.loop-before-preserved
 loop-before-preserved c = λ n up.
-    one_more {P = IsThingWithin c.args.objects.now} c.loop-before.before c.new.result n c.new.ensures c.loop-before.invariant c.thing.ensures up
+    one_more {P = IsThingWithin c.args.objects.now} c.loop-before.before
+    c.new.result n c.new.ensures
+    c.loop-before.invariant c.thing.ensures up
 
 pub returns : goal.returns
 returns c = record {
