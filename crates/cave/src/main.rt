@@ -8,7 +8,7 @@ use cave_cover::run::run_cover;
 use cave_play::bindings::{BindingsReader, CaveReaders};
 use cave_play::fault::{Complaint, Input, PlayFault, Unopened};
 use cave_play::run::{run_check, run_edit, run_play};
-use edit_options::Editing;
+use edit_options::{Editing, PlayView};
 use std::fs::File;
 use std::io::{ErrorKind, Write};
 use std::process::ExitCode;
@@ -127,11 +127,12 @@ fn play<'a, W: Write>(
     files: Files<'a>,
     log: &'a str,
     seed: u32,
+    view: PlayView,
     output: &mut W,
 ) -> Result<(), Failure<'a>> {
     let mut cave = open_cave(rt, files)?;
     let mut log = open(rt, Input::Log, log)?;
-    run_play(rt.alloc(), &mut cave, &mut log, seed, output)?;
+    run_play(rt.alloc(), &mut cave, &mut log, seed, view, output)?;
     Ok(())
 }
 
@@ -256,7 +257,12 @@ fn run_into<'a, W: Write>(
 ) -> Result<(), Failure<'a>> {
     match line {
         Line::Check { files } => check(rt, *files, output),
-        Line::Play { files, log, seed } => play(rt, *files, *log, *seed, output),
+        Line::Play {
+            files,
+            log,
+            seed,
+            view,
+        } => play(rt, *files, *log, *seed, *view, output),
         Line::Edit {
             files,
             log,

@@ -65,7 +65,7 @@ abbrev pub with_view : App → App
 with_view app = with_rule (with_rule (with_rule app every_rule) print_rule) strict_rule
 
 abbrev pub play_app : App
-play_app = with_output (with_options (with_game (new_app (codes "play"))))
+play_app = with_output (with_rule (with_options (with_game (new_app (codes "play")))) print_rule)
 
 abbrev pub edit_app : App
 edit_app = with_output

@@ -10,12 +10,16 @@ use Rattle.clap.specs.declared.error.kind.ErrorKind.TheVariants.{OutOfMemory}
 use Rattle.clap.specs.declared.parser.matches.ArgMatches.{ArgMatches}
 use Rattle.cave_command.specs.Number.{IsNumber, option_number}
 use Rattle.edit_options.specs.Editing.{view_named}
+use Rattle.edit_options.specs.Playing.{play_view_named}
 use Rattle.edit_options.specs.declared.editing.Editing.{Editing}
 use Rattle.edit_options.specs.declared.editing.View.{View}
 use Rattle.edit_options.specs.declared.editing.View.TheVariants.{Transcript}
+use Rattle.edit_options.specs.declared.playing.PlayView.{PlayView}
+use Rattle.edit_options.specs.declared.playing.PlayView.TheVariants as play
 use Rattle.cave_command.specs.declared.fault.CommandFault.{CommandFault}
 use Rattle.cave_command.specs.declared.fault.CommandFault.TheVariants.{Usage, Incomplete, BadSeed}
 use Rattle.cave_command.specs.declared.fault.CommandFault.TheVariants.{BadEvery, BadView, Memory}
+use Rattle.cave_command.specs.declared.fault.CommandFault.TheVariants.{BadPlayView}
 use Rattle.cave_command.specs.declared.line.Files.{Files}
 use Rattle.cave_command.specs.declared.line.Line.{Line}
 use Rattle.cave_command.specs.declared.line.Line.TheVariants.{Check, Play, Edit, Cover, Text}
@@ -56,6 +60,15 @@ IsView rows view = IsViewGiven (first_of (codes "print") rows) view
 abbrev pub is_strict : List Row → Bool
 is_strict rows = option_map_or (bytes_eq (codes "true")) (first_of (codes "strict") rows) false
 
+-- what a play prints, where this was found for it, or else the transcript
+abbrev pub IsPlayViewGiven : Option (List ℕ) → PlayView → Type 0
+IsPlayViewGiven None view = view ≡ play.Transcript
+IsPlayViewGiven (Some name) view = play_view_named name ≡ Some view
+
+-- what a play prints is what was found for it, or the transcript
+abbrev pub IsPlayView : List Row → PlayView → Type 0
+IsPlayView rows view = IsPlayViewGiven (first_of (codes "print") rows) view
+
 -- an edit is what was found for its options
 pub record IsEditing (rows : List Row) (editing : Editing) : Type 0 where
   pub seed : IsSeed rows editing.seed
@@ -66,9 +79,9 @@ pub record IsEditing (rows : List Row) (editing : Editing) : Type 0 where
 -- the line is what was found for the command of this name
 abbrev pub IsLineOf : List ℕ → List Row → Line → Type 0
 IsLineOf name rows (Check files) = (name ≡ codes "check") × IsFiles rows files
-IsLineOf name rows (Play files log seed) =
+IsLineOf name rows (Play files log seed view) =
     (name ≡ codes "play") × IsFiles rows files × (first_of (codes "log") rows ≡ Some log.now)
-    × IsSeed rows seed
+    × IsSeed rows seed × IsPlayView rows view
 IsLineOf name rows (Edit files log script editing) =
     (name ≡ codes "edit") × IsFiles rows files × (first_of (codes "log") rows ≡ Some log.now)
     × (first_of (codes "script") rows ≡ Some script.now) × IsEditing rows editing
@@ -132,11 +145,21 @@ IsBadView rows _ = ⊥
 abbrev pub IsBadEditing : List Row → CommandFault → Type 0
 IsBadEditing rows fault = IsBadSeed rows fault ⊎ (IsBadEvery rows fault ⊎ IsBadView rows fault)
 
+-- what was found for what a play prints names nothing that it may print
+abbrev pub IsBadPlayView : List Row → CommandFault → Type 0
+IsBadPlayView rows (BadPlayView name) = (first_of (codes "print") rows ≡ Some name.now)
+    × (play_view_named name.now ≡ None)
+IsBadPlayView rows _ = ⊥
+
+-- what is wrong with an option
+abbrev pub IsBadOption : List Row → CommandFault → Type 0
+IsBadOption rows fault = IsBadEditing rows fault ⊎ IsBadPlayView rows fault
+
 -- what is wrong with what was found
 abbrev pub IsWrong : MetCommand → CommandFault → Type 0
 IsWrong met Incomplete = is_complete met ≡ false
 IsWrong None fault = ⊥
-IsWrong (Some found) fault = IsBadEditing found.1 fault
+IsWrong (Some found) fault = IsBadOption found.1 fault
 
 -- why a line isn't made of what was found: what is wrong with it, unless memory ran out
 abbrev pub IsUnmade : MetCommand → CommandFault → Type 0

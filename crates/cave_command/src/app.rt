@@ -9,7 +9,7 @@ ghost use Rattle.cave_command.specs.App.{with_options, with_output, with_view};
 
 use crate::arguments::{
     bind_argument, cave_argument, every_argument, log_argument, logs_argument, output_argument,
-    print_argument, script_argument, seed_argument, strict_argument,
+    play_print_argument, print_argument, script_argument, seed_argument, strict_argument,
 };
 use clap::Command;
 use std::alloc::{AllocError, Global};
@@ -109,10 +109,10 @@ fn play_command<'a>(alloc: Global) -> Result<Command<'a>, AllocError>
     ensures { IfOk result (IsLocal play_app) }
 {
     let command = Command::new(alloc, "play")
-        .about("Plays a log from its first line to its last and prints what the game says")
+        .about("Plays a log from its first line to its last and prints what is said or the state")
         .after_help(PLAY_EXAMPLE);
     let command = with_options(alloc, with_game(alloc, command)?)?;
-    with_output(alloc, command)
+    with_output(alloc, command.arg(play_print_argument(alloc))?)
 }
 
 fn edit_command<'a>(alloc: Global) -> Result<Command<'a>, AllocError>

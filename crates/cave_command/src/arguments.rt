@@ -103,8 +103,21 @@ pub(crate) fn print_argument<'a>(alloc: Global) -> Arg<'a>
         .value_name("WHAT")
         .help(
             "What is printed: `transcript`, the reports and what the game says, `play`, what it \
-             says alone, `log`, the edited log without its seed, or `reports`, what each edit \
-             replayed [default: transcript]",
+             says alone, `log`, the edited log without its seed, `reports`, what each edit \
+             replayed, or `state`, the final state [default: transcript]",
+        )
+}
+
+pub(crate) fn play_print_argument<'a>(alloc: Global) -> Arg<'a>
+    ensures rule { rule_of result ≡ print_rule }
+    ensures local { result.global ≡ false }
+{
+    Arg::new(alloc, "print")
+        .long("print")
+        .value_name("WHAT")
+        .help(
+            "What is printed: `transcript`, what the game says, or `state`, the final state \
+             [default: transcript]",
         )
 }
 

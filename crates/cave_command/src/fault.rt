@@ -24,9 +24,12 @@ pub enum CommandFault<'a> {
         For more information, try '--help'.\n")]
     BadEvery(&'a str),
     #[error("error: invalid value '{0}' for '--print <WHAT>': wanted is transcript, \
-        play, log or reports\n\n\
+        play, log, reports or state\n\n\
         For more information, try '--help'.\n")]
     BadView(&'a str),
+    #[error("error: invalid value '{0}' for '--print <WHAT>': wanted is transcript or state\n\n\
+        For more information, try '--help'.\n")]
+    BadPlayView(&'a str),
     #[error("cave: there isn't enough memory\n")]
     Memory,
 }

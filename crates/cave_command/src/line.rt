@@ -1,5 +1,5 @@
 use clap::Error;
-use edit_options::Editing;
+use edit_options::{Editing, PlayView};
 
 /// The files of a cave, and the one that the output goes into.
 #[derive(Clone, Copy, Debug, PartialEq, Eq)]
@@ -21,6 +21,7 @@ pub enum Line<'a> {
         files: Files<'a>,
         log: &'a str,
         seed: u32,
+        view: PlayView,
     },
     Edit {
         files: Files<'a>,

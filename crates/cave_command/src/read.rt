@@ -10,6 +10,7 @@ ghost use Rattle.cave_command.specs.Line.{IsAsked, IsBadEditing, IsBadEvery, IsB
 ghost use Rattle.cave_command.specs.Line.{IsEditing, IsEveryGiven, IsFiles, IsLine, IsLineMet};
 ghost use Rattle.cave_command.specs.Line.{IsLineOf, IsRefusal, IsRefused, IsRequest, IsSeed};
 ghost use Rattle.cave_command.specs.Line.{IsUnmade, IsView, is_strict, rows_in};
+ghost use Rattle.cave_command.specs.Line.{IsBadPlayView, IsPlayView};
 
 use crate::app::cave_command;
 use crate::fault::CommandFault;
@@ -17,7 +18,7 @@ use crate::line::{Files, Line};
 use crate::number::number_in;
 use clap::error::ErrorKind;
 use clap::{ArgMatches, Error};
-use edit_options::{Editing, View};
+use edit_options::{Editing, PlayView, View};
 use limits::{MAX_EVERY, MAX_SEED, USUAL_EVERY};
 use std::alloc::Global;
 use std::convert::AsStr;
@@ -27,6 +28,9 @@ const USUAL_SEED: u32 = 0;
 
 /// What an edit prints where nothing is asked for.
 const USUAL_VIEW: View = View::Transcript;
+
+/// What a play prints where nothing is asked for.
+const USUAL_PLAY_VIEW: PlayView = PlayView::Transcript;
 
 /// What the words of a command line ask for. The first word is the program's name.
 pub fn command_line<'a, S: AsStr>(
@@ -97,8 +101,7 @@ fn line_of<'a>(
         return Err(CommandFault::Incomplete);
     };
     if name == "play" {
-        let seed = seed_in(found)?;
-        return Ok(Line::Play { files, log, seed });
+        return play_of(files, log, found);
     }
     let Some(script) = value_in(found, "script") else {
         return Err(CommandFault::Incomplete);
@@ -111,6 +114,27 @@ fn line_of<'a>(
         log,
         script,
         editing: editing_in(found)?,
+    })
+}
+
+/// The run of `play`, of a log in the cave that has these files.
+fn play_of<'a>(
+    files: Files<'a>,
+    log: &'a str,
+    found: &ArgMatches<'a>,
+) -> Result<Line<'a>, CommandFault<'a>>
+    requires files { IsFiles (rows_in found.now) files }
+    requires log { first_of (codes "log") (rows_in found.now) ≡ Some log.now }
+    ensures { MatchResult result (IsLineOf (codes "play") (rows_in found.now))
+        (IsUnmade (Some (codes "play", rows_in found.now))) }
+{
+    let seed = seed_in(found)?;
+    let view = play_view_in(found)?;
+    Ok(Line::Play {
+        files,
+        log,
+        seed,
+        view,
     })
 }
 
@@ -188,6 +212,16 @@ fn view_in<'a>(found: &ArgMatches<'a>) -> Result<View, CommandFault<'a>>
     match value_in(found, "print") {
         None => Ok(USUAL_VIEW),
         Some(name) => View::named(name).ok_or(CommandFault::BadView(name)),
+    }
+}
+
+fn play_view_in<'a>(found: &ArgMatches<'a>) -> Result<PlayView, CommandFault<'a>>
+    ensures { MatchResult result (IsPlayView (rows_in found.now))
+        (IsBadPlayView (rows_in found.now)) }
+{
+    match value_in(found, "print") {
+        None => Ok(USUAL_PLAY_VIEW),
+        Some(name) => PlayView::named(name).ok_or(CommandFault::BadPlayView(name)),
     }
 }
 

@@ -135,11 +135,10 @@ fn leave_message(rules: &Rules<'_>, state: &mut State)
 fn send_pirate_home(rules: &Rules<'_>, state: &mut State)
     ensures { state.new ≡ with_pirate_home (cave_of rules.now) state.old }
 {
-    let chest = place_named(rules.cave, PlaceRole::Chest);
     let pirate = dwarf_of(state, PIRATE);
     let pirate = Dwarf {
-        place: chest.unwrap_or(pirate.place),
-        last: chest.unwrap_or(pirate.last),
+        place: place_named(rules.cave, PlaceRole::Chest).unwrap_or(pirate.place),
+        last: place_named(rules.cave, PlaceRole::Chest).unwrap_or(pirate.last),
         has_seen: false,
     };
     set_dwarf(PIRATE, pirate, state);

@@ -62,7 +62,7 @@ pub fn candidates(
         let Some(place) = place_ahead(rules, is_pirate, dwarf, row) else {
             continue;
         };
-        if is_place(place, last) {
+        if last == Some(place) {
             continue;
         }
         found.push(Haunt::at(place));

@@ -1,4 +1,5 @@
 mod EditLemmas
+mod FinalStateLemmas
 pub mod InputLemmas
 mod JudgeLemmas
 mod OneOutputLemmas

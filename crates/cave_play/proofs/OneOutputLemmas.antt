@@ -5,13 +5,14 @@ use Rattle.cave_data.specs.CaveView.{CaveView}
 use Rattle.cave_data.proofs.ReadLemmas.{same_cave}
 use Rattle.edit_options.specs.declared.editing.View.{View}
 use Rattle.edit_options.specs.declared.editing.View.TheVariants.{Transcript, Play, Log, Reports}
+use Rattle.edit_options.specs.declared.editing.View.TheVariants.{FinalState}
 use Rattle.log_edits.specs.Game.{Game, game_of}
 use Rattle.edit_scripts.proofs.Grammar.{script_of-only}
 use Rattle.edit_scripts.specs.Item.{Applied}
 use Rattle.edit_scripts.specs.Script.{IsScript}
 use Rattle.cave_play.specs.OneOutput.{OneCheckedOutput, OnePlayedOutput, OneEditedOutput}
 use Rattle.cave_play.specs.OneOutput.{KnowsNoCheckpoints}
-use Rattle.cave_play.specs.Output.{check_text, play_text}
+use Rattle.cave_play.specs.Output.{check_text, play_view_text}
 use Rattle.cave_play.specs.Views.{IsViewOf}
 
 pub one_checked_output : OneCheckedOutput
@@ -22,12 +23,14 @@ one_checked_output database bindings =
     is ∙ ap check_text (same_cave database bindings kept cave rereads reads) ∙ sym same
 
 pub one_played_output : OnePlayedOutput
-one_played_output database bindings log seed =
+one_played_output database bindings log seed view =
     λ one other first second.
     let (cave, reads, is) = first in
     let (kept, rereads, same) = second in
     let game = game_of seed (lines log) in
-    is ∙ ap (λ c. play_text c game) (same_cave database bindings kept cave rereads reads) ∙ sym same
+    is
+    ∙ ap (λ c. play_view_text view c game) (same_cave database bindings kept cave rereads reads)
+    ∙ sym same
 
 -- a script spells the same items, whoever reads it
 same_items : (script : List ℕ) (items others : List Applied)
@@ -45,6 +48,7 @@ one_view Transcript cave game items near far one other free is same = is ∙ sym
 one_view Play cave game items near far one other free is same = is ∙ sym same
 one_view Log cave game items near far one other free is same = is.written ∙ sym same.written
 one_view Reports cave game items near far one other free is same = absurd free
+one_view FinalState cave game items near far one other free is same = is ∙ sym same
 
 pub one_edited_output : OneEditedOutput
 one_edited_output database bindings log script seed near far view strict lenient free =

@@ -5,11 +5,13 @@ use Rattle.std.specs.Str.Lines.{lines}
 use Rattle.cave_data.specs.CaveView.{CaveView}
 use Rattle.edit_options.specs.declared.editing.View.{View}
 use Rattle.edit_options.specs.declared.editing.View.TheVariants.{Transcript, Play, Log, Reports}
+use Rattle.edit_options.specs.declared.editing.View.TheVariants.{FinalState}
 use Rattle.replay_marks.specs.Spacing.{IsSpaced}
 use Rattle.log_replay.specs.LogText.{log_text}
 use Rattle.log_edits.specs.Game.{Game}
 use Rattle.edit_scripts.specs.Item.{Applied}
 use Rattle.cave_play.specs.Edits.{ReadsBack, text_at_end, text_of_item}
+use Rattle.cave_play.specs.FinalState.{final_state_text}
 use Rattle.cave_play.specs.Outcome.{AreOutcomes, IsOutcome, lines_in, played_in, refusal_in}
 use Rattle.cave_play.specs.Output.{game_after_item, game_after_items, play_text, group_refusal}
 use Rattle.cave_play.specs.Output.{report, report_by, reports}
@@ -40,7 +42,7 @@ told-reports cave every (item ∷ items) game checkpoints (outcome ∷ outcomes)
     ap (λ t. report_by item (refusal_in outcome) ++ t) rest
     ∙ ap (λ refusal. report_by item refusal ++ reports items (game_after_item item game)) (sym same)
 
--- and for a log, or a play alone, nothing is written of them
+-- and for a log, a play alone or a state, nothing is written of them
 told-nothing : (tell : Applied → ItemOutcome → List ℕ)
     → ((item : Applied) (outcome : ItemOutcome) → tell item outcome ≡ [])
     → (items : List Applied) (outcomes : List ItemOutcome) → text_of_items tell items outcomes ≡ []
@@ -67,6 +69,10 @@ told-whole Play cave every items game opened outcomes played counted text whole 
     plays counts ends back =
     ends ∙ ap (λ t. t ++ play_text cave (game_after_items items game))
     (told ∙ told-nothing (text_of_item Play) (λ item outcome. refl) items outcomes)
+told-whole FinalState cave every items game opened outcomes played counted text whole spaced came
+    told plays counts ends back =
+    ends ∙ ap (λ t. t ++ final_state_text cave (game_after_items items game))
+    (told ∙ told-nothing (text_of_item FinalState) (λ item outcome. refl) items outcomes)
 told-whole Log cave every items game opened outcomes played counted text whole spaced came told
     plays counts ends back =
     let log = (game_after_items items game).log in

@@ -6,12 +6,14 @@ use Rattle.std.specs.Str.Lines.{lines}
 use Rattle.cave_data.specs.CaveView.{CaveView}
 use Rattle.edit_options.specs.declared.editing.View.{View}
 use Rattle.edit_options.specs.declared.editing.View.TheVariants.{Transcript, Play, Log, Reports}
+use Rattle.edit_options.specs.declared.editing.View.TheVariants.{FinalState}
 use Rattle.log_replay.specs.Session.{SessionView}
 use Rattle.log_replay.specs.LogText.{log_text}
 use Rattle.log_edits.specs.Game.{Game}
 use Rattle.edit_scripts.specs.Item.{Applied}
 use Rattle.cave_world.specs.declared.part.Part.{Part}
 use Rattle.cave_world.specs.declared.state.State.{State}
+use Rattle.cave_play.specs.FinalState.{final_state_text}
 use Rattle.cave_play.specs.Outcome.{IsOutcome, AreLeft, AreOutcomes, lines_in, played_in}
 use Rattle.cave_play.specs.Outcome.{refusal_in}
 use Rattle.cave_play.specs.Output.{game_after_item, play_text, report_by}
@@ -39,6 +41,7 @@ text_of_item Transcript item outcome = report_by item (refusal_in outcome)
 text_of_item Play item outcome = []
 text_of_item Log item outcome = []
 text_of_item Reports item outcome = account item outcome
+text_of_item FinalState item outcome = []
 
 -- items were applied to what a session held: the text grew by what is written of each, and the
 -- totals are theirs
@@ -58,6 +61,7 @@ text_at_end Transcript cave game played lines = play_text cave game
 text_at_end Play cave game played lines = play_text cave game
 text_at_end Log cave game played lines = log_text game.log
 text_at_end Reports cave game played lines = totals_line played lines
+text_at_end FinalState cave game played lines = final_state_text cave game
 
 -- the written log reads back
 abbrev pub ReadsBack : View → List (List ℕ) → Type 0
@@ -65,3 +69,4 @@ ReadsBack Transcript log = ⊤
 ReadsBack Play log = ⊤
 ReadsBack Log log = lines (log_text log) ≡ log
 ReadsBack Reports log = ⊤
+ReadsBack FinalState log = ⊤

@@ -9,6 +9,7 @@ pub mod Run
 pub mod Transcript
 pub mod Machine
 pub mod Output
+pub mod FinalState
 pub mod Outcome
 pub mod Views
 pub mod Edits

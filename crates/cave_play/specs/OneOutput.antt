@@ -3,6 +3,8 @@
 use Rattle.std.specs.Prelude.{◌≡◌, ℕ, ⊤, Bool, List}
 use Rattle.edit_options.specs.declared.editing.View.{View}
 use Rattle.edit_options.specs.declared.editing.View.TheVariants.{Transcript, Play, Log, Reports}
+use Rattle.edit_options.specs.declared.editing.View.TheVariants.{FinalState}
+use Rattle.edit_options.specs.declared.playing.PlayView.{PlayView}
 use Rattle.cave_play.specs.Output.{IsChecked, IsPlayed}
 use Rattle.cave_play.specs.Run.{AtMostOne}
 use Rattle.cave_play.specs.Views.{IsEdited}
@@ -11,10 +13,11 @@ use Rattle.cave_play.specs.Views.{IsEdited}
 abbrev pub OneCheckedOutput : Type 0
 OneCheckedOutput = (database bindings : List ℕ) → AtMostOne (IsChecked database bindings)
 
--- with a log and a seed, one output of a play
+-- with a log and a seed, one output of a play, by what is asked for
 abbrev pub OnePlayedOutput : Type 0
 OnePlayedOutput =
-    (database bindings log : List ℕ) (seed : ℕ) → AtMostOne (IsPlayed database bindings log seed)
+    (database bindings log : List ℕ) (seed : ℕ) (view : PlayView)
+    → AtMostOne (IsPlayed database bindings log seed view)
 
 -- what is asked for knows nothing of checkpoints
 abbrev pub KnowsNoCheckpoints : View → Type 0
@@ -22,10 +25,11 @@ KnowsNoCheckpoints Transcript = ⊤
 KnowsNoCheckpoints Play = ⊤
 KnowsNoCheckpoints Log = ⊤
 KnowsNoCheckpoints Reports = ⊥
+KnowsNoCheckpoints FinalState = ⊤
 
 -- with a log, a script and a seed, one output of an edit, of the transcript, with reports or
--- without,
--- and of the edited log, whatever the distances of checkpoints, and whether the runs are strict
+-- without, of the edited log and of the final state, whatever the distances of checkpoints, and
+-- whether the runs are strict
 abbrev pub OneEditedOutput : Type 0
 OneEditedOutput =
     (database bindings log script : List ℕ) (seed near far : ℕ) (view : View)

@@ -4,6 +4,8 @@ use Rattle.std.specs.Fmt.{decimal}
 use Rattle.std.specs.Str.Lines.{lines}
 use Rattle.cave_data.specs.CaveView.{CaveView}
 use Rattle.cave_data.specs.Reads.{Reads}
+use Rattle.edit_options.specs.declared.playing.PlayView.{PlayView}
+use Rattle.edit_options.specs.declared.playing.PlayView.TheVariants as play
 use Rattle.log_edits.specs.Edit.{Change, apply_all}
 use Rattle.log_edits.specs.Faults.{group_fault}
 use Rattle.log_edits.specs.Game.{Game, game_of}
@@ -15,6 +17,7 @@ use Rattle.log_edits.specs.declared.fault.EditFault.TheVariants.{EmptyGroup}
 use Rattle.log_edits.specs.declared.fault.GroupFault.{GroupFault}
 use Rattle.cave_score.specs.Score.{score_of, max_score_of}
 use Rattle.edit_scripts.specs.Item.{Applied, line_of_refusal}
+use Rattle.cave_play.specs.FinalState.{final_state_text}
 use Rattle.cave_play.specs.Machine.{cave_rules, rendering_of}
 use Rattle.cave_play.specs.Transcript.{transcript}
 
@@ -43,11 +46,16 @@ play_text cave game =
     (texts_of rules begun game.log) (ticks_of rules begun game.log)
     (score_of cave (state_after rules begun game.log)) (max_score_of cave)
 
--- the output is what playing the log in the cave of the database and its bindings prints
-abbrev pub IsPlayed : List ℕ → List ℕ → List ℕ → ℕ → List ℕ → Type 0
-IsPlayed database bindings log seed output =
+-- what is asked for of a play
+abbrev pub play_view_text : PlayView → CaveView → Game → List ℕ
+play_view_text play.Transcript cave game = play_text cave game
+play_view_text play.FinalState cave game = final_state_text cave game
+
+-- the output is what was asked for of playing the log in the cave of the database and its bindings
+abbrev pub IsPlayed : List ℕ → List ℕ → List ℕ → ℕ → PlayView → List ℕ → Type 0
+IsPlayed database bindings log seed view output =
     (cave : CaveView) × Reads database bindings cave
-    × (output ≡ play_text cave (game_of seed (lines log)))
+    × (output ≡ play_view_text view cave (game_of seed (lines log)))
 
 -- ---- what is edited
 

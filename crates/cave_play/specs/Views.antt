@@ -8,6 +8,7 @@ use Rattle.cave_data.specs.Reads.{Reads}
 use Rattle.edit_options.specs.declared.editing.Editing.{Editing}
 use Rattle.edit_options.specs.declared.editing.View.{View}
 use Rattle.edit_options.specs.declared.editing.View.TheVariants.{Transcript, Play, Log, Reports}
+use Rattle.edit_options.specs.declared.editing.View.TheVariants.{FinalState}
 use Rattle.replay_marks.specs.Spacing.{IsSpaced}
 use Rattle.log_replay.specs.LogText.{log_text}
 use Rattle.log_edits.specs.Game.{Game, game_of}
@@ -17,6 +18,7 @@ use Rattle.log_edits.specs.declared.fault.EditFault.TheVariants.{BadSeed, MeterF
 use Rattle.log_edits.specs.declared.fault.EditFault.TheVariants.{EmptyGroup}
 use Rattle.edit_scripts.specs.Item.{Applied, line_of_refusal}
 use Rattle.edit_scripts.specs.Script.{IsScript}
+use Rattle.cave_play.specs.FinalState.{final_state_text}
 use Rattle.cave_play.specs.Outcome.{AreOutcomes, lines_in, played_in}
 use Rattle.cave_play.specs.Output.{edit_text, game_after_items, play_text, refusal_number}
 use Rattle.cave_play.specs.declared.outcome.Standing.{Standing}
@@ -120,6 +122,8 @@ IsViewOf Transcript cave every game items text = text ≡ edit_text cave game it
 IsViewOf Play cave every game items text = text ≡ play_text cave (game_after_items items game)
 IsViewOf Log cave every game items text = IsLogOf (game_after_items items game) text
 IsViewOf Reports cave every game items text = IsAccount cave every game items text
+IsViewOf FinalState cave every game items text =
+    text ≡ final_state_text cave (game_after_items items game)
 
 -- the same of the items that the script spells
 abbrev pub IsEditOf : View → CaveView → ℕ → Game → List ℕ → List ℕ → Type 0

@@ -4,6 +4,7 @@
 pub mod bindings;
 mod edits;
 pub mod fault;
+mod final_state;
 pub mod input;
 pub mod judge;
 pub mod laws;

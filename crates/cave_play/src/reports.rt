@@ -31,7 +31,7 @@ pub(crate) fn push_outcome(
 {
     match view {
         View::Transcript => push_report(alloc, text, item, outcome.refusal()),
-        View::Play | View::Log => Ok(()),
+        View::Play | View::Log | View::FinalState => Ok(()),
         View::Reports => push_account(alloc, text, item, outcome),
     }
 }

@@ -9,7 +9,7 @@ ghost use Rattle.edit_scripts.specs.Views.{items_of};
 ghost use Rattle.log_edits.specs.Game.{game_of};
 ghost use Rattle.cave_play.specs.Input.{Says};
 ghost use Rattle.cave_play.specs.Judge.{large_seed, every_fault};
-ghost use Rattle.cave_play.specs.Output.{check_text, play_text};
+ghost use Rattle.cave_play.specs.Output.{check_text, play_view_text};
 ghost use Rattle.cave_play.specs.Output.{IsChecked, IsPlayed};
 ghost use Rattle.cave_play.specs.Run.{Judges, Runs};
 ghost use Rattle.cave_play.specs.Stage.{judging_stage};
@@ -22,6 +22,7 @@ ghost use Rattle.cave_play.specs.Edits.{ReadsBack, text_at_end};
 use crate::bindings::CaveReaders;
 use crate::edits::{Totals, apply};
 use crate::fault::PlayFault;
+use crate::final_state::push_final_state;
 use crate::judge::{check_every, check_seed, read_cave, read_log, read_script};
 use crate::machine::CaveMachine;
 use crate::output::write_output;
@@ -31,7 +32,7 @@ use cave_data::Cave;
 use cave_scene::Rules;
 use cave_score::max_score;
 use cave_words::Lexicon;
-use edit_options::{Editing, View};
+use edit_options::{Editing, PlayView, View};
 use edit_scripts::Script;
 use limits::MAX_EVERY;
 use log_replay::Session;
@@ -55,27 +56,31 @@ pub fn run_check<C: Read, B: Read, W: Write>(
     write(output, &text)
 }
 
-/// Plays a log and writes the transcript, once it is whole.
+/// Plays a log and writes what is asked for, once it is whole: the transcript, or the state that
+/// the log leads to.
 pub fn run_play<C: Read, B: Read, L: Read, W: Write>(
     alloc: Global,
     cave: &mut CaveReaders<C, B>,
     log: &mut L,
     seed: u32,
+    view: PlayView,
     output: &mut W,
 ) -> Result<(), PlayFault>
     ensures runs { (database : List ℕ) × (bindings : List ℕ) × (moves : List ℕ)
         × Says (C.remaining cave.old.database) database
         × Says (B.remaining cave.old.bindings) bindings
         × Says (L.remaining log.old) moves
-        × Runs (play_stages database bindings moves seed) (IsPlayed database bindings moves seed)
+        × Runs (play_stages database bindings moves seed)
+        (IsPlayed database bindings moves seed view)
         (W.contents output.old) (W.contents output.new) result }
 {
-    let text = play_inputs(alloc, cave, log, seed)?;
+    let text = play_inputs(alloc, cave, log, seed, view)?;
     write(output, &text)
 }
 
 /// Edits a log by a script, and writes what is asked for, once it is whole: a report on each item
-/// of the script and then the transcript of the edited log, that log, or what each item replayed.
+/// of the script and then the transcript of the edited log, that log, what each item replayed, or
+/// the state that the edited log leads to.
 pub fn run_edit<C: Read, B: Read, L: Read, S: Read, W: Write>(
     alloc: Global,
     cave: &mut CaveReaders<C, B>,
@@ -142,62 +147,68 @@ fn check_cave(alloc: Global, cave: &Cave) -> Result<Vec<u8>, PlayFault>
     Ok(text)
 }
 
-/// The transcript of a log, from readers of the inputs.
+/// What is asked for of a play, from readers of the inputs.
 fn play_inputs<C: Read, B: Read, L: Read>(
     alloc: Global,
     cave: &mut CaveReaders<C, B>,
     log: &mut L,
     seed: u32,
+    view: PlayView,
 ) -> Result<Vec<u8>, PlayFault>
     ensures judged { (database : List ℕ) × (bindings : List ℕ) × (moves : List ℕ)
         × Says (C.remaining cave.old.database) database
         × Says (B.remaining cave.old.bindings) bindings
         × Says (L.remaining log.old) moves
         × Judges (play_stages database bindings moves seed)
-        (λ text. IsPlayed database bindings moves seed text.items) result }
+        (λ text. IsPlayed database bindings moves seed view text.items) result }
 {
     check_seed(seed)?;
     let cave = read_cave(alloc, cave)?;
-    let text = play_in_cave(alloc, &cave, log, seed);
+    let text = play_in_cave(alloc, &cave, log, seed, view);
     drop(cave);
     text
 }
 
-/// The transcript of a log in a cave.
+/// What is asked for of a play in a cave.
 fn play_in_cave<L: Read>(
     alloc: Global,
     cave: &Cave,
     log: &mut L,
     seed: u32,
+    view: PlayView,
 ) -> Result<Vec<u8>, PlayFault>
     requires { large_seed seed ≡ None }
     ensures judged { (moves : List ℕ) × Says (L.remaining log.old) moves
         × Judges (log_stage moves ∷ [])
-        (λ text. text.items ≡ play_text cave.now (game_of seed (lines moves))) result }
+        (λ text. text.items ≡ play_view_text view cave.now (game_of seed (lines moves))) result }
 {
     let lexicon = Lexicon::build(alloc, cave)?;
     let machine = CaveMachine::new(cave, &lexicon);
     // Nothing is edited, so hardly any state is kept.
     let session = read_log(alloc, machine, log, seed, MAX_EVERY)?;
-    let text = transcript_of(alloc, machine, &session);
+    let text = text_of_play(alloc, machine, &session, view);
     // The checker can't drop a session over a borrowed machine at the end of a block.
     drop(session);
     text
 }
 
-/// The transcript of the play that a session of the machine holds.
-fn transcript_of(
+/// What is asked for of the play that a session of the machine holds.
+fn text_of_play(
     alloc: Global,
     machine: CaveMachine<'_>,
     session: &Session<CaveMachine<'_>>,
+    view: PlayView,
 ) -> Result<Vec<u8>, PlayFault>
     requires { session.now.machine.rules.cave.now ≡ machine.rules.cave.now }
     ensures told { MatchResult result
-        (λ text. text.items ≡ play_text machine.entry.rules.cave.now session.now.game)
+        (λ text. text.items ≡ play_view_text view machine.entry.rules.cave.now session.now.game)
         (λ fault. fault ≡ PlayFault.Memory) }
 {
     let mut text = Vec::new(alloc);
-    tell(alloc, machine, session, &mut text)?;
+    match view {
+        PlayView::Transcript => tell(alloc, machine, session, &mut text)?,
+        PlayView::FinalState => push_final_state(alloc, machine, session, &mut text)?,
+    }
     Ok(text)
 }
 
@@ -311,5 +322,6 @@ fn push_end(
         View::Transcript | View::Play => tell(alloc, machine, session, text),
         View::Log => session.push_log(text),
         View::Reports => push_totals(alloc, text, totals),
+        View::FinalState => push_final_state(alloc, machine, session, text),
     }
 }

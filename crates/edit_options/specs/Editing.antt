@@ -2,10 +2,12 @@
 use Rattle.std.specs.Prelude.{ℕ, List, bytes_eq, codes, if◌then◌else◌, Option, Some, None}
 use Rattle.edit_options.specs.declared.editing.View.{View}
 use Rattle.edit_options.specs.declared.editing.View.TheVariants.{Transcript, Play, Log, Reports}
+use Rattle.edit_options.specs.declared.editing.View.TheVariants.{FinalState}
 
 abbrev pub view_named : List ℕ → Option View
 view_named name =
     if bytes_eq name (codes "transcript") then Some Transcript
     else (if bytes_eq name (codes "play") then Some Play
     else (if bytes_eq name (codes "log") then Some Log
-    else (if bytes_eq name (codes "reports") then Some Reports else None)))
+    else (if bytes_eq name (codes "reports") then Some Reports
+    else (if bytes_eq name (codes "state") then Some FinalState else None))))

@@ -12,6 +12,8 @@ pub enum View {
     Log,
     /// What each edit replayed.
     Reports,
+    /// The state that the edited log leads to.
+    FinalState,
 }
 
 impl View {
@@ -24,6 +26,7 @@ impl View {
             "play" => Some(View::Play),
             "log" => Some(View::Log),
             "reports" => Some(View::Reports),
+            "state" => Some(View::FinalState),
             _ => None,
         }
     }

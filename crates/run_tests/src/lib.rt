@@ -12,6 +12,8 @@ mod endings;
 #[cfg(test)]
 mod faults;
 #[cfg(test)]
+mod final_state;
+#[cfg(test)]
 mod games;
 #[cfg(test)]
 mod memory;

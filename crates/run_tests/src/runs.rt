@@ -5,7 +5,7 @@ use crate::streams::{Sink, Source};
 use cave_play::bindings::CaveReaders;
 use cave_play::fault::{Input, PlayFault};
 use cave_play::run::{run_check, run_edit, run_play};
-use edit_options::{Editing, View};
+use edit_options::{Editing, PlayView, View};
 use std::alloc::Global;
 use std::io::{Read, Write};
 
@@ -20,6 +20,9 @@ pub struct Checking;
 
 /// Playing the log.
 pub struct Playing;
+
+/// Playing the log to the state that it leads to.
+pub struct Leading;
 
 /// Editing the log by the script.
 pub struct Changing;
@@ -84,9 +87,10 @@ fn play_into<C: Read, B: Read, L: Read, W: Write>(
     cave: &mut CaveReaders<C, B>,
     log: &mut L,
     seed: u32,
+    view: PlayView,
     sink: &mut W,
 ) -> Result<(), PlayFault> {
-    run_play(alloc, cave, log, seed, sink)
+    run_play(alloc, cave, log, seed, view, sink)
 }
 
 fn edit_into<C: Read, B: Read, L: Read, S: Read, W: Write>(
@@ -168,7 +172,29 @@ impl Run for Checking {
 
 impl Run for Playing {
     fn run_into(feeds: &mut Feeds<'_>, alloc: Global, sink: &mut Sink) -> Result<(), PlayFault> {
-        play_into(alloc, &mut feeds.cave, &mut feeds.log, feeds.seed, sink)
+        let view = PlayView::Transcript;
+        play_into(
+            alloc,
+            &mut feeds.cave,
+            &mut feeds.log,
+            feeds.seed,
+            view,
+            sink,
+        )
+    }
+}
+
+impl Run for Leading {
+    fn run_into(feeds: &mut Feeds<'_>, alloc: Global, sink: &mut Sink) -> Result<(), PlayFault> {
+        let view = PlayView::FinalState;
+        play_into(
+            alloc,
+            &mut feeds.cave,
+            &mut feeds.log,
+            feeds.seed,
+            view,
+            sink,
+        )
     }
 }
 

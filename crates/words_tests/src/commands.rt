@@ -22,7 +22,7 @@ fn shown(alloc: Global, words: &[&str]) -> Result<String, AllocError> {
 }
 
 /// Words, and what the answer to them says.
-const ANSWERS: [(&[&str], &str); 24] = [
+const ANSWERS: [(&[&str], &str); 25] = [
     (
         &["cave", "check", "a"],
         "Check { files: Files { cave: \"a\", bind: None, output: None } }",
@@ -30,12 +30,17 @@ const ANSWERS: [(&[&str], &str); 24] = [
     (
         &["cave", "play", "a", "--bind=c", "b", "--seed", "2147483647"],
         "Play { files: Files { cave: \"a\", bind: Some(\"c\"), output: None }, \
-        log: \"b\", seed: 2147483647 }",
+        log: \"b\", seed: 2147483647, view: Transcript }",
     ),
     (
         &["cave", "play", "--", "-a", "--seed"],
         "Play { files: Files { cave: \"-a\", bind: None, output: None }, \
-        log: \"--seed\", seed: 0 }",
+        log: \"--seed\", seed: 0, view: Transcript }",
+    ),
+    (
+        &["cave", "play", "a", "b", "--print", "state"],
+        "Play { files: Files { cave: \"a\", bind: None, output: None }, \
+        log: \"b\", seed: 0, view: FinalState }",
     ),
     (
         &["cave", "edit", "a", "b", "c"],
@@ -124,7 +129,7 @@ const ANSWERS: [(&[&str], &str); 24] = [
     ),
     (
         &["cave", "play", "a", "b", "--print", "log"],
-        "2 UnknownArgument",
+        "2 BadPlayView(\"log\")",
     ),
 ];
 

@@ -45,7 +45,8 @@ pub returns : goal.returns
 returns g c =
     let (database, bindings, said, others, made) = c.in_ok-cave.ensures.judged in
     let (lines, last, played) = c.play_in_cave-text.ensures.judged in
-    let right = λ (text : Vec ℕ). IsPlayed database bindings lines c.args.seed text.items in
+    let right =
+    λ (text : Vec ℕ). IsPlayed database bindings lines c.args.seed c.args.view text.items in
     let judged =
     Judges-later (cave_stages database bindings) (log_stage lines ∷ []) _ right _ made.0
     (λ text is. (c.in_ok-cave.cave, made.1, is)) played in

@@ -28,7 +28,8 @@ pub returns : goal.returns
 returns g c =
     let (database, bindings, lines, said, others, last, made) = c.in_ok-text.ensures.judged in
     let output =
-    subst (IsPlayed database bindings lines c.args.seed) (sym c.deref.ensures.value) made.1 in
+    subst (IsPlayed database bindings lines c.args.seed c.args.view) (sym c.deref.ensures.value)
+    made.1 in
     let stages = play_stages database bindings lines c.args.seed in
     record {
       runs = (
@@ -38,7 +39,7 @@ returns g c =
         said,
         others,
         last,
-        Runs-written stages (IsPlayed database bindings lines c.args.seed) _ _ _ _ made.0 output
-            c.write.ensures.written,
+        Runs-written stages (IsPlayed database bindings lines c.args.seed c.args.view) _ _ _ _
+            made.0 output c.write.ensures.written,
       );
     }

@@ -1,0 +1,24 @@
+use Rattle.std.proofs.Common.{◌++◌, ap, sym, ◌∙◌}
+use Rattle.std.proofs.lemmas.Result.{on_ok_weaker}
+use Rattle.cave_play.proofs.FinalStateLemmas.{begun_objects, final_state-shown}
+use Rattle.cave_play.specs.FinalState.{final_state_text}
+use Rattle.cave_play.specs.Transcript.{ticks}
+use Rattle.cave_score.specs.Score.{score_of}
+use Rattle.cave_play.proofs.final_state.push_final_state.Goals as goal
+
+pub returns : goal.returns
+returns c =
+    let held = c.args.session.now in
+    let cave = c.cave-cave.result.now in
+    let same = sym c.cave-cave.ensures in
+    let begun = ap (λ s. s.objects) c.begun_state-begun.ensures.state ∙ begun_objects cave _ in
+    let turns = c.ticks-turns.ensures ∙ ap (ticks held.ticks) c.lines-lines.ensures.lines in
+    let score = c.score-score.ensures ∙ ap (λ k. score_of k c.state-state.result.now) same in
+    let shown =
+    final_state-shown cave _ held.game _ _ held.ticks held.state c.state-state.result.now
+    c.begun_state-begun.result.objects c.ticks-turns.result c.score-score.result
+    (c.requires ∙ same) c.state-state.ensures.plays begun turns score c.state-state.ensures.state in
+    on_ok_weaker c.push_state.result
+    (λ told. told ∙ ap (λ t. c.args.text.now.items ++ t)
+    (shown ∙ ap (λ k. final_state_text k held.game) c.cave-cave.ensures))
+    c.push_state.ensures

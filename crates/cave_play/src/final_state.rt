@@ -1,0 +1,32 @@
+//! The state that a play leads to.
+
+ghost use Rattle.std.specs.Prelude.{◌≡◌, ◌++◌, OnOk};
+ghost use Rattle.cave_play.specs.FinalState.{final_state_text};
+
+use crate::machine::CaveMachine;
+use cave_begin::begun_state;
+use cave_state_text::{Counts, push_state};
+use cave_words::Stream;
+use log_replay::Session;
+use std::alloc::{AllocError, Global};
+
+/// Appends the text of the state that the play of a session of the machine leads to.
+pub(crate) fn push_final_state(
+    alloc: Global,
+    machine: CaveMachine<'_>,
+    session: &Session<CaveMachine<'_>>,
+    text: &mut Vec<u8>,
+) -> Result<(), AllocError>
+    requires { session.now.machine.rules.cave.now ≡ machine.rules.cave.now }
+    ensures { OnOk result (text.new.items ≡ text.old.items
+        ++ final_state_text machine.entry.rules.cave.now session.now.game) }
+{
+    let cave = machine.cave();
+    let begun = begun_state(cave, Stream::seeded(0));
+    let state = session.state();
+    let lines = session.lines();
+    let turns = session.ticks(lines);
+    let score = machine.score(state);
+    let counts = Counts { turns, score };
+    push_state(alloc, text, cave, &begun.objects, counts, state)
+}

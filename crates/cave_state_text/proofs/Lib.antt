@@ -1,0 +1,13 @@
+pub mod AppendLemmas
+pub mod DwarfLemmas
+pub mod EntryLemmas
+pub mod FactLemmas
+pub mod HintLemmas
+pub mod ListedLemmas
+pub mod ObjectLemmas
+pub mod PlaceLemmas
+pub mod Reading
+pub mod StateLemmas
+pub mod VisitLemmas
+pub mod WithinLemmas
+pub mod WordLemmas

@@ -1,0 +1,36 @@
+-- The text of a state, one fact a line.
+use Rattle.std.specs.Prelude.{ℕ, List, ◌++◌, codes}
+use Rattle.cave_data.specs.CaveView.{CaveView}
+use Rattle.cave_objects.specs.Layout.{Layout}
+use Rattle.cave_world.specs.declared.state.State.{State}
+use Rattle.cave_state_text.specs.Entries.{text_up_to}
+use Rattle.cave_state_text.specs.Facts.{counts_text, trail_text, question_text, end_line}
+use Rattle.cave_state_text.specs.Facts.{lamp_text, closing_text, tallies_text, talk_text}
+use Rattle.cave_state_text.specs.Facts.{anger_text, knife_text, number_line}
+use Rattle.cave_state_text.specs.Things.{object_line, place_line, visits_line, dwarf_line}
+use Rattle.cave_state_text.specs.Things.{hint_line}
+
+-- where the game is
+abbrev pub game_text : State → List ℕ
+game_text s =
+    trail_text s.trail ++ (question_text s.question ++ (end_line s.ending
+    ++ (lamp_text s.lamp ++ (closing_text s.closing ++ tallies_text s.tallies))))
+
+-- the objects, what is remembered of what was said, and what is at places
+abbrev pub objects_text : CaveView → Layout → State → List ℕ
+objects_text cave begun s =
+    text_up_to (object_line cave begun s.objects) 100
+    ++ (talk_text s.talk ++ text_up_to (place_line begun s.objects) 300)
+
+-- the dwarves, the hints, the random stream, and how often places were described
+abbrev pub rest_text : State → List ℕ
+rest_text s =
+    anger_text s.dwarves ++ (text_up_to (dwarf_line s) 6 ++ (knife_text s.dwarves.knife
+    ++ (text_up_to (hint_line s) 20
+    ++ (number_line (codes "stream ") s.stream ++ text_up_to (visits_line s) 300))))
+
+-- the text of a state after so many turns and with this score, in a cave where objects begin thus
+unfoldable pub state_text : CaveView → Layout → ℕ → ℕ → State → List ℕ
+state_text cave begun turns score s =
+    counts_text turns score
+    ++ (game_text s ++ (objects_text cave begun s ++ rest_text s))

@@ -1,0 +1,116 @@
+-- Lines for what there is more than once in a state: objects, places, dwarves, hints.
+use Rattle.std.specs.Prelude.{ℕ, ◌+◌, ◌-◌, Bool, false, ◌==◌, ◌&&◌, not, List, [], ◌∷◌, ◌++◌}
+use Rattle.std.specs.Prelude.{find, codes, option_map, unwrap_or, slice_index_or}
+use Rattle.std.specs.Ordering.{int_eq}
+use Rattle.std.specs.Cmp.Lexicographic.{pointwise}
+use Rattle.cave_data.specs.CaveView.{CaveView}
+use Rattle.cave_objects.specs.Layout.{Layout}
+use Rattle.cave_objects.specs.Lists.{halves_at}
+use Rattle.cave_objects.specs.Objects.{spot_of, anchor_of, prop_of}
+use Rattle.cave_objects.specs.declared.object.Half.{Half}
+use Rattle.cave_objects.specs.declared.object.Half.TheVariants.{First, Second}
+use Rattle.cave_objects.specs.declared.spot.Spot.{Spot}
+use Rattle.cave_objects.specs.declared.spot.Spot.TheVariants as spot
+use Rattle.cave_objects.specs.declared.spot.Anchor.{Anchor}
+use Rattle.cave_objects.specs.declared.spot.Anchor.TheVariants as anchor
+use Rattle.cave_objects.specs.contracts.object.HalfPartialEq.TheImpl as half_eq
+use Rattle.cave_objects.specs.contracts.spot.SpotPartialEq.TheImpl as spot_eq
+use Rattle.cave_objects.specs.contracts.spot.AnchorPartialEq.TheImpl as anchor_eq
+use Rattle.cave_world.specs.Fresh.{no_dwarf}
+use Rattle.cave_world.specs.State.{visits_of, is_hint_taken}
+use Rattle.cave_world.specs.declared.dwarves.Dwarf.{Dwarf}
+use Rattle.cave_world.specs.declared.state.State.{State}
+use Rattle.cave_state_text.specs.Entries.{entry}
+use Rattle.cave_state_text.specs.Facts.{numbered, number_line, signed_line, answer_line}
+
+-- ---- objects
+
+-- the first word of an object in the cave, or a dash where it has none
+unfoldable pub word_of_object : CaveView → ℕ → List ℕ
+word_of_object cave x =
+    unwrap_or (option_map (λ row. row.word) (find (λ row. row.number == 1000 + x) cave.words))
+    (codes "-")
+
+abbrev pub spot_text : Spot → List ℕ
+spot_text spot.Away = codes " away"
+spot_text spot.Carried = codes " carried"
+spot_text (spot.At place) = numbered (codes " at ") place
+
+abbrev pub anchor_text : Anchor → List ℕ
+anchor_text anchor.Loose = []
+anchor_text anchor.Fixed = codes ", fixed"
+anchor_text (anchor.At place) = numbered (codes ", also at ") place
+
+-- an object is as another layout has it
+abbrev pub is_as_in : Layout → Layout → ℕ → Bool
+is_as_in begun o x =
+    spot_eq.eq-value.it (spot_of o x) (spot_of begun x)
+    && (anchor_eq.eq-value.it (anchor_of o x) (anchor_of begun x)
+    && int_eq (prop_of o x) (prop_of begun x))
+
+-- the word of an object, where it is, what holds it there, and its prop
+unfoldable pub thing_text : CaveView → Layout → ℕ → List ℕ
+thing_text cave o x =
+    codes " " ++ (word_of_object cave x ++ (spot_text (spot_of o x)
+    ++ (anchor_text (anchor_of o x) ++ signed_line (codes ", prop ") (prop_of o x))))
+
+-- an object, where it isn't as it was when the game began
+unfoldable pub object_line : CaveView → Layout → Layout → ℕ → List ℕ
+object_line cave begun o x =
+    entry (codes "object ") (is_as_in begun o x) x (thing_text cave o x)
+
+-- ---- what is at places
+
+-- a half by the number of its object
+abbrev pub half_text : Half → List ℕ
+half_text (First x) = numbered (codes " ") x
+half_text (Second x) = numbered (codes " also ") x
+
+abbrev pub each_half : List Half → List ℕ
+each_half [] = []
+each_half (half ∷ halves) = half_text half ++ each_half halves
+
+abbrev pub halves_text : List Half → List ℕ
+halves_text [] = codes " nothing\n"
+halves_text (half ∷ halves) = each_half (half ∷ halves) ++ codes "\n"
+
+-- the list of a place, latest first, where it isn't as it was when the game began
+unfoldable pub place_line : Layout → Layout → ℕ → List ℕ
+place_line begun o place =
+    entry (codes "place ")
+    (pointwise half_eq.eq-value.it (halves_at place o.lists) (halves_at place begun.lists)) place
+    (halves_text (halves_at place o.lists))
+
+-- how often a place was described, where it was
+unfoldable pub visits_line : State → ℕ → List ℕ
+visits_line s place =
+    entry (codes "visits ") (visits_of s place == 0) place
+    (number_line (codes " ") (visits_of s place))
+
+-- ---- dwarves and hints
+
+abbrev pub dwarf_of : State → ℕ → Dwarf
+dwarf_of s number = slice_index_or s.dwarves.each (number - 1) no_dwarf
+
+unfoldable pub dwarf_text : Dwarf → List ℕ
+dwarf_text dwarf =
+    numbered (codes " at ") dwarf.place
+    ++ (numbered (codes ", was at ") dwarf.last
+    ++ answer_line (codes ", has seen the player ") dwarf.has_seen)
+
+unfoldable pub dwarf_line : State → ℕ → List ℕ
+dwarf_line s number = entry (codes "dwarf ") false number (dwarf_text (dwarf_of s number))
+
+-- how many turns a hint was waited for
+abbrev pub hint_turns : State → ℕ → ℕ
+hint_turns s hint = slice_index_or s.hints.turns (hint - 1) 0
+
+unfoldable pub hint_text : ℕ → Bool → List ℕ
+hint_text turns is_taken =
+    numbered (codes " waited ") turns ++ answer_line (codes ", taken ") is_taken
+
+-- a hint that was waited for or taken
+unfoldable pub hint_line : State → ℕ → List ℕ
+hint_line s hint =
+    entry (codes "hint ") (hint_turns s hint == 0 && not (is_hint_taken s hint)) hint
+    (hint_text (hint_turns s hint) (is_hint_taken s hint))

@@ -1,0 +1,16 @@
+//! The law of the text of a state. It is the contract of a function that does nothing.
+
+ghost use Rattle.cave_state_text.specs.Laws.{AreToldApart};
+
+use crate::within::is_within;
+use cave_data::Cave;
+use cave_objects::Objects;
+use cave_world::State;
+
+/// Two states of one cave are written alike only where they are the same state.
+pub fn are_told_apart(cave: &Cave, begun: &Objects, first: &State, second: &State)
+    ensures { AreToldApart cave.now begun.now first.now second.now }
+{
+    is_within(first);
+    is_within(second);
+}

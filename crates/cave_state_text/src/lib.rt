@@ -1,0 +1,14 @@
+//! The state of a game as a text, one fact a line, and the law that no other state has that text.
+#![tactic(auto)]
+
+pub mod dwarves;
+pub mod facts;
+pub mod hints;
+pub mod laws;
+pub mod objects;
+pub mod places;
+pub mod state_text;
+pub mod within;
+
+pub use laws::are_told_apart;
+pub use state_text::{Counts, push_state};
