@@ -9,7 +9,7 @@ use cave_numbers::LAST_PLACE;
 use cave_objects::Place;
 use cave_rows::Row;
 use cave_scene::Rules;
-use cave_things::{Condition, has_condition_of, is_place};
+use cave_things::{Condition, has_condition_of};
 use cave_world::travel::NOT_FOR_DWARVES;
 use cave_world::{Dwarf, is_forced};
 
