@@ -50,7 +50,8 @@ with_output app = with_rule app output_rule
 
 -- the commands
 abbrev pub check_app : App
-check_app = with_output (with_rule (with_rule (new_app (codes "check")) cave_rule) bind_rule)
+check_app = with_output
+    (with_rule (with_rule (with_rule (new_app (codes "check")) cave_rule) bind_rule) print_rule)
 
 -- a command with the files of a game
 abbrev pub with_game : App → App
@@ -73,7 +74,8 @@ edit_app = with_output
 
 abbrev pub cover_app : App
 cover_app = with_output
-    (with_options (with_rule (with_rule (new_app (codes "cover")) cave_rule) logs_rule))
+    (with_rule (with_options (with_rule (with_rule (new_app (codes "cover")) cave_rule) logs_rule))
+    print_rule)
 
 -- the program, which requires one of the commands
 abbrev pub plain_app : App

@@ -8,8 +8,9 @@ ghost use Rattle.cave_command.specs.App.{check_and_play_app, plain_app, play_app
 ghost use Rattle.cave_command.specs.App.{with_options, with_output, with_view};
 
 use crate::arguments::{
-    bind_argument, cave_argument, every_argument, log_argument, logs_argument, output_argument,
-    print_argument, script_argument, seed_argument, strict_argument,
+    bind_argument, cave_argument, check_print_argument, cover_print_argument, every_argument,
+    log_argument, logs_argument, output_argument, print_argument, script_argument, seed_argument,
+    strict_argument,
 };
 use clap::Command;
 use std::alloc::{AllocError, Global};
@@ -65,7 +66,8 @@ fn check_command<'a>(alloc: Global) -> Result<Command<'a>, AllocError>
         .after_help("Example: cave check caves/b.txt --bind caves/b.bind");
     let command = command
         .arg(cave_argument(alloc))?
-        .arg(bind_argument(alloc))?;
+        .arg(bind_argument(alloc))?
+        .arg(check_print_argument(alloc))?;
     with_output(alloc, command)
 }
 
@@ -137,7 +139,7 @@ fn cover_command<'a>(alloc: Global) -> Result<Command<'a>, AllocError>
     let command = command
         .arg(cave_argument(alloc))?
         .arg(logs_argument(alloc))?;
-    let command = with_options(alloc, command)?;
+    let command = with_options(alloc, command)?.arg(cover_print_argument(alloc))?;
     with_output(alloc, command)
 }
 

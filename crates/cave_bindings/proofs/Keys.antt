@@ -1,0 +1,34 @@
+-- What is done for each role is done for each key.
+use Rattle.std.proofs.Common.{◌≡◌, ℕ, ◌+◌, Bool, true, false, cond, List, [], ◌∷◌, ◌++◌, length, map}
+use Rattle.std.proofs.Common.{refl, sym, ap, ◌∙◌}
+use Rattle.std.specs.List.{filter, flat_map}
+use Rattle.std.proofs.lemmas.List.Folds.{flat_map-map}
+
+module _ {X : Type 0} (number : X → ℕ) (roles : List X) (keys : List ℕ)
+    (same : map number roles ≡ keys) where
+  pub lines_of_keys : (line : ℕ → List ℕ)
+      → flat_map (λ role. line (number role)) roles ≡ flat_map line keys
+  lines_of_keys line = sym (flat_map-map line number roles) ∙ ap (flat_map line) same
+
+length-filter-map : {X : Type 0} (test : ℕ → Bool) (number : X → ℕ) (roles : List X)
+    → length (filter (λ role. test (number role)) roles) ≡ length (filter test (map number roles))
+length-filter-map test number [] = refl
+length-filter-map test number (role ∷ roles) = go (test (number role))
+  where
+    rest : length (filter (λ role. test (number role)) roles)
+        ≡ length (filter test (map number roles))
+    rest = length-filter-map test number roles
+
+    go : (b : Bool)
+        → length (cond b (role ∷ filter (λ role. test (number role)) roles)
+        (filter (λ role. test (number role)) roles))
+        ≡ length (cond b (number role ∷ filter test (map number roles))
+        (filter test (map number roles)))
+    go true = ap (λ n. n + 1) rest
+    go false = rest
+
+pub count_of_keys : {X : Type 0} (number : X → ℕ) (roles : List X) (keys : List ℕ)
+    → map number roles ≡ keys → (test : ℕ → Bool)
+    → length (filter (λ role. test (number role)) roles) ≡ length (filter test keys)
+count_of_keys number roles keys same test =
+    length-filter-map test number roles ∙ ap (λ keys. length (filter test keys)) same

@@ -1,0 +1,13 @@
+use Rattle.std.proofs.Common.{◌++◌, ap, ◌∙◌}
+use Rattle.std.proofs.lemmas.Result.{on_ok_weaker}
+use Rattle.cave_rows.specs.PlaceRole.{place_number}
+use Rattle.cave_bindings.specs.Listing.{place_line}
+use Rattle.cave_bindings.proofs.Keys.{lines_of_keys}
+use Rattle.cave_bindings.proofs.listing.push_places.Goals as goal
+
+pub returns : goal.returns
+returns c =
+    let keys =
+    lines_of_keys place_number _ _ c.place_roles.ensures (place_line c.args.cave.now) in
+    on_ok_weaker c.push_place_roles.result (λ told. told ∙ ap (λ t. c.args.text.now.items ++ t) keys)
+    c.push_place_roles.ensures
