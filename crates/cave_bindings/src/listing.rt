@@ -199,7 +199,7 @@ fn count_place_roles(cave: &Cave, roles: &[PlaceRole]) -> usize
 
 /// How many keys of messages have a text.
 fn count_messages(cave: &Cave) -> usize
-    ensures value { result ≡ length (filter
+    ensures { result ≡ length (filter
         (λ key. has_text (message_text cave.now) (get cave.now.roles key)) message_keys) }
 {
     count_message_roles(cave, message_roles())
@@ -207,7 +207,7 @@ fn count_messages(cave: &Cave) -> usize
 
 /// How many keys of places have a text.
 fn count_places(cave: &Cave) -> usize
-    ensures value { result ≡ length (filter
+    ensures { result ≡ length (filter
         (λ key. has_text (place_text cave.now) (get cave.now.places key)) place_keys) }
 {
     count_place_roles(cave, place_roles())

@@ -2,7 +2,7 @@ use Rattle.std.proofs.Common.{◌∙◌}
 use Rattle.std.specs.FinMap.{get}
 use Rattle.cave_rows.specs.PlaceRole.{place_number}
 use Rattle.cave_bindings.specs.Listing.{has_text, place_text}
-use Rattle.cave_bindings.proofs.Keys.{count_of_keys}
+use Rattle.cave_bindings.proofs.KeyLemmas.{count_of_keys}
 use Rattle.cave_bindings.proofs.listing.count_places.Goals as goal
 
 pub returns : goal.returns

@@ -2,7 +2,7 @@ use Rattle.std.proofs.Common.{◌++◌, ap, ◌∙◌}
 use Rattle.std.proofs.lemmas.Result.{on_ok_weaker}
 use Rattle.cave_rows.specs.Role.{role_number}
 use Rattle.cave_bindings.specs.Listing.{message_line}
-use Rattle.cave_bindings.proofs.Keys.{lines_of_keys}
+use Rattle.cave_bindings.proofs.KeyLemmas.{lines_of_keys}
 use Rattle.cave_bindings.proofs.listing.push_messages.Goals as goal
 
 pub returns : goal.returns

@@ -1,5 +1,5 @@
 -- What is done for each role is done for each key.
-use Rattle.std.proofs.Common.{◌≡◌, ℕ, ◌+◌, Bool, true, false, cond, List, [], ◌∷◌, ◌++◌, length, map}
+use Rattle.std.proofs.Common.{◌≡◌, ℕ, suc, Bool, true, false, cond, List, [], ◌∷◌, ◌++◌, length, map}
 use Rattle.std.proofs.Common.{refl, sym, ap, ◌∙◌}
 use Rattle.std.specs.List.{filter, flat_map}
 use Rattle.std.proofs.lemmas.List.Folds.{flat_map-map}
@@ -10,22 +10,17 @@ module _ {X : Type 0} (number : X → ℕ) (roles : List X) (keys : List ℕ)
       → flat_map (λ role. line (number role)) roles ≡ flat_map line keys
   lines_of_keys line = sym (flat_map-map line number roles) ∙ ap (flat_map line) same
 
+length-cond : {X : Type 0} (b : Bool) (role : X) (roles : List X) (key : ℕ) (keys : List ℕ)
+    → length roles ≡ length keys
+    → length (cond b (role ∷ roles) roles) ≡ length (cond b (key ∷ keys) keys)
+length-cond true role roles key keys same = ap (λ n. suc n) same
+length-cond false role roles key keys same = same
+
 length-filter-map : {X : Type 0} (test : ℕ → Bool) (number : X → ℕ) (roles : List X)
     → length (filter (λ role. test (number role)) roles) ≡ length (filter test (map number roles))
 length-filter-map test number [] = refl
-length-filter-map test number (role ∷ roles) = go (test (number role))
-  where
-    rest : length (filter (λ role. test (number role)) roles)
-        ≡ length (filter test (map number roles))
-    rest = length-filter-map test number roles
-
-    go : (b : Bool)
-        → length (cond b (role ∷ filter (λ role. test (number role)) roles)
-        (filter (λ role. test (number role)) roles))
-        ≡ length (cond b (number role ∷ filter test (map number roles))
-        (filter test (map number roles)))
-    go true = ap (λ n. n + 1) rest
-    go false = rest
+length-filter-map test number (role ∷ roles) =
+    length-cond (test (number role)) role _ (number role) _ (length-filter-map test number roles)
 
 pub count_of_keys : {X : Type 0} (number : X → ℕ) (roles : List X) (keys : List ℕ)
     → map number roles ≡ keys → (test : ℕ → Bool)
