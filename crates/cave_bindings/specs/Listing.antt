@@ -1,6 +1,6 @@
 -- What is said of the bindings of a cave: each key with its number, and what the number means.
-use Rattle.std.specs.Prelude.{ℕ, Bool, false, is_some, List, [], ◌++◌, length, slice_index_or, codes}
-use Rattle.std.specs.Prelude.{Option, None, Some}
+use Rattle.std.specs.Prelude.{ℕ, Bool, false, is_some, List, [], ◌++◌, length, slice_index_or}
+use Rattle.std.specs.Prelude.{codes, Option, None, Some}
 use Rattle.std.specs.Option.{option_or}
 use Rattle.std.specs.Fmt.{decimal}
 use Rattle.std.specs.List.{filter, flat_map, range_with_len}
@@ -11,10 +11,10 @@ use Rattle.cave_rows.specs.Role.{role_names}
 use Rattle.cave_rows.specs.PlaceRole.{place_names}
 
 -- the keys of messages and of places, by the numbers of their roles
-abbrev pub message_keys : List ℕ
+unfoldable pub message_keys : List ℕ
 message_keys = range_with_len 0 156
 
-abbrev pub place_keys : List ℕ
+unfoldable pub place_keys : List ℕ
 place_keys = range_with_len 0 19
 
 abbrev pub first_line : List ℕ → List ℕ
@@ -58,14 +58,17 @@ module _ (cave : CaveView) where
   letters_line = codes "num.letters " ++ (decimal cave.letters ++ codes "\n")
 
   -- how many keys have a text
+  abbrev pub message_count : ℕ
+  message_count =
+      length (filter (λ key. has_text message_text (map.get cave.roles key)) message_keys)
+
+  abbrev pub place_count : ℕ
+  place_count = length (filter (λ key. has_text place_text (map.get cave.places key)) place_keys)
+
   abbrev pub sum_line : List ℕ
   sum_line =
-      codes "-- "
-      ++ (decimal (length (filter (λ key. has_text message_text (map.get cave.roles key))
-      message_keys))
-      ++ (codes " of 156 messages and "
-      ++ (decimal (length (filter (λ key. has_text place_text (map.get cave.places key)) place_keys))
-      ++ codes " of 19 places have a text\n")))
+      codes "-- " ++ (decimal message_count ++ (codes " of 156 messages and "
+      ++ (decimal place_count ++ codes " of 19 places have a text\n")))
 
   -- a line for each key, and the sum
   unfoldable pub bindings_text : List ℕ

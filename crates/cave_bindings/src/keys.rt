@@ -191,6 +191,7 @@ const PLACES: [PlaceRole; 19] = [
 ];
 
 /// All roles of messages.
+#[tactic(auto, unfolding(crate::specs::Listing::message_keys))]
 pub(crate) fn message_roles() -> &'static [Role]
     ensures { map role_number result.now ≡ message_keys }
 {
@@ -198,6 +199,7 @@ pub(crate) fn message_roles() -> &'static [Role]
 }
 
 /// All roles of places.
+#[tactic(auto, unfolding(crate::specs::Listing::place_keys))]
 pub(crate) fn place_roles() -> &'static [PlaceRole]
     ensures { map place_number result.now ≡ place_keys }
 {

@@ -7,8 +7,9 @@ ghost use Rattle.std.specs.List.{filter, flat_map};
 ghost use Rattle.cave_rows.specs.PlaceRole.{place_number};
 ghost use Rattle.cave_rows.specs.Role.{role_number};
 ghost use Rattle.cave_bindings.specs.Listing.{bindings_text, first_line, has_text, letters_line};
-ghost use Rattle.cave_bindings.specs.Listing.{meaning, message_keys, message_line, message_text};
-ghost use Rattle.cave_bindings.specs.Listing.{place_keys, place_line, place_text, sum_line};
+ghost use Rattle.cave_bindings.specs.Listing.{meaning, message_count, message_keys, message_line};
+ghost use Rattle.cave_bindings.specs.Listing.{message_text, place_count, place_keys, place_line};
+ghost use Rattle.cave_bindings.specs.Listing.{place_text, sum_line};
 
 use crate::keys::{message_roles, place_roles};
 use cave_data::Cave;
@@ -199,16 +200,14 @@ fn count_place_roles(cave: &Cave, roles: &[PlaceRole]) -> usize
 
 /// How many keys of messages have a text.
 fn count_messages(cave: &Cave) -> usize
-    ensures { result ≡ length (filter
-        (λ key. has_text (message_text cave.now) (get cave.now.roles key)) message_keys) }
+    ensures { result ≡ message_count cave.now }
 {
     count_message_roles(cave, message_roles())
 }
 
 /// How many keys of places have a text.
 fn count_places(cave: &Cave) -> usize
-    ensures { result ≡ length (filter
-        (λ key. has_text (place_text cave.now) (get cave.now.places key)) place_keys) }
+    ensures { result ≡ place_count cave.now }
 {
     count_place_roles(cave, place_roles())
 }

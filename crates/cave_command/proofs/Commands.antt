@@ -81,10 +81,7 @@ found_asked kinds met (Err fault) none is = tt
 no_usage : (met : MetCommand) (error : Error) → IsWrong met (Usage error) → ⊥
 no_usage None error is = is
 no_usage (Some found) error (inl bad) = bad
-no_usage (Some found) error (inr (inl bad)) = bad
-no_usage (Some found) error (inr (inr (inl bad))) = bad
-no_usage (Some found) error (inr (inr (inr (inl bad)))) = bad
-no_usage (Some found) error (inr (inr (inr (inr bad)))) = bad
+no_usage (Some found) error (inr bad) = bad
 
 pub found_refused : (kinds : Kinds) (met : MetCommand) (answer : Result Line CommandFault)
     → kinds ≡ [] → Reads met answer → IfErr answer (IsRefused kinds met)

@@ -164,17 +164,21 @@ IsBadCoverView rows (BadCoverView name) = (first_of (codes "print") rows ≡ Som
     × (cover_view_named name.now ≡ None)
 IsBadCoverView rows _ = ⊥
 
--- what is wrong with the options
-abbrev pub IsBadOption : List Row → CommandFault → Type 0
-IsBadOption rows fault = IsBadSeed rows fault
-    ⊎ (IsBadEvery rows fault ⊎ (IsBadView rows fault
-    ⊎ (IsBadCheckView rows fault ⊎ IsBadCoverView rows fault)))
+-- what is wrong with the options of a command: each prints what it alone may print
+abbrev pub IsBadOption : List ℕ → List Row → CommandFault → Type 0
+IsBadOption name rows (BadView given) =
+    (name ≡ codes "edit") × IsBadView rows (BadView given)
+IsBadOption name rows (BadCheckView given) =
+    (name ≡ codes "check") × IsBadCheckView rows (BadCheckView given)
+IsBadOption name rows (BadCoverView given) =
+    (name ≡ codes "cover") × IsBadCoverView rows (BadCoverView given)
+IsBadOption name rows fault = IsBadSeed rows fault ⊎ IsBadEvery rows fault
 
 -- what is wrong with what was found
 abbrev pub IsWrong : MetCommand → CommandFault → Type 0
 IsWrong met Incomplete = is_complete met ≡ false
 IsWrong None fault = ⊥
-IsWrong (Some found) fault = IsBadOption found.1 fault
+IsWrong (Some found) fault = IsBadOption found.0 found.1 fault
 
 -- why a line isn't made of what was found: what is wrong with it, unless memory ran out
 abbrev pub IsUnmade : MetCommand → CommandFault → Type 0

@@ -235,7 +235,7 @@ fn strict_in(found: &ArgMatches<'_>) -> bool
 /// How a log is to be edited.
 fn editing_in<'a>(found: &ArgMatches<'a>) -> Result<Editing, CommandFault<'a>>
     ensures { MatchResult result (IsEditing (rows_in found.now))
-        (IsBadOption (rows_in found.now)) }
+        (IsBadOption (codes "edit") (rows_in found.now)) }
 {
     Ok(Editing {
         seed: seed_in(found)?,

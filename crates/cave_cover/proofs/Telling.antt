@@ -14,8 +14,8 @@ or_false : (b : Bool) → (b || false) ≡ b
 or_false true = refl
 or_false false = refl
 
-pub told_by_marks : (cave : CaveView) (seed : ℕ) (view : CoverView) (logs : List (List ℕ)) (old new : List Bool)
-    (count : ℕ)
+pub told_by_marks : (cave : CaveView) (seed : ℕ) (view : CoverView) (logs : List (List ℕ))
+    (old new : List Bool) (count : ℕ)
     → ((text : Text) → is_marked old text ≡ false)
     → Notes (said_in_all cave seed logs) old new → count ≡ length logs
     → report_by cave (is_marked new) view count ≡ cover_text cave seed view logs

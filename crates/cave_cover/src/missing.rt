@@ -52,11 +52,14 @@ fn push_first_words(found: Option<&[u8]>, text: &mut Vec<u8>) -> Result<(), Allo
     ensures { OnOk result (text.new.items
         ≡ text.old.items ++ first_words (option_map (λ found. found.now) found)) }
 {
-    if let Some(found) = found {
-        text.extend_from_slice(b": ")?;
-        text.extend_from_slice(first_line(found))?;
+    match found {
+        Some(found) => {
+            text.extend_from_slice(b": ")?;
+            text.extend_from_slice(first_line(found))?;
+            text.extend_from_slice(b"\n")
+        }
+        None => text.extend_from_slice(b"\n"),
     }
-    text.extend_from_slice(b"\n")
 }
 
 /// Appends the line of a text.

@@ -139,11 +139,23 @@ fn check_cave(alloc: Global, cave: &Cave, view: CheckView) -> Result<Vec<u8>, Pl
         (λ fault. fault ≡ PlayFault.Memory) }
 {
     let mut text = Vec::new(alloc);
-    match view {
-        CheckView::Maximum => push_greatest(alloc, cave, &mut text)?,
-        CheckView::Bindings => push_bindings(alloc, cave, &mut text)?,
-    }
+    push_check_text(alloc, cave, view, &mut text)?;
     Ok(text)
+}
+
+/// Appends what is said of a cave.
+fn push_check_text(
+    alloc: Global,
+    cave: &Cave,
+    view: CheckView,
+    text: &mut Vec<u8>,
+) -> Result<(), AllocError>
+    ensures { OnOk result (text.new.items ≡ text.old.items ++ check_text view cave.now) }
+{
+    match view {
+        CheckView::Maximum => push_greatest(alloc, cave, text),
+        CheckView::Bindings => push_bindings(alloc, cave, text),
+    }
 }
 
 /// Appends the line that says that a database is a cave.

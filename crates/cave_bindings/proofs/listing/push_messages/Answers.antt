@@ -9,5 +9,5 @@ pub returns : goal.returns
 returns c =
     let keys =
     lines_of_keys role_number _ _ c.message_roles.ensures (message_line c.args.cave.now) in
-    on_ok_weaker c.push_message_roles.result (λ told. told ∙ ap (λ t. c.args.text.now.items ++ t) keys)
-    c.push_message_roles.ensures
+    on_ok_weaker c.push_message_roles.result
+    (λ told. told ∙ ap (λ lines. c.args.text.now.items ++ lines) keys) c.push_message_roles.ensures

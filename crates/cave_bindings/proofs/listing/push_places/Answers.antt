@@ -9,5 +9,5 @@ pub returns : goal.returns
 returns c =
     let keys =
     lines_of_keys place_number _ _ c.place_roles.ensures (place_line c.args.cave.now) in
-    on_ok_weaker c.push_place_roles.result (λ told. told ∙ ap (λ t. c.args.text.now.items ++ t) keys)
-    c.push_place_roles.ensures
+    on_ok_weaker c.push_place_roles.result
+    (λ told. told ∙ ap (λ lines. c.args.text.now.items ++ lines) keys) c.push_place_roles.ensures

@@ -33,10 +33,11 @@ returns g c =
     let many : count ≡ length moves = kept ∙ sym (length-map c.args.logs.now g.L.Read.remaining)
     ∙ AllZip-length Says (map g.L.Read.remaining c.args.logs.now) moves said in
     let told =
-    told_by_marks cave c.args.seed c.args.view moves c.in_ok-said.said marks count c.in_ok-said.ensures
-    noted.2 many in
+    told_by_marks cave c.args.seed c.args.view moves c.in_ok-said.said marks count
+    c.in_ok-said.ensures noted.2 many in
     let text = c.in_ok-push_view.ensures
-    ∙ ap (λ t. t ++ report_by c.cave.result.now (is_marked marks) c.args.view count) c.new-text.ensures.items
+    ∙ ap (λ t. t ++ report_by c.cave.result.now (is_marked marks) c.args.view count)
+    c.new-text.ensures.items
     ∙ ap (λ k. report_by k (is_marked marks) c.args.view count) c.cave.ensures ∙ told
     ∙ ap (λ (k : CaveView). cover_text k c.args.seed c.args.view moves) c.new-machine.ensures in
     record { judged = (moves, said, (noted.0, noted.1, text)) }

@@ -49,7 +49,8 @@ returns g c =
     Judges-after (large_seed c.args.seed) (cave_stages database bindings) (Reads database bindings)
     (Ok cave) c.in_ok-check_seed.ensures made in
     let told = λ (text : Vec ℕ). text.items ≡ cover_text cave c.args.seed c.args.view moves in
-    let right = λ (text : Vec ℕ). IsCovered database bindings moves c.args.seed c.args.view text.items in
+    let right = λ (text : Vec ℕ).
+    IsCovered database bindings moves c.args.seed c.args.view text.items in
     record {
       judged = (
         database,

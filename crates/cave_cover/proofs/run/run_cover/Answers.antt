@@ -18,7 +18,8 @@ pub returns : goal.returns
 returns g c =
     let (database, bindings, moves, said, others, last, made) = c.in_ok-text.ensures.judged in
     let output =
-    subst (IsCovered database bindings moves c.args.seed c.args.view) (sym c.deref.ensures.value) made.2 in
+    subst (IsCovered database bindings moves c.args.seed c.args.view) (sym c.deref.ensures.value)
+    made.2 in
     record {
       runs = (
         database,
