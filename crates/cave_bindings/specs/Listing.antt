@@ -58,11 +58,11 @@ module _ (cave : CaveView) where
   letters_line = codes "num.letters " ++ (decimal cave.letters ++ codes "\n")
 
   -- how many keys have a text
-  abbrev pub message_count : ℕ
+  unfoldable pub message_count : ℕ
   message_count =
       length (filter (λ key. has_text message_text (map.get cave.roles key)) message_keys)
 
-  abbrev pub place_count : ℕ
+  unfoldable pub place_count : ℕ
   place_count = length (filter (λ key. has_text place_text (map.get cave.places key)) place_keys)
 
   abbrev pub sum_line : List ℕ

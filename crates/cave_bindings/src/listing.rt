@@ -40,7 +40,7 @@ fn place_text(cave: &Cave, place: u16) -> Option<&[u8]>
 /// Appends what a number means.
 fn push_meaning(kind: &str, found: Option<&[u8]>, text: &mut Vec<u8>) -> Result<(), AllocError>
     ensures { OnOk result (text.new.items
-        ≡ text.old.items ++ meaning kind.now (option_map (λ found. found.now) found)) }
+        ≡ text.old.items ++ meaning kind.now (option_map (λ found. found.now) found.entry)) }
 {
     match found {
         Some(found) => text.extend_from_slice(first_line(found)),
@@ -61,7 +61,7 @@ fn push_number(
 ) -> Result<(), AllocError>
     ensures { OnOk result (text.new.items ≡ text.old.items
         ++ (codes " " ++ (decimal number ++ (codes ": "
-        ++ (meaning kind.now (option_map (λ found. found.now) found) ++ codes "\n"))))) }
+        ++ (meaning kind.now (option_map (λ found. found.now) found.entry) ++ codes "\n"))))) }
 {
     let told = format!(in alloc; " {number}: ")?;
     text.extend_from_slice(told.as_bytes())?;

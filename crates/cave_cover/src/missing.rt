@@ -50,7 +50,7 @@ fn text_at(cave: &Cave, kind: Kind, number: u16) -> Option<&[u8]>
 /// Appends the first line of a text, where there is one.
 fn push_first_words(found: Option<&[u8]>, text: &mut Vec<u8>) -> Result<(), AllocError>
     ensures { OnOk result (text.new.items
-        ≡ text.old.items ++ first_words (option_map (λ found. found.now) found)) }
+        ≡ text.old.items ++ first_words (option_map (λ found. found.now) found.entry)) }
 {
     match found {
         Some(found) => {
