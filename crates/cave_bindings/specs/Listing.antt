@@ -54,7 +54,13 @@ module _ (cave : CaveView) where
       codes "place." ++ (slice_index_or place_names key []
       ++ bound_to (codes "place") place_text (map.get cave.places key))
 
-  abbrev pub letters_line : List ℕ
+  unfoldable pub message_lines : List ℕ
+  message_lines = flat_map message_line message_keys
+
+  unfoldable pub place_lines : List ℕ
+  place_lines = flat_map place_line place_keys
+
+  unfoldable pub letters_line : List ℕ
   letters_line = codes "num.letters " ++ (decimal cave.letters ++ codes "\n")
 
   -- how many keys have a text
@@ -65,13 +71,13 @@ module _ (cave : CaveView) where
   unfoldable pub place_count : ℕ
   place_count = length (filter (λ key. has_text place_text (map.get cave.places key)) place_keys)
 
-  abbrev pub sum_line : List ℕ
-  sum_line =
-      codes "-- " ++ (decimal message_count ++ (codes " of 156 messages and "
-      ++ (decimal place_count ++ codes " of 19 places have a text\n")))
+  unfoldable pub message_sum : List ℕ
+  message_sum = codes "-- " ++ (decimal message_count ++ codes " of 156 messages and ")
+
+  unfoldable pub place_sum : List ℕ
+  place_sum = decimal place_count ++ codes " of 19 places have a text\n"
 
   -- a line for each key, and the sum
   unfoldable pub bindings_text : List ℕ
   bindings_text =
-      flat_map message_line message_keys
-      ++ (flat_map place_line place_keys ++ (letters_line ++ sum_line))
+      message_lines ++ (place_lines ++ (letters_line ++ (message_sum ++ place_sum)))

@@ -7,9 +7,9 @@ ghost use Rattle.std.specs.List.{filter, flat_map};
 ghost use Rattle.cave_rows.specs.PlaceRole.{place_number};
 ghost use Rattle.cave_rows.specs.Role.{role_number};
 ghost use Rattle.cave_bindings.specs.Listing.{bindings_text, first_line, has_text, letters_line};
-ghost use Rattle.cave_bindings.specs.Listing.{meaning, message_count, message_keys, message_line};
-ghost use Rattle.cave_bindings.specs.Listing.{message_text, place_count, place_keys, place_line};
-ghost use Rattle.cave_bindings.specs.Listing.{place_text, sum_line};
+ghost use Rattle.cave_bindings.specs.Listing.{meaning, message_count, message_line, message_lines};
+ghost use Rattle.cave_bindings.specs.Listing.{message_sum, message_text, place_count, place_line};
+ghost use Rattle.cave_bindings.specs.Listing.{place_lines, place_sum, place_text};
 
 use crate::keys::{message_roles, place_roles};
 use cave_data::Cave;
@@ -141,16 +141,14 @@ fn push_place_roles(
 
 /// Appends the lines of the keys of all messages.
 fn push_messages(alloc: Global, cave: &Cave, text: &mut Vec<u8>) -> Result<(), AllocError>
-    ensures { OnOk result
-        (text.new.items ≡ text.old.items ++ flat_map (message_line cave.now) message_keys) }
+    ensures { OnOk result (text.new.items ≡ text.old.items ++ message_lines cave.now) }
 {
     push_message_roles(alloc, cave, message_roles(), text)
 }
 
 /// Appends the lines of the keys of all places.
 fn push_places(alloc: Global, cave: &Cave, text: &mut Vec<u8>) -> Result<(), AllocError>
-    ensures { OnOk result
-        (text.new.items ≡ text.old.items ++ flat_map (place_line cave.now) place_keys) }
+    ensures { OnOk result (text.new.items ≡ text.old.items ++ place_lines cave.now) }
 {
     push_place_roles(alloc, cave, place_roles(), text)
 }
@@ -212,18 +210,28 @@ fn count_places(cave: &Cave) -> usize
     count_place_roles(cave, place_roles())
 }
 
-/// Appends the line that counts the keys that have a text.
-fn push_sum(alloc: Global, cave: &Cave, text: &mut Vec<u8>) -> Result<(), AllocError>
-    ensures { OnOk result (text.new.items ≡ text.old.items ++ sum_line cave.now) }
+/// Appends how many keys of messages have a text.
+#[tactic(auto, unfolding(crate::specs::Listing::message_sum))]
+fn push_message_sum(alloc: Global, cave: &Cave, text: &mut Vec<u8>) -> Result<(), AllocError>
+    ensures { OnOk result (text.new.items ≡ text.old.items ++ message_sum cave.now) }
 {
-    let (messages, places) = (count_messages(cave), count_places(cave));
-    let told = format!(in alloc;
-        "-- {messages} of 156 messages and {places} of 19 places have a text\n"
-    )?;
+    let count = count_messages(cave);
+    let told = format!(in alloc; "-- {count} of 156 messages and ")?;
+    text.extend_from_slice(told.as_bytes())
+}
+
+/// Appends how many keys of places have a text.
+#[tactic(auto, unfolding(crate::specs::Listing::place_sum))]
+fn push_place_sum(alloc: Global, cave: &Cave, text: &mut Vec<u8>) -> Result<(), AllocError>
+    ensures { OnOk result (text.new.items ≡ text.old.items ++ place_sum cave.now) }
+{
+    let count = count_places(cave);
+    let told = format!(in alloc; "{count} of 19 places have a text\n")?;
     text.extend_from_slice(told.as_bytes())
 }
 
 /// Appends the line of the number of letters.
+#[tactic(auto, unfolding(crate::specs::Listing::letters_line))]
 fn push_letters(alloc: Global, cave: &Cave, text: &mut Vec<u8>) -> Result<(), AllocError>
     ensures { OnOk result (text.new.items ≡ text.old.items ++ letters_line cave.now) }
 {
@@ -240,5 +248,6 @@ pub fn push_bindings(alloc: Global, cave: &Cave, text: &mut Vec<u8>) -> Result<(
     push_messages(alloc, cave, text)?;
     push_places(alloc, cave, text)?;
     push_letters(alloc, cave, text)?;
-    push_sum(alloc, cave, text)
+    push_message_sum(alloc, cave, text)?;
+    push_place_sum(alloc, cave, text)
 }
