@@ -8,7 +8,7 @@ use cave_cover::run::run_cover;
 use cave_play::bindings::{BindingsReader, CaveReaders};
 use cave_play::fault::{Complaint, Input, PlayFault, Unopened};
 use cave_play::run::{run_check, run_edit, run_play};
-use edit_options::{Editing, PlayView};
+use edit_options::{CheckView, CoverView, Editing, PlayView};
 use std::fs::File;
 use std::io::{ErrorKind, Write};
 use std::process::ExitCode;
@@ -30,7 +30,7 @@ impl<'a> Names<'a> {
     /// The files of the run that a command line asks for, but for several logs.
     fn in_line(line: &Line<'a>) -> Names<'a> {
         let (files, log, script) = match line {
-            Line::Check { files } | Line::Cover { files, .. } => (Some(*files), None, None),
+            Line::Check { files, .. } | Line::Cover { files, .. } => (Some(*files), None, None),
             Line::Play { files, log, .. } => (Some(*files), Some(*log), None),
             Line::Edit {
                 files,
@@ -115,10 +115,11 @@ fn open_cave<'a>(
 fn check<'a, W: Write>(
     rt: &HostRuntime,
     files: Files<'a>,
+    view: CheckView,
     output: &mut W,
 ) -> Result<(), Failure<'a>> {
     let mut cave = open_cave(rt, files)?;
-    run_check(rt.alloc(), &mut cave, output)?;
+    run_check(rt.alloc(), &mut cave, view, output)?;
     Ok(())
 }
 
@@ -182,11 +183,19 @@ fn cover<'a, W: Write>(
     files: Files<'a>,
     logs: &[&'a str],
     seed: u32,
+    view: CoverView,
     output: &mut W,
 ) -> Result<(), Failure<'a>> {
     let mut cave = open_cave(rt, files)?;
     let mut opened = open_logs(rt, logs)?;
-    match run_cover(rt.alloc(), &mut cave, opened.as_mut_slice(), seed, output) {
+    match run_cover(
+        rt.alloc(),
+        &mut cave,
+        opened.as_mut_slice(),
+        seed,
+        view,
+        output,
+    ) {
         Ok(()) => Ok(()),
         Err(found) => Err(failure_of(found, logs)),
     }
@@ -256,7 +265,7 @@ fn run_into<'a, W: Write>(
     output: &mut W,
 ) -> Result<(), Failure<'a>> {
     match line {
-        Line::Check { files } => check(rt, *files, output),
+        Line::Check { files, view } => check(rt, *files, *view, output),
         Line::Play {
             files,
             log,
@@ -269,7 +278,12 @@ fn run_into<'a, W: Write>(
             script,
             editing,
         } => edit(rt, *files, *log, *script, *editing, output),
-        Line::Cover { files, logs, seed } => cover(rt, *files, logs.as_slice(), *seed, output),
+        Line::Cover {
+            files,
+            logs,
+            seed,
+            view,
+        } => cover(rt, *files, logs.as_slice(), *seed, *view, output),
         Line::Text(text) => match write!(output, "{text}") {
             Ok(()) => Ok(()),
             Err(_) => Err(Failure::Run(PlayFault::Write)),

@@ -17,6 +17,7 @@ use Rattle.cave_command.specs.declared.fault.CommandFault.{CommandFault}
 use Rattle.cave_command.specs.declared.fault.CommandFault.TheVariants.{Usage, Incomplete, BadSeed}
 use Rattle.cave_command.specs.declared.fault.CommandFault.TheVariants.{BadEvery, BadView, Memory}
 use Rattle.cave_command.specs.declared.fault.CommandFault.TheVariants.{BadPlayView}
+use Rattle.cave_command.specs.declared.fault.CommandFault.TheVariants.{BadCheckView, BadCoverView}
 use Rattle.cave_command.specs.declared.line.Line.{Line}
 use Rattle.cave_command.specs.declared.line.Line.TheVariants as line
 
@@ -58,10 +59,10 @@ Reads met answer = MatchResult answer (IsLineMet met) (IsUnmade met)
 
 pub found_line : (met : MetCommand) (answer : Result Line CommandFault) → Reads met answer
     → IfOk answer (IsLine met)
-found_line met (Ok (line.Check files)) is = is
+found_line met (Ok (line.Check files view)) is = is
 found_line met (Ok (line.Play files log seed view)) is = is
 found_line met (Ok (line.Edit files log script editing)) is = is
-found_line met (Ok (line.Cover files logs seed)) is = is
+found_line met (Ok (line.Cover files logs seed view)) is = is
 found_line met (Ok (line.Text error)) is = tt
 found_line met (Err fault) is = tt
 
@@ -71,18 +72,16 @@ no_text (Some found) error is = is
 
 pub found_asked : (kinds : Kinds) (met : MetCommand) (answer : Result Line CommandFault)
     → kinds ≡ [] → Reads met answer → IfOk answer (IsAsked kinds)
-found_asked kinds met (Ok (line.Check files)) none is = none
+found_asked kinds met (Ok (line.Check files view)) none is = none
 found_asked kinds met (Ok (line.Play files log seed view)) none is = none
 found_asked kinds met (Ok (line.Edit files log script editing)) none is = none
-found_asked kinds met (Ok (line.Cover files logs seed)) none is = none
+found_asked kinds met (Ok (line.Cover files logs seed view)) none is = none
 found_asked kinds met (Ok (line.Text error)) none is = absurd (no_text met error is)
 found_asked kinds met (Err fault) none is = tt
 
 no_usage : (met : MetCommand) (error : Error) → IsWrong met (Usage error) → ⊥
 no_usage None error is = is
-no_usage (Some found) error (inl (inl bad)) = bad
-no_usage (Some found) error (inl (inr (inl bad))) = bad
-no_usage (Some found) error (inl (inr (inr bad))) = bad
+no_usage (Some found) error (inl bad) = bad
 no_usage (Some found) error (inr bad) = bad
 
 pub found_refused : (kinds : Kinds) (met : MetCommand) (answer : Result Line CommandFault)
@@ -94,6 +93,8 @@ found_refused kinds met (Err (BadSeed text)) none is = (none, is)
 found_refused kinds met (Err (BadEvery text)) none is = (none, is)
 found_refused kinds met (Err (BadView name)) none is = (none, is)
 found_refused kinds met (Err (BadPlayView name)) none is = (none, is)
+found_refused kinds met (Err (BadCheckView name)) none is = (none, is)
+found_refused kinds met (Err (BadCoverView name)) none is = (none, is)
 found_refused kinds met (Err Memory) none is = tt
 
 -- ---- what an error comes to
@@ -122,4 +123,6 @@ error_refused kinds met error (BadSeed text) has is = absurd is
 error_refused kinds met error (BadEvery text) has is = absurd is
 error_refused kinds met error (BadView name) has is = absurd is
 error_refused kinds met error (BadPlayView name) has is = absurd is
+error_refused kinds met error (BadCheckView name) has is = absurd is
+error_refused kinds met error (BadCoverView name) has is = absurd is
 error_refused kinds met error Memory has is = tt

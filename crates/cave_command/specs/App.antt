@@ -50,15 +50,24 @@ with_output app = with_rule app output_rule
 
 -- the commands
 abbrev pub check_app : App
-check_app = with_output (with_rule (with_rule (new_app (codes "check")) cave_rule) bind_rule)
+check_app = with_output
+    (with_rule (with_rule (with_rule (new_app (codes "check")) cave_rule) bind_rule) print_rule)
 
 -- a command with the files of a game
 abbrev pub with_game : App → App
 with_game app = with_rule (with_rule app cave_rule) log_rule
 
+-- a command with the files of several games
+abbrev pub with_logs : App → App
+with_logs app = with_rule (with_rule app cave_rule) logs_rule
+
 -- a command with the options of a game
 abbrev pub with_options : App → App
 with_options app = with_rule (with_rule app bind_rule) seed_rule
+
+-- a command with the options of the coverage of logs
+abbrev pub with_cover_options : App → App
+with_cover_options app = with_rule (with_options app) print_rule
 
 -- a command with the options of an edit alone
 abbrev pub with_view : App → App
@@ -72,8 +81,7 @@ edit_app = with_output
     (with_view (with_options (with_rule (with_game (new_app (codes "edit"))) script_rule)))
 
 abbrev pub cover_app : App
-cover_app = with_output
-    (with_options (with_rule (with_rule (new_app (codes "cover")) cave_rule) logs_rule))
+cover_app = with_output (with_cover_options (with_logs (new_app (codes "cover"))))
 
 -- the program, which requires one of the commands
 abbrev pub plain_app : App

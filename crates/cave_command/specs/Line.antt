@@ -10,16 +10,21 @@ use Rattle.clap.specs.declared.error.kind.ErrorKind.TheVariants.{OutOfMemory}
 use Rattle.clap.specs.declared.parser.matches.ArgMatches.{ArgMatches}
 use Rattle.cave_command.specs.Number.{IsNumber, option_number}
 use Rattle.edit_options.specs.Editing.{view_named}
-use Rattle.edit_options.specs.Playing.{play_view_named}
+use Rattle.edit_options.specs.Views.{check_view_named, cover_view_named, play_view_named}
+use Rattle.edit_options.specs.declared.views.CheckView.{CheckView}
+use Rattle.edit_options.specs.declared.views.CheckView.TheVariants.{Maximum}
+use Rattle.edit_options.specs.declared.views.CoverView.{CoverView}
+use Rattle.edit_options.specs.declared.views.CoverView.TheVariants.{Counts}
 use Rattle.edit_options.specs.declared.editing.Editing.{Editing}
 use Rattle.edit_options.specs.declared.editing.View.{View}
 use Rattle.edit_options.specs.declared.editing.View.TheVariants.{Transcript}
-use Rattle.edit_options.specs.declared.playing.PlayView.{PlayView}
-use Rattle.edit_options.specs.declared.playing.PlayView.TheVariants as play
+use Rattle.edit_options.specs.declared.views.PlayView.{PlayView}
+use Rattle.edit_options.specs.declared.views.PlayView.TheVariants as play
 use Rattle.cave_command.specs.declared.fault.CommandFault.{CommandFault}
 use Rattle.cave_command.specs.declared.fault.CommandFault.TheVariants.{Usage, Incomplete, BadSeed}
 use Rattle.cave_command.specs.declared.fault.CommandFault.TheVariants.{BadEvery, BadView, Memory}
 use Rattle.cave_command.specs.declared.fault.CommandFault.TheVariants.{BadPlayView}
+use Rattle.cave_command.specs.declared.fault.CommandFault.TheVariants.{BadCheckView, BadCoverView}
 use Rattle.cave_command.specs.declared.line.Files.{Files}
 use Rattle.cave_command.specs.declared.line.Line.{Line}
 use Rattle.cave_command.specs.declared.line.Line.TheVariants.{Check, Play, Edit, Cover, Text}
@@ -46,6 +51,22 @@ IsSeed rows seed = IsNumber 0 max_seed 0 (first_of (codes "seed") rows) seed
 -- a distance of checkpoints is what was found for it, or 50
 abbrev pub IsEveryGiven : List Row → ℕ → Type 0
 IsEveryGiven rows every = IsNumber 1 max_every 50 (first_of (codes "every") rows) every
+
+-- what a check prints, where this was found for it, or else the greatest score
+abbrev pub IsCheckViewGiven : Option (List ℕ) → CheckView → Type 0
+IsCheckViewGiven None view = view ≡ Maximum
+IsCheckViewGiven (Some name) view = check_view_named name ≡ Some view
+
+abbrev pub IsCheckView : List Row → CheckView → Type 0
+IsCheckView rows view = IsCheckViewGiven (first_of (codes "print") rows) view
+
+-- what is printed of texts, where this was found for it, or else how many there are
+abbrev pub IsCoverViewGiven : Option (List ℕ) → CoverView → Type 0
+IsCoverViewGiven None view = view ≡ Counts
+IsCoverViewGiven (Some name) view = cover_view_named name ≡ Some view
+
+abbrev pub IsCoverView : List Row → CoverView → Type 0
+IsCoverView rows view = IsCoverViewGiven (first_of (codes "print") rows) view
 
 -- what an edit prints, where this was found for it, or else the transcript
 abbrev pub IsViewGiven : Option (List ℕ) → View → Type 0
@@ -78,16 +99,18 @@ pub record IsEditing (rows : List Row) (editing : Editing) : Type 0 where
 
 -- the line is what was found for the command of this name
 abbrev pub IsLineOf : List ℕ → List Row → Line → Type 0
-IsLineOf name rows (Check files) = (name ≡ codes "check") × IsFiles rows files
+IsLineOf name rows (Check files view) =
+    (name ≡ codes "check") × IsFiles rows files × IsCheckView rows view
 IsLineOf name rows (Play files log seed view) =
     (name ≡ codes "play") × IsFiles rows files × (first_of (codes "log") rows ≡ Some log.now)
     × IsSeed rows seed × IsPlayView rows view
 IsLineOf name rows (Edit files log script editing) =
     (name ≡ codes "edit") × IsFiles rows files × (first_of (codes "log") rows ≡ Some log.now)
     × (first_of (codes "script") rows ≡ Some script.now) × IsEditing rows editing
-IsLineOf name rows (Cover files logs seed) =
+IsLineOf name rows (Cover files logs seed view) =
     (name ≡ codes "cover") × IsFiles rows files
     × (all_of (codes "log") rows ≡ Some (map (λ log. log.now) logs.items)) × IsSeed rows seed
+    × IsCoverView rows view
 IsLineOf name rows (Text error) = ⊥
 
 abbrev pub IsLineMet : MetCommand → Line → Type 0
@@ -141,9 +164,17 @@ IsBadView rows (BadView name) = (first_of (codes "print") rows ≡ Some name.now
     × (view_named name.now ≡ None)
 IsBadView rows _ = ⊥
 
--- what is wrong with the options of an edit
-abbrev pub IsBadEditing : List Row → CommandFault → Type 0
-IsBadEditing rows fault = IsBadSeed rows fault ⊎ (IsBadEvery rows fault ⊎ IsBadView rows fault)
+-- what was found for what a check prints names nothing that it may print
+abbrev pub IsBadCheckView : List Row → CommandFault → Type 0
+IsBadCheckView rows (BadCheckView name) = (first_of (codes "print") rows ≡ Some name.now)
+    × (check_view_named name.now ≡ None)
+IsBadCheckView rows _ = ⊥
+
+-- and the same for what is printed of texts
+abbrev pub IsBadCoverView : List Row → CommandFault → Type 0
+IsBadCoverView rows (BadCoverView name) = (first_of (codes "print") rows ≡ Some name.now)
+    × (cover_view_named name.now ≡ None)
+IsBadCoverView rows _ = ⊥
 
 -- what was found for what a play prints names nothing that it may print
 abbrev pub IsBadPlayView : List Row → CommandFault → Type 0
@@ -151,15 +182,23 @@ IsBadPlayView rows (BadPlayView name) = (first_of (codes "print") rows ≡ Some 
     × (play_view_named name.now ≡ None)
 IsBadPlayView rows _ = ⊥
 
--- what is wrong with an option
-abbrev pub IsBadOption : List Row → CommandFault → Type 0
-IsBadOption rows fault = IsBadEditing rows fault ⊎ IsBadPlayView rows fault
+-- what is wrong with the options of a command: each prints what it alone may print
+abbrev pub IsBadOption : List ℕ → List Row → CommandFault → Type 0
+IsBadOption name rows (BadView given) =
+    (name ≡ codes "edit") × IsBadView rows (BadView given)
+IsBadOption name rows (BadCheckView given) =
+    (name ≡ codes "check") × IsBadCheckView rows (BadCheckView given)
+IsBadOption name rows (BadPlayView given) =
+    (name ≡ codes "play") × IsBadPlayView rows (BadPlayView given)
+IsBadOption name rows (BadCoverView given) =
+    (name ≡ codes "cover") × IsBadCoverView rows (BadCoverView given)
+IsBadOption name rows fault = IsBadSeed rows fault ⊎ IsBadEvery rows fault
 
 -- what is wrong with what was found
 abbrev pub IsWrong : MetCommand → CommandFault → Type 0
 IsWrong met Incomplete = is_complete met ≡ false
 IsWrong None fault = ⊥
-IsWrong (Some found) fault = IsBadOption found.1 fault
+IsWrong (Some found) fault = IsBadOption found.0 found.1 fault
 
 -- why a line isn't made of what was found: what is wrong with it, unless memory ran out
 abbrev pub IsUnmade : MetCommand → CommandFault → Type 0

@@ -5,11 +5,13 @@ ghost use Rattle.clap.specs.Words.{App, app_of, with_subcommand};
 ghost use Rattle.clap.specs.declared.builder.command.Command.TheViews.{out-Command};
 ghost use Rattle.cave_command.specs.App.{IsLocal, cave_app, check_app, cover_app, edit_app};
 ghost use Rattle.cave_command.specs.App.{check_and_play_app, plain_app, play_app, with_game};
-ghost use Rattle.cave_command.specs.App.{with_options, with_output, with_view};
+ghost use Rattle.cave_command.specs.App.{with_cover_options, with_logs, with_options, with_output};
+ghost use Rattle.cave_command.specs.App.{with_view};
 
 use crate::arguments::{
-    bind_argument, cave_argument, every_argument, log_argument, logs_argument, output_argument,
-    play_print_argument, print_argument, script_argument, seed_argument, strict_argument,
+    bind_argument, cave_argument, check_print_argument, cover_print_argument, every_argument,
+    log_argument, logs_argument, output_argument, play_print_argument, print_argument,
+    script_argument, seed_argument, strict_argument,
 };
 use clap::Command;
 use std::alloc::{AllocError, Global};
@@ -65,7 +67,8 @@ fn check_command<'a>(alloc: Global) -> Result<Command<'a>, AllocError>
         .after_help("Example: cave check caves/b.txt --bind caves/b.bind");
     let command = command
         .arg(cave_argument(alloc))?
-        .arg(bind_argument(alloc))?;
+        .arg(bind_argument(alloc))?
+        .arg(check_print_argument(alloc))?;
     with_output(alloc, command)
 }
 
@@ -91,6 +94,22 @@ fn with_options<'a>(alloc: Global, command: Command<'a>) -> Result<Command<'a>, 
     ensures { IfOk result (IsLocal (with_options (app_of command.entry))) }
 {
     command.arg(bind_argument(alloc))?.arg(seed_argument(alloc))
+}
+
+/// Adds the files of several games: the cave and the logs.
+fn with_logs<'a>(alloc: Global, command: Command<'a>) -> Result<Command<'a>, AllocError>
+    requires { (out-Command command).has_globals ≡ false }
+    ensures { IfOk result (IsLocal (with_logs (app_of command.entry))) }
+{
+    command.arg(cave_argument(alloc))?.arg(logs_argument(alloc))
+}
+
+/// Adds the options of the coverage of logs: those of a game, and what is printed.
+fn with_cover_options<'a>(alloc: Global, command: Command<'a>) -> Result<Command<'a>, AllocError>
+    requires { (out-Command command).has_globals ≡ false }
+    ensures { IfOk result (IsLocal (with_cover_options (app_of command.entry))) }
+{
+    with_options(alloc, command)?.arg(cover_print_argument(alloc))
 }
 
 /// Adds the options of an edit alone: the distance of checkpoints, what is printed, and whether a
@@ -134,10 +153,7 @@ fn cover_command<'a>(alloc: Global) -> Result<Command<'a>, AllocError>
     let command = Command::new(alloc, "cover")
         .about("Plays logs and prints which texts of the cave none of them shows")
         .after_help("Example: cave cover caves/a.txt logs/first.log logs/road.log");
-    let command = command
-        .arg(cave_argument(alloc))?
-        .arg(logs_argument(alloc))?;
-    let command = with_options(alloc, command)?;
+    let command = with_cover_options(alloc, with_logs(alloc, command)?)?;
     with_output(alloc, command)
 }
 

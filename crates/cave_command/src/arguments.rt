@@ -121,6 +121,32 @@ pub(crate) fn play_print_argument<'a>(alloc: Global) -> Arg<'a>
         )
 }
 
+pub(crate) fn check_print_argument<'a>(alloc: Global) -> Arg<'a>
+    ensures rule { rule_of result ≡ print_rule }
+    ensures local { result.global ≡ false }
+{
+    Arg::new(alloc, "print")
+        .long("print")
+        .value_name("WHAT")
+        .help(
+            "What is printed: `maximum`, the greatest score, or `bindings`, each key of the \
+             bindings with its number and the first line of the text there [default: maximum]",
+        )
+}
+
+pub(crate) fn cover_print_argument<'a>(alloc: Global) -> Arg<'a>
+    ensures rule { rule_of result ≡ print_rule }
+    ensures local { result.global ≡ false }
+{
+    Arg::new(alloc, "print")
+        .long("print")
+        .value_name("WHAT")
+        .help(
+            "What is printed: `counts`, how many texts are said and the names of the others, or \
+             `texts`, each that is never said with its first line [default: counts]",
+        )
+}
+
 pub(crate) fn strict_argument<'a>(alloc: Global) -> Arg<'a>
     ensures rule { rule_of result ≡ strict_rule }
     ensures local { result.global ≡ false }

@@ -30,6 +30,12 @@ pub enum CommandFault<'a> {
     #[error("error: invalid value '{0}' for '--print <WHAT>': wanted is transcript or state\n\n\
         For more information, try '--help'.\n")]
     BadPlayView(&'a str),
+    #[error("error: invalid value '{0}' for '--print <WHAT>': wanted is maximum or bindings\n\n\
+        For more information, try '--help'.\n")]
+    BadCheckView(&'a str),
+    #[error("error: invalid value '{0}' for '--print <WHAT>': wanted is counts or texts\n\n\
+        For more information, try '--help'.\n")]
+    BadCoverView(&'a str),
     #[error("cave: there isn't enough memory\n")]
     Memory,
 }

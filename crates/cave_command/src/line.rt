@@ -1,5 +1,5 @@
 use clap::Error;
-use edit_options::{Editing, PlayView};
+use edit_options::{CheckView, CoverView, Editing, PlayView};
 
 /// The files of a cave, and the one that the output goes into.
 #[derive(Clone, Copy, Debug, PartialEq, Eq)]
@@ -16,6 +16,7 @@ pub struct Files<'a> {
 pub enum Line<'a> {
     Check {
         files: Files<'a>,
+        view: CheckView,
     },
     Play {
         files: Files<'a>,
@@ -33,6 +34,7 @@ pub enum Line<'a> {
         files: Files<'a>,
         logs: Vec<&'a str>,
         seed: u32,
+        view: CoverView,
     },
     /// Help or the version: the text to print.
     Text(Error),

@@ -6,7 +6,9 @@ ghost use Rattle.clap.specs.Words.{all_of, fault_of, first_of, kind_of, subcomma
 ghost use Rattle.clap.specs.Words.{subcommand_rows_of};
 ghost use Rattle.cave_command.specs.App.{cave_app};
 ghost use Rattle.cave_command.specs.Read.{IsParse};
-ghost use Rattle.cave_command.specs.Line.{IsAsked, IsBadEditing, IsBadEvery, IsBadSeed, IsBadView};
+ghost use Rattle.cave_command.specs.Line.{IsAsked, IsBadCheckView, IsBadCoverView, IsBadEvery};
+ghost use Rattle.cave_command.specs.Line.{IsBadOption, IsBadSeed, IsBadView, IsCheckView};
+ghost use Rattle.cave_command.specs.Line.{IsCoverView};
 ghost use Rattle.cave_command.specs.Line.{IsEditing, IsEveryGiven, IsFiles, IsLine, IsLineMet};
 ghost use Rattle.cave_command.specs.Line.{IsLineOf, IsRefusal, IsRefused, IsRequest, IsSeed};
 ghost use Rattle.cave_command.specs.Line.{IsUnmade, IsView, is_strict, rows_in};
@@ -18,7 +20,7 @@ use crate::line::{Files, Line};
 use crate::number::number_in;
 use clap::error::ErrorKind;
 use clap::{ArgMatches, Error};
-use edit_options::{Editing, PlayView, View};
+use edit_options::{CheckView, CoverView, Editing, PlayView, View};
 use limits::{MAX_EVERY, MAX_SEED, USUAL_EVERY};
 use std::alloc::Global;
 use std::convert::AsStr;
@@ -92,7 +94,8 @@ fn line_of<'a>(
         return Err(CommandFault::Incomplete);
     };
     if name == "check" {
-        return Ok(Line::Check { files });
+        let view = check_view_in(found)?;
+        return Ok(Line::Check { files, view });
     }
     if name == "cover" {
         return cover_of(alloc, files, found);
@@ -152,8 +155,14 @@ fn cover_of<'a>(
         return Err(CommandFault::Incomplete);
     };
     let seed = seed_in(found)?;
+    let view = cover_view_in(found)?;
     let logs = Vec::from_slice(alloc, logs)?;
-    Ok(Line::Cover { files, logs, seed })
+    Ok(Line::Cover {
+        files,
+        logs,
+        seed,
+        view,
+    })
 }
 
 /// All that was found for an argument.
@@ -215,6 +224,7 @@ fn view_in<'a>(found: &ArgMatches<'a>) -> Result<View, CommandFault<'a>>
     }
 }
 
+/// What a play prints.
 fn play_view_in<'a>(found: &ArgMatches<'a>) -> Result<PlayView, CommandFault<'a>>
     ensures { MatchResult result (IsPlayView (rows_in found.now))
         (IsBadPlayView (rows_in found.now)) }
@@ -222,6 +232,28 @@ fn play_view_in<'a>(found: &ArgMatches<'a>) -> Result<PlayView, CommandFault<'a>
     match value_in(found, "print") {
         None => Ok(USUAL_PLAY_VIEW),
         Some(name) => PlayView::named(name).ok_or(CommandFault::BadPlayView(name)),
+    }
+}
+
+/// What a check prints.
+fn check_view_in<'a>(found: &ArgMatches<'a>) -> Result<CheckView, CommandFault<'a>>
+    ensures { MatchResult result (IsCheckView (rows_in found.now))
+        (IsBadCheckView (rows_in found.now)) }
+{
+    match value_in(found, "print") {
+        None => Ok(CheckView::Maximum),
+        Some(name) => CheckView::named(name).ok_or(CommandFault::BadCheckView(name)),
+    }
+}
+
+/// What is printed of the texts that logs say.
+fn cover_view_in<'a>(found: &ArgMatches<'a>) -> Result<CoverView, CommandFault<'a>>
+    ensures { MatchResult result (IsCoverView (rows_in found.now))
+        (IsBadCoverView (rows_in found.now)) }
+{
+    match value_in(found, "print") {
+        None => Ok(CoverView::Counts),
+        Some(name) => CoverView::named(name).ok_or(CommandFault::BadCoverView(name)),
     }
 }
 
@@ -238,7 +270,7 @@ fn strict_in(found: &ArgMatches<'_>) -> bool
 /// How a log is to be edited.
 fn editing_in<'a>(found: &ArgMatches<'a>) -> Result<Editing, CommandFault<'a>>
     ensures { MatchResult result (IsEditing (rows_in found.now))
-        (IsBadEditing (rows_in found.now)) }
+        (IsBadOption (codes "edit") (rows_in found.now)) }
 {
     Ok(Editing {
         seed: seed_in(found)?,

@@ -6,6 +6,9 @@ use Rattle.std.proofs.lemmas.List.Sums.{sum_by-cons}
 use Rattle.cave_data.specs.CaveView.{CaveView}
 use Rattle.cave_cover.specs.Report.{sums_line, kinds, line, numbers_missing, numbers, report}
 use Rattle.cave_cover.specs.Report.{numbers_shown}
+use Rattle.cave_cover.specs.Missing.{missing_line, missing_lines, missing_report, report_by}
+use Rattle.edit_options.specs.declared.views.CoverView.{CoverView}
+use Rattle.edit_options.specs.declared.views.CoverView.TheVariants.{Counts, Texts}
 use Rattle.cave_cover.specs.Texts.{has_text, text}
 use Rattle.cave_cover.specs.declared.text.Kind.{Kind}
 use Rattle.cave_cover.specs.declared.text.Text.{Text}
@@ -62,8 +65,26 @@ module _ (cave : CaveView) (is_said is_told : Text → Bool) (agree : (text : Te
       (λ kind. length (numbers_shown cave is_told kind)) kinds
       (λ kind. ap length (agree_shown kind))) refl
 
-  pub agree_report : (logs : ℕ) → report cave is_said logs ≡ report cave is_told logs
+  agree_report : (logs : ℕ) → report cave is_said logs ≡ report cave is_told logs
   unfolding report
   agree_report logs =
       ap₂ (λ lines end. lines ++ end)
       (agree_flat (line cave is_said) (line cave is_told) kinds agree_line) (agree_closing logs)
+
+  agree_missing_lines : (kind : Kind)
+      → missing_lines cave is_said kind ≡ missing_lines cave is_told kind
+  agree_missing_lines kind = ap (flat_map (missing_line cave kind)) (agree_missing kind)
+
+  agree_missing_report : (logs : ℕ)
+      → missing_report cave is_said logs ≡ missing_report cave is_told logs
+  unfolding missing_report
+  agree_missing_report logs =
+      ap₂ (λ lines end. lines ++ end)
+      (agree_flat (missing_lines cave is_said) (missing_lines cave is_told) kinds
+      agree_missing_lines)
+      (agree_closing logs)
+
+  pub agree_view : (view : CoverView) (logs : ℕ)
+      → report_by cave is_said view logs ≡ report_by cave is_told view logs
+  agree_view Counts logs = agree_report logs
+  agree_view Texts logs = agree_missing_report logs

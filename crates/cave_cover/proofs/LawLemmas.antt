@@ -11,7 +11,7 @@ use Rattle.cave_cover.specs.Laws.{OrderIsNothing, AgainIsNothing, OneCoveredOutp
 use Rattle.cave_cover.specs.Plays.{cover_text, said_in_all, said_in_log, report_of_logs}
 use Rattle.cave_cover.specs.Texts.{is_among, is_same}
 use Rattle.cave_cover.specs.declared.text.Text.{Text}
-use Rattle.cave_cover.proofs.Agreeing.{agree_report}
+use Rattle.cave_cover.proofs.Agreeing.{agree_view}
 
 -- whether a log says a text
 abbrev says : CaveView → ℕ → Text → List ℕ → Bool
@@ -29,15 +29,15 @@ among_all : (cave : CaveView) (seed : ℕ) (logs : List (List ℕ)) (text : Text
 among_all cave seed logs text = any_flat (is_same text) (said_in_log cave seed) logs
 
 pub order_is_nothing : OrderIsNothing
-order_is_nothing cave seed logs others shuffled =
+order_is_nothing cave seed view logs others shuffled =
     let of_logs = λ (text : Text). is_among text (said_in_all cave seed logs) in
     let of_others = λ (text : Text). is_among text (said_in_all cave seed others) in
     let agree = λ (text : Text) (below : text.number < 10000).
     among_all cave seed others text
     ∙ sym (list_any-IsPermutation (says cave seed text) logs others shuffled)
     ∙ sym (among_all cave seed logs text) in
-    ap (report_of_logs cave seed others) (length_permutation logs others shuffled)
-    ∙ agree_report cave of_others of_logs agree (length logs)
+    ap (report_of_logs cave seed view others) (length_permutation logs others shuffled)
+    ∙ agree_view cave of_others of_logs agree view (length logs)
 
 said_once : (says : List ℕ → Bool) (logs : List (List ℕ)) (log : List ℕ) → Contains logs log
     → (says log || list_any says logs) ≡ list_any says logs
@@ -48,19 +48,19 @@ said_once says logs log (place, below, is) = go (says log) refl
     go true said = sym (list_any_at says logs place log below (ap says is ∙ said))
 
 pub again_is_nothing : AgainIsNothing
-again_is_nothing cave seed logs log given count =
+again_is_nothing cave seed view logs log given count =
     let of_logs = λ (text : Text). is_among text (said_in_all cave seed logs) in
     let of_more = λ (text : Text). is_among text (said_in_all cave seed (log ∷ logs)) in
     let agree = λ (text : Text) (below : text.number < 10000).
     among_all cave seed (log ∷ logs) text
     ∙ said_once (says cave seed text) logs log given
     ∙ sym (among_all cave seed logs text) in
-    agree_report cave of_more of_logs agree count
+    agree_view cave of_more of_logs agree view count
 
 pub one_covered_output : OneCoveredOutput
-one_covered_output database bindings logs seed =
+one_covered_output database bindings logs seed view =
     λ one other first second.
     let (cave, reads, is) = first in
     let (kept, rereads, same) = second in
     let caves = same_cave database bindings kept cave rereads reads in
-    is ∙ ap (λ c. cover_text c seed logs) caves ∙ sym same
+    is ∙ ap (λ c. cover_text c seed view logs) caves ∙ sym same

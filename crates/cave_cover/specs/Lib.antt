@@ -1,6 +1,7 @@
 pub mod Texts
 pub mod Marks
 pub mod Report
+pub mod Missing
 pub mod Plays
 pub mod Laws
 pub mod Faults

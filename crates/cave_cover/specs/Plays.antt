@@ -7,7 +7,8 @@ use Rattle.cave_data.specs.Reads.{Reads}
 use Rattle.cave_play.specs.Machine.{cave_rules}
 use Rattle.log_edits.specs.Game.{Game, game_of}
 use Rattle.log_replay.specs.Play.{texts_of}
-use Rattle.cave_cover.specs.Report.{report}
+use Rattle.edit_options.specs.declared.views.CoverView.{CoverView}
+use Rattle.cave_cover.specs.Missing.{report_by}
 use Rattle.cave_cover.specs.Texts.{is_among, said_by_all}
 use Rattle.cave_cover.specs.declared.text.Text.{Text}
 
@@ -27,15 +28,15 @@ abbrev pub said_in_all : CaveView → ℕ → List (List ℕ) → List Text
 said_in_all cave seed logs = flat_map (said_in_log cave seed) logs
 
 -- the report on logs, where so many are counted
-abbrev pub report_of_logs : CaveView → ℕ → List (List ℕ) → ℕ → List ℕ
-report_of_logs cave seed logs count =
-    report cave (λ text. is_among text (said_in_all cave seed logs)) count
+abbrev pub report_of_logs : CaveView → ℕ → CoverView → List (List ℕ) → ℕ → List ℕ
+report_of_logs cave seed view logs count =
+    report_by cave (λ text. is_among text (said_in_all cave seed logs)) view count
 
 -- the report on logs
-abbrev pub cover_text : CaveView → ℕ → List (List ℕ) → List ℕ
-cover_text cave seed logs = report_of_logs cave seed logs (length logs)
+abbrev pub cover_text : CaveView → ℕ → CoverView → List (List ℕ) → List ℕ
+cover_text cave seed view logs = report_of_logs cave seed view logs (length logs)
 
 -- the output is the report on the logs in the cave of the database and its bindings
-abbrev pub IsCovered : List ℕ → List ℕ → List (List ℕ) → ℕ → List ℕ → Type 0
-IsCovered database bindings logs seed output =
-    (cave : CaveView) × Reads database bindings cave × (output ≡ cover_text cave seed logs)
+abbrev pub IsCovered : List ℕ → List ℕ → List (List ℕ) → ℕ → CoverView → List ℕ → Type 0
+IsCovered database bindings logs seed view output =
+    (cave : CaveView) × Reads database bindings cave × (output ≡ cover_text cave seed view logs)

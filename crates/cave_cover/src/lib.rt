@@ -4,6 +4,7 @@
 pub mod fault;
 pub mod laws;
 pub mod marks;
+pub mod missing;
 pub mod parts;
 pub mod plays;
 pub mod report;

@@ -72,7 +72,12 @@ fn count_said(cave: &Cave, said: &SaidTexts, kind: Kind) -> usize
 
 /// Those that were never said.
 #[tactic(auto, unfolding(crate::specs::Report::numbers_missing, crate::specs::Report::numbers))]
-fn missing(alloc: Global, cave: &Cave, said: &SaidTexts, kind: Kind) -> Result<Vec<u16>, AllocError>
+pub(crate) fn missing(
+    alloc: Global,
+    cave: &Cave,
+    said: &SaidTexts,
+    kind: Kind,
+) -> Result<Vec<u16>, AllocError>
     ensures { IfOk result
         (λ texts. texts.items ≡ numbers_missing cave.now (is_marked said.now) kind) }
 {
@@ -97,7 +102,12 @@ fn heading(kind: Kind) -> &'static str
 }
 
 /// Appends a blank and the name of a text.
-fn push_name(alloc: Global, kind: Kind, number: u16, text: &mut Vec<u8>) -> Result<(), AllocError>
+pub(crate) fn push_name(
+    alloc: Global,
+    kind: Kind,
+    number: u16,
+    text: &mut Vec<u8>,
+) -> Result<(), AllocError>
     ensures { OnOk result (text.new.items ≡ text.old.items ++ (codes " " ++ name kind number)) }
 {
     let name = match kind {
@@ -206,7 +216,7 @@ fn push_lines(
 }
 
 /// Appends the line that sums up.
-fn push_closing(
+pub(crate) fn push_closing(
     alloc: Global,
     cave: &Cave,
     said: &SaidTexts,

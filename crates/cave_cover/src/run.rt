@@ -10,8 +10,8 @@ ghost use Rattle.cave_play.specs.Judge.{large_seed};
 
 use crate::fault::CoverFault;
 use crate::marks::SaidTexts;
+use crate::missing::push_view;
 use crate::plays::note_logs;
-use crate::report::push_report;
 use cave_data::Cave;
 use cave_play::bindings::CaveReaders;
 use cave_play::fault::PlayFault;
@@ -19,6 +19,7 @@ use cave_play::judge::{check_seed, read_cave};
 use cave_play::machine::CaveMachine;
 use cave_play::output::write_output;
 use cave_words::Lexicon;
+use edit_options::CoverView;
 use std::alloc::Global;
 use std::io::{Read, Write};
 
@@ -29,6 +30,7 @@ pub fn run_cover<C: Read, B: Read, L: Read, W: Write>(
     cave: &mut CaveReaders<C, B>,
     logs: &mut [L],
     seed: u32,
+    view: CoverView,
     output: &mut W,
 ) -> Result<(), CoverFault>
     ensures runs { (database : List ℕ) × (bindings : List ℕ) × (moves : List (List ℕ))
@@ -36,10 +38,10 @@ pub fn run_cover<C: Read, B: Read, L: Read, W: Write>(
         × Says (B.remaining cave.old.bindings) bindings
         × AllZip Says (map L.remaining logs.old) moves
         × RunsCover (first_stages database bindings seed) moves
-        (IsCovered database bindings moves seed)
+        (IsCovered database bindings moves seed view)
         (W.contents output.old) (W.contents output.new) result }
 {
-    let text = cover_inputs(alloc, cave, logs, seed)?;
+    let text = cover_inputs(alloc, cave, logs, seed, view)?;
     write_report(output, &text)
 }
 
@@ -62,17 +64,18 @@ fn cover_inputs<C: Read, B: Read, L: Read>(
     cave: &mut CaveReaders<C, B>,
     logs: &mut [L],
     seed: u32,
+    view: CoverView,
 ) -> Result<Vec<u8>, CoverFault>
     ensures judged { (database : List ℕ) × (bindings : List ℕ) × (moves : List (List ℕ))
         × Says (C.remaining cave.old.database) database
         × Says (B.remaining cave.old.bindings) bindings
         × AllZip Says (map L.remaining logs.old) moves
         × JudgesLogs (first_stages database bindings seed) moves
-        (λ text. IsCovered database bindings moves seed text.items) result }
+        (λ text. IsCovered database bindings moves seed view text.items) result }
 {
     check_seed(seed)?;
     let cave = read_cave(alloc, cave)?;
-    let text = cover_in_cave(alloc, &cave, logs, seed);
+    let text = cover_in_cave(alloc, &cave, logs, seed, view);
     // By a call, as in other runs: the checker goes through the tables of a cave in one place.
     drop(cave);
     text
@@ -84,16 +87,17 @@ fn cover_in_cave<L: Read>(
     cave: &Cave,
     logs: &mut [L],
     seed: u32,
+    view: CoverView,
 ) -> Result<Vec<u8>, CoverFault>
     requires { large_seed seed ≡ None }
     ensures judged { (moves : List (List ℕ)) × AllZip Says (map L.remaining logs.old) moves
-        × JudgesLogs [] moves (λ text. text.items ≡ cover_text cave.now seed moves) result }
+        × JudgesLogs [] moves (λ text. text.items ≡ cover_text cave.now seed view moves) result }
 {
     let lexicon = Lexicon::build(alloc, cave)?;
     let machine = CaveMachine::new(cave, &lexicon);
     let mut said = SaidTexts::new(alloc)?;
     note_logs(alloc, machine, logs, seed, &mut said)?;
     let mut text = Vec::new(alloc);
-    push_report(alloc, machine.cave(), &said, logs.len(), &mut text)?;
+    push_view(alloc, machine.cave(), &said, view, logs.len(), &mut text)?;
     Ok(text)
 }

@@ -16,11 +16,11 @@ use Rattle.cave_play.specs.Output.{check_text, play_view_text}
 use Rattle.cave_play.specs.Views.{IsViewOf}
 
 pub one_checked_output : OneCheckedOutput
-one_checked_output database bindings =
+one_checked_output database bindings view =
     λ one other first second.
     let (cave, reads, is) = first in
     let (kept, rereads, same) = second in
-    is ∙ ap check_text (same_cave database bindings kept cave rereads reads) ∙ sym same
+    is ∙ ap (check_text view) (same_cave database bindings kept cave rereads reads) ∙ sym same
 
 pub one_played_output : OnePlayedOutput
 one_played_output database bindings log seed view =

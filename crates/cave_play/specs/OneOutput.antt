@@ -2,16 +2,18 @@
 -- replayed. So the distance of checkpoints shows there alone.
 use Rattle.std.specs.Prelude.{◌≡◌, ℕ, ⊤, Bool, List}
 use Rattle.edit_options.specs.declared.editing.View.{View}
+use Rattle.edit_options.specs.declared.views.CheckView.{CheckView}
 use Rattle.edit_options.specs.declared.editing.View.TheVariants.{Transcript, Play, Log, Reports}
 use Rattle.edit_options.specs.declared.editing.View.TheVariants.{FinalState}
-use Rattle.edit_options.specs.declared.playing.PlayView.{PlayView}
+use Rattle.edit_options.specs.declared.views.PlayView.{PlayView}
 use Rattle.cave_play.specs.Output.{IsChecked, IsPlayed}
 use Rattle.cave_play.specs.Run.{AtMostOne}
 use Rattle.cave_play.specs.Views.{IsEdited}
 
 -- a database and its bindings have one output of a check at most
 abbrev pub OneCheckedOutput : Type 0
-OneCheckedOutput = (database bindings : List ℕ) → AtMostOne (IsChecked database bindings)
+OneCheckedOutput =
+    (database bindings : List ℕ) (view : CheckView) → AtMostOne (IsChecked view database bindings)
 
 -- with a log and a seed, one output of a play, by what is asked for
 abbrev pub OnePlayedOutput : Type 0

@@ -4,8 +4,11 @@ use Rattle.std.specs.Fmt.{decimal}
 use Rattle.std.specs.Str.Lines.{lines}
 use Rattle.cave_data.specs.CaveView.{CaveView}
 use Rattle.cave_data.specs.Reads.{Reads}
-use Rattle.edit_options.specs.declared.playing.PlayView.{PlayView}
-use Rattle.edit_options.specs.declared.playing.PlayView.TheVariants as play
+use Rattle.cave_bindings.specs.Listing.{bindings_text}
+use Rattle.edit_options.specs.declared.views.CheckView.{CheckView}
+use Rattle.edit_options.specs.declared.views.CheckView.TheVariants.{Maximum, Bindings}
+use Rattle.edit_options.specs.declared.views.PlayView.{PlayView}
+use Rattle.edit_options.specs.declared.views.PlayView.TheVariants as play
 use Rattle.log_edits.specs.Edit.{Change, apply_all}
 use Rattle.log_edits.specs.Faults.{group_fault}
 use Rattle.log_edits.specs.Game.{Game, game_of}
@@ -27,13 +30,15 @@ use Rattle.cave_play.specs.Transcript.{transcript}
 abbrev pub cave_line : ℕ → List ℕ
 cave_line most = codes "cave ok, maximum " ++ (decimal most ++ codes "\n")
 
-abbrev pub check_text : CaveView → List ℕ
-check_text cave = cave_line (max_score_of cave)
+-- what is said of a cave, by what is asked for
+abbrev pub check_text : CheckView → CaveView → List ℕ
+check_text Maximum cave = cave_line (max_score_of cave)
+check_text Bindings cave = bindings_text cave
 
 -- the output of a check of a database that is a cave
-abbrev pub IsChecked : List ℕ → List ℕ → List ℕ → Type 0
-IsChecked database bindings output = (cave : CaveView) × Reads database bindings cave
-    × (output ≡ check_text cave)
+abbrev pub IsChecked : CheckView → List ℕ → List ℕ → List ℕ → Type 0
+IsChecked view database bindings output = (cave : CaveView) × Reads database bindings cave
+    × (output ≡ check_text view cave)
 
 -- ---- what is played
 

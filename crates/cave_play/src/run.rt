@@ -9,7 +9,8 @@ ghost use Rattle.edit_scripts.specs.Views.{items_of};
 ghost use Rattle.log_edits.specs.Game.{game_of};
 ghost use Rattle.cave_play.specs.Input.{Says};
 ghost use Rattle.cave_play.specs.Judge.{large_seed, every_fault};
-ghost use Rattle.cave_play.specs.Output.{check_text, play_view_text};
+ghost use Rattle.cave_score.specs.Score.{max_score_of};
+ghost use Rattle.cave_play.specs.Output.{cave_line, check_text, play_view_text};
 ghost use Rattle.cave_play.specs.Output.{IsChecked, IsPlayed};
 ghost use Rattle.cave_play.specs.Run.{Judges, Runs};
 ghost use Rattle.cave_play.specs.Stage.{judging_stage};
@@ -28,11 +29,12 @@ use crate::machine::CaveMachine;
 use crate::output::write_output;
 use crate::reports::push_totals;
 use crate::transcript::{push_maximum, tell};
+use cave_bindings::push_bindings;
 use cave_data::Cave;
 use cave_scene::Rules;
 use cave_score::max_score;
 use cave_words::Lexicon;
-use edit_options::{Editing, PlayView, View};
+use edit_options::{CheckView, Editing, PlayView, View};
 use edit_scripts::Script;
 use limits::MAX_EVERY;
 use log_replay::Session;
@@ -44,15 +46,16 @@ use std::io::{Read, Write};
 pub fn run_check<C: Read, B: Read, W: Write>(
     alloc: Global,
     cave: &mut CaveReaders<C, B>,
+    view: CheckView,
     output: &mut W,
 ) -> Result<(), PlayFault>
     ensures runs { (database : List ℕ) × (bindings : List ℕ)
         × Says (C.remaining cave.old.database) database
         × Says (B.remaining cave.old.bindings) bindings
-        × Runs (cave_stages database bindings) (IsChecked database bindings)
+        × Runs (cave_stages database bindings) (IsChecked view database bindings)
         (W.contents output.old) (W.contents output.new) result }
 {
-    let text = check_inputs(alloc, cave)?;
+    let text = check_inputs(alloc, cave, view)?;
     write(output, &text)
 }
 
@@ -122,29 +125,53 @@ fn write<W: Write>(output: &mut W, text: &[u8]) -> Result<(), PlayFault>
 fn check_inputs<C: Read, B: Read>(
     alloc: Global,
     cave: &mut CaveReaders<C, B>,
+    view: CheckView,
 ) -> Result<Vec<u8>, PlayFault>
     ensures judged { (database : List ℕ) × (bindings : List ℕ)
         × Says (C.remaining cave.old.database) database
         × Says (B.remaining cave.old.bindings) bindings
         × Judges (cave_stages database bindings)
-        (λ text. IsChecked database bindings text.items) result }
+        (λ text. IsChecked view database bindings text.items) result }
 {
     let cave = read_cave(alloc, cave)?;
-    let text = check_cave(alloc, &cave);
+    let text = check_cave(alloc, &cave, view);
     drop(cave);
     text
 }
 
 /// What is said of a cave.
-fn check_cave(alloc: Global, cave: &Cave) -> Result<Vec<u8>, PlayFault>
-    ensures told { MatchResult result (λ text. text.items ≡ check_text cave.now)
+fn check_cave(alloc: Global, cave: &Cave, view: CheckView) -> Result<Vec<u8>, PlayFault>
+    ensures told { MatchResult result (λ text. text.items ≡ check_text view cave.now)
         (λ fault. fault ≡ PlayFault.Memory) }
+{
+    let mut text = Vec::new(alloc);
+    push_check_text(alloc, cave, view, &mut text)?;
+    Ok(text)
+}
+
+/// Appends what is said of a cave.
+fn push_check_text(
+    alloc: Global,
+    cave: &Cave,
+    view: CheckView,
+    text: &mut Vec<u8>,
+) -> Result<(), AllocError>
+    ensures { OnOk result (text.new.items ≡ text.old.items ++ check_text view cave.now) }
+{
+    match view {
+        CheckView::Maximum => push_greatest(alloc, cave, text),
+        CheckView::Bindings => push_bindings(alloc, cave, text),
+    }
+}
+
+/// Appends the line that says that a database is a cave.
+fn push_greatest(alloc: Global, cave: &Cave, text: &mut Vec<u8>) -> Result<(), AllocError>
+    ensures { OnOk result
+        (text.new.items ≡ text.old.items ++ cave_line (max_score_of cave.now)) }
 {
     let lexicon = Lexicon::build(alloc, cave)?;
     let most = max_score(&Rules::of(cave, &lexicon));
-    let mut text = Vec::new(alloc);
-    push_maximum(alloc, &mut text, most)?;
-    Ok(text)
+    push_maximum(alloc, text, most)
 }
 
 /// What is asked for of a play, from readers of the inputs.

@@ -1,2 +1,2 @@
 pub mod Editing
-pub mod Playing
+pub mod Views

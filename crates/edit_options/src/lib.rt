@@ -1,9 +1,8 @@
-//! What may be asked of a play and of an edit of a log, for the command line, which asks it, and for
-//! the run, which does it.
+//! What may be asked of runs, for the command line, which asks it, and for the runs, which do it.
 #![tactic(auto)]
 
 pub mod editing;
-pub mod playing;
+pub mod views;
 
 pub use editing::{Editing, View};
-pub use playing::PlayView;
+pub use views::{CheckView, CoverView, PlayView};

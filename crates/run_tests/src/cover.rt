@@ -7,6 +7,7 @@ use cave_cover::run::run_cover;
 use cave_play::bindings::CaveReaders;
 use cave_play::fault::{Input, LogFault, PlayFault};
 use cave_rows::{Cause, CaveError, FaultSite};
+use edit_options::CoverView;
 use log_lines::LineFlaw;
 use std::alloc::Global;
 use std::io::{Read, Write};
@@ -51,7 +52,7 @@ fn cover_into<C: Read, B: Read, L: Read, W: Write>(
     seed: u32,
     sink: &mut W,
 ) -> Result<(), CoverFault> {
-    run_cover(alloc, cave, logs, seed, sink)
+    run_cover(alloc, cave, logs, seed, CoverView::Counts, sink)
 }
 
 impl<'a> Readers<'a> {

@@ -5,7 +5,7 @@ use crate::streams::{Sink, Source};
 use cave_play::bindings::CaveReaders;
 use cave_play::fault::{Input, PlayFault};
 use cave_play::run::{run_check, run_edit, run_play};
-use edit_options::{Editing, PlayView, View};
+use edit_options::{CheckView, Editing, PlayView, View};
 use std::alloc::Global;
 use std::io::{Read, Write};
 
@@ -79,7 +79,7 @@ fn check_into<C: Read, B: Read, W: Write>(
     cave: &mut CaveReaders<C, B>,
     sink: &mut W,
 ) -> Result<(), PlayFault> {
-    run_check(alloc, cave, sink)
+    run_check(alloc, cave, CheckView::Maximum, sink)
 }
 
 fn play_into<C: Read, B: Read, L: Read, W: Write>(

@@ -25,7 +25,7 @@ fn shown(alloc: Global, words: &[&str]) -> Result<String, AllocError> {
 const ANSWERS: [(&[&str], &str); 25] = [
     (
         &["cave", "check", "a"],
-        "Check { files: Files { cave: \"a\", bind: None, output: None } }",
+        "Check { files: Files { cave: \"a\", bind: None, output: None }, view: Maximum }",
     ),
     (
         &["cave", "play", "a", "--bind=c", "b", "--seed", "2147483647"],
@@ -92,7 +92,7 @@ const ANSWERS: [(&[&str], &str); 25] = [
             "cave", "cover", "a", "b", "--seed=7", "c", "--bind", "d", "e",
         ],
         "Cover { files: Files { cave: \"a\", bind: Some(\"d\"), output: None }, \
-        logs: [\"b\", \"c\", \"e\"], seed: 7 }",
+        logs: [\"b\", \"c\", \"e\"], seed: 7, view: Counts }",
     ),
     (&["cave", "play", "a"], "2 MissingRequiredArgument"),
     (&["cave", "cover", "a"], "2 MissingRequiredArgument"),

@@ -5,7 +5,7 @@ use Rattle.cave_data.specs.CaveView.{CaveView}
 use Rattle.cave_play.specs.Input.{Says}
 use Rattle.cave_cover.specs.Marks.{is_marked}
 use Rattle.cave_cover.specs.Plays.{cover_text}
-use Rattle.cave_cover.specs.Report.{report}
+use Rattle.cave_cover.specs.Missing.{report_by}
 use Rattle.cave_cover.proofs.FaultLemmas.{AllSay-some, AllZip-length}
 use Rattle.cave_cover.proofs.Telling.{told_by_marks}
 use Rattle.cave_cover.proofs.run.cover_in_cave.Goals as goal
@@ -33,10 +33,11 @@ returns g c =
     let many : count ≡ length moves = kept ∙ sym (length-map c.args.logs.now g.L.Read.remaining)
     ∙ AllZip-length Says (map g.L.Read.remaining c.args.logs.now) moves said in
     let told =
-    told_by_marks cave c.args.seed moves c.in_ok-said.said marks count c.in_ok-said.ensures
-    noted.2 many in
-    let text = c.in_ok-push_report.ensures
-    ∙ ap (λ t. t ++ report c.cave.result.now (is_marked marks) count) c.new-text.ensures.items
-    ∙ ap (λ k. report k (is_marked marks) count) c.cave.ensures ∙ told
-    ∙ ap (λ (k : CaveView). cover_text k c.args.seed moves) c.new-machine.ensures in
+    told_by_marks cave c.args.seed c.args.view moves c.in_ok-said.said marks count
+    c.in_ok-said.ensures noted.2 many in
+    let text = c.in_ok-push_view.ensures
+    ∙ ap (λ t. t ++ report_by c.cave.result.now (is_marked marks) c.args.view count)
+    c.new-text.ensures.items
+    ∙ ap (λ k. report_by k (is_marked marks) c.args.view count) c.cave.ensures ∙ told
+    ∙ ap (λ (k : CaveView). cover_text k c.args.seed c.args.view moves) c.new-machine.ensures in
     record { judged = (moves, said, (noted.0, noted.1, text)) }

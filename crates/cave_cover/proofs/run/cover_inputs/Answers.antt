@@ -48,8 +48,9 @@ returns g c =
     let first =
     Judges-after (large_seed c.args.seed) (cave_stages database bindings) (Reads database bindings)
     (Ok cave) c.in_ok-check_seed.ensures made in
-    let told = λ (text : Vec ℕ). text.items ≡ cover_text cave c.args.seed moves in
-    let right = λ (text : Vec ℕ). IsCovered database bindings moves c.args.seed text.items in
+    let told = λ (text : Vec ℕ). text.items ≡ cover_text cave c.args.seed c.args.view moves in
+    let right = λ (text : Vec ℕ).
+    IsCovered database bindings moves c.args.seed c.args.view text.items in
     record {
       judged = (
         database,

@@ -18,7 +18,8 @@ pub returns : goal.returns
 returns g c =
     let (database, bindings, moves, said, others, last, made) = c.in_ok-text.ensures.judged in
     let output =
-    subst (IsCovered database bindings moves c.args.seed) (sym c.deref.ensures.value) made.2 in
+    subst (IsCovered database bindings moves c.args.seed c.args.view) (sym c.deref.ensures.value)
+    made.2 in
     record {
       runs = (
         database,
@@ -28,7 +29,7 @@ returns g c =
         others,
         last,
         RunsCover-written (first_stages database bindings c.args.seed) moves
-            (IsCovered database bindings moves c.args.seed) _ _ _ _ made.0 made.1 output
+            (IsCovered database bindings moves c.args.seed c.args.view) _ _ _ _ made.0 made.1 output
             c.write_report.ensures.written,
       );
     }

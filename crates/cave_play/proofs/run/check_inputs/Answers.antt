@@ -15,8 +15,8 @@ returns-in_err-cave g c =
 pub returns : goal.returns
 returns g c =
     let (database, bindings, said, others, made) = c.in_ok-cave.ensures.judged in
-    let told = λ (text : Vec ℕ). text.items ≡ check_text c.in_ok-cave.cave in
-    let right = λ (text : Vec ℕ). IsChecked database bindings text.items in
+    let told = λ (text : Vec ℕ). text.items ≡ check_text c.args.view c.in_ok-cave.cave in
+    let right = λ (text : Vec ℕ). IsChecked c.args.view database bindings text.items in
     record {
       judged = (
         database,

@@ -24,14 +24,15 @@ returns-in_err-text g c =
 pub returns : goal.returns
 returns g c =
     let (database, bindings, said, others, made) = c.in_ok-text.ensures.judged in
-    let output = subst (IsChecked database bindings) (sym c.deref.ensures.value) made.1 in
+    let right = IsChecked c.args.view database bindings in
+    let output = subst right (sym c.deref.ensures.value) made.1 in
     record {
       runs = (
         database,
         bindings,
         said,
         others,
-        Runs-written (cave_stages database bindings) (IsChecked database bindings) _ _ _ _ made.0
-            output c.write.ensures.written,
+        Runs-written (cave_stages database bindings) right _ _ _ _ made.0 output
+            c.write.ensures.written,
       );
     }

@@ -1,0 +1,83 @@
+-- What is said of the bindings of a cave: each key with its number, and what the number means.
+use Rattle.std.specs.Prelude.{ℕ, Bool, false, is_some, List, [], ◌++◌, length, slice_index_or}
+use Rattle.std.specs.Prelude.{codes, Option, None, Some}
+use Rattle.std.specs.Option.{option_or}
+use Rattle.std.specs.Fmt.{decimal}
+use Rattle.std.specs.List.{filter, flat_map, range_with_len}
+use Rattle.std.specs.Str.Lines.{lines}
+use Rattle.std.specs.FinMap as map
+use Rattle.cave_data.specs.CaveView.{CaveView}
+use Rattle.cave_rows.specs.Role.{role_names}
+use Rattle.cave_rows.specs.PlaceRole.{place_names}
+
+-- the keys of messages and of places, by the numbers of their roles
+unfoldable pub message_keys : List ℕ
+message_keys = range_with_len 0 156
+
+unfoldable pub place_keys : List ℕ
+place_keys = range_with_len 0 19
+
+abbrev pub first_line : List ℕ → List ℕ
+first_line text = slice_index_or (lines text) 0 []
+
+-- what a number means: the first line of its text, or that it has none
+abbrev pub meaning : List ℕ → Option (List ℕ) → List ℕ
+meaning kind None = codes "no such " ++ kind
+meaning kind (Some text) = first_line text
+
+-- what follows a key on its line: the number that it is bound to, with what that means
+abbrev pub bound_to : List ℕ → (ℕ → Option (List ℕ)) → Option ℕ → List ℕ
+bound_to kind text None = codes " unbound\n"
+bound_to kind text (Some number) =
+    codes " " ++ (decimal number ++ (codes ": " ++ (meaning kind (text number) ++ codes "\n")))
+
+-- whether a key is bound to a number that has a text
+abbrev pub has_text : (ℕ → Option (List ℕ)) → Option ℕ → Bool
+has_text text None = false
+has_text text (Some number) = is_some (text number)
+
+module _ (cave : CaveView) where
+  abbrev pub message_text : ℕ → Option (List ℕ)
+  message_text number = map.get cave.messages number
+
+  -- a place is known by its long text, or else by its short one
+  abbrev pub place_text : ℕ → Option (List ℕ)
+  place_text number = option_or (map.get cave.long number) (map.get cave.short number)
+
+  abbrev pub message_line : ℕ → List ℕ
+  message_line key =
+      codes "msg." ++ (slice_index_or role_names key []
+      ++ bound_to (codes "message") message_text (map.get cave.roles key))
+
+  abbrev pub place_line : ℕ → List ℕ
+  place_line key =
+      codes "place." ++ (slice_index_or place_names key []
+      ++ bound_to (codes "place") place_text (map.get cave.places key))
+
+  unfoldable pub message_lines : List ℕ
+  message_lines = flat_map message_line message_keys
+
+  unfoldable pub place_lines : List ℕ
+  place_lines = flat_map place_line place_keys
+
+  unfoldable pub letters_line : List ℕ
+  letters_line = codes "num.letters " ++ (decimal cave.letters ++ codes "\n")
+
+  -- how many keys have a text
+  unfoldable pub message_count : ℕ
+  message_count =
+      length (filter (λ key. has_text message_text (map.get cave.roles key)) message_keys)
+
+  unfoldable pub place_count : ℕ
+  place_count = length (filter (λ key. has_text place_text (map.get cave.places key)) place_keys)
+
+  unfoldable pub message_sum : List ℕ
+  message_sum = codes "-- " ++ (decimal message_count ++ codes " of 156 messages and ")
+
+  unfoldable pub place_sum : List ℕ
+  place_sum = decimal place_count ++ codes " of 19 places have a text\n"
+
+  -- a line for each key, and the sum
+  unfoldable pub bindings_text : List ℕ
+  bindings_text =
+      message_lines ++ (place_lines ++ (letters_line ++ (message_sum ++ place_sum)))
