@@ -2,7 +2,7 @@
 //! logs never show.
 #![tactic(auto)]
 
-use cave_command::{CommandFault, Files, Line, command_line};
+use cave_command::{CommandFault, Files, Run, command_line};
 use cave_cover::fault::CoverFault;
 use cave_cover::run::run_cover;
 use cave_play::bindings::{BindingsReader, CaveReaders};
@@ -28,17 +28,17 @@ struct Names<'a> {
 
 impl<'a> Names<'a> {
     /// The files of the run that a command line asks for, but for several logs.
-    fn in_line(line: &Line<'a>) -> Names<'a> {
+    fn in_line(line: &Run<'a>) -> Names<'a> {
         let (files, log, script) = match line {
-            Line::Check { files, .. } | Line::Cover { files, .. } => (Some(*files), None, None),
-            Line::Play { files, log, .. } => (Some(*files), Some(*log), None),
-            Line::Edit {
+            Run::Check { files, .. } | Run::Cover { files, .. } => (Some(*files), None, None),
+            Run::Play { files, log, .. } => (Some(*files), Some(*log), None),
+            Run::Edit {
                 files,
                 log,
                 script,
                 ..
             } => (Some(*files), Some(*log), Some(*script)),
-            Line::Text(_) => (None, None, None),
+            Run::Text(_) => (None, None, None),
         };
         Names { files, log, script }
     }
@@ -261,30 +261,30 @@ fn tell(rt: &HostRuntime, names: Names<'_>, ended: Result<(), Failure<'_>>) -> E
 /// Does the run that a command line asks for, whose output goes to a writer.
 fn run_into<'a, W: Write>(
     rt: &HostRuntime,
-    line: &Line<'a>,
+    line: &Run<'a>,
     output: &mut W,
 ) -> Result<(), Failure<'a>> {
     match line {
-        Line::Check { files, view } => check(rt, *files, *view, output),
-        Line::Play {
+        Run::Check { files, view } => check(rt, *files, *view, output),
+        Run::Play {
             files,
             log,
             seed,
             view,
         } => play(rt, *files, *log, *seed, *view, output),
-        Line::Edit {
+        Run::Edit {
             files,
             log,
             script,
             editing,
         } => edit(rt, *files, *log, *script, *editing, output),
-        Line::Cover {
+        Run::Cover {
             files,
             logs,
             seed,
             view,
         } => cover(rt, *files, logs.as_slice(), *seed, *view, output),
-        Line::Text(text) => match write!(output, "{text}") {
+        Run::Text(text) => match write!(output, "{text}") {
             Ok(()) => Ok(()),
             Err(_) => Err(Failure::Run(PlayFault::Write)),
         },
@@ -308,7 +308,7 @@ fn put<'a>(rt: &HostRuntime, file: &'a str, output: &[u8]) -> Result<(), Failure
 
 /// Does the run that a command line asks for, whose output goes into a file: it is kept until it is
 /// whole, so that a file that the run reads can be the one that is written.
-fn run_into_file<'a>(rt: &HostRuntime, line: &Line<'a>, file: &'a str) -> Result<(), Failure<'a>> {
+fn run_into_file<'a>(rt: &HostRuntime, line: &Run<'a>, file: &'a str) -> Result<(), Failure<'a>> {
     let mut output = Vec::new(rt.alloc());
     match run_into(rt, line, &mut output) {
         Ok(()) => put(rt, file, &output),
@@ -319,7 +319,7 @@ fn run_into_file<'a>(rt: &HostRuntime, line: &Line<'a>, file: &'a str) -> Result
 }
 
 /// Does what a command line asks for.
-fn run(rt: &HostRuntime, line: &Line<'_>) -> ExitCode {
+fn run(rt: &HostRuntime, line: &Run<'_>) -> ExitCode {
     let names = Names::in_line(line);
     let ended = match names.output() {
         Some(file) => run_into_file(rt, line, file),

@@ -10,16 +10,16 @@ use Rattle.clap.specs.declared.error.kind.ErrorKind.TheVariants.{OutOfMemory}
 use Rattle.clap.specs.declared.parser.matches.ArgMatches.{ArgMatches}
 use Rattle.clap.proofs.OnLiterals.{clap_on_literals}
 use Rattle.cave_command.specs.App.{cave_app}
-use Rattle.cave_command.specs.Line.{IsAsked, IsLine, IsLineMet, IsRefusal, IsRefused, IsRequest}
-use Rattle.cave_command.specs.Line.{IsUnmade, IsWrong, MetCommand}
+use Rattle.cave_command.specs.Run.{IsAsked, IsRun, IsRunMet, IsRefusal, IsRefused, IsRequest}
+use Rattle.cave_command.specs.Run.{IsUnmade, IsWrong, MetCommand}
 use Rattle.cave_command.specs.Read.{IsParse}
 use Rattle.cave_command.specs.declared.fault.CommandFault.{CommandFault}
 use Rattle.cave_command.specs.declared.fault.CommandFault.TheVariants.{Usage, Incomplete, BadSeed}
 use Rattle.cave_command.specs.declared.fault.CommandFault.TheVariants.{BadEvery, BadView, Memory}
 use Rattle.cave_command.specs.declared.fault.CommandFault.TheVariants.{BadPlayView}
 use Rattle.cave_command.specs.declared.fault.CommandFault.TheVariants.{BadCheckView, BadCoverView}
-use Rattle.cave_command.specs.declared.line.Line.{Line}
-use Rattle.cave_command.specs.declared.line.Line.TheVariants as line
+use Rattle.cave_command.specs.declared.run.Run.{Run}
+use Rattle.cave_command.specs.declared.run.Run.TheVariants as run
 
 cave_is_simple : is_simple cave_app ≡ true
 unfolding clap_on_literals
@@ -54,29 +54,29 @@ parse_is command words answer same has fails = parse_of (app_of command) words a
 
 -- ---- what the run that was found comes to
 
-abbrev pub Reads : MetCommand → Result Line CommandFault → Type 0
-Reads met answer = MatchResult answer (IsLineMet met) (IsUnmade met)
+abbrev pub Reads : MetCommand → Result Run CommandFault → Type 0
+Reads met answer = MatchResult answer (IsRunMet met) (IsUnmade met)
 
-pub found_line : (met : MetCommand) (answer : Result Line CommandFault) → Reads met answer
-    → IfOk answer (IsLine met)
-found_line met (Ok (line.Check files view)) is = is
-found_line met (Ok (line.Play files log seed view)) is = is
-found_line met (Ok (line.Edit files log script editing)) is = is
-found_line met (Ok (line.Cover files logs seed view)) is = is
-found_line met (Ok (line.Text error)) is = tt
-found_line met (Err fault) is = tt
+pub found_run : (met : MetCommand) (answer : Result Run CommandFault) → Reads met answer
+    → IfOk answer (IsRun met)
+found_run met (Ok (run.Check files view)) is = is
+found_run met (Ok (run.Play files log seed view)) is = is
+found_run met (Ok (run.Edit files log script editing)) is = is
+found_run met (Ok (run.Cover files logs seed view)) is = is
+found_run met (Ok (run.Text error)) is = tt
+found_run met (Err fault) is = tt
 
-no_text : (met : MetCommand) (error : Error) → IsLineMet met (line.Text error) → ⊥
+no_text : (met : MetCommand) (error : Error) → IsRunMet met (run.Text error) → ⊥
 no_text None error is = is
 no_text (Some found) error is = is
 
-pub found_asked : (kinds : Kinds) (met : MetCommand) (answer : Result Line CommandFault)
+pub found_asked : (kinds : Kinds) (met : MetCommand) (answer : Result Run CommandFault)
     → kinds ≡ [] → Reads met answer → IfOk answer (IsAsked kinds)
-found_asked kinds met (Ok (line.Check files view)) none is = none
-found_asked kinds met (Ok (line.Play files log seed view)) none is = none
-found_asked kinds met (Ok (line.Edit files log script editing)) none is = none
-found_asked kinds met (Ok (line.Cover files logs seed view)) none is = none
-found_asked kinds met (Ok (line.Text error)) none is = absurd (no_text met error is)
+found_asked kinds met (Ok (run.Check files view)) none is = none
+found_asked kinds met (Ok (run.Play files log seed view)) none is = none
+found_asked kinds met (Ok (run.Edit files log script editing)) none is = none
+found_asked kinds met (Ok (run.Cover files logs seed view)) none is = none
+found_asked kinds met (Ok (run.Text error)) none is = absurd (no_text met error is)
 found_asked kinds met (Err fault) none is = tt
 
 no_usage : (met : MetCommand) (error : Error) → IsWrong met (Usage error) → ⊥
@@ -84,7 +84,7 @@ no_usage None error is = is
 no_usage (Some found) error (inl bad) = bad
 no_usage (Some found) error (inr bad) = bad
 
-pub found_refused : (kinds : Kinds) (met : MetCommand) (answer : Result Line CommandFault)
+pub found_refused : (kinds : Kinds) (met : MetCommand) (answer : Result Run CommandFault)
     → kinds ≡ [] → Reads met answer → IfErr answer (IsRefused kinds met)
 found_refused kinds met (Ok found) none is = tt
 found_refused kinds met (Err (Usage error)) none is = absurd (no_usage met error is)
@@ -108,8 +108,8 @@ among : (kinds : Kinds) (error : Error) → HasKind kinds error → (kind_of err
 among kinds error (inl memory) other = absurd (other memory)
 among kinds error (inr is) other = is
 
-pub text_asked : (kinds : Kinds) (error : Error) (asked : Line) → HasKind kinds error
-    → (asked ≡ line.Text error) × IsRequest (kind_of error) → IsAsked kinds asked
+pub text_asked : (kinds : Kinds) (error : Error) (asked : Run) → HasKind kinds error
+    → (asked ≡ run.Text error) × IsRequest (kind_of error) → IsAsked kinds asked
 text_asked kinds error asked has (same, request) =
     subst (IsAsked kinds) (sym same) (request, among kinds error has (no_memory error request))
 

@@ -1,5 +1,5 @@
 pub mod App
 pub mod Fault
 pub mod Number
-pub mod Line
 pub mod Read
+pub mod Run

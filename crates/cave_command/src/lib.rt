@@ -4,10 +4,10 @@
 pub mod app;
 mod arguments;
 pub mod fault;
-pub mod line;
 mod number;
 mod read;
+pub mod run;
 
 pub use fault::CommandFault;
-pub use line::{Files, Line};
 pub use read::command_line;
+pub use run::{Files, Run};

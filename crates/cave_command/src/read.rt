@@ -6,17 +6,17 @@ ghost use Rattle.clap.specs.Words.{all_of, fault_of, first_of, kind_of, subcomma
 ghost use Rattle.clap.specs.Words.{subcommand_rows_of};
 ghost use Rattle.cave_command.specs.App.{cave_app};
 ghost use Rattle.cave_command.specs.Read.{IsParse};
-ghost use Rattle.cave_command.specs.Line.{IsAsked, IsBadCheckView, IsBadCoverView, IsBadEvery};
-ghost use Rattle.cave_command.specs.Line.{IsBadOption, IsBadSeed, IsBadView, IsCheckView};
-ghost use Rattle.cave_command.specs.Line.{IsCoverView};
-ghost use Rattle.cave_command.specs.Line.{IsEditing, IsEveryGiven, IsFiles, IsLine, IsLineMet};
-ghost use Rattle.cave_command.specs.Line.{IsLineOf, IsRefusal, IsRefused, IsRequest, IsSeed};
-ghost use Rattle.cave_command.specs.Line.{IsUnmade, IsView, is_strict, rows_in};
-ghost use Rattle.cave_command.specs.Line.{IsBadPlayView, IsPlayView};
+ghost use Rattle.cave_command.specs.Run.{IsAsked, IsBadCheckView, IsBadCoverView, IsBadEvery};
+ghost use Rattle.cave_command.specs.Run.{IsBadOption, IsBadSeed, IsBadView, IsCheckView};
+ghost use Rattle.cave_command.specs.Run.{IsCoverView};
+ghost use Rattle.cave_command.specs.Run.{IsEditing, IsEveryGiven, IsFiles, IsRun, IsRunMet};
+ghost use Rattle.cave_command.specs.Run.{IsRunOf, IsRefusal, IsRefused, IsRequest, IsSeed};
+ghost use Rattle.cave_command.specs.Run.{IsUnmade, IsView, is_strict, rows_in};
+ghost use Rattle.cave_command.specs.Run.{IsBadPlayView, IsPlayView};
 
 use crate::app::cave_command;
 use crate::fault::CommandFault;
-use crate::line::{Files, Line};
+use crate::run::{Files, Run};
 use crate::number::number_in;
 use clap::error::ErrorKind;
 use clap::{ArgMatches, Error};
@@ -38,14 +38,14 @@ const USUAL_PLAY_VIEW: PlayView = PlayView::Transcript;
 pub fn command_line<'a, S: AsStr>(
     alloc: Global,
     words: &'a [S],
-) -> Result<Line<'a>, CommandFault<'a>>
-    ensures found { IfOk result (IsLine (subcommand_of cave_app (map S.text words.entry.now))) }
+) -> Result<Run<'a>, CommandFault<'a>>
+    ensures found { IfOk result (IsRun (subcommand_of cave_app (map S.text words.entry.now))) }
     ensures asked { IfOk result (IsAsked (fault_of cave_app (map S.text words.entry.now))) }
     ensures refused { let given = map S.text words.entry.now in
         IfErr result (IsRefused (fault_of cave_app given) (subcommand_of cave_app given)) }
 {
     match parse(alloc, words) {
-        Ok(matches) => line_met(alloc, &matches),
+        Ok(matches) => run_met(alloc, &matches),
         Err(error) => answer_to(error),
     }
 }
@@ -59,35 +59,35 @@ fn parse<'a, S: AsStr>(alloc: Global, words: &'a [S]) -> Result<ArgMatches<'a>, 
 }
 
 /// What an error of the parser comes to: a text to print, or a fault.
-fn answer_to<'a>(error: Error) -> Result<Line<'a>, CommandFault<'a>>
-    ensures ok { IfOk result (λ line. (line ≡ Line.Text error) × IsRequest (kind_of error)) }
+fn answer_to<'a>(error: Error) -> Result<Run<'a>, CommandFault<'a>>
+    ensures ok { IfOk result (λ run. (run ≡ Run.Text error) × IsRequest (kind_of error)) }
     ensures err { IfErr result (λ fault. IsRefusal error fault) }
 {
     match error.kind() {
-        ErrorKind::DisplayHelp | ErrorKind::DisplayVersion => Ok(Line::Text(error)),
+        ErrorKind::DisplayHelp | ErrorKind::DisplayVersion => Ok(Run::Text(error)),
         ErrorKind::OutOfMemory => Err(CommandFault::Memory),
         _ => Err(CommandFault::Usage(error)),
     }
 }
 
 /// The run of the command that was met.
-fn line_met<'a>(alloc: Global, matches: &ArgMatches<'a>) -> Result<Line<'a>, CommandFault<'a>>
-    ensures { MatchResult result (IsLineMet (subcommand_rows_of matches.now))
+fn run_met<'a>(alloc: Global, matches: &ArgMatches<'a>) -> Result<Run<'a>, CommandFault<'a>>
+    ensures { MatchResult result (IsRunMet (subcommand_rows_of matches.now))
         (IsUnmade (subcommand_rows_of matches.now)) }
 {
     let Some((name, found)) = matches.subcommand() else {
         return Err(CommandFault::Incomplete);
     };
-    line_of(alloc, name, found)
+    run_of(alloc, name, found)
 }
 
 /// The run of a command.
-fn line_of<'a>(
+fn run_of<'a>(
     alloc: Global,
     name: &str,
     found: &ArgMatches<'a>,
-) -> Result<Line<'a>, CommandFault<'a>>
-    ensures { MatchResult result (IsLineOf name.now (rows_in found.now))
+) -> Result<Run<'a>, CommandFault<'a>>
+    ensures { MatchResult result (IsRunOf name.now (rows_in found.now))
         (IsUnmade (Some (name.now, rows_in found.now))) }
 {
     let Some(files) = files_in(found) else {
@@ -95,7 +95,7 @@ fn line_of<'a>(
     };
     if name == "check" {
         let view = check_view_in(found)?;
-        return Ok(Line::Check { files, view });
+        return Ok(Run::Check { files, view });
     }
     if name == "cover" {
         return cover_of(alloc, files, found);
@@ -112,7 +112,7 @@ fn line_of<'a>(
     if name != "edit" {
         return Err(CommandFault::Incomplete);
     }
-    Ok(Line::Edit {
+    Ok(Run::Edit {
         files,
         log,
         script,
@@ -125,15 +125,15 @@ fn play_of<'a>(
     files: Files<'a>,
     log: &'a str,
     found: &ArgMatches<'a>,
-) -> Result<Line<'a>, CommandFault<'a>>
+) -> Result<Run<'a>, CommandFault<'a>>
     requires files { IsFiles (rows_in found.now) files }
     requires log { first_of (codes "log") (rows_in found.now) ≡ Some log.now }
-    ensures { MatchResult result (IsLineOf (codes "play") (rows_in found.now))
+    ensures { MatchResult result (IsRunOf (codes "play") (rows_in found.now))
         (IsUnmade (Some (codes "play", rows_in found.now))) }
 {
     let seed = seed_in(found)?;
     let view = play_view_in(found)?;
-    Ok(Line::Play {
+    Ok(Run::Play {
         files,
         log,
         seed,
@@ -146,9 +146,9 @@ fn cover_of<'a>(
     alloc: Global,
     files: Files<'a>,
     found: &ArgMatches<'a>,
-) -> Result<Line<'a>, CommandFault<'a>>
+) -> Result<Run<'a>, CommandFault<'a>>
     requires { IsFiles (rows_in found.now) files }
-    ensures { MatchResult result (IsLineOf (codes "cover") (rows_in found.now))
+    ensures { MatchResult result (IsRunOf (codes "cover") (rows_in found.now))
         (IsUnmade (Some (codes "cover", rows_in found.now))) }
 {
     let Some(logs) = values_in(found, "log") else {
@@ -157,7 +157,7 @@ fn cover_of<'a>(
     let seed = seed_in(found)?;
     let view = cover_view_in(found)?;
     let logs = Vec::from_slice(alloc, logs)?;
-    Ok(Line::Cover {
+    Ok(Run::Cover {
         files,
         logs,
         seed,

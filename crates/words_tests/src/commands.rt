@@ -1,20 +1,20 @@
 //! Words of a command line, right and wrong, with what they ask for.
 
-use cave_command::{CommandFault, Line, command_line};
+use cave_command::{CommandFault, Run, command_line};
 use edit_options::{Editing, View};
 use std::alloc::{AllocError, Global};
 use std::test::Fail;
 
 /// The answer to words. It promises nothing, so that the tests are proved without what a command
 /// line promises.
-fn answer_to<'a>(alloc: Global, words: &'a [&'a str]) -> Result<Line<'a>, CommandFault<'a>> {
+fn answer_to<'a>(alloc: Global, words: &'a [&'a str]) -> Result<Run<'a>, CommandFault<'a>> {
     command_line(alloc, words)
 }
 
 /// What the answer to words says: a run, the kind of a text, or a status with what is wrong.
 fn shown(alloc: Global, words: &[&str]) -> Result<String, AllocError> {
     match answer_to(alloc, words) {
-        Ok(Line::Text(text)) => format!(in alloc; "text {:?}", text.kind()),
+        Ok(Run::Text(text)) => format!(in alloc; "text {:?}", text.kind()),
         Ok(line) => format!(in alloc; "{line:?}"),
         Err(CommandFault::Usage(fault)) => format!(in alloc; "2 {:?}", fault.kind()),
         Err(fault) => format!(in alloc; "{} {fault:?}", fault.status()),
@@ -144,7 +144,7 @@ fn words_ask_for_a_run_or_a_text_or_are_refused(rt: HostRuntime) -> Result<(), F
 /// The text that is printed for words, of help or of a fault.
 fn printed(alloc: Global, words: &[&str]) -> Result<String, AllocError> {
     match answer_to(alloc, words) {
-        Ok(Line::Text(text)) => format!(in alloc; "{text}"),
+        Ok(Run::Text(text)) => format!(in alloc; "{text}"),
         Ok(_) => Ok(String::new(alloc)),
         Err(fault) => format!(in alloc; "{fault}"),
     }
@@ -218,7 +218,7 @@ fn refused_memory_is_no_other_fault(rt: HostRuntime) {
         Ok(line) => assert!(rt;
             matches!(
                 &line,
-                Line::Edit {
+                Run::Edit {
                     editing: Editing {
                         seed: 3,
                         every: 7,

@@ -2,33 +2,33 @@ use Rattle.std.proofs.Common.{map, subst}
 use Rattle.std.proofs.lemmas.Result.{IfErr-weaker, IfOk-weaker}
 use Rattle.clap.specs.Words.{HasKind, fault_of, subcommand_of}
 use Rattle.cave_command.specs.App.{cave_app}
-use Rattle.cave_command.specs.Line.{MetCommand}
-use Rattle.cave_command.proofs.Commands.{Reads, error_refused, found_asked, found_line}
+use Rattle.cave_command.specs.Run.{MetCommand}
+use Rattle.cave_command.proofs.Commands.{Reads, error_refused, found_asked, found_run}
 use Rattle.cave_command.proofs.Commands.{found_refused, text_asked}
 use Rattle.cave_command.proofs.read.command_line.Goals as goal
 
 pub returns-in-Ok-clause-found : goal.returns-in-Ok-clause-found
 returns-in-Ok-clause-found g c =
     let words = map g.S.AsStr.text c.args.words.now in
-    found_line (subcommand_of cave_app words) c.line_met.result
-    (subst (λ (met : MetCommand). Reads met c.line_met.result) c.in-Ok.ensures.1
-    c.line_met.ensures)
+    found_run (subcommand_of cave_app words) c.run_met.result
+    (subst (λ (met : MetCommand). Reads met c.run_met.result) c.in-Ok.ensures.1
+    c.run_met.ensures)
 
 pub returns-in-Ok-clause-asked : goal.returns-in-Ok-clause-asked
 returns-in-Ok-clause-asked g c =
     let words = map g.S.AsStr.text c.args.words.now in
-    found_asked (fault_of cave_app words) (subcommand_of cave_app words) c.line_met.result
+    found_asked (fault_of cave_app words) (subcommand_of cave_app words) c.run_met.result
     c.in-Ok.ensures.0
-    (subst (λ (met : MetCommand). Reads met c.line_met.result) c.in-Ok.ensures.1
-    c.line_met.ensures)
+    (subst (λ (met : MetCommand). Reads met c.run_met.result) c.in-Ok.ensures.1
+    c.run_met.ensures)
 
 pub returns-in-Ok-clause-refused : goal.returns-in-Ok-clause-refused
 returns-in-Ok-clause-refused g c =
     let words = map g.S.AsStr.text c.args.words.now in
-    found_refused (fault_of cave_app words) (subcommand_of cave_app words) c.line_met.result
+    found_refused (fault_of cave_app words) (subcommand_of cave_app words) c.run_met.result
     c.in-Ok.ensures.0
-    (subst (λ (met : MetCommand). Reads met c.line_met.result) c.in-Ok.ensures.1
-    c.line_met.ensures)
+    (subst (λ (met : MetCommand). Reads met c.run_met.result) c.in-Ok.ensures.1
+    c.run_met.ensures)
 
 pub returns-in-Err-clause-asked : goal.returns-in-Err-clause-asked
 returns-in-Err-clause-asked g c =

@@ -13,7 +13,7 @@ pub struct Files<'a> {
 
 /// What the words ask for.
 #[derive(Debug, Drop)]
-pub enum Line<'a> {
+pub enum Run<'a> {
     Check {
         files: Files<'a>,
         view: CheckView,

@@ -25,9 +25,9 @@ use Rattle.cave_command.specs.declared.fault.CommandFault.TheVariants.{Usage, In
 use Rattle.cave_command.specs.declared.fault.CommandFault.TheVariants.{BadEvery, BadView, Memory}
 use Rattle.cave_command.specs.declared.fault.CommandFault.TheVariants.{BadPlayView}
 use Rattle.cave_command.specs.declared.fault.CommandFault.TheVariants.{BadCheckView, BadCoverView}
-use Rattle.cave_command.specs.declared.line.Files.{Files}
-use Rattle.cave_command.specs.declared.line.Line.{Line}
-use Rattle.cave_command.specs.declared.line.Line.TheVariants.{Check, Play, Edit, Cover, Text}
+use Rattle.cave_command.specs.declared.run.Files.{Files}
+use Rattle.cave_command.specs.declared.run.Run.{Run}
+use Rattle.cave_command.specs.declared.run.Run.TheVariants.{Check, Play, Edit, Cover, Text}
 use Rattle.limits.specs.Limits.{max_seed, max_every}
 
 -- a command that was met, with what was found for its arguments
@@ -97,30 +97,30 @@ pub record IsEditing (rows : List Row) (editing : Editing) : Type 0 where
   pub view : IsView rows editing.view
   pub strict : editing.strict ≡ is_strict rows
 
--- the line is what was found for the command of this name
-abbrev pub IsLineOf : List ℕ → List Row → Line → Type 0
-IsLineOf name rows (Check files view) =
+-- the run is what was found for the command of this name
+abbrev pub IsRunOf : List ℕ → List Row → Run → Type 0
+IsRunOf name rows (Check files view) =
     (name ≡ codes "check") × IsFiles rows files × IsCheckView rows view
-IsLineOf name rows (Play files log seed view) =
+IsRunOf name rows (Play files log seed view) =
     (name ≡ codes "play") × IsFiles rows files × (first_of (codes "log") rows ≡ Some log.now)
     × IsSeed rows seed × IsPlayView rows view
-IsLineOf name rows (Edit files log script editing) =
+IsRunOf name rows (Edit files log script editing) =
     (name ≡ codes "edit") × IsFiles rows files × (first_of (codes "log") rows ≡ Some log.now)
     × (first_of (codes "script") rows ≡ Some script.now) × IsEditing rows editing
-IsLineOf name rows (Cover files logs seed view) =
+IsRunOf name rows (Cover files logs seed view) =
     (name ≡ codes "cover") × IsFiles rows files
     × (all_of (codes "log") rows ≡ Some (map (λ log. log.now) logs.items)) × IsSeed rows seed
     × IsCoverView rows view
-IsLineOf name rows (Text error) = ⊥
+IsRunOf name rows (Text error) = ⊥
 
-abbrev pub IsLineMet : MetCommand → Line → Type 0
-IsLineMet None line = ⊥
-IsLineMet (Some found) line = IsLineOf found.0 found.1 line
+abbrev pub IsRunMet : MetCommand → Run → Type 0
+IsRunMet None run = ⊥
+IsRunMet (Some found) run = IsRunOf found.0 found.1 run
 
 -- a run is what was found for its command
-abbrev pub IsLine : MetCommand → Line → Type 0
-IsLine met (Text error) = Unit {0}
-IsLine met line = IsLineMet met line
+abbrev pub IsRun : MetCommand → Run → Type 0
+IsRun met (Text error) = Unit {0}
+IsRun met run = IsRunMet met run
 
 -- help or the version was asked for
 abbrev pub IsRequest : ErrorKind → Type 0
@@ -128,9 +128,9 @@ IsRequest kind = (kind ≡ DisplayHelp) ⊎ (kind ≡ DisplayVersion)
 
 -- a text is printed where help or the version is what the words come to, and a run is made where
 -- nothing is wrong with them
-abbrev pub IsAsked : Kinds → Line → Type 0
+abbrev pub IsAsked : Kinds → Run → Type 0
 IsAsked kinds (Text error) = IsRequest (kind_of error) × IsAmong (kind_of error) kinds
-IsAsked kinds line = kinds ≡ []
+IsAsked kinds run = kinds ≡ []
 
 -- all the files of a command were found
 abbrev pub has_files : List ℕ → List Row → Bool
@@ -200,7 +200,7 @@ IsWrong met Incomplete = is_complete met ≡ false
 IsWrong None fault = ⊥
 IsWrong (Some found) fault = IsBadOption found.0 found.1 fault
 
--- why a line isn't made of what was found: what is wrong with it, unless memory ran out
+-- why no run is made of what was found: what is wrong with it, unless memory ran out
 abbrev pub IsUnmade : MetCommand → CommandFault → Type 0
 IsUnmade met Memory = Unit {0}
 IsUnmade met fault = IsWrong met fault
