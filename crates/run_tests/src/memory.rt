@@ -12,9 +12,10 @@ use std::process::Abort;
 const EDITED_LOG: &str = "no\nIN\n# note\non\ndown\n";
 
 /// What that script replays, with a checkpoint at each line.
-const REPORTS: &str = "line 1: ok, from 2, met 3, played 1 of 6\nline 2: refused 1, no such line\n\
-line 3: ok, from 1, met none, played 4 of 5\nplayed 5 lines; \
-from the start it would have been 11\n";
+const REPORTS: &str = "line 1: ok, from 2, met 3, played 1 of 6, score 32 of 132, turns 4, at 9\n\
+line 2: refused 1, no such line\n\
+line 3: ok, from 1, met none, played 4 of 5, score 32 of 132, turns 3, at 9\n\
+played 5 lines; from the start it would have been 11\n";
 
 /// Does a run into a writer that needs no memory any more, so that where memory runs out, it is the
 /// run's own.
