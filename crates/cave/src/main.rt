@@ -28,8 +28,8 @@ struct Names<'a> {
 
 impl<'a> Names<'a> {
     /// The files of the run that a command line asks for, but for several logs.
-    fn in_line(line: &Run<'a>) -> Names<'a> {
-        let (files, log, script) = match line {
+    fn in_run(run: &Run<'a>) -> Names<'a> {
+        let (files, log, script) = match run {
             Run::Check { files, .. } | Run::Cover { files, .. } => (Some(*files), None, None),
             Run::Play { files, log, .. } => (Some(*files), Some(*log), None),
             Run::Edit {
@@ -261,10 +261,10 @@ fn tell(rt: &HostRuntime, names: Names<'_>, ended: Result<(), Failure<'_>>) -> E
 /// Does the run that a command line asks for, whose output goes to a writer.
 fn run_into<'a, W: Write>(
     rt: &HostRuntime,
-    line: &Run<'a>,
+    asked: &Run<'a>,
     output: &mut W,
 ) -> Result<(), Failure<'a>> {
-    match line {
+    match asked {
         Run::Check { files, view } => check(rt, *files, *view, output),
         Run::Play {
             files,
@@ -308,9 +308,9 @@ fn put<'a>(rt: &HostRuntime, file: &'a str, output: &[u8]) -> Result<(), Failure
 
 /// Does the run that a command line asks for, whose output goes into a file: it is kept until it is
 /// whole, so that a file that the run reads can be the one that is written.
-fn run_into_file<'a>(rt: &HostRuntime, line: &Run<'a>, file: &'a str) -> Result<(), Failure<'a>> {
+fn run_into_file<'a>(rt: &HostRuntime, asked: &Run<'a>, file: &'a str) -> Result<(), Failure<'a>> {
     let mut output = Vec::new(rt.alloc());
-    match run_into(rt, line, &mut output) {
+    match run_into(rt, asked, &mut output) {
         Ok(()) => put(rt, file, &output),
         // A list of bytes takes each write, unless memory runs out.
         Err(Failure::Run(PlayFault::Write)) => Err(Failure::Run(PlayFault::Memory)),
@@ -319,11 +319,11 @@ fn run_into_file<'a>(rt: &HostRuntime, line: &Run<'a>, file: &'a str) -> Result<
 }
 
 /// Does what a command line asks for.
-fn run(rt: &HostRuntime, line: &Run<'_>) -> ExitCode {
-    let names = Names::in_line(line);
+fn run(rt: &HostRuntime, asked: &Run<'_>) -> ExitCode {
+    let names = Names::in_run(asked);
     let ended = match names.output() {
-        Some(file) => run_into_file(rt, line, file),
-        None => run_into(rt, line, &mut io::writer(rt)),
+        Some(file) => run_into_file(rt, asked, file),
+        None => run_into(rt, asked, &mut io::writer(rt)),
     };
     tell(rt, names, ended)
 }
@@ -343,7 +343,7 @@ fn main(rt: HostRuntime) -> ExitCode {
         return fail(&rt, PlayFault::Memory, None);
     };
     match command_line(rt.alloc(), words.as_slice()) {
-        Ok(line) => run(&rt, &line),
+        Ok(asked) => run(&rt, &asked),
         Err(fault) => refuse(&rt, &fault),
     }
 }

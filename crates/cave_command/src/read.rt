@@ -16,8 +16,8 @@ ghost use Rattle.cave_command.specs.Run.{IsBadPlayView, IsPlayView};
 
 use crate::app::cave_command;
 use crate::fault::CommandFault;
-use crate::run::{Files, Run};
 use crate::number::number_in;
+use crate::run::{Files, Run};
 use clap::error::ErrorKind;
 use clap::{ArgMatches, Error};
 use edit_options::{CheckView, CoverView, Editing, PlayView, View};

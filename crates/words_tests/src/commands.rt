@@ -196,8 +196,8 @@ const TEXTS: [(&[&str], &str); 15] = [
     ),
     (
         &["cave", "edit", "a", "b", "c", "--print", "text"],
-        "error: invalid value 'text' for '--print <WHAT>': wanted is transcript, play, log or \
-        reports",
+        "error: invalid value 'text' for '--print <WHAT>': wanted is transcript, play, log, \
+        reports or state",
     ),
 ];
 
