@@ -8,4 +8,5 @@ pub returns-else-stop_at-clause-play : goal.returns-else-stop_at-clause-play
 returns-else-stop_at-clause-play t c =
     carried_no_further c.args.play.now.left (cave_of c.args.rules.now) (scene_of c.args.play.now)
     _ _
-    (omega arith) c.set_forth-next.ensures.journey c.stop_at.ensures.stop c.if-stop_at.false
+    (omega arith) (rw c.number.ensures at c.set_forth-next.ensures.journey)
+    c.stop_at.ensures.stop c.if-stop_at.false
