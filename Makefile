@@ -30,8 +30,8 @@ $(PROGRAM): $(SOURCES)
 	@touch $@
 
 # The lines that must not compile, names that nobody uses, and what the documents show; then the gate:
-# each proof from nothing, the edits that must fail, the tests and the program; and then the suite with
-# the program that was proved, and what the suite leaves out.
+# each proof from nothing, the edits that must fail, each of which has to compile, the tests and the
+# program; and then the suite with the program that was proved, and what the suite leaves out.
 test:
 	bench/snippets
 	bench/unused
@@ -41,6 +41,7 @@ test:
 	bench/manual docs/PROGRAM.md > out/cave.1
 	bench/progress all out/test.log rt ci
 	@tail -n 1 out/test.log
+	@! grep 'BAD EDIT' out/test.log
 	logs/run $(PROGRAM)
 	logs/large $(PROGRAM)
 	logs/coverage $(PROGRAM)
