@@ -1,4 +1,4 @@
-.PHONY: try play test soak suite install
+.PHONY: try play test soak suite map install
 
 PREFIX ?= $(HOME)/.local
 PROGRAM = crates/cave/out/cave
@@ -45,6 +45,7 @@ test:
 	logs/run $(PROGRAM)
 	logs/large $(PROGRAM)
 	logs/coverage $(PROGRAM)
+	logs/maps $(PROGRAM)
 
 # What takes too long for the gate, after it: cut inputs, each allocation refused in turn, small wrong
 # bodies, and the example of a new rule. It prints a line for each part.
@@ -58,6 +59,16 @@ suite: $(PROGRAM)
 	@logs/run $(PROGRAM)
 	@logs/large $(PROGRAM)
 	@logs/coverage $(PROGRAM)
+	@logs/maps $(PROGRAM)
+
+# Draws the map of the shoal with what the tour sees of it, by Graphviz, into docs/shoal.svg.
+MAP = map caves/shoal.txt logs/tour.log --bind caves/shoal.bind --seed 3
+map: $(PROGRAM)
+	@command -v dot > /dev/null || { echo "There is no \`dot\`, which draws maps: install Graphviz, as by \`apt-get install graphviz\`."; exit 1; }
+	@mkdir -p out
+	@$(PROGRAM) $(MAP) > out/shoal.dot
+	@dot -Tsvg out/shoal.dot -o docs/shoal.svg
+	@echo "docs/shoal.svg is drawn."
 
 install: $(PROGRAM)
 	install -D -m 755 $(PROGRAM) $(PREFIX)/bin/cave

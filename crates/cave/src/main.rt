@@ -1,10 +1,11 @@
-//! Checks databases of caves, plays logs in them, edits logs by scripts, and lists the texts that
-//! logs never show.
+//! Checks databases of caves, plays logs in them, edits logs by scripts, lists the texts that logs
+//! never show, and draws maps.
 #![tactic(auto)]
 
 use cave_command::{CommandFault, Files, Run, command_line};
 use cave_cover::fault::CoverFault;
 use cave_cover::run::run_cover;
+use cave_map::run::run_map;
 use cave_play::bindings::{BindingsReader, CaveReaders};
 use cave_play::fault::{Complaint, Input, PlayFault, Unopened};
 use cave_play::run::{run_check, run_edit, run_play};
@@ -30,7 +31,9 @@ impl<'a> Names<'a> {
     /// The files of the run that a command line asks for, but for several logs.
     fn in_run(run: &Run<'a>) -> Names<'a> {
         let (files, log, script) = match run {
-            Run::Check { files, .. } | Run::Cover { files, .. } => (Some(*files), None, None),
+            Run::Check { files, .. } | Run::Cover { files, .. } | Run::Map { files, .. } => {
+                (Some(*files), None, None)
+            }
             Run::Play { files, log, .. } => (Some(*files), Some(*log), None),
             Run::Edit {
                 files,
@@ -201,6 +204,21 @@ fn cover<'a, W: Write>(
     }
 }
 
+fn map<'a, W: Write>(
+    rt: &HostRuntime,
+    files: Files<'a>,
+    logs: &[&'a str],
+    seed: u32,
+    output: &mut W,
+) -> Result<(), Failure<'a>> {
+    let mut cave = open_cave(rt, files)?;
+    let mut opened = open_logs(rt, logs)?;
+    match run_map(rt.alloc(), &mut cave, opened.as_mut_slice(), seed, output) {
+        Ok(()) => Ok(()),
+        Err(found) => Err(failure_of(found, logs)),
+    }
+}
+
 /// Prints a fault in one line, and returns the status that goes with it.
 fn fail(rt: &HostRuntime, fault: PlayFault, file: Option<&str>) -> ExitCode {
     let _ = eprintln!(rt; "{}", Complaint { fault, file });
@@ -284,6 +302,7 @@ fn run_into<'a, W: Write>(
             seed,
             view,
         } => cover(rt, *files, logs.as_slice(), *seed, *view, output),
+        Run::Map { files, logs, seed } => map(rt, *files, logs.as_slice(), *seed, output),
         Run::Text(text) => match write!(output, "{text}") {
             Ok(()) => Ok(()),
             Err(_) => Err(Failure::Run(PlayFault::Write)),

@@ -21,44 +21,45 @@ abbrev pub first_line : List ℕ → List ℕ
 first_line text = slice_index_or (lines text) 0 []
 
 -- what a number means: the first line of its text, or that it has none
-abbrev pub meaning : List ℕ → Option (List ℕ) → List ℕ
-meaning kind None = codes "no such " ++ kind
-meaning kind (Some text) = first_line text
+abbrev pub meaning_of_number : List ℕ → Option (List ℕ) → List ℕ
+meaning_of_number kind None = codes "no such " ++ kind
+meaning_of_number kind (Some text) = first_line text
 
 -- what follows a key on its line: the number that it is bound to, with what that means
-abbrev pub bound_to : List ℕ → (ℕ → Option (List ℕ)) → Option ℕ → List ℕ
-bound_to kind text None = codes " unbound\n"
-bound_to kind text (Some number) =
-    codes " " ++ (decimal number ++ (codes ": " ++ (meaning kind (text number) ++ codes "\n")))
+abbrev pub binding_text : List ℕ → (ℕ → Option (List ℕ)) → Option ℕ → List ℕ
+binding_text kind text None = codes " unbound\n"
+binding_text kind text (Some number) =
+    codes " " ++ (decimal number ++ (codes ": "
+    ++ (meaning_of_number kind (text number) ++ codes "\n")))
 
 -- whether a key is bound to a number that has a text
-abbrev pub has_text : (ℕ → Option (List ℕ)) → Option ℕ → Bool
-has_text text None = false
-has_text text (Some number) = is_some (text number)
+abbrev pub leads_to_text : (ℕ → Option (List ℕ)) → Option ℕ → Bool
+leads_to_text text None = false
+leads_to_text text (Some number) = is_some (text number)
 
 module _ (cave : CaveView) where
-  abbrev pub message_text : ℕ → Option (List ℕ)
-  message_text number = map.get cave.messages number
+  abbrev pub text_of_message : ℕ → Option (List ℕ)
+  text_of_message number = map.get cave.messages number
 
   -- a place is known by its long text, or else by its short one
-  abbrev pub place_text : ℕ → Option (List ℕ)
-  place_text number = option_or (map.get cave.long number) (map.get cave.short number)
+  abbrev pub text_of_place : ℕ → Option (List ℕ)
+  text_of_place number = option_or (map.get cave.long number) (map.get cave.short number)
 
-  abbrev pub message_line : ℕ → List ℕ
-  message_line key =
+  abbrev pub message_key_line : ℕ → List ℕ
+  message_key_line key =
       codes "msg." ++ (slice_index_or role_names key []
-      ++ bound_to (codes "message") message_text (map.get cave.roles key))
+      ++ binding_text (codes "message") text_of_message (map.get cave.roles key))
 
-  abbrev pub place_line : ℕ → List ℕ
-  place_line key =
+  abbrev pub place_key_line : ℕ → List ℕ
+  place_key_line key =
       codes "place." ++ (slice_index_or place_names key []
-      ++ bound_to (codes "place") place_text (map.get cave.places key))
+      ++ binding_text (codes "place") text_of_place (map.get cave.places key))
 
   unfoldable pub message_lines : List ℕ
-  message_lines = flat_map message_line message_keys
+  message_lines = flat_map message_key_line message_keys
 
   unfoldable pub place_lines : List ℕ
-  place_lines = flat_map place_line place_keys
+  place_lines = flat_map place_key_line place_keys
 
   unfoldable pub letters_line : List ℕ
   letters_line = codes "num.letters " ++ (decimal cave.letters ++ codes "\n")
@@ -66,10 +67,11 @@ module _ (cave : CaveView) where
   -- how many keys have a text
   unfoldable pub message_count : ℕ
   message_count =
-      length (filter (λ key. has_text message_text (map.get cave.roles key)) message_keys)
+      length (filter (λ key. leads_to_text text_of_message (map.get cave.roles key)) message_keys)
 
   unfoldable pub place_count : ℕ
-  place_count = length (filter (λ key. has_text place_text (map.get cave.places key)) place_keys)
+  place_count =
+      length (filter (λ key. leads_to_text text_of_place (map.get cave.places key)) place_keys)
 
   unfoldable pub message_sum : List ℕ
   message_sum = codes "-- " ++ (decimal message_count ++ codes " of 156 messages and ")

@@ -6,10 +6,11 @@ ghost use Rattle.std.specs.FinMap.{get};
 ghost use Rattle.std.specs.List.{filter, flat_map};
 ghost use Rattle.cave_rows.specs.PlaceRole.{place_number};
 ghost use Rattle.cave_rows.specs.Role.{role_number};
-ghost use Rattle.cave_bindings.specs.Listing.{bindings_text, first_line, has_text, letters_line};
-ghost use Rattle.cave_bindings.specs.Listing.{meaning, message_count, message_line, message_lines};
-ghost use Rattle.cave_bindings.specs.Listing.{message_sum, message_text, place_count, place_line};
-ghost use Rattle.cave_bindings.specs.Listing.{place_lines, place_sum, place_text};
+ghost use Rattle.cave_bindings.specs.Listing.{bindings_text, first_line, leads_to_text};
+ghost use Rattle.cave_bindings.specs.Listing.{letters_line, meaning_of_number, message_count};
+ghost use Rattle.cave_bindings.specs.Listing.{message_key_line, message_lines, message_sum};
+ghost use Rattle.cave_bindings.specs.Listing.{place_count, place_key_line, place_lines, place_sum};
+ghost use Rattle.cave_bindings.specs.Listing.{text_of_message, text_of_place};
 
 use crate::keys::{message_roles, place_roles};
 use cave_data::Cave;
@@ -28,19 +29,16 @@ pub fn first_line(text: &[u8]) -> &[u8]
 }
 
 /// The text by which a place is known: its long one, or else its short one.
-fn place_text(cave: &Cave, place: u16) -> Option<&[u8]>
-    ensures { option_map (λ text. text.now) result ≡ place_text cave.now place }
+fn text_of_place(cave: &Cave, place: u16) -> Option<&[u8]>
+    ensures { option_map (λ text. text.now) result ≡ text_of_place cave.now place }
 {
-    match cave.long(place) {
-        Some(text) => Some(text),
-        None => cave.short(place),
-    }
+    cave.long(place).or(cave.short(place))
 }
 
 /// Appends what a number means.
 fn push_meaning(kind: &str, found: Option<&[u8]>, text: &mut Vec<u8>) -> Result<(), AllocError>
-    ensures { OnOk result (text.new.items
-        ≡ text.old.items ++ meaning kind.now (option_map (λ found. found.now) found.entry)) }
+    ensures { let meant = option_map (λ found. found.now) found.entry in
+        OnOk result (text.new.items ≡ text.old.items ++ meaning_of_number kind.now meant) }
 {
     match found {
         Some(found) => text.extend_from_slice(first_line(found)),
@@ -59,9 +57,10 @@ fn push_number(
     found: Option<&[u8]>,
     text: &mut Vec<u8>,
 ) -> Result<(), AllocError>
-    ensures { OnOk result (text.new.items ≡ text.old.items
+    ensures { let meant = option_map (λ found. found.now) found.entry in
+        OnOk result (text.new.items ≡ text.old.items
         ++ (codes " " ++ (decimal number ++ (codes ": "
-        ++ (meaning kind.now (option_map (λ found. found.now) found.entry) ++ codes "\n"))))) }
+        ++ (meaning_of_number kind.now meant ++ codes "\n"))))) }
 {
     let told = format!(in alloc; " {number}: ")?;
     text.extend_from_slice(told.as_bytes())?;
@@ -77,7 +76,7 @@ fn push_message(
     text: &mut Vec<u8>,
 ) -> Result<(), AllocError>
     ensures { OnOk result
-        (text.new.items ≡ text.old.items ++ message_line cave.now (role_number role)) }
+        (text.new.items ≡ text.old.items ++ message_key_line cave.now (role_number role)) }
 {
     let name = role.name();
     let key = format!(in alloc; "msg.{name}")?;
@@ -96,13 +95,13 @@ fn push_place(
     text: &mut Vec<u8>,
 ) -> Result<(), AllocError>
     ensures { OnOk result
-        (text.new.items ≡ text.old.items ++ place_line cave.now (place_number role)) }
+        (text.new.items ≡ text.old.items ++ place_key_line cave.now (place_number role)) }
 {
     let name = role.name();
     let key = format!(in alloc; "place.{name}")?;
     text.extend_from_slice(key.as_bytes())?;
     match cave.place(role) {
-        Some(number) => push_number(alloc, number, "place", place_text(cave, number), text),
+        Some(number) => push_number(alloc, number, "place", text_of_place(cave, number), text),
         None => text.extend_from_slice(b" unbound\n"),
     }
 }
@@ -115,7 +114,7 @@ fn push_message_roles(
     text: &mut Vec<u8>,
 ) -> Result<(), AllocError>
     ensures { OnOk result (text.new.items ≡ text.old.items
-        ++ flat_map (λ role. message_line cave.now (role_number role)) roles.now) }
+        ++ flat_map (λ role. message_key_line cave.now (role_number role)) roles.now) }
 {
     for role in roles {
         push_message(alloc, cave, *role, text)?;
@@ -131,7 +130,7 @@ fn push_place_roles(
     text: &mut Vec<u8>,
 ) -> Result<(), AllocError>
     ensures { OnOk result (text.new.items ≡ text.old.items
-        ++ flat_map (λ role. place_line cave.now (place_number role)) roles.now) }
+        ++ flat_map (λ role. place_key_line cave.now (place_number role)) roles.now) }
 {
     for role in roles {
         push_place(alloc, cave, *role, text)?;
@@ -156,7 +155,7 @@ fn push_places(alloc: Global, cave: &Cave, text: &mut Vec<u8>) -> Result<(), All
 /// Whether the message of a role has a text.
 fn has_message(cave: &Cave, role: Role) -> bool
     ensures { result
-        ≡ has_text (message_text cave.now) (get cave.now.roles (role_number role)) }
+        ≡ leads_to_text (text_of_message cave.now) (get cave.now.roles (role_number role)) }
 {
     match cave.role(role) {
         Some(number) => cave.message(number).is_some(),
@@ -167,10 +166,10 @@ fn has_message(cave: &Cave, role: Role) -> bool
 /// Whether the place of a role has a text.
 fn has_place(cave: &Cave, role: PlaceRole) -> bool
     ensures { result
-        ≡ has_text (place_text cave.now) (get cave.now.places (place_number role)) }
+        ≡ leads_to_text (text_of_place cave.now) (get cave.now.places (place_number role)) }
 {
     match cave.place(role) {
-        Some(number) => place_text(cave, number).is_some(),
+        Some(number) => text_of_place(cave, number).is_some(),
         None => false,
     }
 }
@@ -178,7 +177,7 @@ fn has_place(cave: &Cave, role: PlaceRole) -> bool
 /// How many of these roles have a message with a text.
 fn count_message_roles(cave: &Cave, roles: &[Role]) -> usize
     ensures { result ≡ length (filter
-        (λ role. has_text (message_text cave.now) (get cave.now.roles (role_number role)))
+        (λ role. leads_to_text (text_of_message cave.now) (get cave.now.roles (role_number role)))
         roles.now) }
 {
     roles
@@ -190,7 +189,7 @@ fn count_message_roles(cave: &Cave, roles: &[Role]) -> usize
 /// How many of these roles have a place with a text.
 fn count_place_roles(cave: &Cave, roles: &[PlaceRole]) -> usize
     ensures { result ≡ length (filter
-        (λ role. has_text (place_text cave.now) (get cave.now.places (place_number role)))
+        (λ role. leads_to_text (text_of_place cave.now) (get cave.now.places (place_number role)))
         roles.now) }
 {
     roles.iter().filter(|role| has_place(cave, **role)).count()

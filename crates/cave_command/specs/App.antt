@@ -21,6 +21,10 @@ abbrev pub logs_rule : Rule
 logs_rule =
     record (new_rule (codes "log")) { required = true; value_names = 1; action = Some Append }
 
+-- any number of logs
+abbrev pub some_logs_rule : Rule
+some_logs_rule = record (new_rule (codes "log")) { value_names = 1; action = Some Append }
+
 abbrev pub script_rule : Rule
 script_rule = record (new_rule (codes "script")) { required = true; value_names = 1 }
 
@@ -83,6 +87,10 @@ edit_app = with_output
 abbrev pub cover_app : App
 cover_app = with_output (with_cover_options (with_logs (new_app (codes "cover"))))
 
+abbrev pub map_app : App
+map_app = with_output
+    (with_options (with_rule (with_rule (new_app (codes "map")) cave_rule) some_logs_rule))
+
 -- the program, which requires one of the commands
 abbrev pub plain_app : App
 plain_app = record {
@@ -98,5 +106,9 @@ plain_app = record {
 abbrev pub check_and_play_app : App
 check_and_play_app = with_subcommand (with_subcommand plain_app check_app.top) play_app.top
 
+-- the program with these two and the command that edits a log
+abbrev pub check_play_and_edit_app : App
+check_play_and_edit_app = with_subcommand check_and_play_app edit_app.top
+
 abbrev pub cave_app : App
-cave_app = with_subcommand (with_subcommand check_and_play_app edit_app.top) cover_app.top
+cave_app = with_subcommand (with_subcommand check_play_and_edit_app cover_app.top) map_app.top

@@ -1,6 +1,6 @@
 -- Which run the words ask for.
 use Rattle.std.specs.Prelude.{◌≡◌, ◌≢◌, ◌⊎◌, ◌&&◌, ◌||◌, ℕ, Bool, false, bytes_eq, is_some, List}
-use Rattle.std.specs.Prelude.{[], Option, Some, None, option_map, map, codes}
+use Rattle.std.specs.Prelude.{[], Option, Some, None, option_map, unwrap_or, map, codes}
 use Rattle.std.specs.Option.{option_map_or}
 use Rattle.clap.specs.Words.{IsAmong, Kinds, Row, all_of, first_of, found_of, kind_of, rows_of}
 use Rattle.clap.specs.declared.error.Error.{Error}
@@ -27,7 +27,7 @@ use Rattle.cave_command.specs.declared.fault.CommandFault.TheVariants.{BadPlayVi
 use Rattle.cave_command.specs.declared.fault.CommandFault.TheVariants.{BadCheckView, BadCoverView}
 use Rattle.cave_command.specs.declared.run.Files.{Files}
 use Rattle.cave_command.specs.declared.run.Run.{Run}
-use Rattle.cave_command.specs.declared.run.Run.TheVariants.{Check, Play, Edit, Cover, Text}
+use Rattle.cave_command.specs.declared.run.Run.TheVariants.{Check, Play, Edit, Cover, Map, Text}
 use Rattle.limits.specs.Limits.{max_seed, max_every}
 
 -- a command that was met, with what was found for its arguments
@@ -111,6 +111,10 @@ IsRunOf name rows (Cover files logs seed view) =
     (name ≡ codes "cover") × IsFiles rows files
     × (all_of (codes "log") rows ≡ Some (map (λ log. log.now) logs.items)) × IsSeed rows seed
     × IsCoverView rows view
+IsRunOf name rows (Map files logs seed) =
+    (name ≡ codes "map") × IsFiles rows files
+    × (unwrap_or (all_of (codes "log") rows) [] ≡ map (λ log. log.now) logs.items)
+    × IsSeed rows seed
 IsRunOf name rows (Text error) = ⊥
 
 abbrev pub IsRunMet : MetCommand → Run → Type 0
@@ -136,7 +140,7 @@ IsAsked kinds run = kinds ≡ []
 abbrev pub has_files : List ℕ → List Row → Bool
 has_files name rows =
     is_some (first_of (codes "cave") rows)
-    && (bytes_eq name (codes "check")
+    && (bytes_eq name (codes "check") || bytes_eq name (codes "map")
     || (bytes_eq name (codes "cover") && is_some (all_of (codes "log") rows))
     || (is_some (first_of (codes "log") rows)
     && (bytes_eq name (codes "play")

@@ -3,15 +3,15 @@
 ghost use Rattle.std.specs.Prelude.{◌≡◌, IfOk, false};
 ghost use Rattle.clap.specs.Words.{App, app_of, with_subcommand};
 ghost use Rattle.clap.specs.declared.builder.command.Command.TheViews.{out-Command};
-ghost use Rattle.cave_command.specs.App.{IsLocal, cave_app, check_app, cover_app, edit_app};
-ghost use Rattle.cave_command.specs.App.{check_and_play_app, plain_app, play_app, with_game};
-ghost use Rattle.cave_command.specs.App.{with_cover_options, with_logs, with_options, with_output};
-ghost use Rattle.cave_command.specs.App.{with_view};
+ghost use Rattle.cave_command.specs.App.{IsLocal, cave_app, check_and_play_app, check_app};
+ghost use Rattle.cave_command.specs.App.{check_play_and_edit_app, cover_app, edit_app, map_app};
+ghost use Rattle.cave_command.specs.App.{plain_app, play_app, with_cover_options, with_game};
+ghost use Rattle.cave_command.specs.App.{with_logs, with_options, with_output, with_view};
 
 use crate::arguments::{
     bind_argument, cave_argument, check_print_argument, cover_print_argument, every_argument,
     log_argument, logs_argument, output_argument, play_print_argument, print_argument,
-    script_argument, seed_argument, strict_argument,
+    script_argument, seed_argument, some_logs_argument, strict_argument,
 };
 use clap::Command;
 use std::alloc::{AllocError, Global};
@@ -157,13 +157,34 @@ fn cover_command<'a>(alloc: Global) -> Result<Command<'a>, AllocError>
     with_output(alloc, command)
 }
 
-/// The program's command, with its four subcommands.
+fn map_command<'a>(alloc: Global) -> Result<Command<'a>, AllocError>
+    ensures { IfOk result (IsLocal map_app) }
+{
+    let command = Command::new(alloc, "map")
+        .about("Prints the cave as a graph for Graphviz, with what logs saw of it")
+        .after_help("Example: cave map caves/b.txt logs/round.log --bind caves/b.bind");
+    let command = command
+        .arg(cave_argument(alloc))?
+        .arg(some_logs_argument(alloc))?;
+    let command = with_options(alloc, command)?;
+    with_output(alloc, command)
+}
+
+/// The program's command, with its subcommands.
 pub fn cave_command<'a>(alloc: Global) -> Result<Command<'a>, AllocError>
     ensures { IfOk result (λ command. app_of command ≡ cave_app) }
 {
+    let command = check_play_and_edit_command(alloc)?;
+    let command = with_subcommand(command, cover_command(alloc))?;
+    with_subcommand(command, map_command(alloc))
+}
+
+/// The program's command with the three subcommands that check a cave, play a log and edit one.
+fn check_play_and_edit_command<'a>(alloc: Global) -> Result<Command<'a>, AllocError>
+    ensures { IfOk result (λ command. app_of command ≡ check_play_and_edit_app) }
+{
     let command = check_and_play_command(alloc)?;
-    let command = with_subcommand(command, edit_command(alloc))?;
-    with_subcommand(command, cover_command(alloc))
+    with_subcommand(command, edit_command(alloc))
 }
 
 /// The program's command with the two subcommands that check a cave and play a log.

@@ -4,7 +4,7 @@ ghost use Rattle.std.specs.Prelude.{◌≡◌, false};
 ghost use Rattle.clap.specs.Words.{rule_of};
 ghost use Rattle.cave_command.specs.App.{bind_rule, cave_rule, every_rule, log_rule, logs_rule};
 ghost use Rattle.cave_command.specs.App.{output_rule, print_rule, script_rule, seed_rule};
-ghost use Rattle.cave_command.specs.App.{strict_rule};
+ghost use Rattle.cave_command.specs.App.{some_logs_rule, strict_rule};
 
 use clap::{Arg, ArgAction};
 use std::alloc::Global;
@@ -38,6 +38,16 @@ pub(crate) fn logs_argument<'a>(alloc: Global) -> Arg<'a>
         .action(ArgAction::Append)
         .value_name("LOG")
         .help("The logs, each of which is played by itself from its first line")
+}
+
+pub(crate) fn some_logs_argument<'a>(alloc: Global) -> Arg<'a>
+    ensures rule { rule_of result ≡ some_logs_rule }
+    ensures local { result.global ≡ false }
+{
+    Arg::new(alloc, "log")
+        .action(ArgAction::Append)
+        .value_name("LOG")
+        .help("Logs, each of which is played by itself: what they saw is drawn strong")
 }
 
 pub(crate) fn script_argument<'a>(alloc: Global) -> Arg<'a>
@@ -104,7 +114,7 @@ pub(crate) fn print_argument<'a>(alloc: Global) -> Arg<'a>
         .help(
             "What is printed: `transcript`, the reports and what the game says, `play`, what it \
              says alone, `log`, the edited log without its seed, `reports`, what each edit \
-             replayed, or `state`, the final state [default: transcript]",
+             replayed and what came of it, or `state`, the final state [default: transcript]",
         )
 }
 

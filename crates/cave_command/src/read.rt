@@ -100,6 +100,9 @@ fn run_of<'a>(
     if name == "cover" {
         return cover_of(alloc, files, found);
     }
+    if name == "map" {
+        return map_of(alloc, files, found);
+    }
     let Some(log) = value_in(found, "log") else {
         return Err(CommandFault::Incomplete);
     };
@@ -163,6 +166,22 @@ fn cover_of<'a>(
         seed,
         view,
     })
+}
+
+/// The run of `map`, whose cave has these files.
+fn map_of<'a>(
+    alloc: Global,
+    files: Files<'a>,
+    found: &ArgMatches<'a>,
+) -> Result<Run<'a>, CommandFault<'a>>
+    requires { IsFiles (rows_in found.now) files }
+    ensures { MatchResult result (IsRunOf (codes "map") (rows_in found.now))
+        (IsUnmade (Some (codes "map", rows_in found.now))) }
+{
+    let logs = values_in(found, "log").unwrap_or(&[]);
+    let seed = seed_in(found)?;
+    let logs = Vec::from_slice(alloc, logs)?;
+    Ok(Run::Map { files, logs, seed })
 }
 
 /// All that was found for an argument.

@@ -36,6 +36,12 @@ pub enum Run<'a> {
         seed: u32,
         view: CoverView,
     },
+    Map {
+        files: Files<'a>,
+        /// The logs of which the map shows what they saw. There may be none.
+        logs: Vec<&'a str>,
+        seed: u32,
+    },
     /// Help or the version: the text to print.
     Text(Error),
 }

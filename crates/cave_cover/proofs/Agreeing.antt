@@ -31,12 +31,12 @@ agree_numbers : (p q : ℕ → Bool) → ((n : ℕ) → n < 10000 → p n ≡ q 
 unfolding numbers
 agree_numbers p q agree = agree_range p q 10000 0 10000 agree (omega arith)
 
-agree_flat : {X A : Type 0} (f g : X → List A) (xs : List X) → ((x : X) → f x ≡ g x)
+pub agree_flat : {X A : Type 0} (f g : X → List A) (xs : List X) → ((x : X) → f x ≡ g x)
     → flat_map f xs ≡ flat_map g xs
 agree_flat f g [] agree = refl
 agree_flat f g (x ∷ xs) agree = ap₂ (λ here rest. here ++ rest) (agree x) (agree_flat f g xs agree)
 
-agree_sum : {X : Type 0} (f g : X → ℕ) (xs : List X) → ((x : X) → f x ≡ g x)
+pub agree_sum : {X : Type 0} (f g : X → ℕ) (xs : List X) → ((x : X) → f x ≡ g x)
     → sum_by f xs ≡ sum_by g xs
 agree_sum f g [] agree = refl
 agree_sum f g (x ∷ xs) agree = sum_by-cons f x xs

@@ -1,8 +1,7 @@
 -- Where the fault of several logs is found.
-use Rattle.std.proofs.Common.{◌≡◌, ℕ, suc, ◌+◌, List, [], ◌∷◌, ◌++◌, length, take, Option, Some}
-use Rattle.std.proofs.Common.{None, Result, Ok, Err, MatchResult, inl, inr, refl, sym, ap, ◌∙◌}
+use Rattle.std.proofs.Common.{◌≡◌, ℕ, suc, ◌+◌, List, [], ◌∷◌, ◌++◌, length, Option, Some}
+use Rattle.std.proofs.Common.{None, Result, Ok, Err, inl, inr, refl, sym, ap, ◌∙◌}
 use Rattle.std.proofs.Common.{subst, arith}
-use Rattle.std.specs.Io.KnownBytes.{Appends}
 use Rattle.std.specs.List.{AllZip}
 use Rattle.std.specs.Option.{option_or}
 use Rattle.cave_play.specs.Input.{Says}
@@ -11,11 +10,9 @@ use Rattle.cave_play.specs.Stage.{Stage, first_decided}
 use Rattle.cave_play.specs.Stage as stage
 use Rattle.cave_play.specs.Stages.{log_stage}
 use Rattle.cave_play.specs.declared.fault.PlayFault.{PlayFault}
-use Rattle.cave_play.specs.declared.fault.PlayFault.TheVariants as fault
 use Rattle.cave_play.proofs.InputLemmas.{Says-some}
 use Rattle.cave_play.proofs.StageLemmas.{IsFoundIn-memory}
 use Rattle.cave_cover.specs.Faults.{AreValidLogs, IsFoundFrom, JudgesLogs, RunsCover, at_log}
-use Rattle.cave_cover.specs.Faults.{at_none}
 use Rattle.cave_cover.specs.declared.fault.CoverFault.{CoverFault}
 
 -- ---- bytes of several readers
@@ -97,14 +94,14 @@ JudgesLogs-after first logs P Q (Err found) none gives (inl (at, memory)) =
     inl (at, subst (stage.IsFoundIn first) (sym memory) (IsFoundIn-memory first))
 JudgesLogs-after first logs P Q (Err found) none gives (inr (nothing, there)) = inr (none, there)
 
--- a run that wrote, or failed while it wrote
-pub RunsCover-written : (first : List Stage) (logs : List (List ℕ)) (IsOutput : List ℕ → Type 0)
-    (old new : Option (List ℕ)) (output : List ℕ) (r : Result (Unit {0}) CoverFault)
-    → first_decided first ≡ None → AreValidLogs logs → IsOutput output
-    → MatchResult r (λ _. Appends old new output)
-    (λ found. (found ≡ at_none fault.Write) × ((n : ℕ) × Appends old new (take n output)))
-    → RunsCover first logs IsOutput old new r
-RunsCover-written first logs IsOutput old new output (Ok done) none right is written =
-    (none, right, (output, is, written))
-RunsCover-written first logs IsOutput old new output (Err found) none right is written =
-    inl (written.0, none, right, (output, is, written.1))
+-- a run whose outputs are right in another way too
+pub RunsCover-also : (first : List Stage) (logs : List (List ℕ)) (P Q : List ℕ → Type 0)
+    (old new : Option (List ℕ)) (r : Result (Unit {0}) CoverFault)
+    → ((output : List ℕ) → P output → Q output)
+    → RunsCover first logs P old new r → RunsCover first logs Q old new r
+RunsCover-also first logs P Q old new (Ok done) gives (none, right, (output, is, written)) =
+    (none, right, (output, gives output is, written))
+RunsCover-also first logs P Q old new (Err found) gives
+    (inl (is_write, none, right, (output, is, written))) =
+    inl (is_write, none, right, (output, gives output is, written))
+RunsCover-also first logs P Q old new (Err found) gives (inr decided) = inr decided

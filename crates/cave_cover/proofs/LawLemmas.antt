@@ -18,7 +18,7 @@ abbrev says : CaveView → ℕ → Text → List ℕ → Bool
 says cave seed text log = is_among text (said_in_log cave seed log)
 
 -- a test that some element of some list passes
-any_flat : {X A : Type 0} (p : A → Bool) (f : X → List A) (xs : List X)
+pub any_flat : {X A : Type 0} (p : A → Bool) (f : X → List A) (xs : List X)
     → list_any p (flat_map f xs) ≡ list_any (λ x. list_any p (f x)) xs
 any_flat p f [] = refl
 any_flat p f (x ∷ xs) =

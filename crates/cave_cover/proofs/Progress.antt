@@ -1,36 +1,35 @@
 -- How far several logs are read.
-use Rattle.std.proofs.Common.{◌≡◌, ℕ, ◌+◌, ◌<◌, ◌≤◌, Bool, List, [], ◌∷◌, ◌++◌, length, map, take}
+use Rattle.std.proofs.Common.{◌≡◌, ℕ, ◌+◌, ◌<◌, ◌≤◌, List, [], ◌∷◌, ◌++◌, length, map, take}
 use Rattle.std.proofs.Common.{drop, set, get_or, Option, None, inr, refl, sym, ap, ◌∙◌, subst}
-use Rattle.std.proofs.Common.{arith, append-nil}
+use Rattle.std.proofs.Common.{arith}
 use Rattle.std.specs.List.{AllZip}
-use Rattle.std.proofs.lemmas.Grind.{drop_more_same, flat_map-append}
+use Rattle.std.specs.Str.Lines.{lines}
+use Rattle.std.proofs.lemmas.Grind.{drop_more_same}
 use Rattle.std.proofs.lemmas.List.{drop-set-lt, drop_more, get_or-drop, length-map, length-take-le}
 use Rattle.std.proofs.lemmas.List.{map-append, take-append-drop, take_all, take_more}
-use Rattle.cave_data.specs.CaveView.{CaveView}
 use Rattle.cave_play.specs.Input.{Says}
 use Rattle.cave_play.specs.Judge.{log_fault}
 use Rattle.cave_play.specs.Stage as stage
 use Rattle.cave_play.specs.Stages.{log_stage}
 use Rattle.cave_play.specs.declared.fault.PlayFault.{PlayFault}
+use Rattle.log_edits.specs.Game.{Game, game_of}
 use Rattle.cave_cover.specs.Faults.{AreValidLogs, IsFoundFrom, IsFoundInLogs, at_log}
-use Rattle.cave_cover.specs.Marks.{Notes}
-use Rattle.cave_cover.specs.Plays.{said_in_all, said_in_log}
+use Rattle.cave_cover.specs.Noted.{NotesMore, games_of}
 use Rattle.cave_cover.proofs.FaultLemmas.{AllSay-some, AllZip-append, AllZip-length}
 use Rattle.cave_cover.proofs.FaultLemmas.{AreValidLogs-more}
 use Rattle.cave_cover.proofs.FaultLemmas.{IsFoundFrom-here, IsFoundFrom-later}
-use Rattle.cave_cover.proofs.Noting.{Notes-append, Notes-none}
 
--- the logs that readers had were read, and none of them has a fault
-pub record HasRead (known : List (Option (List ℕ))) (cave : CaveView) (seed : ℕ)
-    (old new : List Bool) (read : List (List ℕ)) : Type 0 where
+-- the logs that readers had were read, none of them has a fault, and their plays were noted
+pub record HasRead {N : Type 0} (known : List (Option (List ℕ))) (AreNotesOn : List Game → N → Type 0)
+    (seed : ℕ) (notes : N) (read : List (List ℕ)) : Type 0 where
   pub says : AllZip Says known read
   pub right : AreValidLogs read
-  pub noted : Notes (said_in_all cave seed read) old new
+  pub noted : AreNotesOn (games_of seed read) notes
 
 -- none is read yet
-pub HasRead-none : (cave : CaveView) (seed : ℕ) (marks : List Bool)
-    → HasRead [] cave seed marks marks []
-HasRead-none cave seed marks = record { says = tt; right = tt; noted = Notes-none marks }
+pub HasRead-none : {N : Type 0} (AreNotesOn : List Game → N → Type 0) (seed : ℕ) (notes : N)
+    → AreNotesOn [] notes → HasRead [] AreNotesOn seed notes []
+HasRead-none AreNotesOn seed notes none = record { says = tt; right = tt; noted = none }
 
 module _ {L : Type 0} (remaining : L → Option (List ℕ)) (logs : List L) (place : ℕ) (log : L)
     (inside : place < length logs) (is : log ≡ get_or logs place log) where
@@ -51,28 +50,25 @@ module _ {L : Type 0} (remaining : L → Option (List ℕ)) (logs : List L) (pla
       ∙ ap (λ l. map remaining (take place logs)
       ++ (remaining l ∷ map remaining (drop (place + 1) logs))) (sym is)
 
-  module _ (cave : CaveView) (seed : ℕ) (old between : List Bool) (read : List (List ℕ))
-      (moves : List ℕ)
-      (before : HasRead (map remaining (take place logs)) cave seed old between read)
+  module _ {N : Type 0} (AreNotesOn : List Game → N → Type 0) (seed : ℕ) (old : N)
+      (read : List (List ℕ)) (moves : List ℕ)
+      (before : HasRead (map remaining (take place logs)) AreNotesOn seed old read)
       (said : Says (remaining log) moves) where
     -- one more log is read
-    pub HasRead-more : (new : List Bool) → log_fault moves ≡ None
-        → Notes (said_in_log cave seed moves) between new
-        → HasRead (map remaining (take (place + 1) logs)) cave seed old new (read ++ moves ∷ [])
+    pub HasRead-more : (new : N) → log_fault moves ≡ None
+        → NotesMore AreNotesOn (game_of seed (lines moves)) old new
+        → HasRead (map remaining (take (place + 1) logs)) AreNotesOn seed new (read ++ moves ∷ [])
     HasRead-more new right noted =
-        let texts : said_in_all cave seed (read ++ moves ∷ []) ≡ said_in_all cave seed read
-        ++ said_in_log cave seed moves =
-        flat_map-append (said_in_log cave seed) read (moves ∷ [])
-        ∙ ap (λ t. said_in_all cave seed read ++ t)
-        (append-nil (said_in_log cave seed moves)) in
+        let games : games_of seed (read ++ moves ∷ []) ≡ games_of seed read
+        ++ game_of seed (lines moves) ∷ [] =
+        map-append (λ (log : List ℕ). game_of seed (lines log)) read (moves ∷ []) in
         record {
           says = subst (λ known. AllZip Says known (read ++ moves ∷ [])) (sym known_more)
               (AllZip-append Says (map remaining (take place logs)) (remaining log ∷ []) read
               (moves ∷ []) before.says (said, tt));
           right = AreValidLogs-more read moves before.right right;
-          noted = subst (λ t. Notes t old new) (sym texts)
-              (Notes-append (said_in_all cave seed read) (said_in_log cave seed moves) old between
-              new before.noted noted);
+          noted = subst (λ played. AreNotesOn played new) (sym games)
+              (noted (games_of seed read) before.noted);
         }
 
     -- one more log is refused
@@ -102,12 +98,14 @@ module _ {L : Type 0} (remaining : L → Option (List ℕ)) (logs : List L) (pla
 
 -- all logs are read
 pub HasRead-all : {L : Type 0} (remaining : L → Option (List ℕ)) (logs : List L) (place : ℕ)
-    (cave : CaveView) (seed : ℕ) (old new : List Bool) (read : List (List ℕ))
+    {N : Type 0} (AreNotesOn : List Game → N → Type 0) (seed : ℕ) (notes : N)
+    (read : List (List ℕ))
     → length logs ≤ place
-    → HasRead (map remaining (take place logs)) cave seed old new read
-    → HasRead (map remaining logs) cave seed old new read
-HasRead-all remaining logs place cave seed old new read past has =
-    subst (λ ls. HasRead (map remaining ls) cave seed old new read) (take_all place logs past) has
+    → HasRead (map remaining (take place logs)) AreNotesOn seed notes read
+    → HasRead (map remaining logs) AreNotesOn seed notes read
+HasRead-all remaining logs place AreNotesOn seed notes read past has =
+    subst (λ ls. HasRead (map remaining ls) AreNotesOn seed notes read) (take_all place logs past)
+    has
 
 -- the reader at a place is as it was, where no later one was used
 pub same_reader : {L : Type 0} (now logs : List L) (place : ℕ) (log : L)

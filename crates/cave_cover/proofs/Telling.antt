@@ -1,27 +1,64 @@
 -- The report by marks is that of the texts that were noted.
-use Rattle.std.proofs.Common.{◌≡◌, ℕ, ◌<◌, Bool, true, false, List, length, refl, ap, ◌∙◌}
+use Rattle.std.proofs.Common.{◌≡◌, ℕ, Bool, true, false, List, [], ◌++◌, length, refl, sym}
+use Rattle.std.proofs.Common.{ap, ◌∙◌}
 use Rattle.std.specs.Prelude.{◌||◌}
+use Rattle.std.specs.Str.Lines.{lines}
+use Rattle.std.proofs.lemmas.List.{length-map}
+use Rattle.std.proofs.lemmas.List.Folds.{flat_map-map, list_any-append}
 use Rattle.cave_data.specs.CaveView.{CaveView}
-use Rattle.cave_cover.specs.Marks.{Notes, is_marked}
-use Rattle.cave_cover.specs.Plays.{cover_text, said_in_all, report_of_logs}
-use Rattle.cave_cover.specs.Missing.{report_by}
 use Rattle.edit_options.specs.declared.views.CoverView.{CoverView}
-use Rattle.cave_cover.specs.Texts.{is_among}
+use Rattle.log_edits.specs.Game.{Game, game_of}
+use Rattle.cave_cover.specs.Marks.{AreMarksOf, Notes, is_marked}
+use Rattle.cave_cover.specs.Missing.{report_by}
+use Rattle.cave_cover.specs.Noted.{IsReported, games_of}
+use Rattle.cave_cover.specs.Plays.{IsCovered, report_of_logs, report_on_games, said_in_games}
+use Rattle.cave_cover.specs.Plays.{texts_said_in}
+use Rattle.cave_cover.specs.Texts.{is_among, is_same}
 use Rattle.cave_cover.specs.declared.text.Text.{Text}
 use Rattle.cave_cover.proofs.Agreeing.{agree_view}
 
-or_false : (b : Bool) → (b || false) ≡ b
-or_false true = refl
-or_false false = refl
+or_swapped : (p q : Bool) → (q || p) ≡ (p || q)
+or_swapped true true = refl
+or_swapped true false = refl
+or_swapped false true = refl
+or_swapped false false = refl
 
-pub told_by_marks : (cave : CaveView) (seed : ℕ) (view : CoverView) (logs : List (List ℕ))
-    (old new : List Bool) (count : ℕ)
-    → ((text : Text) → is_marked old text ≡ false)
-    → Notes (said_in_all cave seed logs) old new → count ≡ length logs
-    → report_by cave (is_marked new) view count ≡ cover_text cave seed view logs
-told_by_marks cave seed view logs old new count none noted many =
-    let agree = λ (text : Text) (below : text.number < 10000).
-    noted.is text below ∙ ap (λ b. is_among text (said_in_all cave seed logs) || b) (none text)
-    ∙ or_false (is_among text (said_in_all cave seed logs)) in
-    agree_view cave (is_marked new) (λ text. is_among text (said_in_all cave seed logs)) agree view
-    count ∙ ap (report_of_logs cave seed view logs) many
+-- no text is marked yet
+pub AreMarksOf-none : (marks : List Bool) → ((text : Text) → is_marked marks text ≡ false)
+    → AreMarksOf [] marks
+AreMarksOf-none marks none = record { is = λ text fits. none text }
+
+-- more texts were noted
+pub AreMarksOf-more : (texts more : List Text) (old new : List Bool) → AreMarksOf texts old
+    → Notes more old new → AreMarksOf (texts ++ more) new
+AreMarksOf-more texts more old new marked noted = record {
+  is = λ text fits.
+      noted.is text fits ∙ ap (λ b. is_among text more || b) (marked.is text fits)
+      ∙ or_swapped (is_among text texts) (is_among text more)
+      ∙ sym (list_any-append (is_same text) texts more);
+}
+
+-- the report by the marks of what games say is that on the games
+pub told_by_marks : (cave : CaveView) (view : CoverView) (games : List Game) (marks : List Bool)
+    (count : ℕ) → AreMarksOf (said_in_games cave games) marks → count ≡ length games
+    → report_by cave (is_marked marks) view count ≡ report_on_games cave view games
+told_by_marks cave view games marks count marked many =
+    let is_said = λ (text : Text). is_among text (said_in_games cave games) in
+    agree_view cave (is_marked marks) is_said marked.is view count
+    ∙ ap (report_by cave is_said view) many
+
+-- the report on the games of logs is that on the logs
+pub covered-reported : (database bindings : List ℕ) (logs : List (List ℕ)) (seed : ℕ)
+    (view : CoverView) (output : List ℕ)
+    → IsReported report_on_games database bindings logs seed view output
+    → IsCovered database bindings logs seed view output
+covered-reported database bindings logs seed view output (cave, reads, is) =
+    let game = λ (log : List ℕ). game_of seed (lines log) in
+    let texts = flat_map-map (texts_said_in cave) game logs in (
+      cave,
+      reads,
+      is
+          ∙ ap (λ said. report_by cave (λ text. is_among text said) view
+          (length (games_of seed logs))) texts
+          ∙ ap (report_of_logs cave seed view logs) (length-map logs game),
+    )

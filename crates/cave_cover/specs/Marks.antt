@@ -10,6 +10,10 @@ place_of_mark text = 10000 * kind_number text.kind + text.number
 abbrev pub is_marked : List Bool → Text → Bool
 is_marked marks text = slice_index_or marks (place_of_mark text) false
 
+-- the marks are those of these texts
+pub record AreMarksOf (texts : List Text) (marks : List Bool) : Type 0 where
+  pub is : (text : Text) → text.number < 10000 → is_marked marks text ≡ is_among text texts
+
 -- the texts were noted: a text is marked now if it is one of them or was marked before
 pub record Notes (texts : List Text) (old new : List Bool) : Type 0 where
   pub is : (text : Text) → text.number < 10000

@@ -19,6 +19,15 @@ texts_said_in cave game =
     said_by_all cave (rules.greeting game.seed)
     ++ flat_map (said_by_all cave) (texts_of rules (rules.begun game.seed) game.log)
 
+-- the texts that playing games says
+abbrev pub said_in_games : CaveView → List Game → List Text
+said_in_games cave games = flat_map (texts_said_in cave) games
+
+-- the report on the plays of games
+abbrev pub report_on_games : CaveView → CoverView → List Game → List ℕ
+report_on_games cave view games =
+    report_by cave (λ text. is_among text (said_in_games cave games)) view (length games)
+
 -- the texts that playing a log says
 abbrev pub said_in_log : CaveView → ℕ → List ℕ → List Text
 said_in_log cave seed log = texts_said_in cave (game_of seed (lines log))

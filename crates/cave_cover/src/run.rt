@@ -1,20 +1,19 @@
-//! The run over several logs: from readers of the inputs to a writer of the output.
+//! Runs over several logs: from readers of the inputs to a writer of the output.
 
-ghost use Rattle.std.specs.Prelude.{◌≡◌, ℕ, List, [], None, map, take, MatchResult};
+ghost use Rattle.std.specs.Prelude.{◌≡◌, ℕ, List, [], None, map};
 ghost use Rattle.std.specs.List.{AllZip};
-ghost use Rattle.std.specs.Io.KnownBytes.{Appends};
-ghost use Rattle.cave_cover.specs.Faults.{JudgesLogs, RunsCover, at_none, first_stages};
-ghost use Rattle.cave_cover.specs.Plays.{IsCovered, cover_text};
+ghost use Rattle.cave_cover.specs.Faults.{JudgesLogs, RunsCover, first_stages};
+ghost use Rattle.cave_cover.specs.Noted.{IsReported, games_of};
+ghost use Rattle.cave_cover.specs.Plays.{IsCovered};
 ghost use Rattle.cave_play.specs.Input.{Says};
 ghost use Rattle.cave_play.specs.Judge.{large_seed};
 
 use crate::fault::CoverFault;
 use crate::marks::SaidTexts;
-use crate::missing::push_view;
+use crate::notes::PlayNotes;
 use crate::plays::note_logs;
 use cave_data::Cave;
 use cave_play::bindings::CaveReaders;
-use cave_play::fault::PlayFault;
 use cave_play::judge::{check_seed, read_cave};
 use cave_play::machine::CaveMachine;
 use cave_play::output::write_output;
@@ -41,63 +40,73 @@ pub fn run_cover<C: Read, B: Read, L: Read, W: Write>(
         (IsCovered database bindings moves seed view)
         (W.contents output.old) (W.contents output.new) result }
 {
-    let text = cover_inputs(alloc, cave, logs, seed, view)?;
-    write_report(output, &text)
+    report_on_logs::<SaidTexts, C, B, L, W>(alloc, cave, logs, seed, view, output)
 }
 
-/// Writes a report that is built.
-fn write_report<W: Write>(output: &mut W, text: &[u8]) -> Result<(), CoverFault>
-    ensures written { MatchResult result
-        (λ _. Appends (W.contents output.old) (W.contents output.new) text.now)
-        (λ found. (found ≡ at_none PlayFault.Write)
-        × ((n : ℕ) × Appends (W.contents output.old) (W.contents output.new) (take n text.now))) }
-{
-    match write_output(output, text) {
-        Ok(()) => Ok(()),
-        Err(_) => Err(CoverFault::from(PlayFault::Write)),
-    }
-}
-
-/// The report on logs, from readers of the inputs.
-fn cover_inputs<C: Read, B: Read, L: Read>(
+/// Plays logs, each by itself from its first line, and writes the report on what is noted of their
+/// plays.
+pub fn report_on_logs<N: PlayNotes, C: Read, B: Read, L: Read, W: Write>(
     alloc: Global,
     cave: &mut CaveReaders<C, B>,
     logs: &mut [L],
     seed: u32,
-    view: CoverView,
+    view: N::View,
+    output: &mut W,
+) -> Result<(), CoverFault>
+    ensures runs { (database : List ℕ) × (bindings : List ℕ) × (moves : List (List ℕ))
+        × Says (C.remaining cave.old.database) database
+        × Says (B.remaining cave.old.bindings) bindings
+        × AllZip Says (map L.remaining logs.old) moves
+        × RunsCover (first_stages database bindings seed) moves
+        (IsReported N.report_on database bindings moves seed view)
+        (W.contents output.old) (W.contents output.new) result }
+{
+    let text = report_on_inputs::<N, C, B, L>(alloc, cave, logs, seed, view)?;
+    write_output(output, &text)?;
+    Ok(())
+}
+
+/// The report on logs, from readers of the inputs.
+fn report_on_inputs<N: PlayNotes, C: Read, B: Read, L: Read>(
+    alloc: Global,
+    cave: &mut CaveReaders<C, B>,
+    logs: &mut [L],
+    seed: u32,
+    view: N::View,
 ) -> Result<Vec<u8>, CoverFault>
     ensures judged { (database : List ℕ) × (bindings : List ℕ) × (moves : List (List ℕ))
         × Says (C.remaining cave.old.database) database
         × Says (B.remaining cave.old.bindings) bindings
         × AllZip Says (map L.remaining logs.old) moves
         × JudgesLogs (first_stages database bindings seed) moves
-        (λ text. IsCovered database bindings moves seed view text.items) result }
+        (λ text. IsReported N.report_on database bindings moves seed view text.items) result }
 {
     check_seed(seed)?;
     let cave = read_cave(alloc, cave)?;
-    let text = cover_in_cave(alloc, &cave, logs, seed, view);
+    let text = report_in_cave::<N, L>(alloc, &cave, logs, seed, view);
     // By a call, as in other runs: the checker goes through the tables of a cave in one place.
     drop(cave);
     text
 }
 
 /// The report on logs in a cave.
-fn cover_in_cave<L: Read>(
+fn report_in_cave<N: PlayNotes, L: Read>(
     alloc: Global,
     cave: &Cave,
     logs: &mut [L],
     seed: u32,
-    view: CoverView,
+    view: N::View,
 ) -> Result<Vec<u8>, CoverFault>
     requires { large_seed seed ≡ None }
     ensures judged { (moves : List (List ℕ)) × AllZip Says (map L.remaining logs.old) moves
-        × JudgesLogs [] moves (λ text. text.items ≡ cover_text cave.now seed view moves) result }
+        × JudgesLogs [] moves
+        (λ text. text.items ≡ N.report_on cave.now view (games_of seed moves)) result }
 {
     let lexicon = Lexicon::build(alloc, cave)?;
     let machine = CaveMachine::new(cave, &lexicon);
-    let mut said = SaidTexts::new(alloc)?;
-    note_logs(alloc, machine, logs, seed, &mut said)?;
+    let mut notes = N::none(alloc)?;
+    note_logs(alloc, machine, logs, seed, &mut notes)?;
     let mut text = Vec::new(alloc);
-    push_view(alloc, machine.cave(), &said, view, logs.len(), &mut text)?;
+    notes.push_report(alloc, machine.cave(), view, logs.len(), &mut text)?;
     Ok(text)
 }

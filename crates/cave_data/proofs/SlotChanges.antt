@@ -7,7 +7,7 @@ use Rattle.std.specs.Ordering.{nat_cmp, eq_by_cmp}
 use Rattle.std.specs.Cmp.{nat_cmp_total}
 use Rattle.std.specs.FinMap as map
 use Rattle.cave_data.specs.Slots.{slot, by_number, ChangesSlot}
-use Rattle.cave_data.proofs.SlotLemmas.{get-by_number}
+use Rattle.cave_data.proofs.SlotLemmas.{get-by_number, none_past}
 
 pub same_key : (m n : ℕ) → m ≡ n → eq_by_cmp nat_cmp m n ≡ true
 same_key m n h = grind (arith, nat_tests)
@@ -52,4 +52,4 @@ pub by_number-none : {X Y : Type 0} (view : X → Y) (xs : List (Option X)) → 
 unfolding by_number
 by_number-none view xs e = ap (by_number view) e
 
-pub ruleset slot_changes = (by_number-put, by_number-replace, by_number-none, get-by_number)
+pub ruleset slot_changes = (by_number-put, by_number-replace, by_number-none, get-by_number, none_past)

@@ -1,7 +1,8 @@
 -- What a finite map made of a table of slots has at a number: what is in the slot.
-use Rattle.std.proofs.Common.{◌≡◌, ℕ, ◌+◌, ◌<◌, suc, zero, true, false, cond, List, [], ◌∷◌, Option}
+use Rattle.std.proofs.Common.{◌≡◌, ℕ, ◌+◌, ◌<◌, ◌≤◌, length, option_and_then, suc, zero, true, false, cond, List, [], ◌∷◌, Option}
 use Rattle.std.proofs.Common.{Some, None, option_map, refl, ap, ◌∙◌, arith}
 use Rattle.std.proofs.lemmas.Bool.Decides.{nat_tests}
+use Rattle.std.proofs.lemmas.Option.{slice_get_past}
 use Rattle.std.specs.Ordering.{nat_cmp, eq_by_cmp}
 use Rattle.std.specs.Cmp.{nat_cmp_total}
 use Rattle.std.specs.FinMap as map
@@ -45,5 +46,11 @@ module _ {X Y : Type 0} (view : X → Y) where
   unfolding by_number
   get-by_number xs n = map.get-from_entries nat_cmp_total (numbered_items view 0 xs) n
       ∙ find-numbered_items xs n 0 n (omega arith)
+
+  pub none_past : (xs : List (Option X)) (n : ℕ) → length xs ≤ n
+      → map.get (by_number view xs) n ≡ None
+  none_past xs n past =
+      get-by_number xs n
+      ∙ ap (λ s. option_map view (option_and_then (λ x. x) s)) (slice_get_past xs n past)
 
 pub ruleset slots = (get-by_number)

@@ -1,5 +1,5 @@
 -- Tables as they are while a database is read.
-use Rattle.std.specs.Prelude.{ℕ, ◌+◌, ◌^◌, Bool, false, ◌==◌, if◌then◌else◌, List, [], ◌∷◌, ◌++◌}
+use Rattle.std.specs.Prelude.{◌≡◌, ℕ, ◌+◌, ◌≤◌, ◌^◌, Bool, false, ◌==◌, if◌then◌else◌, List, [], ◌∷◌, ◌++◌}
 use Rattle.std.specs.Prelude.{Option, Some, None, unwrap_or, bit_or, refl}
 use Rattle.std.specs.Coded.{Coded, code_by, coded×, coded_ℕ, coded_list, coded_option}
 use Rattle.std.specs.Ordering.{nat_cmp}
@@ -52,6 +52,10 @@ with_way t place going =
       ways = map.insert t.ways place (unwrap_or (map.get t.ways place) [] ++ going ∷ []);
       count = t.count + 1;
     }
+
+-- no number from this one on has a value
+abbrev pub IsAbove : {X : Type 0} → ℕ → map.FinMap nat_cmp X → Type 0
+IsAbove end m = (n : ℕ) → end ≤ n → map.get m n ≡ None
 
 unfoldable pub with_bit : ℕ → map.FinMap nat_cmp ℕ → ℕ → map.FinMap nat_cmp ℕ
 with_bit bit m place = map.insert m place (bit_or (unwrap_or (map.get m place) 0) (2 ^ bit))

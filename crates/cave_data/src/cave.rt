@@ -18,6 +18,7 @@ ghost use Rattle.cave_data.specs.LowestCause.{ReportsLowest};
 ghost use Rattle.cave_data.specs.Reads.{AreValidInputs, Reads, fault, size_fault};
 ghost use Rattle.std.specs.Str.Lines.{lines};
 ghost use Rattle.cave_data.specs.Printing.{rating};
+ghost use Rattle.cave_data.specs.Tables.{IsAbove};
 ghost use Rattle.cave_rows.specs.RowViews.{going};
 ghost use Rattle.cave_rows.specs.Role.{role_number};
 ghost use Rattle.cave_rows.specs.PlaceRole.{place_number};
@@ -290,6 +291,13 @@ impl Cave {
         ensures { result ≡ get self.now.hints number }
     {
         self.hints.get(number)
+    }
+
+    /// A number above those of all hints.
+    pub fn hint_end(&self) -> usize
+        ensures { IsAbove result self.now.hints }
+    {
+        self.hints.end()
     }
 
     /// The message that bindings give the role.

@@ -2,7 +2,7 @@
 ghost use Rattle.std.specs.Prelude.{◌≡◌, ◌<◌, OnOk};
 ghost use Rattle.std.specs.FinMap.{get, empty, insert};
 ghost use Rattle.std.specs.List.{fold};
-ghost use Rattle.cave_data.specs.Tables.{with_bit};
+ghost use Rattle.cave_data.specs.Tables.{IsAbove, with_bit};
 
 use crate::slots::Slots;
 use std::alloc::{AllocError, Global};
@@ -43,6 +43,13 @@ impl<T: Copy> Table<T> {
         ensures { result ≡ get self.now number }
     {
         self.slots.get(number).copied()
+    }
+
+    /// A number above those of all values.
+    pub fn end(&self) -> usize
+        ensures { IsAbove result self.now }
+    {
+        self.slots.items.len()
     }
 
     /// Replaces the value at the number.

@@ -1,7 +1,11 @@
 -- One hint more is considered.
-use Rattle.std.proofs.Common.{◌≡◌, ℕ, suc, ◌+◌, ◌≤◌, Bool, true, false, refl, arith}
+use Rattle.std.proofs.Common.{◌≡◌, ℕ, zero, suc, ◌+◌, ◌-◌, ◌≤◌, ◌⊎◌, inl, inr, Bool, true, false}
+use Rattle.std.proofs.Common.{None, min, refl, sym, ap, ◌∙◌, arith}
+use Rattle.std.proofs.lemmas.Bool.{cases_eq}
+use Rattle.std.specs.FinMap as map
 use Rattle.cave_data.specs.CaveView.{CaveView}
-use Rattle.cave_hints.specs.Hints.{after_considering, after_hints_up_to}
+use Rattle.cave_data.specs.Tables.{IsAbove}
+use Rattle.cave_hints.specs.Hints.{after_considering, after_considering_if, after_hints_up_to}
 use Rattle.cave_scene.specs.Play.{Scene}
 
 -- the next hint comes after those so far
@@ -9,6 +13,42 @@ pub after_considering-more : (cave : CaveView) (n : ℕ) (p : Scene)
     → after_hints_up_to cave (n + 1) p ≡ after_considering cave (n + 4) (after_hints_up_to cave n p)
 unfolding after_hints_up_to
 after_considering-more cave n p = let next : n + 1 ≡ suc n = omega arith in rw next refl
+
+-- a hint that the cave doesn't have changes nothing
+after_considering-none : (cave : CaveView) (h : ℕ) (p : Scene) → map.get cave.hints h ≡ None
+    → after_considering cave h p ≡ p
+unfolding after_considering
+after_considering-none cave h p none = ap (λ hint. after_considering_if cave h hint p) none
+
+after_hints-later : (cave : CaveView) (count more : ℕ) (p : Scene)
+    → IsAbove (count + 4) cave.hints
+    → after_hints_up_to cave (more + count) p ≡ after_hints_up_to cave count p
+unfolding after_hints_up_to
+after_hints-later cave count zero p above =
+    let same : zero + count ≡ count = omega arith in ap (λ n. after_hints_up_to cave n p) same
+after_hints-later cave count (suc more) p above =
+    let next : suc more + count ≡ suc (more + count) = omega arith in
+    ap (λ n. after_hints_up_to cave n p) next
+    ∙ after_considering-none cave (more + count + 4) _ (above _ (omega arith))
+    ∙ after_hints-later cave count more p above
+
+-- either no hint of the cave comes after the first few, or they are all that are offered
+pub few_hints : (cave : CaveView) (end few : ℕ) → IsAbove end cave.hints → few ≡ min (end - 4) 17
+    → IsAbove (few + 4) cave.hints ⊎ (few ≡ 17)
+few_hints cave end few above least = at (cases_eq few 17) where
+  at : (few ≡ 17) ⊎ (few ≡ 17 → ⊥) → IsAbove (few + 4) cave.hints ⊎ (few ≡ 17)
+  at (inl all) = inr all
+  at (inr some) = inl (λ n low. above n (omega (arith, least, some, low)))
+
+-- hints above those of the cave change nothing
+pub after_hints-all : (cave : CaveView) (count : ℕ) (p : Scene) → count ≤ 17
+    → IsAbove (count + 4) cave.hints ⊎ (count ≡ 17)
+    → after_hints_up_to cave count p ≡ after_hints_up_to cave 17 p
+after_hints-all cave count p few (inl above) =
+    let all : 17 - count + count ≡ 17 = omega arith in
+    sym (after_hints-later cave count (17 - count) p above)
+    ∙ ap (λ n. after_hints_up_to cave n p) all
+after_hints-all cave count p few (inr all) = ap (λ n. after_hints_up_to cave n p) all
 
 -- one question is said at most: after one no other is asked
 pub few-asked : (over : Bool) (start before after : ℕ) → before ≤ start + 2

@@ -1,6 +1,7 @@
 //! Hints: one is offered to a player who stays for long where it helps, and who needs it.
 
-ghost use Rattle.std.specs.Prelude.{◌≡◌, ◌<◌, ◌+◌, ◌*◌, false, true};
+ghost use Rattle.std.specs.Prelude.{◌≡◌, ◌<◌, ◌≤◌, ◌+◌, ◌*◌, ◌⊎◌, false, true};
+ghost use Rattle.cave_data.specs.Tables.{IsAbove};
 ghost use Rattle.cave_scene.specs.Bounds.{HasRoom, SaysUpTo, parts_of_question};
 ghost use Rattle.cave_scene.specs.Play.{scene_of, GoesOn};
 ghost use Rattle.cave_scene.specs.Rules.{cave_of};
@@ -13,6 +14,7 @@ ghost use Rattle.cave_hints.specs.Hints.{after_considering, after_hints, price_s
 ghost use Rattle.cave_hints.specs.Hints.{after_reward, hint_scene};
 ghost use Rattle.cave_world.specs.State.{takes_no_command};
 
+use cave_data::Cave;
 use cave_ends::ask;
 use cave_rows::Hint;
 use cave_scene::{Play, Rules};
@@ -53,9 +55,18 @@ pub fn consider_all(rules: &Rules<'_>, play: &mut Play<'_>)
     ensures same { GoesOn play.old play.new }
     ensures few { SaysUpTo parts_of_question play.old play.new }
 {
-    for before in 0..OFFERED_HINTS {
+    for before in 0..count_hints(rules.cave) {
         consider(rules, HintNumber::new(before + FIRST_HINT), play);
     }
+}
+
+/// How many of the hints that are offered come before the end of those that the cave has.
+fn count_hints(cave: &Cave) -> u8
+    ensures few { result ≤ 17 }
+    ensures all { IsAbove (result + 4) cave.now.hints ⊎ (result ≡ 17) }
+{
+    let count = cave.hint_end().saturating_sub(usize::from(FIRST_HINT));
+    count.min(usize::from(OFFERED_HINTS)) as u8
 }
 
 /// What a hint costs is said, and whether it is worth that is asked.
@@ -113,18 +124,21 @@ fn is_in_area(rules: &Rules<'_>, hint: HintNumber, state: &State) -> bool
     has_condition(rules.cave, state.trail.here, hint.number())
 }
 
-/// One turn more in the area of a hint, or none outside it.
+/// One turn more in the area of a hint, or none outside it. Returns whether the player is in it.
 #[tactic(auto, unfolding(crate::specs::Hints::after_turn_near, cave_world::specs::State::takes_no_command))]
-fn wait(rules: &Rules<'_>, hint: HintNumber, state: &mut State)
+fn wait(rules: &Rules<'_>, hint: HintNumber, state: &mut State) -> bool
     ensures state { state.new ≡ after_turn_near (cave_of rules.now) hint state.old }
+    ensures area { result ≡ is_in_area (cave_of rules.now) hint state.new }
     ensures over { takes_no_command state.new ≡ takes_no_command state.old }
 {
-    let turns = if is_in_area(rules, hint, state) {
+    let is_near = is_in_area(rules, hint, state);
+    let turns = if is_near {
         turns_near(hint, state).up()
     } else {
         Count::new(0)
     };
     set_turns_near(hint, turns, state);
+    is_near
 }
 
 /// Whether the player has stayed for long enough, and no question is open.
@@ -228,7 +242,7 @@ fn offer(rules: &Rules<'_>, number: HintNumber, hint: &Hint, play: &mut Play<'_>
 }
 
 /// A hint that the cave has and that wasn't taken counts its turns, and is offered.
-#[tactic(auto, unfolding(crate::specs::Hints::after_considering))]
+#[tactic(auto, unfolding(crate::specs::Hints::after_considering, crate::specs::Hints::offer_scene, crate::specs::Hints::is_due))]
 fn consider(rules: &Rules<'_>, number: HintNumber, play: &mut Play<'_>)
     requires { HasRoom parts_of_question play.old }
     ensures play { scene_of play.new
@@ -244,8 +258,9 @@ fn consider(rules: &Rules<'_>, number: HintNumber, play: &mut Play<'_>)
         if play.state.is_hint_taken(number) {
             return;
         }
-        wait(rules, number, play.state);
-        offer(rules, number, &hint, play);
+        if wait(rules, number, play.state) {
+            offer(rules, number, &hint, play);
+        }
     }
 }
 

@@ -18,7 +18,7 @@ use Rattle.cave_things.specs.Places.{building_place, outside_place}
 use Rattle.cave_scene.specs.Rules.{thing}
 use Rattle.cave_turn.specs.Dragon.{between}
 use Rattle.cave_turn.specs.Turns.{game_beginning, turn_on_line}
-use Rattle.cave_laws.specs.Courses.{DeathsComeOneByOne, IsOutside, NobodyGetsOut}
+use Rattle.cave_laws.specs.Courses.{DeathsComeOneByOne, IsOutsideCave, NobodyGetsOut}
 use Rattle.cave_laws.specs.Courses.{AskedInTime, IsAskedInTime, PutsInside}
 use Rattle.cave_laws.proofs.Frame.{Calm, Claim, Facts, IsBegun, IsKept, IsPut, IsTimed}
 use Rattle.cave_laws.proofs.Frame.{choose, is_die}
@@ -178,7 +178,7 @@ Here place = record {
 -- in a closing cave the player is outside only where the player was
 abbrev Inside : CaveView → ℕ → Claim
 Inside cave place = record {
-  holds = λ f. f.is_closing ≡ true → IsOutside cave f.here → f.here ≡ place;
+  holds = λ f. f.is_closing ≡ true → IsOutsideCave cave f.here → f.here ≡ place;
   goes_on = λ f c later h. h;
 }
 
@@ -212,12 +212,12 @@ half_way a b here last one other =
 
 -- where the player is put is inside
 put_inside : (cave : CaveView) (place : ℕ) (f : Facts) → PutsInside cave → IsPut cave place f
-    → IsOutside cave place → place ≡ f.here
+    → IsOutsideCave cave place → place ≡ f.here
 put_inside cave place f inside (inl is) out = absurd (inside.repository place is out)
 put_inside cave place f inside (inr is) out =
     is ∙ half_way (home cave (thing cave name.Dragon)) (second_home cave (thing cave name.Dragon))
     f.here (outside_place cave) inside.dragon inside.second
-    (subst (λ (p : ℕ). IsOutside cave p) is out)
+    (subst (λ (p : ℕ). IsOutsideCave cave p) is out)
 
 inside_kept : (cave : CaveView) (before : ℕ) → PutsInside cave → IsKept cave (Inside cave before)
 inside_kept cave before inside = record {
@@ -234,19 +234,19 @@ inside_kept cave before inside = record {
   where
     killed :
         (place : ℕ) (f : Facts) → (place ≡ f.here) ⊎ (place ≡ 0)
-        → (f.is_closing ≡ true → IsOutside cave f.here → f.here ≡ before)
-        → f.is_closing ≡ true → IsOutside cave place → place ≡ before
+        → (f.is_closing ≡ true → IsOutsideCave cave f.here → f.here ≡ before)
+        → f.is_closing ≡ true → IsOutsideCave cave place → place ≡ before
     killed place f (inl same) h closing out =
-        same ∙ h closing (subst (λ (p : ℕ). IsOutside cave p) same out)
+        same ∙ h closing (subst (λ (p : ℕ). IsOutsideCave cave p) same out)
     killed place f (inr none) h closing out = absurd (omega (arith, none, out.0))
 
     put :
         (place : ℕ) (f : Facts) → IsPut cave place f
-        → (f.is_closing ≡ true → IsOutside cave f.here → f.here ≡ before)
-        → f.is_closing ≡ true → IsOutside cave place → place ≡ before
+        → (f.is_closing ≡ true → IsOutsideCave cave f.here → f.here ≡ before)
+        → f.is_closing ≡ true → IsOutsideCave cave place → place ≡ before
     put place f is h closing out =
         let same = put_inside cave place f inside is out in
-        same ∙ h closing (subst (λ (p : ℕ). IsOutside cave p) same out)
+        same ∙ h closing (subst (λ (p : ℕ). IsOutsideCave cave p) same out)
 
 here_timed : (place : ℕ) → IsTimed (Calm (Here place))
 here_timed place = record {

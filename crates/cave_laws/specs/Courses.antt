@@ -87,22 +87,22 @@ DeathsComeOneByOne =
     → DeathsAfter s (turn_on_line cave s line).state
 
 -- the places outside the cave are those from 1 to the last of them
-abbrev pub IsOutside : CaveView → ℕ → Type 0
-IsOutside cave place = (1 ≤ place) × (place ≤ outside_place cave)
+abbrev pub IsOutsideCave : CaveView → ℕ → Type 0
+IsOutsideCave cave place = (1 ≤ place) × (place ≤ outside_place cave)
 
 -- where the player is put is not outside: the northeast end of the repository, and where the dragon
 -- dies, which is between its places
 pub record PutsInside (cave : CaveView) : Type 0 where
-  pub repository : (ne : ℕ) → place_named cave place.Ne ≡ Some ne → ¬ IsOutside cave ne
-  pub dragon : ¬ IsOutside cave (home cave (thing cave name.Dragon))
-  pub second : ¬ IsOutside cave (second_home cave (thing cave name.Dragon))
+  pub repository : (ne : ℕ) → place_named cave place.Ne ≡ Some ne → ¬ IsOutsideCave cave ne
+  pub dragon : ¬ IsOutsideCave cave (home cave (thing cave name.Dragon))
+  pub second : ¬ IsOutsideCave cave (second_home cave (thing cave name.Dragon))
 
 -- a line that leaves the cave closing leaves nobody outside who wasn't there before
 abbrev pub NobodyGetsOut : Type 0
 NobodyGetsOut =
     (cave : CaveView) (s : State) (line : List ℕ) → PutsInside cave → IsAskedInTime s
     → (let t = (turn_on_line cave s line).state in
-    t.closing.is_closing ≡ true → IsOutside cave t.trail.here → t.trail.here ≡ s.trail.here)
+    t.closing.is_closing ≡ true → IsOutsideCave cave t.trail.here → t.trail.here ≡ s.trail.here)
 
 -- the lamp is reached while it is lit
 abbrev pub is_lit : CaveView → Option Scene → Bool

@@ -17,13 +17,12 @@ use Rattle.log_replay.specs.Machine.{MachineRules}
 use Rattle.edit_scripts.specs.Item.{Applied}
 use Rattle.edit_scripts.specs.Views.{applied_item}
 use Rattle.edit_scripts.specs.declared.script.Item.{Item}
-use Rattle.smallvec.specs.SmallVec.{SmallVec}
+use Rattle.cave_play.specs.Piece.{Piece}
 use Rattle.std.specs.List.{sum_by}
 use Rattle.std.proofs.lemmas.List.Sums.{sum_by-cons}
 use Rattle.cave_data.specs.CaveView.{CaveView}
 use Rattle.edit_options.specs.declared.editing.View.{View}
 use Rattle.log_replay.specs.Session.{SessionView}
-use Rattle.cave_world.specs.declared.part.Part.{Part}
 use Rattle.cave_world.specs.declared.state.State.{State}
 use Rattle.cave_play.specs.Edits.{Applies, IsApplied, text_of_item}
 use Rattle.cave_play.specs.Outcome.{AreLeft, AreOutcomes, IsOutcome, lines_in, played_in}
@@ -131,7 +130,7 @@ module _ (view : View) (cave : CaveView) (every : ℕ) (all left : List Applied)
 pub Completes-more : (view : View) (cave : CaveView) (every : ℕ) (items : List Item) (place : ℕ)
     (item : Item) (outcome : ItemOutcome) (first : Game)
     (opened before text longer : List ℕ) (played lines more_played more_lines : ℕ)
-    (old new : SessionView CaveMachine (SmallVec Part) State)
+    (old new : SessionView CaveMachine Piece State)
     → place < length items → item ≡ get_or items place item → old.machine.rules.cave.now ≡ cave
     → old.every ≡ every → Applies (applied_item item) old new outcome
     → longer ≡ text ++ text_of_item view (applied_item item) outcome
@@ -161,7 +160,7 @@ Completes-more view cave every items place item outcome first opened before text
 
 -- no item is left
 pub IsApplied-whole : (view : View) (items : List Item) (place : ℕ)
-    (old : SessionView CaveMachine (SmallVec Part) State) (now : Game) (here before text : List ℕ)
+    (old : SessionView CaveMachine Piece State) (now : Game) (here before text : List ℕ)
     (played lines : ℕ)
     → length items ≤ place
     → Completes view old.machine.rules.cave.now old.every (map applied_item items)

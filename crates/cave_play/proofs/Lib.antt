@@ -6,6 +6,7 @@ mod OneOutputLemmas
 mod RefusalLemmas
 mod RunLemmas
 mod ScriptLemmas
+mod Shown
 pub mod StageLemmas
 mod StandingLemmas
 mod StrictLemmas

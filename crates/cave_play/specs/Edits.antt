@@ -1,6 +1,6 @@
 -- What a session holds after items of a script, and what is written of them.
 use Rattle.std.specs.Prelude.{◌≡◌, ℕ, List, [], ◌++◌, ⊤}
-use Rattle.smallvec.specs.SmallVec.{SmallVec}
+use Rattle.cave_play.specs.Piece.{Piece}
 use Rattle.std.specs.List.{sum_by}
 use Rattle.std.specs.Str.Lines.{lines}
 use Rattle.cave_data.specs.CaveView.{CaveView}
@@ -11,7 +11,6 @@ use Rattle.log_replay.specs.Session.{SessionView}
 use Rattle.log_replay.specs.LogText.{log_text}
 use Rattle.log_edits.specs.Game.{Game}
 use Rattle.edit_scripts.specs.Item.{Applied}
-use Rattle.cave_world.specs.declared.part.Part.{Part}
 use Rattle.cave_world.specs.declared.state.State.{State}
 use Rattle.cave_play.specs.FinalState.{final_state_text}
 use Rattle.cave_play.specs.Outcome.{IsOutcome, AreLeft, AreOutcomes, lines_in, played_in}
@@ -23,12 +22,12 @@ use Rattle.cave_play.specs.declared.outcome.ItemOutcome.{ItemOutcome}
 
 -- the session is one of the cave's machine, and holds the game
 pub record HoldsGame (cave : CaveView) (game : Game)
-    (session : SessionView CaveMachine (SmallVec Part) State) : Type 0 where
+    (session : SessionView CaveMachine Piece State) : Type 0 where
   pub cave_is : session.machine.rules.cave.now ≡ cave
   pub game_is : session.game ≡ game
 
 -- an item was applied to what a session held, and this came of it
-pub record Applies (item : Applied) (old new : SessionView CaveMachine (SmallVec Part) State)
+pub record Applies (item : Applied) (old new : SessionView CaveMachine Piece State)
     (outcome : ItemOutcome) : Type 0 where
   pub came : IsOutcome old.machine.rules.cave.now old.every item old.game old.checkpoints outcome
   pub holds : HoldsGame old.machine.rules.cave.now (game_after_item item old.game) new
@@ -46,7 +45,7 @@ text_of_item FinalState item outcome = []
 -- items were applied to what a session held: the text grew by what is written of each, and the
 -- totals are theirs
 pub record IsApplied (view : View) (items : List Applied)
-    (old : SessionView CaveMachine (SmallVec Part) State) (before after : List ℕ)
+    (old : SessionView CaveMachine Piece State) (before after : List ℕ)
     (played lines : ℕ) : Type 0 where
   pub outcomes : List ItemOutcome
   pub came : AreOutcomes old.machine.rules.cave.now old.every items old.game old.checkpoints

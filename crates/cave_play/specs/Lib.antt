@@ -7,6 +7,8 @@ pub mod Stages
 pub mod Laws
 pub mod Run
 pub mod Transcript
+pub mod Piece
+pub mod PieceParts
 pub mod Machine
 pub mod Output
 pub mod FinalState

@@ -11,6 +11,7 @@ pub mod laws;
 pub mod machine;
 pub mod outcome;
 pub mod output;
+pub mod piece;
 mod read;
 mod refusal;
 mod reports;

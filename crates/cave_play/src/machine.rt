@@ -7,7 +7,9 @@ ghost use Rattle.cave_scene.specs.Rules.{cave_of};
 ghost use Rattle.cave_score.specs.Score.{score_of, max_score_of};
 ghost use Rattle.cave_play.specs.Machine.{cave_rules};
 
+use crate::piece::Piece;
 use cave_data::Cave;
+use cave_kept::PackedState;
 use cave_scene::Rules;
 use cave_score::max_score;
 use cave_score::score::score;
@@ -16,11 +18,7 @@ use cave_words::Lexicon;
 use cave_world::{Out, Part, State};
 use log_lines::Meter;
 use log_replay::{Machine, Started, Stepped};
-use smallvec::SmallVec;
 use std::alloc::{AllocError, Global};
-
-/// What a turn said. Most turns say one part or two, which lie in the value itself.
-pub type Piece = SmallVec<Part, 2>;
 
 /// What plays a log in a cave, with the words of that cave.
 #[derive(Clone, Copy)]
@@ -74,6 +72,8 @@ impl<'a> Machine for CaveMachine<'a> {
     ghost use Rattle.cave_world.specs.declared.state.State.{State};
 
     type State = State;
+
+    type Kept = PackedState;
 
     type Piece = Piece;
 

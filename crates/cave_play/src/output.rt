@@ -1,22 +1,19 @@
 //! Writing an output that is built.
 
-ghost use Rattle.std.specs.Prelude.{ℕ, take, OnOk, OnErr};
+ghost use Rattle.std.specs.Prelude.{◌≡◌, ℕ, take, MatchResult};
 ghost use Rattle.std.specs.Io.KnownBytes.{Appends};
 
+use crate::fault::PlayFault;
 use std::io::Write;
-use thiserror::Error;
 
-/// The writer answered an error, or took nothing.
-#[derive(Clone, Copy, Debug, PartialEq, Eq, Error)]
-#[error("the output can't be written")]
-pub struct WriteFault;
-
-/// Writes the whole output, or a prefix of it where the writer fails.
-pub fn write_output<W: Write>(writer: &mut W, output: &[u8]) -> Result<(), WriteFault>
-    ensures whole { OnOk result
-        (Appends (W.contents writer.old) (W.contents writer.new) output.now) }
-    ensures front { OnErr result
-        ((n : ℕ) × Appends (W.contents writer.old) (W.contents writer.new) (take n output.now)) }
+/// Writes the whole output, or a prefix of it where the writer fails: it answered an error, or took
+/// nothing.
+pub fn write_output<W: Write>(writer: &mut W, output: &[u8]) -> Result<(), PlayFault>
+    ensures written { MatchResult result
+        (λ _. Appends (W.contents writer.old) (W.contents writer.new) output.now)
+        (λ fault. (fault ≡ PlayFault.Write)
+        × ((n : ℕ)
+        × Appends (W.contents writer.old) (W.contents writer.new) (take n output.now))) }
 {
     let mut rest = output;
     'pieces: loop {
@@ -24,9 +21,9 @@ pub fn write_output<W: Write>(writer: &mut W, output: &[u8]) -> Result<(), Write
             return Ok(());
         }
         match writer.write(rest) {
-            Ok(0) => return Err(WriteFault),
+            Ok(0) => return Err(PlayFault::Write),
             Ok(count) => rest = &rest[count..],
-            Err(_) => return Err(WriteFault),
+            Err(_) => return Err(PlayFault::Write),
         }
     }
 }

@@ -1,8 +1,7 @@
 //! Runs: from readers of the inputs to a writer of the output.
 
-ghost use Rattle.std.specs.Prelude.{◌≡◌, ◌<◌, ◌^◌, ℕ, List, [], ◌∷◌, ◌++◌, None, take, length};
+ghost use Rattle.std.specs.Prelude.{◌≡◌, ◌<◌, ◌^◌, ℕ, List, [], ◌∷◌, ◌++◌, None, length};
 ghost use Rattle.std.specs.Prelude.{MatchResult, OnOk};
-ghost use Rattle.std.specs.Io.KnownBytes.{Appends};
 ghost use Rattle.std.specs.Str.Lines.{lines};
 ghost use Rattle.replay_marks.specs.Spacing.{IsSpaced};
 ghost use Rattle.edit_scripts.specs.Views.{items_of};
@@ -56,7 +55,7 @@ pub fn run_check<C: Read, B: Read, W: Write>(
         (W.contents output.old) (W.contents output.new) result }
 {
     let text = check_inputs(alloc, cave, view)?;
-    write(output, &text)
+    write_output(output, &text)
 }
 
 /// Plays a log and writes what is asked for, once it is whole: the transcript, or the state that
@@ -78,7 +77,7 @@ pub fn run_play<C: Read, B: Read, L: Read, W: Write>(
         (W.contents output.old) (W.contents output.new) result }
 {
     let text = play_inputs(alloc, cave, log, seed, view)?;
-    write(output, &text)
+    write_output(output, &text)
 }
 
 /// Edits a log by a script, and writes what is asked for, once it is whole: a report on each item
@@ -101,21 +100,7 @@ pub fn run_edit<C: Read, B: Read, L: Read, S: Read, W: Write>(
         (W.contents output.old) (W.contents output.new) result }
 {
     let text = edit_inputs(alloc, cave, log, script, editing)?;
-    write(output, &text)
-}
-
-/// Writes an output that is built.
-fn write<W: Write>(output: &mut W, text: &[u8]) -> Result<(), PlayFault>
-    ensures written { MatchResult result
-        (λ _. Appends (W.contents output.old) (W.contents output.new) text.now)
-        (λ fault. (fault ≡ PlayFault.Write)
-        × ((n : ℕ)
-        × Appends (W.contents output.old) (W.contents output.new) (take n text.now))) }
-{
-    match write_output(output, text) {
-        Ok(()) => Ok(()),
-        Err(_) => Err(PlayFault::Write),
-    }
+    write_output(output, &text)
 }
 
 // A cave is let go by a call here, and not at the end of a block: the checker then goes through its

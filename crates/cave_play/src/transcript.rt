@@ -10,9 +10,12 @@ use crate::machine::CaveMachine;
 use cave_data::Cave;
 use cave_text::render;
 use cave_world::Part;
-use log_lines::LogLine;
+use log_lines::is_skipped;
 use log_replay::Session;
 use std::alloc::{AllocError, Global};
+
+/// How many bytes a line of a log and what is said at it take in many transcripts.
+const USUAL_LINE: usize = 64;
 
 /// Appends the transcript of the play that a session of the machine holds.
 pub(crate) fn tell(
@@ -26,9 +29,10 @@ pub(crate) fn tell(
         ++ play_text machine.entry.rules.cave.now session.now.game) }
 {
     let cave = machine.cave();
-    render(cave, session.opening(), 0, text)?;
     let pieces = session.pieces();
     let lines = session.lines();
+    text.reserve(USUAL_LINE * lines as usize)?;
+    render(cave, session.opening(), 0, text)?;
     for (place, turns) in session.tick_counts().enumerate() {
         let line = session.line(place as u32);
         push_line(cave, text, line, &pieces[place], turns)?;
@@ -44,14 +48,11 @@ pub(crate) fn tell(
 }
 
 /// Whether a line of a log is shown.
-#[tactic(auto, unfolding(log_lines::specs::LogLine::log_line))]
+#[tactic(auto, using(crate::proofs::Shown::shown_unless_skipped))]
 fn is_shown(line: &[u8]) -> bool
     ensures { result ≡ is_shown (log_line line.now) }
 {
-    match LogLine::of(line) {
-        LogLine::Comment | LogLine::Blank => false,
-        LogLine::Seed(_) | LogLine::Input => true,
-    }
+    !is_skipped(line)
 }
 
 /// Appends a line of the log as it is shown.

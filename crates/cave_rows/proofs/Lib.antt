@@ -1,4 +1,5 @@
 pub mod FieldLemmas
 pub mod ListLemmas
+pub mod MinusLemmas
 pub mod NameLemmas
 pub mod NumberLemmas

@@ -4,6 +4,7 @@ ghost use Rattle.cave_rows.specs.Grammar.{section_of, position_after_heading, cl
 
 use crate::error::Section;
 use crate::number::{Number, number_at};
+use log_lines::bytes::skip_blanks;
 
 /// Where a line is: outside every section, inside one, or after the end.
 #[derive(Clone, Copy, Debug, PartialEq, Eq)]
@@ -46,9 +47,9 @@ pub fn headed(line: &[u8]) -> Option<Position>
 }
 
 /// Whether the line ends a section.
-#[tactic(auto, unfolding(crate::specs::Grammar::closes))]
+#[tactic(auto, using(crate::proofs::MinusLemmas::closes_unsigned), unfolding(crate::specs::Grammar::closes))]
 pub fn closes(line: &[u8]) -> bool
     ensures { result ≡ closes line.now }
 {
-    matches!(number_at(line), Some((Number::Negative(1), _)))
+    skip_blanks(line).starts_with(b"-") && matches!(number_at(line), Some((Number::Negative(1), _)))
 }

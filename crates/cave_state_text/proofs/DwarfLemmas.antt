@@ -6,7 +6,7 @@ use Rattle.cave_world.specs.Fresh.{no_dwarf}
 use Rattle.cave_world.specs.declared.dwarves.Dwarf.{Dwarf}
 use Rattle.cave_world.specs.declared.state.State.{State}
 use Rattle.cave_state_text.specs.Entries.{text_up_to}
-use Rattle.cave_state_text.specs.Things.{dwarf_of, dwarf_text, dwarf_line}
+use Rattle.cave_state_text.specs.Things.{dwarf_numbered, dwarf_text, dwarf_line}
 use Rattle.cave_state_text.specs.Within.{IsDwarfWithin, AreDwarvesWithin}
 use Rattle.cave_state_text.proofs.EntryLemmas.{IsPast, entries_read}
 use Rattle.cave_state_text.proofs.FactLemmas.{answer_line_read}
@@ -31,11 +31,12 @@ pub dwarves_read : (a b : State) (s t : List ℕ) → AreDwarvesWithin a → Are
 unfolding dwarf_line
 dwarves_read a b s t ha hb past other e =
     let read =
-    entries_read (codes "dwarf ") (λ n. false) (λ n. false) (λ n. dwarf_text (dwarf_of a n))
-    (λ n. dwarf_text (dwarf_of b n)) (λ n. dwarf_of a n ≡ dwarf_of b n) 6 s t (omega arith)
+    entries_read (codes "dwarf ") (λ n. false) (λ n. false) (λ n. dwarf_text (dwarf_numbered a n))
+    (λ n. dwarf_text (dwarf_numbered b n)) (λ n. dwarf_numbered a n ≡ dwarf_numbered b n) 6 s t
+    (omega arith)
     (λ n up. (
       λ here there. absurd (false≢true here),
-      λ u v. dwarf_read (dwarf_of a n) (dwarf_of b n) u v (ha.each n up) (hb.each n up),
+      λ u v. dwarf_read (dwarf_numbered a n) (dwarf_numbered b n) u v (ha.each n up) (hb.each n up),
     ))
     past other e in
     (listed no_dwarf a.dwarves.each b.dwarves.each 6 ha.all hb.all read.0, read.1)

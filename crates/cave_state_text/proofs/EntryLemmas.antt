@@ -7,7 +7,7 @@ use Rattle.std.specs.Fmt.{decimal}
 use Rattle.std.proofs.lemmas.Bool.{cases_lt}
 use Rattle.std.proofs.lemmas.List.{append_cancel_left, append-nil}
 use Rattle.cave_state_text.specs.Entries.{entry, text_up_to}
-use Rattle.cave_state_text.specs.Numbers.{IsNumber, IsUpTo}
+use Rattle.cave_state_text.specs.Numbers.{IsWide, IsUpTo}
 use Rattle.cave_state_text.proofs.Reading.{number_read}
 
 up_or_last : {P : ℕ → Type 0} (last n : ℕ) → IsUpTo (suc last) n
@@ -32,7 +32,7 @@ module _ (name : List ℕ) where
       append_assoc name (decimal n ++ (codes ":" ++ rest)) s
       ∙ ap (λ t. name ++ t) (append_assoc (decimal n) (codes ":" ++ rest) s)
 
-  later : (n k : ℕ) (rest : List ℕ) → IsNumber n → k < n
+  later : (n k : ℕ) (rest : List ℕ) → IsWide n → k < n
       → IsPast k (name ++ (decimal n ++ (58 ∷ rest)))
   later n k rest h less m more within e =
       let text = append_cancel_left name _ _ e in
@@ -43,7 +43,7 @@ module _ (name : List ℕ) where
   fewer : (n k : ℕ) (s : List ℕ) → k ≤ n → IsPast n s → IsPast k s
   fewer n k s less past m more within e = past m more (omega (arith, less, within)) e
 
-  past_entry : (b : Bool) (k : ℕ) (rest s : List ℕ) → IsNumber (suc k) → IsPast (suc k) s
+  past_entry : (b : Bool) (k : ℕ) (rest s : List ℕ) → IsWide (suc k) → IsPast (suc k) s
       → IsPast k (entry name b (suc k) rest ++ s)
   past_entry true k rest s h past m more within e =
       fewer (suc k) k s (omega arith) past m more within e
@@ -75,7 +75,7 @@ module _ (name : List ℕ) where
         → (b n ≡ true → d n ≡ true → Same n)
         × ((u v : List ℕ) → x n ++ u ≡ y n ++ v → Same n × (u ≡ v))
 
-    pub entries_read : (last : ℕ) (s t : List ℕ) → IsNumber last → TellsEach last
+    pub entries_read : (last : ℕ) (s t : List ℕ) → IsWide last → TellsEach last
         → IsPast last s → IsPast last t
         → text_up_to (λ n. entry name (b n) n (x n)) last ++ s
         ≡ text_up_to (λ n. entry name (d n) n (y n)) last ++ t

@@ -17,18 +17,18 @@ use Rattle.cave_world.specs.declared.closing.Closing.{Closing}
 use Rattle.cave_world.specs.declared.talk.Talk.{Talk}
 use Rattle.cave_state_text.specs.Facts.{counts_text, trail_text, question_text, end_line}
 use Rattle.cave_state_text.specs.Facts.{lamp_text, closing_text, tallies_text, verb_text, talk_text}
-use Rattle.cave_state_text.specs.Facts.{anger_text, knife_text, number_line, signed_line}
+use Rattle.cave_state_text.specs.Facts.{anger_text, knife_text, numbered_line, signed_line}
 use Rattle.cave_state_text.specs.Facts.{answer_line}
-use Rattle.cave_state_text.specs.Numbers.{IsNumber, IsSigned}
+use Rattle.cave_state_text.specs.Numbers.{IsWide, IsSigned}
 use Rattle.cave_state_text.specs.Within.{IsTrailWithin, IsQuestionWithin, IsClosingWithin}
 use Rattle.cave_state_text.specs.Within.{AreTalliesWithin, IsVerbWithin, IsTalkWithin}
 use Rattle.cave_state_text.specs.Within.{IsKnifeWithin}
 use Rattle.cave_state_text.proofs.Reading.{number_step, signed_step, answer_step, differ, peel}
 
 -- a line with a number
-pub line_read : (name : List ℕ) (m n : ℕ) (s t : List ℕ) → IsNumber m → IsNumber n
-    → number_line name m ++ s ≡ number_line name n ++ t → (m ≡ n) × (s ≡ t)
-unfolding number_line
+pub line_read : (name : List ℕ) (m n : ℕ) (s t : List ℕ) → IsWide m → IsWide n
+    → numbered_line name m ++ s ≡ numbered_line name n ++ t → (m ≡ n) × (s ≡ t)
+unfolding numbered_line
 line_read name m n s t hm hn e =
     let number = number_step name m n (codes "\n") (codes "\n") s t hm hn refl refl e in
     (number.0, append_cancel_left (codes "\n") s t number.1)
@@ -48,12 +48,12 @@ answer_line_read name a b s t e =
     (answer.0, append_cancel_left (codes "\n") s t answer.1)
 
 -- such a line with more lines
-line_step : (name : List ℕ) (m n : ℕ) (x y s t : List ℕ) → IsNumber m → IsNumber n
-    → (number_line name m ++ x) ++ s ≡ (number_line name n ++ y) ++ t
+line_step : (name : List ℕ) (m n : ℕ) (x y s t : List ℕ) → IsWide m → IsWide n
+    → (numbered_line name m ++ x) ++ s ≡ (numbered_line name n ++ y) ++ t
     → (m ≡ n) × (x ++ s ≡ y ++ t)
 line_step name m n x y s t hm hn e =
     line_read name m n (x ++ s) (y ++ t) hm hn
-    (peel (number_line name m) (number_line name n) x y s t e)
+    (peel (numbered_line name m) (numbered_line name n) x y s t e)
 
 signed_line_step : (name : List ℕ) (m n : ℤ) (x y s t : List ℕ) → IsSigned m → IsSigned n
     → (signed_line name m ++ x) ++ s ≡ (signed_line name n ++ y) ++ t
@@ -69,7 +69,7 @@ answer_line_step name a b x y s t e =
     answer_line_read name a b (x ++ s) (y ++ t)
     (peel (answer_line name a) (answer_line name b) x y s t e)
 
-pub counts_read : (m n i j : ℕ) (s t : List ℕ) → IsNumber m → IsNumber n → IsNumber i → IsNumber j
+pub counts_read : (m n i j : ℕ) (s t : List ℕ) → IsWide m → IsWide n → IsWide i → IsWide j
     → counts_text m i ++ s ≡ counts_text n j ++ t → (m ≡ n) × (s ≡ t)
 unfolding counts_text
 counts_read m n i j s t hm hn hi hj e =
@@ -88,7 +88,7 @@ trail_read a b s t ha hb e =
 
 pub question_read : (p q : Option Question) (s t : List ℕ) → IsQuestionWithin p
     → IsQuestionWithin q → question_text p ++ s ≡ question_text q ++ t → (p ≡ q) × (s ≡ t)
-unfolding number_line
+unfolding numbered_line
 question_read None None s t hp hq e = (refl, append_cancel_left (codes "question none\n") s t e)
 question_read (Some question.Welcome) (Some question.Welcome) s t hp hq e =
     (refl, append_cancel_left (codes "question welcome\n") s t e)
@@ -172,7 +172,7 @@ tallies_read a b s t ha hb e =
 
 verb_read : (p q : Option ℕ) (s t : List ℕ) → IsVerbWithin p → IsVerbWithin q
     → verb_text p ++ s ≡ verb_text q ++ t → (p ≡ q) × (s ≡ t)
-unfolding number_line
+unfolding numbered_line
 verb_read None None s t hp hq e = (refl, append_cancel_left (codes "half command none\n") s t e)
 verb_read (Some m) (Some n) s t hp hq e =
     let number = line_read (codes "half verb ") m n s t hp hq e in
@@ -204,8 +204,8 @@ talk_read a b s t ha hb e =
       magic.1,
     )
 
-pub anger_read : (a b : Dwarves) (s t : List ℕ) → IsNumber a.anger → IsNumber b.anger
-    → IsNumber a.kills → IsNumber b.kills → anger_text a ++ s ≡ anger_text b ++ t
+pub anger_read : (a b : Dwarves) (s t : List ℕ) → IsWide a.anger → IsWide b.anger
+    → IsWide a.kills → IsWide b.kills → anger_text a ++ s ≡ anger_text b ++ t
     → (a.anger ≡ b.anger) × ((a.kills ≡ b.kills) × (s ≡ t))
 unfolding anger_text
 anger_read a b s t ha hb ka kb e =
@@ -215,7 +215,7 @@ anger_read a b s t ha hb ka kb e =
 
 pub knife_read : (p q : Knife) (s t : List ℕ) → IsKnifeWithin p → IsKnifeWithin q
     → knife_text p ++ s ≡ knife_text q ++ t → (p ≡ q) × (s ≡ t)
-unfolding number_line
+unfolding numbered_line
 knife_read Unthrown Unthrown s t hp hq e = (refl, append_cancel_left (codes "knife none\n") s t e)
 knife_read (At m) (At n) s t hp hq e =
     let number = line_read (codes "knife at ") m n s t hp hq e in

@@ -6,7 +6,7 @@ use Rattle.std.proofs.lemmas.Bool.{false≢true}
 use Rattle.cave_world.specs.State.{is_hint_taken}
 use Rattle.cave_world.specs.declared.state.State.{State}
 use Rattle.cave_state_text.specs.Entries.{text_up_to}
-use Rattle.cave_state_text.specs.Numbers.{IsNumber}
+use Rattle.cave_state_text.specs.Numbers.{IsWide}
 use Rattle.cave_state_text.specs.Things.{hint_turns, hint_text, hint_line}
 use Rattle.cave_state_text.specs.Within.{AreHintsWithin}
 use Rattle.cave_state_text.proofs.EntryLemmas.{IsPast, entries_read}
@@ -19,7 +19,7 @@ abbrev AreSameHints : State → State → ℕ → Type 0
 AreSameHints a b n =
     (hint_turns a n ≡ hint_turns b n) × (is_hint_taken a n ≡ is_hint_taken b n)
 
-hint_read : (m n : ℕ) (a b : Bool) (s t : List ℕ) → IsNumber m → IsNumber n
+hint_read : (m n : ℕ) (a b : Bool) (s t : List ℕ) → IsWide m → IsWide n
     → hint_text m a ++ s ≡ hint_text n b ++ t → ((m ≡ n) × (a ≡ b)) × (s ≡ t)
 unfolding hint_text numbered answer_line
 hint_read m n a b s t hm hn e =

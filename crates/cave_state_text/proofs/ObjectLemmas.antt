@@ -20,7 +20,7 @@ use Rattle.cave_objects.specs.contracts.spot.AnchorPartialEq.TheImpl as anchor_e
 use Rattle.cave_state_text.specs.Entries.{text_up_to}
 use Rattle.cave_state_text.specs.Numbers.{IsUpTo}
 use Rattle.cave_state_text.specs.Things.{word_of_object, spot_text, anchor_text, is_as_in}
-use Rattle.cave_state_text.specs.Things.{object_line, thing_text}
+use Rattle.cave_state_text.specs.Things.{thing_line, thing_text}
 use Rattle.cave_state_text.specs.Within.{AreObjectsWithin, IsSpotWithin, IsAnchorWithin}
 use Rattle.cave_state_text.specs.Within.{IsThingWithin}
 use Rattle.cave_state_text.proofs.EntryLemmas.{IsPast, entries_read}
@@ -125,10 +125,10 @@ as_begun begun o x e =
 
 pub objects_read : (cave : CaveView) (begun o p : Layout) (s t : List ℕ) → AreObjectsWithin o
     → AreObjectsWithin p → IsPast (codes "object ") 100 s → IsPast (codes "object ") 100 t
-    → text_up_to (object_line cave begun o) 100 ++ s
-    ≡ text_up_to (object_line cave begun p) 100 ++ t
+    → text_up_to (thing_line cave begun o) 100 ++ s
+    ≡ text_up_to (thing_line cave begun p) 100 ++ t
     → ((x : ℕ) → IsUpTo 100 x → AreSameThings o p x) × (s ≡ t)
-unfolding object_line
+unfolding thing_line
 objects_read cave begun o p s t ho hp past other e =
     entries_read (codes "object ") (is_as_in begun o) (is_as_in begun p) (thing_text cave o)
     (thing_text cave p) (AreSameThings o p) 100 s t (omega arith)

@@ -17,7 +17,7 @@ use Rattle.cave_objects.specs.declared.object.Half.{Half}
 use Rattle.cave_objects.specs.declared.object.Half.TheVariants.{First, Second}
 use Rattle.cave_objects.specs.contracts.object.HalfPartialEq.TheImpl as half_eq
 use Rattle.cave_state_text.specs.Entries.{text_up_to}
-use Rattle.cave_state_text.specs.Numbers.{IsNumber, IsUpTo}
+use Rattle.cave_state_text.specs.Numbers.{IsWide, IsUpTo}
 use Rattle.cave_state_text.specs.Things.{half_text, each_half, halves_text, place_line}
 use Rattle.cave_state_text.specs.Within.{AreObjectsWithin}
 use Rattle.cave_state_text.proofs.EntryLemmas.{IsPast, entries_read}
@@ -35,9 +35,9 @@ half_decides _ _ = (λ e. absurd (false≢true e), λ e. cc)
 
 abbrev AreHalvesWithin : List Half → Type 0
 AreHalvesWithin [] = Unit {0}
-AreHalvesWithin (half ∷ halves) = IsNumber (object_of half) × AreHalvesWithin halves
+AreHalvesWithin (half ∷ halves) = IsWide (object_of half) × AreHalvesWithin halves
 
-half_read : (a b : Half) (s t : List ℕ) → IsNumber (object_of a) → IsNumber (object_of b)
+half_read : (a b : Half) (s t : List ℕ) → IsWide (object_of a) → IsWide (object_of b)
     → GoesOn s → GoesOn t → half_text a ++ s ≡ half_text b ++ t → (a ≡ b) × (s ≡ t)
 unfolding numbered
 half_read (First m) (First n) s t ha hb g h e =
@@ -75,7 +75,7 @@ each_read (a ∷ xs) (b ∷ ys) s t ha hb e =
     let rest = each_read xs ys s t ha.1 hb.1 first.1 in
     (λ i. first.0 i ∷ rest.0 i, rest.1)
 
-not_nothing : (a : Half) (xs : List Half) (s t : List ℕ) → IsNumber (object_of a)
+not_nothing : (a : Half) (xs : List Half) (s t : List ℕ) → IsWide (object_of a)
     → halves_text (a ∷ xs) ++ s ≡ codes " nothing\n" ++ t → ⊥
 unfolding numbered
 not_nothing (First m) xs s t h e =
@@ -96,12 +96,12 @@ halves_read (a ∷ xs) (b ∷ ys) s t ha hb e =
 halves_read [] (b ∷ ys) s t ha hb e = absurd (not_nothing b ys t s hb.0 (sym e))
 halves_read (a ∷ xs) [] s t ha hb e = absurd (not_nothing a xs s t ha.0 e)
 
-object_within : (half : Half) → half_number half ≤ 200 → IsNumber (object_of half)
+object_within : (half : Half) → half_number half ≤ 200 → IsWide (object_of half)
 object_within (First x) h = omega (arith, h)
 object_within (Second x) h = omega (arith, h)
 
 more_halves : (place : ℕ) (e : PlacedHalf) (es : List PlacedHalf) (b : Bool) → e.place == place ≡ b
-    → IsNumber (object_of e.half) → AreHalvesWithin (halves_at place es)
+    → IsWide (object_of e.half) → AreHalvesWithin (halves_at place es)
     → AreHalvesWithin (halves_at place (e ∷ es))
 more_halves place e es true here h rest = rw here (h, rest)
 more_halves place e es false here h rest = rw here rest

@@ -12,7 +12,7 @@ use Rattle.std.proofs.lemmas.Bool.{false≢true}
 use Rattle.std.proofs.lemmas.Fmt.{decimal_injective, signed_decimal_injective, digits_decimal}
 use Rattle.std.proofs.lemmas.Fmt.{decimal_nonempty}
 use Rattle.std.proofs.lemmas.Str.Parse.{numerals_by_value, tells_all_ascii_digits}
-use Rattle.cave_state_text.specs.Numbers.{IsNumber, IsSigned}
+use Rattle.cave_state_text.specs.Numbers.{IsWide, IsSigned}
 
 -- a byte that numbers are made of
 abbrev pub is_number_byte : ℕ → Bool
@@ -54,7 +54,7 @@ number_bytes (byte ∷ bytes) h =
     let both = both_true (is_ascii_digit byte) (all_ascii_digits bytes) h in
     (ap (λ x. x || byte == 45) both.0, number_bytes bytes both.1)
 
-decimal_bytes : (n : ℕ) → IsNumber n → AreNumberBytes (decimal n)
+decimal_bytes : (n : ℕ) → IsWide n → AreNumberBytes (decimal n)
 decimal_bytes n h =
     number_bytes (decimal n) (digits_decimal (numerals_by_value _ tells_all_ascii_digits) n h)
 
@@ -63,7 +63,7 @@ signed_bytes (pos n) h = decimal_bytes n (omega (arith, h))
 signed_bytes (negsuc n) h = (refl, decimal_bytes (suc n) (omega (arith, h)))
 
 -- the same numbers, and the same after them
-pub number_read : (m n : ℕ) (s t : List ℕ) → IsNumber m → IsNumber n → GoesOn s → GoesOn t
+pub number_read : (m n : ℕ) (s t : List ℕ) → IsWide m → IsWide n → GoesOn s → GoesOn t
     → decimal m ++ s ≡ decimal n ++ t → (m ≡ n) × (s ≡ t)
 number_read m n s t hm hn g h e =
     let both = apart (decimal m) (decimal n) s t (decimal_bytes m hm) (decimal_bytes n hn) g h e in
@@ -82,7 +82,7 @@ pub differ : (k : ℕ) (x y : List ℕ) → x ≡ y
 differ k x y e = ap (λ l. get_or l k 0 == get_or y k 0) e
 
 -- a number begins with a byte of its own kind
-pub number_first : (n byte : ℕ) (s t : List ℕ) → IsNumber n → is_number_byte byte ≡ false
+pub number_first : (n byte : ℕ) (s t : List ℕ) → IsWide n → is_number_byte byte ≡ false
     → decimal n ++ s ≡ byte ∷ t → ⊥
 number_first n byte s t h other e =
     first (decimal n) (decimal_bytes n h) (decimal_nonempty n h) e
@@ -103,7 +103,7 @@ pub after_name : (name x y s t : List ℕ) → (name ++ x) ++ s ≡ (name ++ y) 
 after_name name x y s t e = append_cancel_left name _ _ (peel name name x y s t e)
 
 -- a number after the same name
-pub number_step : (name : List ℕ) (m n : ℕ) (x y s t : List ℕ) → IsNumber m → IsNumber n
+pub number_step : (name : List ℕ) (m n : ℕ) (x y s t : List ℕ) → IsWide m → IsWide n
     → GoesOn (x ++ s) → GoesOn (y ++ t)
     → (name ++ (decimal m ++ x)) ++ s ≡ (name ++ (decimal n ++ y)) ++ t
     → (m ≡ n) × (x ++ s ≡ y ++ t)

@@ -17,10 +17,10 @@ use Rattle.cave_state_text.specs.Entries.{text_up_to}
 use Rattle.cave_state_text.specs.Facts.{trail_text, question_text, end_line}
 use Rattle.cave_state_text.specs.Facts.{lamp_text, closing_text, talk_text}
 use Rattle.cave_state_text.specs.Facts.{verb_text}
-use Rattle.cave_state_text.specs.Facts.{anger_text, knife_text, number_line}
+use Rattle.cave_state_text.specs.Facts.{anger_text, knife_text, numbered_line}
 use Rattle.cave_state_text.specs.Laws.{AreToldApart}
 use Rattle.cave_state_text.specs.StateText.{state_text, game_text, objects_text, rest_text}
-use Rattle.cave_state_text.specs.Things.{object_line, place_line, visits_line}
+use Rattle.cave_state_text.specs.Things.{thing_line, place_line, visits_line}
 use Rattle.cave_state_text.specs.Within.{IsWithin}
 use Rattle.cave_state_text.proofs.EntryLemmas.{IsPast}
 use Rattle.cave_state_text.proofs.FactLemmas.{counts_read, trail_read, question_read, ending_read}
@@ -74,7 +74,7 @@ game_read a b s t ha hb e =
     )
 
 verb_past : (verb : Option ℕ) (s : List ℕ) → IsPast (codes "object ") 100 (verb_text verb ++ s)
-unfolding number_line
+unfolding numbered_line
 verb_past None s number more within clash = false≢true (differ 0 _ _ clash)
 verb_past (Some verb) s number more within clash = false≢true (differ 0 _ _ clash)
 
@@ -87,19 +87,19 @@ talk_past talk lists s number more within clash =
     ∙ (ap (λ t. t ++ s) (sym (append_assoc (verb_text talk.verb) _ lists)) ∙ clash))
 
 knife_past : (knife : Knife) (s : List ℕ) → IsPast (codes "dwarf ") 6 (knife_text knife ++ s)
-unfolding number_line
+unfolding numbered_line
 knife_past Unthrown s number more within clash = false≢true (differ 0 _ _ clash)
 knife_past (At place) s number more within clash = false≢true (differ 0 _ _ clash)
 knife_past Vanished s number more within clash = false≢true (differ 0 _ _ clash)
 
 anger_past : (dwarves : Dwarves) (s : List ℕ)
     → IsPast (codes "place ") 300 (anger_text dwarves ++ s)
-unfolding anger_text number_line
+unfolding anger_text numbered_line
 anger_past dwarves s number more within clash = false≢true (differ 0 _ _ clash)
 
 stream_past : (stream : ℕ) (s : List ℕ)
-    → IsPast (codes "hint ") 20 (number_line (codes "stream ") stream ++ s)
-unfolding number_line
+    → IsPast (codes "hint ") 20 (numbered_line (codes "stream ") stream ++ s)
+unfolding numbered_line
 stream_past stream s number more within clash = false≢true (differ 0 _ _ clash)
 
 nothing_past : IsPast (codes "visits ") 300 []
@@ -125,8 +125,8 @@ things_read cave begun a b s t ha hb e =
     let objects =
     objects_read cave begun a.objects b.objects _ _ ha.objects hb.objects
     (talk_past a.talk lists rest) (talk_past b.talk others other)
-    (peel (text_up_to (object_line cave begun a.objects) 100)
-    (text_up_to (object_line cave begun b.objects) 100) (talk_text a.talk ++ lists)
+    (peel (text_up_to (thing_line cave begun a.objects) 100)
+    (text_up_to (thing_line cave begun b.objects) 100) (talk_text a.talk ++ lists)
     (talk_text b.talk ++ others) rest other e) in
     let talk =
     talk_read a.talk b.talk _ _ ha.facts.talk hb.facts.talk

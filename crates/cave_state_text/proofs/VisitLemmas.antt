@@ -2,7 +2,7 @@
 use Rattle.std.proofs.Common.{◌≡◌, ℕ, ◌+◌, ◌-◌, false, List, ◌++◌, sym, ◌∙◌, arith}
 use Rattle.std.specs.Prelude.{◌==◌, codes, slice_index_or}
 use Rattle.std.specs.Cmp.{unsigned_Decides}
-use Rattle.cave_state_text.specs.Facts.{number_line}
+use Rattle.cave_state_text.specs.Facts.{numbered_line}
 use Rattle.cave_world.specs.State.{visits_of}
 use Rattle.cave_world.specs.declared.state.State.{State}
 use Rattle.cave_state_text.specs.Entries.{text_up_to}
@@ -25,7 +25,7 @@ unfolding visits_line
 visits_read a b s t ha hb past other e =
     let read =
     entries_read (codes "visits ") (λ n. visits_of a n == 0) (λ n. visits_of b n == 0)
-    (λ n. number_line (codes " ") (visits_of a n)) (λ n. number_line (codes " ") (visits_of b n))
+    (λ n. numbered_line (codes " ") (visits_of a n)) (λ n. numbered_line (codes " ") (visits_of b n))
     (λ n. visits_of a n ≡ visits_of b n) 300 s t (omega arith)
     (λ n up. (
       λ here there.

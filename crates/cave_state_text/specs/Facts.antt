@@ -24,8 +24,8 @@ unfoldable pub numbered : List ℕ → ℕ → List ℕ
 numbered before n = before ++ decimal n
 
 -- a line with a number
-unfoldable pub number_line : List ℕ → ℕ → List ℕ
-number_line before n = before ++ (decimal n ++ codes "\n")
+unfoldable pub numbered_line : List ℕ → ℕ → List ℕ
+numbered_line before n = before ++ (decimal n ++ codes "\n")
 
 -- the same, of a number that may be below 0
 unfoldable pub signed_line : List ℕ → ℤ → List ℕ
@@ -38,13 +38,13 @@ answer_line before answer = before ++ (yes_or_no answer ++ codes "\n")
 -- the turns and the score
 unfoldable pub counts_text : ℕ → ℕ → List ℕ
 counts_text turns score =
-    number_line (codes "turns ") turns ++ number_line (codes "score ") score
+    numbered_line (codes "turns ") turns ++ numbered_line (codes "score ") score
 
 -- where the player is, where the player came from, and where from before that
 unfoldable pub trail_text : Trail → List ℕ
 trail_text trail =
-    number_line (codes "here ") trail.here
-    ++ (number_line (codes "last ") trail.last ++ number_line (codes "older ") trail.older)
+    numbered_line (codes "here ") trail.here
+    ++ (numbered_line (codes "last ") trail.last ++ numbered_line (codes "older ") trail.older)
 
 -- the question that is open
 abbrev pub question_text : Option Question → List ℕ
@@ -53,8 +53,8 @@ question_text (Some question.Welcome) = codes "question welcome\n"
 question_text (Some question.Quit) = codes "question quit\n"
 question_text (Some question.ScoreQuit) = codes "question score, quit\n"
 question_text (Some question.Die) = codes "question revive\n"
-question_text (Some (question.Hint number)) = number_line (codes "question hint ") number
-question_text (Some (question.Take number)) = number_line (codes "question take hint ") number
+question_text (Some (question.Hint number)) = numbered_line (codes "question hint ") number
+question_text (Some (question.Take number)) = numbered_line (codes "question take hint ") number
 question_text (Some question.Oyster) = codes "question oyster\n"
 question_text (Some question.Dragon) = codes "question dragon\n"
 
@@ -81,35 +81,35 @@ closing_text closing =
     ++ (answer_line (codes "closed ") closing.is_closed
     ++ answer_line (codes "panic ") closing.is_panicking)))
 
--- the treasures that weren't seen yet, those that are lost, and the deaths
+-- the treasures that count as unseen and as lost, and the deaths
 unfoldable pub tallies_text : Tallies → List ℕ
 tallies_text tallies =
-    number_line (codes "unseen treasures ") tallies.unseen
-    ++ (number_line (codes "lost treasures ") tallies.lost
-    ++ number_line (codes "deaths ") tallies.deaths)
+    numbered_line (codes "unseen treasures ") tallies.unseen
+    ++ (numbered_line (codes "lost treasures ") tallies.lost
+    ++ numbered_line (codes "deaths ") tallies.deaths)
 
 -- the verb of half a command
 abbrev pub verb_text : Option ℕ → List ℕ
 verb_text None = codes "half command none\n"
-verb_text (Some verb) = number_line (codes "half verb ") verb
+verb_text (Some verb) = numbered_line (codes "half verb ") verb
 
 -- what is remembered of what was said
 unfoldable pub talk_text : Talk → List ℕ
 talk_text talk =
     verb_text talk.verb
-    ++ (number_line (codes "half object ") talk.object
-    ++ (number_line (codes "last object ") talk.last
+    ++ (numbered_line (codes "half object ") talk.object
+    ++ (numbered_line (codes "last object ") talk.last
     ++ (answer_line (codes "brief ") talk.is_brief
-    ++ (number_line (codes "details ") talk.details
+    ++ (numbered_line (codes "details ") talk.details
     ++ signed_line (codes "magic ") talk.magic))))
 
 -- how angry the dwarves are, and how many were killed
 unfoldable pub anger_text : Dwarves → List ℕ
 anger_text dwarves =
-    number_line (codes "anger ") dwarves.anger ++ number_line (codes "kills ") dwarves.kills
+    numbered_line (codes "anger ") dwarves.anger ++ numbered_line (codes "kills ") dwarves.kills
 
 -- the knife that a dwarf threw
 abbrev pub knife_text : Knife → List ℕ
 knife_text Unthrown = codes "knife none\n"
-knife_text (At place) = number_line (codes "knife at ") place
+knife_text (At place) = numbered_line (codes "knife at ") place
 knife_text Vanished = codes "knife vanished\n"

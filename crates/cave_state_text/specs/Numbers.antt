@@ -2,8 +2,9 @@
 use Rattle.std.specs.Prelude.{ℕ, ℤ, ◌≤◌, ◌<◌, ◌^◌}
 use Rattle.std.specs.Int.Signed.{mag}
 
-abbrev pub IsNumber : ℕ → Type 0
-IsNumber n = n < 2 ^ 64
+-- the number has sixty-four bits at most
+abbrev pub IsWide : ℕ → Type 0
+IsWide n = n < 2 ^ 64
 
 abbrev pub IsSigned : ℤ → Type 0
 IsSigned z = mag z < 2 ^ 63

@@ -1,13 +1,15 @@
 -- The text of a state, one fact a line.
 use Rattle.std.specs.Prelude.{ℕ, List, ◌++◌, codes}
+use Rattle.cave_numbers.specs.Numbers.{last_hint, last_object, last_place}
 use Rattle.cave_data.specs.CaveView.{CaveView}
 use Rattle.cave_objects.specs.Layout.{Layout}
+use Rattle.cave_world.specs.Dwarves.{dwarf_count}
 use Rattle.cave_world.specs.declared.state.State.{State}
 use Rattle.cave_state_text.specs.Entries.{text_up_to}
 use Rattle.cave_state_text.specs.Facts.{counts_text, trail_text, question_text, end_line}
 use Rattle.cave_state_text.specs.Facts.{lamp_text, closing_text, tallies_text, talk_text}
-use Rattle.cave_state_text.specs.Facts.{anger_text, knife_text, number_line}
-use Rattle.cave_state_text.specs.Things.{object_line, place_line, visits_line, dwarf_line}
+use Rattle.cave_state_text.specs.Facts.{anger_text, knife_text, numbered_line}
+use Rattle.cave_state_text.specs.Things.{thing_line, place_line, visits_line, dwarf_line}
 use Rattle.cave_state_text.specs.Things.{hint_line}
 
 -- where the game is
@@ -19,15 +21,15 @@ game_text s =
 -- the objects, what is remembered of what was said, and what is at places
 abbrev pub objects_text : CaveView → Layout → State → List ℕ
 objects_text cave begun s =
-    text_up_to (object_line cave begun s.objects) 100
-    ++ (talk_text s.talk ++ text_up_to (place_line begun s.objects) 300)
+    text_up_to (thing_line cave begun s.objects) last_object
+    ++ (talk_text s.talk ++ text_up_to (place_line begun s.objects) last_place)
 
 -- the dwarves, the hints, the random stream, and how often places were described
 abbrev pub rest_text : State → List ℕ
 rest_text s =
-    anger_text s.dwarves ++ (text_up_to (dwarf_line s) 6 ++ (knife_text s.dwarves.knife
-    ++ (text_up_to (hint_line s) 20
-    ++ (number_line (codes "stream ") s.stream ++ text_up_to (visits_line s) 300))))
+    anger_text s.dwarves ++ (text_up_to (dwarf_line s) dwarf_count ++ (knife_text s.dwarves.knife
+    ++ (text_up_to (hint_line s) last_hint
+    ++ (numbered_line (codes "stream ") s.stream ++ text_up_to (visits_line s) last_place))))
 
 -- the text of a state after so many turns and with this score, in a cave where objects begin thus
 unfoldable pub state_text : CaveView → Layout → ℕ → ℕ → State → List ℕ

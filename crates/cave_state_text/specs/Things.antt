@@ -21,7 +21,7 @@ use Rattle.cave_world.specs.State.{visits_of, is_hint_taken}
 use Rattle.cave_world.specs.declared.dwarves.Dwarf.{Dwarf}
 use Rattle.cave_world.specs.declared.state.State.{State}
 use Rattle.cave_state_text.specs.Entries.{entry}
-use Rattle.cave_state_text.specs.Facts.{numbered, number_line, signed_line, answer_line}
+use Rattle.cave_state_text.specs.Facts.{numbered, numbered_line, signed_line, answer_line}
 
 -- ---- objects
 
@@ -55,8 +55,8 @@ thing_text cave o x =
     ++ (anchor_text (anchor_of o x) ++ signed_line (codes ", prop ") (prop_of o x))))
 
 -- an object, where it isn't as it was when the game began
-unfoldable pub object_line : CaveView → Layout → Layout → ℕ → List ℕ
-object_line cave begun o x =
+unfoldable pub thing_line : CaveView → Layout → Layout → ℕ → List ℕ
+thing_line cave begun o x =
     entry (codes "object ") (is_as_in begun o x) x (thing_text cave o x)
 
 -- ---- what is at places
@@ -85,12 +85,12 @@ place_line begun o place =
 unfoldable pub visits_line : State → ℕ → List ℕ
 visits_line s place =
     entry (codes "visits ") (visits_of s place == 0) place
-    (number_line (codes " ") (visits_of s place))
+    (numbered_line (codes " ") (visits_of s place))
 
 -- ---- dwarves and hints
 
-abbrev pub dwarf_of : State → ℕ → Dwarf
-dwarf_of s number = slice_index_or s.dwarves.each (number - 1) no_dwarf
+abbrev pub dwarf_numbered : State → ℕ → Dwarf
+dwarf_numbered s number = slice_index_or s.dwarves.each (number - 1) no_dwarf
 
 unfoldable pub dwarf_text : Dwarf → List ℕ
 dwarf_text dwarf =
@@ -99,7 +99,7 @@ dwarf_text dwarf =
     ++ answer_line (codes ", has seen the player ") dwarf.has_seen)
 
 unfoldable pub dwarf_line : State → ℕ → List ℕ
-dwarf_line s number = entry (codes "dwarf ") false number (dwarf_text (dwarf_of s number))
+dwarf_line s number = entry (codes "dwarf ") false number (dwarf_text (dwarf_numbered s number))
 
 -- how many turns a hint was waited for
 abbrev pub hint_turns : State → ℕ → ℕ

@@ -1,5 +1,6 @@
 -- The numbers of a state are within what is written of numbers.
 use Rattle.std.specs.Prelude.{◌≡◌, ℕ, ⊤, length, Option, None, Some}
+use Rattle.cave_numbers.specs.Numbers.{last_hint, last_object, last_place}
 use Rattle.cave_objects.specs.Layout.{Layout}
 use Rattle.cave_objects.specs.Lists.{AreLists}
 use Rattle.cave_objects.specs.Links.{AreEntriesWithin}
@@ -8,6 +9,7 @@ use Rattle.cave_objects.specs.declared.spot.Spot.{Spot}
 use Rattle.cave_objects.specs.declared.spot.Spot.TheVariants as spot
 use Rattle.cave_objects.specs.declared.spot.Anchor.{Anchor}
 use Rattle.cave_objects.specs.declared.spot.Anchor.TheVariants as anchor
+use Rattle.cave_world.specs.Dwarves.{dwarf_count}
 use Rattle.cave_world.specs.State.{visits_of}
 use Rattle.cave_world.specs.declared.closing.Closing.{Closing}
 use Rattle.cave_world.specs.declared.dwarves.Dwarf.{Dwarf}
@@ -19,15 +21,15 @@ use Rattle.cave_world.specs.declared.state.State.{State}
 use Rattle.cave_world.specs.declared.state.Tallies.{Tallies}
 use Rattle.cave_world.specs.declared.state.Trail.{Trail}
 use Rattle.cave_world.specs.declared.talk.Talk.{Talk}
-use Rattle.cave_state_text.specs.Numbers.{IsNumber, IsSigned, IsUpTo}
-use Rattle.cave_state_text.specs.Things.{dwarf_of, hint_turns}
+use Rattle.cave_state_text.specs.Numbers.{IsWide, IsSigned, IsUpTo}
+use Rattle.cave_state_text.specs.Things.{dwarf_numbered, hint_turns}
 
 abbrev pub IsTrailWithin : Trail → Type 0
-IsTrailWithin trail = IsNumber trail.here × (IsNumber trail.last × IsNumber trail.older)
+IsTrailWithin trail = IsWide trail.here × (IsWide trail.last × IsWide trail.older)
 
 abbrev pub IsQuestionWithin : Option Question → Type 0
-IsQuestionWithin (Some (question.Hint number)) = IsNumber number
-IsQuestionWithin (Some (question.Take number)) = IsNumber number
+IsQuestionWithin (Some (question.Hint number)) = IsWide number
+IsQuestionWithin (Some (question.Take number)) = IsWide number
 IsQuestionWithin _ = ⊤
 
 abbrev pub IsClosingWithin : Closing → Type 0
@@ -35,30 +37,30 @@ IsClosingWithin closing = IsSigned closing.first_clock × IsSigned closing.secon
 
 abbrev pub AreTalliesWithin : Tallies → Type 0
 AreTalliesWithin tallies =
-    IsNumber tallies.unseen × (IsNumber tallies.lost × IsNumber tallies.deaths)
+    IsWide tallies.unseen × (IsWide tallies.lost × IsWide tallies.deaths)
 
 abbrev pub IsVerbWithin : Option ℕ → Type 0
 IsVerbWithin None = ⊤
-IsVerbWithin (Some verb) = IsNumber verb
+IsVerbWithin (Some verb) = IsWide verb
 
 abbrev pub IsTalkWithin : Talk → Type 0
 IsTalkWithin talk =
-    IsVerbWithin talk.verb × (IsNumber talk.object × (IsNumber talk.last
-    × (IsNumber talk.details × IsSigned talk.magic)))
+    IsVerbWithin talk.verb × (IsWide talk.object × (IsWide talk.last
+    × (IsWide talk.details × IsSigned talk.magic)))
 
 abbrev pub IsKnifeWithin : Knife → Type 0
-IsKnifeWithin (At place) = IsNumber place
+IsKnifeWithin (At place) = IsWide place
 IsKnifeWithin _ = ⊤
 
 abbrev pub IsDwarfWithin : Dwarf → Type 0
-IsDwarfWithin dwarf = IsNumber dwarf.place × IsNumber dwarf.last
+IsDwarfWithin dwarf = IsWide dwarf.place × IsWide dwarf.last
 
 abbrev pub IsSpotWithin : Spot → Type 0
-IsSpotWithin (spot.At place) = IsNumber place
+IsSpotWithin (spot.At place) = IsWide place
 IsSpotWithin _ = ⊤
 
 abbrev pub IsAnchorWithin : Anchor → Type 0
-IsAnchorWithin (anchor.At place) = IsNumber place
+IsAnchorWithin (anchor.At place) = IsWide place
 IsAnchorWithin _ = ⊤
 
 abbrev pub IsThingWithin : Layout → ℕ → Type 0
@@ -67,10 +69,10 @@ IsThingWithin o x =
 
 -- all objects, and what is at places
 pub record AreObjectsWithin (o : Layout) : Type 0 where
-  pub spots : length o.first ≡ 100
-  pub anchors : length o.second ≡ 100
-  pub props : length o.props ≡ 100
-  pub things : (x : ℕ) → IsUpTo 100 x → IsThingWithin o x
+  pub spots : length o.first ≡ last_object
+  pub anchors : length o.second ≡ last_object
+  pub props : length o.props ≡ last_object
+  pub things : (x : ℕ) → IsUpTo last_object x → IsThingWithin o x
   pub lists : AreLists o.lists
   pub entries : AreEntriesWithin o.lists
 
@@ -82,24 +84,24 @@ pub record AreFactsWithin (s : State) : Type 0 where
   pub closing : IsClosingWithin s.closing
   pub tallies : AreTalliesWithin s.tallies
   pub talk : IsTalkWithin s.talk
-  pub anger : IsNumber s.dwarves.anger
-  pub kills : IsNumber s.dwarves.kills
+  pub anger : IsWide s.dwarves.anger
+  pub kills : IsWide s.dwarves.kills
   pub knife : IsKnifeWithin s.dwarves.knife
-  pub stream : IsNumber s.stream
+  pub stream : IsWide s.stream
 
 -- how often places were described
 pub record AreVisitsWithin (s : State) : Type 0 where
-  pub all : length s.visits ≡ 300
-  pub each : (place : ℕ) → IsUpTo 300 place → IsNumber (visits_of s place)
+  pub all : length s.visits ≡ last_place
+  pub each : (place : ℕ) → IsUpTo last_place place → IsWide (visits_of s place)
 
 pub record AreDwarvesWithin (s : State) : Type 0 where
-  pub all : length s.dwarves.each ≡ 6
-  pub each : (number : ℕ) → IsUpTo 6 number → IsDwarfWithin (dwarf_of s number)
+  pub all : length s.dwarves.each ≡ dwarf_count
+  pub each : (number : ℕ) → IsUpTo dwarf_count number → IsDwarfWithin (dwarf_numbered s number)
 
 pub record AreHintsWithin (s : State) : Type 0 where
-  pub all_turns : length s.hints.turns ≡ 20
-  pub all_taken : length s.hints.is_taken ≡ 20
-  pub each : (hint : ℕ) → IsUpTo 20 hint → IsNumber (hint_turns s hint)
+  pub all_turns : length s.hints.turns ≡ last_hint
+  pub all_taken : length s.hints.is_taken ≡ last_hint
+  pub each : (hint : ℕ) → IsUpTo last_hint hint → IsWide (hint_turns s hint)
 
 pub record IsWithin (s : State) : Type 0 where
   pub facts : AreFactsWithin s

@@ -1,6 +1,7 @@
 //! Lines for dwarves.
 
 ghost use Rattle.std.specs.Prelude.{◌≡◌, ◌++◌, ◌≤◌, OnOk};
+ghost use Rattle.cave_world.specs.Dwarves.{dwarf_count};
 ghost use Rattle.cave_state_text.specs.Entries.{text_up_to};
 ghost use Rattle.cave_state_text.specs.Things.{dwarf_text, dwarf_line};
 
@@ -27,7 +28,7 @@ fn push_dwarf(
     number: u8,
 ) -> Result<(), AllocError>
     requires some { 1 ≤ number }
-    requires within { number ≤ 6 }
+    requires within { number ≤ dwarf_count }
     ensures { OnOk result (text.new.items ≡ text.old.items ++ dwarf_line state.now number) }
 {
     push_start(alloc, text, "dwarf ", u32::from(number))?;
@@ -41,7 +42,8 @@ pub(crate) fn push_dwarves(
     text: &mut Vec<u8>,
     state: &State,
 ) -> Result<(), AllocError>
-    ensures { OnOk result (text.new.items ≡ text.old.items ++ text_up_to (dwarf_line state.now) 6) }
+    ensures { OnOk result (text.new.items
+        ≡ text.old.items ++ text_up_to (dwarf_line state.now) dwarf_count) }
 {
     for before in 0..DWARVES as u8 {
         push_dwarf(alloc, text, state, before + 1)?;

@@ -1,7 +1,7 @@
 //! Lines for what there is once in a state.
 
 ghost use Rattle.std.specs.Prelude.{◌≡◌, ◌++◌, OnOk, codes, decimal};
-ghost use Rattle.cave_state_text.specs.Facts.{yes_or_no, numbered, number_line, signed_line};
+ghost use Rattle.cave_state_text.specs.Facts.{yes_or_no, numbered, numbered_line, signed_line};
 ghost use Rattle.cave_state_text.specs.Facts.{answer_line};
 ghost use Rattle.cave_state_text.specs.Facts.{counts_text, trail_text, question_text, end_line};
 ghost use Rattle.cave_state_text.specs.Facts.{lamp_text, closing_text, tallies_text, verb_text};
@@ -48,14 +48,14 @@ pub(crate) fn push_start(
 }
 
 /// Appends a line with a number.
-#[tactic(auto, unfolding(crate::specs::Facts::number_line))]
+#[tactic(auto, unfolding(crate::specs::Facts::numbered_line))]
 pub(crate) fn push_number(
     alloc: Global,
     text: &mut Vec<u8>,
     before: &str,
     number: u32,
 ) -> Result<(), AllocError>
-    ensures { OnOk result (text.new.items ≡ text.old.items ++ number_line before.now number) }
+    ensures { OnOk result (text.new.items ≡ text.old.items ++ numbered_line before.now number) }
 {
     let line = format!(in alloc; "{before}{number}\n")?;
     text.extend_from_slice(line.as_bytes())
@@ -97,7 +97,8 @@ fn push_count<const MOST: u16>(
     before: &str,
     count: Count<MOST>,
 ) -> Result<(), AllocError>
-    ensures { OnOk result (text.new.items ≡ text.old.items ++ number_line before.now count.entry) }
+    ensures { OnOk result (text.new.items
+        ≡ text.old.items ++ numbered_line before.now count.entry) }
 {
     push_number(alloc, text, before, u32::from(count.number()))
 }
@@ -109,7 +110,7 @@ fn push_object_number(
     before: &str,
     object: Object,
 ) -> Result<(), AllocError>
-    ensures { OnOk result (text.new.items ≡ text.old.items ++ number_line before.now object) }
+    ensures { OnOk result (text.new.items ≡ text.old.items ++ numbered_line before.now object) }
 {
     push_number(alloc, text, before, u32::from(object.number()))
 }

@@ -1,6 +1,7 @@
 //! Lines for hints.
 
 ghost use Rattle.std.specs.Prelude.{◌≡◌, ◌++◌, OnOk};
+ghost use Rattle.cave_numbers.specs.Numbers.{last_hint};
 ghost use Rattle.cave_state_text.specs.Entries.{text_up_to};
 ghost use Rattle.cave_state_text.specs.Things.{hint_text, hint_line};
 
@@ -44,7 +45,8 @@ fn push_hint(
 /// Appends the lines of hints that were waited for or taken.
 #[tactic(auto, using(crate::proofs::EntryLemmas::no_lines))]
 pub(crate) fn push_hints(alloc: Global, text: &mut Vec<u8>, state: &State) -> Result<(), AllocError>
-    ensures { OnOk result (text.new.items ≡ text.old.items ++ text_up_to (hint_line state.now) 20) }
+    ensures { OnOk result (text.new.items
+        ≡ text.old.items ++ text_up_to (hint_line state.now) last_hint) }
 {
     for before in 0..HINTS as u8 {
         push_hint(alloc, text, state, HintNumber::new(before + 1))?;

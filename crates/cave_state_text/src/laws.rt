@@ -1,4 +1,4 @@
-//! The law of the text of a state. It is the contract of a function that does nothing.
+//! The law of the text of a state. It is the contract of a function that changes nothing.
 
 ghost use Rattle.cave_state_text.specs.Laws.{AreToldApart};
 

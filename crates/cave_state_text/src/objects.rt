@@ -1,9 +1,10 @@
 //! Lines for objects.
 
 ghost use Rattle.std.specs.Prelude.{◌≡◌, ◌++◌, OnOk};
+ghost use Rattle.cave_numbers.specs.Numbers.{last_object};
 ghost use Rattle.cave_state_text.specs.Entries.{text_up_to};
 ghost use Rattle.cave_state_text.specs.Things.{word_of_object, spot_text, anchor_text, is_as_in};
-ghost use Rattle.cave_state_text.specs.Things.{thing_text, object_line};
+ghost use Rattle.cave_state_text.specs.Things.{thing_text, thing_line};
 
 use crate::facts::{push_numbered, push_signed, push_start};
 use cave_data::Cave;
@@ -85,7 +86,7 @@ fn push_thing(
 }
 
 /// Appends the line of an object, if it isn't as it was when the game began.
-#[tactic(auto, unfolding(crate::specs::Things::object_line))]
+#[tactic(auto, unfolding(crate::specs::Things::thing_line))]
 fn push_object(
     alloc: Global,
     text: &mut Vec<u8>,
@@ -95,7 +96,7 @@ fn push_object(
     object: Object,
 ) -> Result<(), AllocError>
     ensures { OnOk result (text.new.items ≡ text.old.items
-        ++ object_line cave.now begun.now objects.now object) }
+        ++ thing_line cave.now begun.now objects.now object) }
 {
     if is_as_in(begun, objects, object) {
         return Ok(());
@@ -114,7 +115,7 @@ pub(crate) fn push_objects(
     objects: &Objects,
 ) -> Result<(), AllocError>
     ensures { OnOk result (text.new.items ≡ text.old.items
-        ++ text_up_to (object_line cave.now begun.now objects.now) 100) }
+        ++ text_up_to (thing_line cave.now begun.now objects.now) last_object) }
 {
     for before in 0..OBJECTS as u8 {
         push_object(alloc, text, cave, begun, objects, Object::new(before + 1))?;

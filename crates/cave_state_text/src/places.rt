@@ -1,6 +1,7 @@
 //! Lines for what is at places, and for how often they were described.
 
 ghost use Rattle.std.specs.Prelude.{◌≡◌, ◌++◌, OnOk};
+ghost use Rattle.cave_numbers.specs.Numbers.{last_place};
 ghost use Rattle.cave_state_text.specs.Entries.{text_up_to};
 ghost use Rattle.cave_state_text.specs.Things.{half_text, halves_text, each_half, place_line};
 ghost use Rattle.cave_state_text.specs.Things.{visits_line};
@@ -68,7 +69,7 @@ pub(crate) fn push_places(
     objects: &Objects,
 ) -> Result<(), AllocError>
     ensures { OnOk result (text.new.items ≡ text.old.items
-        ++ text_up_to (place_line begun.now objects.now) 300) }
+        ++ text_up_to (place_line begun.now objects.now) last_place) }
 {
     for before in 0..PLACES as u16 {
         push_place(alloc, text, begun, objects, Place::new(before + 1))?;
@@ -102,7 +103,7 @@ pub(crate) fn push_visits(
     state: &State,
 ) -> Result<(), AllocError>
     ensures { OnOk result (text.new.items ≡ text.old.items
-        ++ text_up_to (visits_line state.now) 300) }
+        ++ text_up_to (visits_line state.now) last_place) }
 {
     for before in 0..PLACES as u16 {
         push_visits_of(alloc, text, state, Place::new(before + 1))?;

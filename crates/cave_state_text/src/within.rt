@@ -2,9 +2,11 @@
 //! but that the numbers are gone over, of which each says its range.
 
 ghost use Rattle.std.specs.Prelude.{◌≡◌, ◌≤◌, length, Some};
+ghost use Rattle.cave_numbers.specs.Numbers.{last_hint};
+ghost use Rattle.cave_world.specs.Dwarves.{dwarf_count};
 ghost use Rattle.cave_world.specs.State.{visits_of};
-ghost use Rattle.cave_state_text.specs.Numbers.{IsNumber};
-ghost use Rattle.cave_state_text.specs.Things.{dwarf_of, hint_turns};
+ghost use Rattle.cave_state_text.specs.Numbers.{IsWide};
+ghost use Rattle.cave_state_text.specs.Things.{dwarf_numbered, hint_turns};
 ghost use Rattle.cave_state_text.specs.Within.{IsWithin, AreFactsWithin, AreObjectsWithin};
 ghost use Rattle.cave_state_text.specs.Within.{AreVisitsWithin, AreDwarvesWithin, AreHintsWithin};
 ghost use Rattle.cave_state_text.specs.Within.{IsTrailWithin, IsQuestionWithin, IsClosingWithin};
@@ -148,7 +150,7 @@ fn has_all<T, const N: usize>(items: &[T; N])
 }
 
 fn visits_of(state: &State, place: Place)
-    ensures { IsNumber (visits_of state.now place) }
+    ensures { IsWide (visits_of state.now place) }
 {
     let _ = state.visits(place).number();
 }
@@ -164,8 +166,8 @@ fn visits(state: &State)
 
 fn dwarf(state: &State, number: u8)
     requires some { 1 ≤ number }
-    requires within { number ≤ 6 }
-    ensures { IsDwarfWithin (dwarf_of state.now number) }
+    requires within { number ≤ dwarf_count }
+    ensures { IsDwarfWithin (dwarf_numbered state.now number) }
 {
     let dwarf = state.dwarves.each[usize::from(number) - 1];
     let _ = (dwarf.place.number(), dwarf.last.number());
@@ -182,8 +184,8 @@ fn dwarves(state: &State)
 
 fn hint(state: &State, number: u8)
     requires some { 1 ≤ number }
-    requires within { number ≤ 20 }
-    ensures { IsNumber (hint_turns state.now number) }
+    requires within { number ≤ last_hint }
+    ensures { IsWide (hint_turns state.now number) }
 {
     let _ = state.hints.turns[usize::from(number) - 1].number();
 }

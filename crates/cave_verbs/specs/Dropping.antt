@@ -1,5 +1,5 @@
 -- DROP.
-use Rattle.std.specs.Prelude.{pos, List, [], ◌∷◌}
+use Rattle.std.specs.Prelude.{pos, List, [], ◌∷◌, ◌++◌}
 use Rattle.cave_rows.specs.declared.role.Role.TheVariants as role
 use Rattle.cave_words.specs.declared.named.Named.TheVariants as name
 use Rattle.cave_world.specs.declared.ending.Ending.TheVariants as ending
@@ -13,6 +13,15 @@ use Rattle.cave_orders.specs.Tests.{x, the, no, is, carries, near, is_here, prop
 -- the player is elsewhere than where an object is at home
 abbrev pub from_home : Thing → Test
 from_home t d = is_home_elsewhere d.cave d.scene.state (t d)
+
+-- a vase that is put down elsewhere than where the pillow is at home
+abbrev pub drop_vase_rows : List VerbRow
+drop_vase_rows =
+    row (is name.Vase ∷ from_home (the name.Pillow) ∷ is_here (the name.Pillow) ∷ [])
+    (set_prop x (pos 0) ∷ look x (pos 1) ∷ put x ∷ [])
+    ∷ row (is name.Vase ∷ from_home (the name.Pillow) ∷ [])
+    (set_prop x (pos 2) ∷ look x (pos 3) ∷ fix x ∷ put x ∷ [])
+    ∷ []
 
 unfoldable pub drop_rows : List VerbRow
 drop_rows =
@@ -29,9 +38,4 @@ drop_rows =
     (say role.BirdDragon ∷ kill x ∷ set_prop x (pos 0) ∷ lose_to_snake ∷ [])
     ∷ row (is name.Bear ∷ is_here (the name.Troll) ∷ [])
     (say role.TrollFlees ∷ troll_goes ∷ set_prop (the name.Troll) (pos 2) ∷ put x ∷ [])
-    ∷ row (is name.Vase ∷ from_home (the name.Pillow) ∷ is_here (the name.Pillow) ∷ [])
-    (set_prop x (pos 0) ∷ look x (pos 1) ∷ put x ∷ [])
-    ∷ row (is name.Vase ∷ from_home (the name.Pillow) ∷ [])
-    (set_prop x (pos 2) ∷ look x (pos 3) ∷ fix x ∷ put x ∷ [])
-    ∷ row [] (say role.Ok ∷ put x ∷ [])
-    ∷ []
+    ∷ (drop_vase_rows ++ row [] (say role.Ok ∷ put x ∷ []) ∷ [])

@@ -1,5 +1,5 @@
 -- FEED and EAT.
-use Rattle.std.specs.Prelude.{pos, ◌+◌, min, List, [], ◌∷◌}
+use Rattle.std.specs.Prelude.{pos, ◌+◌, ◌++◌, min, List, [], ◌∷◌}
 use Rattle.cave_rows.specs.declared.role.Role.TheVariants as role
 use Rattle.cave_words.specs.declared.named.Named.{Named}
 use Rattle.cave_words.specs.declared.named.Named.TheVariants as name
@@ -24,6 +24,17 @@ with_more_anger s =
 abbrev pub anger : Effect
 anger d = in_state (with_more_anger d.scene.state) d
 
+-- food for the bear
+abbrev pub feed_bear_rows : List VerbRow
+feed_bear_rows =
+    row (is name.Bear ∷ near (the name.Food) ∷ [])
+    (kill (the name.Food) ∷ set_prop x (pos 1) ∷ loosen (the name.Axe)
+    ∷ set_prop (the name.Axe) (pos 0) ∷ say role.BearFed ∷ [])
+    ∷ row (is name.Bear ∷ prop x (pos 0) ∷ []) (say role.NotHungry ∷ [])
+    ∷ row (is name.Bear ∷ prop x (pos 3) ∷ []) (say role.Ridiculous ∷ [])
+    ∷ row (is name.Bear ∷ []) (default ∷ [])
+    ∷ []
+
 unfoldable pub feed_rows : List VerbRow
 feed_rows =
     row (is name.Bird ∷ []) (say role.BirdFeed ∷ [])
@@ -34,14 +45,7 @@ feed_rows =
     ∷ row (is name.Troll ∷ []) (say role.TrollFeed ∷ [])
     ∷ row (is name.Dwarf ∷ near (the name.Food) ∷ []) (anger ∷ say role.DwarfFeed ∷ [])
     ∷ row (is name.Dwarf ∷ []) (default ∷ [])
-    ∷ row (is name.Bear ∷ near (the name.Food) ∷ [])
-    (kill (the name.Food) ∷ set_prop x (pos 1) ∷ loosen (the name.Axe)
-    ∷ set_prop (the name.Axe) (pos 0) ∷ say role.BearFed ∷ [])
-    ∷ row (is name.Bear ∷ prop x (pos 0) ∷ []) (say role.NotHungry ∷ [])
-    ∷ row (is name.Bear ∷ prop x (pos 3) ∷ []) (say role.Ridiculous ∷ [])
-    ∷ row (is name.Bear ∷ []) (default ∷ [])
-    ∷ row [] (say role.FeedWhat ∷ [])
-    ∷ []
+    ∷ (feed_bear_rows ++ row [] (say role.FeedWhat ∷ []) ∷ [])
 
 unfoldable pub bare_eat_rows : List VerbRow
 bare_eat_rows =

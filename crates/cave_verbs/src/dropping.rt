@@ -1,11 +1,12 @@
 ghost use Rattle.std.specs.Prelude.{◌≤◌, IsTrue};
 ghost use Rattle.cave_words.specs.declared.named.Named.TheVariants as name;
 ghost use Rattle.cave_scene.specs.Rules.{is_called, cave_of, thing};
+ghost use Rattle.cave_things.specs.Homes.{is_home_elsewhere};
 ghost use Rattle.cave_things.specs.Reach.{is_in_hand, is_near};
 ghost use Rattle.cave_scene.specs.Bounds.{HasRoom, parts_of_row};
 ghost use Rattle.cave_orders.specs.Rows.{ByRows, DoneByRows};
 ghost use Rattle.cave_verbs.specs.Ranks.{rank_of, drop_rank};
-ghost use Rattle.cave_verbs.specs.Dropping.{drop_rows};
+ghost use Rattle.cave_verbs.specs.Dropping.{drop_rows, drop_vase_rows};
 
 use cave_objects::{Anchor, Prop};
 use cave_orders::{Next, Order, Step, Verb};
@@ -33,6 +34,27 @@ fn drop_bird_by_snake(rules: &Rules<'_>, order: Order, play: &mut Play<'_>) -> N
     play.state.objects.set_prop(snake, Prop::new(1));
     put_down(rules, order.object, play.state);
     Next::say(Role::BirdSnake, play)
+}
+
+/// A vase that is put down elsewhere than where the pillow is at home breaks without the pillow.
+fn drop_vase(rules: &Rules<'_>, order: Order, play: &mut Play<'_>) -> Next
+    requires room { HasRoom parts_of_row play.old }
+    requires vase { IsTrue (is_called (cave_of rules.now) order.object name.Vase) }
+    requires away { let cave = cave_of rules.now in
+        IsTrue (is_home_elsewhere cave play.old.state.now (thing cave name.Pillow)) }
+    ensures row { DoneByRows drop_vase_rows rules.now order play.old play.new result }
+{
+    let x = order.object;
+    if play.state.is_here(rules.object(Named::Pillow)) {
+        play.state.objects.set_prop(x, Prop::new(0));
+        play.look(x, 1);
+    } else {
+        play.state.objects.set_prop(x, Prop::new(2));
+        play.look(x, 3);
+        play.state.objects.anchor_to(x, Anchor::Fixed);
+    }
+    put_down(rules, x, play.state);
+    Next::Stay
 }
 
 /// DROP an object.
@@ -78,16 +100,7 @@ pub fn drop_object(rules: &Rules<'_>, order: Order, play: &mut Play<'_>) -> Step
     }
     let pillow = rules.object(Named::Pillow);
     if rules.is(x, Named::Vase) && is_home_elsewhere(rules, play.state, pillow) {
-        if play.state.is_here(pillow) {
-            play.state.objects.set_prop(x, Prop::new(0));
-            play.look(x, 1);
-        } else {
-            play.state.objects.set_prop(x, Prop::new(2));
-            play.look(x, 3);
-            play.state.objects.anchor_to(x, Anchor::Fixed);
-        }
-        put_down(rules, x, play.state);
-        return Step::Done(Next::Stay);
+        return Step::Done(drop_vase(rules, order, play));
     }
     put_down(rules, x, play.state);
     Step::Done(Next::say(Role::Ok, play))

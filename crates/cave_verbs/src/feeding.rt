@@ -1,9 +1,10 @@
-ghost use Rattle.std.specs.Prelude.{◌≤◌};
+ghost use Rattle.std.specs.Prelude.{◌≤◌, IsTrue};
+ghost use Rattle.cave_words.specs.declared.named.Named.TheVariants as name;
 ghost use Rattle.cave_scene.specs.Bounds.{HasRoom, parts_of_row};
 ghost use Rattle.cave_orders.specs.Rows.{ByRows, DoneByRows};
-ghost use Rattle.cave_scene.specs.Rules.{cave_of};
+ghost use Rattle.cave_scene.specs.Rules.{is_called, cave_of};
 ghost use Rattle.cave_verbs.specs.Ranks.{rank_of};
-ghost use Rattle.cave_verbs.specs.Feeding.{feed_rows, bare_eat_rows, eat_rows};
+ghost use Rattle.cave_verbs.specs.Feeding.{feed_rows, feed_bear_rows, bare_eat_rows, eat_rows};
 
 use cave_objects::{Anchor, Prop};
 use cave_orders::{Next, Order, Step, Verb};
@@ -33,7 +34,6 @@ pub fn feed(rules: &Rules<'_>, order: Order, play: &mut Play<'_>) -> Next
     let x = order.object;
     let bird = rules.object(Named::Bird);
     let food = rules.object(Named::Food);
-    let axe = rules.object(Named::Axe);
     let role = if rules.is(x, Named::Bird) {
         Role::BirdFeed
     } else if rules.is(x, Named::Snake)
@@ -55,22 +55,38 @@ pub fn feed(rules: &Rules<'_>, order: Order, play: &mut Play<'_>) -> Next
         Role::DwarfFeed
     } else if rules.is(x, Named::Dwarf) {
         return order.say_default(rules, play);
-    } else if !rules.is(x, Named::Bear) {
-        Role::FeedWhat
-    } else if is_near(rules, play.state, food) {
-        play.state.destroy(food);
-        play.state.objects.set_prop(x, Prop::new(1));
-        play.state.objects.anchor_to(axe, Anchor::Loose);
-        play.state.objects.set_prop(axe, Prop::new(0));
-        Role::BearFed
-    } else if has_prop(play.state, x, 0) {
-        Role::NotHungry
-    } else if has_prop(play.state, x, 3) {
-        Role::Ridiculous
+    } else if rules.is(x, Named::Bear) {
+        return feed_bear(rules, order, play);
     } else {
-        return order.say_default(rules, play);
+        Role::FeedWhat
     };
     Next::say(role, play)
+}
+
+/// FEED the bear.
+#[tactic(auto, unfolding(crate::specs::Feeding::feed_bear_rows))]
+fn feed_bear(rules: &Rules<'_>, order: Order, play: &mut Play<'_>) -> Next
+    requires room { HasRoom parts_of_row play.old }
+    requires bear { IsTrue (is_called (cave_of rules.now) order.object name.Bear) }
+    ensures row { DoneByRows feed_bear_rows rules.now order play.old play.new result }
+{
+    let bear = order.object;
+    let food = rules.object(Named::Food);
+    if is_near(rules, play.state, food) {
+        play.state.destroy(food);
+        play.state.objects.set_prop(bear, Prop::new(1));
+        let axe = rules.object(Named::Axe);
+        play.state.objects.anchor_to(axe, Anchor::Loose);
+        play.state.objects.set_prop(axe, Prop::new(0));
+        return Next::say(Role::BearFed, play);
+    }
+    if has_prop(play.state, bear, 0) {
+        return Next::say(Role::NotHungry, play);
+    }
+    if has_prop(play.state, bear, 3) {
+        return Next::say(Role::Ridiculous, play);
+    }
+    order.say_default(rules, play)
 }
 
 /// EAT without an object.

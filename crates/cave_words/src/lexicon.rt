@@ -1,5 +1,5 @@
 //! The words of a cave with what they mean, for lookups that neither walk the rows nor take memory.
-ghost use Rattle.std.specs.Prelude.{◌≡◌, ◌≤◌, map, IfOk};
+ghost use Rattle.std.specs.Prelude.{◌≡◌, ◌≤◌, map, option_copied, IfOk};
 ghost use Rattle.cave_data.specs.CaveView.{CaveView};
 ghost use Rattle.cave_words.specs.Meaning.{meaning, meaning_in};
 ghost use Rattle.cave_words.specs.Index.{meanings_in, IsIndexOf};
@@ -72,8 +72,7 @@ impl Lexicon {
         ensures meaning { (cave : CaveView) → IsLexiconOf cave self.now
             → result ≡ meaning cave word }
     {
-        let meanings = look_up(&self.words, word)?;
-        Some(meanings.first)
+        Some(look_at(&self.words, word)?.first)
     }
 
     /// What a word means in a class: what its first row of that class in the cave says.
@@ -83,7 +82,7 @@ impl Lexicon {
         ensures meaning { (cave : CaveView) → IsLexiconOf cave self.now
             → result ≡ meaning_in cave word class }
     {
-        look_up(&self.words, word)?.in_class(class)
+        look_at(&self.words, word)?.in_class(class)
     }
 
     /// The object of a name that rules of play write out. The cave is the lexicon's own.
@@ -136,11 +135,18 @@ fn objects_of_names(index: &IndexMap<Word, Meanings>) -> [Option<u16>; NAME_COUN
     objects
 }
 
+/// The meanings of a word, where they lie.
+fn look_at(index: &IndexMap<Word, Meanings>, word: Word) -> Option<&Meanings>
+    ensures { option_copied result ≡ meanings_in index.now.entries word }
+{
+    index.get(&word)
+}
+
 /// The meanings of a word.
 fn look_up(index: &IndexMap<Word, Meanings>, word: Word) -> Option<Meanings>
     ensures { result ≡ meanings_in index.now.entries word }
 {
-    index.get(&word).copied()
+    look_at(index, word).copied()
 }
 
 /// The meanings of some words, where so many letters count.

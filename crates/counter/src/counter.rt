@@ -1,7 +1,7 @@
 //! The machine.
 
 use log_lines::Meter;
-use log_replay::{Machine, Started, Stepped};
+use log_replay::{Machine, Started, Stepped, Whole};
 use std::alloc::{AllocError, Global};
 
 /// A counter of four digits.
@@ -14,6 +14,8 @@ impl Machine for Counter {
     ghost use Rattle.counter.specs.Counter.{counter_rules, IsNumber};
 
     type State = u32;
+
+    type Kept = Whole<u32>;
 
     type Piece = u32;
 

@@ -4,7 +4,7 @@ ghost use Rattle.ledger.specs.Ledger.{ledger_rules, balance_of};
 use crate::account::Account;
 use crate::entry::BookEntry;
 use log_lines::Meter;
-use log_replay::{Machine, Session, Started, Stepped};
+use log_replay::{Machine, Session, Started, Stepped, Whole};
 use std::alloc::{AllocError, Global};
 
 /// A ledger of one account, which is opened with the seed as its balance.
@@ -19,6 +19,8 @@ impl Machine for Ledger {
     ghost use Rattle.ledger.specs.contracts.account.Account as account;
 
     type State = Account;
+
+    type Kept = Whole<Account>;
 
     type Piece = Option<u64>;
 

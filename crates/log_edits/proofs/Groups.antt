@@ -2,7 +2,7 @@
 use Rattle.std.proofs.Common.{◌≡◌, ℕ, ◌+◌, ◌<◌, ◌≤◌, List, [], ◌∷◌, ◌++◌, length, get_or, take}
 use Rattle.std.proofs.Common.{drop, insert, remove, set, refl, sym, ap, ◌∙◌, Option, Some, None}
 use Rattle.std.proofs.Common.{suc, reverse}
-use Rattle.smallvec.specs.SmallVec.{SmallVec}
+use Rattle.log_edits.specs.LineText.{LineText}
 use Rattle.std.proofs.lemmas.List.{drop_more, drop_all, map-append, map-set, take-map, drop-map}
 use Rattle.std.proofs.lemmas.List.{reverse-append}
 use Rattle.log_edits.specs.declared.edit.Edit.{Edit}
@@ -81,23 +81,23 @@ first_is_free None number later free = (refl, free)
 first_is_free (Some fault) number later free = cc
 
 -- edits of a log as it is kept
-pub log_of-insert : (log : List (SmallVec ℕ)) (place : ℕ) (line : SmallVec ℕ)
+pub log_of-insert : (log : List LineText) (place : ℕ) (line : LineText)
     → log_of (insert log place line) ≡ insert (log_of log) place line.items
 log_of-insert log place line =
-    let f : SmallVec ℕ → List ℕ = λ x. x.items in
+    let f : LineText → List ℕ = λ x. x.items in
     map-append f (take place log) (line ∷ drop place log)
     ∙ rw (take-map f place log, drop-map f place log) refl
 
-pub log_of-remove : (log : List (SmallVec ℕ)) (place : ℕ)
+pub log_of-remove : (log : List LineText) (place : ℕ)
     → log_of (remove log place) ≡ remove (log_of log) place
 log_of-remove log place =
-    let f : SmallVec ℕ → List ℕ = λ x. x.items in
+    let f : LineText → List ℕ = λ x. x.items in
     map-append f (take place log) (drop (suc place) log)
     ∙ rw (take-map f place log, drop-map f (suc place) log) refl
 
-pub log_of-set : (log : List (SmallVec ℕ)) (place : ℕ) (line : SmallVec ℕ)
+pub log_of-set : (log : List LineText) (place : ℕ) (line : LineText)
     → log_of (set log place line) ≡ set (log_of log) place line.items
-log_of-set log place line = map-set (λ (x : SmallVec ℕ). x.items) log place line
+log_of-set log place line = map-set (λ (x : LineText). x.items) log place line
 
 pub changes_of-reverse : (edits : List Edit)
     → changes_of (reverse edits) ≡ reverse (changes_of edits)

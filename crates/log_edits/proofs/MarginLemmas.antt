@@ -1,7 +1,7 @@
 -- What changes leave alone of a log.
 use Rattle.std.proofs.Common.{◌≡◌, ℕ, ◌+◌, ◌<◌, ◌≤◌, List, [], ◌∷◌, length, refl, arith, None}
 use Rattle.std.proofs.lemmas.List.{length-map}
-use Rattle.smallvec.specs.SmallVec.{SmallVec}
+use Rattle.log_edits.specs.LineText.{LineText}
 use Rattle.log_edits.specs.declared.margins.Margins.{Margins}
 use Rattle.log_edits.specs.declared.edit.Edit.{Edit}
 use Rattle.log_edits.specs.Game.{log_of}
@@ -126,7 +126,7 @@ margins_fits (reseeds seed ∷ changes) log some free =
     omega arith
 
 -- the prefix and the end that edits leave alone fit into the log
-pub margins_of_edits : (edits : List Edit) (log : List (SmallVec ℕ)) (margins : Margins)
+pub margins_of_edits : (edits : List Edit) (log : List LineText) (margins : Margins)
     → 0 < length edits → fault_of_all (changes_of edits) (log_of log) 0 ≡ None
     → margins ≡ margins_of (changes_of edits) (log_of log)
     → margins.head + margins.tail ≤ length log

@@ -1,7 +1,7 @@
 -- What is played: a seed and a log of lines.
 use Rattle.std.specs.Prelude.{ℕ, ◌≤◌, IsTrue, List, length, map, All}
 use Rattle.std.specs.Global.{Vec}
-use Rattle.smallvec.specs.SmallVec.{SmallVec}
+use Rattle.log_edits.specs.LineText.{LineText}
 use Rattle.log_lines.specs.Line.{is_line}
 use Rattle.limits.specs.Limits.{max_log_lines, max_seed}
 
@@ -14,11 +14,11 @@ abbrev pub game_of : ℕ → List (List ℕ) → Game
 game_of seed log = record { seed = seed; log = log }
 
 -- a log, by the bytes of its lines
-abbrev pub log_of : List (SmallVec ℕ) → List (List ℕ)
+abbrev pub log_of : List LineText → List (List ℕ)
 log_of lines = map (λ line. line.items) lines
 
 -- the game of a seed and a log as they are kept
-abbrev pub game_in : ℕ → Vec (SmallVec ℕ) → Game
+abbrev pub game_in : ℕ → Vec LineText → Game
 game_in seed log = game_of seed (log_of log.items)
 
 -- a game that a session may hold

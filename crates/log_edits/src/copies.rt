@@ -1,7 +1,8 @@
 ghost use Rattle.std.specs.Prelude.{◌≡◌, IfOk};
 ghost use Rattle.log_edits.specs.Edit.{change_of, changes_of};
 
-use crate::edit::{Edit, LineText};
+use crate::edit::Edit;
+use crate::line_text::LineText;
 use std::alloc::{AllocError, Global};
 
 /// A copy of edits.

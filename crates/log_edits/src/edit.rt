@@ -5,12 +5,8 @@ ghost use Rattle.log_edits.specs.Edit.{inverse_of, inverses_of};
 ghost use Rattle.log_edits.specs.Edit.{lines_inserted, lines_inserted_by_all, seed_after_all};
 ghost use Rattle.log_edits.specs.Faults.{fault_of, fault_of_all};
 
-use smallvec::SmallVec;
+use crate::line_text::LineText;
 use std::mem;
-
-/// The bytes of a line of a log. Few of them lie in the value itself, so that a short line takes no
-/// memory of its own.
-pub type LineText = SmallVec<u8, 16>;
 
 /// A change of a game: of one line of its log, or of its seed. Places count the log's lines from 0.
 #[derive(Debug, Drop)]

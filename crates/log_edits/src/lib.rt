@@ -5,11 +5,13 @@
 pub mod copies;
 pub mod edit;
 pub mod fault;
+pub mod line_text;
 pub mod margins;
 pub mod plan;
 pub mod trace;
 
-pub use edit::{Edit, LineText};
+pub use edit::Edit;
 pub use fault::{EditFault, GroupFault};
+pub use line_text::LineText;
 pub use margins::Margins;
 pub use plan::Plan;

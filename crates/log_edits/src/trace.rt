@@ -4,7 +4,8 @@ ghost use Rattle.log_edits.specs.Faults.{fault_of, fault_of_all, log_after_all};
 ghost use Rattle.log_edits.specs.Game.{log_of};
 ghost use Rattle.log_edits.specs.Trace.{ComesFrom};
 
-use crate::edit::{Edit, LineText};
+use crate::edit::Edit;
+use crate::line_text::LineText;
 use std::cmp::Ordering;
 
 /// The line at a place of a log after the edits, which is looked for from the last of them back.

@@ -1,4 +1,6 @@
 pub mod Digits
+pub mod Feeds
 pub mod FirstLines
 pub mod Prefixes
+pub mod GoodLines
 pub mod LogLines

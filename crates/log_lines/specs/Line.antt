@@ -1,8 +1,9 @@
 -- Which bytes and how many a line of a log may have, and what is wrong with one.
-use Rattle.std.specs.Prelude.{ℕ, Bool, ◌==◌, ◌&&◌, ◌||◌, ◌+◌, nat_lt, nat_le, if◌then◌else◌}
+use Rattle.std.specs.Prelude.{◌≡◌, ℕ, ◌<◌, ◌∷◌, IsTrue, Bool, false, ◌==◌, ◌&&◌, ◌||◌, ◌+◌, nat_lt, nat_le, if◌then◌else◌}
 use Rattle.std.specs.Prelude.{is_none}
 use Rattle.std.specs.Prelude.{List, length, slice_index_or, Option, None, Some}
 use Rattle.std.specs.List.{list_all, prefix_len}
+use Rattle.std.specs.Str.Lines.{lines}
 use Rattle.limits.specs.Limits.{max_line_bytes}
 use Rattle.log_lines.specs.declared.line.LineFault.{LineFault}
 use Rattle.log_lines.specs.declared.line.LineFault.TheVariants.{TooLong, BadByte}
@@ -33,3 +34,15 @@ unfoldable pub flaw_of : List ℕ → LineFlaw
 flaw_of line =
     if nat_lt max_line_bytes (length line) then Long (length line)
     else byte_at line (prefix_len is_line_byte line)
+
+-- the first line of a text is this one, which a log may have, and the rest follows it
+pub record StartsWithLine (text line rest : List ℕ) : Type 0 where
+  pub first : lines text ≡ line ∷ lines rest
+  pub good : IsTrue (is_line line)
+  pub shorter : length rest < length text
+
+-- the first line of a text is none that a log may have, for this reason
+abbrev pub StartsWithFlaw : List ℕ → LineFlaw → Type 0
+StartsWithFlaw text flaw =
+    (line : List ℕ) × (rest : List (List ℕ)) × (lines text ≡ line ∷ rest) × (is_line line ≡ false)
+    × (flaw ≡ flaw_of line)

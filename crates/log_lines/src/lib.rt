@@ -10,7 +10,7 @@ pub mod log_line;
 pub mod meter;
 
 pub use line::{LineFault, check_line};
-pub use line_flaw::{LineFlaw, flaw_of};
+pub use line_flaw::{LineFlaw, split_log_line};
 pub use lines::split_line;
 pub use log_line::{LogLine, is_skipped};
 pub use meter::{Meter, Steps};

@@ -2,9 +2,13 @@
 
 ghost use Rattle.std.specs.Prelude.{◌≡◌, ◌≤◌, length};
 ghost use Rattle.std.specs.List.{prefix_len};
+ghost use Rattle.std.specs.Prelude.{[], IfSome, MatchOption, MatchResult};
+ghost use Rattle.std.specs.Str.Lines.{lines};
 ghost use Rattle.log_lines.specs.Line.{flaw_of, is_line_byte};
+ghost use Rattle.log_lines.specs.Line.{StartsWithLine, StartsWithFlaw};
 
-use crate::line::is_line_byte;
+use crate::line::{check_line, is_line_byte};
+use crate::lines::split_line;
 use limits::is_long_line;
 use thiserror::Error;
 
@@ -27,10 +31,42 @@ fn good_len(line: &[u8]) -> usize
     line.iter().take_while(|byte| is_line_byte(**byte)).count()
 }
 
+/// The first line of a text, where a line feed alone ends it and a log may have it, and what
+/// follows it.
+#[tactic(auto, using(crate::proofs::GoodLines::good_lines))]
+fn split_good_line(text: &[u8]) -> Option<(&[u8], &[u8])>
+    ensures { IfSome result (λ found. StartsWithLine text.now found.0.now found.1.now) }
+{
+    let len = good_len(text);
+    if len < text.len() && text[len] == b'\n' && !is_long_line(len) {
+        Some((&text[..len], &text[len + 1..]))
+    } else {
+        None
+    }
+}
+
+/// The first line of a text, without its end, and the text that follows it; or else what is wrong
+/// with the line, where a log may not have it.
+pub fn split_log_line(text: &[u8]) -> Option<Result<(&[u8], &[u8]), LineFlaw>>
+    ensures { MatchOption result (lines text.now ≡ []) (λ found. MatchResult found
+        (λ good. StartsWithLine text.now good.0.now good.1.now)
+        (λ flaw. StartsWithFlaw text.now flaw)) }
+{
+    // Most lines are looked at once.
+    if let Some(found) = split_good_line(text) {
+        return Some(Ok(found));
+    }
+    let (line, rest) = split_line(text)?;
+    if check_line(line).is_err() {
+        return Some(Err(flaw_of(line)));
+    }
+    Some(Ok((line, rest)))
+}
+
 /// What is wrong with a line that isn't allowed in a log. Of a line that is, the byte after its
 /// last is returned, as 0.
 #[tactic(auto, unfolding(crate::specs::Line::flaw_of))]
-pub fn flaw_of(line: &[u8]) -> LineFlaw
+fn flaw_of(line: &[u8]) -> LineFlaw
     ensures { result ≡ flaw_of line.now }
 {
     if is_long_line(line.len()) {

@@ -3,12 +3,15 @@ ghost use Rattle.std.specs.Prelude.{◌≡◌, ◌<◌, [], ◌∷◌, MatchOpti
 ghost use Rattle.std.specs.List.{position_or_len};
 ghost use Rattle.std.specs.Str.Lines.{lines, strip_carriage_return};
 
+use memchr::memchr;
+
 /// How many bytes come before the first line feed.
+#[tactic(auto, using(crate::proofs::Feeds::feeds))]
 fn line_len(text: &[u8]) -> usize
     ensures value { result ≡ position_or_len (λ b. b == 10) text.now }
     ensures within { result ≤ length text.now }
 {
-    text.iter().take_while(|byte| **byte != b'\n').count()
+    memchr(b'\n', text).unwrap_or(text.len())
 }
 
 /// A line without the carriage return at its end, if it has one.

@@ -1,7 +1,7 @@
 -- The play of a log, one line and several lines further.
 use Rattle.std.proofs.Common.{◌≡◌, ℕ, suc, ◌+◌, ◌<◌, get_or, take, Bool, List, [], ◌∷◌, ◌++◌}
 use Rattle.std.proofs.Common.{length, refl, ap, ◌∙◌}
-use Rattle.smallvec.specs.SmallVec.{SmallVec}
+use Rattle.log_edits.specs.LineText.{LineText}
 use Rattle.log_replay.specs.Machine.{MachineRules}
 use Rattle.log_edits.specs.Game.{log_of}
 use Rattle.log_edits.proofs.Lines.{take-log_of_more}
@@ -73,8 +73,8 @@ IsPlay-push rules seed log line opening pieces ticks state played =
     }
 
 -- one line more of a log that is played from its prefix on
-pub IsPlay-more : {S T : Type 0} (rules : MachineRules S T) (seed : ℕ) (log : List (SmallVec ℕ)) (i : ℕ)
-    (line : SmallVec ℕ) (opening : T) (pieces pieces' : List T) (ticks ticks' : List Bool)
+pub IsPlay-more : {S T : Type 0} (rules : MachineRules S T) (seed : ℕ) (log : List LineText) (i : ℕ)
+    (line : LineText) (opening : T) (pieces pieces' : List T) (ticks ticks' : List Bool)
     (state state' : S)
     → i < length log → line ≡ get_or log i line
     → IsPlay rules (game_of seed (take i (log_of log))) opening pieces ticks state

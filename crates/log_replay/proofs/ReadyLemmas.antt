@@ -3,7 +3,7 @@ use Rattle.std.proofs.Common.{◌≡◌, ℕ, ◌+◌, ◌-◌, ◌<◌, ◌≤�
 use Rattle.std.proofs.Common.{◌∷◌, length, refl, ap, ◌∙◌, arith, Option, Some, None}
 use Rattle.std.specs.Prelude.{MatchOption}
 use Rattle.std.specs.Option.{option_map}
-use Rattle.smallvec.specs.SmallVec.{SmallVec}
+use Rattle.log_edits.specs.LineText.{LineText}
 use Rattle.replay_marks.specs.Spacing.{IsSpaced}
 use Rattle.log_replay.specs.declared.ready_edits.ReadyEdits.{ReadyEdits}
 use Rattle.log_replay.specs.Machine.{MachineRules}
@@ -28,7 +28,7 @@ use Rattle.log_edits.proofs.MarginLemmas.{leave_alone, seed_stays}
 use Rattle.log_replay.proofs.Revisions.{HasCheckpoints, HasEndAt}
 
 -- the revision of a game by ready edits
-abbrev pub revision_by : {S T : Type 0} → MachineRules S T → ℕ → List (SmallVec ℕ) → ReadyEdits
+abbrev pub revision_by : {S T : Type 0} → MachineRules S T → ℕ → List LineText → ReadyEdits
     → Revision S T
 revision_by rules seed log ready = record {
   rules = rules;
@@ -39,7 +39,7 @@ revision_by rules seed log ready = record {
 }
 
 -- the checkpoints of the play of the game are those of the revision
-pub checkpoints_of : {S T : Type 0} (rules : MachineRules S T) {seed : ℕ} {log : List (SmallVec ℕ)}
+pub checkpoints_of : {S T : Type 0} (rules : MachineRules S T) {seed : ℕ} {log : List LineText}
     {ready : ReadyEdits} {every : ℕ} {checkpoints : List ℕ} {lines : ℕ} → IsReady seed log ready
     → 0 < every → lines ≡ length (log_of log) → IsSpaced every checkpoints lines
     → HasCheckpoints (revision_by rules seed log ready) every checkpoints
@@ -47,7 +47,7 @@ checkpoints_of rules is_ready some lines spaced =
     record { some = some; shift = is_ready.shift; spacing = rw (← lines) spaced }
 
 -- where the end that the edits leave alone begins
-pub end_of : {S T : Type 0} (rules : MachineRules S T) {seed : ℕ} {log : List (SmallVec ℕ)}
+pub end_of : {S T : Type 0} (rules : MachineRules S T) {seed : ℕ} {log : List LineText}
     {ready : ReadyEdits} {place : ℕ} → IsReady seed log ready
     → place + (length log - ready.rest) ≡ ready.lines
     → HasEndAt (revision_by rules seed log ready) ready.rest place
@@ -56,7 +56,7 @@ end_of rules {log} is_ready new =
     let within = is_ready.within in
     record { old_is = omega arith; new_is = new ∙ is_ready.lines }
 
-pub shift_of : {changes : List Change} {seed : ℕ} {log : List (SmallVec ℕ)} {ready : ReadyEdits}
+pub shift_of : {changes : List Change} {seed : ℕ} {log : List LineText} {ready : ReadyEdits}
     → AreEditsOf changes seed log ready
     → IsShift (game_of seed (log_of log)) (new_game ready (log_of log)) ready.head
     (length log - ready.rest)
@@ -82,7 +82,7 @@ shift_of {changes} {seed} {log} {ready} edits =
           ∙ seed_stays changes (game_of seed (log_of log)) margins alone prefix;
     })
 
-pub good_of : {changes : List Change} {seed : ℕ} {log : List (SmallVec ℕ)} {ready : ReadyEdits}
+pub good_of : {changes : List Change} {seed : ℕ} {log : List LineText} {ready : ReadyEdits}
     → AreEditsOf changes seed log ready → IsGame (game_of seed (log_of log))
     → IsGame (new_game ready (log_of log))
 good_of {changes} {seed} {log} edits good =
@@ -99,7 +99,7 @@ no_steps rules changes old every (Some fault) count = refl
 
 -- the steps of a replay, by the changes that it is of
 pub steps_within : {S T F : Type 0} (rules : MachineRules S T) {changes : List Change} {seed : ℕ}
-    {log : List (SmallVec ℕ)} {ready : ReadyEdits} (every : ℕ) (fault : Option F) (before after : ℕ)
+    {log : List LineText} {ready : ReadyEdits} (every : ℕ) (fault : Option F) (before after : ℕ)
     → AreEditsOf changes seed log ready → fault ≡ None → before ≤ after
     → IsWithinBound (revision_by rules seed log ready) every (after - before)
     → AreStepsBounded rules changes (game_of seed (log_of log)) every fault before after

@@ -2,7 +2,7 @@
 use Rattle.std.proofs.Common.{◌≡◌, ℕ, ◌+◌, ◌-◌, ◌<◌, ◌≤◌, inl, inr, Bool, List, length, refl, sym}
 use Rattle.std.proofs.Common.{ap, ◌∙◌, arith, Option, Some, None}
 use Rattle.std.specs.Prelude.{slice_index, MatchOption, unwrap_or}
-use Rattle.smallvec.specs.SmallVec.{SmallVec}
+use Rattle.log_edits.specs.LineText.{LineText}
 use Rattle.std.specs.List.{splice}
 use Rattle.std.specs.Option.{option_map, ForSome}
 use Rattle.std.proofs.Math.Seq.{take-length}
@@ -52,7 +52,7 @@ pub record IsReplay {State S T : Type 0} (meaning : State → S) (is_state : Sta
 
 -- those that edits are made of
 pub replay_of : {State S T : Type 0} {meaning : State → S} {is_state : State → Type 0}
-    {rules : MachineRules S T} {changes : List Change} {seed : ℕ} {log : List (SmallVec ℕ)}
+    {rules : MachineRules S T} {changes : List Change} {seed : ℕ} {log : List LineText}
     {ready : ReadyEdits} {opening : T} {pieces : List T} {ticks : List Bool} {state : State}
     {C : CheckpointsView State} {rerun : RerunView State T}
     → IsPlaythrough meaning is_state rules (game_of seed (log_of log)) opening pieces ticks state C

@@ -27,22 +27,22 @@ pub record IsPlaythrough {State S T : Type 0} (meaning : State → S) (is_state 
       checkpoints.states
 
 -- the game that is kept
-abbrev pub kept_game : {Machine State Piece Meter Scratch : Type 0}
-    → Playthrough Machine State Piece Meter Scratch → Game
+abbrev pub kept_game : {Machine State Kept Piece Meter Scratch : Type 0}
+    → Playthrough Machine State Kept Piece Meter Scratch → Game
 kept_game kept = game_in kept.seed kept.log
 
 -- What is kept is the play of the game that is kept, with the states at its checkpoints; the game
 -- and their distance are valid.
-abbrev pub KeepsPlay : {Machine State Piece Meter Scratch Meaning Text : Type 0}
+abbrev pub KeepsPlay : {Machine State Kept Piece Meter Scratch Meaning Text : Type 0}
     → (State → Meaning) → (State → Type 0) → (Piece → Text) → MachineRules Meaning Text
-    → Playthrough Machine State Piece Meter Scratch → Type 0
+    → Playthrough Machine State Kept Piece Meter Scratch → Type 0
 KeepsPlay meaning is_state text rules kept =
     IsPlaythrough meaning is_state rules (kept_game kept) (text kept.opening)
     (map text kept.pieces.items) kept.ticked.items kept.state kept.checkpoints
 
 -- A copy keeps what is kept, by what the pieces say.
-pub record IsCopyOf {Machine State Piece Meter Scratch T : Type 0} (text : Piece → T)
-    (kept copy : Playthrough Machine State Piece Meter Scratch) : Type 0 where
+pub record IsCopyOf {Machine State Kept Piece Meter Scratch T : Type 0} (text : Piece → T)
+    (kept copy : Playthrough Machine State Kept Piece Meter Scratch) : Type 0 where
   pub seed : copy.seed ≡ kept.seed
   pub log : log_of copy.log.items ≡ log_of kept.log.items
   pub opening : text copy.opening ≡ text kept.opening
@@ -55,8 +55,8 @@ pub record IsCopyOf {Machine State Piece Meter Scratch T : Type 0} (text : Piece
   pub state : copy.state ≡ kept.state
 
 -- Only capacity has changed: all that is kept is as it was.
-pub record KeepsAll {Machine State Piece Meter Scratch : Type 0}
-    (old new : Playthrough Machine State Piece Meter Scratch) : Type 0 where
+pub record KeepsAll {Machine State Kept Piece Meter Scratch : Type 0}
+    (old new : Playthrough Machine State Kept Piece Meter Scratch) : Type 0 where
   pub seed : new.seed ≡ old.seed
   pub log : new.log.items ≡ old.log.items
   pub opening : new.opening ≡ old.opening

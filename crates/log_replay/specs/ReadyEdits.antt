@@ -1,6 +1,6 @@
 -- Edits that are accepted, and what is known of them before anything is replayed.
 use Rattle.std.specs.Prelude.{◌≡◌, ℕ, ◌+◌, ◌-◌, ◌≤◌, List, length, None}
-use Rattle.smallvec.specs.SmallVec.{SmallVec}
+use Rattle.log_edits.specs.LineText.{LineText}
 use Rattle.log_replay.specs.declared.ready_edits.ReadyEdits.{ReadyEdits}
 use Rattle.log_replay.specs.declared.segment.OldPlay.{OldPlay}
 use Rattle.log_replay.specs.declared.segment.Segment.{Segment}
@@ -25,7 +25,7 @@ abbrev pub new_game : ReadyEdits → List (List ℕ) → Game
 new_game ready log = game_of ready.seed (log_after_edits ready log)
 
 -- the revision of an old game by the edits
-abbrev pub ready_revision : {State S T : Type 0} → MachineRules S T → OldPlay State → ReadyEdits
+abbrev pub ready_revision : {Kept State S T : Type 0} → MachineRules S T → OldPlay Kept State → ReadyEdits
     → Revision S T
 ready_revision rules old ready = record {
   rules = rules;
@@ -36,29 +36,29 @@ ready_revision rules old ready = record {
 }
 
 -- the replay of an old game by the edits may begin with these marks
-abbrev pub MayReplay : {State S T : Type 0} → (State → S) → (State → Type 0) → MachineRules S T
-    → OldPlay State → ReadyEdits → MarksView State → Type 0
+abbrev pub MayReplay : {Kept State S T : Type 0} → (State → S) → (State → Type 0) → MachineRules S T
+    → OldPlay Kept State → ReadyEdits → MarksView State → Type 0
 MayReplay meaning is_state rules old ready marks =
     MayBegin meaning is_state (ready_revision rules old ready) old.checkpoints.now marks
 
 -- this was played in it, from the open place of the marks on
-abbrev pub IsReplayed : {Machine State Piece Meter Scratch S T : Type 0} → (State → S)
-    → (State → Type 0) → (Piece → T) → MachineRules S T → OldPlay State → ReadyEdits → MarksView State
-    → Segment Machine State Piece Meter Scratch → Type 0
+abbrev pub IsReplayed : {Machine State Kept Piece Meter Scratch S T : Type 0} → (State → S)
+    → (State → Type 0) → (Piece → T) → MachineRules S T → OldPlay Kept State → ReadyEdits → MarksView State
+    → Segment Machine State Kept Piece Meter Scratch → Type 0
 IsReplayed meaning is_state text rules old ready marks played =
     IsPlayed meaning is_state (ready_revision rules old ready) old.checkpoints.now.places marks
     (segment_view text played)
 
 -- so many steps are within its bound
-abbrev pub IsReplayBounded : {State S T : Type 0} → MachineRules S T → OldPlay State → ReadyEdits
+abbrev pub IsReplayBounded : {Kept State S T : Type 0} → MachineRules S T → OldPlay Kept State → ReadyEdits
     → ℕ → ℕ → Type 0
 IsReplayBounded rules old ready every steps =
     IsWithinBound (ready_revision rules old ready) every steps
 
 -- this is the rerun of the game that is kept, by changes of which the ready edits are made
-abbrev pub IsRerunOf : {Machine State Piece Meter Scratch S T : Type 0} → (State → S)
-    → (State → Type 0) → (Piece → T) → MachineRules S T → List Change → Playthrough Machine State Piece Meter Scratch
-    → Rerun Machine State Piece Meter Scratch → Type 0
+abbrev pub IsRerunOf : {Machine State Kept Piece Meter Scratch S T : Type 0} → (State → S)
+    → (State → Type 0) → (Piece → T) → MachineRules S T → List Change → Playthrough Machine State Kept Piece Meter Scratch
+    → Rerun Machine State Kept Piece Meter Scratch → Type 0
 IsRerunOf meaning is_state text rules changes kept rerun =
     let old = kept_game kept in
     let revision = revision_to rules changes old (new_game rerun.ready old.log) in
@@ -67,7 +67,7 @@ IsRerunOf meaning is_state text rules changes kept rerun =
 -- The edits may be made in a game: they meet no fault, and leave a game that may be held, of so
 -- many lines. Its lines before `head` are those of the log, and its last lines are those of the log
 -- from `rest` on; with another seed `head` is 0.
-pub record IsReady (seed : ℕ) (log : List (SmallVec ℕ)) (ready : ReadyEdits) : Type 0 where
+pub record IsReady (seed : ℕ) (log : List LineText) (ready : ReadyEdits) : Type 0 where
   pub free : fault_of_all (changes_of ready.edits.items) (log_of log) 0 ≡ None
   pub lines : ready.lines ≡ length (log_after_edits ready (log_of log))
   pub ordered : ready.head ≤ ready.rest
@@ -78,7 +78,7 @@ pub record IsReady (seed : ℕ) (log : List (SmallVec ℕ)) (ready : ReadyEdits)
 
 -- They are these changes of a game, which meet no fault and leave its new game; and `head` and
 -- `rest` bound the lines that the changes don't leave alone.
-pub record AreEditsOf (changes : List Change) (seed : ℕ) (log : List (SmallVec ℕ))
+pub record AreEditsOf (changes : List Change) (seed : ℕ) (log : List LineText)
     (ready : ReadyEdits) : Type 0 where
   pub accepted : fault_of_all changes (log_of log) 0 ≡ None
   pub edits : changes_of ready.edits.items ≡ changes

@@ -47,17 +47,17 @@ FitsMarks checkpoints marks at count =
     length checkpoints.places + length marks.places + (at - 1) ≤ checkpoints.room + count
 
 -- each line that is kept has a piece, and ticked or not, and the checkpoints are of all the lines
-pub record IsWhole {Machine State Piece Meter Scratch : Type 0}
-    (kept : Playthrough Machine State Piece Meter Scratch) : Type 0 where
+pub record IsWhole {Machine State Kept Piece Meter Scratch : Type 0}
+    (kept : Playthrough Machine State Kept Piece Meter Scratch) : Type 0 where
   pub pieces : vec_len kept.pieces ≡ vec_len kept.log
   pub ticked : vec_len kept.ticked ≡ vec_len kept.log
   pub lines : kept.checkpoints.lines ≡ vec_len kept.log
 
 -- There is room for the lines that the edits of a rerun insert, and for what it played, where the
 -- lines and the checkpoints go that it passed.
-pub record HasRoomFor {Machine State Piece Meter Scratch : Type 0}
-    (kept : Playthrough Machine State Piece Meter Scratch)
-    (rerun : Rerun Machine State Piece Meter Scratch) :
+pub record HasRoomFor {Machine State Kept Piece Meter Scratch : Type 0}
+    (kept : Playthrough Machine State Kept Piece Meter Scratch)
+    (rerun : Rerun Machine State Kept Piece Meter Scratch) :
     Type 0 where
   pub log : vec_len kept.log + lines_inserted_by_all (changes_of rerun.ready.edits.items)
       ≤ vec_capacity kept.log
@@ -84,9 +84,9 @@ new_state state marks (Some index) = state
 
 -- What is kept once a rerun is taken over: the game that its edits make of the old one, and what it
 -- played in the place of what was there.
-pub record IsTakenOver {Machine State Piece Meter Scratch : Type 0}
-    (old new : Playthrough Machine State Piece Meter Scratch)
-    (rerun : Rerun Machine State Piece Meter Scratch) :
+pub record IsTakenOver {Machine State Kept Piece Meter Scratch : Type 0}
+    (old new : Playthrough Machine State Kept Piece Meter Scratch)
+    (rerun : Rerun Machine State Kept Piece Meter Scratch) :
     Type 0 where
   pub game : kept_game new ≡ apply_all (changes_of rerun.ready.edits.items) (kept_game old)
   pub opening_is : MatchOption rerun.opening (new.opening ≡ old.opening)

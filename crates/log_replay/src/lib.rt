@@ -20,6 +20,7 @@ mod workspace;
 pub use fault::OpenFault;
 pub use machine::{Machine, Started, Stepped};
 pub use played_lines::{PlayedLine, PlayedLines};
+pub use replay_marks::{KeptState, Whole};
 pub use report::{GroupReport, Report, Stretch};
 pub use session::Session;
 pub use tick_counts::TickCounts;

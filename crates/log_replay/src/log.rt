@@ -1,28 +1,35 @@
-ghost use Rattle.std.specs.Prelude.{◌≡◌, ◌+◌, ◌<◌, ◌++◌, length};
-ghost use Rattle.std.specs.Prelude.{IfOk, OnOk, MatchResult, None, Some};
+ghost use Rattle.std.specs.Prelude.{◌≡◌, ◌++◌, ◌∷◌, [], length};
+ghost use Rattle.std.specs.Prelude.{IfOk, OnOk, MatchResult, None, Some, Err};
 ghost use Rattle.std.specs.Str.Lines.{lines};
 ghost use Rattle.log_replay.specs.LogText.{log_text};
 ghost use Rattle.log_edits.specs.Game.{log_of};
-ghost use Rattle.log_replay.specs.Opening.{first_bad_line, open_fault};
+ghost use Rattle.log_replay.specs.Opening.{first_bad_line, open_fault, IsAnswerToOpen};
 
 use crate::fault::OpenFault;
 use limits::{is_bad_every, is_large_seed, is_long_log};
 use log_edits::LineText;
-use log_lines::{LineFlaw, check_line, flaw_of, split_line};
+use log_lines::{LineFlaw, split_log_line};
 use std::alloc::{AllocError, Global};
 
-/// How many lines a log has, or the first fault of what a session is opened with, memory aside.
-pub(crate) fn check_game(every: u32, log: &[u8], seed: u32) -> Result<usize, OpenFault>
-    ensures { let fault = open_fault every (lines log.now) seed in
-        MatchResult result
-        (λ count. (fault ≡ None) × (count ≡ length (lines log.now)))
-        (λ found. fault ≡ Some found) }
+/// Copies of lines, unless memory was refused for one of them.
+type Copies = Result<Vec<LineText>, AllocError>;
+
+/// The lines of a log, or the first fault of what a session is opened with.
+pub(crate) fn read_lines(
+    alloc: Global,
+    every: u32,
+    log: &[u8],
+    seed: u32,
+) -> Result<Vec<LineText>, OpenFault>
+    ensures faults { IsAnswerToOpen (open_fault every (lines log.now) seed) result }
+    ensures right { IfOk result (λ _. open_fault every (lines log.now) seed ≡ None) }
+    ensures lines { IfOk result (λ copies. log_of copies.items ≡ lines log.now) }
 {
     if is_bad_every(every) {
         return Err(OpenFault::BadEvery);
     }
-    let count = match count_lines(log) {
-        Ok(count) => count,
+    let (count, copies) = match copy_lines(alloc, log) {
+        Ok(found) => found,
         Err((number, flaw)) => return Err(OpenFault::BadLine(number, flaw)),
     };
     if is_long_log(count) {
@@ -31,43 +38,42 @@ pub(crate) fn check_game(every: u32, log: &[u8], seed: u32) -> Result<usize, Ope
     if is_large_seed(u64::from(seed)) {
         return Err(OpenFault::BadSeed);
     }
-    Ok(count)
+    Ok(copies?)
 }
 
-/// How many lines a log has, or else the number, from 1, of the first that isn't valid in one, and
-/// what is wrong with it.
-pub(crate) fn count_lines(log: &[u8]) -> Result<usize, (usize, LineFlaw)>
-    ensures { MatchResult result
-        (λ count. (count ≡ length (lines log.now)) × (first_bad_line (lines log.now) 1 ≡ None))
+/// How many lines a log has, and copies of them; or else the number, from 1, of the first that
+/// isn't valid in one, and what is wrong with it.
+fn copy_lines(alloc: Global, log: &[u8]) -> Result<(usize, Copies), (usize, LineFlaw)>
+    ensures found { MatchResult result
+        (λ found. (found.0 ≡ length (lines log.now)) × (first_bad_line (lines log.now) 1 ≡ None))
         (λ bad. first_bad_line (lines log.now) 1 ≡ Some bad) }
+    ensures copies { IfOk result (λ found.
+        IfOk found.1 (λ copies. log_of copies.items ≡ lines log.now)) }
 {
-    let mut rest = log;
+    let mut copies = Ok(Vec::new(alloc));
     let mut count = 0;
-    while let Some((line, more)) = split_line(rest) {
+    let mut rest = log;
+    while let Some(found) = split_log_line(rest) {
         count += 1;
-        if check_line(line).is_err() {
-            return Err((count, flaw_of(line)));
-        }
+        let (line, more) = match found {
+            Ok(good) => good,
+            Err(flaw) => return Err((count, flaw)),
+        };
+        copies = with_copy(alloc, copies, line);
         rest = more;
     }
-    Ok(count)
+    Ok((count, copies))
 }
 
-/// The lines of a log, of which there are `count`.
-pub(crate) fn copy_lines(
-    alloc: Global,
-    log: &[u8],
-    count: usize,
-) -> Result<Vec<LineText>, AllocError>
-    ensures { IfOk result (λ copy. log_of copy.items ≡ lines log.now) }
+/// The copies with one of a line after them.
+fn with_copy(alloc: Global, copies: Copies, line: &[u8]) -> Copies
+    ensures { MatchResult copies
+        (λ old. IfOk result (λ new. log_of new.items ≡ log_of old.items ++ line.now ∷ []))
+        (λ refused. result ≡ Err refused) }
 {
-    let mut copy = Vec::with_capacity(alloc, count)?;
-    let mut rest = log;
-    while let Some((line, more)) = split_line(rest) {
-        copy.push(LineText::from_slice(alloc, line)?)?;
-        rest = more;
-    }
-    Ok(copy)
+    let mut copies = copies?;
+    copies.push(LineText::from_slice(alloc, line)?)?;
+    Ok(copies)
 }
 
 /// Appends lines, each with a line feed after it.

@@ -3,6 +3,7 @@ ghost use Rattle.log_lines.specs.Line.{is_line};
 ghost use Rattle.log_replay.specs.Machine.{MachineRules};
 
 use log_lines::Steps;
+use replay_marks::KeptState;
 use std::alloc::{AllocError, Global};
 
 /// What a machine begins with: its first state, and the piece that greets.
@@ -24,6 +25,9 @@ pub struct Stepped<P> {
 pub trait Machine: Drop {
     /// What the machine goes on from.
     type State: Copy + Eq;
+
+    /// How a checkpoint keeps a state: whole, as `Whole<Self::State>`, or in a smaller form.
+    type Kept: KeptState<State = Self::State>;
 
     /// What it says at the start and to each line.
     type Piece: Drop;

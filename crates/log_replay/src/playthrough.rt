@@ -19,7 +19,7 @@ pub(crate) struct Playthrough<M: Machine> {
     pub(crate) opening: M::Piece,
     pub(crate) pieces: Vec<M::Piece>,
     pub(crate) ticked: Vec<bool>,
-    pub(crate) checkpoints: Checkpoints<M::State>,
+    pub(crate) checkpoints: Checkpoints<M::Kept>,
     pub(crate) state: M::State,
 }
 

@@ -51,10 +51,11 @@ pub(crate) fn edit_kept<M: Machine>(
 {
     let rerun = replay(workspace, machine, kept, edits, meter)?;
     let from = kept.checkpoints.places()[rerun.at];
+    let state = rerun.played.marks.keep_open()?;
     make_room(kept, &rerun)?;
     let end = rerun.played.marks.next();
     let met = met_place(rerun.played.met, end);
-    let inverse = take_over(kept, rerun);
+    let inverse = take_over(kept, rerun, state);
     let played = end - from;
     Ok(GroupReport {
         stretch: Stretch { from, met, played },
@@ -118,7 +119,7 @@ fn replay<M: Machine>(
 #[derive(Drop)]
 pub(crate) struct ReplayStart<M: Machine> {
     pub(crate) opening: Option<M::Piece>,
-    pub(crate) marks: Marks<M::State>,
+    pub(crate) marks: Marks<M::Kept>,
 }
 
 /// Begins the replay of a game of `end` lines at the checkpoint of the index `at`, or with another
@@ -126,7 +127,7 @@ pub(crate) struct ReplayStart<M: Machine> {
 fn begin<M: Machine>(
     alloc: Global,
     machine: &M,
-    old: &OldPlay<'_, M::State>,
+    old: &OldPlay<'_, M::Kept>,
     seed: u32,
     at: usize,
     end: u32,

@@ -13,7 +13,7 @@ use crate::machine::Machine;
 use crate::ready_edits::ReadyEdits;
 use crate::workspace::Workspace;
 use log_edits::LineText;
-use replay_marks::{Checkpoints, Marks, first_from};
+use replay_marks::{Checkpoints, KeptState, Marks, first_from};
 use std::alloc::AllocError;
 
 /// Lines that were played from a checkpoint on: what was said, which ticked, and the new marks.
@@ -23,16 +23,16 @@ use std::alloc::AllocError;
 pub(crate) struct Segment<M: Machine> {
     pub(crate) pieces: Vec<M::Piece>,
     pub(crate) ticked: Vec<bool>,
-    pub(crate) marks: Marks<M::State>,
+    pub(crate) marks: Marks<M::Kept>,
     pub(crate) met: Option<usize>,
 }
 
 /// A game as it was before edits, with the checkpoints of its play.
 #[derive(Drop)]
-pub(crate) struct OldPlay<'a, S: Copy> {
+pub(crate) struct OldPlay<'a, K: KeptState> {
     pub(crate) seed: u32,
     pub(crate) log: &'a [LineText],
-    pub(crate) checkpoints: &'a Checkpoints<S>,
+    pub(crate) checkpoints: &'a Checkpoints<K>,
 }
 
 /// Plays a changed game from the open place of the marks on, until the play meets the old one at a
@@ -40,9 +40,9 @@ pub(crate) struct OldPlay<'a, S: Copy> {
 pub(crate) fn play_changed<M: Machine>(
     workspace: &mut Workspace<M>,
     machine: &M,
-    old: &OldPlay<'_, M::State>,
+    old: &OldPlay<'_, M::Kept>,
     ready: &ReadyEdits,
-    marks: Marks<M::State>,
+    marks: Marks<M::Kept>,
     meter: &mut M::Meter,
 ) -> Result<Segment<M>, AllocError>
     requires ready { IsReady old.now.seed old.now.log.now ready.now }
@@ -86,11 +86,11 @@ pub(crate) fn play_changed<M: Machine>(
 /// is the first that isn't before that place; none where the plays agree there. The old place `old`
 /// is `new` now.
 fn pass<M: Machine>(
-    checkpoints: &Checkpoints<M::State>,
+    checkpoints: &Checkpoints<M::Kept>,
     index: usize,
     old: usize,
     new: usize,
-    marks: &Marks<M::State>,
+    marks: &Marks<M::Kept>,
 ) -> Option<usize>
     requires after { index < length checkpoints.now.places
         → old ≤ slice_index checkpoints.now.places index }
@@ -123,9 +123,9 @@ fn comes_to(places: &[u32], index: usize, old: usize, new: usize, place: usize) 
 
 /// Whether the state at the old checkpoint of this index is the one at the open place of the marks.
 fn agrees<M: Machine>(
-    checkpoints: &Checkpoints<M::State>,
+    checkpoints: &Checkpoints<M::Kept>,
     index: usize,
-    marks: &Marks<M::State>,
+    marks: &Marks<M::Kept>,
 ) -> bool
     requires { index < length checkpoints.now.places }
     ensures { (old new : ℕ → M.Meaning)
@@ -133,7 +133,7 @@ fn agrees<M: Machine>(
         → IsMarking M.meaning M.is_state new marks.now
         → (IsTrue result ↔ (new marks.now.next ≡ old (slice_index checkpoints.now.places index))) }
 {
-    *checkpoints.state(index) == *marks.state()
+    checkpoints.state(index) == *marks.state()
 }
 
 /// Plays one line more.

@@ -19,7 +19,7 @@ ghost use Rattle.limits.specs.Limits.{max_log_lines};
 
 use crate::copies::copy_kept;
 use crate::fault::OpenFault;
-use crate::log::{check_game, copy_lines, push_lines};
+use crate::log::{push_lines, read_lines};
 use crate::machine::Machine;
 use crate::played_lines::PlayedLines;
 use crate::playthrough::{Playthrough, play_game};
@@ -82,8 +82,7 @@ impl<M: Machine> Session<M> {
             AreOpenSteps fault (length (lines log.now)) (M.Meter.count meter.old)
             (M.Meter.count meter.new) }
     {
-        let count = check_game(every, log, seed)?;
-        let lines = copy_lines(alloc, log, count)?;
+        let lines = read_lines(alloc, every, log, seed)?;
         let mut workspace = Workspace::open(alloc, &machine)?;
         let kept = play_game(&mut workspace, &machine, seed, lines, every, meter)?;
         Ok(Session {

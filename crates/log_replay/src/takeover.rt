@@ -14,7 +14,7 @@ use crate::replay::Rerun;
 use crate::segment::Segment;
 use log_edits::Edit;
 use log_edits::edit::{lines_inserted, make_edits};
-use replay_marks::{Checkpoints, Marks, splice};
+use replay_marks::{Checkpoints, KeptState, Marks, splice};
 use std::alloc::AllocError;
 
 /// Takes room for what a rerun brings, which is to be taken over. What is kept stays as it is.
@@ -44,8 +44,13 @@ pub(crate) fn make_room<M: Machine>(
 }
 
 /// Makes the edits of a rerun, and puts what was played in the place of what was there, without
-/// memory; gives the edits that take these back.
-pub(crate) fn take_over<M: Machine>(kept: &mut Playthrough<M>, rerun: Rerun<M>) -> Vec<Edit>
+/// memory; gives the edits that take these back. `state` is kept of the open place of the marks.
+pub(crate) fn take_over<M: Machine>(
+    kept: &mut Playthrough<M>,
+    rerun: Rerun<M>,
+    state: M::Kept,
+) -> Vec<Edit>
+    requires state { M.Kept.state_of state ≡ rerun.played.marks.state }
     requires free { let log = (kept_game kept.old).log in
         fault_of_all (changes_of rerun.ready.edits.items) log 0 ≡ None }
     requires whole { IsWhole kept.old }
@@ -69,7 +74,8 @@ pub(crate) fn take_over<M: Machine>(kept: &mut Playthrough<M>, rerun: Rerun<M>) 
     splice(&mut kept.pieces, from, to, &mut pieces);
     splice(&mut kept.ticked, from, to, &mut ticked);
     replace_piece(&mut kept.opening, rerun.opening);
-    take_marks(&mut kept.checkpoints, &mut kept.state, marks, rerun.at, met);
+    let last = &mut kept.state;
+    take_marks(&mut kept.checkpoints, last, marks, state, rerun.at, met);
     edits
 }
 
@@ -83,15 +89,17 @@ fn replace_piece<P: Drop>(piece: &mut P, new: Option<P>)
     }
 }
 
-/// Takes over the marks of a replay from the checkpoint of the index `at`; without a meeting the
-/// last state is theirs.
-fn take_marks<S: Copy>(
-    checkpoints: &mut Checkpoints<S>,
-    state: &mut S,
-    marks: Marks<S>,
+/// Takes over the marks of a replay from the checkpoint of the index `at`, whose last state is kept
+/// as `state`; without a meeting it is also the last state of the play.
+fn take_marks<K: KeptState>(
+    checkpoints: &mut Checkpoints<K>,
+    last: &mut K::State,
+    marks: Marks<K>,
+    state: K,
     at: usize,
     met: Option<usize>,
 )
+    requires state { K.state_of state ≡ marks.state }
     requires begun { IsBegunAt checkpoints.old at marks }
     requires end { MarksEnd checkpoints.old marks at met }
     requires room { FitsMarks checkpoints.old marks at (checkpoints_passed checkpoints.old met) }
@@ -99,12 +107,12 @@ fn take_marks<S: Copy>(
     ensures lines { checkpoints.new.lines ≡ marks.end }
     ensures places { checkpoints.new.places ≡ new_places checkpoints.old marks at met }
     ensures states { checkpoints.new.states ≡ new_states checkpoints.old marks at met }
-    ensures state { state.new ≡ new_state state.old marks met }
+    ensures last { last.new ≡ new_state last.old marks met }
 {
     match met {
-        Some(index) => checkpoints.meet(marks, at, index),
+        Some(index) => checkpoints.meet(marks, state, at, index),
         None => {
-            *state = *marks.state();
+            *last = *marks.state();
             checkpoints.replace_from(marks, at);
         }
     }
@@ -112,7 +120,7 @@ fn take_marks<S: Copy>(
 
 /// How many checkpoints are before the one at which a replay met the old play: all of them if it
 /// met it nowhere.
-fn checkpoints_passed<S: Copy>(checkpoints: &Checkpoints<S>, met: Option<usize>) -> usize
+fn checkpoints_passed<K: KeptState>(checkpoints: &Checkpoints<K>, met: Option<usize>) -> usize
     requires { ForSome met (λ index. index < length checkpoints.now.places) }
     ensures count { result ≡ checkpoints_passed checkpoints.now met }
     ensures within { result ≤ length checkpoints.now.places }
@@ -124,7 +132,7 @@ fn checkpoints_passed<S: Copy>(checkpoints: &Checkpoints<S>, met: Option<usize>)
 }
 
 /// The old place up to which what was played comes in: the checkpoint that was met, or the end.
-fn end_of_stretch<S: Copy>(checkpoints: &Checkpoints<S>, met: Option<usize>) -> usize
+fn end_of_stretch<K: KeptState>(checkpoints: &Checkpoints<K>, met: Option<usize>) -> usize
     requires { ForSome met (λ index. index < length checkpoints.now.places) }
     ensures place { result ≡ end_of_stretch checkpoints.now met }
     ensures within { result ≤ checkpoints.now.lines }
@@ -137,7 +145,7 @@ fn end_of_stretch<S: Copy>(checkpoints: &Checkpoints<S>, met: Option<usize>) -> 
 
 /// How many lines of the old play go where a replay from the checkpoint of the index `at` is taken
 /// over.
-fn lines_gone<S: Copy>(checkpoints: &Checkpoints<S>, at: usize, met: Option<usize>) -> usize
+fn lines_gone<K: KeptState>(checkpoints: &Checkpoints<K>, at: usize, met: Option<usize>) -> usize
     requires among { at < length checkpoints.now.places }
     requires met { ForSome met (λ index. index < length checkpoints.now.places) }
     ensures { result ≡ lines_gone checkpoints.now at met }

@@ -10,7 +10,11 @@ pub(crate) fn count_ticks(ticked: &[bool], count: usize) -> u32
     requires few { length ticked.now < 2 ^ 32 }
     ensures { result ≡ count_by (λ ticks. ticks) (take count ticked.now) }
 {
-    ticked[..count].iter().filter(|ticked| **ticked).count() as u32
+    let mut ticks = 0;
+    for ticked in &ticked[..count] {
+        ticks += u32::from(*ticked);
+    }
+    ticks
 }
 
 /// How many lines ticked up to each line and with it, one line after another. It counts as it goes.

@@ -5,6 +5,7 @@ ghost use Rattle.replay_marks.specs.Spacing.{IsSpaced, most_spaced};
 
 mod join;
 
+use crate::kept_state::KeptState;
 use crate::marks::{Mark, Marks};
 use crate::placed_states::PlacedStates;
 use std::alloc::{AllocError, Global};
@@ -12,17 +13,17 @@ use std::marker::Model;
 
 /// The checkpoints of a log, spaced: places of which the states are kept.
 #[derive(Drop)]
-pub struct Checkpoints<S: Copy> {
+pub struct Checkpoints<K: KeptState> {
     every: u32,
     lines: u32,
-    kept: PlacedStates<S>,
+    kept: PlacedStates<K>,
 }
 
-impl<S: Copy> Model for Checkpoints<S> {
+impl<K: KeptState> Model for Checkpoints<K> {
     ghost use Rattle.std.specs.Prelude.{length};
     ghost use Rattle.replay_marks.specs.Marks.{CheckpointsView, AreCheckpoints};
 
-    ghost Value = { CheckpointsView S };
+    ghost Value = { CheckpointsView K.State };
 
     ghost view = { λ c. record {
       every = c.every;
@@ -35,9 +36,9 @@ impl<S: Copy> Model for Checkpoints<S> {
     ghost invariant = { λ c. AreCheckpoints c.every c.lines c.kept.places (length c.kept.states) };
 }
 
-impl<S: Copy> Checkpoints<S> {
+impl<K: KeptState> Checkpoints<K> {
     /// Those of a log whose last place was reached last.
-    pub fn of(marks: Marks<S>) -> Self
+    pub fn of(marks: Marks<K>) -> Self
         requires begun { slice_index marks.places 0 ≡ 0 }
         requires done { marks.next ≡ marks.end }
         ensures settings { (result.every ≡ marks.every) × (result.lines ≡ marks.end) }
@@ -80,9 +81,9 @@ impl<S: Copy> Checkpoints<S> {
     }
 
     /// The state at the checkpoint of this index.
-    pub fn state(&self, index: usize) -> &S
+    pub fn state(&self, index: usize) -> K::State
         requires { index < length self.now.places }
-        ensures { slice_get self.now.states index ≡ Some result.now }
+        ensures { slice_get self.now.states index ≡ Some result }
     {
         self.kept.state(index)
     }
@@ -99,7 +100,7 @@ impl<S: Copy> Checkpoints<S> {
 
     /// Begins the marks of an edited log of `end` lines at the checkpoint of the index `at`. The
     /// one before it is kept where it is; `at` itself stays open.
-    pub fn marks(&self, alloc: Global, at: usize, end: u32) -> Result<Marks<S>, AllocError>
+    pub fn marks(&self, alloc: Global, at: usize, end: u32) -> Result<Marks<K>, AllocError>
         requires among { at < length self.now.places }
         requires within { slice_index self.now.places at ≤ end }
         ensures begun { IfOk result (IsBegunAt self.now at) }
@@ -117,14 +118,14 @@ impl<S: Copy> Checkpoints<S> {
     }
 
     /// The checkpoint of this index.
-    fn mark(&self, index: usize) -> Mark<S>
+    fn mark(&self, index: usize) -> Mark<'_, K>
         requires { index < length self.now.places }
         ensures place { result.place ≡ slice_index self.now.places index }
-        ensures state { slice_get self.now.states index ≡ Some result.state }
+        ensures state { slice_get self.now.states index ≡ Some (K.state_of result.kept.now) }
     {
         Mark {
             place: self.kept.place(index),
-            state: *self.kept.state(index),
+            kept: self.kept.kept(index),
         }
     }
 

@@ -3,8 +3,10 @@
 //! A log is played line by line, and the states at some of its places are kept as checkpoints. An
 //! edit plays the log again from the last checkpoint before it, and stops where the new play agrees
 //! with the old one at an old checkpoint after the edit. This crate knows neither plays nor states:
-//! a state is any `Copy` type, and a line any type at all.
+//! a state is any `Copy` type, which is kept in a form of its owner's choice, and a line any type at
+//! all.
 //!
+//! - [`KeptState`] is a form in which a state is kept; [`Whole`] is one for any state.
 //! - [`Checkpoints`] are spaced, always: 0 is one, none is past the end, neighbours and the last
 //!   one and the end are at most `every` apart, and two gaps that follow one another together
 //!   exceed `every`. So there are at most `2 (n / (every + 1)) + 2` of them in a log of n lines.
@@ -21,21 +23,23 @@
 //! | Step | Cost |
 //! |---|---|
 //! | `last_to`, `first_from` | a binary search |
-//! | `Checkpoints::marks` | two states copied, each into a Box of its own |
-//! | `Marks::open` | two more for the start, and room for all places that can be kept |
-//! | `Marks::advance` | a comparison; where the open place is kept, its state copied into a Box |
+//! | `Checkpoints::marks` | one state kept once more, and one copied to go on from |
+//! | `Marks::open` | the start kept and copied, and room for all places that can be kept |
+//! | `Marks::advance` | a comparison; where the open place is kept, its state kept |
+//! | `Marks::keep_open` | one state kept |
 //! | `meet`, `replace_from` | a `splice` of those passed; a pass over later ones that move |
 //! | `splice` | the stretch item by item; a turn with the items after it that move |
 //!
 //! A turn is a block move where either side of it is one item or has at most 4,096 bytes; else it
-//! exchanges items. A state that is kept stays where it is until its checkpoint goes: what moves is
-//! its Box, of 8 bytes.
+//! exchanges items. A state that is kept in a Box stays where it is until its checkpoint goes: what
+//! moves is the Box, of 8 bytes.
 //!
-//! None of these takes memory but `Marks::open`, `Checkpoints::marks`, `advance`, `reserve`, and
-//! what makes or copies a list.
+//! None of these takes memory but `Marks::open`, `Checkpoints::marks`, `advance`, `keep_open`,
+//! `reserve`, and what makes or copies a list.
 #![tactic(auto)]
 
 mod checkpoints;
+mod kept_state;
 mod marks;
 mod placed_states;
 mod search;
@@ -43,6 +47,7 @@ mod shift;
 mod stretch;
 
 pub use checkpoints::Checkpoints;
+pub use kept_state::{KeptState, Whole};
 pub use marks::Marks;
 pub use search::{first_from, last_to};
 pub use stretch::splice;

@@ -4,38 +4,37 @@ ghost use Rattle.replay_marks.specs.Marks.{places_before, states_before};
 ghost use Rattle.replay_marks.specs.Spacing.{most_spaced};
 ghost use Rattle.replay_marks.specs.Thinning.{IsThinned};
 
+use crate::kept_state::{KeptState, keep_again};
 use crate::placed_states::PlacedStates;
 use std::alloc::{AllocError, Global};
 use std::marker::Model;
-use std::mem::replace;
 
-/// A place, and the state at it.
+/// A place, and the state at it as it is kept.
 #[derive(Drop)]
-pub(crate) struct Mark<S: Copy> {
+pub(crate) struct Mark<'a, K: KeptState> {
     pub(crate) place: u32,
-    pub(crate) state: S,
+    pub(crate) kept: &'a K,
 }
 
 /// Places in rising order, of which those are kept that a log's checkpoints need.
 ///
 /// The place reached last stays open: it is kept only where the next one lies more than `every`
-/// past the last one kept, and its state then stays where it is. There is always room to keep the
-/// open one.
+/// past the last one kept. There is always room to keep the open one.
 #[derive(Drop)]
-pub struct Marks<S: Copy> {
+pub struct Marks<K: KeptState> {
     every: u32,
     end: u32,
     from: u32,
-    kept: PlacedStates<S>,
+    kept: PlacedStates<K>,
     next: u32,
-    state: Box<S>,
+    state: Box<K::State>,
 }
 
-impl<S: Copy> Model for Marks<S> {
+impl<K: KeptState> Model for Marks<K> {
     ghost use Rattle.std.specs.Prelude.{length};
     ghost use Rattle.replay_marks.specs.Marks.{MarksView, IsSound};
 
-    ghost Value = { MarksView S };
+    ghost Value = { MarksView K.State };
 
     ghost view = { λ m. record {
       every = m.every;
@@ -51,14 +50,14 @@ impl<S: Copy> Model for Marks<S> {
         IsSound m.every m.end m.from m.kept.places (length m.kept.states) m.next m.kept.room };
 }
 
-impl<S: Copy> Marks<S> {
+impl<K: KeptState> Marks<K> {
     ghost use Rattle.std.specs.Borrow.{Lends, sem};
     ghost use Rattle.replay_marks.specs.contracts.marks.Marks.{the_row};
     ghost use Rattle.replay_marks.specs.Marks.{marks_with_state};
 
     /// Begins with the start of a log of `end` lines, with room for all the places that it can
     /// keep.
-    pub fn open(alloc: Global, every: u32, end: u32, state: S) -> Result<Self, AllocError>
+    pub fn open(alloc: Global, every: u32, end: u32, state: K::State) -> Result<Self, AllocError>
         ensures settings { IfOk result (λ marks. (marks.every ≡ every) × (marks.end ≡ end)) }
         ensures begins { IfOk result (λ marks. (marks.from ≡ 0) × (marks.next ≡ 0)
             × (marks.state ≡ state)) }
@@ -66,7 +65,8 @@ impl<S: Copy> Marks<S> {
             × (marks.states ≡ state ∷ [])) }
     {
         let mut kept = PlacedStates::with_room(alloc, most_spaced(every, end))?;
-        kept.push(0, Box::new(alloc, state)?);
+        let first = kept.keep(alloc, &state)?;
+        kept.push(0, first);
         Ok(Marks {
             every,
             end,
@@ -83,27 +83,27 @@ impl<S: Copy> Marks<S> {
         alloc: Global,
         every: u32,
         end: u32,
-        start: Mark<S>,
-        from: Mark<S>,
+        start: Mark<'_, K>,
+        from: Mark<'_, K>,
     ) -> Result<Self, AllocError>
         requires ordered { start.place ≤ from.place }
         requires near { from.place ≤ start.place + every }
         requires within { from.place ≤ end }
         ensures settings { IfOk result (λ marks. (marks.every ≡ every) × (marks.end ≡ end)) }
-        ensures begins { IfOk result (λ marks. (marks.from ≡ from.place) × (marks.next ≡ from.place)
-            × (marks.state ≡ from.state)) }
-        ensures kept { IfOk result (λ marks. (marks.places ≡ start.place ∷ [])
-            × (marks.states ≡ start.state ∷ [])) }
+        ensures begins { IfOk result (λ marks. (marks.from ≡ from.entry.place)
+            × (marks.next ≡ from.entry.place) × (marks.state ≡ K.state_of from.entry.kept.now)) }
+        ensures kept { IfOk result (λ marks. (marks.places ≡ start.entry.place ∷ [])
+            × (marks.states ≡ K.state_of start.entry.kept.now ∷ [])) }
     {
         let mut kept = PlacedStates::with_room(alloc, 2)?;
-        kept.push(start.place, Box::new(alloc, start.state)?);
+        kept.push(start.place, keep_again(alloc, start.kept)?);
         Ok(Marks {
             every,
             end,
             from: from.place,
             kept,
             next: from.place,
-            state: Box::new(alloc, from.state)?,
+            state: Box::new(alloc, from.kept.state())?,
         })
     }
 
@@ -123,18 +123,24 @@ impl<S: Copy> Marks<S> {
         ensures refused { OnErr result (self.new ≡ self.old) }
     {
         if self.kept.is_far(self.every, place) {
-            let opened = Box::new(*Box::allocator(&self.state), *self.state)?;
+            let open = self.keep_open()?;
             self.kept.reserve(2)?;
-            let open = replace(&mut self.state, opened);
             self.kept.push(self.next, open);
         }
         self.next = place;
         Ok(())
     }
 
+    /// Keeps the state at the place reached last, which stays open.
+    pub fn keep_open(&self) -> Result<K, AllocError>
+        ensures { IfOk result (λ kept. K.state_of kept ≡ self.now.state) }
+    {
+        self.kept.keep(*Box::allocator(&self.state), &self.state)
+    }
+
     /// The state at the place reached last, to be changed there.
-    pub fn state_mut(&mut self) -> &mut S
-        ensures* lends { sem 𝓛 (Lends (the_row S.row) S.row self.entry result
+    pub fn state_mut(&mut self) -> &mut K::State
+        ensures* lends { sem 𝓛 (Lends (the_row K.row K.State.row K.KeptState) K.State.row self.entry result
             (marks_with_state self.old)) }
         ensures value { result.now ≡ self.old.state }
     {
@@ -158,7 +164,7 @@ impl<S: Copy> Marks<S> {
     }
 
     /// The state at the place reached last.
-    pub fn state(&self) -> &S
+    pub fn state(&self) -> &K::State
         ensures { result.now ≡ self.now.state }
     {
         &self.state
@@ -178,8 +184,9 @@ impl<S: Copy> Marks<S> {
         self.end
     }
 
-    /// What is kept where `place` comes after the open place.
-    pub(crate) fn close(self, place: u32) -> PlacedStates<S>
+    /// What is kept where `place` comes after the open place, whose `state` is kept already.
+    pub(crate) fn close(self, state: K, place: u32) -> PlacedStates<K>
+        requires state { K.state_of state ≡ self.state }
         requires after { self.next ≤ place }
         requires near { place ≤ self.next + self.every }
         requires within { place ≤ self.end }
@@ -197,14 +204,14 @@ impl<S: Copy> Marks<S> {
             from: _,
             mut kept,
             next,
-            state,
+            state: _,
         } = self;
         kept.push_before(next, state, every, place);
         kept
     }
 
     /// What is kept where nothing comes after the open place.
-    pub(crate) fn finish(self) -> PlacedStates<S>
+    pub(crate) fn finish(self) -> PlacedStates<K>
         ensures places { result.places ≡ self.places }
         ensures states { result.states ≡ self.states }
         ensures even { length result.states ≡ length result.places }

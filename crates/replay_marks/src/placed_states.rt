@@ -1,10 +1,10 @@
 ghost use Rattle.std.specs.Prelude.{◌≡◌, ◌+◌, ◌-◌, ℕ, ◌<◌, ◌≤◌, ◌^◌, [], ◌∷◌, ◌++◌, if◌then◌else◌};
-ghost use Rattle.std.specs.Prelude.{length, take, slice_index, slice_get, Some, IfOk, OnOk};
+ghost use Rattle.std.specs.Prelude.{length, map, take, slice_index, slice_get, Some, IfOk, OnOk};
 ghost use Rattle.std.specs.List.{splice};
 ghost use Rattle.replay_marks.specs.Marks.{is_far};
-ghost use Rattle.replay_marks.specs.PlacedStates.{contents};
 ghost use Rattle.replay_marks.specs.Thinning.{after_shift};
 
+use crate::kept_state::{KeptState, keep_again};
 use crate::shift::shift_from;
 use crate::stretch::splice;
 use std::alloc::{AllocError, Global};
@@ -12,27 +12,27 @@ use std::marker::Model;
 
 /// Places, and the state at each of them, which stays where it is as others come and go.
 #[derive(Drop)]
-pub struct PlacedStates<S: Copy> {
+pub struct PlacedStates<K: KeptState> {
     places: Vec<u32>,
-    states: Vec<Box<S>>,
+    states: Vec<K>,
 }
 
-impl<S: Copy> Model for PlacedStates<S> {
-    ghost use Rattle.std.specs.Prelude.{◌≡◌, length, min, vec_capacity};
-    ghost use Rattle.replay_marks.specs.PlacedStates.{PlacedView, contents};
+impl<K: KeptState> Model for PlacedStates<K> {
+    ghost use Rattle.std.specs.Prelude.{◌≡◌, length, map, min, vec_capacity};
+    ghost use Rattle.replay_marks.specs.PlacedStates.{PlacedView};
 
-    ghost Value = { PlacedView S };
+    ghost Value = { PlacedView K.State };
 
     ghost view = { λ p. record {
       places = p.places.items;
-      states = contents p.states.items;
+      states = map K.state_of p.states.items;
       room = min (vec_capacity p.places) (vec_capacity p.states);
     } };
 
     ghost invariant = { λ p. length p.places.items ≡ length p.states.items };
 }
 
-impl<S: Copy> PlacedStates<S> {
+impl<K: KeptState> PlacedStates<K> {
     /// None yet, with room for so many that no `push` into it can be refused.
     pub fn with_room(alloc: Global, room: usize) -> Result<Self, AllocError>
         ensures places { IfOk result (λ made. made.places ≡ []) }
@@ -70,11 +70,26 @@ impl<S: Copy> PlacedStates<S> {
     }
 
     /// The state at the place of this index.
-    pub fn state(&self, index: usize) -> &S
+    pub fn state(&self, index: usize) -> K::State
         requires { index < length self.now.places }
-        ensures { slice_get self.now.states index ≡ Some result.now }
+        ensures { slice_get self.now.states index ≡ Some result }
+    {
+        self.kept(index).state()
+    }
+
+    /// The state at the place of this index, as it is kept.
+    pub fn kept(&self, index: usize) -> &K
+        requires { index < length self.now.places }
+        ensures { slice_get self.now.states index ≡ Some (K.state_of result.now) }
     {
         &self.states[index]
+    }
+
+    /// Keeps a state that may come after the last one here.
+    pub fn keep(&self, alloc: Global, state: &K::State) -> Result<K, AllocError>
+        ensures { IfOk result (λ kept. K.state_of kept ≡ state.now) }
+    {
+        K::keep(alloc, state, self.states.last())
     }
 
     /// Takes room for so many more.
@@ -90,10 +105,10 @@ impl<S: Copy> PlacedStates<S> {
     }
 
     /// Adds a place with its state, for which there is room.
-    pub fn push(&mut self, place: u32, state: Box<S>)
+    pub fn push(&mut self, place: u32, state: K)
         requires { length self.old.places < self.old.room }
         ensures places { self.new.places ≡ self.old.places ++ place ∷ [] }
-        ensures states { self.new.states ≡ self.old.states ++ state.value ∷ [] }
+        ensures states { self.new.states ≡ self.old.states ++ K.state_of state ∷ [] }
         ensures room { self.new.room ≡ self.old.room }
     {
         self.places.push_reserved(place);
@@ -111,7 +126,7 @@ impl<S: Copy> PlacedStates<S> {
     }
 
     /// Adds this place if `following` lies more than `every` past the last one here.
-    pub fn push_before(&mut self, place: u32, state: Box<S>, every: u32, following: u32)
+    pub fn push_before(&mut self, place: u32, state: K, every: u32, following: u32)
         requires some { 0 < length self.old.places }
         requires ordered { slice_index self.old.places (length self.old.places - 1) ≤ following }
         requires room { slice_index self.old.places (length self.old.places - 1) + every < following
@@ -119,7 +134,7 @@ impl<S: Copy> PlacedStates<S> {
         ensures places { self.new.places ≡ (if is_far every self.old.places following
             then self.old.places ++ place ∷ [] else self.old.places) }
         ensures states { self.new.states ≡ (if is_far every self.old.places following
-            then self.old.states ++ state.value ∷ [] else self.old.states) }
+            then self.old.states ++ K.state_of state ∷ [] else self.old.states) }
         ensures room { self.new.room ≡ self.old.room }
     {
         if self.is_far(every, following) {
@@ -128,7 +143,7 @@ impl<S: Copy> PlacedStates<S> {
     }
 
     /// Puts `middle` in the place of those from the index `from` up to `to`.
-    pub fn splice(&mut self, from: usize, to: usize, mut middle: PlacedStates<S>)
+    pub fn splice(&mut self, from: usize, to: usize, mut middle: PlacedStates<K>)
         requires ordered { from ≤ to }
         requires within { to ≤ length self.old.places }
         requires room { length self.old.places + length middle.places
@@ -169,13 +184,13 @@ impl<S: Copy> PlacedStates<S> {
     }
 }
 
-/// A copy of states, each in a Box of its own.
-fn copy_states<S: Copy>(alloc: Global, states: &[Box<S>]) -> Result<Vec<Box<S>>, AllocError>
-    ensures { IfOk result (λ copy. contents copy.items ≡ contents states.now) }
+/// The same states, kept once more.
+fn copy_states<K: KeptState>(alloc: Global, states: &[K]) -> Result<Vec<K>, AllocError>
+    ensures { IfOk result (λ copy. map K.state_of copy.items ≡ map K.state_of states.now) }
 {
     let mut copy = Vec::with_capacity(alloc, states.len())?;
     for state in states {
-        copy.push(Box::new(alloc, **state)?)?;
+        copy.push(keep_again(alloc, state)?)?;
     }
     Ok(copy)
 }

@@ -13,7 +13,7 @@ fn draw(seed: &mut u32, bound: u32) -> u32 {
 /// An edit that a log of so many lines takes.
 pub(crate) fn any_edit(alloc: Global, seed: &mut u32, lines: u32) -> Result<Edit, AllocError> {
     let at = draw(seed, lines.saturating_add(1));
-    let line = LineText::from_vec(letters(alloc, draw(seed, 6))?);
+    let line = LineText::from_slice(alloc, &letters(alloc, draw(seed, 6))?)?;
     let edit = match draw(seed, 5) {
         0 if at < lines => Edit::Delete(at),
         1 if at < lines => Edit::Replace(at, line),

@@ -1,7 +1,7 @@
 //! Runs whose allocations are refused: `bench/refuse` refuses each in turn, and the gate none.
 
 use crate::caves::LONG_TEXT;
-use crate::runs::{CHECKED_TEXT, Changing, Checking, EDITED_TEXT, Feeds, Playing, Run};
+use crate::runs::{CHECKED_TEXT, Changing, Checking, EDITED_TEXT, Feeds, Leading, Playing, Run};
 use crate::streams::Sink;
 use cave_play::fault::PlayFault;
 use edit_options::View;
@@ -19,14 +19,14 @@ played 5 lines; from the start it would have been 11\n";
 
 /// Does a run into a writer that needs no memory any more, so that where memory runs out, it is the
 /// run's own.
-fn expect_all_or_out_of_memory<R: Run>(rt: &impl Abort, alloc: Global, view: View, all: &str) {
+fn expect_all_or_out_of_memory<R: Run>(rt: &impl Abort, alloc: Global, view: View, all: &[u8]) {
     let Ok(mut sink) = Sink::with_room(alloc, 4_096) else {
         return;
     };
     let mut feeds = Feeds::usual();
     feeds.view = view;
     match R::run_into(&mut feeds, alloc, &mut sink) {
-        Ok(()) => assert_eq!(rt; sink.taken.as_slice(), all.as_bytes()),
+        Ok(()) => assert_eq!(rt; sink.taken.as_slice(), all),
         Err(fault) => {
             assert_eq!(rt; fault, PlayFault::Memory);
             assert!(rt; sink.taken.is_empty());
@@ -35,12 +35,30 @@ fn expect_all_or_out_of_memory<R: Run>(rt: &impl Abort, alloc: Global, view: Vie
     }
 }
 
+/// Does a run twice. Where the first has memory enough, the second writes the same, or runs out.
+fn expect_the_same_or_out_of_memory<R: Run>(rt: &impl Abort, alloc: Global, view: View) {
+    let mut feeds = Feeds::usual();
+    feeds.view = view;
+    let first = feeds.run::<R>(alloc);
+    if first.ended == Ok(()) {
+        expect_all_or_out_of_memory::<R>(rt, alloc, view, first.output.as_slice());
+    }
+}
+
 #[test]
 fn out_of_memory_writes_nothing(rt: HostRuntime) {
     let (alloc, shown) = (rt.alloc(), View::Transcript);
-    expect_all_or_out_of_memory::<Checking>(&rt, alloc, shown, CHECKED_TEXT);
-    expect_all_or_out_of_memory::<Playing>(&rt, alloc, shown, LONG_TEXT);
-    expect_all_or_out_of_memory::<Changing>(&rt, alloc, shown, EDITED_TEXT);
-    expect_all_or_out_of_memory::<Changing>(&rt, alloc, View::Log, EDITED_LOG);
-    expect_all_or_out_of_memory::<Changing>(&rt, alloc, View::Reports, REPORTS);
+    expect_all_or_out_of_memory::<Checking>(&rt, alloc, shown, CHECKED_TEXT.as_bytes());
+    expect_all_or_out_of_memory::<Playing>(&rt, alloc, shown, LONG_TEXT.as_bytes());
+    expect_all_or_out_of_memory::<Changing>(&rt, alloc, shown, EDITED_TEXT.as_bytes());
+    expect_all_or_out_of_memory::<Changing>(&rt, alloc, View::Log, EDITED_LOG.as_bytes());
+    expect_all_or_out_of_memory::<Changing>(&rt, alloc, View::Reports, REPORTS.as_bytes());
+}
+
+#[test]
+fn out_of_memory_writes_no_state_and_no_play(rt: HostRuntime) {
+    let alloc = rt.alloc();
+    expect_the_same_or_out_of_memory::<Leading>(&rt, alloc, View::FinalState);
+    expect_the_same_or_out_of_memory::<Changing>(&rt, alloc, View::FinalState);
+    expect_the_same_or_out_of_memory::<Changing>(&rt, alloc, View::Play);
 }

@@ -2,7 +2,8 @@
 
 use crate::caves::{CAVE, LONG_LOG};
 use crate::games::{TestCave, TestSession};
-use cave_play::machine::{CaveMachine, Piece};
+use cave_play::machine::CaveMachine;
+use cave_play::piece::Piece;
 use log_edits::{Edit, EditFault, LineText};
 use log_lines::Meter;
 use log_replay::Report;

@@ -1,2 +1,2 @@
 pub mod Name
-pub mod Place
+pub mod Target

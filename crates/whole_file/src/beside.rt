@@ -3,7 +3,7 @@
 ghost use Rattle.std.specs.Prelude.{◌≡◌, IfOk, None, string_bytes};
 ghost use Rattle.whole_file.specs.Name.{draft_name};
 
-use crate::place::Place;
+use crate::target::Target;
 use std::alloc::{AllocError, Global};
 use std::fs::{Files, OpenFile, OpenOptions, Permissions};
 use std::{fs, io};
@@ -107,7 +107,7 @@ impl<'a, F: Files> FileBeside<'a, F> {
     }
 }
 
-impl<'a, F: Files> Place for FileBeside<'a, F> {
+impl<'a, F: Files> Target for FileBeside<'a, F> {
     type Draft = DraftFile<F::File>;
 
     ghost shown = { λ _. None };

@@ -2,9 +2,9 @@
 #![tactic(auto)]
 
 pub mod beside;
-pub mod place;
+pub mod target;
 pub mod whole;
 
 pub use beside::FileBeside;
-pub use place::Place;
+pub use target::Target;
 pub use whole::replace;

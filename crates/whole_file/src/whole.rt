@@ -1,21 +1,21 @@
 ghost use Rattle.std.specs.Prelude.{◌≡◌, Some, OnErr, OnOk};
-ghost use Rattle.whole_file.specs.Place.{Becomes};
+ghost use Rattle.whole_file.specs.Target.{Becomes};
 
-use crate::place::Place;
+use crate::target::Target;
 use std::io;
 use std::io::Write;
 
 /// Replaces a file by these bytes. Where that fails, the file is what it was.
-pub fn replace<P: Place>(place: &mut P, bytes: &[u8]) -> io::Result<()>
+pub fn replace<T: Target>(target: &mut T, bytes: &[u8]) -> io::Result<()>
     ensures whole { OnOk result
-        (Becomes (P.shown place.old) (P.shown place.new) (Some bytes.now)) }
-    ensures kept { OnErr result (P.shown place.new ≡ P.shown place.old) }
+        (Becomes (T.shown target.old) (T.shown target.new) (Some bytes.now)) }
+    ensures kept { OnErr result (T.shown target.new ≡ T.shown target.old) }
 {
-    let mut draft = place.begin()?;
+    let mut draft = target.begin()?;
     match draft.write_all(bytes) {
-        Ok(()) => place.publish(draft),
+        Ok(()) => target.publish(draft),
         Err(reason) => {
-            place.discard(draft);
+            target.discard(draft);
             Err(reason)
         }
     }

@@ -22,7 +22,7 @@ fn shown(alloc: Global, words: &[&str]) -> Result<String, AllocError> {
 }
 
 /// Words, and what the answer to them says.
-const ANSWERS: [(&[&str], &str); 25] = [
+const ANSWERS: [(&[&str], &str); 27] = [
     (
         &["cave", "check", "a"],
         "Check { files: Files { cave: \"a\", bind: None, output: None }, view: Maximum }",
@@ -94,6 +94,15 @@ const ANSWERS: [(&[&str], &str); 25] = [
         "Cover { files: Files { cave: \"a\", bind: Some(\"d\"), output: None }, \
         logs: [\"b\", \"c\", \"e\"], seed: 7, view: Counts }",
     ),
+    (
+        &["cave", "map", "a"],
+        "Map { files: Files { cave: \"a\", bind: None, output: None }, logs: [], seed: 0 }",
+    ),
+    (
+        &["cave", "map", "--bind", "d", "a", "b", "--seed=7", "c"],
+        "Map { files: Files { cave: \"a\", bind: Some(\"d\"), output: None }, \
+        logs: [\"b\", \"c\"], seed: 7 }",
+    ),
     (&["cave", "play", "a"], "2 MissingRequiredArgument"),
     (&["cave", "cover", "a"], "2 MissingRequiredArgument"),
     (&["cave", "play", "a", "b", "--seed"], "2 InvalidValue"),
@@ -151,7 +160,7 @@ fn printed(alloc: Global, words: &[&str]) -> Result<String, AllocError> {
 }
 
 /// Words, and a part of the text that is printed for them.
-const TEXTS: [(&[&str], &str); 15] = [
+const TEXTS: [(&[&str], &str); 16] = [
     (
         &["cave", "check", "-h"],
         "Usage: cave check [OPTIONS] <CAVE>",
@@ -164,6 +173,10 @@ const TEXTS: [(&[&str], &str); 15] = [
     (
         &["cave", "cover", "--help"],
         "Usage: cave cover [OPTIONS] <CAVE> <LOG>...",
+    ),
+    (
+        &["cave", "map", "--help"],
+        "Usage: cave map [OPTIONS] <CAVE> [LOG]...",
     ),
     (
         &["cave", "edit", "-h"],

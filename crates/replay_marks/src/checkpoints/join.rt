@@ -4,6 +4,7 @@ ghost use Rattle.replay_marks.specs.Marks.{IsBegunAt, next_place, places_met, st
 ghost use Rattle.replay_marks.specs.Thinning.{IsThinned, IsRest, after_shift};
 
 use super::Checkpoints;
+use crate::kept_state::KeptState;
 use crate::marks::Marks;
 use crate::placed_states::PlacedStates;
 
@@ -17,10 +18,12 @@ struct Seam {
     new: u32,
 }
 
-impl<S: Copy> Checkpoints<S> {
+impl<K: KeptState> Checkpoints<K> {
     /// Takes over marks of the edited log that ended at the checkpoint of the index `met`: those
-    /// before `at` stay, and those after `met` move with it.
-    pub fn meet(&mut self, marks: Marks<S>, at: usize, met: usize)
+    /// before `at` stay, and those after `met` move with it. `state` is kept of their
+    /// open place.
+    pub fn meet(&mut self, marks: Marks<K>, state: K, at: usize, met: usize)
+        requires state { K.state_of state ≡ marks.state }
         requires begun { IsBegunAt self.old at marks }
         requires ordered { at ≤ met }
         requires met { met < length self.old.places }
@@ -36,7 +39,7 @@ impl<S: Copy> Checkpoints<S> {
         let end = marks.end();
         let place = self.next_place(met, new, end);
         let rest = met + 1;
-        self.join(marks.close(place), Seam { at, rest, old, new }, end);
+        self.join(marks.close(state, place), Seam { at, rest, old, new }, end);
     }
 
     /// What comes after the checkpoint of the index `met` where that moves to `new`: the next one,
@@ -62,7 +65,7 @@ impl<S: Copy> Checkpoints<S> {
     }
 
     /// Takes over marks of the edited log that went to its end: those before `at` stay.
-    pub fn replace_from(&mut self, marks: Marks<S>, at: usize)
+    pub fn replace_from(&mut self, marks: Marks<K>, at: usize)
         requires begun { IsBegunAt self.old at marks }
         requires done { marks.next ≡ marks.end }
         requires room { length marks.places + (at - 1) ≤ self.old.room }
@@ -78,7 +81,7 @@ impl<S: Copy> Checkpoints<S> {
     }
 
     /// Puts `middle` at the seam; the log ends at `end` now.
-    fn join(&mut self, middle: PlacedStates<S>, seam: Seam, end: u32)
+    fn join(&mut self, middle: PlacedStates<K>, seam: Seam, end: u32)
         requires among { seam.at < length self.old.places }
         requires ordered { seam.at ≤ seam.rest }
         requires rest { IsRest self.old.every self.old.places self.old.lines seam.old seam.rest }

@@ -4,7 +4,7 @@ use crate::machines::counts::Counts;
 use crate::machines::rule::RowRule;
 use crate::machines::state::State;
 use log_lines::Meter;
-use log_replay::{Machine, Started, Stepped};
+use log_replay::{Machine, Started, Stepped, Whole};
 use std::alloc::{AllocError, Global};
 
 /// A machine of plain rules that counts what it does.
@@ -25,6 +25,8 @@ impl<'a, R: RowRule> Machine for Told<'a, R> {
     ghost use Rattle.replay_tests.specs.Telling.{telling_rules, same_numbers};
 
     type State = State<'a>;
+
+    type Kept = Whole<State<'a>>;
 
     type Piece = Vec<usize>;
 

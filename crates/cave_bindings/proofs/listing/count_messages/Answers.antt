@@ -1,7 +1,7 @@
 use Rattle.std.proofs.Common.{◌∙◌}
 use Rattle.std.specs.FinMap.{get}
 use Rattle.cave_rows.specs.Role.{role_number}
-use Rattle.cave_bindings.specs.Listing.{has_text, message_count, message_text}
+use Rattle.cave_bindings.specs.Listing.{leads_to_text, message_count, text_of_message}
 use Rattle.cave_bindings.proofs.KeyLemmas.{count_of_keys}
 use Rattle.cave_bindings.proofs.listing.count_messages.Goals as goal
 
@@ -10,4 +10,4 @@ unfolding message_count
 returns c =
     let cave = c.args.cave.now in
     c.count_message_roles.ensures ∙ count_of_keys role_number _ _ c.message_roles.ensures
-    (λ key. has_text (message_text cave) (get cave.roles key))
+    (λ key. leads_to_text (text_of_message cave) (get cave.roles key))

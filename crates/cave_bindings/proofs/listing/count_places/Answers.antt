@@ -1,7 +1,7 @@
 use Rattle.std.proofs.Common.{◌∙◌}
 use Rattle.std.specs.FinMap.{get}
 use Rattle.cave_rows.specs.PlaceRole.{place_number}
-use Rattle.cave_bindings.specs.Listing.{has_text, place_count, place_text}
+use Rattle.cave_bindings.specs.Listing.{leads_to_text, place_count, text_of_place}
 use Rattle.cave_bindings.proofs.KeyLemmas.{count_of_keys}
 use Rattle.cave_bindings.proofs.listing.count_places.Goals as goal
 
@@ -10,4 +10,4 @@ unfolding place_count
 returns c =
     let cave = c.args.cave.now in
     c.count_place_roles.ensures ∙ count_of_keys place_number _ _ c.place_roles.ensures
-    (λ key. has_text (place_text cave) (get cave.places key))
+    (λ key. leads_to_text (text_of_place cave) (get cave.places key))

@@ -1,7 +1,7 @@
 use Rattle.std.proofs.Common.{◌++◌, ap, ◌∙◌}
 use Rattle.std.proofs.lemmas.Result.{on_ok_weaker}
 use Rattle.cave_rows.specs.Role.{role_number}
-use Rattle.cave_bindings.specs.Listing.{message_line, message_lines}
+use Rattle.cave_bindings.specs.Listing.{message_key_line, message_lines}
 use Rattle.cave_bindings.proofs.KeyLemmas.{lines_of_keys}
 use Rattle.cave_bindings.proofs.listing.push_messages.Goals as goal
 
@@ -9,6 +9,6 @@ pub returns : goal.returns
 unfolding message_lines
 returns c =
     let keys =
-    lines_of_keys role_number _ _ c.message_roles.ensures (message_line c.args.cave.now) in
+    lines_of_keys role_number _ _ c.message_roles.ensures (message_key_line c.args.cave.now) in
     on_ok_weaker c.push_message_roles.result
     (λ told. told ∙ ap (λ lines. c.args.text.now.items ++ lines) keys) c.push_message_roles.ensures

@@ -1,7 +1,7 @@
 use Rattle.std.proofs.Common.{◌++◌, ap, ◌∙◌}
 use Rattle.std.proofs.lemmas.Result.{on_ok_weaker}
 use Rattle.cave_rows.specs.PlaceRole.{place_number}
-use Rattle.cave_bindings.specs.Listing.{place_line, place_lines}
+use Rattle.cave_bindings.specs.Listing.{place_key_line, place_lines}
 use Rattle.cave_bindings.proofs.KeyLemmas.{lines_of_keys}
 use Rattle.cave_bindings.proofs.listing.push_places.Goals as goal
 
@@ -9,6 +9,6 @@ pub returns : goal.returns
 unfolding place_lines
 returns c =
     let keys =
-    lines_of_keys place_number _ _ c.place_roles.ensures (place_line c.args.cave.now) in
+    lines_of_keys place_number _ _ c.place_roles.ensures (place_key_line c.args.cave.now) in
     on_ok_weaker c.push_place_roles.result
     (λ told. told ∙ ap (λ lines. c.args.text.now.items ++ lines) keys) c.push_place_roles.ensures

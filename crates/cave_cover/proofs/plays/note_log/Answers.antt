@@ -1,7 +1,6 @@
-use Rattle.std.proofs.Common.{subst, sym, ◌∙◌}
+use Rattle.std.proofs.Common.{inl, subst}
 use Rattle.std.proofs.lemmas.Result.{err_from_is_err_and}
-use Rattle.cave_cover.specs.Marks.{Notes}
-use Rattle.cave_cover.specs.Plays.{texts_said_in}
+use Rattle.cave_cover.specs.Noted.{NotesMore}
 use Rattle.cave_cover.proofs.plays.note_log.Goals as goal
 
 pub returns-in_err-session : goal.returns-in_err-session
@@ -10,20 +9,23 @@ returns-in_err-session g c =
     let (moves, said, decided) = c.in_err-session.ensures.judged in
     rw (exit.1, exit.2) (record { judged = (moves, said, decided) })
 
+pub returns-in_err-noted : goal.returns-in_err-noted
+returns-in_err-noted g c =
+    let exit =
+    err_from_is_err_and c.from_residual-in_err-noted.result
+    c.from_residual-in_err-noted.ensures.1 in
+    let (moves, said, made) = c.in_ok-session.ensures.judged in
+    rw (exit.1, exit.2) (record { judged = (moves, said, inl (inl tt)) })
+
 pub returns : goal.returns
 returns g c =
     let (moves, said, made) = c.in_ok-session.ensures.judged in
-    let old = c.args.said.now in
-    let new = c.note_session.new.said in
-    let here =
-    subst (λ cave. Notes (texts_said_in cave c.in_ok-session.session.game) old new)
-    c.cave.ensures c.note_session.ensures in
     let noted =
-    subst (λ game. Notes (texts_said_in c.args.machine.rules.cave.now game) old new) made.1.game_is
-    here in
+    subst (λ game. NotesMore (g.N.PlayNotes.AreNotesOn c.args.machine.rules.cave.now) game
+    c.args.notes.now c.note_play-noted.new.self) made.1.game_is c.in_ok-noted.ensures in
     record { judged = (moves, said, (made.0, noted)) }
 
-pub note_session-requires : goal.note_session-requires
-note_session-requires g c =
+pub note_play-noted-requires : goal.note_play-noted-requires
+note_play-noted-requires g c =
     let (moves, said, made) = c.in_ok-session.ensures.judged in
-    made.1.cave_is ∙ sym c.cave.ensures
+    made.1.cave_is

@@ -17,8 +17,8 @@ returns-in-Err g c =
     record {
       judged =
           HasRead-refused g.L.Read.remaining c.args.logs.now place log inside same
-          c.args.machine.rules.cave.now c.args.seed c.args.said.now c.loop-place.said before.0.0 moves
-          before.0.1 here c.in-Err.fault decided;
+          (g.N.PlayNotes.AreNotesOn c.args.machine.rules.cave.now) c.args.seed c.loop-place.notes
+          before.0.0 moves before.0.1 here c.in-Err.fault decided;
     }
 
 pub loop-place-preserved : goal.loop-place-preserved
@@ -34,8 +34,8 @@ loop-place-preserved g c =
       (
         before.0.0 ++ moves ∷ [],
         HasRead-more g.L.Read.remaining c.args.logs.now place log inside same
-            c.args.machine.rules.cave.now c.args.seed c.args.said.now c.loop-place.said before.0.0 moves
-            before.0.1 here c.note_log.new.said (log_right moves noted.0) noted.1,
+            (g.N.PlayNotes.AreNotesOn c.args.machine.rules.cave.now) c.args.seed c.loop-place.notes
+            before.0.0 moves before.0.1 here c.note_log.new.notes (log_right moves noted.0) noted.1,
       ),
       same_later c.loop-place.logs c.args.logs.now place c.note_log.new.log before.1,
     )

@@ -5,6 +5,6 @@ use Rattle.cave_cover.proofs.plays.note_logs.Given as goal
 abbrev pub invariant-loop-place : goal.invariant-loop-place
 invariant-loop-place g l =
     ((read : List (List ℕ))
-    × HasRead (map g.L.Read.remaining (take l.place l.fn.logs)) l.machine.rules.cave.now l.seed
-    l.fn.said l.said read)
+    × HasRead (map g.L.Read.remaining (take l.place l.fn.logs))
+    (g.N.PlayNotes.AreNotesOn l.machine.rules.cave.now) l.seed l.notes read)
     × (drop l.place l.logs ≡ drop l.place l.fn.logs)

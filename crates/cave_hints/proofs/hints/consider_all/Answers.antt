@@ -2,7 +2,7 @@ use Rattle.std.proofs.Common.{rules, ◌≡◌, ◌+◌, ap, sym, ◌∙◌, ari
 use Rattle.cave_scene.specs.Play.{scene_of}
 use Rattle.cave_scene.specs.Rules.{cave_of}
 use Rattle.cave_hints.specs.Hints.{after_considering, after_hints_up_to}
-use Rattle.cave_hints.proofs.Steps.{after_considering-more, few-asked}
+use Rattle.cave_hints.proofs.Steps.{after_considering-more, after_hints-all, few-asked}
 use Rattle.cave_hints.proofs.hints.consider_all.Goals as goal
 use Rattle.cave_world.specs.State.{takes_no_command}
 
@@ -32,3 +32,13 @@ loop-before-preserved c =
           omega (arith, before, now)),
       search rules,
     )
+
+pub returns-clause-play : goal.returns-clause-play
+returns-clause-play c =
+    let cave = cave_of c.args.rules.now in
+    let count = c.count_hints-before-end.result in
+    let last : c.loop-before.before ≡ count = omega arith in
+    c.loop-before.invariant.0
+    ∙ ap (λ n. after_hints_up_to cave n (scene_of c.args.play.now)) last
+    ∙ after_hints-all cave count _ c.count_hints-before-end.ensures.few
+    c.count_hints-before-end.ensures.all

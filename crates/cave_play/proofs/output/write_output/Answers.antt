@@ -1,4 +1,4 @@
-use Rattle.std.proofs.Common.{◌≡◌, ℕ, ◌-◌, List, [], ◌++◌, length, take, drop, sym, ap, ◌∙◌, subst}
+use Rattle.std.proofs.Common.{◌≡◌, ℕ, ◌-◌, List, [], ◌++◌, length, take, drop, refl, sym, ap, ◌∙◌, subst}
 use Rattle.std.proofs.Common.{append-nil, append_assoc, take-append-drop}
 use lib.Seq.{take-append_seam}
 use Rattle.std.specs.declared.option.Option.{Option}
@@ -38,16 +38,21 @@ front old mid new all done rest split appended none = (
 Appends-keeps : (a b : Option (List ℕ)) → Keeps a b → Appends a b []
 Appends-keeps a b kept = Appends-kept a a b [] (Appends-nil a) kept
 
-pub returns-in-Ok-eq0-clause-front : goal.returns-in-Ok-eq0-clause-front
-returns-in-Ok-eq0-clause-front g c =
+pub returns-in-Ok-eq0 : goal.returns-in-Ok-eq0
+returns-in-Ok-eq0 g c =
     let (done, split, appended) = c.pieces.invariant in
     let none =
     subst (λ n. Appends (g.W.Write.contents c.pieces.writer)
     (g.W.Write.contents c.write.new.self) (take n c.pieces.rest.now)) c.in-Ok-eq0.field-0-test
     c.in-Ok-eq0.ensures.bytes in
-    front _ _ _ _ done _ split appended none
+    record { written = (refl, front _ _ _ _ done _ split appended none) }
 
-pub returns-in-Err-clause-front : goal.returns-in-Err-clause-front
-returns-in-Err-clause-front g c =
+pub returns-in-Err : goal.returns-in-Err
+returns-in-Err g c =
     let (done, split, appended) = c.pieces.invariant in
-    front _ _ _ _ done _ split appended (Appends-keeps _ _ c.in-Err.ensures.bytes)
+    record {
+      written = (
+        refl,
+        front _ _ _ _ done _ split appended (Appends-keeps _ _ c.in-Err.ensures.bytes),
+      );
+    }

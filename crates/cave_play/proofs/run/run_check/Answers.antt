@@ -33,6 +33,6 @@ returns g c =
         said,
         others,
         Runs-written (cave_stages database bindings) right _ _ _ _ made.0 output
-            c.write.ensures.written,
+            c.write_output.ensures.written,
       );
     }

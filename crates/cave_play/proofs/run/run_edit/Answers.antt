@@ -46,6 +46,6 @@ returns g c =
         third,
         last,
         Runs-written stages (IsEdited database bindings lines edits c.args.editing) _ _ _ _ made.0
-            output c.write.ensures.written,
+            output c.write_output.ensures.written,
       );
     }

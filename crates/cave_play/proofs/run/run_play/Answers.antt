@@ -40,6 +40,6 @@ returns g c =
         others,
         last,
         Runs-written stages (IsPlayed database bindings lines c.args.seed c.args.view) _ _ _ _
-            made.0 output c.write.ensures.written,
+            made.0 output c.write_output.ensures.written,
       );
     }

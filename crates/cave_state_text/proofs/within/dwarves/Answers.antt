@@ -1,5 +1,5 @@
 use Rattle.std.proofs.Common.{arith, refl, ◌+◌}
-use Rattle.cave_state_text.specs.Things.{dwarf_of}
+use Rattle.cave_state_text.specs.Things.{dwarf_numbered}
 use Rattle.cave_state_text.specs.Within.{IsDwarfWithin}
 use Rattle.cave_state_text.proofs.WithinLemmas.{one_more}
 use Rattle.cave_state_text.proofs.within.dwarves.Goals as goal
@@ -9,7 +9,7 @@ loop-before-init c = λ n up. absurd (omega (arith, up.0, up.1))
 
 pub loop-before-preserved : goal.loop-before-preserved
 loop-before-preserved c = λ n up.
-    one_more {P = (λ k. IsDwarfWithin (dwarf_of c.args.state.now k))} c.loop-before.before
+    one_more {P = (λ k. IsDwarfWithin (dwarf_numbered c.args.state.now k))} c.loop-before.before
     (c.loop-before.before + 1) n refl
     c.loop-before.invariant c.dwarf.ensures up
 

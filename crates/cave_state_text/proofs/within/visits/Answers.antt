@@ -1,6 +1,6 @@
 use Rattle.std.proofs.Common.{arith}
 use Rattle.cave_world.specs.State.{visits_of}
-use Rattle.cave_state_text.specs.Numbers.{IsNumber}
+use Rattle.cave_state_text.specs.Numbers.{IsWide}
 use Rattle.cave_state_text.proofs.WithinLemmas.{one_more}
 use Rattle.cave_state_text.proofs.within.visits.Goals as goal
 
@@ -9,7 +9,7 @@ loop-before-init c = λ n up. absurd (omega (arith, up.0, up.1))
 
 pub loop-before-preserved : goal.loop-before-preserved
 loop-before-preserved c = λ n up.
-    one_more {P = (λ k. IsNumber (visits_of c.args.state.now k))} c.loop-before.before
+    one_more {P = (λ k. IsWide (visits_of c.args.state.now k))} c.loop-before.before
     c.new.result n c.new.ensures
     c.loop-before.invariant c.visits_of.ensures up
 

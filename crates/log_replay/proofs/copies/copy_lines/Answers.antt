@@ -1,6 +1,6 @@
 use Rattle.std.proofs.Common.{◌∷◌, [], ap, ◌∙◌, sym}
 use Rattle.std.proofs.lemmas.List.{map-append}
-use Rattle.smallvec.specs.SmallVec.{SmallVec}
+use Rattle.log_edits.specs.LineText.{LineText}
 use Rattle.std.proofs.Common.{ℕ, List}
 use Rattle.log_edits.specs.Game.{log_of}
 use Rattle.log_edits.proofs.Lines.{take-log_of_more}
@@ -8,7 +8,7 @@ use Rattle.log_replay.proofs.copies.copy_lines.Goals as goal
 
 pub loop-line-preserved : goal.loop-line-preserved
 loop-line-preserved c =
-    let f : SmallVec ℕ → List ℕ = λ line. line.items in
+    let f : LineText → List ℕ = λ line. line.items in
     ap log_of c.in_ok-push.ensures.items
     ∙ map-append f c.loop-line.copy.items (c.in_ok-from_slice.field-0 ∷ [])
     ∙ rw (c.loop-line.invariant, c.in_ok-from_slice.ensures.ok, c.deref.ensures)

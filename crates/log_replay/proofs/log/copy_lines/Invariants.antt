@@ -1,10 +1,16 @@
-use Rattle.std.proofs.Common.{◌≡◌, ◌++◌, length}
+use Rattle.std.proofs.Common.{◌≡◌, ◌+◌, ◌≤◌, ◌++◌, IfOk, length}
 use Rattle.std.specs.Str.Lines.{lines}
 use Rattle.log_edits.specs.Game.{log_of}
+use Rattle.log_replay.specs.Opening.{first_bad_line}
 use Rattle.log_replay.proofs.log.copy_lines.Given as goal
 
-abbrev pub invariant-loop-line : goal.invariant-loop-line
-invariant-loop-line l = log_of l.copy.items ++ lines l.rest ≡ lines l.log
+abbrev pub invariant-loop-found : goal.invariant-loop-found
+invariant-loop-found l = record {
+  copied : IfOk l.copies (λ copies. log_of copies.items ++ lines l.rest ≡ lines l.log);
+  counted : l.count + length (lines l.rest) ≡ length (lines l.log);
+  bad : first_bad_line (lines l.rest) (l.count + 1) ≡ first_bad_line (lines l.log) 1;
+  fits : l.count + length l.rest ≤ length l.log;
+}
 
-abbrev pub decreases-loop-line : goal.decreases-loop-line
-decreases-loop-line l = length l.rest
+abbrev pub decreases-loop-found : goal.decreases-loop-found
+decreases-loop-found l = length l.rest

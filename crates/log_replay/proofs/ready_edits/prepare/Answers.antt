@@ -1,5 +1,5 @@
 use Rattle.std.proofs.Common.{◌≡◌, ℕ, ◌+◌, ◌-◌, ◌≤◌, List, length, ap, ◌∙◌, refl, arith, Option}
-use Rattle.smallvec.specs.SmallVec.{SmallVec}
+use Rattle.log_edits.specs.LineText.{LineText}
 use Rattle.log_edits.specs.declared.fault.GroupFault.{GroupFault}
 use Rattle.log_edits.specs.declared.margins.Margins.{Margins}
 use Rattle.log_edits.specs.declared.plan.Plan.{Plan}
@@ -16,7 +16,7 @@ use Rattle.log_edits.proofs.MarginLemmas.{after_all_narrower, margins_fits}
 use Rattle.log_replay.proofs.ready_edits.prepare.Goals as goal
 
 -- what is left alone at the end is within the log
-tail_within : {changes : List Change} (log : List (SmallVec ℕ)) {fault : Option GroupFault} {plan : Plan}
+tail_within : {changes : List Change} (log : List LineText) {fault : Option GroupFault} {plan : Plan}
     → IsPlan changes (log_of log) fault plan → plan.margins.tail ≤ length log
 tail_within {changes} log planned =
     let n = length-log_of log in
@@ -26,7 +26,7 @@ tail_within {changes} log planned =
     rw planned.margins (omega arith)
 
 -- edits that were planned and made ready
-edits_of : {changes : List Change} (log : List (SmallVec ℕ)) (seed left : ℕ) {plan : Plan}
+edits_of : {changes : List Change} (log : List LineText) (seed left : ℕ) {plan : Plan}
     (ready : ReadyEdits)
     → IsPlan changes (log_of log) (group_fault changes (log_of log) left) plan
     → changes_of ready.edits.items ≡ changes → ready.seed ≡ seed_after_all changes seed
@@ -52,7 +52,7 @@ edits_of {changes} log seed left {plan} ready planned same seed_is head rest =
     }
 
 -- such edits are ready
-ready_of : {changes : List Change} (log : List (SmallVec ℕ)) (seed : ℕ) {fault : Option GroupFault}
+ready_of : {changes : List Change} (log : List LineText) (seed : ℕ) {fault : Option GroupFault}
     {plan : Plan} (ready : ReadyEdits) → IsPlan changes (log_of log) fault plan
     → AreEditsOf changes seed log ready → ready.lines ≡ plan.lines
     → IsGame (game_of seed (log_of log)) → IsReady seed log ready
@@ -66,7 +66,7 @@ ready_of log seed ready planned edits lines good = record {
 }
 
 -- and the meter has room for what they leave
-fits_of : {changes : List Change} (log : List (SmallVec ℕ)) (left : ℕ) {plan : Plan}
+fits_of : {changes : List Change} (log : List LineText) (left : ℕ) {plan : Plan}
     → IsPlan changes (log_of log) (group_fault changes (log_of log) left) plan
     → (made : List Change) → made ≡ changes → length (log_after_all made (log_of log)) ≤ left
 fits_of {changes} log left planned made same =

@@ -1,7 +1,7 @@
 use Rattle.std.proofs.Common.{◌≡◌, ℕ, List, length, map, ap, ◌∙◌, refl, sym, arith}
 use Rattle.std.specs.Prelude.{slice_index}
 use Rattle.std.proofs.lemmas.List.{length-map}
-use Rattle.smallvec.specs.SmallVec.{SmallVec}
+use Rattle.log_edits.specs.LineText.{LineText}
 use Rattle.log_replay.specs.declared.playthrough.Playthrough.{Playthrough}
 use Rattle.log_replay.specs.declared.ready_edits.ReadyEdits.{ReadyEdits}
 use Rattle.log_edits.specs.Game.{Game}
@@ -20,9 +20,9 @@ use Rattle.log_replay.proofs.TakeoverLemmas.{states_same, opened_text}
 use Rattle.log_replay.proofs.replay.edit_kept.Goals as goal
 
 -- what the edits make of the game, once there is room, is what the changes make of the old one
-make_same : {Machine State Piece Meter Scratch X : Type 0} (make : List Change → Game → X)
-    {changes : List Change} {seed : ℕ} {log : List (SmallVec ℕ)} {ready : ReadyEdits}
-    {old roomy : Playthrough Machine State Piece Meter Scratch} → AreEditsOf changes seed log ready
+make_same : {Machine State Kept Piece Meter Scratch X : Type 0} (make : List Change → Game → X)
+    {changes : List Change} {seed : ℕ} {log : List LineText} {ready : ReadyEdits}
+    {old roomy : Playthrough Machine State Kept Piece Meter Scratch} → AreEditsOf changes seed log ready
     → KeepsAll old roomy
     → make (changes_of ready.edits.items) (kept_game roomy) ≡ make changes (kept_game old)
 make_same make edits same = rw (edits.edits, same.seed, same.log) refl

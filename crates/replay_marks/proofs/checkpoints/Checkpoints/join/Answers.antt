@@ -15,11 +15,11 @@ shift-requires-clause-after g c =
     let head = c.saturating_sub-head.result in
     let spliced = c.splice.new.self.places in
     let r = subst
-    (λ (v : CheckpointsView g.row.S.Denot).
+    (λ (v : CheckpointsView g.row.K-State.Denot).
     IsRest v.every v.places v.lines c.args.seam.old c.args.seam.rest) (sym c.self.view_is)
     c.requires.rest in
     let among : c.args.seam.at < length places =
-    subst (λ (v : CheckpointsView g.row.S.Denot). c.args.seam.at < length v.places)
+    subst (λ (v : CheckpointsView g.row.K-State.Denot). c.args.seam.at < length v.places)
     (sym c.self.view_is) c.requires.among in
     let within : head ≤ length places = omega arith in
     let tail : c.len-2.result - (c.len.result - c.args.seam.rest) ≡ head + length middle =
@@ -48,14 +48,14 @@ shift-requires-clause-fits g c =
     let head = c.saturating_sub-head.result in
     let spliced = c.splice.new.self.places in
     let r = subst
-    (λ (v : CheckpointsView g.row.S.Denot).
+    (λ (v : CheckpointsView g.row.K-State.Denot).
     IsRest v.every v.places v.lines c.args.seam.old c.args.seam.rest) (sym c.self.view_is)
     c.requires.rest in
     let among : c.args.seam.at < length places =
-    subst (λ (v : CheckpointsView g.row.S.Denot). c.args.seam.at < length v.places)
+    subst (λ (v : CheckpointsView g.row.K-State.Denot). c.args.seam.at < length v.places)
     (sym c.self.view_is) c.requires.among in
     let end : inside.lines - c.args.seam.old + c.args.seam.new ≡ c.args.end =
-    subst (λ (v : CheckpointsView g.row.S.Denot). v.lines - c.args.seam.old + c.args.seam.new
+    subst (λ (v : CheckpointsView g.row.K-State.Denot). v.lines - c.args.seam.old + c.args.seam.new
     ≡ c.args.end) (sym c.self.view_is) c.requires.end in
     let within : head ≤ length places = omega arith in
     let tail : c.len-2.result - (c.len.result - c.args.seam.rest) ≡ head + length middle =
@@ -81,17 +81,17 @@ invariant_of-self g c =
     let middle = c.args.middle.places in
     let head = c.saturating_sub-head.result in
     let r = subst
-    (λ (v : CheckpointsView g.row.S.Denot).
+    (λ (v : CheckpointsView g.row.K-State.Denot).
     IsRest v.every v.places v.lines c.args.seam.old c.args.seam.rest) (sym c.self.view_is)
     c.requires.rest in
     let among : c.args.seam.at < length places =
-    subst (λ (v : CheckpointsView g.row.S.Denot). c.args.seam.at < length v.places)
+    subst (λ (v : CheckpointsView g.row.K-State.Denot). c.args.seam.at < length v.places)
     (sym c.self.view_is) c.requires.among in
     let end : inside.lines - c.args.seam.old + c.args.seam.new ≡ c.args.end =
-    subst (λ (v : CheckpointsView g.row.S.Denot). v.lines - c.args.seam.old + c.args.seam.new
+    subst (λ (v : CheckpointsView g.row.K-State.Denot). v.lines - c.args.seam.old + c.args.seam.new
     ≡ c.args.end) (sym c.self.view_is) c.requires.end in
     let thinned =
-    subst (λ (v : CheckpointsView g.row.S.Denot).
+    subst (λ (v : CheckpointsView g.row.K-State.Denot).
     IsThinned (slice_index v.places (c.args.seam.at - 1)) (slice_index v.places c.args.seam.at) v.every
     middle (next_place v.places c.args.seam.rest c.args.seam.old c.args.seam.new c.args.end))
     (sym c.self.view_is) c.requires.thinned in
@@ -126,11 +126,11 @@ returns-clause-places g c =
     let middle = c.args.middle.places in
     let head = c.saturating_sub-head.result in
     let r = subst
-    (λ (v : CheckpointsView g.row.S.Denot).
+    (λ (v : CheckpointsView g.row.K-State.Denot).
     IsRest v.every v.places v.lines c.args.seam.old c.args.seam.rest) (sym c.self.view_is)
     c.requires.rest in
     let among : c.args.seam.at < length places =
-    subst (λ (v : CheckpointsView g.row.S.Denot). c.args.seam.at < length v.places)
+    subst (λ (v : CheckpointsView g.row.K-State.Denot). c.args.seam.at < length v.places)
     (sym c.self.view_is) c.requires.among in
     let within : head ≤ length places = omega arith in
     let tail : c.len-2.result - (c.len.result - c.args.seam.rest) ≡ head + length middle =
@@ -145,5 +145,5 @@ returns-clause-places g c =
     c.splice.ensures.places c.args.seam.old c.args.seam.new c.shift.new.self.places c.shift.ensures.places
     ∙ ap (λ front. take front places
     ++ (middle ++ after_shift places c.args.seam.rest c.args.seam.old c.args.seam.new)) head_is
-    ∙ ap (λ (v : CheckpointsView g.row.S.Denot). take (c.args.seam.at - 1) v.places
+    ∙ ap (λ (v : CheckpointsView g.row.K-State.Denot). take (c.args.seam.at - 1) v.places
     ++ (middle ++ after_shift v.places c.args.seam.rest c.args.seam.old c.args.seam.new)) c.self.view_is

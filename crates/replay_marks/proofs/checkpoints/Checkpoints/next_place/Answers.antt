@@ -10,7 +10,7 @@ pub overflow_add-result : goal.overflow_add-result
 overflow_add-result g c =
     let inside = c.self.inside in
     let end =
-    subst (λ (v : CheckpointsView g.row.S.Denot). v.lines - slice_index v.places c.args.met
+    subst (λ (v : CheckpointsView g.row.K-State.Denot). v.lines - slice_index v.places c.args.met
     + c.args.new ≡ c.args.end) (sym c.self.view_is) c.requires.end in
     let within =
     place_within 0 inside.every inside.kept.places inside.lines c.self.invariant.spaced
@@ -21,7 +21,7 @@ pub returns-then-met-count-clause-within : goal.returns-then-met-count-clause-wi
 returns-then-met-count-clause-within g c =
     let inside = c.self.inside in
     let end =
-    subst (λ (v : CheckpointsView g.row.S.Denot). v.lines - slice_index v.places c.args.met
+    subst (λ (v : CheckpointsView g.row.K-State.Denot). v.lines - slice_index v.places c.args.met
     + c.args.new ≡ c.args.end) (sym c.self.view_is) c.requires.end in
     let within =
     place_within 0 inside.every inside.kept.places inside.lines c.self.invariant.spaced
@@ -34,6 +34,6 @@ returns-then-met-count-clause-rest g c =
     let rest =
     rest_behind inside.every inside.kept.places inside.lines c.args.met c.self.invariant.spaced
     (omega arith) in
-    subst (λ (v : CheckpointsView g.row.S.Denot).
+    subst (λ (v : CheckpointsView g.row.K-State.Denot).
     IsRest v.every v.places v.lines (slice_index v.places c.args.met) (c.args.met + 1))
     c.self.view_is rest

@@ -1,14 +1,14 @@
 use Rattle.std.proofs.Common.{rules, sym, ◌∙◌}
 use Rattle.replay_marks.proofs.OfferLemmas.{sound_kept, sound_passed}
 use Rattle.replay_marks.proofs.marks.Marks.advance.Goals as goal
-use Rattle.replay_marks.proofs.marks.Marks.advance.Goals.{then-is_far+in_ok-opened+in_ok-reserve}
+use Rattle.replay_marks.proofs.marks.Marks.advance.Goals.{then-is_far+in_ok-open+in_ok-reserve}
 use Rattle.replay_marks.proofs.marks.Marks.advance.Goals.{else-is_far}
 
 pub invariant_of-self-2 : goal.invariant_of-self-2
 invariant_of-self-2 g c =
     let marks = c.self.inside in
     elim c.if-is_far.branch [
-      | then-is_far+in_ok-opened+in_ok-reserve w ↦
+      | then-is_far+in_ok-open+in_ok-reserve w ↦
           let same = w.in_ok-reserve.ensures.places in
           let places = rw same at w.push.ensures.places in
           let states = rw w.in_ok-reserve.ensures.states at w.push.ensures.states in

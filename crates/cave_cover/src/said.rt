@@ -1,0 +1,73 @@
+//! Which texts plays say.
+
+ghost use Rattle.std.specs.Prelude.{◌≡◌};
+ghost use Rattle.std.specs.List.{flat_map};
+ghost use Rattle.cave_cover.specs.Marks.{Notes};
+ghost use Rattle.cave_cover.specs.Plays.{texts_said_in};
+ghost use Rattle.cave_cover.specs.Texts.{said_by_all};
+
+use crate::marks::SaidTexts;
+use crate::missing::push_view;
+use crate::notes::PlayNotes;
+use crate::parts::note_parts;
+use cave_data::Cave;
+use cave_play::machine::CaveMachine;
+use cave_play::piece::Piece;
+use edit_options::CoverView;
+use log_replay::Session;
+use std::alloc::{AllocError, Global};
+
+/// Notes what was said at each line.
+fn note_pieces(said: &mut SaidTexts, cave: &Cave, pieces: &[Piece])
+    ensures { Notes (flat_map (λ piece. said_by_all cave.now piece.items) pieces.now)
+        said.old said.new }
+{
+    for piece in pieces {
+        note_parts(said, cave, piece);
+    }
+}
+
+/// Notes what the play that a session holds says.
+fn note_session(said: &mut SaidTexts, cave: &Cave, session: &Session<CaveMachine<'_>>)
+    requires { session.now.machine.rules.cave.now ≡ cave.now }
+    ensures { Notes (texts_said_in cave.now session.now.game) said.old said.new }
+{
+    note_parts(said, cave, session.opening());
+    note_pieces(said, cave, session.pieces());
+}
+
+impl PlayNotes for SaidTexts {
+    ghost use Rattle.cave_cover.specs.Marks.{AreMarksOf};
+    ghost use Rattle.cave_cover.specs.Plays.{report_on_games, said_in_games};
+
+    type View = CoverView;
+
+    ghost AreNotesOn = { λ cave games marks. AreMarksOf (said_in_games cave games) marks };
+
+    ghost report_on = { λ cave view games. report_on_games cave view games };
+
+    fn none(alloc: Global) -> Result<SaidTexts, AllocError> {
+        SaidTexts::new(alloc)
+    }
+
+    fn note_play(
+        &mut self,
+        _alloc: Global,
+        machine: CaveMachine<'_>,
+        session: &Session<CaveMachine<'_>>,
+    ) -> Result<(), AllocError> {
+        note_session(self, machine.cave(), session);
+        Ok(())
+    }
+
+    fn push_report(
+        &self,
+        alloc: Global,
+        cave: &Cave,
+        view: CoverView,
+        logs: usize,
+        text: &mut Vec<u8>,
+    ) -> Result<(), AllocError> {
+        push_view(alloc, cave, self, view, logs, text)
+    }
+}

@@ -1,0 +1,86 @@
+-- Each node and each edge is one line.
+use Rattle.std.proofs.Common.{◌≡◌, ℕ, Bool, true, false, refl, ◌∙◌, ◌++◌, cond, List}
+use Rattle.std.specs.Prelude.{◌==◌, ◌&&◌, not, codes}
+use Rattle.std.specs.Fmt.{decimal}
+use Rattle.cave_data.specs.CaveView.{CaveView}
+use Rattle.cave_world.specs.Sight.{LIGHT_BIT, has_condition, is_forced}
+use Rattle.cave_graph.specs.Edges.{edge, edge_opening, edge_text, heads, is_edge_taken}
+use Rattle.cave_graph.specs.Labels.{quoted}
+use Rattle.cave_graph.specs.Laws.{EdgesAreLines, NodesAreLines}
+use Rattle.cave_graph.specs.Lines.{is_one_line}
+use Rattle.cave_graph.specs.Places.{look_of_place, node, node_opening, node_end, node_text, nowhere_note}
+use Rattle.cave_graph.specs.Places.{strength}
+use Rattle.cave_graph.specs.Stops.{is_taken, is_visited}
+use Rattle.cave_graph.specs.Ways.{count_nowhere, is_both_ways}
+use Rattle.cave_graph.proofs.LineLemmas.{both_within, decimal_within, is_within_line, line_after}
+use Rattle.cave_graph.proofs.LineLemmas.{quoted_within}
+
+cond_within : (test : Bool) (a b : List ℕ) → is_within_line a ≡ true → is_within_line b ≡ true
+    → is_within_line (cond test a b) ≡ true
+cond_within true a b first second = first
+cond_within false a b first second = second
+
+look_within : (cave : CaveView) (place : ℕ) → is_within_line (look_of_place cave place) ≡ true
+unfolding look_of_place
+look_within cave place =
+    cond_within (is_forced cave place) _ _ refl
+    (cond_within (has_condition cave place LIGHT_BIT) _ _ refl refl)
+
+strength_within : (logs : ℕ) (is_reached : Bool) → is_within_line (strength logs is_reached) ≡ true
+unfolding strength
+strength_within logs is_reached =
+    cond_within (logs == 0) _ _ refl (cond_within is_reached _ _ refl refl)
+
+note_within : (count : ℕ) → is_within_line (nowhere_note count) ≡ true
+note_within count =
+    cond_within (count == 0) _ _ refl
+    (both_within (codes " // ways not drawn: ") (decimal count) refl (decimal_within count))
+
+heads_within : (is_both is_taken is_taken_back : Bool)
+    → is_within_line (heads is_both is_taken is_taken_back) ≡ true
+unfolding heads
+heads_within is_both is_taken is_taken_back =
+    cond_within (not is_both) _ _ refl
+    (cond_within (is_taken && not is_taken_back) _ _ refl
+    (cond_within (is_taken_back && not is_taken) _ _ refl refl))
+
+end_is_one_line : (count : ℕ) → is_one_line (node_end count) ≡ true
+end_is_one_line count =
+    line_after (codes "];") (nowhere_note count ++ codes "\n") refl
+    ∙ line_after (nowhere_note count) (codes "\n") (note_within count)
+
+opening_within : (place : ℕ) → is_within_line (node_opening place) ≡ true
+opening_within place =
+    both_within (codes "  ") (decimal place ++ codes " [label=") refl
+    (both_within (decimal place) (codes " [label=") (decimal_within place) refl)
+
+pub nodes_are_lines : NodesAreLines
+unfolding node
+nodes_are_lines cave stops logs place =
+    line_after (node_opening place) _ (opening_within place)
+    ∙ line_after (quoted (node_text cave stops place)) _ (quoted_within (node_text cave stops place))
+    ∙ line_after (look_of_place cave place) _ (look_within cave place)
+    ∙ line_after (strength logs (is_visited stops place)) (node_end (count_nowhere cave place))
+    (strength_within logs (is_visited stops place))
+    ∙ end_is_one_line (count_nowhere cave place)
+
+ends_within : (from to : ℕ) → is_within_line (edge_opening from to) ≡ true
+ends_within from to =
+    both_within (codes "  ") (decimal from ++ (codes " -> " ++ (decimal to ++ codes " [label=")))
+    refl
+    (both_within (decimal from) (codes " -> " ++ (decimal to ++ codes " [label="))
+    (decimal_within from)
+    (both_within (codes " -> ") (decimal to ++ codes " [label=") refl
+    (both_within (decimal to) (codes " [label=") (decimal_within to) refl)))
+
+pub edges_are_lines : EdgesAreLines
+unfolding edge
+edges_are_lines cave stops logs from to =
+    let is_both = is_both_ways cave from to in
+    let there = is_taken stops from to in
+    let back = is_taken stops to from in
+    line_after (edge_opening from to) _ (ends_within from to)
+    ∙ line_after (quoted (edge_text cave from to)) _ (quoted_within (edge_text cave from to))
+    ∙ line_after (heads is_both there back) _ (heads_within is_both there back)
+    ∙ line_after (strength logs (is_edge_taken cave stops from to)) _
+    (strength_within logs (is_edge_taken cave stops from to))

@@ -1,0 +1,9 @@
+pub mod Ways
+pub mod Stops
+pub mod Labels
+pub mod Lines
+pub mod Names
+pub mod Places
+pub mod Edges
+pub mod Map
+pub mod Laws

@@ -1,0 +1,115 @@
+-- The node of a place.
+use Rattle.std.specs.Prelude.{ℕ, pos, Bool, false, ◌==◌, ◌||◌, if◌then◌else◌}
+use Rattle.std.specs.Prelude.{List, [], ◌∷◌, ◌++◌, codes, Option, None, Some, unwrap_or}
+use Rattle.std.specs.Prelude.{slice_index_or}
+use Rattle.std.specs.Fmt.{decimal}
+use Rattle.std.specs.List.{filter, flat_map, range_with_len}
+use Rattle.std.specs.FinMap as map
+use Rattle.std.specs.Option.{option_or}
+use Rattle.std.specs.Ordering.{int_eq}
+use Rattle.cave_data.specs.CaveView.{CaveView, placement_of}
+use Rattle.cave_numbers.specs.Numbers.{last_object}
+use Rattle.cave_rows.specs.PlaceRole.{place_names, place_number}
+use Rattle.cave_rows.specs.declared.place_role.PlaceRole.{PlaceRole}
+use Rattle.cave_rows.specs.declared.place_role.PlaceRole.TheVariants as role
+use Rattle.cave_world.specs.Sight.{LIGHT_BIT, has_condition, is_forced}
+use Rattle.cave_graph.specs.Labels.{quoted}
+use Rattle.cave_graph.specs.Names.{opening_words, word_or_number, number_of_object}
+use Rattle.cave_graph.specs.Stops.{is_visited, visits}
+use Rattle.cave_graph.specs.Ways.{count_nowhere}
+use Rattle.cave_graph.specs.declared.stops.Stop.{Stop}
+
+-- how many words of a text are on the map
+abbrev pub WORDS_SHOWN : ℕ
+WORDS_SHOWN = 7
+
+-- the first words of the short text, or of the long one where there is no short one
+abbrev pub title : CaveView → ℕ → List ℕ
+title cave place =
+    opening_words WORDS_SHOWN
+    (unwrap_or (option_or (map.get cave.short place) (map.get cave.long place)) [])
+
+-- a half of the object is there as a game begins
+abbrev pub begins_at : CaveView → ℕ → ℕ → Bool
+begins_at cave place object =
+    (placement_of cave object).first == place
+    || int_eq (placement_of cave object).second (pos place)
+
+-- the objects that begin at the place
+unfoldable pub objects_beginning : CaveView → ℕ → List ℕ
+objects_beginning cave place = filter (begins_at cave place) (range_with_len 1 last_object)
+
+-- the line of an object
+abbrev pub object_label_line : CaveView → ℕ → List ℕ
+object_label_line cave object =
+    codes "+" ++ (word_or_number cave (number_of_object object) ++ codes "\n")
+
+-- the roles of places, in the order of their names
+abbrev pub place_roles : List PlaceRole
+place_roles =
+    role.Start ∷ role.Building ∷ role.Outside ∷ role.Deep ∷ role.Alcove ∷ role.Plover ∷ role.Y2
+    ∷ role.Chest ∷ role.Message ∷ role.Dwarfalt ∷ role.Dwarf1 ∷ role.Dwarf2 ∷ role.Dwarf3
+    ∷ role.Dwarf4 ∷ role.Dwarf5 ∷ role.Culdesac ∷ role.Witt ∷ role.Ne ∷ role.Sw ∷ []
+
+abbrev pub is_number : Option ℕ → ℕ → Bool
+is_number None number = false
+is_number (Some found) number = found == number
+
+-- the line of a role, if the place has it
+abbrev pub role_label_line : CaveView → ℕ → PlaceRole → List ℕ
+role_label_line cave place role =
+    if is_number (map.get cave.places (place_number role)) place
+    then codes "= " ++ (slice_index_or place_names (place_number role) [] ++ codes "\n") else []
+
+-- the line of the visits, if there are any
+abbrev pub visits_label_line : ℕ → List ℕ
+visits_label_line count =
+    if count == 0 then [] else codes "visits " ++ (decimal count ++ codes "\n")
+
+-- the line of a place: its number and its title
+abbrev pub title_line : CaveView → ℕ → List ℕ
+title_line cave place = decimal place ++ (codes " " ++ (title cave place ++ codes "\n"))
+
+-- what is written at a node, line by line
+unfoldable pub node_text : CaveView → List Stop → ℕ → List ℕ
+node_text cave stops place =
+    title_line cave place
+    ++ (flat_map (object_label_line cave) (objects_beginning cave place)
+    ++ (flat_map (role_label_line cave place) place_roles
+    ++ visits_label_line (visits stops place)))
+
+-- a place of a forced motion is a point, and one without light is dark
+unfoldable pub look_of_place : CaveView → ℕ → List ℕ
+look_of_place cave place =
+    if is_forced cave place then codes ", shape=point, width=0.12"
+    else (if has_condition cave place LIGHT_BIT then []
+    else codes ", fillcolor=gray80")
+
+-- how strong something is drawn: without logs as it is, with logs strong where they were and
+-- grey elsewhere
+unfoldable pub strength : ℕ → Bool → List ℕ
+strength logs is_reached =
+    if logs == 0 then []
+    else (if is_reached then codes ", penwidth=2.5"
+    else codes ", color=gray65, fontcolor=gray40")
+
+-- how many rows lead to no place, if there are any, as a comment
+abbrev pub nowhere_note : ℕ → List ℕ
+nowhere_note count = if count == 0 then []
+    else codes " // ways not drawn: " ++ decimal count
+
+-- how the line of a node begins
+abbrev pub node_opening : ℕ → List ℕ
+node_opening place = codes "  " ++ (decimal place ++ codes " [label=")
+
+-- how it ends
+abbrev pub node_end : ℕ → List ℕ
+node_end count = codes "];" ++ (nowhere_note count ++ codes "\n")
+
+-- the line of a node
+unfoldable pub node : CaveView → List Stop → ℕ → ℕ → List ℕ
+node cave stops logs place =
+    node_opening place
+    ++ (quoted (node_text cave stops place)
+    ++ (look_of_place cave place
+    ++ (strength logs (is_visited stops place) ++ node_end (count_nowhere cave place))))

@@ -1,0 +1,36 @@
+-- Where a player is in a state of a play, and where the player comes from.
+use Rattle.std.specs.Prelude.{ℕ, Bool, ◌==◌, ◌&&◌, ◌||◌, not, List, length}
+use Rattle.std.specs.List.{filter, list_any}
+use Rattle.cave_world.specs.declared.state.Trail.{Trail}
+use Rattle.cave_graph.specs.declared.stops.Stop.{Stop}
+
+-- a stop of a play: the trail of a state, and the place of the state before
+abbrev pub stop : ℕ → Trail → Stop
+stop before trail = record { before = before; trail = trail }
+
+-- the player is at the place, or came through it
+abbrev pub is_at : ℕ → Stop → Bool
+is_at place stop =
+    stop.trail.here == place || stop.trail.last == place || stop.trail.older == place
+
+-- the player came from the one place to the other
+abbrev pub comes_by : ℕ → ℕ → Stop → Bool
+comes_by from to stop =
+    (stop.trail.last == from && stop.trail.here == to)
+    || (stop.trail.older == from && stop.trail.last == to)
+
+-- the player is at the place, and wasn't there before
+abbrev pub arrives_at : ℕ → Stop → Bool
+arrives_at place stop = stop.trail.here == place && not (stop.before == place)
+
+-- a play was at the place
+abbrev pub is_visited : List Stop → ℕ → Bool
+is_visited stops place = list_any (is_at place) stops
+
+-- a play took a way from the one place to the other
+abbrev pub is_taken : List Stop → ℕ → ℕ → Bool
+is_taken stops from to = list_any (comes_by from to) stops
+
+-- how often plays came to the place
+abbrev pub visits : List Stop → ℕ → ℕ
+visits stops place = length (filter (arrives_at place) stops)

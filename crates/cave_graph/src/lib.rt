@@ -1,0 +1,12 @@
+//! The map of a cave as a graph in Graphviz's language, with what plays saw of it.
+#![tactic(auto)]
+
+pub mod edges;
+pub mod labels;
+pub mod laws;
+pub mod map;
+pub mod names;
+pub mod nodes;
+pub mod stops;
+pub mod titles;
+pub mod ways;

@@ -1,0 +1,119 @@
+//! How motions, objects and conditions are named.
+
+ghost use Rattle.std.specs.Prelude.{◌≡◌, ◌<◌, ◌≤◌, ◌++◌, OnOk, option_map};
+ghost use Rattle.cave_graph.specs.Names.{condition_mark, first_word, number_of_object, object_mark};
+ghost use Rattle.cave_graph.specs.Names.{word_or_number};
+ghost use Rattle.cave_numbers.specs.Numbers.{last_object};
+
+use cave_data::{Cave, WordTable};
+use cave_world::travel::NOT_FOR_DWARVES;
+use std::alloc::{AllocError, Global};
+
+/// A condition above it asks for an object that is carried, by its number above it.
+const CARRIED_AFTER: u32 = 100;
+
+/// A condition up to it asks for an object that is carried.
+const LAST_CARRIED: u32 = 200;
+
+/// A condition up to it asks for an object that is here or carried; those above it for a prop.
+const LAST_AT_HAND: u32 = 300;
+
+/// How many conditions ask for a prop, one for each number of an object.
+const PER_PROP: u32 = 100;
+
+/// How often a condition that asks for a prop has `PER_PROP` besides the prop.
+const PROPS_AFTER: u32 = 3;
+
+/// How many numbers a class of words has: those of motions come first, and then those of objects.
+const PER_CLASS: u16 = 1000;
+
+/// The first of the words that has a number.
+fn first_word(words: &WordTable, number: u16) -> Option<&[u8]>
+    ensures { option_map (λ word. word.now) result ≡ first_word words.now number }
+{
+    for index in 0..words.len() {
+        let row = words.row(index);
+        if row.number == number {
+            return Some(row.word);
+        }
+    }
+    None
+}
+
+/// Appends a blank and the first word of a number, or the number of the motion or the object.
+#[tactic(auto, unfolding(crate::specs::Names::word_or_number))]
+pub fn push_word_or_number(
+    alloc: Global,
+    cave: &Cave,
+    number: u16,
+    text: &mut Vec<u8>,
+) -> Result<(), AllocError>
+    ensures { OnOk result (text.new.items ≡ text.old.items ++ word_or_number cave.now number) }
+{
+    match first_word(cave.words(), number) {
+        Some(word) => {
+            text.extend_from_slice(b" ")?;
+            text.extend_from_slice(word)
+        }
+        None => {
+            let number = number % PER_CLASS;
+            let name = format!(in alloc; " {number}")?;
+            text.extend_from_slice(name.as_bytes())
+        }
+    }
+}
+
+/// The number of the word of an object.
+pub fn number_of_object(object: u16) -> u16
+    requires { object ≤ last_object }
+    ensures { result ≡ number_of_object object }
+{
+    PER_CLASS + object
+}
+
+/// Appends what is asked of an object, with the object.
+fn push_object_mark(
+    alloc: Global,
+    cave: &Cave,
+    asked: &str,
+    object: u32,
+    text: &mut Vec<u8>,
+) -> Result<(), AllocError>
+    requires { object ≤ last_object }
+    ensures { OnOk result
+        (text.new.items ≡ text.old.items ++ object_mark cave.now asked.now object) }
+{
+    text.extend_from_slice(asked.as_bytes())?;
+    push_word_or_number(alloc, cave, number_of_object(object as u16), text)
+}
+
+/// Appends the condition of a way as a mark.
+#[tactic(auto, unfolding(crate::specs::Names::condition_mark))]
+pub fn push_condition_mark(
+    alloc: Global,
+    cave: &Cave,
+    condition: u32,
+    text: &mut Vec<u8>,
+) -> Result<(), AllocError>
+    ensures { OnOk result (text.new.items ≡ text.old.items ++ condition_mark cave.now condition) }
+{
+    if condition == 0 || condition == NOT_FOR_DWARVES {
+        return Ok(());
+    }
+    if condition < NOT_FOR_DWARVES {
+        let chance = format!(in alloc; " ({condition} %)")?;
+        return text.extend_from_slice(chance.as_bytes());
+    }
+    if condition <= LAST_CARRIED {
+        push_object_mark(alloc, cave, " (with", condition - CARRIED_AFTER, text)?;
+        return text.extend_from_slice(b")");
+    }
+    if condition <= LAST_AT_HAND {
+        push_object_mark(alloc, cave, " (near", condition - LAST_CARRIED, text)?;
+        return text.extend_from_slice(b")");
+    }
+    push_object_mark(alloc, cave, " (if prop of", condition % PER_PROP, text)?;
+    let prop = condition / PER_PROP - PROPS_AFTER;
+    let rest = format!(in alloc; " isn't {prop})")?;
+    text.extend_from_slice(rest.as_bytes())
+}

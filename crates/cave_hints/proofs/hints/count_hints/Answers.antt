@@ -1,0 +1,8 @@
+use Rattle.std.proofs.Common.{◌≡◌, ◌-◌, min, arith}
+use Rattle.cave_hints.proofs.Steps.{few_hints}
+use Rattle.cave_hints.proofs.hints.count_hints.Goals as goal
+
+pub returns-clause-all : goal.returns-clause-all
+returns-clause-all c =
+    let few : c.min.result ≡ min (c.hint_end.result - 4) 17 = omega arith in
+    few_hints c.args.cave.now c.hint_end.result c.min.result c.hint_end.ensures few

@@ -1,0 +1,67 @@
+-- Maps by stops that say the same of each place and of each way are the same.
+use Rattle.std.proofs.Common.{◌≡◌, ℕ, Bool, cond, List, [], ◌∷◌, length, refl, ap, ap₂}
+use Rattle.std.specs.List.{filter}
+use Rattle.cave_cover.proofs.Agreeing.{agree_flat, agree_sum}
+use Rattle.cave_data.specs.CaveView.{CaveView}
+use Rattle.cave_graph.specs.Edges.{edge, edges}
+use Rattle.cave_graph.specs.Map.{count_taken, ends_taken, map_by_stops, places_visited, sums}
+use Rattle.cave_graph.specs.Places.{node, node_text}
+use Rattle.cave_graph.specs.Stops.{is_taken, is_visited, visits}
+use Rattle.cave_graph.specs.Ways.{ends_of_edges, ends_of_ways, mapped_places}
+use Rattle.cave_graph.specs.declared.stops.Stop.{Stop}
+
+agree_filter : {X : Type 0} (p q : X → Bool) (xs : List X) → ((x : X) → p x ≡ q x)
+    → filter p xs ≡ filter q xs
+agree_filter p q [] agree = refl
+agree_filter p q (x ∷ xs) agree =
+    ap₂ (λ b rest. cond b (x ∷ rest) rest) (agree x) (agree_filter p q xs agree)
+
+module _ (cave : CaveView) (stops others : List Stop)
+    (visited : (place : ℕ) → is_visited stops place ≡ is_visited others place)
+    (taken : (from to : ℕ) → is_taken stops from to ≡ is_taken others from to)
+    (counted : (place : ℕ) → visits stops place ≡ visits others place) where
+  agree_node : (logs place : ℕ) → node cave stops logs place ≡ node cave others logs place
+  unfolding node node_text
+  agree_node logs place = rw (visited place, counted place) refl
+
+  agree_edge : (logs from to : ℕ) → edge cave stops logs from to ≡ edge cave others logs from to
+  unfolding edge
+  agree_edge logs from to = rw (taken from to, taken to from) refl
+
+  agree_edges : (logs from : ℕ) → edges cave stops logs from ≡ edges cave others logs from
+  agree_edges logs from =
+      agree_flat (edge cave stops logs from) (edge cave others logs from)
+      (ends_of_edges cave from) (agree_edge logs from)
+
+  agree_visited : places_visited cave stops ≡ places_visited cave others
+  unfolding places_visited
+  agree_visited =
+      agree_filter (is_visited stops) (is_visited others) (mapped_places cave) visited
+
+  agree_taken : (from : ℕ) → ends_taken cave stops from ≡ ends_taken cave others from
+  unfolding ends_taken
+  agree_taken from =
+      agree_filter (is_taken stops from) (is_taken others from) (ends_of_ways cave from)
+      (taken from)
+
+  agree_count : count_taken cave stops ≡ count_taken cave others
+  unfolding count_taken
+  agree_count =
+      agree_sum (λ from. length (ends_taken cave stops from))
+      (λ from. length (ends_taken cave others from)) (mapped_places cave)
+      (λ from. ap length (agree_taken from))
+
+  agree_sums : (logs : ℕ) → sums cave stops logs ≡ sums cave others logs
+  unfolding sums
+  agree_sums logs = rw (agree_visited, agree_count) refl
+
+  pub agree_map : (logs : ℕ) → map_by_stops cave stops logs ≡ map_by_stops cave others logs
+  unfolding map_by_stops
+  agree_map logs =
+      rw (
+        agree_flat (node cave stops logs) (node cave others logs) (mapped_places cave)
+            (agree_node logs),
+        agree_flat (edges cave stops logs) (edges cave others logs) (mapped_places cave)
+            (agree_edges logs),
+        agree_sums logs,
+      ) refl
