@@ -225,8 +225,8 @@ fn fail(rt: &HostRuntime, fault: PlayFault, file: Option<&str>) -> ExitCode {
     ExitCode::from(fault.status())
 }
 
-/// A text without the parser's tip to put `--` before an option that isn't known, so that it would be
-/// taken for a file.
+/// A text without the parser's tip to put `--` before an option that isn't known, so that it would
+/// be taken for a file.
 fn without_tip(text: &str) -> (&str, &str) {
     let Some((before, tip)) = text.split_once("\n  tip: to pass ") else {
         return (text, "");

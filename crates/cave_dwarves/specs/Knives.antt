@@ -12,7 +12,7 @@ use Rattle.cave_dwarves.specs.declared.knives.Threat.TheVariants as threat
 use Rattle.cave_dwarves.specs.declared.knives.Attack.{Attack}
 
 -- what a dwarf did, and what the state is then
-pub record Act : Type 0 where
+pub record DwarfStep : Type 0 where
   pub threat : Threat
   pub state : State
 
@@ -29,8 +29,8 @@ with_knife_here s =
     with_dwarves (record dwarves { knife = fallen_knife s.trail.here dwarves.knife }) s
 
 -- of 1000 numbers one is drawn: a knife hits by 95 of them for each degree of anger over 2
-unfoldable pub throw_act : State → Act
-throw_act s = record {
+unfoldable pub knife_step : State → DwarfStep
+knife_step s = record {
   threat =
       if nat_lt (number_drawn 1000 s.stream) (95 * (s.dwarves.anger - 2)) then threat.Hits
       else threat.Misses;
@@ -38,18 +38,18 @@ throw_act s = record {
 }
 
 -- a dwarf that sees the player is here, and if it was here before, it throws a knife
-unfoldable pub threatening_act : ℕ → State → Act
-threatening_act number s =
+unfoldable pub threat_step : ℕ → State → DwarfStep
+threat_step number s =
     let dwarf = dwarf_of s number in
     if not dwarf.has_seen then record { threat = threat.Nothing; state = s }
-    else (if dwarf.last == s.trail.here then throw_act s
+    else (if dwarf.last == s.trail.here then knife_step s
     else record { threat = threat.Waits; state = s })
 
 -- a dwarf moves and then threatens the player; one that is gone does nothing
-unfoldable pub act_of_dwarf : CaveView → ℕ → State → Act
-act_of_dwarf cave number s =
+unfoldable pub step_of_dwarf : CaveView → ℕ → State → DwarfStep
+step_of_dwarf cave number s =
     if (dwarf_of s number).place == 0 then record { threat = threat.Nothing; state = s }
-    else threatening_act number (after_dwarf_move cave number s)
+    else threat_step number (after_dwarf_move cave number s)
 
 -- what a dwarf did is counted
 abbrev pub with_threat : Threat → Attack → Attack
@@ -69,12 +69,12 @@ pub record Raid : Type 0 where
   pub state : State
 
 -- what one more dwarf did is added to what the others did
-abbrev pub with_act : Act → Attack → Raid
-with_act act attack = record { attack = with_threat act.threat attack; state = act.state }
+abbrev pub with_step : DwarfStep → Attack → Raid
+with_step act attack = record { attack = with_threat act.threat attack; state = act.state }
 
 -- so many dwarves act, one after another
 unfoldable pub raid_of : CaveView → ℕ → State → Raid
 raid_of cave zero s = record { attack = no_attack; state = s }
 raid_of cave (suc number) s =
     let before = raid_of cave number s in
-    with_act (act_of_dwarf cave number before.state) before.attack
+    with_step (step_of_dwarf cave number before.state) before.attack

@@ -1,7 +1,7 @@
 ghost use Rattle.std.specs.Prelude.{◌≡◌, ◌≤◌, ◌<◌, ◌+◌};
 ghost use Rattle.cave_scene.specs.Rules.{cave_of};
-ghost use Rattle.cave_dwarves.specs.Knives.{fallen_knife, with_knife_here, throw_act};
-ghost use Rattle.cave_dwarves.specs.Knives.{threatening_act, act_of_dwarf, with_threat, no_attack};
+ghost use Rattle.cave_dwarves.specs.Knives.{fallen_knife, with_knife_here, knife_step};
+ghost use Rattle.cave_dwarves.specs.Knives.{threat_step, step_of_dwarf, with_threat, no_attack};
 ghost use Rattle.cave_dwarves.specs.Knives.{raid_of};
 ghost use Rattle.cave_world.specs.Dwarves.{pirate, dwarf_count};
 
@@ -90,9 +90,9 @@ fn drop_knife(state: &mut State)
 }
 
 /// A knife is thrown at the player. It hits the more often the angrier the dwarves are.
-#[tactic(auto, unfolding(crate::specs::Knives::throw_act))]
+#[tactic(auto, unfolding(crate::specs::Knives::knife_step))]
 fn throw_knife(state: &mut State) -> Threat
-    ensures { record { threat = result; state = state.new } ≡ throw_act state.old }
+    ensures { record { threat = result; state = state.new } ≡ knife_step state.old }
 {
     let chances = 95 * u32::from(state.dwarves.anger.number().saturating_sub(2));
     let is_hit = state.stream.draw(1000) < chances;
@@ -101,10 +101,10 @@ fn throw_knife(state: &mut State) -> Threat
 }
 
 /// A dwarf that sees the player is here, and throws a knife if it was here before.
-#[tactic(auto, unfolding(crate::specs::Knives::threatening_act))]
+#[tactic(auto, unfolding(crate::specs::Knives::threat_step))]
 fn threaten(number: usize, state: &mut State) -> Threat
     requires { number < dwarf_count }
-    ensures { record { threat = result; state = state.new } ≡ threatening_act number state.old }
+    ensures { record { threat = result; state = state.new } ≡ threat_step number state.old }
 {
     let dwarf = dwarf_of(state, number);
     if !dwarf.has_seen {
@@ -117,11 +117,11 @@ fn threaten(number: usize, state: &mut State) -> Threat
 }
 
 /// A dwarf moves and then threatens the player. One that is gone does nothing.
-#[tactic(auto, unfolding(crate::specs::Knives::act_of_dwarf))]
+#[tactic(auto, unfolding(crate::specs::Knives::step_of_dwarf))]
 fn move_and_threaten(rules: &Rules<'_>, number: usize, state: &mut State) -> Threat
     requires { number < dwarf_count }
     ensures { record { threat = result; state = state.new }
-        ≡ act_of_dwarf (cave_of rules.now) number state.old }
+        ≡ step_of_dwarf (cave_of rules.now) number state.old }
 {
     if dwarf_of(state, number).place.number() == 0 {
         return Threat::Nothing;

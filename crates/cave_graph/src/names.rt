@@ -6,23 +6,10 @@ ghost use Rattle.cave_graph.specs.Names.{word_or_number};
 ghost use Rattle.cave_numbers.specs.Numbers.{last_object};
 
 use cave_data::{Cave, WordTable};
-use cave_world::travel::NOT_FOR_DWARVES;
+use cave_world::travel::{
+    CARRIED_AFTER, LAST_AT_HAND, LAST_CARRIED, NOT_FOR_DWARVES, PER_PROP, PROPS_AFTER,
+};
 use std::alloc::{AllocError, Global};
-
-/// A condition above it asks for an object that is carried, by its number above it.
-const CARRIED_AFTER: u32 = 100;
-
-/// A condition up to it asks for an object that is carried.
-const LAST_CARRIED: u32 = 200;
-
-/// A condition up to it asks for an object that is here or carried; those above it for a prop.
-const LAST_AT_HAND: u32 = 300;
-
-/// How many conditions ask for a prop, one for each number of an object.
-const PER_PROP: u32 = 100;
-
-/// How often a condition that asks for a prop has `PER_PROP` besides the prop.
-const PROPS_AFTER: u32 = 3;
 
 /// How many numbers a class of words has: those of motions come first, and then those of objects.
 const PER_CLASS: u16 = 1000;

@@ -18,11 +18,9 @@ use cave_data::Cave;
 use cave_numbers::LAST_OBJECT;
 use cave_objects::Place;
 use cave_rows::PlaceRole;
+use cave_world::sight::LIGHT_BIT;
 use cave_world::{has_condition, is_forced};
 use std::alloc::{AllocError, Global};
-
-/// The bit of the places that have light.
-const LIGHT_BIT: u8 = 0;
 
 /// The roles of places, in the order of their names.
 const PLACE_ROLES: [PlaceRole; 19] = [

@@ -19,8 +19,8 @@ use Rattle.cave_things.specs.Treasures.{treasures}
 use Rattle.cave_dwarves.specs.Band.{dwarf_of, with_dwarf, state_after_draw}
 use Rattle.cave_world.specs.Dwarves.{pirate}
 use Rattle.cave_dwarves.specs.Dwarves.{Encounter, without_hit, encounter_of, encounter_in_turn}
-use Rattle.cave_dwarves.specs.Knives.{Act, throw_act, with_knife_here, threatening_act}
-use Rattle.cave_dwarves.specs.Knives.{act_of_dwarf, raid_of}
+use Rattle.cave_dwarves.specs.Knives.{DwarfStep, knife_step, with_knife_here, threat_step}
+use Rattle.cave_dwarves.specs.Knives.{step_of_dwarf, raid_of}
 use Rattle.cave_dwarves.specs.Lines.{telling_number, after_dwarf_count, after_one_knife}
 use Rattle.cave_dwarves.specs.Lines.{after_some_knives}
 use Rattle.cave_dwarves.specs.Lines.{after_first_knives}
@@ -110,29 +110,29 @@ knife_kept : {P : Claim} (k : IsPlayed P) (s : State) → On P s → On P (with_
 unfolding with_knife_here
 knife_kept k s h = k.temper _ _ _ _ _ _ h
 
-thrown_kept : {P : Claim} (k : IsPlayed P) (s : State) → On P s → On P (throw_act s).state
-unfolding throw_act
+thrown_kept : {P : Claim} (k : IsPlayed P) (s : State) → On P s → On P (knife_step s).state
+unfolding knife_step
 thrown_kept {P} k s h = knife_kept k (state_after_draw s) h
 
 threatened_kept : {P : Claim} (k : IsPlayed P) (n : ℕ) (s : State) → On P s
-    → On P (threatening_act n s).state
-unfolding threatening_act
+    → On P (threat_step n s).state
+unfolding threat_step
 threatened_kept {P} k n s h =
     let dwarf = dwarf_of s n in
-    let still : Act = record { threat = threat.Waits; state = s } in
-    choose (λ (a : Act). On P a.state) (not dwarf.has_seen)
+    let still : DwarfStep = record { threat = threat.Waits; state = s } in
+    choose (λ (a : DwarfStep). On P a.state) (not dwarf.has_seen)
     (record { threat = threat.Nothing; state = s })
-    (if dwarf.last == s.trail.here then throw_act s else still) (λ _. h)
-    (λ _. choose (λ (a : Act). On P a.state) (dwarf.last == s.trail.here) (throw_act s) still
+    (if dwarf.last == s.trail.here then knife_step s else still) (λ _. h)
+    (λ _. choose (λ (a : DwarfStep). On P a.state) (dwarf.last == s.trail.here) (knife_step s) still
     (λ _. thrown_kept k s h) (λ _. h))
 
 acted_kept : {P : Claim} (k : IsPlayed P) (cave : CaveView) (n : ℕ) (s : State) → On P s
-    → On P (act_of_dwarf cave n s).state
-unfolding act_of_dwarf
+    → On P (step_of_dwarf cave n s).state
+unfolding step_of_dwarf
 acted_kept {P} k cave n s h =
-    choose (λ (a : Act). On P a.state) ((dwarf_of s n).place == 0)
+    choose (λ (a : DwarfStep). On P a.state) ((dwarf_of s n).place == 0)
     (record { threat = threat.Nothing; state = s })
-    (threatening_act n (after_dwarf_move cave n s)) (λ _. h)
+    (threat_step n (after_dwarf_move cave n s)) (λ _. h)
     (λ some. threatened_kept k n (after_dwarf_move cave n s)
     (moved_kept k cave n s (λ _ gone. some_place _ some gone) h))
 

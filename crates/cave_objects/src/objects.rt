@@ -103,8 +103,8 @@ impl Objects {
         self.lists.are_in_order();
     }
 
-    /// Each object has a spot, an anchor and a prop, and no half is at a place after the last. It is
-    /// a law, so nothing is done.
+    /// Each object has a spot, an anchor and a prop, and no half is at a place after the last. It
+    /// is a law, so nothing is done.
     pub fn are_complete(&self)
         ensures spots { length self.now.first ≡ last_object }
         ensures anchors { length self.now.second ≡ last_object }

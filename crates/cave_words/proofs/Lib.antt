@@ -1,3 +1,4 @@
 pub mod Indexes
 pub mod Lexicons
 pub mod Padding
+pub mod WordBytes

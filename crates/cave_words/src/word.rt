@@ -1,4 +1,4 @@
-ghost use Rattle.std.specs.Prelude.{◌≡◌, ◌≤◌, IsTrue};
+ghost use Rattle.std.specs.Prelude.{◌≡◌, ◌≤◌, IsTrue, bytes_eq};
 ghost use Rattle.std.specs.List.{list_all};
 ghost use Rattle.log_lines.specs.Bytes.{prefix_while, is_nonblank};
 ghost use Rattle.cave_words.specs.Word.{letters_that_count, word_of, is_written};
@@ -15,7 +15,7 @@ pub const NAME_LETTERS: u8 = 5;
 
 /// A word as it is compared: in upper case, cut to the letters that count, and filled up with
 /// spaces.
-#[derive(Clone, Copy, Debug, PartialEq, Eq)]
+#[derive(Clone, Copy, Debug)]
 pub struct Word {
     bytes: [u8; MAX_LETTERS],
 }
@@ -28,6 +28,34 @@ impl Model for Word {
     ghost view = { λ w. w.bytes };
 
     ghost inverse = { λ bytes. record { bytes = bytes } };
+}
+
+/// Whether the bytes are the same, as one comparison.
+fn are_same(one: [u8; MAX_LETTERS], other: [u8; MAX_LETTERS]) -> bool
+    ensures { result ≡ bytes_eq one other }
+{
+    u64::from_le_bytes(one) == u64::from_le_bytes(other)
+}
+
+// A derive would compare each byte by itself.
+impl PartialEq for Word {
+    ghost use Rattle.std.specs.Prelude.{bytes_eq};
+    ghost use Rattle.std.specs.Cmp.{partial_equiv_from_equiv};
+    ghost use Rattle.std.specs.Cmp.Lexicographic.{nat_list_eq_equiv};
+
+    ghost eq = { λ a b. bytes_eq a b };
+
+    ghost laws = { partial_equiv_from_equiv nat_list_eq_equiv };
+
+    fn eq(&self, other: &Word) -> bool {
+        are_same(self.bytes, other.bytes)
+    }
+}
+
+impl Eq for Word {
+    ghost use Rattle.std.specs.Cmp.Lexicographic.{nat_list_eq_equiv};
+
+    ghost laws = { nat_list_eq_equiv };
 }
 
 // A derive would feed each byte by itself.

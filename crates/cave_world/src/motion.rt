@@ -5,8 +5,8 @@ ghost use Rattle.cave_world.specs.Motions.{IsMotionOf, motion_among, motion_numb
 /// A motion that rules name, with its number in a database.
 #[derive(Clone, Copy, Debug, PartialEq, Eq)]
 pub enum Motion {
-    /// A row that lists it is taken by every motion. A place has a forced motion where its first row
-    /// begins with it.
+    /// A row that lists it is taken by every motion. A place has a forced motion where its first
+    /// row begins with it.
     Any = 1,
     Forward = 7,
     Back = 8,

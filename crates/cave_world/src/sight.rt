@@ -7,7 +7,7 @@ use cave_data::Cave;
 use cave_objects::{Object, Place};
 
 /// The bit of the places that have light.
-const LIGHT_BIT: u8 = 0;
+pub const LIGHT_BIT: u8 = 0;
 
 /// Whether a condition of the cave is set for a place.
 #[tactic(auto, unfolding(crate::specs::Sight::has_condition))]

@@ -53,19 +53,19 @@ const MESSAGES_AFTER: u16 = 500;
 pub const NOT_FOR_DWARVES: u32 = 100;
 
 /// A condition above it asks for an object that is carried, by its number above it.
-const CARRIED_AFTER: u32 = 100;
+pub const CARRIED_AFTER: u32 = 100;
 
 /// A condition up to it asks for an object that is carried.
-const LAST_CARRIED: u32 = 200;
+pub const LAST_CARRIED: u32 = 200;
 
 /// A condition up to it asks for an object that is here or carried; those above it for a prop.
-const LAST_AT_HAND: u32 = 300;
+pub const LAST_AT_HAND: u32 = 300;
 
 /// How many conditions ask for a prop, one for each number of an object.
-const PER_PROP: u32 = 100;
+pub const PER_PROP: u32 = 100;
 
 /// How often a condition that asks for a prop has `PER_PROP` besides the prop.
-const PROPS_AFTER: u32 = 3;
+pub const PROPS_AFTER: u32 = 3;
 
 /// Where a motion leads from where the player is, by the rows of the place. A row may
 /// move the emerald here on the way.
