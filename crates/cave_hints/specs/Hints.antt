@@ -1,7 +1,7 @@
 -- Hints: one is offered to a player who stays for long where it helps, and who needs it.
 use Rattle.std.specs.Prelude.{ℕ, pos, negsuc, ◌+◌, ◌-◌, ◌*◌, ◌+ℤ◌, Bool, true, ◌==◌, ◌&&◌}
 use Rattle.std.specs.Prelude.{not, nat_le, nat_lt, int_lt, min, if◌then◌else◌, length, Option, Some}
-use Rattle.std.specs.Prelude.{None, slice_index_or, slice_set, suc, zero}
+use Rattle.std.specs.Prelude.{None, slice_set, suc, zero}
 use Rattle.std.specs.FinMap as map
 use Rattle.std.specs.Int.{int_min}
 use Rattle.cave_data.specs.CaveView.{CaveView}
@@ -15,7 +15,7 @@ use Rattle.cave_words.specs.declared.named.Named.TheVariants as name
 use Rattle.cave_objects.specs.Lists.{halves_at}
 use Rattle.cave_objects.specs.Objects.{carried_objects}
 use Rattle.cave_world.specs.Sight.{has_condition}
-use Rattle.cave_world.specs.State.{takes_no_command, is_hint_taken}
+use Rattle.cave_world.specs.State.{takes_no_command, turns_near, is_hint_taken}
 use Rattle.cave_world.specs.declared.ending.Question.TheVariants as question
 use Rattle.cave_world.specs.declared.part.NumberLine.TheVariants.{HintCosts}
 use Rattle.cave_world.specs.declared.part.Part.TheVariants as part
@@ -42,10 +42,6 @@ MAZE_HINT = 7
 abbrev pub PYRAMID_HINT : ℕ
 PYRAMID_HINT = 8
 
--- how many turns the player has stayed in the area of a hint
-abbrev pub turns_near : ℕ → State → ℕ
-turns_near h s = slice_index_or s.hints.turns (h - 1) 0
-
 abbrev pub with_turns_near : ℕ → ℕ → State → State
 with_turns_near h n s =
     let hints = s.hints in
@@ -63,13 +59,13 @@ is_in_area cave h s = has_condition cave s.trail.here h
 -- one turn more in the area, or none outside it
 unfoldable pub after_turn_near : CaveView → ℕ → State → State
 after_turn_near cave h s =
-    if is_in_area cave h s then with_turns_near h (min (turns_near h s + 1) 10000) s
+    if is_in_area cave h s then with_turns_near h (min (turns_near s h + 1) 10000) s
     else with_turns_near h 0 s
 
 -- the player has stayed for long enough, and no question is open
 unfoldable pub is_due : CaveView → ℕ → Hint → State → Bool
 is_due cave h hint s =
-    is_in_area cave h s && nat_le hint.turns (turns_near h s) && not (takes_no_command s)
+    is_in_area cave h s && nat_le hint.turns (turns_near s h) && not (takes_no_command s)
 
 -- the grate is locked, and the keys aren't at hand
 unfoldable pub is_locked_out : CaveView → State → Bool

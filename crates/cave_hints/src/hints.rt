@@ -5,14 +5,14 @@ ghost use Rattle.cave_data.specs.Tables.{IsAbove};
 ghost use Rattle.cave_scene.specs.Bounds.{HasRoom, SaysUpTo, parts_of_question};
 ghost use Rattle.cave_scene.specs.Play.{scene_of, GoesOn};
 ghost use Rattle.cave_scene.specs.Rules.{cave_of};
-ghost use Rattle.cave_hints.specs.Hints.{turns_near, with_turns_near, with_hint_taken};
+ghost use Rattle.cave_hints.specs.Hints.{with_turns_near, with_hint_taken};
 ghost use Rattle.cave_hints.specs.Hints.{is_in_area, after_turn_near, is_due, is_locked_out};
 ghost use Rattle.cave_hints.specs.Hints.{is_after_bird, is_held_by_snake, is_lost_in_maze};
 ghost use Rattle.cave_hints.specs.Hints.{is_short_of_pyramid, is_needed, after_putting_off};
 ghost use Rattle.cave_hints.specs.Hints.{offer_scene};
 ghost use Rattle.cave_hints.specs.Hints.{after_considering, after_hints, price_scene};
 ghost use Rattle.cave_hints.specs.Hints.{after_reward, hint_scene};
-ghost use Rattle.cave_world.specs.State.{takes_no_command};
+ghost use Rattle.cave_world.specs.State.{takes_no_command, turns_near};
 
 use cave_data::Cave;
 use cave_ends::ask;
@@ -101,7 +101,7 @@ pub fn give(rules: &Rules<'_>, number: HintNumber, play: &mut Play<'_>)
 
 /// How many turns the player has stayed in the area of a hint.
 fn turns_near(hint: HintNumber, state: &State) -> Count<10000>
-    ensures { result ≡ turns_near hint state.now }
+    ensures { result ≡ turns_near state.now hint }
 {
     state.hints.turns[usize::from(hint.number()) - 1]
 }

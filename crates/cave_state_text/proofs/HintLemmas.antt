@@ -3,11 +3,11 @@ use Rattle.std.proofs.Common.{◌≡◌, ℕ, ◌+◌, Bool, true, false, List, 
 use Rattle.std.specs.Prelude.{◌==◌, ◌&&◌, not, codes}
 use Rattle.std.specs.Cmp.{unsigned_Decides}
 use Rattle.std.proofs.lemmas.Bool.{false≢true}
-use Rattle.cave_world.specs.State.{is_hint_taken}
+use Rattle.cave_world.specs.State.{turns_near, is_hint_taken}
 use Rattle.cave_world.specs.declared.state.State.{State}
 use Rattle.cave_state_text.specs.Entries.{text_up_to}
 use Rattle.cave_state_text.specs.Numbers.{IsWide}
-use Rattle.cave_state_text.specs.Things.{hint_turns, hint_text, hint_line}
+use Rattle.cave_state_text.specs.Things.{hint_text, hint_line}
 use Rattle.cave_state_text.specs.Within.{AreHintsWithin}
 use Rattle.cave_state_text.proofs.EntryLemmas.{IsPast, entries_read}
 use Rattle.cave_state_text.proofs.FactLemmas.{answer_line_read}
@@ -17,7 +17,7 @@ use Rattle.cave_state_text.specs.Facts.{numbered, answer_line}
 
 abbrev AreSameHints : State → State → ℕ → Type 0
 AreSameHints a b n =
-    (hint_turns a n ≡ hint_turns b n) × (is_hint_taken a n ≡ is_hint_taken b n)
+    (turns_near a n ≡ turns_near b n) × (is_hint_taken a n ≡ is_hint_taken b n)
 
 hint_read : (m n : ℕ) (a b : Bool) (s t : List ℕ) → IsWide m → IsWide n
     → hint_text m a ++ s ≡ hint_text n b ++ t → ((m ≡ n) × (a ≡ b)) × (s ≡ t)
@@ -39,17 +39,17 @@ pub hints_read : (a b : State) (s t : List ℕ) → AreHintsWithin a → AreHint
     → (a.hints ≡ b.hints) × (s ≡ t)
 unfolding hint_line
 hints_read a b s t ha hb past other e =
-    let skips : State → ℕ → Bool = λ z n. hint_turns z n == 0 && not (is_hint_taken z n) in
+    let skips : State → ℕ → Bool = λ z n. turns_near z n == 0 && not (is_hint_taken z n) in
     let read =
     entries_read (codes "hint ") (skips a) (skips b)
-    (λ n. hint_text (hint_turns a n) (is_hint_taken a n))
-    (λ n. hint_text (hint_turns b n) (is_hint_taken b n)) (AreSameHints a b) 20 s t (omega arith)
+    (λ n. hint_text (turns_near a n) (is_hint_taken a n))
+    (λ n. hint_text (turns_near b n) (is_hint_taken b n)) (AreSameHints a b) 20 s t (omega arith)
     (λ n up. (
       λ here there.
-          let one = unused (hint_turns a n) (is_hint_taken a n) here in
-          let two = unused (hint_turns b n) (is_hint_taken b n) there in
+          let one = unused (turns_near a n) (is_hint_taken a n) here in
+          let two = unused (turns_near b n) (is_hint_taken b n) there in
           (one.0 ∙ sym two.0, one.1 ∙ sym two.1),
-      λ u v. hint_read (hint_turns a n) (hint_turns b n) (is_hint_taken a n) (is_hint_taken b n) u v
+      λ u v. hint_read (turns_near a n) (turns_near b n) (is_hint_taken a n) (is_hint_taken b n) u v
           (ha.each n up) (hb.each n up),
     ))
     past other e in

@@ -17,7 +17,7 @@ use Rattle.cave_objects.specs.contracts.object.HalfPartialEq.TheImpl as half_eq
 use Rattle.cave_objects.specs.contracts.spot.SpotPartialEq.TheImpl as spot_eq
 use Rattle.cave_objects.specs.contracts.spot.AnchorPartialEq.TheImpl as anchor_eq
 use Rattle.cave_world.specs.Fresh.{no_dwarf}
-use Rattle.cave_world.specs.State.{visits_of, is_hint_taken}
+use Rattle.cave_world.specs.State.{visits_of, turns_near, is_hint_taken}
 use Rattle.cave_world.specs.declared.dwarves.Dwarf.{Dwarf}
 use Rattle.cave_world.specs.declared.state.State.{State}
 use Rattle.cave_state_text.specs.Entries.{entry}
@@ -101,10 +101,6 @@ dwarf_text dwarf =
 unfoldable pub dwarf_line : State → ℕ → List ℕ
 dwarf_line s number = entry (codes "dwarf ") false number (dwarf_text (dwarf_numbered s number))
 
--- how many turns a hint was waited for
-abbrev pub hint_turns : State → ℕ → ℕ
-hint_turns s hint = slice_index_or s.hints.turns (hint - 1) 0
-
 unfoldable pub hint_text : ℕ → Bool → List ℕ
 hint_text turns is_taken =
     numbered (codes " waited ") turns ++ answer_line (codes ", taken ") is_taken
@@ -112,5 +108,5 @@ hint_text turns is_taken =
 -- a hint that was waited for or taken
 unfoldable pub hint_line : State → ℕ → List ℕ
 hint_line s hint =
-    entry (codes "hint ") (hint_turns s hint == 0 && not (is_hint_taken s hint)) hint
-    (hint_text (hint_turns s hint) (is_hint_taken s hint))
+    entry (codes "hint ") (turns_near s hint == 0 && not (is_hint_taken s hint)) hint
+    (hint_text (turns_near s hint) (is_hint_taken s hint))

@@ -55,6 +55,10 @@ unfoldable pub without_visits : State → ℕ → State
 without_visits s place = if place == 0 then s
     else record s { visits = slice_set s.visits (place - 1) 0 }
 
+-- how many turns the player has stayed where a hint helps
+abbrev pub turns_near : State → ℕ → ℕ
+turns_near s hint = slice_index_or s.hints.turns (hint - 1) 0
+
 -- a hint was taken
 abbrev pub is_hint_taken : State → ℕ → Bool
 is_hint_taken s hint = slice_index_or s.hints.is_taken (hint - 1) false
