@@ -74,15 +74,15 @@ abbrev pub with_cover_options : App → App
 with_cover_options app = with_rule (with_options app) print_rule
 
 -- a command with the options of an edit alone
-abbrev pub with_view : App → App
-with_view app = with_rule (with_rule (with_rule app every_rule) print_rule) strict_rule
+abbrev pub with_edit_options : App → App
+with_edit_options app = with_rule (with_rule (with_rule app every_rule) print_rule) strict_rule
 
 abbrev pub play_app : App
 play_app = with_output (with_rule (with_options (with_game (new_app (codes "play")))) print_rule)
 
 abbrev pub edit_app : App
 edit_app = with_output
-    (with_view (with_options (with_rule (with_game (new_app (codes "edit"))) script_rule)))
+    (with_edit_options (with_options (with_rule (with_game (new_app (codes "edit"))) script_rule)))
 
 abbrev pub cover_app : App
 cover_app = with_output (with_cover_options (with_logs (new_app (codes "cover"))))

@@ -9,15 +9,15 @@ use Rattle.clap.specs.declared.error.kind.ErrorKind.TheVariants.{DisplayHelp, Di
 use Rattle.clap.specs.declared.error.kind.ErrorKind.TheVariants.{OutOfMemory}
 use Rattle.clap.specs.declared.parser.matches.ArgMatches.{ArgMatches}
 use Rattle.cave_command.specs.Number.{IsNumber, option_number}
-use Rattle.edit_options.specs.Editing.{view_named}
+use Rattle.edit_options.specs.Editing.{edit_view_named}
 use Rattle.edit_options.specs.Views.{check_view_named, cover_view_named, play_view_named}
 use Rattle.edit_options.specs.declared.views.CheckView.{CheckView}
 use Rattle.edit_options.specs.declared.views.CheckView.TheVariants.{Maximum}
 use Rattle.edit_options.specs.declared.views.CoverView.{CoverView}
 use Rattle.edit_options.specs.declared.views.CoverView.TheVariants.{Counts}
 use Rattle.edit_options.specs.declared.editing.Editing.{Editing}
-use Rattle.edit_options.specs.declared.editing.View.{View}
-use Rattle.edit_options.specs.declared.editing.View.TheVariants.{Transcript}
+use Rattle.edit_options.specs.declared.editing.EditView.{EditView}
+use Rattle.edit_options.specs.declared.editing.EditView.TheVariants.{Transcript}
 use Rattle.edit_options.specs.declared.views.PlayView.{PlayView}
 use Rattle.edit_options.specs.declared.views.PlayView.TheVariants as play
 use Rattle.cave_command.specs.declared.fault.CommandFault.{CommandFault}
@@ -69,13 +69,13 @@ abbrev pub IsCoverView : List Row → CoverView → Type 0
 IsCoverView rows view = IsCoverViewGiven (first_of (codes "print") rows) view
 
 -- what an edit prints, where this was found for it, or else the transcript
-abbrev pub IsViewGiven : Option (List ℕ) → View → Type 0
-IsViewGiven None view = view ≡ Transcript
-IsViewGiven (Some name) view = view_named name ≡ Some view
+abbrev pub IsEditViewGiven : Option (List ℕ) → EditView → Type 0
+IsEditViewGiven None view = view ≡ Transcript
+IsEditViewGiven (Some name) view = edit_view_named name ≡ Some view
 
 -- what an edit prints is what was found for it, or the transcript
-abbrev pub IsView : List Row → View → Type 0
-IsView rows view = IsViewGiven (first_of (codes "print") rows) view
+abbrev pub IsView : List Row → EditView → Type 0
+IsView rows view = IsEditViewGiven (first_of (codes "print") rows) view
 
 -- whether a run is strict is what was found for it, or it isn't
 abbrev pub is_strict : List Row → Bool
@@ -165,7 +165,7 @@ IsBadEvery rows _ = ⊥
 -- what was found for what an edit prints names nothing that it may print
 abbrev pub IsBadView : List Row → CommandFault → Type 0
 IsBadView rows (BadView name) = (first_of (codes "print") rows ≡ Some name.now)
-    × (view_named name.now ≡ None)
+    × (edit_view_named name.now ≡ None)
 IsBadView rows _ = ⊥
 
 -- what was found for what a check prints names nothing that it may print

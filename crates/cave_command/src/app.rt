@@ -6,11 +6,11 @@ ghost use Rattle.clap.specs.declared.builder.command.Command.TheViews.{out-Comma
 ghost use Rattle.cave_command.specs.App.{IsLocal, cave_app, check_and_play_app, check_app};
 ghost use Rattle.cave_command.specs.App.{check_play_and_edit_app, cover_app, edit_app, map_app};
 ghost use Rattle.cave_command.specs.App.{plain_app, play_app, with_cover_options, with_game};
-ghost use Rattle.cave_command.specs.App.{with_logs, with_options, with_output, with_view};
+ghost use Rattle.cave_command.specs.App.{with_logs, with_options, with_output, with_edit_options};
 
 use crate::arguments::{
-    bind_argument, cave_argument, check_print_argument, cover_print_argument, every_argument,
-    log_argument, logs_argument, output_argument, play_print_argument, print_argument,
+    bind_argument, cave_argument, check_print_argument, cover_print_argument, edit_print_argument,
+    every_argument, log_argument, logs_argument, output_argument, play_print_argument,
     script_argument, seed_argument, some_logs_argument, strict_argument,
 };
 use clap::Command;
@@ -114,13 +114,13 @@ fn with_cover_options<'a>(alloc: Global, command: Command<'a>) -> Result<Command
 
 /// Adds the options of an edit alone: the distance of checkpoints, what is printed, and whether a
 /// refused edit ends the run.
-fn with_view<'a>(alloc: Global, command: Command<'a>) -> Result<Command<'a>, AllocError>
+fn with_edit_options<'a>(alloc: Global, command: Command<'a>) -> Result<Command<'a>, AllocError>
     requires { (out-Command command).has_globals ≡ false }
-    ensures { IfOk result (IsLocal (with_view (app_of command.entry))) }
+    ensures { IfOk result (IsLocal (with_edit_options (app_of command.entry))) }
 {
     command
         .arg(every_argument(alloc))?
-        .arg(print_argument(alloc))?
+        .arg(edit_print_argument(alloc))?
         .arg(strict_argument(alloc))
 }
 
@@ -143,7 +143,7 @@ fn edit_command<'a>(alloc: Global) -> Result<Command<'a>, AllocError>
         )
         .after_help(EDIT_EXAMPLE);
     let command = with_game(alloc, command)?.arg(script_argument(alloc))?;
-    let command = with_view(alloc, with_options(alloc, command)?)?;
+    let command = with_edit_options(alloc, with_options(alloc, command)?)?;
     with_output(alloc, command)
 }
 

@@ -104,7 +104,7 @@ pub(crate) fn output_argument<'a>(alloc: Global) -> Arg<'a>
         )
 }
 
-pub(crate) fn print_argument<'a>(alloc: Global) -> Arg<'a>
+pub(crate) fn edit_print_argument<'a>(alloc: Global) -> Arg<'a>
     ensures rule { rule_of result ≡ print_rule }
     ensures local { result.global ≡ false }
 {

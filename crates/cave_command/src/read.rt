@@ -20,7 +20,7 @@ use crate::number::number_in;
 use crate::run::{Files, Run};
 use clap::error::ErrorKind;
 use clap::{ArgMatches, Error};
-use edit_options::{CheckView, CoverView, Editing, PlayView, View};
+use edit_options::{CheckView, CoverView, EditView, Editing, PlayView};
 use limits::{MAX_EVERY, MAX_SEED, USUAL_EVERY};
 use std::alloc::Global;
 use std::convert::AsStr;
@@ -29,7 +29,7 @@ use std::convert::AsStr;
 const USUAL_SEED: u32 = 0;
 
 /// What an edit prints where nothing is asked for.
-const USUAL_VIEW: View = View::Transcript;
+const USUAL_EDIT_VIEW: EditView = EditView::Transcript;
 
 /// What a play prints where nothing is asked for.
 const USUAL_PLAY_VIEW: PlayView = PlayView::Transcript;
@@ -234,12 +234,12 @@ fn every_in<'a>(found: &ArgMatches<'a>) -> Result<u32, CommandFault<'a>>
     }
 }
 
-fn view_in<'a>(found: &ArgMatches<'a>) -> Result<View, CommandFault<'a>>
+fn edit_view_in<'a>(found: &ArgMatches<'a>) -> Result<EditView, CommandFault<'a>>
     ensures { MatchResult result (IsView (rows_in found.now)) (IsBadView (rows_in found.now)) }
 {
     match value_in(found, "print") {
-        None => Ok(USUAL_VIEW),
-        Some(name) => View::named(name).ok_or(CommandFault::BadView(name)),
+        None => Ok(USUAL_EDIT_VIEW),
+        Some(name) => EditView::named(name).ok_or(CommandFault::BadView(name)),
     }
 }
 
@@ -294,7 +294,7 @@ fn editing_in<'a>(found: &ArgMatches<'a>) -> Result<Editing, CommandFault<'a>>
     Ok(Editing {
         seed: seed_in(found)?,
         every: every_in(found)?,
-        view: view_in(found)?,
+        view: edit_view_in(found)?,
         strict: strict_in(found),
     })
 }

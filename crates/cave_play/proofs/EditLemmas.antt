@@ -21,7 +21,7 @@ use Rattle.cave_play.specs.Piece.{Piece}
 use Rattle.std.specs.List.{sum_by}
 use Rattle.std.proofs.lemmas.List.Sums.{sum_by-cons}
 use Rattle.cave_data.specs.CaveView.{CaveView}
-use Rattle.edit_options.specs.declared.editing.View.{View}
+use Rattle.edit_options.specs.declared.editing.EditView.{EditView}
 use Rattle.log_replay.specs.Session.{SessionView}
 use Rattle.cave_world.specs.declared.state.State.{State}
 use Rattle.cave_play.specs.Edits.{Applies, IsApplied, text_of_item}
@@ -58,7 +58,7 @@ game_after_items-end items place game past = rw (drop_all place items past) refl
 
 -- What came of the items so far, with what is to come of those that are left, is what comes of all;
 -- and so are the text and the totals.
-pub record Completes (view : View) (cave : CaveView) (every : ℕ) (all left : List Applied)
+pub record Completes (view : EditView) (cave : CaveView) (every : ℕ) (all left : List Applied)
     (first now : Game) (opened here before text : List ℕ) (played lines : ℕ) : Type 0 where
   pub complete : List ItemOutcome → List ItemOutcome
   pub came : (rest : List ItemOutcome) → AreOutcomes cave every left now here rest
@@ -72,7 +72,7 @@ pub record Completes (view : View) (cave : CaveView) (every : ℕ) (all left : L
       → sum_by lines_in (complete rest) ≡ lines + sum_by lines_in rest
 
 -- nothing is done yet
-pub Completes-none : (view : View) (cave : CaveView) (every : ℕ) (all : List Applied) (first : Game)
+pub Completes-none : (view : EditView) (cave : CaveView) (every : ℕ) (all : List Applied) (first : Game)
     (opened before : List ℕ)
     → Completes view cave every all all first first opened opened before before 0 0
 Completes-none view cave every all first opened before =
@@ -85,7 +85,7 @@ Completes-none view cave every all first opened before =
     }
 
 -- one more item was applied
-module _ (view : View) (cave : CaveView) (every : ℕ) (all left : List Applied) (item : Applied)
+module _ (view : EditView) (cave : CaveView) (every : ℕ) (all left : List Applied) (item : Applied)
     (outcome : ItemOutcome) (first now next : Game)
     (opened here after before text longer : List ℕ) (played lines more_played more_lines : ℕ) where
   one-more : IsOutcome cave every item now here outcome → AreLeft every outcome here next after
@@ -127,7 +127,7 @@ module _ (view : View) (cave : CaveView) (every : ℕ) (all left : List Applied)
       }
 
 -- the same, by places
-pub Completes-more : (view : View) (cave : CaveView) (every : ℕ) (items : List Item) (place : ℕ)
+pub Completes-more : (view : EditView) (cave : CaveView) (every : ℕ) (items : List Item) (place : ℕ)
     (item : Item) (outcome : ItemOutcome) (first : Game)
     (opened before text longer : List ℕ) (played lines more_played more_lines : ℕ)
     (old new : SessionView CaveMachine Piece State)
@@ -159,7 +159,7 @@ Completes-more view cave every items place item outcome first opened before text
     came remains applies.holds.game_is grown plays counts here
 
 -- no item is left
-pub IsApplied-whole : (view : View) (items : List Item) (place : ℕ)
+pub IsApplied-whole : (view : EditView) (items : List Item) (place : ℕ)
     (old : SessionView CaveMachine Piece State) (now : Game) (here before text : List ℕ)
     (played lines : ℕ)
     → length items ≤ place

@@ -3,9 +3,9 @@ use Rattle.std.proofs.Common.{◌≡◌, ℕ, List, subst, sym, ap, ◌∙◌}
 use Rattle.std.specs.Str.Lines.{lines}
 use Rattle.cave_data.specs.CaveView.{CaveView}
 use Rattle.cave_data.proofs.ReadLemmas.{same_cave}
-use Rattle.edit_options.specs.declared.editing.View.{View}
-use Rattle.edit_options.specs.declared.editing.View.TheVariants.{Transcript, Play, Log, Reports}
-use Rattle.edit_options.specs.declared.editing.View.TheVariants.{FinalState}
+use Rattle.edit_options.specs.declared.editing.EditView.{EditView}
+use Rattle.edit_options.specs.declared.editing.EditView.TheVariants.{Transcript, Play, Log, Reports}
+use Rattle.edit_options.specs.declared.editing.EditView.TheVariants.{FinalState}
 use Rattle.log_edits.specs.Game.{Game, game_of}
 use Rattle.edit_scripts.proofs.Grammar.{script_of-only}
 use Rattle.edit_scripts.specs.Item.{Applied}
@@ -41,7 +41,7 @@ same_items script items others spelled respelled =
     cc
 
 -- so for the same items in the same cave it is the same text, whatever the distance of checkpoints
-one_view : (view : View) (cave : CaveView) (game : Game) (items : List Applied) (near far : ℕ)
+one_view : (view : EditView) (cave : CaveView) (game : Game) (items : List Applied) (near far : ℕ)
     (one other : List ℕ) → KnowsNoCheckpoints view → IsViewOf view cave near game items one
     → IsViewOf view cave far game items other → one ≡ other
 one_view Transcript cave game items near far one other free is same = is ∙ sym same

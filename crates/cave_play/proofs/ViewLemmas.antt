@@ -3,9 +3,9 @@ use Rattle.std.proofs.Common.{◌≡◌, ℕ, List, [], ◌∷◌, ◌++◌, len
 use Rattle.std.specs.List.{sum_by}
 use Rattle.std.specs.Str.Lines.{lines}
 use Rattle.cave_data.specs.CaveView.{CaveView}
-use Rattle.edit_options.specs.declared.editing.View.{View}
-use Rattle.edit_options.specs.declared.editing.View.TheVariants.{Transcript, Play, Log, Reports}
-use Rattle.edit_options.specs.declared.editing.View.TheVariants.{FinalState}
+use Rattle.edit_options.specs.declared.editing.EditView.{EditView}
+use Rattle.edit_options.specs.declared.editing.EditView.TheVariants.{Transcript, Play, Log, Reports}
+use Rattle.edit_options.specs.declared.editing.EditView.TheVariants.{FinalState}
 use Rattle.replay_marks.specs.Spacing.{IsSpaced}
 use Rattle.log_replay.specs.LogText.{log_text}
 use Rattle.log_edits.specs.Game.{Game}
@@ -53,7 +53,7 @@ told-nothing tell none (item ∷ items) (outcome ∷ outcomes) =
     ∙ told-nothing tell none items outcomes
 
 -- what is written of items, and then what is written after them, is what was asked for
-pub told-whole : (view : View) (cave : CaveView) (every : ℕ) (items : List Applied) (game : Game)
+pub told-whole : (view : EditView) (cave : CaveView) (every : ℕ) (items : List Applied) (game : Game)
     (opened : List ℕ) (outcomes : List ItemOutcome) (played lines : ℕ) (text whole : List ℕ)
     → IsSpaced every opened (length game.log) → AreOutcomes cave every items game opened outcomes
     → text ≡ text_of_items (text_of_item view) items outcomes

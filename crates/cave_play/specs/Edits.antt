@@ -4,9 +4,9 @@ use Rattle.cave_play.specs.Piece.{Piece}
 use Rattle.std.specs.List.{sum_by}
 use Rattle.std.specs.Str.Lines.{lines}
 use Rattle.cave_data.specs.CaveView.{CaveView}
-use Rattle.edit_options.specs.declared.editing.View.{View}
-use Rattle.edit_options.specs.declared.editing.View.TheVariants.{Transcript, Play, Log, Reports}
-use Rattle.edit_options.specs.declared.editing.View.TheVariants.{FinalState}
+use Rattle.edit_options.specs.declared.editing.EditView.{EditView}
+use Rattle.edit_options.specs.declared.editing.EditView.TheVariants.{Transcript, Play, Log, Reports}
+use Rattle.edit_options.specs.declared.editing.EditView.TheVariants.{FinalState}
 use Rattle.log_replay.specs.Session.{SessionView}
 use Rattle.log_replay.specs.LogText.{log_text}
 use Rattle.log_edits.specs.Game.{Game}
@@ -35,7 +35,7 @@ pub record Applies (item : Applied) (old new : SessionView CaveMachine Piece Sta
   pub left : AreLeft old.every outcome old.checkpoints new.game new.checkpoints
 
 -- what is written of an item, by what is asked for
-abbrev pub text_of_item : View → Applied → ItemOutcome → List ℕ
+abbrev pub text_of_item : EditView → Applied → ItemOutcome → List ℕ
 text_of_item Transcript item outcome = report_by item (refusal_in outcome)
 text_of_item Play item outcome = []
 text_of_item Log item outcome = []
@@ -44,7 +44,7 @@ text_of_item FinalState item outcome = []
 
 -- items were applied to what a session held: the text grew by what is written of each, and the
 -- totals are theirs
-pub record IsApplied (view : View) (items : List Applied)
+pub record IsApplied (view : EditView) (items : List Applied)
     (old : SessionView CaveMachine Piece State) (before after : List ℕ)
     (played lines : ℕ) : Type 0 where
   pub outcomes : List ItemOutcome
@@ -55,7 +55,7 @@ pub record IsApplied (view : View) (items : List Applied)
   pub lines_are : lines ≡ sum_by lines_in outcomes
 
 -- what is written after all items, by what is asked for
-abbrev pub text_at_end : View → CaveView → Game → ℕ → ℕ → List ℕ
+abbrev pub text_at_end : EditView → CaveView → Game → ℕ → ℕ → List ℕ
 text_at_end Transcript cave game played lines = play_text cave game
 text_at_end Play cave game played lines = play_text cave game
 text_at_end Log cave game played lines = log_text game.log
@@ -63,7 +63,7 @@ text_at_end Reports cave game played lines = totals_line played lines
 text_at_end FinalState cave game played lines = final_state_text cave game
 
 -- the written log reads back
-abbrev pub ReadsBack : View → List (List ℕ) → Type 0
+abbrev pub ReadsBack : EditView → List (List ℕ) → Type 0
 ReadsBack Transcript log = ⊤
 ReadsBack Play log = ⊤
 ReadsBack Log log = lines (log_text log) ≡ log

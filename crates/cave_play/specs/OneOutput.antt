@@ -1,10 +1,10 @@
 -- The inputs of a run and its seed determine what it writes, except where an edit reports what it
 -- replayed. So the distance of checkpoints shows there alone.
 use Rattle.std.specs.Prelude.{◌≡◌, ℕ, ⊤, Bool, List}
-use Rattle.edit_options.specs.declared.editing.View.{View}
+use Rattle.edit_options.specs.declared.editing.EditView.{EditView}
 use Rattle.edit_options.specs.declared.views.CheckView.{CheckView}
-use Rattle.edit_options.specs.declared.editing.View.TheVariants.{Transcript, Play, Log, Reports}
-use Rattle.edit_options.specs.declared.editing.View.TheVariants.{FinalState}
+use Rattle.edit_options.specs.declared.editing.EditView.TheVariants.{Transcript, Play, Log, Reports}
+use Rattle.edit_options.specs.declared.editing.EditView.TheVariants.{FinalState}
 use Rattle.edit_options.specs.declared.views.PlayView.{PlayView}
 use Rattle.cave_play.specs.Output.{IsChecked, IsPlayed}
 use Rattle.cave_play.specs.Run.{AtMostOne}
@@ -22,7 +22,7 @@ OnePlayedOutput =
     → AtMostOne (IsPlayed database bindings log seed view)
 
 -- what is asked for knows nothing of checkpoints
-abbrev pub KnowsNoCheckpoints : View → Type 0
+abbrev pub KnowsNoCheckpoints : EditView → Type 0
 KnowsNoCheckpoints Transcript = ⊤
 KnowsNoCheckpoints Play = ⊤
 KnowsNoCheckpoints Log = ⊤
@@ -34,7 +34,7 @@ KnowsNoCheckpoints FinalState = ⊤
 -- whether the runs are strict
 abbrev pub OneEditedOutput : Type 0
 OneEditedOutput =
-    (database bindings log script : List ℕ) (seed near far : ℕ) (view : View)
+    (database bindings log script : List ℕ) (seed near far : ℕ) (view : EditView)
     (first second : Bool)
     → KnowsNoCheckpoints view
     → (one other : List ℕ)

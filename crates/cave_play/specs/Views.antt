@@ -6,9 +6,9 @@ use Rattle.std.specs.Str.Lines.{lines}
 use Rattle.cave_data.specs.CaveView.{CaveView}
 use Rattle.cave_data.specs.Reads.{Reads}
 use Rattle.edit_options.specs.declared.editing.Editing.{Editing}
-use Rattle.edit_options.specs.declared.editing.View.{View}
-use Rattle.edit_options.specs.declared.editing.View.TheVariants.{Transcript, Play, Log, Reports}
-use Rattle.edit_options.specs.declared.editing.View.TheVariants.{FinalState}
+use Rattle.edit_options.specs.declared.editing.EditView.{EditView}
+use Rattle.edit_options.specs.declared.editing.EditView.TheVariants.{Transcript, Play, Log, Reports}
+use Rattle.edit_options.specs.declared.editing.EditView.TheVariants.{FinalState}
 use Rattle.replay_marks.specs.Spacing.{IsSpaced}
 use Rattle.log_replay.specs.LogText.{log_text}
 use Rattle.log_edits.specs.Game.{Game, game_of}
@@ -117,7 +117,7 @@ IsAccount cave every game items text =
 -- ---- what is written
 
 -- the text is what was asked for of the items that edit the game in the cave
-abbrev pub IsViewOf : View → CaveView → ℕ → Game → List Applied → List ℕ → Type 0
+abbrev pub IsViewOf : EditView → CaveView → ℕ → Game → List Applied → List ℕ → Type 0
 IsViewOf Transcript cave every game items text = text ≡ edit_text cave game items
 IsViewOf Play cave every game items text = text ≡ play_text cave (game_after_items items game)
 IsViewOf Log cave every game items text = IsLogOf (game_after_items items game) text
@@ -126,7 +126,7 @@ IsViewOf FinalState cave every game items text =
     text ≡ final_state_text cave (game_after_items items game)
 
 -- the same of the items that the script spells
-abbrev pub IsEditOf : View → CaveView → ℕ → Game → List ℕ → List ℕ → Type 0
+abbrev pub IsEditOf : EditView → CaveView → ℕ → Game → List ℕ → List ℕ → Type 0
 IsEditOf view cave every game script text =
     (items : List Applied) × IsScript 1 (lines script) items
     × IsViewOf view cave every game items text

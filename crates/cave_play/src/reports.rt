@@ -12,7 +12,7 @@ use crate::edits::Totals;
 use crate::outcome::{ItemOutcome, ItemReplay, Standing};
 use crate::refusal::{refusal_number, refusal_words};
 use cave_world::Ending;
-use edit_options::View;
+use edit_options::EditView;
 use edit_scripts::Item;
 use log_edits::GroupFault;
 use log_replay::Stretch;
@@ -23,16 +23,16 @@ pub(crate) fn push_outcome(
     alloc: Global,
     text: &mut Vec<u8>,
     item: &Item,
-    view: View,
+    view: EditView,
     outcome: ItemOutcome,
 ) -> Result<(), AllocError>
     ensures { OnOk result
         (text.new.items ≡ text.old.items ++ text_of_item view (applied_item item.now) outcome) }
 {
     match view {
-        View::Transcript => push_report(alloc, text, item, outcome.refusal()),
-        View::Play | View::Log | View::FinalState => Ok(()),
-        View::Reports => push_account(alloc, text, item, outcome),
+        EditView::Transcript => push_report(alloc, text, item, outcome.refusal()),
+        EditView::Play | EditView::Log | EditView::FinalState => Ok(()),
+        EditView::Reports => push_account(alloc, text, item, outcome),
     }
 }
 

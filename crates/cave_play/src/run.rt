@@ -33,7 +33,7 @@ use cave_data::Cave;
 use cave_scene::Rules;
 use cave_score::max_score;
 use cave_words::Lexicon;
-use edit_options::{CheckView, Editing, PlayView, View};
+use edit_options::{CheckView, EditView, Editing, PlayView};
 use edit_scripts::Script;
 use limits::MAX_EVERY;
 use log_replay::Session;
@@ -320,7 +320,7 @@ fn push_end(
     alloc: Global,
     machine: CaveMachine<'_>,
     session: &Session<CaveMachine<'_>>,
-    view: View,
+    view: EditView,
     totals: Totals,
     text: &mut Vec<u8>,
 ) -> Result<(), AllocError>
@@ -331,9 +331,9 @@ fn push_end(
     ensures reads_back { OnOk result (ReadsBack view session.now.game.log) }
 {
     match view {
-        View::Transcript | View::Play => tell(alloc, machine, session, text),
-        View::Log => session.push_log(text),
-        View::Reports => push_totals(alloc, text, totals),
-        View::FinalState => push_final_state(alloc, machine, session, text),
+        EditView::Transcript | EditView::Play => tell(alloc, machine, session, text),
+        EditView::Log => session.push_log(text),
+        EditView::Reports => push_totals(alloc, text, totals),
+        EditView::FinalState => push_final_state(alloc, machine, session, text),
     }
 }

@@ -59,9 +59,13 @@ fn is_shown(line: &[u8]) -> bool
 fn push_echo(text: &mut Vec<u8>, line: &[u8]) -> Result<(), AllocError>
     ensures { OnOk result (text.new.items ≡ text.old.items ++ echo line.now) }
 {
-    text.extend_from_slice(b"\n> ")?;
+    // A byte is pushed faster than a slice of it is copied.
+    text.push(b'\n')?;
+    text.push(b'>')?;
+    text.push(b' ')?;
     text.extend_from_slice(line)?;
-    text.extend_from_slice(b"\n")
+    text.push(b'\n')?;
+    Ok(())
 }
 
 /// Appends the line that says that a database is a cave.

@@ -1,11 +1,11 @@
 -- What an edit of a log may print.
 use Rattle.std.specs.Prelude.{ℕ, List, bytes_eq, codes, if◌then◌else◌, Option, Some, None}
-use Rattle.edit_options.specs.declared.editing.View.{View}
-use Rattle.edit_options.specs.declared.editing.View.TheVariants.{Transcript, Play, Log, Reports}
-use Rattle.edit_options.specs.declared.editing.View.TheVariants.{FinalState}
+use Rattle.edit_options.specs.declared.editing.EditView.{EditView}
+use Rattle.edit_options.specs.declared.editing.EditView.TheVariants.{Transcript, Play, Log, Reports}
+use Rattle.edit_options.specs.declared.editing.EditView.TheVariants.{FinalState}
 
-abbrev pub view_named : List ℕ → Option View
-view_named name =
+abbrev pub edit_view_named : List ℕ → Option EditView
+edit_view_named name =
     if bytes_eq name (codes "transcript") then Some Transcript
     else (if bytes_eq name (codes "play") then Some Play
     else (if bytes_eq name (codes "log") then Some Log

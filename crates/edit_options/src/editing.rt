@@ -1,9 +1,9 @@
 ghost use Rattle.std.specs.Prelude.{◌≡◌};
-ghost use Rattle.edit_options.specs.Editing.{view_named};
+ghost use Rattle.edit_options.specs.Editing.{edit_view_named};
 
 /// What an edit of a log prints.
 #[derive(Clone, Copy, Debug, PartialEq, Eq)]
-pub enum View {
+pub enum EditView {
     /// Whether each edit was accepted, and what playing the edited log prints.
     Transcript,
     /// What playing the edited log prints.
@@ -16,17 +16,17 @@ pub enum View {
     FinalState,
 }
 
-impl View {
+impl EditView {
     /// The view of a name, if it is the name of one.
-    pub fn named(name: &str) -> Option<View>
-        ensures { result ≡ view_named name.now }
+    pub fn named(name: &str) -> Option<EditView>
+        ensures { result ≡ edit_view_named name.now }
     {
         match name {
-            "transcript" => Some(View::Transcript),
-            "play" => Some(View::Play),
-            "log" => Some(View::Log),
-            "reports" => Some(View::Reports),
-            "state" => Some(View::FinalState),
+            "transcript" => Some(EditView::Transcript),
+            "play" => Some(EditView::Play),
+            "log" => Some(EditView::Log),
+            "reports" => Some(EditView::Reports),
+            "state" => Some(EditView::FinalState),
             _ => None,
         }
     }
@@ -40,7 +40,7 @@ pub struct Editing {
     /// The most lines between two checkpoints.
     pub every: u32,
     /// What is printed.
-    pub view: View,
+    pub view: EditView,
     /// Whether nothing is printed where an edit is refused.
     pub strict: bool,
 }

@@ -4,5 +4,5 @@
 pub mod editing;
 pub mod views;
 
-pub use editing::{Editing, View};
+pub use editing::{EditView, Editing};
 pub use views::{CheckView, CoverView, PlayView};

@@ -2,7 +2,7 @@
 
 use crate::caves::CAVE;
 use crate::runs::{Changing, Feeds, Leading};
-use edit_options::View;
+use edit_options::EditView;
 
 /// The long log as the usual script edits it.
 const EDITED_LOG: &[u8] = b"no\nIN\n# note\non\ndown\n";
@@ -10,7 +10,7 @@ const EDITED_LOG: &[u8] = b"no\nIN\n# note\non\ndown\n";
 #[test]
 fn an_edit_prints_the_state_of_playing_its_log(rt: HostRuntime) {
     let mut changing = Feeds::usual();
-    changing.view = View::FinalState;
+    changing.view = EditView::FinalState;
     let edited = changing.run::<Changing>(rt.alloc());
     let played = Feeds::of(CAVE, b"", EDITED_LOG, b"").run::<Leading>(rt.alloc());
     assert!(rt;

@@ -4,7 +4,7 @@ use crate::caves::LONG_TEXT;
 use crate::runs::{CHECKED_TEXT, Changing, Checking, EDITED_TEXT, Feeds, Leading, Playing, Run};
 use crate::streams::Sink;
 use cave_play::fault::PlayFault;
-use edit_options::View;
+use edit_options::EditView;
 use std::alloc::Global;
 use std::process::Abort;
 
@@ -19,7 +19,7 @@ played 5 lines; from the start it would have been 11\n";
 
 /// Does a run into a writer that needs no memory any more, so that where memory runs out, it is the
 /// run's own.
-fn expect_all_or_out_of_memory<R: Run>(rt: &impl Abort, alloc: Global, view: View, all: &[u8]) {
+fn expect_all_or_out_of_memory<R: Run>(rt: &impl Abort, alloc: Global, view: EditView, all: &[u8]) {
     let Ok(mut sink) = Sink::with_room(alloc, 4_096) else {
         return;
     };
@@ -36,7 +36,7 @@ fn expect_all_or_out_of_memory<R: Run>(rt: &impl Abort, alloc: Global, view: Vie
 }
 
 /// Does a run twice. Where the first has memory enough, the second writes the same, or runs out.
-fn expect_the_same_or_out_of_memory<R: Run>(rt: &impl Abort, alloc: Global, view: View) {
+fn expect_the_same_or_out_of_memory<R: Run>(rt: &impl Abort, alloc: Global, view: EditView) {
     let mut feeds = Feeds::usual();
     feeds.view = view;
     let first = feeds.run::<R>(alloc);
@@ -47,18 +47,18 @@ fn expect_the_same_or_out_of_memory<R: Run>(rt: &impl Abort, alloc: Global, view
 
 #[test]
 fn out_of_memory_writes_nothing(rt: HostRuntime) {
-    let (alloc, shown) = (rt.alloc(), View::Transcript);
+    let (alloc, shown) = (rt.alloc(), EditView::Transcript);
     expect_all_or_out_of_memory::<Checking>(&rt, alloc, shown, CHECKED_TEXT.as_bytes());
     expect_all_or_out_of_memory::<Playing>(&rt, alloc, shown, LONG_TEXT.as_bytes());
     expect_all_or_out_of_memory::<Changing>(&rt, alloc, shown, EDITED_TEXT.as_bytes());
-    expect_all_or_out_of_memory::<Changing>(&rt, alloc, View::Log, EDITED_LOG.as_bytes());
-    expect_all_or_out_of_memory::<Changing>(&rt, alloc, View::Reports, REPORTS.as_bytes());
+    expect_all_or_out_of_memory::<Changing>(&rt, alloc, EditView::Log, EDITED_LOG.as_bytes());
+    expect_all_or_out_of_memory::<Changing>(&rt, alloc, EditView::Reports, REPORTS.as_bytes());
 }
 
 #[test]
 fn out_of_memory_writes_no_state_and_no_play(rt: HostRuntime) {
     let alloc = rt.alloc();
-    expect_the_same_or_out_of_memory::<Leading>(&rt, alloc, View::FinalState);
-    expect_the_same_or_out_of_memory::<Changing>(&rt, alloc, View::FinalState);
-    expect_the_same_or_out_of_memory::<Changing>(&rt, alloc, View::Play);
+    expect_the_same_or_out_of_memory::<Leading>(&rt, alloc, EditView::FinalState);
+    expect_the_same_or_out_of_memory::<Changing>(&rt, alloc, EditView::FinalState);
+    expect_the_same_or_out_of_memory::<Changing>(&rt, alloc, EditView::Play);
 }

@@ -5,7 +5,7 @@ use crate::streams::{Sink, Source};
 use cave_play::bindings::CaveReaders;
 use cave_play::fault::{Input, PlayFault};
 use cave_play::run::{run_check, run_edit, run_play};
-use edit_options::{CheckView, Editing, PlayView, View};
+use edit_options::{CheckView, EditView, Editing, PlayView};
 use std::alloc::Global;
 use std::io::{Read, Write};
 
@@ -68,7 +68,7 @@ pub struct Feeds<'a> {
     pub script: Source<'a>,
     pub seed: u32,
     pub every: u32,
-    pub view: View,
+    pub view: EditView,
 }
 
 // These promise nothing, and are of readers and writers of any kind: what calls them over sources is
@@ -116,7 +116,7 @@ impl<'a> Feeds<'a> {
             script: Source::of(script),
             seed: 0,
             every: 1,
-            view: View::Transcript,
+            view: EditView::Transcript,
         }
     }
 

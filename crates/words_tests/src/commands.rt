@@ -1,7 +1,7 @@
 //! Words of a command line, right and wrong, with what they ask for.
 
 use cave_command::{CommandFault, Run, command_line};
-use edit_options::{Editing, View};
+use edit_options::{EditView, Editing};
 use std::alloc::{AllocError, Global};
 use std::test::Fail;
 
@@ -235,7 +235,7 @@ fn refused_memory_is_no_other_fault(rt: HostRuntime) {
                     editing: Editing {
                         seed: 3,
                         every: 7,
-                        view: View::Transcript,
+                        view: EditView::Transcript,
                         strict: false,
                     },
                     ..
