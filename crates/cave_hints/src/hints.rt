@@ -1,6 +1,7 @@
 //! Hints: one is offered to a player who stays for long where it helps, and who needs it.
 
 ghost use Rattle.std.specs.Prelude.{◌≡◌, ◌<◌, ◌≤◌, ◌+◌, ◌*◌, ◌⊎◌, false, true};
+ghost use Rattle.cave_data.specs.CaveView.{CaveView, conditions_of};
 ghost use Rattle.cave_data.specs.Tables.{IsAbove};
 ghost use Rattle.cave_scene.specs.Bounds.{HasRoom, SaysUpTo, parts_of_question};
 ghost use Rattle.cave_scene.specs.Play.{scene_of, GoesOn};
@@ -20,9 +21,7 @@ use cave_rows::Hint;
 use cave_scene::{Play, Rules};
 use cave_things::{has_other_prop, has_prop, is_in_hand, is_near};
 use cave_words::Named;
-use cave_world::{
-    Charge, Count, HintNumber, LOW_CHARGE, NumberLine, Part, Question, State, has_condition,
-};
+use cave_world::{Charge, Count, HintNumber, LOW_CHARGE, NumberLine, Part, Question, State};
 
 /// The hints that are offered begin with this one.
 const FIRST_HINT: u8 = 4;
@@ -55,8 +54,15 @@ pub fn consider_all(rules: &Rules<'_>, play: &mut Play<'_>)
     ensures same { GoesOn play.old play.new }
     ensures few { SaysUpTo parts_of_question play.old play.new }
 {
+    // A hint moves nobody, so the conditions of the place are looked up once.
+    let conditions = rules.cave.conditions(play.state.trail.here.number());
     for before in 0..count_hints(rules.cave) {
-        consider(rules, HintNumber::new(before + FIRST_HINT), play);
+        consider(
+            rules,
+            HintNumber::new(before + FIRST_HINT),
+            conditions,
+            play,
+        );
     }
 }
 
@@ -107,7 +113,8 @@ fn turns_near(hint: HintNumber, state: &State) -> Count<10000>
 }
 
 fn set_turns_near(hint: HintNumber, turns: Count<10000>, state: &mut State)
-    ensures { state.new ≡ with_turns_near hint turns state.old }
+    ensures state { state.new ≡ with_turns_near hint turns state.old }
+    ensures here { state.new.trail ≡ state.old.trail }
 {
     state.hints.turns[usize::from(hint.number()) - 1] = turns;
 }
@@ -118,20 +125,26 @@ fn take_hint(hint: HintNumber, state: &mut State)
     state.hints.is_taken[usize::from(hint.number()) - 1] = true;
 }
 
-fn is_in_area(rules: &Rules<'_>, hint: HintNumber, state: &State) -> bool
-    ensures { result ≡ is_in_area (cave_of rules.now) hint state.now }
+/// Whether the conditions are those of a place in the area of a hint.
+#[tactic(auto, unfolding(cave_world::specs::Sight::has_condition))]
+fn is_in_area(hint: HintNumber, conditions: u32) -> bool
+    ensures { (cave : CaveView) (s : State) → conditions ≡ conditions_of cave s.trail.here
+        → result ≡ is_in_area cave hint s }
 {
-    has_condition(rules.cave, state.trail.here, hint.number())
+    (conditions >> hint.number()) % 2 == 1
 }
 
 /// One turn more in the area of a hint, or none outside it. Returns whether the player is in it.
 #[tactic(auto, unfolding(crate::specs::Hints::after_turn_near, cave_world::specs::State::takes_no_command))]
-fn wait(rules: &Rules<'_>, hint: HintNumber, state: &mut State) -> bool
-    ensures state { state.new ≡ after_turn_near (cave_of rules.now) hint state.old }
-    ensures area { result ≡ is_in_area (cave_of rules.now) hint state.new }
+fn wait(hint: HintNumber, conditions: u32, state: &mut State) -> bool
+    ensures state { (cave : CaveView) → conditions ≡ conditions_of cave state.old.trail.here
+        → state.new ≡ after_turn_near cave hint state.old }
+    ensures area { (cave : CaveView) → conditions ≡ conditions_of cave state.old.trail.here
+        → result ≡ is_in_area cave hint state.new }
+    ensures here { state.new.trail ≡ state.old.trail }
     ensures over { takes_no_command state.new ≡ takes_no_command state.old }
 {
-    let is_near = is_in_area(rules, hint, state);
+    let is_near = is_in_area(hint, conditions);
     let turns = if is_near {
         turns_near(hint, state).up()
     } else {
@@ -143,10 +156,11 @@ fn wait(rules: &Rules<'_>, hint: HintNumber, state: &mut State) -> bool
 
 /// Whether the player has stayed for long enough, and no question is open.
 #[tactic(auto, unfolding(crate::specs::Hints::is_due))]
-fn is_due(rules: &Rules<'_>, number: HintNumber, hint: &Hint, state: &State) -> bool
-    ensures { result ≡ is_due (cave_of rules.now) number hint.now state.now }
+fn is_due(number: HintNumber, hint: &Hint, conditions: u32, state: &State) -> bool
+    ensures { (cave : CaveView) → conditions ≡ conditions_of cave state.now.trail.here
+        → result ≡ is_due cave number hint.now state.now }
 {
-    is_in_area(rules, number, state)
+    is_in_area(number, conditions)
         && hint.turns <= turns_near(number, state).number()
         && !state.takes_no_command()
 }
@@ -210,6 +224,7 @@ fn is_needed(rules: &Rules<'_>, hint: HintNumber, state: &State) -> bool
 #[tactic(auto, unfolding(cave_world::specs::State::takes_no_command))]
 fn put_off(hint: HintNumber, state: &mut State)
     ensures state { state.new ≡ after_putting_off hint state.old }
+    ensures here { state.new.trail ≡ state.old.trail }
     ensures over { takes_no_command state.new ≡ takes_no_command state.old }
 {
     if hint.number() != BIRD_HINT {
@@ -218,19 +233,21 @@ fn put_off(hint: HintNumber, state: &mut State)
 }
 
 /// A hint that is due is offered to a player who needs it.
-#[tactic(auto, unfolding(crate::specs::Hints::offer_scene, crate::specs::Hints::is_due))]
-fn offer(rules: &Rules<'_>, number: HintNumber, hint: &Hint, play: &mut Play<'_>)
-    requires { HasRoom parts_of_question play.old }
+#[tactic(auto, using(crate::proofs::Trails::trail_asked), unfolding(crate::specs::Hints::offer_scene, crate::specs::Hints::is_due))]
+fn offer(rules: &Rules<'_>, number: HintNumber, hint: &Hint, conditions: u32, play: &mut Play<'_>)
+    requires room { HasRoom parts_of_question play.old }
+    requires here { conditions ≡ conditions_of (cave_of rules.now) play.old.state.now.trail.here }
     ensures play { scene_of play.new
         ≡ offer_scene (cave_of rules.now) number hint.now (scene_of play.old) }
     ensures same { GoesOn play.old play.new }
+    ensures here { play.new.state.now.trail ≡ play.old.state.now.trail }
     ensures few { SaysUpTo parts_of_question play.old play.new }
     ensures few_on { takes_no_command play.new.state.now ≡ false → SaysUpTo 0 play.old play.new }
     ensures few_over { takes_no_command play.old.state.now ≡ true → SaysUpTo 0 play.old play.new }
     ensures stays { takes_no_command play.new.state.now ≡ false
         → takes_no_command play.old.state.now ≡ false }
 {
-    if !is_due(rules, number, hint, play.state) {
+    if !is_due(number, hint, conditions, play.state) {
         return;
     }
     if is_needed(rules, number, play.state) {
@@ -243,11 +260,13 @@ fn offer(rules: &Rules<'_>, number: HintNumber, hint: &Hint, play: &mut Play<'_>
 
 /// A hint that the cave has and that wasn't taken counts its turns, and is offered.
 #[tactic(auto, unfolding(crate::specs::Hints::after_considering, crate::specs::Hints::offer_scene, crate::specs::Hints::is_due))]
-fn consider(rules: &Rules<'_>, number: HintNumber, play: &mut Play<'_>)
-    requires { HasRoom parts_of_question play.old }
+fn consider(rules: &Rules<'_>, number: HintNumber, conditions: u32, play: &mut Play<'_>)
+    requires room { HasRoom parts_of_question play.old }
+    requires here { conditions ≡ conditions_of (cave_of rules.now) play.old.state.now.trail.here }
     ensures play { scene_of play.new
         ≡ after_considering (cave_of rules.now) number (scene_of play.old) }
     ensures same { GoesOn play.old play.new }
+    ensures here { play.new.state.now.trail ≡ play.old.state.now.trail }
     ensures few { SaysUpTo parts_of_question play.old play.new }
     ensures few_on { takes_no_command play.new.state.now ≡ false → SaysUpTo 0 play.old play.new }
     ensures few_over { takes_no_command play.old.state.now ≡ true → SaysUpTo 0 play.old play.new }
@@ -258,8 +277,8 @@ fn consider(rules: &Rules<'_>, number: HintNumber, play: &mut Play<'_>)
         if play.state.is_hint_taken(number) {
             return;
         }
-        if wait(rules, number, play.state) {
-            offer(rules, number, &hint, play);
+        if wait(number, conditions, play.state) {
+            offer(rules, number, &hint, conditions, play);
         }
     }
 }

@@ -1,10 +1,12 @@
 use Rattle.std.proofs.Common.{rules, ◌≡◌, ◌+◌, ap, sym, ◌∙◌, arith}
+use Rattle.cave_data.specs.CaveView.{conditions_of}
 use Rattle.cave_scene.specs.Play.{scene_of}
 use Rattle.cave_scene.specs.Rules.{cave_of}
 use Rattle.cave_hints.specs.Hints.{after_considering, after_hints_up_to}
 use Rattle.cave_hints.proofs.Steps.{after_considering-more, after_hints-all, few-asked}
 use Rattle.cave_hints.proofs.hints.consider_all.Goals as goal
 use Rattle.cave_world.specs.State.{takes_no_command}
+use Rattle.cave_world.specs.declared.state.Trail.{Trail}
 
 pub loop-before-init : goal.loop-before-init
 unfolding after_hints_up_to
@@ -31,6 +33,8 @@ loop-before-preserved c =
           let now = c.consider.ensures.few_on on in
           omega (arith, before, now)),
       search rules,
+      c.loop-before.invariant.4
+      ∙ ap (λ (t : Trail). conditions_of cave t.here) (sym c.consider.ensures.here),
     )
 
 pub returns-clause-play : goal.returns-clause-play

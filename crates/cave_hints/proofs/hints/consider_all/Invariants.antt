@@ -1,5 +1,6 @@
 -- The hints so far are considered, and at most one was offered.
 use Rattle.std.proofs.Common.{◌≡◌, false}
+use Rattle.cave_data.specs.CaveView.{conditions_of}
 use Rattle.cave_scene.specs.Bounds.{SaysUpTo, parts_of_question}
 use Rattle.cave_scene.specs.Play.{scene_of, GoesOn}
 use Rattle.cave_scene.specs.Rules.{cave_of}
@@ -13,3 +14,4 @@ invariant-loop-before l =
     × SaysUpTo parts_of_question l.initial.play l.play
     × (takes_no_command l.play.state.now ≡ false → SaysUpTo 0 l.initial.play l.play)
     × GoesOn l.initial.play l.play
+    × (l.conditions ≡ conditions_of (cave_of l.rules) l.play.state.now.trail.here)
