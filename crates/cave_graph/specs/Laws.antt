@@ -11,8 +11,8 @@ use Rattle.cave_graph.specs.Places.{node}
 use Rattle.cave_graph.specs.Ways.{begins_edge, is_both_ways, is_mapped, is_way}
 use Rattle.cave_graph.specs.declared.stops.Stop.{Stop}
 
--- what is between the quotes of a label reads back as its text, whatever follows: no byte of a
--- text ends its label
+-- what is between the quotes of a label reads back as its text as it is shown, whatever follows: no
+-- byte of a text ends its label
 abbrev pub LabelsReadBack : Type 0
 LabelsReadBack =
     (text rest : List ℕ)

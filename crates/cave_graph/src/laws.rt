@@ -3,7 +3,7 @@
 ghost use Rattle.cave_graph.specs.Laws.{EachWayHasOneEdge, EdgesAreLines, EndsAreNodes};
 ghost use Rattle.cave_graph.specs.Laws.{LabelsReadBack, NodesAreLines};
 
-/// A label reads back as its text, whatever follows it.
+/// A label reads back as its text as it is shown, whatever follows it.
 pub fn labels_read_back()
     ensures { LabelsReadBack }
 {}

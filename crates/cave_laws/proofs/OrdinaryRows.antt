@@ -1,5 +1,5 @@
--- Rows of verbs keep each claim, however many there are, where their effects are ordinary: they
--- change nothing that a claim speaks of, or they are made of what is listed in `ordinary`.
+-- Rows of verbs keep each claim where their effects are ordinary: they change nothing that a claim
+-- speaks of, or they are made of what is listed in `ordinary`.
 use Rattle.std.proofs.Common.{ℕ, Bool, List, [], ◌∷◌}
 use Rattle.std.specs.Prelude.{Option, if◌then◌else◌}
 use Rattle.cave_data.specs.CaveView.{CaveView}
