@@ -12,10 +12,10 @@ use Rattle.cave_rows.specs.PlaceRole.{place_names}
 
 -- the keys of messages and of places, by the numbers of their roles
 unfoldable pub message_keys : List ℕ
-message_keys = range_with_len 0 156
+message_keys = range_with_len 0 (length role_names)
 
 unfoldable pub place_keys : List ℕ
-place_keys = range_with_len 0 19
+place_keys = range_with_len 0 (length place_names)
 
 abbrev pub first_line : List ℕ → List ℕ
 first_line text = slice_index_or (lines text) 0 []
@@ -74,10 +74,14 @@ module _ (cave : CaveView) where
       length (filter (λ key. leads_to_text text_of_place (map.get cave.places key)) place_keys)
 
   unfoldable pub message_sum : List ℕ
-  message_sum = codes "-- " ++ (decimal message_count ++ codes " of 156 messages and ")
+  message_sum =
+      codes "-- " ++ (decimal message_count
+      ++ (codes " of " ++ (decimal (length role_names) ++ codes " messages and ")))
 
   unfoldable pub place_sum : List ℕ
-  place_sum = decimal place_count ++ codes " of 19 places have a text\n"
+  place_sum =
+      decimal place_count
+      ++ (codes " of " ++ (decimal (length place_names) ++ codes " places have a text\n"))
 
   -- a line for each key, and the sum
   unfoldable pub bindings_text : List ℕ

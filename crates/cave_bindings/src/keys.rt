@@ -200,7 +200,7 @@ pub(crate) fn message_roles() -> &'static [Role]
 
 /// All roles of places.
 #[tactic(auto, unfolding(crate::specs::Listing::place_keys))]
-pub(crate) fn place_roles() -> &'static [PlaceRole]
+pub fn place_roles() -> &'static [PlaceRole]
     ensures { map place_number result.now ≡ place_keys }
 {
     &PLACES

@@ -4,4 +4,5 @@
 mod keys;
 pub mod listing;
 
+pub use keys::place_roles;
 pub use listing::{first_line, push_bindings};

@@ -14,6 +14,8 @@ ghost use Rattle.cave_bindings.specs.Listing.{text_of_message, text_of_place};
 
 use crate::keys::{message_roles, place_roles};
 use cave_data::Cave;
+use cave_rows::place_role::PLACE_NAMES;
+use cave_rows::role::ROLE_NAMES;
 use cave_rows::{PlaceRole, Role};
 use log_lines::lines::split_line;
 use std::alloc::{AllocError, Global};
@@ -215,7 +217,8 @@ fn push_message_sum(alloc: Global, cave: &Cave, text: &mut Vec<u8>) -> Result<()
     ensures { OnOk result (text.new.items ≡ text.old.items ++ message_sum cave.now) }
 {
     let count = count_messages(cave);
-    let told = format!(in alloc; "-- {count} of 156 messages and ")?;
+    let all = ROLE_NAMES.len();
+    let told = format!(in alloc; "-- {count} of {all} messages and ")?;
     text.extend_from_slice(told.as_bytes())
 }
 
@@ -225,7 +228,8 @@ fn push_place_sum(alloc: Global, cave: &Cave, text: &mut Vec<u8>) -> Result<(), 
     ensures { OnOk result (text.new.items ≡ text.old.items ++ place_sum cave.now) }
 {
     let count = count_places(cave);
-    let told = format!(in alloc; "{count} of 19 places have a text\n")?;
+    let all = PLACE_NAMES.len();
+    let told = format!(in alloc; "{count} of {all} places have a text\n")?;
     text.extend_from_slice(told.as_bytes())
 }
 

@@ -77,8 +77,8 @@ pub edges_are_lines : EdgesAreLines
 unfolding edge
 edges_are_lines cave stops logs from to =
     let is_both = is_both_ways cave from to in
-    let there = is_taken stops from to in
-    let back = is_taken stops to from in
+    let there = is_taken cave stops from to in
+    let back = is_taken cave stops to from in
     line_after (edge_opening from to) _ (ends_within from to)
     ∙ line_after (quoted (edge_text cave from to)) _ (quoted_within (edge_text cave from to))
     ∙ line_after (heads is_both there back) _ (heads_within is_both there back)

@@ -50,7 +50,7 @@ heads is_both is_taken is_taken_back =
 -- the edge is of a way that plays took, or of one whose way back they took
 abbrev pub is_edge_taken : CaveView → List Stop → ℕ → ℕ → Bool
 is_edge_taken cave stops from to =
-    is_taken stops from to || (is_both_ways cave from to && is_taken stops to from)
+    is_taken cave stops from to || (is_both_ways cave from to && is_taken cave stops to from)
 
 -- how the line of an edge begins
 abbrev pub edge_opening : ℕ → ℕ → List ℕ
@@ -62,7 +62,7 @@ unfoldable pub edge : CaveView → List Stop → ℕ → ℕ → ℕ → List �
 edge cave stops logs from to =
     edge_opening from to
     ++ (quoted (edge_text cave from to)
-    ++ (heads (is_both_ways cave from to) (is_taken stops from to) (is_taken stops to from)
+    ++ (heads (is_both_ways cave from to) (is_taken cave stops from to) (is_taken cave stops to from)
     ++ (strength logs (is_edge_taken cave stops from to) ++ codes "];\n")))
 
 -- the edges of a place

@@ -19,7 +19,7 @@ graph_opening =
 
 -- the ends of ways from a place that plays took
 unfoldable pub ends_taken : CaveView → List Stop → ℕ → List ℕ
-ends_taken cave stops from = filter (is_taken stops from) (ends_of_ways cave from)
+ends_taken cave stops from = filter (is_taken cave stops from) (ends_of_ways cave from)
 
 -- the places on the map where plays were
 unfoldable pub places_visited : CaveView → List Stop → List ℕ

@@ -7,11 +7,10 @@ use Rattle.std.specs.List.{filter, flat_map, range_with_len}
 use Rattle.std.specs.FinMap as map
 use Rattle.std.specs.Option.{option_or}
 use Rattle.std.specs.Ordering.{int_eq}
+use Rattle.cave_bindings.specs.Listing.{place_keys}
 use Rattle.cave_data.specs.CaveView.{CaveView, placement_of}
 use Rattle.cave_numbers.specs.Numbers.{last_object}
-use Rattle.cave_rows.specs.PlaceRole.{place_names, place_number}
-use Rattle.cave_rows.specs.declared.place_role.PlaceRole.{PlaceRole}
-use Rattle.cave_rows.specs.declared.place_role.PlaceRole.TheVariants as role
+use Rattle.cave_rows.specs.PlaceRole.{place_names}
 use Rattle.cave_world.specs.Sight.{LIGHT_BIT, has_condition, is_forced}
 use Rattle.cave_graph.specs.Labels.{quoted}
 use Rattle.cave_graph.specs.Names.{opening_words, word_or_number, number_of_object}
@@ -44,22 +43,15 @@ abbrev pub object_label_line : CaveView → ℕ → List ℕ
 object_label_line cave object =
     codes "+" ++ (word_or_number cave (number_of_object object) ++ codes "\n")
 
--- the roles of places, in the order of their names
-abbrev pub place_roles : List PlaceRole
-place_roles =
-    role.Start ∷ role.Building ∷ role.Outside ∷ role.Deep ∷ role.Alcove ∷ role.Plover ∷ role.Y2
-    ∷ role.Chest ∷ role.Message ∷ role.Dwarfalt ∷ role.Dwarf1 ∷ role.Dwarf2 ∷ role.Dwarf3
-    ∷ role.Dwarf4 ∷ role.Dwarf5 ∷ role.Culdesac ∷ role.Witt ∷ role.Ne ∷ role.Sw ∷ []
-
 abbrev pub is_number : Option ℕ → ℕ → Bool
 is_number None number = false
 is_number (Some found) number = found == number
 
--- the line of a role, if the place has it
-abbrev pub role_label_line : CaveView → ℕ → PlaceRole → List ℕ
+-- the line of a role, by its number, if the place has it
+abbrev pub role_label_line : CaveView → ℕ → ℕ → List ℕ
 role_label_line cave place role =
-    if is_number (map.get cave.places (place_number role)) place
-    then codes "= " ++ (slice_index_or place_names (place_number role) [] ++ codes "\n") else []
+    if is_number (map.get cave.places role) place
+    then codes "= " ++ (slice_index_or place_names role [] ++ codes "\n") else []
 
 -- the line of the visits, if there are any
 abbrev pub visits_label_line : ℕ → List ℕ
@@ -75,7 +67,7 @@ unfoldable pub node_text : CaveView → List Stop → ℕ → List ℕ
 node_text cave stops place =
     title_line cave place
     ++ (flat_map (object_label_line cave) (objects_beginning cave place)
-    ++ (flat_map (role_label_line cave place) place_roles
+    ++ (flat_map (role_label_line cave place) place_keys
     ++ visits_label_line (visits stops place)))
 
 -- a place of a forced motion is a point, and one without light is dark

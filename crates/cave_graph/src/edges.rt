@@ -152,18 +152,19 @@ fn heads(is_both: bool, is_taken: bool, is_taken_back: bool) -> &'static str
 fn is_edge_taken(cave: &Cave, stops: &[Stop], from: u16, to: u16) -> bool
     ensures { result ≡ is_edge_taken cave.now stops.now from to }
 {
-    is_taken(stops, from, to) || (is_both_ways(cave, from, to) && is_taken(stops, to, from))
+    is_taken(cave, stops, from, to)
+        || (is_both_ways(cave, from, to) && is_taken(cave, stops, to, from))
 }
 
 /// The heads of the edge of a way.
 fn heads_of_edge(cave: &Cave, stops: &[Stop], from: u16, to: u16) -> &'static str
     ensures { result.now ≡ heads (is_both_ways cave.now from to)
-        (is_taken stops.now from to) (is_taken stops.now to from) }
+        (is_taken cave.now stops.now from to) (is_taken cave.now stops.now to from) }
 {
     heads(
         is_both_ways(cave, from, to),
-        is_taken(stops, from, to),
-        is_taken(stops, to, from),
+        is_taken(cave, stops, from, to),
+        is_taken(cave, stops, to, from),
     )
 }
 

@@ -110,7 +110,7 @@ fn count_taken(cave: &Cave, stops: &[Stop], from: u16) -> usize
 {
     (1..LAST_PLACE + 1)
         .filter(|to| is_way(cave, from, *to))
-        .filter(|to| is_taken(stops, from, *to))
+        .filter(|to| is_taken(cave, stops, from, *to))
         .count()
 }
 

@@ -3,6 +3,8 @@
 ghost use Rattle.std.specs.Prelude.{◌≡◌, ◌≤◌, ◌<◌, ◌++◌, All, IfOk, OnOk};
 ghost use Rattle.std.specs.List.{flat_map};
 ghost use Rattle.cave_numbers.specs.Numbers.{last_object, last_place};
+ghost use Rattle.cave_bindings.specs.Listing.{place_keys};
+ghost use Rattle.cave_rows.specs.PlaceRole.{place_number};
 ghost use Rattle.cave_graph.specs.Labels.{quoted};
 ghost use Rattle.cave_graph.specs.Places.{begins_at, look_of_place, node, node_end, node_opening};
 ghost use Rattle.cave_graph.specs.Places.{node_text, nowhere_note, object_label_line};
@@ -14,6 +16,7 @@ use crate::names::{number_of_object, push_word_or_number};
 use crate::stops::{Stop, is_visited, visits};
 use crate::titles::push_title;
 use crate::ways::count_nowhere;
+use cave_bindings::place_roles;
 use cave_data::Cave;
 use cave_numbers::LAST_OBJECT;
 use cave_objects::Place;
@@ -21,29 +24,6 @@ use cave_rows::PlaceRole;
 use cave_world::sight::LIGHT_BIT;
 use cave_world::{has_condition, is_forced};
 use std::alloc::{AllocError, Global};
-
-/// The roles of places, in the order of their names.
-const PLACE_ROLES: [PlaceRole; 19] = [
-    PlaceRole::Start,
-    PlaceRole::Building,
-    PlaceRole::Outside,
-    PlaceRole::Deep,
-    PlaceRole::Alcove,
-    PlaceRole::Plover,
-    PlaceRole::Y2,
-    PlaceRole::Chest,
-    PlaceRole::Message,
-    PlaceRole::Dwarfalt,
-    PlaceRole::Dwarf1,
-    PlaceRole::Dwarf2,
-    PlaceRole::Dwarf3,
-    PlaceRole::Dwarf4,
-    PlaceRole::Dwarf5,
-    PlaceRole::Culdesac,
-    PlaceRole::Witt,
-    PlaceRole::Ne,
-    PlaceRole::Sw,
-];
 
 /// Whether a half of an object is at a place as a game begins.
 fn begins_at(cave: &Cave, place: u16, object: u16) -> bool
@@ -101,7 +81,8 @@ fn push_role_label_line(
     role: PlaceRole,
     text: &mut Vec<u8>,
 ) -> Result<(), AllocError>
-    ensures { OnOk result (text.new.items ≡ text.old.items ++ role_label_line cave.now place role) }
+    ensures { OnOk result (text.new.items
+        ≡ text.old.items ++ role_label_line cave.now place (place_number role)) }
 {
     match cave.place(role) {
         Some(found) if found == place => {
@@ -113,19 +94,28 @@ fn push_role_label_line(
     }
 }
 
+/// Appends the lines of those of some roles that a place has.
 fn push_roles(
     cave: &Cave,
     place: u16,
     roles: &[PlaceRole],
     text: &mut Vec<u8>,
 ) -> Result<(), AllocError>
-    ensures { OnOk result
-        (text.new.items ≡ text.old.items ++ flat_map (role_label_line cave.now place) roles.now) }
+    ensures { OnOk result (text.new.items ≡ text.old.items
+        ++ flat_map (λ role. role_label_line cave.now place (place_number role)) roles.now) }
 {
     for role in roles {
         push_role_label_line(cave, place, *role, text)?;
     }
     Ok(())
+}
+
+/// Appends the lines of the roles that a place has.
+fn push_roles_of_place(cave: &Cave, place: u16, text: &mut Vec<u8>) -> Result<(), AllocError>
+    ensures { OnOk result (text.new.items
+        ≡ text.old.items ++ flat_map (role_label_line cave.now place) place_keys) }
+{
+    push_roles(cave, place, place_roles(), text)
 }
 
 /// Appends the line of the visits, if there are any.
@@ -181,7 +171,7 @@ fn push_node_text(
 {
     push_title_line(alloc, cave, place, text)?;
     push_objects_beginning(alloc, cave, place, text)?;
-    push_roles(cave, place, &PLACE_ROLES, text)?;
+    push_roles_of_place(cave, place, text)?;
     push_visits_label_line(alloc, visits(stops, place), text)
 }
 

@@ -18,7 +18,7 @@ agree_filter p q (x ∷ xs) agree =
 
 module _ (cave : CaveView) (stops others : List Stop)
     (visited : (place : ℕ) → is_visited stops place ≡ is_visited others place)
-    (taken : (from to : ℕ) → is_taken stops from to ≡ is_taken others from to)
+    (taken : (from to : ℕ) → is_taken cave stops from to ≡ is_taken cave others from to)
     (counted : (place : ℕ) → visits stops place ≡ visits others place) where
   agree_node : (logs place : ℕ) → node cave stops logs place ≡ node cave others logs place
   unfolding node node_text
@@ -41,7 +41,7 @@ module _ (cave : CaveView) (stops others : List Stop)
   agree_taken : (from : ℕ) → ends_taken cave stops from ≡ ends_taken cave others from
   unfolding ends_taken
   agree_taken from =
-      agree_filter (is_taken stops from) (is_taken others from) (ends_of_ways cave from)
+      agree_filter (is_taken cave stops from) (is_taken cave others from) (ends_of_ways cave from)
       (taken from)
 
   agree_count : count_taken cave stops ≡ count_taken cave others
