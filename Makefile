@@ -1,4 +1,4 @@
-.PHONY: try play test soak suite map install
+.PHONY: try play test soak suite graphviz map install
 
 PREFIX ?= $(HOME)/.local
 PROGRAM = crates/cave/out/cave
@@ -61,10 +61,13 @@ suite: $(PROGRAM)
 	@logs/coverage $(PROGRAM)
 	@logs/maps $(PROGRAM)
 
+graphviz:
+	@command -v dot > /dev/null || { echo "There is no \`dot\`, which draws maps:" \
+		"install Graphviz, as by \`apt-get install graphviz\`."; exit 1; }
+
 # Draws the map of the shoal with what the tour sees of it, by Graphviz, into docs/shoal.svg.
 MAP = map caves/shoal.txt logs/tour.log --bind caves/shoal.bind --seed 3
-map: $(PROGRAM)
-	@command -v dot > /dev/null || { echo "There is no \`dot\`, which draws maps: install Graphviz, as by \`apt-get install graphviz\`."; exit 1; }
+map: graphviz $(PROGRAM)
 	@mkdir -p out
 	@$(PROGRAM) $(MAP) > out/shoal.dot
 	@dot -Tsvg out/shoal.dot -o docs/shoal.svg

@@ -40,6 +40,10 @@ random numbers anew:
 
   seed 7";
 
+/// What is under the help of `map`.
+const MAP_EXAMPLE: &str =
+    "Example: cave map caves/b.txt logs/round.log --bind caves/b.bind | dot -Tsvg > b.svg";
+
 /// What is under the help of `edit`.
 const EDIT_EXAMPLE: &str = "Example: cave edit caves/a.txt logs/first.log logs/first.script
 
@@ -162,7 +166,7 @@ fn map_command<'a>(alloc: Global) -> Result<Command<'a>, AllocError>
 {
     let command = Command::new(alloc, "map")
         .about("Prints the cave as a graph for Graphviz, with what logs saw of it")
-        .after_help("Example: cave map caves/b.txt logs/round.log --bind caves/b.bind");
+        .after_help(MAP_EXAMPLE);
     let command = command
         .arg(cave_argument(alloc))?
         .arg(some_logs_argument(alloc))?;

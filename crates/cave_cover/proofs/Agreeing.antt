@@ -9,7 +9,7 @@ use Rattle.cave_cover.specs.Report.{numbers_shown}
 use Rattle.cave_cover.specs.Missing.{missing_line, missing_lines, missing_report, report_by}
 use Rattle.edit_options.specs.declared.views.CoverView.{CoverView}
 use Rattle.edit_options.specs.declared.views.CoverView.TheVariants.{Counts, Texts}
-use Rattle.cave_cover.specs.Texts.{has_text, text}
+use Rattle.cave_cover.specs.Texts.{has_text, text, end_of_numbers}
 use Rattle.cave_cover.specs.declared.text.Kind.{Kind}
 use Rattle.cave_cover.specs.declared.text.Text.{Text}
 
@@ -26,10 +26,10 @@ agree_range p q most first (suc count) agree within =
     agree_cons first (p first) (q first) _ _ (agree first (omega arith))
     (agree_range p q most (first + 1) count agree (omega arith))
 
-agree_numbers : (p q : ℕ → Bool) → ((n : ℕ) → n < 10000 → p n ≡ q n)
+agree_numbers : (p q : ℕ → Bool) → ((n : ℕ) → n < end_of_numbers → p n ≡ q n)
     → filter p numbers ≡ filter q numbers
 unfolding numbers
-agree_numbers p q agree = agree_range p q 10000 0 10000 agree (omega arith)
+agree_numbers p q agree = agree_range p q end_of_numbers 0 end_of_numbers agree (omega arith)
 
 pub agree_flat : {X A : Type 0} (f g : X → List A) (xs : List X) → ((x : X) → f x ≡ g x)
     → flat_map f xs ≡ flat_map g xs
@@ -43,7 +43,7 @@ agree_sum f g (x ∷ xs) agree = sum_by-cons f x xs
     ∙ ap₂ (λ here rest. here + rest) (agree x) (agree_sum f g xs agree) ∙ sym (sum_by-cons g x xs)
 
 module _ (cave : CaveView) (is_said is_told : Text → Bool) (agree : (text : Text)
-    → text.number < 10000 → is_said text ≡ is_told text) where
+    → text.number < end_of_numbers → is_said text ≡ is_told text) where
   agree_shown : (kind : Kind) → numbers_shown cave is_said kind ≡ numbers_shown cave is_told kind
   unfolding numbers_shown
   agree_shown kind =

@@ -9,7 +9,7 @@ use Rattle.cave_data.specs.CaveView.{CaveView}
 use Rattle.cave_data.proofs.ReadLemmas.{same_cave}
 use Rattle.cave_cover.specs.Laws.{OrderIsNothing, AgainIsNothing, OneCoveredOutput}
 use Rattle.cave_cover.specs.Plays.{cover_text, said_in_all, said_in_log, report_of_logs}
-use Rattle.cave_cover.specs.Texts.{is_among, is_same}
+use Rattle.cave_cover.specs.Texts.{is_among, is_same, end_of_numbers}
 use Rattle.cave_cover.specs.declared.text.Text.{Text}
 use Rattle.cave_cover.proofs.Agreeing.{agree_view}
 
@@ -32,7 +32,7 @@ pub order_is_nothing : OrderIsNothing
 order_is_nothing cave seed view logs others shuffled =
     let of_logs = λ (text : Text). is_among text (said_in_all cave seed logs) in
     let of_others = λ (text : Text). is_among text (said_in_all cave seed others) in
-    let agree = λ (text : Text) (below : text.number < 10000).
+    let agree = λ (text : Text) (below : text.number < end_of_numbers).
     among_all cave seed others text
     ∙ sym (list_any-IsPermutation (says cave seed text) logs others shuffled)
     ∙ sym (among_all cave seed logs text) in
@@ -51,7 +51,7 @@ pub again_is_nothing : AgainIsNothing
 again_is_nothing cave seed view logs log given count =
     let of_logs = λ (text : Text). is_among text (said_in_all cave seed logs) in
     let of_more = λ (text : Text). is_among text (said_in_all cave seed (log ∷ logs)) in
-    let agree = λ (text : Text) (below : text.number < 10000).
+    let agree = λ (text : Text) (below : text.number < end_of_numbers).
     among_all cave seed (log ∷ logs) text
     ∙ said_once (says cave seed text) logs log given
     ∙ sym (among_all cave seed logs text) in

@@ -11,6 +11,7 @@ use Rattle.cave_cover.specs.Report.{kinds, name, numbers_missing, report, sums_l
 use Rattle.cave_cover.specs.declared.text.Kind.{Kind}
 use Rattle.cave_cover.specs.declared.text.Kind.TheVariants as kind
 use Rattle.cave_cover.specs.declared.text.Text.{Text}
+use Rattle.cave_cover.specs.Texts.{PROPS_PER_OBJECT}
 
 -- what one text of a kind is called
 abbrev pub word_of_kind : Kind → List ℕ
@@ -26,7 +27,7 @@ word_of_kind kind.Class = codes "class"
 abbrev pub text_at : CaveView → Kind → ℕ → Option (List ℕ)
 text_at cave kind.Long number = map.get cave.long number
 text_at cave kind.Short number = map.get cave.short number
-text_at cave kind.Look number = look_of cave (number / 100) (number % 100)
+text_at cave kind.Look number = look_of cave (number / PROPS_PER_OBJECT) (number % PROPS_PER_OBJECT)
 text_at cave kind.Name number = inventory_text cave number
 text_at cave kind.Message number = map.get cave.messages number
 text_at cave kind.Role number = None

@@ -5,14 +5,14 @@ use Rattle.std.specs.Fmt.{decimal}
 use Rattle.std.specs.List.{filter, flat_map, range_with_len, sum_by}
 use Rattle.cave_data.specs.CaveView.{CaveView}
 use Rattle.cave_rows.specs.Role.{role_names}
-use Rattle.cave_cover.specs.Texts.{has_text, text}
+use Rattle.cave_cover.specs.Texts.{has_text, text, PROPS_PER_OBJECT, end_of_numbers}
 use Rattle.cave_cover.specs.declared.text.Kind.{Kind}
 use Rattle.cave_cover.specs.declared.text.Kind.TheVariants as kind
 use Rattle.cave_cover.specs.declared.text.Text.{Text}
 
 -- the numbers that a text may have, in ascending order
 unfoldable pub numbers : List ℕ
-numbers = range_with_len 0 10000
+numbers = range_with_len 0 end_of_numbers
 
 -- the kinds in the order of the sections
 abbrev pub kinds : List Kind
@@ -29,7 +29,7 @@ heading_of_kind kind.Class = codes "classes"
 
 -- how a text of a kind is named
 abbrev pub name : Kind → ℕ → List ℕ
-name kind.Look number = decimal (number / 100) ++ (codes ":" ++ decimal (number % 100))
+name kind.Look number = decimal (number / PROPS_PER_OBJECT) ++ (codes ":" ++ decimal (number % PROPS_PER_OBJECT))
 name kind.Role number = slice_index_or role_names number []
 name _ number = decimal number
 

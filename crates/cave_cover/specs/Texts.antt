@@ -12,6 +12,14 @@ use Rattle.cave_cover.specs.declared.text.Kind.{Kind}
 use Rattle.cave_cover.specs.declared.text.Kind.TheVariants as kind
 use Rattle.cave_cover.specs.declared.text.Text.{Text}
 
+-- the numbers of texts are below it
+abbrev pub end_of_numbers : ℕ
+end_of_numbers = 10000
+
+-- the number of a look is that of its object times this, and its prop
+abbrev pub PROPS_PER_OBJECT : ℕ
+PROPS_PER_OBJECT = 100
+
 abbrev pub kind_number : Kind → ℕ
 kind_number kind.Long = 0
 kind_number kind.Short = 1
@@ -42,7 +50,8 @@ has_bound (Some rated) bound = rated.bound == bound
 abbrev pub has_text : CaveView → Kind → ℕ → Bool
 has_text cave kind.Long number = is_some (map.get cave.long number)
 has_text cave kind.Short number = is_some (map.get cave.short number)
-has_text cave kind.Look number = is_some (look_of cave (number / 100) (number % 100))
+has_text cave kind.Look number =
+    is_some (look_of cave (number / PROPS_PER_OBJECT) (number % PROPS_PER_OBJECT))
 has_text cave kind.Name number = is_some (inventory_text cave number)
 has_text cave kind.Message number = is_some (map.get cave.messages number)
 has_text cave kind.Role number = nat_lt number (length role_names)
@@ -61,7 +70,7 @@ class_said (Some rated) = text kind.Class rated.bound ∷ []
 
 abbrev pub look_said : CaveView → ℕ → ℤ → List Text
 look_said cave object (pos prop) =
-    if is_some (look_of cave object prop) then text kind.Look (100 * object + prop) ∷ [] else []
+    if is_some (look_of cave object prop) then text kind.Look (PROPS_PER_OBJECT * object + prop) ∷ [] else []
 look_said cave object (negsuc n) = []
 
 -- the texts that a part says; the game's own lines are none of the cave's

@@ -1,8 +1,9 @@
 //! The set of texts that were said.
 
 ghost use Rattle.std.specs.Prelude.{◌≡◌, ◌<◌, ◌∷◌, [], false, IfOk};
-ghost use Rattle.cave_cover.specs.Marks.{Notes, is_marked, place_of_mark};
+ghost use Rattle.cave_cover.specs.Marks.{Notes, is_marked, place_of_mark, mark_count};
 ghost use Rattle.cave_cover.specs.declared.text.Text.{Text};
+ghost use Rattle.cave_cover.specs.Texts.{end_of_numbers};
 
 use crate::text::{NUMBERS, Text};
 use std::alloc::{AllocError, Global};
@@ -19,18 +20,19 @@ pub struct SaidTexts {
 
 impl Model for SaidTexts {
     ghost use Rattle.std.specs.Prelude.{◌≡◌, List, Bool, vec_len};
+    ghost use Rattle.cave_cover.specs.Marks.{mark_count};
 
     ghost Value = { List Bool };
 
     ghost view = { λ s. s.marks.items };
 
-    ghost invariant = { λ s. vec_len s.marks ≡ 70000 };
+    ghost invariant = { λ s. vec_len s.marks ≡ mark_count };
 }
 
 /// Where the mark of a text is.
 fn place_of(text: Text) -> usize
     ensures value { result ≡ place_of_mark text }
-    ensures within { text.number < 10000 → result < 70000 }
+    ensures within { text.number < end_of_numbers → result < mark_count }
 {
     NUMBERS * text.kind.number() + text.number as usize
 }

@@ -8,7 +8,7 @@ ghost use Rattle.cave_cover.specs.Missing.{missing_report, report_by, text_at, w
 
 use crate::marks::SaidTexts;
 use crate::report::{missing, push_closing, push_name, push_report};
-use crate::text::{KINDS, Kind};
+use crate::text::{KINDS, Kind, PROPS_PER_OBJECT};
 use cave_bindings::first_line;
 use cave_data::Cave;
 use edit_options::CoverView;
@@ -36,7 +36,7 @@ fn text_at(cave: &Cave, kind: Kind, number: u16) -> Option<&[u8]>
     match kind {
         Kind::Long => cave.long(number),
         Kind::Short => cave.short(number),
-        Kind::Look => cave.look(number / 100, number % 100),
+        Kind::Look => cave.look(number / PROPS_PER_OBJECT, number % PROPS_PER_OBJECT),
         Kind::Name => cave.name(number),
         Kind::Message => cave.message(number),
         Kind::Role => None,

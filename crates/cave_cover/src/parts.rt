@@ -9,7 +9,7 @@ ghost use Rattle.cave_cover.specs.Texts.{class_said, look_said, message_said, te
 ghost use Rattle.cave_cover.specs.Texts.{said_by, said_by_all};
 
 use crate::marks::SaidTexts;
-use crate::text::{Kind, Text};
+use crate::text::{Kind, PROPS_PER_OBJECT, Text};
 use cave_data::Cave;
 use cave_objects::Object;
 use cave_rows::Role;
@@ -42,7 +42,7 @@ fn note_look(said: &mut SaidTexts, cave: &Cave, object: Object, prop: i8)
     }
     let (object, prop) = (u16::from(object.number()), prop as u16);
     if cave.look(object, prop).is_some() {
-        note(said, Kind::Look, 100 * object + prop);
+        note(said, Kind::Look, PROPS_PER_OBJECT * object + prop);
     }
 }
 

@@ -7,10 +7,10 @@ ghost use Rattle.cave_cover.specs.Marks.{is_marked};
 ghost use Rattle.cave_cover.specs.Report.{sums_line, heading_of_kind, kinds, line, name};
 ghost use Rattle.cave_cover.specs.Report.{names_of_texts, never};
 ghost use Rattle.cave_cover.specs.Report.{numbers_missing, present, report, numbers_shown};
-ghost use Rattle.cave_cover.specs.Texts.{has_text, text};
+ghost use Rattle.cave_cover.specs.Texts.{has_text, text, end_of_numbers};
 
 use crate::marks::SaidTexts;
-use crate::text::{KINDS, Kind, NUMBERS, Text};
+use crate::text::{KINDS, Kind, NUMBERS, PROPS_PER_OBJECT, Text};
 use cave_data::Cave;
 use cave_rows::role::ROLE_NAMES;
 use std::alloc::{AllocError, Global};
@@ -22,7 +22,9 @@ fn has(cave: &Cave, kind: Kind, number: u16) -> bool
     match kind {
         Kind::Long => cave.long(number).is_some(),
         Kind::Short => cave.short(number).is_some(),
-        Kind::Look => cave.look(number / 100, number % 100).is_some(),
+        Kind::Look => cave
+            .look(number / PROPS_PER_OBJECT, number % PROPS_PER_OBJECT)
+            .is_some(),
         Kind::Name => cave.name(number).is_some(),
         Kind::Message => cave.message(number).is_some(),
         Kind::Role => (number as usize) < ROLE_NAMES.len(),
@@ -52,7 +54,7 @@ fn is_missing(cave: &Cave, said: &SaidTexts, kind: Kind, number: u16) -> bool
 #[tactic(auto, unfolding(crate::specs::Report::present, crate::specs::Report::numbers))]
 fn count_present(cave: &Cave, kind: Kind) -> usize
     ensures value { result ≡ length (present cave.now kind) }
-    ensures within { result ≤ 10000 }
+    ensures within { result ≤ end_of_numbers }
 {
     (0..NUMBERS as u16)
         .filter(|number| has(cave, kind, *number))
@@ -63,7 +65,7 @@ fn count_present(cave: &Cave, kind: Kind) -> usize
 #[tactic(auto, unfolding(crate::specs::Report::numbers_shown, crate::specs::Report::numbers))]
 fn count_said(cave: &Cave, said: &SaidTexts, kind: Kind) -> usize
     ensures value { result ≡ length (numbers_shown cave.now (is_marked said.now) kind) }
-    ensures within { result ≤ 10000 }
+    ensures within { result ≤ end_of_numbers }
 {
     (0..NUMBERS as u16)
         .filter(|number| is_said(cave, said, kind, *number))
@@ -112,7 +114,7 @@ pub(crate) fn push_name(
 {
     let name = match kind {
         Kind::Look => {
-            let (object, prop) = (number / 100, number % 100);
+            let (object, prop) = (number / PROPS_PER_OBJECT, number % PROPS_PER_OBJECT);
             format!(in alloc; " {object}:{prop}")?
         }
         Kind::Role => {

@@ -6,6 +6,9 @@ ghost use Rattle.cave_cover.specs.Texts.{kind_number};
 /// One more than the greatest number that a text may have.
 pub const NUMBERS: usize = 10_000;
 
+/// The number of a look is that of its object times this, and its prop.
+pub const PROPS_PER_OBJECT: u16 = 100;
+
 /// A kind of text.
 #[derive(Clone, Copy, Debug, PartialEq, Eq)]
 pub enum Kind {

@@ -90,7 +90,7 @@ impl<'a, F: Files> FileBeside<'a, F> {
                 Err(reason) => return Err(reason),
             }
         }
-        Err(io::Error::from(io::ErrorKind::AlreadyExists))
+        Err(io::Error::other("no name for its draft is free"))
     }
 
     /// Gives a draft the permissions of the file.

@@ -3,6 +3,7 @@ use Rattle.std.specs.List.{sum_by}
 use Rattle.cave_cover.specs.Marks.{is_marked}
 use Rattle.cave_cover.specs.Report.{present, numbers_shown}
 use Rattle.cave_cover.proofs.report.totals.Given as goal
+use Rattle.cave_cover.specs.Texts.{end_of_numbers}
 
 abbrev pub invariant-loop-kind : goal.invariant-loop-kind
 invariant-loop-kind l =
@@ -10,5 +11,5 @@ invariant-loop-kind l =
     ≡ sum_by (λ kind. length (numbers_shown l.cave (is_marked l.said) kind))
     (take l.kind-index l.kinds))
     × (l.present ≡ sum_by (λ kind. length (present l.cave kind)) (take l.kind-index l.kinds))
-    × (l.shown ≤ 10000 * l.kind-index)
-    × (l.present ≤ 10000 * l.kind-index)
+    × (l.shown ≤ end_of_numbers * l.kind-index)
+    × (l.present ≤ end_of_numbers * l.kind-index)
