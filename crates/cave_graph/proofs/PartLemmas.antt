@@ -4,7 +4,9 @@ use Rattle.std.specs.Prelude.{◌==◌, ◌&&◌, not, codes}
 use Rattle.std.specs.Fmt.{decimal}
 use Rattle.cave_data.specs.CaveView.{CaveView}
 use Rattle.cave_world.specs.Sight.{LIGHT_BIT, has_condition, is_forced}
-use Rattle.cave_graph.specs.Edges.{edge, edge_opening, edge_text, heads, is_edge_taken}
+use Rattle.cave_graph.specs.Edges.{edge, edge_opening, edge_parts, edge_strength, edge_text}
+use Rattle.cave_graph.specs.Edges.{head_back, head_there, is_edge_taken, part_from_label}
+use Rattle.cave_graph.specs.Edges.{part_to_label}
 use Rattle.cave_graph.specs.Labels.{quoted}
 use Rattle.cave_graph.specs.Laws.{EdgesAreLines, NodesAreLines}
 use Rattle.cave_graph.specs.Lines.{is_one_line}
@@ -12,6 +14,7 @@ use Rattle.cave_graph.specs.Places.{look_of_place, node, node_opening, node_end,
 use Rattle.cave_graph.specs.Places.{strength}
 use Rattle.cave_graph.specs.Stops.{is_taken, is_visited}
 use Rattle.cave_graph.specs.Ways.{count_nowhere, is_both_ways}
+use Rattle.cave_graph.specs.declared.stops.Stop.{Stop}
 use Rattle.cave_graph.proofs.LineLemmas.{both_within, decimal_within, is_within_line, line_after}
 use Rattle.cave_graph.proofs.LineLemmas.{quoted_within}
 
@@ -36,13 +39,18 @@ note_within count =
     cond_within (count == 0) _ _ refl
     (both_within (codes " // ways not drawn: ") (decimal count) refl (decimal_within count))
 
-heads_within : (is_both is_taken is_taken_back : Bool)
-    → is_within_line (heads is_both is_taken is_taken_back) ≡ true
-unfolding heads
-heads_within is_both is_taken is_taken_back =
+head_back_within : (is_both is_taken is_taken_back : Bool)
+    → is_within_line (head_back is_both is_taken is_taken_back) ≡ true
+unfolding head_back
+head_back_within is_both is_taken is_taken_back =
     cond_within (not is_both) _ _ refl
-    (cond_within (is_taken && not is_taken_back) _ _ refl
-    (cond_within (is_taken_back && not is_taken) _ _ refl refl))
+    (cond_within (is_taken && not is_taken_back) _ _ refl refl)
+
+head_there_within : (is_both is_taken is_taken_back : Bool)
+    → is_within_line (head_there is_both is_taken is_taken_back) ≡ true
+unfolding head_there
+head_there_within is_both is_taken is_taken_back =
+    cond_within (is_both && (is_taken_back && not is_taken)) _ _ refl refl
 
 end_is_one_line : (count : ℕ) → is_one_line (node_end count) ≡ true
 end_is_one_line count =
@@ -64,23 +72,68 @@ nodes_are_lines cave stops logs place =
     (strength_within logs (is_visited stops place))
     ∙ end_is_one_line (count_nowhere cave place)
 
+number_within : (n : ℕ) (more : List ℕ) → is_within_line more ≡ true
+    → is_within_line (decimal n ++ more) ≡ true
+number_within n more within = both_within (decimal n) more (decimal_within n) within
+
 ends_within : (from to : ℕ) → is_within_line (edge_opening from to) ≡ true
 ends_within from to =
-    both_within (codes "  ") (decimal from ++ (codes " -> " ++ (decimal to ++ codes " [label=")))
-    refl
-    (both_within (decimal from) (codes " -> " ++ (decimal to ++ codes " [label="))
-    (decimal_within from)
-    (both_within (codes " -> ") (decimal to ++ codes " [label=") refl
-    (both_within (decimal to) (codes " [label=") (decimal_within to) refl)))
+    let end = decimal to ++ codes " [label=" in
+    both_within (codes "  ") (decimal from ++ (codes "." ++ end)) refl
+    (number_within from (codes "." ++ end)
+    (both_within (codes ".") end refl (number_within to (codes " [label=") refl)))
+
+to_label_within : (from to : ℕ) (head strong : List ℕ) → is_within_line head ≡ true
+    → is_within_line strong ≡ true → is_within_line (part_to_label from to head strong) ≡ true
+to_label_within from to head strong first second =
+    let look = codes " [" ++ (head ++ strong) in
+    let end = decimal to ++ look in
+    let label = decimal from ++ (codes "." ++ end) in
+    both_within (codes "]; ") (decimal from ++ (codes " -> " ++ label)) refl
+    (number_within from (codes " -> " ++ label)
+    (both_within (codes " -> ") label refl
+    (number_within from (codes "." ++ end)
+    (both_within (codes ".") end refl
+    (number_within to look
+    (both_within (codes " [") (head ++ strong) refl
+    (both_within head strong first second)))))))
+
+from_label_is_one_line : (from to : ℕ) (head strong : List ℕ) → is_within_line head ≡ true
+    → is_within_line strong ≡ true → is_one_line (part_from_label from to head strong) ≡ true
+from_label_is_one_line from to head strong first second =
+    let end = strong ++ codes "];\n" in
+    let look = codes " [" ++ (head ++ end) in
+    let other = codes " -> " ++ (decimal to ++ look) in
+    let label = codes "." ++ (decimal to ++ other) in
+    line_after (codes "]; ") (decimal from ++ label) refl
+    ∙ line_after (decimal from) label (decimal_within from)
+    ∙ line_after (codes ".") (decimal to ++ other) refl
+    ∙ line_after (decimal to) other (decimal_within to)
+    ∙ line_after (codes " -> ") (decimal to ++ look) refl
+    ∙ line_after (decimal to) look (decimal_within to)
+    ∙ line_after (codes " [") (head ++ end) refl
+    ∙ line_after head end first
+    ∙ line_after strong (codes "];\n") second
+
+parts_are_one_line : (cave : CaveView) (stops : List Stop) (logs from to : ℕ)
+    → is_one_line (edge_parts cave stops logs from to) ≡ true
+parts_are_one_line cave stops logs from to =
+    let is_both = is_both_ways cave from to in
+    let there = is_taken cave stops from to in
+    let back = is_taken cave stops to from in
+    let strong = strength_within logs (is_edge_taken cave stops from to) in
+    let look = edge_strength cave stops logs from to in
+    let first = head_back is_both there back in
+    let second = head_there is_both there back in
+    line_after (part_to_label from to first look) (part_from_label from to second look)
+    (to_label_within from to first look (head_back_within is_both there back) strong)
+    ∙ from_label_is_one_line from to second look (head_there_within is_both there back) strong
 
 pub edges_are_lines : EdgesAreLines
 unfolding edge
 edges_are_lines cave stops logs from to =
-    let is_both = is_both_ways cave from to in
-    let there = is_taken cave stops from to in
-    let back = is_taken cave stops to from in
     line_after (edge_opening from to) _ (ends_within from to)
     ∙ line_after (quoted (edge_text cave from to)) _ (quoted_within (edge_text cave from to))
-    ∙ line_after (heads is_both there back) _ (heads_within is_both there back)
-    ∙ line_after (strength logs (is_edge_taken cave stops from to)) _
+    ∙ line_after (edge_strength cave stops logs from to) (edge_parts cave stops logs from to)
     (strength_within logs (is_edge_taken cave stops from to))
+    ∙ parts_are_one_line cave stops logs from to

@@ -38,32 +38,63 @@ edge_text cave from to =
     way_text cave [] from to
     ++ (if is_both_ways cave from to then way_text cave (codes " /") to from else [])
 
--- an edge for both ways has two heads; where plays took one of them alone, the other head is
--- hollow
-unfoldable pub heads : Bool → Bool → Bool → List ℕ
-heads is_both is_taken is_taken_back =
-    if not is_both then []
-    else (if is_taken && not is_taken_back then codes ", dir=both, arrowtail=empty"
-    else (if is_taken_back && not is_taken then codes ", dir=both, arrowhead=empty"
-    else codes ", dir=both"))
+-- an edge for both ways has a head at its own place too; it is hollow where plays took only the way
+-- there
+unfoldable pub head_back : Bool → Bool → Bool → List ℕ
+head_back is_both is_taken is_taken_back =
+    if not is_both then codes "dir=none"
+    else (if is_taken && not is_taken_back then codes "dir=back, arrowtail=empty"
+    else codes "dir=back")
+
+-- the head at the other place, which is hollow where plays took only the way back
+unfoldable pub head_there : Bool → Bool → Bool → List ℕ
+head_there is_both is_taken is_taken_back =
+    if is_both && (is_taken_back && not is_taken) then codes "dir=forward, arrowhead=empty"
+    else codes "dir=forward"
 
 -- the edge is of a way that plays took, or of one whose way back they took
 abbrev pub is_edge_taken : CaveView → List Stop → ℕ → ℕ → Bool
 is_edge_taken cave stops from to =
     is_taken cave stops from to || (is_both_ways cave from to && is_taken cave stops to from)
 
--- how the line of an edge begins
+-- how the line of an edge begins: with its label, which is a node that both parts of the edge meet,
+-- as no layout but that of nodes keeps labels apart
 abbrev pub edge_opening : ℕ → ℕ → List ℕ
 edge_opening from to =
-    codes "  " ++ (decimal from ++ (codes " -> " ++ (decimal to ++ codes " [label=")))
+    codes "  " ++ (decimal from ++ (codes "." ++ (decimal to ++ codes " [label=")))
+
+-- the part of an edge from its place to its label
+abbrev pub part_to_label : ℕ → ℕ → List ℕ → List ℕ → List ℕ
+part_to_label from to head strong =
+    codes "]; " ++ (decimal from ++ (codes " -> " ++ (decimal from ++ (codes "."
+    ++ (decimal to ++ (codes " [" ++ (head ++ strong)))))))
+
+-- the part from the label to the other place
+abbrev pub part_from_label : ℕ → ℕ → List ℕ → List ℕ → List ℕ
+part_from_label from to head strong =
+    codes "]; " ++ (decimal from ++ (codes "." ++ (decimal to ++ (codes " -> "
+    ++ (decimal to ++ (codes " [" ++ (head ++ (strong ++ codes "];\n"))))))))
+
+-- how strong an edge is drawn
+abbrev pub edge_strength : CaveView → List Stop → ℕ → ℕ → ℕ → List ℕ
+edge_strength cave stops logs from to = strength logs (is_edge_taken cave stops from to)
+
+-- the parts of an edge
+abbrev pub edge_parts : CaveView → List Stop → ℕ → ℕ → ℕ → List ℕ
+edge_parts cave stops logs from to =
+    part_to_label from to
+    (head_back (is_both_ways cave from to) (is_taken cave stops from to) (is_taken cave stops to from))
+    (edge_strength cave stops logs from to)
+    ++ part_from_label from to
+    (head_there (is_both_ways cave from to) (is_taken cave stops from to) (is_taken cave stops to from))
+    (edge_strength cave stops logs from to)
 
 -- the line of an edge
 unfoldable pub edge : CaveView → List Stop → ℕ → ℕ → ℕ → List ℕ
 edge cave stops logs from to =
     edge_opening from to
     ++ (quoted (edge_text cave from to)
-    ++ (heads (is_both_ways cave from to) (is_taken cave stops from to) (is_taken cave stops to from)
-    ++ (strength logs (is_edge_taken cave stops from to) ++ codes "];\n")))
+    ++ (edge_strength cave stops logs from to ++ edge_parts cave stops logs from to))
 
 -- the edges of a place
 abbrev pub edges : CaveView → List Stop → ℕ → ℕ → List ℕ

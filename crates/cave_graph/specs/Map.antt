@@ -9,13 +9,20 @@ use Rattle.cave_graph.specs.Stops.{is_taken, is_visited}
 use Rattle.cave_graph.specs.Ways.{ends_of_ways, mapped_places}
 use Rattle.cave_graph.specs.declared.stops.Stop.{Stop}
 
--- how the graph begins: with its page, and with how nodes and edges look where they don't say it
+-- how the graph begins: with its layout, with its page, which is one A3, and with how places and
+-- edges look where they don't say it
 abbrev pub graph_opening : List ℕ
 graph_opening =
-    codes "digraph cave {\n  graph [size=\"16,11\", overlap=false, splines=true, sep=\"+8\"];\n"
-    ++ (codes "  node [shape=box, width=0.3, height=0.2, margin=\"0.07,0.03\"];\n"
-    ++ (codes "  node [style=filled, fillcolor=white, fontname=\"Helvetica\", fontsize=12];\n"
-    ++ codes "  edge [fontname=\"Helvetica\", fontsize=9, arrowsize=0.6];\n"))
+    codes "digraph cave {\n"
+    ++ (codes "  graph [layout=neato, model=subset, overlap=false, sep=\"+1\", splines=line];\n"
+    ++ (codes "  graph [outputorder=edgesfirst, size=\"16.1,11.2\", margin=0.2];\n"
+    ++ (codes "  node [shape=box, width=0.1, height=0.1, margin=\"0.04,0.03\"];\n"
+    ++ (codes "  node [style=filled, fillcolor=white, fontname=\"Helvetica\", fontsize=10];\n"
+    ++ codes "  edge [arrowsize=0.5];\n"))))
+
+-- how the labels of edges look, which come after the places
+abbrev pub labels_opening : List ℕ
+labels_opening = codes "  node [shape=plaintext, margin=0];\n"
 
 -- the ends of ways from a place that plays took
 unfoldable pub ends_taken : CaveView → List Stop → ℕ → List ℕ
@@ -47,10 +54,11 @@ sums cave stops logs =
     else seen_line (length (places_visited cave stops)) (length (mapped_places cave))
     (count_taken cave stops) (count_ways cave) logs
 
--- the nodes of places, and then their edges
+-- the nodes of places, and then their edges, each with its label
 abbrev pub nodes_and_edges : CaveView → List Stop → ℕ → List ℕ → List ℕ
 nodes_and_edges cave stops logs places =
-    flat_map (node cave stops logs) places ++ flat_map (edges cave stops logs) places
+    flat_map (node cave stops logs) places
+    ++ (labels_opening ++ flat_map (edges cave stops logs) places)
 
 -- the map, where plays of so many logs had these stops
 unfoldable pub map_by_stops : CaveView → List Stop → ℕ → List ℕ

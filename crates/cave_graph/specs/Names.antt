@@ -37,11 +37,21 @@ ends_title words byte = byte == LINE_FEED || (is_blank byte && words == 1)
 abbrev pub words_left : ℕ → ℕ → ℕ
 words_left words byte = if is_blank byte then words - 1 else words
 
+-- how many words of a title are on a line at most
+abbrev pub WORDS_PER_LINE : ℕ
+WORDS_PER_LINE = 3
+
+-- a byte as a title has it, where so many words are still shown: so that a place is narrow, a title
+-- of seven words is on three lines, which have two, three and two of them
+abbrev pub title_byte : ℕ → ℕ → ℕ
+title_byte words byte =
+    if is_blank byte && words % WORDS_PER_LINE == 0 then LINE_FEED else byte
+
 -- so many words of a text at most, up to the end of its first line
 abbrev pub opening_words : ℕ → List ℕ → List ℕ
 opening_words words [] = []
 opening_words words (byte ∷ bytes) = if ends_title words byte then []
-    else byte ∷ opening_words (words_left words byte) bytes
+    else title_byte words byte ∷ opening_words (words_left words byte) bytes
 
 -- what is asked of an object, with the object
 abbrev pub object_mark : CaveView → List ℕ → ℕ → List ℕ

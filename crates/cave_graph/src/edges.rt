@@ -3,9 +3,10 @@
 ghost use Rattle.std.specs.Prelude.{◌≡◌, ◌++◌, OnOk};
 ghost use Rattle.std.specs.List.{flat_map};
 ghost use Rattle.cave_rows.specs.RowViews.{going};
-ghost use Rattle.cave_graph.specs.Edges.{edge, edge_opening, edge_text, edges, heads};
-ghost use Rattle.cave_graph.specs.Edges.{is_edge_taken};
-ghost use Rattle.cave_graph.specs.Edges.{motion_name, row_line, row_text, way_text};
+ghost use Rattle.cave_graph.specs.Edges.{edge, edge_opening, edge_parts, edge_strength};
+ghost use Rattle.cave_graph.specs.Edges.{edge_text, edges, head_back, head_there};
+ghost use Rattle.cave_graph.specs.Edges.{is_edge_taken, motion_name, part_from_label};
+ghost use Rattle.cave_graph.specs.Edges.{part_to_label, row_line, row_text, way_text};
 ghost use Rattle.cave_graph.specs.Labels.{quoted};
 ghost use Rattle.cave_graph.specs.Stops.{is_taken};
 ghost use Rattle.cave_graph.specs.Ways.{is_both_ways};
@@ -35,6 +36,7 @@ fn push_motion(
     push_word_or_number(alloc, cave, motion, text)
 }
 
+/// Appends the names of motions.
 fn push_motions(
     alloc: Global,
     cave: &Cave,
@@ -134,17 +136,26 @@ fn push_edge_text(
     push_way(alloc, cave, " /", to, from, text)
 }
 
-/// The heads of an edge, which is for both ways or isn't, and whose way and way back plays took or
-/// didn't.
-#[tactic(auto, unfolding(crate::specs::Edges::heads))]
-fn heads(is_both: bool, is_taken: bool, is_taken_back: bool) -> &'static str
-    ensures { result.now ≡ heads is_both is_taken is_taken_back }
+/// The head of an edge at its own place, which it has where it is for both ways.
+#[tactic(auto, unfolding(crate::specs::Edges::head_back))]
+fn head_back(is_both: bool, is_taken: bool, is_taken_back: bool) -> &'static str
+    ensures { result.now ≡ head_back is_both is_taken is_taken_back }
 {
     match (is_both, is_taken, is_taken_back) {
-        (false, _, _) => "",
-        (true, true, false) => ", dir=both, arrowtail=empty",
-        (true, false, true) => ", dir=both, arrowhead=empty",
-        (true, _, _) => ", dir=both",
+        (false, _, _) => "dir=none",
+        (true, true, false) => "dir=back, arrowtail=empty",
+        (true, _, _) => "dir=back",
+    }
+}
+
+/// The head of an edge at the other place.
+#[tactic(auto, unfolding(crate::specs::Edges::head_there))]
+fn head_there(is_both: bool, is_taken: bool, is_taken_back: bool) -> &'static str
+    ensures { result.now ≡ head_there is_both is_taken is_taken_back }
+{
+    match (is_both, is_taken, is_taken_back) {
+        (true, false, true) => "dir=forward, arrowhead=empty",
+        (_, _, _) => "dir=forward",
     }
 }
 
@@ -156,16 +167,11 @@ fn is_edge_taken(cave: &Cave, stops: &[Stop], from: u16, to: u16) -> bool
         || (is_both_ways(cave, from, to) && is_taken(cave, stops, to, from))
 }
 
-/// The heads of the edge of a way.
-fn heads_of_edge(cave: &Cave, stops: &[Stop], from: u16, to: u16) -> &'static str
-    ensures { result.now ≡ heads (is_both_ways cave.now from to)
-        (is_taken cave.now stops.now from to) (is_taken cave.now stops.now to from) }
+/// How strong the edge of a way is drawn.
+fn edge_strength(cave: &Cave, stops: &[Stop], logs: usize, from: u16, to: u16) -> &'static str
+    ensures { result.now ≡ edge_strength cave.now stops.now logs from to }
 {
-    heads(
-        is_both_ways(cave, from, to),
-        is_taken(cave, stops, from, to),
-        is_taken(cave, stops, to, from),
-    )
+    strength(logs, is_edge_taken(cave, stops, from, to))
 }
 
 /// Appends how the line of an edge begins.
@@ -177,8 +183,77 @@ fn push_edge_opening(
 ) -> Result<(), AllocError>
     ensures { OnOk result (text.new.items ≡ text.old.items ++ edge_opening from to) }
 {
-    let opening = format!(in alloc; "  {from} -> {to} [label=")?;
+    let opening = format!(in alloc; "  {from}.{to} [label=")?;
     text.extend_from_slice(opening.as_bytes())
+}
+
+/// Appends the part of an edge from its place to its label.
+fn push_part_to_label(
+    alloc: Global,
+    from: u16,
+    to: u16,
+    head: &str,
+    strong: &str,
+    text: &mut Vec<u8>,
+) -> Result<(), AllocError>
+    ensures { OnOk result (text.new.items
+        ≡ text.old.items ++ part_to_label from to head.now strong.now) }
+{
+    let part = format!(in alloc; "]; {from} -> {from}.{to} [{head}{strong}")?;
+    text.extend_from_slice(part.as_bytes())
+}
+
+/// Appends the part of an edge from its label to the other place.
+fn push_part_from_label(
+    alloc: Global,
+    from: u16,
+    to: u16,
+    head: &str,
+    strong: &str,
+    text: &mut Vec<u8>,
+) -> Result<(), AllocError>
+    ensures { OnOk result (text.new.items
+        ≡ text.old.items ++ part_from_label from to head.now strong.now) }
+{
+    let part = format!(in alloc; "]; {from}.{to} -> {to} [{head}{strong}];\n")?;
+    text.extend_from_slice(part.as_bytes())
+}
+
+/// Appends the parts of an edge.
+fn push_edge_parts(
+    alloc: Global,
+    cave: &Cave,
+    stops: &[Stop],
+    logs: usize,
+    ends: (u16, u16),
+    text: &mut Vec<u8>,
+) -> Result<(), AllocError>
+    ensures { OnOk result (text.new.items
+        ≡ text.old.items ++ edge_parts cave.now stops.now logs ends.0 ends.1) }
+{
+    let (from, to) = ends;
+    let is_both = is_both_ways(cave, from, to);
+    let (there, back) = (
+        is_taken(cave, stops, from, to),
+        is_taken(cave, stops, to, from),
+    );
+    let strong = edge_strength(cave, stops, logs, from, to);
+    push_part_to_label(
+        alloc,
+        from,
+        to,
+        head_back(is_both, there, back),
+        strong,
+        text,
+    )?;
+    push_part_from_label(
+        alloc,
+        from,
+        to,
+        head_there(is_both, there, back),
+        strong,
+        text,
+    )
 }
 
 /// Appends the label of an edge.
@@ -213,9 +288,8 @@ fn push_edge(
     let (from, to) = ends;
     push_edge_opening(alloc, from, to, text)?;
     push_edge_label(alloc, cave, from, to, text)?;
-    text.extend_from_slice(heads_of_edge(cave, stops, from, to).as_bytes())?;
-    text.extend_from_slice(strength(logs, is_edge_taken(cave, stops, from, to)).as_bytes())?;
-    text.extend_from_slice(b"];\n")
+    text.extend_from_slice(edge_strength(cave, stops, logs, from, to).as_bytes())?;
+    push_edge_parts(alloc, cave, stops, logs, ends, text)
 }
 
 /// Appends the edges of a place.

@@ -5,8 +5,8 @@ ghost use Rattle.std.specs.List.{filter, flat_map, sum_by};
 ghost use Rattle.cave_numbers.specs.Numbers.{last_place};
 ghost use Rattle.cave_graph.specs.Edges.{edges};
 ghost use Rattle.cave_graph.specs.Map.{count_taken, count_ways, ends_taken, graph_opening};
-ghost use Rattle.cave_graph.specs.Map.{map_by_stops, nodes_and_edges, places_visited, seen_line};
-ghost use Rattle.cave_graph.specs.Map.{sums};
+ghost use Rattle.cave_graph.specs.Map.{labels_opening, map_by_stops, nodes_and_edges};
+ghost use Rattle.cave_graph.specs.Map.{places_visited, seen_line, sums};
 ghost use Rattle.cave_graph.specs.Places.{node};
 ghost use Rattle.cave_graph.specs.Stops.{is_visited};
 ghost use Rattle.cave_graph.specs.Ways.{ends_of_ways, mapped_places};
@@ -25,11 +25,19 @@ fn push_graph_opening(text: &mut Vec<u8>) -> Result<(), AllocError>
 {
     text.extend_from_slice(
         b"digraph cave {\
-        \n  graph [size=\"16,11\", overlap=false, splines=true, sep=\"+8\"];\
-        \n  node [shape=box, width=0.3, height=0.2, margin=\"0.07,0.03\"];\
-        \n  node [style=filled, fillcolor=white, fontname=\"Helvetica\", fontsize=12];\
-        \n  edge [fontname=\"Helvetica\", fontsize=9, arrowsize=0.6];\n",
+        \n  graph [layout=neato, model=subset, overlap=false, sep=\"+1\", splines=line];\
+        \n  graph [outputorder=edgesfirst, size=\"16.1,11.2\", margin=0.2];\
+        \n  node [shape=box, width=0.1, height=0.1, margin=\"0.04,0.03\"];\
+        \n  node [style=filled, fillcolor=white, fontname=\"Helvetica\", fontsize=10];\
+        \n  edge [arrowsize=0.5];\n",
     )
+}
+
+/// Appends how the labels of edges look.
+fn push_labels_opening(text: &mut Vec<u8>) -> Result<(), AllocError>
+    ensures { OnOk result (text.new.items ≡ text.old.items ++ labels_opening) }
+{
+    text.extend_from_slice(b"  node [shape=plaintext, margin=0];\n")
 }
 
 fn push_nodes(
@@ -80,6 +88,7 @@ fn push_nodes_and_edges(
         ≡ text.old.items ++ nodes_and_edges cave.now stops.now logs places.now) }
 {
     push_nodes(alloc, cave, stops, logs, places, text)?;
+    push_labels_opening(text)?;
     push_all_edges(alloc, cave, stops, logs, places, text)
 }
 

@@ -3,7 +3,7 @@
 ghost use Rattle.std.specs.Prelude.{◌≡◌, ◌<◌, ◌++◌, [], OnOk, unwrap_or};
 ghost use Rattle.std.specs.Option.{option_or};
 ghost use Rattle.std.specs.FinMap.{get};
-ghost use Rattle.cave_graph.specs.Names.{ends_title, opening_words, words_left};
+ghost use Rattle.cave_graph.specs.Names.{ends_title, opening_words, title_byte, words_left};
 ghost use Rattle.cave_graph.specs.Places.{title};
 
 use cave_data::Cave;
@@ -12,6 +12,9 @@ use std::alloc::AllocError;
 
 /// How many words of a text are on the map.
 const WORDS_SHOWN: usize = 7;
+
+/// How many words of a title are on a line at most.
+const WORDS_PER_LINE: usize = 3;
 
 /// The short text of a place, or its long one.
 fn text_of_place(cave: &Cave, place: u16) -> &[u8]
@@ -42,6 +45,17 @@ fn words_left(words: usize, byte: u8) -> usize
     if is_blank(byte) { words - 1 } else { words }
 }
 
+/// A byte as a title has it, where so many words are still shown: some blanks end a line.
+fn title_byte(words: usize, byte: u8) -> u8
+    ensures { result ≡ title_byte words byte }
+{
+    if is_blank(byte) && words % WORDS_PER_LINE == 0 {
+        b'\n'
+    } else {
+        byte
+    }
+}
+
 /// Appends so many words of a text at most, up to the end of its first line.
 fn push_opening_words(most: usize, bytes: &[u8], text: &mut Vec<u8>) -> Result<(), AllocError>
     requires { 0 < most }
@@ -52,7 +66,7 @@ fn push_opening_words(most: usize, bytes: &[u8], text: &mut Vec<u8>) -> Result<(
         if ends_title(words, *byte) {
             return Ok(());
         }
-        text.push(*byte)?;
+        text.push(title_byte(words, *byte))?;
         words = words_left(words, *byte);
     }
     Ok(())
