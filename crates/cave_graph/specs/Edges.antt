@@ -1,6 +1,6 @@
 -- The edge of a way, or of a way and the way back.
 use Rattle.std.specs.Prelude.{ℕ, Bool, ◌==◌, ◌||◌, ◌&&◌, not, if◌then◌else◌}
-use Rattle.std.specs.Prelude.{List, [], ◌++◌, codes}
+use Rattle.std.specs.Prelude.{List, [], ◌++◌, codes, take}
 use Rattle.std.specs.Fmt.{decimal}
 use Rattle.std.specs.List.{flat_map}
 use Rattle.cave_rows.specs.Rows.{Going}
@@ -18,10 +18,15 @@ use Rattle.cave_graph.specs.declared.stops.Stop.{Stop}
 abbrev pub motion_name : CaveView → ℕ → List ℕ
 motion_name cave motion = if motion == any_motion then [] else word_or_number cave motion
 
--- the names of the motions of a row, and its condition
+-- how many motions of a row are named
+abbrev pub MOTIONS_SHOWN : ℕ
+MOTIONS_SHOWN = 2
+
+-- the names of the first motions of a row, and its condition
 unfoldable pub row_text : CaveView → Going → List ℕ
 row_text cave row =
-    flat_map (motion_name cave) row.motions ++ condition_mark cave (row_condition row)
+    flat_map (motion_name cave) (take MOTIONS_SHOWN row.motions)
+    ++ condition_mark cave (row_condition row)
 
 -- the line of a row, if it leads to the place
 abbrev pub row_line : CaveView → List ℕ → ℕ → Going → List ℕ

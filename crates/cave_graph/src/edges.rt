@@ -21,6 +21,9 @@ use cave_rows::Row;
 use cave_world::Motion;
 use std::alloc::{AllocError, Global};
 
+/// How many motions of a row are named, so that a map of many places can be read on a page.
+const MOTIONS_SHOWN: usize = 2;
+
 /// Appends the name of a motion, if it isn't the one that any motion is.
 fn push_motion(
     alloc: Global,
@@ -52,7 +55,7 @@ fn push_motions(
     Ok(())
 }
 
-/// Appends the motions of a row, and its condition.
+/// Appends the first motions of a row, and its condition.
 #[tactic(auto, unfolding(crate::specs::Edges::row_text))]
 fn push_row_text(
     alloc: Global,
@@ -62,7 +65,8 @@ fn push_row_text(
 ) -> Result<(), AllocError>
     ensures { OnOk result (text.new.items ≡ text.old.items ++ row_text cave.now (going row.now)) }
 {
-    push_motions(alloc, cave, &row.motions, text)?;
+    let shown = row.motions.len().min(MOTIONS_SHOWN);
+    push_motions(alloc, cave, &row.motions[..shown], text)?;
     push_condition_mark(alloc, cave, row.condition(), text)
 }
 
