@@ -41,8 +41,9 @@ random numbers anew:
   seed 7";
 
 /// What is under the help of `map`.
-const MAP_EXAMPLE: &str =
-    "Example: cave map caves/b.txt logs/round.log --bind caves/b.bind | dot -Tsvg > b.svg";
+const MAP_EXAMPLE: &str = "Example: cave map caves/b.txt logs/round.log --bind caves/b.bind
+
+Graphviz draws it, if `| dot -Tsvg > map.svg` follows.";
 
 /// What is under the help of `edit`.
 const EDIT_EXAMPLE: &str = "Example: cave edit caves/a.txt logs/first.log logs/first.script
