@@ -50,10 +50,7 @@ impl SaidTexts {
     pub fn contains(&self, text: Text) -> bool
         ensures { result ≡ is_marked self.now text }
     {
-        match self.marks.get(place_of(text)) {
-            Some(mark) => *mark,
-            None => false,
-        }
+        self.marks.get(place_of(text)).copied().unwrap_or(false)
     }
 
     /// Puts a text into the set. One whose number no text may have stays out.

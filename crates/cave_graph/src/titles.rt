@@ -21,13 +21,7 @@ fn text_of_place(cave: &Cave, place: u16) -> &[u8]
     ensures { result.now
         ≡ unwrap_or (option_or (get cave.now.short place) (get cave.now.long place)) [] }
 {
-    match cave.short(place) {
-        Some(text) => text,
-        None => match cave.long(place) {
-            Some(text) => text,
-            None => &[],
-        },
-    }
+    cave.short(place).or(cave.long(place)).unwrap_or(&[])
 }
 
 /// Whether no more of a text is shown from a byte on, where so many words are still shown.
