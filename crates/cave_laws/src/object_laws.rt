@@ -11,6 +11,7 @@ use cave_world::State;
 pub fn object_is_in_one_place(state: &State, object: Object)
     ensures { 0 < object → IsInOnePlace state.now.objects object }
 {
+    // What these three promise is the law.
     let _carried = state.objects.is_carried(object);
     let _spot = state.objects.spot(object);
     let _anchor = state.objects.anchor(object);
