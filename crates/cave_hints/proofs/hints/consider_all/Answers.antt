@@ -34,7 +34,7 @@ loop-before-preserved c =
           omega (arith, before, now)),
       search rules,
       c.loop-before.invariant.4
-      ∙ ap (λ (t : Trail). conditions_of cave t.here) (sym c.consider.ensures.here),
+          ∙ ap (λ (t : Trail). conditions_of cave t.here) (sym c.consider.ensures.here),
     )
 
 pub returns-clause-play : goal.returns-clause-play
