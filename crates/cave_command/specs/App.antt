@@ -10,86 +10,88 @@ abbrev pub IsLocal : App → Command → Type 0
 IsLocal app command = (app_of command ≡ app) × ((out-Command command).has_globals ≡ false)
 
 -- the files, which have to be named, in this order
-abbrev pub cave_rule : Rule
-cave_rule = record (new_rule (codes "cave")) { required = true; value_names = 1 }
+abbrev pub cave_argument : Rule
+cave_argument = record (new_rule (codes "cave")) { required = true; value_names = 1 }
 
-abbrev pub log_rule : Rule
-log_rule = record (new_rule (codes "log")) { required = true; value_names = 1 }
+abbrev pub log_argument : Rule
+log_argument = record (new_rule (codes "log")) { required = true; value_names = 1 }
 
 -- one log or more
-abbrev pub logs_rule : Rule
-logs_rule =
+abbrev pub logs_argument : Rule
+logs_argument =
     record (new_rule (codes "log")) { required = true; value_names = 1; action = Some Append }
 
 -- any number of logs
-abbrev pub some_logs_rule : Rule
-some_logs_rule = record (new_rule (codes "log")) { value_names = 1; action = Some Append }
+abbrev pub some_logs_argument : Rule
+some_logs_argument = record (new_rule (codes "log")) { value_names = 1; action = Some Append }
 
-abbrev pub script_rule : Rule
-script_rule = record (new_rule (codes "script")) { required = true; value_names = 1 }
+abbrev pub script_argument : Rule
+script_argument = record (new_rule (codes "script")) { required = true; value_names = 1 }
 
 -- the options
-abbrev pub bind_rule : Rule
-bind_rule = record (new_rule (codes "bind")) { long = Some (codes "bind"); value_names = 1 }
+abbrev pub bind_argument : Rule
+bind_argument = record (new_rule (codes "bind")) { long = Some (codes "bind"); value_names = 1 }
 
-abbrev pub seed_rule : Rule
-seed_rule = record (new_rule (codes "seed")) { long = Some (codes "seed"); value_names = 1 }
+abbrev pub seed_argument : Rule
+seed_argument = record (new_rule (codes "seed")) { long = Some (codes "seed"); value_names = 1 }
 
-abbrev pub every_rule : Rule
-every_rule = record (new_rule (codes "every")) { long = Some (codes "every"); value_names = 1 }
+abbrev pub every_argument : Rule
+every_argument = record (new_rule (codes "every")) { long = Some (codes "every"); value_names = 1 }
 
-abbrev pub print_rule : Rule
-print_rule = record (new_rule (codes "print")) { long = Some (codes "print"); value_names = 1 }
+abbrev pub print_argument : Rule
+print_argument = record (new_rule (codes "print")) { long = Some (codes "print"); value_names = 1 }
 
-abbrev pub strict_rule : Rule
-strict_rule =
+abbrev pub strict_argument : Rule
+strict_argument =
     record (new_rule (codes "strict")) { long = Some (codes "strict"); action = Some SetTrue }
 
-abbrev pub output_rule : Rule
-output_rule = record (new_rule (codes "output")) { long = Some (codes "output"); value_names = 1 }
+abbrev pub output_argument : Rule
+output_argument = record (new_rule (codes "output")) { long = Some (codes "output"); value_names = 1 }
 
 -- a command whose output may go into a file
 abbrev pub with_output : App → App
-with_output app = with_rule app output_rule
+with_output app = with_rule app output_argument
 
 -- the commands
 abbrev pub check_app : App
 check_app = with_output
-    (with_rule (with_rule (with_rule (new_app (codes "check")) cave_rule) bind_rule) print_rule)
+    (with_rule (with_rule (with_rule (new_app (codes "check")) cave_argument) bind_argument)
+    print_argument)
 
 -- a command with the files of a game
 abbrev pub with_game : App → App
-with_game app = with_rule (with_rule app cave_rule) log_rule
+with_game app = with_rule (with_rule app cave_argument) log_argument
 
 -- a command with the files of several games
 abbrev pub with_logs : App → App
-with_logs app = with_rule (with_rule app cave_rule) logs_rule
+with_logs app = with_rule (with_rule app cave_argument) logs_argument
 
 -- a command with the options of a game
 abbrev pub with_options : App → App
-with_options app = with_rule (with_rule app bind_rule) seed_rule
+with_options app = with_rule (with_rule app bind_argument) seed_argument
 
 -- a command with the options of the coverage of logs
 abbrev pub with_cover_options : App → App
-with_cover_options app = with_rule (with_options app) print_rule
+with_cover_options app = with_rule (with_options app) print_argument
 
 -- a command with the options of an edit alone
 abbrev pub with_edit_options : App → App
-with_edit_options app = with_rule (with_rule (with_rule app every_rule) print_rule) strict_rule
+with_edit_options app =
+    with_rule (with_rule (with_rule app every_argument) print_argument) strict_argument
 
 abbrev pub play_app : App
-play_app = with_output (with_rule (with_options (with_game (new_app (codes "play")))) print_rule)
+play_app = with_output (with_rule (with_options (with_game (new_app (codes "play")))) print_argument)
 
 abbrev pub edit_app : App
 edit_app = with_output
-    (with_edit_options (with_options (with_rule (with_game (new_app (codes "edit"))) script_rule)))
+    (with_edit_options (with_options (with_rule (with_game (new_app (codes "edit"))) script_argument)))
 
 abbrev pub cover_app : App
 cover_app = with_output (with_cover_options (with_logs (new_app (codes "cover"))))
 
 abbrev pub map_app : App
 map_app = with_output
-    (with_options (with_rule (with_rule (new_app (codes "map")) cave_rule) some_logs_rule))
+    (with_options (with_rule (with_rule (new_app (codes "map")) cave_argument) some_logs_argument))
 
 -- the program, which requires one of the commands
 abbrev pub plain_app : App

@@ -2,15 +2,16 @@
 
 ghost use Rattle.std.specs.Prelude.{◌≡◌, false};
 ghost use Rattle.clap.specs.Words.{rule_of};
-ghost use Rattle.cave_command.specs.App.{bind_rule, cave_rule, every_rule, log_rule, logs_rule};
-ghost use Rattle.cave_command.specs.App.{output_rule, print_rule, script_rule, seed_rule};
-ghost use Rattle.cave_command.specs.App.{some_logs_rule, strict_rule};
+ghost use Rattle.cave_command.specs.App.{bind_argument, cave_argument, every_argument};
+ghost use Rattle.cave_command.specs.App.{log_argument, logs_argument, output_argument};
+ghost use Rattle.cave_command.specs.App.{print_argument, script_argument, seed_argument};
+ghost use Rattle.cave_command.specs.App.{some_logs_argument, strict_argument};
 
 use clap::{Arg, ArgAction};
 use std::alloc::Global;
 
 pub(crate) fn cave_argument<'a>(alloc: Global) -> Arg<'a>
-    ensures rule { rule_of result ≡ cave_rule }
+    ensures rule { rule_of result ≡ cave_argument }
     ensures local { result.global ≡ false }
 {
     Arg::new(alloc, "cave")
@@ -20,7 +21,7 @@ pub(crate) fn cave_argument<'a>(alloc: Global) -> Arg<'a>
 }
 
 pub(crate) fn log_argument<'a>(alloc: Global) -> Arg<'a>
-    ensures rule { rule_of result ≡ log_rule }
+    ensures rule { rule_of result ≡ log_argument }
     ensures local { result.global ≡ false }
 {
     Arg::new(alloc, "log")
@@ -30,7 +31,7 @@ pub(crate) fn log_argument<'a>(alloc: Global) -> Arg<'a>
 }
 
 pub(crate) fn logs_argument<'a>(alloc: Global) -> Arg<'a>
-    ensures rule { rule_of result ≡ logs_rule }
+    ensures rule { rule_of result ≡ logs_argument }
     ensures local { result.global ≡ false }
 {
     Arg::new(alloc, "log")
@@ -41,7 +42,7 @@ pub(crate) fn logs_argument<'a>(alloc: Global) -> Arg<'a>
 }
 
 pub(crate) fn some_logs_argument<'a>(alloc: Global) -> Arg<'a>
-    ensures rule { rule_of result ≡ some_logs_rule }
+    ensures rule { rule_of result ≡ some_logs_argument }
     ensures local { result.global ≡ false }
 {
     Arg::new(alloc, "log")
@@ -51,7 +52,7 @@ pub(crate) fn some_logs_argument<'a>(alloc: Global) -> Arg<'a>
 }
 
 pub(crate) fn script_argument<'a>(alloc: Global) -> Arg<'a>
-    ensures rule { rule_of result ≡ script_rule }
+    ensures rule { rule_of result ≡ script_argument }
     ensures local { result.global ≡ false }
 {
     Arg::new(alloc, "script")
@@ -64,7 +65,7 @@ pub(crate) fn script_argument<'a>(alloc: Global) -> Arg<'a>
 }
 
 pub(crate) fn bind_argument<'a>(alloc: Global) -> Arg<'a>
-    ensures rule { rule_of result ≡ bind_rule }
+    ensures rule { rule_of result ≡ bind_argument }
     ensures local { result.global ≡ false }
 {
     Arg::new(alloc, "bind").long("bind").value_name("FILE").help(
@@ -73,7 +74,7 @@ pub(crate) fn bind_argument<'a>(alloc: Global) -> Arg<'a>
 }
 
 pub(crate) fn seed_argument<'a>(alloc: Global) -> Arg<'a>
-    ensures rule { rule_of result ≡ seed_rule }
+    ensures rule { rule_of result ≡ seed_argument }
     ensures local { result.global ≡ false }
 {
     Arg::new(alloc, "seed").long("seed").value_name("N").help(
@@ -82,7 +83,7 @@ pub(crate) fn seed_argument<'a>(alloc: Global) -> Arg<'a>
 }
 
 pub(crate) fn every_argument<'a>(alloc: Global) -> Arg<'a>
-    ensures rule { rule_of result ≡ every_rule }
+    ensures rule { rule_of result ≡ every_argument }
     ensures local { result.global ≡ false }
 {
     Arg::new(alloc, "every").long("every").value_name("K").help(
@@ -92,7 +93,7 @@ pub(crate) fn every_argument<'a>(alloc: Global) -> Arg<'a>
 }
 
 pub(crate) fn output_argument<'a>(alloc: Global) -> Arg<'a>
-    ensures rule { rule_of result ≡ output_rule }
+    ensures rule { rule_of result ≡ output_argument }
     ensures local { result.global ≡ false }
 {
     Arg::new(alloc, "output")
@@ -105,7 +106,7 @@ pub(crate) fn output_argument<'a>(alloc: Global) -> Arg<'a>
 }
 
 pub(crate) fn edit_print_argument<'a>(alloc: Global) -> Arg<'a>
-    ensures rule { rule_of result ≡ print_rule }
+    ensures rule { rule_of result ≡ print_argument }
     ensures local { result.global ≡ false }
 {
     Arg::new(alloc, "print")
@@ -119,7 +120,7 @@ pub(crate) fn edit_print_argument<'a>(alloc: Global) -> Arg<'a>
 }
 
 pub(crate) fn play_print_argument<'a>(alloc: Global) -> Arg<'a>
-    ensures rule { rule_of result ≡ print_rule }
+    ensures rule { rule_of result ≡ print_argument }
     ensures local { result.global ≡ false }
 {
     Arg::new(alloc, "print")
@@ -132,7 +133,7 @@ pub(crate) fn play_print_argument<'a>(alloc: Global) -> Arg<'a>
 }
 
 pub(crate) fn check_print_argument<'a>(alloc: Global) -> Arg<'a>
-    ensures rule { rule_of result ≡ print_rule }
+    ensures rule { rule_of result ≡ print_argument }
     ensures local { result.global ≡ false }
 {
     Arg::new(alloc, "print")
@@ -145,7 +146,7 @@ pub(crate) fn check_print_argument<'a>(alloc: Global) -> Arg<'a>
 }
 
 pub(crate) fn cover_print_argument<'a>(alloc: Global) -> Arg<'a>
-    ensures rule { rule_of result ≡ print_rule }
+    ensures rule { rule_of result ≡ print_argument }
     ensures local { result.global ≡ false }
 {
     Arg::new(alloc, "print")
@@ -158,11 +159,11 @@ pub(crate) fn cover_print_argument<'a>(alloc: Global) -> Arg<'a>
 }
 
 pub(crate) fn strict_argument<'a>(alloc: Global) -> Arg<'a>
-    ensures rule { rule_of result ≡ strict_rule }
+    ensures rule { rule_of result ≡ strict_argument }
     ensures local { result.global ≡ false }
 {
     Arg::new(alloc, "strict")
         .long("strict")
         .action(ArgAction::SetTrue)
-        .help("Ends the run at the first edit that is refused, and prints nothing else")
+        .help("Where an edit is refused, ends with status 4, and prints and writes only its line")
 }

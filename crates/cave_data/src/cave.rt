@@ -50,6 +50,9 @@ pub const DEFAULT_OUTSIDE: u16 = 8;
 /// The first place of the cave's depths, where bindings say nothing.
 pub const DEFAULT_DEEP: u16 = 15;
 
+/// How many letters of a word count, where bindings say nothing.
+pub const DEFAULT_LETTERS: u8 = 5;
+
 /// A cave that was read from a database and its bindings.
 #[derive(Drop)]
 pub struct Cave {
@@ -132,7 +135,7 @@ fn letters_of(bound: Option<u16>) -> u8
 {
     match bound {
         Some(letters) => letters as u8,
-        None => 5,
+        None => DEFAULT_LETTERS,
     }
 }
 

@@ -1,9 +1,8 @@
 -- A label reads back as its text.
 use Rattle.std.proofs.Common.{◌≡◌, ℕ, Bool, true, false, List, [], ◌∷◌, ◌++◌, Some, map, refl, ap}
 use Rattle.std.proofs.Common.{◌∙◌, append_assoc}
-use Rattle.std.specs.Prelude.{nat_lt}
 use Rattle.std.specs.List.{flat_map}
-use Rattle.cave_graph.specs.Labels.{BLANK, InText, QUOTE, escaped, label_read, shown_byte, with_first}
+use Rattle.cave_graph.specs.Labels.{InText, QUOTE, escaped, is_control, label_read, shown_byte, with_first}
 use Rattle.cave_graph.proofs.Bytes.{IsOther, by_bytes}
 
 -- the byte reads back as it is shown, whatever follows
@@ -12,8 +11,8 @@ ReadsBack byte = (rest : List ℕ)
     → label_read InText (escaped byte ++ rest)
     ≡ with_first (shown_byte byte) (label_read InText rest)
 
-other_reads_back : (byte : ℕ) → IsOther byte → (is_control : Bool)
-    → nat_lt byte BLANK ≡ is_control → ReadsBack byte
+other_reads_back : (byte : ℕ) → IsOther byte → (is : Bool)
+    → is_control byte ≡ is → ReadsBack byte
 unfolding escaped
 other_reads_back byte other true control rest =
     rw (other.quote, other.backslash, other.feed, other.ampersand, control) refl
@@ -30,10 +29,10 @@ other_reads_back byte other false control rest =
     ) refl
 
 byte_reads_back : (byte : ℕ) → ReadsBack byte
-unfolding escaped
+unfolding escaped is_control
 byte_reads_back =
     by_bytes ReadsBack (λ rest. refl) (λ rest. refl) (λ rest. refl) (λ rest. refl)
-    (λ byte other. other_reads_back byte other (nat_lt byte BLANK) refl)
+    (λ byte other. other_reads_back byte other (is_control byte) refl)
 
 pub labels_read_back : (text rest : List ℕ)
     → label_read InText (flat_map escaped text ++ QUOTE ∷ rest)

@@ -6,7 +6,7 @@ use Rattle.std.specs.Fmt.{decimal, digit_glyph, digits, digits_onto}
 use Rattle.std.specs.List.{flat_map, list_all}
 use Rattle.std.proofs.lemmas.Bool.{and_from, false≢true, ne_eqb}
 use Rattle.std.proofs.lemmas.List.Folds.{list_all-append}
-use Rattle.cave_graph.specs.Labels.{BLANK, LINE_FEED, escaped, quoted}
+use Rattle.cave_graph.specs.Labels.{LINE_FEED, escaped, is_control, quoted}
 use Rattle.cave_graph.specs.Lines.{is_one_line}
 use Rattle.cave_graph.proofs.Bytes.{IsOther, by_bytes}
 
@@ -63,7 +63,7 @@ decimal_within n = digits_within 64 n [] refl
 abbrev EscapedWithin : ℕ → Type 0
 EscapedWithin byte = is_within_line (escaped byte) ≡ true
 
-other_within : (byte : ℕ) → IsOther byte → (is_control : Bool) → nat_lt byte BLANK ≡ is_control
+other_within : (byte : ℕ) → IsOther byte → (is : Bool) → is_control byte ≡ is
     → EscapedWithin byte
 unfolding escaped
 other_within byte other true control =
@@ -75,7 +75,7 @@ byte_within : (byte : ℕ) → EscapedWithin byte
 unfolding escaped
 byte_within =
     by_bytes EscapedWithin refl refl refl refl
-    (λ byte other. other_within byte other (nat_lt byte BLANK) refl)
+    (λ byte other. other_within byte other (is_control byte) refl)
 
 escaped_within : (text : List ℕ) → is_within_line (flat_map escaped text) ≡ true
 escaped_within [] = refl

@@ -1,11 +1,11 @@
 -- Each node and each edge is one line.
-use Rattle.std.proofs.Common.{◌≡◌, ℕ, Bool, true, false, refl, ◌∙◌, ◌++◌, cond, List}
+use Rattle.std.proofs.Common.{◌≡◌, ℕ, Bool, true, false, refl, ◌∙◌, ◌++◌, cond, length, List}
 use Rattle.std.specs.Prelude.{◌==◌, ◌&&◌, not, codes}
 use Rattle.std.specs.Fmt.{decimal}
 use Rattle.cave_data.specs.CaveView.{CaveView}
 use Rattle.cave_world.specs.Sight.{LIGHT_BIT, has_condition, is_forced}
 use Rattle.cave_graph.specs.Edges.{edge, edge_opening, edge_parts, edge_strength, edge_text}
-use Rattle.cave_graph.specs.Edges.{head_back, head_there, is_edge_taken, part_from_label}
+use Rattle.cave_graph.specs.Edges.{head_back, head_there, is_edge_taken, label_look, part_from_label}
 use Rattle.cave_graph.specs.Edges.{part_to_label}
 use Rattle.cave_graph.specs.Labels.{quoted}
 use Rattle.cave_graph.specs.Laws.{EdgesAreLines, NodesAreLines}
@@ -38,6 +38,9 @@ note_within : (count : ℕ) → is_within_line (nowhere_note count) ≡ true
 note_within count =
     cond_within (count == 0) _ _ refl
     (both_within (codes " // ways not drawn: ") (decimal count) refl (decimal_within count))
+
+label_look_within : (text : List ℕ) → is_within_line (label_look text) ≡ true
+label_look_within text = cond_within (length text == 0) _ _ refl refl
 
 head_back_within : (is_both is_taken is_taken_back : Bool)
     → is_within_line (head_back is_both is_taken is_taken_back) ≡ true
@@ -134,6 +137,7 @@ unfolding edge
 edges_are_lines cave stops logs from to =
     line_after (edge_opening from to) _ (ends_within from to)
     ∙ line_after (quoted (edge_text cave from to)) _ (quoted_within (edge_text cave from to))
+    ∙ line_after (label_look (edge_text cave from to)) _ (label_look_within (edge_text cave from to))
     ∙ line_after (edge_strength cave stops logs from to) (edge_parts cave stops logs from to)
     (strength_within logs (is_edge_taken cave stops from to))
     ∙ parts_are_one_line cave stops logs from to

@@ -1,6 +1,6 @@
 -- The edge of a way, or of a way and the way back.
 use Rattle.std.specs.Prelude.{ℕ, Bool, ◌==◌, ◌||◌, ◌&&◌, not, if◌then◌else◌}
-use Rattle.std.specs.Prelude.{List, [], ◌++◌, codes, take}
+use Rattle.std.specs.Prelude.{List, [], ◌++◌, codes, length, nat_lt, take}
 use Rattle.std.specs.Fmt.{decimal}
 use Rattle.std.specs.List.{flat_map}
 use Rattle.cave_rows.specs.Rows.{Going}
@@ -22,16 +22,25 @@ motion_name cave motion = if motion == any_motion then [] else word_or_number ca
 abbrev pub MOTIONS_SHOWN : ℕ
 MOTIONS_SHOWN = 2
 
+-- a row has more motions than are named
+abbrev pub more_mark : Going → List ℕ
+more_mark row = if nat_lt MOTIONS_SHOWN (length row.motions) then codes " .." else []
+
 -- the names of the first motions of a row, and its condition
 unfoldable pub row_text : CaveView → Going → List ℕ
 row_text cave row =
     flat_map (motion_name cave) (take MOTIONS_SHOWN row.motions)
-    ++ condition_mark cave (row_condition row)
+    ++ (more_mark row ++ condition_mark cave (row_condition row))
 
--- the line of a row, if it leads to the place
+-- a text that isn't empty on a line of its own
+abbrev pub line_of_text : List ℕ → List ℕ → List ℕ
+line_of_text prefix text =
+    if length text == 0 then [] else prefix ++ (text ++ codes "\n")
+
+-- the line of a row, if it leads to the place; a row of a forced motion has none
 abbrev pub row_line : CaveView → List ℕ → ℕ → Going → List ℕ
-row_line cave prefix place row = if ends_at place row
-    then prefix ++ (row_text cave row ++ codes "\n") else []
+row_line cave prefix place row =
+    if ends_at place row then line_of_text prefix (row_text cave row) else []
 
 -- the lines of the rows from a place to another
 abbrev pub way_text : CaveView → List ℕ → ℕ → ℕ → List ℕ
@@ -94,12 +103,18 @@ edge_parts cave stops logs from to =
     (head_there (is_both_ways cave from to) (is_taken cave stops from to) (is_taken cave stops to from))
     (edge_strength cave stops logs from to)
 
+-- a label without a text takes no room
+abbrev pub label_look : List ℕ → List ℕ
+label_look text =
+    if length text == 0 then codes ", shape=point, width=0.01, style=invis" else []
+
 -- the line of an edge
 unfoldable pub edge : CaveView → List Stop → ℕ → ℕ → ℕ → List ℕ
 edge cave stops logs from to =
     edge_opening from to
     ++ (quoted (edge_text cave from to)
-    ++ (edge_strength cave stops logs from to ++ edge_parts cave stops logs from to))
+    ++ (label_look (edge_text cave from to)
+    ++ (edge_strength cave stops logs from to ++ edge_parts cave stops logs from to)))
 
 -- the edges of a place
 abbrev pub edges : CaveView → List Stop → ℕ → ℕ → List ℕ

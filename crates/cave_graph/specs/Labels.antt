@@ -1,5 +1,5 @@
 -- Labels of a graph: a text between quotes, and how it is read back.
-use Rattle.std.specs.Prelude.{ℕ, ◌==◌, ◌||◌, nat_lt, if◌then◌else◌, List, [], ◌∷◌, ◌++◌}
+use Rattle.std.specs.Prelude.{ℕ, Bool, ◌==◌, ◌||◌, nat_lt, if◌then◌else◌, List, [], ◌∷◌, ◌++◌}
 use Rattle.std.specs.Prelude.{codes, Option, Some, None, option_map}
 use Rattle.std.specs.List.{flat_map}
 
@@ -15,9 +15,6 @@ QUOTE = 34
 abbrev pub AMPERSAND : ℕ
 AMPERSAND = 38
 
-abbrev pub SEMICOLON : ℕ
-SEMICOLON = 59
-
 abbrev pub QUESTION_MARK : ℕ
 QUESTION_MARK = 63
 
@@ -28,13 +25,20 @@ BACKSLASH = 92
 abbrev pub LETTER_N : ℕ
 LETTER_N = 110
 
+abbrev pub DELETE : ℕ
+DELETE = 127
+
+-- a control byte, which can't be in a picture
+unfoldable pub is_control : ℕ → Bool
+is_control byte = nat_lt byte BLANK || byte == DELETE
+
 -- what a byte is between quotes
 unfoldable pub escaped : ℕ → List ℕ
 escaped byte =
     if byte == QUOTE || byte == BACKSLASH then BACKSLASH ∷ byte ∷ []
     else (if byte == LINE_FEED then BACKSLASH ∷ LETTER_N ∷ []
     else (if byte == AMPERSAND then codes "&amp;"
-    else (if nat_lt byte BLANK then QUESTION_MARK ∷ [] else byte ∷ [])))
+    else (if is_control byte then QUESTION_MARK ∷ [] else byte ∷ [])))
 
 -- a text between quotes
 abbrev pub quoted : List ℕ → List ℕ
@@ -43,28 +47,34 @@ quoted text = codes "\"" ++ (flat_map escaped text ++ codes "\"")
 -- a byte as a label shows it: one that can't be printed, and ends no line, is a question mark
 abbrev pub shown_byte : ℕ → ℕ
 shown_byte byte =
-    if byte == LINE_FEED then byte else (if nat_lt byte BLANK then QUESTION_MARK else byte)
+    if byte == LINE_FEED then byte else (if is_control byte then QUESTION_MARK else byte)
 
--- where the reading of a label is: among its bytes, after a backslash, or in an entity, which ends
--- at a semicolon
-pub data Reading : Type 0 where
-  InText : Reading
-  AfterBackslash : Reading
-  InEntity : Reading
+-- what part of a label comes next: its bytes, the byte after a backslash, or an entity, with the
+-- bytes that it goes on with
+pub data LabelPart : Type 0 where
+  InText : LabelPart
+  AfterBackslash : LabelPart
+  InEntity : List ℕ → LabelPart
+
+-- after the bytes of an entity its text goes on
+abbrev pub part_of_entity : List ℕ → LabelPart
+part_of_entity [] = InText
+part_of_entity (byte ∷ bytes) = InEntity (byte ∷ bytes)
 
 abbrev pub with_first : ℕ → Option (List ℕ × List ℕ) → Option (List ℕ × List ℕ)
 with_first byte read = option_map (λ r. (byte ∷ r.0, r.1)) read
 
 -- the text up to the quote that ends it, and what follows the quote; the only entity is that of
 -- an ampersand
-abbrev pub label_read : Reading → List ℕ → Option (List ℕ × List ℕ)
+abbrev pub label_read : LabelPart → List ℕ → Option (List ℕ × List ℕ)
 label_read _ [] = None
 label_read InText (byte ∷ bytes) =
     if byte == QUOTE then Some ([], bytes)
     else (if byte == BACKSLASH then label_read AfterBackslash bytes
-    else (if byte == AMPERSAND then with_first byte (label_read InEntity bytes)
+    else (if byte == AMPERSAND then with_first byte (label_read (InEntity (codes "amp;")) bytes)
     else with_first byte (label_read InText bytes)))
 label_read AfterBackslash (byte ∷ bytes) =
     with_first (if byte == LETTER_N then LINE_FEED else byte) (label_read InText bytes)
-label_read InEntity (byte ∷ bytes) =
-    if byte == SEMICOLON then label_read InText bytes else label_read InEntity bytes
+label_read (InEntity []) (byte ∷ bytes) = None
+label_read (InEntity (wanted ∷ more)) (byte ∷ bytes) =
+    if byte == wanted then label_read (part_of_entity more) bytes else None

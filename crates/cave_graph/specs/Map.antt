@@ -14,11 +14,11 @@ use Rattle.cave_graph.specs.declared.stops.Stop.{Stop}
 abbrev pub graph_opening : List ℕ
 graph_opening =
     codes "digraph cave {\n"
-    ++ (codes "  graph [layout=neato, model=subset, overlap=false, sep=\"+1\", splines=line];\n"
+    ++ (codes "  graph [layout=neato, model=subset, overlap=false, sep=\"+2\", splines=line];\n"
     ++ (codes "  graph [outputorder=edgesfirst, size=\"16.1,11.2\", margin=0.2];\n"
     ++ (codes "  node [shape=box, width=0.1, height=0.1, margin=\"0.04,0.03\"];\n"
     ++ (codes "  node [style=filled, fillcolor=white, fontname=\"Helvetica\", fontsize=10];\n"
-    ++ codes "  edge [arrowsize=0.5];\n"))))
+    ++ codes "  edge [arrowsize=0.4];\n"))))
 
 -- how the labels of edges look, which come after the places
 abbrev pub labels_opening : List ℕ

@@ -1,5 +1,6 @@
 -- How motions and objects are named, and the first words of a text.
-use Rattle.std.specs.Prelude.{ℕ, ◌+◌, ◌-◌, ◌/◌, ◌%◌, Bool, ◌==◌, ◌||◌, ◌&&◌, nat_le, nat_lt}
+use Rattle.std.specs.Prelude.{ℕ, ◌+◌, ◌-◌, ◌/◌, ◌%◌, Bool, true, false, ◌==◌, ◌||◌, not, nat_le}
+use Rattle.std.specs.Prelude.{nat_lt}
 use Rattle.std.specs.Prelude.{if◌then◌else◌, List, [], ◌∷◌, ◌++◌, codes}
 use Rattle.std.specs.Prelude.{Option, option_map, unwrap_or}
 use Rattle.std.specs.Fmt.{decimal}
@@ -9,7 +10,7 @@ use Rattle.cave_data.specs.CaveView.{CaveView}
 use Rattle.cave_rows.specs.Rows.{WordEntry}
 use Rattle.cave_world.specs.Travel.{CARRIED_AFTER, LAST_AT_HAND, LAST_CARRIED, NOT_FOR_DWARVES}
 use Rattle.cave_world.specs.Travel.{PER_PROP, PROPS_AFTER}
-use Rattle.cave_graph.specs.Labels.{LINE_FEED}
+use Rattle.cave_graph.specs.Labels.{BLANK, LINE_FEED}
 
 -- how many numbers a class of words has: those of motions come first, and then those of objects
 abbrev pub PER_CLASS : ℕ
@@ -29,29 +30,23 @@ unfoldable pub word_or_number : CaveView → ℕ → List ℕ
 word_or_number cave number =
     codes " " ++ unwrap_or (first_word cave.words number) (decimal (number % PER_CLASS))
 
--- no more of a text is shown from the byte on, where so many words are still shown
-abbrev pub ends_title : ℕ → ℕ → Bool
-ends_title words byte = byte == LINE_FEED || (is_blank byte && words == 1)
-
--- a blank ends a word
-abbrev pub words_left : ℕ → ℕ → ℕ
-words_left words byte = if is_blank byte then words - 1 else words
-
 -- how many words of a title are on a line at most
 abbrev pub WORDS_PER_LINE : ℕ
 WORDS_PER_LINE = 3
 
--- a byte as a title has it, where so many words are still shown: so that a place is narrow, a title
--- of seven words is on three lines, which have two, three and two of them
-abbrev pub title_byte : ℕ → ℕ → ℕ
-title_byte words byte =
-    if is_blank byte && words % WORDS_PER_LINE == 0 then LINE_FEED else byte
+-- what is after a word, where so many words were still shown before it: so that a place is narrow, a
+-- title of eight words is on three lines, which have three, three and two of them
+abbrev pub word_end : ℕ → ℕ
+word_end words = if words % WORDS_PER_LINE == 0 then LINE_FEED else BLANK
 
--- so many words of a text at most, up to the end of its first line
-abbrev pub opening_words : ℕ → List ℕ → List ℕ
-opening_words words [] = []
-opening_words words (byte ∷ bytes) = if ends_title words byte then []
-    else title_byte words byte ∷ opening_words (words_left words byte) bytes
+-- so many words of a text at most, up to the end of its first line; blanks after a blank aren't shown
+abbrev pub opening_words : ℕ → Bool → List ℕ → List ℕ
+opening_words words is_after_blank [] = []
+opening_words words is_after_blank (byte ∷ bytes) =
+    if byte == LINE_FEED then []
+    else (if not (is_blank byte) then byte ∷ opening_words words false bytes
+    else (if is_after_blank then opening_words words true bytes
+    else (if words == 1 then [] else word_end words ∷ opening_words (words - 1) true bytes)))
 
 -- what is asked of an object, with the object
 abbrev pub object_mark : CaveView → List ℕ → ℕ → List ℕ

@@ -20,12 +20,12 @@ use Rattle.cave_graph.specs.declared.stops.Stop.{Stop}
 
 -- how many words of a text are on the map
 abbrev pub WORDS_SHOWN : ℕ
-WORDS_SHOWN = 7
+WORDS_SHOWN = 8
 
 -- the first words of the short text, or of the long one where there is no short one
 abbrev pub title : CaveView → ℕ → List ℕ
 title cave place =
-    opening_words WORDS_SHOWN
+    opening_words WORDS_SHOWN true
     (unwrap_or (option_or (map.get cave.short place) (map.get cave.long place)) [])
 
 -- a half of the object is there as a game begins
@@ -62,18 +62,23 @@ visits_label_line count =
 abbrev pub title_line : CaveView → ℕ → List ℕ
 title_line cave place = decimal place ++ (codes " " ++ (title cave place ++ codes "\n"))
 
--- what is written at a node, line by line
-unfoldable pub node_text : CaveView → List Stop → ℕ → List ℕ
-node_text cave stops place =
+-- what is written at a place where a player stays, line by line
+unfoldable pub stay_text : CaveView → List Stop → ℕ → List ℕ
+stay_text cave stops place =
     title_line cave place
     ++ (flat_map (object_label_line cave) (objects_beginning cave place)
     ++ (flat_map (role_label_line cave place) place_keys
     ++ visits_label_line (visits stops place)))
 
--- a place of a forced motion is a point, and one without light is dark
+-- what is written at a node: of a place of a forced motion its number alone
+unfoldable pub node_text : CaveView → List Stop → ℕ → List ℕ
+node_text cave stops place =
+    if is_forced cave place then decimal place else stay_text cave stops place
+
+-- a place of a forced motion is a small circle, and one without light is dark
 unfoldable pub look_of_place : CaveView → ℕ → List ℕ
 look_of_place cave place =
-    if is_forced cave place then codes ", shape=point, width=0.12"
+    if is_forced cave place then codes ", shape=circle, fixedsize=true, width=0.2, fontsize=7"
     else (if has_condition cave place LIGHT_BIT then []
     else codes ", fillcolor=gray80")
 

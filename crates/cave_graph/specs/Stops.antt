@@ -15,13 +15,19 @@ abbrev pub is_at : ℕ → Stop → Bool
 is_at place stop =
     stop.trail.here == place || stop.trail.last == place || stop.trail.older == place
 
--- the player set out from the one place in this turn and came to the other, at once or last of all
--- from a place of forced motion; or the other is that place
+-- the player left the place in this turn: it is where the turn began, or one of a forced motion
+abbrev pub leaves : CaveView → ℕ → Stop → Bool
+leaves cave place stop = stop.before == place || is_forced cave place
+
+-- the player went from the one place to the other in this turn: last of all, or on the way there,
+-- which goes on from places of forced motion
 abbrev pub comes_by : CaveView → ℕ → ℕ → Stop → Bool
 comes_by cave from to stop =
-    let is_on_the_way = is_forced cave stop.trail.last in
-    (stop.trail.last == from && stop.trail.here == to && (stop.before == from || is_on_the_way))
-    || (stop.before == from && stop.trail.older == from && stop.trail.last == to && is_on_the_way)
+    let trail = stop.trail in
+    (trail.last == from && trail.here == to && leaves cave from stop)
+    || (is_forced cave trail.last
+    && ((trail.older == from && trail.last == to && leaves cave from stop)
+    || (is_forced cave trail.older && stop.before == from && trail.older == to)))
 
 -- the player is at the place, and wasn't there before
 abbrev pub arrives_at : ℕ → Stop → Bool

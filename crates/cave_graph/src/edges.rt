@@ -5,8 +5,8 @@ ghost use Rattle.std.specs.List.{flat_map};
 ghost use Rattle.cave_rows.specs.RowViews.{going};
 ghost use Rattle.cave_graph.specs.Edges.{edge, edge_opening, edge_parts, edge_strength};
 ghost use Rattle.cave_graph.specs.Edges.{edge_text, edges, head_back, head_there};
-ghost use Rattle.cave_graph.specs.Edges.{is_edge_taken, motion_name, part_from_label};
-ghost use Rattle.cave_graph.specs.Edges.{part_to_label, row_line, row_text, way_text};
+ghost use Rattle.cave_graph.specs.Edges.{is_edge_taken, label_look, line_of_text, more_mark, motion_name};
+ghost use Rattle.cave_graph.specs.Edges.{part_from_label, part_to_label, row_line, row_text, way_text};
 ghost use Rattle.cave_graph.specs.Labels.{quoted};
 ghost use Rattle.cave_graph.specs.Stops.{is_taken};
 ghost use Rattle.cave_graph.specs.Ways.{is_both_ways};
@@ -55,6 +55,17 @@ fn push_motions(
     Ok(())
 }
 
+/// The mark of a row that has more motions than are named.
+fn more_mark(row: &Row) -> &'static str
+    ensures { result.now ≡ more_mark (going row.now) }
+{
+    if MOTIONS_SHOWN < row.motions.len() {
+        " .."
+    } else {
+        ""
+    }
+}
+
 /// Appends the first motions of a row, and its condition.
 #[tactic(auto, unfolding(crate::specs::Edges::row_text))]
 fn push_row_text(
@@ -67,7 +78,20 @@ fn push_row_text(
 {
     let shown = row.motions.len().min(MOTIONS_SHOWN);
     push_motions(alloc, cave, &row.motions[..shown], text)?;
+    text.extend_from_slice(more_mark(row).as_bytes())?;
     push_condition_mark(alloc, cave, row.condition(), text)
+}
+
+/// Appends a text that isn't empty on a line of its own.
+fn push_line_of_text(prefix: &str, line: &[u8], text: &mut Vec<u8>) -> Result<(), AllocError>
+    ensures { OnOk result (text.new.items ≡ text.old.items ++ line_of_text prefix.now line.now) }
+{
+    if line.is_empty() {
+        return Ok(());
+    }
+    text.extend_from_slice(prefix.as_bytes())?;
+    text.extend_from_slice(line)?;
+    text.extend_from_slice(b"\n")
 }
 
 /// Appends the line of a row, if it leads to a place.
@@ -85,9 +109,9 @@ fn push_row(
     if !ends_at(row, place) {
         return Ok(());
     }
-    text.extend_from_slice(prefix.as_bytes())?;
-    push_row_text(alloc, cave, row, text)?;
-    text.extend_from_slice(b"\n")
+    let mut line = Vec::new(alloc);
+    push_row_text(alloc, cave, row, &mut line)?;
+    push_line_of_text(prefix, &line, text)
 }
 
 fn push_rows(
@@ -260,6 +284,17 @@ fn push_edge_parts(
     )
 }
 
+/// How a label looks: one without a text takes no room.
+fn label_look(label: &[u8]) -> &'static str
+    ensures { result.now ≡ label_look label.now }
+{
+    if label.is_empty() {
+        ", shape=point, width=0.01, style=invis"
+    } else {
+        ""
+    }
+}
+
 /// Appends the label of an edge.
 fn push_edge_label(
     alloc: Global,
@@ -268,12 +303,13 @@ fn push_edge_label(
     to: u16,
     text: &mut Vec<u8>,
 ) -> Result<(), AllocError>
-    ensures { OnOk result
-        (text.new.items ≡ text.old.items ++ quoted (edge_text cave.now from to)) }
+    ensures { OnOk result (text.new.items ≡ text.old.items
+        ++ (quoted (edge_text cave.now from to) ++ label_look (edge_text cave.now from to))) }
 {
     let mut label = Vec::new(alloc);
     push_edge_text(alloc, cave, from, to, &mut label)?;
-    push_quoted(&label, text)
+    push_quoted(&label, text)?;
+    text.extend_from_slice(label_look(&label).as_bytes())
 }
 
 /// Appends the line of an edge.

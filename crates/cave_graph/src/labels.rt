@@ -2,9 +2,20 @@
 
 ghost use Rattle.std.specs.Prelude.{◌≡◌, ◌++◌, OnOk};
 ghost use Rattle.std.specs.List.{flat_map};
-ghost use Rattle.cave_graph.specs.Labels.{escaped, quoted};
+ghost use Rattle.cave_graph.specs.Labels.{escaped, is_control, quoted};
 
 use std::alloc::AllocError;
+
+/// The control byte after the last that is printed.
+const DELETE: u8 = 127;
+
+/// Whether a byte is a control byte, which can't be in a picture.
+#[tactic(auto, unfolding(crate::specs::Labels::is_control))]
+fn is_control(byte: u8) -> bool
+    ensures { result ≡ is_control byte }
+{
+    byte < b' ' || byte == DELETE
+}
 
 /// Appends a byte as it is between quotes.
 #[tactic(auto, unfolding(crate::specs::Labels::escaped))]
@@ -20,8 +31,7 @@ fn push_escaped(byte: u8, text: &mut Vec<u8>) -> Result<(), AllocError>
     if byte == b'&' {
         return text.extend_from_slice(b"&amp;");
     }
-    // Other control bytes can't be in a picture.
-    if byte < b' ' {
+    if is_control(byte) {
         return text.extend_from_slice(b"?");
     }
     text.extend_from_slice(&[byte])

@@ -25,11 +25,11 @@ fn push_graph_opening(text: &mut Vec<u8>) -> Result<(), AllocError>
 {
     text.extend_from_slice(
         b"digraph cave {\
-        \n  graph [layout=neato, model=subset, overlap=false, sep=\"+1\", splines=line];\
+        \n  graph [layout=neato, model=subset, overlap=false, sep=\"+2\", splines=line];\
         \n  graph [outputorder=edgesfirst, size=\"16.1,11.2\", margin=0.2];\
         \n  node [shape=box, width=0.1, height=0.1, margin=\"0.04,0.03\"];\
         \n  node [style=filled, fillcolor=white, fontname=\"Helvetica\", fontsize=10];\
-        \n  edge [arrowsize=0.5];\n",
+        \n  edge [arrowsize=0.4];\n",
     )
 }
 

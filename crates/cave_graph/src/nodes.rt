@@ -1,6 +1,7 @@
 //! The nodes of places.
 
 ghost use Rattle.std.specs.Prelude.{◌≡◌, ◌≤◌, ◌<◌, ◌++◌, All, IfOk, OnOk};
+ghost use Rattle.std.specs.Fmt.{decimal};
 ghost use Rattle.std.specs.List.{flat_map};
 ghost use Rattle.cave_numbers.specs.Numbers.{last_object, last_place};
 ghost use Rattle.cave_bindings.specs.Listing.{place_keys};
@@ -8,8 +9,8 @@ ghost use Rattle.cave_rows.specs.PlaceRole.{place_number};
 ghost use Rattle.cave_graph.specs.Labels.{quoted};
 ghost use Rattle.cave_graph.specs.Places.{begins_at, look_of_place, node, node_end, node_opening};
 ghost use Rattle.cave_graph.specs.Places.{node_text, nowhere_note, object_label_line};
-ghost use Rattle.cave_graph.specs.Places.{objects_beginning};
-ghost use Rattle.cave_graph.specs.Places.{role_label_line, strength, title_line, visits_label_line};
+ghost use Rattle.cave_graph.specs.Places.{objects_beginning, role_label_line, stay_text, strength};
+ghost use Rattle.cave_graph.specs.Places.{title_line, visits_label_line};
 
 use crate::labels::push_quoted;
 use crate::names::{number_of_object, push_word_or_number};
@@ -158,7 +159,31 @@ fn push_objects_beginning(
     push_objects(alloc, cave, &objects, text)
 }
 
-/// Appends what is written at a node.
+/// Appends what is written at a place where a player stays.
+#[tactic(auto, unfolding(crate::specs::Places::stay_text))]
+fn push_stay_text(
+    alloc: Global,
+    cave: &Cave,
+    stops: &[Stop],
+    place: u16,
+    text: &mut Vec<u8>,
+) -> Result<(), AllocError>
+    ensures { OnOk result (text.new.items ≡ text.old.items ++ stay_text cave.now stops.now place) }
+{
+    push_title_line(alloc, cave, place, text)?;
+    push_objects_beginning(alloc, cave, place, text)?;
+    push_roles_of_place(cave, place, text)?;
+    push_visits_label_line(alloc, visits(stops, place), text)
+}
+
+fn push_number(alloc: Global, number: u16, text: &mut Vec<u8>) -> Result<(), AllocError>
+    ensures { OnOk result (text.new.items ≡ text.old.items ++ decimal number) }
+{
+    let digits = format!(in alloc; "{number}")?;
+    text.extend_from_slice(digits.as_bytes())
+}
+
+/// Appends what is written at a node: of a place of a forced motion its number alone.
 #[tactic(auto, unfolding(crate::specs::Places::node_text))]
 fn push_node_text(
     alloc: Global,
@@ -167,15 +192,16 @@ fn push_node_text(
     place: u16,
     text: &mut Vec<u8>,
 ) -> Result<(), AllocError>
+    requires { place ≤ last_place }
     ensures { OnOk result (text.new.items ≡ text.old.items ++ node_text cave.now stops.now place) }
 {
-    push_title_line(alloc, cave, place, text)?;
-    push_objects_beginning(alloc, cave, place, text)?;
-    push_roles_of_place(cave, place, text)?;
-    push_visits_label_line(alloc, visits(stops, place), text)
+    if is_forced(cave, Place::new(place)) {
+        return push_number(alloc, place, text);
+    }
+    push_stay_text(alloc, cave, stops, place, text)
 }
 
-/// How a place looks: one of a forced motion is a point, and one without light is dark.
+/// How a place looks: one of a forced motion is a small circle, and one without light is dark.
 #[tactic(auto, unfolding(crate::specs::Places::look_of_place))]
 fn look_of_place(cave: &Cave, place: u16) -> &'static str
     requires { place ≤ last_place }
@@ -183,7 +209,7 @@ fn look_of_place(cave: &Cave, place: u16) -> &'static str
 {
     let place = Place::new(place);
     if is_forced(cave, place) {
-        return ", shape=point, width=0.12";
+        return ", shape=circle, fixedsize=true, width=0.2, fontsize=7";
     }
     if has_condition(cave, place, LIGHT_BIT) {
         return "";
@@ -232,6 +258,7 @@ fn push_node_label(
     place: u16,
     text: &mut Vec<u8>,
 ) -> Result<(), AllocError>
+    requires { place ≤ last_place }
     ensures { OnOk result
         (text.new.items ≡ text.old.items ++ quoted (node_text cave.now stops.now place)) }
 {

@@ -1,7 +1,8 @@
 //! Where a player is in a state of a play, and where the player comes from.
 
 ghost use Rattle.std.specs.Prelude.{◌≡◌};
-ghost use Rattle.cave_graph.specs.Stops.{arrives_at, comes_by, is_at, is_taken, is_visited, visits};
+ghost use Rattle.cave_graph.specs.Stops.{arrives_at, comes_by, is_at, is_taken, is_visited};
+ghost use Rattle.cave_graph.specs.Stops.{leaves, visits};
 
 use cave_data::Cave;
 use cave_objects::Place;
@@ -25,19 +26,26 @@ impl Stop {
             || self.trail.older.number() == place
     }
 
-    /// Whether the player set out from the one place in this turn and came to the other, at once or
-    /// last of all from a place of forced motion; or the other is that place.
+    /// Whether the player left a place in this turn: it is where the turn began, or one of a forced
+    /// motion.
+    fn leaves(&self, cave: &Cave, place: Place) -> bool
+        ensures { result ≡ leaves cave.now place self.now }
+    {
+        self.before == place || is_forced(cave, place)
+    }
+
+    /// Whether the player went from the one place to the other in this turn: last of all, or on the
+    /// way there, which goes on from places of forced motion.
     fn comes_by(&self, cave: &Cave, from: u16, to: u16) -> bool
         ensures { result ≡ comes_by cave.now from to self.now }
     {
-        let trail = self.trail;
-        let sets_out = self.before.number() == from;
-        let is_on_the_way = is_forced(cave, trail.last);
-        (trail.last.number() == from && trail.here.number() == to && (sets_out || is_on_the_way))
-            || (sets_out
-                && trail.older.number() == from
-                && trail.last.number() == to
-                && is_on_the_way)
+        let Trail { here, last, older } = self.trail;
+        (last.number() == from && here.number() == to && self.leaves(cave, last))
+            || (is_forced(cave, last)
+                && ((older.number() == from && last.number() == to && self.leaves(cave, older))
+                    || (is_forced(cave, older)
+                        && self.before.number() == from
+                        && older.number() == to)))
     }
 
     /// Whether the player is at a place, and wasn't there before.

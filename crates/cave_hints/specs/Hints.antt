@@ -15,7 +15,7 @@ use Rattle.cave_words.specs.declared.named.Named.TheVariants as name
 use Rattle.cave_objects.specs.Lists.{halves_at}
 use Rattle.cave_objects.specs.Objects.{carried_objects}
 use Rattle.cave_world.specs.Sight.{has_condition}
-use Rattle.cave_world.specs.State.{takes_no_command, turns_near, is_hint_taken}
+use Rattle.cave_world.specs.State.{takes_no_command, turns_near, is_hint_taken, with_hint_taken}
 use Rattle.cave_world.specs.declared.ending.Question.TheVariants as question
 use Rattle.cave_world.specs.declared.part.NumberLine.TheVariants.{HintCosts}
 use Rattle.cave_world.specs.declared.part.Part.TheVariants as part
@@ -46,11 +46,6 @@ abbrev pub with_turns_near : ℕ → ℕ → State → State
 with_turns_near h n s =
     let hints = s.hints in
     record s { hints = record hints { turns = slice_set hints.turns (h - 1) n } }
-
-abbrev pub with_hint_taken : ℕ → State → State
-with_hint_taken h s =
-    let hints = s.hints in
-    record s { hints = record hints { is_taken = slice_set hints.is_taken (h - 1) true } }
 
 -- a place is in the area of a hint by the bit of the hint's number
 abbrev pub is_in_area : CaveView → ℕ → State → Bool

@@ -1,12 +1,12 @@
 //! Hints: one is offered to a player who stays for long where it helps, and who needs it.
 
-ghost use Rattle.std.specs.Prelude.{◌≡◌, ◌<◌, ◌≤◌, ◌+◌, ◌*◌, ◌⊎◌, false, true};
+ghost use Rattle.std.specs.Prelude.{◌≡◌, ◌<◌, ◌≤◌, ◌+◌, ◌*◌, ◌⊎◌, ℕ, IsTrue, false, true};
 ghost use Rattle.cave_data.specs.CaveView.{CaveView, conditions_of};
 ghost use Rattle.cave_data.specs.Tables.{IsAbove};
 ghost use Rattle.cave_scene.specs.Bounds.{HasRoom, SaysUpTo, parts_of_question};
 ghost use Rattle.cave_scene.specs.Play.{scene_of, GoesOn};
 ghost use Rattle.cave_scene.specs.Rules.{cave_of};
-ghost use Rattle.cave_hints.specs.Hints.{with_turns_near, with_hint_taken};
+ghost use Rattle.cave_hints.specs.Hints.{with_turns_near};
 ghost use Rattle.cave_hints.specs.Hints.{is_in_area, after_turn_near, is_due, is_locked_out};
 ghost use Rattle.cave_hints.specs.Hints.{is_after_bird, is_held_by_snake, is_lost_in_maze};
 ghost use Rattle.cave_hints.specs.Hints.{is_short_of_pyramid, is_needed, after_putting_off};
@@ -56,7 +56,12 @@ pub fn consider_all(rules: &Rules<'_>, play: &mut Play<'_>)
 {
     // A hint moves nobody, so the conditions of the place are looked up once.
     let conditions = rules.cave.conditions(play.state.trail.here.number());
-    for before in 0..count_hints(rules.cave) {
+    let count = count_hints(rules.cave);
+    // At most places no hint is waited for, and then nothing changes.
+    if conditions < 1 << FIRST_HINT && counts_no_turn(count, play.state) {
+        return;
+    }
+    for before in 0..count {
         consider(
             rules,
             HintNumber::new(before + FIRST_HINT),
@@ -73,6 +78,19 @@ fn count_hints(cave: &Cave) -> u8
 {
     let count = cave.hint_end().saturating_sub(usize::from(FIRST_HINT));
     count.min(usize::from(OFFERED_HINTS)) as u8
+}
+
+/// Whether of so many hints no turn counts.
+fn counts_no_turn(count: u8, state: &State) -> bool
+    requires { count ≤ 17 }
+    ensures { IsTrue result → (n : ℕ) → n < count → turns_near state.now (n + 4) ≡ 0 }
+{
+    for before in 0..count {
+        if turns_near(HintNumber::new(before + FIRST_HINT), state).number() != 0 {
+            return false;
+        }
+    }
+    true
 }
 
 /// What a hint costs is said, and whether it is worth that is asked.
@@ -100,7 +118,7 @@ pub fn give(rules: &Rules<'_>, number: HintNumber, play: &mut Play<'_>)
 {
     if let Some(hint) = rules.cave.hint(u16::from(number.number())) {
         play.tell(Part::Message(hint.text));
-        take_hint(number, play.state);
+        play.state.take_hint(number);
         reward(hint.points, play.state);
     }
 }
@@ -117,12 +135,6 @@ fn set_turns_near(hint: HintNumber, turns: Count<10000>, state: &mut State)
     ensures here { state.new.trail ≡ state.old.trail }
 {
     state.hints.turns[usize::from(hint.number()) - 1] = turns;
-}
-
-fn take_hint(hint: HintNumber, state: &mut State)
-    ensures { state.new ≡ with_hint_taken hint state.old }
-{
-    state.hints.is_taken[usize::from(hint.number()) - 1] = true;
 }
 
 /// Whether the conditions are those of a place in the area of a hint.

@@ -12,7 +12,7 @@ use Rattle.log_lines.specs.LogLine.{log_line}
 use Rattle.log_lines.specs.declared.log_line.LogLine.{LogLine}
 use Rattle.log_lines.specs.declared.log_line.LogLine.TheVariants as kind
 use Rattle.cave_words.specs.declared.named.Named.TheVariants as name
-use Rattle.cave_world.specs.State.{state_with_player_at}
+use Rattle.cave_world.specs.State.{CLUE_HINT, state_with_player_at, with_hint_taken}
 use Rattle.cave_world.specs.declared.ending.Ending.{Ending}
 use Rattle.cave_world.specs.declared.ending.Ending.TheVariants as ending_is
 use Rattle.cave_world.specs.declared.ending.Question.{Question}
@@ -26,10 +26,10 @@ use Rattle.cave_scene.specs.Play.{with_state}
 use Rattle.cave_scene.specs.Play.{scene_at_place}
 use Rattle.cave_scene.specs.Rules.{thing}
 use Rattle.cave_ends.specs.Deaths.{with_one_death}
-use Rattle.cave_hints.specs.Hints.{with_hint_taken, price_scene_if, price_scene, hint_scene_if}
+use Rattle.cave_hints.specs.Hints.{price_scene_if, price_scene, hint_scene_if}
 use Rattle.cave_hints.specs.Hints.{hint_scene}
 use Rattle.cave_turn.specs.Answers.{answer_in, is_dragon, is_yes, without_question, entrance_scene}
-use Rattle.cave_turn.specs.Answers.{after_instructions, with_oyster_hint}
+use Rattle.cave_turn.specs.Answers.{after_instructions}
 use Rattle.cave_turn.specs.Answers.{yes_scene}
 use Rattle.cave_turn.specs.Answers.{no_scene, reply_scene}
 use Rattle.cave_turn.specs.Answers.{is_of_hint, answer_scene, answers}
@@ -119,7 +119,7 @@ agreed_kept {Q} {P} cave k b (question.Take i) p pay asked goes h =
     given_kept P (pay refl) i (map.get cave.hints i) (with_state (without_question p.state) p)
     free.0
 agreed_kept {Q} {P} cave k b question.Oyster p pay asked goes h =
-    let s = without_question p.state in let t = with_oyster_hint s in
+    let s = without_question p.state in let t = with_hint_taken CLUE_HINT s in
     let free = closed_kept _ b question.Oyster p.state refl asked goes h in
     P.goes_on (facts s) (course t) (later_by_hint (course s) 1) free.0
 agreed_kept cave k b question.Dragon p pay asked goes h =

@@ -14,7 +14,7 @@ use Rattle.cave_words.specs.declared.named.Named.TheVariants as name
 use Rattle.cave_objects.specs.Layout.{Layout}
 use Rattle.cave_objects.specs.Objects.{with_place, with_anchor, with_prop}
 use Rattle.cave_objects.specs.declared.spot.Anchor.TheVariants as anchor
-use Rattle.cave_world.specs.State.{state_with_player_at}
+use Rattle.cave_world.specs.State.{state_with_player_at, with_hint_taken}
 use Rattle.cave_world.specs.declared.closing.Closing.{Closing}
 use Rattle.cave_world.specs.declared.dwarves.Dwarves.{Dwarves}
 use Rattle.cave_world.specs.declared.ending.Ending.{Ending}
@@ -29,7 +29,7 @@ use Rattle.cave_scene.specs.Play.{Scene, scene_at_start, scene_at_place, after_t
 use Rattle.cave_scene.specs.Play.{after_saying, after_look_at, with_state}
 use Rattle.cave_scene.specs.Rules.{thing}
 use Rattle.cave_ends.specs.Deaths.{with_one_death}
-use Rattle.cave_hints.specs.Hints.{with_hint_taken, price_scene_if, price_scene, hint_scene_if}
+use Rattle.cave_hints.specs.Hints.{price_scene_if, price_scene, hint_scene_if}
 use Rattle.cave_hints.specs.Hints.{hint_scene}
 use Rattle.cave_turn.specs.Answers.{answer_in, without_question, entrance_scene, yes_scene}
 use Rattle.cave_turn.specs.Answers.{no_scene}

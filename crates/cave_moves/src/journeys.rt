@@ -19,10 +19,7 @@ use cave_rows::{PlaceRole, Role};
 use cave_scene::{Play, Rules};
 use cave_things::places::{outside_place, place_named};
 use cave_words::Named;
-use cave_world::{Motion, Part, Special, State, TravelOutcome, travel_by_motion};
-
-/// How often it is said that there are no more details.
-const MOST_DETAILS: u16 = 3;
+use cave_world::{MAX_DETAILS, Motion, Part, Special, State, TravelOutcome, travel_by_motion};
 
 /// Where a motion that the player asks for leads.
 #[tactic(auto, unfolding(crate::specs::Journeys::journey_by_request))]
@@ -175,7 +172,7 @@ fn say_enough(play: &mut Play<'_>)
     ensures same { GoesOn play.old play.new }
     ensures few { SaysUpTo 1 play.old play.new }
 {
-    if play.state.talk.details.number() < MOST_DETAILS {
+    if play.state.talk.details.number() < MAX_DETAILS {
         play.state.talk.details = play.state.talk.details.up();
         play.say(Role::Enough);
     }

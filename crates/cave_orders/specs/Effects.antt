@@ -58,8 +58,8 @@ bring t d =
     d.scene.state) d
 
 -- an object is nowhere from now on
-abbrev pub kill : Thing → Effect
-kill t d = in_state (with_objects (with_place d.scene.state.objects (t d) 0) d.scene.state) d
+abbrev pub destroy : Thing → Effect
+destroy t d = in_state (with_objects (with_place d.scene.state.objects (t d) 0) d.scene.state) d
 
 -- an object can't be moved any more, or can be moved again
 abbrev pub fix : Thing → Effect
@@ -84,7 +84,7 @@ put t d = in_state (put_down d.cave (t d) d.scene.state) d
 abbrev pub lay_down : Thing → Effect
 lay_down t d = in_state (let_go d.cave (t d) d.scene.state) d
 
--- the troll is paid, and goes
+-- the troll goes, who is paid or flees
 abbrev pub troll_goes : Effect
 troll_goes d = in_state (without_troll d.cave d.scene.state) d
 

@@ -93,7 +93,7 @@ ActsBy f rules order old new step =
 abbrev pub ByRows : List VerbRow → Rules → Order → Play → Play → Step → Type 0
 ByRows rows rules order old new step = ActsBy (first_fitting rows) rules order old new step
 
--- the same where nothing is gone on with
+-- a rule of an order after which nothing is gone on with
 abbrev pub DoneBy : (Deed → Act) → Rules → Order → Play → Play → Next → Type 0
 DoneBy f rules order old new next = ActsBy f rules order old new (Done next)
 

@@ -39,8 +39,8 @@ abbrev pub is : Named → Test
 is n d = is_called d.cave d.order.object n
 
 -- an object is carried
-abbrev pub carries : Thing → Test
-carries t d = is_in_hand d.cave d.scene.state (t d)
+abbrev pub in_hand : Thing → Test
+in_hand t d = is_in_hand d.cave d.scene.state (t d)
 
 -- an object is carried, or its first half is here
 abbrev pub near : Thing → Test
@@ -51,8 +51,8 @@ abbrev pub is_here : Thing → Test
 is_here t d = is_object_at d.scene.state.objects d.scene.state.trail.here (t d)
 
 -- an object can't be moved
-abbrev pub immovable : Thing → Test
-immovable t d = is_fixed d.scene.state (t d)
+abbrev pub fixed : Thing → Test
+fixed t d = is_fixed d.scene.state (t d)
 
 abbrev pub prop : Thing → ℤ → Test
 prop t v d = has_prop d.scene.state (t d) v

@@ -125,7 +125,7 @@ IsViewOf Reports cave every game items text = IsAccount cave every game items te
 IsViewOf FinalState cave every game items text =
     text ≡ final_state_text cave (game_after_items items game)
 
--- the same of the items that the script spells
+-- the text is what the view of an edit prints, of the items that the script spells
 abbrev pub IsEditOf : EditView → CaveView → ℕ → Game → List ℕ → List ℕ → Type 0
 IsEditOf view cave every game script text =
     (items : List Applied) × IsScript 1 (lines script) items

@@ -22,6 +22,18 @@ use log_lines::bytes::{skip_blanks, split_word};
 /// The greatest length of a line of a text.
 const MAX_TEXT: usize = 255;
 
+/// The last number of a motion.
+const LAST_MOTION: u16 = 999;
+
+/// The last number of a target of a way, with its condition.
+const LAST_TARGET: u32 = 999_999;
+
+/// A line of a text of an object begins with so many times a prop, or with an object.
+const PROP_STEP: u32 = 100;
+
+/// The last number that a line of a text of an object begins with.
+const LAST_PROP_LINE: u32 = 9900;
+
 /// The first field and what follows it.
 #[tactic(auto, using(crate::proofs::FieldLemmas::fields_of_first))]
 pub(crate) fn next_field(bytes: &[u8]) -> Option<(&[u8], &[u8])>
@@ -140,7 +152,8 @@ fn object_or_prop(number: Number) -> Result<u16, Cause>
     ensures range { IfOk result (λ n. n ≤ 9900) }
 {
     match number {
-        Number::Natural(n) if n <= u32::from(LAST_NAMED) || (n <= 9900 && n % 100 == 0) => Ok(
+        Number::Natural(n)
+            if n <= u32::from(LAST_NAMED) || (n <= LAST_PROP_LINE && n % PROP_STEP == 0) => Ok(
             n as u16,
         ),
         _ => Err(Cause::OutOfRange),
@@ -176,10 +189,10 @@ pub fn way_row(line: &[u8]) -> Result<Row, Cause>
 {
     let (place, rest) = number_or_cause(line)?;
     let (target, rest) = number_or_cause(rest)?;
-    let motions = some_of(list_in(rest, 1, 999)?)?;
+    let motions = some_of(list_in(rest, 1, LAST_MOTION)?)?;
     Ok(Row {
         place: within(place, 1, LAST_PLACE)?,
-        target: wide_within(target, 0, 999_999)?,
+        target: wide_within(target, 0, LAST_TARGET)?,
         motions: motions?,
     })
 }

@@ -27,7 +27,7 @@ numbered before n = before ++ decimal n
 unfoldable pub numbered_line : List ℕ → ℕ → List ℕ
 numbered_line before n = before ++ (decimal n ++ codes "\n")
 
--- the same, of a number that may be below 0
+-- a line with a number that may be below 0
 unfoldable pub signed_line : List ℕ → ℤ → List ℕ
 signed_line before z = before ++ (signed_decimal z ++ codes "\n")
 

@@ -1,6 +1,6 @@
 -- What an answer to an open question does.
 use Rattle.std.specs.Prelude.{ℕ, pos, Bool, true, false, ◌||◌, not, if◌then◌else◌, List, Option}
-use Rattle.std.specs.Prelude.{Some, None, codes, slice_set}
+use Rattle.std.specs.Prelude.{Some, None, codes}
 use Rattle.cave_data.specs.CaveView.{CaveView}
 use Rattle.cave_rows.specs.declared.role.Role.TheVariants as role
 use Rattle.cave_moves.specs.Arrival.{arrival_scene}
@@ -8,6 +8,7 @@ use Rattle.cave_scene.specs.Play.{Scene, scene_at_start, after_saying, with_stat
 use Rattle.cave_things.specs.Places.{start_place}
 use Rattle.cave_words.specs.Word.{is_written}
 use Rattle.cave_words.specs.Words.{words_of}
+use Rattle.cave_world.specs.State.{CLUE_HINT, INSTRUCTIONS_HINT, with_hint_taken}
 use Rattle.cave_world.specs.declared.ending.Ending.TheVariants as ending_is
 use Rattle.cave_world.specs.declared.ending.Question.{Question}
 use Rattle.cave_world.specs.declared.ending.Question.TheVariants as question
@@ -39,20 +40,11 @@ answer_in cave line = answer_by (words_of cave.letters line).first
 abbrev pub without_question : State → State
 without_question s = record s { question = None }
 
--- the instructions count as hint 3, which costs points, and the lamp burns 1,000 turns
+-- the instructions count as a hint, which costs points, and the lamp burns 1,000 turns
 abbrev pub after_instructions : State → State
 after_instructions s =
-    let hints = s.hints in let lamp = s.lamp in
-    record s {
-      hints = record hints { is_taken = slice_set hints.is_taken 2 true };
-      lamp = record lamp { charge = pos 1000 };
-    }
-
--- what is written under the oyster counts as hint 2
-abbrev pub with_oyster_hint : State → State
-with_oyster_hint s =
-    let hints = s.hints in
-    record s { hints = record hints { is_taken = slice_set hints.is_taken 1 true } }
+    let t = with_hint_taken INSTRUCTIONS_HINT s in let lamp = t.lamp in
+    record t { lamp = record lamp { charge = pos 1000 } }
 
 -- the game begins at its first place
 unfoldable pub entrance_scene : CaveView → Scene → Scene
@@ -71,7 +63,7 @@ yes_scene cave question.Die p = return_scene cave p
 yes_scene cave (question.Hint h) p = price_scene cave h p
 yes_scene cave (question.Take h) p = hint_scene cave h p
 yes_scene cave question.Oyster p =
-    with_state (with_oyster_hint p.state) (after_saying role.OysterHint p)
+    with_state (with_hint_taken CLUE_HINT p.state) (after_saying role.OysterHint p)
 yes_scene cave question.Dragon p = fight_scene cave p
 
 -- no; a player who doesn't fight the dragon commands something else

@@ -5,7 +5,6 @@ ghost use Rattle.cave_scene.specs.Bounds.{parts_of_finish, parts_of_question, pa
 ghost use Rattle.cave_scene.specs.Play.{scene_of, IsSamePlay, GoesOn};
 ghost use Rattle.cave_scene.specs.Rules.{cave_of};
 ghost use Rattle.cave_turn.specs.Answers.{answer_of, answer_in, after_instructions};
-ghost use Rattle.cave_turn.specs.Answers.{with_oyster_hint};
 ghost use Rattle.cave_turn.specs.Answers.{entrance_scene, quit_scene, yes_scene, no_scene};
 ghost use Rattle.cave_turn.specs.Answers.{reply_scene};
 ghost use Rattle.cave_turn.specs.Answers.{is_of_hint};
@@ -22,7 +21,7 @@ use cave_rows::Role;
 use cave_scene::{Play, Rules};
 use cave_things::start_place;
 use cave_words::Word;
-use cave_world::{Charge, Ending, Out, Question, State};
+use cave_world::{CLUE_HINT, Charge, Ending, HintNumber, INSTRUCTIONS_HINT, Out, Question, State};
 
 /// What a line says to a question.
 #[derive(Clone, Copy, Debug, PartialEq, Eq)]
@@ -32,14 +31,8 @@ pub enum Answer {
     Neither,
 }
 
-/// The index of the hint that explains how to play.
-const INSTRUCTIONS: usize = 2;
-
 /// How many turns the lamp of a player burns who asked for the instructions.
 const INSTRUCTED_CHARGE: i32 = 1000;
-
-/// The index of the hint that is written under the oyster.
-const CLUE: usize = 1;
 
 /// Takes a line as the answer to the open question.
 #[tactic(auto, unfolding(crate::specs::Answers::answer_scene))]
@@ -90,15 +83,8 @@ pub fn answer_in(rules: &Rules<'_>, line: &[u8]) -> Answer
 fn instruct(state: &mut State)
     ensures { state.new ≡ after_instructions state.old }
 {
-    state.hints.is_taken[INSTRUCTIONS] = true;
+    state.take_hint(HintNumber::new(INSTRUCTIONS_HINT));
     state.lamp.charge = Charge::new(INSTRUCTED_CHARGE);
-}
-
-/// The hint under the oyster was given.
-fn tell_of_oyster(state: &mut State)
-    ensures { state.new ≡ with_oyster_hint state.old }
-{
-    state.hints.is_taken[CLUE] = true;
 }
 
 /// The question is answered.
@@ -148,7 +134,7 @@ fn agree(rules: &Rules<'_>, question: &Question, play: &mut Play<'_>)
         Question::Take(number) => give(rules, *number, play),
         Question::Oyster => {
             play.say(Role::OysterHint);
-            tell_of_oyster(play.state);
+            play.state.take_hint(HintNumber::new(CLUE_HINT));
         }
         Question::Dragon => fight(rules, play),
     }

@@ -20,6 +20,9 @@ use cave_things::{building_place, is_in_hand, start_place};
 use cave_words::Named;
 use cave_world::{Ending, State};
 
+/// A player who died so often doesn't come back.
+const MAX_DEATHS: u16 = 3;
+
 /// What is said of a revival, by the deaths before.
 fn revival_role(deaths: u16) -> Role
     ensures { result ≡ revival_role deaths }
@@ -107,7 +110,7 @@ pub fn come_back(rules: &Rules<'_>, play: &mut Play<'_>)
     let deaths = play.state.tallies.deaths.number();
     play.say(revival_role(deaths));
     count_death(play.state);
-    if 3 <= play.state.tallies.deaths.number() {
+    if MAX_DEATHS <= play.state.tallies.deaths.number() {
         end(rules, Ending::Killed, play);
         return;
     }

@@ -5,7 +5,7 @@ use Rattle.cave_words.specs.declared.named.Named.{Named}
 use Rattle.cave_words.specs.declared.named.Named.TheVariants as name
 use Rattle.cave_world.specs.declared.state.State.{State}
 use Rattle.cave_scene.specs.Rules.{is_one_of}
-use Rattle.cave_orders.specs.Effects.{in_state, say, default, ask_what, kill, loosen, set_prop}
+use Rattle.cave_orders.specs.Effects.{in_state, say, default, ask_what, destroy, loosen, set_prop}
 use Rattle.cave_orders.specs.Effects.{lose_one}
 use Rattle.cave_orders.specs.Rows.{VerbRow, Test, Effect, row, row_then, keeps, goes_on}
 use Rattle.cave_orders.specs.declared.verb.Verb.TheVariants as verb
@@ -28,7 +28,7 @@ anger d = in_state (with_more_anger d.scene.state) d
 abbrev pub feed_bear_rows : List VerbRow
 feed_bear_rows =
     row (is name.Bear ∷ near (the name.Food) ∷ [])
-    (kill (the name.Food) ∷ set_prop x (pos 1) ∷ loosen (the name.Axe)
+    (destroy (the name.Food) ∷ set_prop x (pos 1) ∷ loosen (the name.Axe)
     ∷ set_prop (the name.Axe) (pos 0) ∷ say role.BearFed ∷ [])
     ∷ row (is name.Bear ∷ prop x (pos 0) ∷ []) (say role.NotHungry ∷ [])
     ∷ row (is name.Bear ∷ prop x (pos 3) ∷ []) (say role.Ridiculous ∷ [])
@@ -39,7 +39,7 @@ unfoldable pub feed_rows : List VerbRow
 feed_rows =
     row (is name.Bird ∷ []) (say role.BirdFeed ∷ [])
     ∷ row (is name.Snake ∷ no cave_closed ∷ near (the name.Bird) ∷ [])
-    (kill (the name.Bird) ∷ set_prop (the name.Bird) (pos 0) ∷ lose_one ∷ say role.BirdEaten ∷ [])
+    (destroy (the name.Bird) ∷ set_prop (the name.Bird) (pos 0) ∷ lose_one ∷ say role.BirdEaten ∷ [])
     ∷ row (is name.Dragon ∷ other_prop x (pos 0) ∷ []) (say role.Ridiculous ∷ [])
     ∷ row (either (is name.Snake) (is name.Dragon) ∷ []) (say role.NotHungry ∷ [])
     ∷ row (is name.Troll ∷ []) (say role.TrollFeed ∷ [])
@@ -61,7 +61,7 @@ living_things =
 
 unfoldable pub eat_rows : List VerbRow
 eat_rows =
-    row (is name.Food ∷ []) (kill x ∷ say role.Eaten ∷ [])
+    row (is name.Food ∷ []) (destroy x ∷ say role.Eaten ∷ [])
     ∷ row (is_any living_things ∷ []) (say role.NoAppetite ∷ [])
     ∷ row [] (default ∷ [])
     ∷ []

@@ -15,13 +15,13 @@ use Rattle.cave_scene.specs.Play.{Scene, after_saying}
 use Rattle.cave_orders.specs.Deeds.{Deed}
 use Rattle.cave_orders.specs.Effects.{in_scene, say, default}
 use Rattle.cave_orders.specs.Rows.{VerbRow, Test, Effect, row}
-use Rattle.cave_orders.specs.Tests.{x, the, is, carries, is_here, dwarf, cave_closed, in_bottle}
+use Rattle.cave_orders.specs.Tests.{x, the, is, in_hand, is_here, dwarf, cave_closed, in_bottle}
 use Rattle.cave_orders.specs.Tests.{in_lake}
 
 -- FIND an object, and INVENTORY of one
 unfoldable pub find_rows : List VerbRow
 find_rows =
-    row (carries x ∷ []) (say role.HeldIt ∷ [])
+    row (in_hand x ∷ []) (say role.HeldIt ∷ [])
     ∷ row (cave_closed ∷ []) (say role.Around ∷ [])
     ∷ row (is_here x ∷ []) (say role.HereIt ∷ [])
     ∷ row (in_bottle x ∷ is_here (the name.Bottle) ∷ []) (say role.HereIt ∷ [])

@@ -6,7 +6,7 @@ use Rattle.cave_world.specs.declared.ending.Ending.TheVariants as ending
 use Rattle.cave_world.specs.declared.ending.Question.TheVariants as question
 use Rattle.cave_orders.specs.Choice.{candidate, objects_meant, several, first}
 use Rattle.cave_orders.specs.Deeds.{Deed}
-use Rattle.cave_orders.specs.Effects.{say, default, ask_what, kill, set_prop, lose_to_snake}
+use Rattle.cave_orders.specs.Effects.{say, default, ask_what, destroy, set_prop, lose_to_snake}
 use Rattle.cave_orders.specs.Rows.{VerbRow, Test, row, row_then, keeps, asks, ends, goes_on}
 use Rattle.cave_orders.specs.Verbs.{is_verb}
 use Rattle.cave_orders.specs.declared.verb.Verb.{Verb}
@@ -46,7 +46,7 @@ bare_kill_rows =
 unfoldable pub kill_rows : List VerbRow
 kill_rows =
     row (is name.Bird ∷ cave_closed ∷ []) (say role.BirdNo ∷ [])
-    ∷ row (is name.Bird ∷ []) (kill x ∷ set_prop x (pos 0) ∷ lose_to_snake ∷ say role.BirdDead ∷ [])
+    ∷ row (is name.Bird ∷ []) (destroy x ∷ set_prop x (pos 0) ∷ lose_to_snake ∷ say role.BirdDead ∷ [])
     ∷ row (either (is name.Clam) (is name.Oyster) ∷ []) (say role.Shell ∷ [])
     ∷ row (is name.Snake ∷ []) (say role.SnakeNo ∷ [])
     ∷ row_then (is name.Dwarf ∷ cave_closed ∷ []) (say role.Disturbed ∷ []) (ends ending.Killed)

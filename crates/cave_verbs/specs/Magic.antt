@@ -14,7 +14,7 @@ use Rattle.cave_scene.specs.Play.{Scene, with_state, after_look_at}
 use Rattle.cave_orders.specs.Deeds.{Deed}
 use Rattle.cave_orders.specs.Effects.{in_scene, in_state, say, set_prop}
 use Rattle.cave_orders.specs.Rows.{VerbRow, Test, Effect, Thing, row}
-use Rattle.cave_orders.specs.Tests.{the, no, either, there_is, carries, prop}
+use Rattle.cave_orders.specs.Tests.{the, no, either, there_is, in_hand, prop}
 
 -- the number of the word that was just read among the special words; 0 if it is none of them
 abbrev pub k : Deed → ℕ
@@ -94,7 +94,7 @@ bare_foo_rows =
     ∷ row (no is_last ∷ []) (remember ∷ say role.Ok ∷ [])
     ∷ row (no (there_is eggs) ∷ []) (begin_anew ∷ say role.Magic ∷ [])
     ∷ row (at_home eggs ∷ []) (begin_anew ∷ say role.Magic ∷ [])
-    ∷ row (carries eggs ∷ home_here eggs ∷ []) (begin_anew ∷ say role.Magic ∷ [])
+    ∷ row (in_hand eggs ∷ home_here eggs ∷ []) (begin_anew ∷ say role.Magic ∷ [])
     ∷ row (is_nowhere eggs ∷ is_nowhere troll ∷ prop troll (pos 0) ∷ [])
     (begin_anew ∷ set_prop troll (pos 1) ∷ send_home eggs ∷ [])
     ∷ row [] (begin_anew ∷ send_home eggs ∷ [])

@@ -15,12 +15,12 @@ use Rattle.cave_things.specs.Places.{place_named}
 use Rattle.cave_things.specs.Reach.{is_near}
 use Rattle.cave_scene.specs.Rules.{thing}
 use Rattle.cave_orders.specs.Deeds.{Deed}
-use Rattle.cave_orders.specs.Effects.{in_state, say, default, ask_what, bring, kill, fix, loosen}
+use Rattle.cave_orders.specs.Effects.{in_state, say, default, ask_what, bring, destroy, fix, loosen}
 use Rattle.cave_orders.specs.Effects.{set_prop, lay_down}
 use Rattle.cave_orders.specs.Rows.{VerbRow, Test, Effect, Thing, row, row_then, keeps}
 use Rattle.cave_orders.specs.declared.verb.Verb.{Verb}
 use Rattle.cave_orders.specs.declared.verb.Verb.TheVariants as verb
-use Rattle.cave_orders.specs.Tests.{x, the, no, either, there_is, is, carries, near, prop}
+use Rattle.cave_orders.specs.Tests.{x, the, no, either, there_is, is, in_hand, near, prop}
 use Rattle.cave_orders.specs.Tests.{other_prop}
 use Rattle.cave_orders.specs.Tests.{cave_closing}
 use Rattle.cave_orders.specs.Verbs.{is_verb}
@@ -108,12 +108,12 @@ lock_rows =
 unfoldable pub open_rows : List VerbRow
 open_rows =
     row (either (is name.Clam) (is name.Oyster) ∷ is_locking ∷ []) (say role.LockWhat ∷ [])
-    ∷ row (is name.Clam ∷ no (carries (the name.Trident)) ∷ []) (say role.ClamTool ∷ [])
-    ∷ row (is name.Oyster ∷ no (carries (the name.Trident)) ∷ []) (say role.OysterTool ∷ [])
-    ∷ row (is name.Clam ∷ carries x ∷ []) (say role.ClamHeld ∷ [])
-    ∷ row (is name.Oyster ∷ carries x ∷ []) (say role.OysterHeld ∷ [])
+    ∷ row (is name.Clam ∷ no (in_hand (the name.Trident)) ∷ []) (say role.ClamTool ∷ [])
+    ∷ row (is name.Oyster ∷ no (in_hand (the name.Trident)) ∷ []) (say role.OysterTool ∷ [])
+    ∷ row (is name.Clam ∷ in_hand x ∷ []) (say role.ClamHeld ∷ [])
+    ∷ row (is name.Oyster ∷ in_hand x ∷ []) (say role.OysterHeld ∷ [])
     ∷ row (is name.Clam ∷ [])
-    (kill x ∷ bring (the name.Oyster) ∷ send (the name.Pearl) place.Culdesac ∷ say role.Pearl ∷ [])
+    (destroy x ∷ bring (the name.Oyster) ∷ send (the name.Pearl) place.Culdesac ∷ say role.Pearl ∷ [])
     ∷ row (is name.Oyster ∷ []) (say role.OysterOpen ∷ [])
     ∷ row (is name.Door ∷ prop x (pos 1) ∷ []) (say role.Ok ∷ [])
     ∷ row (is name.Door ∷ []) (say role.Rusty ∷ [])

@@ -14,7 +14,7 @@ use Rattle.cave_orders.specs.Effects.{say, default, ask_what, look, bring, fix, 
 use Rattle.cave_orders.specs.Rows.{VerbRow, Test, Effect, Thing, row, row_then, keeps, again}
 use Rattle.cave_orders.specs.Rows.{goes_on}
 use Rattle.cave_orders.specs.declared.verb.Verb.TheVariants as verb
-use Rattle.cave_orders.specs.Tests.{x, the, bare, no, either, both, is, carries, near, is_here}
+use Rattle.cave_orders.specs.Tests.{x, the, bare, no, either, both, is, in_hand, near, is_here}
 use Rattle.cave_orders.specs.Tests.{in_bottle, bottle_full, in_lake, lake}
 
 -- what is poured: what is in the bottle, where that or nothing is named; 0 for a liquid without a
@@ -58,7 +58,7 @@ water_at_hand = both (in_bottle (the name.Water)) (near (the name.Bottle))
 unfoldable pub pour_rows : List VerbRow
 pour_rows =
     row_then (either bare (is name.Bottle) ∷ no bottle_full ∷ []) (ask_what ∷ []) keeps
-    ∷ row (no (carries what_is_poured) ∷ []) (default ∷ [])
+    ∷ row (no (in_hand what_is_poured) ∷ []) (default ∷ [])
     ∷ row (no (pours name.Water) ∷ no (pours name.Oil) ∷ []) (say role.CantPour ∷ [])
     ∷ row (is_here (the name.Door) ∷ pours name.Oil ∷ [])
     (empty_bottle ∷ set_prop (the name.Door) (pos 1) ∷ say role.DoorOiled ∷ [])
@@ -87,7 +87,7 @@ bare_fill_rows =
 unfoldable pub fill_rows : List VerbRow
 fill_rows =
     row (is name.Vase ∷ no lake ∷ []) (say role.VaseDry ∷ [])
-    ∷ row (is name.Vase ∷ no (carries x) ∷ []) (say role.NotHeld ∷ [])
+    ∷ row (is name.Vase ∷ no (in_hand x) ∷ []) (say role.NotHeld ∷ [])
     ∷ row (is name.Vase ∷ []) (say role.VaseBreak ∷ set_prop x (pos 2) ∷ fix x ∷ bring x ∷ [])
     ∷ row (no (is name.Bottle) ∷ []) (default ∷ [])
     ∷ row (bottle_full ∷ []) (say role.BottleFull ∷ [])

@@ -3,7 +3,7 @@ use Rattle.std.specs.Prelude.{ℕ, ◌&&◌, if◌then◌else◌, List, [], ◌�
 use Rattle.cave_rows.specs.declared.role.Role.TheVariants as role
 use Rattle.cave_words.specs.declared.named.Named.TheVariants as name
 use Rattle.cave_world.specs.Sight.{is_dark}
-use Rattle.cave_world.specs.State.{is_hint_taken}
+use Rattle.cave_world.specs.State.{CLUE_HINT, is_hint_taken}
 use Rattle.cave_world.specs.declared.ending.Question.TheVariants as question
 use Rattle.cave_world.specs.declared.part.Part.TheVariants as part
 use Rattle.cave_world.specs.declared.part.WordLine.TheVariants as line
@@ -14,7 +14,7 @@ use Rattle.cave_orders.specs.Effects.{tell, say, default, ask_what}
 use Rattle.cave_orders.specs.Rows.{VerbRow, Test, Effect, Thing, row, row_then, keeps, asks}
 use Rattle.cave_orders.specs.Rows.{goes_on}
 use Rattle.cave_orders.specs.declared.verb.Verb.TheVariants as verb
-use Rattle.cave_orders.specs.Tests.{x, the, no, there_is, is, carries, near, cave_closed}
+use Rattle.cave_orders.specs.Tests.{x, the, no, there_is, is, in_hand, near, cave_closed}
 
 -- the player sees nothing
 abbrev pub dark : Test
@@ -38,7 +38,7 @@ papers = objects_meant
 -- in the closed cave the oyster that is carried, else the only paper here
 abbrev pub what_to_read : Thing
 what_to_read d =
-    if cave_closed d && carries (the name.Oyster) d then thing d.cave name.Oyster else only papers d
+    if cave_closed d && in_hand (the name.Oyster) d then thing d.cave name.Oyster else only papers d
 
 unfoldable pub bare_read_rows : List VerbRow
 bare_read_rows =
@@ -52,7 +52,7 @@ read_rows =
     ∷ row (is name.Magazine ∷ []) (say role.ReadMagazine ∷ [])
     ∷ row (is name.Tablet ∷ []) (say role.ReadTablet ∷ [])
     ∷ row (is name.Message ∷ []) (say role.ReadMessage ∷ [])
-    ∷ row (is name.Oyster ∷ carries x ∷ hint_taken 2 ∷ []) (say role.ReadOyster ∷ [])
-    ∷ row_then (is name.Oyster ∷ carries x ∷ cave_closed ∷ []) [] (asks question.Oyster)
+    ∷ row (is name.Oyster ∷ in_hand x ∷ hint_taken CLUE_HINT ∷ []) (say role.ReadOyster ∷ [])
+    ∷ row_then (is name.Oyster ∷ in_hand x ∷ cave_closed ∷ []) [] (asks question.Oyster)
     ∷ row [] (default ∷ [])
     ∷ []

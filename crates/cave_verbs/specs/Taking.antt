@@ -9,8 +9,8 @@ use Rattle.cave_orders.specs.Effects.{say, default, ask_what, carry}
 use Rattle.cave_orders.specs.Effects.{set_prop}
 use Rattle.cave_orders.specs.Rows.{VerbRow, Thing, row, row_then, keeps, goes_on}
 use Rattle.cave_orders.specs.declared.verb.Verb.TheVariants as verb
-use Rattle.cave_orders.specs.Tests.{x, the, no, either, there_is, is, carries, near}
-use Rattle.cave_orders.specs.Tests.{immovable}
+use Rattle.cave_orders.specs.Tests.{x, the, no, either, there_is, is, in_hand, near}
+use Rattle.cave_orders.specs.Tests.{fixed}
 use Rattle.cave_orders.specs.Tests.{prop, other_prop, prop_up_to, dwarf, in_bottle}
 use Rattle.cave_orders.specs.Tests.{full_hands}
 
@@ -31,8 +31,8 @@ bare_take_rows =
 -- the object isn't fixed, and the hands aren't full
 unfoldable pub free_take_rows : List VerbRow
 free_take_rows =
-    row (is name.Bird ∷ prop x (pos 0) ∷ carries (the name.Rod) ∷ []) (say role.BirdRod ∷ [])
-    ∷ row (is name.Bird ∷ prop x (pos 0) ∷ no (carries (the name.Cage)) ∷ []) (say role.NoCage ∷ [])
+    row (is name.Bird ∷ prop x (pos 0) ∷ in_hand (the name.Rod) ∷ []) (say role.BirdRod ∷ [])
+    ∷ row (is name.Bird ∷ prop x (pos 0) ∷ no (in_hand (the name.Cage)) ∷ []) (say role.NoCage ∷ [])
     ∷ row (is name.Bird ∷ prop x (pos 0) ∷ [])
     (set_prop x (pos 1) ∷ carry (the name.Cage) ∷ carry x ∷ say role.Ok ∷ [])
     ∷ row (is name.Bird ∷ []) (carry (the name.Cage) ∷ carry x ∷ say role.Ok ∷ [])
@@ -43,16 +43,16 @@ free_take_rows =
 
 unfoldable pub take_rows : List VerbRow
 take_rows =
-    row (carries x ∷ []) (default ∷ [])
-    ∷ row (immovable x ∷ is name.Plant ∷ prop_up_to x (pos 0) ∷ []) (say role.PlantRoots ∷ [])
-    ∷ row (immovable x ∷ is name.Bear ∷ prop x (pos 1) ∷ []) (say role.BearChained ∷ [])
-    ∷ row (immovable x ∷ is name.Chain ∷ other_prop (the name.Bear) (pos 0) ∷ [])
+    row (in_hand x ∷ []) (default ∷ [])
+    ∷ row (fixed x ∷ is name.Plant ∷ prop_up_to x (pos 0) ∷ []) (say role.PlantRoots ∷ [])
+    ∷ row (fixed x ∷ is name.Bear ∷ prop x (pos 1) ∷ []) (say role.BearChained ∷ [])
+    ∷ row (fixed x ∷ is name.Chain ∷ other_prop (the name.Bear) (pos 0) ∷ [])
     (say role.ChainLocked ∷ [])
-    ∷ row (immovable x ∷ []) (say role.Immovable ∷ [])
+    ∷ row (fixed x ∷ []) (say role.Immovable ∷ [])
     ∷ row_then (in_bottle x ∷ near (the name.Bottle) ∷ []) [] (goes_on verb.Take (the name.Bottle))
-    ∷ row_then (either (is name.Water) (is name.Oil) ∷ carries (the name.Bottle)
+    ∷ row_then (either (is name.Water) (is name.Oil) ∷ in_hand (the name.Bottle)
     ∷ prop (the name.Bottle) (pos 1) ∷ []) [] (goes_on verb.Fill (the name.Bottle))
-    ∷ row (either (is name.Water) (is name.Oil) ∷ carries (the name.Bottle) ∷ [])
+    ∷ row (either (is name.Water) (is name.Oil) ∷ in_hand (the name.Bottle) ∷ [])
     (say role.BottleFull ∷ [])
     ∷ row (either (is name.Water) (is name.Oil) ∷ []) (say role.NoBottle ∷ [])
     ∷ row (full_hands ∷ []) (say role.TooMuch ∷ [])

@@ -10,12 +10,12 @@ use Rattle.cave_world.specs.declared.dwarves.Dwarf.{Dwarf}
 use Rattle.cave_world.specs.declared.state.State.{State}
 use Rattle.cave_things.specs.Reach.{is_dwarf_at}
 use Rattle.cave_orders.specs.Deeds.{Deed, Act}
-use Rattle.cave_orders.specs.Effects.{in_state, say, default, bring, kill, fix, juggle}
+use Rattle.cave_orders.specs.Effects.{in_state, say, default, bring, destroy, fix, juggle}
 use Rattle.cave_orders.specs.Effects.{set_prop, troll_goes}
 use Rattle.cave_orders.specs.Rows.{VerbRow, Test, Effect, Thing, row, row_then, again, goes_on}
 use Rattle.cave_orders.specs.Rows.{fits, act_of_row, first_fitting}
 use Rattle.cave_orders.specs.declared.verb.Verb.TheVariants as verb
-use Rattle.cave_orders.specs.Tests.{x, the, no, is, carries, near, is_here, prop, dwarf, treasure}
+use Rattle.cave_orders.specs.Tests.{x, the, no, is, in_hand, near, is_here, prop, dwarf, treasure}
 
 -- no object
 abbrev pub no_thing : Thing
@@ -62,11 +62,11 @@ first_fitting_or (r ∷ rows) otherwise d =
 -- what isn't the axe
 unfoldable pub throw_rows : List VerbRow
 throw_rows =
-    row_then (is name.Rod ∷ no (carries x) ∷ carries (the name.SecondRod) ∷ [])
+    row_then (is name.Rod ∷ no (in_hand x) ∷ in_hand (the name.SecondRod) ∷ [])
     [] (goes_on verb.Throw (the name.SecondRod))
-    ∷ row (no (carries x) ∷ []) (default ∷ [])
+    ∷ row (no (in_hand x) ∷ []) (default ∷ [])
     ∷ row (treasure x ∷ is_here (the name.Troll) ∷ [])
-    (kill x ∷ troll_goes ∷ say role.TrollPaid ∷ [])
+    (destroy x ∷ troll_goes ∷ say role.TrollPaid ∷ [])
     ∷ row_then (is name.Food ∷ near (the name.Bear) ∷ []) [] (goes_on verb.Feed (the name.Bear))
     ∷ row_then (no (is name.Axe) ∷ []) [] (goes_on verb.Drop x)
     ∷ []

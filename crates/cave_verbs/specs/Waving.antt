@@ -5,7 +5,7 @@ use Rattle.cave_words.specs.declared.named.Named.TheVariants as name
 use Rattle.cave_objects.specs.Objects.{prop_of}
 use Rattle.cave_orders.specs.Effects.{say, default, look, set_prop}
 use Rattle.cave_orders.specs.Rows.{VerbRow, Effect, Thing, row}
-use Rattle.cave_orders.specs.Tests.{x, the, no, both, is, carries, is_here, cave_closing}
+use Rattle.cave_orders.specs.Tests.{x, the, no, both, is, in_hand, is_here, cave_closing}
 
 -- a prop becomes 1 less what it was
 abbrev pub flip : Thing → Effect
@@ -17,9 +17,9 @@ look_at_flip t d = look t (pos 2 -ℤ prop_of d.scene.state.objects (t d)) d
 
 unfoldable pub wave_rows : List VerbRow
 wave_rows =
-    row (no (carries x) ∷ no (both (is name.Rod) (carries (the name.SecondRod))) ∷ [])
+    row (no (in_hand x) ∷ no (both (is name.Rod) (in_hand (the name.SecondRod))) ∷ [])
     (say role.NotHeld ∷ [])
-    ∷ row (is name.Rod ∷ is_here (the name.Fissure) ∷ carries (the name.Rod) ∷ no cave_closing ∷ [])
+    ∷ row (is name.Rod ∷ is_here (the name.Fissure) ∷ in_hand (the name.Rod) ∷ no cave_closing ∷ [])
     (flip (the name.Fissure) ∷ look_at_flip (the name.Fissure) ∷ [])
     ∷ row [] (default ∷ [])
     ∷ []

@@ -15,10 +15,7 @@ use cave_rows::Role;
 use cave_scene::{Play, Rules};
 use cave_things::{is_in_hand, is_near};
 use cave_words::Named;
-use cave_world::{HintNumber, Part, Question, WordLine};
-
-/// Under the oyster it is written.
-const OYSTER_HINT: u8 = 2;
+use cave_world::{CLUE_HINT, HintNumber, Part, Question, WordLine};
 
 /// The papers that the player could mean.
 fn papers(rules: &Rules<'_>, order: &Order, play: &Play<'_>) -> Meant
@@ -77,7 +74,7 @@ pub fn read(rules: &Rules<'_>, order: Order, play: &mut Play<'_>) -> Next
         Role::ReadTablet
     } else if rules.is(x, Named::Message) {
         Role::ReadMessage
-    } else if is_oyster_held && play.state.is_hint_taken(HintNumber::new(OYSTER_HINT)) {
+    } else if is_oyster_held && play.state.is_hint_taken(HintNumber::new(CLUE_HINT)) {
         Role::ReadOyster
     } else if is_oyster_held && play.state.closing.is_closed {
         return Next::Ask(Question::Oyster);

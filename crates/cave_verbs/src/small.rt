@@ -5,7 +5,7 @@ ghost use Rattle.cave_verbs.specs.Small.{bare_brief_rows};
 use cave_orders::{Next, Order};
 use cave_rows::Role;
 use cave_scene::{Play, Rules};
-use cave_world::Count;
+use cave_world::{Count, MAX_DETAILS};
 
 /// BRIEF without an object.
 #[tactic(auto, unfolding(crate::specs::Small::bare_brief_rows))]
@@ -14,6 +14,6 @@ pub fn brief(rules: &Rules<'_>, order: Order, play: &mut Play<'_>) -> Next
     ensures row { DoneByRows bare_brief_rows rules.now order play.old play.new result }
 {
     play.state.talk.is_brief = true;
-    play.state.talk.details = Count::new(3);
+    play.state.talk.details = Count::new(MAX_DETAILS);
     Next::say(Role::Brief, play)
 }

@@ -15,6 +15,9 @@ use cave_things::{
 };
 use cave_words::Named;
 
+/// A player who carries so many things can't take another.
+const MAX_TAKEN: usize = 7;
+
 /// The object of which a half is alone here, if one is.
 fn lone_object(halves: &[Half]) -> Object
     ensures { result ≡ lone_object halves.now }
@@ -78,7 +81,7 @@ pub fn take(rules: &Rules<'_>, order: Order, play: &mut Play<'_>) -> Step
         }
         return Step::Done(Next::say(Role::BottleFull, play));
     }
-    if play.state.count_carried() >= 7 {
+    if play.state.count_carried() >= MAX_TAKEN {
         return Step::Done(Next::say(Role::TooMuch, play));
     }
     Step::Done(take_freely(rules, order, play))

@@ -16,7 +16,7 @@ use cave_rows::Role;
 use cave_scene::{Play, Rules};
 use cave_things::{has_prop, is_dwarf_here, is_in_hand, is_near, is_treasure, remove_troll};
 use cave_words::Named;
-use cave_world::{Dwarf, State};
+use cave_world::{Dwarf, PIRATE, State};
 
 /// The index of the first dwarf at a place.
 fn first_at(place: Place, dwarves: &[Dwarf]) -> Option<usize>
@@ -31,7 +31,7 @@ fn strike(state: &mut State)
     ensures { state.new ≡ with_one_killed state.old }
 {
     state.dwarves.kills = state.dwarves.kills.up();
-    if let Some(index) = first_at(state.trail.here, &state.dwarves.each[..5]) {
+    if let Some(index) = first_at(state.trail.here, &state.dwarves.each[..PIRATE]) {
         let dwarf = state.dwarves.each[index];
         state.dwarves.each[index] = Dwarf {
             place: Place::new(0),

@@ -1,5 +1,5 @@
 -- Where the player is, how often places were described, and how a game begins and is over.
-use Rattle.std.specs.Prelude.{ℕ, ◌+◌, ◌-◌, ◌%◌, Bool, false, ◌==◌, ◌||◌, if◌then◌else◌}
+use Rattle.std.specs.Prelude.{ℕ, ◌+◌, ◌-◌, ◌%◌, Bool, true, false, ◌==◌, ◌||◌, if◌then◌else◌}
 use Rattle.std.specs.Prelude.{None, Some, is_some, replicate, slice_index_or, slice_set}
 use Rattle.cave_world.specs.declared.state.State.{State}
 use Rattle.cave_world.specs.declared.ending.Question.TheVariants.{Welcome}
@@ -59,6 +59,20 @@ without_visits s place = if place == 0 then s
 abbrev pub turns_near : State → ℕ → ℕ
 turns_near s hint = slice_index_or s.hints.turns (hint - 1) 0
 
+-- the hint that is written under the oyster
+abbrev pub CLUE_HINT : ℕ
+CLUE_HINT = 2
+
+-- the instructions, which count as a hint
+abbrev pub INSTRUCTIONS_HINT : ℕ
+INSTRUCTIONS_HINT = 3
+
 -- a hint was taken
 abbrev pub is_hint_taken : State → ℕ → Bool
 is_hint_taken s hint = slice_index_or s.hints.is_taken (hint - 1) false
+
+-- a hint is taken
+abbrev pub with_hint_taken : ℕ → State → State
+with_hint_taken hint s =
+    let hints = s.hints in
+    record s { hints = record hints { is_taken = slice_set hints.is_taken (hint - 1) true } }

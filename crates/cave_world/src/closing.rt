@@ -1,6 +1,12 @@
 ghost use Rattle.std.specs.Prelude.{◌≡◌};
 ghost use Rattle.cave_world.specs.Fresh.{far_closing};
 
+/// How many turns in the depths come before the cave begins to close.
+const TURNS_BEFORE_CLOSING: i8 = 30;
+
+/// How many turns later it is closed.
+const TURNS_OF_CLOSING: i8 = 50;
+
 /// How far the cave is on its way to be closed.
 #[derive(Clone, Copy, Debug, PartialEq, Eq)]
 pub struct Closing {
@@ -21,8 +27,8 @@ impl Closing {
         ensures { result ≡ far_closing }
     {
         Closing {
-            first_clock: 30,
-            second_clock: 50,
+            first_clock: TURNS_BEFORE_CLOSING,
+            second_clock: TURNS_OF_CLOSING,
             is_closing: false,
             is_closed: false,
             is_panicking: false,

@@ -1,6 +1,6 @@
 ghost use Rattle.std.specs.Prelude.{◌≡◌, ◌≤◌};
 ghost use Rattle.cave_world.specs.Fresh.{no_hint_used};
-ghost use Rattle.cave_world.specs.State.{is_hint_taken};
+ghost use Rattle.cave_world.specs.State.{is_hint_taken, with_hint_taken};
 ghost use Rattle.cave_numbers.specs.Numbers.{last_hint};
 
 use crate::count::Count;
@@ -10,6 +10,12 @@ use std::marker::Model;
 
 /// How many hints there may be.
 pub const HINTS: usize = LAST_HINT as usize;
+
+/// The hint that is written under the oyster.
+pub const CLUE_HINT: u8 = 2;
+
+/// The instructions, which count as a hint.
+pub const INSTRUCTIONS_HINT: u8 = 3;
 
 /// The number of a hint.
 #[derive(Clone, Copy, Debug, PartialEq, Eq)]
@@ -76,5 +82,12 @@ impl State {
         ensures { result ≡ is_hint_taken self.now hint }
     {
         self.hints.is_taken[usize::from(hint.number()) - 1]
+    }
+
+    /// A hint is taken.
+    pub fn take_hint(&mut self, hint: HintNumber)
+        ensures { self.new ≡ with_hint_taken hint self.old }
+    {
+        self.hints.is_taken[usize::from(hint.number()) - 1] = true;
     }
 }

@@ -7,6 +7,9 @@ use std::marker::Model;
 /// The most turns that a lamp can still burn.
 const MAX_LAMP_TURNS: i32 = 100_000;
 
+/// How many turns a lamp burns.
+const FULL_CHARGE: i32 = 330;
+
 /// A lamp that burns so many turns more, or fewer, is low.
 pub const LOW_CHARGE: i32 = 30;
 
@@ -75,7 +78,7 @@ impl Lamp {
         ensures { result ≡ full_lamp }
     {
         Lamp {
-            charge: Charge::new(330),
+            charge: Charge::new(FULL_CHARGE),
             is_warned: false,
         }
     }

@@ -5,6 +5,9 @@ use crate::count::Count;
 use crate::magic::Magic;
 use cave_objects::Object;
 
+/// How often it is said that there are no more details.
+pub const MAX_DETAILS: u16 = 3;
+
 /// What the game remembers of what was said.
 #[derive(Clone, Copy, Debug, PartialEq, Eq)]
 pub struct Talk {
@@ -15,7 +18,7 @@ pub struct Talk {
     pub last: Object,
     pub is_brief: bool,
     /// How often it was said that there are no more details.
-    pub details: Count<3>,
+    pub details: Count<MAX_DETAILS>,
     pub magic: Magic,
 }
 

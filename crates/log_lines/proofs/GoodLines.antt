@@ -10,7 +10,7 @@ use Rattle.std.proofs.lemmas.List.{take_rest}
 use Rattle.std.proofs.lemmas.Option.{slice_get-get_or, slice_get_within}
 use Rattle.limits.specs.Limits.{max_line_bytes}
 use Rattle.log_lines.proofs.FirstLines.{lines_ended}
-use Rattle.log_lines.specs.Line.{is_line, is_line_byte, line_fault}
+use Rattle.log_lines.specs.Line.{is_line, is_line_byte, is_printable, line_fault}
 
 no_control : (byte control : ℕ) → is_line_byte control ≡ false → is_line_byte byte ≡ true
     → (byte == control) ≡ false
@@ -65,7 +65,7 @@ stripped (byte ∷ line) good =
       at false is within =
           absurd (false≢true (sym (list_all_at is_line_byte (byte ∷ line) _ 0 within is) ∙ good))
 
-pub good_line_ended : (text : List ℕ) (len : ℕ) → len ≡ prefix_len is_line_byte text
+good_line_ended : (text : List ℕ) (len : ℕ) → len ≡ prefix_len is_line_byte text
     → slice_get text len ≡ Some 10
     → lines text ≡ take len text ∷ lines (drop (len + 1) text)
 good_line_ended text len is ends =
@@ -76,7 +76,7 @@ good_line_ended text len is ends =
     lines_ended text len first (slice_get_within text len 10 ends)
     ∙ ap (λ line. line ∷ lines (drop (len + 1) text)) (stripped (take len text) good)
 
-pub good_line : (text : List ℕ) (len : ℕ) → len ≡ prefix_len is_line_byte text
+good_line : (text : List ℕ) (len : ℕ) → len ≡ prefix_len is_line_byte text
     → nat_lt max_line_bytes len ≡ false → IsTrue (is_line (take len text))
 unfolding is_line line_fault
 good_line text len is short =
@@ -86,8 +86,45 @@ good_line text len is short =
     ap (λ n. length (take n text)) is ∙ length-prefix_len is_line_byte text ∙ sym is in
     rw size (rw short (rw good refl))
 
+-- printable bytes up to a line feed are all the leading good ones
+printable_up_to_feed : (text : List ℕ)
+    → slice_get text (prefix_len is_printable text) ≡ Some 10
+    → prefix_len is_printable text ≡ prefix_len is_line_byte text
+printable_up_to_feed [] ends = refl
+printable_up_to_feed (byte ∷ text) ends =
+    at (printable_up_to_feed text) (is_printable byte) refl ends where
+      at : (slice_get text (prefix_len is_printable text) ≡ Some 10
+          → prefix_len is_printable text ≡ prefix_len is_line_byte text)
+          → (is : Bool) → is_printable byte ≡ is
+          → slice_get (byte ∷ text) (cond is (1 + prefix_len is_printable text) 0) ≡ Some 10
+          → cond is (1 + prefix_len is_printable text) 0 ≡ prefix_len is_line_byte (byte ∷ text)
+      at rest true is ends =
+          let n = prefix_len is_printable text in
+          let next : 1 + n ≡ suc n = omega arith in
+          let later = sym (ap (slice_get (byte ∷ text)) next) ∙ ends in
+          let good : is_line_byte byte ≡ true = rw is refl in
+          rw good (ap (λ n. 1 + n) (rest later))
+      at rest false is ends = let feed : byte ≡ 10 = cc in rw feed refl
+
+printable_len : (text : List ℕ) (len : ℕ) → len ≡ prefix_len is_printable text
+    → slice_get text len ≡ Some 10 → len ≡ prefix_len is_line_byte text
+printable_len text len is ends =
+    is ∙ printable_up_to_feed text (ap (slice_get text) (sym is) ∙ ends)
+
+pub printable_line_ended : (text : List ℕ) (len : ℕ) → len ≡ prefix_len is_printable text
+    → slice_get text len ≡ Some 10
+    → lines text ≡ take len text ∷ lines (drop (len + 1) text)
+printable_line_ended text len is ends =
+    good_line_ended text len (printable_len text len is ends) ends
+
+pub printable_line : (text : List ℕ) (len : ℕ) → len ≡ prefix_len is_printable text
+    → slice_get text len ≡ Some 10 → nat_lt max_line_bytes len ≡ false
+    → IsTrue (is_line (take len text))
+printable_line text len is ends short =
+    good_line text len (printable_len text len is ends) short
+
 pub ends_at : (text : List ℕ) (len : ℕ) → len < length text → get_or text len 0 ≡ 10
     → slice_get text len ≡ Some 10
 ends_at text len within is = slice_get-get_or text len 0 within ∙ ap (λ b. Some b) is
 
-pub ruleset good_lines = (good_line_ended, good_line, ends_at, take_rest)
+pub ruleset good_lines = (printable_line_ended, printable_line, ends_at, take_rest)

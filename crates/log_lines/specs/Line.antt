@@ -1,6 +1,6 @@
 -- Which bytes and how many a line of a log may have, and what is wrong with one.
-use Rattle.std.specs.Prelude.{◌≡◌, ℕ, ◌<◌, ◌∷◌, IsTrue, Bool, false, ◌==◌, ◌&&◌, ◌||◌, ◌+◌, nat_lt, nat_le, if◌then◌else◌}
-use Rattle.std.specs.Prelude.{is_none}
+use Rattle.std.specs.Prelude.{◌≡◌, ℕ, ◌<◌, ◌∷◌, IsTrue, Bool, false, ◌==◌, ◌&&◌, ◌||◌, ◌+◌}
+use Rattle.std.specs.Prelude.{nat_lt, nat_le, if◌then◌else◌, is_none}
 use Rattle.std.specs.Prelude.{List, length, slice_index_or, Option, None, Some}
 use Rattle.std.specs.List.{list_all, prefix_len}
 use Rattle.std.specs.Str.Lines.{lines}
@@ -10,9 +10,13 @@ use Rattle.log_lines.specs.declared.line.LineFault.TheVariants.{TooLong, BadByte
 use Rattle.log_lines.specs.declared.line_flaw.LineFlaw.{LineFlaw}
 use Rattle.log_lines.specs.declared.line_flaw.LineFlaw.TheVariants.{Long, Byte}
 
+-- from a blank to a tilde
+abbrev pub is_printable : ℕ → Bool
+is_printable byte = nat_le 32 byte && nat_le byte 126
+
 -- printable ASCII, or a tab
 abbrev pub is_line_byte : ℕ → Bool
-is_line_byte byte = (nat_le 32 byte && nat_le byte 126) || byte == 9
+is_line_byte byte = is_printable byte || byte == 9
 
 -- the first thing that is wrong with a line: too long, or a byte that isn't allowed
 unfoldable pub line_fault : List ℕ → Option LineFault

@@ -1,6 +1,6 @@
 ghost use Rattle.std.specs.Prelude.{◌≡◌, ◌↔◌, None, Some, IsTrue, IsOk, MatchResult};
 ghost use Rattle.std.specs.List.{list_all};
-ghost use Rattle.log_lines.specs.Line.{line_fault, is_line, is_line_byte};
+ghost use Rattle.log_lines.specs.Line.{line_fault, is_line, is_line_byte, is_printable};
 
 use limits::is_long_line;
 use thiserror::Error;
@@ -14,10 +14,16 @@ pub enum LineFault {
     BadByte,
 }
 
+pub(crate) fn is_printable(byte: u8) -> bool
+    ensures { result ≡ is_printable byte }
+{
+    matches!(byte, b' '..=b'~')
+}
+
 pub(crate) fn is_line_byte(byte: u8) -> bool
     ensures { result ≡ is_line_byte byte }
 {
-    matches!(byte, b' '..=b'~' | b'\t')
+    is_printable(byte) || byte == b'\t'
 }
 
 fn are_line_bytes(line: &[u8]) -> bool

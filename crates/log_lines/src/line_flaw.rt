@@ -4,10 +4,10 @@ ghost use Rattle.std.specs.Prelude.{◌≡◌, ◌≤◌, length};
 ghost use Rattle.std.specs.List.{prefix_len};
 ghost use Rattle.std.specs.Prelude.{[], IfSome, MatchOption, MatchResult};
 ghost use Rattle.std.specs.Str.Lines.{lines};
-ghost use Rattle.log_lines.specs.Line.{flaw_of, is_line_byte};
+ghost use Rattle.log_lines.specs.Line.{flaw_of, is_line_byte, is_printable};
 ghost use Rattle.log_lines.specs.Line.{StartsWithLine, StartsWithFlaw};
 
-use crate::line::{check_line, is_line_byte};
+use crate::line::{check_line, is_line_byte, is_printable};
 use crate::lines::split_line;
 use limits::is_long_line;
 use thiserror::Error;
@@ -31,13 +31,21 @@ fn good_len(line: &[u8]) -> usize
     line.iter().take_while(|byte| is_line_byte(**byte)).count()
 }
 
-/// The first line of a text, where a line feed alone ends it and a log may have it, and what
-/// follows it.
+/// How many bytes come before the first that isn't printable.
+fn printable_len(line: &[u8]) -> usize
+    ensures value { result ≡ prefix_len is_printable line.now }
+    ensures within { result ≤ length line.now }
+{
+    line.iter().take_while(|byte| is_printable(**byte)).count()
+}
+
+/// The first line of a text, where it has no tab, a line feed alone ends it and a log may have it,
+/// and what follows it.
 #[tactic(auto, using(crate::proofs::GoodLines::good_lines))]
 fn split_good_line(text: &[u8]) -> Option<(&[u8], &[u8])>
     ensures { IfSome result (λ found. StartsWithLine text.now found.0.now found.1.now) }
 {
-    let len = good_len(text);
+    let len = printable_len(text);
     if len < text.len() && text[len] == b'\n' && !is_long_line(len) {
         Some((&text[..len], &text[len + 1..]))
     } else {

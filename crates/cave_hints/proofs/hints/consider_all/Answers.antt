@@ -1,11 +1,12 @@
-use Rattle.std.proofs.Common.{rules, ◌≡◌, ◌+◌, ap, sym, ◌∙◌, arith}
+use Rattle.std.proofs.Common.{rules, ◌≡◌, ◌+◌, ◌<◌, ℕ, ap, sym, ◌∙◌, arith}
 use Rattle.cave_data.specs.CaveView.{conditions_of}
 use Rattle.cave_scene.specs.Play.{scene_of}
 use Rattle.cave_scene.specs.Rules.{cave_of}
 use Rattle.cave_hints.specs.Hints.{after_considering, after_hints_up_to}
+use Rattle.cave_hints.proofs.Quiet.{quiet_hints}
 use Rattle.cave_hints.proofs.Steps.{after_considering-more, after_hints-all, few-asked}
 use Rattle.cave_hints.proofs.hints.consider_all.Goals as goal
-use Rattle.cave_world.specs.State.{takes_no_command}
+use Rattle.cave_world.specs.State.{takes_no_command, turns_near}
 use Rattle.cave_world.specs.declared.state.Trail.{Trail}
 
 pub loop-before-init : goal.loop-before-init
@@ -40,9 +41,19 @@ loop-before-preserved c =
 pub returns-clause-play : goal.returns-clause-play
 returns-clause-play c =
     let cave = cave_of c.args.rules.now in
-    let count = c.count_hints-before-end.result in
+    let count = c.count_hints-count.result in
     let last : c.loop-before.before ≡ count = omega arith in
     c.loop-before.invariant.0
     ∙ ap (λ n. after_hints_up_to cave n (scene_of c.args.play.now)) last
-    ∙ after_hints-all cave count _ c.count_hints-before-end.ensures.few
-    c.count_hints-before-end.ensures.all
+    ∙ after_hints-all cave count _ c.count_hints-count.ensures.few
+    c.count_hints-count.ensures.all
+
+pub returns-then-counts_no_turn-clause-play : goal.returns-then-counts_no_turn-clause-play
+returns-then-counts_no_turn-clause-play c =
+    let cave = cave_of c.args.rules.now in
+    let count = c.count_hints-count.result in
+    let here = scene_of c.args.play.now in
+    let low : conditions_of cave here.state.trail.here < 16 = search rules in
+    let none : (n : ℕ) → n < count → turns_near here.state (n + 4) ≡ 0 = search rules in
+    sym (quiet_hints cave count here low none)
+    ∙ after_hints-all cave count here c.count_hints-count.ensures.few c.count_hints-count.ensures.all

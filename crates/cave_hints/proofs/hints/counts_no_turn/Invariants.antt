@@ -1,0 +1,7 @@
+-- No turn of the hints so far counts.
+use Rattle.std.proofs.Common.{◌≡◌, ◌<◌, ◌+◌, ℕ}
+use Rattle.cave_hints.proofs.hints.counts_no_turn.Given as goal
+use Rattle.cave_world.specs.State.{turns_near}
+
+abbrev pub invariant-loop-before : goal.invariant-loop-before
+invariant-loop-before l = (n : ℕ) → n < l.before → turns_near l.state (n + 4) ≡ 0
