@@ -8,7 +8,7 @@ ghost use Rattle.cave_bindings.specs.Listing.{message_keys, place_keys};
 use cave_rows::{PlaceRole, Role};
 
 /// The roles that messages may have, in the order of their names.
-const ROLES: [Role; 156] = [
+const EACH_ROLE: [Role; 156] = [
     Role::Answer,
     Role::Around,
     Role::AxeBear,
@@ -168,7 +168,7 @@ const ROLES: [Role; 156] = [
 ];
 
 /// The roles that places may have, in their order.
-const PLACES: [PlaceRole; 19] = [
+const EACH_PLACE_ROLE: [PlaceRole; 19] = [
     PlaceRole::Start,
     PlaceRole::Building,
     PlaceRole::Outside,
@@ -195,7 +195,7 @@ const PLACES: [PlaceRole; 19] = [
 pub(crate) fn message_roles() -> &'static [Role]
     ensures { map role_number result.now ≡ message_keys }
 {
-    &ROLES
+    &EACH_ROLE
 }
 
 /// All roles of places.
@@ -203,5 +203,5 @@ pub(crate) fn message_roles() -> &'static [Role]
 pub fn place_roles() -> &'static [PlaceRole]
     ensures { map place_number result.now ≡ place_keys }
 {
-    &PLACES
+    &EACH_PLACE_ROLE
 }

@@ -1,5 +1,5 @@
 -- Where the player is in the area of no hint, and no turn counts, the hints change nothing.
-use Rattle.std.proofs.Common.{rules, ◌≡◌, ℕ, zero, suc, ◌+◌, ◌-◌, ◌<◌, ◌≤◌, ◌/◌, ◌%◌, ◌^◌, Bool}
+use Rattle.std.proofs.Common.{◌≡◌, ℕ, zero, suc, ◌+◌, ◌-◌, ◌<◌, ◌≤◌, ◌^◌, Bool}
 use Rattle.std.proofs.Common.{true, false, Option, Some, None, if◌then◌else◌, refl, sym, ap, ◌∙◌}
 use Rattle.std.proofs.Common.{arith, slice_set}
 use Rattle.std.proofs.Math.Nat.{div-eq_of_lt, pow-le-pow_right}
@@ -25,7 +25,7 @@ turns_as_they_are h s none =
 turn_far : (cave : CaveView) (h : ℕ) (s : State) → is_in_area cave h s ≡ false
     → turns_near s h ≡ 0 → after_turn_near cave h s ≡ s
 unfolding after_turn_near
-turn_far cave h s far none = rw far turns_as_they_are h s none
+turn_far cave h s far none = rw far (turns_as_they_are h s none)
 
 not_due : (cave : CaveView) (h : ℕ) (hint : Hint) (s : State) → is_in_area cave h s ≡ false
     → is_due cave h hint s ≡ false
@@ -35,7 +35,7 @@ not_due cave h hint s far = rw far refl
 no_offer : (cave : CaveView) (h : ℕ) (hint : Hint) (p : Scene)
     → is_in_area cave h p.state ≡ false → offer_scene cave h hint p ≡ p
 unfolding offer_scene
-no_offer cave h hint p far = rw not_due cave h hint p.state far refl
+no_offer cave h hint p far = rw (not_due cave h hint p.state far) refl
 
 if_either : {A : Type 0} (is : Bool) (a : A) → (if is then a else a) ≡ a
 if_either true a = refl
@@ -67,7 +67,7 @@ outside cave n s low =
     let least : 2 ^ 4 ≤ 2 ^ (n + 4) =
     pow-le-pow_right {n = 2} (omega arith) {i = 4} {j = n + 4} (omega arith) in
     let below : conditions_of cave s.trail.here < 2 ^ (n + 4) = omega (arith, low, least) in
-    rw div-eq_of_lt below refl
+    rw (div-eq_of_lt below) refl
 
 -- so many hints change nothing
 pub quiet_hints : (cave : CaveView) (count : ℕ) (p : Scene)

@@ -36,7 +36,7 @@ use Rattle.cave_moves.specs.Bridge.{bridge_end, toll_scene, let_pass, without_br
 use Rattle.cave_moves.specs.Bridge.{with_broken_bridge, broken_bridge_scene, journey_across}
 use Rattle.cave_moves.specs.Bridge.{journey_over_bridge}
 use Rattle.cave_moves.specs.Bridge.{journey_by_bridge}
-use Rattle.cave_moves.specs.Description.{Stop}
+use Rattle.cave_moves.specs.Description.{Halt}
 use Rattle.cave_moves.specs.Description.{stop_here}
 use Rattle.cave_moves.specs.Journeys.{squeeze_end, is_slim, journey_through_squeeze}
 use Rattle.cave_moves.specs.Journeys.{journey_by_squeeze}
@@ -174,7 +174,7 @@ unfolding set_forth state_after_setting_out
 forth_kept cave k motion p h = routed_kept cave k motion (after_setting_out p) h
 
 -- the player is moved on by a forced motion
-carried_kept : {P : Claim} (cave : CaveView) (k : IsKept cave P) (left : ℕ) (s : Stop)
+carried_kept : {P : Claim} (cave : CaveView) (k : IsKept cave P) (left : ℕ) (s : Halt)
     → OnStop P s → On P (after_forced_motions left cave s).state
 unfolding after_forced_motions
 carried_kept {P} cave k zero s h =

@@ -30,7 +30,7 @@ use Rattle.cave_moves.specs.Arrival.{is_shut, journey_unless_shut, is_barred, jo
 use Rattle.cave_moves.specs.Arrival.{after_dwarves}
 use Rattle.cave_moves.specs.Arrival.{meeting_scene}
 use Rattle.cave_moves.specs.Arrival.{come_to, stop_at}
-use Rattle.cave_moves.specs.Description.{Stop, after_bear, after_text, is_hollow, after_hollow}
+use Rattle.cave_moves.specs.Description.{Halt, after_bear, after_text, is_hollow, after_hollow}
 use Rattle.cave_moves.specs.Description.{after_pit, after_darkness, dark_scene, sight_scene}
 use Rattle.cave_moves.specs.Description.{description_scene, stop_here}
 use Rattle.cave_moves.specs.Falling.{falling_here}
@@ -145,7 +145,7 @@ described_kept {P} cave k p h =
     (sight_scene cave p) (dark_kept cave k p h) (sight_kept cave k p h.0)
 
 -- what a claim is where the player stops: a player who is moved on can go on
-abbrev pub OnStop : Claim → Stop → Type 0
+abbrev pub OnStop : Claim → Halt → Type 0
 OnStop P s = On P s.scene.state × (s.is_moved_on ≡ true → IsCalm (facts s.scene.state))
 
 -- a player who stays isn't moved on
@@ -192,8 +192,8 @@ come_kept : {P : Claim} (cave : CaveView) (k : IsKept cave P) (before place : �
 unfolding come_to state_with_player_at
 come_kept {P} cave k before place p h reaches =
     let q = scene_at_place place p in
-    let carried : Stop = record { is_moved_on = true; scene = after_text cave q } in
-    let stays : Stop = record { is_moved_on = false; scene = meeting_scene cave q } in
+    let carried : Halt = record { is_moved_on = true; scene = after_text cave q } in
+    let stays : Halt = record { is_moved_on = false; scene = meeting_scene cave q } in
     choose (OnStop P) (place == 0) (record { is_moved_on = false; scene = death_scene cave q })
     (if is_forced cave place then carried else stays)
     (λ none. (dying_kept cave k before q (inr (none_of place none)) h, staying))

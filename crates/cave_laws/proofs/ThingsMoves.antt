@@ -38,7 +38,7 @@ use Rattle.cave_moves.specs.Bridge.{bridge_end, toll_scene, let_pass, without_br
 use Rattle.cave_moves.specs.Bridge.{with_broken_bridge, broken_bridge_scene, journey_across}
 use Rattle.cave_moves.specs.Bridge.{journey_over_bridge}
 use Rattle.cave_moves.specs.Bridge.{journey_by_bridge}
-use Rattle.cave_moves.specs.Description.{Stop}
+use Rattle.cave_moves.specs.Description.{Halt}
 use Rattle.cave_moves.specs.Description.{stop_here}
 use Rattle.cave_moves.specs.Journeys.{squeeze_end, is_slim, journey_through_squeeze}
 use Rattle.cave_moves.specs.Journeys.{journey_by_squeeze}
@@ -209,7 +209,7 @@ forth_kept k cave motion p h = routed_kept k cave motion (after_setting_out p) h
 
 -- the player is moved on by a forced motion
 carried_kept : {Here : ℕ → Type 0} {P : Claim} (k : IsKept Here P) (left : ℕ) (cave : CaveView)
-    (s : Stop)
+    (s : Halt)
     → On P s.scene.state → On P (after_forced_motions left cave s).state
 unfolding after_forced_motions
 carried_kept {Here} {P} k zero cave s h =

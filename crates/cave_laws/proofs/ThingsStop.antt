@@ -26,7 +26,7 @@ use Rattle.cave_moves.specs.Arrival.{is_shut, journey_unless_shut, is_barred}
 use Rattle.cave_moves.specs.Arrival.{journey_unless_barred, after_dwarves}
 use Rattle.cave_moves.specs.Arrival.{meeting_scene}
 use Rattle.cave_moves.specs.Arrival.{come_to, stop_at}
-use Rattle.cave_moves.specs.Description.{Stop, after_bear, after_text, is_hollow, after_hollow}
+use Rattle.cave_moves.specs.Description.{Halt, after_bear, after_text, is_hollow, after_hollow}
 use Rattle.cave_moves.specs.Description.{after_pit, after_darkness, dark_scene, sight_scene}
 use Rattle.cave_moves.specs.Description.{description_scene, stop_here}
 use Rattle.cave_moves.specs.Falling.{falling_here}
@@ -142,7 +142,7 @@ pub seen_kept : {Here : ℕ → Type 0} {P : Claim} (k : IsKept Here P) (cave : 
     → On P (stop_here cave p).scene.state
 unfolding stop_here
 seen_kept {Here} {P} k cave p h =
-    choose (λ (s : Stop). On P s.scene.state) (is_forced cave (here_of p))
+    choose (λ (s : Halt). On P s.scene.state) (is_forced cave (here_of p))
     (record { is_moved_on = true; scene = after_text cave p })
     (record { is_moved_on = false; scene = description_scene cave p })
     (λ _. text_kept P cave p h) (λ _. described_kept k cave p h)
@@ -191,13 +191,13 @@ come_kept {Here} {P} k cave new p h =
     let q = scene_at_place new p in
     let there = k.anywhere p.state.trail.here new p.state.objects p.state.dwarves p.state.closing h
     in
-    let carried : Stop = record { is_moved_on = true; scene = after_text cave q } in
-    let stays : Stop = record { is_moved_on = false; scene = meeting_scene cave q } in
-    choose (λ (s : Stop). On P s.scene.state) (new == 0)
+    let carried : Halt = record { is_moved_on = true; scene = after_text cave q } in
+    let stays : Halt = record { is_moved_on = false; scene = meeting_scene cave q } in
+    choose (λ (s : Halt). On P s.scene.state) (new == 0)
     (record { is_moved_on = false; scene = death_scene cave q })
     (if is_forced cave new then carried else stays)
     (λ _. dying_kept P cave q there)
-    (λ some. choose (λ (s : Stop). On P s.scene.state) (is_forced cave new) carried stays
+    (λ some. choose (λ (s : Halt). On P s.scene.state) (is_forced cave new) carried stays
     (λ _. text_kept P cave q there) (λ _. met_kept k cave q (k.arrives new some) there))
 
 -- the player is shown a place
@@ -207,7 +207,7 @@ unfolding stop_at
 shown_kept {Here} {P} k cave new p h =
     let once = journey_unless_shut cave new p in
     let twice = journey_unless_barred cave once.place once.scene in
-    choose (λ (s : Stop). On P s.scene.state) (takes_no_command p.state)
+    choose (λ (s : Halt). On P s.scene.state) (takes_no_command p.state)
     (record { is_moved_on = false; scene = p }) (come_to cave twice.place twice.scene)
     (λ _. h)
     (λ _. come_kept k cave twice.place twice.scene

@@ -15,7 +15,7 @@ use Rattle.cave_things.specs.Places.{outside_place}
 use Rattle.cave_things.specs.declared.conditions.Condition.TheVariants.{NoPirate}
 use Rattle.cave_dwarves.specs.Dwarves.{Encounter, encounter_in_turn}
 use Rattle.cave_ends.specs.Deaths.{death_scene}
-use Rattle.cave_moves.specs.Description.{Stop, description_scene, stop_here, after_text}
+use Rattle.cave_moves.specs.Description.{Halt, description_scene, stop_here, after_text}
 use Rattle.cave_moves.specs.Falling.{falling_here}
 use Rattle.cave_moves.specs.Journeys.{set_forth}
 use Rattle.cave_moves.specs.Ways.{Journey, journey_here}
@@ -62,7 +62,7 @@ meeting_scene cave p =
 
 -- the player comes to a place: 0 is death, of a place of forced motion the text alone is printed,
 -- and at any other there may be dwarves
-unfoldable pub come_to : CaveView → ℕ → Scene → Stop
+unfoldable pub come_to : CaveView → ℕ → Scene → Halt
 come_to cave new p =
     let q = scene_at_place new p in
     if new == 0 then record { is_moved_on = false; scene = death_scene cave q }
@@ -70,7 +70,7 @@ come_to cave new p =
     else record { is_moved_on = false; scene = meeting_scene cave q })
 
 -- the player arrives at a place, if nothing is in the way; after a death on the way no one arrives
-unfoldable pub stop_at : CaveView → ℕ → Scene → Stop
+unfoldable pub stop_at : CaveView → ℕ → Scene → Halt
 stop_at cave new p =
     if takes_no_command p.state then record { is_moved_on = false; scene = p }
     else (let once = journey_unless_shut cave new p in
@@ -79,7 +79,7 @@ stop_at cave new p =
 
 -- a player who is moved on by a forced motion sets out by any motion and is shown the next place,
 -- while forced motions are left
-unfoldable pub after_forced_motions : ℕ → CaveView → Stop → Scene
+unfoldable pub after_forced_motions : ℕ → CaveView → Halt → Scene
 after_forced_motions zero cave s =
     if s.is_moved_on then after_saying role.ForcedLimit s.scene else s.scene
 after_forced_motions (suc left) cave s =

@@ -81,13 +81,13 @@ description_scene cave p =
     else sight_scene cave p
 
 -- whether a forced motion moves the player on from a place, and what was printed there
-pub record Stop : Type 0 where
+pub record Halt : Type 0 where
   pub is_moved_on : Bool
   pub scene : Scene
 
 -- what is seen where the player is: of a place of forced motion the text alone is printed, and any
 -- other is described
-unfoldable pub stop_here : CaveView → Scene → Stop
+unfoldable pub stop_here : CaveView → Scene → Halt
 stop_here cave p =
     if is_forced cave (here_of p) then record { is_moved_on = true; scene = after_text cave p }
     else record { is_moved_on = false; scene = description_scene cave p }

@@ -9,7 +9,7 @@ use itoa::Buffer;
 use std::alloc::AllocError;
 
 /// Appends a number between two texts.
-fn add_number(
+fn push_number(
     text: &mut Vec<u8>,
     before: &[u8],
     number: u32,
@@ -26,7 +26,7 @@ fn add_number(
 }
 
 /// Appends a word between two texts.
-fn add_word(text: &mut Vec<u8>, before: &[u8], word: Word, after: &[u8]) -> Result<(), AllocError>
+fn push_word(text: &mut Vec<u8>, before: &[u8], word: Word, after: &[u8]) -> Result<(), AllocError>
     ensures ok { OnOk result
         (text.new.items ≡ text.old.items ++ word_between before.now word after.now) }
     ensures front { take (vec_len text.old) text.new.items ≡ text.old.items }
@@ -67,7 +67,7 @@ fn turn_count(number: u32) -> &'static [u8]
 }
 
 /// Appends a score and the greatest one between two texts.
-fn append_score(
+fn push_score(
     text: &mut Vec<u8>,
     before: &[u8],
     score: u32,
@@ -78,13 +78,13 @@ fn append_score(
         ++ score_line before.now score most after.now) }
     ensures front { take (vec_len text.old) text.new.items ≡ text.old.items }
 {
-    add_number(text, before, score, b" out of a possible ")?;
-    add_number(text, b"", most, after)
+    push_number(text, before, score, b" out of a possible ")?;
+    push_number(text, b"", most, after)
 }
 
 /// Appends a line with a number.
 #[tactic(auto, unfolding(crate::specs::OwnLines::number_line))]
-pub fn append_number_line(
+pub fn push_number_line(
     text: &mut Vec<u8>,
     line: NumberLine,
     number: u32,
@@ -94,33 +94,33 @@ pub fn append_number_line(
     ensures front { take (vec_len text.old) text.new.items ≡ text.old.items }
 {
     match line {
-        NumberLine::DwarvesHere => add_number(
+        NumberLine::DwarvesHere => push_number(
             text,
             b"There are ",
             number,
             b" threatening little dwarves in the room with you.\n",
         ),
-        NumberLine::KnivesThrown => add_number(
+        NumberLine::KnivesThrown => push_number(
             text,
             b"",
             number,
             b" of them throw knives at you!\n",
         ),
-        NumberLine::KnivesHit => add_number(text, b"", number, b" of them get you!\n"),
-        NumberLine::HintCosts => add_number(
+        NumberLine::KnivesHit => push_number(text, b"", number, b" of them get you!\n"),
+        NumberLine::HintCosts => push_number(
             text,
             b"I am prepared to give you a hint, but it will cost you ",
             number,
             points_end(number),
         ),
-        NumberLine::ScoreNow => append_score(
+        NumberLine::ScoreNow => push_score(
             text,
             b"If you were to quit now, you would score ",
             number,
             most,
             b".\n",
         ),
-        NumberLine::PointsWanted => add_number(
+        NumberLine::PointsWanted => push_number(
             text,
             b"To achieve the next higher rating, you need ",
             number,
@@ -131,21 +131,21 @@ pub fn append_number_line(
 
 /// Appends a line that repeats a word.
 #[tactic(auto, unfolding(crate::specs::OwnLines::word_line))]
-pub fn append_word_line(text: &mut Vec<u8>, line: WordLine, word: Word) -> Result<(), AllocError>
+pub fn push_word_line(text: &mut Vec<u8>, line: WordLine, word: Word) -> Result<(), AllocError>
     ensures ok { OnOk result (text.new.items ≡ text.old.items ++ word_line line word) }
     ensures front { take (vec_len text.old) text.new.items ≡ text.old.items }
 {
     match line {
-        WordLine::NotSeen => add_word(text, b"I see no ", word, b" here.\n"),
-        WordLine::WhatToDo => add_word(text, b"What do you want to do with the ", word, b"?\n"),
-        WordLine::Okay => add_word(text, b"Okay, \"", word, b"\".\n"),
-        WordLine::What => add_word(text, b"", word, b" what?\n"),
+        WordLine::NotSeen => push_word(text, b"I see no ", word, b" here.\n"),
+        WordLine::WhatToDo => push_word(text, b"What do you want to do with the ", word, b"?\n"),
+        WordLine::Okay => push_word(text, b"Okay, \"", word, b"\".\n"),
+        WordLine::What => push_word(text, b"", word, b" what?\n"),
     }
 }
 
 /// Appends the line that ends a game.
 #[tactic(auto, unfolding(crate::specs::OwnLines::final_line))]
-pub fn append_final_line(
+pub fn push_final_line(
     text: &mut Vec<u8>,
     score: u32,
     most: u32,
@@ -154,6 +154,6 @@ pub fn append_final_line(
     ensures ok { OnOk result (text.new.items ≡ text.old.items ++ final_line score most turns) }
     ensures front { take (vec_len text.old) text.new.items ≡ text.old.items }
 {
-    append_score(text, b"You scored ", score, most, b", using ")?;
-    add_number(text, b"", turns, turn_count(turns))
+    push_score(text, b"You scored ", score, most, b", using ")?;
+    push_number(text, b"", turns, turn_count(turns))
 }

@@ -2,7 +2,7 @@ ghost use Rattle.std.specs.Prelude.{◌≡◌, ◌++◌, take, vec_len, OnOk, On
 ghost use Rattle.cave_text.specs.Text.{text_of_part, text_of_all, message_text, name_line};
 ghost use Rattle.cave_text.specs.Text.{look_text, class_text};
 
-use crate::own_lines::{append_final_line, append_number_line, append_word_line};
+use crate::own_lines::{push_final_line, push_number_line, push_word_line};
 use cave_data::Cave;
 use cave_objects::Object;
 use cave_rows::Role;
@@ -16,14 +16,14 @@ pub fn render(cave: &Cave, parts: &[Part], turns: u32, text: &mut Vec<u8>) -> Re
     ensures err { OnErr result (text.new.items ≡ text.old.items) }
 {
     let before = text.len();
-    let appended = append_all(cave, parts, turns, text);
+    let appended = push_all(cave, parts, turns, text);
     if appended.is_err() {
         text.truncate(before);
     }
     appended
 }
 
-fn append_name(role: Role, text: &mut Vec<u8>) -> Result<(), AllocError>
+fn push_name(role: Role, text: &mut Vec<u8>) -> Result<(), AllocError>
     ensures ok { OnOk result (text.new.items ≡ text.old.items ++ name_line role) }
     ensures front { take (vec_len text.old) text.new.items ≡ text.old.items }
 {
@@ -32,14 +32,14 @@ fn append_name(role: Role, text: &mut Vec<u8>) -> Result<(), AllocError>
     text.extend_from_slice(b"]\n")
 }
 
-fn append_message(cave: &Cave, number: u16, text: &mut Vec<u8>) -> Result<(), AllocError>
+fn push_message(cave: &Cave, number: u16, text: &mut Vec<u8>) -> Result<(), AllocError>
     ensures ok { OnOk result (text.new.items ≡ text.old.items ++ message_text cave.now number) }
     ensures front { take (vec_len text.old) text.new.items ≡ text.old.items }
 {
     text.extend_from_slice(cave.message(number).unwrap_or(&[]))
 }
 
-fn append_look(cave: &Cave, object: Object, prop: i8, text: &mut Vec<u8>) -> Result<(), AllocError>
+fn push_look(cave: &Cave, object: Object, prop: i8, text: &mut Vec<u8>) -> Result<(), AllocError>
     ensures ok { OnOk result (text.new.items ≡ text.old.items ++ look_text cave.now object prop) }
     ensures front { take (vec_len text.old) text.new.items ≡ text.old.items }
 {
@@ -50,7 +50,7 @@ fn append_look(cave: &Cave, object: Object, prop: i8, text: &mut Vec<u8>) -> Res
     text.extend_from_slice(look.unwrap_or(&[]))
 }
 
-fn append_class(cave: &Cave, score: u32, text: &mut Vec<u8>) -> Result<(), AllocError>
+fn push_class(cave: &Cave, score: u32, text: &mut Vec<u8>) -> Result<(), AllocError>
     ensures ok { OnOk result (text.new.items ≡ text.old.items ++ class_text cave.now score) }
     ensures front { take (vec_len text.old) text.new.items ≡ text.old.items }
 {
@@ -68,24 +68,24 @@ fn append(cave: &Cave, part: Part, turns: u32, text: &mut Vec<u8>) -> Result<(),
     match part {
         Part::Long(place) => text.extend_from_slice(cave.long(place).unwrap_or(&[])),
         Part::Short(place) => text.extend_from_slice(cave.short(place).unwrap_or(&[])),
-        Part::Message(number) => append_message(cave, number, text),
+        Part::Message(number) => push_message(cave, number, text),
         Part::Role(role) => match cave.role(role) {
-            Some(number) => append_message(cave, number, text),
-            None => append_name(role, text),
+            Some(number) => push_message(cave, number, text),
+            None => push_name(role, text),
         },
-        Part::Object(object, prop) => append_look(cave, object, prop, text),
+        Part::Object(object, prop) => push_look(cave, object, prop, text),
         Part::Name(object) => {
             let name = cave.name(u16::from(object.number()));
             text.extend_from_slice(name.unwrap_or(&[]))
         }
-        Part::Number(line, number, most) => append_number_line(text, line, number, most),
-        Part::Word(line, word) => append_word_line(text, line, word),
-        Part::Class(score) => append_class(cave, score, text),
-        Part::Turns(score, most) => append_final_line(text, score, most, turns),
+        Part::Number(line, number, most) => push_number_line(text, line, number, most),
+        Part::Word(line, word) => push_word_line(text, line, word),
+        Part::Class(score) => push_class(cave, score, text),
+        Part::Turns(score, most) => push_final_line(text, score, most, turns),
     }
 }
 
-fn append_all(cave: &Cave, parts: &[Part], turns: u32, text: &mut Vec<u8>) -> Result<(), AllocError>
+fn push_all(cave: &Cave, parts: &[Part], turns: u32, text: &mut Vec<u8>) -> Result<(), AllocError>
     ensures ok { OnOk result
         (text.new.items ≡ text.old.items ++ text_of_all cave.now turns parts.now) }
     ensures front { take (vec_len text.old) text.new.items ≡ text.old.items }

@@ -41,19 +41,17 @@ ticks_of-append rules state (x ∷ xs) ys =
     ap (λ rest. rules.ticked state x ∷ rest) (ticks_of-append rules (rules.after state x) xs ys)
 
 -- the pieces and the ticks of a play are as many as the lines
-pub length-pieces : {S T : Type 0} (rules : MachineRules S T) (game : Game) (opening : T)
-    (pieces : List T)
-    (ticks : List Bool) (state : S) → IsPlay rules game opening pieces ticks state
-    → length pieces ≡ length game.log
-length-pieces rules game opening pieces ticks state played = ap length played.pieces_are
-    ∙ length-texts_of rules (rules.begun game.seed) game.log
+pub length-pieces : {S T : Type 0} {rules : MachineRules S T} {game : Game} {opening : T}
+    {pieces : List T} {ticks : List Bool} {state : S}
+    → IsPlay rules game opening pieces ticks state → length pieces ≡ length game.log
+length-pieces {rules = rules} {game = game} played =
+    ap length played.pieces_are ∙ length-texts_of rules (rules.begun game.seed) game.log
 
-pub length-ticks : {S T : Type 0} (rules : MachineRules S T) (game : Game) (opening : T)
-    (pieces : List T)
-    (ticks : List Bool) (state : S) → IsPlay rules game opening pieces ticks state
-    → length ticks ≡ length game.log
-length-ticks rules game opening pieces ticks state played = ap length played.ticks_are
-    ∙ length-ticks_of rules (rules.begun game.seed) game.log
+pub length-ticks : {S T : Type 0} {rules : MachineRules S T} {game : Game} {opening : T}
+    {pieces : List T} {ticks : List Bool} {state : S}
+    → IsPlay rules game opening pieces ticks state → length ticks ≡ length game.log
+length-ticks {rules = rules} {game = game} played =
+    ap length played.ticks_are ∙ length-ticks_of rules (rules.begun game.seed) game.log
 
 -- one line more
 pub IsPlay-push : {S T : Type 0} (rules : MachineRules S T) (seed : ℕ) (log : List (List ℕ))

@@ -107,8 +107,7 @@ module _ {State S T : Type 0} {meaning : State → S} {is_state : State → Type
       → splice pieces from (end_of_stretch C met) rerun.pieces
       ≡ texts_of revision.rules (revision.rules.begun revision.new.seed) revision.new.log
   pieces_by None is =
-      let n = length-pieces revision.rules revision.old opening pieces ticks (meaning state)
-      replay.old_play.plays in
+      let n = length-pieces replay.old_play.plays in
       let lines = replay.old_play.lines in
       end_texts revision.rules replay.shift from C.lines rerun.marks.next pieces rerun.pieces
       replay.new_play.not_after replay.old_play.plays.pieces_are replay.new_play.texts_are
@@ -122,8 +121,7 @@ module _ {State S T : Type 0} {meaning : State → S} {is_state : State → Type
       → splice ticks from (end_of_stretch C met) rerun.ticks
       ≡ ticks_of revision.rules (revision.rules.begun revision.new.seed) revision.new.log
   ticks_by None is =
-      let n = length-ticks revision.rules revision.old opening pieces ticks (meaning state)
-      replay.old_play.plays in
+      let n = length-ticks replay.old_play.plays in
       let lines = replay.old_play.lines in
       end_ticks revision.rules replay.shift from C.lines rerun.marks.next ticks rerun.ticks
       replay.new_play.not_after replay.old_play.plays.ticks_are replay.new_play.ticks_are

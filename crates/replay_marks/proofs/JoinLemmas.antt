@@ -8,11 +8,18 @@ use Rattle.std.specs.Prelude.{if◌then◌else◌}
 use borrow.Author.Tests.{lt-ltb, le-ltb}
 use Rattle.replay_marks.specs.Spacing.{IsSpaced}
 use Rattle.replay_marks.specs.Thinning.{IsThinned, IsRest, after_shift}
-use Rattle.replay_marks.specs.Marks.{next_place}
+use Rattle.replay_marks.specs.Marks.{CheckpointsView, next_place}
+use Rattle.replay_marks.specs.declared.checkpoints.join.Seam.{Seam}
 use Rattle.replay_marks.proofs.Counts.{place_within}
 use Rattle.replay_marks.proofs.Places.{non_decreasing}
 use Rattle.replay_marks.proofs.Runs.{at_right}
 use Rattle.replay_marks.proofs.ThinningLemmas.{spaced_join}
+
+-- what is required of the checkpoints of a log for a join at a seam
+pub record IsJoinable {S : Type 0} (v : CheckpointsView S) (seam : Seam) (end : ℕ) : Type 0 where
+  pub among : seam.at < length v.places
+  pub rest : IsRest v.every v.places v.lines seam.old seam.rest
+  pub end_is : v.lines - seam.old + seam.new ≡ end
 
 module _ (places middle spliced : List ℕ) (head rest tail : ℕ) (within : head ≤ length places)
     (tail_is : tail ≡ head + length middle)
@@ -97,6 +104,13 @@ pub following_end : (places : List ℕ) (rest old new end : ℕ) → length plac
 following_end places rest old new end h =
     ap (λ test. if test then slice_index places rest - old + new else end)
     (le-ltb rest (length places) h)
+
+-- what was put in ends where the checkpoints that stay begin
+pub put_end : (places middle spliced : List ℕ) (head rest : ℕ) → head ≤ length places
+    → rest ≤ length places → spliced ≡ splice places head rest middle
+    → length spliced - (length places - rest) ≡ head + length middle
+put_end places middle spliced head rest within stays is =
+    omega (arith, ap length is, length-spliced places middle head rest within, stays)
 
 -- the new checkpoints are spaced in the edited log
 pub joined_spaced : (every lines end : ℕ) (places : List ℕ) → IsSpaced every places lines

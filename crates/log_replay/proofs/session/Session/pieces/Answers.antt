@@ -1,7 +1,5 @@
-use Rattle.std.proofs.Common.{map, ◌∙◌, sym}
+use Rattle.std.proofs.Common.{◌∙◌, sym}
 use Rattle.std.proofs.lemmas.List.{length-map}
-use Rattle.log_edits.specs.Game.{log_of}
-use Rattle.log_edits.specs.Game.{game_of}
 use Rattle.log_replay.proofs.Plays.{length-pieces}
 use Rattle.log_replay.proofs.session.Session.pieces.Goals as goal
 
@@ -11,6 +9,4 @@ returns-clause-each g c =
     let k = c.self.inside.kept in
     rw (c.deref.ensures.value, ← c.self.view_is)
     (sym (length-map k.pieces.items text)
-    ∙ length-pieces (g.M.Machine.rules c.self.inside.machine)
-    (game_of k.seed (log_of k.log.items)) (text k.opening) (map text k.pieces.items)
-    k.ticked.items (g.M.Machine.meaning k.state) c.self.invariant.plays)
+    ∙ length-pieces c.self.invariant.plays)

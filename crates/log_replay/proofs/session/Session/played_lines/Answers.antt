@@ -1,6 +1,5 @@
-use Rattle.std.proofs.Common.{length, map, ap, ◌∙◌, sym, arith}
+use Rattle.std.proofs.Common.{length, ap, ◌∙◌, sym, arith}
 use Rattle.std.proofs.lemmas.List.{length-map}
-use Rattle.log_edits.specs.Game.{game_of, log_of}
 use Rattle.log_edits.proofs.Lines.{length-log_of}
 use Rattle.log_replay.proofs.Plays.{length-pieces, length-ticks}
 use Rattle.log_replay.proofs.session.Session.played_lines.Goals as goal
@@ -17,19 +16,14 @@ of-requires-clause-pieces g c =
     let k = c.self.inside.kept in
     rw (c.deref-2.ensures.value, c.deref.ensures.value)
     (sym (length-map k.pieces.items text)
-    ∙ length-pieces (g.M.Machine.rules c.self.inside.machine)
-    (game_of k.seed (log_of k.log.items)) (text k.opening) (map text k.pieces.items)
-    k.ticked.items (g.M.Machine.meaning k.state) c.self.invariant.plays
+    ∙ length-pieces c.self.invariant.plays
     ∙ length-log_of k.log.items)
 
 pub of-requires-clause-ticked : goal.of-requires-clause-ticked
 of-requires-clause-ticked g c =
-    let text = g.M.Machine.text in
     let k = c.self.inside.kept in
     rw (c.deref-3.ensures.value, c.deref.ensures.value)
-    (length-ticks (g.M.Machine.rules c.self.inside.machine)
-    (game_of k.seed (log_of k.log.items)) (text k.opening) (map text k.pieces.items)
-    k.ticked.items (g.M.Machine.meaning k.state) c.self.invariant.plays
+    (length-ticks c.self.invariant.plays
     ∙ length-log_of k.log.items)
 
 pub returns-clause-each_line : goal.returns-clause-each_line

@@ -1,19 +1,12 @@
-use Rattle.std.proofs.Common.{length, map, ap, ◌∙◌, arith}
-use Rattle.log_edits.specs.Game.{log_of}
-use Rattle.log_edits.specs.Game.{game_of}
+use Rattle.std.proofs.Common.{length, ap, ◌∙◌, arith}
 use Rattle.log_edits.proofs.Lines.{length-log_of}
 use Rattle.log_replay.proofs.Plays.{length-ticks}
 use Rattle.log_replay.proofs.session.Session.tick_counts.Goals as goal
 
 pub of-requires : goal.of-requires
 of-requires g c =
-    let text = g.M.Machine.text in
     let k = c.self.inside.kept in
-    let game = game_of k.seed (log_of k.log.items) in
-    let ticks =
-    length-ticks (g.M.Machine.rules c.self.inside.machine) game (text k.opening)
-    (map text k.pieces.items) k.ticked.items (g.M.Machine.meaning k.state)
-    c.self.invariant.plays in
+    let ticks = length-ticks c.self.invariant.plays in
     let few = c.self.invariant.game_is.few in
     let n = length-log_of k.log.items in
     let value = c.deref.ensures.value in
@@ -21,24 +14,12 @@ of-requires g c =
 
 pub returns-clause-each_line : goal.returns-clause-each_line
 returns-clause-each_line g c =
-    let text = g.M.Machine.text in
-    let k = c.self.inside.kept in
-    let game = game_of k.seed (log_of k.log.items) in
-    let ticks =
-    length-ticks (g.M.Machine.rules c.self.inside.machine) game (text k.opening)
-    (map text k.pieces.items) k.ticked.items (g.M.Machine.meaning k.state)
-    c.self.invariant.plays in
+    let ticks = length-ticks c.self.invariant.plays in
     rw (← c.self.view_is) (c.of.ensures.each_line ∙ ap length c.deref.ensures.value ∙ ticks)
 
 pub returns-clause-counts : goal.returns-clause-counts
 returns-clause-counts g c =
-    let text = g.M.Machine.text in
-    let k = c.self.inside.kept in
-    let game = game_of k.seed (log_of k.log.items) in
-    let ticks =
-    length-ticks (g.M.Machine.rules c.self.inside.machine) game (text k.opening)
-    (map text k.pieces.items) k.ticked.items (g.M.Machine.meaning k.state)
-    c.self.invariant.plays in
+    let ticks = length-ticks c.self.invariant.plays in
     rw (← c.self.view_is)
     (λ place below. rw (← c.deref.ensures.value)
     (c.of.ensures.counts place (rw c.deref.ensures.value (omega arith))))

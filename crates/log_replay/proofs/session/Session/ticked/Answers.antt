@@ -1,31 +1,18 @@
-use Rattle.std.proofs.Common.{◌<◌, length, map, arith, refl}
+use Rattle.std.proofs.Common.{◌<◌, length, arith, refl}
 use Rattle.std.proofs.lemmas.Option.{slice_get_read}
-use Rattle.log_edits.specs.Game.{log_of}
-use Rattle.log_edits.specs.Game.{game_of}
 use Rattle.log_replay.proofs.Plays.{length-ticks}
 use Rattle.log_replay.proofs.session.Session.ticked.Goals as goal
 
 pub index-requires : goal.index-requires
 index-requires g c =
-    let text = g.M.Machine.text in
-    let k = c.self.inside.kept in
-    let game = game_of k.seed (log_of k.log.items) in
-    let ticks =
-    length-ticks (g.M.Machine.rules c.self.inside.machine) game (text k.opening)
-    (map text k.pieces.items) k.ticked.items (g.M.Machine.meaning k.state)
-    c.self.invariant.plays in
+    let ticks = length-ticks c.self.invariant.plays in
     let within = rw (← c.self.view_is) at c.requires in
     omega arith
 
 pub returns : goal.returns
 returns g c =
-    let text = g.M.Machine.text in
     let k = c.self.inside.kept in
-    let game = game_of k.seed (log_of k.log.items) in
-    let ticks =
-    length-ticks (g.M.Machine.rules c.self.inside.machine) game (text k.opening)
-    (map text k.pieces.items) k.ticked.items (g.M.Machine.meaning k.state)
-    c.self.invariant.plays in
+    let ticks = length-ticks c.self.invariant.plays in
     let within = rw (← c.self.view_is) at c.requires in
     let below : c.args.place < length k.ticked.items = omega arith in
     rw (← c.self.view_is)

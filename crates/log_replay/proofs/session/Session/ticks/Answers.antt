@@ -1,31 +1,18 @@
-use Rattle.std.proofs.Common.{take, count_by, map, ap, ◌∙◌, arith}
-use Rattle.log_edits.specs.Game.{log_of}
-use Rattle.log_edits.specs.Game.{game_of}
+use Rattle.std.proofs.Common.{take, count_by, ap, ◌∙◌, arith}
 use Rattle.log_edits.proofs.Lines.{length-log_of}
 use Rattle.log_replay.proofs.Plays.{length-ticks}
 use Rattle.log_replay.proofs.session.Session.ticks.Goals as goal
 
 pub count_ticks-requires-clause-within : goal.count_ticks-requires-clause-within
 count_ticks-requires-clause-within g c =
-    let text = g.M.Machine.text in
-    let k = c.self.inside.kept in
-    let game = game_of k.seed (log_of k.log.items) in
-    let ticks =
-    length-ticks (g.M.Machine.rules c.self.inside.machine) game (text k.opening)
-    (map text k.pieces.items) k.ticked.items (g.M.Machine.meaning k.state)
-    c.self.invariant.plays in
+    let ticks = length-ticks c.self.invariant.plays in
     let within = rw (← c.self.view_is) at c.requires in
     rw c.deref.ensures.value (omega arith)
 
 pub count_ticks-requires-clause-few : goal.count_ticks-requires-clause-few
 count_ticks-requires-clause-few g c =
-    let text = g.M.Machine.text in
     let k = c.self.inside.kept in
-    let game = game_of k.seed (log_of k.log.items) in
-    let ticks =
-    length-ticks (g.M.Machine.rules c.self.inside.machine) game (text k.opening)
-    (map text k.pieces.items) k.ticked.items (g.M.Machine.meaning k.state)
-    c.self.invariant.plays in
+    let ticks = length-ticks c.self.invariant.plays in
     let few = c.self.invariant.game_is.few in
     let n = length-log_of k.log.items in
     rw c.deref.ensures.value (omega arith)

@@ -1,9 +1,9 @@
-use Rattle.std.proofs.Common.{◌≡◌, ◌+◌, ◌-◌, ◌<◌, ◌≤◌, ◌++◌, length, take, ap, sym, subst, refl}
+use Rattle.std.proofs.Common.{◌≡◌, ◌+◌, ◌-◌, ◌≤◌, ◌++◌, length, take, ap, sym, subst, refl}
 use Rattle.std.proofs.Common.{◌∙◌, arith}
 use Rattle.std.specs.Prelude.{slice_index}
-use Rattle.replay_marks.specs.Thinning.{IsRest, IsThinned, after_shift}
+use Rattle.replay_marks.specs.Thinning.{IsThinned, after_shift}
 use Rattle.replay_marks.specs.Marks.{CheckpointsView, next_place}
-use Rattle.replay_marks.proofs.JoinLemmas.{spliced_after, shifted, rest_between, length-spliced}
+use Rattle.replay_marks.proofs.JoinLemmas.{IsJoinable, put_end, spliced_after, shifted, rest_between}
 use Rattle.replay_marks.proofs.JoinLemmas.{joined_spaced}
 use Rattle.replay_marks.proofs.checkpoints.Checkpoints.join.Goals as goal
 
@@ -14,20 +14,16 @@ shift-requires-clause-after g c =
     let middle = c.args.middle.places in
     let head = c.saturating_sub-head.result in
     let spliced = c.splice.new.self.places in
-    let r = subst
-    (λ (v : CheckpointsView g.row.K-State.Denot).
-    IsRest v.every v.places v.lines c.args.seam.old c.args.seam.rest) (sym c.self.view_is)
-    c.requires.rest in
-    let among : c.args.seam.at < length places =
-    subst (λ (v : CheckpointsView g.row.K-State.Denot). c.args.seam.at < length v.places)
-    (sym c.self.view_is) c.requires.among in
+    let before = subst
+    (λ (v : CheckpointsView g.row.K-State.Denot). IsJoinable v c.args.seam c.args.end)
+    (sym c.self.view_is)
+    (record { among = c.requires.among; rest = c.requires.rest; end_is = c.requires.end }) in
+    let among = before.among in
     let within : head ≤ length places = omega arith in
     let tail : c.len-2.result - (c.len.result - c.args.seam.rest) ≡ head + length middle =
     omega (
       arith,
-      ap length c.splice.ensures.places,
-      length-spliced places middle head c.args.seam.rest within,
-      r.within,
+      put_end places middle _ head c.args.seam.rest within before.rest.within c.splice.ensures.places,
     ) in
     λ i le h.
     let there =
@@ -37,7 +33,7 @@ shift-requires-clause-after g c =
       arith,
       there.1,
       (rest_between inside.every inside.lines c.args.seam.old c.args.seam.rest places
-          c.self.invariant.spaced r _ (omega arith) there.0).0,
+          c.self.invariant.spaced before.rest _ (omega arith) there.0).0,
     )
 
 pub shift-requires-clause-fits : goal.shift-requires-clause-fits
@@ -47,23 +43,16 @@ shift-requires-clause-fits g c =
     let middle = c.args.middle.places in
     let head = c.saturating_sub-head.result in
     let spliced = c.splice.new.self.places in
-    let r = subst
-    (λ (v : CheckpointsView g.row.K-State.Denot).
-    IsRest v.every v.places v.lines c.args.seam.old c.args.seam.rest) (sym c.self.view_is)
-    c.requires.rest in
-    let among : c.args.seam.at < length places =
-    subst (λ (v : CheckpointsView g.row.K-State.Denot). c.args.seam.at < length v.places)
-    (sym c.self.view_is) c.requires.among in
-    let end : inside.lines - c.args.seam.old + c.args.seam.new ≡ c.args.end =
-    subst (λ (v : CheckpointsView g.row.K-State.Denot). v.lines - c.args.seam.old + c.args.seam.new
-    ≡ c.args.end) (sym c.self.view_is) c.requires.end in
+    let before = subst
+    (λ (v : CheckpointsView g.row.K-State.Denot). IsJoinable v c.args.seam c.args.end)
+    (sym c.self.view_is)
+    (record { among = c.requires.among; rest = c.requires.rest; end_is = c.requires.end }) in
+    let among = before.among in
     let within : head ≤ length places = omega arith in
     let tail : c.len-2.result - (c.len.result - c.args.seam.rest) ≡ head + length middle =
     omega (
       arith,
-      ap length c.splice.ensures.places,
-      length-spliced places middle head c.args.seam.rest within,
-      r.within,
+      put_end places middle _ head c.args.seam.rest within before.rest.within c.splice.ensures.places,
     ) in
     λ i le h.
     let there =
@@ -71,7 +60,7 @@ shift-requires-clause-fits g c =
     le h in
     let between =
     rest_between inside.every inside.lines c.args.seam.old c.args.seam.rest places c.self.invariant.spaced
-    r _ (omega arith) there.0 in
+    before.rest _ (omega arith) there.0 in
     omega (arith, there.1, between.0, between.1)
 
 pub invariant_of-self : goal.invariant_of-self
@@ -80,16 +69,11 @@ invariant_of-self g c =
     let places = inside.kept.places in
     let middle = c.args.middle.places in
     let head = c.saturating_sub-head.result in
-    let r = subst
-    (λ (v : CheckpointsView g.row.K-State.Denot).
-    IsRest v.every v.places v.lines c.args.seam.old c.args.seam.rest) (sym c.self.view_is)
-    c.requires.rest in
-    let among : c.args.seam.at < length places =
-    subst (λ (v : CheckpointsView g.row.K-State.Denot). c.args.seam.at < length v.places)
-    (sym c.self.view_is) c.requires.among in
-    let end : inside.lines - c.args.seam.old + c.args.seam.new ≡ c.args.end =
-    subst (λ (v : CheckpointsView g.row.K-State.Denot). v.lines - c.args.seam.old + c.args.seam.new
-    ≡ c.args.end) (sym c.self.view_is) c.requires.end in
+    let before = subst
+    (λ (v : CheckpointsView g.row.K-State.Denot). IsJoinable v c.args.seam c.args.end)
+    (sym c.self.view_is)
+    (record { among = c.requires.among; rest = c.requires.rest; end_is = c.requires.end }) in
+    let among = before.among in
     let thinned =
     subst (λ (v : CheckpointsView g.row.K-State.Denot).
     IsThinned (slice_index v.places (c.args.seam.at - 1)) (slice_index v.places c.args.seam.at) v.every
@@ -99,9 +83,7 @@ invariant_of-self g c =
     let tail : c.len-2.result - (c.len.result - c.args.seam.rest) ≡ head + length middle =
     omega (
       arith,
-      ap length c.splice.ensures.places,
-      length-spliced places middle head c.args.seam.rest within,
-      r.within,
+      put_end places middle _ head c.args.seam.rest within before.rest.within c.splice.ensures.places,
     ) in
     let result : c.shift.new.self.places ≡ take head places
     ++ (middle ++ after_shift places c.args.seam.rest c.args.seam.old c.args.seam.new) =
@@ -112,8 +94,8 @@ invariant_of-self g c =
     record {
       spaced =
           joined_spaced inside.every inside.lines c.args.end places c.self.invariant.spaced
-          c.args.seam.at c.args.seam.old c.args.seam.new c.args.seam.rest among r middle _ thinned refl c.requires.low
-          end c.shift.new.self.places (result
+          c.args.seam.at c.args.seam.old c.args.seam.new c.args.seam.rest among before.rest middle _ thinned refl c.requires.low
+          before.end_is c.shift.new.self.places (result
           ∙ ap (λ front. take front places
           ++ (middle ++ after_shift places c.args.seam.rest c.args.seam.old c.args.seam.new)) head_is);
       even = c.shift.ensures.even;
@@ -125,20 +107,16 @@ returns-clause-places g c =
     let places = inside.kept.places in
     let middle = c.args.middle.places in
     let head = c.saturating_sub-head.result in
-    let r = subst
-    (λ (v : CheckpointsView g.row.K-State.Denot).
-    IsRest v.every v.places v.lines c.args.seam.old c.args.seam.rest) (sym c.self.view_is)
-    c.requires.rest in
-    let among : c.args.seam.at < length places =
-    subst (λ (v : CheckpointsView g.row.K-State.Denot). c.args.seam.at < length v.places)
-    (sym c.self.view_is) c.requires.among in
+    let before = subst
+    (λ (v : CheckpointsView g.row.K-State.Denot). IsJoinable v c.args.seam c.args.end)
+    (sym c.self.view_is)
+    (record { among = c.requires.among; rest = c.requires.rest; end_is = c.requires.end }) in
+    let among = before.among in
     let within : head ≤ length places = omega arith in
     let tail : c.len-2.result - (c.len.result - c.args.seam.rest) ≡ head + length middle =
     omega (
       arith,
-      ap length c.splice.ensures.places,
-      length-spliced places middle head c.args.seam.rest within,
-      r.within,
+      put_end places middle _ head c.args.seam.rest within before.rest.within c.splice.ensures.places,
     ) in
     let head_is : head ≡ c.args.seam.at - 1 = omega arith in
     shifted places middle c.splice.new.self.places head c.args.seam.rest _ within tail

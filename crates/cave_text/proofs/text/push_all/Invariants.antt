@@ -1,6 +1,6 @@
 use Rattle.std.proofs.Common.{◌≡◌, ◌++◌, take, drop, vec_len}
 use Rattle.cave_text.specs.Text.{text_of_all}
-use Rattle.cave_text.proofs.text.append_all.Given as goal
+use Rattle.cave_text.proofs.text.push_all.Given as goal
 
 -- what is written and the text of the parts that are left are what was there and the text of all
 abbrev pub invariant-loop-part : goal.invariant-loop-part
