@@ -180,7 +180,8 @@ pub each_is : {X : Type 0} (g : ℕ → X) (l : List X) (d : X) → length l ≡
 unfolding all_objects
 each_is g l d long h = each_in_range g 100 l d long h
 
-pub all_set : {X : Type 0} (f : ℕ → X) (xs : List ℕ) (l : List X) (d : X) → IsOrder xs → length l ≡ 100
+pub all_set : {X : Type 0} (f : ℕ → X) (xs : List ℕ) (l : List X) (d : X) → IsOrder xs
+    → length l ≡ 100
     → ((k : ℕ) → k < 100 → list_any (eqb (k + 1)) xs ≡ true) → sets f xs l ≡ map f all_objects
 all_set f xs l d o long all =
     each_is f (sets f xs l) d (length-sets f xs l ∙ long)

@@ -46,7 +46,8 @@ strict_argument =
     record (new_rule (codes "strict")) { long = Some (codes "strict"); action = Some SetTrue }
 
 abbrev pub output_argument : Rule
-output_argument = record (new_rule (codes "output")) { long = Some (codes "output"); value_names = 1 }
+output_argument = record (new_rule (codes "output"))
+    { long = Some (codes "output"); value_names = 1 }
 
 -- a command whose output may go into a file
 abbrev pub with_output : App → App
@@ -80,11 +81,13 @@ with_edit_options app =
     with_rule (with_rule (with_rule app every_argument) print_argument) strict_argument
 
 abbrev pub play_app : App
-play_app = with_output (with_rule (with_options (with_game (new_app (codes "play")))) print_argument)
+play_app = with_output (with_rule (with_options (with_game (new_app (codes "play"))))
+    print_argument)
 
 abbrev pub edit_app : App
 edit_app = with_output
-    (with_edit_options (with_options (with_rule (with_game (new_app (codes "edit"))) script_argument)))
+    (with_edit_options (with_options (with_rule (with_game (new_app (codes "edit")))
+    script_argument)))
 
 abbrev pub cover_app : App
 cover_app = with_output (with_cover_options (with_logs (new_app (codes "cover"))))

@@ -20,7 +20,8 @@ use Rattle.cave_cover.proofs.FaultLemmas.{AreValidLogs-more}
 use Rattle.cave_cover.proofs.FaultLemmas.{IsFoundFrom-here, IsFoundFrom-later}
 
 -- the logs that readers had were read, none of them has a fault, and their plays were noted
-pub record HasRead {N : Type 0} (known : List (Option (List ℕ))) (AreNotesOn : List Game → N → Type 0)
+pub record HasRead {N : Type 0} (known : List (Option (List ℕ)))
+    (AreNotesOn : List Game → N → Type 0)
     (seed : ℕ) (notes : N) (read : List (List ℕ)) : Type 0 where
   pub says : AllZip Says known read
   pub right : AreValidLogs read

@@ -29,7 +29,8 @@ heading_of_kind kind.Class = codes "classes"
 
 -- how a text of a kind is named
 abbrev pub name : Kind → ℕ → List ℕ
-name kind.Look number = decimal (number / PROPS_PER_OBJECT) ++ (codes ":" ++ decimal (number % PROPS_PER_OBJECT))
+name kind.Look number = decimal (number / PROPS_PER_OBJECT)
+    ++ (codes ":" ++ decimal (number % PROPS_PER_OBJECT))
 name kind.Role number = slice_index_or role_names number []
 name _ number = decimal number
 

@@ -70,7 +70,8 @@ class_said (Some rated) = text kind.Class rated.bound ∷ []
 
 abbrev pub look_said : CaveView → ℕ → ℤ → List Text
 look_said cave object (pos prop) =
-    if is_some (look_of cave object prop) then text kind.Look (PROPS_PER_OBJECT * object + prop) ∷ [] else []
+    if is_some (look_of cave object prop)
+    then text kind.Look (PROPS_PER_OBJECT * object + prop) ∷ [] else []
 look_said cave object (negsuc n) = []
 
 -- the texts that a part says; the game's own lines are none of the cave's

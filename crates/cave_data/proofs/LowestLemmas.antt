@@ -17,7 +17,8 @@ use Rattle.cave_rows.specs.Rows.{Going}
 use Rattle.log_lines.specs.Bytes.{is_all_blank}
 use Rattle.cave_rows.specs.Fields.{number_at, fields}
 use Rattle.cave_rows.specs.Rows.{◌>>=◌, Entry, LongLine, ShortLine, Way, Word, ObjectLine}
-use Rattle.cave_rows.specs.Rows.{MessageLine, PlacementRow, DefaultRow, ConditionRow, ClassLine, HintRow, MagicLine}
+use Rattle.cave_rows.specs.Rows.{MessageLine, PlacementRow, DefaultRow, ConditionRow, ClassLine}
+use Rattle.cave_rows.specs.Rows.{HintRow, MagicLine}
 use Rattle.cave_rows.specs.Rows.{number_or_cause, numbers_to_zero, list_in, few_of, word_or_cause}
 use Rattle.cave_rows.specs.Rows.{word_number, number_or_zero, within, all_within, text_or_cause}
 use Rattle.cave_rows.specs.Rows.{object_or_prop, second_place, text_line, object_line, way_row}

@@ -10,7 +10,8 @@ use Rattle.cave_rows.specs.Rows.{WordEntry}
 use Rattle.cave_data.specs.CaveView.{ClassEntry}
 use Rattle.cave_data.specs.Printing.{printed_text}
 use Rattle.cave_rows.specs.Rows.{Entry, TextLine, LongLine, ShortLine, Way, Word, ObjectLine}
-use Rattle.cave_rows.specs.Rows.{MessageLine, PlacementRow, DefaultRow, ConditionRow, ClassLine, HintRow}
+use Rattle.cave_rows.specs.Rows.{MessageLine, PlacementRow, DefaultRow, ConditionRow, ClassLine}
+use Rattle.cave_rows.specs.Rows.{HintRow}
 use Rattle.cave_data.specs.Texts.{text_of_number, with_key, by_object, object_after}
 use Rattle.cave_data.specs.Texts.{object_after_lines}
 use Rattle.cave_data.specs.Tables.{TextsSoFar, with_line}

@@ -30,7 +30,8 @@ use Rattle.log_lines.specs.Bytes.{is_all_blank}
 use Rattle.cave_rows.specs.Fields.{fields, natural}
 use Rattle.cave_rows.specs.Role.{role_names}
 use Rattle.cave_rows.specs.PlaceRole.{place_names}
-use Rattle.cave_rows.specs.Rows.{◌>>=◌, Entry, PlacementRow, number_or_cause, number_or_zero, within}
+use Rattle.cave_rows.specs.Rows.{◌>>=◌, Entry, PlacementRow, number_or_cause, number_or_zero}
+use Rattle.cave_rows.specs.Rows.{within}
 use Rattle.cave_rows.specs.Rows.{second_place, placement_row, entry_in, text_line, way_row}
 use Rattle.cave_rows.specs.Rows.{word_row, object_line, default_row, condition_row, hint_row}
 use Rattle.cave_rows.specs.Grammar.{closes, position_after_line, entry_here, entry_at, entries_from}
@@ -42,7 +43,8 @@ use Rattle.cave_rows.specs.BindingLines.{letters_binding, binding_of, binding_ro
 use Rattle.cave_rows.specs.BindingLines.{bindings_of}
 use Rattle.cave_data.specs.BindingSteps.{bind, no_bindings, bindings_from}
 use Rattle.cave_data.specs.Steps.{with_entry, no_tables, tables_of}
-use Rattle.cave_data.specs.Ranges.{IsPlace, IsMessage, IsLetters, IsPlacementInRange, HasOnly, AreInRange}
+use Rattle.cave_data.specs.Ranges.{IsPlace, IsMessage, IsLetters, IsPlacementInRange, HasOnly}
+use Rattle.cave_data.specs.Ranges.{AreInRange}
 
 -- Lists and maps of such values.
 

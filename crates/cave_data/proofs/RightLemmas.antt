@@ -19,7 +19,8 @@ use Rattle.cave_rows.specs.declared.binding.Binding.{Binding}
 use Rattle.log_lines.specs.Bytes.{is_all_blank}
 use Rattle.cave_rows.specs.Rows.{Entry, TextLine, Way, Word, ObjectLine, ClassLine, entry_in}
 use Rattle.cave_data.specs.Texts.{names_object, object_after, object_after_lines}
-use Rattle.cave_rows.specs.Grammar.{position_after_heading, closes, position_after, IsRow, IsValidAt}
+use Rattle.cave_rows.specs.Grammar.{position_after_heading, closes, position_after, IsRow}
+use Rattle.cave_rows.specs.Grammar.{IsValidAt}
 use Rattle.cave_rows.specs.Grammar.{IsValidLine, entry_here, entry_at, entries}
 use Rattle.cave_rows.specs.SectionRows.{way_of, word_entry_of, class_line_of, object_line_of}
 use Rattle.cave_data.specs.FirstFault.{shape_here, shape_cause, at_most, limit_cause, first_limit}

@@ -52,4 +52,10 @@ pub by_number-none : {X Y : Type 0} (view : X → Y) (xs : List (Option X)) → 
 unfolding by_number
 by_number-none view xs e = ap (by_number view) e
 
-pub ruleset slot_changes = (by_number-put, by_number-replace, by_number-none, get-by_number, none_past)
+pub ruleset slot_changes = (
+  by_number-put,
+  by_number-replace,
+  by_number-none,
+  get-by_number,
+  none_past,
+)

@@ -2,7 +2,8 @@
 use Rattle.std.proofs.Common.{◌≡◌, ℕ, Bool, true, false, List, [], ◌∷◌, ◌++◌, Some, map, refl, ap}
 use Rattle.std.proofs.Common.{◌∙◌, append_assoc}
 use Rattle.std.specs.List.{flat_map}
-use Rattle.cave_graph.specs.Labels.{InText, QUOTE, escaped, is_control, label_read, shown_byte, with_first}
+use Rattle.cave_graph.specs.Labels.{InText, QUOTE, escaped, is_control, label_read, shown_byte}
+use Rattle.cave_graph.specs.Labels.{with_first}
 use Rattle.cave_graph.proofs.Bytes.{IsOther, by_bytes}
 
 -- the byte reads back as it is shown, whatever follows

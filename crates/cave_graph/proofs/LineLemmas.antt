@@ -27,7 +27,8 @@ line_after [] line within = refl
 line_after (byte ∷ before) line within =
     line_test (byte == LINE_FEED) before line within (line_after before line)
 
-pub both_within : (before after : List ℕ) → is_within_line before ≡ true → is_within_line after ≡ true
+pub both_within : (before after : List ℕ) → is_within_line before ≡ true
+    → is_within_line after ≡ true
     → is_within_line (before ++ after) ≡ true
 both_within before after first second =
     list_all-append (λ byte. not (byte == LINE_FEED)) before after

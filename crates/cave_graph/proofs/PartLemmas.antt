@@ -5,12 +5,14 @@ use Rattle.std.specs.Fmt.{decimal}
 use Rattle.cave_data.specs.CaveView.{CaveView}
 use Rattle.cave_world.specs.Sight.{LIGHT_BIT, has_condition, is_forced}
 use Rattle.cave_graph.specs.Edges.{edge, edge_opening, edge_parts, edge_strength, edge_text}
-use Rattle.cave_graph.specs.Edges.{head_back, head_there, is_edge_taken, label_look, part_from_label}
+use Rattle.cave_graph.specs.Edges.{head_back, head_there, is_edge_taken, label_look}
+use Rattle.cave_graph.specs.Edges.{part_from_label}
 use Rattle.cave_graph.specs.Edges.{part_to_label}
 use Rattle.cave_graph.specs.Labels.{quoted}
 use Rattle.cave_graph.specs.Laws.{EdgesAreLines, NodesAreLines}
 use Rattle.cave_graph.specs.Lines.{is_one_line}
-use Rattle.cave_graph.specs.Places.{look_of_place, node, node_opening, node_end, node_text, nowhere_note}
+use Rattle.cave_graph.specs.Places.{look_of_place, node, node_opening, node_end, node_text}
+use Rattle.cave_graph.specs.Places.{nowhere_note}
 use Rattle.cave_graph.specs.Places.{strength}
 use Rattle.cave_graph.specs.Stops.{is_taken, is_visited}
 use Rattle.cave_graph.specs.Ways.{count_nowhere, is_both_ways}
@@ -69,7 +71,8 @@ pub nodes_are_lines : NodesAreLines
 unfolding node
 nodes_are_lines cave stops logs place =
     line_after (node_opening place) _ (opening_within place)
-    ∙ line_after (quoted (node_text cave stops place)) _ (quoted_within (node_text cave stops place))
+    ∙ line_after (quoted (node_text cave stops place)) _
+    (quoted_within (node_text cave stops place))
     ∙ line_after (look_of_place cave place) _ (look_within cave place)
     ∙ line_after (strength logs (is_visited stops place)) (node_end (count_nowhere cave place))
     (strength_within logs (is_visited stops place))
@@ -137,7 +140,8 @@ unfolding edge
 edges_are_lines cave stops logs from to =
     line_after (edge_opening from to) _ (ends_within from to)
     ∙ line_after (quoted (edge_text cave from to)) _ (quoted_within (edge_text cave from to))
-    ∙ line_after (label_look (edge_text cave from to)) _ (label_look_within (edge_text cave from to))
+    ∙ line_after (label_look (edge_text cave from to)) _
+    (label_look_within (edge_text cave from to))
     ∙ line_after (edge_strength cave stops logs from to) (edge_parts cave stops logs from to)
     (strength_within logs (is_edge_taken cave stops from to))
     ∙ parts_are_one_line cave stops logs from to

@@ -97,10 +97,12 @@ edge_strength cave stops logs from to = strength logs (is_edge_taken cave stops 
 abbrev pub edge_parts : CaveView → List Stop → ℕ → ℕ → ℕ → List ℕ
 edge_parts cave stops logs from to =
     part_to_label from to
-    (head_back (is_both_ways cave from to) (is_taken cave stops from to) (is_taken cave stops to from))
+    (head_back (is_both_ways cave from to) (is_taken cave stops from to)
+    (is_taken cave stops to from))
     (edge_strength cave stops logs from to)
     ++ part_from_label from to
-    (head_there (is_both_ways cave from to) (is_taken cave stops from to) (is_taken cave stops to from))
+    (head_there (is_both_ways cave from to) (is_taken cave stops from to)
+    (is_taken cave stops to from))
     (edge_strength cave stops logs from to)
 
 -- a label without a text takes no room

@@ -34,12 +34,13 @@ word_or_number cave number =
 abbrev pub WORDS_PER_LINE : ℕ
 WORDS_PER_LINE = 3
 
--- what is after a word, where so many words were still shown before it: so that a place is narrow, a
--- title of eight words is on three lines, which have three, three and two of them
+-- what is after a word, where so many words were still shown before it: so that a place is narrow,
+-- a title of eight words is on three lines, which have three, three and two of them
 abbrev pub word_end : ℕ → ℕ
 word_end words = if words % WORDS_PER_LINE == 0 then LINE_FEED else BLANK
 
--- so many words of a text at most, up to the end of its first line; blanks after a blank aren't shown
+-- so many words of a text at most, up to the end of its first line; blanks after a blank aren't
+-- shown
 abbrev pub opening_words : ℕ → Bool → List ℕ → List ℕ
 opening_words words is_after_blank [] = []
 opening_words words is_after_blank (byte ∷ bytes) =

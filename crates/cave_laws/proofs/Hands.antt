@@ -49,7 +49,8 @@ fewer f g a (suc n) each =
     (fewer f g (a + 1) n (λ y low. each y (omega (arith, low))))
 
 -- a number more on the shorter list
-head_more : (p q : Bool) (a : ℕ) (xs ys : List ℕ) → (q ≡ true → (p ≡ true) ⊎ (length ys ≤ length xs))
+head_more : (p q : Bool) (a : ℕ) (xs ys : List ℕ)
+    → (q ≡ true → (p ≡ true) ⊎ (length ys ≤ length xs))
     → length ys ≤ length xs + 1
     → length (if q then a ∷ ys else ys) ≤ length (if p then a ∷ xs else xs) + 1
 head_more true true a xs ys each less = omega (arith, less)
@@ -89,7 +90,8 @@ at_set (x ∷ xs) (suc i) zero s d = inl refl
 at_set (x ∷ xs) (suc i) (suc y) s d = one_on (at_set xs i y s d)
   where
     one_on : (get_or (set xs i s) y d ≡ get_or xs y d) ⊎ ((y ≡ i) × (get_or (set xs i s) y d ≡ s))
-        → (get_or (set xs i s) y d ≡ get_or xs y d) ⊎ ((suc y ≡ suc i) × (get_or (set xs i s) y d ≡ s))
+        → (get_or (set xs i s) y d ≡ get_or xs y d)
+        ⊎ ((suc y ≡ suc i) × (get_or (set xs i s) y d ≡ s))
     one_on (inl same) = inl same
     one_on (inr (is, new)) = inr (ap suc is, new)
 
@@ -272,7 +274,8 @@ guarded_few d (r ∷ rows) h each =
     (first_fitting rows d) each.0 (λ other. guarded_few d rows h (each.1 other))
 
 -- an object is taken where there is room
-freely_taken : (d : Deed) → HasRoom d.scene.state.objects → On Few d.scene.state → Guarded d free_take_rows
+freely_taken : (d : Deed) → HasRoom d.scene.state.objects → On Few d.scene.state
+    → Guarded d free_take_rows
 unfolding free_take_rows
 freely_taken d free h = (
   (λ _. h),

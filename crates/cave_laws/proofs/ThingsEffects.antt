@@ -54,7 +54,8 @@ default_kept P d h = said_kept P d.cave (verb_number d.order.verb) d.scene h
 -- saying that it is dark keeps a claim
 pub say_dark_kept : (P : Claim) (d : Deed) → On P d.scene.state → On P (say_dark d).scene.state
 say_dark_kept P d h =
-    choose (λ (e : Deed). On P e.scene.state) (is_dark d.cave (thing d.cave name.Lamp) d.scene.state)
+    choose (λ (e : Deed). On P e.scene.state) (is_dark d.cave (thing d.cave name.Lamp)
+    d.scene.state)
     (say role.Dark d) d (λ _. h) (λ _. h)
 
 -- to free a bird keeps a claim
@@ -129,7 +130,8 @@ pub first_kept : (P : Claim) (rows : List VerbRow) → KeepsRows P rows
     → KeepsAct P (first_fitting rows)
 first_kept P [] k d h = h
 first_kept P (r ∷ rows) k d h =
-    choose (λ (o : Act). On P o.scene.state) (fits r.tests d) (act_of_row r d) (first_fitting rows d)
+    choose (λ (o : Act). On P o.scene.state) (fits r.tests d) (act_of_row r d)
+    (first_fitting rows d)
     (λ _. k.0 d h) (λ _. first_kept P rows k.1 d h)
 
 -- the first row that fits, or what comes of it if none does, keeps a claim

@@ -135,7 +135,8 @@ throw_spares = first_or_spares throw_rows axe_act (λ d. refl) axe
         (λ _. first_spares axe_rows (λ e. refl) d)
 
 object_spare : (v : Verb) → Spares (object_act v)
-unfolding other_rows take_rows free_take_rows drop_rows open_rows lock_rows chain_rows nothing_rows on_rows off_rows wave_rows
+unfolding other_rows take_rows free_take_rows drop_rows open_rows lock_rows chain_rows nothing_rows
+    on_rows off_rows wave_rows
     kill_rows pour_rows eat_rows drink_rows rub_rows find_rows feed_rows fill_rows blast_rows
     read_rows break_rows wake_rows
 object_spare verb.Take d = first_spares take_rows (λ e. refl) d

@@ -11,7 +11,8 @@ use Rattle.log_edits.specs.Game.{game_of}
 -- the map of the games of logs is that of the logs
 pub mapped-reported : (database bindings : List ℕ) (logs : List (List ℕ)) (seed : ℕ)
     (output : List ℕ)
-    → IsReported (λ cave (_ : Unit {0}) games. map_of_games cave games) database bindings logs seed tt
+    → IsReported (λ cave (_ : Unit {0}) games. map_of_games cave games) database bindings logs seed
+    tt
     output
     → IsMapped database bindings logs seed output
 mapped-reported database bindings logs seed output (cave, reads, is) =

@@ -72,7 +72,8 @@ pub record Completes (view : EditView) (cave : CaveView) (every : ℕ) (all left
       → sum_by lines_in (complete rest) ≡ lines + sum_by lines_in rest
 
 -- nothing is done yet
-pub Completes-none : (view : EditView) (cave : CaveView) (every : ℕ) (all : List Applied) (first : Game)
+pub Completes-none : (view : EditView) (cave : CaveView) (every : ℕ) (all : List Applied)
+    (first : Game)
     (opened before : List ℕ)
     → Completes view cave every all all first first opened opened before before 0 0
 Completes-none view cave every all first opened before =

@@ -135,6 +135,8 @@ by_group (change ∷ changes) game good =
 
 pub refusals_are_of_changes : RefusalsAreOfChanges
 refusals_are_of_changes log seed free fits items item found is =
-    let good = IsGame-after_all items (game_of seed (lines log)) (IsGame-accepted log seed free fits)
+    let good = IsGame-after_all items (game_of seed (lines log))
+    (IsGame-accepted log seed free fits)
     in
-    subst InGroup is (by_group item.changes (game_after_items items (game_of seed (lines log))) good)
+    subst InGroup is (by_group item.changes (game_after_items items (game_of seed (lines log)))
+    good)

@@ -67,7 +67,8 @@ module _ (strict : Bool) (items : List Item) (place : ℕ) (item : Item) (game :
       → first_strict_fault strict (map applied_item (drop place items)) game ≡ whole
       → whole ≡ Some found
   here found some so_far =
-      sym so_far ∙ at_item ∙ ap (λ first. option_or first (first_strict_fault strict left next)) some
+      sym so_far ∙ at_item ∙ ap (λ first. option_or first (first_strict_fault strict left next))
+      some
 
   -- an item at which it ends
   pub first_strict_fault-here : (found : PlayFault)
@@ -113,7 +114,8 @@ unwritten_refusal false item (Some refusal) found = cc
 unwritten_item : (strict : Bool) (item : Applied) (game : Game)
     → strict_fault strict item game ≡ Some fault.Write → ⊥
 unfolding strict_fault
-unwritten_item strict item game = unwritten_refusal strict item (group_refusal item.changes game.log)
+unwritten_item strict item game = unwritten_refusal strict item
+    (group_refusal item.changes game.log)
 
 unwritten_either : (first later : Option PlayFault) → (first ≡ Some fault.Write → ⊥)
     → (later ≡ Some fault.Write → ⊥) → option_or first later ≡ Some fault.Write → ⊥

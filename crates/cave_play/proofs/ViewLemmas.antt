@@ -53,7 +53,8 @@ told-nothing tell none (item ∷ items) (outcome ∷ outcomes) =
     ∙ told-nothing tell none items outcomes
 
 -- what is written of items, and then what is written after them, is what was asked for
-pub told-whole : (view : EditView) (cave : CaveView) (every : ℕ) (items : List Applied) (game : Game)
+pub told-whole : (view : EditView) (cave : CaveView) (every : ℕ) (items : List Applied)
+    (game : Game)
     (opened : List ℕ) (outcomes : List ItemOutcome) (played lines : ℕ) (text whole : List ℕ)
     → IsSpaced every opened (length game.log) → AreOutcomes cave every items game opened outcomes
     → text ≡ text_of_items (text_of_item view) items outcomes

@@ -25,7 +25,8 @@ unfolding visits_line
 visits_read a b s t ha hb past other e =
     let read =
     entries_read (codes "visits ") (λ n. visits_of a n == 0) (λ n. visits_of b n == 0)
-    (λ n. numbered_line (codes " ") (visits_of a n)) (λ n. numbered_line (codes " ") (visits_of b n))
+    (λ n. numbered_line (codes " ") (visits_of a n))
+    (λ n. numbered_line (codes " ") (visits_of b n))
     (λ n. visits_of a n ≡ visits_of b n) 300 s t (omega arith)
     (λ n up. (
       λ here there.

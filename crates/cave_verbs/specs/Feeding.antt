@@ -39,7 +39,8 @@ unfoldable pub feed_rows : List VerbRow
 feed_rows =
     row (is name.Bird ∷ []) (say role.BirdFeed ∷ [])
     ∷ row (is name.Snake ∷ no cave_closed ∷ near (the name.Bird) ∷ [])
-    (destroy (the name.Bird) ∷ set_prop (the name.Bird) (pos 0) ∷ lose_one ∷ say role.BirdEaten ∷ [])
+    (destroy (the name.Bird) ∷ set_prop (the name.Bird) (pos 0) ∷ lose_one ∷ say role.BirdEaten
+    ∷ [])
     ∷ row (is name.Dragon ∷ other_prop x (pos 0) ∷ []) (say role.Ridiculous ∷ [])
     ∷ row (either (is name.Snake) (is name.Dragon) ∷ []) (say role.NotHungry ∷ [])
     ∷ row (is name.Troll ∷ []) (say role.TrollFeed ∷ [])

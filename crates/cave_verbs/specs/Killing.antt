@@ -46,7 +46,8 @@ bare_kill_rows =
 unfoldable pub kill_rows : List VerbRow
 kill_rows =
     row (is name.Bird ∷ cave_closed ∷ []) (say role.BirdNo ∷ [])
-    ∷ row (is name.Bird ∷ []) (destroy x ∷ set_prop x (pos 0) ∷ lose_to_snake ∷ say role.BirdDead ∷ [])
+    ∷ row (is name.Bird ∷ []) (destroy x ∷ set_prop x (pos 0) ∷ lose_to_snake ∷ say role.BirdDead
+    ∷ [])
     ∷ row (either (is name.Clam) (is name.Oyster) ∷ []) (say role.Shell ∷ [])
     ∷ row (is name.Snake ∷ []) (say role.SnakeNo ∷ [])
     ∷ row_then (is name.Dwarf ∷ cave_closed ∷ []) (say role.Disturbed ∷ []) (ends ending.Killed)

@@ -113,7 +113,8 @@ open_rows =
     ∷ row (is name.Clam ∷ in_hand x ∷ []) (say role.ClamHeld ∷ [])
     ∷ row (is name.Oyster ∷ in_hand x ∷ []) (say role.OysterHeld ∷ [])
     ∷ row (is name.Clam ∷ [])
-    (destroy x ∷ bring (the name.Oyster) ∷ send (the name.Pearl) place.Culdesac ∷ say role.Pearl ∷ [])
+    (destroy x ∷ bring (the name.Oyster) ∷ send (the name.Pearl) place.Culdesac ∷ say role.Pearl
+    ∷ [])
     ∷ row (is name.Oyster ∷ []) (say role.OysterOpen ∷ [])
     ∷ row (is name.Door ∷ prop x (pos 1) ∷ []) (say role.Ok ∷ [])
     ∷ row (is name.Door ∷ []) (say role.Rusty ∷ [])

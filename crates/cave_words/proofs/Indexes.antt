@@ -168,7 +168,8 @@ known_step : (hit : Bool) (key word : List ℕ) (m : Meaning) (old : Index) → 
     → cond hit (Some (with_meaning (meanings_in old key) m)) (meanings_in old word)
     ≡ cond hit (Some (with_meaning (meanings_in old word) m)) (meanings_in old word)
 known_step true key word m old is =
-    ap (λ (w : List ℕ). Some (with_meaning (meanings_in old w) m)) ((bytes_eq-Decides key word).0 is)
+    ap (λ (w : List ℕ). Some (with_meaning (meanings_in old w) m))
+    ((bytes_eq-Decides key word).0 is)
 known_step false key word m old is = refl
 
 -- a lookup after one more row

@@ -7,7 +7,8 @@ use Rattle.log_edits.specs.Edit.{Change}
 use Rattle.edit_scripts.specs.declared.fault.ScriptRefusal.{ScriptRefusal}
 use Rattle.edit_scripts.specs.declared.fault.ScriptRefusal.TheVariants.{Malformed, Memory}
 use Rattle.edit_scripts.specs.declared.script.Script.{Script}
-use Rattle.edit_scripts.specs.Line.{LineKind, nothing, begin, end, edit, nonsense, IsKind, kind_of_script_line}
+use Rattle.edit_scripts.specs.Line.{LineKind, nothing, begin, end, edit, nonsense, IsKind}
+use Rattle.edit_scripts.specs.Line.{kind_of_script_line}
 use Rattle.edit_scripts.specs.Line.{IsWord}
 use Rattle.edit_scripts.specs.Item.{Applied, single, group_at_line, group_with_change}
 use Rattle.edit_scripts.specs.Script.{IsBody, body_done, body_skips, body_spells, IsScript, done}

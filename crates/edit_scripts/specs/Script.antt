@@ -3,7 +3,8 @@ use Rattle.std.specs.Prelude.{ℕ, ◌+◌, List, [], ◌∷◌, ◌++◌, lengt
 use Rattle.std.specs.Prelude.{Err, codes, IsTrue}
 use Rattle.std.specs.Str.Lines.{lines}
 use Rattle.log_edits.specs.Edit.{Change}
-use Rattle.edit_scripts.specs.Line.{LineKind, nothing, begin, end, edit, nonsense, kind_of_script_line}
+use Rattle.edit_scripts.specs.Line.{LineKind, nothing, begin, end, edit, nonsense}
+use Rattle.edit_scripts.specs.Line.{kind_of_script_line}
 use Rattle.log_lines.specs.LogLine.{is_skipped}
 use Rattle.edit_scripts.specs.Line.{IsWord, Spells}
 use Rattle.edit_scripts.specs.Item.{Applied, single, group_at_line, group_with_change}

@@ -106,7 +106,8 @@ pub margins_fits : (changes : List Change) (log : List (List ℕ)) → 0 < lengt
 margins_fits [] log some free = absurd (omega arith)
 margins_fits (inserts place line ∷ changes) log some free =
     let alone =
-    (leave_alone (inserts place line ∷ changes) log (record { head = length log; tail = length log })
+    (leave_alone (inserts place line ∷ changes) log
+    (record { head = length log; tail = length log })
     free).0 in let h = alone.0 in let t = alone.1 in omega arith
 margins_fits (deletes place ∷ changes) log some free =
     let alone =
@@ -114,7 +115,8 @@ margins_fits (deletes place ∷ changes) log some free =
     free).0 in let h = alone.0 in let t = alone.1 in omega arith
 margins_fits (replaces place line ∷ changes) log some free =
     let alone =
-    (leave_alone (replaces place line ∷ changes) log (record { head = length log; tail = length log })
+    (leave_alone (replaces place line ∷ changes) log
+    (record { head = length log; tail = length log })
     free).0 in let h = alone.0 in let t = alone.1 in omega arith
 margins_fits (reseeds seed ∷ changes) log some free =
     let alone =

@@ -1,6 +1,7 @@
 -- A first line all of whose bytes may stand in a log, up to the line feed that ends it.
 use Rattle.std.proofs.Common.{◌≡◌, ℕ, suc, ◌+◌, ◌-◌, ◌<◌, Bool, true, false, cond, ◌==◌, List, []}
-use Rattle.std.proofs.Common.{◌∷◌, Some, length, take, drop, get_or, slice_index, refl, sym, ap, ◌∙◌}
+use Rattle.std.proofs.Common.{◌∷◌, Some, length, take, drop, get_or, slice_index, refl, sym, ap}
+use Rattle.std.proofs.Common.{◌∙◌}
 use Rattle.std.proofs.Common.{arith, IsTrue, nat_lt}
 use Rattle.std.specs.List.{list_all, position_or_len, prefix_len, slice_get}
 use Rattle.std.specs.Str.Lines.{lines, strip_carriage_return}
@@ -18,7 +19,8 @@ no_control byte control bad good =
     ne_eqb byte control (λ is. false≢true (sym bad ∙ sym (ap is_line_byte is) ∙ good))
 
 -- the leading good bytes are good
-good_prefix : (text : List ℕ) → list_all is_line_byte (take (prefix_len is_line_byte text) text) ≡ true
+good_prefix : (text : List ℕ) → list_all is_line_byte (take (prefix_len is_line_byte text) text)
+    ≡ true
 good_prefix [] = refl
 good_prefix (byte ∷ text) = at (good_prefix text) (is_line_byte byte) refl where
   at : list_all is_line_byte (take (prefix_len is_line_byte text) text) ≡ true → (good : Bool)

@@ -65,8 +65,17 @@ by_moved p q r one = record {
 }
 
 -- for the law `exact` of states whose type is one of these
-pub ruleset equality =
-    (by_number, by_signed, by_bool, by_array, by_variant, by_no_field, by_last_field, by_field, by_moved)
+pub ruleset equality = (
+  by_number,
+  by_signed,
+  by_bool,
+  by_array,
+  by_variant,
+  by_no_field,
+  by_last_field,
+  by_field,
+  by_moved,
+)
 
 -- the law, where `==` tells the values of the type apart
 pub exact_value : {A : Type 0} {E : A → A → Bool} (P : A → Type 0)

@@ -25,7 +25,8 @@ abbrev pub new_game : ReadyEdits → List (List ℕ) → Game
 new_game ready log = game_of ready.seed (log_after_edits ready log)
 
 -- the revision of an old game by the edits
-abbrev pub ready_revision : {Kept State S T : Type 0} → MachineRules S T → OldPlay Kept State → ReadyEdits
+abbrev pub ready_revision : {Kept State S T : Type 0} → MachineRules S T → OldPlay Kept State
+    → ReadyEdits
     → Revision S T
 ready_revision rules old ready = record {
   rules = rules;
@@ -43,21 +44,24 @@ MayReplay meaning is_state rules old ready marks =
 
 -- this was played in it, from the open place of the marks on
 abbrev pub IsReplayed : {Machine State Kept Piece Meter Scratch S T : Type 0} → (State → S)
-    → (State → Type 0) → (Piece → T) → MachineRules S T → OldPlay Kept State → ReadyEdits → MarksView State
+    → (State → Type 0) → (Piece → T) → MachineRules S T → OldPlay Kept State → ReadyEdits
+    → MarksView State
     → Segment Machine State Kept Piece Meter Scratch → Type 0
 IsReplayed meaning is_state text rules old ready marks played =
     IsPlayed meaning is_state (ready_revision rules old ready) old.checkpoints.now.places marks
     (segment_view text played)
 
 -- so many steps are within its bound
-abbrev pub IsReplayBounded : {Kept State S T : Type 0} → MachineRules S T → OldPlay Kept State → ReadyEdits
+abbrev pub IsReplayBounded : {Kept State S T : Type 0} → MachineRules S T → OldPlay Kept State
+    → ReadyEdits
     → ℕ → ℕ → Type 0
 IsReplayBounded rules old ready every steps =
     IsWithinBound (ready_revision rules old ready) every steps
 
 -- this is the rerun of the game that is kept, by changes of which the ready edits are made
 abbrev pub IsRerunOf : {Machine State Kept Piece Meter Scratch S T : Type 0} → (State → S)
-    → (State → Type 0) → (Piece → T) → MachineRules S T → List Change → Playthrough Machine State Kept Piece Meter Scratch
+    → (State → Type 0) → (Piece → T) → MachineRules S T → List Change
+    → Playthrough Machine State Kept Piece Meter Scratch
     → Rerun Machine State Kept Piece Meter Scratch → Type 0
 IsRerunOf meaning is_state text rules changes kept rerun =
     let old = kept_game kept in

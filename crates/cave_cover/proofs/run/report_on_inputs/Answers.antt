@@ -18,7 +18,18 @@ returns-in_err-check_seed g c =
     let (bindings, others) = Says-some (g.B.Read.remaining c.args.cave.now.bindings) in
     let last = AllSay-some (map g.L.Read.remaining c.args.logs.now) in
     rw (exit.1, exit.2)
-    (record { judged = (database, bindings, last.0, said, others, last.1, inl (refl, inl (inr c.in_err-check_seed.ensures))) })
+    (record {
+      judged = (
+        database,
+        bindings,
+        last.0,
+        said,
+        others,
+        last.1,
+        inl
+            (refl, inl (inr c.in_err-check_seed.ensures)),
+      );
+    })
 
 pub returns-in_err-cave : goal.returns-in_err-cave
 returns-in_err-cave g c =

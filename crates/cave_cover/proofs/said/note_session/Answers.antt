@@ -18,5 +18,6 @@ returns c =
     let later =
     subst (λ ps. Notes (flat_map (λ piece. said_by_all cave piece.items) ps) between new)
     c.pieces.ensures.pieces c.note_pieces.ensures in
-    noted-played cave held.machine.rules.cave.now held.game held.opening.items held.pieces held.ticks
+    noted-played cave held.machine.rules.cave.now held.game held.opening.items held.pieces
+    held.ticks
     held.state c.args.said.now between new c.requires c.opening.ensures.plays first later

@@ -56,4 +56,5 @@ returns-then-counts_no_turn-clause-play c =
     let low : conditions_of cave here.state.trail.here < 16 = search rules in
     let none : (n : ℕ) → n < count → turns_near here.state (n + 4) ≡ 0 = search rules in
     sym (quiet_hints cave count here low none)
-    ∙ after_hints-all cave count here c.count_hints-count.ensures.few c.count_hints-count.ensures.all
+    ∙ after_hints-all cave count here c.count_hints-count.ensures.few
+    c.count_hints-count.ensures.all

@@ -55,9 +55,11 @@ pub returns-clause-applied : goal.returns-clause-applied
 returns-clause-applied c =
     let last = c.loop-item in
     let whole =
-    IsApplied-whole c.args.editing.view c.deref-item-items.result.now last.item-index c.args.session.now
+    IsApplied-whole c.args.editing.view c.deref-item-items.result.now last.item-index
+    c.args.session.now
     _ _ _ _ _ _ (omega (arith, c.loop-item-test.false)) last.invariant.completes in
-    subst (λ (items : List Item). IsApplied c.args.editing.view (map applied_item items) c.args.session.now
+    subst (λ (items : List Item). IsApplied c.args.editing.view (map applied_item items)
+    c.args.session.now
     c.args.text.now.items last.text.items last.totals.played last.totals.lines)
     c.deref-item-items.ensures.value whole
 

@@ -12,7 +12,8 @@ invariant-loop-item l =
     let all = map applied_item l.item-items in
     let first = l.initial.session in
     record {
-      completes : Completes l.editing.view first.machine.rules.cave.now first.every all left first.game
+      completes : Completes l.editing.view first.machine.rules.cave.now first.every all left
+          first.game
           l.session.game first.checkpoints l.session.checkpoints
           l.initial.text.items l.text.items l.totals.played l.totals.lines;
       strict : first_strict_fault l.editing.strict left l.session.game

@@ -5,4 +5,5 @@ use Rattle.cave_words.proofs.lexicon.index.Given as goal
 
 abbrev pub invariant-loop-i : goal.invariant-loop-i
 invariant-loop-i l =
-    (word : List ℕ) → meanings_in l.index.entries word ≡ meanings_of l.letters (take l.i l.words) word
+    (word : List ℕ) → meanings_in l.index.entries word
+    ≡ meanings_of l.letters (take l.i l.words) word

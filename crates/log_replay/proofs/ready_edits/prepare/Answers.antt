@@ -16,7 +16,8 @@ use Rattle.log_edits.proofs.MarginLemmas.{after_all_narrower, margins_fits}
 use Rattle.log_replay.proofs.ready_edits.prepare.Goals as goal
 
 -- what is left alone at the end is within the log
-tail_within : {changes : List Change} (log : List LineText) {fault : Option GroupFault} {plan : Plan}
+tail_within : {changes : List Change} (log : List LineText) {fault : Option GroupFault}
+    {plan : Plan}
     → IsPlan changes (log_of log) fault plan → plan.margins.tail ≤ length log
 tail_within {changes} log planned =
     let n = length-log_of log in

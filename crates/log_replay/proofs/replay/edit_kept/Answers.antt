@@ -22,7 +22,8 @@ use Rattle.log_replay.proofs.replay.edit_kept.Goals as goal
 -- what the edits make of the game, once there is room, is what the changes make of the old one
 make_same : {Machine State Kept Piece Meter Scratch X : Type 0} (make : List Change → Game → X)
     {changes : List Change} {seed : ℕ} {log : List LineText} {ready : ReadyEdits}
-    {old roomy : Playthrough Machine State Kept Piece Meter Scratch} → AreEditsOf changes seed log ready
+    {old roomy : Playthrough Machine State Kept Piece Meter Scratch}
+    → AreEditsOf changes seed log ready
     → KeepsAll old roomy
     → make (changes_of ready.edits.items) (kept_game roomy) ≡ make changes (kept_game old)
 make_same make edits same = rw (edits.edits, same.seed, same.log) refl
@@ -50,14 +51,16 @@ take_over-inverse-requires-clause-whole g c =
 pub take_over-inverse-requires-clause-stretch : goal.take_over-inverse-requires-clause-stretch
 take_over-inverse-requires-clause-stretch g c =
     let replay =
-    replay_of c.requires.kept c.in_ok-rerun.ensures.edits c.places.ensures.spaced c.in_ok-rerun.ensures.rerun in
+    replay_of c.requires.kept c.in_ok-rerun.ensures.edits c.places.ensures.spaced
+    c.in_ok-rerun.ensures.rerun in
     let same = c.make_room.ensures.same in
     stretch_ready replay c.make_room.new.kept.checkpoints same.every same.lines same.places
 
 pub returns-clause-kept : goal.returns-clause-kept
 returns-clause-kept g c =
     let replay =
-    replay_of c.requires.kept c.in_ok-rerun.ensures.edits c.places.ensures.spaced c.in_ok-rerun.ensures.rerun in
+    replay_of c.requires.kept c.in_ok-rerun.ensures.edits c.places.ensures.spaced
+    c.in_ok-rerun.ensures.rerun in
     let text = g.M.Machine.text in
     let kept = c.args.kept.now in
     let C = kept.checkpoints in
@@ -73,7 +76,8 @@ returns-clause-kept g c =
     rw (done.game ∙ make_same apply_all edits same ∙ sym edits.game)
     (kept_after replay (text after.opening) (map text after.pieces.items) after.ticked.items
     after.state after.checkpoints
-    (opened_text text c.in_ok-rerun.rerun.opening after.opening roomy.opening kept.opening same.opening
+    (opened_text text c.in_ok-rerun.rerun.opening after.opening roomy.opening kept.opening
+    same.opening
     done.opening_is)
     (ap (map text) done.pieces
     ∙ map-splice text roomy.pieces.items played.pieces.items
@@ -89,14 +93,16 @@ returns-clause-kept g c =
 pub returns-clause-report : goal.returns-clause-report
 returns-clause-report g c =
     let replay =
-    replay_of c.requires.kept c.in_ok-rerun.ensures.edits c.places.ensures.spaced c.in_ok-rerun.ensures.rerun in
+    replay_of c.requires.kept c.in_ok-rerun.ensures.edits c.places.ensures.spaced
+    c.in_ok-rerun.ensures.rerun in
     rw (c.places.ensures.places, c.met_place-met.ensures, c.next-end.ensures.next)
     (report_after replay (changes_of c.args.edits.now) c.in_ok-rerun.ensures.edits.game refl refl)
 
 pub make_room-requires : goal.make_room-requires
 make_room-requires g c =
     let replay =
-    replay_of c.requires.kept c.in_ok-rerun.ensures.edits c.places.ensures.spaced c.in_ok-rerun.ensures.rerun in
+    replay_of c.requires.kept c.in_ok-rerun.ensures.edits c.places.ensures.spaced
+    c.in_ok-rerun.ensures.rerun in
     let inside = met_inside replay in
     record { among = replay.new_play.begun.among; passed = inside.0; met = inside.1 }
 

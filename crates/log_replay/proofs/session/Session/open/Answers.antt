@@ -10,4 +10,5 @@ play_game-requires-clause-game g c =
 
 pub play_game-requires-clause-every : goal.play_game-requires-clause-every
 play_game-requires-clause-every g c =
-    IsDistance-from_no_fault c.args.every (lines c.args.log.now) c.args.seed c.in_ok-lines.ensures.right
+    IsDistance-from_no_fault c.args.every (lines c.args.log.now) c.args.seed
+    c.in_ok-lines.ensures.right

@@ -3,7 +3,8 @@ use Rattle.std.proofs.Common.{◌∙◌, arith}
 use Rattle.std.specs.Prelude.{slice_index}
 use Rattle.replay_marks.specs.Thinning.{IsThinned, after_shift}
 use Rattle.replay_marks.specs.Marks.{CheckpointsView, next_place}
-use Rattle.replay_marks.proofs.JoinLemmas.{IsJoinable, put_end, spliced_after, shifted, rest_between}
+use Rattle.replay_marks.proofs.JoinLemmas.{IsJoinable, put_end, spliced_after, shifted}
+use Rattle.replay_marks.proofs.JoinLemmas.{rest_between}
 use Rattle.replay_marks.proofs.JoinLemmas.{joined_spaced}
 use Rattle.replay_marks.proofs.checkpoints.Checkpoints.join.Goals as goal
 
@@ -23,11 +24,13 @@ shift-requires-clause-after g c =
     let tail : c.len-2.result - (c.len.result - c.args.seam.rest) ≡ head + length middle =
     omega (
       arith,
-      put_end places middle _ head c.args.seam.rest within before.rest.within c.splice.ensures.places,
+      put_end places middle _ head c.args.seam.rest within before.rest.within
+          c.splice.ensures.places,
     ) in
     λ i le h.
     let there =
-    spliced_after places middle spliced head c.args.seam.rest _ within tail c.splice.ensures.places i
+    spliced_after places middle spliced head c.args.seam.rest _ within tail c.splice.ensures.places
+    i
     le h in
     omega (
       arith,
@@ -52,14 +55,17 @@ shift-requires-clause-fits g c =
     let tail : c.len-2.result - (c.len.result - c.args.seam.rest) ≡ head + length middle =
     omega (
       arith,
-      put_end places middle _ head c.args.seam.rest within before.rest.within c.splice.ensures.places,
+      put_end places middle _ head c.args.seam.rest within before.rest.within
+          c.splice.ensures.places,
     ) in
     λ i le h.
     let there =
-    spliced_after places middle spliced head c.args.seam.rest _ within tail c.splice.ensures.places i
+    spliced_after places middle spliced head c.args.seam.rest _ within tail c.splice.ensures.places
+    i
     le h in
     let between =
-    rest_between inside.every inside.lines c.args.seam.old c.args.seam.rest places c.self.invariant.spaced
+    rest_between inside.every inside.lines c.args.seam.old c.args.seam.rest places
+    c.self.invariant.spaced
     before.rest _ (omega arith) there.0 in
     omega (arith, there.1, between.0, between.1)
 
@@ -76,14 +82,16 @@ invariant_of-self g c =
     let among = before.among in
     let thinned =
     subst (λ (v : CheckpointsView g.row.K-State.Denot).
-    IsThinned (slice_index v.places (c.args.seam.at - 1)) (slice_index v.places c.args.seam.at) v.every
+    IsThinned (slice_index v.places (c.args.seam.at - 1)) (slice_index v.places c.args.seam.at)
+    v.every
     middle (next_place v.places c.args.seam.rest c.args.seam.old c.args.seam.new c.args.end))
     (sym c.self.view_is) c.requires.thinned in
     let within : head ≤ length places = omega arith in
     let tail : c.len-2.result - (c.len.result - c.args.seam.rest) ≡ head + length middle =
     omega (
       arith,
-      put_end places middle _ head c.args.seam.rest within before.rest.within c.splice.ensures.places,
+      put_end places middle _ head c.args.seam.rest within before.rest.within
+          c.splice.ensures.places,
     ) in
     let result : c.shift.new.self.places ≡ take head places
     ++ (middle ++ after_shift places c.args.seam.rest c.args.seam.old c.args.seam.new) =
@@ -94,10 +102,12 @@ invariant_of-self g c =
     record {
       spaced =
           joined_spaced inside.every inside.lines c.args.end places c.self.invariant.spaced
-          c.args.seam.at c.args.seam.old c.args.seam.new c.args.seam.rest among before.rest middle _ thinned refl c.requires.low
+          c.args.seam.at c.args.seam.old c.args.seam.new c.args.seam.rest among before.rest middle _
+          thinned refl c.requires.low
           before.end_is c.shift.new.self.places (result
           ∙ ap (λ front. take front places
-          ++ (middle ++ after_shift places c.args.seam.rest c.args.seam.old c.args.seam.new)) head_is);
+          ++ (middle ++ after_shift places c.args.seam.rest c.args.seam.old c.args.seam.new))
+          head_is);
       even = c.shift.ensures.even;
     }
 
@@ -116,12 +126,15 @@ returns-clause-places g c =
     let tail : c.len-2.result - (c.len.result - c.args.seam.rest) ≡ head + length middle =
     omega (
       arith,
-      put_end places middle _ head c.args.seam.rest within before.rest.within c.splice.ensures.places,
+      put_end places middle _ head c.args.seam.rest within before.rest.within
+          c.splice.ensures.places,
     ) in
     let head_is : head ≡ c.args.seam.at - 1 = omega arith in
     shifted places middle c.splice.new.self.places head c.args.seam.rest _ within tail
-    c.splice.ensures.places c.args.seam.old c.args.seam.new c.shift.new.self.places c.shift.ensures.places
+    c.splice.ensures.places c.args.seam.old c.args.seam.new c.shift.new.self.places
+    c.shift.ensures.places
     ∙ ap (λ front. take front places
     ++ (middle ++ after_shift places c.args.seam.rest c.args.seam.old c.args.seam.new)) head_is
     ∙ ap (λ (v : CheckpointsView g.row.K-State.Denot). take (c.args.seam.at - 1) v.places
-    ++ (middle ++ after_shift v.places c.args.seam.rest c.args.seam.old c.args.seam.new)) c.self.view_is
+    ++ (middle ++ after_shift v.places c.args.seam.rest c.args.seam.old c.args.seam.new))
+    c.self.view_is
