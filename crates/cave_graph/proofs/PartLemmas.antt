@@ -74,8 +74,8 @@ nodes_are_lines cave stops logs place =
     ∙ line_after (quoted (node_text cave stops place)) _
     (quoted_within (node_text cave stops place))
     ∙ line_after (look_of_place cave place) _ (look_within cave place)
-    ∙ line_after (strength logs (is_visited stops place)) (node_end (count_nowhere cave place))
-    (strength_within logs (is_visited stops place))
+    ∙ line_after (strength logs (is_visited cave stops place)) (node_end (count_nowhere cave place))
+    (strength_within logs (is_visited cave stops place))
     ∙ end_is_one_line (count_nowhere cave place)
 
 number_within : (n : ℕ) (more : List ℕ) → is_within_line more ≡ true

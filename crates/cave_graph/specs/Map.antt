@@ -30,7 +30,7 @@ ends_taken cave stops from = filter (is_taken cave stops from) (ends_of_ways cav
 
 -- the places on the map where plays were
 unfoldable pub places_visited : CaveView → List Stop → List ℕ
-places_visited cave stops = filter (is_visited stops) (mapped_places cave)
+places_visited cave stops = filter (is_visited cave stops) (mapped_places cave)
 
 -- how many ways from the places on the map plays took
 unfoldable pub count_taken : CaveView → List Stop → ℕ

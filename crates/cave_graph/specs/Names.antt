@@ -1,5 +1,5 @@
 -- How motions and objects are named, and the first words of a text.
-use Rattle.std.specs.Prelude.{ℕ, ◌+◌, ◌-◌, ◌/◌, ◌%◌, Bool, true, false, ◌==◌, ◌||◌, not, nat_le}
+use Rattle.std.specs.Prelude.{ℕ, ◌+◌, ◌-◌, ◌/◌, ◌%◌, Bool, true, false, ◌==◌, ◌||◌, nat_le}
 use Rattle.std.specs.Prelude.{nat_lt}
 use Rattle.std.specs.Prelude.{if◌then◌else◌, List, [], ◌∷◌, ◌++◌, codes}
 use Rattle.std.specs.Prelude.{Option, option_map, unwrap_or}
@@ -30,24 +30,31 @@ unfoldable pub word_or_number : CaveView → ℕ → List ℕ
 word_or_number cave number =
     codes " " ++ unwrap_or (first_word cave.words number) (decimal (number % PER_CLASS))
 
+-- how many words of a text are on the map
+abbrev pub WORDS_SHOWN : ℕ
+WORDS_SHOWN = 8
+
 -- how many words of a title are on a line at most
 abbrev pub WORDS_PER_LINE : ℕ
 WORDS_PER_LINE = 3
 
--- what is after a word, where so many words were still shown before it: so that a place is narrow,
--- a title of eight words is on three lines, which have three, three and two of them
-abbrev pub word_end : ℕ → ℕ
-word_end words = if words % WORDS_PER_LINE == 0 then LINE_FEED else BLANK
+-- what comes before a word after so many others: so that a place is narrow, a title of eight words
+-- is on three lines, which have three, three and two of them
+abbrev pub word_start : ℕ → List ℕ
+word_start shown =
+    if shown == 0 then []
+    else (if shown % WORDS_PER_LINE == 0 then LINE_FEED ∷ [] else BLANK ∷ [])
 
--- so many words of a text at most, up to the end of its first line; blanks after a blank aren't
--- shown
+-- the first words of a text, up to the end of its first line, where so many were shown before, the
+-- last of them whole or not yet
 abbrev pub opening_words : ℕ → Bool → List ℕ → List ℕ
-opening_words words is_after_blank [] = []
-opening_words words is_after_blank (byte ∷ bytes) =
+opening_words shown is_in_word [] = []
+opening_words shown is_in_word (byte ∷ bytes) =
     if byte == LINE_FEED then []
-    else (if not (is_blank byte) then byte ∷ opening_words words false bytes
-    else (if is_after_blank then opening_words words true bytes
-    else (if words == 1 then [] else word_end words ∷ opening_words (words - 1) true bytes)))
+    else (if is_blank byte then opening_words shown false bytes
+    else (if is_in_word then byte ∷ opening_words shown true bytes
+    else (if shown == WORDS_SHOWN then []
+    else word_start shown ++ byte ∷ opening_words (shown + 1) true bytes)))
 
 -- what is asked of an object, with the object
 abbrev pub object_mark : CaveView → List ℕ → ℕ → List ℕ

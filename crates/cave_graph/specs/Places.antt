@@ -1,5 +1,5 @@
 -- The node of a place.
-use Rattle.std.specs.Prelude.{ℕ, pos, Bool, true, false, ◌==◌, ◌||◌, if◌then◌else◌}
+use Rattle.std.specs.Prelude.{ℕ, pos, Bool, false, ◌==◌, ◌||◌, if◌then◌else◌}
 use Rattle.std.specs.Prelude.{List, [], ◌++◌, codes, Option, None, Some, unwrap_or}
 use Rattle.std.specs.Prelude.{slice_index_or}
 use Rattle.std.specs.Fmt.{decimal}
@@ -18,14 +18,10 @@ use Rattle.cave_graph.specs.Stops.{is_visited, visits}
 use Rattle.cave_graph.specs.Ways.{count_nowhere}
 use Rattle.cave_graph.specs.declared.stops.Stop.{Stop}
 
--- how many words of a text are on the map
-abbrev pub WORDS_SHOWN : ℕ
-WORDS_SHOWN = 8
-
 -- the first words of the short text, or of the long one where there is no short one
 abbrev pub title : CaveView → ℕ → List ℕ
 title cave place =
-    opening_words WORDS_SHOWN true
+    opening_words 0 false
     (unwrap_or (option_or (map.get cave.short place) (map.get cave.long place)) [])
 
 -- a half of the object is there as a game begins
@@ -109,4 +105,4 @@ node cave stops logs place =
     node_opening place
     ++ (quoted (node_text cave stops place)
     ++ (look_of_place cave place
-    ++ (strength logs (is_visited stops place) ++ node_end (count_nowhere cave place))))
+    ++ (strength logs (is_visited cave stops place) ++ node_end (count_nowhere cave place))))

@@ -10,10 +10,13 @@ use Rattle.cave_graph.specs.declared.stops.Stop.{Stop}
 abbrev pub stop : ℕ → Trail → Stop
 stop before trail = record { before = before; trail = trail }
 
--- the player is at the place, or came through it
-abbrev pub is_at : ℕ → Stop → Bool
-is_at place stop =
-    stop.trail.here == place || stop.trail.last == place || stop.trail.older == place
+-- the player is at the place, or a forced motion moved the player on from it on the way there
+abbrev pub is_at : CaveView → ℕ → Stop → Bool
+is_at cave place stop =
+    let trail = stop.trail in
+    trail.here == place
+    || (is_forced cave trail.last
+    && (trail.last == place || (is_forced cave trail.older && trail.older == place)))
 
 -- the player left the place in this turn: it is where the turn began, or one of a forced motion
 abbrev pub leaves : CaveView → ℕ → Stop → Bool
@@ -29,18 +32,18 @@ comes_by cave from to stop =
     && ((trail.older == from && trail.last == to && leaves cave from stop)
     || (is_forced cave trail.older && stop.before == from && trail.older == to)))
 
--- the player is at the place, and wasn't there before
+-- the player is at the place, and wasn't there as the line began
 abbrev pub arrives_at : ℕ → Stop → Bool
 arrives_at place stop = stop.trail.here == place && not (stop.before == place)
 
 -- a play was at the place
-abbrev pub is_visited : List Stop → ℕ → Bool
-is_visited stops place = list_any (is_at place) stops
+abbrev pub is_visited : CaveView → List Stop → ℕ → Bool
+is_visited cave stops place = list_any (is_at cave place) stops
 
 -- a play took a way from the one place to the other
 abbrev pub is_taken : CaveView → List Stop → ℕ → ℕ → Bool
 is_taken cave stops from to = list_any (comes_by cave from to) stops
 
--- how often plays came to the place
+-- how often plays came to the place by a line that began elsewhere, or began there
 abbrev pub visits : List Stop → ℕ → ℕ
 visits stops place = length (filter (arrives_at place) stops)

@@ -102,12 +102,12 @@ struct SeenCounts {
 }
 
 /// How many of some places plays were at.
-fn count_visited(stops: &[Stop], places: &[u16]) -> usize
-    ensures { result ≡ length (filter (is_visited stops.now) places.now) }
+fn count_visited(cave: &Cave, stops: &[Stop], places: &[u16]) -> usize
+    ensures { result ≡ length (filter (is_visited cave.now stops.now) places.now) }
 {
     places
         .iter()
-        .filter(|place| is_visited(stops, **place))
+        .filter(|place| is_visited(cave, stops, **place))
         .count()
 }
 
@@ -148,7 +148,7 @@ fn count_seen(cave: &Cave, stops: &[Stop], places: &[u16]) -> SeenCounts
 {
     let (taken, ways) = count_ways(cave, stops, places);
     SeenCounts {
-        visited: count_visited(stops, places),
+        visited: count_visited(cave, stops, places),
         places: places.len(),
         taken,
         ways,

@@ -293,6 +293,6 @@ pub fn push_node(
     push_node_opening(alloc, place, text)?;
     push_node_label(alloc, cave, stops, place, text)?;
     text.extend_from_slice(look_of_place(cave, place).as_bytes())?;
-    text.extend_from_slice(strength(logs, is_visited(stops, place)).as_bytes())?;
+    text.extend_from_slice(strength(logs, is_visited(cave, stops, place)).as_bytes())?;
     push_node_end(alloc, count_nowhere(cave, place), text)
 }

@@ -17,13 +17,15 @@ pub struct Stop {
 }
 
 impl Stop {
-    /// Whether the player is at a place, or came through it.
-    fn is_at(&self, place: u16) -> bool
-        ensures { result ≡ is_at place self.now }
+    /// Whether the player is at a place, or a forced motion moved the player on from it on the way
+    /// there.
+    fn is_at(&self, cave: &Cave, place: u16) -> bool
+        ensures { result ≡ is_at cave.now place self.now }
     {
-        self.trail.here.number() == place
-            || self.trail.last.number() == place
-            || self.trail.older.number() == place
+        let Trail { here, last, older } = self.trail;
+        here.number() == place
+            || (is_forced(cave, last)
+                && (last.number() == place || (is_forced(cave, older) && older.number() == place)))
     }
 
     /// Whether the player left a place in this turn: it is where the turn began, or one of a forced
@@ -48,7 +50,7 @@ impl Stop {
                         && older.number() == to)))
     }
 
-    /// Whether the player is at a place, and wasn't there before.
+    /// Whether the player is at a place, and wasn't there as the line began.
     fn arrives_at(&self, place: u16) -> bool
         ensures { result ≡ arrives_at place self.now }
     {
@@ -57,10 +59,10 @@ impl Stop {
 }
 
 /// Whether a play was at a place.
-pub fn is_visited(stops: &[Stop], place: u16) -> bool
-    ensures { result ≡ is_visited stops.now place }
+pub fn is_visited(cave: &Cave, stops: &[Stop], place: u16) -> bool
+    ensures { result ≡ is_visited cave.now stops.now place }
 {
-    stops.iter().any(|stop| stop.is_at(place))
+    stops.iter().any(|stop| stop.is_at(cave, place))
 }
 
 /// Whether a play took a way from the one place to the other.
@@ -70,7 +72,7 @@ pub fn is_taken(cave: &Cave, stops: &[Stop], from: u16, to: u16) -> bool
     stops.iter().any(|stop| stop.comes_by(cave, from, to))
 }
 
-/// How often plays came to a place.
+/// How often plays came to a place by a line that began elsewhere, or began there.
 pub fn visits(stops: &[Stop], place: u16) -> usize
     ensures { result ≡ visits stops.now place }
 {

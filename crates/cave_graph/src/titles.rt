@@ -1,9 +1,9 @@
 //! The first words of the text of a place.
 
-ghost use Rattle.std.specs.Prelude.{◌≡◌, ◌<◌, ◌++◌, [], OnOk, true, unwrap_or};
+ghost use Rattle.std.specs.Prelude.{◌≡◌, ◌++◌, [], OnOk, false, unwrap_or};
 ghost use Rattle.std.specs.Option.{option_or};
 ghost use Rattle.std.specs.FinMap.{get};
-ghost use Rattle.cave_graph.specs.Names.{opening_words, word_end};
+ghost use Rattle.cave_graph.specs.Names.{opening_words, word_start};
 ghost use Rattle.cave_graph.specs.Places.{title};
 
 use cave_data::Cave;
@@ -24,39 +24,41 @@ fn text_of_place(cave: &Cave, place: u16) -> &[u8]
     cave.short(place).or(cave.long(place)).unwrap_or(&[])
 }
 
-/// What is after a word, where so many words were still shown before it.
-fn word_end(words: usize) -> u8
-    ensures { result ≡ word_end words }
+/// What comes before a word after so many others.
+fn word_start(shown: usize) -> &'static str
+    ensures { result.now ≡ word_start shown }
 {
-    if words % WORDS_PER_LINE == 0 {
-        b'\n'
+    if shown == 0 {
+        ""
+    } else if shown % WORDS_PER_LINE == 0 {
+        "\n"
     } else {
-        b' '
+        " "
     }
 }
 
-/// Appends so many words of a text at most, up to the end of its first line. Blanks after a blank
-/// aren't shown, nor those at its beginning.
-fn push_opening_words(most: usize, bytes: &[u8], text: &mut Vec<u8>) -> Result<(), AllocError>
-    requires { 0 < most }
-    ensures { OnOk result (text.new.items ≡ text.old.items ++ opening_words most true bytes.now) }
+/// Appends the first words of a text, up to the end of its first line. Blanks between them are one.
+fn push_opening_words(bytes: &[u8], text: &mut Vec<u8>) -> Result<(), AllocError>
+    ensures { OnOk result (text.new.items ≡ text.old.items ++ opening_words 0 false bytes.now) }
 {
-    let mut words = most;
-    let mut is_after_blank = true;
+    let mut shown = 0;
+    let mut is_in_word = false;
     for byte in bytes {
         if *byte == b'\n' {
             return Ok(());
         }
-        if !is_blank(*byte) {
+        if is_blank(*byte) {
+            is_in_word = false;
+        } else if is_in_word {
             text.push(*byte)?;
-            is_after_blank = false;
-        } else if !is_after_blank {
-            if words == 1 {
+        } else {
+            if shown == WORDS_SHOWN {
                 return Ok(());
             }
-            text.push(word_end(words))?;
-            words -= 1;
-            is_after_blank = true;
+            text.extend_from_slice(word_start(shown).as_bytes())?;
+            text.push(*byte)?;
+            shown += 1;
+            is_in_word = true;
         }
     }
     Ok(())
@@ -66,5 +68,5 @@ fn push_opening_words(most: usize, bytes: &[u8], text: &mut Vec<u8>) -> Result<(
 pub fn push_title(cave: &Cave, place: u16, text: &mut Vec<u8>) -> Result<(), AllocError>
     ensures { OnOk result (text.new.items ≡ text.old.items ++ title cave.now place) }
 {
-    push_opening_words(WORDS_SHOWN, text_of_place(cave, place), text)
+    push_opening_words(text_of_place(cave, place), text)
 }

@@ -5,7 +5,7 @@ use Rattle.cave_cover.proofs.Agreeing.{agree_flat, agree_sum}
 use Rattle.cave_data.specs.CaveView.{CaveView}
 use Rattle.cave_graph.specs.Edges.{edge, edges}
 use Rattle.cave_graph.specs.Map.{count_taken, ends_taken, map_by_stops, places_visited, sums}
-use Rattle.cave_graph.specs.Places.{node, node_text}
+use Rattle.cave_graph.specs.Places.{node, node_text, stay_text}
 use Rattle.cave_graph.specs.Stops.{is_taken, is_visited, visits}
 use Rattle.cave_graph.specs.Ways.{ends_of_edges, ends_of_ways, mapped_places}
 use Rattle.cave_graph.specs.declared.stops.Stop.{Stop}
@@ -17,11 +17,11 @@ agree_filter p q (x ∷ xs) agree =
     ap₂ (λ b rest. cond b (x ∷ rest) rest) (agree x) (agree_filter p q xs agree)
 
 module _ (cave : CaveView) (stops others : List Stop)
-    (visited : (place : ℕ) → is_visited stops place ≡ is_visited others place)
+    (visited : (place : ℕ) → is_visited cave stops place ≡ is_visited cave others place)
     (taken : (from to : ℕ) → is_taken cave stops from to ≡ is_taken cave others from to)
     (counted : (place : ℕ) → visits stops place ≡ visits others place) where
   agree_node : (logs place : ℕ) → node cave stops logs place ≡ node cave others logs place
-  unfolding node node_text
+  unfolding node node_text stay_text
   agree_node logs place = rw (visited place, counted place) refl
 
   agree_edge : (logs from to : ℕ) → edge cave stops logs from to ≡ edge cave others logs from to
@@ -36,7 +36,7 @@ module _ (cave : CaveView) (stops others : List Stop)
   agree_visited : places_visited cave stops ≡ places_visited cave others
   unfolding places_visited
   agree_visited =
-      agree_filter (is_visited stops) (is_visited others) (mapped_places cave) visited
+      agree_filter (is_visited cave stops) (is_visited cave others) (mapped_places cave) visited
 
   agree_taken : (from : ℕ) → ends_taken cave stops from ≡ ends_taken cave others from
   unfolding ends_taken

@@ -51,7 +51,7 @@ count_in_order cave seed test logs others shuffled =
 pub order_of_logs_is_nothing : OrderOfLogsIsNothing
 order_of_logs_is_nothing cave seed logs others shuffled =
     agree_map cave (stops_in_all cave seed others) (stops_in_all cave seed logs)
-    (λ place. any_in_order cave seed (is_at place) logs others shuffled)
+    (λ place. any_in_order cave seed (is_at cave place) logs others shuffled)
     (λ from to. any_in_order cave seed (comes_by cave from to) logs others shuffled)
     (λ place. count_in_order cave seed (arrives_at place) logs others shuffled) (length others)
     ∙ ap (map_by_stops cave (stops_in_all cave seed logs)) (length_permutation logs others shuffled)

@@ -15,7 +15,7 @@ pub returns-clause-visited : goal.returns-clause-visited
 unfolding places_visited
 returns-clause-visited c =
     c.count_visited.ensures
-    ∙ ap (λ places. length (filter (is_visited c.args.stops.now) places)) c.requires
+    ∙ ap (λ places. length (filter (is_visited c.args.cave.now c.args.stops.now) places)) c.requires
 
 pub returns-clause-taken : goal.returns-clause-taken
 unfolding count_taken
