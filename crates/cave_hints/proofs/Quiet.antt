@@ -54,7 +54,7 @@ considered_far cave h (Some hint) p far none =
     ∙ if_either (is_hint_taken p.state h) p
 
 -- a hint whose area is elsewhere, and whose turns don't count, changes nothing
-far_is_nothing : (cave : CaveView) (h : ℕ) (p : Scene) → is_in_area cave h p.state ≡ false
+pub far_is_nothing : (cave : CaveView) (h : ℕ) (p : Scene) → is_in_area cave h p.state ≡ false
     → turns_near p.state h ≡ 0 → after_considering cave h p ≡ p
 unfolding after_considering
 far_is_nothing cave h p far none = considered_far cave h (map.get cave.hints h) p far none

@@ -80,13 +80,21 @@ fn count_hints(cave: &Cave) -> u8
     count.min(usize::from(OFFERED_HINTS)) as u8
 }
 
+/// How many turns the player has stayed in the area of the hint that is offered after so many.
+fn turns_after(before: usize, state: &State) -> Count<10000>
+    requires { before < 17 }
+    ensures { result ≡ turns_near state.now (before + 4) }
+{
+    state.hints.turns[before + usize::from(FIRST_HINT) - 1]
+}
+
 /// Whether of so many hints no turn counts.
 fn counts_no_turn(count: u8, state: &State) -> bool
     requires { count ≤ 17 }
     ensures { IsTrue result → (n : ℕ) → n < count → turns_near state.now (n + 4) ≡ 0 }
 {
-    for before in 0..count {
-        if turns_near(HintNumber::new(before + FIRST_HINT), state).number() != 0 {
+    for before in 0..usize::from(count) {
+        if turns_after(before, state).number() != 0 {
             return false;
         }
     }
@@ -144,6 +152,16 @@ fn is_in_area(hint: HintNumber, conditions: u32) -> bool
         → result ≡ is_in_area cave hint s }
 {
     (conditions >> hint.number()) % 2 == 1
+}
+
+/// Whether the player is outside the area of a hint of which no turn counts.
+fn is_far(hint: HintNumber, conditions: u32, state: &State) -> bool
+    ensures area { IsTrue result → (cave : CaveView)
+        → conditions ≡ conditions_of cave state.now.trail.here
+        → is_in_area cave hint state.now ≡ false }
+    ensures turns { IsTrue result → turns_near state.now hint ≡ 0 }
+{
+    turns_near(hint, state).number() == 0 && !is_in_area(hint, conditions)
 }
 
 /// One turn more in the area of a hint, or none outside it. Returns whether the player is in it.
@@ -285,6 +303,9 @@ fn consider(rules: &Rules<'_>, number: HintNumber, conditions: u32, play: &mut P
     ensures stays { takes_no_command play.new.state.now ≡ false
         → takes_no_command play.old.state.now ≡ false }
 {
+    if is_far(number, conditions, play.state) {
+        return;
+    }
     if let Some(hint) = rules.cave.hint(u16::from(number.number())) {
         if play.state.is_hint_taken(number) {
             return;
