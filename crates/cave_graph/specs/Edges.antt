@@ -37,7 +37,7 @@ abbrev pub line_of_text : List ℕ → List ℕ → List ℕ
 line_of_text prefix text =
     if length text == 0 then [] else prefix ++ (text ++ codes "\n")
 
--- the line of a row, if it leads to the place; a row of a forced motion has none
+-- the line of a row, if it leads to the place and says something
 abbrev pub row_line : CaveView → List ℕ → ℕ → Going → List ℕ
 row_line cave prefix place row =
     if ends_at place row then line_of_text prefix (row_text cave row) else []
