@@ -17,7 +17,7 @@ use cave_things::homes::anchor_by;
 use cave_things::places::{place_named, start_place};
 use cave_things::treasures::{FIRST_TREASURE, LAST_TREASURE};
 use cave_words::Stream;
-use cave_world::{Count, DWARVES, Dwarf, State};
+use cave_world::{Count, DWARVES, Dwarf, MAX_TREASURES, State};
 
 /// Whether an object is put with those that have two places, or with the others.
 fn is_placed_now(twice: bool, second: i16) -> bool
@@ -57,7 +57,7 @@ fn place_down(cave: &Cave, twice: bool, objects: &mut Objects)
 
 /// The known treasures weren't seen yet. Returns how many they are.
 #[tactic(auto, using(crate::proofs::Countdown::hiding))]
-fn hide_treasures(cave: &Cave, objects: &mut Objects) -> Count<30>
+fn hide_treasures(cave: &Cave, objects: &mut Objects) -> Count<MAX_TREASURES>
     ensures objects { objects.new ≡ after_hiding_all (known_treasures cave.now) objects.old }
     ensures count { result ≡ length (known_treasures cave.now) }
 {
@@ -72,7 +72,7 @@ fn hide_treasures(cave: &Cave, objects: &mut Objects) -> Count<30>
 }
 
 /// Puts the objects where they are as a game begins. Returns how many treasures weren't seen yet.
-fn place_all(cave: &Cave, objects: &mut Objects) -> Count<30>
+fn place_all(cave: &Cave, objects: &mut Objects) -> Count<MAX_TREASURES>
     requires { objects.old ≡ without_places }
     ensures objects { objects.new ≡ starting_objects cave.now }
     ensures hidden { result ≡ length (known_treasures cave.now) }

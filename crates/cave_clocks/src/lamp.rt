@@ -46,7 +46,7 @@ fn can_change_batteries(rules: &Rules<'_>, state: &State) -> bool
         && is_near(rules, state, rules.object(Named::Lamp))
 }
 
-fn refill(state: &mut State)
+fn renew_charge(state: &mut State)
     ensures { state.new ≡ with_new_charge state.old }
 {
     let turns = state.lamp.charge.turns();
@@ -73,7 +73,7 @@ fn change_batteries(rules: &Rules<'_>, play: &mut Play<'_>)
 {
     play.say(Role::Replaced);
     use_batteries(rules, play.state);
-    refill(play.state);
+    renew_charge(play.state);
 }
 
 /// The lamp can't be lit again.

@@ -20,6 +20,11 @@ end_of_numbers = 10000
 abbrev pub PROPS_PER_OBJECT : ℕ
 PROPS_PER_OBJECT = 100
 
+-- how many kinds there are
+abbrev pub KIND_COUNT : ℕ
+KIND_COUNT = 7
+
+-- its place among the kinds, from 0
 abbrev pub kind_number : Kind → ℕ
 kind_number kind.Long = 0
 kind_number kind.Short = 1

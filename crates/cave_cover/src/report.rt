@@ -7,7 +7,7 @@ ghost use Rattle.cave_cover.specs.Marks.{is_marked};
 ghost use Rattle.cave_cover.specs.Report.{sums_line, heading_of_kind, kinds, line, name};
 ghost use Rattle.cave_cover.specs.Report.{names_of_texts, never};
 ghost use Rattle.cave_cover.specs.Report.{numbers_missing, present, report, numbers_shown};
-ghost use Rattle.cave_cover.specs.Texts.{has_text, text, end_of_numbers};
+ghost use Rattle.cave_cover.specs.Texts.{has_text, text, end_of_numbers, KIND_COUNT};
 
 use crate::marks::SaidTexts;
 use crate::text::{KINDS, Kind, NUMBERS, PROPS_PER_OBJECT, Text};
@@ -188,7 +188,7 @@ fn push_line(
 
 /// The sums of what the lines of kinds count: the texts that were said, and all that the cave has.
 fn totals(cave: &Cave, said: &SaidTexts, kinds: &[Kind]) -> (usize, usize)
-    requires { length kinds.now ≤ 7 }
+    requires { length kinds.now ≤ KIND_COUNT }
     ensures shown { result.0
         ≡ sum_by (λ kind. length (numbers_shown cave.now (is_marked said.now) kind)) kinds.now }
     ensures present { result.1 ≡ sum_by (λ kind. length (present cave.now kind)) kinds.now }

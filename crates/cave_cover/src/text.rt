@@ -1,7 +1,7 @@
 //! The texts of a cave, each by its kind and its number.
 
 ghost use Rattle.std.specs.Prelude.{◌≡◌, ◌<◌};
-ghost use Rattle.cave_cover.specs.Texts.{kind_number};
+ghost use Rattle.cave_cover.specs.Texts.{KIND_COUNT, kind_number};
 
 /// One more than the greatest number that a text may have.
 pub const NUMBERS: usize = 10_000;
@@ -28,8 +28,11 @@ pub enum Kind {
     Class,
 }
 
+/// How many kinds there are.
+pub const KIND_COUNT: usize = 7;
+
 /// The kinds in the order of the sections.
-pub const KINDS: [Kind; 7] = [
+pub const KINDS: [Kind; KIND_COUNT] = [
     Kind::Long,
     Kind::Short,
     Kind::Look,
@@ -43,7 +46,7 @@ impl Kind {
     /// Its place among the kinds, from 0.
     pub fn number(self) -> usize
         ensures value { result ≡ kind_number self }
-        ensures within { result < 7 }
+        ensures within { result < KIND_COUNT }
     {
         self as usize
     }

@@ -54,6 +54,10 @@ default_outside = 8
 abbrev pub default_deep : ℕ
 default_deep = 15
 
+-- how many letters of a word count, where bindings say nothing
+abbrev pub default_letters : ℕ
+default_letters = 5
+
 -- the places that have a role where bindings say nothing: start, building, outside and deep
 abbrev pub default_place : ℕ → Option ℕ
 default_place n = if n == 0 then Some default_start

@@ -11,6 +11,7 @@ use Rattle.cave_rows.specs.declared.position.Position.{Position}
 use Rattle.cave_rows.specs.declared.position.Position.TheVariants.{Outside, Inside, After}
 use Rattle.cave_rows.specs.Rows.{◌>>=◌, number_or_cause, list_in, some_of, word_or_cause}
 use Rattle.cave_rows.specs.Rows.{number_or_zero, within, all_within, entry_in}
+use Rattle.cave_rows.specs.Rows.{LAST_MOTION, LAST_TARGET}
 use Rattle.cave_rows.specs.Grammar.{position_after}
 use Rattle.cave_data.specs.FirstFault.{line_cause}
 use Rattle.cave_numbers.specs.Numbers.{last_place, last_hint}
@@ -37,8 +38,8 @@ has_parts s line = is_ok (number_or_cause line)
 abbrev pub is_in_range : Section → List ℕ → Bool
 is_in_range section.Travel line =
     is_ok (number_or_cause line >>= λ place. number_or_cause place.1 >>= λ target. list_in target.1
-    >>= λ motions. within 1 last_place place.0 >>= λ from. within 0 999999 target.0
-    >>= λ to. all_within 1 999 motions)
+    >>= λ motions. within 1 last_place place.0 >>= λ from. within 0 LAST_TARGET target.0
+    >>= λ to. all_within 1 LAST_MOTION motions)
 is_in_range section.Conditions line =
     is_ok (number_or_cause line >>= λ bit. list_in bit.1 >>= λ places. within 0 last_hint bit.0
     >>= λ number. all_within 1 last_place places)

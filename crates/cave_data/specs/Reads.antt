@@ -17,7 +17,7 @@ use Rattle.cave_data.specs.Database.{IsDatabase, Holds}
 use Rattle.cave_rows.specs.declared.binding.Binding.{Binding}
 use Rattle.log_lines.specs.LogLine.{is_skipped}
 use Rattle.cave_rows.specs.BindingLines.{binding_row, bindings_of}
-use Rattle.cave_data.specs.Bindings.{value_of, default_place}
+use Rattle.cave_data.specs.Bindings.{value_of, default_letters, default_place}
 use Rattle.cave_data.specs.BindingFault.{first_binding_fault}
 
 -- The line binds a key that no line before it binds.
@@ -50,7 +50,8 @@ pub record Reads (database bindings : List ℕ) (c : CaveView) : Type 0 where
   pub places : (n : ℕ)
       → get c.places n
       ≡ option_or (value_of (PlaceKey n) (bindings_of (lines bindings))) (default_place n)
-  pub letters : c.letters ≡ unwrap_or (value_of LettersKey (bindings_of (lines bindings))) 5
+  pub letters : c.letters
+      ≡ unwrap_or (value_of LettersKey (bindings_of (lines bindings))) default_letters
 
 abbrev pub too_large_input : FaultSite → CaveError
 too_large_input site = record { cause = TooLarge; line = 0; site = site }

@@ -6,7 +6,7 @@ ghost use Rattle.limits.specs.Limits.{max_input_bytes};
 ghost use Rattle.cave_data.specs.CaveView.{inventory_text, look_of, ways_from, conditions_of};
 ghost use Rattle.cave_data.specs.CaveView.{placement_of, default_message, CaveView};
 ghost use Rattle.cave_data.specs.CaveView.{rating_of_score};
-ghost use Rattle.cave_data.specs.Bindings.{default_place};
+ghost use Rattle.cave_data.specs.Bindings.{default_letters, default_place};
 ghost use Rattle.cave_data.specs.Faults.{FaultIs, no_memory};
 ghost use Rattle.cave_data.specs.Cave.{Finished};
 ghost use Rattle.cave_data.specs.Ranges.{IsLetters, IsMessage, IsPlace, IsPlacementInRange};
@@ -51,7 +51,7 @@ pub const DEFAULT_OUTSIDE: u16 = 8;
 pub const DEFAULT_DEEP: u16 = 15;
 
 /// How many letters of a word count, where bindings say nothing.
-pub const DEFAULT_LETTERS: u8 = 5;
+const DEFAULT_LETTERS: u8 = 5;
 
 /// A cave that was read from a database and its bindings.
 #[derive(Drop)]
@@ -130,7 +130,7 @@ fn is_too_large(input: &[u8]) -> bool
 /// How many letters count.
 fn letters_of(bound: Option<u16>) -> u8
     requires { IfSome bound IsLetters }
-    ensures value { result ≡ unwrap_or bound 5 }
+    ensures value { result ≡ unwrap_or bound default_letters }
     ensures range { IsLetters result }
 {
     match bound {

@@ -7,13 +7,13 @@ ghost use Rattle.cave_dwarves.specs.Dwarves.{encounter_of, encounter_in_turn};
 use crate::knives::raid;
 use crate::lines::tell_attack;
 use crate::pirate::send_pirate;
-use crate::waking::{awake, stir};
+use crate::waking::{perhaps_wake, stir};
 use cave_scene::{Play, Rules};
 
 /// The dwarves sleep, stir, or are awake, where the player arrives. Returns whether a knife hit the
 /// player.
 #[tactic(auto, unfolding(crate::specs::Dwarves::encounter_in_turn))]
-pub fn move_dwarves(rules: &Rules<'_>, play: &mut Play<'_>) -> bool
+pub fn encounter_dwarves(rules: &Rules<'_>, play: &mut Play<'_>) -> bool
     requires { HasRoom parts_of_dwarves play.old }
     ensures moves { record { is_hit = result; scene = scene_of play.new }
         ≡ encounter_in_turn (cave_of rules.now) (scene_of play.old) }
@@ -26,16 +26,16 @@ pub fn move_dwarves(rules: &Rules<'_>, play: &mut Play<'_>) -> bool
             false
         }
         1 => {
-            awake(rules, play);
+            perhaps_wake(rules, play);
             false
         }
-        _ => harry(rules, play),
+        _ => encounter_awake(rules, play),
     }
 }
 
 /// Dwarves that are awake act, and then the pirate. Returns whether a knife hit the player.
 #[tactic(auto, unfolding(crate::specs::Dwarves::encounter_of))]
-fn harry(rules: &Rules<'_>, play: &mut Play<'_>) -> bool
+fn encounter_awake(rules: &Rules<'_>, play: &mut Play<'_>) -> bool
     requires { HasRoom parts_of_dwarves play.old }
     ensures moves { record { is_hit = result; scene = scene_of play.new }
         ≡ encounter_of (cave_of rules.now) (scene_of play.old) }

@@ -12,4 +12,4 @@ mod moving;
 mod pirate;
 mod waking;
 
-pub use dwarves::move_dwarves;
+pub use dwarves::encounter_dwarves;

@@ -70,7 +70,7 @@ fn tell_knives(knives: u32, hits: u32, play: &mut Play<'_>)
 
 /// Dwarves that threw knives for the first time are angrier from then on.
 #[tactic(auto, unfolding(crate::specs::Lines::after_first_knives))]
-fn enrage(state: &mut State)
+fn note_first_knives(state: &mut State)
     ensures { state.new ≡ after_first_knives state.old }
 {
     if state.dwarves.anger.number() == 2 {
@@ -89,7 +89,7 @@ fn tell_throws(attack: Attack, play: &mut Play<'_>)
     if attack.knives == 0 {
         return;
     }
-    enrage(play.state);
+    note_first_knives(play.state);
     if attack.knives == 1 {
         tell_knife(attack.hits, play);
     } else {

@@ -6,7 +6,7 @@ ghost use Rattle.cave_dwarves.specs.Waking.{with_anger, after_stirring, without_
 ghost use Rattle.cave_dwarves.specs.Waking.{perhaps_without_one, place_apart, dwarf_apart};
 ghost use Rattle.cave_dwarves.specs.Waking.{with_dwarves_apart, after_waking, axe_scene};
 ghost use Rattle.cave_dwarves.specs.Waking.{waking_scene};
-ghost use Rattle.cave_world.specs.Dwarves.{pirate};
+ghost use Rattle.cave_world.specs.Dwarves.{MAX_ANGER, pirate};
 
 use crate::band::{dwarf_of, set_dwarf};
 use cave_objects::Place;
@@ -18,7 +18,7 @@ use cave_world::{Count, Dwarf, PIRATE, State};
 
 /// The dwarves are so angry from now on.
 pub fn set_anger(degree: u16, state: &mut State)
-    requires { degree ≤ 13 }
+    requires { degree ≤ MAX_ANGER }
     ensures { state.new ≡ with_anger degree state.old }
 {
     state.dwarves.anger = Count::new(degree);
@@ -121,7 +121,7 @@ fn throw_first_axe(rules: &Rules<'_>, play: &mut Play<'_>)
 
 /// In the depths, dwarves that stir may wake.
 #[tactic(auto, unfolding(crate::specs::Waking::waking_scene))]
-pub fn awake(rules: &Rules<'_>, play: &mut Play<'_>)
+pub fn perhaps_wake(rules: &Rules<'_>, play: &mut Play<'_>)
     requires { HasRoom 1 play.old }
     ensures play { scene_of play.new ≡ waking_scene (cave_of rules.now) (scene_of play.old) }
     ensures same { GoesOn play.old play.new }

@@ -6,25 +6,25 @@ use Rattle.std.proofs.Math.Nat.{div-eq_of_lt, pow-le-pow_right}
 use Rattle.std.proofs.lemmas.List.{set-get_or}
 use Rattle.std.specs.FinMap as map
 use Rattle.cave_data.specs.CaveView.{CaveView, conditions_of}
-use Rattle.cave_hints.specs.Hints.{is_in_area, is_due, after_turn_near, offer_scene}
-use Rattle.cave_hints.specs.Hints.{with_turns_near, after_considering, after_considering_if}
-use Rattle.cave_hints.specs.Hints.{after_hints_up_to}
+use Rattle.cave_hints.specs.Hints.{is_in_area, is_due, after_turn_in_area, offer_scene}
+use Rattle.cave_hints.specs.Hints.{with_turns_in_area, after_considering, after_considering_if}
+use Rattle.cave_hints.specs.Hints.{after_hints_up_to, FIRST_HINT}
 use Rattle.cave_rows.specs.declared.rows.Hint.{Hint}
 use Rattle.cave_scene.specs.Play.{Scene, with_state}
 use Rattle.cave_world.specs.Sight.{has_condition}
-use Rattle.cave_world.specs.State.{turns_near, is_hint_taken}
+use Rattle.cave_world.specs.State.{turns_in_area, is_hint_taken}
 use Rattle.cave_world.specs.declared.state.State.{State}
 
 -- no turn is counted where none was
-turns_as_they_are : (h : ℕ) (s : State) → turns_near s h ≡ 0 → with_turns_near h 0 s ≡ s
+turns_as_they_are : (h : ℕ) (s : State) → turns_in_area s h ≡ 0 → with_turns_in_area h 0 s ≡ s
 turns_as_they_are h s none =
     let hints = s.hints in
     ap (λ turns. record s { hints = record hints { turns = turns } })
     (ap (λ n. slice_set hints.turns (h - 1) n) (sym none) ∙ set-get_or hints.turns (h - 1) 0)
 
 turn_far : (cave : CaveView) (h : ℕ) (s : State) → is_in_area cave h s ≡ false
-    → turns_near s h ≡ 0 → after_turn_near cave h s ≡ s
-unfolding after_turn_near
+    → turns_in_area s h ≡ 0 → after_turn_in_area cave h s ≡ s
+unfolding after_turn_in_area
 turn_far cave h s far none = rw far (turns_as_they_are h s none)
 
 not_due : (cave : CaveView) (h : ℕ) (hint : Hint) (s : State) → is_in_area cave h s ≡ false
@@ -42,26 +42,26 @@ if_either true a = refl
 if_either false a = refl
 
 considered_far : (cave : CaveView) (h : ℕ) (hint : Option Hint) (p : Scene)
-    → is_in_area cave h p.state ≡ false → turns_near p.state h ≡ 0
+    → is_in_area cave h p.state ≡ false → turns_in_area p.state h ≡ 0
     → after_considering_if cave h hint p ≡ p
 considered_far cave h None p far none = refl
 considered_far cave h (Some hint) p far none =
-    let same : with_state (after_turn_near cave h p.state) p ≡ p =
+    let same : with_state (after_turn_in_area cave h p.state) p ≡ p =
     ap (λ s. with_state s p) (turn_far cave h p.state far none) in
-    let quiet : offer_scene cave h hint (with_state (after_turn_near cave h p.state) p) ≡ p =
+    let quiet : offer_scene cave h hint (with_state (after_turn_in_area cave h p.state) p) ≡ p =
     ap (λ q. offer_scene cave h hint q) same ∙ no_offer cave h hint p far in
     ap (λ q. if is_hint_taken p.state h then p else q) quiet
     ∙ if_either (is_hint_taken p.state h) p
 
 -- a hint whose area is elsewhere, and whose turns don't count, changes nothing
 pub far_is_nothing : (cave : CaveView) (h : ℕ) (p : Scene) → is_in_area cave h p.state ≡ false
-    → turns_near p.state h ≡ 0 → after_considering cave h p ≡ p
+    → turns_in_area p.state h ≡ 0 → after_considering cave h p ≡ p
 unfolding after_considering
 far_is_nothing cave h p far none = considered_far cave h (map.get cave.hints h) p far none
 
 -- conditions below 16 have no bit of a hint
 outside : (cave : CaveView) (n : ℕ) (s : State) → conditions_of cave s.trail.here < 16
-    → is_in_area cave (n + 4) s ≡ false
+    → is_in_area cave (n + FIRST_HINT) s ≡ false
 unfolding has_condition
 outside cave n s low =
     let least : 2 ^ 4 ≤ 2 ^ (n + 4) =
@@ -72,11 +72,11 @@ outside cave n s low =
 -- so many hints change nothing
 pub quiet_hints : (cave : CaveView) (count : ℕ) (p : Scene)
     → conditions_of cave p.state.trail.here < 16
-    → ((n : ℕ) → n < count → turns_near p.state (n + 4) ≡ 0)
+    → ((n : ℕ) → n < count → turns_in_area p.state (n + FIRST_HINT) ≡ 0)
     → after_hints_up_to cave count p ≡ p
 unfolding after_hints_up_to
 quiet_hints cave zero p low none = refl
 quiet_hints cave (suc n) p low none =
-    ap (λ q. after_considering cave (n + 4) q)
+    ap (λ q. after_considering cave (n + FIRST_HINT) q)
     (quiet_hints cave n p low (λ m before. none m (omega (arith, before))))
-    ∙ far_is_nothing cave (n + 4) p (outside cave n p.state low) (none n (omega arith))
+    ∙ far_is_nothing cave (n + FIRST_HINT) p (outside cave n p.state low) (none n (omega arith))

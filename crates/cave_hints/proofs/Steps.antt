@@ -6,11 +6,13 @@ use Rattle.std.specs.FinMap as map
 use Rattle.cave_data.specs.CaveView.{CaveView}
 use Rattle.cave_data.specs.Tables.{IsAbove}
 use Rattle.cave_hints.specs.Hints.{after_considering, after_considering_if, after_hints_up_to}
+use Rattle.cave_hints.specs.Hints.{FIRST_HINT, OFFERED_HINTS}
 use Rattle.cave_scene.specs.Play.{Scene}
 
 -- the next hint comes after those so far
 pub after_considering-more : (cave : CaveView) (n : ℕ) (p : Scene)
-    → after_hints_up_to cave (n + 1) p ≡ after_considering cave (n + 4) (after_hints_up_to cave n p)
+    → after_hints_up_to cave (n + 1) p
+    ≡ after_considering cave (n + FIRST_HINT) (after_hints_up_to cave n p)
 unfolding after_hints_up_to
 after_considering-more cave n p = let next : n + 1 ≡ suc n = omega arith in rw next refl
 
@@ -21,7 +23,7 @@ unfolding after_considering
 after_considering-none cave h p none = ap (λ hint. after_considering_if cave h hint p) none
 
 after_hints-later : (cave : CaveView) (count more : ℕ) (p : Scene)
-    → IsAbove (count + 4) cave.hints
+    → IsAbove (count + FIRST_HINT) cave.hints
     → after_hints_up_to cave (more + count) p ≡ after_hints_up_to cave count p
 unfolding after_hints_up_to
 after_hints-later cave count zero p above =
@@ -29,24 +31,26 @@ after_hints-later cave count zero p above =
 after_hints-later cave count (suc more) p above =
     let next : suc more + count ≡ suc (more + count) = omega arith in
     ap (λ n. after_hints_up_to cave n p) next
-    ∙ after_considering-none cave (more + count + 4) _ (above _ (omega arith))
+    ∙ after_considering-none cave (more + count + FIRST_HINT) _ (above _ (omega arith))
     ∙ after_hints-later cave count more p above
 
 -- either no hint of the cave comes after the first few, or they are all that are offered
-pub few_hints : (cave : CaveView) (end few : ℕ) → IsAbove end cave.hints → few ≡ min (end - 4) 17
-    → IsAbove (few + 4) cave.hints ⊎ (few ≡ 17)
-few_hints cave end few above least = at (cases_eq few 17) where
-  at : (few ≡ 17) ⊎ (few ≡ 17 → ⊥) → IsAbove (few + 4) cave.hints ⊎ (few ≡ 17)
+pub few_hints : (cave : CaveView) (end few : ℕ) → IsAbove end cave.hints
+    → few ≡ min (end - FIRST_HINT) OFFERED_HINTS
+    → IsAbove (few + FIRST_HINT) cave.hints ⊎ (few ≡ OFFERED_HINTS)
+few_hints cave end few above least = at (cases_eq few OFFERED_HINTS) where
+  at : (few ≡ OFFERED_HINTS) ⊎ (few ≡ OFFERED_HINTS → ⊥)
+      → IsAbove (few + FIRST_HINT) cave.hints ⊎ (few ≡ OFFERED_HINTS)
   at (inl all) = inr all
   at (inr some) = inl (λ n low. above n (omega (arith, least, some, low)))
 
 -- hints above those of the cave change nothing
-pub after_hints-all : (cave : CaveView) (count : ℕ) (p : Scene) → count ≤ 17
-    → IsAbove (count + 4) cave.hints ⊎ (count ≡ 17)
-    → after_hints_up_to cave count p ≡ after_hints_up_to cave 17 p
+pub after_hints-all : (cave : CaveView) (count : ℕ) (p : Scene) → count ≤ OFFERED_HINTS
+    → IsAbove (count + FIRST_HINT) cave.hints ⊎ (count ≡ OFFERED_HINTS)
+    → after_hints_up_to cave count p ≡ after_hints_up_to cave OFFERED_HINTS p
 after_hints-all cave count p few (inl above) =
-    let all : 17 - count + count ≡ 17 = omega arith in
-    sym (after_hints-later cave count (17 - count) p above)
+    let all : OFFERED_HINTS - count + count ≡ OFFERED_HINTS = omega arith in
+    sym (after_hints-later cave count (OFFERED_HINTS - count) p above)
     ∙ ap (λ n. after_hints_up_to cave n p) all
 after_hints-all cave count p few (inr all) = ap (λ n. after_hints_up_to cave n p) all
 

@@ -15,12 +15,21 @@ use Rattle.cave_words.specs.declared.named.Named.TheVariants as name
 use Rattle.cave_objects.specs.Lists.{halves_at}
 use Rattle.cave_objects.specs.Objects.{carried_objects}
 use Rattle.cave_world.specs.Sight.{has_condition}
-use Rattle.cave_world.specs.State.{takes_no_command, turns_near, is_hint_taken, with_hint_taken}
+use Rattle.cave_world.specs.State.{takes_no_command, turns_in_area, is_hint_taken, with_hint_taken}
+use Rattle.cave_world.specs.State.{MAX_TURNS_IN_AREA}
 use Rattle.cave_world.specs.declared.ending.Question.TheVariants as question
 use Rattle.cave_world.specs.declared.part.NumberLine.TheVariants.{HintCosts}
 use Rattle.cave_world.specs.declared.part.Part.TheVariants as part
 use Rattle.cave_world.specs.declared.state.State.{State}
 use Rattle.cave_world.specs.Lamp.{low_charge, max_lamp_turns}
+
+-- the hints that are offered begin with this one
+abbrev pub FIRST_HINT : ℕ
+FIRST_HINT = 4
+
+-- how many hints are offered
+abbrev pub OFFERED_HINTS : ℕ
+OFFERED_HINTS = 17
 
 -- asks how to come through the grate
 abbrev pub GRATE_HINT : ℕ
@@ -42,8 +51,8 @@ MAZE_HINT = 7
 abbrev pub PYRAMID_HINT : ℕ
 PYRAMID_HINT = 8
 
-abbrev pub with_turns_near : ℕ → ℕ → State → State
-with_turns_near h n s =
+abbrev pub with_turns_in_area : ℕ → ℕ → State → State
+with_turns_in_area h n s =
     let hints = s.hints in
     record s { hints = record hints { turns = slice_set hints.turns (h - 1) n } }
 
@@ -52,15 +61,16 @@ abbrev pub is_in_area : CaveView → ℕ → State → Bool
 is_in_area cave h s = has_condition cave s.trail.here h
 
 -- one turn more in the area, or none outside it
-unfoldable pub after_turn_near : CaveView → ℕ → State → State
-after_turn_near cave h s =
-    if is_in_area cave h s then with_turns_near h (min (turns_near s h + 1) 10000) s
-    else with_turns_near h 0 s
+unfoldable pub after_turn_in_area : CaveView → ℕ → State → State
+after_turn_in_area cave h s =
+    if is_in_area cave h s
+    then with_turns_in_area h (min (turns_in_area s h + 1) MAX_TURNS_IN_AREA) s
+    else with_turns_in_area h 0 s
 
 -- the player has stayed for long enough, and no question is open
 unfoldable pub is_due : CaveView → ℕ → Hint → State → Bool
 is_due cave h hint s =
-    is_in_area cave h s && nat_le hint.turns (turns_near s h) && not (takes_no_command s)
+    is_in_area cave h s && nat_le hint.turns (turns_in_area s h) && not (takes_no_command s)
 
 -- the grate is locked, and the keys aren't at hand
 unfoldable pub is_locked_out : CaveView → State → Bool
@@ -104,14 +114,14 @@ is_needed cave h s =
 
 -- the turns of a hint that isn't needed are counted from 0 again, except those of the bird's hint
 abbrev pub after_putting_off : ℕ → State → State
-after_putting_off h s = if h == BIRD_HINT then s else with_turns_near h 0 s
+after_putting_off h s = if h == BIRD_HINT then s else with_turns_in_area h 0 s
 
 -- a hint that is due is offered to a player who needs it
 unfoldable pub offer_scene : CaveView → ℕ → Hint → Scene → Scene
 offer_scene cave h hint p =
     if is_due cave h hint p.state
     then (if is_needed cave h p.state
-    then asking_scene cave (question.Hint h) (with_state (with_turns_near h 0 p.state) p)
+    then asking_scene cave (question.Hint h) (with_state (with_turns_in_area h 0 p.state) p)
     else with_state (after_putting_off h p.state) p)
     else p
 
@@ -120,7 +130,7 @@ abbrev pub after_considering_if : CaveView → ℕ → Option Hint → Scene →
 after_considering_if cave h None p = p
 after_considering_if cave h (Some hint) p =
     if is_hint_taken p.state h then p
-    else offer_scene cave h hint (with_state (after_turn_near cave h p.state) p)
+    else offer_scene cave h hint (with_state (after_turn_in_area cave h p.state) p)
 
 unfoldable pub after_considering : CaveView → ℕ → Scene → Scene
 after_considering cave h p = after_considering_if cave h (map.get cave.hints h) p
@@ -128,11 +138,12 @@ after_considering cave h p = after_considering_if cave h (map.get cave.hints h) 
 -- so many hints from the fourth on are considered, one after another
 unfoldable pub after_hints_up_to : CaveView → ℕ → Scene → Scene
 after_hints_up_to cave zero p = p
-after_hints_up_to cave (suc n) p = after_considering cave (n + 4) (after_hints_up_to cave n p)
+after_hints_up_to cave (suc n) p =
+    after_considering cave (n + FIRST_HINT) (after_hints_up_to cave n p)
 
 -- the hints from 4 to 20
 abbrev pub after_hints : CaveView → Scene → Scene
-after_hints cave p = after_hints_up_to cave 17 p
+after_hints cave p = after_hints_up_to cave OFFERED_HINTS p
 
 -- what a hint costs is said, and whether it is worth that is asked
 abbrev pub price_scene_if : CaveView → ℕ → Option Hint → Scene → Scene

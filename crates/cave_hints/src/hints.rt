@@ -6,14 +6,14 @@ ghost use Rattle.cave_data.specs.Tables.{IsAbove};
 ghost use Rattle.cave_scene.specs.Bounds.{HasRoom, SaysUpTo, parts_of_question};
 ghost use Rattle.cave_scene.specs.Play.{scene_of, GoesOn};
 ghost use Rattle.cave_scene.specs.Rules.{cave_of};
-ghost use Rattle.cave_hints.specs.Hints.{with_turns_near};
-ghost use Rattle.cave_hints.specs.Hints.{is_in_area, after_turn_near, is_due, is_locked_out};
+ghost use Rattle.cave_hints.specs.Hints.{FIRST_HINT, OFFERED_HINTS, with_turns_in_area};
+ghost use Rattle.cave_hints.specs.Hints.{is_in_area, after_turn_in_area, is_due, is_locked_out};
 ghost use Rattle.cave_hints.specs.Hints.{is_after_bird, is_held_by_snake, is_lost_in_maze};
 ghost use Rattle.cave_hints.specs.Hints.{is_short_of_pyramid, is_needed, after_putting_off};
 ghost use Rattle.cave_hints.specs.Hints.{offer_scene};
 ghost use Rattle.cave_hints.specs.Hints.{after_considering, after_hints, price_scene};
 ghost use Rattle.cave_hints.specs.Hints.{after_reward, hint_scene};
-ghost use Rattle.cave_world.specs.State.{takes_no_command, turns_near};
+ghost use Rattle.cave_world.specs.State.{takes_no_command, turns_in_area};
 
 use cave_data::Cave;
 use cave_ends::ask;
@@ -21,7 +21,9 @@ use cave_rows::Hint;
 use cave_scene::{Play, Rules};
 use cave_things::{has_other_prop, has_prop, is_in_hand, is_near};
 use cave_words::Named;
-use cave_world::{Charge, Count, HintNumber, LOW_CHARGE, NumberLine, Part, Question, State};
+use cave_world::{
+    Charge, Count, HintNumber, LOW_CHARGE, MAX_TURNS_IN_AREA, NumberLine, Part, Question, State,
+};
 
 /// The hints that are offered begin with this one.
 const FIRST_HINT: u8 = 4;
@@ -73,25 +75,25 @@ pub fn consider_all(rules: &Rules<'_>, play: &mut Play<'_>)
 
 /// How many of the hints that are offered come before the end of those that the cave has.
 fn count_hints(cave: &Cave) -> u8
-    ensures few { result ≤ 17 }
-    ensures all { IsAbove (result + 4) cave.now.hints ⊎ (result ≡ 17) }
+    ensures few { result ≤ OFFERED_HINTS }
+    ensures all { IsAbove (result + FIRST_HINT) cave.now.hints ⊎ (result ≡ OFFERED_HINTS) }
 {
     let count = cave.hint_end().saturating_sub(usize::from(FIRST_HINT));
     count.min(usize::from(OFFERED_HINTS)) as u8
 }
 
 /// How many turns the player has stayed in the area of the hint that is offered after so many.
-fn turns_after(before: usize, state: &State) -> Count<10000>
-    requires { before < 17 }
-    ensures { result ≡ turns_near state.now (before + 4) }
+fn turns_after(before: usize, state: &State) -> Count<MAX_TURNS_IN_AREA>
+    requires { before < OFFERED_HINTS }
+    ensures { result ≡ turns_in_area state.now (before + FIRST_HINT) }
 {
     state.hints.turns[before + usize::from(FIRST_HINT) - 1]
 }
 
 /// Whether of so many hints no turn counts.
 fn counts_no_turn(count: u8, state: &State) -> bool
-    requires { count ≤ 17 }
-    ensures { IsTrue result → (n : ℕ) → n < count → turns_near state.now (n + 4) ≡ 0 }
+    requires { count ≤ OFFERED_HINTS }
+    ensures { IsTrue result → (n : ℕ) → n < count → turns_in_area state.now (n + FIRST_HINT) ≡ 0 }
 {
     for before in 0..usize::from(count) {
         if turns_after(before, state).number() != 0 {
@@ -132,14 +134,14 @@ pub fn give(rules: &Rules<'_>, number: HintNumber, play: &mut Play<'_>)
 }
 
 /// How many turns the player has stayed in the area of a hint.
-fn turns_near(hint: HintNumber, state: &State) -> Count<10000>
-    ensures { result ≡ turns_near state.now hint }
+fn turns_in_area(hint: HintNumber, state: &State) -> Count<MAX_TURNS_IN_AREA>
+    ensures { result ≡ turns_in_area state.now hint }
 {
     state.hints.turns[usize::from(hint.number()) - 1]
 }
 
-fn set_turns_near(hint: HintNumber, turns: Count<10000>, state: &mut State)
-    ensures state { state.new ≡ with_turns_near hint turns state.old }
+fn set_turns_in_area(hint: HintNumber, turns: Count<MAX_TURNS_IN_AREA>, state: &mut State)
+    ensures state { state.new ≡ with_turns_in_area hint turns state.old }
     ensures here { state.new.trail ≡ state.old.trail }
 {
     state.hints.turns[usize::from(hint.number()) - 1] = turns;
@@ -159,16 +161,16 @@ fn is_far(hint: HintNumber, conditions: u32, state: &State) -> bool
     ensures area { IsTrue result → (cave : CaveView)
         → conditions ≡ conditions_of cave state.now.trail.here
         → is_in_area cave hint state.now ≡ false }
-    ensures turns { IsTrue result → turns_near state.now hint ≡ 0 }
+    ensures turns { IsTrue result → turns_in_area state.now hint ≡ 0 }
 {
-    turns_near(hint, state).number() == 0 && !is_in_area(hint, conditions)
+    turns_in_area(hint, state).number() == 0 && !is_in_area(hint, conditions)
 }
 
 /// One turn more in the area of a hint, or none outside it. Returns whether the player is in it.
-#[tactic(auto, unfolding(crate::specs::Hints::after_turn_near, cave_world::specs::State::takes_no_command))]
+#[tactic(auto, unfolding(crate::specs::Hints::after_turn_in_area, cave_world::specs::State::takes_no_command))]
 fn wait(hint: HintNumber, conditions: u32, state: &mut State) -> bool
     ensures state { (cave : CaveView) → conditions ≡ conditions_of cave state.old.trail.here
-        → state.new ≡ after_turn_near cave hint state.old }
+        → state.new ≡ after_turn_in_area cave hint state.old }
     ensures area { (cave : CaveView) → conditions ≡ conditions_of cave state.old.trail.here
         → result ≡ is_in_area cave hint state.new }
     ensures here { state.new.trail ≡ state.old.trail }
@@ -176,11 +178,11 @@ fn wait(hint: HintNumber, conditions: u32, state: &mut State) -> bool
 {
     let is_near = is_in_area(hint, conditions);
     let turns = if is_near {
-        turns_near(hint, state).up()
+        turns_in_area(hint, state).up()
     } else {
         Count::new(0)
     };
-    set_turns_near(hint, turns, state);
+    set_turns_in_area(hint, turns, state);
     is_near
 }
 
@@ -191,7 +193,7 @@ fn is_due(number: HintNumber, hint: &Hint, conditions: u32, state: &State) -> bo
         → result ≡ is_due cave number hint.now state.now }
 {
     is_in_area(number, conditions)
-        && hint.turns <= turns_near(number, state).number()
+        && hint.turns <= turns_in_area(number, state).number()
         && !state.takes_no_command()
 }
 
@@ -258,7 +260,7 @@ fn put_off(hint: HintNumber, state: &mut State)
     ensures over { takes_no_command state.new ≡ takes_no_command state.old }
 {
     if hint.number() != BIRD_HINT {
-        set_turns_near(hint, Count::new(0), state);
+        set_turns_in_area(hint, Count::new(0), state);
     }
 }
 
@@ -281,7 +283,7 @@ fn offer(rules: &Rules<'_>, number: HintNumber, hint: &Hint, conditions: u32, pl
         return;
     }
     if is_needed(rules, number, play.state) {
-        set_turns_near(number, Count::new(0), play.state);
+        set_turns_in_area(number, Count::new(0), play.state);
         ask(rules, &Question::Hint(number), play);
         return;
     }

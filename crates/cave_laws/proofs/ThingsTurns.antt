@@ -9,7 +9,7 @@ use Rattle.cave_words.specs.declared.named.Named.TheVariants as name
 use Rattle.cave_words.specs.declared.words.Words.{Words}
 use Rattle.cave_objects.specs.Layout.{Layout}
 use Rattle.cave_objects.specs.Objects.{is_carried, prop_of, with_place, with_prop}
-use Rattle.cave_world.specs.State.{takes_no_command, turns_near}
+use Rattle.cave_world.specs.State.{takes_no_command, turns_in_area}
 use Rattle.cave_world.specs.declared.closing.Closing.{Closing}
 use Rattle.cave_world.specs.declared.dwarves.Dwarves.{Dwarves}
 use Rattle.cave_world.specs.declared.dwarves.Knife.TheVariants as knife
@@ -34,9 +34,9 @@ use Rattle.cave_clocks.specs.declared.clocks.Clocks.TheVariants as clocks
 use Rattle.cave_ends.specs.Deaths.{with_one_death}
 use Rattle.cave_ends.specs.Endings.{ending_scene}
 use Rattle.cave_ends.specs.Questions.{asking_scene}
-use Rattle.cave_hints.specs.Hints.{with_turns_near, is_in_area}
+use Rattle.cave_hints.specs.Hints.{with_turns_in_area, is_in_area}
 use Rattle.cave_world.specs.State.{is_hint_taken, with_player_from}
-use Rattle.cave_hints.specs.Hints.{after_turn_near, after_considering}
+use Rattle.cave_hints.specs.Hints.{after_turn_in_area, after_considering}
 use Rattle.cave_hints.specs.Hints.{is_due, is_needed, after_putting_off, offer_scene}
 use Rattle.cave_hints.specs.Hints.{after_considering_if}
 use Rattle.cave_hints.specs.Hints.{after_hints_up_to, after_hints}
@@ -68,26 +68,27 @@ use Rattle.cave_laws.proofs.ThingsEffects.{said_kept}
 use Rattle.cave_laws.proofs.ThingsVerbs.{acted_kept}
 
 waited_kept : (P : Claim) (cave : CaveView) (n : ℕ) (s : State) → On P s
-    → On P (after_turn_near cave n s)
-unfolding after_turn_near
+    → On P (after_turn_in_area cave n s)
+unfolding after_turn_in_area
 waited_kept P cave n s h =
-    chosen P (is_in_area cave n s) (with_turns_near n (min (turns_near s n + 1) 10000) s)
-    (with_turns_near n 0 s) h h
+    chosen P (is_in_area cave n s) (with_turns_in_area n (min (turns_in_area s n + 1) 10000) s)
+    (with_turns_in_area n 0 s) h h
 
 put_off_kept : (P : Claim) (n : ℕ) (s : State) → On P s → On P (after_putting_off n s)
-put_off_kept P n s h = chosen P (n == 5) s (with_turns_near n 0 s) h h
+put_off_kept P n s h = chosen P (n == 5) s (with_turns_in_area n 0 s) h h
 
 offered_kept : (P : Claim) (cave : CaveView) (i : ℕ) (hint : Hint)
     (p : Scene)
     → On P p.state → On P (offer_scene cave i hint p).state
 unfolding offer_scene
 offered_kept P cave i hint p h =
-    let asks = asking_scene cave (question.Hint i) (with_state (with_turns_near i 0 p.state) p) in
+    let asks = asking_scene cave (question.Hint i)
+    (with_state (with_turns_in_area i 0 p.state) p) in
     let off = with_state (after_putting_off i p.state) p in
     choose (λ (r : Scene). On P r.state) (is_due cave i hint p.state)
     (if is_needed cave i p.state then asks else off) p
     (λ _. choose (λ (r : Scene). On P r.state) (is_needed cave i p.state) asks off
-    (λ _. asking_kept P cave (question.Hint i) (with_state (with_turns_near i 0 p.state) p) h)
+    (λ _. asking_kept P cave (question.Hint i) (with_state (with_turns_in_area i 0 p.state) p) h)
     (λ _. put_off_kept P i p.state h))
     (λ _. h)
 
@@ -97,7 +98,7 @@ considered_if_kept : (P : Claim) (cave : CaveView) (i : ℕ)
     (p : Scene) → On P p.state → On P (after_considering_if cave i o p).state
 considered_if_kept P cave i None p h = h
 considered_if_kept P cave i (Some hint) p h =
-    let q = with_state (after_turn_near cave i p.state) p in
+    let q = with_state (after_turn_in_area cave i p.state) p in
     chosen_scene P (is_hint_taken p.state i) p (offer_scene cave i hint q) h
     (offered_kept P cave i hint q (waited_kept P cave i p.state h))
 

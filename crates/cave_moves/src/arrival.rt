@@ -16,7 +16,7 @@ use crate::description::{describe, stop_here, tell_text};
 use crate::falling::fall_here;
 use crate::journeys::set_forth;
 use crate::ways::stay;
-use cave_dwarves::move_dwarves;
+use cave_dwarves::encounter_dwarves;
 use cave_ends::die;
 use cave_objects::Place;
 use cave_rows::Role;
@@ -50,7 +50,7 @@ fn is_shut(rules: &Rules<'_>, place: Place, state: &State) -> bool
 }
 
 #[tactic(auto, unfolding(crate::specs::Arrival::journey_unless_shut))]
-fn keep_in(rules: &Rules<'_>, place: Place, play: &mut Play<'_>) -> Place
+fn shut_in(rules: &Rules<'_>, place: Place, play: &mut Play<'_>) -> Place
     requires { HasRoom 1 play.old }
     ensures journey { record { place = result; scene = scene_of play.new }
         ≡ journey_unless_shut (cave_of rules.now) place (scene_of play.old) }
@@ -89,7 +89,7 @@ fn is_barred(rules: &Rules<'_>, place: Place, state: &State) -> bool
 }
 
 #[tactic(auto, unfolding(crate::specs::Arrival::journey_unless_barred))]
-fn hold_back(rules: &Rules<'_>, place: Place, play: &mut Play<'_>) -> Place
+fn bar(rules: &Rules<'_>, place: Place, play: &mut Play<'_>) -> Place
     requires { HasRoom 1 play.old }
     ensures journey { record { place = result; scene = scene_of play.new }
         ≡ journey_unless_barred (cave_of rules.now) place (scene_of play.old) }
@@ -115,7 +115,7 @@ fn meet(rules: &Rules<'_>, play: &mut Play<'_>)
         describe(rules, play);
         return;
     }
-    if move_dwarves(rules, play) {
+    if encounter_dwarves(rules, play) {
         fall_here(rules, play);
     } else {
         describe(rules, play);
@@ -160,8 +160,8 @@ fn stop_at(rules: &Rules<'_>, place: Place, play: &mut Play<'_>) -> bool
     if play.state.takes_no_command() {
         return false;
     }
-    let place = keep_in(rules, place, play);
-    let place = hold_back(rules, place, play);
+    let place = shut_in(rules, place, play);
+    let place = bar(rules, place, play);
     come_to(rules, place, play)
 }
 

@@ -33,7 +33,7 @@ pub fn cross(rules: &Rules<'_>, play: &mut Play<'_>) -> Place
         None => stay(play, Role::NoWay),
         Some(end) => {
             if has_prop(play.state, rules.object(Named::Troll), 1) {
-                stop(rules, play);
+                demand_toll(rules, play);
                 return play.state.trail.here;
             }
             cross_to(rules, end, play)
@@ -81,7 +81,7 @@ fn move_troll_home(rules: &Rules<'_>, objects: &mut Objects)
 
 /// The troll asks for a treasure once more.
 #[tactic(auto, unfolding(crate::specs::Bridge::toll_scene))]
-fn stop(rules: &Rules<'_>, play: &mut Play<'_>)
+fn demand_toll(rules: &Rules<'_>, play: &mut Play<'_>)
     requires { HasRoom 1 play.old }
     ensures play { scene_of play.new ≡ toll_scene (cave_of rules.now) (scene_of play.old) }
     ensures same { GoesOn play.old play.new }

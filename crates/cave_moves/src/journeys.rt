@@ -23,7 +23,7 @@ use cave_world::{MAX_DETAILS, Motion, Part, Special, State, TravelOutcome, trave
 
 /// Where a motion that the player asks for leads.
 #[tactic(auto, unfolding(crate::specs::Journeys::journey_by_request))]
-pub fn lead_by_motion(rules: &Rules<'_>, motion: u16, play: &mut Play<'_>) -> Place
+pub fn lead_by_request(rules: &Rules<'_>, motion: u16, play: &mut Play<'_>) -> Place
     requires { HasRoom parts_of_journey play.old }
     ensures journey { record { place = result; scene = scene_of play.new }
         ≡ journey_by_request (cave_of rules.now) motion (scene_of play.old) }

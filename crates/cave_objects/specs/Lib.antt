@@ -1,3 +1,4 @@
+pub mod Props
 pub mod Halves
 pub mod Lists
 pub mod Links

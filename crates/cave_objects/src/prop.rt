@@ -1,4 +1,5 @@
-ghost use Rattle.std.specs.Prelude.{◌≡◌, pos, negsuc, ◌≤ℤ◌};
+ghost use Rattle.std.specs.Prelude.{◌≡◌, ◌≤ℤ◌};
+ghost use Rattle.cave_objects.specs.Props.{HIGHEST_PROP, LOWEST_PROP};
 
 use std::marker::Model;
 
@@ -9,13 +10,14 @@ pub struct Prop {
 }
 
 impl Model for Prop {
-    ghost use Rattle.std.specs.Prelude.{ℤ, pos, negsuc, ◌≤ℤ◌};
+    ghost use Rattle.std.specs.Prelude.{ℤ, ◌≤ℤ◌};
+    ghost use Rattle.cave_objects.specs.Props.{HIGHEST_PROP, LOWEST_PROP};
 
     ghost Value = { ℤ };
 
     ghost view = { λ p. p.value };
 
-    ghost invariant = { λ p. (negsuc 99 ≤ℤ p.value) × (p.value ≤ℤ pos 101) };
+    ghost invariant = { λ p. (LOWEST_PROP ≤ℤ p.value) × (p.value ≤ℤ HIGHEST_PROP) };
 
     ghost inverse = { λ n. record { value = n } };
 }
@@ -23,8 +25,8 @@ impl Model for Prop {
 impl Prop {
     /// The prop of a number.
     pub fn new(value: i8) -> Prop
-        requires low { negsuc 99 ≤ℤ value }
-        requires high { value ≤ℤ pos 101 }
+        requires low { LOWEST_PROP ≤ℤ value }
+        requires high { value ≤ℤ HIGHEST_PROP }
         ensures { result ≡ value }
     {
         Prop { value }
@@ -33,8 +35,8 @@ impl Prop {
     /// The number of the prop.
     pub fn value(self) -> i8
         ensures value { result ≡ self }
-        ensures low { negsuc 99 ≤ℤ result }
-        ensures high { result ≤ℤ pos 101 }
+        ensures low { LOWEST_PROP ≤ℤ result }
+        ensures high { result ≤ℤ HIGHEST_PROP }
     {
         self.value
     }

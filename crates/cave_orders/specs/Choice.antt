@@ -6,6 +6,10 @@ use Rattle.cave_orders.specs.Deeds.{Deed}
 use Rattle.cave_orders.specs.Rows.{Test, Thing}
 use Rattle.cave_orders.specs.Tests.{the}
 
+-- of how many objects a verb without an object could be meant for one
+abbrev pub max_meant : ℕ
+max_meant = 5
+
 -- an object, and when the verb could be meant for it
 pub record Candidate : Type 0 where
   pub object : Thing

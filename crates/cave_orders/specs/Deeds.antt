@@ -19,8 +19,8 @@ pub record Act : Type 0 where
 abbrev pub deed : CaveView → Order → Scene → Deed
 deed cave order p = record { cave = cave; order = order; scene = p }
 
-abbrev pub acted : Scene → Step → Act
-acted p step = record { scene = p; step = step }
+abbrev pub act_of : Scene → Step → Act
+act_of p step = record { scene = p; step = step }
 
 -- the order of a command
 abbrev pub order_of : Verb → ℕ → List ℕ → Order

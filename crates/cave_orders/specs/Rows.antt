@@ -7,7 +7,7 @@ use Rattle.cave_scene.specs.Play.{scene_of, GoesOn}
 use Rattle.cave_scene.specs.Rules.{cave_of}
 use Rattle.cave_scene.specs.declared.play.Play.{Play}
 use Rattle.cave_scene.specs.declared.rules.Rules.{Rules}
-use Rattle.cave_orders.specs.Deeds.{Deed, Act, deed, acted}
+use Rattle.cave_orders.specs.Deeds.{Deed, Act, deed, act_of}
 use Rattle.cave_orders.specs.Room.{parts_by}
 use Rattle.cave_orders.specs.declared.next.Next.{Next}
 use Rattle.cave_orders.specs.declared.next.Next.TheVariants as next_is
@@ -75,18 +75,18 @@ after_all [] d = d
 after_all (effect ∷ effects) d = after_all effects (effect d)
 
 abbrev pub act_of_row : VerbRow → Deed → Act
-act_of_row r d = let e = after_all r.effects d in acted e.scene (r.end e)
+act_of_row r d = let e = after_all r.effects d in act_of e.scene (r.end e)
 
 -- what the first row that fits does
 abbrev pub first_fitting : List VerbRow → Deed → Act
-first_fitting [] d = acted d.scene (stays d)
+first_fitting [] d = act_of d.scene (stays d)
 first_fitting (r ∷ rows) d = if fits r.tests d then act_of_row r d else first_fitting rows d
 
 -- the same play has come to what a rule says of an order, and so has what follows; it said so many
 -- parts at most
 abbrev pub ActsBy : (Deed → Act) → Rules → Order → Play → Play → Step → Type 0
 ActsBy f rules order old new step =
-    (acted (scene_of new) step ≡ f (deed (cave_of rules) order (scene_of old)))
+    (act_of (scene_of new) step ≡ f (deed (cave_of rules) order (scene_of old)))
     × GoesOn old new
     × SaysUpTo (parts_by step) old new
 

@@ -1,17 +1,20 @@
 ghost use Rattle.std.specs.Prelude.{◌≡◌, ◌+◌, ◌<◌, ◌≤◌, nat_le, length};
 ghost use Rattle.arrayvec.specs.ArrayVec.{array_vec_len};
-ghost use Rattle.cave_orders.specs.Choice.{with_meant, first_or_none, only_of};
+ghost use Rattle.cave_orders.specs.Choice.{with_meant, first_or_none, max_meant, only_of};
 
 use arrayvec::ArrayVec;
 use cave_objects::Object;
 
+/// Of how many objects a verb without an object could be meant for one.
+const MAX_MEANT: usize = 5;
+
 /// The objects that a verb without an object could be meant for.
-pub type Meant = ArrayVec<Object, 5>;
+pub type Meant = ArrayVec<Object, MAX_MEANT>;
 
 /// One object more, if the cave has it and the verb could be meant for it.
 #[tactic(auto, unfolding(crate::specs::Choice::with_meant))]
 pub fn consider(could_be: bool, object: Object, meant: &mut Meant)
-    requires { array_vec_len meant.old < 5 }
+    requires { array_vec_len meant.old < max_meant }
     ensures meant { meant.new.items ≡ with_meant could_be object meant.old.items }
     ensures few { array_vec_len meant.new ≤ array_vec_len meant.old + 1 }
 {

@@ -1,7 +1,7 @@
 -- The rows of each section, and what is wrong with a line that is none.
-use Rattle.std.specs.Prelude.{ℕ, ℤ, pos, negsuc, ◌/◌, ◌%◌, Bool, false, ◌&&◌, ◌||◌, ◌==◌, nat_lt}
-use Rattle.std.specs.Prelude.{nat_le, if◌then◌else◌, List, [], ◌∷◌, length, drop, Option, Some}
-use Rattle.std.specs.Prelude.{None, option_map, Result, Ok, Err}
+use Rattle.std.specs.Prelude.{ℕ, ℤ, pos, negsuc, ◌+◌, ◌*◌, ◌/◌, ◌%◌, Bool, false, ◌&&◌, ◌||◌}
+use Rattle.std.specs.Prelude.{◌==◌, nat_lt, nat_le, if◌then◌else◌, List, [], ◌∷◌, length, drop}
+use Rattle.std.specs.Prelude.{Option, Some, None, option_map, Result, Ok, Err}
 use Rattle.std.specs.Option.{ok_or}
 use Rattle.cave_rows.specs.declared.error.Cause.{Cause}
 use Rattle.cave_rows.specs.declared.error.Cause.TheVariants.{BadNumber, OutOfRange, TooManyRows}
@@ -13,7 +13,7 @@ use Rattle.cave_rows.specs.declared.rows.Placement.{Placement}
 use Rattle.cave_rows.specs.declared.rows.Hint.{Hint}
 use Rattle.cave_rows.specs.Fields.{after_blanks, field, fields, number_of_field, number_at}
 use Rattle.cave_numbers.specs.Numbers.{last_place, last_object, last_named, last_action, last_hint}
-use Rattle.cave_numbers.specs.Numbers.{last_message}
+use Rattle.cave_numbers.specs.Numbers.{last_message, last_prop}
 
 infixl 10 ◌>>=◌
 abbrev pub ◌>>=◌ : {A B : Type 0} → Result A Cause → (A → Result B Cause) → Result B Cause
@@ -30,16 +30,20 @@ pub record Going : Type 0 where
   pub target : ℕ
   pub motions : List ℕ
 
+-- a target is its condition times this, and what it leads to
+abbrev pub PER_CONDITION : ℕ
+PER_CONDITION = 1000
+
 -- a target says under which condition a row is taken, and after that what it leads to
 abbrev pub condition_of_target : ℕ → ℕ
-condition_of_target target = target / 1000
+condition_of_target target = target / PER_CONDITION
 
 -- the greatest condition, which the greatest target has: targets are numbers of 32 bits
 abbrev pub max_condition : ℕ
 max_condition = 4294967
 
 abbrev pub number_of_target : ℕ → ℕ
-number_of_target target = target % 1000
+number_of_target target = target % PER_CONDITION
 
 -- a word and its number
 pub record WordEntry : Type 0 where
@@ -111,10 +115,19 @@ text_line low high line = do
   text ← text_or_cause n.1
   Ok (record { number = number; text = text })
 
+-- a line of a text of an object begins with so many times a prop, or with an object
+abbrev pub PROP_STEP : ℕ
+PROP_STEP = 100
+
+-- the last number that a line of a text of an object begins with
+abbrev pub LAST_PROP_LINE : ℕ
+LAST_PROP_LINE = PROP_STEP * last_prop
+
 -- an object, or a hundred times a prop of the object before
 abbrev pub object_or_prop : Number → Result ℕ Cause
 object_or_prop (Natural n) =
-    if nat_le n last_named || (nat_le n 9900 && n % 100 == 0) then Ok n else Err OutOfRange
+    if nat_le n last_named || (nat_le n LAST_PROP_LINE && n % PROP_STEP == 0) then Ok n
+    else Err OutOfRange
 object_or_prop (Negative n) = Err OutOfRange
 
 unfoldable pub object_line : List ℕ → Result TextLine Cause
@@ -124,6 +137,14 @@ object_line line = do
   text ← text_or_cause n.1
   Ok (record { number = number; text = text })
 
+-- the last number of a motion
+abbrev pub LAST_MOTION : ℕ
+LAST_MOTION = 999
+
+-- the last number of a target of a way, with its condition
+abbrev pub LAST_TARGET : ℕ
+LAST_TARGET = 999999
+
 unfoldable pub way_row : List ℕ → Result (ℕ × Going) Cause
 way_row line = do
   x ← number_or_cause line
@@ -131,18 +152,48 @@ way_row line = do
   list ← list_in y.1
   ns ← some_of list
   place ← within 1 last_place x.0
-  target ← within 0 999999 y.0
-  all ← all_within 1 999 ns
+  target ← within 0 LAST_TARGET y.0
+  all ← all_within 1 LAST_MOTION ns
   motions ← few_of all
   Ok (place, record { target = target; motions = motions })
+
+-- how many numbers a class of words has: those of motions come first, then those of objects, of
+-- actions and of special words
+abbrev pub WORDS_PER_CLASS : ℕ
+WORDS_PER_CLASS = 1000
+
+-- the words of objects come after this number, each with its object's
+abbrev pub OBJECT_WORDS : ℕ
+OBJECT_WORDS = WORDS_PER_CLASS
+
+-- the last number of the word of an object
+abbrev pub LAST_OBJECT_WORD : ℕ
+LAST_OBJECT_WORD = OBJECT_WORDS + last_object
+
+-- the words of actions come after this number, each with its action's
+abbrev pub ACTION_WORDS : ℕ
+ACTION_WORDS = 2 * WORDS_PER_CLASS
+
+-- the last number of the word of an action
+abbrev pub LAST_ACTION_WORD : ℕ
+LAST_ACTION_WORD = ACTION_WORDS + last_action
+
+-- the special words come after this number, each with its message's
+abbrev pub SPECIAL_WORDS : ℕ
+SPECIAL_WORDS = 3 * WORDS_PER_CLASS
+
+-- the last number of a special word
+abbrev pub LAST_SPECIAL_WORD : ℕ
+LAST_SPECIAL_WORD = SPECIAL_WORDS + last_message
 
 -- a thousand times the class of a word, 0 to 3, and a number within the class that isn't 0
 abbrev pub is_word_number : ℕ → Bool
 is_word_number n =
-    nat_le 1 (n % 1000)
-    && ((nat_le n 999)
-    || ((nat_le 1000 n && nat_le n 1100)
-    || ((nat_le 2000 n && nat_le n 2099) || (nat_le 3000 n && nat_le n 3499))))
+    nat_le 1 (n % WORDS_PER_CLASS)
+    && (nat_le n LAST_MOTION
+    || ((nat_le OBJECT_WORDS n && nat_le n LAST_OBJECT_WORD)
+    || ((nat_le ACTION_WORDS n && nat_le n LAST_ACTION_WORD)
+    || (nat_le SPECIAL_WORDS n && nat_le n LAST_SPECIAL_WORD))))
 
 abbrev pub word_number : Number → Result ℕ Cause
 word_number (Natural n) = if is_word_number n then Ok n else Err OutOfRange

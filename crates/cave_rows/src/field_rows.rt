@@ -9,21 +9,41 @@ ghost use Rattle.cave_rows.specs.Rows.{number_or_cause, within, is_zero, text_or
 ghost use Rattle.cave_rows.specs.Rows.{object_or_prop, object_line, way_row, is_word_number};
 ghost use Rattle.cave_rows.specs.Rows.{word_number, word_or_cause, word_row, number_or_zero};
 ghost use Rattle.cave_rows.specs.Rows.{second_place, placement_row, default_row, condition_row};
-ghost use Rattle.cave_rows.specs.Rows.{hint_row};
+ghost use Rattle.cave_rows.specs.Rows.{hint_row, LAST_PROP_LINE, LAST_SPECIAL_WORD};
 ghost use Rattle.cave_numbers.specs.Numbers.{last_hint};
 
 use crate::error::Cause;
 use crate::number::{Number, number_at, number_of_field};
-use crate::rows::{Hint, MAX_LIST, Placement, Row, WordRow};
+use crate::rows::{Hint, MAX_LIST, Placement, Row, WORDS_PER_CLASS, WordRow};
 use arrayvec::ArrayVec;
-use cave_numbers::{LAST_ACTION, LAST_HINT, LAST_MESSAGE, LAST_NAMED, LAST_OBJECT, LAST_PLACE};
+use cave_numbers::{
+    LAST_ACTION, LAST_HINT, LAST_MESSAGE, LAST_NAMED, LAST_OBJECT, LAST_PLACE, LAST_PROP,
+};
 use log_lines::bytes::{skip_blanks, split_word};
 
 /// The greatest length of a line of a text.
 const MAX_TEXT: usize = 255;
 
 /// The last number of a motion.
-const LAST_MOTION: u16 = 999;
+const LAST_MOTION: u16 = WORDS_PER_CLASS - 1;
+
+/// The words of objects come after this number, each with its object's.
+const OBJECT_WORDS: u32 = WORDS_PER_CLASS as u32;
+
+/// The last number of the word of an object.
+const LAST_OBJECT_WORD: u32 = OBJECT_WORDS + LAST_OBJECT as u32;
+
+/// The words of actions come after this number, each with its action's.
+const ACTION_WORDS: u32 = 2 * WORDS_PER_CLASS as u32;
+
+/// The last number of the word of an action.
+const LAST_ACTION_WORD: u32 = ACTION_WORDS + LAST_ACTION as u32;
+
+/// The special words come after this number, each with its message's.
+const SPECIAL_WORDS: u32 = 3 * WORDS_PER_CLASS as u32;
+
+/// The last number of a special word.
+const LAST_SPECIAL_WORD: u32 = SPECIAL_WORDS + LAST_MESSAGE as u32;
 
 /// The last number of a target of a way, with its condition.
 const LAST_TARGET: u32 = 999_999;
@@ -32,7 +52,7 @@ const LAST_TARGET: u32 = 999_999;
 const PROP_STEP: u32 = 100;
 
 /// The last number that a line of a text of an object begins with.
-const LAST_PROP_LINE: u32 = 9900;
+const LAST_PROP_LINE: u32 = PROP_STEP * LAST_PROP as u32;
 
 /// The first field and what follows it.
 #[tactic(auto, using(crate::proofs::FieldLemmas::fields_of_first))]
@@ -149,7 +169,7 @@ pub fn text_line(line: &[u8], low: u16, high: u16) -> Result<(u16, &[u8]), Cause
 /// An object, or a hundred times a prop of the object before.
 fn object_or_prop(number: Number) -> Result<u16, Cause>
     ensures value { result ≡ object_or_prop number }
-    ensures range { IfOk result (λ n. n ≤ 9900) }
+    ensures range { IfOk result (λ n. n ≤ LAST_PROP_LINE) }
 {
     match number {
         Number::Natural(n)
@@ -164,7 +184,7 @@ fn object_or_prop(number: Number) -> Result<u16, Cause>
 #[tactic(auto, unfolding(crate::specs::Rows::object_line))]
 pub fn object_line(line: &[u8]) -> Result<(u16, &[u8]), Cause>
     ensures value { Answers text_line_of result (object_line line.now) }
-    ensures range { IfOk result (λ row. row.0 ≤ 9900) }
+    ensures range { IfOk result (λ row. row.0 ≤ LAST_PROP_LINE) }
 {
     let (number, rest) = number_or_cause(line)?;
     let number = object_or_prop(number)?;
@@ -200,13 +220,13 @@ pub fn way_row(line: &[u8]) -> Result<Row, Cause>
 /// Whether the number is one of a class of words.
 fn is_word_number(n: u32) -> bool
     ensures value { result ≡ is_word_number n }
-    ensures range { IsTrue result → n ≤ 3499 }
+    ensures range { IsTrue result → n ≤ LAST_SPECIAL_WORD }
 {
-    n % 1000 >= 1
-        && (n <= 999
-            || (1000 <= n && n <= 1100)
-            || (2000 <= n && n <= 2099)
-            || (3000 <= n && n <= 3499))
+    n % WORDS_PER_CLASS as u32 >= 1
+        && (n <= LAST_MOTION as u32
+            || (OBJECT_WORDS <= n && n <= LAST_OBJECT_WORD)
+            || (ACTION_WORDS <= n && n <= LAST_ACTION_WORD)
+            || (SPECIAL_WORDS <= n && n <= LAST_SPECIAL_WORD))
 }
 
 /// The number, if it is one of a class of words.

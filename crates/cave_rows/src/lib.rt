@@ -16,4 +16,4 @@ pub use explain::Expected;
 pub use place_role::PlaceRole;
 pub use position::Position;
 pub use role::Role;
-pub use rows::{Hint, Row, WordRow};
+pub use rows::{Hint, Row, WORDS_PER_CLASS, WordRow};

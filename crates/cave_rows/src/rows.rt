@@ -7,6 +7,13 @@ use arrayvec::ArrayVec;
 /// The most numbers in the list of a row: the motions of a way, or the places that have a bit.
 pub const MAX_LIST: usize = 40;
 
+/// How many numbers a class of words has: those of motions come first, then those of objects, of
+/// actions and of special words.
+pub const WORDS_PER_CLASS: u16 = 1000;
+
+/// A target is its condition times this, and what it leads to.
+const PER_CONDITION: u32 = 1000;
+
 /// A way out of a place: where to, and the motions that take it.
 #[derive(Debug, Drop)]
 pub struct Row {
@@ -21,7 +28,7 @@ impl Row {
         ensures value { result ≡ condition_of_target self.now.target }
         ensures within { result ≤ max_condition }
     {
-        self.target / 1000
+        self.target / PER_CONDITION
     }
 
     /// What the row leads to: the number of a place, of a way with rules of its own or, from 501
@@ -29,7 +36,7 @@ impl Row {
     pub fn number(&self) -> u16
         ensures { result ≡ number_of_target self.now.target }
     {
-        (self.target % 1000) as u16
+        (self.target % PER_CONDITION) as u16
     }
 }
 

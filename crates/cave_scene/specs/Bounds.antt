@@ -93,20 +93,20 @@ parts_of_verb = 108
 
 -- what is read is done: 10 of a verb or a way that leads on, and an arrival; a verb that leads
 -- nowhere says 108 at most
-abbrev pub parts_of_deed : ℕ → ℕ
-parts_of_deed left = 5 * left + 223
+abbrev pub parts_of_request : ℕ → ℕ
+parts_of_request left = 5 * left + 223
 
 -- and it has room for 110 of a verb, whichever it is, and an arrival
-abbrev pub room_of_deed : ℕ → ℕ
-room_of_deed left = 5 * left + 323
+abbrev pub room_of_request : ℕ → ℕ
+room_of_request left = 5 * left + 323
 
 -- what is read is done after 2 of the clocks
-abbrev pub parts_of_timed_deed : ℕ → ℕ
-parts_of_timed_deed left = 5 * left + 225
+abbrev pub parts_of_timed_request : ℕ → ℕ
+parts_of_timed_request left = 5 * left + 225
 
 -- and the room for it
-abbrev pub room_of_timed_deed : ℕ → ℕ
-room_of_timed_deed left = 5 * left + 325
+abbrev pub room_of_timed_request : ℕ → ℕ
+room_of_timed_request left = 5 * left + 325
 
 -- the end of a turn: the oyster, and the question of a hint
 abbrev pub parts_of_finish : ℕ

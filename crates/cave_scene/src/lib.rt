@@ -2,10 +2,10 @@
 //! is.
 #![tactic(auto)]
 
-pub mod numbers;
+pub mod objects;
 pub mod play;
 pub mod rules;
 
-pub use numbers::or_no_object;
+pub use objects::or_no_object;
 pub use play::Play;
 pub use rules::Rules;

@@ -5,7 +5,7 @@ ghost use Rattle.cave_words.specs.Lexicon.{IsLexiconOf};
 ghost use Rattle.cave_words.specs.Meaning.{meaning};
 ghost use Rattle.cave_words.specs.Words.{words_of};
 
-use crate::numbers::or_no_object;
+use crate::objects::or_no_object;
 use cave_data::Cave;
 use cave_objects::Object;
 use cave_words::{Lexicon, Meaning, Named, Word, Words};

@@ -11,15 +11,15 @@ use Rattle.cave_objects.specs.Objects.{is_first_at}
 use Rattle.cave_world.specs.declared.ending.Ending.{Ending}
 use Rattle.cave_world.specs.declared.ending.Ending.TheVariants as ending
 use Rattle.cave_world.specs.declared.state.State.{State}
-use Rattle.cave_world.specs.State.{is_hint_taken}
+use Rattle.cave_world.specs.State.{LIVES, is_hint_taken}
 use Rattle.cave_things.specs.Places.{place_named}
 use Rattle.cave_scene.specs.Rules.{thing}
 use Rattle.cave_score.specs.Treasures.{treasure_points, most_treasure_points}
 use Rattle.cave_numbers.specs.Numbers.{last_hint}
 
--- the deaths that a game has
-abbrev pub LIVES : ℕ
-LIVES = 3
+-- all scores are below it
+abbrev pub END_OF_SCORES : ℕ
+END_OF_SCORES = 10000
 
 -- what each life that is left counts
 abbrev pub POINTS_OF_LIFE : ℕ

@@ -1,12 +1,13 @@
 ghost use Rattle.std.specs.Prelude.{◌≡◌, ◌≤◌, ◌<◌, ◌*◌};
 ghost use Rattle.cave_scene.specs.Rules.{cave_of};
+ghost use Rattle.cave_world.specs.State.{LIVES};
 ghost use Rattle.cave_score.specs.Score.{life_points, ending_points, dwarf_points, closing_points};
 ghost use Rattle.cave_score.specs.Score.{escape_points, closed_points, lies_at, magazine_points};
 ghost use Rattle.cave_score.specs.Score.{points_of, price_of, hint_costs};
 ghost use Rattle.cave_score.specs.Score.{score_of, max_score_of};
-ghost use Rattle.cave_score.specs.Score.{LIVES, POINTS_OF_LIFE, POINTS_OF_ENDING};
+ghost use Rattle.cave_score.specs.Score.{POINTS_OF_LIFE, POINTS_OF_ENDING};
 ghost use Rattle.cave_score.specs.Score.{POINTS_OF_DWARVES, POINTS_OF_CLOSING, POINTS_OF_SUCCESS};
-ghost use Rattle.cave_score.specs.Score.{POINTS_OF_MAGAZINE};
+ghost use Rattle.cave_score.specs.Score.{POINTS_OF_MAGAZINE, END_OF_SCORES};
 
 use crate::treasures::treasure_points;
 use crate::worths::most_treasure_points;
@@ -17,10 +18,7 @@ use cave_scene::Rules;
 use cave_things::place_named;
 use cave_words::Named;
 use cave_world::hints::HINTS;
-use cave_world::{Ending, HintNumber, State};
-
-/// The deaths that a game has.
-const LIVES: u32 = 3;
+use cave_world::{Ending, HintNumber, LIVES, State};
 
 /// What each life that is left counts.
 const POINTS_OF_LIFE: u32 = 10;
@@ -56,7 +54,7 @@ fn life_points(state: &State) -> u32
     ensures value { result ≡ life_points state.now }
     ensures most { result ≤ LIVES * POINTS_OF_LIFE }
 {
-    POINTS_OF_LIFE * (LIVES - u32::from(state.tallies.deaths.number()))
+    POINTS_OF_LIFE * u32::from(LIVES - state.tallies.deaths.number())
 }
 
 /// What a game counts that has ended in another way than by quitting.
@@ -185,7 +183,7 @@ fn hint_costs(cave: &Cave, state: &State) -> u32
 pub fn score(rules: &Rules<'_>, state: &State) -> u32
     ensures value { result ≡ score_of (cave_of rules.now) state.now }
     ensures most { result ≤ max_score_of (cave_of rules.now) }
-    ensures small { result < 10000 }
+    ensures small { result < END_OF_SCORES }
 {
     points(rules, state).saturating_sub(hint_costs(rules.cave, state))
 }
@@ -194,10 +192,10 @@ pub fn score(rules: &Rules<'_>, state: &State) -> u32
 #[tactic(auto, unfolding(crate::specs::Score::max_score_of))]
 pub fn max_score(rules: &Rules<'_>) -> u32
     ensures value { result ≡ max_score_of (cave_of rules.now) }
-    ensures small { result < 10000 }
+    ensures small { result < END_OF_SCORES }
 {
     most_treasure_points(rules)
-        + LIVES * POINTS_OF_LIFE
+        + u32::from(LIVES) * POINTS_OF_LIFE
         + POINTS_OF_ENDING
         + POINTS_OF_DWARVES
         + POINTS_OF_CLOSING

@@ -12,11 +12,11 @@ use Rattle.cave_state_text.proofs.EntryLemmas.{IsPast, entries_read}
 use Rattle.cave_state_text.proofs.FactLemmas.{answer_line_read}
 use Rattle.cave_state_text.proofs.Reading.{number_step}
 use Rattle.cave_state_text.proofs.ListedLemmas.{listed}
-use Rattle.cave_state_text.specs.Facts.{numbered, answer_line}
+use Rattle.cave_state_text.specs.Facts.{numbered_text, answer_line}
 
 dwarf_read : (a b : Dwarf) (s t : List ℕ) → IsDwarfWithin a → IsDwarfWithin b
     → dwarf_text a ++ s ≡ dwarf_text b ++ t → (a ≡ b) × (s ≡ t)
-unfolding dwarf_text numbered answer_line
+unfolding dwarf_text numbered_text answer_line
 dwarf_read a b s t ha hb e =
     let place = number_step (codes " at ") a.place b.place _ _ s t ha.0 hb.0 refl refl e in
     let last = number_step (codes ", was at ") a.last b.last _ _ s t ha.1 hb.1 refl refl place.1 in

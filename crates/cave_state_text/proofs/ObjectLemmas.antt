@@ -27,11 +27,11 @@ use Rattle.cave_state_text.proofs.EntryLemmas.{IsPast, entries_read}
 use Rattle.cave_state_text.proofs.Reading.{GoesOn, number_read, signed_step, after_name, both_true}
 use Rattle.cave_state_text.proofs.Reading.{differ, peel}
 use Rattle.cave_state_text.proofs.ListedLemmas.{listed, not_zero}
-use Rattle.cave_state_text.specs.Facts.{numbered, signed_line}
+use Rattle.cave_state_text.specs.Facts.{numbered_text, signed_line}
 
 spot_read : (p q : Spot) (s t : List ℕ) → IsSpotWithin p → IsSpotWithin q → GoesOn s → GoesOn t
     → spot_text p ++ s ≡ spot_text q ++ t → (p ≡ q) × (s ≡ t)
-unfolding numbered
+unfolding numbered_text
 spot_read spot.Away spot.Away s t hp hq g h e = (refl, append_cancel_left (codes " away") s t e)
 spot_read spot.Carried spot.Carried s t hp hq g h e =
     (refl, append_cancel_left (codes " carried") s t e)
@@ -48,7 +48,7 @@ prop_text s = codes ", prop " ++ s
 
 anchor_read : (p q : Anchor) (s t : List ℕ) → IsAnchorWithin p → IsAnchorWithin q
     → anchor_text p ++ prop_text s ≡ anchor_text q ++ prop_text t → (p ≡ q) × (s ≡ t)
-unfolding numbered
+unfolding numbered_text
 anchor_read anchor.Loose anchor.Loose s t hp hq e =
     (refl, append_cancel_left (codes ", prop ") s t e)
 anchor_read anchor.Fixed anchor.Fixed s t hp hq e =
@@ -61,7 +61,7 @@ anchor_read (anchor.At m) (anchor.At n) s t hp hq e =
 anchor_read _ _ s t hp hq e = absurd (false≢true (differ 2 _ _ e))
 
 anchor_goes_on : (p : Anchor) (s : List ℕ) → GoesOn (anchor_text p ++ prop_text s)
-unfolding numbered
+unfolding numbered_text
 anchor_goes_on anchor.Loose s = refl
 anchor_goes_on anchor.Fixed s = refl
 anchor_goes_on (anchor.At place) s = refl

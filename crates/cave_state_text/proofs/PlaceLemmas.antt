@@ -24,7 +24,7 @@ use Rattle.cave_state_text.proofs.EntryLemmas.{IsPast, entries_read}
 use Rattle.cave_state_text.proofs.Reading.{GoesOn, number_first, number_read, after_name, differ}
 use Rattle.cave_state_text.proofs.Reading.{peel}
 use Rattle.cave_state_text.proofs.ListedLemmas.{not_zero, unequal}
-use Rattle.cave_state_text.specs.Facts.{numbered}
+use Rattle.cave_state_text.specs.Facts.{numbered_text}
 
 half_decides : (a b : Half) → Decides (half_eq.eq-value.it a b) (a ≡ b)
 half_decides (First x) (First y) =
@@ -39,7 +39,7 @@ AreHalvesWithin (half ∷ halves) = IsWide (object_of half) × AreHalvesWithin h
 
 half_read : (a b : Half) (s t : List ℕ) → IsWide (object_of a) → IsWide (object_of b)
     → GoesOn s → GoesOn t → half_text a ++ s ≡ half_text b ++ t → (a ≡ b) × (s ≡ t)
-unfolding numbered
+unfolding numbered_text
 half_read (First m) (First n) s t ha hb g h e =
     let number = number_read m n s t ha hb g h (after_name (codes " ") _ _ s t e) in
     (λ i. First (number.0 i), number.1)
@@ -54,14 +54,14 @@ half_read (Second m) (First n) s t ha hb g h e =
     absurd (number_first n 97 t (codes "lso " ++ (decimal m ++ s)) hb refl (sym rest))
 
 halves_go_on : (halves : List Half) (s : List ℕ) → GoesOn (each_half halves ++ (codes "\n" ++ s))
-unfolding numbered
+unfolding numbered_text
 halves_go_on [] s = refl
 halves_go_on (First x ∷ halves) s = refl
 halves_go_on (Second x ∷ halves) s = refl
 
 each_read : (xs ys : List Half) (s t : List ℕ) → AreHalvesWithin xs → AreHalvesWithin ys
     → each_half xs ++ (codes "\n" ++ s) ≡ each_half ys ++ (codes "\n" ++ t) → (xs ≡ ys) × (s ≡ t)
-unfolding numbered
+unfolding numbered_text
 each_read [] [] s t ha hb e = (refl, append_cancel_left (codes "\n") s t e)
 each_read [] (First b ∷ ys) s t ha hb e = absurd (false≢true (differ 0 _ _ e))
 each_read [] (Second b ∷ ys) s t ha hb e = absurd (false≢true (differ 0 _ _ e))
@@ -77,7 +77,7 @@ each_read (a ∷ xs) (b ∷ ys) s t ha hb e =
 
 not_nothing : (a : Half) (xs : List Half) (s t : List ℕ) → IsWide (object_of a)
     → halves_text (a ∷ xs) ++ s ≡ codes " nothing\n" ++ t → ⊥
-unfolding numbered
+unfolding numbered_text
 not_nothing (First m) xs s t h e =
     let lists =
     sym (append_assoc (half_text (First m)) (each_half xs) (codes "\n" ++ s))

@@ -4,6 +4,8 @@ use Rattle.std.proofs.Common.{◌⊎◌, inl, inr}
 use Rattle.std.specs.Prelude.{◌≤ℤ◌}
 use Rattle.std.proofs.lemmas.Bool.{cases_lt}
 use Rattle.std.proofs.lemmas.Int.{ints}
+use Rattle.cave_objects.specs.Props.{HIGHEST_PROP, LOWEST_PROP}
+use Rattle.cave_world.specs.Magic.{HIGHEST_MAGIC, LOWEST_MAGIC}
 use Rattle.cave_state_text.specs.Numbers.{IsSigned, IsUpTo}
 
 signed_within : (z : ℤ) (least most : ℕ) → negsuc least ≤ℤ z → z ≤ℤ pos most → least < 2 ^ 63
@@ -14,10 +16,10 @@ signed_within (negsuc n) least most low high few many = omega (arith, ints, low,
 pub charge_within : (z : ℤ) → negsuc 0 ≤ℤ z → z ≤ℤ pos 100000 → IsSigned z
 charge_within z low high = signed_within z 0 100000 low high (omega arith) (omega arith)
 
-pub magic_within : (z : ℤ) → negsuc 998 ≤ℤ z → z ≤ℤ pos 999 → IsSigned z
+pub magic_within : (z : ℤ) → LOWEST_MAGIC ≤ℤ z → z ≤ℤ HIGHEST_MAGIC → IsSigned z
 magic_within z low high = signed_within z 998 999 low high (omega arith) (omega arith)
 
-pub prop_within : (z : ℤ) → negsuc 99 ≤ℤ z → z ≤ℤ pos 101 → IsSigned z
+pub prop_within : (z : ℤ) → LOWEST_PROP ≤ℤ z → z ≤ℤ HIGHEST_PROP → IsSigned z
 prop_within z low high = signed_within z 99 101 low high (omega arith) (omega arith)
 
 pub ruleset within = (charge_within, magic_within, prop_within)

@@ -5,11 +5,11 @@ use Rattle.std.specs.Prelude.{◌==◌, find, codes, slice_get}
 use Rattle.std.proofs.lemmas.Bool.Decides.{nat_tests}
 use Rattle.std.proofs.lemmas.List.{drop_all}
 use Rattle.cave_data.specs.CaveView.{CaveView}
-use Rattle.cave_rows.specs.Rows.{WordEntry}
+use Rattle.cave_rows.specs.Rows.{WordEntry, WORDS_PER_CLASS}
 use Rattle.cave_state_text.specs.Things.{word_of_object}
 
 abbrev is_of : ℕ → WordEntry → Bool
-is_of x row = row.number == 1000 + x
+is_of x row = row.number == WORDS_PER_CLASS + x
 
 find_here : {X : Type 0} (p : X → Bool) (xs : List X) (i : ℕ) (x : X) → slice_get xs i ≡ Some x
     → p x ≡ true → find p (drop i xs) ≡ Some x
@@ -26,7 +26,8 @@ find_later p (y ∷ ys) (suc i) x e h = find_later p ys i x e h
 -- nothing was found before a row, so the row is the first if it is the object's
 pub found_word : (cave : CaveView) (x i : ℕ) (row : WordEntry)
     → find (is_of x) (drop i cave.words) ≡ find (is_of x) cave.words
-    → slice_get cave.words i ≡ Some row → row.number ≡ 1000 + x → row.word ≡ word_of_object cave x
+    → slice_get cave.words i ≡ Some row → row.number ≡ WORDS_PER_CLASS + x
+    → row.word ≡ word_of_object cave x
 unfolding word_of_object
 found_word cave x i row so_far here is =
     let passes : is_of x row ≡ true = grind (arith, nat_tests) in
@@ -35,7 +36,7 @@ found_word cave x i row so_far here is =
 
 pub passed_row : (cave : CaveView) (x i : ℕ) (row : WordEntry)
     → find (is_of x) (drop i cave.words) ≡ find (is_of x) cave.words
-    → slice_get cave.words i ≡ Some row → (row.number ≡ 1000 + x → ⊥)
+    → slice_get cave.words i ≡ Some row → (row.number ≡ WORDS_PER_CLASS + x → ⊥)
     → find (is_of x) (drop (i + 1) cave.words) ≡ find (is_of x) cave.words
 passed_row cave x i row so_far here other =
     let fails : is_of x row ≡ false = grind (arith, nat_tests) in

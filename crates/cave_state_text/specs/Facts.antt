@@ -20,8 +20,8 @@ yes_or_no true = codes "yes"
 yes_or_no false = codes "no"
 
 -- a number after what says what it is of
-unfoldable pub numbered : List ℕ → ℕ → List ℕ
-numbered before n = before ++ decimal n
+unfoldable pub numbered_text : List ℕ → ℕ → List ℕ
+numbered_text before n = before ++ decimal n
 
 -- a line with a number
 unfoldable pub numbered_line : List ℕ → ℕ → List ℕ

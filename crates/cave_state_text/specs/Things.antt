@@ -3,6 +3,7 @@ use Rattle.std.specs.Prelude.{ℕ, ◌+◌, ◌-◌, Bool, false, ◌==◌, ◌&
 use Rattle.std.specs.Prelude.{find, codes, option_map, unwrap_or, slice_index_or}
 use Rattle.std.specs.Ordering.{int_eq}
 use Rattle.std.specs.Cmp.Lexicographic.{pointwise}
+use Rattle.cave_rows.specs.Rows.{WORDS_PER_CLASS}
 use Rattle.cave_data.specs.CaveView.{CaveView}
 use Rattle.cave_objects.specs.Layout.{Layout}
 use Rattle.cave_objects.specs.Lists.{halves_at}
@@ -17,29 +18,30 @@ use Rattle.cave_objects.specs.contracts.object.HalfPartialEq.TheImpl as half_eq
 use Rattle.cave_objects.specs.contracts.spot.SpotPartialEq.TheImpl as spot_eq
 use Rattle.cave_objects.specs.contracts.spot.AnchorPartialEq.TheImpl as anchor_eq
 use Rattle.cave_world.specs.Fresh.{no_dwarf}
-use Rattle.cave_world.specs.State.{visits_of, turns_near, is_hint_taken}
+use Rattle.cave_world.specs.State.{visits_of, turns_in_area, is_hint_taken}
 use Rattle.cave_world.specs.declared.dwarves.Dwarf.{Dwarf}
 use Rattle.cave_world.specs.declared.state.State.{State}
 use Rattle.cave_state_text.specs.Entries.{entry}
-use Rattle.cave_state_text.specs.Facts.{numbered, numbered_line, signed_line, answer_line}
+use Rattle.cave_state_text.specs.Facts.{numbered_text, numbered_line, signed_line, answer_line}
 
 -- ---- objects
 
 -- the first word of an object in the cave, or a dash where it has none
 unfoldable pub word_of_object : CaveView → ℕ → List ℕ
 word_of_object cave x =
-    unwrap_or (option_map (λ row. row.word) (find (λ row. row.number == 1000 + x) cave.words))
+    unwrap_or
+    (option_map (λ row. row.word) (find (λ row. row.number == WORDS_PER_CLASS + x) cave.words))
     (codes "-")
 
 abbrev pub spot_text : Spot → List ℕ
 spot_text spot.Away = codes " away"
 spot_text spot.Carried = codes " carried"
-spot_text (spot.At place) = numbered (codes " at ") place
+spot_text (spot.At place) = numbered_text (codes " at ") place
 
 abbrev pub anchor_text : Anchor → List ℕ
 anchor_text anchor.Loose = []
 anchor_text anchor.Fixed = codes ", fixed"
-anchor_text (anchor.At place) = numbered (codes ", also at ") place
+anchor_text (anchor.At place) = numbered_text (codes ", also at ") place
 
 -- an object is as another layout has it
 abbrev pub is_as_in : Layout → Layout → ℕ → Bool
@@ -63,8 +65,8 @@ thing_line cave begun o x =
 
 -- a half by the number of its object
 abbrev pub half_text : Half → List ℕ
-half_text (First x) = numbered (codes " ") x
-half_text (Second x) = numbered (codes " also ") x
+half_text (First x) = numbered_text (codes " ") x
+half_text (Second x) = numbered_text (codes " also ") x
 
 abbrev pub each_half : List Half → List ℕ
 each_half [] = []
@@ -94,8 +96,8 @@ dwarf_numbered s number = slice_index_or s.dwarves.each (number - 1) no_dwarf
 
 unfoldable pub dwarf_text : Dwarf → List ℕ
 dwarf_text dwarf =
-    numbered (codes " at ") dwarf.place
-    ++ (numbered (codes ", was at ") dwarf.last
+    numbered_text (codes " at ") dwarf.place
+    ++ (numbered_text (codes ", was at ") dwarf.last
     ++ answer_line (codes ", has seen the player ") dwarf.has_seen)
 
 unfoldable pub dwarf_line : State → ℕ → List ℕ
@@ -103,10 +105,10 @@ dwarf_line s number = entry (codes "dwarf ") false number (dwarf_text (dwarf_num
 
 unfoldable pub hint_text : ℕ → Bool → List ℕ
 hint_text turns is_taken =
-    numbered (codes " waited ") turns ++ answer_line (codes ", taken ") is_taken
+    numbered_text (codes " waited ") turns ++ answer_line (codes ", taken ") is_taken
 
 -- a hint that was waited for or taken
 unfoldable pub hint_line : State → ℕ → List ℕ
 hint_line s hint =
-    entry (codes "hint ") (turns_near s hint == 0 && not (is_hint_taken s hint)) hint
-    (hint_text (turns_near s hint) (is_hint_taken s hint))
+    entry (codes "hint ") (turns_in_area s hint == 0 && not (is_hint_taken s hint)) hint
+    (hint_text (turns_in_area s hint) (is_hint_taken s hint))

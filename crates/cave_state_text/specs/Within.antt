@@ -10,7 +10,7 @@ use Rattle.cave_objects.specs.declared.spot.Spot.TheVariants as spot
 use Rattle.cave_objects.specs.declared.spot.Anchor.{Anchor}
 use Rattle.cave_objects.specs.declared.spot.Anchor.TheVariants as anchor
 use Rattle.cave_world.specs.Dwarves.{dwarf_count}
-use Rattle.cave_world.specs.State.{turns_near, visits_of}
+use Rattle.cave_world.specs.State.{turns_in_area, visits_of}
 use Rattle.cave_world.specs.declared.closing.Closing.{Closing}
 use Rattle.cave_world.specs.declared.dwarves.Dwarf.{Dwarf}
 use Rattle.cave_world.specs.declared.dwarves.Knife.{Knife}
@@ -101,7 +101,7 @@ pub record AreDwarvesWithin (s : State) : Type 0 where
 pub record AreHintsWithin (s : State) : Type 0 where
   pub all_turns : length s.hints.turns ≡ last_hint
   pub all_taken : length s.hints.is_taken ≡ last_hint
-  pub each : (hint : ℕ) → IsUpTo last_hint hint → IsWide (turns_near s hint)
+  pub each : (hint : ℕ) → IsUpTo last_hint hint → IsWide (turns_in_area s hint)
 
 pub record IsWithin (s : State) : Type 0 where
   pub facts : AreFactsWithin s

@@ -1,7 +1,7 @@
 //! Lines for what there is once in a state.
 
 ghost use Rattle.std.specs.Prelude.{◌≡◌, ◌++◌, OnOk, codes, decimal};
-ghost use Rattle.cave_state_text.specs.Facts.{yes_or_no, numbered, numbered_line, signed_line};
+ghost use Rattle.cave_state_text.specs.Facts.{yes_or_no, numbered_text, numbered_line, signed_line};
 ghost use Rattle.cave_state_text.specs.Facts.{answer_line};
 ghost use Rattle.cave_state_text.specs.Facts.{counts_text, trail_text, question_text, end_line};
 ghost use Rattle.cave_state_text.specs.Facts.{lamp_text, closing_text, tallies_text, verb_text};
@@ -20,14 +20,14 @@ pub(crate) fn yes_or_no(answer: bool) -> &'static str
 }
 
 /// Appends a number after what says what it is of.
-#[tactic(auto, unfolding(crate::specs::Facts::numbered))]
+#[tactic(auto, unfolding(crate::specs::Facts::numbered_text))]
 pub(crate) fn push_numbered(
     alloc: Global,
     text: &mut Vec<u8>,
     before: &str,
     number: u32,
 ) -> Result<(), AllocError>
-    ensures { OnOk result (text.new.items ≡ text.old.items ++ numbered before.now number) }
+    ensures { OnOk result (text.new.items ≡ text.old.items ++ numbered_text before.now number) }
 {
     let words = format!(in alloc; "{before}{number}")?;
     text.extend_from_slice(words.as_bytes())

@@ -10,17 +10,15 @@ use crate::facts::{push_numbered, push_signed, push_start};
 use cave_data::Cave;
 use cave_objects::object::OBJECTS;
 use cave_objects::{Anchor, Object, Objects, Spot};
+use cave_rows::WORDS_PER_CLASS;
 use std::alloc::{AllocError, Global};
-
-/// How much greater the number of a row for an object is than the object's.
-const FIRST_OBJECT_ROW: u16 = 1000;
 
 /// The first word of an object, or a dash where it has none.
 fn word_of_object(cave: &Cave, object: Object) -> &[u8]
     ensures { result.now ≡ word_of_object cave.now object }
 {
     let words = cave.words();
-    let number = FIRST_OBJECT_ROW + u16::from(object.number());
+    let number = WORDS_PER_CLASS + u16::from(object.number());
     for i in 0..words.len() {
         let row = words.row(i);
         if row.number == number {

@@ -4,7 +4,7 @@
 ghost use Rattle.std.specs.Prelude.{◌≡◌, ◌≤◌, length, Some};
 ghost use Rattle.cave_numbers.specs.Numbers.{last_hint};
 ghost use Rattle.cave_world.specs.Dwarves.{dwarf_count};
-ghost use Rattle.cave_world.specs.State.{turns_near, visits_of};
+ghost use Rattle.cave_world.specs.State.{turns_in_area, visits_of};
 ghost use Rattle.cave_state_text.specs.Numbers.{IsWide};
 ghost use Rattle.cave_state_text.specs.Things.{dwarf_numbered};
 ghost use Rattle.cave_state_text.specs.Within.{IsWithin, AreFactsWithin, AreObjectsWithin};
@@ -185,7 +185,7 @@ fn dwarves(state: &State)
 fn hint(state: &State, number: u8)
     requires some { 1 ≤ number }
     requires within { number ≤ last_hint }
-    ensures { IsWide (turns_near state.now number) }
+    ensures { IsWide (turns_in_area state.now number) }
 {
     let _ = state.hints.turns[usize::from(number) - 1].number();
 }

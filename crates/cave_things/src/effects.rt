@@ -86,7 +86,7 @@ pub fn lose_one(state: &mut State)
 
 /// One treasure more can't be found any more, if the snake is still at home.
 #[tactic(auto, unfolding(crate::specs::Effects::after_loss_to_snake))]
-pub fn lose(rules: &Rules<'_>, state: &mut State)
+pub fn lose_to_snake(rules: &Rules<'_>, state: &mut State)
     ensures { state.new ≡ after_loss_to_snake (cave_of rules.now) state.old }
 {
     if is_at_home(rules, state, rules.object(Named::Snake)) {

@@ -13,7 +13,7 @@ pub mod special_words;
 pub mod treasures;
 
 pub use conditions::{Condition, has_condition_of};
-pub use effects::{let_go, lose, lose_one, put_down, remove_troll};
+pub use effects::{let_go, lose_one, lose_to_snake, put_down, remove_troll};
 pub use homes::{hold, home, is_at_home, is_home_elsewhere, is_home_here, second_home};
 pub use liquids::{is_liquid, lake, liquid};
 pub use places::{building_place, deep_place, is_place, outside_place, place_named, start_place};

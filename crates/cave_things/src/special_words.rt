@@ -1,4 +1,5 @@
 ghost use Rattle.std.specs.Prelude.{◌≡◌, ◌<◌};
+ghost use Rattle.cave_rows.specs.Rows.{WORDS_PER_CLASS};
 ghost use Rattle.cave_scene.specs.Rules.{cave_of};
 ghost use Rattle.cave_things.specs.SpecialWords.{number_or_none, special};
 
@@ -18,7 +19,7 @@ fn number_or_none(meaning: Option<Meaning>) -> u16
 #[tactic(auto, using(crate::proofs::Meanings::specials), unfolding(crate::specs::SpecialWords::special))]
 pub fn special(rules: &Rules<'_>, word: Word) -> u16
     ensures value { result ≡ special (cave_of rules.now) word }
-    ensures within { result < 1000 }
+    ensures within { result < WORDS_PER_CLASS }
 {
     number_or_none(rules.lexicon.find_in(word, Class::Special))
 }

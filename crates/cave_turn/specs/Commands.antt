@@ -93,8 +93,8 @@ pub record WordsDone : Type 0 where
   pub scene : Scene
   pub kept : Option HalfCommand
 
-abbrev pub words_done : Scene → Option HalfCommand → WordsDone
-words_done p kept = record { scene = p; kept = kept }
+abbrev pub after_words : Scene → Option HalfCommand → WordsDone
+after_words p kept = record { scene = p; kept = kept }
 
 -- a verb that asks what it is to be done to is kept alone
 abbrev pub half_command_kept : Next → ℕ → Option HalfCommand
@@ -106,25 +106,25 @@ unfoldable pub words_done_by_verb : CaveView → Order → Scene → WordsDone
 words_done_by_verb cave order p =
     let a = act cave order p in
     let next = next_of_step a.step in
-    words_done (next_scene cave next a.scene) (half_command_kept next (verb_number order.verb))
+    after_words (next_scene cave next a.scene) (half_command_kept next (verb_number order.verb))
 
 -- an action that has rules is done by them; of another it is said what the cave says of it
 abbrev pub words_done_by_action : CaveView → Option Verb → ℕ → ℕ → List ℕ → Scene → WordsDone
 words_done_by_action cave (Some v) number x word p =
     words_done_by_verb cave (order_of v x word) p
-words_done_by_action cave None number x word p = words_done (after_default cave number p) None
+words_done_by_action cave None number x word p = after_words (after_default cave number p) None
 
 -- what was read is done. After an unknown word, or where a verb is missing, the half command stays
 -- as it then is
 abbrev pub words_done_by_request : CaveView → HalfCommand → Request → Scene → WordsDone
-words_done_by_request cave half Unknown p = words_done (puzzled_scene p) (Some half)
-words_done_by_request cave half (Motion motion) p = words_done (travel_scene cave motion p) None
-words_done_by_request cave half (Tell told) p = words_done (after_telling told p) None
-words_done_by_request cave half Knives p = words_done (after_vanished_knives p) None
+words_done_by_request cave half Unknown p = after_words (puzzled_scene p) (Some half)
+words_done_by_request cave half (Motion motion) p = after_words (travel_scene cave motion p) None
+words_done_by_request cave half (Tell told) p = after_words (after_telling told p) None
+words_done_by_request cave half Knives p = after_words (after_vanished_knives p) None
 words_done_by_request cave half (Act number x word) p =
     words_done_by_action cave (verb_of number) number x word p
 words_done_by_request cave half (WhatToDo word) p =
-    words_done (after_telling (part.Word line.WhatToDo word) p) (Some half)
+    after_words (after_telling (part.Word line.WhatToDo word) p) (Some half)
 
 -- what is kept is remembered; where nothing is, the object that was read is the last one
 abbrev pub after_remembering : Option HalfCommand → ℕ → State → State
@@ -151,7 +151,7 @@ scene_of_words cave words p =
 
 -- a command that isn't read leaves nothing for the next line
 abbrev pub unread_scene : Scene → Scene
-unread_scene p = kept_scene 0 (words_done p None)
+unread_scene p = kept_scene 0 (after_words p None)
 
 -- what the clocks leave of a command: it is read, or the player gave up, or is where the cave
 -- closed

@@ -18,7 +18,7 @@ use Rattle.cave_objects.specs.Layout.{Layout}
 use Rattle.cave_objects.specs.Objects.{is_carried, with_place, with_prop}
 use Rattle.cave_world.specs.declared.ending.Ending.TheVariants.{Killed}
 use Rattle.cave_world.specs.declared.state.State.{State}
-use Rattle.cave_world.specs.State.{with_player_from}
+use Rattle.cave_world.specs.State.{LIVES, with_player_from}
 
 -- what is said of a first, a second, a third revival
 abbrev pub revival_role : ℕ → Role
@@ -63,7 +63,7 @@ unfoldable pub return_scene : CaveView → Scene → Scene
 return_scene cave p =
     let q = after_saying (revival_role p.state.tallies.deaths) p in
     let r = with_state (with_one_death q.state) q in
-    if nat_le 3 r.state.tallies.deaths then ending_scene cave Killed r else revival_scene cave r
+    if nat_le LIVES r.state.tallies.deaths then ending_scene cave Killed r else revival_scene cave r
 
 -- a player who doesn't is dead
 unfoldable pub burial_scene : CaveView → Scene → Scene

@@ -13,7 +13,7 @@ ghost use Rattle.cave_turn.specs.Answers.{is_dragon, is_yes};
 
 use crate::dragon::fight;
 use crate::finish::finish;
-use crate::revival::{come_back, stay_dead};
+use crate::revival::{bury, come_back};
 use cave_ends::{end, tell_question};
 use cave_hints::{give, price};
 use cave_moves::arrive;
@@ -149,7 +149,7 @@ fn decline(rules: &Rules<'_>, question: &Question, play: &mut Play<'_>)
 {
     match question {
         Question::Welcome => enter(rules, play),
-        Question::Die => stay_dead(rules, play),
+        Question::Die => bury(rules, play),
         Question::Dragon => {}
         Question::Quit
         | Question::ScoreQuit

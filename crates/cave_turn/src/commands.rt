@@ -1,15 +1,16 @@
 ghost use Rattle.std.specs.Prelude.{◌≡◌, ◌+◌, ◌<◌, ◌≤◌, []};
 ghost use Rattle.arrayvec.specs.ArrayVec.{array_vec_len};
 ghost use Rattle.cave_scene.specs.Bounds.{HasRoom, SaysUpTo, parts_of_journey};
-ghost use Rattle.cave_scene.specs.Bounds.{parts_of_arrival, parts_of_command, room_of_deed};
-ghost use Rattle.cave_scene.specs.Bounds.{parts_of_deed, room_of_timed_deed, parts_of_timed_deed};
+ghost use Rattle.cave_scene.specs.Bounds.{parts_of_arrival, parts_of_command, room_of_request};
+ghost use Rattle.cave_scene.specs.Bounds.{parts_of_request, parts_of_timed_request};
+ghost use Rattle.cave_scene.specs.Bounds.{room_of_timed_request};
 ghost use Rattle.cave_scene.specs.Play.{scene_of, IsSamePlay, GoesOn};
 ghost use Rattle.cave_scene.specs.Rules.{cave_of};
 ghost use Rattle.cave_turn.specs.Commands.{with_magic_waiting, knife_here};
 ghost use Rattle.cave_turn.specs.Commands.{after_beginning};
 ghost use Rattle.cave_turn.specs.Commands.{travel_scene, puzzlement, puzzled_scene};
 ghost use Rattle.cave_turn.specs.Commands.{after_vanished_knives};
-ghost use Rattle.cave_turn.specs.Commands.{next_scene, half_command_kept, words_done};
+ghost use Rattle.cave_turn.specs.Commands.{next_scene, half_command_kept, after_words};
 ghost use Rattle.cave_turn.specs.Commands.{words_done_by_verb, words_done_by_request};
 ghost use Rattle.cave_turn.specs.Commands.{after_remembering};
 ghost use Rattle.cave_turn.specs.Commands.{kept_scene, scene_of_understood, scene_of_words};
@@ -22,7 +23,7 @@ use crate::finish::finish;
 use crate::request::{HalfCommand, Request, Understood, read_words};
 use cave_clocks::{Clocks, run_clocks};
 use cave_ends::{ask, end};
-use cave_moves::{arrive, describe_here, lead_by_motion};
+use cave_moves::{arrive, describe_here, lead_by_request};
 use cave_objects::{Object, Place};
 use cave_orders::{Next, Order, Verb, tell_default};
 use cave_rows::Role;
@@ -86,7 +87,7 @@ fn travel_by(rules: &Rules<'_>, motion: u16, play: &mut Play<'_>)
     ensures same { IsSamePlay play.old play.new }
     ensures few { SaysUpTo (parts_of_arrival play.old.left + parts_of_journey) play.old play.new }
 {
-    let place = lead_by_motion(rules, motion, play);
+    let place = lead_by_request(rules, motion, play);
     arrive(rules, place, play);
 }
 
@@ -158,11 +159,11 @@ fn half_command_kept(next: &Next, verb: u16) -> Option<HalfCommand>
 /// for the next line.
 #[tactic(auto, unfolding(crate::specs::Commands::words_done_by_verb))]
 fn do_verb(rules: &Rules<'_>, order: Order, play: &mut Play<'_>) -> Option<HalfCommand>
-    requires { HasRoom (room_of_deed play.old.left) play.old }
-    ensures play { words_done (scene_of play.new) result
+    requires { HasRoom (room_of_request play.old.left) play.old }
+    ensures play { after_words (scene_of play.new) result
         ≡ words_done_by_verb (cave_of rules.now) order (scene_of play.old) }
     ensures same { IsSamePlay play.old play.new }
-    ensures few { SaysUpTo (parts_of_deed play.old.left) play.old play.new }
+    ensures few { SaysUpTo (parts_of_request play.old.left) play.old play.new }
 {
     let verb = order.verb.number();
     let next = act(rules, order, play);
@@ -178,12 +179,12 @@ fn do_action(
     word: Word,
     play: &mut Play<'_>,
 ) -> Option<HalfCommand>
-    requires { HasRoom (room_of_deed play.old.left) play.old }
-    ensures play { words_done (scene_of play.new) result
+    requires { HasRoom (room_of_request play.old.left) play.old }
+    ensures play { after_words (scene_of play.new) result
         ≡ words_done_by_action (cave_of rules.now) (verb_of number) number object word
         (scene_of play.old) }
     ensures same { IsSamePlay play.old play.new }
-    ensures few { SaysUpTo (parts_of_deed play.old.left) play.old play.new }
+    ensures few { SaysUpTo (parts_of_request play.old.left) play.old play.new }
 {
     match Verb::try_from(number) {
         Ok(verb) => do_verb(rules, Order::of(verb, object, word), play),
@@ -200,12 +201,12 @@ fn do_request(
     understood: &Understood,
     play: &mut Play<'_>,
 ) -> Option<HalfCommand>
-    requires { HasRoom (room_of_deed play.old.left) play.old }
-    ensures play { words_done (scene_of play.new) result
+    requires { HasRoom (room_of_request play.old.left) play.old }
+    ensures play { after_words (scene_of play.new) result
         ≡ words_done_by_request (cave_of rules.now) understood.now.half understood.now.request
         (scene_of play.old) }
     ensures same { IsSamePlay play.old play.new }
-    ensures few { SaysUpTo (parts_of_deed play.old.left) play.old play.new }
+    ensures few { SaysUpTo (parts_of_request play.old.left) play.old play.new }
 {
     let half = understood.half;
     match &understood.request {
@@ -253,11 +254,11 @@ fn remember_command(kept: Option<HalfCommand>, object: Object, state: &mut State
 /// What was read is carried out, and what is left of it is remembered.
 #[tactic(auto, unfolding(crate::specs::Commands::scene_of_understood, crate::specs::Commands::kept_scene))]
 fn carry_out(rules: &Rules<'_>, understood: &Understood, play: &mut Play<'_>)
-    requires { HasRoom (room_of_deed play.old.left) play.old }
+    requires { HasRoom (room_of_request play.old.left) play.old }
     ensures play { scene_of play.new
         ≡ scene_of_understood (cave_of rules.now) understood.now (scene_of play.old) }
     ensures same { IsSamePlay play.old play.new }
-    ensures few { SaysUpTo (parts_of_deed play.old.left) play.old play.new }
+    ensures few { SaysUpTo (parts_of_request play.old.left) play.old play.new }
 {
     let kept = do_request(rules, understood, play);
     remember_command(kept, understood.half.object, play.state);
@@ -265,11 +266,11 @@ fn carry_out(rules: &Rules<'_>, understood: &Understood, play: &mut Play<'_>)
 
 /// Does what the words of a line say.
 fn do_words(rules: &Rules<'_>, words: Words, play: &mut Play<'_>)
-    requires { HasRoom (room_of_deed play.old.left) play.old }
+    requires { HasRoom (room_of_request play.old.left) play.old }
     ensures play { scene_of play.new
         ≡ scene_of_words (cave_of rules.now) words (scene_of play.old) }
     ensures same { IsSamePlay play.old play.new }
-    ensures few { SaysUpTo (parts_of_deed play.old.left) play.old play.new }
+    ensures few { SaysUpTo (parts_of_request play.old.left) play.old play.new }
 {
     match words.first {
         None => {}
@@ -293,11 +294,11 @@ fn forget(play: &mut Play<'_>)
 
 /// Does what the clocks leave of a command.
 fn go_on(rules: &Rules<'_>, words: Words, clocks: Clocks, play: &mut Play<'_>)
-    requires { HasRoom (room_of_deed play.old.left) play.old }
+    requires { HasRoom (room_of_request play.old.left) play.old }
     ensures play { scene_of play.new
         ≡ after_clocks (cave_of rules.now) words clocks (scene_of play.old) }
     ensures same { IsSamePlay play.old play.new }
-    ensures few { SaysUpTo (parts_of_deed play.old.left) play.old play.new }
+    ensures few { SaysUpTo (parts_of_request play.old.left) play.old play.new }
 {
     match clocks {
         Clocks::GoOn => do_words(rules, words, play),
@@ -315,10 +316,10 @@ fn go_on(rules: &Rules<'_>, words: Words, clocks: Clocks, play: &mut Play<'_>)
 /// The clocks run, and the words of the line are done.
 #[tactic(auto, unfolding(crate::specs::Commands::clocks_scene))]
 fn do_in_time(rules: &Rules<'_>, words: Words, play: &mut Play<'_>)
-    requires { HasRoom (room_of_timed_deed play.old.left) play.old }
+    requires { HasRoom (room_of_timed_request play.old.left) play.old }
     ensures play { scene_of play.new ≡ clocks_scene (cave_of rules.now) words (scene_of play.old) }
     ensures same { IsSamePlay play.old play.new }
-    ensures few { SaysUpTo (parts_of_timed_deed play.old.left) play.old play.new }
+    ensures few { SaysUpTo (parts_of_timed_request play.old.left) play.old play.new }
 {
     let clocks = run_clocks(rules, play);
     go_on(rules, words, clocks, play);

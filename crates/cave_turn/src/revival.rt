@@ -18,10 +18,7 @@ use cave_rows::Role;
 use cave_scene::{Play, Rules};
 use cave_things::{building_place, is_in_hand, start_place};
 use cave_words::Named;
-use cave_world::{Ending, State};
-
-/// A player who died so often doesn't come back.
-const MAX_DEATHS: u16 = 3;
+use cave_world::{Ending, LIVES, State};
 
 /// What is said of a revival, by the deaths before.
 fn revival_role(deaths: u16) -> Role
@@ -78,7 +75,7 @@ fn let_all_fall(rules: &Rules<'_>, place: Place, objects: &mut Objects)
 /// What was carried is at the older place of the trail, which a death sets to where it leaves
 /// things, except a death at place 0; the lamp is where the game begins.
 #[tactic(auto, unfolding(crate::specs::Revival::without_belongings))]
-fn bereave(rules: &Rules<'_>, state: &mut State)
+fn leave_belongings(rules: &Rules<'_>, state: &mut State)
     ensures { state.new ≡ without_belongings (cave_of rules.now) state.old }
 {
     put_lamp_out(rules, state);
@@ -94,7 +91,7 @@ fn revive(rules: &Rules<'_>, play: &mut Play<'_>)
     ensures same { IsSamePlay play.old play.new }
     ensures few { SaysUpTo (parts_of_arrival play.old.left) play.old play.new }
 {
-    bereave(rules, play.state);
+    leave_belongings(rules, play.state);
     play.state.put_player_from(building_place(rules.cave));
     describe_here(rules, play);
 }
@@ -110,7 +107,7 @@ pub fn come_back(rules: &Rules<'_>, play: &mut Play<'_>)
     let deaths = play.state.tallies.deaths.number();
     play.say(revival_role(deaths));
     count_death(play.state);
-    if MAX_DEATHS <= play.state.tallies.deaths.number() {
+    if LIVES <= play.state.tallies.deaths.number() {
         end(rules, Ending::Killed, play);
         return;
     }
@@ -119,7 +116,7 @@ pub fn come_back(rules: &Rules<'_>, play: &mut Play<'_>)
 
 /// A player who doesn't want to come back is dead.
 #[tactic(auto, unfolding(crate::specs::Revival::burial_scene))]
-pub fn stay_dead(rules: &Rules<'_>, play: &mut Play<'_>)
+pub fn bury(rules: &Rules<'_>, play: &mut Play<'_>)
     requires { HasRoom (1 + parts_of_end) play.old }
     ensures play { scene_of play.new ≡ burial_scene (cave_of rules.now) (scene_of play.old) }
     ensures same { GoesOn play.old play.new }

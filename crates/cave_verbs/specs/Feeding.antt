@@ -3,6 +3,7 @@ use Rattle.std.specs.Prelude.{pos, ◌+◌, ◌++◌, min, List, [], ◌∷◌}
 use Rattle.cave_rows.specs.declared.role.Role.TheVariants as role
 use Rattle.cave_words.specs.declared.named.Named.{Named}
 use Rattle.cave_words.specs.declared.named.Named.TheVariants as name
+use Rattle.cave_world.specs.Dwarves.{MAX_ANGER}
 use Rattle.cave_world.specs.declared.state.State.{State}
 use Rattle.cave_scene.specs.Rules.{is_one_of}
 use Rattle.cave_orders.specs.Effects.{in_state, say, default, ask_what, destroy, loosen, set_prop}
@@ -15,11 +16,11 @@ use Rattle.cave_orders.specs.Tests.{x, the, no, either, is, near, prop, other_pr
 abbrev pub is_any : List Named → Test
 is_any names d = is_one_of d.cave d.order.object names
 
--- the dwarves are angrier by one, up to 13
+-- the dwarves are angrier by one, up to the most
 abbrev pub with_more_anger : State → State
 with_more_anger s =
     let dwarves = s.dwarves in
-    record s { dwarves = record dwarves { anger = min (dwarves.anger + 1) 13 } }
+    record s { dwarves = record dwarves { anger = min (dwarves.anger + 1) MAX_ANGER } }
 
 abbrev pub anger : Effect
 anger d = in_state (with_more_anger d.scene.state) d

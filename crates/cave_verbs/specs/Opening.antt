@@ -67,13 +67,13 @@ lock_meant cave s =
     else (if is_near cave s (thing cave name.Oyster) then thing cave name.Oyster
     else (if is_near cave s (thing cave name.Clam) then thing cave name.Clam else 0)))
 
-abbrev pub lock_at_hand : Thing
-lock_at_hand d = lock_meant d.cave d.scene.state
+abbrev pub the_lock : Thing
+the_lock d = lock_meant d.cave d.scene.state
 
 unfoldable pub bare_open_rows : List VerbRow
 bare_open_rows =
-    row_then (there_is lock_at_hand ∷ near (the name.Chain) ∷ []) (ask_what ∷ []) keeps
-    ∷ row_then (there_is lock_at_hand ∷ []) [] (goes_on_with lock_at_hand)
+    row_then (there_is the_lock ∷ near (the name.Chain) ∷ []) (ask_what ∷ []) keeps
+    ∷ row_then (there_is the_lock ∷ []) [] (goes_on_with the_lock)
     ∷ row_then (near (the name.Chain) ∷ []) [] (goes_on_with (the name.Chain))
     ∷ row [] (say role.NoLock ∷ [])
     ∷ []

@@ -5,7 +5,7 @@ ghost use Rattle.cave_scene.specs.Play.{scene_of, GoesOn};
 ghost use Rattle.cave_scene.specs.Rules.{cave_of};
 ghost use Rattle.cave_orders.specs.declared.next.Step.TheVariants.{Done};
 ghost use Rattle.cave_verbs.specs.Acting.{act, act_bare, act_on, act_once, act_within};
-ghost use Rattle.cave_orders.specs.Deeds.{acted, deed};
+ghost use Rattle.cave_orders.specs.Deeds.{act_of, deed};
 ghost use Rattle.cave_orders.specs.Rows.{ActsBy};
 ghost use Rattle.cave_verbs.specs.Ranks.{rank, rank_of};
 ghost use Rattle.cave_orders.specs.Room.{parts_before};
@@ -34,7 +34,7 @@ use cave_world::Question;
 #[tactic(auto, using(crate::proofs::Falls::few_ranks), unfolding(crate::specs::Acting::act))]
 pub fn act(rules: &Rules<'_>, order: Order, play: &mut Play<'_>) -> Next
     requires { HasRoom parts_of_verb play.old }
-    ensures rules { acted (scene_of play.new) (Done result)
+    ensures rules { act_of (scene_of play.new) (Done result)
         ≡ act (cave_of rules.now) order (scene_of play.old) }
     ensures same { GoesOn play.old play.new }
     ensures few { SaysUpTo (parts_of_goings_on 3 + parts_before result) play.old play.new }
@@ -137,7 +137,7 @@ fn act_once(rules: &Rules<'_>, order: Order, play: &mut Play<'_>) -> Step
 fn act_within(rules: &Rules<'_>, left: u8, order: Order, play: &mut Play<'_>) -> Next
     requires rank { rank (cave_of rules.now) order.verb order.object ≤ left }
     requires room { HasRoom (parts_of_goings_on left + parts_of_inventory) play.old }
-    ensures rules { acted (scene_of play.new) (Done result)
+    ensures rules { act_of (scene_of play.new) (Done result)
         ≡ act_within left (deed (cave_of rules.now) order (scene_of play.old)) }
     ensures same { GoesOn play.old play.new }
     ensures few { SaysUpTo (parts_of_goings_on left + parts_before result) play.old play.new }

@@ -12,7 +12,9 @@ use cave_objects::{Anchor, Prop};
 use cave_orders::{Next, Order, Step, Verb};
 use cave_rows::Role;
 use cave_scene::{Play, Rules};
-use cave_things::{has_prop, is_home_elsewhere, is_in_hand, is_near, lose, put_down, remove_troll};
+use cave_things::{
+    has_prop, is_home_elsewhere, is_in_hand, is_near, lose_to_snake, put_down, remove_troll,
+};
 use cave_words::Named;
 
 /// The bird drives the snake away; in the closed cave it wakes the dwarves.
@@ -88,7 +90,7 @@ pub fn drop_object(rules: &Rules<'_>, order: Order, play: &mut Play<'_>) -> Step
     if rules.is(x, Named::Bird) && play.state.is_here(dragon) && has_prop(play.state, dragon, 0) {
         play.state.destroy(x);
         play.state.objects.set_prop(x, Prop::new(0));
-        lose(rules, play.state);
+        lose_to_snake(rules, play.state);
         return Step::Done(Next::say(Role::BirdDragon, play));
     }
     let troll = rules.object(Named::Troll);

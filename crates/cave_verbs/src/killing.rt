@@ -13,7 +13,7 @@ use cave_orders::choice::{Meant, consider, first, several};
 use cave_orders::{Next, Order, Step, Verb};
 use cave_rows::Role;
 use cave_scene::{Play, Rules};
-use cave_things::{has_prop, is_dwarf_here, is_near, lose};
+use cave_things::{has_prop, is_dwarf_here, is_near, lose_to_snake};
 use cave_words::Named;
 use cave_world::Question;
 
@@ -91,7 +91,7 @@ pub fn kill(rules: &Rules<'_>, order: Order, play: &mut Play<'_>) -> Next
     } else if rules.is(x, Named::Bird) {
         play.state.destroy(x);
         play.state.objects.set_prop(x, Prop::new(0));
-        lose(rules, play.state);
+        lose_to_snake(rules, play.state);
         Role::BirdDead
     } else if rules.is(x, Named::Clam) || rules.is(x, Named::Oyster) {
         Role::Shell

@@ -1,12 +1,14 @@
-ghost use Rattle.std.specs.Prelude.{◌≡◌, ◌<◌, ◌≤◌, ◌≤ℤ◌, ◌-ℤ◌, not, pos, negsuc};
+ghost use Rattle.std.specs.Prelude.{◌≡◌, ◌<◌, ◌-ℤ◌, not, pos};
 ghost use Rattle.std.specs.Ordering.{int_eq};
 ghost use Rattle.cave_scene.specs.Bounds.{HasRoom, SaysUpTo};
 ghost use Rattle.cave_scene.specs.Play.{scene_of, GoesOn};
 ghost use Rattle.cave_scene.specs.Rules.{cave_of};
 ghost use Rattle.cave_orders.specs.declared.next.Next.TheVariants.{Stay};
-ghost use Rattle.cave_verbs.specs.Magic.{bare_foo_rows, with_magic, homing_sight};
-ghost use Rattle.cave_verbs.specs.Magic.{after_sending_home};
+ghost use Rattle.cave_verbs.specs.Magic.{after_sending_home, bare_foo_rows, homing_sight};
+ghost use Rattle.cave_verbs.specs.Magic.{with_magic};
 ghost use Rattle.cave_orders.specs.Rows.{DoneByRows};
+ghost use Rattle.cave_rows.specs.Rows.{WORDS_PER_CLASS};
+ghost use Rattle.cave_world.specs.Magic.{IsMagic};
 
 use cave_objects::{Object, Prop};
 use cave_orders::{Next, Order};
@@ -25,8 +27,7 @@ fn magic_of(state: &State) -> i16
 
 /// The number of the magic word that was said last is remembered.
 fn set_magic(state: &mut State, k: i16)
-    requires low { negsuc 998 ≤ℤ k }
-    requires high { k ≤ℤ pos 999 }
+    requires { IsMagic k }
     ensures { state.new ≡ with_magic k state.old }
 {
     state.talk.magic = Magic::new(k);
@@ -34,7 +35,7 @@ fn set_magic(state: &mut State, k: i16)
 
 /// Whether the number of a word isn't the one whose turn it is.
 fn is_out_of_turn(state: &State, k: u16) -> bool
-    requires { k < 1000 }
+    requires { k < WORDS_PER_CLASS }
     ensures { result ≡ not (int_eq state.now.talk.magic (pos 1 -ℤ pos k)) }
 {
     magic_of(state) != 1 - k as i16
@@ -42,7 +43,7 @@ fn is_out_of_turn(state: &State, k: u16) -> bool
 
 /// The word of a number is remembered as the last that was said.
 fn remember(state: &mut State, k: u16)
-    requires { k < 1000 }
+    requires { k < WORDS_PER_CLASS }
     ensures { state.new ≡ with_magic (pos k) state.old }
 {
     set_magic(state, k as i16);
@@ -94,8 +95,7 @@ pub fn foo(rules: &Rules<'_>, order: Order, play: &mut Play<'_>) -> Next
         remember(play.state, k);
         return Next::say(Role::Ok, play);
     }
-    let eggs = rules.object(Named::Eggs);
-    let troll = rules.object(Named::Troll);
+    let (eggs, troll) = (rules.object(Named::Eggs), rules.object(Named::Troll));
     if eggs.is_none()
         || is_at_home(rules, play.state, eggs)
         || is_in_hand(rules, play.state, eggs) && is_home_here(rules, play.state, eggs)

@@ -7,7 +7,7 @@ use Rattle.cave_words.specs.Lexicon.{IsLexiconOf, meaning_of_word, found_in, fou
 use Rattle.cave_words.specs.Meaning.{meaning, meaning_in}
 use Rattle.cave_words.specs.Meanings.{meaning_in_class}
 use Rattle.cave_words.specs.Named.{name_number, object_of_word, object_named}
-use Rattle.cave_words.specs.Word.{word_of}
+use Rattle.cave_words.specs.Word.{word_of, NAME_LETTERS}
 use Rattle.cave_words.specs.declared.meaning.Class.{Class}
 use Rattle.cave_words.specs.declared.meaning.Class.TheVariants.{Object}
 use Rattle.cave_words.specs.declared.meaning.Meaning.{Meaning}
@@ -30,16 +30,16 @@ found_object_means cave lexicon name is = is.finds_objects name
 
 -- the first object of a word of five letters is the object that the word names
 pub object_of_word_means : (cave : CaveView) (index : Index) (written : List ℕ)
-    → IsIndexOf 5 cave.words index
+    → IsIndexOf NAME_LETTERS cave.words index
     → option_map (λ (m : Meaning). m.number)
-    (option_and_then (meaning_in_class Object) (meanings_in index (word_of 5 written)))
+    (option_and_then (meaning_in_class Object) (meanings_in index (word_of NAME_LETTERS written)))
     ≡ object_of_word cave written
 unfolding object_of_word
 object_of_word_means cave index written is =
     ap (λ known. option_map (λ (m : Meaning). m.number)
-    (option_and_then (meaning_in_class Object) known)) (is (word_of 5 written))
+    (option_and_then (meaning_in_class Object) known)) (is (word_of NAME_LETTERS written))
     ∙ ap (option_map (λ (m : Meaning). m.number))
-    (in_class-meanings_of 5 cave.words (word_of 5 written) Object)
+    (in_class-meanings_of NAME_LETTERS cave.words (word_of NAME_LETTERS written) Object)
 
 -- what is known of each name is at the name's number
 at_number : {K : Type 0} (f : Named → K) (d : K) (n : Named)

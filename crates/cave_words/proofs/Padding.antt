@@ -9,7 +9,7 @@ use Rattle.std.specs.Char.{to_ascii_uppercase}
 use Rattle.std.specs.List.{list_all}
 use Rattle.log_lines.specs.Prefixes.{prefix_while-append}
 use Rattle.log_lines.specs.Bytes.{is_nonblank, prefix_while}
-use Rattle.cave_words.specs.Word.{letters_that_count, with_padding, word_of}
+use Rattle.cave_words.specs.Word.{letters_that_count, with_padding, word_of, MAX_LETTERS}
 
 set-filled : (letters : List ℕ) (byte k : ℕ)
     → set (letters ++ replicate (suc k) 32) (length letters) byte ≡ (letters ++ byte ∷ [])
@@ -18,15 +18,15 @@ set-filled letters byte k = set-append_seam letters 32 (replicate k 32) byte
     ∙ sym (append_assoc letters (byte ∷ []) (replicate k 32))
 
 -- a byte written over the first space after the letters is one letter more
-set-with_padding : (letters : List ℕ) (byte i : ℕ) → length letters ≡ i → i < 8
+set-with_padding : (letters : List ℕ) (byte i : ℕ) → length letters ≡ i → i < MAX_LETTERS
     → set (with_padding letters) i byte ≡ with_padding (letters ++ byte ∷ [])
 set-with_padding letters byte i same short =
-    let room : 8 - length letters ≡ suc (8 - (i + 1)) = omega arith in
-    let less : 8 - length (letters ++ byte ∷ []) ≡ 8 - (i + 1) =
+    let room : MAX_LETTERS - length letters ≡ suc (MAX_LETTERS - (i + 1)) = omega arith in
+    let less : MAX_LETTERS - length (letters ++ byte ∷ []) ≡ MAX_LETTERS - (i + 1) =
     omega (arith, length-append letters (byte ∷ [])) in
     rw (room, less, ← same) (set-filled letters byte _)
 
-pub padded_more : (bytes : List ℕ) (i : ℕ) → i < length bytes → i < 8
+pub padded_more : (bytes : List ℕ) (i : ℕ) → i < length bytes → i < MAX_LETTERS
     → set (with_padding (map to_ascii_uppercase (take i bytes))) i
     (to_ascii_uppercase (get_or bytes i 0))
     ≡ with_padding (map to_ascii_uppercase (take (i + 1) bytes))
@@ -61,9 +61,9 @@ pub letters-word_of : (letters : ℕ) (bytes : List ℕ) → IsTrue (list_all is
 unfolding word_of
 letters-word_of letters bytes all =
     prefix_while-append is_nonblank (letters_that_count letters bytes)
-    (replicate (8 - length (letters_that_count letters bytes)) 32)
+    (replicate (MAX_LETTERS - length (letters_that_count letters bytes)) 32)
     (cut_nonblank letters bytes all)
-    ∙ rw (spaces_after (8 - length (letters_that_count letters bytes)))
+    ∙ rw (spaces_after (MAX_LETTERS - length (letters_that_count letters bytes)))
     (append-nil (letters_that_count letters bytes))
 
 pub ruleset padding = (letters-word_of)

@@ -1,6 +1,6 @@
 use Rattle.std.specs.Prelude.{ℕ, ◌/◌, ◌%◌, Bool, ◌==◌, ◌&&◌, bytes_eq, List, Option, option_map}
 use Rattle.std.specs.Prelude.{find, if◌then◌else◌}
-use Rattle.cave_rows.specs.Rows.{WordEntry}
+use Rattle.cave_rows.specs.Rows.{WordEntry, WORDS_PER_CLASS}
 use Rattle.cave_data.specs.CaveView.{CaveView}
 use Rattle.cave_words.specs.Word.{word_of}
 use Rattle.cave_words.specs.declared.meaning.Class.{Class}
@@ -10,12 +10,13 @@ use Rattle.cave_words.specs.declared.meaning.Meaning.{Meaning}
 -- the class that the number of a row says by its thousands
 abbrev pub class_of : ℕ → Class
 class_of number =
-    if number / 1000 == 0 then Motion
-    else (if number / 1000 == 1 then Object else (if number / 1000 == 2 then Action else Special))
+    if number / WORDS_PER_CLASS == 0 then Motion
+    else (if number / WORDS_PER_CLASS == 1 then Object
+    else (if number / WORDS_PER_CLASS == 2 then Action else Special))
 
 -- what the number of a row means
 abbrev pub meaning_of : ℕ → Meaning
-meaning_of number = record { class = class_of number; number = number % 1000 }
+meaning_of number = record { class = class_of number; number = number % WORDS_PER_CLASS }
 
 abbrev pub class_number : Class → ℕ
 class_number Motion = 0

@@ -3,7 +3,7 @@ use Rattle.std.specs.Prelude.{List, [], ◌∷◌, codes, slice_index_or}
 use Rattle.std.specs.Prelude.{Option, Some, None, option_map, option_and_then}
 use Rattle.cave_data.specs.CaveView.{CaveView}
 use Rattle.cave_words.specs.Meaning.{first_meaning, is_word_in}
-use Rattle.cave_words.specs.Word.{word_of}
+use Rattle.cave_words.specs.Word.{word_of, NAME_LETTERS}
 use Rattle.cave_words.specs.declared.meaning.Class.TheVariants.{Object}
 use Rattle.cave_words.specs.declared.named.Named.{Named}
 use Rattle.cave_words.specs.declared.named.Named.TheVariants as name
@@ -88,7 +88,8 @@ name_of name = slice_index_or names (name_number name) []
 -- the object that a word names in a cave, by the word's first five letters
 unfoldable pub object_of_word : CaveView → List ℕ → Option ℕ
 object_of_word cave word =
-    let object = first_meaning (is_word_in 5 (word_of 5 word) Object) cave.words in
+    let object =
+    first_meaning (is_word_in NAME_LETTERS (word_of NAME_LETTERS word) Object) cave.words in
     option_map (λ meaning. meaning.number) object
 
 -- the object after, if there may be one

@@ -4,6 +4,7 @@ ghost use Rattle.cave_data.specs.CaveView.{CaveView};
 ghost use Rattle.cave_words.specs.Meaning.{meaning, meaning_in};
 ghost use Rattle.cave_words.specs.Index.{meanings_in, IsIndexOf};
 ghost use Rattle.cave_words.specs.Named.{object_of_word, object_named};
+ghost use Rattle.cave_words.specs.Word.{MAX_LETTERS, NAME_LETTERS};
 
 use crate::meaning::{Class, Meaning};
 use crate::meanings::Meanings;
@@ -26,12 +27,13 @@ pub struct Lexicon {
 impl Model for Lexicon {
     ghost use Rattle.std.specs.Prelude.{◌≤◌};
     ghost use Rattle.cave_words.specs.Index.{LexiconView};
+    ghost use Rattle.cave_words.specs.Word.{MAX_LETTERS, NAME_LETTERS};
 
     ghost Value = { LexiconView };
 
     ghost view = { λ l. record { letters = l.letters; words = l.words.entries; names = l.names } };
 
-    ghost invariant = { λ l. (5 ≤ l.letters) × (l.letters ≤ 8) };
+    ghost invariant = { λ l. (NAME_LETTERS ≤ l.letters) × (l.letters ≤ MAX_LETTERS) };
 }
 
 impl Lexicon {
@@ -59,8 +61,8 @@ impl Lexicon {
     /// How many letters of a word count.
     pub fn letters(&self) -> u8
         ensures value { result ≡ self.now.letters }
-        ensures fewest { 5 ≤ result }
-        ensures most { result ≤ 8 }
+        ensures fewest { NAME_LETTERS ≤ result }
+        ensures most { result ≤ MAX_LETTERS }
     {
         self.letters
     }
@@ -98,7 +100,7 @@ impl Lexicon {
 /// The object that a word names, by its first five letters. The index has words of so many letters.
 #[tactic(auto, using(crate::proofs::Lexicons::object_of_word_means))]
 fn object_of_word(index: &IndexMap<Word, Meanings>, written: &[u8]) -> Option<u16>
-    ensures { (cave : CaveView) → IsIndexOf 5 cave.words index.now.entries
+    ensures { (cave : CaveView) → IsIndexOf NAME_LETTERS cave.words index.now.entries
         → result ≡ object_of_word cave written.now }
 {
     let word = Word::of(written, NAME_LETTERS);
@@ -109,7 +111,7 @@ fn object_of_word(index: &IndexMap<Word, Meanings>, written: &[u8]) -> Option<u1
 /// The object of a name. The index has words of five letters.
 #[tactic(auto, unfolding(crate::specs::Named::object_named))]
 fn object_named(index: &IndexMap<Word, Meanings>, name: Named) -> Option<u16>
-    ensures { (cave : CaveView) → IsIndexOf 5 cave.words index.now.entries
+    ensures { (cave : CaveView) → IsIndexOf NAME_LETTERS cave.words index.now.entries
         → result ≡ object_named cave name }
 {
     let object = object_of_word(index, name.word())?;
@@ -125,7 +127,7 @@ fn object_named(index: &IndexMap<Word, Meanings>, name: Named) -> Option<u16>
 
 /// The object of each name, by the numbers of the names. The index has words of five letters.
 fn objects_of_names(index: &IndexMap<Word, Meanings>) -> [Option<u16>; NAME_COUNT]
-    ensures { (cave : CaveView) → IsIndexOf 5 cave.words index.now.entries
+    ensures { (cave : CaveView) → IsIndexOf NAME_LETTERS cave.words index.now.entries
         → result ≡ map (object_named cave) EACH_NAME }
 {
     let mut objects = [None; NAME_COUNT];
@@ -155,7 +157,7 @@ fn index(
     words: &WordTable,
     letters: u8,
 ) -> Result<IndexMap<Word, Meanings>, AllocError>
-    requires { letters ≤ 8 }
+    requires { letters ≤ MAX_LETTERS }
     ensures { IfOk result (λ index. IsIndexOf letters words.now index.entries) }
 {
     let count = words.len();

@@ -1,6 +1,8 @@
 //! What a word means: a number in one of four classes.
 ghost use Rattle.std.specs.Prelude.{◌≡◌};
 
+use cave_rows::WORDS_PER_CLASS;
+
 /// The kinds of things that a word can mean.
 #[derive(Clone, Copy, Debug, PartialEq, Eq)]
 pub enum Class {
@@ -26,7 +28,7 @@ impl Meaning {
     pub fn of(number: u16) -> Meaning
         ensures { result ≡ meaning_of number }
     {
-        let class = match number / 1000 {
+        let class = match number / WORDS_PER_CLASS {
             0 => Class::Motion,
             1 => Class::Object,
             2 => Class::Action,
@@ -34,7 +36,7 @@ impl Meaning {
         };
         Meaning {
             class,
-            number: number % 1000,
+            number: number % WORDS_PER_CLASS,
         }
     }
 }

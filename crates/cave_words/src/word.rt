@@ -1,7 +1,7 @@
 ghost use Rattle.std.specs.Prelude.{◌≡◌, ◌≤◌, IsTrue, bytes_eq};
 ghost use Rattle.std.specs.List.{list_all};
 ghost use Rattle.log_lines.specs.Bytes.{prefix_while, is_nonblank};
-ghost use Rattle.cave_words.specs.Word.{letters_that_count, word_of, is_written};
+ghost use Rattle.cave_words.specs.Word.{letters_that_count, word_of, is_written, MAX_LETTERS};
 
 use log_lines::bytes::split_word;
 use std::hash::{Hash, Hasher};
@@ -77,7 +77,7 @@ impl Word {
     /// The word that a run of nonblanks makes, of which `letters` letters count.
     #[tactic(auto, using(crate::proofs::Padding::padding))]
     pub fn of(bytes: &[u8], letters: u8) -> Word
-        requires { letters ≤ 8 }
+        requires { letters ≤ MAX_LETTERS }
         ensures word { result ≡ word_of letters bytes.now }
 
         // So words are equal exactly where what counts of them is.
@@ -89,7 +89,7 @@ impl Word {
 
     #[tactic(auto, unfolding(crate::specs::Word::word_of))]
     fn filled(bytes: &[u8], letters: u8) -> Word
-        requires { letters ≤ 8 }
+        requires { letters ≤ MAX_LETTERS }
         ensures { result ≡ word_of letters bytes.now }
     {
         let cut = &bytes[..bytes.len().min(usize::from(letters))];

@@ -1,5 +1,5 @@
 ghost use Rattle.std.specs.Prelude.{◌≡◌, ◌≤◌, option_map};
-ghost use Rattle.cave_words.specs.Word.{word_of};
+ghost use Rattle.cave_words.specs.Word.{word_of, MAX_LETTERS, NAME_LETTERS};
 ghost use Rattle.cave_words.specs.Words.{first_word_of, after_first_run, words_of};
 
 use crate::word::Word;
@@ -16,8 +16,8 @@ impl Words {
     /// The words of a line, in each of which `letters` letters count.
     #[tactic(auto, unfolding(crate::specs::Words::words_of))]
     pub fn of(line: &[u8], letters: u8) -> Words
-        requires fewest { 5 ≤ letters }
-        requires most { letters ≤ 8 }
+        requires fewest { NAME_LETTERS ≤ letters }
+        requires most { letters ≤ MAX_LETTERS }
         ensures { result ≡ words_of letters line.now }
     {
         let (first, rest) = next_word(line, letters);
@@ -29,7 +29,7 @@ impl Words {
 /// The first word of a line, and what follows it.
 #[tactic(auto, unfolding(crate::specs::Words::first_word_of, crate::specs::Words::after_first_run))]
 fn next_word(line: &[u8], letters: u8) -> (Option<Word>, &[u8])
-    requires { letters ≤ 8 }
+    requires { letters ≤ MAX_LETTERS }
     ensures word { result.0 ≡ option_map (word_of letters) (first_word_of line.now) }
     ensures rest { result.1.now ≡ after_first_run line.now }
 {

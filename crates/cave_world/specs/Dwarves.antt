@@ -1,4 +1,4 @@
--- The numbers of the dwarves, which count from 0.
+-- The numbers of the dwarves, which count from 0, and how angry they are at most.
 use Rattle.std.specs.Prelude.{ℕ}
 
 -- how many dwarves there are, with the pirate
@@ -8,3 +8,6 @@ dwarf_count = 6
 -- the number of the pirate, who comes after the other dwarves
 abbrev pub pirate : ℕ
 pirate = 5
+
+abbrev pub MAX_ANGER : ℕ
+MAX_ANGER = 13

@@ -1,6 +1,7 @@
 pub mod Dwarves
 pub mod Equality
 pub mod Lamp
+pub mod Magic
 pub mod Fresh
 pub mod Motions
 pub mod Part

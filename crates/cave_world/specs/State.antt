@@ -55,9 +55,17 @@ unfoldable pub without_visits : State → ℕ → State
 without_visits s place = if place == 0 then s
     else record s { visits = slice_set s.visits (place - 1) 0 }
 
+-- the deaths that a game has: after the last of them nobody comes back
+abbrev pub LIVES : ℕ
+LIVES = 3
+
+-- the most turns in the area of a hint that are counted
+abbrev pub MAX_TURNS_IN_AREA : ℕ
+MAX_TURNS_IN_AREA = 10000
+
 -- how many turns the player has stayed where a hint helps
-abbrev pub turns_near : State → ℕ → ℕ
-turns_near s hint = slice_index_or s.hints.turns (hint - 1) 0
+abbrev pub turns_in_area : State → ℕ → ℕ
+turns_in_area s hint = slice_index_or s.hints.turns (hint - 1) 0
 
 -- the hint that is written under the oyster
 abbrev pub CLUE_HINT : ℕ

@@ -29,10 +29,13 @@ pub enum Knife {
     Vanished,
 }
 
+/// How angry dwarves are at most.
+const MAX_ANGER: u16 = 13;
+
 /// The dwarves, how angry they are, and how many were killed.
 #[derive(Clone, Copy, Debug, PartialEq, Eq)]
 pub struct Dwarves {
-    pub anger: Count<13>,
+    pub anger: Count<MAX_ANGER>,
     pub kills: Count<60000>,
     pub knife: Knife,
     pub each: [Dwarf; DWARVES],

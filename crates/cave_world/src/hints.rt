@@ -17,6 +17,9 @@ pub const CLUE_HINT: u8 = 2;
 /// The instructions, which count as a hint.
 pub const INSTRUCTIONS_HINT: u8 = 3;
 
+/// The most turns in the area of a hint that are counted.
+pub const MAX_TURNS_IN_AREA: u16 = 10_000;
+
 /// The number of a hint.
 #[derive(Clone, Copy, Debug, PartialEq, Eq)]
 pub struct HintNumber {
@@ -59,7 +62,7 @@ impl HintNumber {
 /// For each hint, how many turns its place was stayed at, and whether it was taken.
 #[derive(Clone, Copy, Debug, PartialEq, Eq)]
 pub struct Hints {
-    pub turns: [Count<10000>; HINTS],
+    pub turns: [Count<MAX_TURNS_IN_AREA>; HINTS],
     pub is_taken: [bool; HINTS],
 }
 

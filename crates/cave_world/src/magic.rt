@@ -1,4 +1,5 @@
-ghost use Rattle.std.specs.Prelude.{◌≡◌, pos, negsuc, ◌≤ℤ◌};
+ghost use Rattle.std.specs.Prelude.{◌≡◌, ◌≤ℤ◌};
+ghost use Rattle.cave_world.specs.Magic.{HIGHEST_MAGIC, LOWEST_MAGIC};
 
 use std::marker::Model;
 
@@ -9,13 +10,14 @@ pub struct Magic {
 }
 
 impl Model for Magic {
-    ghost use Rattle.std.specs.Prelude.{ℤ, pos, negsuc, ◌≤ℤ◌};
+    ghost use Rattle.std.specs.Prelude.{ℤ};
+    ghost use Rattle.cave_world.specs.Magic.{IsMagic};
 
     ghost Value = { ℤ };
 
     ghost view = { λ m. m.value };
 
-    ghost invariant = { λ m. (negsuc 998 ≤ℤ m.value) × (m.value ≤ℤ pos 999) };
+    ghost invariant = { λ m. IsMagic m.value };
 
     ghost inverse = { λ n. record { value = n } };
 }
@@ -23,8 +25,8 @@ impl Model for Magic {
 impl Magic {
     /// What a number says.
     pub fn new(value: i16) -> Magic
-        requires low { negsuc 998 ≤ℤ value }
-        requires high { value ≤ℤ pos 999 }
+        requires low { LOWEST_MAGIC ≤ℤ value }
+        requires high { value ≤ℤ HIGHEST_MAGIC }
         ensures { result ≡ value }
     {
         Magic { value }
@@ -33,8 +35,8 @@ impl Magic {
     /// The number that says it.
     pub fn value(self) -> i16
         ensures value { result ≡ self }
-        ensures low { negsuc 998 ≤ℤ result }
-        ensures high { result ≤ℤ pos 999 }
+        ensures low { LOWEST_MAGIC ≤ℤ result }
+        ensures high { result ≤ℤ HIGHEST_MAGIC }
     {
         self.value
     }

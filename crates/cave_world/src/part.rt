@@ -61,7 +61,7 @@ impl Default for Part {
 }
 
 /// How many parts a turn prints at most.
-pub const MAX_PARTS: usize = 512;
+const MAX_PARTS: usize = 512;
 
 /// What a turn prints, in order.
 pub type Out = ArrayVec<Part, MAX_PARTS>;

@@ -15,6 +15,12 @@ use cave_objects::place::PLACES;
 use cave_objects::{Objects, Place};
 use cave_words::Stream;
 
+/// The deaths that a game has: after the last of them nobody comes back.
+pub const LIVES: u16 = 3;
+
+/// How many treasures there may be.
+pub const MAX_TREASURES: u16 = 30;
+
 /// Where the player is, and where the player was before.
 #[derive(Clone, Copy, Debug, PartialEq, Eq)]
 pub struct Trail {
@@ -29,10 +35,10 @@ pub struct Tallies {
     /// The known treasures, less one for each that was described while its prop was below 0. Where
     /// a rule gives one another prop before that, as a vase that breaks in the dark, it stays
     /// counted.
-    pub unseen: Count<30>,
+    pub unseen: Count<MAX_TREASURES>,
     /// How often a rule has said that a treasure is lost, whether or not one was.
     pub lost: Count<60000>,
-    pub deaths: Count<3>,
+    pub deaths: Count<LIVES>,
 }
 
 /// All that a game depends on, except the count of its turns.

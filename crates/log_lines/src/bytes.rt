@@ -2,6 +2,7 @@
 
 ghost use Rattle.std.specs.Prelude.{◌≡◌, ◌≤◌, IsTrue, length};
 ghost use Rattle.std.specs.List.{list_all, prefix_len};
+ghost use Rattle.limits.specs.Limits.{max_digits};
 ghost use Rattle.log_lines.specs.Bytes.{is_blank, is_nonblank, is_all_blank, is_digit};
 ghost use Rattle.log_lines.specs.Bytes.{prefix_while, after_prefix, number_of};
 
@@ -71,7 +72,7 @@ pub fn split_digits(bytes: &[u8]) -> (&[u8], &[u8])
 /// The number that digits write.
 pub fn number_of(digits: &[u8]) -> u64
     requires digits { IsTrue (list_all is_digit digits.now) }
-    requires few { length digits.now ≤ 10 }
+    requires few { length digits.now ≤ max_digits }
     ensures { result ≡ number_of digits.now }
 {
     let mut number = 0;

@@ -3,8 +3,8 @@
 //! A log is played line by line, and the states at some of its places are kept as checkpoints. An
 //! edit plays the log again from the last checkpoint before it, and stops where the new play agrees
 //! with the old one at an old checkpoint after the edit. This crate knows neither plays nor states:
-//! a state is any `Copy` type, which is kept in a form of its owner's choice, and a line any type at
-//! all.
+//! a state is any `Copy` type, which is kept in a form of its owner's choice, and a line any type
+//! at all.
 //!
 //! - [`KeptState`] is a form in which a state is kept; [`Whole`] is one for any state.
 //! - [`Checkpoints`] are spaced, always: 0 is one, none is past the end, neighbours and the last

@@ -108,7 +108,8 @@ impl<K: KeptState> Marks<K> {
     }
 
     /// Goes on to the next place. The one before it, which was open until now, is kept if it has
-    /// to be; its state is also the one that the caller finds at the next place, to change it there.
+    /// to be; its state is also the one that the caller finds at the next place, to change it
+    /// there.
     pub fn advance(&mut self, place: u32) -> Result<(), AllocError>
         requires later { self.old.next < place }
         requires near { place ≤ self.old.next + self.old.every }
@@ -140,8 +141,8 @@ impl<K: KeptState> Marks<K> {
 
     /// The state at the place reached last, to be changed there.
     pub fn state_mut(&mut self) -> &mut K::State
-        ensures* lends { sem 𝓛 (Lends (the_row K.row K.State.row K.KeptState) K.State.row self.entry result
-            (marks_with_state self.old)) }
+        ensures* lends { sem 𝓛 (Lends (the_row K.row K.State.row K.KeptState) K.State.row
+            self.entry result (marks_with_state self.old)) }
         ensures value { result.now ≡ self.old.state }
     {
         &mut self.state

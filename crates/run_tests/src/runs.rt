@@ -71,8 +71,8 @@ pub struct Feeds<'a> {
     pub view: EditView,
 }
 
-// These promise nothing, and are of readers and writers of any kind: what calls them over sources is
-// checked without the contracts of runs.
+// These promise nothing, and are of readers and writers of any kind: what calls them over sources
+// is checked without the contracts of runs.
 
 fn check_into<C: Read, B: Read, W: Write>(
     alloc: Global,

@@ -4,7 +4,7 @@ use Rattle.cave_scene.specs.Rules.{cave_of}
 use Rattle.cave_hints.proofs.Quiet.{far_is_nothing}
 use Rattle.cave_hints.proofs.hints.consider.Goals as goal
 use Rattle.cave_hints.specs.Hints.{is_in_area}
-use Rattle.cave_world.specs.State.{turns_near}
+use Rattle.cave_world.specs.State.{turns_in_area}
 
 -- a hint whose area is elsewhere, and of which no turn counts, changes nothing
 pub returns-then-is_far-clause-play : goal.returns-then-is_far-clause-play
@@ -12,5 +12,5 @@ returns-then-is_far-clause-play c =
     let cave = cave_of c.args.rules.now in
     let here = scene_of c.args.play.now in
     let far : is_in_area cave c.args.number here.state ≡ false = search rules in
-    let none : turns_near here.state c.args.number ≡ 0 = search rules in
+    let none : turns_in_area here.state c.args.number ≡ 0 = search rules in
     sym (far_is_nothing cave c.args.number here far none)

@@ -2,11 +2,11 @@ use Rattle.std.proofs.Common.{rules, ◌≡◌, ◌+◌, ◌<◌, ℕ, ap, sym, 
 use Rattle.cave_data.specs.CaveView.{conditions_of}
 use Rattle.cave_scene.specs.Play.{scene_of}
 use Rattle.cave_scene.specs.Rules.{cave_of}
-use Rattle.cave_hints.specs.Hints.{after_considering, after_hints_up_to}
+use Rattle.cave_hints.specs.Hints.{after_considering, after_hints_up_to, FIRST_HINT}
 use Rattle.cave_hints.proofs.Quiet.{quiet_hints}
 use Rattle.cave_hints.proofs.Steps.{after_considering-more, after_hints-all, few-asked}
 use Rattle.cave_hints.proofs.hints.consider_all.Goals as goal
-use Rattle.cave_world.specs.State.{takes_no_command, turns_near}
+use Rattle.cave_world.specs.State.{takes_no_command, turns_in_area}
 use Rattle.cave_world.specs.declared.state.Trail.{Trail}
 
 pub loop-before-init : goal.loop-before-init
@@ -18,10 +18,10 @@ loop-before-preserved c =
     let cave = cave_of c.args.rules.now in
     let before = c.loop-before.before in
     let here = scene_of c.loop-before.play in
-    let number : c.new.result ≡ before + 4 = search rules in
+    let number : c.new.result ≡ before + FIRST_HINT = search rules in
     let scene =
     c.consider.ensures.play ∙ ap (λ n. after_considering cave n here) number
-    ∙ ap (λ p. after_considering cave (before + 4) p) c.loop-before.invariant.0
+    ∙ ap (λ p. after_considering cave (before + FIRST_HINT) p) c.loop-before.invariant.0
     ∙ sym (after_considering-more cave before (scene_of c.args.play.now)) in
     let here_over = takes_no_command c.loop-before.play.state.now in
     let few =
@@ -54,7 +54,7 @@ returns-then-counts_no_turn-clause-play c =
     let count = c.count_hints-count.result in
     let here = scene_of c.args.play.now in
     let low : conditions_of cave here.state.trail.here < 16 = search rules in
-    let none : (n : ℕ) → n < count → turns_near here.state (n + 4) ≡ 0 = search rules in
+    let none : (n : ℕ) → n < count → turns_in_area here.state (n + FIRST_HINT) ≡ 0 = search rules in
     sym (quiet_hints cave count here low none)
     ∙ after_hints-all cave count here c.count_hints-count.ensures.few
     c.count_hints-count.ensures.all

@@ -1,6 +1,6 @@
 use Rattle.std.proofs.Common.{arith, refl, ◌+◌}
 use Rattle.cave_state_text.specs.Numbers.{IsWide}
-use Rattle.cave_world.specs.State.{turns_near}
+use Rattle.cave_world.specs.State.{turns_in_area}
 use Rattle.cave_state_text.proofs.WithinLemmas.{one_more}
 use Rattle.cave_state_text.proofs.within.hints.Goals as goal
 
@@ -9,7 +9,7 @@ loop-before-init c = λ n up. absurd (omega (arith, up.0, up.1))
 
 pub loop-before-preserved : goal.loop-before-preserved
 loop-before-preserved c = λ n up.
-    one_more {P = (λ k. IsWide (turns_near c.args.state.now k))} c.loop-before.before
+    one_more {P = (λ k. IsWide (turns_in_area c.args.state.now k))} c.loop-before.before
     (c.loop-before.before + 1) n refl
     c.loop-before.invariant c.hint.ensures up
 

@@ -2,7 +2,7 @@ use Rattle.std.proofs.Common.{◌≡◌, ℕ, ◌<◌, ◌≤◌, ◌-◌, suc, 
 use Rattle.cave_scene.specs.Play.{scene_of}
 use Rattle.cave_scene.specs.Rules.{cave_of}
 use Rattle.cave_verbs.specs.Acting.{act_within, act_once}
-use Rattle.cave_orders.specs.Deeds.{Deed, Act, deed, acted, going_on}
+use Rattle.cave_orders.specs.Deeds.{Deed, Act, deed, act_of, going_on}
 use Rattle.cave_orders.specs.declared.next.Step.TheVariants.{Done, GoOn}
 use Rattle.cave_orders.specs.declared.verb.Verb.{Verb}
 use Rattle.cave_verbs.proofs.acting.+act_within.Goals as goal
@@ -26,7 +26,7 @@ returns-in-GoOn-clause-rules t c =
     let some = above _ _ c.args.left c.in-GoOn.ensures.ranks c.requires.rank in
     let step = sym (ap (λ (a : Act). a.step) once) ∙ c.in-GoOn.is in
     let here =
-    λ (a : Act). acted (scene_of c.act_within.new.play) (Done c.act_within.result)
+    λ (a : Act). act_of (scene_of c.act_within.new.play) (Done c.act_within.result)
     ≡ act_within (c.args.left - 1)
     (deed (cave_of c.args.rules.now)
     (going_on c.args.order c.in-GoOn.verb c.in-GoOn.object) a.scene) in

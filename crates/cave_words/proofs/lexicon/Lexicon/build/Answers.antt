@@ -2,6 +2,7 @@ use Rattle.std.proofs.Common.{◌≡◌, map, ◌∙◌, arith}
 use Rattle.cave_words.proofs.Lexicons.{lexicon_of}
 use Rattle.cave_words.specs.Index.{IsIndexOf}
 use Rattle.cave_words.specs.Named.{object_named}
+use Rattle.cave_words.specs.Word.{NAME_LETTERS}
 use Rattle.cave_words.specs.declared.named.TheConstants.{EACH_NAME}
 use Rattle.cave_words.proofs.lexicon.Lexicon.build.Goals as goal
 use Rattle.cave_words.proofs.lexicon.Lexicon.build.Goals.{then-letters-eq-NAME_LETTERS}
@@ -17,7 +18,7 @@ returns c =
     let names : c.if-letters-eq-NAME_LETTERS.names ≡ map (object_named cave) EACH_NAME =
     elim c.if-letters-eq-NAME_LETTERS.branch [
       | then-letters-eq-NAME_LETTERS w ↦
-          let five : c.letters-letters.result ≡ 5 = omega arith in
+          let five : c.letters-letters.result ≡ NAME_LETTERS = omega arith in
           w.names-is
           ∙ w.objects_of_names-names.ensures cave
           (λ word. rw (← rows, ← five) (c.in_ok-words.ensures word))

@@ -1,3 +1,5 @@
+//! Objects by the numbers that a cave has for them.
+
 ghost use Rattle.std.specs.Prelude.{◌≡◌};
 ghost use Rattle.cave_scene.specs.Rules.{or_no_object};
 
