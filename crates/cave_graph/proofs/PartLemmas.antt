@@ -8,17 +8,16 @@ use Rattle.cave_graph.specs.Edges.{edge, edge_opening, edge_parts, edge_strength
 use Rattle.cave_graph.specs.Edges.{head_back, head_there, is_edge_taken, label_look}
 use Rattle.cave_graph.specs.Edges.{part_from_label}
 use Rattle.cave_graph.specs.Edges.{part_to_label}
-use Rattle.cave_graph.specs.Labels.{quoted}
+use Rattle.graph_labels.specs.Labels.{label_of}
 use Rattle.cave_graph.specs.Laws.{EdgesAreLines, NodesAreLines}
-use Rattle.cave_graph.specs.Lines.{is_one_line}
+use Rattle.graph_labels.specs.Lines.{is_one_line, is_within_line}
 use Rattle.cave_graph.specs.Places.{look_of_place, node, node_opening, node_end, node_text}
 use Rattle.cave_graph.specs.Places.{nowhere_note}
 use Rattle.cave_graph.specs.Places.{strength}
-use Rattle.cave_graph.specs.Stops.{is_taken, is_visited}
-use Rattle.cave_graph.specs.Ways.{count_nowhere, is_both_ways}
+use Rattle.cave_graph.specs.Stops.{is_way_taken, is_visited}
+use Rattle.cave_ways.specs.Ways.{count_nowhere, is_both_ways}
 use Rattle.cave_graph.specs.declared.stops.Stop.{Stop}
-use Rattle.cave_graph.proofs.LineLemmas.{both_within, decimal_within, is_within_line, line_after}
-use Rattle.cave_graph.proofs.LineLemmas.{quoted_within}
+use Rattle.graph_labels.proofs.LineLemmas.{both_within, decimal_within, line_after, label_within}
 
 cond_within : (test : Bool) (a b : List ℕ) → is_within_line a ≡ true → is_within_line b ≡ true
     → is_within_line (cond test a b) ≡ true
@@ -44,18 +43,18 @@ note_within count =
 label_look_within : (text : List ℕ) → is_within_line (label_look text) ≡ true
 label_look_within text = cond_within (length text == 0) _ _ refl refl
 
-head_back_within : (is_both is_taken is_taken_back : Bool)
-    → is_within_line (head_back is_both is_taken is_taken_back) ≡ true
+head_back_within : (is_both is_taken_there is_taken_back : Bool)
+    → is_within_line (head_back is_both is_taken_there is_taken_back) ≡ true
 unfolding head_back
-head_back_within is_both is_taken is_taken_back =
+head_back_within is_both is_taken_there is_taken_back =
     cond_within (not is_both) _ _ refl
-    (cond_within (is_taken && not is_taken_back) _ _ refl refl)
+    (cond_within (is_taken_there && not is_taken_back) _ _ refl refl)
 
-head_there_within : (is_both is_taken is_taken_back : Bool)
-    → is_within_line (head_there is_both is_taken is_taken_back) ≡ true
+head_there_within : (is_both is_taken_there is_taken_back : Bool)
+    → is_within_line (head_there is_both is_taken_there is_taken_back) ≡ true
 unfolding head_there
-head_there_within is_both is_taken is_taken_back =
-    cond_within (is_both && (is_taken_back && not is_taken)) _ _ refl refl
+head_there_within is_both is_taken_there is_taken_back =
+    cond_within (is_both && (is_taken_back && not is_taken_there)) _ _ refl refl
 
 end_is_one_line : (count : ℕ) → is_one_line (node_end count) ≡ true
 end_is_one_line count =
@@ -71,8 +70,8 @@ pub nodes_are_lines : NodesAreLines
 unfolding node
 nodes_are_lines cave stops logs place =
     line_after (node_opening place) _ (opening_within place)
-    ∙ line_after (quoted (node_text cave stops place)) _
-    (quoted_within (node_text cave stops place))
+    ∙ line_after (label_of (node_text cave stops place)) _
+    (label_within (node_text cave stops place))
     ∙ line_after (look_of_place cave place) _ (look_within cave place)
     ∙ line_after (strength logs (is_visited cave stops place)) (node_end (count_nowhere cave place))
     (strength_within logs (is_visited cave stops place))
@@ -125,8 +124,8 @@ parts_are_one_line : (cave : CaveView) (stops : List Stop) (logs from to : ℕ)
     → is_one_line (edge_parts cave stops logs from to) ≡ true
 parts_are_one_line cave stops logs from to =
     let is_both = is_both_ways cave from to in
-    let there = is_taken cave stops from to in
-    let back = is_taken cave stops to from in
+    let there = is_way_taken cave stops from to in
+    let back = is_way_taken cave stops to from in
     let strong = strength_within logs (is_edge_taken cave stops from to) in
     let look = edge_strength cave stops logs from to in
     let first = head_back is_both there back in
@@ -139,7 +138,7 @@ pub edges_are_lines : EdgesAreLines
 unfolding edge
 edges_are_lines cave stops logs from to =
     line_after (edge_opening from to) _ (ends_within from to)
-    ∙ line_after (quoted (edge_text cave from to)) _ (quoted_within (edge_text cave from to))
+    ∙ line_after (label_of (edge_text cave from to)) _ (label_within (edge_text cave from to))
     ∙ line_after (label_look (edge_text cave from to)) _
     (label_look_within (edge_text cave from to))
     ∙ line_after (edge_strength cave stops logs from to) (edge_parts cave stops logs from to)

@@ -7,11 +7,11 @@ use Rattle.cave_rows.specs.Rows.{Going}
 use Rattle.cave_data.specs.CaveView.{CaveView, ways_from}
 use Rattle.cave_world.specs.Motions.{any_motion}
 use Rattle.cave_world.specs.Travel.{row_condition}
-use Rattle.cave_graph.specs.Labels.{quoted}
+use Rattle.graph_labels.specs.Labels.{label_of}
 use Rattle.cave_graph.specs.Names.{condition_mark, word_or_number}
 use Rattle.cave_graph.specs.Places.{strength}
-use Rattle.cave_graph.specs.Stops.{is_taken}
-use Rattle.cave_graph.specs.Ways.{ends_of_edges, is_both_ways, ends_at}
+use Rattle.cave_graph.specs.Stops.{is_way_taken}
+use Rattle.cave_ways.specs.Ways.{ends_of_edges, is_both_ways, ends_at}
 use Rattle.cave_graph.specs.declared.stops.Stop.{Stop}
 
 -- the name of a motion; the one that any motion is has none
@@ -55,21 +55,22 @@ edge_text cave from to =
 -- an edge for both ways has a head at its own place too; it is hollow where plays took only the way
 -- there
 unfoldable pub head_back : Bool → Bool → Bool → List ℕ
-head_back is_both is_taken is_taken_back =
+head_back is_both is_taken_there is_taken_back =
     if not is_both then codes "dir=none"
-    else (if is_taken && not is_taken_back then codes "dir=back, arrowtail=empty"
+    else (if is_taken_there && not is_taken_back then codes "dir=back, arrowtail=empty"
     else codes "dir=back")
 
 -- the head at the other place, which is hollow where plays took only the way back
 unfoldable pub head_there : Bool → Bool → Bool → List ℕ
-head_there is_both is_taken is_taken_back =
-    if is_both && (is_taken_back && not is_taken) then codes "dir=forward, arrowhead=empty"
+head_there is_both is_taken_there is_taken_back =
+    if is_both && (is_taken_back && not is_taken_there) then codes "dir=forward, arrowhead=empty"
     else codes "dir=forward"
 
 -- the edge is of a way that plays took, or of one whose way back they took
 abbrev pub is_edge_taken : CaveView → List Stop → ℕ → ℕ → Bool
 is_edge_taken cave stops from to =
-    is_taken cave stops from to || (is_both_ways cave from to && is_taken cave stops to from)
+    is_way_taken cave stops from to
+    || (is_both_ways cave from to && is_way_taken cave stops to from)
 
 -- how the line of an edge begins: with its label, which is a node that both parts of the edge meet,
 -- as no layout but that of nodes keeps labels apart
@@ -97,12 +98,12 @@ edge_strength cave stops logs from to = strength logs (is_edge_taken cave stops 
 abbrev pub edge_parts : CaveView → List Stop → ℕ → ℕ → ℕ → List ℕ
 edge_parts cave stops logs from to =
     part_to_label from to
-    (head_back (is_both_ways cave from to) (is_taken cave stops from to)
-    (is_taken cave stops to from))
+    (head_back (is_both_ways cave from to) (is_way_taken cave stops from to)
+    (is_way_taken cave stops to from))
     (edge_strength cave stops logs from to)
     ++ part_from_label from to
-    (head_there (is_both_ways cave from to) (is_taken cave stops from to)
-    (is_taken cave stops to from))
+    (head_there (is_both_ways cave from to) (is_way_taken cave stops from to)
+    (is_way_taken cave stops to from))
     (edge_strength cave stops logs from to)
 
 -- a label without a text takes no room
@@ -114,7 +115,7 @@ label_look text =
 unfoldable pub edge : CaveView → List Stop → ℕ → ℕ → ℕ → List ℕ
 edge cave stops logs from to =
     edge_opening from to
-    ++ (quoted (edge_text cave from to)
+    ++ (label_of (edge_text cave from to)
     ++ (label_look (edge_text cave from to)
     ++ (edge_strength cave stops logs from to ++ edge_parts cave stops logs from to)))
 

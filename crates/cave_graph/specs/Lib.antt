@@ -1,8 +1,6 @@
-pub mod Ways
 pub mod Stops
-pub mod Labels
-pub mod Lines
 pub mod Names
+pub mod Titles
 pub mod Places
 pub mod Edges
 pub mod Map

@@ -5,8 +5,8 @@ use Rattle.std.specs.List.{filter, flat_map, sum_by}
 use Rattle.cave_data.specs.CaveView.{CaveView}
 use Rattle.cave_graph.specs.Edges.{edges}
 use Rattle.cave_graph.specs.Places.{node}
-use Rattle.cave_graph.specs.Stops.{is_taken, is_visited}
-use Rattle.cave_graph.specs.Ways.{ends_of_ways, mapped_places}
+use Rattle.cave_graph.specs.Stops.{is_way_taken, is_visited}
+use Rattle.cave_ways.specs.Ways.{ends_of_ways, mapped_places}
 use Rattle.cave_graph.specs.declared.stops.Stop.{Stop}
 
 -- how the graph begins: with its layout, with its page, which is one A3, and with how places and
@@ -26,7 +26,7 @@ labels_opening = codes "  node [shape=plaintext, margin=0];\n"
 
 -- the ends of ways from a place that plays took
 unfoldable pub ends_taken : CaveView → List Stop → ℕ → List ℕ
-ends_taken cave stops from = filter (is_taken cave stops from) (ends_of_ways cave from)
+ends_taken cave stops from = filter (is_way_taken cave stops from) (ends_of_ways cave from)
 
 -- the places on the map where plays were
 unfoldable pub places_visited : CaveView → List Stop → List ℕ

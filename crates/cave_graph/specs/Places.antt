@@ -1,28 +1,21 @@
 -- The node of a place.
 use Rattle.std.specs.Prelude.{ℕ, pos, Bool, false, ◌==◌, ◌||◌, if◌then◌else◌}
-use Rattle.std.specs.Prelude.{List, [], ◌++◌, codes, Option, None, Some, unwrap_or}
-use Rattle.std.specs.Prelude.{slice_index_or}
+use Rattle.std.specs.Prelude.{List, [], ◌++◌, codes, Option, None, Some, slice_index_or}
 use Rattle.std.specs.Fmt.{decimal}
 use Rattle.std.specs.List.{filter, flat_map, range_with_len}
 use Rattle.std.specs.FinMap as map
-use Rattle.std.specs.Option.{option_or}
 use Rattle.std.specs.Ordering.{int_eq}
 use Rattle.cave_bindings.specs.Listing.{place_keys}
 use Rattle.cave_data.specs.CaveView.{CaveView, placement_of}
 use Rattle.cave_numbers.specs.Numbers.{last_object}
 use Rattle.cave_rows.specs.PlaceRole.{place_names}
 use Rattle.cave_world.specs.Sight.{LIGHT_BIT, has_condition, is_forced}
-use Rattle.cave_graph.specs.Labels.{quoted}
-use Rattle.cave_graph.specs.Names.{opening_words, word_or_number, number_of_object}
+use Rattle.graph_labels.specs.Labels.{label_of}
+use Rattle.cave_graph.specs.Names.{word_or_number, number_of_object}
 use Rattle.cave_graph.specs.Stops.{is_visited, visits}
-use Rattle.cave_graph.specs.Ways.{count_nowhere}
+use Rattle.cave_graph.specs.Titles.{title}
+use Rattle.cave_ways.specs.Ways.{count_nowhere}
 use Rattle.cave_graph.specs.declared.stops.Stop.{Stop}
-
--- the first words of the short text, or of the long one where there is no short one
-abbrev pub title : CaveView → ℕ → List ℕ
-title cave place =
-    opening_words 0 false
-    (unwrap_or (option_or (map.get cave.short place) (map.get cave.long place)) [])
 
 -- a half of the object is there as a game begins
 abbrev pub begins_at : CaveView → ℕ → ℕ → Bool
@@ -56,7 +49,7 @@ visits_label_line count =
 
 -- the line of a place: its number and its title
 abbrev pub title_line : CaveView → ℕ → List ℕ
-title_line cave place = decimal place ++ (codes " " ++ (title cave place ++ codes "\n"))
+title_line cave place = decimal place ++ (title cave place ++ codes "\n")
 
 -- what is written at a place where a player stays, line by line
 unfoldable pub stay_text : CaveView → List Stop → ℕ → List ℕ
@@ -103,6 +96,6 @@ node_end count = codes "];" ++ (nowhere_note count ++ codes "\n")
 unfoldable pub node : CaveView → List Stop → ℕ → ℕ → List ℕ
 node cave stops logs place =
     node_opening place
-    ++ (quoted (node_text cave stops place)
+    ++ (label_of (node_text cave stops place)
     ++ (look_of_place cave place
     ++ (strength logs (is_visited cave stops place) ++ node_end (count_nowhere cave place))))

@@ -19,17 +19,17 @@ is_at cave place stop =
     && (trail.last == place || (is_forced cave trail.older && trail.older == place)))
 
 -- the player left the place in this turn: it is where the turn began, or one of a forced motion
-abbrev pub leaves : CaveView → ℕ → Stop → Bool
-leaves cave place stop = stop.before == place || is_forced cave place
+abbrev pub goes_from : CaveView → ℕ → Stop → Bool
+goes_from cave place stop = stop.before == place || is_forced cave place
 
 -- the player went from the one place to the other in this turn: last of all, or on the way there,
 -- which goes on from places of forced motion
 abbrev pub comes_by : CaveView → ℕ → ℕ → Stop → Bool
 comes_by cave from to stop =
     let trail = stop.trail in
-    (trail.last == from && trail.here == to && leaves cave from stop)
+    (trail.last == from && trail.here == to && goes_from cave from stop)
     || (is_forced cave trail.last
-    && ((trail.older == from && trail.last == to && leaves cave from stop)
+    && ((trail.older == from && trail.last == to && goes_from cave from stop)
     || (is_forced cave trail.older && stop.before == from && trail.older == to)))
 
 -- the player is at the place, and wasn't there as the line began
@@ -41,8 +41,8 @@ abbrev pub is_visited : CaveView → List Stop → ℕ → Bool
 is_visited cave stops place = list_any (is_at cave place) stops
 
 -- a play took a way from the one place to the other
-abbrev pub is_taken : CaveView → List Stop → ℕ → ℕ → Bool
-is_taken cave stops from to = list_any (comes_by cave from to) stops
+abbrev pub is_way_taken : CaveView → List Stop → ℕ → ℕ → Bool
+is_way_taken cave stops from to = list_any (comes_by cave from to) stops
 
 -- how often plays came to the place by a line that began elsewhere, or began there
 abbrev pub visits : List Stop → ℕ → ℕ

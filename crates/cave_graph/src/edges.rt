@@ -9,18 +9,18 @@ ghost use Rattle.cave_graph.specs.Edges.{is_edge_taken, label_look, line_of_text
 ghost use Rattle.cave_graph.specs.Edges.{motion_name};
 ghost use Rattle.cave_graph.specs.Edges.{part_from_label, part_to_label, row_line, row_text};
 ghost use Rattle.cave_graph.specs.Edges.{way_text};
-ghost use Rattle.cave_graph.specs.Labels.{quoted};
-ghost use Rattle.cave_graph.specs.Stops.{is_taken};
-ghost use Rattle.cave_graph.specs.Ways.{is_both_ways};
+ghost use Rattle.graph_labels.specs.Labels.{label_of};
+ghost use Rattle.cave_graph.specs.Stops.{is_way_taken};
+ghost use Rattle.cave_ways.specs.Ways.{is_both_ways};
 
-use crate::labels::push_quoted;
 use crate::names::{push_condition_mark, push_word_or_number};
 use crate::nodes::strength;
-use crate::stops::{Stop, is_taken};
-use crate::ways::{ends_at, ends_of_edges, is_both_ways};
+use crate::stops::{Stop, is_way_taken};
 use cave_data::Cave;
 use cave_rows::Row;
+use cave_ways::{ends_at, ends_of_edges, is_both_ways};
 use cave_world::Motion;
+use graph_labels::push_label;
 use std::alloc::{AllocError, Global};
 
 /// How many motions of a row are named, so that a map of many places can be read on a page.
@@ -168,10 +168,10 @@ fn push_edge_text(
 
 /// The head of an edge at its own place, which it has where it is for both ways.
 #[tactic(auto, unfolding(crate::specs::Edges::head_back))]
-fn head_back(is_both: bool, is_taken: bool, is_taken_back: bool) -> &'static str
-    ensures { result.now ≡ head_back is_both is_taken is_taken_back }
+fn head_back(is_both: bool, is_taken_there: bool, is_taken_back: bool) -> &'static str
+    ensures { result.now ≡ head_back is_both is_taken_there is_taken_back }
 {
-    match (is_both, is_taken, is_taken_back) {
+    match (is_both, is_taken_there, is_taken_back) {
         (false, _, _) => "dir=none",
         (true, true, false) => "dir=back, arrowtail=empty",
         (true, _, _) => "dir=back",
@@ -180,10 +180,10 @@ fn head_back(is_both: bool, is_taken: bool, is_taken_back: bool) -> &'static str
 
 /// The head of an edge at the other place.
 #[tactic(auto, unfolding(crate::specs::Edges::head_there))]
-fn head_there(is_both: bool, is_taken: bool, is_taken_back: bool) -> &'static str
-    ensures { result.now ≡ head_there is_both is_taken is_taken_back }
+fn head_there(is_both: bool, is_taken_there: bool, is_taken_back: bool) -> &'static str
+    ensures { result.now ≡ head_there is_both is_taken_there is_taken_back }
 {
-    match (is_both, is_taken, is_taken_back) {
+    match (is_both, is_taken_there, is_taken_back) {
         (true, false, true) => "dir=forward, arrowhead=empty",
         (_, _, _) => "dir=forward",
     }
@@ -193,8 +193,8 @@ fn head_there(is_both: bool, is_taken: bool, is_taken_back: bool) -> &'static st
 fn is_edge_taken(cave: &Cave, stops: &[Stop], from: u16, to: u16) -> bool
     ensures { result ≡ is_edge_taken cave.now stops.now from to }
 {
-    is_taken(cave, stops, from, to)
-        || (is_both_ways(cave, from, to) && is_taken(cave, stops, to, from))
+    is_way_taken(cave, stops, from, to)
+        || (is_both_ways(cave, from, to) && is_way_taken(cave, stops, to, from))
 }
 
 /// How strong the edge of a way is drawn.
@@ -264,8 +264,8 @@ fn push_edge_parts(
     let (from, to) = ends;
     let is_both = is_both_ways(cave, from, to);
     let (there, back) = (
-        is_taken(cave, stops, from, to),
-        is_taken(cave, stops, to, from),
+        is_way_taken(cave, stops, from, to),
+        is_way_taken(cave, stops, to, from),
     );
     let strong = edge_strength(cave, stops, logs, from, to);
     push_part_to_label(
@@ -306,11 +306,11 @@ fn push_edge_label(
     text: &mut Vec<u8>,
 ) -> Result<(), AllocError>
     ensures { OnOk result (text.new.items ≡ text.old.items
-        ++ (quoted (edge_text cave.now from to) ++ label_look (edge_text cave.now from to))) }
+        ++ (label_of (edge_text cave.now from to) ++ label_look (edge_text cave.now from to))) }
 {
     let mut label = Vec::new(alloc);
     push_edge_text(alloc, cave, from, to, &mut label)?;
-    push_quoted(&label, text)?;
+    push_label(&label, text)?;
     text.extend_from_slice(label_look(&label).as_bytes())
 }
 

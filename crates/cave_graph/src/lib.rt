@@ -2,11 +2,9 @@
 #![tactic(auto)]
 
 pub mod edges;
-pub mod labels;
 pub mod laws;
 pub mod map;
 pub mod names;
 pub mod nodes;
 pub mod stops;
 pub mod titles;
-pub mod ways;

@@ -9,14 +9,14 @@ ghost use Rattle.cave_graph.specs.Map.{labels_opening, map_by_stops, nodes_and_e
 ghost use Rattle.cave_graph.specs.Map.{places_visited, seen_line, sums};
 ghost use Rattle.cave_graph.specs.Places.{node};
 ghost use Rattle.cave_graph.specs.Stops.{is_visited};
-ghost use Rattle.cave_graph.specs.Ways.{ends_of_ways, mapped_places};
+ghost use Rattle.cave_ways.specs.Ways.{ends_of_ways, mapped_places};
 
 use crate::edges::push_edges;
 use crate::nodes::push_node;
-use crate::stops::{Stop, is_taken, is_visited};
-use crate::ways::{count_ends, is_way, mapped_places};
+use crate::stops::{Stop, is_visited, is_way_taken};
 use cave_data::Cave;
 use cave_numbers::LAST_PLACE;
+use cave_ways::{count_ends_of_ways, is_way, mapped_places};
 use std::alloc::{AllocError, Global};
 
 /// Appends how the graph begins.
@@ -112,19 +112,19 @@ fn count_visited(cave: &Cave, stops: &[Stop], places: &[u16]) -> usize
 }
 
 /// How many ends of ways from a place plays came to by them.
-#[tactic(auto, unfolding(crate::specs::Map::ends_taken, crate::specs::Ways::ends_of_ways, crate::specs::Ways::place_numbers))]
-fn count_taken(cave: &Cave, stops: &[Stop], from: u16) -> usize
+#[tactic(auto, unfolding(crate::specs::Map::ends_taken, cave_ways::specs::Ways::ends_of_ways, cave_ways::specs::Ways::place_numbers))]
+fn count_ends_taken(cave: &Cave, stops: &[Stop], from: u16) -> usize
     ensures value { result ≡ length (ends_taken cave.now stops.now from) }
     ensures within { result ≤ last_place }
 {
     (1..LAST_PLACE + 1)
         .filter(|to| is_way(cave, from, *to))
-        .filter(|to| is_taken(cave, stops, from, *to))
+        .filter(|to| is_way_taken(cave, stops, from, *to))
         .count()
 }
 
 /// How many ways from some places plays took, and how many there are.
-fn count_ways(cave: &Cave, stops: &[Stop], places: &[u16]) -> (usize, usize)
+fn count_taken_and_all(cave: &Cave, stops: &[Stop], places: &[u16]) -> (usize, usize)
     requires { length places.now ≤ last_place }
     ensures taken { result.0
         ≡ sum_by (λ from. length (ends_taken cave.now stops.now from)) places.now }
@@ -132,8 +132,8 @@ fn count_ways(cave: &Cave, stops: &[Stop], places: &[u16]) -> (usize, usize)
 {
     let (mut taken, mut all) = (0, 0);
     for from in places {
-        taken += count_taken(cave, stops, *from);
-        all += count_ends(cave, *from);
+        taken += count_ends_taken(cave, stops, *from);
+        all += count_ends_of_ways(cave, *from);
     }
     (taken, all)
 }
@@ -146,7 +146,7 @@ fn count_seen(cave: &Cave, stops: &[Stop], places: &[u16]) -> SeenCounts
     ensures taken { result.taken ≡ count_taken cave.now stops.now }
     ensures ways { result.ways ≡ count_ways cave.now }
 {
-    let (taken, ways) = count_ways(cave, stops, places);
+    let (taken, ways) = count_taken_and_all(cave, stops, places);
     SeenCounts {
         visited: count_visited(cave, stops, places),
         places: places.len(),

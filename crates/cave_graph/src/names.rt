@@ -6,13 +6,11 @@ ghost use Rattle.cave_graph.specs.Names.{word_or_number};
 ghost use Rattle.cave_numbers.specs.Numbers.{last_object};
 
 use cave_data::{Cave, WordTable};
+use cave_rows::WORDS_PER_CLASS;
 use cave_world::travel::{
     CARRIED_AFTER, LAST_AT_HAND, LAST_CARRIED, NOT_FOR_DWARVES, PER_PROP, PROPS_AFTER,
 };
 use std::alloc::{AllocError, Global};
-
-/// How many numbers a class of words has: those of motions come first, and then those of objects.
-const PER_CLASS: u16 = 1000;
 
 /// The first of the words that has a number.
 fn first_word(words: &WordTable, number: u16) -> Option<&[u8]>
@@ -43,7 +41,7 @@ pub fn push_word_or_number(
             text.extend_from_slice(word)
         }
         None => {
-            let number = number % PER_CLASS;
+            let number = number % WORDS_PER_CLASS;
             let name = format!(in alloc; " {number}")?;
             text.extend_from_slice(name.as_bytes())
         }
@@ -55,7 +53,7 @@ pub fn number_of_object(object: u16) -> u16
     requires { object ≤ last_object }
     ensures { result ≡ number_of_object object }
 {
-    PER_CLASS + object
+    WORDS_PER_CLASS + object
 }
 
 /// Appends what is asked of an object, with the object.

@@ -6,24 +6,24 @@ ghost use Rattle.std.specs.List.{flat_map};
 ghost use Rattle.cave_numbers.specs.Numbers.{last_object, last_place};
 ghost use Rattle.cave_bindings.specs.Listing.{place_keys};
 ghost use Rattle.cave_rows.specs.PlaceRole.{place_number};
-ghost use Rattle.cave_graph.specs.Labels.{quoted};
+ghost use Rattle.graph_labels.specs.Labels.{label_of};
 ghost use Rattle.cave_graph.specs.Places.{begins_at, look_of_place, node, node_end, node_opening};
 ghost use Rattle.cave_graph.specs.Places.{node_text, nowhere_note, object_label_line};
 ghost use Rattle.cave_graph.specs.Places.{objects_beginning, role_label_line, stay_text, strength};
 ghost use Rattle.cave_graph.specs.Places.{title_line, visits_label_line};
 
-use crate::labels::push_quoted;
 use crate::names::{number_of_object, push_word_or_number};
 use crate::stops::{Stop, is_visited, visits};
 use crate::titles::push_title;
-use crate::ways::count_nowhere;
 use cave_bindings::place_roles;
 use cave_data::Cave;
 use cave_numbers::LAST_OBJECT;
 use cave_objects::Place;
 use cave_rows::PlaceRole;
+use cave_ways::count_nowhere;
 use cave_world::sight::LIGHT_BIT;
 use cave_world::{has_condition, is_forced};
+use graph_labels::push_label;
 use std::alloc::{AllocError, Global};
 
 /// Whether a half of an object is at a place as a game begins.
@@ -35,7 +35,7 @@ fn begins_at(cave: &Cave, place: u16, object: u16) -> bool
 }
 
 /// The objects that begin at a place.
-#[tactic(auto, using(crate::proofs::Rows::in_range), unfolding(crate::specs::Places::objects_beginning))]
+#[tactic(auto, using(cave_ways::proofs::Rows::in_range), unfolding(crate::specs::Places::objects_beginning))]
 fn objects_beginning(alloc: Global, cave: &Cave, place: u16) -> Result<Vec<u16>, AllocError>
     ensures value { IfOk result (λ objects. objects.items ≡ objects_beginning cave.now place) }
     ensures within { IfOk result (λ objects. All (λ object. object ≤ last_object) objects.items) }
@@ -139,7 +139,7 @@ fn push_title_line(
 ) -> Result<(), AllocError>
     ensures { OnOk result (text.new.items ≡ text.old.items ++ title_line cave.now place) }
 {
-    let number = format!(in alloc; "{place} ")?;
+    let number = format!(in alloc; "{place}")?;
     text.extend_from_slice(number.as_bytes())?;
     push_title(cave, place, text)?;
     text.extend_from_slice(b"\n")
@@ -260,11 +260,11 @@ fn push_node_label(
 ) -> Result<(), AllocError>
     requires { place ≤ last_place }
     ensures { OnOk result
-        (text.new.items ≡ text.old.items ++ quoted (node_text cave.now stops.now place)) }
+        (text.new.items ≡ text.old.items ++ label_of (node_text cave.now stops.now place)) }
 {
     let mut label = Vec::new(alloc);
     push_node_text(alloc, cave, stops, place, &mut label)?;
-    push_quoted(&label, text)
+    push_label(&label, text)
 }
 
 /// Appends how the line of a node ends, with how many rows lead to no place.

@@ -1,8 +1,8 @@
 //! Where a player is in a state of a play, and where the player comes from.
 
 ghost use Rattle.std.specs.Prelude.{◌≡◌};
-ghost use Rattle.cave_graph.specs.Stops.{arrives_at, comes_by, is_at, is_taken, is_visited};
-ghost use Rattle.cave_graph.specs.Stops.{leaves, visits};
+ghost use Rattle.cave_graph.specs.Stops.{arrives_at, comes_by, is_at, is_way_taken, is_visited};
+ghost use Rattle.cave_graph.specs.Stops.{goes_from, visits};
 
 use cave_data::Cave;
 use cave_objects::Place;
@@ -13,6 +13,7 @@ use cave_world::{Trail, is_forced};
 pub struct Stop {
     /// The place in the state before, and 0 at the beginning of a play.
     pub before: Place,
+    /// Where the player is, and was before, as the state has it.
     pub trail: Trail,
 }
 
@@ -30,8 +31,8 @@ impl Stop {
 
     /// Whether the player left a place in this turn: it is where the turn began, or one of a forced
     /// motion.
-    fn leaves(&self, cave: &Cave, place: Place) -> bool
-        ensures { result ≡ leaves cave.now place self.now }
+    fn goes_from(&self, cave: &Cave, place: Place) -> bool
+        ensures { result ≡ goes_from cave.now place self.now }
     {
         self.before == place || is_forced(cave, place)
     }
@@ -42,9 +43,9 @@ impl Stop {
         ensures { result ≡ comes_by cave.now from to self.now }
     {
         let Trail { here, last, older } = self.trail;
-        (last.number() == from && here.number() == to && self.leaves(cave, last))
+        (last.number() == from && here.number() == to && self.goes_from(cave, last))
             || (is_forced(cave, last)
-                && ((older.number() == from && last.number() == to && self.leaves(cave, older))
+                && ((older.number() == from && last.number() == to && self.goes_from(cave, older))
                     || (is_forced(cave, older)
                         && self.before.number() == from
                         && older.number() == to)))
@@ -66,8 +67,8 @@ pub fn is_visited(cave: &Cave, stops: &[Stop], place: u16) -> bool
 }
 
 /// Whether a play took a way from the one place to the other.
-pub fn is_taken(cave: &Cave, stops: &[Stop], from: u16, to: u16) -> bool
-    ensures { result ≡ is_taken cave.now stops.now from to }
+pub fn is_way_taken(cave: &Cave, stops: &[Stop], from: u16, to: u16) -> bool
+    ensures { result ≡ is_way_taken cave.now stops.now from to }
 {
     stops.iter().any(|stop| stop.comes_by(cave, from, to))
 }

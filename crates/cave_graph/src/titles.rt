@@ -1,13 +1,11 @@
-//! The first words of the text of a place.
+//! The title of a place: the first words of its text.
 
-ghost use Rattle.std.specs.Prelude.{◌≡◌, ◌++◌, [], OnOk, false, unwrap_or};
-ghost use Rattle.std.specs.Option.{option_or};
-ghost use Rattle.std.specs.FinMap.{get};
-ghost use Rattle.cave_graph.specs.Names.{opening_words, word_start};
-ghost use Rattle.cave_graph.specs.Places.{title};
+ghost use Rattle.std.specs.Prelude.{◌≡◌, ◌++◌, OnOk};
+ghost use Rattle.cave_graph.specs.Titles.{first_words_shown, text_for_title, title, word_start};
 
+use cave_bindings::first_line;
 use cave_data::Cave;
-use log_lines::bytes::is_blank;
+use log_lines::bytes::{skip_blanks, split_word};
 use std::alloc::AllocError;
 
 /// How many words of a text are on the map.
@@ -17,9 +15,8 @@ const WORDS_SHOWN: usize = 8;
 const WORDS_PER_LINE: usize = 3;
 
 /// The short text of a place, or its long one.
-fn text_of_place(cave: &Cave, place: u16) -> &[u8]
-    ensures { result.now
-        ≡ unwrap_or (option_or (get cave.now.short place) (get cave.now.long place)) [] }
+fn text_for_title(cave: &Cave, place: u16) -> &[u8]
+    ensures { result.now ≡ text_for_title cave.now place }
 {
     cave.short(place).or(cave.long(place)).unwrap_or(&[])
 }
@@ -28,45 +25,34 @@ fn text_of_place(cave: &Cave, place: u16) -> &[u8]
 fn word_start(shown: usize) -> &'static str
     ensures { result.now ≡ word_start shown }
 {
-    if shown == 0 {
-        ""
-    } else if shown % WORDS_PER_LINE == 0 {
+    if shown != 0 && shown % WORDS_PER_LINE == 0 {
         "\n"
     } else {
         " "
     }
 }
 
-/// Appends the first words of a text, up to the end of its first line. Blanks between them are one.
-fn push_opening_words(bytes: &[u8], text: &mut Vec<u8>) -> Result<(), AllocError>
-    ensures { OnOk result (text.new.items ≡ text.old.items ++ opening_words 0 false bytes.now) }
+/// Appends the first words of a line. Blanks between them are one.
+#[tactic(auto, unfolding(crate::specs::Titles::first_words_shown))]
+fn push_first_words(line: &[u8], text: &mut Vec<u8>) -> Result<(), AllocError>
+    ensures { OnOk result (text.new.items ≡ text.old.items ++ first_words_shown line.now) }
 {
-    let mut shown = 0;
-    let mut is_in_word = false;
-    for byte in bytes {
-        if *byte == b'\n' {
+    let mut rest = line;
+    for shown in 0..WORDS_SHOWN {
+        let (word, after) = split_word(skip_blanks(rest));
+        if word.is_empty() {
             return Ok(());
         }
-        if is_blank(*byte) {
-            is_in_word = false;
-        } else if is_in_word {
-            text.push(*byte)?;
-        } else {
-            if shown == WORDS_SHOWN {
-                return Ok(());
-            }
-            text.extend_from_slice(word_start(shown).as_bytes())?;
-            text.push(*byte)?;
-            shown += 1;
-            is_in_word = true;
-        }
+        text.extend_from_slice(word_start(shown).as_bytes())?;
+        text.extend_from_slice(word)?;
+        rest = after;
     }
     Ok(())
 }
 
-/// Appends the first words of the text of a place.
+/// Appends the title of a place.
 pub fn push_title(cave: &Cave, place: u16, text: &mut Vec<u8>) -> Result<(), AllocError>
     ensures { OnOk result (text.new.items ≡ text.old.items ++ title cave.now place) }
 {
-    push_opening_words(text_of_place(cave, place), text)
+    push_first_words(first_line(text_for_title(cave, place)), text)
 }

@@ -6,8 +6,8 @@ use Rattle.cave_data.specs.CaveView.{CaveView}
 use Rattle.cave_graph.specs.Edges.{edge, edges}
 use Rattle.cave_graph.specs.Map.{count_taken, ends_taken, map_by_stops, places_visited, sums}
 use Rattle.cave_graph.specs.Places.{node, node_text, stay_text}
-use Rattle.cave_graph.specs.Stops.{is_taken, is_visited, visits}
-use Rattle.cave_graph.specs.Ways.{ends_of_edges, ends_of_ways, mapped_places}
+use Rattle.cave_graph.specs.Stops.{is_way_taken, is_visited, visits}
+use Rattle.cave_ways.specs.Ways.{ends_of_edges, ends_of_ways, mapped_places}
 use Rattle.cave_graph.specs.declared.stops.Stop.{Stop}
 
 agree_filter : {X : Type 0} (p q : X → Bool) (xs : List X) → ((x : X) → p x ≡ q x)
@@ -18,7 +18,7 @@ agree_filter p q (x ∷ xs) agree =
 
 module _ (cave : CaveView) (stops others : List Stop)
     (visited : (place : ℕ) → is_visited cave stops place ≡ is_visited cave others place)
-    (taken : (from to : ℕ) → is_taken cave stops from to ≡ is_taken cave others from to)
+    (taken : (from to : ℕ) → is_way_taken cave stops from to ≡ is_way_taken cave others from to)
     (counted : (place : ℕ) → visits stops place ≡ visits others place) where
   agree_node : (logs place : ℕ) → node cave stops logs place ≡ node cave others logs place
   unfolding node node_text stay_text
@@ -41,7 +41,8 @@ module _ (cave : CaveView) (stops others : List Stop)
   agree_taken : (from : ℕ) → ends_taken cave stops from ≡ ends_taken cave others from
   unfolding ends_taken
   agree_taken from =
-      agree_filter (is_taken cave stops from) (is_taken cave others from) (ends_of_ways cave from)
+      agree_filter (is_way_taken cave stops from) (is_way_taken cave others from)
+      (ends_of_ways cave from)
       (taken from)
 
   agree_count : count_taken cave stops ≡ count_taken cave others

@@ -70,7 +70,7 @@ fn first_stop(state: &State) -> Stop
 }
 
 /// The state in which a play begins.
-fn begun(alloc: Global, machine: CaveMachine<'_>, seed: u32) -> Result<State, AllocError>
+fn beginning_state(alloc: Global, machine: CaveMachine<'_>, seed: u32) -> Result<State, AllocError>
     ensures { IfOk result
         (λ state. state ≡ (cave_rules machine.entry.rules.cave.now).begun seed) }
 {
@@ -90,7 +90,7 @@ pub fn push_stops(
         ≡ stops.old.items ++ stops_in machine.entry.rules.cave.now session.now.game) }
 {
     // A session keeps no state between its checkpoints, so its log is played once more.
-    let mut state = Box::new(alloc, begun(alloc, machine, session.seed())?)?;
+    let mut state = Box::new(alloc, beginning_state(alloc, machine, session.seed())?)?;
     stops.push(first_stop(&state))?;
     push_later_stops(alloc, machine, session, &mut state, stops)
 }

@@ -2,13 +2,13 @@ use Rattle.std.proofs.Common.{◌≤◌, length, ap, sym, subst, ◌∙◌}
 use Rattle.std.specs.List.{filter, sum_by}
 use Rattle.cave_graph.specs.Map.{count_taken, count_ways, ends_taken, places_visited}
 use Rattle.cave_graph.specs.Stops.{is_visited}
-use Rattle.cave_graph.specs.Ways.{ends_of_ways}
+use Rattle.cave_ways.specs.Ways.{ends_of_ways}
 use Rattle.cave_numbers.specs.Numbers.{last_place}
-use Rattle.cave_graph.proofs.Rows.{mapped_few}
+use Rattle.cave_ways.proofs.Rows.{mapped_few}
 use Rattle.cave_graph.proofs.map.count_seen.Goals as goal
 
-pub count_ways-taken-requires : goal.count_ways-taken-requires
-count_ways-taken-requires c =
+pub count_taken_and_all-taken-requires : goal.count_taken_and_all-taken-requires
+count_taken_and_all-taken-requires c =
     subst (λ places. length places ≤ last_place) (sym c.requires) (mapped_few c.args.cave.now)
 
 pub returns-clause-visited : goal.returns-clause-visited
@@ -20,11 +20,11 @@ returns-clause-visited c =
 pub returns-clause-taken : goal.returns-clause-taken
 unfolding count_taken
 returns-clause-taken c =
-    c.count_ways-taken.ensures.taken
+    c.count_taken_and_all-taken.ensures.taken
     ∙ ap (sum_by (λ from. length (ends_taken c.args.cave.now c.args.stops.now from))) c.requires
 
 pub returns-clause-ways : goal.returns-clause-ways
 unfolding count_ways
 returns-clause-ways c =
-    c.count_ways-taken.ensures.all
+    c.count_taken_and_all-taken.ensures.all
     ∙ ap (sum_by (λ from. length (ends_of_ways c.args.cave.now from))) c.requires

@@ -1,7 +1,7 @@
 use Rattle.std.proofs.Common.{◌≡◌, ◌≤◌, ℕ, All, List, ◌++◌, OnOk, subst, sym, ap, ◌∙◌, append_assoc}
 use Rattle.cave_numbers.specs.Numbers.{last_place}
 use Rattle.cave_graph.specs.Map.{map_by_stops, nodes_and_edges, sums}
-use Rattle.cave_graph.proofs.Rows.{mapped_within}
+use Rattle.cave_ways.proofs.Rows.{mapped_within}
 use Rattle.cave_graph.proofs.map.push_map_of_places.Goals as goal
 
 pub push_nodes_and_edges-requires : goal.push_nodes_and_edges-requires

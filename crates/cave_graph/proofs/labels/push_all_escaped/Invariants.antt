@@ -1,8 +1,0 @@
-use Rattle.std.proofs.Common.{◌≡◌, ◌++◌, take}
-use Rattle.std.specs.List.{flat_map}
-use Rattle.cave_graph.specs.Labels.{escaped}
-use Rattle.cave_graph.proofs.labels.push_all_escaped.Given as goal
-
-abbrev pub invariant-loop-byte : goal.invariant-loop-byte
-invariant-loop-byte l =
-    l.text.items ≡ l.initial.text.items ++ flat_map escaped (take l.byte-index l.label)
