@@ -63,7 +63,7 @@ fn hide_treasures(cave: &Cave, objects: &mut Objects) -> Count<MAX_TREASURES>
 {
     let mut hidden = Count::new(0);
     for number in FIRST_TREASURE..LAST_TREASURE + 1 {
-        if cave.name(u16::from(number)).is_some() {
+        if cave.inventory_text(u16::from(number)).is_some() {
             objects.set_prop(Object::new(number), Prop::new(-1));
             hidden = hidden.up();
         }

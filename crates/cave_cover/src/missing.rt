@@ -37,10 +37,10 @@ fn text_at(cave: &Cave, kind: Kind, number: u16) -> Option<&[u8]>
         Kind::Long => cave.long(number),
         Kind::Short => cave.short(number),
         Kind::Look => cave.look(number / PROPS_PER_OBJECT, number % PROPS_PER_OBJECT),
-        Kind::Name => cave.name(number),
+        Kind::Name => cave.inventory_text(number),
         Kind::Message => cave.message(number),
         Kind::Role => None,
-        Kind::Class => match cave.class_of(u32::from(number)) {
+        Kind::Class => match cave.rating_of_score(u32::from(number)) {
             Some(rating) => Some(rating.text),
             None => None,
         },

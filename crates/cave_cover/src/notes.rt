@@ -29,11 +29,9 @@ pub trait PlayNotes: Drop {
     fn note_play(
         &mut self,
         alloc: Global,
-        machine: CaveMachine<'_>,
         session: &Session<CaveMachine<'_>>,
     ) -> Result<(), AllocError>
-        requires { session.now.machine.rules.cave.now ≡ machine.rules.cave.now }
-        ensures { OnOk result (NotesMore (AreNotesOn machine.entry.rules.cave.now)
+        ensures { OnOk result (NotesMore (AreNotesOn session.now.machine.rules.cave.now)
             session.now.game self.old self.new) };
 
     /// Appends the report on the plays of so many logs.

@@ -50,7 +50,7 @@ fn note_look(said: &mut SaidTexts, cave: &Cave, object: Object, prop: i8)
 fn note_class(said: &mut SaidTexts, cave: &Cave, score: u32)
     ensures { Notes (class_said (rating_of_score cave.now score)) said.old said.new }
 {
-    if let Some(rating) = cave.class_of(score) {
+    if let Some(rating) = cave.rating_of_score(score) {
         note(said, Kind::Class, rating.bound);
     }
 }

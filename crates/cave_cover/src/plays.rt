@@ -36,7 +36,7 @@ fn note_log<N: PlayNotes, L: Read>(
 {
     // Nothing is edited, so hardly any state is kept.
     let session = read_log(alloc, machine, log, seed, MAX_EVERY)?;
-    let noted = notes.note_play(alloc, machine, &session);
+    let noted = notes.note_play(alloc, &session);
     // The checker can't drop a session over a borrowed machine at the end of a block.
     drop(session);
     noted?;

@@ -25,10 +25,10 @@ fn has(cave: &Cave, kind: Kind, number: u16) -> bool
         Kind::Look => cave
             .look(number / PROPS_PER_OBJECT, number % PROPS_PER_OBJECT)
             .is_some(),
-        Kind::Name => cave.name(number).is_some(),
+        Kind::Name => cave.inventory_text(number).is_some(),
         Kind::Message => cave.message(number).is_some(),
         Kind::Role => (number as usize) < ROLE_NAMES.len(),
-        Kind::Class => match cave.class_of(u32::from(number)) {
+        Kind::Class => match cave.rating_of_score(u32::from(number)) {
             Some(rating) => rating.bound == number,
             None => false,
         },

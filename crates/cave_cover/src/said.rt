@@ -1,6 +1,5 @@
 //! Which texts plays say.
 
-ghost use Rattle.std.specs.Prelude.{◌≡◌};
 ghost use Rattle.std.specs.List.{flat_map};
 ghost use Rattle.cave_cover.specs.Marks.{Notes};
 ghost use Rattle.cave_cover.specs.Plays.{texts_said_in};
@@ -28,10 +27,12 @@ fn note_pieces(said: &mut SaidTexts, cave: &Cave, pieces: &[Piece])
 }
 
 /// Notes what the play that a session holds says.
-fn note_session(said: &mut SaidTexts, cave: &Cave, session: &Session<CaveMachine<'_>>)
-    requires { session.now.machine.rules.cave.now ≡ cave.now }
-    ensures { Notes (texts_said_in cave.now session.now.game) said.old said.new }
+fn note_session(said: &mut SaidTexts, session: &Session<CaveMachine<'_>>)
+    ensures { Notes (texts_said_in session.now.machine.rules.cave.now session.now.game)
+        said.old said.new }
 {
+    let machine = session.machine();
+    let cave = machine.cave();
     note_parts(said, cave, session.opening());
     note_pieces(said, cave, session.pieces());
 }
@@ -53,10 +54,9 @@ impl PlayNotes for SaidTexts {
     fn note_play(
         &mut self,
         _alloc: Global,
-        machine: CaveMachine<'_>,
         session: &Session<CaveMachine<'_>>,
     ) -> Result<(), AllocError> {
-        note_session(self, machine.cave(), session);
+        note_session(self, session);
         Ok(())
     }
 

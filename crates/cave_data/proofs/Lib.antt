@@ -8,6 +8,7 @@ pub mod TextLemmas
 pub mod RowLemmas
 pub mod ByPlace
 pub mod WayLemmas
+pub mod WordLemmas
 pub mod PartLemmas
 pub mod StepLemmas
 pub mod DatabaseLemmas

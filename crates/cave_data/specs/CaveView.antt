@@ -1,9 +1,11 @@
 -- What a cave is to those who use one: finite maps by number, and rows in the order of the file.
-use Rattle.std.specs.Prelude.{ℕ, ℤ, pos, ◌+◌, ◌*◌, Bool, ◌&&◌, nat_lt, nat_le, if◌then◌else◌, List}
-use Rattle.std.specs.Prelude.{[], ◌∷◌, length, Option, Some, None, unwrap_or, refl}
+use Rattle.std.specs.Prelude.{ℕ, ℤ, pos, ◌+◌, ◌*◌, Bool, ◌==◌, ◌&&◌, nat_lt, nat_le, if◌then◌else◌}
+use Rattle.std.specs.Prelude.{List, [], ◌∷◌, length, Option, Some, None, refl}
+use Rattle.std.specs.Prelude.{option_map, unwrap_or}
 use Rattle.std.specs.Coded.{Coded, code_by, coded×, coded_ℕ, coded_ℤ, coded_list}
 use Rattle.std.specs.Ordering.{nat_cmp}
 use Rattle.std.specs.FinMap as map
+use Rattle.std.specs.List.{find}
 use Rattle.cave_rows.specs.declared.rows.Placement.{Placement}
 use Rattle.cave_rows.specs.declared.rows.Hint.{Hint}
 use Rattle.cave_rows.specs.Rows.{Going, WordEntry}
@@ -123,6 +125,11 @@ look_of c object prop = if nat_lt 0 object && nat_le object last_named && nat_le
 -- the ways out of a place, in the order of the file
 abbrev pub ways_from : CaveView → ℕ → List Going
 ways_from c place = unwrap_or (map.get c.travel place) []
+
+-- the first of some words that has a number
+abbrev pub first_word : List WordEntry → ℕ → Option (List ℕ)
+first_word words number =
+    option_map (λ entry. entry.word) (find (λ entry. entry.number == number) words)
 
 -- the bits of a place, as the bits of a number
 abbrev pub conditions_of : CaveView → ℕ → ℕ

@@ -236,7 +236,7 @@ impl Cave {
     }
 
     /// The inventory text of the object.
-    pub fn name(&self, object: u16) -> Option<&[u8]>
+    pub fn inventory_text(&self, object: u16) -> Option<&[u8]>
         ensures { option_map (λ x. x.now) result ≡ inventory_text self.now object }
     {
         if object > LAST_NAMED {
@@ -327,10 +327,10 @@ impl Cave {
     }
 
     /// The class of the score: the first row whose bound is not below it.
-    pub fn class_of(&self, score: u32) -> Option<Rating<'_>>
+    pub fn rating_of_score(&self, score: u32) -> Option<Rating<'_>>
         ensures { option_map rating result ≡ rating_of_score self.now score }
     {
-        self.classes.class_of(score)
+        self.classes.rating_of_score(score)
     }
 
     /// How many letters of a word count.

@@ -80,7 +80,7 @@ impl Classes {
     }
 
     /// The class of the score: the first row whose bound is not below it.
-    pub fn class_of(&self, score: u32) -> Option<Rating<'_>>
+    pub fn rating_of_score(&self, score: u32) -> Option<Rating<'_>>
         ensures { option_map rating result ≡ class_from 1 score (map printed_class self.now) }
     {
         let count = self.rows.len();

@@ -1,5 +1,7 @@
 //! The words of a database: a store of bytes, and the rows in the order of the file.
 ghost use Rattle.std.specs.Prelude.{◌≡◌, ◌<◌, ◌++◌, ◌∷◌, [], OnOk, Some, length, slice_get};
+ghost use Rattle.std.specs.Prelude.{option_map};
+ghost use Rattle.cave_data.specs.CaveView.{first_word};
 ghost use Rattle.cave_rows.specs.RowViews.{word_entry};
 
 use crate::span::{NumberedSpan, add_row};
@@ -76,5 +78,18 @@ impl WordTable {
             number: row.number,
             word: self.store.text(row.span),
         }
+    }
+
+    /// The first of the words that has the number.
+    pub fn first_word(&self, number: u16) -> Option<&[u8]>
+        ensures { option_map (λ word. word.now) result ≡ first_word self.now number }
+    {
+        for index in 0..self.len() {
+            let row = self.row(index);
+            if row.number == number {
+                return Some(row.word);
+            }
+        }
+        None
     }
 }

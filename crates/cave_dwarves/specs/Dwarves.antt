@@ -18,8 +18,8 @@ abbrev pub without_hit : Scene → Encounter
 without_hit p = record { is_hit = false; scene = p }
 
 -- the dwarves before the pirate act, and then the pirate; then the lines of the dwarves are printed
-unfoldable pub encounter_of : CaveView → Scene → Encounter
-encounter_of cave p =
+unfoldable pub encounter_awake : CaveView → Scene → Encounter
+encounter_awake cave p =
     let raid = raid_of cave pirate p.state in
     let q = after_pirate cave (with_state raid.state p) in
     record { is_hit = not (raid.attack.hits == 0); scene = after_attack raid.attack q }
@@ -29,4 +29,4 @@ unfoldable pub encounter_in_turn : CaveView → Scene → Encounter
 encounter_in_turn cave p =
     if p.state.dwarves.anger == 0 then without_hit (with_state (after_stirring cave p.state) p)
     else (if p.state.dwarves.anger == 1 then without_hit (waking_scene cave p)
-    else encounter_of cave p)
+    else encounter_awake cave p)

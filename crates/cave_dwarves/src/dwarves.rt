@@ -2,7 +2,7 @@ ghost use Rattle.std.specs.Prelude.{◌≡◌};
 ghost use Rattle.cave_scene.specs.Bounds.{HasRoom, SaysUpTo, parts_of_dwarves};
 ghost use Rattle.cave_scene.specs.Play.{scene_of, GoesOn};
 ghost use Rattle.cave_scene.specs.Rules.{cave_of};
-ghost use Rattle.cave_dwarves.specs.Dwarves.{encounter_of, encounter_in_turn};
+ghost use Rattle.cave_dwarves.specs.Dwarves.{encounter_awake, encounter_in_turn};
 
 use crate::knives::raid;
 use crate::lines::tell_attack;
@@ -34,11 +34,11 @@ pub fn encounter_dwarves(rules: &Rules<'_>, play: &mut Play<'_>) -> bool
 }
 
 /// Dwarves that are awake act, and then the pirate. Returns whether a knife hit the player.
-#[tactic(auto, unfolding(crate::specs::Dwarves::encounter_of))]
+#[tactic(auto, unfolding(crate::specs::Dwarves::encounter_awake))]
 fn encounter_awake(rules: &Rules<'_>, play: &mut Play<'_>) -> bool
     requires { HasRoom parts_of_dwarves play.old }
     ensures moves { record { is_hit = result; scene = scene_of play.new }
-        ≡ encounter_of (cave_of rules.now) (scene_of play.old) }
+        ≡ encounter_awake (cave_of rules.now) (scene_of play.old) }
     ensures same { GoesOn play.old play.new }
     ensures few { SaysUpTo parts_of_dwarves play.old play.new }
 {

@@ -54,7 +54,7 @@ fn tell_score(rules: &Rules<'_>, play: &mut Play<'_>)
 {
     let score = score(rules, play.state);
     play.tell(Part::Turns(score, max_score(rules)));
-    match rules.cave.class_of(score) {
+    match rules.cave.rating_of_score(score) {
         Some(class) => {
             play.tell(Part::Class(score));
             tell_next_class(score, &class, play);

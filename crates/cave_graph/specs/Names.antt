@@ -1,17 +1,11 @@
 -- How motions, objects and conditions are named.
 use Rattle.std.specs.Prelude.{ℕ, ◌+◌, ◌-◌, ◌/◌, ◌%◌, ◌==◌, ◌||◌, nat_le, nat_lt}
-use Rattle.std.specs.Prelude.{if◌then◌else◌, List, [], ◌++◌, codes, Option, option_map, unwrap_or}
+use Rattle.std.specs.Prelude.{if◌then◌else◌, List, [], ◌++◌, codes, unwrap_or}
 use Rattle.std.specs.Fmt.{decimal}
-use Rattle.std.specs.List.{find}
-use Rattle.cave_data.specs.CaveView.{CaveView}
-use Rattle.cave_rows.specs.Rows.{WordEntry, WORDS_PER_CLASS}
+use Rattle.cave_data.specs.CaveView.{CaveView, first_word}
+use Rattle.cave_rows.specs.Rows.{WORDS_PER_CLASS}
 use Rattle.cave_world.specs.Travel.{CARRIED_AFTER, LAST_AT_HAND, LAST_CARRIED, NOT_FOR_DWARVES}
 use Rattle.cave_world.specs.Travel.{PER_PROP, PROPS_AFTER}
-
--- the first of the words that has a number
-abbrev pub first_word : List WordEntry → ℕ → Option (List ℕ)
-first_word words number =
-    option_map (λ entry. entry.word) (find (λ entry. entry.number == number) words)
 
 -- the number of the word of an object
 abbrev pub number_of_object : ℕ → ℕ

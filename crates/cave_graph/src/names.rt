@@ -1,29 +1,16 @@
 //! How motions, objects and conditions are named.
 
-ghost use Rattle.std.specs.Prelude.{◌≡◌, ◌<◌, ◌≤◌, ◌++◌, OnOk, option_map};
-ghost use Rattle.cave_graph.specs.Names.{condition_mark, first_word, number_of_object, object_mark};
+ghost use Rattle.std.specs.Prelude.{◌≡◌, ◌<◌, ◌≤◌, ◌++◌, OnOk};
+ghost use Rattle.cave_graph.specs.Names.{condition_mark, number_of_object, object_mark};
 ghost use Rattle.cave_graph.specs.Names.{word_or_number};
 ghost use Rattle.cave_numbers.specs.Numbers.{last_object};
 
-use cave_data::{Cave, WordTable};
+use cave_data::Cave;
 use cave_rows::WORDS_PER_CLASS;
 use cave_world::travel::{
     CARRIED_AFTER, LAST_AT_HAND, LAST_CARRIED, NOT_FOR_DWARVES, PER_PROP, PROPS_AFTER,
 };
 use std::alloc::{AllocError, Global};
-
-/// The first of the words that has a number.
-fn first_word(words: &WordTable, number: u16) -> Option<&[u8]>
-    ensures { option_map (λ word. word.now) result ≡ first_word words.now number }
-{
-    for index in 0..words.len() {
-        let row = words.row(index);
-        if row.number == number {
-            return Some(row.word);
-        }
-    }
-    None
-}
 
 /// Appends a blank and the first word of a number, or the number of the motion or the object.
 #[tactic(auto, unfolding(crate::specs::Names::word_or_number))]
@@ -35,7 +22,7 @@ pub fn push_word_or_number(
 ) -> Result<(), AllocError>
     ensures { OnOk result (text.new.items ≡ text.old.items ++ word_or_number cave.now number) }
 {
-    match first_word(cave.words(), number) {
+    match cave.words().first_word(number) {
         Some(word) => {
             text.extend_from_slice(b" ")?;
             text.extend_from_slice(word)

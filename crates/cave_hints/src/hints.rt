@@ -120,7 +120,7 @@ pub fn price(rules: &Rules<'_>, number: HintNumber, play: &mut Play<'_>)
 
 /// A hint is given.
 #[tactic(auto, unfolding(crate::specs::Hints::hint_scene))]
-pub fn give(rules: &Rules<'_>, number: HintNumber, play: &mut Play<'_>)
+pub fn give_hint(rules: &Rules<'_>, number: HintNumber, play: &mut Play<'_>)
     requires { HasRoom 1 play.old }
     ensures play { scene_of play.new ≡ hint_scene (cave_of rules.now) number (scene_of play.old) }
     ensures same { GoesOn play.old play.new }

@@ -3,4 +3,4 @@
 
 pub mod hints;
 
-pub use hints::{consider_all, give, price};
+pub use hints::{consider_all, give_hint, price};

@@ -16,7 +16,7 @@ use Rattle.cave_scene.specs.Rules.{thing}
 use Rattle.cave_things.specs.Treasures.{treasures}
 use Rattle.cave_dwarves.specs.Band.{dwarf_of, with_dwarf, state_after_draw}
 use Rattle.cave_world.specs.Dwarves.{pirate}
-use Rattle.cave_dwarves.specs.Dwarves.{Encounter, without_hit, encounter_of, encounter_in_turn}
+use Rattle.cave_dwarves.specs.Dwarves.{Encounter, without_hit, encounter_awake, encounter_in_turn}
 use Rattle.cave_dwarves.specs.Knives.{DwarfStep, knife_step, with_knife_here, threat_step}
 use Rattle.cave_dwarves.specs.Knives.{step_of_dwarf, raid_of}
 use Rattle.cave_dwarves.specs.Lines.{telling_number, after_dwarf_count, after_one_knife}
@@ -276,8 +276,8 @@ pirate_kept P cave p h =
     (may_meet_kept P cave q (moved_kept P cave pirate p.state h))
 
 harried_kept : (P : Claim) (cave : CaveView) (p : Scene) → On P p.state
-    → On P (encounter_of cave p).scene.state
-unfolding encounter_of
+    → On P (encounter_awake cave p).scene.state
+unfolding encounter_awake
 harried_kept P cave p h =
     let raid = raid_of cave 5 p.state in
     let q = with_state raid.state p in
@@ -290,8 +290,9 @@ unfolding encounter_in_turn
 dwarves_kept P cave p h =
     choose (λ (r : Encounter). On P r.scene.state) (p.state.dwarves.anger == 0)
     (without_hit (with_state (after_stirring cave p.state) p))
-    (if p.state.dwarves.anger == 1 then without_hit (waking_scene cave p) else encounter_of cave p)
+    (if p.state.dwarves.anger == 1 then without_hit (waking_scene cave p)
+    else encounter_awake cave p)
     (λ asleep. stirred_kept P cave p.state asleep h)
     (λ _. choose (λ (r : Encounter). On P r.scene.state) (p.state.dwarves.anger == 1)
-    (without_hit (waking_scene cave p)) (encounter_of cave p)
+    (without_hit (waking_scene cave p)) (encounter_awake cave p)
     (λ stirs. awoken_kept P cave p stirs h) (λ _. harried_kept P cave p h))

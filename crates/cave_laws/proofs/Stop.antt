@@ -12,6 +12,7 @@ use Rattle.cave_objects.specs.Lists.{halves_at}
 use Rattle.cave_objects.specs.Objects.{is_carried, with_prop}
 use Rattle.cave_world.specs.Sight.{is_dark, is_forced}
 use Rattle.cave_world.specs.State.{takes_no_command, visits_of, with_visit, state_with_player_at}
+use Rattle.cave_world.specs.State.{END_OF_VISITS}
 use Rattle.cave_world.specs.declared.ending.Ending.{Ending}
 use Rattle.cave_world.specs.declared.ending.Question.{Question}
 use Rattle.cave_world.specs.declared.part.Part.TheVariants as part
@@ -125,7 +126,10 @@ visit_kept : (P : Claim) (s : State) (place : ℕ) → On P s → On P (with_vis
 unfolding with_visit
 visit_kept P s place h =
     chosen P (place == 0) s
-    (record s { visits = slice_set s.visits (place - 1) ((visits_of s place + 1) % 10000) }) h h
+    (record s {
+      visits = slice_set s.visits (place - 1) ((visits_of s place + 1) % END_OF_VISITS);
+    })
+    h h
 
 sight_kept : {P : Claim} (cave : CaveView) (k : IsKept cave P) (p : Scene) → On P p.state
     → On P (sight_scene cave p).state

@@ -10,6 +10,7 @@ use Rattle.cave_objects.specs.Lists.{halves_at}
 use Rattle.cave_objects.specs.Objects.{is_carried, with_prop}
 use Rattle.cave_world.specs.Sight.{is_dark, is_forced}
 use Rattle.cave_world.specs.State.{takes_no_command, visits_of, with_visit, state_with_player_at}
+use Rattle.cave_world.specs.State.{END_OF_VISITS}
 use Rattle.cave_world.specs.declared.part.Part.TheVariants as part
 use Rattle.cave_objects.specs.declared.object.Half.{Half}
 use Rattle.cave_world.specs.declared.state.State.{State}
@@ -116,7 +117,10 @@ visit_kept : (P : Claim) (s : State) (place : ℕ) → On P s → On P (with_vis
 unfolding with_visit
 visit_kept P s place h =
     chosen P (place == 0) s
-    (record s { visits = slice_set s.visits (place - 1) ((visits_of s place + 1) % 10000) }) h h
+    (record s {
+      visits = slice_set s.visits (place - 1) ((visits_of s place + 1) % END_OF_VISITS);
+    })
+    h h
 
 sight_kept : {Here : ℕ → Type 0} {P : Claim} (k : IsKept Here P) (cave : CaveView) (p : Scene)
     → On P p.state

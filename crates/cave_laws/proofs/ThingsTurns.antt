@@ -9,7 +9,7 @@ use Rattle.cave_words.specs.declared.named.Named.TheVariants as name
 use Rattle.cave_words.specs.declared.words.Words.{Words}
 use Rattle.cave_objects.specs.Layout.{Layout}
 use Rattle.cave_objects.specs.Objects.{is_carried, prop_of, with_place, with_prop}
-use Rattle.cave_world.specs.State.{takes_no_command, turns_in_area}
+use Rattle.cave_world.specs.State.{takes_no_command, turns_in_area, MAX_TURNS_IN_AREA}
 use Rattle.cave_world.specs.declared.closing.Closing.{Closing}
 use Rattle.cave_world.specs.declared.dwarves.Dwarves.{Dwarves}
 use Rattle.cave_world.specs.declared.dwarves.Knife.TheVariants as knife
@@ -34,7 +34,7 @@ use Rattle.cave_clocks.specs.declared.clocks.Clocks.TheVariants as clocks
 use Rattle.cave_ends.specs.Deaths.{with_one_death}
 use Rattle.cave_ends.specs.Endings.{ending_scene}
 use Rattle.cave_ends.specs.Questions.{asking_scene}
-use Rattle.cave_hints.specs.Hints.{with_turns_in_area, is_in_area}
+use Rattle.cave_hints.specs.Hints.{with_turns_in_area, is_in_area, BIRD_HINT}
 use Rattle.cave_world.specs.State.{is_hint_taken, with_player_from}
 use Rattle.cave_hints.specs.Hints.{after_turn_in_area, after_considering}
 use Rattle.cave_hints.specs.Hints.{is_due, is_needed, after_putting_off, offer_scene}
@@ -71,11 +71,12 @@ waited_kept : (P : Claim) (cave : CaveView) (n : ℕ) (s : State) → On P s
     → On P (after_turn_in_area cave n s)
 unfolding after_turn_in_area
 waited_kept P cave n s h =
-    chosen P (is_in_area cave n s) (with_turns_in_area n (min (turns_in_area s n + 1) 10000) s)
+    chosen P (is_in_area cave n s)
+    (with_turns_in_area n (min (turns_in_area s n + 1) MAX_TURNS_IN_AREA) s)
     (with_turns_in_area n 0 s) h h
 
 put_off_kept : (P : Claim) (n : ℕ) (s : State) → On P s → On P (after_putting_off n s)
-put_off_kept P n s h = chosen P (n == 5) s (with_turns_in_area n 0 s) h h
+put_off_kept P n s h = chosen P (n == BIRD_HINT) s (with_turns_in_area n 0 s) h h
 
 offered_kept : (P : Claim) (cave : CaveView) (i : ℕ) (hint : Hint)
     (p : Scene)

@@ -9,7 +9,7 @@ use Rattle.cave_rows.specs.declared.rows.Hint.{Hint}
 use Rattle.cave_words.specs.Words.{words_of}
 use Rattle.cave_words.specs.declared.named.Named.TheVariants as name
 use Rattle.cave_words.specs.declared.words.Words.{Words}
-use Rattle.cave_world.specs.State.{takes_no_command, turns_in_area}
+use Rattle.cave_world.specs.State.{takes_no_command, turns_in_area, MAX_TURNS_IN_AREA}
 use Rattle.cave_world.specs.declared.ending.Ending.TheVariants as ending_is
 use Rattle.cave_world.specs.declared.ending.Question.TheVariants as question
 use Rattle.cave_world.specs.declared.state.State.{State}
@@ -30,7 +30,7 @@ use Rattle.cave_clocks.specs.declared.clocks.Clocks.TheVariants as clocks
 use Rattle.cave_ends.specs.Deaths.{with_one_death}
 use Rattle.cave_ends.specs.Endings.{ending_scene}
 use Rattle.cave_ends.specs.Questions.{asking_scene}
-use Rattle.cave_hints.specs.Hints.{with_turns_in_area, is_in_area}
+use Rattle.cave_hints.specs.Hints.{with_turns_in_area, is_in_area, BIRD_HINT}
 use Rattle.cave_world.specs.State.{is_hint_taken, with_player_from}
 use Rattle.cave_hints.specs.Hints.{after_turn_in_area}
 use Rattle.cave_hints.specs.Hints.{is_due, is_needed, after_putting_off, offer_scene}
@@ -86,11 +86,12 @@ waited_kept : (P : Claim) (cave : CaveView) (n : ℕ) (s : State) → On P s
     → On P (after_turn_in_area cave n s)
 unfolding after_turn_in_area
 waited_kept P cave n s h =
-    chosen P (is_in_area cave n s) (with_turns_in_area n (min (turns_in_area s n + 1) 10000) s)
+    chosen P (is_in_area cave n s)
+    (with_turns_in_area n (min (turns_in_area s n + 1) MAX_TURNS_IN_AREA) s)
     (with_turns_in_area n 0 s) h h
 
 put_off_kept : (P : Claim) (n : ℕ) (s : State) → On P s → On P (after_putting_off n s)
-put_off_kept P n s h = chosen P (n == 5) s (with_turns_in_area n 0 s) h h
+put_off_kept P n s h = chosen P (n == BIRD_HINT) s (with_turns_in_area n 0 s) h h
 
 offered_kept : {P : Claim} (cave : CaveView) (k : IsKept cave P) (i : ℕ) (hint : Hint)
     (p : Scene)

@@ -13,7 +13,7 @@ use Rattle.cave_things.specs.Places.{outside_place, place_named}
 use Rattle.cave_scene.specs.Play.{Scene}
 use Rattle.cave_things.specs.Reach.{has_prop}
 use Rattle.cave_scene.specs.Rules.{thing}
-use Rattle.cave_world.specs.State.{is_hint_taken}
+use Rattle.cave_world.specs.State.{is_hint_taken, MAX_LOST}
 use Rattle.cave_score.specs.Score.{score_of, max_score_of}
 use Rattle.cave_turn.specs.Answers.{without_question}
 use Rattle.cave_turn.specs.Turns.{turn_on_line, game_beginning}
@@ -48,11 +48,10 @@ pub record ClosedIsClosing : Type 0 where
       (cave : CaveView) (s : State) (line : List ℕ) → ClosesInOrder s
       → ClosesInOrder (turn_on_line cave s line).state
 
--- no more treasures count as unseen than did, and, of the 60,000 that are counted at most, no fewer
--- count as lost
+-- no more treasures count as unseen than did, and no fewer as lost, up to the most that are counted
 pub record TreasuresAfter (s t : State) : Type 0 where
   pub unseen : t.tallies.unseen ≤ s.tallies.unseen
-  pub lost : s.tallies.lost ≤ 60000 → s.tallies.lost ≤ t.tallies.lost
+  pub lost : s.tallies.lost ≤ MAX_LOST → s.tallies.lost ≤ t.tallies.lost
 
 -- each line keeps to that
 abbrev pub TreasuresGoOneWay : Type 0

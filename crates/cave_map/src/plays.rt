@@ -41,14 +41,15 @@ fn next_stop(
 /// Adds the stops at the lines of the log that a session holds, beginning with a state.
 fn push_later_stops(
     alloc: Global,
-    machine: CaveMachine<'_>,
     session: &Session<CaveMachine<'_>>,
     state: &mut State,
     stops: &mut Vec<Stop>,
 ) -> Result<(), AllocError>
     ensures { OnOk result (stops.new.items ≡ stops.old.items
-        ++ stops_after (cave_rules machine.entry.rules.cave.now) state.old session.now.game.log) }
+        ++ stops_after (cave_rules session.now.machine.rules.cave.now) state.old
+        session.now.game.log) }
 {
+    let machine = *session.machine();
     let mut scratch = machine.scratch(alloc)?;
     let mut meter = Meter::new();
     for place in 0..session.lines() {
@@ -82,15 +83,15 @@ fn beginning_state(alloc: Global, machine: CaveMachine<'_>, seed: u32) -> Result
 #[tactic(auto, unfolding(crate::specs::Plays::stops_in))]
 pub fn push_stops(
     alloc: Global,
-    machine: CaveMachine<'_>,
     session: &Session<CaveMachine<'_>>,
     stops: &mut Vec<Stop>,
 ) -> Result<(), AllocError>
     ensures { OnOk result (stops.new.items
-        ≡ stops.old.items ++ stops_in machine.entry.rules.cave.now session.now.game) }
+        ≡ stops.old.items ++ stops_in session.now.machine.rules.cave.now session.now.game) }
 {
     // A session keeps no state between its checkpoints, so its log is played once more.
-    let mut state = Box::new(alloc, beginning_state(alloc, machine, session.seed())?)?;
+    let begun = beginning_state(alloc, *session.machine(), session.seed())?;
+    let mut state = Box::new(alloc, begun)?;
     stops.push(first_stop(&state))?;
-    push_later_stops(alloc, machine, session, &mut state, stops)
+    push_later_stops(alloc, session, &mut state, stops)
 }

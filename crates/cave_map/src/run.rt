@@ -55,10 +55,9 @@ impl PlayNotes for Stops {
     fn note_play(
         &mut self,
         alloc: Global,
-        machine: CaveMachine<'_>,
         session: &Session<CaveMachine<'_>>,
     ) -> Result<(), AllocError> {
-        push_stops(alloc, machine, session, &mut self.stops)
+        push_stops(alloc, session, &mut self.stops)
     }
 
     fn push_report(

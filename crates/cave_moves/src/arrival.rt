@@ -89,7 +89,7 @@ fn is_barred(rules: &Rules<'_>, place: Place, state: &State) -> bool
 }
 
 #[tactic(auto, unfolding(crate::specs::Arrival::journey_unless_barred))]
-fn bar(rules: &Rules<'_>, place: Place, play: &mut Play<'_>) -> Place
+fn bar_way(rules: &Rules<'_>, place: Place, play: &mut Play<'_>) -> Place
     requires { HasRoom 1 play.old }
     ensures journey { record { place = result; scene = scene_of play.new }
         ≡ journey_unless_barred (cave_of rules.now) place (scene_of play.old) }
@@ -161,7 +161,7 @@ fn stop_at(rules: &Rules<'_>, place: Place, play: &mut Play<'_>) -> bool
         return false;
     }
     let place = shut_in(rules, place, play);
-    let place = bar(rules, place, play);
+    let place = bar_way(rules, place, play);
     come_to(rules, place, play)
 }
 

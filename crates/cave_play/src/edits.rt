@@ -47,14 +47,12 @@ impl Totals {
 /// Applies the items of a script to the held game, and writes of each what is asked for.
 pub(crate) fn apply(
     alloc: Global,
-    machine: CaveMachine<'_>,
     session: &mut Session<CaveMachine<'_>>,
     script: &Script,
     editing: Editing,
     text: &mut Vec<u8>,
 ) -> Result<Totals, PlayFault>
-    requires same { session.old.machine.rules.cave.now ≡ machine.rules.cave.now }
-    requires few_items { length script.now.items.items < 2 ^ 32 }
+    requires { length script.now.items.items < 2 ^ 32 }
     ensures held { OnOk result (HoldsGame session.old.machine.rules.cave.now
         (game_after_items (items_of script.now.items) session.old.game) session.new) }
     ensures applied { IfOk result (λ totals. IsApplied editing.view (items_of script.now.items)
@@ -70,7 +68,7 @@ pub(crate) fn apply(
         lines: 0,
     };
     for item in &script.items {
-        let outcome = apply_item(alloc, machine, session, item, editing, text)?;
+        let outcome = apply_item(alloc, session, item, editing, text)?;
         totals = totals.with(outcome);
     }
     Ok(totals)
@@ -83,10 +81,10 @@ fn is_memory(fault: EditFault) -> bool
 }
 
 /// Where the held game is after its last line.
-fn standing_of(machine: CaveMachine<'_>, session: &Session<CaveMachine<'_>>) -> Standing
-    requires { session.now.machine.rules.cave.now ≡ machine.rules.cave.now }
-    ensures { result ≡ standing_of machine.entry.rules.cave.now session.now.game }
+fn standing_of(session: &Session<CaveMachine<'_>>) -> Standing
+    ensures { result ≡ standing_of session.now.machine.rules.cave.now session.now.game }
 {
+    let machine = session.machine();
     let state = session.state();
     Standing {
         score: machine.score(state),
@@ -99,39 +97,29 @@ fn standing_of(machine: CaveMachine<'_>, session: &Session<CaveMachine<'_>>) -> 
 
 /// What a report says of a replay, with the lines of the log that the session then holds, and where
 /// the game is after them.
-fn replay_of(
-    machine: CaveMachine<'_>,
-    session: &Session<CaveMachine<'_>>,
-    report: &GroupReport,
-) -> ItemReplay
-    requires { session.now.machine.rules.cave.now ≡ machine.rules.cave.now }
+fn replay_of(session: &Session<CaveMachine<'_>>, report: &GroupReport) -> ItemReplay
     ensures stretch { result.stretch ≡ report.now.stretch }
     ensures lines { result.lines ≡ length session.now.game.log }
     ensures standing { result.standing
-        ≡ standing_of machine.entry.rules.cave.now session.now.game }
+        ≡ standing_of session.now.machine.rules.cave.now session.now.game }
     ensures spaced { IsSpaced session.now.every session.now.checkpoints
         (length session.now.game.log) }
 {
     ItemReplay {
         stretch: report.stretch,
         lines: session.lines(),
-        standing: standing_of(machine, session),
+        standing: standing_of(session),
     }
 }
 
 /// Applies an item to the held game, all of it or nothing, and returns what came of it.
-fn edit(
-    machine: CaveMachine<'_>,
-    session: &mut Session<CaveMachine<'_>>,
-    item: &Item,
-) -> Result<ItemOutcome, PlayFault>
-    requires same { session.old.machine.rules.cave.now ≡ machine.rules.cave.now }
+fn edit(session: &mut Session<CaveMachine<'_>>, item: &Item) -> Result<ItemOutcome, PlayFault>
     ensures applies { IfOk result (Applies (applied_item item.now) session.old session.new) }
     ensures memory { IfErr result (λ found. found ≡ PlayFault.Memory) }
 {
     let mut meter = Meter::new();
     let fault = match session.edit_group(&item.edits, &mut meter) {
-        Ok(report) => return Ok(ItemOutcome::Replayed(replay_of(machine, session, &report))),
+        Ok(report) => return Ok(ItemOutcome::Replayed(replay_of(session, &report))),
         Err(fault) => fault,
     };
     if is_memory(fault.cause) {
@@ -160,13 +148,11 @@ fn check_strict(strict: bool, item: &Item, outcome: ItemOutcome) -> Result<(), P
 /// Applies an item to the held game, and writes of it what is asked for.
 fn apply_item(
     alloc: Global,
-    machine: CaveMachine<'_>,
     session: &mut Session<CaveMachine<'_>>,
     item: &Item,
     editing: Editing,
     text: &mut Vec<u8>,
 ) -> Result<ItemOutcome, PlayFault>
-    requires same { session.old.machine.rules.cave.now ≡ machine.rules.cave.now }
     ensures applies { IfOk result (Applies (applied_item item.now) session.old session.new) }
     ensures told { IfOk result (λ outcome. text.new.items ≡ text.old.items
         ++ text_of_item editing.view (applied_item item.now) outcome) }
@@ -175,7 +161,7 @@ fn apply_item(
     ensures refused { IfErr result (λ found. (found ≡ PlayFault.Memory)
         ⊎ (strict_fault editing.strict (applied_item item.now) session.old.game ≡ Some found)) }
 {
-    let outcome = edit(machine, session, item)?;
+    let outcome = edit(session, item)?;
     check_strict(editing.strict, item, outcome)?;
     push_outcome(alloc, text, item, editing.view, outcome)?;
     Ok(outcome)

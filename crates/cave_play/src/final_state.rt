@@ -13,14 +13,13 @@ use std::alloc::{AllocError, Global};
 /// Appends the text of the state that the play of a session of the machine leads to.
 pub(crate) fn push_final_state(
     alloc: Global,
-    machine: CaveMachine<'_>,
     session: &Session<CaveMachine<'_>>,
     text: &mut Vec<u8>,
 ) -> Result<(), AllocError>
-    requires { session.now.machine.rules.cave.now ≡ machine.rules.cave.now }
     ensures { OnOk result (text.new.items ≡ text.old.items
-        ++ final_state_text machine.entry.rules.cave.now session.now.game) }
+        ++ final_state_text session.now.machine.rules.cave.now session.now.game) }
 {
+    let machine = session.machine();
     let cave = machine.cave();
     let begun = begun_state(cave, Stream::seeded(0));
     let state = session.state();

@@ -29,7 +29,7 @@ pub fn one_played_output()
     ensures { OnePlayedOutput }
 {}
 
-/// With a script too they have one transcript and one edited log at most, whatever the distance of
+/// With a script too each view but that of reports has one text at most, whatever the distance of
 /// checkpoints.
 pub fn one_edited_output()
     ensures { OneEditedOutput }

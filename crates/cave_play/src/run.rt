@@ -198,7 +198,7 @@ fn play_in_cave<L: Read>(
     let machine = CaveMachine::new(cave, &lexicon);
     // Nothing is edited, so hardly any state is kept.
     let session = read_log(alloc, machine, log, seed, MAX_EVERY)?;
-    let text = text_of_play(alloc, machine, &session, view);
+    let text = text_of_play(alloc, &session, view);
     // The checker can't drop a session over a borrowed machine at the end of a block.
     drop(session);
     text
@@ -207,19 +207,17 @@ fn play_in_cave<L: Read>(
 /// What is asked for of the play that a session of the machine holds.
 fn text_of_play(
     alloc: Global,
-    machine: CaveMachine<'_>,
     session: &Session<CaveMachine<'_>>,
     view: PlayView,
 ) -> Result<Vec<u8>, PlayFault>
-    requires { session.now.machine.rules.cave.now ≡ machine.rules.cave.now }
-    ensures told { MatchResult result
-        (λ text. text.items ≡ play_view_text view machine.entry.rules.cave.now session.now.game)
+    ensures told { MatchResult result (λ text. text.items
+        ≡ play_view_text view session.now.machine.rules.cave.now session.now.game)
         (λ fault. fault ≡ PlayFault.Memory) }
 {
     let mut text = Vec::new(alloc);
     match view {
-        PlayView::Transcript => tell(alloc, machine, session, &mut text)?,
-        PlayView::FinalState => push_final_state(alloc, machine, session, &mut text)?,
+        PlayView::Transcript => tell(alloc, session, &mut text)?,
+        PlayView::FinalState => push_final_state(alloc, session, &mut text)?,
     }
     Ok(text)
 }
@@ -267,7 +265,7 @@ fn edit_in_cave<L: Read, S: Read>(
     let lexicon = Lexicon::build(alloc, cave)?;
     let machine = CaveMachine::new(cave, &lexicon);
     let mut session = read_log(alloc, machine, log, editing.seed, editing.every)?;
-    let text = edit_session(alloc, machine, &mut session, script, editing);
+    let text = edit_session(alloc, &mut session, script, editing);
     drop(session);
     text
 }
@@ -275,65 +273,58 @@ fn edit_in_cave<L: Read, S: Read>(
 /// What is asked for of a script that is applied to a session of the machine.
 fn edit_session<S: Read>(
     alloc: Global,
-    machine: CaveMachine<'_>,
     session: &mut Session<CaveMachine<'_>>,
     script: &mut S,
     editing: Editing,
 ) -> Result<Vec<u8>, PlayFault>
-    requires same { session.old.machine.rules.cave.now ≡ machine.rules.cave.now }
-    requires spaced { IsSpaced session.old.every session.old.checkpoints
-        (length session.old.game.log) }
+    requires { IsSpaced session.old.every session.old.checkpoints (length session.old.game.log) }
     ensures judged { (edits : List ℕ) × Says (S.remaining script.old) edits
         × Judges (script_stage edits ∷ strict_stage editing.strict session.old.game edits ∷ [])
-        (λ text. IsEditOf editing.view machine.entry.rules.cave.now session.old.every
+        (λ text. IsEditOf editing.view session.old.machine.rules.cave.now session.old.every
         session.old.game edits text.items) result }
 {
     let script = read_script(alloc, script)?;
-    edit_by(alloc, machine, session, &script, editing)
+    edit_by(alloc, session, &script, editing)
 }
 
 /// What is asked for of the items of a script that are applied to a session of the machine.
 fn edit_by(
     alloc: Global,
-    machine: CaveMachine<'_>,
     session: &mut Session<CaveMachine<'_>>,
     script: &Script,
     editing: Editing,
 ) -> Result<Vec<u8>, PlayFault>
-    requires same { session.old.machine.rules.cave.now ≡ machine.rules.cave.now }
     requires spaced { IsSpaced session.old.every session.old.checkpoints
         (length session.old.game.log) }
     requires few_items { length script.now.items.items < 2 ^ 32 }
     ensures judged { Judges (judging_stage
         (first_strict_fault editing.strict (items_of script.now.items) session.old.game) ∷ [])
-        (λ text. IsViewOf editing.view machine.entry.rules.cave.now session.old.every
+        (λ text. IsViewOf editing.view session.old.machine.rules.cave.now session.old.every
         session.old.game (items_of script.now.items) text.items) result }
 {
     let mut text = Vec::new(alloc);
-    let totals = apply(alloc, machine, session, script, editing, &mut text)?;
-    push_end(alloc, machine, session, editing.view, totals, &mut text)?;
+    let totals = apply(alloc, session, script, editing, &mut text)?;
+    push_end(alloc, session, editing.view, totals, &mut text)?;
     Ok(text)
 }
 
 /// Appends what is written after all items of a script.
 fn push_end(
     alloc: Global,
-    machine: CaveMachine<'_>,
     session: &Session<CaveMachine<'_>>,
     view: EditView,
     totals: Totals,
     text: &mut Vec<u8>,
 ) -> Result<(), AllocError>
-    requires { session.now.machine.rules.cave.now ≡ machine.rules.cave.now }
     ensures told { OnOk result (text.new.items ≡ text.old.items
-        ++ text_at_end view machine.entry.rules.cave.now session.now.game totals.played
+        ++ text_at_end view session.now.machine.rules.cave.now session.now.game totals.played
         totals.lines) }
     ensures reads_back { OnOk result (ReadsBack view session.now.game.log) }
 {
     match view {
-        EditView::Transcript | EditView::Play => tell(alloc, machine, session, text),
+        EditView::Transcript | EditView::Play => tell(alloc, session, text),
         EditView::Log => session.push_log(text),
         EditView::Reports => push_totals(alloc, text, totals),
-        EditView::FinalState => push_final_state(alloc, machine, session, text),
+        EditView::FinalState => push_final_state(alloc, session, text),
     }
 }

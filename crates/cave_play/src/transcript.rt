@@ -20,14 +20,13 @@ const USUAL_LINE: usize = 64;
 /// Appends the transcript of the play that a session of the machine holds.
 pub(crate) fn tell(
     alloc: Global,
-    machine: CaveMachine<'_>,
     session: &Session<CaveMachine<'_>>,
     text: &mut Vec<u8>,
 ) -> Result<(), AllocError>
-    requires { session.now.machine.rules.cave.now ≡ machine.rules.cave.now }
     ensures { OnOk result (text.new.items ≡ text.old.items
-        ++ play_text machine.entry.rules.cave.now session.now.game) }
+        ++ play_text session.now.machine.rules.cave.now session.now.game) }
 {
+    let machine = session.machine();
     let cave = machine.cave();
     let pieces = session.pieces();
     let lines = session.lines();

@@ -59,6 +59,14 @@ POINTS_OF_MAGAZINE = 1
 abbrev pub POINTS_OF_PLAYING : ℕ
 POINTS_OF_PLAYING = 2
 
+-- the most that a state counts before hints are paid for
+abbrev pub MAX_POINTS : ℕ
+MAX_POINTS = 612
+
+-- the most that a hint costs
+abbrev pub MAX_PRICE : ℕ
+MAX_PRICE = 65535
+
 -- each life that is left
 abbrev pub life_points : State → ℕ
 life_points s = POINTS_OF_LIFE * (LIVES - s.tallies.deaths)

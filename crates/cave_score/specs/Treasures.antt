@@ -11,12 +11,31 @@ use Rattle.cave_things.specs.Reach.{has_prop}
 use Rattle.cave_scene.specs.Rules.{thing}
 use Rattle.cave_things.specs.Treasures.{known_treasures}
 
--- what a treasure is worth: the chest 14 points, a lower number than the chest's 12, a higher
--- number 16; where there is no chest, each 12
+-- what a treasure is worth whose number is below the chest's, the chest itself, and one whose
+-- number is above it
+abbrev pub WORTH_BEFORE_CHEST : ℕ
+WORTH_BEFORE_CHEST = 12
+
+abbrev pub WORTH_OF_CHEST : ℕ
+WORTH_OF_CHEST = 14
+
+abbrev pub WORTH_AFTER_CHEST : ℕ
+WORTH_AFTER_CHEST = 16
+
+-- what a treasure counts that was seen
+abbrev pub POINTS_OF_SEEING : ℕ
+POINTS_OF_SEEING = 2
+
+-- what thirty treasures count at most
+abbrev pub MAX_TREASURE_POINTS : ℕ
+MAX_TREASURE_POINTS = 480
+
+-- what a treasure is worth; where there is no chest, each is worth what those before one are
 unfoldable pub worth : CaveView → ℕ → ℕ
 worth cave x =
     let chest = thing cave name.Chest in
-    if chest == 0 || nat_lt x chest then 12 else (if x == chest then 14 else 16)
+    if chest == 0 || nat_lt x chest then WORTH_BEFORE_CHEST
+    else (if x == chest then WORTH_OF_CHEST else WORTH_AFTER_CHEST)
 
 abbrev pub is_seen : State → ℕ → Bool
 is_seen s x = int_le (pos 0) (prop_of s.objects x)
@@ -25,10 +44,11 @@ is_seen s x = int_le (pos 0) (prop_of s.objects x)
 abbrev pub is_safe : CaveView → State → ℕ → Bool
 is_safe cave s x = is_first_at s.objects (building_place cave) x && has_prop s x (pos 0)
 
--- a treasure counts 2 points once it was seen, and the rest of its worth where it is safe
+-- a treasure counts once it was seen, and the rest of its worth where it is safe
 unfoldable pub points_of_treasure : CaveView → State → ℕ → ℕ
 points_of_treasure cave s x =
-    (if is_seen s x then 2 else 0) + (if is_safe cave s x then worth cave x - 2 else 0)
+    (if is_seen s x then POINTS_OF_SEEING else 0)
+    + (if is_safe cave s x then worth cave x - POINTS_OF_SEEING else 0)
 
 -- all treasures that the cave knows
 abbrev pub treasure_points : CaveView → State → ℕ

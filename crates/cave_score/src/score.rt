@@ -7,7 +7,7 @@ ghost use Rattle.cave_score.specs.Score.{points_of, price_of, hint_costs};
 ghost use Rattle.cave_score.specs.Score.{score_of, max_score_of};
 ghost use Rattle.cave_score.specs.Score.{POINTS_OF_LIFE, POINTS_OF_ENDING};
 ghost use Rattle.cave_score.specs.Score.{POINTS_OF_DWARVES, POINTS_OF_CLOSING, POINTS_OF_SUCCESS};
-ghost use Rattle.cave_score.specs.Score.{POINTS_OF_MAGAZINE, END_OF_SCORES};
+ghost use Rattle.cave_score.specs.Score.{POINTS_OF_MAGAZINE, END_OF_SCORES, MAX_POINTS, MAX_PRICE};
 
 use crate::treasures::treasure_points;
 use crate::worths::most_treasure_points;
@@ -141,7 +141,7 @@ fn magazine_points(rules: &Rules<'_>, state: &State) -> u32
 #[tactic(auto, unfolding(crate::specs::Score::points_of))]
 fn points(rules: &Rules<'_>, state: &State) -> u32
     ensures value { result ≡ points_of (cave_of rules.now) state.now }
-    ensures most { result ≤ 612 }
+    ensures most { result ≤ MAX_POINTS }
 {
     treasure_points(rules, state)
         + life_points(state)
@@ -156,7 +156,7 @@ fn points(rules: &Rules<'_>, state: &State) -> u32
 #[tactic(auto, unfolding(crate::specs::Score::price_of))]
 fn price_of(cave: &Cave, hint: u16) -> u32
     ensures value { result ≡ price_of cave.now hint }
-    ensures most { result ≤ 65535 }
+    ensures most { result ≤ MAX_PRICE }
 {
     match cave.hint(hint) {
         Some(row) => u32::from(row.points),

@@ -1,6 +1,7 @@
 ghost use Rattle.std.specs.Prelude.{◌≡◌, ◌≤◌};
 ghost use Rattle.cave_scene.specs.Rules.{cave_of};
 ghost use Rattle.cave_score.specs.Treasures.{is_seen, is_safe, points_of_treasure, treasure_points};
+ghost use Rattle.cave_score.specs.Treasures.{MAX_TREASURE_POINTS, WORTH_AFTER_CHEST};
 
 use crate::worths::worth;
 use cave_objects::Object;
@@ -8,6 +9,9 @@ use cave_scene::Rules;
 use cave_things::treasures::{FIRST_TREASURE, LAST_TREASURE};
 use cave_things::{building_place, has_prop, is_known};
 use cave_world::State;
+
+/// What a treasure counts that was seen.
+const POINTS_OF_SEEING: u32 = 2;
 
 fn is_seen(state: &State, treasure: Object) -> bool
     ensures { result ≡ is_seen state.now treasure }
@@ -25,11 +29,15 @@ fn is_safe(rules: &Rules<'_>, state: &State, treasure: Object) -> bool
 #[tactic(auto, unfolding(crate::specs::Treasures::points_of_treasure))]
 fn points_of_treasure(rules: &Rules<'_>, state: &State, treasure: Object) -> u32
     ensures value { result ≡ points_of_treasure (cave_of rules.now) state.now treasure }
-    ensures most { result ≤ 16 }
+    ensures most { result ≤ WORTH_AFTER_CHEST }
 {
-    let seen = if is_seen(state, treasure) { 2 } else { 0 };
+    let seen = if is_seen(state, treasure) {
+        POINTS_OF_SEEING
+    } else {
+        0
+    };
     let safe = if is_safe(rules, state, treasure) {
-        worth(rules, treasure) - 2
+        worth(rules, treasure) - POINTS_OF_SEEING
     } else {
         0
     };
@@ -40,7 +48,7 @@ fn points_of_treasure(rules: &Rules<'_>, state: &State, treasure: Object) -> u32
 #[tactic(auto, using(crate::proofs::Sums::points))]
 pub fn treasure_points(rules: &Rules<'_>, state: &State) -> u32
     ensures value { result ≡ treasure_points (cave_of rules.now) state.now }
-    ensures most { result ≤ 480 }
+    ensures most { result ≤ MAX_TREASURE_POINTS }
 {
     let mut points = 0;
     for number in FIRST_TREASURE..LAST_TREASURE + 1 {

@@ -1,6 +1,7 @@
 ghost use Rattle.std.specs.Prelude.{◌≡◌, ◌≤◌};
 ghost use Rattle.cave_scene.specs.Rules.{cave_of};
-ghost use Rattle.cave_score.specs.Treasures.{worth, most_treasure_points};
+ghost use Rattle.cave_score.specs.Treasures.{worth, most_treasure_points, MAX_TREASURE_POINTS};
+ghost use Rattle.cave_score.specs.Treasures.{WORTH_AFTER_CHEST, WORTH_BEFORE_CHEST};
 
 use cave_objects::Object;
 use cave_scene::Rules;
@@ -8,20 +9,29 @@ use cave_things::is_known;
 use cave_things::treasures::{FIRST_TREASURE, LAST_TREASURE};
 use cave_words::Named;
 
+/// What a treasure is worth whose number is below the chest's, as each is where there is no chest.
+const WORTH_BEFORE_CHEST: u32 = 12;
+
+/// What the chest is worth.
+const WORTH_OF_CHEST: u32 = 14;
+
+/// What a treasure is worth whose number is above the chest's.
+const WORTH_AFTER_CHEST: u32 = 16;
+
 /// What a treasure is worth: more than the chest after it, less before it.
 #[tactic(auto, unfolding(crate::specs::Treasures::worth))]
 pub fn worth(rules: &Rules<'_>, treasure: Object) -> u32
     ensures value { result ≡ worth (cave_of rules.now) treasure }
-    ensures least { 12 ≤ result }
-    ensures most { result ≤ 16 }
+    ensures least { WORTH_BEFORE_CHEST ≤ result }
+    ensures most { result ≤ WORTH_AFTER_CHEST }
 {
     let chest = rules.object(Named::Chest);
     if chest.is_none() || treasure.number() < chest.number() {
-        12
+        WORTH_BEFORE_CHEST
     } else if treasure == chest {
-        14
+        WORTH_OF_CHEST
     } else {
-        16
+        WORTH_AFTER_CHEST
     }
 }
 
@@ -29,7 +39,7 @@ pub fn worth(rules: &Rules<'_>, treasure: Object) -> u32
 #[tactic(auto, using(crate::proofs::Sums::worths))]
 pub fn most_treasure_points(rules: &Rules<'_>) -> u32
     ensures value { result ≡ most_treasure_points (cave_of rules.now) }
-    ensures most { result ≤ 480 }
+    ensures most { result ≤ MAX_TREASURE_POINTS }
 {
     let mut points = 0;
     for number in FIRST_TREASURE..LAST_TREASURE + 1 {

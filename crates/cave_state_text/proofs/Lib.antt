@@ -10,4 +10,3 @@ pub mod Reading
 pub mod StateLemmas
 pub mod VisitLemmas
 pub mod WithinLemmas
-pub mod WordLemmas

@@ -1,10 +1,10 @@
 -- Lines for what there is more than once in a state: objects, places, dwarves, hints.
 use Rattle.std.specs.Prelude.{ℕ, ◌+◌, ◌-◌, Bool, false, ◌==◌, ◌&&◌, not, List, [], ◌∷◌, ◌++◌}
-use Rattle.std.specs.Prelude.{find, codes, option_map, unwrap_or, slice_index_or}
+use Rattle.std.specs.Prelude.{codes, unwrap_or, slice_index_or}
 use Rattle.std.specs.Ordering.{int_eq}
 use Rattle.std.specs.Cmp.Lexicographic.{pointwise}
 use Rattle.cave_rows.specs.Rows.{WORDS_PER_CLASS}
-use Rattle.cave_data.specs.CaveView.{CaveView}
+use Rattle.cave_data.specs.CaveView.{CaveView, first_word}
 use Rattle.cave_objects.specs.Layout.{Layout}
 use Rattle.cave_objects.specs.Lists.{halves_at}
 use Rattle.cave_objects.specs.Objects.{spot_of, anchor_of, prop_of}
@@ -28,10 +28,7 @@ use Rattle.cave_state_text.specs.Facts.{numbered_text, numbered_line, signed_lin
 
 -- the first word of an object in the cave, or a dash where it has none
 unfoldable pub word_of_object : CaveView → ℕ → List ℕ
-word_of_object cave x =
-    unwrap_or
-    (option_map (λ row. row.word) (find (λ row. row.number == WORDS_PER_CLASS + x) cave.words))
-    (codes "-")
+word_of_object cave x = unwrap_or (first_word cave.words (WORDS_PER_CLASS + x)) (codes "-")
 
 abbrev pub spot_text : Spot → List ℕ
 spot_text spot.Away = codes " away"

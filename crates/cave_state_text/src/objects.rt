@@ -14,18 +14,12 @@ use cave_rows::WORDS_PER_CLASS;
 use std::alloc::{AllocError, Global};
 
 /// The first word of an object, or a dash where it has none.
+#[tactic(auto, unfolding(crate::specs::Things::word_of_object))]
 fn word_of_object(cave: &Cave, object: Object) -> &[u8]
     ensures { result.now ≡ word_of_object cave.now object }
 {
-    let words = cave.words();
     let number = WORDS_PER_CLASS + u16::from(object.number());
-    for i in 0..words.len() {
-        let row = words.row(i);
-        if row.number == number {
-            return row.word;
-        }
-    }
-    b"-"
+    cave.words().first_word(number).unwrap_or(b"-")
 }
 
 fn push_spot(alloc: Global, text: &mut Vec<u8>, spot: Spot) -> Result<(), AllocError>

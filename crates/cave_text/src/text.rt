@@ -54,7 +54,7 @@ fn push_class(cave: &Cave, score: u32, text: &mut Vec<u8>) -> Result<(), AllocEr
     ensures ok { OnOk result (text.new.items ≡ text.old.items ++ class_text cave.now score) }
     ensures front { take (vec_len text.old) text.new.items ≡ text.old.items }
 {
-    match cave.class_of(score) {
+    match cave.rating_of_score(score) {
         Some(rating) => text.extend_from_slice(rating.text),
         None => Ok(()),
     }
@@ -75,7 +75,7 @@ fn append(cave: &Cave, part: Part, turns: u32, text: &mut Vec<u8>) -> Result<(),
         },
         Part::Object(object, prop) => push_look(cave, object, prop, text),
         Part::Name(object) => {
-            let name = cave.name(u16::from(object.number()));
+            let name = cave.inventory_text(u16::from(object.number()));
             text.extend_from_slice(name.unwrap_or(&[]))
         }
         Part::Number(line, number, most) => push_number_line(text, line, number, most),

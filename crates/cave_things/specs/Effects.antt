@@ -4,6 +4,7 @@ use Rattle.cave_data.specs.CaveView.{CaveView}
 use Rattle.cave_words.specs.declared.named.Named.TheVariants as name
 use Rattle.cave_objects.specs.Objects.{with_place, with_anchor, with_latest, with_prop}
 use Rattle.cave_objects.specs.declared.spot.Anchor.TheVariants as anchor
+use Rattle.cave_world.specs.State.{MAX_LOST}
 use Rattle.cave_world.specs.declared.state.State.{State}
 use Rattle.cave_objects.specs.Layout.{Layout}
 use Rattle.cave_scene.specs.Rules.{thing}
@@ -57,7 +58,7 @@ without_troll cave s =
 abbrev pub with_one_more_lost : State → State
 with_one_more_lost s =
     let tallies = s.tallies in
-    record s { tallies = record tallies { lost = min (tallies.lost + 1) 60000 } }
+    record s { tallies = record tallies { lost = min (tallies.lost + 1) MAX_LOST } }
 
 -- one treasure more is lost while the snake is at home
 unfoldable pub after_loss_to_snake : CaveView → State → State

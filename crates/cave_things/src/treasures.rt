@@ -14,5 +14,5 @@ pub const LAST_TREASURE: u8 = 79;
 pub fn is_known(cave: &Cave, object: Object) -> bool
     ensures { result ≡ is_known cave.now object }
 {
-    cave.name(u16::from(object.number())).is_some()
+    cave.inventory_text(u16::from(object.number())).is_some()
 }

@@ -15,7 +15,7 @@ use crate::dragon::fight;
 use crate::finish::finish;
 use crate::revival::{bury, come_back};
 use cave_ends::{end, tell_question};
-use cave_hints::{give, price};
+use cave_hints::{give_hint, price};
 use cave_moves::arrive;
 use cave_rows::Role;
 use cave_scene::{Play, Rules};
@@ -131,7 +131,7 @@ fn agree(rules: &Rules<'_>, question: &Question, play: &mut Play<'_>)
         Question::Quit | Question::ScoreQuit => quit(rules, play),
         Question::Die => come_back(rules, play),
         Question::Hint(number) => price(rules, *number, play),
-        Question::Take(number) => give(rules, *number, play),
+        Question::Take(number) => give_hint(rules, *number, play),
         Question::Oyster => {
             play.say(Role::OysterHint);
             play.state.take_hint(HintNumber::new(CLUE_HINT));

@@ -253,7 +253,7 @@ fn remember_command(kept: Option<HalfCommand>, object: Object, state: &mut State
 
 /// What was read is carried out, and what is left of it is remembered.
 #[tactic(auto, unfolding(crate::specs::Commands::scene_of_understood, crate::specs::Commands::kept_scene))]
-fn carry_out(rules: &Rules<'_>, understood: &Understood, play: &mut Play<'_>)
+fn do_understood(rules: &Rules<'_>, understood: &Understood, play: &mut Play<'_>)
     requires { HasRoom (room_of_request play.old.left) play.old }
     ensures play { scene_of play.new
         ≡ scene_of_understood (cave_of rules.now) understood.now (scene_of play.old) }
@@ -277,7 +277,7 @@ fn do_words(rules: &Rules<'_>, words: Words, play: &mut Play<'_>)
         Some(word) => {
             let half = HalfCommand::of(play.state.talk);
             let understood = read_words(rules, play.state, half, word, words.second);
-            carry_out(rules, &understood, play);
+            do_understood(rules, &understood, play);
         }
     }
 }

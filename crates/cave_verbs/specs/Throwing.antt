@@ -5,6 +5,7 @@ use Rattle.std.specs.List.{position}
 use Rattle.cave_rows.specs.declared.role.Role.TheVariants as role
 use Rattle.cave_words.specs.Stream.{next, number_drawn}
 use Rattle.cave_words.specs.declared.named.Named.TheVariants as name
+use Rattle.cave_world.specs.Dwarves.{MAX_KILLS}
 use Rattle.cave_world.specs.Fresh.{no_dwarf}
 use Rattle.cave_world.specs.declared.dwarves.Dwarf.{Dwarf}
 use Rattle.cave_world.specs.declared.state.State.{State}
@@ -37,7 +38,7 @@ abbrev pub with_one_killed : State → State
 with_one_killed s = let dwarves = s.dwarves in
     record s {
       dwarves = record dwarves {
-        kills = min (dwarves.kills + 1) 60000;
+        kills = min (dwarves.kills + 1) MAX_KILLS;
         each = without_first_at s.trail.here dwarves.each;
       };
     }

@@ -5,6 +5,10 @@ use Rattle.std.specs.Prelude.{ℕ, ◌+◌, ◌*◌, ◌/◌, ◌%◌, Bool, nat
 abbrev pub stream_size : ℕ
 stream_size = 1048576
 
+-- the most numbers among which one is drawn: that many times a number of the stream fit in 32 bits
+abbrev pub max_choices : ℕ
+max_choices = 4095
+
 -- what a number of the stream is multiplied by for the next one
 abbrev pub multiplier : ℕ
 multiplier = 1093

@@ -1,7 +1,7 @@
 //! The random stream of a play.
 ghost use Rattle.std.specs.Prelude.{◌≡◌, ◌<◌, ◌≤◌};
 ghost use Rattle.cave_words.specs.Stream.{stream_of_seed, number_drawn, next, is_within_percent};
-ghost use Rattle.cave_words.specs.Stream.{stream_size};
+ghost use Rattle.cave_words.specs.Stream.{max_choices, stream_size};
 
 use std::marker::Model;
 
@@ -51,10 +51,10 @@ impl Stream {
         self.x
     }
 
-    /// Draws a number below `n`, and moves on.
+    /// Draws a number below `n`, which is at most 4,095, and moves on.
     pub fn draw(&mut self, n: u32) -> u32
         requires low { 1 ≤ n }
-        requires high { n ≤ 4095 }
+        requires high { n ≤ max_choices }
         ensures value { result ≡ number_drawn n self.old }
         ensures below { result < n }
         ensures moves_on { self.new ≡ next self.old }

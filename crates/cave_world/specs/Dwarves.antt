@@ -9,5 +9,10 @@ dwarf_count = 6
 abbrev pub pirate : ℕ
 pirate = 5
 
+-- how angry dwarves are at most
 abbrev pub MAX_ANGER : ℕ
 MAX_ANGER = 13
+
+-- the most dwarves killed that are counted
+abbrev pub MAX_KILLS : ℕ
+MAX_KILLS = 60000

@@ -46,14 +46,24 @@ state_after_setting_out s =
 unfoldable pub visits_of : State → ℕ → ℕ
 visits_of s place = if place == 0 then 0 else slice_index_or s.visits (place - 1) 0
 
--- one more, mod 10,000
+-- visits are counted below it, and begin anew at it
+abbrev pub END_OF_VISITS : ℕ
+END_OF_VISITS = 10000
+
+-- one more, or none after the last that is counted
 unfoldable pub with_visit : State → ℕ → State
 with_visit s place = if place == 0 then s
-    else record s { visits = slice_set s.visits (place - 1) ((visits_of s place + 1) % 10000) }
+    else record s {
+      visits = slice_set s.visits (place - 1) ((visits_of s place + 1) % END_OF_VISITS);
+    }
 
 unfoldable pub without_visits : State → ℕ → State
 without_visits s place = if place == 0 then s
     else record s { visits = slice_set s.visits (place - 1) 0 }
+
+-- the most treasures lost that are counted
+abbrev pub MAX_LOST : ℕ
+MAX_LOST = 60000
 
 -- the deaths that a game has: after the last of them nobody comes back
 abbrev pub LIVES : ℕ

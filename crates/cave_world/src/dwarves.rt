@@ -32,11 +32,14 @@ pub enum Knife {
 /// How angry dwarves are at most.
 const MAX_ANGER: u16 = 13;
 
+/// The most dwarves killed that are counted.
+const MAX_KILLS: u16 = 60_000;
+
 /// The dwarves, how angry they are, and how many were killed.
 #[derive(Clone, Copy, Debug, PartialEq, Eq)]
 pub struct Dwarves {
     pub anger: Count<MAX_ANGER>,
-    pub kills: Count<60000>,
+    pub kills: Count<MAX_KILLS>,
     pub knife: Knife,
     pub each: [Dwarf; DWARVES],
 }

@@ -21,6 +21,9 @@ pub const LIVES: u16 = 3;
 /// How many treasures there may be.
 pub const MAX_TREASURES: u16 = 30;
 
+/// The most treasures lost that are counted.
+const MAX_LOST: u16 = 60_000;
+
 /// Where the player is, and where the player was before.
 #[derive(Clone, Copy, Debug, PartialEq, Eq)]
 pub struct Trail {
@@ -37,7 +40,7 @@ pub struct Tallies {
     /// counted.
     pub unseen: Count<MAX_TREASURES>,
     /// How often a rule has said that a treasure is lost, whether or not one was.
-    pub lost: Count<60000>,
+    pub lost: Count<MAX_LOST>,
     pub deaths: Count<LIVES>,
 }
 

@@ -5,8 +5,11 @@ use crate::count::Count;
 use crate::state::State;
 use cave_objects::Place;
 
-/// How often a place was described, which starts anew after 9,999.
-pub type Visits = Count<9999>;
+/// The most visits that are counted.
+const MAX_VISITS: u16 = 9999;
+
+/// How often a place was described, which starts anew after the most that are counted.
+pub type Visits = Count<MAX_VISITS>;
 
 impl State {
     /// How often a place was described. Place 0 never is.

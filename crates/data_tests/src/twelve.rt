@@ -37,10 +37,10 @@ fn texts_agree(cave: &Cave) -> bool {
 
 /// Whether the texts of the lamp and of the class are those of the database.
 fn names_agree(cave: &Cave) -> bool {
-    cave.name(2) == Some(b"Lamp\n".as_slice())
+    cave.inventory_text(2) == Some(b"Lamp\n".as_slice())
         && cave.look(2, 0) == Some(b"Here.\n".as_slice())
         && cave.look(2, 1) == Some(b"Lit.\n".as_slice())
-        && matches!(cave.class_of(35), Some(class) if class.text == b"Novice.\n".as_slice())
+        && matches!(cave.rating_of_score(35), Some(class) if class.text == b"Novice.\n".as_slice())
 }
 
 /// Whether the words are those of the database.

@@ -2,7 +2,8 @@
 use Rattle.std.proofs.Common.{◌≡◌, ℕ, Bool, true, false, List, [], ◌∷◌, ◌++◌, Some, map, refl, ap}
 use Rattle.std.proofs.Common.{◌∙◌, append_assoc}
 use Rattle.std.specs.List.{flat_map}
-use Rattle.graph_labels.specs.Labels.{InText, QUOTE, escape_of, is_control, text_of_label, shown_byte}
+use Rattle.graph_labels.specs.Labels.{InText, QUOTE, escape_of, is_control, text_of_label}
+use Rattle.graph_labels.specs.Labels.{shown_byte}
 use Rattle.graph_labels.specs.Labels.{with_first}
 use Rattle.graph_labels.proofs.Bytes.{IsOther, by_bytes}
 
@@ -40,6 +41,7 @@ pub labels_read_back : (text rest : List ℕ)
     ≡ Some (map shown_byte text, rest)
 labels_read_back [] rest = refl
 labels_read_back (byte ∷ text) rest =
-    ap (text_of_label InText) (append_assoc (escape_of byte) (flat_map escape_of text) (QUOTE ∷ rest))
+    ap (text_of_label InText)
+    (append_assoc (escape_of byte) (flat_map escape_of text) (QUOTE ∷ rest))
     ∙ byte_reads_back byte (flat_map escape_of text ++ QUOTE ∷ rest)
     ∙ ap (with_first (shown_byte byte)) (labels_read_back text rest)

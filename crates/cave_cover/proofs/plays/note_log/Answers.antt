@@ -1,5 +1,6 @@
 use Rattle.std.proofs.Common.{inl, subst}
 use Rattle.std.proofs.lemmas.Result.{err_from_is_err_and}
+use Rattle.cave_data.specs.CaveView.{CaveView}
 use Rattle.cave_cover.specs.Noted.{NotesMore}
 use Rattle.cave_cover.proofs.plays.note_log.Goals as goal
 
@@ -20,12 +21,11 @@ returns-in_err-noted g c =
 pub returns : goal.returns
 returns g c =
     let (moves, said, made) = c.in_ok-session.ensures.judged in
+    let held = c.in_ok-session.session in
+    let there =
+    subst (λ (k : CaveView). NotesMore (g.N.PlayNotes.AreNotesOn k) held.game c.args.notes.now
+    c.note_play-noted.new.self) made.1.cave_is c.in_ok-noted.ensures in
     let noted =
     subst (λ game. NotesMore (g.N.PlayNotes.AreNotesOn c.args.machine.rules.cave.now) game
-    c.args.notes.now c.note_play-noted.new.self) made.1.game_is c.in_ok-noted.ensures in
+    c.args.notes.now c.note_play-noted.new.self) made.1.game_is there in
     record { judged = (moves, said, (made.0, noted)) }
-
-pub note_play-noted-requires : goal.note_play-noted-requires
-note_play-noted-requires g c =
-    let (moves, said, made) = c.in_ok-session.ensures.judged in
-    made.1.cave_is

@@ -6,7 +6,7 @@ use Rattle.log_edits.specs.declared.fault.EditFault.TheVariants as cause
 use Rattle.edit_scripts.specs.Views.{applied_item}
 use Rattle.cave_data.specs.CaveView.{CaveView}
 use Rattle.cave_play.specs.Outcome.{standing_of}
-use Rattle.cave_play.specs.Output.{game_after_item, group_refusal}
+use Rattle.cave_play.specs.Output.{group_refusal}
 use Rattle.cave_play.proofs.EditLemmas.{group_refusal-fresh, accepted_without, refused_by}
 use Rattle.cave_play.proofs.EditLemmas.{game_after_item-accepted, game_after_item-refused}
 use Rattle.cave_play.proofs.EditLemmas.{IsReport-same}
@@ -22,7 +22,7 @@ returns-in-Ok c =
     let none = sym fresh ∙ accepted_without _ _ _ c.in-Ok.is c.edit_group.ensures.faults in
     let made = c.in-Ok.ensures.game ∙ ap (λ said. apply_all said old.game) same
     ∙ sym (game_after_item-accepted (applied_item c.args.item.now) old.game none) in
-    let cave = c.args.machine.rules.cave.now in
+    let cave_is = ap (λ m. m.rules.cave.now) c.in-Ok.ensures.kept.machine in
     record {
       applies = record {
         came = record {
@@ -31,12 +31,12 @@ returns-in-Ok c =
               IsReport-same _ _ _ _ _ _ _ _ same c.replay_of.ensures.stretch
               c.in-Ok.ensures.report;
           lines = c.replay_of.ensures.lines ∙ ap (λ (g : Game). length g.log) made;
-          standing = c.replay_of.ensures.standing ∙ ap (standing_of cave) made
-              ∙ ap (λ (k : CaveView). standing_of k
-              (game_after_item (applied_item c.args.item.now) old.game)) (sym c.requires.same);
+          standing = c.replay_of.ensures.standing
+              ∙ ap (λ (k : CaveView). standing_of k c.edit_group.new.self.game) cave_is
+              ∙ ap (standing_of old.machine.rules.cave.now) made;
         };
         holds = record {
-          cave_is = ap (λ m. m.rules.cave.now) c.in-Ok.ensures.kept.machine;
+          cave_is = cave_is;
           game_is = made;
         };
         every = c.in-Ok.ensures.kept.every;

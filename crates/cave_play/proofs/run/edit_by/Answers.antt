@@ -3,7 +3,6 @@ use Rattle.cave_data.specs.CaveView.{CaveView}
 use Rattle.log_edits.specs.Game.{Game}
 use Rattle.edit_scripts.specs.Views.{items_of}
 use Rattle.cave_play.specs.Edits.{ReadsBack, text_at_end, text_of_item}
-use Rattle.cave_play.specs.Outcome.{AreOutcomes}
 use Rattle.cave_play.specs.Views.{text_of_items}
 use Rattle.std.proofs.lemmas.Result.{err_from_is_err_and}
 use Rattle.cave_play.specs.Stage.{judging_stage}
@@ -17,19 +16,19 @@ pub returns : goal.returns
 returns c =
     let items = items_of c.args.script.now.items in
     let old = c.args.session.now in
-    let cave = c.args.machine.rules.cave.now in
+    let cave = old.machine.rules.cave.now in
     let view = c.args.editing.view in
     let totals = c.in_ok-totals.totals in
     let applied = c.in_ok-totals.ensures.applied in
-    let same = c.in_ok-totals.ensures.held.game_is in
-    let came =
-    subst (λ (k : CaveView). AreOutcomes k old.every items old.game old.checkpoints
-    applied.outcomes) c.requires.same applied.came in
+    let held = c.in_ok-totals.ensures.held in
+    let same = held.game_is in
     let told =
     applied.told
     ∙ ap (λ t. t ++ text_of_items (text_of_item view) items applied.outcomes)
     c.new-text.ensures.items in
     let ends = c.in_ok-push_end.ensures.told
+    ∙ ap (λ (k : CaveView). c.apply.new.text.items
+    ++ text_at_end view k c.apply.new.session.game totals.played totals.lines) held.cave_is
     ∙ ap (λ (now : Game). c.apply.new.text.items
     ++ text_at_end view cave now totals.played totals.lines) same in
     let back =
@@ -37,7 +36,7 @@ returns c =
     let whole =
     told-whole view cave old.every items old.game old.checkpoints applied.outcomes totals.played
     totals.lines c.apply.new.text.items c.push_end.new.text.items
-    c.requires.spaced came told applied.played_is applied.lines_are ends back in
+    c.requires.spaced applied.came told applied.played_is applied.lines_are ends back in
     let decides = first_strict_fault c.args.editing.strict items old.game in
     record {
       judged = (

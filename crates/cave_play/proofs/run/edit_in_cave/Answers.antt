@@ -64,15 +64,18 @@ returns g c =
     λ (cave : CaveView) (text : Vec ℕ). IsEditOf editing.view cave editing.every
     (game_of editing.seed (lines moves)) edits text.items in
     let held = c.in_ok-session.session in
+    let held_cave = held.machine.rules.cave.now in
     let gives =
-    λ (text : Vec ℕ) (is : IsEditOf editing.view cave held.every held.game edits text.items).
+    λ (text : Vec ℕ) (is : IsEditOf editing.view held_cave held.every held.game edits text.items).
     subst (λ game. IsEditOf editing.view cave editing.every game edits text.items)
     made.1.game_is
     (subst (λ every. IsEditOf editing.view cave every held.game edits text.items)
-    c.in_ok-session.ensures.every is) in
+    c.in_ok-session.ensures.every
+    (subst (λ (k : CaveView). IsEditOf editing.view k held.every held.game edits text.items)
+    made.1.cave_is is)) in
     let strict = strict_of editing moves edits in
     let held_right =
-    λ (text : Vec ℕ). IsEditOf editing.view cave held.every held.game edits text.items in
+    λ (text : Vec ℕ). IsEditOf editing.view held_cave held.every held.game edits text.items in
     let staged =
     subst (λ (game : Game). Judges (script_stage edits
     ∷ strict_stage editing.strict game edits ∷ []) held_right c.edit_session-text.result)

@@ -28,7 +28,7 @@ returns g c =
     let items = items_of c.in_ok-script.script.items in
     let old = c.args.session.now in
     let editing = c.args.editing in
-    let cave = c.args.machine.rules.cave.now in
+    let cave = old.machine.rules.cave.now in
     let right : Vec ℕ → Type 0 =
     λ text. IsViewOf editing.view cave old.every old.game items text.items in
     let whole : Vec ℕ → Type 0 =

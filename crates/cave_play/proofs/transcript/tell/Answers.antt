@@ -60,21 +60,22 @@ returns c =
     let place = enumerate_count c.loop-place.place-iterator in
     let pieces = map (λ piece. piece.items) held.pieces in
     let none = ap length c.in-None.ensures.steps.0.0 in
+    let same = sym c.cave-cave.ensures in
+    let cave_is = c.cave-cave.ensures ∙ ap (λ m. m.rules.cave.now) c.machine-machine.ensures in
     let ended =
     told_from-end (rendering_of cave) held.ticks place held.game.log pieces
     (omega (arith, none, c.loop-place.invariant.left)) in
     let played =
     transcript-played cave _ held.game _ pieces held.ticks
-    _ (c.requires ∙ sym c.cave-cave.ensures) c.opening.ensures.plays in
+    _ (sym cave_is) c.opening.ensures.plays in
     let end =
     last_line (score_of cave held.state) (max_score_of cave)
     (ticks held.ticks (length held.game.log)) in
     let whole = ap (λ t. c.loop-place.text.items ++ (t ++ end)) (sym ended)
     ∙ c.loop-place.invariant.told
-    ∙ ap (λ t. old ++ t) (played ∙ ap (λ k. play_text k held.game) c.cave-cave.ensures) in
+    ∙ ap (λ t. old ++ t) (played ∙ ap (λ k. play_text k held.game) cave_is) in
     let turns : c.ticks.result ≡ ticks held.ticks (length held.game.log) = c.ticks.ensures
     ∙ ap (ticks held.ticks) c.lines-lines.ensures.lines in
-    let same = sym c.cave-cave.ensures in
     let score = c.score-score.ensures ∙ ap (λ k. score_of k c.state.result.now) same
     ∙ ap (score_of cave) c.state.ensures.state in
     let most = c.max_score.ensures ∙ ap max_score_of same in

@@ -7,7 +7,7 @@ use Rattle.std.proofs.lemmas.Bool.{eq-eqb, ne_eqb}
 use Rattle.std.proofs.lemmas.List.{drop_more}
 use Rattle.std.proofs.lemmas.Option.{get_or_from_slice_get, slice_get_within}
 use Rattle.cave_rows.specs.Rows.{WordEntry}
-use Rattle.cave_graph.specs.Names.{first_word}
+use Rattle.cave_data.specs.CaveView.{first_word}
 
 found_here : (has : Bool) (entry : WordEntry) (others : Option WordEntry)
     → option_map (λ (e : WordEntry). e.word) (cond has (Some entry) others)

@@ -2,7 +2,7 @@ use Rattle.std.proofs.Common.{◌≡◌, ◌+◌, map, drop}
 use Rattle.cave_data.specs.CaveView.{class_from}
 use Rattle.cave_data.specs.Printing.{printed_class}
 use Rattle.cave_data.specs.Spans.{class_of_span}
-use Rattle.cave_data.proofs.classes.Classes.class_of.Given as goal
+use Rattle.cave_data.proofs.classes.Classes.rating_of_score.Given as goal
 
 abbrev pub invariant-loop-number : goal.invariant-loop-number
 invariant-loop-number l =

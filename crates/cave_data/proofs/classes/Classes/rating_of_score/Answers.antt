@@ -2,7 +2,7 @@ use Rattle.std.proofs.Common.{◌≤◌, ◌<◌, get_or, map, sym, ap, ◌∙�
 use Rattle.cave_data.specs.CaveView.{class_from}
 use Rattle.cave_data.specs.Printing.{printed_text, printed_class}
 use Rattle.cave_data.proofs.ClassLemmas.{class_found, class_passed}
-use Rattle.cave_data.proofs.classes.Classes.class_of.Goals as goal
+use Rattle.cave_data.proofs.classes.Classes.rating_of_score.Goals as goal
 
 pub returns-then-score-from : goal.returns-then-score-from
 returns-then-score-from c =
