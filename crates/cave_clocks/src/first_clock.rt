@@ -34,8 +34,8 @@ fn is_first_clock_going(rules: &Rules<'_>, state: &State) -> bool
 fn bar_ways(rules: &Rules<'_>, objects: &mut Objects)
     ensures { objects.new ≡ with_ways_barred (cave_of rules.now) objects.old }
 {
-    objects.set_prop(rules.object(Named::Grate), Prop::new(0));
-    objects.set_prop(rules.object(Named::Fissure), Prop::new(0));
+    objects.set_prop(rules.thing(Named::Grate), Prop::new(0));
+    objects.set_prop(rules.thing(Named::Fissure), Prop::new(0));
 }
 
 fn dismiss(dwarf: &mut Dwarf)
@@ -62,7 +62,7 @@ fn dismiss_dwarves(state: &mut State)
 fn dismiss_bear(rules: &Rules<'_>, state: &mut State)
     ensures { state.new ≡ without_bear (cave_of rules.now) state.old }
 {
-    let bear = rules.object(Named::Bear);
+    let bear = rules.thing(Named::Bear);
     if !has_prop(state, bear, 3) {
         state.destroy(bear);
     }
@@ -80,8 +80,8 @@ fn loosen(object: Object, objects: &mut Objects)
 fn loosen_chain_and_axe(rules: &Rules<'_>, objects: &mut Objects)
     ensures { objects.new ≡ with_chain_and_axe_loose (cave_of rules.now) objects.old }
 {
-    loosen(rules.object(Named::Chain), objects);
-    loosen(rules.object(Named::Axe), objects);
+    loosen(rules.thing(Named::Chain), objects);
+    loosen(rules.thing(Named::Axe), objects);
 }
 
 /// The ways are barred, dwarves, troll and bear are gone, and nothing holds the chain and the axe.

@@ -22,7 +22,7 @@ const BATTERY_TURNS: i32 = 2500;
 fn burn(rules: &Rules<'_>, state: &mut State)
     ensures { state.new ≡ with_lamp_burnt (cave_of rules.now) state.old }
 {
-    if has_prop(state, rules.object(Named::Lamp), 1) {
+    if has_prop(state, rules.thing(Named::Lamp), 1) {
         let turns = state.lamp.charge.turns();
         state.lamp.charge = Charge::new((turns - 1).max(-1));
     }
@@ -39,11 +39,11 @@ fn is_low(state: &State) -> bool
 fn can_change_batteries(rules: &Rules<'_>, state: &State) -> bool
     ensures { result ≡ can_change_batteries (cave_of rules.now) state.now }
 {
-    let batteries = rules.object(Named::Batteries);
+    let batteries = rules.thing(Named::Batteries);
     is_low(state)
         && is_near(rules, state, batteries)
         && has_prop(state, batteries, 0)
-        && is_near(rules, state, rules.object(Named::Lamp))
+        && is_near(rules, state, rules.thing(Named::Lamp))
 }
 
 fn renew_charge(state: &mut State)
@@ -59,7 +59,7 @@ fn renew_charge(state: &mut State)
 fn use_batteries(rules: &Rules<'_>, state: &mut State)
     ensures { state.new ≡ with_batteries_used (cave_of rules.now) state.old }
 {
-    let batteries = rules.object(Named::Batteries);
+    let batteries = rules.thing(Named::Batteries);
     state.objects.set_prop(batteries, Prop::new(1));
     let_go(rules, batteries, state);
 }
@@ -84,7 +84,7 @@ fn put_out(rules: &Rules<'_>, state: &mut State)
     state.lamp.charge = Charge::new(-1);
     state
         .objects
-        .set_prop(rules.object(Named::Lamp), Prop::new(0));
+        .set_prop(rules.thing(Named::Lamp), Prop::new(0));
 }
 
 #[tactic(auto, unfolding(crate::specs::Lamp::lamp_going_out))]
@@ -95,7 +95,7 @@ fn go_out(rules: &Rules<'_>, play: &mut Play<'_>)
     ensures few { SaysUpTo 1 play.old play.new }
 {
     put_out(rules, play.state);
-    if is_near(rules, play.state, rules.object(Named::Lamp)) {
+    if is_near(rules, play.state, rules.thing(Named::Lamp)) {
         play.say(Role::LampDead);
     }
 }
@@ -113,7 +113,7 @@ fn is_stranded(rules: &Rules<'_>, state: &State) -> bool
 fn is_warning_due(rules: &Rules<'_>, state: &State) -> bool
     ensures { result ≡ is_warning_due (cave_of rules.now) state.now }
 {
-    is_low(state) && !state.lamp.is_warned && is_near(rules, state, rules.object(Named::Lamp))
+    is_low(state) && !state.lamp.is_warned && is_near(rules, state, rules.thing(Named::Lamp))
 }
 
 /// The warning, by where new batteries could come from.
@@ -121,7 +121,7 @@ fn is_warning_due(rules: &Rules<'_>, state: &State) -> bool
 fn warning(rules: &Rules<'_>, state: &State) -> Role
     ensures { result ≡ warning (cave_of rules.now) state.now }
 {
-    let batteries = rules.object(Named::Batteries);
+    let batteries = rules.thing(Named::Batteries);
     if has_prop(state, batteries, 1) {
         Role::LampLowUsed
     } else if state.is_gone(batteries) {

@@ -21,7 +21,7 @@ use cave_world::State;
 fn put_in(rules: &Rules<'_>, name: Named, prop: Prop, place: Place, objects: &mut Objects)
     ensures { objects.new ≡ with_thing (cave_of rules.now) place name prop objects.old }
 {
-    let object = rules.object(name);
+    let object = rules.thing(name);
     objects.move_to(object, place);
     objects.set_prop(object, prop);
 }
@@ -58,7 +58,7 @@ fn hang_mirror(rules: &Rules<'_>, northeast: Place, southwest: Place, objects: &
     ensures { objects.new ≡ with_mirror (cave_of rules.now) northeast southwest objects.old }
 {
     put_in(rules, Named::Mirror, Prop::new(-1), northeast, objects);
-    objects.anchor_to(rules.object(Named::Mirror), Anchor::at(southwest));
+    objects.anchor_to(rules.thing(Named::Mirror), Anchor::at(southwest));
 }
 
 #[tactic(auto, unfolding(crate::specs::Repository::furnished_repository))]

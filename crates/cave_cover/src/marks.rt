@@ -47,7 +47,7 @@ impl SaidTexts {
     }
 
     /// Whether the text is in the set.
-    pub fn contains(&self, text: Text) -> bool
+    pub fn is_marked(&self, text: Text) -> bool
         ensures { result ≡ is_marked self.now text }
     {
         self.marks.get(place_of(text)).copied().unwrap_or(false)

@@ -7,7 +7,7 @@ ghost use Rattle.cave_cover.specs.Missing.{first_words, missing_line, missing_li
 ghost use Rattle.cave_cover.specs.Missing.{missing_report, report_by, text_at, word_of_kind};
 
 use crate::marks::SaidTexts;
-use crate::report::{missing, push_closing, push_name, push_report};
+use crate::report::{missing, push_name, push_report, push_sums};
 use crate::text::{KINDS, Kind, PROPS_PER_OBJECT};
 use cave_bindings::first_line;
 use cave_data::Cave;
@@ -138,7 +138,7 @@ fn push_missing_report(
         ≡ text.old.items ++ missing_report cave.now (is_marked said.now) logs) }
 {
     push_kinds(alloc, cave, said, &KINDS, text)?;
-    push_closing(alloc, cave, said, logs, text)
+    push_sums(alloc, cave, said, logs, text)
 }
 
 /// Appends what is asked for of a cave of whose texts some were said in so many logs.

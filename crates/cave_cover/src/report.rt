@@ -39,7 +39,7 @@ fn has(cave: &Cave, kind: Kind, number: u16) -> bool
 fn is_said(cave: &Cave, said: &SaidTexts, kind: Kind, number: u16) -> bool
     ensures { result ≡ (has_text cave.now kind number && is_marked said.now (text kind number)) }
 {
-    has(cave, kind, number) && said.contains(Text { kind, number })
+    has(cave, kind, number) && said.is_marked(Text { kind, number })
 }
 
 /// Whether a text that the cave has was never said.
@@ -47,7 +47,7 @@ fn is_missing(cave: &Cave, said: &SaidTexts, kind: Kind, number: u16) -> bool
     ensures { result
         ≡ (has_text cave.now kind number && not (is_marked said.now (text kind number))) }
 {
-    has(cave, kind, number) && !said.contains(Text { kind, number })
+    has(cave, kind, number) && !said.is_marked(Text { kind, number })
 }
 
 /// How many texts of a kind the cave has.
@@ -218,7 +218,7 @@ fn push_lines(
 }
 
 /// Appends the line that sums up.
-pub(crate) fn push_closing(
+pub(crate) fn push_sums(
     alloc: Global,
     cave: &Cave,
     said: &SaidTexts,
@@ -246,5 +246,5 @@ pub fn push_report(
         ≡ text.old.items ++ report cave.now (is_marked said.now) logs) }
 {
     push_lines(alloc, cave, said, &KINDS, text)?;
-    push_closing(alloc, cave, said, logs, text)
+    push_sums(alloc, cave, said, logs, text)
 }

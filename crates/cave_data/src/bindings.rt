@@ -77,7 +77,7 @@ impl Bindings {
 
     /// Takes the next line.
     #[tactic(auto, unfolding(crate::specs::BindingSteps::bind_line))]
-    fn take_line(&mut self, line: &[u8]) -> Result<(), Cause>
+    fn bind_line(&mut self, line: &[u8]) -> Result<(), Cause>
         ensures { Leaves result self.new (bind_line self.old line.now) }
     {
         if is_skipped(line) {
@@ -99,7 +99,7 @@ pub fn read_bindings(alloc: Global, text: &[u8]) -> Result<Bindings, CaveError>
     let mut rest = text;
     let mut count = 0usize;
     while let Some((line, after)) = split_line(rest) {
-        match bindings.take_line(line) {
+        match bindings.bind_line(line) {
             Ok(()) => {}
             Err(cause) => return Err(error_at(cause, count + 1, FaultSite::Bindings)),
         }

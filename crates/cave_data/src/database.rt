@@ -49,7 +49,7 @@ pub fn read_database(alloc: Global, database: &[u8]) -> Result<Tables, CaveError
     let mut count = 0usize;
     while let Some((line, after)) = split_line(rest) {
         let position = reader.position;
-        match reader.take_line(alloc, line) {
+        match reader.advance(alloc, line) {
             Ok(()) => {}
             Err(cause) => {
                 drop(reader);

@@ -227,7 +227,7 @@ impl DatabaseReader {
 
     /// Takes the next line.
     #[tactic(auto, unfolding(crate::specs::Steps::advance))]
-    pub fn take_line(&mut self, alloc: Global, line: &[u8]) -> Result<(), Cause>
+    pub fn advance(&mut self, alloc: Global, line: &[u8]) -> Result<(), Cause>
         ensures { Leaves result self.new (advance self.old line.now) }
     {
         if is_all_blank(line) {

@@ -35,8 +35,8 @@ fn pirate_wants(rules: &Rules<'_>, state: &State, object: Object) -> bool
     ensures { result ≡ pirate_wants (cave_of rules.now) state.now object }
 {
     !(rules.is(object, Named::Pyramid)
-        && (is_home_here(rules, state, rules.object(Named::Pyramid))
-            || is_home_here(rules, state, rules.object(Named::Emerald))))
+        && (is_home_here(rules, state, rules.thing(Named::Pyramid))
+            || is_home_here(rules, state, rules.thing(Named::Emerald))))
 }
 
 /// Whether the player carries a treasure that the pirate takes.
@@ -109,7 +109,7 @@ fn put_chest(rules: &Rules<'_>, state: &mut State)
     ensures { state.new ≡ with_chest (cave_of rules.now) state.old }
 {
     let chest = place_named(rules.cave, PlaceRole::Chest);
-    move_to_named(rules.object(Named::Chest), chest, state);
+    move_to_named(rules.thing(Named::Chest), chest, state);
 }
 
 /// The chest is put there if the pirate left no message yet.
@@ -117,7 +117,7 @@ fn put_chest(rules: &Rules<'_>, state: &mut State)
 fn put_chest_at_first(rules: &Rules<'_>, state: &mut State)
     ensures { state.new ≡ with_chest_at_first (cave_of rules.now) state.old }
 {
-    if state.is_gone(rules.object(Named::Message)) {
+    if state.is_gone(rules.thing(Named::Message)) {
         put_chest(rules, state);
     }
 }
@@ -127,7 +127,7 @@ fn leave_message(rules: &Rules<'_>, state: &mut State)
     ensures { state.new ≡ with_message (cave_of rules.now) state.old }
 {
     let place = place_named(rules.cave, PlaceRole::Message);
-    move_to_named(rules.object(Named::Message), place, state);
+    move_to_named(rules.thing(Named::Message), place, state);
 }
 
 /// The pirate goes home to its chest, and no longer sees the player.

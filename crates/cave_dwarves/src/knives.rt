@@ -6,7 +6,7 @@ ghost use Rattle.cave_dwarves.specs.Knives.{raid_of};
 ghost use Rattle.cave_world.specs.Dwarves.{pirate, dwarf_count};
 
 use crate::band::dwarf_of;
-use crate::moving::move_on;
+use crate::moving::move_dwarf;
 use cave_objects::Place;
 use cave_scene::Rules;
 use cave_world::{Knife, PIRATE, State};
@@ -118,7 +118,7 @@ fn threaten(number: usize, state: &mut State) -> Threat
 
 /// A dwarf moves and then threatens the player. One that is gone does nothing.
 #[tactic(auto, unfolding(crate::specs::Knives::step_of_dwarf))]
-fn move_and_threaten(rules: &Rules<'_>, number: usize, state: &mut State) -> Threat
+fn step(rules: &Rules<'_>, number: usize, state: &mut State) -> Threat
     requires { number < dwarf_count }
     ensures { record { threat = result; state = state.new }
         ≡ step_of_dwarf (cave_of rules.now) number state.old }
@@ -126,7 +126,7 @@ fn move_and_threaten(rules: &Rules<'_>, number: usize, state: &mut State) -> Thr
     if dwarf_of(state, number).place.number() == 0 {
         return Threat::Nothing;
     }
-    move_on(rules, number, state);
+    move_dwarf(rules, number, state);
     threaten(number, state)
 }
 
@@ -140,7 +140,7 @@ pub fn raid(rules: &Rules<'_>, state: &mut State) -> Attack
 {
     let mut attack = Attack::none();
     for number in 0..PIRATE {
-        attack = attack.with(move_and_threaten(rules, number, state));
+        attack = attack.with(step(rules, number, state));
     }
     attack
 }

@@ -37,7 +37,7 @@ fn sees(rules: &Rules<'_>, here: Place, dwarf: &Dwarf, place: Place) -> bool
 
 /// A dwarf that goes to a place, or to the player whom it sees.
 #[tactic(auto, unfolding(crate::specs::Moving::dwarf_after_move))]
-fn go_on(rules: &Rules<'_>, here: Place, dwarf: &Dwarf, place: Place) -> Dwarf
+fn moved_dwarf(rules: &Rules<'_>, here: Place, dwarf: &Dwarf, place: Place) -> Dwarf
     ensures { result ≡ dwarf_after_move (cave_of rules.now) here dwarf.now place }
 {
     let sees = sees(rules, here, dwarf, place);
@@ -50,12 +50,12 @@ fn go_on(rules: &Rules<'_>, here: Place, dwarf: &Dwarf, place: Place) -> Dwarf
 
 /// The dwarf of a number moves.
 #[tactic(auto, unfolding(crate::specs::Moving::after_dwarf_move))]
-pub fn move_on(rules: &Rules<'_>, number: usize, state: &mut State)
+pub fn move_dwarf(rules: &Rules<'_>, number: usize, state: &mut State)
     requires { number < dwarf_count }
     ensures { state.new ≡ after_dwarf_move (cave_of rules.now) number state.old }
 {
     let dwarf = dwarf_of(state, number);
     let place = choose_way(rules, number == PIRATE, &dwarf, &mut state.stream);
-    let dwarf = go_on(rules, state.trail.here, &dwarf, place);
+    let dwarf = moved_dwarf(rules, state.trail.here, &dwarf, place);
     set_dwarf(number, dwarf, state);
 }

@@ -9,7 +9,7 @@ ghost use Rattle.cave_dwarves.specs.Pirate.{after_pirate};
 
 use crate::band::dwarf_of;
 use crate::booty::{carries_booty, hide_chest, is_treasure_near, rob};
-use crate::moving::move_on;
+use crate::moving::move_dwarf;
 use cave_rows::{PlaceRole, Role};
 use cave_scene::{Play, Rules};
 use cave_things::{has_prop, is_near, is_place, place_named};
@@ -20,7 +20,7 @@ use cave_world::{PIRATE, State};
 fn is_chest_seen(rules: &Rules<'_>, state: &State) -> bool
     ensures { result ≡ is_chest_seen (cave_of rules.now) state.now }
 {
-    let chest = rules.object(Named::Chest);
+    let chest = rules.thing(Named::Chest);
     !chest.is_none() && 0 <= state.objects.prop(chest).value()
 }
 
@@ -40,10 +40,10 @@ fn is_after_player(rules: &Rules<'_>, state: &State) -> bool
 fn hides_chest(rules: &Rules<'_>, state: &State) -> bool
     ensures { result ≡ hides_chest (cave_of rules.now) state.now }
 {
-    let lamp = rules.object(Named::Lamp);
+    let lamp = rules.thing(Named::Lamp);
     !is_treasure_near(rules, state)
         && u32::from(state.tallies.unseen.number()) == u32::from(state.tallies.lost.number()) + 1
-        && state.is_gone(rules.object(Named::Chest))
+        && state.is_gone(rules.thing(Named::Chest))
         && is_near(rules, state, lamp)
         && has_prop(state, lamp, 1)
 }
@@ -75,7 +75,7 @@ fn rustle(play: &mut Play<'_>)
 
 /// The pirate who is after the player robs, or hides its chest, or follows.
 #[tactic(auto, unfolding(crate::specs::Pirate::pirate_scene))]
-fn meet(rules: &Rules<'_>, play: &mut Play<'_>)
+fn meet_pirate(rules: &Rules<'_>, play: &mut Play<'_>)
     requires { HasRoom 1 play.old }
     ensures play { scene_of play.new ≡ pirate_scene (cave_of rules.now) (scene_of play.old) }
     ensures same { GoesOn play.old play.new }
@@ -103,7 +103,7 @@ fn meet_if_after_player(rules: &Rules<'_>, play: &mut Play<'_>)
     ensures few { SaysUpTo 1 play.old play.new }
 {
     if is_after_player(rules, play.state) {
-        meet(rules, play);
+        meet_pirate(rules, play);
     }
 }
 
@@ -118,6 +118,6 @@ pub fn send_pirate(rules: &Rules<'_>, play: &mut Play<'_>)
     if dwarf_of(play.state, PIRATE).place.number() == 0 {
         return;
     }
-    move_on(rules, PIRATE, play.state);
+    move_dwarf(rules, PIRATE, play.state);
     meet_if_after_player(rules, play);
 }

@@ -116,7 +116,7 @@ fn throw_first_axe(rules: &Rules<'_>, play: &mut Play<'_>)
     wake_dwarves(rules, play.state);
     play.say(Role::AxeThrown);
     let here = play.state.trail.here;
-    play.state.move_to(rules.object(Named::Axe), here);
+    play.state.move_to(rules.thing(Named::Axe), here);
 }
 
 /// In the depths, dwarves that stir may wake.

@@ -201,16 +201,16 @@ fn is_due(number: HintNumber, hint: &Hint, conditions: u32, state: &State) -> bo
 fn is_locked_out(rules: &Rules<'_>, state: &State) -> bool
     ensures { result ≡ is_locked_out (cave_of rules.now) state.now }
 {
-    has_prop(state, rules.object(Named::Grate), 0)
-        && !is_near(rules, state, rules.object(Named::Keys))
+    has_prop(state, rules.thing(Named::Grate), 0)
+        && !is_near(rules, state, rules.thing(Named::Keys))
 }
 
 #[tactic(auto, unfolding(crate::specs::Hints::is_after_bird))]
 fn is_after_bird(rules: &Rules<'_>, state: &State) -> bool
     ensures { result ≡ is_after_bird (cave_of rules.now) state.now }
 {
-    is_near(rules, state, rules.object(Named::Bird))
-        && is_in_hand(rules, state, rules.object(Named::Rod))
+    is_near(rules, state, rules.thing(Named::Bird))
+        && is_in_hand(rules, state, rules.thing(Named::Rod))
         && rules.is(state.talk.last, Named::Bird)
 }
 
@@ -218,8 +218,8 @@ fn is_after_bird(rules: &Rules<'_>, state: &State) -> bool
 fn is_held_by_snake(rules: &Rules<'_>, state: &State) -> bool
     ensures { result ≡ is_held_by_snake (cave_of rules.now) state.now }
 {
-    is_near(rules, state, rules.object(Named::Snake))
-        && !is_near(rules, state, rules.object(Named::Bird))
+    is_near(rules, state, rules.thing(Named::Snake))
+        && !is_near(rules, state, rules.thing(Named::Bird))
 }
 
 #[tactic(auto, unfolding(crate::specs::Hints::is_lost_in_maze))]
@@ -236,8 +236,8 @@ fn is_lost_in_maze(state: &State) -> bool
 fn is_short_of_pyramid(rules: &Rules<'_>, state: &State) -> bool
     ensures { result ≡ is_short_of_pyramid (cave_of rules.now) state.now }
 {
-    has_other_prop(state, rules.object(Named::Emerald), -1)
-        && has_prop(state, rules.object(Named::Pyramid), -1)
+    has_other_prop(state, rules.thing(Named::Emerald), -1)
+        && has_prop(state, rules.thing(Named::Pyramid), -1)
 }
 
 fn is_needed(rules: &Rules<'_>, hint: HintNumber, state: &State) -> bool

@@ -21,7 +21,7 @@ use cave_world::State;
 
 /// Where the bridge leads a player at one of its ends.
 #[tactic(auto, unfolding(crate::specs::Bridge::journey_by_bridge))]
-pub fn cross(rules: &Rules<'_>, play: &mut Play<'_>) -> Place
+pub fn cross_bridge(rules: &Rules<'_>, play: &mut Play<'_>) -> Place
     requires { HasRoom parts_of_journey play.old }
     ensures journey { record { place = result; scene = scene_of play.new }
         ≡ journey_by_bridge (cave_of rules.now) (scene_of play.old) }
@@ -32,7 +32,7 @@ pub fn cross(rules: &Rules<'_>, play: &mut Play<'_>) -> Place
     match bridge_end(rules, play.state.trail.here) {
         None => stay(play, Role::NoWay),
         Some(end) => {
-            if has_prop(play.state, rules.object(Named::Troll), 1) {
+            if has_prop(play.state, rules.thing(Named::Troll), 1) {
                 demand_toll(rules, play);
                 return play.state.trail.here;
             }
@@ -53,7 +53,7 @@ fn bridgehead(place: Place) -> Option<Place>
 fn bridge_end(rules: &Rules<'_>, here: Place) -> Option<Place>
     ensures { result ≡ bridge_end (cave_of rules.now) here }
 {
-    let troll = rules.object(Named::Troll);
+    let troll = rules.thing(Named::Troll);
     if troll.is_none() {
         return None;
     }
@@ -69,14 +69,14 @@ fn bridge_end(rules: &Rules<'_>, here: Place) -> Option<Place>
 fn move_troll_home(rules: &Rules<'_>, objects: &mut Objects)
     ensures { objects.new ≡ with_troll (cave_of rules.now) objects.old }
 {
-    let troll = rules.object(Named::Troll);
-    let second = rules.object(Named::SecondTroll);
+    let troll = rules.thing(Named::Troll);
+    let second = rules.thing(Named::SecondTroll);
     objects.set_prop(troll, Prop::new(0));
     objects.move_to(second, Place::new(0));
     objects.anchor_to(second, Anchor::Loose);
     objects.move_to(troll, home(rules, troll));
     objects.anchor_to(troll, hold(rules, troll));
-    objects.juggle(rules.object(Named::Chasm));
+    objects.juggle(rules.thing(Named::Chasm));
 }
 
 /// The troll asks for a treasure once more.
@@ -87,7 +87,7 @@ fn demand_toll(rules: &Rules<'_>, play: &mut Play<'_>)
     ensures same { GoesOn play.old play.new }
     ensures few { SaysUpTo 1 play.old play.new }
 {
-    play.look(rules.object(Named::Troll), 1);
+    play.look(rules.thing(Named::Troll), 1);
     move_troll_home(rules, &mut play.state.objects);
 }
 
@@ -96,7 +96,7 @@ fn demand_toll(rules: &Rules<'_>, play: &mut Play<'_>)
 fn let_pass(rules: &Rules<'_>, state: &mut State)
     ensures { state.new ≡ let_pass (cave_of rules.now) state.old }
 {
-    let troll = rules.object(Named::Troll);
+    let troll = rules.thing(Named::Troll);
     if has_prop(state, troll, 0) {
         state.objects.set_prop(troll, Prop::new(1));
     }
@@ -104,12 +104,12 @@ fn let_pass(rules: &Rules<'_>, state: &mut State)
 
 /// The bridge is broken, the troll is gone for good, and the bear is dead at the other end.
 #[tactic(auto, unfolding(crate::specs::Bridge::without_bridge))]
-fn break_bridge(rules: &Rules<'_>, end: Place, objects: &mut Objects)
+fn remove_bridge(rules: &Rules<'_>, end: Place, objects: &mut Objects)
     ensures { objects.new ≡ without_bridge (cave_of rules.now) end objects.old }
 {
-    let bear = rules.object(Named::Bear);
-    objects.set_prop(rules.object(Named::Chasm), Prop::new(1));
-    objects.set_prop(rules.object(Named::Troll), Prop::new(2));
+    let bear = rules.thing(Named::Bear);
+    objects.set_prop(rules.thing(Named::Chasm), Prop::new(1));
+    objects.set_prop(rules.thing(Named::Troll), Prop::new(2));
     objects.move_to(bear, end);
     objects.anchor_to(bear, Anchor::Fixed);
     objects.set_prop(bear, Prop::new(3));
@@ -118,16 +118,16 @@ fn break_bridge(rules: &Rules<'_>, end: Place, objects: &mut Objects)
 fn lose_spices(rules: &Rules<'_>, state: &mut State)
     ensures { state.new ≡ without_spices (cave_of rules.now) state.old }
 {
-    if has_prop_up_to(state, rules.object(Named::Spices), -1) {
+    if has_prop_up_to(state, rules.thing(Named::Spices), -1) {
         lose_one(state);
     }
 }
 
 #[tactic(auto, unfolding(crate::specs::Bridge::with_broken_bridge))]
-fn lose_bridge(rules: &Rules<'_>, end: Place, state: &mut State)
+fn break_bridge(rules: &Rules<'_>, end: Place, state: &mut State)
     ensures { state.new ≡ with_broken_bridge (cave_of rules.now) end state.old }
 {
-    break_bridge(rules, end, &mut state.objects);
+    remove_bridge(rules, end, &mut state.objects);
     lose_spices(rules, state);
 }
 
@@ -142,7 +142,7 @@ fn break_through(rules: &Rules<'_>, end: Place, play: &mut Play<'_>)
     ensures over { IsTrue (takes_no_command play.new.state.now) }
 {
     play.say(Role::BridgeFalls);
-    lose_bridge(rules, end, play.state);
+    break_bridge(rules, end, play.state);
     fall_at(rules, end, play);
 }
 
@@ -157,7 +157,7 @@ fn cross_to(rules: &Rules<'_>, end: Place, play: &mut Play<'_>) -> Place
     ensures few_on { takes_no_command play.new.state.now ≡ false → SaysUpTo 1 play.old play.new }
 {
     let_pass(rules, play.state);
-    if is_in_hand(rules, play.state, rules.object(Named::Bear)) {
+    if is_in_hand(rules, play.state, rules.thing(Named::Bear)) {
         break_through(rules, end, play);
         return play.state.trail.here;
     }

@@ -26,7 +26,7 @@ pub fn describe(rules: &Rules<'_>, play: &mut Play<'_>)
     ensures same { GoesOn play.old play.new }
     ensures few { SaysUpTo parts_of_place play.old play.new }
 {
-    if play.state.is_dark(rules.cave, rules.object(Named::Lamp)) {
+    if play.state.is_dark(rules.cave, rules.thing(Named::Lamp)) {
         describe_dark(rules, play);
     } else {
         describe_sight(rules, play);
@@ -63,7 +63,7 @@ fn tell_bear(rules: &Rules<'_>, play: &mut Play<'_>)
     ensures same { GoesOn play.old play.new }
     ensures few { SaysUpTo 1 play.old play.new }
 {
-    if play.state.is_carried(rules.object(Named::Bear)) {
+    if play.state.is_carried(rules.thing(Named::Bear)) {
         play.say(Role::BearFollows);
     }
 }

@@ -12,7 +12,7 @@ ghost use Rattle.cave_moves.specs.Journeys.{journey_of_look};
 ghost use Rattle.cave_moves.specs.Journeys.{journey_of_seeking, journey_by_request};
 
 use crate::back::go_back;
-use crate::bridge::cross;
+use crate::bridge::cross_bridge;
 use crate::ways::{other_end, stay};
 use cave_objects::Place;
 use cave_rows::{PlaceRole, Role};
@@ -23,7 +23,7 @@ use cave_world::{MAX_DETAILS, Motion, Part, Special, State, TravelOutcome, trave
 
 /// Where a motion that the player asks for leads.
 #[tactic(auto, unfolding(crate::specs::Journeys::journey_by_request))]
-pub fn lead_by_request(rules: &Rules<'_>, motion: u16, play: &mut Play<'_>) -> Place
+pub fn journey_by_request(rules: &Rules<'_>, motion: u16, play: &mut Play<'_>) -> Place
     requires { HasRoom parts_of_journey play.old }
     ensures journey { record { place = result; scene = scene_of play.new }
         ≡ journey_by_request (cave_of rules.now) motion (scene_of play.old) }
@@ -80,7 +80,7 @@ fn is_slim(rules: &Rules<'_>, state: &State) -> bool
     ensures { result ≡ is_slim (cave_of rules.now) state.now }
 {
     let carried = state.count_carried();
-    carried == 0 || (carried == 1 && state.is_carried(rules.object(Named::Emerald)))
+    carried == 0 || (carried == 1 && state.is_carried(rules.thing(Named::Emerald)))
 }
 
 /// Through the narrow passage, in which nothing but the emerald may be carried.
@@ -103,7 +103,7 @@ fn squeeze(rules: &Rules<'_>, play: &mut Play<'_>) -> Place
     }
 }
 
-fn lead_specially(rules: &Rules<'_>, special: Special, play: &mut Play<'_>) -> Place
+fn journey_by_special(rules: &Rules<'_>, special: Special, play: &mut Play<'_>) -> Place
     requires { HasRoom parts_of_journey play.old }
     ensures journey { record { place = result; scene = scene_of play.new }
         ≡ journey_by_special (cave_of rules.now) special (scene_of play.old) }
@@ -113,12 +113,17 @@ fn lead_specially(rules: &Rules<'_>, special: Special, play: &mut Play<'_>) -> P
 {
     match special {
         Special::Squeeze => squeeze(rules, play),
-        Special::Bridge => cross(rules, play),
+        Special::Bridge => cross_bridge(rules, play),
     }
 }
 
 /// Where the outcome of a motion leads.
-fn lead(rules: &Rules<'_>, motion: u16, outcome: TravelOutcome, play: &mut Play<'_>) -> Place
+fn journey_of_outcome(
+    rules: &Rules<'_>,
+    motion: u16,
+    outcome: TravelOutcome,
+    play: &mut Play<'_>,
+) -> Place
     requires { HasRoom parts_of_journey play.old }
     ensures journey { record { place = result; scene = scene_of play.new }
         ≡ journey_of_outcome (cave_of rules.now) motion outcome (scene_of play.old) }
@@ -128,7 +133,7 @@ fn lead(rules: &Rules<'_>, motion: u16, outcome: TravelOutcome, play: &mut Play<
 {
     match outcome {
         TravelOutcome::Go(place) => place,
-        TravelOutcome::Special(special) => lead_specially(rules, special, play),
+        TravelOutcome::Special(special) => journey_by_special(rules, special, play),
         TravelOutcome::Say(message) => {
             play.tell(Part::Message(message));
             play.state.trail.here
@@ -148,8 +153,8 @@ pub fn journey_by_rows(rules: &Rules<'_>, motion: u16, play: &mut Play<'_>) -> P
     ensures few { SaysUpTo parts_of_journey play.old play.new }
     ensures few_on { takes_no_command play.new.state.now ≡ false → SaysUpTo 1 play.old play.new }
 {
-    let outcome = travel_by_motion(rules.cave, rules.object(Named::Emerald), play.state, motion);
-    lead(rules, motion, outcome, play)
+    let outcome = travel_by_motion(rules.cave, rules.thing(Named::Emerald), play.state, motion);
+    journey_of_outcome(rules, motion, outcome, play)
 }
 
 /// The player sets out by a motion.
@@ -178,7 +183,7 @@ fn say_enough(play: &mut Play<'_>)
     }
 }
 
-fn forget(play: &mut Play<'_>)
+fn forget_visits(play: &mut Play<'_>)
     ensures play { scene_of play.new ≡ without_visits_here (scene_of play.old) }
     ensures same { GoesOn play.old play.new }
 {
@@ -197,7 +202,7 @@ fn look(play: &mut Play<'_>) -> Place
     ensures few { SaysUpTo 1 play.old play.new }
 {
     say_enough(play);
-    forget(play);
+    forget_visits(play);
     play.state.trail.here
 }
 

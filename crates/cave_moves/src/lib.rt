@@ -11,4 +11,4 @@ pub mod objects;
 pub mod ways;
 
 pub use arrival::{arrive, describe_here};
-pub use journeys::lead_by_request;
+pub use journeys::journey_by_request;

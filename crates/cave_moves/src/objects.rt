@@ -31,14 +31,14 @@ fn is_unseen(state: &State, object: Object) -> bool
 fn is_kept_back(rules: &Rules<'_>, state: &State, object: Object) -> bool
     ensures { result ≡ is_kept_back (cave_of rules.now) state.now object }
 {
-    (object == rules.object(Named::Steps) && state.is_carried(rules.object(Named::Gold)))
+    (object == rules.thing(Named::Steps) && state.is_carried(rules.thing(Named::Gold)))
         || (is_unseen(state, object) && state.closing.is_closed)
 }
 
 fn first_prop(rules: &Rules<'_>, object: Object) -> Prop
     ensures { result ≡ first_prop (cave_of rules.now) object }
 {
-    if object == rules.object(Named::Rug) || object == rules.object(Named::Chain) {
+    if object == rules.thing(Named::Rug) || object == rules.thing(Named::Chain) {
         Prop::new(1)
     } else {
         Prop::new(0)
@@ -85,7 +85,7 @@ fn find_if_unseen(rules: &Rules<'_>, object: Object, state: &mut State)
 fn described_prop(rules: &Rules<'_>, state: &State, object: Object) -> Prop
     ensures { result ≡ described_prop (cave_of rules.now) state.now object }
 {
-    if object == rules.object(Named::Steps) && is_second_here(state, object) {
+    if object == rules.thing(Named::Steps) && is_second_here(state, object) {
         Prop::new(1)
     } else {
         state.objects.prop(object)

@@ -13,7 +13,7 @@ pub type Meant = ArrayVec<Object, MAX_MEANT>;
 
 /// One object more, if the cave has it and the verb could be meant for it.
 #[tactic(auto, unfolding(crate::specs::Choice::with_meant))]
-pub fn consider(could_be: bool, object: Object, meant: &mut Meant)
+pub fn add_meant(could_be: bool, object: Object, meant: &mut Meant)
     requires { array_vec_len meant.old < max_meant }
     ensures meant { meant.new.items ≡ with_meant could_be object meant.old.items }
     ensures few { array_vec_len meant.new ≤ array_vec_len meant.old + 1 }

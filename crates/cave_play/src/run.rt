@@ -27,7 +27,7 @@ use crate::judge::{check_every, check_seed, read_cave, read_log, read_script};
 use crate::machine::CaveMachine;
 use crate::output::write_output;
 use crate::reports::push_totals;
-use crate::transcript::{push_maximum, tell};
+use crate::transcript::{push_cave_line, push_play};
 use cave_bindings::push_bindings;
 use cave_data::Cave;
 use cave_scene::Rules;
@@ -144,19 +144,19 @@ fn push_check_text(
     ensures { OnOk result (text.new.items ≡ text.old.items ++ check_text view cave.now) }
 {
     match view {
-        CheckView::Maximum => push_greatest(alloc, cave, text),
+        CheckView::Maximum => push_maximum(alloc, cave, text),
         CheckView::Bindings => push_bindings(alloc, cave, text),
     }
 }
 
 /// Appends the line that says that a database is a cave.
-fn push_greatest(alloc: Global, cave: &Cave, text: &mut Vec<u8>) -> Result<(), AllocError>
+fn push_maximum(alloc: Global, cave: &Cave, text: &mut Vec<u8>) -> Result<(), AllocError>
     ensures { OnOk result
         (text.new.items ≡ text.old.items ++ cave_line (max_score_of cave.now)) }
 {
     let lexicon = Lexicon::build(alloc, cave)?;
     let most = max_score(&Rules::of(cave, &lexicon));
-    push_maximum(alloc, text, most)
+    push_cave_line(alloc, text, most)
 }
 
 /// What is asked for of a play, from readers of the inputs.
@@ -216,7 +216,7 @@ fn text_of_play(
 {
     let mut text = Vec::new(alloc);
     match view {
-        PlayView::Transcript => tell(alloc, session, &mut text)?,
+        PlayView::Transcript => push_play(alloc, session, &mut text)?,
         PlayView::FinalState => push_final_state(alloc, session, &mut text)?,
     }
     Ok(text)
@@ -322,7 +322,7 @@ fn push_end(
     ensures reads_back { OnOk result (ReadsBack view session.now.game.log) }
 {
     match view {
-        EditView::Transcript | EditView::Play => tell(alloc, session, text),
+        EditView::Transcript | EditView::Play => push_play(alloc, session, text),
         EditView::Log => session.push_log(text),
         EditView::Reports => push_totals(alloc, text, totals),
         EditView::FinalState => push_final_state(alloc, session, text),

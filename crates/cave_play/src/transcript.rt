@@ -18,7 +18,7 @@ use std::alloc::{AllocError, Global};
 const USUAL_LINE: usize = 64;
 
 /// Appends the transcript of the play that a session of the machine holds.
-pub(crate) fn tell(
+pub(crate) fn push_play(
     alloc: Global,
     session: &Session<CaveMachine<'_>>,
     text: &mut Vec<u8>,
@@ -37,7 +37,7 @@ pub(crate) fn tell(
         push_line(cave, text, line, &pieces[place], turns)?;
     }
     let score = machine.score(session.state());
-    push_closing(
+    push_last_line(
         alloc,
         text,
         score,
@@ -68,7 +68,7 @@ fn push_echo(text: &mut Vec<u8>, line: &[u8]) -> Result<(), AllocError>
 }
 
 /// Appends the line that says that a database is a cave.
-pub(crate) fn push_maximum(alloc: Global, text: &mut Vec<u8>, most: u32) -> Result<(), AllocError>
+pub(crate) fn push_cave_line(alloc: Global, text: &mut Vec<u8>, most: u32) -> Result<(), AllocError>
     ensures { OnOk result (text.new.items ≡ text.old.items ++ cave_line most) }
 {
     let line = format!(in alloc; "cave ok, maximum {most}\n")?;
@@ -76,7 +76,7 @@ pub(crate) fn push_maximum(alloc: Global, text: &mut Vec<u8>, most: u32) -> Resu
 }
 
 /// Appends the line of the score, the greatest score, and how many turns were taken.
-fn push_closing(
+fn push_last_line(
     alloc: Global,
     text: &mut Vec<u8>,
     score: u32,

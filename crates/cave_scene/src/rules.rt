@@ -60,7 +60,7 @@ impl<'a> Rules<'a> {
 
     /// The object of a name; object 0 where the cave has none.
     #[tactic(auto, unfolding(crate::specs::Rules::thing))]
-    pub fn object(&self, name: Named) -> Object
+    pub fn thing(&self, name: Named) -> Object
         ensures { result ≡ thing (cave_of self.now) name }
     {
         let object = self.called(name);
@@ -75,7 +75,7 @@ impl<'a> Rules<'a> {
     pub fn is(&self, object: Object, name: Named) -> bool
         ensures { result ≡ is_called (cave_of self.now) object name }
     {
-        !object.is_none() && self.object(name) == object
+        !object.is_none() && self.thing(name) == object
     }
 
     /// Whether an object is the one of one of the names.

@@ -130,7 +130,7 @@ fn magazine_points(rules: &Rules<'_>, state: &State) -> u32
     ensures most { result ≤ POINTS_OF_MAGAZINE }
 {
     let witt = place_named(rules.cave, PlaceRole::Witt);
-    if lies_at(state, rules.object(Named::Magazine), witt) {
+    if lies_at(state, rules.thing(Named::Magazine), witt) {
         POINTS_OF_MAGAZINE
     } else {
         0

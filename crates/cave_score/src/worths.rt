@@ -25,7 +25,7 @@ pub fn worth(rules: &Rules<'_>, treasure: Object) -> u32
     ensures least { WORTH_BEFORE_CHEST ≤ result }
     ensures most { result ≤ WORTH_AFTER_CHEST }
 {
-    let chest = rules.object(Named::Chest);
+    let chest = rules.thing(Named::Chest);
     if chest.is_none() || treasure.number() < chest.number() {
         WORTH_BEFORE_CHEST
     } else if treasure == chest {

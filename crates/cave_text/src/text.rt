@@ -61,7 +61,7 @@ fn push_class(cave: &Cave, score: u32, text: &mut Vec<u8>) -> Result<(), AllocEr
 }
 
 #[tactic(auto, unfolding(crate::specs::Text::text_of_part))]
-fn append(cave: &Cave, part: Part, turns: u32, text: &mut Vec<u8>) -> Result<(), AllocError>
+fn push_part(cave: &Cave, part: Part, turns: u32, text: &mut Vec<u8>) -> Result<(), AllocError>
     ensures ok { OnOk result (text.new.items ≡ text.old.items ++ text_of_part cave.now turns part) }
     ensures front { take (vec_len text.old) text.new.items ≡ text.old.items }
 {
@@ -91,7 +91,7 @@ fn push_all(cave: &Cave, parts: &[Part], turns: u32, text: &mut Vec<u8>) -> Resu
     ensures front { take (vec_len text.old) text.new.items ≡ text.old.items }
 {
     for part in parts {
-        append(cave, *part, turns, text)?;
+        push_part(cave, *part, turns, text)?;
     }
     Ok(())
 }

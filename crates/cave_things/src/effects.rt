@@ -16,7 +16,7 @@ fn vessel(rules: &Rules<'_>, state: &State, object: Object) -> Object
     ensures { result ≡ vessel (cave_of rules.now) state.now object }
 {
     if is_liquid(object, liquid(rules, state)) {
-        rules.object(Named::Bottle)
+        rules.thing(Named::Bottle)
     } else {
         object
     }
@@ -25,7 +25,7 @@ fn vessel(rules: &Rules<'_>, state: &State, object: Object) -> Object
 fn put_bird_down(rules: &Rules<'_>, object: Object, state: &mut State)
     ensures { state.new ≡ with_bird_in_cage (cave_of rules.now) object state.old }
 {
-    let bird = rules.object(Named::Bird);
+    let bird = rules.thing(Named::Bird);
     if rules.is(object, Named::Cage) && has_other_prop(state, bird, 0) {
         let here = state.trail.here;
         state.move_to(bird, here);
@@ -68,13 +68,13 @@ pub fn let_go(rules: &Rules<'_>, object: Object, state: &mut State)
 pub fn remove_troll(rules: &Rules<'_>, state: &mut State)
     ensures { state.new ≡ without_troll (cave_of rules.now) state.old }
 {
-    let troll = rules.object(Named::Troll);
-    let second = rules.object(Named::SecondTroll);
+    let troll = rules.thing(Named::Troll);
+    let second = rules.thing(Named::SecondTroll);
     state.move_to(troll, Place::new(0));
     state.objects.anchor_to(troll, Anchor::Loose);
     state.move_to(second, home(rules, troll));
     state.objects.anchor_to(second, hold(rules, troll));
-    state.objects.juggle(rules.object(Named::Chasm));
+    state.objects.juggle(rules.thing(Named::Chasm));
 }
 
 /// One treasure more can't be found any more.
@@ -89,7 +89,7 @@ pub fn lose_one(state: &mut State)
 pub fn lose_to_snake(rules: &Rules<'_>, state: &mut State)
     ensures { state.new ≡ after_loss_to_snake (cave_of rules.now) state.old }
 {
-    if is_at_home(rules, state, rules.object(Named::Snake)) {
+    if is_at_home(rules, state, rules.thing(Named::Snake)) {
         lose_one(state);
     }
 }

@@ -30,9 +30,9 @@ pub fn lake(rules: &Rules<'_>, state: &State) -> Option<Object>
         return None;
     }
     if has_condition_of(rules, here, Condition::Oil) {
-        Some(rules.object(Named::Oil))
+        Some(rules.thing(Named::Oil))
     } else {
-        Some(rules.object(Named::Water))
+        Some(rules.thing(Named::Water))
     }
 }
 
@@ -41,13 +41,13 @@ pub fn lake(rules: &Rules<'_>, state: &State) -> Option<Object>
 pub fn liquid(rules: &Rules<'_>, state: &State) -> Option<Object>
     ensures { result ≡ liquid_of (cave_of rules.now) state.now }
 {
-    let bottle = rules.object(Named::Bottle);
+    let bottle = rules.thing(Named::Bottle);
     if bottle.is_none() {
         return None;
     }
     match state.objects.prop(bottle).value() {
-        0 => Some(rules.object(Named::Water)),
-        2 => Some(rules.object(Named::Oil)),
+        0 => Some(rules.thing(Named::Water)),
+        2 => Some(rules.thing(Named::Oil)),
         _ => None,
     }
 }

@@ -19,13 +19,14 @@ pub fn is_in_hand(rules: &Rules<'_>, state: &State, object: Object) -> bool
     ensures { result ≡ is_in_hand (cave_of rules.now) state.now object }
 {
     if rules.is(object, Named::Water) || rules.is(object, Named::Oil) {
-        return state.is_carried(rules.object(Named::Bottle))
+        return state.is_carried(rules.thing(Named::Bottle))
             && is_liquid(object, liquid(rules, state));
     }
     state.is_carried(object)
 }
 
-/// Whether an object is carried, or its first half is where the player is.
+/// Whether an object is in the player's hands, as a liquid is with its bottle, or its first half is
+/// where the player is.
 #[tactic(auto, unfolding(crate::specs::Reach::is_near))]
 pub fn is_near(rules: &Rules<'_>, state: &State, object: Object) -> bool
     ensures { result ≡ is_near (cave_of rules.now) state.now object }

@@ -12,7 +12,7 @@ ghost use Rattle.cave_turn.specs.Answers.{end_of_answer, answer_scene, answers, 
 ghost use Rattle.cave_turn.specs.Answers.{is_dragon, is_yes};
 
 use crate::dragon::fight;
-use crate::finish::finish;
+use crate::finish::end_turn;
 use crate::revival::{bury, come_back};
 use cave_ends::{end, tell_question};
 use cave_hints::{give_hint, price};
@@ -52,8 +52,8 @@ pub fn take_answer(
 {
     let answer = answer_in(rules, line);
     let mut play = Play::open(state, out, false);
-    take(rules, question, answer, &mut play);
-    conclude(rules, question, &mut play);
+    take_reply(rules, question, answer, &mut play);
+    end_answer(rules, question, &mut play);
 }
 
 fn answer_of(word: Word) -> Answer
@@ -88,7 +88,7 @@ fn instruct(state: &mut State)
 }
 
 /// The question is answered.
-pub fn close(state: &mut State)
+pub fn close_question(state: &mut State)
     ensures { state.new ≡ without_question state.old }
 {
     state.question = None;
@@ -115,7 +115,7 @@ fn quit(rules: &Rules<'_>, play: &mut Play<'_>)
     end(rules, Ending::Quit, play);
 }
 
-fn agree(rules: &Rules<'_>, question: &Question, play: &mut Play<'_>)
+fn say_yes(rules: &Rules<'_>, question: &Question, play: &mut Play<'_>)
     requires { HasRoom (parts_of_arrival play.old.left + 1) play.old }
     ensures play { scene_of play.new
         ≡ yes_scene (cave_of rules.now) question.now (scene_of play.old) }
@@ -140,7 +140,7 @@ fn agree(rules: &Rules<'_>, question: &Question, play: &mut Play<'_>)
     }
 }
 
-fn decline(rules: &Rules<'_>, question: &Question, play: &mut Play<'_>)
+fn say_no(rules: &Rules<'_>, question: &Question, play: &mut Play<'_>)
     requires { HasRoom (parts_of_arrival play.old.left + 1) play.old }
     ensures play { scene_of play.new
         ≡ no_scene (cave_of rules.now) question.now (scene_of play.old) }
@@ -159,7 +159,7 @@ fn decline(rules: &Rules<'_>, question: &Question, play: &mut Play<'_>)
     }
 }
 
-fn take(rules: &Rules<'_>, question: &Question, answer: Answer, play: &mut Play<'_>)
+fn take_reply(rules: &Rules<'_>, question: &Question, answer: Answer, play: &mut Play<'_>)
     requires { HasRoom (parts_of_arrival play.old.left + 1) play.old }
     ensures play { scene_of play.new
         ≡ reply_scene (cave_of rules.now) question.now answer (scene_of play.old) }
@@ -168,12 +168,12 @@ fn take(rules: &Rules<'_>, question: &Question, answer: Answer, play: &mut Play<
 {
     match answer {
         Answer::Yes => {
-            close(play.state);
-            agree(rules, question, play)
+            close_question(play.state);
+            say_yes(rules, question, play)
         }
         Answer::No => {
-            close(play.state);
-            decline(rules, question, play)
+            close_question(play.state);
+            say_no(rules, question, play)
         }
         Answer::Neither => {
             play.say(Role::Answer);
@@ -189,7 +189,7 @@ fn is_of_hint(question: &Question) -> bool
 }
 
 /// The turn ends, except after an answer about a hint.
-fn conclude(rules: &Rules<'_>, question: &Question, play: &mut Play<'_>)
+fn end_answer(rules: &Rules<'_>, question: &Question, play: &mut Play<'_>)
     requires { HasRoom (parts_of_finish + parts_of_question) play.old }
     ensures play { scene_of play.new
         ≡ end_of_answer (cave_of rules.now) question.now (scene_of play.old) }
@@ -197,7 +197,7 @@ fn conclude(rules: &Rules<'_>, question: &Question, play: &mut Play<'_>)
     ensures few { SaysUpTo parts_of_finish play.old play.new }
 {
     if !is_of_hint(question) {
-        finish(rules, play);
+        end_turn(rules, play);
     }
 }
 

@@ -19,11 +19,11 @@ ghost use Rattle.cave_turn.specs.Commands.{after_clocks};
 ghost use Rattle.cave_turn.specs.Commands.{clocks_scene, command_scene, words_done_by_action};
 ghost use Rattle.cave_orders.specs.Verbs.{verb_of};
 
-use crate::finish::finish;
+use crate::finish::end_turn;
 use crate::request::{HalfCommand, Request, Understood, read_words};
 use cave_clocks::{Clocks, run_clocks};
 use cave_ends::{ask, end};
-use cave_moves::{arrive, describe_here, lead_by_request};
+use cave_moves::{arrive, describe_here, journey_by_request};
 use cave_objects::{Object, Place};
 use cave_orders::{Next, Order, Verb, tell_default};
 use cave_rows::Role;
@@ -41,11 +41,11 @@ pub fn command(rules: &Rules<'_>, line: &[u8], state: &mut State, out: &mut Out)
     ensures few { array_vec_len out.new ≤ parts_of_command }
 {
     begin_command(state);
-    let was_dark = state.is_dark(rules.cave, rules.object(Named::Lamp));
+    let was_dark = state.is_dark(rules.cave, rules.thing(Named::Lamp));
     let words = rules.words_of(line);
     let mut play = Play::open(state, out, was_dark);
-    do_in_time(rules, words, &mut play);
-    finish(rules, &mut play);
+    do_by_clocks(rules, words, &mut play);
+    end_turn(rules, &mut play);
 }
 
 /// The magic words go on from where the last command left them, and stop where it left them twice.
@@ -87,7 +87,7 @@ fn travel_by(rules: &Rules<'_>, motion: u16, play: &mut Play<'_>)
     ensures same { IsSamePlay play.old play.new }
     ensures few { SaysUpTo (parts_of_arrival play.old.left + parts_of_journey) play.old play.new }
 {
-    let place = lead_by_request(rules, motion, play);
+    let place = journey_by_request(rules, motion, play);
     arrive(rules, place, play);
 }
 
@@ -128,7 +128,7 @@ fn tell_of_knives(play: &mut Play<'_>)
 }
 
 /// Does what a verb left to the turn.
-fn follow(rules: &Rules<'_>, next: &Next, play: &mut Play<'_>)
+fn do_next(rules: &Rules<'_>, next: &Next, play: &mut Play<'_>)
     requires { HasRoom (parts_of_arrival play.old.left) play.old }
     ensures play { scene_of play.new ≡ next_scene (cave_of rules.now) next.now (scene_of play.old) }
     ensures same { IsSamePlay play.old play.new }
@@ -167,7 +167,7 @@ fn do_verb(rules: &Rules<'_>, order: Order, play: &mut Play<'_>) -> Option<HalfC
 {
     let verb = order.verb.number();
     let next = act(rules, order, play);
-    follow(rules, &next, play);
+    do_next(rules, &next, play);
     half_command_kept(&next, verb)
 }
 
@@ -284,7 +284,7 @@ fn do_words(rules: &Rules<'_>, words: Words, play: &mut Play<'_>)
 
 /// A command that isn't read leaves nothing for the next line.
 #[tactic(auto, unfolding(crate::specs::Commands::kept_scene))]
-fn forget(play: &mut Play<'_>)
+fn leave_unread(play: &mut Play<'_>)
     ensures play { scene_of play.new ≡ unread_scene (scene_of play.old) }
     ensures same { GoesOn play.old play.new }
     ensures few { SaysUpTo 0 play.old play.new }
@@ -293,7 +293,7 @@ fn forget(play: &mut Play<'_>)
 }
 
 /// Does what the clocks leave of a command.
-fn go_on(rules: &Rules<'_>, words: Words, clocks: Clocks, play: &mut Play<'_>)
+fn go_on_after_clocks(rules: &Rules<'_>, words: Words, clocks: Clocks, play: &mut Play<'_>)
     requires { HasRoom (room_of_request play.old.left) play.old }
     ensures play { scene_of play.new
         ≡ after_clocks (cave_of rules.now) words clocks (scene_of play.old) }
@@ -304,23 +304,23 @@ fn go_on(rules: &Rules<'_>, words: Words, clocks: Clocks, play: &mut Play<'_>)
         Clocks::GoOn => do_words(rules, words, play),
         Clocks::GaveUp => {
             end(rules, Ending::Quit, play);
-            forget(play);
+            leave_unread(play);
         }
         Clocks::Closed(place) => {
             arrive(rules, place, play);
-            forget(play);
+            leave_unread(play);
         }
     }
 }
 
 /// The clocks run, and the words of the line are done.
 #[tactic(auto, unfolding(crate::specs::Commands::clocks_scene))]
-fn do_in_time(rules: &Rules<'_>, words: Words, play: &mut Play<'_>)
+fn do_by_clocks(rules: &Rules<'_>, words: Words, play: &mut Play<'_>)
     requires { HasRoom (room_of_timed_request play.old.left) play.old }
     ensures play { scene_of play.new ≡ clocks_scene (cave_of rules.now) words (scene_of play.old) }
     ensures same { IsSamePlay play.old play.new }
     ensures few { SaysUpTo (parts_of_timed_request play.old.left) play.old play.new }
 {
     let clocks = run_clocks(rules, play);
-    go_on(rules, words, clocks, play);
+    go_on_after_clocks(rules, words, clocks, play);
 }

@@ -31,7 +31,7 @@ fn between(one: Place, other: Place, here: Place) -> Place
 fn lair(rules: &Rules<'_>, state: &State) -> Place
     ensures { result ≡ lair (cave_of rules.now) state.now }
 {
-    let dragon = rules.object(Named::Dragon);
+    let dragon = rules.thing(Named::Dragon);
     between(
         home(rules, dragon),
         second_home(rules, dragon),
@@ -43,7 +43,7 @@ fn lair(rules: &Rules<'_>, state: &State) -> Place
 fn is_by_dragon(rules: &Rules<'_>, objects: &Objects, object: Object) -> bool
     ensures { result ≡ is_by_dragon (cave_of rules.now) objects.now object }
 {
-    let dragon = rules.object(Named::Dragon);
+    let dragon = rules.thing(Named::Dragon);
     let one = home(rules, dragon);
     let other = second_home(rules, dragon);
     (one.number() != 0 && objects.is_first_at(one, object))
@@ -67,8 +67,8 @@ fn gather(rules: &Rules<'_>, place: Place, objects: &mut Objects)
 fn slay(rules: &Rules<'_>, place: Place, objects: &mut Objects)
     ensures { objects.new ≡ after_slaying (cave_of rules.now) place objects.old }
 {
-    let dragon = rules.object(Named::Dragon);
-    let rug = rules.object(Named::Rug);
+    let dragon = rules.thing(Named::Dragon);
+    let rug = rules.thing(Named::Rug);
     objects.set_prop(dragon, Prop::new(2));
     objects.set_prop(rug, Prop::new(0));
     objects.anchor_to(dragon, Anchor::Fixed);
@@ -95,7 +95,7 @@ pub fn fight(rules: &Rules<'_>, play: &mut Play<'_>)
     ensures few { SaysUpTo (parts_of_arrival play.old.left + 1) play.old play.new }
 {
     let place = lair(rules, play.state);
-    play.look(rules.object(Named::Dragon), 1);
+    play.look(rules.thing(Named::Dragon), 1);
     clear(rules, place, play.state);
     play.put_player_at(place);
     arrive(rules, place, play);

@@ -16,7 +16,7 @@ use cave_words::Named;
 
 /// A turn ends; after a question or the end of the game nothing more is done.
 #[tactic(auto, unfolding(crate::specs::Finish::end_of_turn))]
-pub fn finish(rules: &Rules<'_>, play: &mut Play<'_>)
+pub fn end_turn(rules: &Rules<'_>, play: &mut Play<'_>)
     requires { HasRoom (parts_of_finish + parts_of_question) play.old }
     ensures play { scene_of play.new ≡ end_of_turn (cave_of rules.now) (scene_of play.old) }
     ensures same { GoesOn play.old play.new }
@@ -44,7 +44,7 @@ fn show_oyster(rules: &Rules<'_>, play: &mut Play<'_>)
     ensures same { GoesOn play.old play.new }
     ensures few { SaysUpTo 1 play.old play.new }
 {
-    let oyster = rules.object(Named::Oyster);
+    let oyster = rules.thing(Named::Oyster);
     if is_hidden_in_hand(&play.state.objects, oyster) {
         play.look(oyster, 1);
     }

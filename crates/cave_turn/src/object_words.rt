@@ -52,12 +52,12 @@ pub fn object_word(
         return ObjectWord::Is(object);
     }
     if is_grown_plant(rules, state, object) {
-        return ObjectWord::Is(rules.object(Named::SecondPlant));
+        return ObjectWord::Is(rules.thing(Named::SecondPlant));
     }
     if rules.is(object, Named::Knife) && is_knife_at(here, state.dwarves.knife) {
         return ObjectWord::Knives;
     }
-    let second_rod = rules.object(Named::SecondRod);
+    let second_rod = rules.thing(Named::SecondRod);
     if rules.is(object, Named::Rod) && is_near(rules, state, second_rod) {
         return ObjectWord::Is(second_rod);
     }
@@ -79,7 +79,7 @@ fn is_there(rules: &Rules<'_>, state: &State, object: Object) -> bool
 fn is_liquid_here(rules: &Rules<'_>, state: &State, object: Object) -> bool
     ensures { result ≡ is_liquid_here (cave_of rules.now) state.now object }
 {
-    (is_liquid(object, liquid(rules, state)) && is_near(rules, state, rules.object(Named::Bottle)))
+    (is_liquid(object, liquid(rules, state)) && is_near(rules, state, rules.thing(Named::Bottle)))
         || is_liquid(object, lake(rules, state))
 }
 
@@ -88,7 +88,7 @@ fn is_liquid_here(rules: &Rules<'_>, state: &State, object: Object) -> bool
 fn is_grown_plant(rules: &Rules<'_>, state: &State, object: Object) -> bool
     ensures { result ≡ is_grown_plant (cave_of rules.now) state.now object }
 {
-    let grown = rules.object(Named::SecondPlant);
+    let grown = rules.thing(Named::SecondPlant);
     rules.is(object, Named::Plant) && state.is_here(grown) && has_other_prop(state, grown, 0)
 }
 

@@ -284,7 +284,7 @@ fn before(
 fn enter_stream(rules: &Rules<'_>, state: &State, half: HalfCommand) -> Understood
     ensures { result ≡ enter_stream (cave_of rules.now) state.now half }
 {
-    if is_liquid(rules.object(Named::Water), lake(rules, state)) {
+    if is_liquid(rules.thing(Named::Water), lake(rules, state)) {
         half.asks(Request::Tell(Part::Role(Role::FeetWet)))
     } else {
         half.asks(Request::Tell(Part::Role(Role::Where)))
@@ -308,8 +308,8 @@ fn is_pouring(rules: &Rules<'_>, state: &State, word: Word, next: Word) -> bool
     ensures { result ≡ is_pouring (cave_of rules.now) state.now word next }
 {
     (word.is(b"WATER") || word.is(b"OIL"))
-        && ((next.is(b"PLANT") && state.is_here(rules.object(Named::Plant)))
-            || (next.is(b"DOOR") && state.is_here(rules.object(Named::Door))))
+        && ((next.is(b"PLANT") && state.is_here(rules.thing(Named::Plant)))
+            || (next.is(b"DOOR") && state.is_here(rules.thing(Named::Door))))
 }
 
 fn pour_in(rules: &Rules<'_>) -> SaidWord

@@ -37,7 +37,7 @@ fn put_lamp_out(rules: &Rules<'_>, state: &mut State)
     ensures { state.new
         ≡ record state.old { objects = layout_with_lamp_out (cave_of rules.now) state.old } }
 {
-    let lamp = rules.object(Named::Lamp);
+    let lamp = rules.thing(Named::Lamp);
     if is_in_hand(rules, state, lamp) {
         state.objects.set_prop(lamp, Prop::new(0));
     }

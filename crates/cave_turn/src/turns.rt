@@ -5,7 +5,7 @@ ghost use Rattle.cave_scene.specs.Bounds.{parts_of_turn};
 ghost use Rattle.cave_scene.specs.Rules.{cave_of};
 ghost use Rattle.cave_turn.specs.Turns.{game_beginning, turn_on_line, turn_of_input};
 
-use crate::answers::{answers, close, take_answer};
+use crate::answers::{answers, close_question, take_answer};
 use crate::commands::command;
 use cave_begin::begun_state;
 use cave_data::Cave;
@@ -40,7 +40,7 @@ pub fn take_line(
             state.stream = Stream::seeded(seed);
             false
         }
-        LogLine::Input => play(rules, line, state, out),
+        LogLine::Input => play_turn(rules, line, state, out),
     }
 }
 
@@ -55,7 +55,7 @@ pub fn start(cave: &Cave, seed: u32, out: &mut Out) -> State
 }
 
 /// Plays a line of input. Returns whether it is a turn of the game.
-fn play(rules: &Rules<'_>, line: &[u8], state: &mut State, out: &mut Out) -> bool
+fn play_turn(rules: &Rules<'_>, line: &[u8], state: &mut State, out: &mut Out) -> bool
     requires { out.old.items ≡ [] }
     ensures turn { record { state = state.new; parts = out.new.items; ticked = result }
         ≡ turn_of_input (cave_of rules.now) line.now state.old.ending state.old.question state.old }
@@ -67,7 +67,7 @@ fn play(rules: &Rules<'_>, line: &[u8], state: &mut State, out: &mut Out) -> boo
     match state.question {
         Some(question) => {
             if !answers(rules, line, &question) {
-                close(state);
+                close_question(state);
                 command(rules, line, state, out);
                 return true;
             }

@@ -15,7 +15,7 @@ pub fn blast(rules: &Rules<'_>, order: Order, play: &mut Play<'_>) -> Next
     requires { HasRoom 1 play.old }
     ensures row { DoneByRows blast_rows rules.now order play.old play.new result }
 {
-    let rod = rules.object(Named::SecondRod);
+    let rod = rules.thing(Named::SecondRod);
     if !play.state.closing.is_closed || has_prop_up_to(play.state, rod, -1) {
         return order.say_default(rules, play);
     }

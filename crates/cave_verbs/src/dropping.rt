@@ -31,7 +31,7 @@ fn drop_bird_by_snake(rules: &Rules<'_>, order: Order, play: &mut Play<'_>) -> N
         play.say(Role::BirdSnake);
         return Next::disturb(play);
     }
-    let snake = rules.object(Named::Snake);
+    let snake = rules.thing(Named::Snake);
     play.state.destroy(snake);
     play.state.objects.set_prop(snake, Prop::new(1));
     put_down(rules, order.object, play.state);
@@ -47,7 +47,7 @@ fn drop_vase(rules: &Rules<'_>, order: Order, play: &mut Play<'_>) -> Next
     ensures row { DoneByRows drop_vase_rows rules.now order play.old play.new result }
 {
     let x = order.object;
-    if play.state.is_here(rules.object(Named::Pillow)) {
+    if play.state.is_here(rules.thing(Named::Pillow)) {
         play.state.objects.set_prop(x, Prop::new(0));
         play.look(x, 1);
     } else {
@@ -69,38 +69,38 @@ pub fn drop_object(rules: &Rules<'_>, order: Order, play: &mut Play<'_>) -> Step
 {
     let x = order.object;
     if !is_in_hand(rules, play.state, x) {
-        let second_rod = rules.object(Named::SecondRod);
+        let second_rod = rules.thing(Named::SecondRod);
         if rules.is(x, Named::Rod) && is_in_hand(rules, play.state, second_rod) {
             return Step::GoOn(Verb::Drop, second_rod);
         }
         return Step::Done(order.say_default(rules, play));
     }
-    if rules.is(x, Named::Bird) && is_near(rules, play.state, rules.object(Named::Snake)) {
+    if rules.is(x, Named::Bird) && is_near(rules, play.state, rules.thing(Named::Snake)) {
         return Step::Done(drop_bird_by_snake(rules, order, play));
     }
-    if rules.is(x, Named::Coins) && is_near(rules, play.state, rules.object(Named::Vending)) {
-        let batteries = rules.object(Named::Batteries);
+    if rules.is(x, Named::Coins) && is_near(rules, play.state, rules.thing(Named::Vending)) {
+        let batteries = rules.thing(Named::Batteries);
         play.state.destroy(x);
         let here = play.state.trail.here;
         play.state.move_to(batteries, here);
         play.look(batteries, 0);
         return Step::Done(Next::Stay);
     }
-    let dragon = rules.object(Named::Dragon);
+    let dragon = rules.thing(Named::Dragon);
     if rules.is(x, Named::Bird) && play.state.is_here(dragon) && has_prop(play.state, dragon, 0) {
         play.state.destroy(x);
         play.state.objects.set_prop(x, Prop::new(0));
         lose_to_snake(rules, play.state);
         return Step::Done(Next::say(Role::BirdDragon, play));
     }
-    let troll = rules.object(Named::Troll);
+    let troll = rules.thing(Named::Troll);
     if rules.is(x, Named::Bear) && play.state.is_here(troll) {
         remove_troll(rules, play.state);
         play.state.objects.set_prop(troll, Prop::new(2));
         put_down(rules, x, play.state);
         return Step::Done(Next::say(Role::TrollFlees, play));
     }
-    let pillow = rules.object(Named::Pillow);
+    let pillow = rules.thing(Named::Pillow);
     if rules.is(x, Named::Vase) && is_home_elsewhere(rules, play.state, pillow) {
         return Step::Done(drop_vase(rules, order, play));
     }

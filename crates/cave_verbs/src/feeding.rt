@@ -32,8 +32,8 @@ pub fn feed(rules: &Rules<'_>, order: Order, play: &mut Play<'_>) -> Next
     ensures row { DoneByRows feed_rows rules.now order play.old play.new result }
 {
     let x = order.object;
-    let bird = rules.object(Named::Bird);
-    let food = rules.object(Named::Food);
+    let bird = rules.thing(Named::Bird);
+    let food = rules.thing(Named::Food);
     let role = if rules.is(x, Named::Bird) {
         Role::BirdFeed
     } else if rules.is(x, Named::Snake)
@@ -71,11 +71,11 @@ fn feed_bear(rules: &Rules<'_>, order: Order, play: &mut Play<'_>) -> Next
     ensures row { DoneByRows feed_bear_rows rules.now order play.old play.new result }
 {
     let bear = order.object;
-    let food = rules.object(Named::Food);
+    let food = rules.thing(Named::Food);
     if is_near(rules, play.state, food) {
         play.state.destroy(food);
         play.state.objects.set_prop(bear, Prop::new(1));
-        let axe = rules.object(Named::Axe);
+        let axe = rules.thing(Named::Axe);
         play.state.objects.anchor_to(axe, Anchor::Loose);
         play.state.objects.set_prop(axe, Prop::new(0));
         return Next::say(Role::BearFed, play);
@@ -96,7 +96,7 @@ pub fn eat_what_is_here(rules: &Rules<'_>, order: Order, play: &mut Play<'_>) ->
     ensures row { ByRows bare_eat_rows rules.now order play.old play.new result }
     ensures ranks { rank_of (cave_of rules.now) result ≤ 1 }
 {
-    let food = rules.object(Named::Food);
+    let food = rules.thing(Named::Food);
     if is_near(rules, play.state, food) {
         return Step::GoOn(Verb::Eat, food);
     }

@@ -30,8 +30,7 @@ pub fn find(rules: &Rules<'_>, order: Order, play: &mut Play<'_>) -> Next
     } else if play.state.closing.is_closed {
         Role::Around
     } else if play.state.is_here(x)
-        || is_liquid(x, liquid(rules, play.state))
-            && play.state.is_here(rules.object(Named::Bottle))
+        || is_liquid(x, liquid(rules, play.state)) && play.state.is_here(rules.thing(Named::Bottle))
         || is_liquid(x, lake(rules, play.state))
         || rules.is(x, Named::Dwarf) && is_dwarf_here(play.state)
     {
@@ -82,7 +81,7 @@ fn tell_bear(rules: &Rules<'_>, play: &mut Play<'_>) -> Next
     ensures few { SaysUpTo 1 play.old play.new }
     ensures next { result ≡ Stay }
 {
-    if is_in_hand(rules, play.state, rules.object(Named::Bear)) {
+    if is_in_hand(rules, play.state, rules.thing(Named::Bear)) {
         play.say(Role::BearFollows);
     }
     Next::Stay

@@ -9,7 +9,7 @@ ghost use Rattle.cave_verbs.specs.Killing.{foes, prey, bare_kill_rows, kill_rows
 
 use arrayvec::ArrayVec;
 use cave_objects::Prop;
-use cave_orders::choice::{Meant, consider, first, several};
+use cave_orders::choice::{Meant, add_meant, first, several};
 use cave_orders::{Next, Order, Step, Verb};
 use cave_rows::Role;
 use cave_scene::{Play, Rules};
@@ -21,19 +21,19 @@ use cave_world::Question;
 fn foes(rules: &Rules<'_>, order: &Order, play: &Play<'_>) -> Meant
     ensures { result.items ≡ foes (deed (cave_of rules.now) order.now (scene_of play.now)) }
 {
-    let dwarf = rules.object(Named::Dwarf);
-    let snake = rules.object(Named::Snake);
-    let dragon = rules.object(Named::Dragon);
-    let troll = rules.object(Named::Troll);
-    let bear = rules.object(Named::Bear);
+    let dwarf = rules.thing(Named::Dwarf);
+    let snake = rules.thing(Named::Snake);
+    let dragon = rules.thing(Named::Dragon);
+    let troll = rules.thing(Named::Troll);
+    let bear = rules.thing(Named::Bear);
     let is_dragon_alive = play.state.is_here(dragon) && has_prop(play.state, dragon, 0);
     let is_bear_wild = is_near(rules, play.state, bear) && has_prop(play.state, bear, 0);
     let mut foes = ArrayVec::new();
-    consider(is_dwarf_here(play.state), dwarf, &mut foes);
-    consider(is_near(rules, play.state, snake), snake, &mut foes);
-    consider(is_dragon_alive, dragon, &mut foes);
-    consider(play.state.is_here(troll), troll, &mut foes);
-    consider(is_bear_wild, bear, &mut foes);
+    add_meant(is_dwarf_here(play.state), dwarf, &mut foes);
+    add_meant(is_near(rules, play.state, snake), snake, &mut foes);
+    add_meant(is_dragon_alive, dragon, &mut foes);
+    add_meant(play.state.is_here(troll), troll, &mut foes);
+    add_meant(is_bear_wild, bear, &mut foes);
     foes
 }
 
@@ -41,14 +41,14 @@ fn foes(rules: &Rules<'_>, order: &Order, play: &Play<'_>) -> Meant
 fn prey(rules: &Rules<'_>, order: &Order, play: &Play<'_>) -> Meant
     ensures { result.items ≡ prey (deed (cave_of rules.now) order.now (scene_of play.now)) }
 {
-    let bird = rules.object(Named::Bird);
-    let clam = rules.object(Named::Clam);
-    let oyster = rules.object(Named::Oyster);
+    let bird = rules.thing(Named::Bird);
+    let clam = rules.thing(Named::Clam);
+    let oyster = rules.thing(Named::Oyster);
     let is_bird_meant = is_near(rules, play.state, bird) && !order.commanded.is(Verb::Throw);
     let is_shell_near = is_near(rules, play.state, clam) || is_near(rules, play.state, oyster);
     let mut prey = ArrayVec::new();
-    consider(is_bird_meant, bird, &mut prey);
-    consider(is_shell_near, clam, &mut prey);
+    add_meant(is_bird_meant, bird, &mut prey);
+    add_meant(is_shell_near, clam, &mut prey);
     prey
 }
 

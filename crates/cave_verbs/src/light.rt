@@ -15,7 +15,7 @@ pub fn turn_on(rules: &Rules<'_>, order: Order, play: &mut Play<'_>) -> Next
     requires { HasRoom parts_of_row play.old }
     ensures row { DoneByRows on_rows rules.now order play.old play.new result }
 {
-    let lamp = rules.object(Named::Lamp);
+    let lamp = rules.thing(Named::Lamp);
     if !is_near(rules, play.state, lamp) {
         return order.say_default(rules, play);
     }
@@ -36,7 +36,7 @@ pub fn turn_off(rules: &Rules<'_>, order: Order, play: &mut Play<'_>) -> Next
     requires { HasRoom parts_of_row play.old }
     ensures row { DoneByRows off_rows rules.now order play.old play.new result }
 {
-    let lamp = rules.object(Named::Lamp);
+    let lamp = rules.thing(Named::Lamp);
     if !is_near(rules, play.state, lamp) {
         return order.say_default(rules, play);
     }

@@ -95,7 +95,7 @@ pub fn foo(rules: &Rules<'_>, order: Order, play: &mut Play<'_>) -> Next
         remember(play.state, k);
         return Next::say(Role::Ok, play);
     }
-    let (eggs, troll) = (rules.object(Named::Eggs), rules.object(Named::Troll));
+    let (eggs, troll) = (rules.thing(Named::Eggs), rules.thing(Named::Troll));
     if eggs.is_none()
         || is_at_home(rules, play.state, eggs)
         || is_in_hand(rules, play.state, eggs) && is_home_here(rules, play.state, eggs)

@@ -23,19 +23,19 @@ use cave_world::State;
 fn lock_meant(rules: &Rules<'_>, state: &State) -> Object
     ensures { result ≡ lock_meant (cave_of rules.now) state.now }
 {
-    let grate = rules.object(Named::Grate);
+    let grate = rules.thing(Named::Grate);
     if state.is_here(grate) {
         return grate;
     }
-    let door = rules.object(Named::Door);
+    let door = rules.thing(Named::Door);
     if state.is_here(door) {
         return door;
     }
-    let oyster = rules.object(Named::Oyster);
+    let oyster = rules.thing(Named::Oyster);
     if is_near(rules, state, oyster) {
         return oyster;
     }
-    let clam = rules.object(Named::Clam);
+    let clam = rules.thing(Named::Clam);
     if is_near(rules, state, clam) {
         return clam;
     }
@@ -51,7 +51,7 @@ pub fn open_what_is_here(rules: &Rules<'_>, order: Order, play: &mut Play<'_>) -
     ensures ranks { rank_of (cave_of rules.now) result ≤ 1 }
 {
     let meant = lock_meant(rules, play.state);
-    let chain = rules.object(Named::Chain);
+    let chain = rules.thing(Named::Chain);
     let is_chain_near = is_near(rules, play.state, chain);
     if !meant.is_none() && is_chain_near {
         return Step::Done(order.ask_what(rules, play));
@@ -85,7 +85,7 @@ fn open_shell(rules: &Rules<'_>, order: Order, play: &mut Play<'_>) -> Next
 {
     let x = order.object;
     let is_clam = rules.is(x, Named::Clam);
-    let has_trident = is_in_hand(rules, play.state, rules.object(Named::Trident));
+    let has_trident = is_in_hand(rules, play.state, rules.thing(Named::Trident));
     let role = if order.verb.is(Verb::Lock) {
         Role::LockWhat
     } else if is_clam && !has_trident {
@@ -99,9 +99,9 @@ fn open_shell(rules: &Rules<'_>, order: Order, play: &mut Play<'_>) -> Next
     } else if is_clam {
         play.state.destroy(x);
         let here = play.state.trail.here;
-        play.state.move_to(rules.object(Named::Oyster), here);
+        play.state.move_to(rules.thing(Named::Oyster), here);
         let culdesac = place_named(rules.cave, PlaceRole::Culdesac);
-        send(rules.object(Named::Pearl), culdesac, play.state);
+        send(rules.thing(Named::Pearl), culdesac, play.state);
         Role::Pearl
     } else {
         Role::OysterOpen
@@ -143,7 +143,7 @@ fn open_chain(rules: &Rules<'_>, order: Order, play: &mut Play<'_>) -> Next
     ensures row { DoneByRows chain_rows rules.now order play.old play.new result }
 {
     let x = order.object;
-    let bear = rules.object(Named::Bear);
+    let bear = rules.thing(Named::Bear);
     let is_opening = order.verb.is(Verb::Open);
     let role = if is_opening && has_prop(play.state, x, 0) {
         Role::WasUnlocked
@@ -182,7 +182,7 @@ pub fn open(rules: &Rules<'_>, order: Order, play: &mut Play<'_>) -> Next
     let x = order.object;
     let is_grate = rules.is(x, Named::Grate);
     let is_chain = rules.is(x, Named::Chain);
-    let has_keys = is_near(rules, play.state, rules.object(Named::Keys));
+    let has_keys = is_near(rules, play.state, rules.thing(Named::Keys));
     let role = if rules.is(x, Named::Clam) || rules.is(x, Named::Oyster) {
         return open_shell(rules, order, play);
     } else if rules.is(x, Named::Door) && has_prop(play.state, x, 1) {

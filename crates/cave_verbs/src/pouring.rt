@@ -53,11 +53,11 @@ fn water_plant(rules: &Rules<'_>, order: Order, play: &mut Play<'_>) -> Next
     ensures row { DoneByRow (row_then [] plant_watered again) rules.now order play.old play.new
         result }
 {
-    let plant = rules.object(Named::Plant);
+    let plant = rules.thing(Named::Plant);
     let prop = play.state.objects.prop(plant);
     play.look(plant, above(prop));
     play.state.objects.set_prop(plant, grown(prop));
-    let second_plant = rules.object(Named::SecondPlant);
+    let second_plant = rules.thing(Named::SecondPlant);
     let half = half(play.state.objects.prop(plant));
     play.state.objects.set_prop(second_plant, half);
     Next::Arrive(play.state.trail.here)
@@ -83,8 +83,8 @@ pub fn pour(rules: &Rules<'_>, order: Order, play: &mut Play<'_>) -> Next
     if !is_water && !is_oil {
         return Next::say(Role::CantPour, play);
     }
-    let bottle = rules.object(Named::Bottle);
-    let door = rules.object(Named::Door);
+    let bottle = rules.thing(Named::Bottle);
+    let door = rules.thing(Named::Door);
     if play.state.is_here(door) {
         play.state.objects.set_prop(bottle, Prop::new(1));
         if is_oil {
@@ -94,7 +94,7 @@ pub fn pour(rules: &Rules<'_>, order: Order, play: &mut Play<'_>) -> Next
         play.state.objects.set_prop(door, Prop::new(0));
         return Next::say(Role::DoorWet, play);
     }
-    if play.state.is_here(rules.object(Named::Plant)) {
+    if play.state.is_here(rules.thing(Named::Plant)) {
         play.state.objects.set_prop(bottle, Prop::new(1));
         if is_water {
             return water_plant(rules, order, play);
@@ -112,8 +112,8 @@ pub fn drink(rules: &Rules<'_>, order: Order, play: &mut Play<'_>) -> Next
     ensures row { DoneByRows drink_rows rules.now order play.old play.new result }
 {
     let x = order.object;
-    let water = rules.object(Named::Water);
-    let bottle = rules.object(Named::Bottle);
+    let water = rules.thing(Named::Water);
+    let bottle = rules.thing(Named::Bottle);
     let has_water = is_liquid(water, liquid(rules, play.state))
         && is_near(rules, play.state, bottle);
     if x.is_none() && !is_liquid(water, lake(rules, play.state)) && !has_water {
@@ -136,7 +136,7 @@ pub fn fill_what(rules: &Rules<'_>, order: Order, play: &mut Play<'_>) -> Step
     ensures row { ByRows bare_fill_rows rules.now order play.old play.new result }
     ensures ranks { rank_of (cave_of rules.now) result ≤ 1 }
 {
-    let bottle = rules.object(Named::Bottle);
+    let bottle = rules.thing(Named::Bottle);
     if is_near(rules, play.state, bottle) {
         return Step::GoOn(Verb::Fill, bottle);
     }
@@ -168,7 +168,7 @@ pub fn fill(rules: &Rules<'_>, order: Order, play: &mut Play<'_>) -> Next
         Role::BottleFull
     } else if lake_here.is_none() {
         Role::NoLake
-    } else if is_liquid(rules.object(Named::Oil), lake_here) {
+    } else if is_liquid(rules.thing(Named::Oil), lake_here) {
         play.state.objects.set_prop(x, Prop::new(2));
         Role::FilledOil
     } else {

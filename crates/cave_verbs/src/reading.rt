@@ -9,7 +9,7 @@ ghost use Rattle.cave_verbs.specs.Reading.{papers, what_to_read, bare_read_rows,
 
 use arrayvec::ArrayVec;
 use cave_objects::Object;
-use cave_orders::choice::{Meant, consider, only};
+use cave_orders::choice::{Meant, add_meant, only};
 use cave_orders::{Next, Order, Step, Verb};
 use cave_rows::Role;
 use cave_scene::{Play, Rules};
@@ -21,13 +21,13 @@ use cave_world::{CLUE_HINT, HintNumber, Part, Question, WordLine};
 fn papers(rules: &Rules<'_>, order: &Order, play: &Play<'_>) -> Meant
     ensures { result.items ≡ papers (deed (cave_of rules.now) order.now (scene_of play.now)) }
 {
-    let magazine = rules.object(Named::Magazine);
-    let tablet = rules.object(Named::Tablet);
-    let message = rules.object(Named::Message);
+    let magazine = rules.thing(Named::Magazine);
+    let tablet = rules.thing(Named::Tablet);
+    let message = rules.thing(Named::Message);
     let mut papers = ArrayVec::new();
-    consider(is_near(rules, play.state, magazine), magazine, &mut papers);
-    consider(is_near(rules, play.state, tablet), tablet, &mut papers);
-    consider(is_near(rules, play.state, message), message, &mut papers);
+    add_meant(is_near(rules, play.state, magazine), magazine, &mut papers);
+    add_meant(is_near(rules, play.state, tablet), tablet, &mut papers);
+    add_meant(is_near(rules, play.state, message), message, &mut papers);
     papers
 }
 
@@ -35,7 +35,7 @@ fn papers(rules: &Rules<'_>, order: &Order, play: &Play<'_>) -> Meant
 fn what_to_read(rules: &Rules<'_>, order: &Order, play: &Play<'_>) -> Object
     ensures { result ≡ what_to_read (deed (cave_of rules.now) order.now (scene_of play.now)) }
 {
-    let oyster = rules.object(Named::Oyster);
+    let oyster = rules.thing(Named::Oyster);
     if play.state.closing.is_closed && is_in_hand(rules, play.state, oyster) {
         return oyster;
     }
@@ -50,7 +50,7 @@ pub fn read_what_is_here(rules: &Rules<'_>, order: Order, play: &mut Play<'_>) -
     ensures ranks { rank_of (cave_of rules.now) result ≤ 1 }
 {
     let paper = what_to_read(rules, &order, play);
-    if !paper.is_none() && !play.state.is_dark(rules.cave, rules.object(Named::Lamp)) {
+    if !paper.is_none() && !play.state.is_dark(rules.cave, rules.thing(Named::Lamp)) {
         return Step::GoOn(Verb::Read, paper);
     }
     Step::Done(order.ask_what(rules, play))
@@ -63,7 +63,7 @@ pub fn read(rules: &Rules<'_>, order: Order, play: &mut Play<'_>) -> Next
     ensures row { DoneByRows read_rows rules.now order play.old play.new result }
 {
     let x = order.object;
-    if play.state.is_dark(rules.cave, rules.object(Named::Lamp)) {
+    if play.state.is_dark(rules.cave, rules.thing(Named::Lamp)) {
         play.tell(Part::Word(WordLine::NotSeen, order.word));
         return Next::Stay;
     }

@@ -52,12 +52,12 @@ pub fn take(rules: &Rules<'_>, order: Order, play: &mut Play<'_>) -> Step
         rank_of cave result ≤ take_rank cave order.object }
 {
     let x = order.object;
-    let bottle = rules.object(Named::Bottle);
+    let bottle = rules.thing(Named::Bottle);
     if is_in_hand(rules, play.state, x) {
         return Step::Done(order.say_default(rules, play));
     }
     if is_fixed(play.state, x) {
-        let bear = rules.object(Named::Bear);
+        let bear = rules.thing(Named::Bear);
         if rules.is(x, Named::Plant) && has_prop_up_to(play.state, x, 0) {
             return Step::Done(Next::say(Role::PlantRoots, play));
         }
@@ -94,11 +94,11 @@ fn take_freely(rules: &Rules<'_>, order: Order, play: &mut Play<'_>) -> Next
     ensures row { DoneByRows free_take_rows rules.now order play.old play.new result }
 {
     let x = order.object;
-    let bird = rules.object(Named::Bird);
+    let bird = rules.thing(Named::Bird);
     if rules.is(x, Named::Bird) {
-        let cage = rules.object(Named::Cage);
+        let cage = rules.thing(Named::Cage);
         if has_prop(play.state, x, 0) {
-            if is_in_hand(rules, play.state, rules.object(Named::Rod)) {
+            if is_in_hand(rules, play.state, rules.thing(Named::Rod)) {
                 return Next::say(Role::BirdRod, play);
             }
             if !is_in_hand(rules, play.state, cage) {

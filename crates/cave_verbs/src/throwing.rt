@@ -27,7 +27,7 @@ fn first_at(place: Place, dwarves: &[Dwarf]) -> Option<usize>
 
 /// The first dwarf that is here is killed.
 #[tactic(auto, unfolding(crate::specs::Throwing::without_first_at))]
-fn strike(state: &mut State)
+fn kill_one(state: &mut State)
     ensures { state.new ≡ with_one_killed state.old }
 {
     state.dwarves.kills = state.dwarves.kills.up();
@@ -42,7 +42,7 @@ fn strike(state: &mut State)
 }
 
 /// The axe is put where the player is, and the player arrives there again.
-fn land(axe: Object, state: &mut State) -> Next
+fn put_here(axe: Object, state: &mut State) -> Next
     ensures state { state.new ≡ put_here axe state.old }
     ensures next { result ≡ Arrive state.old.trail.here }
 {
@@ -57,13 +57,13 @@ fn hit_dwarf(rules: &Rules<'_>, order: Order, play: &mut Play<'_>) -> Next
     ensures row { DoneByRows hit_rows rules.now order play.old play.new result }
 {
     if play.state.dwarves.kills.number() == 0 {
-        strike(play.state);
+        kill_one(play.state);
         play.say(Role::AxeFirst);
-        return land(order.object, play.state);
+        return put_here(order.object, play.state);
     }
-    strike(play.state);
+    kill_one(play.state);
     play.say(Role::AxeKill);
-    land(order.object, play.state)
+    put_here(order.object, play.state)
 }
 
 /// The axe is thrown at a dwarf: one number of three is drawn, and 0 is a miss.
@@ -74,7 +74,7 @@ fn throw_at_dwarf(rules: &Rules<'_>, order: Order, play: &mut Play<'_>) -> Next
 {
     if play.state.stream.draw(3) == 0 {
         play.say(Role::AxeMiss);
-        return land(order.object, play.state);
+        return put_here(order.object, play.state);
     }
     hit_dwarf(rules, order, play)
 }
@@ -87,15 +87,15 @@ fn throw_at_beast(rules: &Rules<'_>, order: Order, play: &mut Play<'_>) -> Step
     ensures ranks { rank_of (cave_of rules.now) result ≤ 2 }
 {
     let x = order.object;
-    let dragon = rules.object(Named::Dragon);
-    let bear = rules.object(Named::Bear);
+    let dragon = rules.thing(Named::Dragon);
+    let bear = rules.thing(Named::Bear);
     if play.state.is_here(dragon) && has_prop(play.state, dragon, 0) {
         play.say(Role::AxeDragon);
-        return Step::Done(land(x, play.state));
+        return Step::Done(put_here(x, play.state));
     }
-    if play.state.is_here(rules.object(Named::Troll)) {
+    if play.state.is_here(rules.thing(Named::Troll)) {
         play.say(Role::AxeTroll);
-        return Step::Done(land(x, play.state));
+        return Step::Done(put_here(x, play.state));
     }
     if is_near(rules, play.state, bear) && has_prop(play.state, bear, 0) {
         let here = play.state.trail.here;
@@ -129,15 +129,15 @@ pub fn throw(rules: &Rules<'_>, order: Order, play: &mut Play<'_>) -> Step
         rank_of cave result ≤ throw_rank cave order.object }
 {
     let x = order.object;
-    let bear = rules.object(Named::Bear);
+    let bear = rules.thing(Named::Bear);
     if !is_in_hand(rules, play.state, x) {
-        let second_rod = rules.object(Named::SecondRod);
+        let second_rod = rules.thing(Named::SecondRod);
         if rules.is(x, Named::Rod) && is_in_hand(rules, play.state, second_rod) {
             return Step::GoOn(Verb::Throw, second_rod);
         }
         return Step::Done(order.say_default(rules, play));
     }
-    if is_treasure(x) && play.state.is_here(rules.object(Named::Troll)) {
+    if is_treasure(x) && play.state.is_here(rules.thing(Named::Troll)) {
         play.state.destroy(x);
         remove_troll(rules, play.state);
         return Step::Done(Next::say(Role::TrollPaid, play));

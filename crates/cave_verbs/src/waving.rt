@@ -32,14 +32,14 @@ pub fn wave(rules: &Rules<'_>, order: Order, play: &mut Play<'_>) -> Next
     let x = order.object;
     let is_rod = rules.is(x, Named::Rod);
     if !is_in_hand(rules, play.state, x)
-        && !(is_rod && is_in_hand(rules, play.state, rules.object(Named::SecondRod)))
+        && !(is_rod && is_in_hand(rules, play.state, rules.thing(Named::SecondRod)))
     {
         return Next::say(Role::NotHeld, play);
     }
-    let fissure = rules.object(Named::Fissure);
+    let fissure = rules.thing(Named::Fissure);
     if is_rod
         && play.state.is_here(fissure)
-        && is_in_hand(rules, play.state, rules.object(Named::Rod))
+        && is_in_hand(rules, play.state, rules.thing(Named::Rod))
         && !play.state.closing.is_closing
     {
         let was = play.state.objects.prop(fissure);

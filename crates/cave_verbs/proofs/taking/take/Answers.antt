@@ -6,6 +6,6 @@ use Rattle.cave_verbs.proofs.taking.take.Goals as goal
 
 pub returns-then-is_near-clause-ranks : goal.returns-then-is_near-clause-ranks
 returns-then-is_near-clause-ranks c =
-    rw c.object-bottle.ensures
+    rw c.thing-bottle.ensures
     (take-falls (cave_of c.args.rules.now) c.args.play.now.state.now c.args.order.object
     (search rules))

@@ -14,5 +14,5 @@ throw-falls cave x rod = let other = second-rod cave in grind (arith, rod, other
 
 pub returns-then-is_in_hand-clause-ranks : goal.returns-then-is_in_hand-clause-ranks
 returns-then-is_in_hand-clause-ranks c =
-    rw c.object-second_rod.ensures
+    rw c.thing-second_rod.ensures
     (throw-falls (cave_of c.args.rules.now) c.args.order.object (search rules))

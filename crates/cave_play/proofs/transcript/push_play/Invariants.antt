@@ -7,7 +7,7 @@ use Rattle.cave_play.specs.Machine.{rendering_of}
 use Rattle.cave_play.specs.Transcript.{last_line, ticks, transcript}
 use Rattle.cave_score.specs.Score.{score_of, max_score_of}
 use Rattle.cave_play.proofs.TranscriptLemmas.{told_from}
-use Rattle.cave_play.proofs.transcript.tell.Given as goal
+use Rattle.cave_play.proofs.transcript.push_play.Given as goal
 
 abbrev pub invariant-loop-place : goal.invariant-loop-place
 invariant-loop-place l =

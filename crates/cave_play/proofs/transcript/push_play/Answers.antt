@@ -9,7 +9,7 @@ use Rattle.cave_play.specs.Transcript.{last_line, ticks}
 use Rattle.cave_play.proofs.RunLemmas.{transcript-played}
 use Rattle.cave_play.proofs.TranscriptLemmas.{transcript_line-more, told_from-end, counts-first}
 use Rattle.cave_play.proofs.TranscriptLemmas.{counts-others}
-use Rattle.cave_play.proofs.transcript.tell.Goals as goal
+use Rattle.cave_play.proofs.transcript.push_play.Goals as goal
 
 pub overflow_cast-place : goal.overflow_cast-place
 overflow_cast-place c =
@@ -81,6 +81,6 @@ returns c =
     let most = c.max_score.ensures ∙ ap max_score_of same in
     let told_end : last_line c.score-score.result c.max_score.result c.ticks.result ≡ end =
     rw (score, most, turns) refl in
-    on_ok_weaker c.push_closing.result
+    on_ok_weaker c.push_last_line.result
     (λ told. told ∙ ap (λ t. c.loop-place.text.items ++ t) told_end ∙ whole)
-    c.push_closing.ensures
+    c.push_last_line.ensures
