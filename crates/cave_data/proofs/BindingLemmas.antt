@@ -9,18 +9,18 @@ use Rattle.std.specs.FinMap as map
 use Rattle.std.specs.Str.Lines.{lines}
 use Rattle.std.proofs.lemmas.List.{append_assoc, append-nil, length-append}
 use Rattle.std.proofs.lemmas.List.Sums.{fold_push}
-use Rattle.cave_rows.specs.declared.error.Cause.{Cause}
-use Rattle.cave_rows.specs.declared.error.BindingFlaw.TheVariants.{Repeated}
-use Rattle.cave_rows.specs.declared.error.Cause.TheVariants.{Memory, TooLarge, BadSection}
-use Rattle.cave_rows.specs.declared.error.Cause.TheVariants.{BadNumber, OutOfRange, NoEnd}
-use Rattle.cave_rows.specs.declared.error.Cause.TheVariants.{TooManyRows, BadBinding, UnknownRole}
-use Rattle.cave_rows.specs.declared.error.FaultSite.TheVariants as site
-use Rattle.cave_rows.specs.declared.binding.Key.{Key}
-use Rattle.cave_rows.specs.declared.binding.Key.TheVariants.{RoleKey, PlaceKey, LettersKey}
-use Rattle.cave_rows.specs.declared.binding.Binding.{Binding}
+use Rattle.data_rows.specs.declared.error.Cause.{Cause}
+use Rattle.data_rows.specs.declared.error.BindingFlaw.TheVariants.{Repeated}
+use Rattle.data_rows.specs.declared.error.Cause.TheVariants.{Memory, TooLarge, BadSection}
+use Rattle.data_rows.specs.declared.error.Cause.TheVariants.{BadNumber, OutOfRange, NoEnd}
+use Rattle.data_rows.specs.declared.error.Cause.TheVariants.{TooManyRows, BadBinding, UnknownRole}
+use Rattle.data_rows.specs.declared.error.FaultSite.TheVariants as site
+use Rattle.data_rows.specs.declared.binding.Key.{Key}
+use Rattle.data_rows.specs.declared.binding.Key.TheVariants.{RoleKey, PlaceKey, LettersKey}
+use Rattle.data_rows.specs.declared.binding.Binding.{Binding}
 use Rattle.cave_data.specs.declared.bindings.Bindings.{Bindings}
-use Rattle.log_lines.specs.LogLine.{is_skipped}
-use Rattle.cave_rows.specs.BindingLines.{binding_row, binding_at, bindings_of}
+use Rattle.data_rows.specs.base_lines.LogLine.{is_skipped}
+use Rattle.data_rows.specs.BindingLines.{binding_row, binding_at, bindings_of}
 use Rattle.cave_data.specs.Bindings.{role_value, place_value, role_key, place_key, letters_key}
 use Rattle.cave_data.specs.Bindings.{letters_value, latest, value_of}
 use Rattle.cave_data.specs.BindingFault.{repeat_cause, form_cause, binding_cause, binding_fault}
@@ -28,8 +28,8 @@ use Rattle.cave_data.specs.BindingFault.{first_binding_fault}
 use Rattle.cave_data.specs.BindingSteps.{bound_to, bind_key, bind, bind_new, bind_line, no_bindings}
 use Rattle.cave_data.specs.BindingSteps.{bindings_from}
 use Rattle.cave_data.specs.Faults.{FaultIs, error_at}
-use Rattle.cave_rows.specs.Answers.{Fails}
-use Rattle.cave_rows.specs.Rows.{◌>>=◌}
+use Rattle.data_rows.specs.Answers.{Fails}
+use Rattle.data_rows.specs.Rows.{◌>>=◌}
 use Rattle.cave_data.specs.Steps.{unless_cause}
 use Rattle.cave_data.proofs.DatabaseLemmas.{allowed_ok, allowed_err}
 use Rattle.cave_data.proofs.FoldLemmas.{added, fold-part}

@@ -8,8 +8,7 @@ use Rattle.std.specs.FinMap as fin
 use Rattle.std.proofs.lemmas.Bool.{cases_eq, eq-eqb, ne_eqb}
 use Rattle.cave_data.specs.CaveView.{Texts}
 use Rattle.cave_data.specs.Printing.{printed_text, printed_texts}
-use Rattle.cave_data.specs.Bindings.{default_place}
-use Rattle.cave_data.specs.Bindings.{or_default, with_defaults}
+use Rattle.cave_data.specs.Bindings.{default_place, or_default, with_defaults}
 use Rattle.cave_data.proofs.SlotLemmas.{get-by_number}
 use Rattle.cave_data.proofs.SlotChanges.{same_key, other_key}
 

@@ -5,15 +5,15 @@ use Rattle.std.proofs.Common.{◌∙◌, arith}
 use Rattle.std.specs.Option.{option_or}
 use Rattle.std.specs.Str.Lines.{lines}
 use Rattle.std.proofs.lemmas.List.{append_assoc, append-nil, length-append}
-use Rattle.cave_rows.specs.declared.error.Cause.{Cause}
-use Rattle.cave_rows.specs.declared.error.Cause.TheVariants.{Memory, TooLarge, BadSection}
-use Rattle.cave_rows.specs.declared.error.Cause.TheVariants.{BadNumber, OutOfRange, NoEnd}
-use Rattle.cave_rows.specs.declared.error.Cause.TheVariants.{TooManyRows, BadBinding, UnknownRole}
-use Rattle.cave_rows.specs.declared.position.Position.TheVariants.{Outside, After}
+use Rattle.data_rows.specs.declared.error.Cause.{Cause}
+use Rattle.data_rows.specs.declared.error.Cause.TheVariants.{Memory, TooLarge, BadSection}
+use Rattle.data_rows.specs.declared.error.Cause.TheVariants.{BadNumber, OutOfRange, NoEnd}
+use Rattle.data_rows.specs.declared.error.Cause.TheVariants.{TooManyRows, BadBinding, UnknownRole}
+use Rattle.data_rows.specs.declared.position.Position.TheVariants.{Outside, After}
 use Rattle.cave_data.specs.declared.reader.DatabaseReader.{DatabaseReader}
 use Rattle.cave_data.specs.Faults.{FaultIs, error_at}
-use Rattle.cave_rows.specs.Answers.{Fails}
-use Rattle.cave_rows.specs.Grammar.{position_after, entries}
+use Rattle.data_rows.specs.Answers.{Fails}
+use Rattle.data_rows.specs.Grammar.{position_after, entries}
 use Rattle.cave_data.specs.FirstFault.{line_cause, first_fault, fault_after, end_fault, is_after}
 use Rattle.cave_data.specs.FirstFault.{site_of_fault}
 use Rattle.cave_data.specs.Steps.{tables_of, no_tables, unless_cause, advance}

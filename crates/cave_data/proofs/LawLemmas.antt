@@ -11,14 +11,13 @@ use Rattle.std.proofs.lemmas.List.{append_assoc, append-nil, reverse-append, rev
 use Rattle.std.proofs.lemmas.List.{length-reverse}
 use Rattle.std.proofs.lemmas.List.Folds.{list_all-append}
 use Rattle.std.proofs.lemmas.List.Sorted.{IsPermutation-reverse, list_any-IsPermutation}
-use Rattle.cave_rows.specs.Rows.{Going}
+use Rattle.data_rows.specs.Rows.{Going, Entry, TextLine}
 use Rattle.cave_data.specs.CaveView.{CaveView, Texts}
 use Rattle.cave_data.specs.Printing.{printed_text}
-use Rattle.cave_rows.specs.Rows.{Entry, TextLine}
 use Rattle.cave_data.specs.Texts.{line_text, nonempty, same_run, first_lines_of, run_text}
 use Rattle.cave_data.specs.Texts.{text_of_number, names_object, object_after, object_key, by_object}
-use Rattle.cave_rows.specs.SectionRows.{object_line_of, long_line_of, short_line_of}
-use Rattle.cave_rows.specs.SectionRows.{message_line_of}
+use Rattle.data_rows.specs.SectionRows.{object_line_of, long_line_of, short_line_of}
+use Rattle.data_rows.specs.SectionRows.{message_line_of}
 use Rattle.cave_data.specs.Database.{BeginWithObject, Holds}
 use Rattle.cave_data.specs.Laws.{has_number, IsLastRun, AreLastRuns, Laws}
 use Rattle.cave_data.proofs.FoldLemmas.{reverse-cons}

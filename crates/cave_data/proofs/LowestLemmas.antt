@@ -4,28 +4,26 @@ use Rattle.std.proofs.Common.{Option, Some, None, Result, Ok, Err, refl, sym, su
 use Rattle.std.specs.Prelude.{nat_lt, IfErr, is_some, option_to_list}
 use Rattle.std.specs.Option.{ok_or, option_or}
 use Rattle.std.specs.Result.{is_ok, result_ok, result_err}
-use Rattle.cave_rows.specs.declared.error.Cause.{Cause}
-use Rattle.cave_rows.specs.declared.error.Cause.TheVariants.{BadSection, BadNumber, OutOfRange}
-use Rattle.cave_rows.specs.declared.error.Cause.TheVariants.{TooManyRows}
-use Rattle.cave_rows.specs.declared.error.Section.{Section}
-use Rattle.cave_rows.specs.declared.error.Section.TheVariants as section
-use Rattle.cave_rows.specs.declared.number.Number.{Number}
-use Rattle.cave_rows.specs.declared.number.Number.TheVariants.{Natural, Negative}
-use Rattle.cave_rows.specs.declared.position.Position.{Position}
-use Rattle.cave_rows.specs.declared.position.Position.TheVariants.{Outside, Inside, After}
-use Rattle.cave_rows.specs.Rows.{Going}
-use Rattle.log_lines.specs.Bytes.{is_all_blank}
-use Rattle.cave_rows.specs.Fields.{number_at, fields}
-use Rattle.cave_rows.specs.Rows.{◌>>=◌, Entry, LongLine, ShortLine, Way, Word, ObjectLine}
-use Rattle.cave_rows.specs.Rows.{MessageLine, PlacementRow, DefaultRow, ConditionRow, ClassLine}
-use Rattle.cave_rows.specs.Rows.{HintRow, MagicLine}
-use Rattle.cave_rows.specs.Rows.{number_or_cause, numbers_to_zero, list_in, few_of, word_or_cause}
-use Rattle.cave_rows.specs.Rows.{word_number, number_or_zero, within, all_within, text_or_cause}
-use Rattle.cave_rows.specs.Rows.{object_or_prop, second_place, text_line, object_line, way_row}
-use Rattle.cave_rows.specs.Rows.{word_row, placement_row, default_row, condition_row, hint_row}
-use Rattle.cave_rows.specs.Rows.{entry_in}
-use Rattle.cave_rows.specs.Grammar.{position_after_heading, closes, position_after, entry_here}
-use Rattle.cave_rows.specs.Grammar.{entry_at, entries}
+use Rattle.data_rows.specs.declared.error.Cause.{Cause}
+use Rattle.data_rows.specs.declared.error.Cause.TheVariants.{BadSection, BadNumber, OutOfRange}
+use Rattle.data_rows.specs.declared.error.Cause.TheVariants.{TooManyRows}
+use Rattle.data_rows.specs.declared.error.Section.{Section}
+use Rattle.data_rows.specs.declared.error.Section.TheVariants as section
+use Rattle.data_rows.specs.declared.number.Number.{Number}
+use Rattle.data_rows.specs.declared.number.Number.TheVariants.{Natural, Negative}
+use Rattle.data_rows.specs.declared.position.Position.{Position}
+use Rattle.data_rows.specs.declared.position.Position.TheVariants.{Outside, Inside, After}
+use Rattle.data_rows.specs.Rows.{Going, ◌>>=◌, Entry, LongLine, ShortLine, Way, Word, ObjectLine}
+use Rattle.data_rows.specs.Rows.{MessageLine, PlacementRow, DefaultRow, ConditionRow, ClassLine}
+use Rattle.data_rows.specs.Rows.{HintRow, MagicLine, number_or_cause, numbers_to_zero, list_in}
+use Rattle.data_rows.specs.Rows.{few_of, word_or_cause, word_number, number_or_zero, within}
+use Rattle.data_rows.specs.Rows.{all_within, text_or_cause, object_or_prop, second_place, text_line}
+use Rattle.data_rows.specs.Rows.{object_line, way_row, word_row, placement_row, default_row}
+use Rattle.data_rows.specs.Rows.{condition_row, hint_row, entry_in}
+use Rattle.data_rows.specs.base_lines.Bytes.{is_all_blank}
+use Rattle.data_rows.specs.Fields.{number_at, fields}
+use Rattle.data_rows.specs.Grammar.{position_after_heading, closes, position_after, entry_here}
+use Rattle.data_rows.specs.Grammar.{entry_at, entries}
 use Rattle.cave_data.specs.FirstFault.{shape_here, shape_cause, limit_cause, first_limit}
 use Rattle.cave_data.specs.FirstFault.{line_cause}
 use Rattle.cave_data.specs.LowestCause.{has_parts, is_in_range, IsLowest, IsLowestAt, ReportsLowest}

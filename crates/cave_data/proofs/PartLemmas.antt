@@ -4,21 +4,20 @@ use Rattle.std.proofs.Common.{None, option_map, refl, sym, ap, ◌∙◌, arith}
 use Rattle.std.specs.List.{filter_map}
 use Rattle.std.specs.FinMap as fin
 use Rattle.std.proofs.lemmas.List.{append_assoc, append-nil}
-use Rattle.cave_rows.specs.declared.error.Cause.TheVariants.{OutOfRange}
+use Rattle.data_rows.specs.declared.error.Cause.TheVariants.{OutOfRange}
 use Rattle.cave_data.specs.declared.reader.Tables.{Tables}
-use Rattle.cave_rows.specs.Rows.{WordEntry}
+use Rattle.data_rows.specs.Rows.{WordEntry, Entry, TextLine, LongLine, ShortLine, Way, Word}
+use Rattle.data_rows.specs.Rows.{ObjectLine, MessageLine, PlacementRow, DefaultRow, ConditionRow}
+use Rattle.data_rows.specs.Rows.{ClassLine, HintRow}
 use Rattle.cave_data.specs.CaveView.{ClassEntry}
 use Rattle.cave_data.specs.Printing.{printed_text}
-use Rattle.cave_rows.specs.Rows.{Entry, TextLine, LongLine, ShortLine, Way, Word, ObjectLine}
-use Rattle.cave_rows.specs.Rows.{MessageLine, PlacementRow, DefaultRow, ConditionRow, ClassLine}
-use Rattle.cave_rows.specs.Rows.{HintRow}
 use Rattle.cave_data.specs.Texts.{text_of_number, with_key, by_object, object_after}
 use Rattle.cave_data.specs.Texts.{object_after_lines}
 use Rattle.cave_data.specs.Tables.{TextsSoFar, with_line}
 use Rattle.cave_data.specs.FirstFault.{at_most, limit_cause}
-use Rattle.cave_rows.specs.SectionRows.{way_of, word_entry_of, class_line_of, object_line_of}
-use Rattle.cave_rows.specs.SectionRows.{long_line_of, short_line_of, message_line_of}
-use Rattle.cave_rows.specs.SectionRows.{placement_of_row, default_of_row, marks_of_row, hint_of_row}
+use Rattle.data_rows.specs.SectionRows.{way_of, word_entry_of, class_line_of, object_line_of}
+use Rattle.data_rows.specs.SectionRows.{long_line_of, short_line_of, message_line_of}
+use Rattle.data_rows.specs.SectionRows.{placement_of_row, default_of_row, marks_of_row, hint_of_row}
 use Rattle.cave_data.specs.Database.{last_of, goings_from, bits_of}
 use Rattle.cave_data.specs.Steps.{with_entry, no_texts, no_tables, tables_of, class_of_line}
 use Rattle.cave_data.specs.Steps.{table_limit}

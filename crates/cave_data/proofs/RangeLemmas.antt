@@ -12,35 +12,33 @@ use Rattle.std.specs.Ordering.{nat_cmp, eq_by_cmp}
 use Rattle.std.specs.Cmp.{nat_cmp_total}
 use Rattle.std.specs.FinMap as map
 use Rattle.std.proofs.lemmas.Bool.{and_parts, leb-true}
-use Rattle.cave_rows.specs.declared.error.Cause.{Cause}
-use Rattle.cave_rows.specs.declared.error.BindingFlaw.TheVariants.{Malformed, BadValue}
-use Rattle.cave_rows.specs.declared.error.Cause.TheVariants.{BadBinding, UnknownRole, OutOfRange}
-use Rattle.cave_rows.specs.declared.error.Section.{Section}
-use Rattle.cave_rows.specs.declared.error.Section.TheVariants as section
-use Rattle.cave_rows.specs.declared.number.Number.{Number}
-use Rattle.cave_rows.specs.declared.number.Number.TheVariants.{Natural, Negative}
-use Rattle.cave_rows.specs.declared.position.Position.{Position}
-use Rattle.cave_rows.specs.declared.position.Position.TheVariants.{Outside, Inside, After}
+use Rattle.data_rows.specs.declared.error.Cause.{Cause}
+use Rattle.data_rows.specs.declared.error.BindingFlaw.TheVariants.{Malformed, BadValue}
+use Rattle.data_rows.specs.declared.error.Cause.TheVariants.{BadBinding, UnknownRole, OutOfRange}
+use Rattle.data_rows.specs.declared.error.Section.{Section}
+use Rattle.data_rows.specs.declared.error.Section.TheVariants as section
+use Rattle.data_rows.specs.declared.number.Number.{Number}
+use Rattle.data_rows.specs.declared.number.Number.TheVariants.{Natural, Negative}
+use Rattle.data_rows.specs.declared.position.Position.{Position}
+use Rattle.data_rows.specs.declared.position.Position.TheVariants.{Outside, Inside, After}
 use Rattle.cave_data.specs.declared.reader.Tables.{Tables}
-use Rattle.cave_rows.specs.declared.binding.Key.{Key}
-use Rattle.cave_rows.specs.declared.binding.Key.TheVariants.{RoleKey, PlaceKey, LettersKey}
-use Rattle.cave_rows.specs.declared.binding.Binding.{Binding}
+use Rattle.data_rows.specs.declared.binding.Key.{Key}
+use Rattle.data_rows.specs.declared.binding.Key.TheVariants.{RoleKey, PlaceKey, LettersKey}
+use Rattle.data_rows.specs.declared.binding.Binding.{Binding}
 use Rattle.cave_data.specs.declared.bindings.Bindings.{Bindings}
-use Rattle.log_lines.specs.Bytes.{is_all_blank}
-use Rattle.cave_rows.specs.Fields.{fields, natural}
-use Rattle.cave_rows.specs.Role.{role_names}
-use Rattle.cave_rows.specs.PlaceRole.{place_names}
-use Rattle.cave_rows.specs.Rows.{◌>>=◌, Entry, PlacementRow, number_or_cause, number_or_zero}
-use Rattle.cave_rows.specs.Rows.{within}
-use Rattle.cave_rows.specs.Rows.{second_place, placement_row, entry_in, text_line, way_row}
-use Rattle.cave_rows.specs.Rows.{word_row, object_line, default_row, condition_row, hint_row}
-use Rattle.cave_rows.specs.Grammar.{closes, position_after_line, entry_here, entry_at, entries_from}
-use Rattle.cave_rows.specs.Grammar.{entries}
-use Rattle.log_lines.specs.LogLine.{is_skipped}
-use Rattle.cave_rows.specs.BindingLines.{two_fields, bound_within}
-use Rattle.cave_rows.specs.BindingLines.{position_of_name, role_binding, place_binding}
-use Rattle.cave_rows.specs.BindingLines.{letters_binding, binding_of, binding_row, binding_at}
-use Rattle.cave_rows.specs.BindingLines.{bindings_of}
+use Rattle.data_rows.specs.base_lines.Bytes.{is_all_blank}
+use Rattle.data_rows.specs.Fields.{fields, natural}
+use Rattle.data_rows.specs.Role.{ROLE_NAMES}
+use Rattle.data_rows.specs.PlaceRole.{PLACE_NAMES}
+use Rattle.data_rows.specs.Rows.{◌>>=◌, Entry, PlacementRow, number_or_cause, number_or_zero}
+use Rattle.data_rows.specs.Rows.{within, second_place, placement_row, entry_in, text_line, way_row}
+use Rattle.data_rows.specs.Rows.{word_row, object_line, default_row, condition_row, hint_row}
+use Rattle.data_rows.specs.Grammar.{closes, position_after_line, entry_here, entry_at, entries_from}
+use Rattle.data_rows.specs.Grammar.{entries}
+use Rattle.data_rows.specs.base_lines.LogLine.{is_skipped}
+use Rattle.data_rows.specs.BindingLines.{two_fields, bound_within, position_of_name, role_binding}
+use Rattle.data_rows.specs.BindingLines.{place_binding, letters_binding, binding_of, binding_row}
+use Rattle.data_rows.specs.BindingLines.{binding_at, bindings_of}
 use Rattle.cave_data.specs.BindingSteps.{bind, no_bindings, bindings_from}
 use Rattle.cave_data.specs.Steps.{with_entry, no_tables, tables_of}
 use Rattle.cave_data.specs.Ranges.{IsPlace, IsMessage, IsLetters, IsPlacementInRange, HasOnly}
@@ -121,13 +119,13 @@ chosen false x y fx fy = fy
 role_fine : (name : List ℕ) (n : ℕ) → IfOk (role_binding name n) IsFine
 role_fine name n =
     read_then IsMessage IsFine (bound_within 1 499 n) _ (in_range 1 499 n (BadBinding BadValue))
-    (λ value fine. read_on IsFine (ok_or (position_of_name role_names name) UnknownRole)
+    (λ value fine. read_on IsFine (ok_or (position_of_name ROLE_NAMES name) UnknownRole)
     _ (λ number. fine))
 
 place_fine : (name : List ℕ) (n : ℕ) → IfOk (place_binding name n) IsFine
 place_fine name n =
     read_then IsPlace IsFine (bound_within 1 300 n) _ (in_range 1 300 n (BadBinding BadValue))
-    (λ value fine. read_on IsFine (ok_or (position_of_name place_names name) UnknownRole)
+    (λ value fine. read_on IsFine (ok_or (position_of_name PLACE_NAMES name) UnknownRole)
     _ (λ number. fine))
 
 letters_fine : (n : ℕ) → IfOk (letters_binding n) IsFine

@@ -10,23 +10,23 @@ use Rattle.std.specs.Cmp.{nat_cmp_total}
 use Rattle.std.specs.FinMap as fin
 use Rattle.std.proofs.lemmas.Bool.{ltb-false, le-ltb}
 use Rattle.std.proofs.lemmas.List.{append_assoc, append-nil}
-use Rattle.limits.specs.Limits.{max_input_bytes}
-use Rattle.cave_rows.specs.declared.error.Cause.{Cause}
-use Rattle.cave_rows.specs.declared.error.Cause.TheVariants.{NoEnd}
-use Rattle.cave_rows.specs.declared.error.FaultSite.TheVariants as site
-use Rattle.cave_rows.specs.declared.error.CaveError.{CaveError}
-use Rattle.cave_rows.specs.declared.position.Position.{Position}
-use Rattle.cave_rows.specs.declared.position.Position.TheVariants.{Outside, Inside, After}
+use Rattle.data_rows.specs.base_limits.Limits.{MAX_INPUT_BYTES}
+use Rattle.data_rows.specs.declared.error.Cause.{Cause}
+use Rattle.data_rows.specs.declared.error.Cause.TheVariants.{NoEnd}
+use Rattle.data_rows.specs.declared.error.FaultSite.TheVariants as site
+use Rattle.data_rows.specs.declared.error.CaveError.{CaveError}
+use Rattle.data_rows.specs.declared.position.Position.{Position}
+use Rattle.data_rows.specs.declared.position.Position.TheVariants.{Outside, Inside, After}
 use Rattle.cave_data.specs.declared.reader.Tables.{Tables}
 use Rattle.cave_data.specs.declared.bindings.Bindings.{Bindings}
 use Rattle.cave_data.specs.CaveView.{CaveView}
 use Rattle.cave_data.specs.Printing.{printed_class}
-use Rattle.cave_rows.specs.Rows.{Entry, TextLine}
-use Rattle.cave_rows.specs.Grammar.{position_after, entries}
+use Rattle.data_rows.specs.Rows.{Entry, TextLine}
+use Rattle.data_rows.specs.Grammar.{position_after, entries}
 use Rattle.cave_data.specs.FirstFault.{site_of_fault, line_cause, fault_after, is_after, end_fault}
 use Rattle.cave_data.specs.FirstFault.{first_fault_by, first_fault}
 use Rattle.cave_data.specs.Database.{printed_class_of_line, AreValidTogether, IsDatabase, Holds}
-use Rattle.cave_rows.specs.BindingLines.{bindings_of}
+use Rattle.data_rows.specs.BindingLines.{bindings_of}
 use Rattle.cave_data.specs.Bindings.{default_place}
 use Rattle.cave_data.specs.BindingFault.{binding_cause, binding_fault, first_binding_fault}
 use Rattle.cave_data.specs.BindingSteps.{bindings_from}
@@ -161,7 +161,7 @@ holds rows b c made = record {
 }
 
 pub made_reads : (database bindings : List ℕ) (t : Tables) (b : Bindings) (c : CaveView)
-    → ltb max_input_bytes (length database) ≡ false → ltb max_input_bytes (length bindings) ≡ false
+    → ltb MAX_INPUT_BYTES (length database) ≡ false → ltb MAX_INPUT_BYTES (length bindings) ≡ false
     → first_fault [] (lines database) ≡ None → t ≡ tables_of (entries (lines database))
     → first_binding_fault [] (lines bindings) ≡ None
     → b ≡ bindings_from (bindings_of (lines bindings)) → Finished t b c → Reads database bindings c
@@ -240,33 +240,33 @@ abbrev bindings_size_fault : Bool → Option CaveError
 bindings_size_fault large = cond large (Some (too_large_input site.Bindings)) None
 
 pub fault_database_large : (database bindings : List ℕ)
-    → ltb max_input_bytes (length database) ≡ true
+    → ltb MAX_INPUT_BYTES (length database) ≡ true
     → fault database bindings ≡ Some (too_large_input site.Database)
 unfolding fault
 fault_database_large database bindings e =
-    let later = bindings_size_fault (ltb max_input_bytes (length bindings)) in
+    let later = bindings_size_fault (ltb MAX_INPUT_BYTES (length bindings)) in
     ap (λ b. option_or (cond b (Some (too_large_input site.Database)) later)
     (fault_of_lines database bindings)) e
 
-small_fault : (database bindings : List ℕ) → ltb max_input_bytes (length database) ≡ false
+small_fault : (database bindings : List ℕ) → ltb MAX_INPUT_BYTES (length database) ≡ false
     → fault database bindings
-    ≡ option_or (bindings_size_fault (ltb max_input_bytes (length bindings)))
+    ≡ option_or (bindings_size_fault (ltb MAX_INPUT_BYTES (length bindings)))
     (fault_of_lines database bindings)
 unfolding fault
 small_fault database bindings e =
-    let later = bindings_size_fault (ltb max_input_bytes (length bindings)) in
+    let later = bindings_size_fault (ltb MAX_INPUT_BYTES (length bindings)) in
     ap (λ b. option_or (cond b (Some (too_large_input site.Database)) later)
     (fault_of_lines database bindings)) e
 
 pub fault_bindings_large : (database bindings : List ℕ)
-    → ltb max_input_bytes (length database) ≡ false → ltb max_input_bytes (length bindings) ≡ true
+    → ltb MAX_INPUT_BYTES (length database) ≡ false → ltb MAX_INPUT_BYTES (length bindings) ≡ true
     → fault database bindings ≡ Some (too_large_input site.Bindings)
 fault_bindings_large database bindings e b =
     small_fault database bindings e
     ∙ ap (λ v. option_or (bindings_size_fault v) (fault_of_lines database bindings)) b
 
-both_small : (database bindings : List ℕ) → ltb max_input_bytes (length database) ≡ false
-    → ltb max_input_bytes (length bindings) ≡ false
+both_small : (database bindings : List ℕ) → ltb MAX_INPUT_BYTES (length database) ≡ false
+    → ltb MAX_INPUT_BYTES (length bindings) ≡ false
     → fault database bindings
     ≡ option_or (first_fault [] (lines database)) (first_binding_fault [] (lines bindings))
 both_small database bindings e b =
@@ -274,7 +274,7 @@ both_small database bindings e b =
     ∙ ap (λ v. option_or (bindings_size_fault v) (fault_of_lines database bindings)) b
 
 pub fault_in_database : (database bindings : List ℕ) (e : CaveError)
-    → ltb max_input_bytes (length database) ≡ false → ltb max_input_bytes (length bindings) ≡ false
+    → ltb MAX_INPUT_BYTES (length database) ≡ false → ltb MAX_INPUT_BYTES (length bindings) ≡ false
     → FaultIs e (first_fault [] (lines database)) → FaultIs e (fault database bindings)
 fault_in_database database bindings e s b (inl h) = inl h
 fault_in_database database bindings e s b (inr h) =
@@ -282,7 +282,7 @@ fault_in_database database bindings e s b (inr h) =
     ∙ ap (λ o. option_or o (first_binding_fault [] (lines bindings))) h)
 
 pub fault_in_bindings : (database bindings : List ℕ) (e : CaveError)
-    → ltb max_input_bytes (length database) ≡ false → ltb max_input_bytes (length bindings) ≡ false
+    → ltb MAX_INPUT_BYTES (length database) ≡ false → ltb MAX_INPUT_BYTES (length bindings) ≡ false
     → first_fault [] (lines database) ≡ None
     → FaultIs e (first_binding_fault [] (lines bindings)) → FaultIs e (fault database bindings)
 fault_in_bindings database bindings e s b right (inl h) = inl h
@@ -301,10 +301,10 @@ right_faultless database bindings right =
 faultless_right : (database bindings : List ℕ) → fault database bindings ≡ None
     → AreValidInputs database bindings
 faultless_right database bindings e =
-    large (ltb max_input_bytes (length database)) refl (ltb max_input_bytes (length bindings))
+    large (ltb MAX_INPUT_BYTES (length database)) refl (ltb MAX_INPUT_BYTES (length bindings))
     refl where
-      large : (v : Bool) → ltb max_input_bytes (length database) ≡ v → (w : Bool)
-          → ltb max_input_bytes (length bindings) ≡ w → AreValidInputs database bindings
+      large : (v : Bool) → ltb MAX_INPUT_BYTES (length database) ≡ v → (w : Bool)
+          → ltb MAX_INPUT_BYTES (length bindings) ≡ w → AreValidInputs database bindings
       large true is w are = let told = fault_database_large database bindings is in cc
       large false is true are = let told = fault_bindings_large database bindings is are in cc
       large false is false are =

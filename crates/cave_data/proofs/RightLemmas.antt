@@ -9,24 +9,23 @@ use Rattle.std.specs.List.{filter_map}
 use Rattle.std.proofs.lemmas.Bool.{ltb-true, lt-ltb, ne_eqb, and_parts}
 use Rattle.std.proofs.lemmas.List.{append_assoc, append-nil, length-append}
 use Rattle.std.proofs.lemmas.List.Elements.{filter_map-append}
-use Rattle.cave_rows.specs.declared.error.Cause.{Cause}
-use Rattle.cave_rows.specs.declared.error.BindingFlaw.TheVariants.{Repeated}
-use Rattle.cave_rows.specs.declared.error.Cause.TheVariants.{BadSection, OutOfRange, TooManyRows}
-use Rattle.cave_rows.specs.declared.error.Cause.TheVariants.{BadBinding}
-use Rattle.cave_rows.specs.declared.position.Position.{Position}
-use Rattle.cave_rows.specs.declared.position.Position.TheVariants.{Outside, Inside, After}
-use Rattle.cave_rows.specs.declared.binding.Binding.{Binding}
-use Rattle.log_lines.specs.Bytes.{is_all_blank}
-use Rattle.cave_rows.specs.Rows.{Entry, TextLine, Way, Word, ObjectLine, ClassLine, entry_in}
+use Rattle.data_rows.specs.declared.error.Cause.{Cause}
+use Rattle.data_rows.specs.declared.error.BindingFlaw.TheVariants.{Repeated}
+use Rattle.data_rows.specs.declared.error.Cause.TheVariants.{BadSection, OutOfRange, TooManyRows}
+use Rattle.data_rows.specs.declared.error.Cause.TheVariants.{BadBinding}
+use Rattle.data_rows.specs.declared.position.Position.{Position}
+use Rattle.data_rows.specs.declared.position.Position.TheVariants.{Outside, Inside, After}
+use Rattle.data_rows.specs.declared.binding.Binding.{Binding}
+use Rattle.data_rows.specs.base_lines.Bytes.{is_all_blank}
+use Rattle.data_rows.specs.Rows.{Entry, TextLine, Way, Word, ObjectLine, ClassLine, entry_in}
 use Rattle.cave_data.specs.Texts.{names_object, object_after, object_after_lines}
-use Rattle.cave_rows.specs.Grammar.{position_after_heading, closes, position_after, IsRow}
-use Rattle.cave_rows.specs.Grammar.{IsValidAt}
-use Rattle.cave_rows.specs.Grammar.{IsValidLine, entry_here, entry_at, entries}
-use Rattle.cave_rows.specs.SectionRows.{way_of, word_entry_of, class_line_of, object_line_of}
+use Rattle.data_rows.specs.Grammar.{position_after_heading, closes, position_after, IsRow}
+use Rattle.data_rows.specs.Grammar.{IsValidAt, IsValidLine, entry_here, entry_at, entries}
+use Rattle.data_rows.specs.SectionRows.{way_of, word_entry_of, class_line_of, object_line_of}
 use Rattle.cave_data.specs.FirstFault.{shape_here, shape_cause, at_most, limit_cause, first_limit}
 use Rattle.cave_data.specs.FirstFault.{line_cause}
-use Rattle.log_lines.specs.LogLine.{is_skipped}
-use Rattle.cave_rows.specs.BindingLines.{binding_row, binding_at, bindings_of}
+use Rattle.data_rows.specs.base_lines.LogLine.{is_skipped}
+use Rattle.data_rows.specs.BindingLines.{binding_row, binding_at, bindings_of}
 use Rattle.cave_data.specs.Bindings.{value_of}
 use Rattle.cave_data.specs.BindingFault.{repeat_cause, binding_cause}
 use Rattle.cave_data.specs.Database.{BeginWithObject, AreValidTogether}

@@ -10,9 +10,9 @@ use Rattle.std.specs.FinMap as fin
 use Rattle.std.proofs.lemmas.Bool.{cases_eq, eq-eqb, ne_eqb}
 use Rattle.std.proofs.lemmas.List.{append_assoc}
 use Rattle.std.proofs.lemmas.Nat.Bits.{bit_at_or, same_from_bits}
-use Rattle.cave_rows.specs.Rows.{Going}
+use Rattle.data_rows.specs.Rows.{Going}
 use Rattle.cave_data.specs.Texts.{nonempty}
-use Rattle.cave_data.specs.Tables.{WaysSoFar, with_way, with_bit}
+use Rattle.cave_data.specs.Tables.{WaysSoFar, with_way, mark_bit}
 use Rattle.cave_data.specs.Database.{last_of, goings_from, lists_place, with_bit_of, bits_of}
 use Rattle.cave_data.proofs.FoldLemmas.{fold_back, fold-reversed}
 use Rattle.cave_data.proofs.SlotChanges.{same_key, other_key}
@@ -141,7 +141,7 @@ count_after t (row ∷ rows) = omega (arith, count_after (with_way_row t row) ro
 -- Bits of places.
 
 abbrev pub with_marks : fin.FinMap nat_cmp ℕ → (ℕ × List ℕ) → fin.FinMap nat_cmp ℕ
-with_marks m row = fold (with_bit row.0) m row.1
+with_marks m row = fold (mark_bit row.0) m row.1
 
 or_again : (a b : ℕ) → bit_or (bit_or a b) b ≡ bit_or a b
 or_again a b = same_from_bits _ _ (λ i. omega (arith, bit_at_or (bit_or a b) b i, bit_at_or a b i))
@@ -150,10 +150,10 @@ abbrev marked : ℕ → Option ℕ → ℕ
 marked bit o = bit_or (unwrap_or o 0) (2 ^ bit)
 
 mark_more : (bit : ℕ) (m : fin.FinMap nat_cmp ℕ) (p place : ℕ) (any : Bool)
-    → cond any (Some (marked bit (fin.get (with_bit bit m p) place)))
-    (fin.get (with_bit bit m p) place)
+    → cond any (Some (marked bit (fin.get (mark_bit bit m p) place)))
+    (fin.get (mark_bit bit m p) place)
     ≡ cond (eqb p place || any) (Some (marked bit (fin.get m place))) (fin.get m place)
-unfolding with_bit
+unfolding mark_bit
 mark_more bit m p place any =
     ap (λ o. cond any (Some (marked bit o)) o)
     (fin.get-insert nat_cmp_total m p (marked bit (fin.get m p)) place)
@@ -186,11 +186,11 @@ mark_more bit m p place any =
           (sym (ne_eqb p place (λ e. ne (sym e))))
 
 marks_of_row : (bit : ℕ) (places : List ℕ) (m : fin.FinMap nat_cmp ℕ) (place : ℕ)
-    → fin.get (fold (with_bit bit) m places) place
+    → fin.get (fold (mark_bit bit) m places) place
     ≡ cond (list_any (λ p. p == place) places) (Some (marked bit (fin.get m place)))
     (fin.get m place)
 marks_of_row bit [] m place = refl
-marks_of_row bit (p ∷ places) m place = marks_of_row bit places (with_bit bit m p) place
+marks_of_row bit (p ∷ places) m place = marks_of_row bit places (mark_bit bit m p) place
     ∙ mark_more bit m p place (list_any (λ q. q == place) places)
 
 abbrev bits_after : Option ℕ → List (ℕ × List ℕ) → Option ℕ

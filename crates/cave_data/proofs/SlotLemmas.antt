@@ -1,7 +1,7 @@
 -- What a finite map made of a table of slots has at a number: what is in the slot.
 use Rattle.std.proofs.Common.{◌≡◌, ℕ, ◌+◌, ◌<◌, ◌≤◌, length, option_and_then, suc, zero, true}
-use Rattle.std.proofs.Common.{false, cond, List, [], ◌∷◌, Option}
-use Rattle.std.proofs.Common.{Some, None, option_map, refl, ap, ◌∙◌, arith}
+use Rattle.std.proofs.Common.{false, cond, List, [], ◌∷◌, Option, Some, None, option_map, refl, ap}
+use Rattle.std.proofs.Common.{◌∙◌, arith}
 use Rattle.std.proofs.lemmas.Bool.Decides.{nat_tests}
 use Rattle.std.proofs.lemmas.Option.{slice_get_past}
 use Rattle.std.specs.Ordering.{nat_cmp, eq_by_cmp}

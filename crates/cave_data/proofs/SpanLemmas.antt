@@ -6,7 +6,7 @@ use Rattle.std.proofs.lemmas.List.{length-append, length-drop, take-append-le, d
 use Rattle.std.proofs.lemmas.List.{map-append}
 use Rattle.std.proofs.lemmas.List.Elements.{All-tail, All-weaker, All-push}
 use Rattle.std.proofs.Math.Seq.{take-length, drop-append_seam}
-use Rattle.cave_rows.specs.Rows.{WordEntry}
+use Rattle.data_rows.specs.Rows.{WordEntry}
 use Rattle.cave_data.specs.CaveView.{ClassEntry}
 use Rattle.cave_data.specs.declared.span.TextSpan.{TextSpan}
 use Rattle.cave_data.specs.declared.span.NumberedSpan.{NumberedSpan}

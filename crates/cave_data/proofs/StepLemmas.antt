@@ -6,18 +6,18 @@ use Rattle.std.specs.Option.{option_or}
 use Rattle.std.specs.Result.{result_ok, result_err}
 use Rattle.std.proofs.lemmas.List.{append_assoc, append-nil}
 use Rattle.std.proofs.lemmas.List.Sums.{fold_push}
-use Rattle.cave_rows.specs.declared.error.Cause.{Cause}
-use Rattle.cave_rows.specs.declared.error.Cause.TheVariants.{BadSection}
-use Rattle.cave_rows.specs.declared.error.Section.{Section}
-use Rattle.cave_rows.specs.declared.position.Position.{Position}
-use Rattle.cave_rows.specs.declared.position.Position.TheVariants.{Outside, Inside, After}
+use Rattle.data_rows.specs.declared.error.Cause.{Cause}
+use Rattle.data_rows.specs.declared.error.Cause.TheVariants.{BadSection}
+use Rattle.data_rows.specs.declared.error.Section.{Section}
+use Rattle.data_rows.specs.declared.position.Position.{Position}
+use Rattle.data_rows.specs.declared.position.Position.TheVariants.{Outside, Inside, After}
 use Rattle.cave_data.specs.declared.reader.Tables.{Tables}
 use Rattle.cave_data.specs.declared.reader.DatabaseReader.{DatabaseReader}
-use Rattle.log_lines.specs.Bytes.{is_all_blank}
-use Rattle.cave_rows.specs.Rows.{◌>>=◌, Entry, entry_in}
-use Rattle.cave_rows.specs.Grammar.{position_after_heading, closes, position_after_row}
-use Rattle.cave_rows.specs.Grammar.{position_after_line, position_after, entry_here, entry_at}
-use Rattle.cave_rows.specs.Grammar.{entries_from, entries}
+use Rattle.data_rows.specs.base_lines.Bytes.{is_all_blank}
+use Rattle.data_rows.specs.Rows.{◌>>=◌, Entry, entry_in}
+use Rattle.data_rows.specs.Grammar.{position_after_heading, closes, position_after_row}
+use Rattle.data_rows.specs.Grammar.{position_after_line, position_after, entry_here, entry_at}
+use Rattle.data_rows.specs.Grammar.{entries_from, entries}
 use Rattle.cave_data.specs.FirstFault.{shape_here, shape_cause, limit_cause, first_limit}
 use Rattle.cave_data.specs.FirstFault.{line_cause}
 use Rattle.cave_data.specs.Steps.{with_entry, no_tables, tables_of, unless_cause, admit, row_step}

@@ -9,7 +9,7 @@ use Rattle.std.specs.FinMap as map
 use Rattle.std.proofs.lemmas.Bool.{cases_eq, eq-eqb, ne_eqb}
 use Rattle.std.proofs.lemmas.List.{append-nil}
 use Rattle.std.proofs.lemmas.Grind.{flat_map-append}
-use Rattle.cave_rows.specs.Rows.{TextLine}
+use Rattle.data_rows.specs.Rows.{TextLine}
 use Rattle.cave_data.specs.Printing.{printed_text}
 use Rattle.cave_data.specs.Texts.{line_text, nonempty, same_run, first_lines_of, run_text}
 use Rattle.cave_data.specs.Texts.{text_of_number}

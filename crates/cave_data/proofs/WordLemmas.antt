@@ -1,12 +1,12 @@
 -- The first of some words with a number, word by word.
-use Rattle.std.proofs.Common.{◌≡◌, ◌≢◌, ℕ, ◌+◌, Bool, true, false, cond, List, ◌∷◌, drop}
-use Rattle.std.proofs.Common.{Option, Some, option_map, refl, ap, ◌∙◌}
+use Rattle.std.proofs.Common.{◌≡◌, ◌≢◌, ℕ, ◌+◌, Bool, true, false, cond, List, ◌∷◌, drop, Option}
+use Rattle.std.proofs.Common.{Some, option_map, refl, ap, ◌∙◌}
 use Rattle.std.specs.Prelude.{◌==◌}
 use Rattle.std.specs.List.{find, slice_get}
 use Rattle.std.proofs.lemmas.Bool.{eq-eqb, ne_eqb}
 use Rattle.std.proofs.lemmas.List.{drop_more}
 use Rattle.std.proofs.lemmas.Option.{get_or_from_slice_get, slice_get_within}
-use Rattle.cave_rows.specs.Rows.{WordEntry}
+use Rattle.data_rows.specs.Rows.{WordEntry}
 use Rattle.cave_data.specs.CaveView.{first_word}
 
 found_here : (has : Bool) (entry : WordEntry) (others : Option WordEntry)

@@ -3,15 +3,15 @@ use Rattle.std.specs.Prelude.{ℕ, suc, if◌then◌else◌, List, [], ◌∷◌
 use Rattle.std.specs.Prelude.{is_some}
 use Rattle.std.specs.Option.{option_or}
 use Rattle.std.specs.Result.{result_err}
-use Rattle.cave_rows.specs.declared.error.Cause.{Cause}
-use Rattle.cave_rows.specs.declared.error.BindingFlaw.TheVariants.{Repeated}
-use Rattle.cave_rows.specs.declared.error.Cause.TheVariants.{BadBinding}
-use Rattle.cave_rows.specs.declared.error.FaultSite.TheVariants.{Bindings}
-use Rattle.cave_rows.specs.declared.error.CaveError.{CaveError}
-use Rattle.cave_rows.specs.declared.binding.Binding.{Binding}
+use Rattle.data_rows.specs.declared.error.Cause.{Cause}
+use Rattle.data_rows.specs.declared.error.BindingFlaw.TheVariants.{Repeated}
+use Rattle.data_rows.specs.declared.error.Cause.TheVariants.{BadBinding}
+use Rattle.data_rows.specs.declared.error.FaultSite.TheVariants.{Bindings}
+use Rattle.data_rows.specs.declared.error.CaveError.{CaveError}
+use Rattle.data_rows.specs.declared.binding.Binding.{Binding}
 use Rattle.cave_data.specs.FirstFault.{first_fault_by}
-use Rattle.log_lines.specs.LogLine.{is_skipped}
-use Rattle.cave_rows.specs.BindingLines.{binding_row, binding_at, bindings_of}
+use Rattle.data_rows.specs.base_lines.LogLine.{is_skipped}
+use Rattle.data_rows.specs.BindingLines.{binding_row, binding_at, bindings_of}
 use Rattle.cave_data.specs.Bindings.{value_of}
 
 -- a key is bound once

@@ -2,16 +2,16 @@
 use Rattle.std.specs.Prelude.{ℕ, is_some, if◌then◌else◌, List, fold, Option, Some, None, Result, Ok}
 use Rattle.std.specs.Prelude.{Err}
 use Rattle.std.specs.FinMap as map
-use Rattle.cave_rows.specs.declared.error.Cause.{Cause}
-use Rattle.cave_rows.specs.declared.error.BindingFlaw.TheVariants.{Repeated}
-use Rattle.cave_rows.specs.declared.error.Cause.TheVariants.{BadBinding}
-use Rattle.cave_rows.specs.declared.binding.Key.{Key}
-use Rattle.cave_rows.specs.declared.binding.Key.TheVariants.{RoleKey, PlaceKey, LettersKey}
-use Rattle.cave_rows.specs.declared.binding.Binding.{Binding}
+use Rattle.data_rows.specs.declared.error.Cause.{Cause}
+use Rattle.data_rows.specs.declared.error.BindingFlaw.TheVariants.{Repeated}
+use Rattle.data_rows.specs.declared.error.Cause.TheVariants.{BadBinding}
+use Rattle.data_rows.specs.declared.binding.Key.{Key}
+use Rattle.data_rows.specs.declared.binding.Key.TheVariants.{RoleKey, PlaceKey, LettersKey}
+use Rattle.data_rows.specs.declared.binding.Binding.{Binding}
 use Rattle.cave_data.specs.declared.bindings.Bindings.{Bindings}
-use Rattle.cave_rows.specs.Rows.{◌>>=◌}
-use Rattle.log_lines.specs.LogLine.{is_skipped}
-use Rattle.cave_rows.specs.BindingLines.{binding_row}
+use Rattle.data_rows.specs.Rows.{◌>>=◌}
+use Rattle.data_rows.specs.base_lines.LogLine.{is_skipped}
+use Rattle.data_rows.specs.BindingLines.{binding_row}
 
 abbrev pub bound_to : Bindings → Key → Option ℕ
 bound_to b (RoleKey number) = map.get b.roles number

@@ -1,11 +1,10 @@
 -- What bindings say of a key.
-use Rattle.std.specs.Prelude.{ℕ, ◌==◌, if◌then◌else◌, List, fold, Option, Some, None}
+use Rattle.std.specs.Prelude.{ℕ, ◌==◌, if◌then◌else◌, List, fold, Option, Some, None, is_some}
 use Rattle.std.specs.List.{filter_map}
-use Rattle.cave_rows.specs.declared.binding.Key.{Key}
-use Rattle.cave_rows.specs.declared.binding.Key.TheVariants.{RoleKey, PlaceKey, LettersKey}
-use Rattle.cave_rows.specs.declared.binding.Binding.{Binding}
+use Rattle.data_rows.specs.declared.binding.Key.{Key}
+use Rattle.data_rows.specs.declared.binding.Key.TheVariants.{RoleKey, PlaceKey, LettersKey}
+use Rattle.data_rows.specs.declared.binding.Binding.{Binding}
 use Rattle.cave_data.specs.Database.{last_of}
-use Rattle.std.specs.Prelude.{is_some}
 use Rattle.std.specs.Ordering.{nat_cmp}
 use Rattle.std.specs.FinMap as map
 
@@ -39,30 +38,30 @@ value_of (PlaceKey number) bindings = last_of number (filter_map place_value bin
 value_of LettersKey bindings = fold latest None (filter_map letters_value bindings)
 
 -- the place where a game begins, where bindings say nothing
-abbrev pub default_start : ℕ
-default_start = 1
+abbrev pub DEFAULT_START : ℕ
+DEFAULT_START = 1
 
 -- the place where treasures are to be brought, where bindings say nothing
-abbrev pub default_building : ℕ
-default_building = 3
+abbrev pub DEFAULT_BUILDING : ℕ
+DEFAULT_BUILDING = 3
 
 -- the last place outside the cave, where bindings say nothing
-abbrev pub default_outside : ℕ
-default_outside = 8
+abbrev pub DEFAULT_OUTSIDE : ℕ
+DEFAULT_OUTSIDE = 8
 
 -- the first place of the cave's depths, where bindings say nothing
-abbrev pub default_deep : ℕ
-default_deep = 15
+abbrev pub DEFAULT_DEEP : ℕ
+DEFAULT_DEEP = 15
 
 -- how many letters of a word count, where bindings say nothing
-abbrev pub default_letters : ℕ
-default_letters = 5
+abbrev pub DEFAULT_LETTERS : ℕ
+DEFAULT_LETTERS = 5
 
 -- the places that have a role where bindings say nothing: start, building, outside and deep
 abbrev pub default_place : ℕ → Option ℕ
-default_place n = if n == 0 then Some default_start
-    else (if n == 1 then Some default_building
-    else (if n == 2 then Some default_outside else (if n == 3 then Some default_deep else None)))
+default_place n = if n == 0 then Some DEFAULT_START
+    else (if n == 1 then Some DEFAULT_BUILDING
+    else (if n == 2 then Some DEFAULT_OUTSIDE else (if n == 3 then Some DEFAULT_DEEP else None)))
 
 abbrev pub or_default : ℕ → ℕ → map.FinMap nat_cmp ℕ → map.FinMap nat_cmp ℕ
 or_default n place m = if is_some (map.get m n) then m else map.insert m n place
@@ -70,5 +69,5 @@ or_default n place m = if is_some (map.get m n) then m else map.insert m n place
 -- start, building, outside and deep
 unfoldable pub with_defaults : map.FinMap nat_cmp ℕ → map.FinMap nat_cmp ℕ
 with_defaults m =
-    or_default 0 default_start (or_default 1 default_building
-    (or_default 2 default_outside (or_default 3 default_deep m)))
+    or_default 0 DEFAULT_START (or_default 1 DEFAULT_BUILDING
+    (or_default 2 DEFAULT_OUTSIDE (or_default 3 DEFAULT_DEEP m)))

@@ -4,7 +4,7 @@ use Rattle.std.specs.FinMap as fin
 use Rattle.cave_data.specs.declared.reader.Tables.{Tables}
 use Rattle.cave_data.specs.declared.bindings.Bindings.{Bindings}
 use Rattle.cave_data.specs.CaveView.{CaveView}
-use Rattle.cave_data.specs.Bindings.{default_letters, with_defaults}
+use Rattle.cave_data.specs.Bindings.{DEFAULT_LETTERS, with_defaults}
 use Rattle.cave_data.specs.Printing.{printed_text, printed_class}
 
 pub record Finished (t : Tables) (b : Bindings) (c : CaveView) : Type 0 where
@@ -22,4 +22,4 @@ pub record Finished (t : Tables) (b : Bindings) (c : CaveView) : Type 0 where
   pub hints : c.hints ≡ t.hints
   pub roles : c.roles ≡ b.roles
   pub places : c.places ≡ with_defaults b.places
-  pub letters : c.letters ≡ unwrap_or b.letters default_letters
+  pub letters : c.letters ≡ unwrap_or b.letters DEFAULT_LETTERS

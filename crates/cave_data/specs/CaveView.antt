@@ -1,15 +1,15 @@
 -- What a cave is to those who use one: finite maps by number, and rows in the order of the file.
 use Rattle.std.specs.Prelude.{ℕ, ℤ, pos, ◌+◌, ◌*◌, Bool, ◌==◌, ◌&&◌, nat_lt, nat_le, if◌then◌else◌}
-use Rattle.std.specs.Prelude.{List, [], ◌∷◌, length, Option, Some, None, refl}
-use Rattle.std.specs.Prelude.{option_map, unwrap_or}
+use Rattle.std.specs.Prelude.{List, [], ◌∷◌, length, Option, Some, None, refl, option_map}
+use Rattle.std.specs.Prelude.{unwrap_or}
 use Rattle.std.specs.Coded.{Coded, code_by, coded×, coded_ℕ, coded_ℤ, coded_list}
 use Rattle.std.specs.Ordering.{nat_cmp}
 use Rattle.std.specs.FinMap as map
 use Rattle.std.specs.List.{find}
-use Rattle.cave_rows.specs.declared.rows.Placement.{Placement}
-use Rattle.cave_rows.specs.declared.rows.Hint.{Hint}
-use Rattle.cave_rows.specs.Rows.{Going, WordEntry}
-use Rattle.cave_numbers.specs.Numbers.{last_named, last_prop}
+use Rattle.data_rows.specs.declared.rows.Placement.{Placement}
+use Rattle.data_rows.specs.declared.rows.Hint.{Hint}
+use Rattle.data_rows.specs.Rows.{Going, WordEntry}
+use Rattle.data_rows.specs.data_numbers.Numbers.{LAST_NAMED, LAST_PROP}
 
 -- a class of players: its greatest score and its text
 pub record ClassEntry : Type 0 where
@@ -114,12 +114,12 @@ cave_code =
     (λ _. refl)
 
 -- the inventory text of an object
-abbrev pub inventory_text : CaveView → ℕ → Option (List ℕ)
-inventory_text c object = if nat_le object last_named then map.get c.objects object else None
+abbrev pub name_of : CaveView → ℕ → Option (List ℕ)
+name_of c object = if nat_le object LAST_NAMED then map.get c.objects object else None
 
 -- the text of an object as it lies there with that prop
 abbrev pub look_of : CaveView → ℕ → ℕ → Option (List ℕ)
-look_of c object prop = if nat_lt 0 object && nat_le object last_named && nat_le prop last_prop
+look_of c object prop = if nat_lt 0 object && nat_le object LAST_NAMED && nat_le prop LAST_PROP
     then map.get c.objects (100 * object + prop) else None
 
 -- the ways out of a place, in the order of the file
@@ -132,8 +132,8 @@ first_word words number =
     option_map (λ entry. entry.word) (find (λ entry. entry.number == number) words)
 
 -- the bits of a place, as the bits of a number
-abbrev pub conditions_of : CaveView → ℕ → ℕ
-conditions_of c place = unwrap_or (map.get c.conditions place) 0
+abbrev pub cond_of : CaveView → ℕ → ℕ
+cond_of c place = unwrap_or (map.get c.conditions place) 0
 
 -- where both halves of an object are at first: nowhere, where no row says so
 abbrev pub placement_of : CaveView → ℕ → Placement
@@ -167,5 +167,5 @@ class_from row score [] = None
 class_from row score (class ∷ classes) = if nat_le score class.bound
     then Some (rating_at_row row class classes) else class_from (row + 1) score classes
 
-abbrev pub rating_of_score : CaveView → ℕ → Option Rated
-rating_of_score c score = class_from 1 score c.classes
+abbrev pub class_of : CaveView → ℕ → Option Rated
+class_of c score = class_from 1 score c.classes

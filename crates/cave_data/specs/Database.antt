@@ -3,17 +3,16 @@ use Rattle.std.specs.Prelude.{◌≡◌, ℕ, ◌^◌, ◌≤◌, Bool, true, �
 use Rattle.std.specs.Prelude.{reverse, fold, filter, Option, option_map, bit_or}
 use Rattle.std.specs.List.{filter_map, find, list_any}
 use Rattle.std.specs.FinMap.{get}
-use Rattle.cave_rows.specs.declared.position.Position.TheVariants.{After}
-use Rattle.cave_rows.specs.Rows.{Going}
+use Rattle.data_rows.specs.declared.position.Position.TheVariants.{After}
+use Rattle.data_rows.specs.Rows.{Going, Entry, TextLine}
 use Rattle.cave_data.specs.CaveView.{CaveView, ClassEntry}
 use Rattle.cave_data.specs.Printing.{printed_text}
-use Rattle.cave_rows.specs.Rows.{Entry, TextLine}
 use Rattle.cave_data.specs.Texts.{line_text, nonempty, text_of_number, names_object, by_object}
-use Rattle.cave_rows.specs.Grammar.{IsValidLine, position_after, entries}
-use Rattle.cave_rows.specs.SectionRows.{way_of, word_entry_of, class_line_of, object_line_of}
-use Rattle.cave_rows.specs.SectionRows.{long_line_of, short_line_of, message_line_of}
-use Rattle.cave_rows.specs.SectionRows.{placement_of_row, default_of_row, marks_of_row, hint_of_row}
-use Rattle.cave_data.specs.Limits.{max_ways, max_words, max_classes}
+use Rattle.data_rows.specs.Grammar.{IsValidLine, position_after, entries}
+use Rattle.data_rows.specs.SectionRows.{way_of, word_entry_of, class_line_of, object_line_of}
+use Rattle.data_rows.specs.SectionRows.{long_line_of, short_line_of, message_line_of}
+use Rattle.data_rows.specs.SectionRows.{placement_of_row, default_of_row, marks_of_row, hint_of_row}
+use Rattle.cave_data.specs.Limits.{MAX_WAYS, MAX_WORDS, MAX_CLASSES}
 
 -- What the rows of a section say of a number.
 
@@ -46,9 +45,9 @@ BeginWithObject (line ∷ lines) = names_object line ≡ true
 
 -- The rows are valid together.
 pub record AreValidTogether (rows : List Entry) : Type 0 where
-  pub ways : length (filter_map way_of rows) ≤ max_ways
-  pub words : length (filter_map word_entry_of rows) ≤ max_words
-  pub classes : length (filter_map class_line_of rows) ≤ max_classes
+  pub ways : length (filter_map way_of rows) ≤ MAX_WAYS
+  pub words : length (filter_map word_entry_of rows) ≤ MAX_WORDS
+  pub classes : length (filter_map class_line_of rows) ≤ MAX_CLASSES
   pub objects : BeginWithObject (filter_map object_line_of rows)
 
 -- The lines are those of a database: each is valid where it is, the rows are valid together, and

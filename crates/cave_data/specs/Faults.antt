@@ -1,10 +1,10 @@
 -- The fault that is reported.
 use Rattle.std.specs.Prelude.{◌≡◌, ◌⊎◌, ℕ, Option, Some}
-use Rattle.cave_rows.specs.declared.error.Cause.{Cause}
-use Rattle.cave_rows.specs.declared.error.Cause.TheVariants.{Memory}
-use Rattle.cave_rows.specs.declared.error.FaultSite.{FaultSite}
-use Rattle.cave_rows.specs.declared.error.FaultSite.TheVariants as site
-use Rattle.cave_rows.specs.declared.error.CaveError.{CaveError}
+use Rattle.data_rows.specs.declared.error.Cause.{Cause}
+use Rattle.data_rows.specs.declared.error.Cause.TheVariants.{Memory}
+use Rattle.data_rows.specs.declared.error.FaultSite.{FaultSite}
+use Rattle.data_rows.specs.declared.error.FaultSite.TheVariants as site
+use Rattle.data_rows.specs.declared.error.CaveError.{CaveError}
 
 -- out of memory, which is no line's fault
 abbrev pub no_memory : CaveError

@@ -4,21 +4,21 @@ use Rattle.std.specs.Prelude.{◌++◌, length, Option, Some, None, option_map, 
 use Rattle.std.specs.Option.{option_or}
 use Rattle.std.specs.Result.{result_err}
 use Rattle.std.specs.List.{filter_map}
-use Rattle.cave_rows.specs.declared.error.Cause.{Cause}
-use Rattle.cave_rows.specs.declared.error.Cause.TheVariants.{BadSection, OutOfRange, NoEnd}
-use Rattle.cave_rows.specs.declared.error.Cause.TheVariants.{TooManyRows}
-use Rattle.cave_rows.specs.declared.error.FaultSite.{FaultSite}
-use Rattle.cave_rows.specs.declared.error.FaultSite.TheVariants as site
-use Rattle.cave_rows.specs.declared.error.CaveError.{CaveError}
-use Rattle.cave_rows.specs.declared.position.Position.{Position}
-use Rattle.cave_rows.specs.declared.position.Position.TheVariants.{Outside, Inside, After}
-use Rattle.log_lines.specs.Bytes.{is_all_blank}
+use Rattle.data_rows.specs.declared.error.Cause.{Cause}
+use Rattle.data_rows.specs.declared.error.Cause.TheVariants.{BadSection, OutOfRange, NoEnd}
+use Rattle.data_rows.specs.declared.error.Cause.TheVariants.{TooManyRows}
+use Rattle.data_rows.specs.declared.error.FaultSite.{FaultSite}
+use Rattle.data_rows.specs.declared.error.FaultSite.TheVariants as site
+use Rattle.data_rows.specs.declared.error.CaveError.{CaveError}
+use Rattle.data_rows.specs.declared.position.Position.{Position}
+use Rattle.data_rows.specs.declared.position.Position.TheVariants.{Outside, Inside, After}
+use Rattle.data_rows.specs.base_lines.Bytes.{is_all_blank}
 use Rattle.cave_data.specs.Texts.{object_after, object_after_lines}
-use Rattle.cave_rows.specs.Rows.{Entry, Way, Word, ObjectLine, ClassLine, entry_in}
-use Rattle.cave_rows.specs.Grammar.{position_after_heading, closes, position_after, entry_at}
-use Rattle.cave_rows.specs.Grammar.{entries}
-use Rattle.cave_rows.specs.SectionRows.{way_of, word_entry_of, class_line_of, object_line_of}
-use Rattle.cave_data.specs.Limits.{max_ways, max_words, max_classes}
+use Rattle.data_rows.specs.Rows.{Entry, Way, Word, ObjectLine, ClassLine, entry_in}
+use Rattle.data_rows.specs.Grammar.{position_after_heading, closes, position_after, entry_at}
+use Rattle.data_rows.specs.Grammar.{entries}
+use Rattle.data_rows.specs.SectionRows.{way_of, word_entry_of, class_line_of, object_line_of}
+use Rattle.cave_data.specs.Limits.{MAX_WAYS, MAX_WORDS, MAX_CLASSES}
 
 abbrev pub shape_here : Position → List ℕ → Option Cause
 shape_here Outside line = if is_some (position_after_heading line) then None else Some BadSection
@@ -34,9 +34,9 @@ at_most limit before = if nat_lt before limit then None else Some TooManyRows
 
 -- what is wrong with a row after these rows: one too many, or a prop of no object
 abbrev pub limit_cause : List Entry → Entry → Option Cause
-limit_cause before (Way place going) = at_most max_ways (length (filter_map way_of before))
-limit_cause before (Word word) = at_most max_words (length (filter_map word_entry_of before))
-limit_cause before (ClassLine line) = at_most max_classes (length (filter_map class_line_of before))
+limit_cause before (Way place going) = at_most MAX_WAYS (length (filter_map way_of before))
+limit_cause before (Word word) = at_most MAX_WORDS (length (filter_map word_entry_of before))
+limit_cause before (ClassLine line) = at_most MAX_CLASSES (length (filter_map class_line_of before))
 limit_cause before (ObjectLine line) =
     if object_after (object_after_lines (filter_map object_line_of before)) line == 0
     then Some OutOfRange else None

@@ -3,13 +3,13 @@ use Rattle.std.specs.Prelude.{◌≡◌, ℕ, ◌≤◌, ◌<◌, Bool, false, t
 use Rattle.std.specs.Prelude.{length, map, filter, Some, None, is_some}
 use Rattle.std.specs.List.{filter_map, flat_map, list_all, list_any}
 use Rattle.std.specs.FinMap.{get}
-use Rattle.cave_data.specs.CaveView.{CaveView, Texts, inventory_text, ways_from}
+use Rattle.cave_data.specs.CaveView.{CaveView, Texts, name_of, ways_from}
 use Rattle.cave_data.specs.Printing.{printed_text}
-use Rattle.cave_rows.specs.Rows.{Entry, TextLine}
+use Rattle.data_rows.specs.Rows.{Entry, TextLine}
 use Rattle.cave_data.specs.Texts.{line_text, by_object}
-use Rattle.cave_rows.specs.SectionRows.{way_of, object_line_of, long_line_of, short_line_of}
-use Rattle.cave_rows.specs.SectionRows.{message_line_of}
-use Rattle.cave_numbers.specs.Numbers.{last_named}
+use Rattle.data_rows.specs.SectionRows.{way_of, object_line_of, long_line_of, short_line_of}
+use Rattle.data_rows.specs.SectionRows.{message_line_of}
+use Rattle.data_rows.specs.data_numbers.Numbers.{LAST_NAMED}
 
 abbrev pub has_number : ℕ → TextLine → Bool
 has_number n line = line.number == n
@@ -40,6 +40,6 @@ pub record Laws (rows : List Entry) (c : CaveView) : Type 0 where
       → ways_from c place
       ≡ map (λ row. row.1) (filter (λ row. row.0 == place) (filter_map way_of rows))
   -- an object, and so a treasure, is known exactly where a row of section 5 has its number
-  pub known : (object : ℕ) → 1 ≤ object → object ≤ last_named
-      → is_some (inventory_text c object)
+  pub known : (object : ℕ) → 1 ≤ object → object ≤ LAST_NAMED
+      → is_some (name_of c object)
       ≡ list_any (has_number object) (filter_map object_line_of rows)

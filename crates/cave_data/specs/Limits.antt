@@ -2,13 +2,13 @@
 use Rattle.std.specs.Prelude.{ℕ}
 
 -- the most ways out of places
-abbrev pub max_ways : ℕ
-max_ways = 2000
+abbrev pub MAX_WAYS : ℕ
+MAX_WAYS = 2000
 
 -- the most words
-abbrev pub max_words : ℕ
-max_words = 1000
+abbrev pub MAX_WORDS : ℕ
+MAX_WORDS = 1000
 
 -- the most classes
-abbrev pub max_classes : ℕ
-max_classes = 50
+abbrev pub MAX_CLASSES : ℕ
+MAX_CLASSES = 50

@@ -2,19 +2,19 @@
 -- range, then what is too much.
 use Rattle.std.specs.Prelude.{◌≡◌, ℕ, Bool, true, false, List, Some}
 use Rattle.std.specs.Result.{is_ok}
-use Rattle.cave_rows.specs.declared.error.Cause.{Cause}
-use Rattle.cave_rows.specs.declared.error.Cause.TheVariants.{BadSection, BadNumber, OutOfRange}
-use Rattle.cave_rows.specs.declared.error.Cause.TheVariants.{TooManyRows}
-use Rattle.cave_rows.specs.declared.error.Section.{Section}
-use Rattle.cave_rows.specs.declared.error.Section.TheVariants as section
-use Rattle.cave_rows.specs.declared.position.Position.{Position}
-use Rattle.cave_rows.specs.declared.position.Position.TheVariants.{Outside, Inside, After}
-use Rattle.cave_rows.specs.Rows.{◌>>=◌, number_or_cause, list_in, some_of, word_or_cause}
-use Rattle.cave_rows.specs.Rows.{number_or_zero, within, all_within, entry_in}
-use Rattle.cave_rows.specs.Rows.{LAST_MOTION, LAST_TARGET}
-use Rattle.cave_rows.specs.Grammar.{position_after}
+use Rattle.data_rows.specs.declared.error.Cause.{Cause}
+use Rattle.data_rows.specs.declared.error.Cause.TheVariants.{BadSection, BadNumber, OutOfRange}
+use Rattle.data_rows.specs.declared.error.Cause.TheVariants.{TooManyRows}
+use Rattle.data_rows.specs.declared.error.Section.{Section}
+use Rattle.data_rows.specs.declared.error.Section.TheVariants as section
+use Rattle.data_rows.specs.declared.position.Position.{Position}
+use Rattle.data_rows.specs.declared.position.Position.TheVariants.{Outside, Inside, After}
+use Rattle.data_rows.specs.Rows.{◌>>=◌, number_or_cause, list_in, some_of, word_or_cause}
+use Rattle.data_rows.specs.Rows.{number_or_zero, within, all_within, entry_in, LAST_MOTION}
+use Rattle.data_rows.specs.Rows.{LAST_TARGET}
+use Rattle.data_rows.specs.Grammar.{position_after}
 use Rattle.cave_data.specs.FirstFault.{line_cause}
-use Rattle.cave_numbers.specs.Numbers.{last_place, last_hint}
+use Rattle.data_rows.specs.data_numbers.Numbers.{LAST_PLACE, LAST_HINT}
 
 -- whether the numbers and words of a row of the section are there
 abbrev pub has_parts : Section → List ℕ → Bool
@@ -38,11 +38,11 @@ has_parts s line = is_ok (number_or_cause line)
 abbrev pub is_in_range : Section → List ℕ → Bool
 is_in_range section.Travel line =
     is_ok (number_or_cause line >>= λ place. number_or_cause place.1 >>= λ target. list_in target.1
-    >>= λ motions. within 1 last_place place.0 >>= λ from. within 0 LAST_TARGET target.0
+    >>= λ motions. within 1 LAST_PLACE place.0 >>= λ from. within 0 LAST_TARGET target.0
     >>= λ to. all_within 1 LAST_MOTION motions)
 is_in_range section.Conditions line =
-    is_ok (number_or_cause line >>= λ bit. list_in bit.1 >>= λ places. within 0 last_hint bit.0
-    >>= λ number. all_within 1 last_place places)
+    is_ok (number_or_cause line >>= λ bit. list_in bit.1 >>= λ places. within 0 LAST_HINT bit.0
+    >>= λ number. all_within 1 LAST_PLACE places)
 is_in_range s line = is_ok (entry_in s line)
 
 -- no cause below this one is there too, where these parts are there, and in their ranges

@@ -4,20 +4,20 @@ use Rattle.std.specs.Prelude.{length, Option, Some, None, Ok, unwrap_or}
 use Rattle.std.specs.Option.{option_or}
 use Rattle.std.specs.Str.Lines.{lines}
 use Rattle.std.specs.FinMap.{get}
-use Rattle.limits.specs.Limits.{max_input_bytes}
-use Rattle.cave_rows.specs.declared.error.Cause.TheVariants.{TooLarge}
-use Rattle.cave_rows.specs.declared.error.FaultSite.{FaultSite}
-use Rattle.cave_rows.specs.declared.error.FaultSite.TheVariants as site
-use Rattle.cave_rows.specs.declared.error.CaveError.{CaveError}
-use Rattle.cave_rows.specs.declared.binding.Key.TheVariants.{RoleKey, PlaceKey, LettersKey}
+use Rattle.data_rows.specs.base_limits.Limits.{MAX_INPUT_BYTES}
+use Rattle.data_rows.specs.declared.error.Cause.TheVariants.{TooLarge}
+use Rattle.data_rows.specs.declared.error.FaultSite.{FaultSite}
+use Rattle.data_rows.specs.declared.error.FaultSite.TheVariants as site
+use Rattle.data_rows.specs.declared.error.CaveError.{CaveError}
+use Rattle.data_rows.specs.declared.binding.Key.TheVariants.{RoleKey, PlaceKey, LettersKey}
 use Rattle.cave_data.specs.CaveView.{CaveView}
-use Rattle.cave_rows.specs.Grammar.{entries}
+use Rattle.data_rows.specs.Grammar.{entries}
 use Rattle.cave_data.specs.FirstFault.{first_fault}
 use Rattle.cave_data.specs.Database.{IsDatabase, Holds}
-use Rattle.cave_rows.specs.declared.binding.Binding.{Binding}
-use Rattle.log_lines.specs.LogLine.{is_skipped}
-use Rattle.cave_rows.specs.BindingLines.{binding_row, bindings_of}
-use Rattle.cave_data.specs.Bindings.{value_of, default_letters, default_place}
+use Rattle.data_rows.specs.declared.binding.Binding.{Binding}
+use Rattle.data_rows.specs.base_lines.LogLine.{is_skipped}
+use Rattle.data_rows.specs.BindingLines.{binding_row, bindings_of}
+use Rattle.cave_data.specs.Bindings.{value_of, DEFAULT_LETTERS, default_place}
 use Rattle.cave_data.specs.BindingFault.{first_binding_fault}
 
 -- The line binds a key that no line before it binds.
@@ -37,8 +37,8 @@ pub record AreBindings (ls : List (List ℕ)) : Type 0 where
 
 -- Both inputs are small enough and valid.
 pub record AreValidInputs (database bindings : List ℕ) : Type 0 where
-  pub small : length database ≤ max_input_bytes
-  pub bindings_small : length bindings ≤ max_input_bytes
+  pub small : length database ≤ MAX_INPUT_BYTES
+  pub bindings_small : length bindings ≤ MAX_INPUT_BYTES
   pub is_database : IsDatabase (lines database)
   pub are_bindings : AreBindings (lines bindings)
 
@@ -51,7 +51,7 @@ pub record Reads (database bindings : List ℕ) (c : CaveView) : Type 0 where
       → get c.places n
       ≡ option_or (value_of (PlaceKey n) (bindings_of (lines bindings))) (default_place n)
   pub letters : c.letters
-      ≡ unwrap_or (value_of LettersKey (bindings_of (lines bindings))) default_letters
+      ≡ unwrap_or (value_of LettersKey (bindings_of (lines bindings))) DEFAULT_LETTERS
 
 abbrev pub too_large_input : FaultSite → CaveError
 too_large_input site = record { cause = TooLarge; line = 0; site = site }
@@ -59,8 +59,8 @@ too_large_input site = record { cause = TooLarge; line = 0; site = site }
 -- the fault of a size, which is decided before memory is asked for
 abbrev pub size_fault : List ℕ → List ℕ → Option CaveError
 size_fault database bindings =
-    if nat_lt max_input_bytes (length database) then Some (too_large_input site.Database)
-    else (if nat_lt max_input_bytes (length bindings) then Some (too_large_input site.Bindings)
+    if nat_lt MAX_INPUT_BYTES (length database) then Some (too_large_input site.Database)
+    else (if nat_lt MAX_INPUT_BYTES (length bindings) then Some (too_large_input site.Bindings)
     else None)
 
 -- the first fault: a size, else a line of the database, else a line of the bindings

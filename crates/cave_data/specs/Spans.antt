@@ -2,7 +2,7 @@
 use Rattle.std.specs.Prelude.{◌≡◌, ℕ, ◌+◌, ◌≤◌, IfSome, List, length, take, drop, Option}
 use Rattle.cave_data.specs.declared.span.TextSpan.{TextSpan}
 use Rattle.cave_data.specs.declared.span.NumberedSpan.{NumberedSpan}
-use Rattle.cave_rows.specs.Rows.{WordEntry}
+use Rattle.data_rows.specs.Rows.{WordEntry}
 use Rattle.cave_data.specs.CaveView.{ClassEntry}
 use Rattle.cave_data.specs.Slots.{slot}
 

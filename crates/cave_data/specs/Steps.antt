@@ -2,24 +2,23 @@
 use Rattle.std.specs.Prelude.{ℕ, ◌==◌, if◌then◌else◌, List, [], ◌∷◌, ◌++◌, length, fold, Option}
 use Rattle.std.specs.Prelude.{Some, None, Result, Ok, Err}
 use Rattle.std.specs.FinMap as map
-use Rattle.cave_rows.specs.declared.error.Cause.{Cause}
-use Rattle.cave_rows.specs.declared.error.Cause.TheVariants.{BadSection, OutOfRange}
-use Rattle.cave_rows.specs.declared.error.Section.{Section}
-use Rattle.cave_rows.specs.declared.position.Position.{Position}
-use Rattle.cave_rows.specs.declared.position.Position.TheVariants.{Outside, Inside, After}
+use Rattle.data_rows.specs.declared.error.Cause.{Cause}
+use Rattle.data_rows.specs.declared.error.Cause.TheVariants.{BadSection, OutOfRange}
+use Rattle.data_rows.specs.declared.error.Section.{Section}
+use Rattle.data_rows.specs.declared.position.Position.{Position}
+use Rattle.data_rows.specs.declared.position.Position.TheVariants.{Outside, Inside, After}
 use Rattle.cave_data.specs.declared.reader.Tables.{Tables}
 use Rattle.cave_data.specs.declared.reader.DatabaseReader.{DatabaseReader}
 use Rattle.cave_data.specs.CaveView.{ClassEntry}
-use Rattle.log_lines.specs.Bytes.{is_all_blank}
-use Rattle.cave_rows.specs.Rows.{◌>>=◌, Entry, TextLine, LongLine, ShortLine, Way, Word, ObjectLine}
-use Rattle.cave_rows.specs.Rows.{MessageLine, PlacementRow, DefaultRow, ConditionRow, ClassLine}
-use Rattle.cave_rows.specs.Rows.{HintRow, MagicLine}
-use Rattle.cave_rows.specs.Rows.{entry_in}
+use Rattle.data_rows.specs.base_lines.Bytes.{is_all_blank}
+use Rattle.data_rows.specs.Rows.{◌>>=◌, Entry, TextLine, LongLine, ShortLine, Way, Word, ObjectLine}
+use Rattle.data_rows.specs.Rows.{MessageLine, PlacementRow, DefaultRow, ConditionRow, ClassLine}
+use Rattle.data_rows.specs.Rows.{HintRow, MagicLine, entry_in}
 use Rattle.cave_data.specs.FirstFault.{at_most}
-use Rattle.cave_rows.specs.Grammar.{position_after_heading, closes}
+use Rattle.data_rows.specs.Grammar.{position_after_heading, closes}
 use Rattle.cave_data.specs.Texts.{line_text, with_key, object_after}
-use Rattle.cave_data.specs.Tables.{TextsSoFar, with_line, with_way, with_bit}
-use Rattle.cave_data.specs.Limits.{max_ways, max_words, max_classes}
+use Rattle.cave_data.specs.Tables.{TextsSoFar, with_line, with_way, mark_bit}
+use Rattle.cave_data.specs.Limits.{MAX_WAYS, MAX_WORDS, MAX_CLASSES}
 
 abbrev pub class_of_line : TextLine → ClassEntry
 class_of_line line = record { bound = line.number; text = line_text line }
@@ -41,16 +40,16 @@ with_entry t (PlacementRow object placement) =
 with_entry t (DefaultRow action message) =
     record t { defaults = map.insert t.defaults action message }
 with_entry t (ConditionRow bit places) =
-    record t { conditions = fold (with_bit bit) t.conditions places }
+    record t { conditions = fold (mark_bit bit) t.conditions places }
 with_entry t (ClassLine line) = record t { classes = t.classes ++ class_of_line line ∷ [] }
 with_entry t (HintRow number hint) = record t { hints = map.insert t.hints number hint }
 with_entry t (MagicLine line) = t
 
 -- what is wrong with a row after those that the tables have
 abbrev pub table_limit : Tables → Entry → Option Cause
-table_limit t (Way place going) = at_most max_ways t.ways.count
-table_limit t (Word word) = at_most max_words (length t.words)
-table_limit t (ClassLine line) = at_most max_classes (length t.classes)
+table_limit t (Way place going) = at_most MAX_WAYS t.ways.count
+table_limit t (Word word) = at_most MAX_WORDS (length t.words)
+table_limit t (ClassLine line) = at_most MAX_CLASSES (length t.classes)
 table_limit t (ObjectLine line) = if object_after t.object line == 0 then Some OutOfRange else None
 table_limit t entry = None
 

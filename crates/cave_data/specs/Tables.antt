@@ -1,13 +1,11 @@
 -- Tables as they are while a database is read.
 use Rattle.std.specs.Prelude.{◌≡◌, ℕ, ◌+◌, ◌≤◌, ◌^◌, Bool, false, ◌==◌, if◌then◌else◌, List, []}
-use Rattle.std.specs.Prelude.{◌∷◌, ◌++◌}
-use Rattle.std.specs.Prelude.{Option, Some, None, unwrap_or, bit_or, refl}
+use Rattle.std.specs.Prelude.{◌∷◌, ◌++◌, Option, Some, None, unwrap_or, bit_or, refl}
 use Rattle.std.specs.Coded.{Coded, code_by, coded×, coded_ℕ, coded_list, coded_option}
 use Rattle.std.specs.Ordering.{nat_cmp}
 use Rattle.std.specs.FinMap as map
-use Rattle.cave_rows.specs.Rows.{Going}
+use Rattle.data_rows.specs.Rows.{Going, TextLine}
 use Rattle.cave_data.specs.CaveView.{Texts, texts_code, going_code}
-use Rattle.cave_rows.specs.Rows.{TextLine}
 use Rattle.cave_data.specs.Texts.{line_text}
 
 -- texts, and the number of the last line
@@ -58,5 +56,5 @@ with_way t place going =
 abbrev pub IsAbove : {X : Type 0} → ℕ → map.FinMap nat_cmp X → Type 0
 IsAbove end m = (n : ℕ) → end ≤ n → map.get m n ≡ None
 
-unfoldable pub with_bit : ℕ → map.FinMap nat_cmp ℕ → ℕ → map.FinMap nat_cmp ℕ
-with_bit bit m place = map.insert m place (bit_or (unwrap_or (map.get m place) 0) (2 ^ bit))
+unfoldable pub mark_bit : ℕ → map.FinMap nat_cmp ℕ → ℕ → map.FinMap nat_cmp ℕ
+mark_bit bit m place = map.insert m place (bit_or (unwrap_or (map.get m place) 0) (2 ^ bit))

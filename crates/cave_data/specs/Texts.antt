@@ -2,9 +2,9 @@
 use Rattle.std.specs.Prelude.{ℕ, ◌+◌, ◌*◌, ◌/◌, Bool, ◌&&◌, ◌==◌, nat_lt, nat_le, if◌then◌else◌}
 use Rattle.std.specs.Prelude.{List, [], ◌∷◌, ◌++◌, reverse, fold, Option, Some, None, option_map}
 use Rattle.std.specs.List.{flat_map}
-use Rattle.cave_rows.specs.Rows.{TextLine}
+use Rattle.data_rows.specs.Rows.{TextLine}
 use Rattle.cave_data.specs.Printing.{printed_text}
-use Rattle.cave_numbers.specs.Numbers.{last_named}
+use Rattle.data_rows.specs.data_numbers.Numbers.{LAST_NAMED}
 
 -- a line with the line feed that ends it
 abbrev pub line_text : TextLine → List ℕ
@@ -39,7 +39,7 @@ text_of_number n lines =
 
 -- whether the line is of an object's inventory text, and not of a prop
 abbrev pub names_object : TextLine → Bool
-names_object line = nat_lt 0 line.number && nat_le line.number last_named
+names_object line = nat_lt 0 line.number && nat_le line.number LAST_NAMED
 
 -- the object whose texts come after a line
 abbrev pub object_after : ℕ → TextLine → ℕ

@@ -2,19 +2,18 @@
 ghost use Rattle.std.specs.Prelude.{◌≡◌, [], None, IfOk, IfErr};
 ghost use Rattle.std.specs.Str.Lines.{lines};
 ghost use Rattle.cave_data.specs.BindingFault.{first_binding_fault};
-ghost use Rattle.cave_rows.specs.BindingLines.{bindings_of};
+ghost use Rattle.data_rows.specs.BindingLines.{bindings_of};
 ghost use Rattle.cave_data.specs.BindingSteps.{bound_to, bind_new, bind_line, no_bindings};
 ghost use Rattle.cave_data.specs.BindingSteps.{bindings_from};
 ghost use Rattle.cave_data.specs.Faults.{FaultIs};
-ghost use Rattle.cave_rows.specs.Answers.{Leaves};
+ghost use Rattle.data_rows.specs.Answers.{Leaves};
 
 use crate::database::error_at;
 use crate::tables::Table;
-use cave_rows::binding::{Binding, Key, binding_row};
-use cave_rows::place_role::PLACE_NAMES;
-use cave_rows::role::ROLE_NAMES;
-use cave_rows::{BindingFlaw, Cause, CaveError, FaultSite};
-use log_lines::{is_skipped, split_line};
+use data_rows::binding::{Binding, Key, binding_row};
+use data_rows::place_role::PLACE_NAMES;
+use data_rows::role::ROLE_NAMES;
+use data_rows::{BindingFlaw, Cause, CaveError, FaultSite, is_skipped, split_line};
 use std::alloc::Global;
 
 const LAST_ROLE: u16 = ROLE_NAMES.len() as u16 - 1;

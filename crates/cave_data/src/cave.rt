@@ -2,26 +2,25 @@
 ghost use Rattle.std.specs.Prelude.{◌≡◌, All, option_map, map, length, nat_lt, IfOk, IfErr, IfSome};
 ghost use Rattle.std.specs.Prelude.{MatchOption, MatchResult, None, unwrap_or};
 ghost use Rattle.std.specs.FinMap.{get};
-ghost use Rattle.limits.specs.Limits.{max_input_bytes};
-ghost use Rattle.cave_data.specs.CaveView.{inventory_text, look_of, ways_from, conditions_of};
-ghost use Rattle.cave_data.specs.CaveView.{placement_of, default_message, CaveView};
-ghost use Rattle.cave_data.specs.CaveView.{rating_of_score};
-ghost use Rattle.cave_data.specs.Bindings.{default_letters, default_place};
+ghost use Rattle.data_rows.specs.base_limits.Limits.{MAX_INPUT_BYTES};
+ghost use Rattle.cave_data.specs.CaveView.{name_of, look_of, ways_from, cond_of, placement_of};
+ghost use Rattle.cave_data.specs.CaveView.{default_message, CaveView, class_of};
+ghost use Rattle.cave_data.specs.Bindings.{default_place};
+ghost use Rattle.cave_data.specs.Bindings as defined;
 ghost use Rattle.cave_data.specs.Faults.{FaultIs, no_memory};
 ghost use Rattle.cave_data.specs.Cave.{Finished};
 ghost use Rattle.cave_data.specs.Ranges.{IsLetters, IsMessage, IsPlace, IsPlacementInRange};
-ghost use Rattle.cave_data.specs.Ranges.{HasOnly};
-ghost use Rattle.cave_data.specs.Ranges.{AreInRange};
-ghost use Rattle.cave_rows.specs.Grammar.{entries};
+ghost use Rattle.cave_data.specs.Ranges.{HasOnly, AreInRange};
+ghost use Rattle.data_rows.specs.Grammar.{entries};
 ghost use Rattle.cave_data.specs.Laws.{Laws};
 ghost use Rattle.cave_data.specs.LowestCause.{ReportsLowest};
 ghost use Rattle.cave_data.specs.Reads.{AreValidInputs, Reads, fault, size_fault};
 ghost use Rattle.std.specs.Str.Lines.{lines};
 ghost use Rattle.cave_data.specs.Printing.{rating};
 ghost use Rattle.cave_data.specs.Tables.{IsAbove};
-ghost use Rattle.cave_rows.specs.RowViews.{going};
-ghost use Rattle.cave_rows.specs.Role.{role_number};
-ghost use Rattle.cave_rows.specs.PlaceRole.{place_number};
+ghost use Rattle.data_rows.specs.RowViews.{going};
+ghost use Rattle.data_rows.specs.Role.{role_number};
+ghost use Rattle.data_rows.specs.PlaceRole.{place_number};
 
 use crate::bindings::{Bindings, read_bindings};
 use crate::classes::{Classes, Rating};
@@ -31,10 +30,10 @@ use crate::tables::Table;
 use crate::texts::Texts;
 use crate::ways::Ways;
 use crate::words::WordTable;
-use cave_numbers::{LAST_NAMED, LAST_PROP};
-use cave_rows::rows::Placement;
-use cave_rows::{Cause, CaveError, FaultSite, Hint, PlaceRole, Role, Row};
-use limits::is_large_input;
+use data_rows::rows::Placement;
+use data_rows::{
+    Cause, CaveError, FaultSite, Hint, LAST_NAMED, LAST_PROP, PlaceRole, Role, Row, is_large_input,
+};
 use std::alloc::Global;
 use std::marker::Model;
 
@@ -122,7 +121,7 @@ impl Model for Cave {
 }
 
 fn is_too_large(input: &[u8]) -> bool
-    ensures { result ≡ nat_lt max_input_bytes (length input.now) }
+    ensures { result ≡ nat_lt MAX_INPUT_BYTES (length input.now) }
 {
     is_large_input(input.len())
 }
@@ -130,7 +129,7 @@ fn is_too_large(input: &[u8]) -> bool
 /// How many letters count.
 fn letters_of(bound: Option<u16>) -> u8
     requires { IfSome bound IsLetters }
-    ensures value { result ≡ unwrap_or bound default_letters }
+    ensures value { result ≡ unwrap_or bound defined.DEFAULT_LETTERS }
     ensures range { IsLetters result }
 {
     match bound {
@@ -236,8 +235,8 @@ impl Cave {
     }
 
     /// The inventory text of the object.
-    pub fn inventory_text(&self, object: u16) -> Option<&[u8]>
-        ensures { option_map (λ x. x.now) result ≡ inventory_text self.now object }
+    pub fn name(&self, object: u16) -> Option<&[u8]>
+        ensures { option_map (λ x. x.now) result ≡ name_of self.now object }
     {
         if object > LAST_NAMED {
             return None;
@@ -264,8 +263,8 @@ impl Cave {
     }
 
     /// The bits that are set for the place, as the bits of a number.
-    pub fn conditions(&self, place: u16) -> u32
-        ensures { result ≡ conditions_of self.now place }
+    pub fn cond(&self, place: u16) -> u32
+        ensures { result ≡ cond_of self.now place }
     {
         self.conditions.get(place).unwrap_or(0)
     }
@@ -327,10 +326,10 @@ impl Cave {
     }
 
     /// The class of the score: the first row whose bound is not below it.
-    pub fn rating_of_score(&self, score: u32) -> Option<Rating<'_>>
-        ensures { option_map rating result ≡ rating_of_score self.now score }
+    pub fn class_of(&self, score: u32) -> Option<Rating<'_>>
+        ensures { option_map rating result ≡ class_of self.now score }
     {
-        self.classes.rating_of_score(score)
+        self.classes.class_of(score)
     }
 
     /// How many letters of a word count.

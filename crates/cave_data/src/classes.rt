@@ -1,8 +1,7 @@
 //! The classes of a database: a store of bytes, and the rows in the order of the file.
 ghost use Rattle.std.specs.Prelude.{◌≡◌, ◌++◌, ◌∷◌, [], OnOk, length, map, option_map};
 ghost use Rattle.cave_data.specs.CaveView.{class_from};
-ghost use Rattle.cave_data.specs.Printing.{rating};
-ghost use Rattle.cave_data.specs.Printing.{printed_class};
+ghost use Rattle.cave_data.specs.Printing.{rating, printed_class};
 
 use crate::span::{NumberedSpan, add_row};
 use crate::store::Store;
@@ -80,7 +79,7 @@ impl Classes {
     }
 
     /// The class of the score: the first row whose bound is not below it.
-    pub fn rating_of_score(&self, score: u32) -> Option<Rating<'_>>
+    pub fn class_of(&self, score: u32) -> Option<Rating<'_>>
         ensures { option_map rating result ≡ class_from 1 score (map printed_class self.now) }
     {
         let count = self.rows.len();

@@ -3,12 +3,11 @@ ghost use Rattle.std.specs.Prelude.{◌≡◌, [], None, IfOk, IfErr};
 ghost use Rattle.std.specs.Str.Lines.{lines};
 ghost use Rattle.cave_data.specs.Faults.{FaultIs, error_at};
 ghost use Rattle.cave_data.specs.FirstFault.{first_fault, site_of_fault};
-ghost use Rattle.cave_rows.specs.Grammar.{entries};
+ghost use Rattle.data_rows.specs.Grammar.{entries};
 ghost use Rattle.cave_data.specs.Steps.{tables_of};
 
 use crate::reader::{DatabaseReader, Tables};
-use cave_rows::{Cause, CaveError, FaultSite, Position};
-use log_lines::split_line;
+use data_rows::{Cause, CaveError, FaultSite, Position, split_line};
 use std::alloc::Global;
 
 /// The part of a database that a position is in.

@@ -1,24 +1,23 @@
 //! Reading a database line by line.
 ghost use Rattle.std.specs.Prelude.{◌≡◌, ◌&&◌, nat_lt, nat_le};
-ghost use Rattle.cave_rows.specs.Answers.{Answers, Leaves};
+ghost use Rattle.data_rows.specs.Answers.{Answers, Leaves};
 ghost use Rattle.cave_data.specs.Steps.{row_step, advance, no_tables};
-ghost use Rattle.cave_numbers.specs.Numbers.{last_named};
+ghost use Rattle.data_rows.specs.data_numbers.Numbers as defined;
 
 use crate::classes::{Classes, MAX_CLASSES};
 use crate::tables::{Table, mark};
 use crate::texts::Texts;
 use crate::ways::Ways;
 use crate::words::{MAX_WORDS, WordTable};
-use cave_numbers::{
-    LAST_ACTION, LAST_HINT, LAST_MESSAGE, LAST_NAMED, LAST_OBJECT, LAST_PLACE, LAST_PROP,
-};
-use cave_rows::field_rows::{
+use data_rows::field_rows::{
     condition_row, default_row, hint_row, object_line, placement_row, text_line, way_row, word_row,
 };
-use cave_rows::position::{closes, headed};
-use cave_rows::rows::Placement;
-use cave_rows::{Cause, Hint, Position, Section};
-use log_lines::bytes::is_all_blank;
+use data_rows::position::{after_heading, closes};
+use data_rows::rows::Placement;
+use data_rows::{
+    Cause, Hint, LAST_ACTION, LAST_HINT, LAST_MESSAGE, LAST_NAMED, LAST_OBJECT, LAST_PLACE,
+    LAST_PROP, Position, Section, is_all_blank,
+};
 use std::alloc::Global;
 
 /// The most ways out of places.
@@ -53,7 +52,7 @@ pub struct DatabaseReader {
 
 /// Whether a line of this number is of an object's inventory text.
 fn names_object(number: u16) -> bool
-    ensures { result ≡ (nat_lt 0 number && nat_le number last_named) }
+    ensures { result ≡ (nat_lt 0 number && nat_le number defined.LAST_NAMED) }
 {
     0 < number && number <= LAST_NAMED
 }
@@ -235,7 +234,7 @@ impl DatabaseReader {
         }
         match self.position {
             Position::Outside => {
-                self.position = headed(line).ok_or(Cause::BadSection)?;
+                self.position = after_heading(line).ok_or(Cause::BadSection)?;
                 Ok(())
             }
             Position::Inside(_) if closes(line) => {

@@ -2,7 +2,7 @@
 ghost use Rattle.std.specs.Prelude.{◌≡◌, ◌<◌, OnOk};
 ghost use Rattle.std.specs.FinMap.{get, empty, insert};
 ghost use Rattle.std.specs.List.{fold};
-ghost use Rattle.cave_data.specs.Tables.{IsAbove, with_bit};
+ghost use Rattle.cave_data.specs.Tables.{IsAbove, mark_bit};
 
 use crate::slots::Slots;
 use std::alloc::{AllocError, Global};
@@ -61,10 +61,10 @@ impl<T: Copy> Table<T> {
 }
 
 /// Sets the bit for each of the places.
-#[tactic(auto, unfolding(crate::specs::Tables::with_bit))]
+#[tactic(auto, unfolding(crate::specs::Tables::mark_bit))]
 pub fn mark(conditions: &mut Table<u32>, bit: u16, places: &[u16]) -> Result<(), AllocError>
     requires { bit < 32 }
-    ensures { OnOk result (conditions.new ≡ fold (with_bit bit) conditions.old places.now) }
+    ensures { OnOk result (conditions.new ≡ fold (mark_bit bit) conditions.old places.now) }
 {
     for place in places {
         let bits = conditions.get(*place).unwrap_or(0);

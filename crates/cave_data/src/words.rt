@@ -2,11 +2,11 @@
 ghost use Rattle.std.specs.Prelude.{◌≡◌, ◌<◌, ◌++◌, ◌∷◌, [], OnOk, Some, length, slice_get};
 ghost use Rattle.std.specs.Prelude.{option_map};
 ghost use Rattle.cave_data.specs.CaveView.{first_word};
-ghost use Rattle.cave_rows.specs.RowViews.{word_entry};
+ghost use Rattle.data_rows.specs.RowViews.{word_entry};
 
 use crate::span::{NumberedSpan, add_row};
 use crate::store::Store;
-use cave_rows::WordRow;
+use data_rows::WordRow;
 use std::alloc::{AllocError, Global};
 use std::marker::Model;
 
@@ -23,7 +23,7 @@ pub struct WordTable {
 impl Model for WordTable {
     ghost use Rattle.std.specs.Prelude.{List, map, All};
     ghost use Rattle.std.specs.Coded.{coded_list};
-    ghost use Rattle.cave_rows.specs.Rows.{WordEntry};
+    ghost use Rattle.data_rows.specs.Rows.{WordEntry};
     ghost use Rattle.cave_data.specs.CaveView.{word_code};
 
     ghost Value = { List WordEntry };

@@ -6,24 +6,23 @@ use Rattle.std.proofs.lemmas.List.{drop_more, drop_all}
 use Rattle.std.specs.Prelude.{Result, IfErr}
 use Rattle.std.specs.declared.option.Option.{Option}
 use Rattle.std.proofs.lemmas.Result.{IfErr-at_err}
-use Rattle.log_edits.specs.Edit.{Change, apply_all}
-use Rattle.log_edits.specs.Faults.{group_fault}
-use Rattle.log_edits.specs.declared.fault.EditFault.TheVariants as cause
-use Rattle.log_edits.specs.declared.fault.GroupFault.{GroupFault}
-use Rattle.log_edits.specs.Game.{Game}
-use Rattle.log_replay.specs.Report.{IsReport}
-use Rattle.log_replay.specs.declared.report.Stretch.{Stretch}
-use Rattle.log_replay.specs.Machine.{MachineRules}
-use Rattle.edit_scripts.specs.Item.{Applied}
-use Rattle.edit_scripts.specs.Views.{applied_item}
-use Rattle.edit_scripts.specs.declared.script.Item.{Item}
+use Rattle.cave_replay.specs.replay_edits.Edit.{Change, apply_all}
+use Rattle.cave_replay.specs.replay_edits.Faults.{group_fault}
+use Rattle.cave_replay.specs.replay_edits.declared.fault.EditFault.TheVariants as cause
+use Rattle.cave_replay.specs.replay_edits.declared.fault.GroupFault.{GroupFault}
+use Rattle.cave_replay.specs.replay_edits.Game.{Game}
+use Rattle.cave_replay.specs.Report.{IsReport}
+use Rattle.cave_replay.specs.Machine.{MachineRules}
+use Rattle.replay_scripts.specs.Item.{Applied}
+use Rattle.replay_scripts.specs.Views.{applied_item}
+use Rattle.replay_scripts.specs.declared.script.Item.{Item}
 use Rattle.cave_play.specs.Piece.{Piece}
 use Rattle.std.specs.List.{sum_by}
 use Rattle.std.proofs.lemmas.List.Sums.{sum_by-cons}
-use Rattle.cave_data.specs.CaveView.{CaveView}
-use Rattle.edit_options.specs.declared.editing.EditView.{EditView}
-use Rattle.log_replay.specs.Session.{SessionView}
-use Rattle.cave_world.specs.declared.state.State.{State}
+use Rattle.data_bindings.specs.cave_data.CaveView.{CaveView}
+use Rattle.play_command.specs.play_options.declared.editing.EditView.{EditView}
+use Rattle.cave_replay.specs.Session.{SessionView}
+use Rattle.world_packed.specs.cave_world.declared.state.State.{State}
 use Rattle.cave_play.specs.Edits.{Applies, IsApplied, text_of_item}
 use Rattle.cave_play.specs.Outcome.{AreLeft, AreOutcomes, IsOutcome, lines_in, played_in}
 use Rattle.cave_play.specs.Output.{game_after_item, game_after_items, game_by, group_refusal}
@@ -223,9 +222,10 @@ game_after_item-refused item game fault some = ap (λ refusal. game_by item refu
 
 -- what a report says of a replay, in other words
 pub IsReport-same : {S T : Type 0} (rules : MachineRules S T) (changes same : List Change)
-    (old : Game) (every : ℕ) (checkpoints : List ℕ) (told stretch : Stretch)
-    → changes ≡ same → stretch ≡ told
-    → IsReport rules changes old every checkpoints told.from told.met told.played
-    → IsReport rules same old every checkpoints stretch.from stretch.met stretch.played
-IsReport-same rules changes same old every checkpoints told stretch is stretch_is report =
-    rw (stretch_is, ← is) report
+    (old : Game) (every : ℕ) (checkpoints : List ℕ) {from told_from : ℕ} {met told_met : Option ℕ}
+    {played told_played : ℕ}
+    → changes ≡ same → from ≡ told_from → met ≡ told_met → played ≡ told_played
+    → IsReport rules changes old every checkpoints told_from told_met told_played
+    → IsReport rules same old every checkpoints from met played
+IsReport-same rules changes same old every checkpoints is from_is met_is played_is report =
+    rw (from_is, met_is, played_is, ← is) report

@@ -8,30 +8,31 @@ use Rattle.std.specs.declared.option.Option.{Option}
 use Rattle.std.specs.Str.Lines.{lines}
 use Rattle.std.proofs.lemmas.Result.{IfErr-at_err}
 use Rattle.cave_data.proofs.ReadLemmas.{right_exactly}
-use Rattle.cave_data.specs.BindingFault.{first_binding_fault}
-use Rattle.cave_data.specs.CaveView.{CaveView}
-use Rattle.cave_data.specs.FirstFault.{first_fault}
-use Rattle.cave_data.specs.Reads.{Reads, fault as cave_fault, too_large_input as cave_too_large}
-use Rattle.cave_rows.specs.declared.error.CaveError.{CaveError}
-use Rattle.cave_rows.specs.declared.error.FaultSite.TheVariants as site
-use Rattle.log_lines.specs.declared.line_flaw.LineFlaw.{LineFlaw}
-use Rattle.log_replay.specs.Opening.{open_fault, first_bad_line, or_game_fault}
-use Rattle.log_replay.specs.declared.fault.OpenFault.{OpenFault}
-use Rattle.log_replay.specs.declared.fault.OpenFault.TheVariants as session
-use Rattle.limits.specs.Limits.{max_seed, max_every, max_log_lines, max_input_bytes}
-use Rattle.edit_scripts.specs.Item.{Applied}
-use Rattle.edit_scripts.specs.Script.{script_of}
-use Rattle.edit_scripts.specs.Views.{IsFaultOf}
-use Rattle.edit_scripts.specs.declared.fault.ScriptRefusal.{ScriptRefusal}
-use Rattle.edit_scripts.specs.declared.fault.ScriptRefusal.TheVariants.{Malformed, Memory}
+use Rattle.data_bindings.specs.cave_data.BindingFault.{first_binding_fault}
+use Rattle.data_bindings.specs.cave_data.CaveView.{CaveView}
+use Rattle.data_bindings.specs.cave_data.FirstFault.{first_fault}
+use Rattle.data_bindings.specs.cave_data.Reads.{Reads, fault as cave_fault}
+use Rattle.data_bindings.specs.cave_data.Reads.{too_large_input as cave_too_large}
+use Rattle.data_bindings.specs.data_rows.declared.error.CaveError.{CaveError}
+use Rattle.data_bindings.specs.data_rows.declared.error.FaultSite.TheVariants as site
+use Rattle.play_command.specs.base_lines.declared.line_flaw.LineFlaw.{LineFlaw}
+use Rattle.cave_replay.specs.Opening.{open_fault, first_bad_line, or_game_fault}
+use Rattle.cave_replay.specs.declared.fault.OpenFault.{OpenFault}
+use Rattle.cave_replay.specs.declared.fault.OpenFault.TheVariants as session
+use Rattle.play_command.specs.base_limits.Limits.{MAX_SEED, MAX_EVERY, MAX_LOG_LINES}
+use Rattle.play_command.specs.base_limits.Limits.{MAX_INPUT_BYTES}
+use Rattle.replay_scripts.specs.Item.{Applied}
+use Rattle.replay_scripts.specs.Script.{script_of}
+use Rattle.replay_scripts.specs.Views.{IsFaultOf}
+use Rattle.replay_scripts.specs.declared.fault.ScriptRefusal.{ScriptRefusal}
+use Rattle.replay_scripts.specs.declared.fault.ScriptRefusal.TheVariants.{Malformed, Memory}
 use Rattle.cave_play.proofs.StageLemmas.{Judges-read}
 use Rattle.cave_play.specs.Judge.{large_seed, every_fault, too_large, input_size_fault}
 use Rattle.cave_play.specs.Judge.{inputs_fault, lines_fault, log_fault, script_fault}
 use Rattle.cave_play.specs.Judge.{first_malformed, script_refusal, or_too_many, opening_fault}
 use Rattle.cave_play.specs.Run.{Judges}
 use Rattle.cave_play.specs.Stage.{reading_stage, judging_stage, first_decided, IsOutsideOf}
-use Rattle.cave_play.specs.Stage.{IsFoundAt}
-use Rattle.cave_play.specs.Stage.{IsFoundIn}
+use Rattle.cave_play.specs.Stage.{IsFoundAt, IsFoundIn}
 use Rattle.cave_play.specs.Stages.{cave_stages, log_stage, script_stage}
 use Rattle.cave_play.specs.declared.fault.Input.{Input}
 use Rattle.cave_play.specs.declared.fault.Input.TheVariants as input
@@ -44,17 +45,17 @@ use Rattle.cave_play.specs.declared.fault.PlayFault.TheVariants as fault
 -- a reading failed, or the input is too large
 abbrev pub IsRefused : Input → List ℕ → PlayFault → Type 0
 IsRefused from bytes found =
-    IsOutsideOf (Some from) found ⊎ ((max_input_bytes < length bytes) × (found ≡ too_large from))
+    IsOutsideOf (Some from) found ⊎ ((MAX_INPUT_BYTES < length bytes) × (found ≡ too_large from))
 
 input_size_fault-large : (from : Input) (bytes : List ℕ) (found : PlayFault)
-    → max_input_bytes < length bytes → found ≡ too_large from
+    → MAX_INPUT_BYTES < length bytes → found ≡ too_large from
     → input_size_fault from bytes ≡ Some found
 input_size_fault-large from bytes found large is =
-    rw (lt-ltb max_input_bytes (length bytes) large, is) refl
+    rw (lt-ltb MAX_INPUT_BYTES (length bytes) large, is) refl
 
 input_size_fault-fits : (from : Input) (bytes : List ℕ)
-    → length bytes ≤ max_input_bytes → input_size_fault from bytes ≡ None
-input_size_fault-fits from bytes fits = rw (le-ltb max_input_bytes (length bytes) fits) refl
+    → length bytes ≤ MAX_INPUT_BYTES → input_size_fault from bytes ≡ None
+input_size_fault-fits from bytes fits = rw (le-ltb MAX_INPUT_BYTES (length bytes) fits) refl
 
 -- ---- a database and its bindings
 
@@ -66,7 +67,7 @@ IsFoundIn-database database bindings found (inr (large, is)) =
     inl (inr (input_size_fault-large input.Cave database found large is))
 
 pub IsFoundIn-bindings : (database bindings : List ℕ) (found : PlayFault)
-    → length database ≤ max_input_bytes → IsRefused input.Bindings bindings found
+    → length database ≤ MAX_INPUT_BYTES → IsRefused input.Bindings bindings found
     → IsFoundIn (cave_stages database bindings) found
 IsFoundIn-bindings database bindings found fits (inl outside) =
     inr (input_size_fault-fits input.Cave database fits, inl (inl outside))
@@ -92,8 +93,8 @@ pub caves_are_judged_whole : (database bindings : List ℕ)
     → first_decided (cave_stages database bindings) ≡ inputs_fault database bindings
 unfolding cave_fault
 caves_are_judged_whole database bindings =
-    judged_whole (nat_lt max_input_bytes (length database))
-    (nat_lt max_input_bytes (length bindings))
+    judged_whole (nat_lt MAX_INPUT_BYTES (length database))
+    (nat_lt MAX_INPUT_BYTES (length bindings))
     (option_or (first_fault [] (lines database)) (first_binding_fault [] (lines bindings)))
 
 -- a database and bindings that describe a cave have no fault
@@ -114,16 +115,16 @@ pub IsFoundIn-log : (bytes : List ℕ) (found : PlayFault)
 unfolding log_fault
 IsFoundIn-log bytes found (inl outside) = inl (inl outside)
 IsFoundIn-log bytes found (inr (large, is)) =
-    inl (inr (rw (lt-ltb max_input_bytes (length bytes) large, is) refl))
+    inl (inr (rw (lt-ltb MAX_INPUT_BYTES (length bytes) large, is) refl))
 
 -- a log that isn't too large is judged by its lines
-pub log_fault-lines : (bytes : List ℕ) → length bytes ≤ max_input_bytes
+pub log_fault-lines : (bytes : List ℕ) → length bytes ≤ MAX_INPUT_BYTES
     → log_fault bytes ≡ lines_fault (lines bytes)
 unfolding log_fault
-log_fault-lines bytes fits = rw (le-ltb max_input_bytes (length bytes) fits) refl
+log_fault-lines bytes fits = rw (le-ltb MAX_INPUT_BYTES (length bytes) fits) refl
 
 pub Judges-log : {X : Type 0} (P : List (List ℕ) → X → Type 0) (bytes text : List ℕ)
-    (r : Result X PlayFault) → text ≡ bytes → length bytes ≤ max_input_bytes
+    (r : Result X PlayFault) → text ≡ bytes → length bytes ≤ MAX_INPUT_BYTES
     → Judges (judging_stage (lines_fault (lines text)) ∷ []) (P (lines text)) r
     → Judges (log_stage bytes ∷ []) (P (lines bytes)) r
 Judges-log P bytes text r is fits judged =
@@ -154,13 +155,13 @@ or_game_fault-fits : (bad : Option (ℕ × LineFlaw)) (game : List (List ℕ)) (
     (found : OpenFault) → large_seed seed ≡ None → or_game_fault bad game seed ≡ Some found
     → or_too_many bad (length game) ≡ Some (opening_fault found)
 or_game_fault-fits None game seed found fits is =
-    too_many_or_seed (nat_lt max_log_lines (length game)) (nat_lt max_seed seed) found fits is
+    too_many_or_seed (nat_lt MAX_LOG_LINES (length game)) (nat_lt MAX_SEED seed) found fits is
 or_game_fault-fits (Some (number, flaw)) game seed found fits is = ap (option_map opening_fault) is
 
 or_game_fault-none : (bad : Option (ℕ × LineFlaw)) (game : List (List ℕ)) (seed : ℕ)
     → or_game_fault bad game seed ≡ None → or_too_many bad (length game) ≡ None
 or_game_fault-none None game seed is =
-    too_many_or_none (nat_lt max_log_lines (length game)) (nat_lt max_seed seed) is
+    too_many_or_none (nat_lt MAX_LOG_LINES (length game)) (nat_lt MAX_SEED seed) is
 or_game_fault-none (Some (number, flaw)) game seed is = cc
 
 -- the distance of checkpoints aside, a session is refused for its game
@@ -172,7 +173,7 @@ by_game false other fits = refl
 open_fault-fits : (every : ℕ) (game : List (List ℕ)) (seed : ℕ) → every_fault every ≡ None
     → open_fault every game seed ≡ or_game_fault (first_bad_line game 1) game seed
 open_fault-fits every game seed fits =
-    by_game (every == 0 || nat_lt max_every every) (or_game_fault (first_bad_line game 1) game seed)
+    by_game (every == 0 || nat_lt MAX_EVERY every) (or_game_fault (first_bad_line game 1) game seed)
     fits
 
 -- a session that was opened has no fault
@@ -231,15 +232,15 @@ pub IsFoundIn-script : (bytes : List ℕ) (found : PlayFault)
 unfolding script_fault
 IsFoundIn-script bytes found (inl outside) = inl (inl outside)
 IsFoundIn-script bytes found (inr (large, is)) =
-    inl (inr (rw (lt-ltb max_input_bytes (length bytes) large, is) refl))
+    inl (inr (rw (lt-ltb MAX_INPUT_BYTES (length bytes) large, is) refl))
 
 -- a script that isn't too large is judged by its first malformed line
-pub script_fault-lines : (bytes : List ℕ) → length bytes ≤ max_input_bytes
+pub script_fault-lines : (bytes : List ℕ) → length bytes ≤ MAX_INPUT_BYTES
     → script_fault bytes ≡ first_malformed (script_of bytes)
 unfolding script_fault
-script_fault-lines bytes fits = rw (le-ltb max_input_bytes (length bytes) fits) refl
+script_fault-lines bytes fits = rw (le-ltb MAX_INPUT_BYTES (length bytes) fits) refl
 
-pub script_fault-none : (bytes : List ℕ) (items : List Applied) → length bytes ≤ max_input_bytes
+pub script_fault-none : (bytes : List ℕ) (items : List Applied) → length bytes ≤ MAX_INPUT_BYTES
     → script_of bytes ≡ Ok items → script_fault bytes ≡ None
 script_fault-none bytes items fits is = script_fault-lines bytes fits ∙ ap first_malformed is
 
@@ -251,7 +252,7 @@ refused_by answer Memory is = inl tt
 refused_by answer (Malformed line flaw) is = inr (ap first_malformed is)
 
 pub IsFoundIn-refused : (bytes text : List ℕ) (found : ScriptRefusal)
-    → length bytes ≤ max_input_bytes
+    → length bytes ≤ MAX_INPUT_BYTES
     → text ≡ bytes → IsFaultOf found (script_of text)
     → IsFoundIn (script_stage bytes ∷ []) (script_refusal found)
 IsFoundIn-refused bytes text found fits is refused =

@@ -10,5 +10,6 @@ mod Shown
 pub mod StageLemmas
 mod StandingLemmas
 mod StrictLemmas
+mod TextsLemmas
 mod TranscriptLemmas
 mod ViewLemmas

@@ -1,15 +1,16 @@
 -- Two outputs of the same inputs are the same.
 use Rattle.std.proofs.Common.{◌≡◌, ℕ, List, subst, sym, ap, ◌∙◌}
 use Rattle.std.specs.Str.Lines.{lines}
-use Rattle.cave_data.specs.CaveView.{CaveView}
+use Rattle.data_bindings.specs.cave_data.CaveView.{CaveView}
 use Rattle.cave_data.proofs.ReadLemmas.{same_cave}
-use Rattle.edit_options.specs.declared.editing.EditView.{EditView}
-use Rattle.edit_options.specs.declared.editing.EditView.TheVariants.{Transcript, Play, Log, Reports}
-use Rattle.edit_options.specs.declared.editing.EditView.TheVariants.{FinalState}
-use Rattle.log_edits.specs.Game.{Game, game_of}
-use Rattle.edit_scripts.proofs.Grammar.{script_of-only}
-use Rattle.edit_scripts.specs.Item.{Applied}
-use Rattle.edit_scripts.specs.Script.{IsScript}
+use Rattle.play_command.specs.play_options.declared.editing.EditView.{EditView}
+use Rattle.play_command.specs.play_options.declared.editing.EditView.TheVariants.{Transcript, Play}
+use Rattle.play_command.specs.play_options.declared.editing.EditView.TheVariants.{Log, Reports}
+use Rattle.play_command.specs.play_options.declared.editing.EditView.TheVariants.{FinalState}
+use Rattle.cave_replay.specs.replay_edits.Game.{Game, game_of}
+use Rattle.replay_scripts.proofs.Grammar.{script_of-only}
+use Rattle.replay_scripts.specs.Item.{Applied}
+use Rattle.replay_scripts.specs.Script.{IsScript}
 use Rattle.cave_play.specs.OneOutput.{OneCheckedOutput, OnePlayedOutput, OneEditedOutput}
 use Rattle.cave_play.specs.OneOutput.{KnowsNoCheckpoints}
 use Rattle.cave_play.specs.Output.{check_text, play_view_text}

@@ -3,22 +3,25 @@ use Rattle.std.proofs.Common.{◌≡◌, ℕ, ◌+◌, ◌-◌, ◌^◌, ◌≤�
 use Rattle.std.proofs.Common.{Option, None, Some, nat_lt, refl, ap, arith, le-ltb, subst}
 use Rattle.std.specs.Prelude.{⊤, if◌then◌else◌, nat_le, not}
 use Rattle.std.specs.Str.Lines.{lines}
-use Rattle.limits.specs.Limits.{max_input_bytes, max_log_lines, max_seed}
-use Rattle.log_lines.specs.Line.{is_line}
-use Rattle.log_lines.specs.declared.line_flaw.LineFlaw.{LineFlaw}
-use Rattle.edit_scripts.specs.Item.{Applied}
-use Rattle.log_edits.specs.Edit.{Change, inserts, deletes, replaces, reseeds, log_after}
-use Rattle.log_edits.specs.Faults.{fault_of, fault_of_all, first_of_two, log_after_all}
-use Rattle.log_edits.specs.Faults.{or_group_meter_full}
-use Rattle.log_replay.specs.Opening.{first_bad_line, or_game_fault}
-use Rattle.log_edits.specs.Game.{Game, game_of, IsGame}
-use Rattle.log_edits.specs.declared.fault.EditFault.{EditFault}
-use Rattle.log_edits.specs.declared.fault.EditFault.TheVariants.{NoSuchPlace, BadLine, LogFull}
-use Rattle.log_edits.specs.declared.fault.EditFault.TheVariants.{BadSeed}
-use Rattle.log_edits.specs.declared.fault.GroupFault.{GroupFault}
-use Rattle.log_replay.specs.declared.fault.OpenFault.TheVariants as session
-use Rattle.log_edits.proofs.Inverses.{IsFree-from_none, IsGame-apply_all, group_free, log-apply_all}
-use Rattle.log_replay.proofs.Openings.{IsGame-from_no_fault}
+use Rattle.play_command.specs.base_limits.Limits.{MAX_INPUT_BYTES, MAX_LOG_LINES, MAX_SEED}
+use Rattle.play_command.specs.base_lines.Line.{is_line}
+use Rattle.play_command.specs.base_lines.declared.line_flaw.LineFlaw.{LineFlaw}
+use Rattle.replay_scripts.specs.Item.{Applied}
+use Rattle.cave_replay.specs.replay_edits.Edit.{Change, inserts, deletes, replaces, reseeds}
+use Rattle.cave_replay.specs.replay_edits.Edit.{log_after}
+use Rattle.cave_replay.specs.replay_edits.Faults.{fault_of, fault_of_all, first_of_two}
+use Rattle.cave_replay.specs.replay_edits.Faults.{log_after_all, or_group_meter_full}
+use Rattle.cave_replay.specs.Opening.{first_bad_line, or_game_fault}
+use Rattle.cave_replay.specs.replay_edits.Game.{Game, game_of, IsGame}
+use Rattle.cave_replay.specs.replay_edits.declared.fault.EditFault.{EditFault}
+use Rattle.cave_replay.specs.replay_edits.declared.fault.EditFault.TheVariants.{NoSuchPlace}
+use Rattle.cave_replay.specs.replay_edits.declared.fault.EditFault.TheVariants.{BadLine, LogFull}
+use Rattle.cave_replay.specs.replay_edits.declared.fault.EditFault.TheVariants.{BadSeed}
+use Rattle.cave_replay.specs.replay_edits.declared.fault.GroupFault.{GroupFault}
+use Rattle.cave_replay.specs.declared.fault.OpenFault.TheVariants as session
+use Rattle.replay_edits.proofs.Inverses.{IsFree-from_none, IsGame-apply_all, group_free}
+use Rattle.replay_edits.proofs.Inverses.{log-apply_all}
+use Rattle.cave_replay.proofs.Openings.{IsGame-from_no_fault}
 use Rattle.cave_play.specs.Judge.{large_seed, lines_fault, log_fault, or_too_many}
 use Rattle.cave_play.specs.Laws.{IsOfChange, RefusalsAreOfChanges}
 use Rattle.cave_play.specs.Output.{game_after_item, game_after_items, game_by, group_refusal}
@@ -44,14 +47,14 @@ opened_after : (bad : Option (ℕ × LineFlaw)) (game : List (List ℕ)) (seed :
     → or_too_many bad (length game) ≡ None → large_seed seed ≡ None
     → or_game_fault bad game seed ≡ None
 opened_after None game seed few fits =
-    opened (nat_lt max_log_lines (length game)) (nat_lt max_seed seed) few fits
+    opened (nat_lt MAX_LOG_LINES (length game)) (nat_lt MAX_SEED seed) few fits
 opened_after (Some (number, flaw)) game seed few fits = cc
 
 IsGame-accepted : (bytes : List ℕ) (seed : ℕ) → log_fault bytes ≡ None → large_seed seed ≡ None
     → IsGame (game_of seed (lines bytes))
 unfolding log_fault lines_fault
 IsGame-accepted bytes seed free fits =
-    let valid = unrefused (nat_lt max_input_bytes (length bytes)) (fault.Log log.TooLarge) _ free in
+    let valid = unrefused (nat_lt MAX_INPUT_BYTES (length bytes)) (fault.Log log.TooLarge) _ free in
     IsGame-from_no_fault 1 (lines bytes) seed
     (opened_after (first_bad_line (lines bytes) 1) (lines bytes) seed valid fits)
 
@@ -95,12 +98,12 @@ by_change : (change : Change) (log : List (List ℕ)) → InEdit (fault_of chang
 by_change (inserts at line) log =
     by_test (nat_lt (length log) at) (Some NoSuchPlace) _ tt
     (by_test (not (is_line line)) (Some BadLine) _ tt
-    (by_test (nat_le max_log_lines (length log)) (Some LogFull) None tt tt))
+    (by_test (nat_le MAX_LOG_LINES (length log)) (Some LogFull) None tt tt))
 by_change (deletes at) log = by_test (nat_le (length log) at) (Some NoSuchPlace) None tt tt
 by_change (replaces at line) log =
     by_test (nat_le (length log) at) (Some NoSuchPlace) _ tt
     (by_test (is_line line) None (Some BadLine) tt tt)
-by_change (reseeds seed) log = by_test (nat_lt max_seed seed) (Some BadSeed) None tt tt
+by_change (reseeds seed) log = by_test (nat_lt MAX_SEED seed) (Some BadSeed) None tt tt
 
 by_first : (first : Option EditFault) (number : ℕ) (later : Option GroupFault) → InEdit first
     → InGroup later → InGroup (first_of_two first number later)

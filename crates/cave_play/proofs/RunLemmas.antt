@@ -6,21 +6,22 @@ use Rattle.std.specs.Option.{option_or}
 use Rattle.std.specs.declared.option.Option.{Option}
 use Rattle.std.specs.Io.KnownBytes.{Appends, Keeps}
 use Rattle.std.specs.Str.Lines.{lines}
-use Rattle.cave_data.specs.CaveView.{CaveView}
-use Rattle.cave_data.specs.Reads.{fault as cave_fault}
-use Rattle.cave_rows.specs.declared.error.CaveError.{CaveError}
-use Rattle.log_edits.specs.Game.{Game, game_of}
-use Rattle.log_replay.specs.Play.{IsPlay}
-use Rattle.log_lines.specs.declared.line_flaw.LineFlaw.{LineFlaw}
-use Rattle.log_replay.specs.Opening.{first_bad_line}
-use Rattle.limits.specs.Limits.{max_seed, max_every, max_log_lines, max_input_bytes}
-use Rattle.cave_world.specs.declared.part.Part.{Part}
-use Rattle.cave_world.specs.declared.state.State.{State}
-use Rattle.cave_score.specs.Score.{score_of, max_score_of}
-use Rattle.edit_scripts.specs.Item.{Applied}
-use Rattle.edit_scripts.specs.Script.{script_of}
-use Rattle.edit_scripts.specs.declared.fault.ScriptRefusal.{ScriptRefusal}
-use Rattle.edit_scripts.specs.declared.fault.ScriptRefusal.TheVariants.{Malformed, Memory}
+use Rattle.data_bindings.specs.cave_data.CaveView.{CaveView}
+use Rattle.data_bindings.specs.cave_data.Reads.{fault as cave_fault}
+use Rattle.data_bindings.specs.data_rows.declared.error.CaveError.{CaveError}
+use Rattle.cave_replay.specs.replay_edits.Game.{Game, game_of}
+use Rattle.cave_replay.specs.Play.{IsPlay}
+use Rattle.play_command.specs.base_lines.declared.line_flaw.LineFlaw.{LineFlaw}
+use Rattle.cave_replay.specs.Opening.{first_bad_line}
+use Rattle.play_command.specs.base_limits.Limits.{MAX_SEED, MAX_EVERY, MAX_LOG_LINES}
+use Rattle.play_command.specs.base_limits.Limits.{MAX_INPUT_BYTES}
+use Rattle.world_packed.specs.cave_world.declared.part.Part.{Part}
+use Rattle.world_packed.specs.cave_world.declared.state.State.{State}
+use Rattle.cave_turn.specs.turn_score.Score.{score_of, max_score_of}
+use Rattle.replay_scripts.specs.Item.{Applied}
+use Rattle.replay_scripts.specs.Script.{script_of}
+use Rattle.replay_scripts.specs.declared.fault.ScriptRefusal.{ScriptRefusal}
+use Rattle.replay_scripts.specs.declared.fault.ScriptRefusal.TheVariants.{Malformed, Memory}
 use Rattle.cave_play.specs.Machine.{cave_rules, rendering_of}
 use Rattle.cave_play.specs.Judge.{lines_fault, or_too_many, large_seed, every_fault, too_large}
 use Rattle.cave_play.specs.Judge.{input_size_fault, log_fault, script_fault, first_malformed}
@@ -29,10 +30,10 @@ use Rattle.cave_play.specs.Laws.{IsDecided}
 use Rattle.cave_play.specs.Output.{play_text}
 use Rattle.cave_play.specs.Run.{EndsBy, Runs}
 use Rattle.cave_play.specs.Stage.{Stage, first_decided, IsFoundIn}
-use Rattle.cave_play.specs.Stages.{cave_stages, log_stage, script_stage, strict_stage}
-use Rattle.cave_play.specs.Stages.{play_stages, edit_stages}
+use Rattle.cave_play.specs.Stages.{cave_stages, log_stage, script_stage, strict_stage, play_stages}
+use Rattle.cave_play.specs.Stages.{edit_stages}
 use Rattle.cave_play.proofs.StrictLemmas.{unwritten_by_strict}
-use Rattle.edit_options.specs.declared.editing.Editing.{Editing}
+use Rattle.play_command.specs.play_options.declared.editing.Editing.{Editing}
 use Rattle.cave_play.specs.Transcript.{transcript}
 use Rattle.cave_play.specs.declared.fault.Input.{Input}
 use Rattle.cave_play.specs.declared.fault.Input.TheVariants as input
@@ -72,29 +73,29 @@ unwritten_by_test true other never found = never found
 unwritten_by_test false other never found = cc
 
 unwritten_by_seed : (seed : ℕ) → large_seed seed ≡ Some fault.Write → ⊥
-unwritten_by_seed seed = unwritten_by_test (nat_lt max_seed seed) fault.Seed (λ found. cc)
+unwritten_by_seed seed = unwritten_by_test (nat_lt MAX_SEED seed) fault.Seed (λ found. cc)
 
 unwritten_by_every : (every : ℕ) → every_fault every ≡ Some fault.Write → ⊥
 unwritten_by_every every =
-    unwritten_by_test (every == 0 || nat_lt max_every every) fault.Every (λ found. cc)
+    unwritten_by_test (every == 0 || nat_lt MAX_EVERY every) fault.Every (λ found. cc)
 
 unwritten_by_size : (from : Input) (bytes : List ℕ) → input_size_fault from bytes ≡ Some fault.Write
     → ⊥
 unwritten_by_size input.Cave bytes =
-    unwritten_by_test (nat_lt max_input_bytes (length bytes)) (too_large input.Cave) (λ found. cc)
+    unwritten_by_test (nat_lt MAX_INPUT_BYTES (length bytes)) (too_large input.Cave) (λ found. cc)
 unwritten_by_size input.Bindings bytes =
-    unwritten_by_test (nat_lt max_input_bytes (length bytes)) (too_large input.Bindings)
+    unwritten_by_test (nat_lt MAX_INPUT_BYTES (length bytes)) (too_large input.Bindings)
     (λ found. cc)
 unwritten_by_size input.Log bytes =
-    unwritten_by_test (nat_lt max_input_bytes (length bytes)) (too_large input.Log) (λ found. cc)
+    unwritten_by_test (nat_lt MAX_INPUT_BYTES (length bytes)) (too_large input.Log) (λ found. cc)
 unwritten_by_size input.Script bytes =
-    unwritten_by_test (nat_lt max_input_bytes (length bytes)) (too_large input.Script) (λ found. cc)
+    unwritten_by_test (nat_lt MAX_INPUT_BYTES (length bytes)) (too_large input.Script) (λ found. cc)
 
 unwritten_by_lines : (bad : Option (ℕ × LineFlaw)) (count : ℕ)
     → or_too_many bad count ≡ Some fault.Write → ⊥
 unwritten_by_lines (Some (number, flaw)) count found = cc
 unwritten_by_lines None count found =
-    unwritten_by_test (nat_lt max_log_lines count) (fault.Log log.Full) (λ is. cc) found
+    unwritten_by_test (nat_lt MAX_LOG_LINES count) (fault.Log log.Full) (λ is. cc) found
 
 unwritten_by_either : (large : Bool) (first : PlayFault) (later : Option PlayFault)
     → (Some first ≡ Some fault.Write → ⊥) → (later ≡ Some fault.Write → ⊥)
@@ -105,7 +106,7 @@ unwritten_by_either false first later not_first not_later found = not_later foun
 unwritten_by_log : (bytes : List ℕ) → log_fault bytes ≡ Some fault.Write → ⊥
 unfolding log_fault lines_fault
 unwritten_by_log bytes =
-    unwritten_by_either (nat_lt max_input_bytes (length bytes)) (fault.Log log.TooLarge)
+    unwritten_by_either (nat_lt MAX_INPUT_BYTES (length bytes)) (fault.Log log.TooLarge)
     _ (λ found. cc) (unwritten_by_lines (first_bad_line (lines bytes) 1) (length (lines bytes)))
 
 unwritten_by_malformed : (r : Result (List Applied) ScriptRefusal)
@@ -117,7 +118,7 @@ unwritten_by_malformed (Err Memory) found = cc
 unwritten_by_script : (bytes : List ℕ) → script_fault bytes ≡ Some fault.Write → ⊥
 unfolding script_fault
 unwritten_by_script bytes =
-    unwritten_by_either (nat_lt max_input_bytes (length bytes)) (fault.Script script.TooLarge)
+    unwritten_by_either (nat_lt MAX_INPUT_BYTES (length bytes)) (fault.Script script.TooLarge)
     _ (λ found. cc) (unwritten_by_malformed (script_of bytes))
 
 unwritten_by_cave : (database bindings : List ℕ) (later : List Stage)

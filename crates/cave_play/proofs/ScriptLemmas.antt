@@ -8,11 +8,10 @@ use Rattle.std.specs.Global.{Vec}
 use Rattle.std.proofs.lemmas.List.{length-map}
 use Rattle.std.proofs.lemmas.List.Sums.{count_by-le-length}
 use Rattle.std.proofs.lemmas.List.Splits.{length-slice_split}
-use Rattle.edit_scripts.specs.Item.{Applied}
-use Rattle.edit_scripts.specs.Script.{IsScript, done}
-use Rattle.edit_scripts.specs.Script.{skips, spells, groups}
-use Rattle.edit_scripts.specs.Views.{applied_item, items_of}
-use Rattle.edit_scripts.specs.declared.script.Item.{Item}
+use Rattle.replay_scripts.specs.Item.{Applied}
+use Rattle.replay_scripts.specs.Script.{IsScript, done, skips, spells, groups}
+use Rattle.replay_scripts.specs.Views.{applied_item, items_of}
+use Rattle.replay_scripts.specs.declared.script.Item.{Item}
 
 -- a script has no more items than lines
 few_groups : {number : ℕ} {script : List (List ℕ)} {items : List Applied}

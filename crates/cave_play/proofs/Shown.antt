@@ -1,9 +1,10 @@
 -- Which lines of a log are shown.
 use Rattle.std.proofs.Common.{◌≡◌, ℕ, Bool, true, false, cond, not, ◌||◌, List, Option, Some, None}
 use Rattle.std.proofs.Common.{refl}
-use Rattle.log_lines.specs.Bytes.{is_all_blank}
-use Rattle.log_lines.specs.LogLine.{is_comment, is_skipped, log_line, seed_of, seed_or_input}
-use Rattle.log_lines.specs.declared.log_line.LogLine.TheVariants.{Comment, Blank}
+use Rattle.play_command.specs.base_lines.Bytes.{is_all_blank}
+use Rattle.play_command.specs.base_lines.LogLine.{is_comment, is_skipped, log_line, seed_of}
+use Rattle.play_command.specs.base_lines.LogLine.{seed_or_input}
+use Rattle.play_command.specs.base_lines.declared.log_line.LogLine.TheVariants.{Comment, Blank}
 use Rattle.cave_play.specs.Transcript.{is_shown}
 
 shown : (comment blank : Bool) (seed : Option ℕ)

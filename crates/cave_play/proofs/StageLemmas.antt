@@ -1,6 +1,6 @@
 -- Where a fault is found, and what is made, at some stages and then at later ones.
-use Rattle.std.proofs.Common.{◌≡◌, List, [], ◌∷◌, ◌++◌, None, Some, Ok, Err, MatchResult}
-use Rattle.std.proofs.Common.{inl, inr, ap, ◌∙◌, refl}
+use Rattle.std.proofs.Common.{◌≡◌, List, [], ◌∷◌, ◌++◌, None, Some, Ok, Err, inl, inr, ap, ◌∙◌}
+use Rattle.std.proofs.Common.{refl}
 use Rattle.std.specs.Prelude.{Result}
 use Rattle.std.specs.Option.{option_or}
 use Rattle.std.specs.declared.option.Option.{Option}
@@ -42,13 +42,21 @@ IsFoundIn-later (stage ∷ stages) later found none there =
 pub first_decided-one : (stage : Stage) → stage.decides ≡ None → first_decided (stage ∷ []) ≡ None
 first_decided-one stage none = ap (λ f. option_or f None) none
 
-first_decided-later : (stages later : List Stage)
+-- where the first decide none, the later ones decide what is decided
+pub first_decided-later : (stages later : List Stage)
     → first_decided stages ≡ None → first_decided (stages ++ later) ≡ first_decided later
 first_decided-later [] later none = refl
 first_decided-later (stage ∷ stages) later none =
     let (here, rest) = neither stage.decides (first_decided stages) none in
     ap (λ f. option_or f (first_decided (stages ++ later))) here
     ∙ first_decided-later stages later rest
+
+-- neither a judgement nor the stages after it decide a fault
+pub first_decided-after : (decides : Option PlayFault) (later : List Stage)
+    → decides ≡ None → first_decided later ≡ None
+    → first_decided (judging_stage decides ∷ later) ≡ None
+first_decided-after decides later none rest =
+    ap (λ f. option_or f (first_decided later)) none ∙ rest
 
 -- what is right at later stages is right at both, if the first decide no fault
 pub Judges-later : {X : Type 0} (stages later : List Stage) (P Q : X → Type 0)
@@ -66,14 +74,6 @@ pub Judges-after : {X : Type 0} (decides : Option PlayFault) (later : List Stage
 Judges-after decides later P r none judged =
     Judges-later (judging_stage decides ∷ []) later P P r
     (first_decided-one (judging_stage decides) none) (λ x is. is) judged
-
--- where no fault is decided and memory alone was refused, what was made is right
-pub Judges-made : {X : Type 0} (stages : List Stage) (IsMade IsValidLine : X → Type 0)
-    (r : Result X PlayFault) → first_decided stages ≡ None
-    → ((made : X) → IsMade made → IsValidLine made)
-    → MatchResult r IsMade (λ found. found ≡ fault.Memory) → Judges stages IsValidLine r
-Judges-made stages IsMade IsValidLine (Ok made) none right is = (none, right made is)
-Judges-made stages IsMade IsValidLine (Err found) none right is = rw is (IsFoundIn-memory stages)
 
 -- where nothing is read, only memory is refused from outside
 outside_unread : (input : Input) (found : PlayFault)

@@ -1,13 +1,13 @@
 -- Where a held game is after its last line.
 use Rattle.std.proofs.Common.{◌≡◌, ℕ, Bool, List, length, subst, refl}
 use Rattle.std.specs.declared.option.Option.{Option}
-use Rattle.cave_data.specs.CaveView.{CaveView}
-use Rattle.cave_score.specs.Score.{score_of, max_score_of}
-use Rattle.cave_world.specs.declared.ending.Ending.{Ending}
-use Rattle.cave_world.specs.declared.part.Part.{Part}
-use Rattle.cave_world.specs.declared.state.State.{State}
-use Rattle.log_edits.specs.Game.{Game}
-use Rattle.log_replay.specs.Play.{IsPlay}
+use Rattle.data_bindings.specs.cave_data.CaveView.{CaveView}
+use Rattle.cave_turn.specs.turn_score.Score.{score_of, max_score_of}
+use Rattle.world_packed.specs.cave_world.declared.ending.Ending.{Ending}
+use Rattle.world_packed.specs.cave_world.declared.part.Part.{Part}
+use Rattle.world_packed.specs.cave_world.declared.state.State.{State}
+use Rattle.cave_replay.specs.replay_edits.Game.{Game}
+use Rattle.cave_replay.specs.Play.{IsPlay}
 use Rattle.cave_play.specs.Machine.{cave_rules}
 use Rattle.cave_play.specs.Outcome.{standing_of}
 use Rattle.cave_play.specs.Transcript.{ticks as ticks_of}

@@ -5,18 +5,17 @@ use Rattle.std.specs.Prelude.{◌⊎◌, Result}
 use Rattle.std.specs.Option.{option_or}
 use Rattle.std.specs.declared.option.Option.{Option}
 use Rattle.std.proofs.lemmas.List.{drop_all}
-use Rattle.cave_data.specs.CaveView.{CaveView}
-use Rattle.log_edits.specs.Game.{Game}
-use Rattle.log_edits.specs.declared.fault.GroupFault.{GroupFault}
-use Rattle.edit_scripts.specs.Item.{Applied}
-use Rattle.edit_scripts.specs.Script.{script_of}
-use Rattle.edit_scripts.specs.Views.{applied_item}
-use Rattle.edit_scripts.specs.declared.script.Item.{Item}
-use Rattle.edit_scripts.specs.declared.fault.ScriptRefusal.{ScriptRefusal}
+use Rattle.data_bindings.specs.cave_data.CaveView.{CaveView}
+use Rattle.cave_replay.specs.replay_edits.Game.{Game}
+use Rattle.cave_replay.specs.replay_edits.declared.fault.GroupFault.{GroupFault}
+use Rattle.replay_scripts.specs.Item.{Applied}
+use Rattle.replay_scripts.specs.Script.{script_of}
+use Rattle.replay_scripts.specs.Views.{applied_item}
+use Rattle.replay_scripts.specs.declared.script.Item.{Item}
+use Rattle.replay_scripts.specs.declared.fault.ScriptRefusal.{ScriptRefusal}
 use Rattle.cave_play.specs.Outcome.{IsOutcome, refusal_in}
 use Rattle.cave_play.specs.Output.{game_after_item, group_refusal}
-use Rattle.cave_play.specs.Run.{Judges}
-use Rattle.cave_play.specs.Stage.{IsFoundIn, judging_stage}
+use Rattle.cave_play.specs.Stage.{IsFoundIn, first_decided, judging_stage}
 use Rattle.cave_play.specs.Stages.{strict_stage}
 use Rattle.cave_play.specs.Strict.{fault_of_items, first_strict_fault, strict_fault}
 use Rattle.cave_play.specs.Strict.{strict_fault_by}
@@ -24,6 +23,7 @@ use Rattle.cave_play.specs.declared.outcome.ItemOutcome.{ItemOutcome}
 use Rattle.cave_play.specs.declared.fault.PlayFault.{PlayFault}
 use Rattle.cave_play.specs.declared.fault.PlayFault.TheVariants as fault
 use Rattle.cave_play.proofs.EditLemmas.{applied_item-drop}
+use Rattle.cave_play.proofs.StageLemmas.{first_decided-one}
 use Rattle.cave_play.proofs.ViewLemmas.{group_refusal-outcome}
 
 -- what came of an item says whether a strict run ends there
@@ -89,20 +89,29 @@ first_strict_fault-end strict items place game whole past so_far =
 -- ---- runs
 
 -- a run that ends there, or for which memory runs out
-pub IsFoundIn-strict : (decides : Option PlayFault) (found : PlayFault)
+found_alone : (decides : Option PlayFault) (found : PlayFault)
     → (found ≡ fault.Memory) ⊎ (decides ≡ Some found)
     → IsFoundIn (judging_stage decides ∷ []) found
-IsFoundIn-strict decides found (inl memory) = rw memory (inl (inl tt))
-IsFoundIn-strict decides found (inr some) = inl (inr some)
+found_alone decides found (inl memory) = rw memory (inl (inl tt))
+found_alone decides found (inr some) = inl (inr some)
 
 -- what is judged of the items of a script is judged of the script
-pub Judges-strict : {X : Type 0} (strict : Bool) (game : Game) (script : List ℕ)
-    (items : List Applied) (P : X → Type 0) (r : Result X PlayFault) → script_of script ≡ Ok items
-    → Judges (judging_stage (first_strict_fault strict items game) ∷ []) P r
-    → Judges (strict_stage strict game script ∷ []) P r
-Judges-strict strict game script items P r spelled judged =
-    subst (λ (answer : Result (List Applied) ScriptRefusal).
-    Judges (judging_stage (fault_of_items strict game answer) ∷ []) P r) (sym spelled) judged
+module _ (strict : Bool) (game : Game) (script : List ℕ) (items : List Applied) where
+  pub IsFoundIn-strict : (found : PlayFault) → script_of script ≡ Ok items
+      → (found ≡ fault.Memory) ⊎ (first_strict_fault strict items game ≡ Some found)
+      → IsFoundIn (strict_stage strict game script ∷ []) found
+  IsFoundIn-strict found spelled refused =
+      subst (λ (answer : Result (List Applied) ScriptRefusal).
+      IsFoundIn (judging_stage (fault_of_items strict game answer) ∷ []) found) (sym spelled)
+      (found_alone (first_strict_fault strict items game) found refused)
+
+  pub first_decided-strict : script_of script ≡ Ok items
+      → first_strict_fault strict items game ≡ None
+      → first_decided (strict_stage strict game script ∷ []) ≡ None
+  first_decided-strict spelled none =
+      subst (λ (answer : Result (List Applied) ScriptRefusal).
+      first_decided (judging_stage (fault_of_items strict game answer) ∷ []) ≡ None) (sym spelled)
+      (first_decided-one (judging_stage (first_strict_fault strict items game)) none)
 
 -- where the run is strict, the stage of its items decides no failing writer
 unwritten_refusal : (strict : Bool) (item : Applied) (refusal : Option GroupFault)

@@ -2,14 +2,15 @@
 use Rattle.std.proofs.Common.{◌≡◌, ℕ, List, [], ◌∷◌, ◌++◌, length, sym, ap, ◌∙◌, refl}
 use Rattle.std.specs.List.{sum_by}
 use Rattle.std.specs.Str.Lines.{lines}
-use Rattle.cave_data.specs.CaveView.{CaveView}
-use Rattle.edit_options.specs.declared.editing.EditView.{EditView}
-use Rattle.edit_options.specs.declared.editing.EditView.TheVariants.{Transcript, Play, Log, Reports}
-use Rattle.edit_options.specs.declared.editing.EditView.TheVariants.{FinalState}
-use Rattle.replay_marks.specs.Spacing.{IsSpaced}
-use Rattle.log_replay.specs.LogText.{log_text}
-use Rattle.log_edits.specs.Game.{Game}
-use Rattle.edit_scripts.specs.Item.{Applied}
+use Rattle.data_bindings.specs.cave_data.CaveView.{CaveView}
+use Rattle.play_command.specs.play_options.declared.editing.EditView.{EditView}
+use Rattle.play_command.specs.play_options.declared.editing.EditView.TheVariants.{Transcript, Play}
+use Rattle.play_command.specs.play_options.declared.editing.EditView.TheVariants.{Log, Reports}
+use Rattle.play_command.specs.play_options.declared.editing.EditView.TheVariants.{FinalState}
+use Rattle.world_packed.specs.replay_marks.Spacing.{IsSpaced}
+use Rattle.cave_replay.specs.LogText.{log_text}
+use Rattle.cave_replay.specs.replay_edits.Game.{Game}
+use Rattle.replay_scripts.specs.Item.{Applied}
 use Rattle.cave_play.specs.Edits.{ReadsBack, text_at_end, text_of_item}
 use Rattle.cave_play.specs.FinalState.{final_state_text}
 use Rattle.cave_play.specs.Outcome.{AreOutcomes, IsOutcome, lines_in, played_in, refusal_in}

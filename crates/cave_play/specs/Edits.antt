@@ -3,15 +3,16 @@ use Rattle.std.specs.Prelude.{◌≡◌, ℕ, List, [], ◌++◌, ⊤}
 use Rattle.cave_play.specs.Piece.{Piece}
 use Rattle.std.specs.List.{sum_by}
 use Rattle.std.specs.Str.Lines.{lines}
-use Rattle.cave_data.specs.CaveView.{CaveView}
-use Rattle.edit_options.specs.declared.editing.EditView.{EditView}
-use Rattle.edit_options.specs.declared.editing.EditView.TheVariants.{Transcript, Play, Log, Reports}
-use Rattle.edit_options.specs.declared.editing.EditView.TheVariants.{FinalState}
-use Rattle.log_replay.specs.Session.{SessionView}
-use Rattle.log_replay.specs.LogText.{log_text}
-use Rattle.log_edits.specs.Game.{Game}
-use Rattle.edit_scripts.specs.Item.{Applied}
-use Rattle.cave_world.specs.declared.state.State.{State}
+use Rattle.data_bindings.specs.cave_data.CaveView.{CaveView}
+use Rattle.play_command.specs.play_options.declared.editing.EditView.{EditView}
+use Rattle.play_command.specs.play_options.declared.editing.EditView.TheVariants.{Transcript, Play}
+use Rattle.play_command.specs.play_options.declared.editing.EditView.TheVariants.{Log, Reports}
+use Rattle.play_command.specs.play_options.declared.editing.EditView.TheVariants.{FinalState}
+use Rattle.cave_replay.specs.Session.{SessionView}
+use Rattle.cave_replay.specs.LogText.{log_text}
+use Rattle.cave_replay.specs.replay_edits.Game.{Game}
+use Rattle.replay_scripts.specs.Item.{Applied}
+use Rattle.world_packed.specs.cave_world.declared.state.State.{State}
 use Rattle.cave_play.specs.FinalState.{final_state_text}
 use Rattle.cave_play.specs.Outcome.{IsOutcome, AreLeft, AreOutcomes, lines_in, played_in}
 use Rattle.cave_play.specs.Outcome.{refusal_in}

@@ -1,7 +1,7 @@
 -- What a fault of a run says.
 use Rattle.std.specs.Prelude.{ℕ, Option, None, Some, nat_lt, if◌then◌else◌}
-use Rattle.cave_rows.specs.declared.error.FaultSite.{FaultSite}
-use Rattle.cave_rows.specs.declared.error.FaultSite.TheVariants as site
+use Rattle.data_bindings.specs.data_rows.declared.error.FaultSite.{FaultSite}
+use Rattle.data_bindings.specs.data_rows.declared.error.FaultSite.TheVariants as site
 use Rattle.cave_play.specs.declared.fault.Input.{Input}
 use Rattle.cave_play.specs.declared.fault.Input.TheVariants as input
 use Rattle.cave_play.specs.declared.fault.LogFault.{LogFault}

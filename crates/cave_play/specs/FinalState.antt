@@ -1,13 +1,13 @@
 -- The state that a play leads to, as a text.
 use Rattle.std.specs.Prelude.{ℕ, List, length}
-use Rattle.cave_begin.specs.Begin.{starting_objects}
-use Rattle.cave_data.specs.CaveView.{CaveView}
+use Rattle.cave_turn.specs.turn_begin.Begin.{starting_objects}
+use Rattle.data_bindings.specs.cave_data.CaveView.{CaveView}
 use Rattle.cave_play.specs.Machine.{cave_rules}
 use Rattle.cave_play.specs.Transcript.{ticks}
-use Rattle.cave_score.specs.Score.{score_of}
-use Rattle.cave_state_text.specs.StateText.{state_text}
-use Rattle.log_edits.specs.Game.{Game}
-use Rattle.log_replay.specs.Play.{state_after, ticks_of}
+use Rattle.cave_turn.specs.turn_score.Score.{score_of}
+use Rattle.play_state_text.specs.StateText.{state_text}
+use Rattle.cave_replay.specs.replay_edits.Game.{Game}
+use Rattle.cave_replay.specs.Play.{state_after, ticks_of}
 
 -- the state to which playing a log in a cave leads, from its first line on
 unfoldable pub final_state_text : CaveView → Game → List ℕ

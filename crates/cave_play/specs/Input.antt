@@ -1,13 +1,12 @@
 -- What is known of an input before it is read, and what a reading of it answers.
 use Rattle.std.specs.Prelude.{◌≡◌, ℕ, ◌+◌, ◌<◌, ⊤, Bool, true, false, List, ◌++◌, length, Option}
-use Rattle.std.specs.Prelude.{None, Some}
+use Rattle.std.specs.Prelude.{None, Some, []}
 use Rattle.std.specs.Io.KnownBytes.{Consumes, IsAtEnd}
-use Rattle.limits.specs.Limits.{max_input_bytes}
+use Rattle.play_command.specs.base_limits.Limits.{MAX_INPUT_BYTES}
 use Rattle.cave_play.specs.declared.input.InputFault.{InputFault}
 use Rattle.cave_play.specs.declared.input.InputFault.TheVariants.{Unreadable, TooLarge, Memory}
-use Rattle.std.specs.Prelude.{[]}
-use Rattle.cave_play.specs.declared.bindings.BindingsReader.{BindingsReader}
-use Rattle.cave_play.specs.declared.bindings.BindingsReader.TheVariants.{Absent, Given}
+use Rattle.cave_play.specs.declared.inputs.InputReader.{InputReader}
+use Rattle.cave_play.specs.declared.inputs.InputReader.TheVariants.{Absent, Given}
 
 -- the bytes are those that a reader is known to have left, where it is known
 abbrev pub Says : Option (List ℕ) → List ℕ → Type 0
@@ -17,7 +16,7 @@ Says (Some known) bytes = bytes ≡ known
 -- an input is too large only where it has more bytes than an input may have
 abbrev pub IsInputFault : List ℕ → InputFault → Type 0
 IsInputFault bytes Unreadable = ⊤
-IsInputFault bytes TooLarge = max_input_bytes < length bytes
+IsInputFault bytes TooLarge = MAX_INPUT_BYTES < length bytes
 IsInputFault bytes Memory = ⊤
 
 -- one reading added some bytes to the input, or came to the reader's end
@@ -29,9 +28,9 @@ pub record Gives (old new : Option (List ℕ)) (before after : List ℕ) (some :
 -- one reading that failed took the bytes that it found too many, if it found so
 pub record Exceeds (old new : Option (List ℕ)) (before : List ℕ) (fault : InputFault) : Type 0 where
   pub over : fault ≡ TooLarge → (given : List ℕ) × Consumes old new given
-      × (max_input_bytes < length before + length given)
+      × (MAX_INPUT_BYTES < length before + length given)
 
--- absent bindings have nothing left
-abbrev pub bindings_left : {R : Type 0} → (R → Option (List ℕ)) → BindingsReader R → Option (List ℕ)
-bindings_left remaining Absent = Some []
-bindings_left remaining (Given reader) = remaining reader
+-- an absent input has nothing left
+abbrev pub input_left : {R : Type 0} → (R → Option (List ℕ)) → InputReader R → Option (List ℕ)
+input_left remaining Absent = Some []
+input_left remaining (Given reader) = remaining reader

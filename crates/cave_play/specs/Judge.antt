@@ -2,18 +2,19 @@
 use Rattle.std.specs.Prelude.{ℕ, List, length, nat_lt, ◌||◌, ◌==◌, if◌then◌else◌, Option, None}
 use Rattle.std.specs.Prelude.{Some, option_map, Result, Err}
 use Rattle.std.specs.Str.Lines.{lines}
-use Rattle.cave_data.specs.Reads.{fault as cave_fault}
-use Rattle.cave_rows.specs.declared.error.Cause.TheVariants as cause
-use Rattle.cave_rows.specs.declared.error.FaultSite.TheVariants as site
-use Rattle.log_replay.specs.Opening.{first_bad_line}
-use Rattle.log_lines.specs.declared.line_flaw.LineFlaw.{LineFlaw}
-use Rattle.limits.specs.Limits.{max_seed, max_every, max_log_lines, max_input_bytes}
-use Rattle.log_replay.specs.declared.fault.OpenFault.{OpenFault}
-use Rattle.log_replay.specs.declared.fault.OpenFault.TheVariants as session
-use Rattle.edit_scripts.specs.Item.{Applied}
-use Rattle.edit_scripts.specs.Script.{script_of}
-use Rattle.edit_scripts.specs.declared.fault.ScriptRefusal.{ScriptRefusal}
-use Rattle.edit_scripts.specs.declared.fault.ScriptRefusal.TheVariants.{Malformed, Memory}
+use Rattle.data_bindings.specs.cave_data.Reads.{fault as cave_fault}
+use Rattle.data_bindings.specs.data_rows.declared.error.Cause.TheVariants as cause
+use Rattle.data_bindings.specs.data_rows.declared.error.FaultSite.TheVariants as site
+use Rattle.cave_replay.specs.Opening.{first_bad_line}
+use Rattle.play_command.specs.base_lines.declared.line_flaw.LineFlaw.{LineFlaw}
+use Rattle.play_command.specs.base_limits.Limits.{MAX_SEED, MAX_EVERY, MAX_LOG_LINES}
+use Rattle.play_command.specs.base_limits.Limits.{MAX_INPUT_BYTES}
+use Rattle.cave_replay.specs.declared.fault.OpenFault.{OpenFault}
+use Rattle.cave_replay.specs.declared.fault.OpenFault.TheVariants as session
+use Rattle.replay_scripts.specs.Item.{Applied}
+use Rattle.replay_scripts.specs.Script.{script_of}
+use Rattle.replay_scripts.specs.declared.fault.ScriptRefusal.{ScriptRefusal}
+use Rattle.replay_scripts.specs.declared.fault.ScriptRefusal.TheVariants.{Malformed, Memory}
 use Rattle.cave_play.specs.declared.fault.Input.{Input}
 use Rattle.cave_play.specs.declared.fault.Input.TheVariants as input
 use Rattle.cave_play.specs.declared.fault.LogFault.TheVariants as log
@@ -22,11 +23,11 @@ use Rattle.cave_play.specs.declared.fault.PlayFault.{PlayFault}
 use Rattle.cave_play.specs.declared.fault.PlayFault.TheVariants as fault
 
 abbrev pub large_seed : ℕ → Option PlayFault
-large_seed seed = if nat_lt max_seed seed then Some fault.Seed else None
+large_seed seed = if nat_lt MAX_SEED seed then Some fault.Seed else None
 
 -- the fault of a distance of checkpoints
 abbrev pub every_fault : ℕ → Option PlayFault
-every_fault every = if every == 0 || nat_lt max_every every then Some fault.Every else None
+every_fault every = if every == 0 || nat_lt MAX_EVERY every then Some fault.Every else None
 
 -- the fault of an input that has too many bytes
 abbrev pub too_large : Input → PlayFault
@@ -38,7 +39,7 @@ too_large input.Log = fault.Log log.TooLarge
 too_large input.Script = fault.Script script.TooLarge
 
 abbrev pub input_size_fault : Input → List ℕ → Option PlayFault
-input_size_fault from bytes = if nat_lt max_input_bytes (length bytes) then Some (too_large from)
+input_size_fault from bytes = if nat_lt MAX_INPUT_BYTES (length bytes) then Some (too_large from)
     else None
 
 -- the first fault of a database and its bindings
@@ -48,7 +49,7 @@ inputs_fault database bindings =
 
 abbrev pub or_too_many : Option (ℕ × LineFlaw) → ℕ → Option PlayFault
 or_too_many (Some (number, flaw)) count = Some (fault.Log (log.BadLine number flaw))
-or_too_many None count = if nat_lt max_log_lines count then Some (fault.Log log.Full) else None
+or_too_many None count = if nat_lt MAX_LOG_LINES count then Some (fault.Log log.Full) else None
 
 -- the first fault of the lines of a log
 unfoldable pub lines_fault : List (List ℕ) → Option PlayFault
@@ -56,7 +57,7 @@ lines_fault log = or_too_many (first_bad_line log 1) (length log)
 
 -- the first fault of a log
 unfoldable pub log_fault : List ℕ → Option PlayFault
-log_fault bytes = if nat_lt max_input_bytes (length bytes) then Some (fault.Log log.TooLarge)
+log_fault bytes = if nat_lt MAX_INPUT_BYTES (length bytes) then Some (fault.Log log.TooLarge)
     else lines_fault (lines bytes)
 
 -- the first malformed line of a script, if it has one
@@ -66,7 +67,7 @@ first_malformed _ = None
 
 -- the first fault of a script
 unfoldable pub script_fault : List ℕ → Option PlayFault
-script_fault bytes = if nat_lt max_input_bytes (length bytes)
+script_fault bytes = if nat_lt MAX_INPUT_BYTES (length bytes)
     then Some (fault.Script script.TooLarge) else first_malformed (script_of bytes)
 
 -- the fault of a run in which a session couldn't be opened

@@ -1,11 +1,11 @@
 -- Laws of the order in which faults are found, and of what edits are refused for.
 use Rattle.std.specs.Prelude.{◌≡◌, ℕ, ◌⊎◌, ⊤, List, None, Some}
 use Rattle.std.specs.Str.Lines.{lines}
-use Rattle.edit_scripts.specs.Item.{Applied}
-use Rattle.log_edits.specs.Game.{game_of}
-use Rattle.log_edits.specs.declared.fault.EditFault.{EditFault}
-use Rattle.log_edits.specs.declared.fault.EditFault.TheVariants.{MeterFull, Memory}
-use Rattle.log_edits.specs.declared.fault.GroupFault.{GroupFault}
+use Rattle.replay_scripts.specs.Item.{Applied}
+use Rattle.cave_replay.specs.replay_edits.Game.{game_of}
+use Rattle.cave_replay.specs.replay_edits.declared.fault.EditFault.{EditFault}
+use Rattle.cave_replay.specs.replay_edits.declared.fault.EditFault.TheVariants.{MeterFull, Memory}
+use Rattle.cave_replay.specs.replay_edits.declared.fault.GroupFault.{GroupFault}
 use Rattle.cave_play.specs.Judge.{inputs_fault, large_seed, log_fault}
 use Rattle.cave_play.specs.Output.{game_after_items, group_refusal}
 use Rattle.cave_play.specs.Stage.{Stage, first_decided, IsFoundIn}

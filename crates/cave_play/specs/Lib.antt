@@ -1,4 +1,5 @@
 pub mod Input
+pub mod Texts
 pub mod Fault
 pub mod Judge
 pub mod Strict
@@ -16,3 +17,12 @@ pub mod Outcome
 pub mod Views
 pub mod Edits
 pub mod OneOutput
+pub use Rattle.play_command.specs.base_lines as base_lines
+pub use Rattle.data_bindings.specs.cave_data as cave_data
+pub use Rattle.cave_replay.specs as cave_replay
+pub use Rattle.world_packed.specs.cave_words as cave_words
+pub use Rattle.world_packed.specs.cave_world as cave_world
+pub use Rattle.data_bindings.specs as data_bindings
+pub use Rattle.data_bindings.specs.data_rows as data_rows
+pub use Rattle.play_command.specs.play_options as play_options
+pub use Rattle.cave_replay.specs.replay_edits as replay_edits

@@ -1,17 +1,17 @@
 -- The rules by which a cave is played.
 use Rattle.std.specs.Prelude.{ℕ, List}
-use Rattle.cave_data.specs.CaveView.{CaveView}
-use Rattle.log_replay.specs.Machine.{MachineRules}
-use Rattle.cave_text.specs.Text.{text_of_all}
-use Rattle.cave_turn.specs.Turns.{game_beginning, turn_on_line}
-use Rattle.cave_world.specs.declared.part.Part.{Part}
-use Rattle.cave_world.specs.declared.state.State.{State}
+use Rattle.data_bindings.specs.cave_data.CaveView.{CaveView}
+use Rattle.cave_replay.specs.Machine.{MachineRules}
+use Rattle.cave_turn.specs.turn_text.Text.{text_of_all}
+use Rattle.cave_turn.specs.Turns.{start_of_game, turn_on_line}
+use Rattle.world_packed.specs.cave_world.declared.part.Part.{Part}
+use Rattle.world_packed.specs.cave_world.declared.state.State.{State}
 
 -- what is answered at the start and at a line is what the turn says there
 abbrev pub cave_rules : CaveView → MachineRules State (List Part)
 cave_rules cave = record {
-  begun = λ seed. (game_beginning cave seed).state;
-  greeting = λ seed. (game_beginning cave seed).parts;
+  begun = λ seed. (start_of_game cave seed).state;
+  greeting = λ seed. (start_of_game cave seed).parts;
   after = λ state line. (turn_on_line cave state line).state;
   said = λ state line. (turn_on_line cave state line).parts;
   ticked = λ state line. (turn_on_line cave state line).ticked;

@@ -1,11 +1,12 @@
 -- The inputs of a run and its seed determine what it writes, except where an edit reports what it
 -- replayed. So the distance of checkpoints shows there alone.
 use Rattle.std.specs.Prelude.{◌≡◌, ℕ, ⊤, Bool, List}
-use Rattle.edit_options.specs.declared.editing.EditView.{EditView}
-use Rattle.edit_options.specs.declared.views.CheckView.{CheckView}
-use Rattle.edit_options.specs.declared.editing.EditView.TheVariants.{Transcript, Play, Log, Reports}
-use Rattle.edit_options.specs.declared.editing.EditView.TheVariants.{FinalState}
-use Rattle.edit_options.specs.declared.views.PlayView.{PlayView}
+use Rattle.play_command.specs.play_options.declared.editing.EditView.{EditView}
+use Rattle.play_command.specs.play_options.declared.views.CheckView.{CheckView}
+use Rattle.play_command.specs.play_options.declared.editing.EditView.TheVariants.{Transcript, Play}
+use Rattle.play_command.specs.play_options.declared.editing.EditView.TheVariants.{Log, Reports}
+use Rattle.play_command.specs.play_options.declared.editing.EditView.TheVariants.{FinalState}
+use Rattle.play_command.specs.play_options.declared.views.PlayView.{PlayView}
 use Rattle.cave_play.specs.Output.{IsChecked, IsPlayed}
 use Rattle.cave_play.specs.Run.{AtMostOne}
 use Rattle.cave_play.specs.Views.{IsEdited}

@@ -1,14 +1,14 @@
 -- What comes of the items of a script in a session, one after another.
 use Rattle.std.specs.Prelude.{◌≡◌, ℕ, List, [], ◌∷◌, length, Option, None, Some}
-use Rattle.cave_data.specs.CaveView.{CaveView}
-use Rattle.replay_marks.specs.Spacing.{IsSpaced}
-use Rattle.log_edits.specs.Game.{Game}
-use Rattle.log_replay.specs.Play.{state_after, ticks_of}
-use Rattle.cave_score.specs.Score.{score_of, max_score_of}
+use Rattle.data_bindings.specs.cave_data.CaveView.{CaveView}
+use Rattle.world_packed.specs.replay_marks.Spacing.{IsSpaced}
+use Rattle.cave_replay.specs.replay_edits.Game.{Game}
+use Rattle.cave_replay.specs.Play.{state_after, ticks_of}
+use Rattle.cave_turn.specs.turn_score.Score.{score_of, max_score_of}
 use Rattle.cave_play.specs.Transcript.{ticks}
-use Rattle.log_replay.specs.Report.{IsReport}
-use Rattle.log_edits.specs.declared.fault.GroupFault.{GroupFault}
-use Rattle.edit_scripts.specs.Item.{Applied}
+use Rattle.cave_replay.specs.Report.{IsReport}
+use Rattle.cave_replay.specs.replay_edits.declared.fault.GroupFault.{GroupFault}
+use Rattle.replay_scripts.specs.Item.{Applied}
 use Rattle.cave_play.specs.Machine.{cave_rules}
 use Rattle.cave_play.specs.Output.{group_refusal, game_after_item}
 use Rattle.cave_play.specs.declared.outcome.ItemOutcome.{ItemOutcome}
@@ -24,7 +24,7 @@ refusal_in (Replayed replay) = None
 -- how many lines were played for an item
 abbrev pub played_in : ItemOutcome → ℕ
 played_in (Refused fault) = 0
-played_in (Replayed replay) = replay.stretch.played
+played_in (Replayed replay) = replay.played
 
 -- how many lines playing the edited log from its first line would have played
 abbrev pub lines_in : ItemOutcome → ℕ
@@ -51,7 +51,7 @@ pub record IsReplay (cave : CaveView) (every : ℕ) (item : Applied) (game : Gam
     (checkpoints : List ℕ) (replay : ItemReplay) : Type 0 where
   pub accepted : group_refusal item.changes game.log ≡ None
   pub report : IsReport (cave_rules cave) item.changes game every checkpoints
-      replay.stretch.from replay.stretch.met replay.stretch.played
+      replay.from replay.met replay.played
   pub lines : replay.lines ≡ length (game_after_item item game).log
   pub standing : replay.standing ≡ standing_of cave (game_after_item item game)
 

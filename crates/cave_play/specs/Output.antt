@@ -2,24 +2,25 @@
 use Rattle.std.specs.Prelude.{◌≡◌, ℕ, ◌-◌, ◌^◌, List, [], ◌∷◌, ◌++◌, codes, Option, None, Some}
 use Rattle.std.specs.Fmt.{decimal}
 use Rattle.std.specs.Str.Lines.{lines}
-use Rattle.cave_data.specs.CaveView.{CaveView}
-use Rattle.cave_data.specs.Reads.{Reads}
-use Rattle.cave_bindings.specs.Listing.{bindings_text}
-use Rattle.edit_options.specs.declared.views.CheckView.{CheckView}
-use Rattle.edit_options.specs.declared.views.CheckView.TheVariants.{Maximum, Bindings}
-use Rattle.edit_options.specs.declared.views.PlayView.{PlayView}
-use Rattle.edit_options.specs.declared.views.PlayView.TheVariants as play
-use Rattle.log_edits.specs.Edit.{Change, apply_all}
-use Rattle.log_edits.specs.Faults.{group_fault}
-use Rattle.log_edits.specs.Game.{Game, game_of}
-use Rattle.log_replay.specs.Play.{texts_of, ticks_of, state_after}
-use Rattle.log_edits.specs.declared.fault.EditFault.{EditFault}
-use Rattle.log_edits.specs.declared.fault.EditFault.TheVariants.{NoSuchPlace, BadLine, LogFull}
-use Rattle.log_edits.specs.declared.fault.EditFault.TheVariants.{BadSeed, MeterFull, Memory}
-use Rattle.log_edits.specs.declared.fault.EditFault.TheVariants.{EmptyGroup}
-use Rattle.log_edits.specs.declared.fault.GroupFault.{GroupFault}
-use Rattle.cave_score.specs.Score.{score_of, max_score_of}
-use Rattle.edit_scripts.specs.Item.{Applied, line_of_refusal}
+use Rattle.data_bindings.specs.cave_data.CaveView.{CaveView}
+use Rattle.data_bindings.specs.cave_data.Reads.{Reads}
+use Rattle.data_bindings.specs.Listing.{bindings_text}
+use Rattle.play_command.specs.play_options.declared.views.CheckView.{CheckView}
+use Rattle.play_command.specs.play_options.declared.views.CheckView.TheVariants.{Maximum, Bindings}
+use Rattle.play_command.specs.play_options.declared.views.PlayView.{PlayView}
+use Rattle.play_command.specs.play_options.declared.views.PlayView.TheVariants as play
+use Rattle.cave_replay.specs.replay_edits.Edit.{Change, apply_all}
+use Rattle.cave_replay.specs.replay_edits.Faults.{group_fault}
+use Rattle.cave_replay.specs.replay_edits.Game.{Game, game_of}
+use Rattle.cave_replay.specs.Play.{texts_of, ticks_of, state_after}
+use Rattle.cave_replay.specs.replay_edits.declared.fault.EditFault.{EditFault}
+use Rattle.cave_replay.specs.replay_edits.declared.fault.EditFault.TheVariants.{NoSuchPlace}
+use Rattle.cave_replay.specs.replay_edits.declared.fault.EditFault.TheVariants.{BadLine, LogFull}
+use Rattle.cave_replay.specs.replay_edits.declared.fault.EditFault.TheVariants.{BadSeed, MeterFull}
+use Rattle.cave_replay.specs.replay_edits.declared.fault.EditFault.TheVariants.{Memory, EmptyGroup}
+use Rattle.cave_replay.specs.replay_edits.declared.fault.GroupFault.{GroupFault}
+use Rattle.cave_turn.specs.turn_score.Score.{score_of, max_score_of}
+use Rattle.replay_scripts.specs.Item.{Applied, line_of_refusal}
 use Rattle.cave_play.specs.FinalState.{final_state_text}
 use Rattle.cave_play.specs.Machine.{cave_rules, rendering_of}
 use Rattle.cave_play.specs.Transcript.{transcript}

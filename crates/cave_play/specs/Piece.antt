@@ -1,6 +1,6 @@
 -- What a turn said.
 use Rattle.std.specs.Prelude.{List}
-use Rattle.cave_world.specs.declared.part.Part.{Part}
+use Rattle.world_packed.specs.cave_world.declared.part.Part.{Part}
 
 -- the parts that a turn said
 pub record Piece : Type 0 where

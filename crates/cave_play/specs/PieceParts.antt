@@ -1,6 +1,6 @@
 -- Where the parts of a piece lie. No public clause cites this module.
 use Rattle.std.specs.Prelude.{List, [], ◌∷◌}
-use Rattle.cave_world.specs.declared.part.Part.{Part}
+use Rattle.world_packed.specs.cave_world.declared.part.Part.{Part}
 use Rattle.cave_play.specs.declared.piece.PieceParts.{PieceParts}
 use Rattle.cave_play.specs.declared.piece.PieceParts.TheVariants.{One, Two, Many}
 use Rattle.cave_play.specs.Piece.{Piece}

@@ -1,9 +1,9 @@
 -- The stages of each run, in their order.
 use Rattle.std.specs.Prelude.{ℕ, Bool, List, [], ◌∷◌, ◌++◌}
 use Rattle.std.specs.Str.Lines.{lines}
-use Rattle.edit_options.specs.declared.editing.Editing.{Editing}
-use Rattle.log_edits.specs.Game.{Game, game_of}
-use Rattle.edit_scripts.specs.Script.{script_of}
+use Rattle.play_command.specs.play_options.declared.editing.Editing.{Editing}
+use Rattle.cave_replay.specs.replay_edits.Game.{Game, game_of}
+use Rattle.replay_scripts.specs.Script.{script_of}
 use Rattle.cave_play.specs.Judge.{large_seed, every_fault, input_size_fault, inputs_fault}
 use Rattle.cave_play.specs.Judge.{log_fault, script_fault}
 use Rattle.cave_play.specs.Strict.{fault_of_items}

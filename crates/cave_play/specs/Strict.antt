@@ -2,10 +2,10 @@
 use Rattle.std.specs.Prelude.{Bool, List, [], ◌∷◌, Option, None, Some, Result, Ok, Err}
 use Rattle.std.specs.Prelude.{if◌then◌else◌}
 use Rattle.std.specs.Option.{option_or}
-use Rattle.log_edits.specs.Game.{Game}
-use Rattle.log_edits.specs.declared.fault.GroupFault.{GroupFault}
-use Rattle.edit_scripts.specs.Item.{Applied, line_of_refusal}
-use Rattle.edit_scripts.specs.declared.fault.ScriptRefusal.{ScriptRefusal}
+use Rattle.cave_replay.specs.replay_edits.Game.{Game}
+use Rattle.cave_replay.specs.replay_edits.declared.fault.GroupFault.{GroupFault}
+use Rattle.replay_scripts.specs.Item.{Applied, line_of_refusal}
+use Rattle.replay_scripts.specs.declared.fault.ScriptRefusal.{ScriptRefusal}
 use Rattle.cave_play.specs.Output.{game_after_item, group_refusal}
 use Rattle.cave_play.specs.declared.fault.ScriptFault.TheVariants as script
 use Rattle.cave_play.specs.declared.fault.PlayFault.{PlayFault}

@@ -3,9 +3,10 @@ use Rattle.std.specs.Prelude.{ℕ, ◌+◌, Bool, true, false, List, [], ◌++�
 use Rattle.std.specs.Prelude.{codes, if◌then◌else◌}
 use Rattle.std.specs.List.{enumerate_from, flat_map, zip}
 use Rattle.std.specs.Fmt.{decimal}
-use Rattle.log_lines.specs.LogLine.{log_line}
-use Rattle.log_lines.specs.declared.log_line.LogLine.{LogLine}
-use Rattle.log_lines.specs.declared.log_line.LogLine.TheVariants.{Comment, Blank, Seed, Input}
+use Rattle.play_command.specs.base_lines.LogLine.{log_line}
+use Rattle.play_command.specs.base_lines.declared.log_line.LogLine.{LogLine}
+use Rattle.play_command.specs.base_lines.declared.log_line.LogLine.TheVariants.{Comment, Blank}
+use Rattle.play_command.specs.base_lines.declared.log_line.LogLine.TheVariants.{Seed, Input}
 
 -- a line of the log, as it is shown above what was said at it
 abbrev pub echo : List ℕ → List ℕ

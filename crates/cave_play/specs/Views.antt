@@ -3,28 +3,30 @@ use Rattle.std.specs.Prelude.{◌≡◌, ℕ, List, [], ◌∷◌, ◌++◌, len
 use Rattle.std.specs.Fmt.{decimal}
 use Rattle.std.specs.List.{sum_by}
 use Rattle.std.specs.Str.Lines.{lines}
-use Rattle.cave_data.specs.CaveView.{CaveView}
-use Rattle.cave_data.specs.Reads.{Reads}
-use Rattle.edit_options.specs.declared.editing.Editing.{Editing}
-use Rattle.edit_options.specs.declared.editing.EditView.{EditView}
-use Rattle.edit_options.specs.declared.editing.EditView.TheVariants.{Transcript, Play, Log, Reports}
-use Rattle.edit_options.specs.declared.editing.EditView.TheVariants.{FinalState}
-use Rattle.replay_marks.specs.Spacing.{IsSpaced}
-use Rattle.log_replay.specs.LogText.{log_text}
-use Rattle.log_edits.specs.Game.{Game, game_of}
-use Rattle.log_edits.specs.declared.fault.EditFault.{EditFault}
-use Rattle.log_edits.specs.declared.fault.EditFault.TheVariants.{NoSuchPlace, BadLine, LogFull}
-use Rattle.log_edits.specs.declared.fault.EditFault.TheVariants.{BadSeed, MeterFull, Memory}
-use Rattle.log_edits.specs.declared.fault.EditFault.TheVariants.{EmptyGroup}
-use Rattle.edit_scripts.specs.Item.{Applied, line_of_refusal}
-use Rattle.edit_scripts.specs.Script.{IsScript}
+use Rattle.data_bindings.specs.cave_data.CaveView.{CaveView}
+use Rattle.data_bindings.specs.cave_data.Reads.{Reads}
+use Rattle.play_command.specs.play_options.declared.editing.Editing.{Editing}
+use Rattle.play_command.specs.play_options.declared.editing.EditView.{EditView}
+use Rattle.play_command.specs.play_options.declared.editing.EditView.TheVariants.{Transcript, Play}
+use Rattle.play_command.specs.play_options.declared.editing.EditView.TheVariants.{Log, Reports}
+use Rattle.play_command.specs.play_options.declared.editing.EditView.TheVariants.{FinalState}
+use Rattle.world_packed.specs.replay_marks.Spacing.{IsSpaced}
+use Rattle.cave_replay.specs.LogText.{log_text}
+use Rattle.cave_replay.specs.replay_edits.Game.{Game, game_of}
+use Rattle.cave_replay.specs.replay_edits.declared.fault.EditFault.{EditFault}
+use Rattle.cave_replay.specs.replay_edits.declared.fault.EditFault.TheVariants.{NoSuchPlace}
+use Rattle.cave_replay.specs.replay_edits.declared.fault.EditFault.TheVariants.{BadLine, LogFull}
+use Rattle.cave_replay.specs.replay_edits.declared.fault.EditFault.TheVariants.{BadSeed, MeterFull}
+use Rattle.cave_replay.specs.replay_edits.declared.fault.EditFault.TheVariants.{Memory, EmptyGroup}
+use Rattle.replay_scripts.specs.Item.{Applied, line_of_refusal}
+use Rattle.replay_scripts.specs.Script.{IsScript}
 use Rattle.cave_play.specs.FinalState.{final_state_text}
 use Rattle.cave_play.specs.Outcome.{AreOutcomes, lines_in, played_in}
 use Rattle.cave_play.specs.Output.{edit_text, game_after_items, play_text, refusal_number}
 use Rattle.cave_play.specs.declared.outcome.Standing.{Standing}
-use Rattle.cave_world.specs.declared.ending.Ending.{Ending}
-use Rattle.cave_world.specs.declared.ending.Ending.TheVariants.{Quit, Killed, Klutz, WrongWay}
-use Rattle.cave_world.specs.declared.ending.Ending.TheVariants.{Success}
+use Rattle.world_packed.specs.cave_world.declared.ending.Ending.{Ending}
+use Rattle.world_packed.specs.cave_world.declared.ending.Ending.TheVariants.{Quit, Killed, Klutz}
+use Rattle.world_packed.specs.cave_world.declared.ending.Ending.TheVariants.{WrongWay, Success}
 use Rattle.cave_play.specs.declared.outcome.ItemOutcome.{ItemOutcome}
 use Rattle.cave_play.specs.declared.outcome.ItemOutcome.TheVariants.{Refused, Replayed}
 
@@ -80,9 +82,8 @@ account item (Refused fault) =
     ++ (decimal (refusal_number fault.cause)
     ++ (codes ", " ++ (refusal_words fault.cause ++ codes "\n")))))
 account item (Replayed replay) =
-    let stretch = replay.stretch in
-    codes "line " ++ (decimal item.line ++ (codes ": ok, from " ++ (decimal stretch.from
-    ++ (codes ", met " ++ (met_text stretch.met ++ (codes ", played " ++ (decimal stretch.played
+    codes "line " ++ (decimal item.line ++ (codes ": ok, from " ++ (decimal replay.from
+    ++ (codes ", met " ++ (met_text replay.met ++ (codes ", played " ++ (decimal replay.played
     ++ (codes " of " ++ (decimal replay.lines ++ (standing_text replay.standing
     ++ codes "\n"))))))))))
 

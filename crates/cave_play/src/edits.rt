@@ -1,24 +1,31 @@
 //! Applying a script to a session, with what comes of each of its items.
 
-ghost use Rattle.std.specs.Prelude.{◌≡◌, ◌+◌, ◌++◌, ◌<◌, ◌≤◌, ◌^◌, length, IfOk};
-ghost use Rattle.std.specs.Prelude.{IfErr, IsTrue, MatchResult, None, OnOk, Some, ◌⊎◌, ◌↔◌};
-ghost use Rattle.replay_marks.specs.Spacing.{IsSpaced};
-ghost use Rattle.edit_scripts.specs.Views.{applied_item, items_of};
-ghost use Rattle.cave_play.specs.Edits.{Applies, HoldsGame, IsApplied, text_of_item};
+ghost use Rattle.std.specs.Prelude.{◌≡◌, ℕ, ◌+◌, ◌++◌, ◌<◌, ◌≤◌, ◌^◌, List, [], ◌∷◌, length, IfErr};
+ghost use Rattle.std.specs.Prelude.{IfOk, IsTrue, MatchResult, None, OnOk, Some, ◌⊎◌, ◌↔◌};
+ghost use Rattle.world_packed.specs.replay_marks.Spacing.{IsSpaced};
+ghost use Rattle.replay_scripts.specs.Views.{applied_item, items_of};
+ghost use Rattle.cave_play.specs.Edits.{Applies, HoldsGame, IsApplied, ReadsBack, text_at_end};
+ghost use Rattle.cave_play.specs.Edits.{text_of_item};
+ghost use Rattle.cave_play.specs.Input.{Says};
 ghost use Rattle.cave_play.specs.Outcome.{lines_in, played_in, refusal_in, standing_of};
 ghost use Rattle.cave_play.specs.Output.{game_after_items};
+ghost use Rattle.cave_play.specs.Run.{Judges};
+ghost use Rattle.cave_play.specs.Stages.{script_stage, strict_stage};
 ghost use Rattle.cave_play.specs.Strict.{first_strict_fault, strict_fault, strict_fault_by};
+ghost use Rattle.cave_play.specs.Views.{IsEditOf};
 
 use crate::fault::{PlayFault, Refusal, ScriptFault};
+use crate::final_state::push_final_state;
+use crate::judge::read_script;
 use crate::machine::CaveMachine;
 use crate::outcome::{ItemOutcome, ItemReplay, Standing};
-use crate::reports::push_outcome;
-use edit_options::Editing;
-use edit_scripts::{Item, Script};
-use log_edits::EditFault;
-use log_lines::Meter;
-use log_replay::{GroupReport, Session};
-use std::alloc::Global;
+use crate::reports::{push_outcome, push_totals};
+use crate::transcript::push_play;
+use cave_replay::{EditFault, GroupReport, Session};
+use play_command::{EditView, Editing, Meter};
+use replay_scripts::{Item, Script};
+use std::alloc::{AllocError, Global};
+use std::io::Read;
 
 /// How many lines were played for items, and how many lines the logs had that they left.
 #[derive(Clone, Copy, Debug, PartialEq, Eq)]
@@ -44,8 +51,28 @@ impl Totals {
     }
 }
 
+/// What is asked for of a script that is applied to a session of the machine.
+pub(crate) fn edit_session<S: Read>(
+    alloc: Global,
+    session: &mut Session<CaveMachine<'_>>,
+    script: &mut S,
+    editing: Editing,
+) -> Result<Vec<u8>, PlayFault>
+    requires { IsSpaced session.old.every session.old.checkpoints (length session.old.game.log) }
+    ensures judged { (edits : List ℕ) × Says (S.remaining script.old) edits
+        × Judges (script_stage edits ∷ strict_stage editing.strict session.old.game edits ∷ [])
+        (λ text. IsEditOf editing.view session.old.machine.rules.cave.now session.old.every
+        session.old.game edits text.items) result }
+{
+    let script = read_script(alloc, script)?;
+    let mut text = Vec::new(alloc);
+    let totals = apply(alloc, session, &script, editing, &mut text)?;
+    push_end(alloc, session, editing.view, totals, &mut text)?;
+    Ok(text)
+}
+
 /// Applies the items of a script to the held game, and writes of each what is asked for.
-pub(crate) fn apply(
+fn apply(
     alloc: Global,
     session: &mut Session<CaveMachine<'_>>,
     script: &Script,
@@ -98,7 +125,9 @@ fn standing_of(session: &Session<CaveMachine<'_>>) -> Standing
 /// What a report says of a replay, with the lines of the log that the session then holds, and where
 /// the game is after them.
 fn replay_of(session: &Session<CaveMachine<'_>>, report: &GroupReport) -> ItemReplay
-    ensures stretch { result.stretch ≡ report.now.stretch }
+    ensures from { result.from ≡ report.now.from }
+    ensures met { result.met ≡ report.now.met }
+    ensures played { result.played ≡ report.now.played }
     ensures lines { result.lines ≡ length session.now.game.log }
     ensures standing { result.standing
         ≡ standing_of session.now.machine.rules.cave.now session.now.game }
@@ -106,7 +135,9 @@ fn replay_of(session: &Session<CaveMachine<'_>>, report: &GroupReport) -> ItemRe
         (length session.now.game.log) }
 {
     ItemReplay {
-        stretch: report.stretch,
+        from: report.from,
+        met: report.met,
+        played: report.played,
         lines: session.lines(),
         standing: standing_of(session),
     }
@@ -165,4 +196,25 @@ fn apply_item(
     check_strict(editing.strict, item, outcome)?;
     push_outcome(alloc, text, item, editing.view, outcome)?;
     Ok(outcome)
+}
+
+/// Appends what is written after all items of a script.
+fn push_end(
+    alloc: Global,
+    session: &Session<CaveMachine<'_>>,
+    view: EditView,
+    totals: Totals,
+    text: &mut Vec<u8>,
+) -> Result<(), AllocError>
+    ensures told { OnOk result (text.new.items ≡ text.old.items
+        ++ text_at_end view session.now.machine.rules.cave.now session.now.game totals.played
+        totals.lines) }
+    ensures reads_back { OnOk result (ReadsBack view session.now.game.log) }
+{
+    match view {
+        EditView::Transcript | EditView::Play => push_play(alloc, session, text),
+        EditView::Log => session.push_log(text),
+        EditView::Reports => push_totals(alloc, text, totals),
+        EditView::FinalState => push_final_state(alloc, session, text),
+    }
 }

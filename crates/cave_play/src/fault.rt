@@ -5,10 +5,10 @@ ghost use Rattle.cave_play.specs.declared.fault.PlayFault.TheVariants.{Memory};
 ghost use Rattle.cave_play.specs.Fault.{status_of, input_of, faulty_line};
 
 use crate::refusal::{refusal_number, refusal_words};
-use cave_rows::{CaveError, Expected, FaultSite};
-use edit_scripts::Flaw;
-use log_edits::EditFault;
-use log_lines::LineFlaw;
+use cave_replay::EditFault;
+use data_bindings::{CaveError, Expected, FaultSite};
+use play_command::LineFlaw;
+use replay_scripts::Flaw;
 use std::alloc::AllocError;
 use std::{fmt, io};
 use thiserror::Error;

@@ -4,11 +4,11 @@ ghost use Rattle.std.specs.Prelude.{◌≡◌, ◌++◌, OnOk};
 ghost use Rattle.cave_play.specs.FinalState.{final_state_text};
 
 use crate::machine::CaveMachine;
-use cave_begin::begun_state;
-use cave_state_text::{Counts, push_state};
-use cave_words::Stream;
-use log_replay::Session;
+use cave_replay::Session;
+use cave_turn::begun_state;
+use play_state_text::{Counts, push_state};
 use std::alloc::{AllocError, Global};
+use world_packed::Stream;
 
 /// Appends the text of the state that the play of a session of the machine leads to.
 pub(crate) fn push_final_state(

@@ -1,12 +1,12 @@
 //! Reading an input to its end, within a limit.
 
-ghost use Rattle.std.specs.Prelude.{◌≡◌, ℕ, ◌<◌, ◌≤◌, List, length, true, false, IfOk};
-ghost use Rattle.std.specs.Prelude.{IfErr, MatchResult, vec_len};
-ghost use Rattle.limits.specs.Limits.{max_input_bytes};
+ghost use Rattle.std.specs.Prelude.{◌≡◌, ℕ, ◌<◌, ◌≤◌, List, length, true, false, IfOk, IfErr};
+ghost use Rattle.std.specs.Prelude.{MatchResult, vec_len};
+ghost use Rattle.play_command.specs.base_limits.Limits as defined;
 ghost use Rattle.cave_play.specs.declared.input.InputFault.TheVariants.{Memory};
 ghost use Rattle.cave_play.specs.Input.{Says, IsInputFault, Gives, Exceeds};
 
-use limits::MAX_INPUT_BYTES;
+use play_command::MAX_INPUT_BYTES;
 use std::alloc::{AllocError, Global};
 use std::io::Read;
 use thiserror::Error;
@@ -40,7 +40,7 @@ impl From<AllocError> for InputFault {
 pub fn read_input<R: Read>(alloc: Global, reader: &mut R) -> Result<Vec<u8>, InputFault>
     ensures read { (bytes : List ℕ) × Says (R.remaining reader.old) bytes
         × MatchResult result
-        (λ input. (input.items ≡ bytes) × (length bytes ≤ max_input_bytes))
+        (λ input. (input.items ≡ bytes) × (length bytes ≤ defined.MAX_INPUT_BYTES))
         (IsInputFault bytes) }
 {
     let Ok(mut piece) = zeros(alloc, PIECE_BYTES) else {
@@ -70,10 +70,10 @@ fn read_more<R: Read>(
     input: &mut Vec<u8>,
 ) -> Result<bool, InputFault>
     requires room { 0 < length piece.old }
-    requires within { vec_len input.old ≤ max_input_bytes }
+    requires within { vec_len input.old ≤ defined.MAX_INPUT_BYTES }
     ensures given { IfOk result
         (Gives (R.remaining reader.old) (R.remaining reader.new) input.old.items input.new.items) }
-    ensures within { IfOk result (λ _. vec_len input.new ≤ max_input_bytes) }
+    ensures within { IfOk result (λ _. vec_len input.new ≤ defined.MAX_INPUT_BYTES) }
     ensures over { IfErr result
         (Exceeds (R.remaining reader.old) (R.remaining reader.new) input.old.items) }
 {

@@ -3,29 +3,27 @@
 ghost use Rattle.std.specs.Prelude.{◌≡◌, ℕ, ◌^◌, ◌<◌, List, [], ◌∷◌, None, Some, Ok, IfOk};
 ghost use Rattle.std.specs.Prelude.{MatchResult, length};
 ghost use Rattle.std.specs.Str.Lines.{lines};
-ghost use Rattle.replay_marks.specs.Spacing.{IsSpaced};
-ghost use Rattle.cave_data.specs.Reads.{Reads};
-ghost use Rattle.log_edits.specs.Game.{game_of};
-ghost use Rattle.edit_scripts.specs.Script.{IsScript, script_of};
-ghost use Rattle.edit_scripts.specs.Views.{items_of};
+ghost use Rattle.world_packed.specs.replay_marks.Spacing.{IsSpaced};
+ghost use Rattle.data_bindings.specs.cave_data.Reads.{Reads};
+ghost use Rattle.cave_replay.specs.replay_edits.Game.{game_of};
+ghost use Rattle.replay_scripts.specs.Script.{IsScript, script_of};
+ghost use Rattle.replay_scripts.specs.Views.{items_of};
 ghost use Rattle.cave_play.specs.Input.{Says};
-ghost use Rattle.cave_play.specs.Judge.{large_seed, every_fault, lines_fault};
-ghost use Rattle.cave_play.specs.Judge.{script_refusal, opening_fault};
+ghost use Rattle.cave_play.specs.Judge.{large_seed, every_fault, lines_fault, script_refusal};
+ghost use Rattle.cave_play.specs.Judge.{opening_fault};
 ghost use Rattle.cave_play.specs.Edits.{HoldsGame};
 ghost use Rattle.cave_play.specs.Run.{Judges};
 ghost use Rattle.cave_play.specs.Stage.{judging_stage};
 ghost use Rattle.cave_play.specs.Stages.{cave_stages, log_stage, script_stage};
 
-use crate::bindings::CaveReaders;
 use crate::fault::{Input, LogFault, PlayFault, ScriptFault};
+use crate::inputs::CaveReaders;
 use crate::machine::CaveMachine;
 use crate::read::read;
-use cave_data::Cave;
-use cave_rows::Cause;
-use edit_scripts::{Script, ScriptRefusal};
-use limits::{is_bad_every, is_large_seed};
-use log_lines::Meter;
-use log_replay::{OpenFault, Session};
+use cave_replay::{OpenFault, Session};
+use data_bindings::{Cause, Cave};
+use play_command::{Meter, is_bad_every, is_large_seed};
+use replay_scripts::{Script, ScriptRefusal};
 use std::alloc::Global;
 use std::io::Read;
 
@@ -84,7 +82,7 @@ fn opening_fault(fault: OpenFault) -> PlayFault
 }
 
 /// Plays a log in a cave.
-fn open_log<'a>(
+fn open_session<'a>(
     alloc: Global,
     machine: CaveMachine<'a>,
     log: &[u8],
@@ -107,7 +105,7 @@ fn open_log<'a>(
 }
 
 /// Reads a log and plays it in a cave.
-pub fn read_log<'a, L: Read>(
+pub fn play_log<'a, L: Read>(
     alloc: Global,
     machine: CaveMachine<'a>,
     log: &mut L,
@@ -124,7 +122,7 @@ pub fn read_log<'a, L: Read>(
         IsSpaced session.every session.checkpoints (length session.game.log)) }
 {
     let log = read(alloc, Input::Log, log)?;
-    open_log(alloc, machine, &log, seed, every)
+    open_session(alloc, machine, &log, seed, every)
 }
 
 /// Reads a script.

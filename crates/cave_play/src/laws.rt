@@ -14,7 +14,7 @@ pub fn caves_are_judged_whole()
     ensures { CavesAreJudgedWhole }
 {}
 
-/// No item of a script is refused for a full meter or for want of memory.
+/// No item of a script is refused for a full meter or for lack of memory.
 pub fn refusals_are_of_changes()
     ensures { RefusalsAreOfChanges }
 {}

@@ -1,11 +1,11 @@
 //! Runs of the program: from the bytes of its inputs to the bytes of its output.
 #![tactic(auto)]
 
-pub mod bindings;
 mod edits;
 pub mod fault;
 mod final_state;
 pub mod input;
+pub mod inputs;
 pub mod judge;
 pub mod laws;
 pub mod machine;
@@ -17,3 +17,20 @@ mod refusal;
 mod reports;
 pub mod run;
 mod transcript;
+mod views;
+
+pub use cave_replay::{Edit, EditFault, LineText, Machine, OpenFault, Report, Session};
+pub use cave_turn::render;
+pub use data_bindings::{Cause, Cave, CaveError, FaultSite, ROLE_NAMES, Role, first_line};
+pub use fault::{Complaint, Input, LogFault, PlayFault, Refusal, ScriptFault, Unopened};
+pub use inputs::{CaveReaders, InputReader, Inputs};
+pub use machine::CaveMachine;
+pub use piece::Piece;
+pub use play_command::{
+    CheckView, CommandFault, CoverView, EditView, Editing, Files, Line, LineFlaw, MAX_EVERY,
+    MAX_INPUT_BYTES, Meter, PlayView, Steps, command_line,
+};
+pub use play_state_text::{Counts, push_state};
+pub use replay_scripts::Flaw;
+pub use run::{run_check, run_edit, run_play};
+pub use world_packed::{Lexicon, Object, Part};

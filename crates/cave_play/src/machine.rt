@@ -1,24 +1,19 @@
 //! The machine of a cave.
 
 ghost use Rattle.std.specs.Prelude.{◌≡◌, IfOk};
-ghost use Rattle.cave_words.specs.Lexicon.{IsLexiconOf};
-ghost use Rattle.cave_world.specs.Equality.{state_equality};
-ghost use Rattle.cave_scene.specs.Rules.{cave_of};
-ghost use Rattle.cave_score.specs.Score.{score_of, max_score_of};
+ghost use Rattle.world_packed.specs.cave_words.Lexicon.{IsLexiconOf};
+ghost use Rattle.world_packed.specs.cave_world.Equality.{state_equality};
+ghost use Rattle.cave_turn.specs.turn_scene.Rules.{cave_of};
+ghost use Rattle.cave_turn.specs.turn_score.Score.{score_of, max_score_of};
 ghost use Rattle.cave_play.specs.Machine.{cave_rules};
 
 use crate::piece::Piece;
-use cave_data::Cave;
-use cave_kept::PackedState;
-use cave_scene::Rules;
-use cave_score::max_score;
-use cave_score::score::score;
-use cave_turn::{start, take_line};
-use cave_words::Lexicon;
-use cave_world::{Out, Part, State};
-use log_lines::Meter;
-use log_replay::{Machine, Started, Stepped};
+use cave_replay::{Machine, Started, Stepped};
+use cave_turn::{Rules, max_score, score, start, take_line};
+use data_bindings::Cave;
+use play_command::Meter;
 use std::alloc::{AllocError, Global};
+use world_packed::{Lexicon, Out, PackedState, Part, State};
 
 /// What plays a log in a cave, with the words of that cave.
 #[derive(Clone, Copy)]
@@ -68,8 +63,8 @@ fn keep(alloc: Global, parts: &[Part]) -> Result<Piece, AllocError>
 
 impl<'a> Machine for CaveMachine<'a> {
     ghost use Rattle.std.specs.Prelude.{List};
-    ghost use Rattle.cave_world.specs.declared.part.Part.{Part};
-    ghost use Rattle.cave_world.specs.declared.state.State.{State};
+    ghost use Rattle.world_packed.specs.cave_world.declared.part.Part.{Part};
+    ghost use Rattle.world_packed.specs.cave_world.declared.state.State.{State};
 
     type State = State;
 

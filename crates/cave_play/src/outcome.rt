@@ -3,9 +3,8 @@
 ghost use Rattle.std.specs.Prelude.{◌≡◌};
 ghost use Rattle.cave_play.specs.Outcome.{lines_in, played_in, refusal_in};
 
-use cave_world::Ending;
-use log_edits::GroupFault;
-use log_replay::Stretch;
+use cave_replay::GroupFault;
+use world_packed::Ending;
 
 /// Where a game is after its last line.
 #[derive(Clone, Copy, Debug, PartialEq, Eq)]
@@ -23,7 +22,12 @@ pub struct Standing {
 /// How far the replay of an accepted item went, and where the game is then.
 #[derive(Clone, Copy, Debug, PartialEq, Eq)]
 pub struct ItemReplay {
-    pub stretch: Stretch,
+    /// The place that the replay began at.
+    pub from: u32,
+    /// The place at which the replay met the old play, if it did.
+    pub met: Option<u32>,
+    /// How many lines were played.
+    pub played: u32,
     /// How many lines the edited log has.
     pub lines: u32,
     pub standing: Standing,
@@ -53,7 +57,7 @@ impl ItemOutcome {
     {
         match self {
             ItemOutcome::Refused(_) => 0,
-            ItemOutcome::Replayed(replay) => replay.stretch.played,
+            ItemOutcome::Replayed(replay) => replay.played,
         }
     }
 

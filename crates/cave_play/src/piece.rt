@@ -2,10 +2,10 @@
 
 ghost use Rattle.std.specs.Prelude.{◌≡◌, ◌≤◌, length, IsOk, IfOk};
 
-use cave_world::Part;
 use std::alloc::{AllocError, Global};
 use std::marker::Model;
 use std::ops::DerefSlice;
+use world_packed::Part;
 
 /// Where the parts of a piece lie.
 #[derive(Drop)]

@@ -1,14 +1,14 @@
 //! Reading the inputs of a run.
 
 ghost use Rattle.std.specs.Prelude.{◌≡◌, ℕ, ◌≤◌, ◌<◌, ◌⊎◌, List, length, Some, MatchResult};
-ghost use Rattle.limits.specs.Limits.{max_input_bytes};
+ghost use Rattle.play_command.specs.base_limits.Limits.{MAX_INPUT_BYTES};
 ghost use Rattle.cave_play.specs.Input.{Says};
 ghost use Rattle.cave_play.specs.Judge.{too_large};
 ghost use Rattle.cave_play.specs.Stage.{IsOutsideOf};
 
 use crate::fault::{Input, LogFault, PlayFault, ScriptFault};
 use crate::input::{InputFault, read_input};
-use cave_rows::{Cause, CaveError, FaultSite};
+use data_bindings::{Cause, CaveError, FaultSite};
 use std::alloc::Global;
 use std::io::Read;
 
@@ -16,9 +16,9 @@ use std::io::Read;
 pub fn read<R: Read>(alloc: Global, input: Input, reader: &mut R) -> Result<Vec<u8>, PlayFault>
     ensures read { (bytes : List ℕ) × Says (R.remaining reader.old) bytes
         × MatchResult result
-        (λ text. (text.items ≡ bytes) × (length bytes ≤ max_input_bytes))
+        (λ text. (text.items ≡ bytes) × (length bytes ≤ MAX_INPUT_BYTES))
         (λ found. IsOutsideOf (Some input) found
-        ⊎ ((max_input_bytes < length bytes) × (found ≡ too_large input))) }
+        ⊎ ((MAX_INPUT_BYTES < length bytes) × (found ≡ too_large input))) }
 {
     match read_input(alloc, reader) {
         Ok(text) => Ok(text),

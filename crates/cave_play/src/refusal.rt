@@ -4,7 +4,7 @@ ghost use Rattle.std.specs.Prelude.{◌≡◌};
 ghost use Rattle.cave_play.specs.Output.{refusal_number};
 ghost use Rattle.cave_play.specs.Views.{refusal_words};
 
-use log_edits::EditFault;
+use cave_replay::EditFault;
 
 /// The number by which a report names a refusal.
 pub(crate) fn refusal_number(fault: EditFault) -> u8

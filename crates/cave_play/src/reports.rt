@@ -1,7 +1,7 @@
 //! What is written of the items of a script.
 
 ghost use Rattle.std.specs.Prelude.{◌≡◌, ◌++◌, IfOk, OnOk, string_bytes};
-ghost use Rattle.edit_scripts.specs.Views.{applied_item};
+ghost use Rattle.replay_scripts.specs.Views.{applied_item};
 ghost use Rattle.cave_play.specs.Edits.{text_of_item};
 ghost use Rattle.cave_play.specs.Output.{report_by};
 ghost use Rattle.cave_play.specs.Views.{account, ending_text, ending_words, met_text};
@@ -11,12 +11,11 @@ ghost use Rattle.cave_play.specs.declared.outcome.ItemOutcome.TheVariants.{Repla
 use crate::edits::Totals;
 use crate::outcome::{ItemOutcome, ItemReplay, Standing};
 use crate::refusal::{refusal_number, refusal_words};
-use cave_world::Ending;
-use edit_options::EditView;
-use edit_scripts::Item;
-use log_edits::GroupFault;
-use log_replay::Stretch;
+use cave_replay::GroupFault;
+use play_command::EditView;
+use replay_scripts::Item;
 use std::alloc::{AllocError, Global};
+use world_packed::Ending;
 
 /// Writes of an item what is asked for.
 pub(crate) fn push_outcome(
@@ -131,7 +130,9 @@ fn account_text(alloc: Global, item: &Item, replay: ItemReplay) -> Result<String
 {
     let line = item.line;
     let ItemReplay {
-        stretch: Stretch { from, met, played },
+        from,
+        met,
+        played,
         lines,
         standing,
     } = replay;

@@ -1,18 +1,18 @@
 //! The transcript of a play.
 
 ghost use Rattle.std.specs.Prelude.{◌≡◌, ◌++◌, OnOk};
-ghost use Rattle.log_lines.specs.LogLine.{log_line};
+ghost use Rattle.play_command.specs.base_lines.LogLine.{log_line};
 ghost use Rattle.cave_play.specs.Machine.{rendering_of};
 ghost use Rattle.cave_play.specs.Transcript.{echo, is_shown, last_line, shown_line};
 ghost use Rattle.cave_play.specs.Output.{cave_line, play_text};
 
 use crate::machine::CaveMachine;
-use cave_data::Cave;
-use cave_text::render;
-use cave_world::Part;
-use log_lines::is_skipped;
-use log_replay::Session;
+use cave_replay::Session;
+use cave_turn::render;
+use data_bindings::Cave;
+use play_command::is_skipped;
 use std::alloc::{AllocError, Global};
+use world_packed::Part;
 
 /// How many bytes a line of a log and what is said at it take in many transcripts.
 const USUAL_LINE: usize = 64;

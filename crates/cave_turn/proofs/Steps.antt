@@ -1,8 +1,8 @@
 -- One object more falls.
 use Rattle.std.proofs.Common.{◌≡◌, ℕ, zero, suc, ◌-◌, ◌<◌, refl, arith}
-use Rattle.cave_data.specs.CaveView.{CaveView}
+use Rattle.turn_text.specs.cave_data.CaveView.{CaveView}
 use Rattle.cave_turn.specs.Revival.{layout_after_fall, layout_after_falls}
-use Rattle.cave_objects.specs.Layout.{Layout}
+use Rattle.turn_text.specs.world_objects.Layout.{Layout}
 
 -- of the objects up to a number the last one falls first
 pub falling-one : (cave : CaveView) (place n : ℕ) (o : Layout) → 0 < n

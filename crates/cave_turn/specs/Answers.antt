@@ -1,24 +1,24 @@
 -- What an answer to an open question does.
 use Rattle.std.specs.Prelude.{ℕ, pos, Bool, true, false, ◌||◌, not, if◌then◌else◌, List, Option}
 use Rattle.std.specs.Prelude.{Some, None, codes}
-use Rattle.cave_data.specs.CaveView.{CaveView}
-use Rattle.cave_rows.specs.declared.role.Role.TheVariants as role
-use Rattle.cave_moves.specs.Arrival.{arrival_scene}
-use Rattle.cave_scene.specs.Play.{Scene, scene_at_start, after_saying, with_state}
-use Rattle.cave_things.specs.Places.{start_place}
-use Rattle.cave_words.specs.Word.{is_written}
-use Rattle.cave_words.specs.Words.{words_of}
-use Rattle.cave_world.specs.State.{CLUE_HINT, INSTRUCTIONS_HINT, with_hint_taken}
-use Rattle.cave_world.specs.declared.ending.Ending.TheVariants as ending_is
-use Rattle.cave_world.specs.declared.ending.Question.{Question}
-use Rattle.cave_world.specs.declared.ending.Question.TheVariants as question
-use Rattle.cave_world.specs.declared.state.State.{State}
-use Rattle.cave_turn.specs.Dragon.{fight_scene}
-use Rattle.cave_ends.specs.Endings.{ending_scene}
-use Rattle.cave_ends.specs.Questions.{after_question}
+use Rattle.turn_text.specs.cave_data.CaveView.{CaveView}
+use Rattle.turn_text.specs.data_rows.declared.role.Role.TheVariants as role
+use Rattle.turn_moves.specs.Arrival.{after_arrival}
+use Rattle.turn_begin.specs.turn_scene.Scene.{Scene, scene_at_start, after_saying, with_state}
+use Rattle.turn_begin.specs.turn_things.Places.{start_place}
+use Rattle.turn_text.specs.cave_words.Word.{is_written}
+use Rattle.turn_text.specs.cave_words.Words.{words_of}
+use Rattle.turn_text.specs.cave_world.State.{CLUE_HINT, INSTRUCTIONS_HINT, with_hint_taken}
+use Rattle.turn_text.specs.cave_world.declared.ending.Ending.TheVariants as ending_is
+use Rattle.turn_text.specs.cave_world.declared.ending.Question.{Question}
+use Rattle.turn_text.specs.cave_world.declared.ending.Question.TheVariants as question
+use Rattle.turn_text.specs.cave_world.declared.state.State.{State}
+use Rattle.cave_turn.specs.Dragon.{after_fight}
+use Rattle.turn_moves.specs.turn_ends.Endings.{after_end}
+use Rattle.turn_moves.specs.turn_ends.Questions.{after_question}
 use Rattle.cave_turn.specs.Finish.{end_of_turn}
-use Rattle.cave_hints.specs.Hints.{price_scene, hint_scene}
-use Rattle.cave_turn.specs.Revival.{return_scene, burial_scene}
+use Rattle.turn_hints.specs.Hints.{price_scene, hint_scene}
+use Rattle.cave_turn.specs.Revival.{after_come_back, after_bury}
 use Rattle.cave_turn.specs.declared.answers.Answer.{Answer}
 use Rattle.cave_turn.specs.declared.answers.Answer.TheVariants.{Yes, No, Neither}
 
@@ -47,40 +47,40 @@ after_instructions s =
     record t { lamp = record lamp { charge = pos 1000 } }
 
 -- the game begins at its first place
-unfoldable pub entrance_scene : CaveView → Scene → Scene
-entrance_scene cave p = arrival_scene cave (start_place cave) p
+unfoldable pub after_enter : CaveView → Scene → Scene
+after_enter cave p = after_arrival cave (start_place cave) p
 
-abbrev pub quit_scene : CaveView → Scene → Scene
-quit_scene cave p = ending_scene cave ending_is.Quit (after_saying role.Ok p)
+abbrev pub after_quit : CaveView → Scene → Scene
+after_quit cave p = after_end cave ending_is.Quit (after_saying role.Ok p)
 
 -- yes
-abbrev pub yes_scene : CaveView → Question → Scene → Scene
-yes_scene cave question.Welcome p =
-    entrance_scene cave (with_state (after_instructions p.state) (after_saying role.Instructions p))
-yes_scene cave question.Quit p = quit_scene cave p
-yes_scene cave question.ScoreQuit p = quit_scene cave p
-yes_scene cave question.Die p = return_scene cave p
-yes_scene cave (question.Hint h) p = price_scene cave h p
-yes_scene cave (question.Take h) p = hint_scene cave h p
-yes_scene cave question.Oyster p =
+abbrev pub after_yes : CaveView → Question → Scene → Scene
+after_yes cave question.Welcome p =
+    after_enter cave (with_state (after_instructions p.state) (after_saying role.Instructions p))
+after_yes cave question.Quit p = after_quit cave p
+after_yes cave question.ScoreQuit p = after_quit cave p
+after_yes cave question.Die p = after_come_back cave p
+after_yes cave (question.Hint h) p = price_scene cave h p
+after_yes cave (question.Take h) p = hint_scene cave h p
+after_yes cave question.Oyster p =
     with_state (with_hint_taken CLUE_HINT p.state) (after_saying role.OysterHint p)
-yes_scene cave question.Dragon p = fight_scene cave p
+after_yes cave question.Dragon p = after_fight cave p
 
 -- no; a player who doesn't fight the dragon commands something else
-abbrev pub no_scene : CaveView → Question → Scene → Scene
-no_scene cave question.Welcome p = entrance_scene cave p
-no_scene cave question.Quit p = after_saying role.Ok p
-no_scene cave question.ScoreQuit p = after_saying role.Ok p
-no_scene cave question.Die p = burial_scene cave p
-no_scene cave (question.Hint h) p = after_saying role.Ok p
-no_scene cave (question.Take h) p = after_saying role.Ok p
-no_scene cave question.Oyster p = after_saying role.Ok p
-no_scene cave question.Dragon p = p
+abbrev pub after_no : CaveView → Question → Scene → Scene
+after_no cave question.Welcome p = after_enter cave p
+after_no cave question.Quit p = after_saying role.Ok p
+after_no cave question.ScoreQuit p = after_saying role.Ok p
+after_no cave question.Die p = after_bury cave p
+after_no cave (question.Hint h) p = after_saying role.Ok p
+after_no cave (question.Take h) p = after_saying role.Ok p
+after_no cave question.Oyster p = after_saying role.Ok p
+after_no cave question.Dragon p = p
 
 -- what is neither leaves the question open, and its message is said again
 abbrev pub reply_scene : CaveView → Question → Answer → Scene → Scene
-reply_scene cave q Yes p = yes_scene cave q (with_state (without_question p.state) p)
-reply_scene cave q No p = no_scene cave q (with_state (without_question p.state) p)
+reply_scene cave q Yes p = after_yes cave q (with_state (without_question p.state) p)
+reply_scene cave q No p = after_no cave q (with_state (without_question p.state) p)
 reply_scene cave q Neither p = after_question cave q (after_saying role.Answer p)
 
 -- a hint that is offered, or its price
@@ -93,8 +93,8 @@ is_of_hint _ = false
 abbrev pub end_of_answer : CaveView → Question → Scene → Scene
 end_of_answer cave q p = if is_of_hint q then p else end_of_turn cave p
 
-unfoldable pub answer_scene : CaveView → Question → List ℕ → State → Scene
-answer_scene cave q line s =
+unfoldable pub after_answer : CaveView → Question → List ℕ → State → Scene
+after_answer cave q line s =
     end_of_answer cave q (reply_scene cave q (answer_in cave line) (scene_at_start false s))
 
 abbrev pub is_dragon : Question → Bool

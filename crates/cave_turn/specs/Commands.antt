@@ -1,40 +1,40 @@
 -- What a command does.
 use Rattle.std.specs.Prelude.{ℕ, pos, ◌-ℤ◌, Bool, ◌==◌, if◌then◌else◌, List, Option, Some, None}
 use Rattle.std.specs.Int.{int_min}
-use Rattle.cave_data.specs.CaveView.{CaveView}
-use Rattle.cave_rows.specs.declared.role.Role.{Role}
-use Rattle.cave_rows.specs.declared.role.Role.TheVariants as role
-use Rattle.cave_moves.specs.Arrival.{arrival_scene, description_anew}
-use Rattle.cave_moves.specs.Journeys.{journey_by_request}
-use Rattle.cave_scene.specs.Play.{Scene, scene_at_start, after_telling, after_saying, with_state}
-use Rattle.cave_scene.specs.Play.{after_draw}
-use Rattle.cave_scene.specs.Play.{happens}
-use Rattle.cave_scene.specs.Rules.{thing}
+use Rattle.turn_text.specs.cave_data.CaveView.{CaveView}
+use Rattle.turn_text.specs.data_rows.declared.role.Role.{Role}
+use Rattle.turn_text.specs.data_rows.declared.role.Role.TheVariants as role
+use Rattle.turn_moves.specs.Arrival.{after_arrival, description_anew}
+use Rattle.turn_moves.specs.Journeys.{journey_by_request}
+use Rattle.turn_begin.specs.turn_scene.Scene.{Scene, scene_at_start, after_telling, after_saying}
+use Rattle.turn_begin.specs.turn_scene.Scene.{with_state, after_draw, happens}
+use Rattle.turn_begin.specs.turn_scene.Rules.{thing}
 use Rattle.cave_verbs.specs.Acting.{act, next_of_step}
-use Rattle.cave_orders.specs.Deeds.{order_of}
-use Rattle.cave_orders.specs.Effects.{after_default}
-use Rattle.cave_orders.specs.Verbs.{verb_number, verb_of}
-use Rattle.cave_orders.specs.declared.next.Next.{Next}
-use Rattle.cave_orders.specs.declared.next.Next.TheVariants.{Stay, Keep, Describe, Arrive, Ask, End}
-use Rattle.cave_orders.specs.declared.order.Order.{Order}
-use Rattle.cave_orders.specs.declared.verb.Verb.{Verb}
-use Rattle.cave_words.specs.Words.{words_of}
-use Rattle.cave_words.specs.declared.named.Named.TheVariants as name
-use Rattle.cave_words.specs.declared.words.Words.{Words}
-use Rattle.cave_world.specs.Sight.{is_dark}
-use Rattle.cave_world.specs.declared.dwarves.Knife.{Knife}
-use Rattle.cave_world.specs.declared.dwarves.Knife.TheVariants as knife
-use Rattle.cave_world.specs.declared.state.State.{State}
-use Rattle.cave_clocks.specs.Clocks.{timing_of_clocks}
-use Rattle.cave_clocks.specs.declared.clocks.Clocks.{Clocks}
-use Rattle.cave_clocks.specs.declared.clocks.Clocks.TheVariants as clocks
-use Rattle.cave_ends.specs.Endings.{ending_scene}
-use Rattle.cave_ends.specs.Questions.{asking_scene}
+use Rattle.cave_verbs.specs.verb_commands.Deeds.{command_of}
+use Rattle.cave_verbs.specs.verb_commands.Effects.{after_default}
+use Rattle.cave_verbs.specs.verb_commands.Verbs.{verb_number, verb_of}
+use Rattle.cave_verbs.specs.verb_commands.declared.next.Next.{Next}
+use Rattle.cave_verbs.specs.verb_commands.declared.next.Next.TheVariants.{Stay, Keep, Describe}
+use Rattle.cave_verbs.specs.verb_commands.declared.next.Next.TheVariants.{Arrive, Ask, End}
+use Rattle.cave_verbs.specs.verb_commands.declared.command.Command.{Command}
+use Rattle.cave_verbs.specs.verb_commands.declared.verb.Verb.{Verb}
+use Rattle.turn_text.specs.cave_words.Words.{words_of}
+use Rattle.turn_text.specs.cave_words.declared.named.Named.TheVariants as name
+use Rattle.turn_text.specs.cave_words.declared.words.Words.{Words}
+use Rattle.turn_text.specs.cave_world.Sight.{dark}
+use Rattle.turn_text.specs.cave_world.declared.dwarves.Knife.{Knife}
+use Rattle.turn_text.specs.cave_world.declared.dwarves.Knife.TheVariants as knife
+use Rattle.turn_text.specs.cave_world.declared.state.State.{State}
+use Rattle.turn_clocks.specs.Clocks.{run_clocks}
+use Rattle.turn_clocks.specs.declared.clocks.Clocks.{Clocks}
+use Rattle.turn_clocks.specs.declared.clocks.Clocks.TheVariants as clocks
+use Rattle.turn_moves.specs.turn_ends.Endings.{after_end}
+use Rattle.turn_moves.specs.turn_ends.Questions.{after_ask}
 use Rattle.cave_turn.specs.Finish.{end_of_turn}
-use Rattle.cave_world.specs.declared.ending.Ending.TheVariants.{Quit}
+use Rattle.turn_text.specs.cave_world.declared.ending.Ending.TheVariants.{Quit}
 use Rattle.cave_turn.specs.Request.{read_words, half_command_of}
-use Rattle.cave_world.specs.declared.part.Part.TheVariants as part
-use Rattle.cave_world.specs.declared.part.WordLine.TheVariants as line
+use Rattle.turn_text.specs.cave_world.declared.part.Part.TheVariants as part
+use Rattle.turn_text.specs.cave_world.declared.part.WordLine.TheVariants as line
 use Rattle.cave_turn.specs.declared.request.HalfCommand.{HalfCommand}
 use Rattle.cave_turn.specs.declared.request.Request.{Request}
 use Rattle.cave_turn.specs.declared.request.Request.TheVariants.{Unknown, Motion, Tell, Knives, Act}
@@ -56,22 +56,22 @@ knife_here here (knife.At place) = if place == here then knife.At place else kni
 abbrev pub with_knife : Knife → State → State
 with_knife k s = let dwarves = s.dwarves in record s { dwarves = record dwarves { knife = k } }
 
-unfoldable pub after_beginning : State → State
-after_beginning s =
+unfoldable pub begin_command : State → State
+begin_command s =
     let t = with_magic_waiting s in with_knife (knife_here t.trail.here t.dwarves.knife) t
 
 -- the player travels by a motion
-unfoldable pub travel_scene : CaveView → ℕ → Scene → Scene
-travel_scene cave motion p =
-    let j = journey_by_request cave motion p in arrival_scene cave j.place j.scene
+unfoldable pub after_travel : CaveView → ℕ → Scene → Scene
+after_travel cave motion p =
+    let j = journey_by_request cave motion p in after_arrival cave j.place j.scene
 
 -- what is said of a word that the cave doesn't have, by two draws: the second decides first
 abbrev pub puzzlement : Bool → Bool → Role
 puzzlement first second =
     if second then role.NoWord3 else (if first then role.NoWord2 else role.NoWord)
 
-unfoldable pub puzzled_scene : Scene → Scene
-puzzled_scene p =
+unfoldable pub after_puzzle : Scene → Scene
+after_puzzle p =
     let once = after_draw p in let twice = after_draw once in
     after_saying (puzzlement (happens 20 p) (happens 20 once)) twice
 
@@ -84,9 +84,9 @@ abbrev pub next_scene : CaveView → Next → Scene → Scene
 next_scene cave Stay p = p
 next_scene cave Keep p = p
 next_scene cave Describe p = description_anew cave p
-next_scene cave (Arrive place) p = arrival_scene cave place p
-next_scene cave (Ask question) p = asking_scene cave question p
-next_scene cave (End how) p = ending_scene cave how p
+next_scene cave (Arrive place) p = after_arrival cave place p
+next_scene cave (Ask question) p = after_ask cave question p
+next_scene cave (End how) p = after_end cave how p
 
 -- what a line has done, and the half command that it leaves for the next one
 pub record WordsDone : Type 0 where
@@ -102,23 +102,23 @@ half_command_kept Keep v = Some (record { verb = Some v; object = 0 })
 half_command_kept _ v = None
 
 -- a verb is done by the first of its rows that fits, and then what follows
-unfoldable pub words_done_by_verb : CaveView → Order → Scene → WordsDone
-words_done_by_verb cave order p =
-    let a = act cave order p in
+unfoldable pub words_done_by_verb : CaveView → Command → Scene → WordsDone
+words_done_by_verb cave command p =
+    let a = act cave command p in
     let next = next_of_step a.step in
-    after_words (next_scene cave next a.scene) (half_command_kept next (verb_number order.verb))
+    after_words (next_scene cave next a.scene) (half_command_kept next (verb_number command.verb))
 
 -- an action that has rules is done by them; of another it is said what the cave says of it
 abbrev pub words_done_by_action : CaveView → Option Verb → ℕ → ℕ → List ℕ → Scene → WordsDone
 words_done_by_action cave (Some v) number x word p =
-    words_done_by_verb cave (order_of v x word) p
+    words_done_by_verb cave (command_of v x word) p
 words_done_by_action cave None number x word p = after_words (after_default cave number p) None
 
 -- what was read is done. After an unknown word, or where a verb is missing, the half command stays
 -- as it then is
 abbrev pub words_done_by_request : CaveView → HalfCommand → Request → Scene → WordsDone
-words_done_by_request cave half Unknown p = after_words (puzzled_scene p) (Some half)
-words_done_by_request cave half (Motion motion) p = after_words (travel_scene cave motion p) None
+words_done_by_request cave half Unknown p = after_words (after_puzzle p) (Some half)
+words_done_by_request cave half (Motion motion) p = after_words (after_travel cave motion p) None
 words_done_by_request cave half (Tell told) p = after_words (after_telling told p) None
 words_done_by_request cave half Knives p = after_words (after_vanished_knives p) None
 words_done_by_request cave half (Act number x word) p =
@@ -157,16 +157,16 @@ unread_scene p = kept_scene 0 (after_words p None)
 -- closed
 abbrev pub after_clocks : CaveView → Words → Clocks → Scene → Scene
 after_clocks cave words clocks.GoOn p = scene_of_words cave words p
-after_clocks cave words clocks.GaveUp p = unread_scene (ending_scene cave Quit p)
-after_clocks cave words (clocks.Closed place) p = unread_scene (arrival_scene cave place p)
+after_clocks cave words clocks.GaveUp p = unread_scene (after_end cave Quit p)
+after_clocks cave words (clocks.Closed place) p = unread_scene (after_arrival cave place p)
 
 unfoldable pub clocks_scene : CaveView → Words → Scene → Scene
-clocks_scene cave words p = let t = timing_of_clocks cave p in after_clocks cave words t.outcome
+clocks_scene cave words p = let t = run_clocks cave p in after_clocks cave words t.outcome
     t.scene
 
 -- a command begins, the clocks run, its words are done, and the turn ends
 unfoldable pub command_scene : CaveView → List ℕ → State → Scene
 command_scene cave line s =
-    let t = after_beginning s in
-    let p = scene_at_start (is_dark cave (thing cave name.Lamp) t) t in
+    let t = begin_command s in
+    let p = scene_at_start (dark cave (thing cave name.Lamp) t) t in
     end_of_turn cave (clocks_scene cave (words_of cave.letters line) p)

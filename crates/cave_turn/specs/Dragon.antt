@@ -1,18 +1,19 @@
 -- The dragon that is fought with bare hands.
-use Rattle.std.specs.Prelude.{ℕ, pos, zero, suc, ◌+◌, ◌/◌, Bool, ◌==◌, ◌&&◌, ◌||◌, not}
-use Rattle.std.specs.Prelude.{if◌then◌else◌}
-use Rattle.cave_numbers.specs.Numbers.{last_object}
-use Rattle.cave_data.specs.CaveView.{CaveView}
-use Rattle.cave_moves.specs.Arrival.{arrival_scene}
-use Rattle.cave_scene.specs.Play.{Scene, after_look_at, with_state, scene_at_place}
-use Rattle.cave_things.specs.Effects.{with_objects}
-use Rattle.cave_things.specs.Homes.{home, second_home}
-use Rattle.cave_scene.specs.Rules.{thing}
-use Rattle.cave_words.specs.declared.named.Named.TheVariants as name
-use Rattle.cave_objects.specs.Layout.{Layout}
-use Rattle.cave_objects.specs.Objects.{with_place, with_anchor, with_prop, is_first_at}
-use Rattle.cave_objects.specs.declared.spot.Anchor.TheVariants as anchor
-use Rattle.cave_world.specs.declared.state.State.{State}
+use Rattle.std.specs.Prelude.{ℕ, zero, suc, ◌+◌, ◌/◌, Bool, ◌==◌, ◌&&◌, ◌||◌, not, if◌then◌else◌}
+use Rattle.turn_text.specs.data_numbers.Numbers.{LAST_OBJECT}
+use Rattle.turn_text.specs.cave_data.CaveView.{CaveView}
+use Rattle.turn_moves.specs.Arrival.{after_arrival}
+use Rattle.turn_begin.specs.turn_scene.Scene.{Scene, after_look_at, with_state, scene_at_place}
+use Rattle.turn_begin.specs.turn_things.Effects.{with_objects}
+use Rattle.turn_begin.specs.turn_things.Homes.{home, second_home}
+use Rattle.turn_begin.specs.turn_things.Props.{DRAGON_DEAD, DRAGON_DYING, RUG_FREE}
+use Rattle.turn_begin.specs.turn_scene.Rules.{thing}
+use Rattle.turn_text.specs.cave_words.declared.named.Named.TheVariants as name
+use Rattle.turn_text.specs.world_objects.Layout.{Layout}
+use Rattle.turn_text.specs.world_objects.Objects.{after_move_to, with_anchor, with_prop}
+use Rattle.turn_text.specs.world_objects.Objects.{is_first_at}
+use Rattle.turn_text.specs.world_objects.declared.spot.Anchor.TheVariants as anchor
+use Rattle.turn_text.specs.cave_world.declared.state.State.{State}
 
 -- between two places; where one is none, the other; where both are none, here
 abbrev pub between : ℕ → ℕ → ℕ → ℕ
@@ -37,24 +38,25 @@ unfoldable pub after_gathering : CaveView → ℕ → ℕ → Layout → Layout
 after_gathering cave place zero o = o
 after_gathering cave place (suc n) o =
     let before = after_gathering cave place n o in if is_by_dragon cave before (suc n)
-    then with_place before (suc n) place else before
+    then after_move_to before (suc n) place else before
 
 -- the dragon is dead, and its rug is loose beside it
-unfoldable pub after_slaying : CaveView → ℕ → Layout → Layout
-after_slaying cave place o =
+unfoldable pub after_slay : CaveView → ℕ → Layout → Layout
+after_slay cave place o =
     let dragon = thing cave name.Dragon in let rug = thing cave name.Rug in
-    let props = with_prop (with_prop o dragon (pos 2)) rug (pos 0) in
+    let props = with_prop (with_prop o dragon DRAGON_DEAD) rug RUG_FREE in
     let loose = with_anchor (with_anchor props dragon anchor.Fixed) rug anchor.Loose in
-    with_place (with_place loose dragon place) rug place
+    after_move_to (after_move_to loose dragon place) rug place
 
 -- the dragon is dead, and all that was by it is at one place
-unfoldable pub after_clearing : CaveView → ℕ → State → State
-after_clearing cave place s =
-    with_objects (after_gathering cave place last_object (after_slaying cave place s.objects)) s
+unfoldable pub after_clear : CaveView → ℕ → State → State
+after_clear cave place s =
+    with_objects (after_gathering cave place LAST_OBJECT (after_slay cave place s.objects)) s
 
 -- the dragon's text is printed, and all that was there is where the player goes on
-unfoldable pub fight_scene : CaveView → Scene → Scene
-fight_scene cave p =
-    let place = lair cave p.state in let q = after_look_at (thing cave name.Dragon) (pos 1) p in
-    arrival_scene cave place
-    (scene_at_place place (with_state (after_clearing cave place q.state) q))
+unfoldable pub after_fight : CaveView → Scene → Scene
+after_fight cave p =
+    let place = lair cave p.state in
+    let q = after_look_at (thing cave name.Dragon) DRAGON_DYING p in
+    after_arrival cave place
+    (scene_at_place place (with_state (after_clear cave place q.state) q))

@@ -1,21 +1,21 @@
 -- What a word says that names an object.
-use Rattle.std.specs.Prelude.{ℕ, pos, Bool, false, ◌==◌, ◌&&◌, ◌||◌, nat_le, if◌then◌else◌, List}
-use Rattle.std.specs.Prelude.{[], ◌∷◌, Option, Some, None}
-use Rattle.cave_data.specs.CaveView.{CaveView}
-use Rattle.cave_things.specs.Liquids.{liquid_of, lake_of, is_liquid}
-use Rattle.cave_scene.specs.Rules.{is_called}
-use Rattle.cave_things.specs.Reach.{is_in_hand, is_near, has_other_prop, is_dwarf_here}
-use Rattle.cave_scene.specs.Rules.{thing}
-use Rattle.cave_orders.specs.Verbs.{verb_number}
-use Rattle.cave_orders.specs.declared.verb.Verb.TheVariants as verb
-use Rattle.cave_words.specs.declared.named.Named.TheVariants as name
-use Rattle.cave_objects.specs.Objects.{is_object_at}
-use Rattle.cave_world.specs.Motions.{motion_number}
-use Rattle.cave_world.specs.declared.motion.Motion.{Motion}
-use Rattle.cave_world.specs.declared.motion.Motion.TheVariants as motion
-use Rattle.cave_world.specs.declared.dwarves.Knife.{Knife}
-use Rattle.cave_world.specs.declared.dwarves.Knife.TheVariants as knife
-use Rattle.cave_world.specs.declared.state.State.{State}
+use Rattle.std.specs.Prelude.{ℕ, Bool, false, ◌==◌, ◌&&◌, ◌||◌, nat_le, if◌then◌else◌, List, []}
+use Rattle.std.specs.Prelude.{◌∷◌, Option, Some, None}
+use Rattle.turn_text.specs.cave_data.CaveView.{CaveView}
+use Rattle.turn_begin.specs.turn_things.Liquids.{liquid_of, lake_of, is_liquid}
+use Rattle.turn_begin.specs.turn_scene.Rules.{is_called, thing}
+use Rattle.turn_begin.specs.turn_things.Reach.{is_in_hand, is_near, has_other_prop, is_dwarf_here}
+use Rattle.turn_begin.specs.turn_things.Props.{PLANT_SMALL}
+use Rattle.cave_verbs.specs.verb_commands.Verbs.{verb_number}
+use Rattle.cave_verbs.specs.verb_commands.declared.verb.Verb.TheVariants as verb
+use Rattle.turn_text.specs.cave_words.declared.named.Named.TheVariants as name
+use Rattle.turn_text.specs.world_objects.Objects.{is_object_at}
+use Rattle.turn_text.specs.cave_world.Motions.{motion_number}
+use Rattle.turn_text.specs.cave_world.declared.motion.Motion.{Motion}
+use Rattle.turn_text.specs.cave_world.declared.motion.Motion.TheVariants as motion
+use Rattle.turn_text.specs.cave_world.declared.dwarves.Knife.{Knife}
+use Rattle.turn_text.specs.cave_world.declared.dwarves.Knife.TheVariants as knife
+use Rattle.turn_text.specs.cave_world.declared.state.State.{State}
 use Rattle.cave_turn.specs.declared.object_words.ObjectWord.{ObjectWord}
 use Rattle.cave_turn.specs.declared.object_words.ObjectWord.TheVariants.{Is, Leads, Knives, Unseen}
 
@@ -42,7 +42,7 @@ unfoldable pub is_grown_plant : CaveView → State → ℕ → Bool
 is_grown_plant cave s k =
     let grown = thing cave name.SecondPlant in
     is_called cave k name.Plant && is_object_at s.objects s.trail.here grown
-    && has_other_prop s grown (pos 0)
+    && has_other_prop s grown PLANT_SMALL
 
 abbrev pub is_knife_at : ℕ → Knife → Bool
 is_knife_at here knife.Unthrown = false

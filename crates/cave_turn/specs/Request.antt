@@ -1,27 +1,26 @@
 -- What the words of a line say, with what was said before.
 use Rattle.std.specs.Prelude.{ℕ, Bool, true, false, ◌==◌, ◌&&◌, ◌||◌, codes, if◌then◌else◌, List}
 use Rattle.std.specs.Prelude.{Option, Some, None}
-use Rattle.cave_data.specs.CaveView.{CaveView}
-use Rattle.cave_rows.specs.declared.role.Role.TheVariants as role
-use Rattle.cave_things.specs.Liquids.{lake_of, is_liquid}
-use Rattle.cave_scene.specs.Rules.{or_no_object}
-use Rattle.cave_scene.specs.Rules.{thing}
-use Rattle.cave_orders.specs.Verbs.{verb_number}
-use Rattle.cave_orders.specs.declared.verb.Verb.TheVariants as verb
-use Rattle.cave_words.specs.Meaning.{meaning}
-use Rattle.cave_words.specs.Word.{is_written, word_of}
-use Rattle.cave_words.specs.declared.meaning.Class.{Class}
-use Rattle.cave_words.specs.declared.meaning.Class.TheVariants as class
-use Rattle.cave_words.specs.declared.meaning.Meaning.{Meaning}
-use Rattle.cave_words.specs.declared.named.Named.TheVariants as name
-use Rattle.cave_objects.specs.Objects.{is_object_at}
-use Rattle.cave_world.specs.Motions.{motion_of}
-use Rattle.cave_world.specs.declared.motion.Motion.{Motion as NamedMotion}
-use Rattle.cave_world.specs.declared.motion.Motion.TheVariants as motion
-use Rattle.cave_world.specs.declared.part.Part.TheVariants as part
-use Rattle.cave_world.specs.declared.part.WordLine.TheVariants as line
-use Rattle.cave_world.specs.declared.state.State.{State}
-use Rattle.cave_world.specs.declared.talk.Talk.{Talk}
+use Rattle.turn_text.specs.cave_data.CaveView.{CaveView}
+use Rattle.turn_text.specs.data_rows.declared.role.Role.TheVariants as role
+use Rattle.turn_begin.specs.turn_things.Liquids.{lake_of, is_liquid}
+use Rattle.turn_begin.specs.turn_scene.Rules.{or_no_object, thing}
+use Rattle.cave_verbs.specs.verb_commands.Verbs.{verb_number}
+use Rattle.cave_verbs.specs.verb_commands.declared.verb.Verb.TheVariants as verb
+use Rattle.turn_text.specs.cave_words.Meaning.{meaning}
+use Rattle.turn_text.specs.cave_words.Word.{is_written, word_of}
+use Rattle.turn_text.specs.cave_words.declared.meaning.Class.{Class}
+use Rattle.turn_text.specs.cave_words.declared.meaning.Class.TheVariants as class
+use Rattle.turn_text.specs.cave_words.declared.meaning.Meaning.{Meaning}
+use Rattle.turn_text.specs.cave_words.declared.named.Named.TheVariants as name
+use Rattle.turn_text.specs.world_objects.Objects.{is_object_at}
+use Rattle.turn_text.specs.cave_world.Motions.{motion_of}
+use Rattle.turn_text.specs.cave_world.declared.motion.Motion.{Motion as NamedMotion}
+use Rattle.turn_text.specs.cave_world.declared.motion.Motion.TheVariants as motion
+use Rattle.turn_text.specs.cave_world.declared.part.Part.TheVariants as part
+use Rattle.turn_text.specs.cave_world.declared.part.WordLine.TheVariants as line
+use Rattle.turn_text.specs.cave_world.declared.state.State.{State}
+use Rattle.turn_text.specs.cave_world.declared.talk.Talk.{Talk}
 use Rattle.cave_turn.specs.ObjectWords.{object_word}
 use Rattle.cave_turn.specs.declared.object_words.ObjectWord.{ObjectWord}
 use Rattle.cave_turn.specs.declared.object_words.ObjectWord.TheVariants as object
@@ -139,8 +138,8 @@ enter_stream cave s half =
     else understanding half (Tell (part.Role role.Where))
 
 -- entering anything else is that word alone
-unfoldable pub enter_word : CaveView → State → HalfCommand → List ℕ → Understood
-enter_word cave s half word =
+unfoldable pub enter_into_word : CaveView → State → HalfCommand → List ℕ → Understood
+enter_into_word cave s half word =
     if is_written (codes "STREA") word || is_written (codes "WATER") word
     then enter_stream cave s half
     else word_alone cave s half (said_word cave word)
@@ -164,7 +163,7 @@ pour_in cave =
 
 unfoldable pub two_words : CaveView → State → HalfCommand → List ℕ → List ℕ → Understood
 two_words cave s half word next =
-    if is_written (codes "ENTER") word then enter_word cave s half next
+    if is_written (codes "ENTER") word then enter_into_word cave s half next
     else (if is_pouring cave s word next
     then before cave s half (said_word cave word) (pour_in cave)
     else before cave s half (said_word cave word) (said_word cave next))

@@ -1,24 +1,24 @@
 -- How a player comes back from death.
-use Rattle.std.specs.Prelude.{ℕ, pos, ◌==◌, nat_le, if◌then◌else◌, suc, zero}
-use Rattle.cave_numbers.specs.Numbers.{last_object}
-use Rattle.cave_data.specs.CaveView.{CaveView}
-use Rattle.cave_rows.specs.declared.role.Role.{Role}
-use Rattle.cave_rows.specs.declared.role.Role.TheVariants as role
-use Rattle.cave_moves.specs.Arrival.{description_anew}
-use Rattle.cave_ends.specs.Deaths.{with_one_death}
-use Rattle.cave_ends.specs.Endings.{ending_scene}
-use Rattle.cave_things.specs.Effects.{with_objects}
-use Rattle.cave_things.specs.Places.{building_place, start_place}
-use Rattle.cave_scene.specs.Play.{Scene, after_saying, with_state}
-use Rattle.cave_scene.specs.Rules.{is_called}
-use Rattle.cave_things.specs.Reach.{is_in_hand}
-use Rattle.cave_scene.specs.Rules.{thing}
-use Rattle.cave_words.specs.declared.named.Named.TheVariants as name
-use Rattle.cave_objects.specs.Layout.{Layout}
-use Rattle.cave_objects.specs.Objects.{is_carried, with_place, with_prop}
-use Rattle.cave_world.specs.declared.ending.Ending.TheVariants.{Killed}
-use Rattle.cave_world.specs.declared.state.State.{State}
-use Rattle.cave_world.specs.State.{LIVES, with_player_from}
+use Rattle.std.specs.Prelude.{ℕ, ◌==◌, nat_le, if◌then◌else◌, suc, zero}
+use Rattle.turn_text.specs.data_numbers.Numbers.{LAST_OBJECT}
+use Rattle.turn_text.specs.cave_data.CaveView.{CaveView}
+use Rattle.turn_text.specs.data_rows.declared.role.Role.{Role}
+use Rattle.turn_text.specs.data_rows.declared.role.Role.TheVariants as role
+use Rattle.turn_moves.specs.Arrival.{description_anew}
+use Rattle.turn_moves.specs.turn_ends.Deaths.{with_one_death}
+use Rattle.turn_moves.specs.turn_ends.Endings.{after_end}
+use Rattle.turn_begin.specs.turn_things.Effects.{with_objects}
+use Rattle.turn_begin.specs.turn_things.Places.{building_place, start_place}
+use Rattle.turn_begin.specs.turn_scene.Scene.{Scene, after_saying, with_state}
+use Rattle.turn_begin.specs.turn_scene.Rules.{is_called, thing}
+use Rattle.turn_begin.specs.turn_things.Reach.{is_in_hand}
+use Rattle.turn_begin.specs.turn_things.Props.{LAMP_OFF}
+use Rattle.turn_text.specs.cave_words.declared.named.Named.TheVariants as name
+use Rattle.turn_text.specs.world_objects.Layout.{Layout}
+use Rattle.turn_text.specs.world_objects.Objects.{is_carried, after_move_to, with_prop}
+use Rattle.turn_text.specs.cave_world.declared.ending.Ending.TheVariants.{Killed}
+use Rattle.turn_text.specs.cave_world.declared.state.State.{State}
+use Rattle.turn_text.specs.cave_world.State.{LIVES, with_player_from}
 
 -- what is said of a first, a second, a third revival
 abbrev pub revival_role : ℕ → Role
@@ -29,7 +29,7 @@ revival_role deaths =
 unfoldable pub layout_with_lamp_out : CaveView → State → Layout
 layout_with_lamp_out cave s =
     if is_in_hand cave s (thing cave name.Lamp)
-    then with_prop s.objects (thing cave name.Lamp) (pos 0)
+    then with_prop s.objects (thing cave name.Lamp) LAMP_OFF
     else s.objects
 
 -- where an object falls that a dead player carried: the lamp falls where the game begins
@@ -37,7 +37,7 @@ abbrev pub fallen_place : CaveView → ℕ → ℕ → ℕ
 fallen_place cave place x = if is_called cave x name.Lamp then start_place cave else place
 
 unfoldable pub layout_after_fall : CaveView → ℕ → ℕ → Layout → Layout
-layout_after_fall cave place x o = if is_carried o x then with_place o x (fallen_place cave place x)
+layout_after_fall cave place x o = if is_carried o x then after_move_to o x (fallen_place cave place x)
     else o
 
 -- the objects up to a number fall, one after another, from the last down
@@ -50,23 +50,23 @@ layout_after_falls cave place (suc n) o =
 -- it leaves things, except a death at place 0
 unfoldable pub without_belongings : CaveView → State → State
 without_belongings cave s =
-    with_objects (layout_after_falls cave s.trail.older last_object (layout_with_lamp_out cave s)) s
+    with_objects (layout_after_falls cave s.trail.older LAST_OBJECT (layout_with_lamp_out cave s)) s
 
 -- the player is back, without what was carried
-unfoldable pub revival_scene : CaveView → Scene → Scene
-revival_scene cave p =
+unfoldable pub after_revive : CaveView → Scene → Scene
+after_revive cave p =
     description_anew cave
     (with_state (with_player_from (building_place cave) (without_belongings cave p.state)) p)
 
 -- a player who wants to come back does so twice; the third death is the last
-unfoldable pub return_scene : CaveView → Scene → Scene
-return_scene cave p =
+unfoldable pub after_come_back : CaveView → Scene → Scene
+after_come_back cave p =
     let q = after_saying (revival_role p.state.tallies.deaths) p in
     let r = with_state (with_one_death q.state) q in
-    if nat_le LIVES r.state.tallies.deaths then ending_scene cave Killed r else revival_scene cave r
+    if nat_le LIVES r.state.tallies.deaths then after_end cave Killed r else after_revive cave r
 
 -- a player who doesn't is dead
-unfoldable pub burial_scene : CaveView → Scene → Scene
-burial_scene cave p =
+unfoldable pub after_bury : CaveView → Scene → Scene
+after_bury cave p =
     let q = after_saying role.Ok p in
-    ending_scene cave Killed (with_state (with_one_death q.state) q)
+    after_end cave Killed (with_state (with_one_death q.state) q)

@@ -1,21 +1,21 @@
 -- What a line of a log makes of a game.
 use Rattle.std.specs.Prelude.{ℕ, Bool, true, false, if◌then◌else◌, List, [], ◌∷◌, Option, Some}
 use Rattle.std.specs.Prelude.{None}
-use Rattle.cave_data.specs.CaveView.{CaveView}
-use Rattle.cave_rows.specs.declared.role.Role.TheVariants as role
-use Rattle.log_lines.specs.LogLine.{log_line}
-use Rattle.cave_words.specs.Stream.{stream_of_seed}
-use Rattle.log_lines.specs.declared.log_line.LogLine.{LogLine}
-use Rattle.log_lines.specs.declared.log_line.LogLine.TheVariants as kind
-use Rattle.cave_world.specs.declared.ending.Ending.{Ending}
-use Rattle.cave_world.specs.declared.ending.Question.{Question}
-use Rattle.cave_world.specs.declared.part.Part.{Part}
-use Rattle.cave_world.specs.declared.part.Part.TheVariants as part
-use Rattle.cave_world.specs.declared.state.State.{State}
-use Rattle.cave_turn.specs.Answers.{answer_scene, answers, without_question}
-use Rattle.cave_begin.specs.Begin.{begun_state}
+use Rattle.turn_text.specs.cave_data.CaveView.{CaveView}
+use Rattle.turn_text.specs.data_rows.declared.role.Role.TheVariants as role
+use Rattle.turn_text.specs.base_lines.LogLine.{log_line}
+use Rattle.turn_text.specs.cave_words.Stream.{stream_of_seed}
+use Rattle.turn_text.specs.base_lines.declared.log_line.LogLine.{LogLine}
+use Rattle.turn_text.specs.base_lines.declared.log_line.LogLine.TheVariants as kind
+use Rattle.turn_text.specs.cave_world.declared.ending.Ending.{Ending}
+use Rattle.turn_text.specs.cave_world.declared.ending.Question.{Question}
+use Rattle.turn_text.specs.cave_world.declared.part.Part.{Part}
+use Rattle.turn_text.specs.cave_world.declared.part.Part.TheVariants as part
+use Rattle.turn_text.specs.cave_world.declared.state.State.{State}
+use Rattle.cave_turn.specs.Answers.{after_answer, answers, without_question}
+use Rattle.turn_begin.specs.Begin.{begun_state}
 use Rattle.cave_turn.specs.Commands.{command_scene}
-use Rattle.cave_scene.specs.Play.{Scene}
+use Rattle.turn_begin.specs.turn_scene.Scene.{Scene}
 
 -- the state after a line, what the line says, and whether it is a turn of the game
 pub record Turn : Type 0 where
@@ -35,7 +35,7 @@ turn_of ticked p = record { state = p.state; parts = p.parts; ticked = ticked }
 abbrev pub turn_of_input : CaveView → List ℕ → Option Ending → Option Question → State → Turn
 turn_of_input cave line (Some ending) question s = silent_turn s
 turn_of_input cave line None (Some question) s =
-    if answers cave line question then turn_of false (answer_scene cave question line s)
+    if answers cave line question then turn_of false (after_answer cave question line s)
     else turn_of true (command_scene cave line (without_question s))
 turn_of_input cave line None None s = turn_of true (command_scene cave line s)
 
@@ -59,6 +59,6 @@ pub record Beginning : Type 0 where
   pub parts : List Part
 
 -- a new game asks whether the player wants instructions
-unfoldable pub game_beginning : CaveView → ℕ → Beginning
-game_beginning cave seed =
+unfoldable pub start_of_game : CaveView → ℕ → Beginning
+start_of_game cave seed =
     record { state = begun_state cave (stream_of_seed seed); parts = part.Role role.Welcome ∷ [] }

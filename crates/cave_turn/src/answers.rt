@@ -1,27 +1,25 @@
 ghost use Rattle.std.specs.Prelude.{◌≡◌, ◌+◌, ◌<◌, ◌≤◌, []};
 ghost use Rattle.arrayvec.specs.ArrayVec.{array_vec_len};
-ghost use Rattle.cave_scene.specs.Bounds.{HasRoom, SaysUpTo, parts_of_arrival, parts_of_end};
-ghost use Rattle.cave_scene.specs.Bounds.{parts_of_finish, parts_of_question, parts_of_answer};
-ghost use Rattle.cave_scene.specs.Play.{scene_of, IsSamePlay, GoesOn};
-ghost use Rattle.cave_scene.specs.Rules.{cave_of};
-ghost use Rattle.cave_turn.specs.Answers.{answer_of, answer_in, after_instructions};
-ghost use Rattle.cave_turn.specs.Answers.{entrance_scene, quit_scene, yes_scene, no_scene};
-ghost use Rattle.cave_turn.specs.Answers.{reply_scene};
-ghost use Rattle.cave_turn.specs.Answers.{is_of_hint};
-ghost use Rattle.cave_turn.specs.Answers.{end_of_answer, answer_scene, answers, without_question};
+ghost use Rattle.turn_begin.specs.turn_scene.Bounds.{GoesOnSaying, HasRoom, MovesOnSaying};
+ghost use Rattle.turn_begin.specs.turn_scene.Bounds.{parts_of_arrival, parts_of_end};
+ghost use Rattle.turn_begin.specs.turn_scene.Bounds.{parts_of_finish, parts_of_question};
+ghost use Rattle.turn_begin.specs.turn_scene.Bounds.{parts_of_answer};
+ghost use Rattle.turn_begin.specs.turn_scene.Scene.{scene_of};
+ghost use Rattle.turn_begin.specs.turn_scene.Rules.{cave_of};
+ghost use Rattle.cave_turn.specs.Answers.{answer_of, answer_in, after_instructions, after_enter};
+ghost use Rattle.cave_turn.specs.Answers.{after_quit, after_yes, after_no, reply_scene, is_of_hint};
+ghost use Rattle.cave_turn.specs.Answers.{end_of_answer, after_answer, answers, without_question};
 ghost use Rattle.cave_turn.specs.Answers.{is_dragon, is_yes};
 
 use crate::dragon::fight;
 use crate::finish::end_turn;
 use crate::revival::{bury, come_back};
-use cave_ends::{end, tell_question};
-use cave_hints::{give_hint, price};
-use cave_moves::arrive;
-use cave_rows::Role;
-use cave_scene::{Play, Rules};
-use cave_things::start_place;
-use cave_words::Word;
-use cave_world::{CLUE_HINT, Charge, Ending, HintNumber, INSTRUCTIONS_HINT, Out, Question, State};
+use turn_begin::{Rules, Scene, start_place};
+use turn_hints::{give_hint, price};
+use turn_moves::{arrive, end, tell_question};
+use turn_text::{
+    CLUE_HINT, Charge, Ending, HintNumber, INSTRUCTIONS_HINT, Out, Question, Role, State, Word,
+};
 
 /// What a line says to a question.
 #[derive(Clone, Copy, Debug, PartialEq, Eq)]
@@ -35,7 +33,7 @@ pub enum Answer {
 const INSTRUCTED_CHARGE: i32 = 1000;
 
 /// Takes a line as the answer to the open question.
-#[tactic(auto, unfolding(crate::specs::Answers::answer_scene))]
+#[tactic(auto, unfolding(crate::specs::Answers::after_answer))]
 pub fn take_answer(
     rules: &Rules<'_>,
     question: &Question,
@@ -44,16 +42,16 @@ pub fn take_answer(
     out: &mut Out,
 )
     requires { out.old.items ≡ [] }
-    ensures state { (answer_scene (cave_of rules.now) question.now line.now state.old).state
+    ensures state { (after_answer (cave_of rules.now) question.now line.now state.old).state
         ≡ state.new }
-    ensures parts { (answer_scene (cave_of rules.now) question.now line.now state.old).parts
+    ensures parts { (after_answer (cave_of rules.now) question.now line.now state.old).parts
         ≡ out.new.items }
     ensures few { array_vec_len out.new ≤ parts_of_answer }
 {
     let answer = answer_in(rules, line);
-    let mut play = Play::open(state, out, false);
-    take_reply(rules, question, answer, &mut play);
-    end_answer(rules, question, &mut play);
+    let mut scene = Scene::open(state, out, false);
+    take_reply(rules, question, answer, &mut scene);
+    end_answer(rules, question, &mut scene);
 }
 
 fn answer_of(word: Word) -> Answer
@@ -95,89 +93,84 @@ pub fn close_question(state: &mut State)
 }
 
 /// The game begins at its first place.
-#[tactic(auto, unfolding(crate::specs::Answers::entrance_scene))]
-fn enter(rules: &Rules<'_>, play: &mut Play<'_>)
-    requires { HasRoom (parts_of_arrival play.old.left) play.old }
-    ensures play { scene_of play.new ≡ entrance_scene (cave_of rules.now) (scene_of play.old) }
-    ensures same { IsSamePlay play.old play.new }
-    ensures few { SaysUpTo (parts_of_arrival play.old.left) play.old play.new }
+#[tactic(auto, unfolding(crate::specs::Answers::after_enter))]
+fn enter(rules: &Rules<'_>, scene: &mut Scene<'_>)
+    requires { HasRoom (parts_of_arrival scene.old.left) scene.old }
+    ensures scene { scene_of scene.new ≡ after_enter (cave_of rules.now) (scene_of scene.old) }
+    ensures says { MovesOnSaying (parts_of_arrival scene.old.left) scene.old scene.new }
 {
-    arrive(rules, start_place(rules.cave), play);
+    arrive(rules, start_place(rules.cave), scene);
 }
 
-fn quit(rules: &Rules<'_>, play: &mut Play<'_>)
-    requires { HasRoom (1 + parts_of_end) play.old }
-    ensures play { scene_of play.new ≡ quit_scene (cave_of rules.now) (scene_of play.old) }
-    ensures same { GoesOn play.old play.new }
-    ensures few { SaysUpTo (1 + parts_of_end) play.old play.new }
+fn quit(rules: &Rules<'_>, scene: &mut Scene<'_>)
+    requires { HasRoom (1 + parts_of_end) scene.old }
+    ensures scene { scene_of scene.new ≡ after_quit (cave_of rules.now) (scene_of scene.old) }
+    ensures says { GoesOnSaying (1 + parts_of_end) scene.old scene.new }
 {
-    play.say(Role::Ok);
-    end(rules, Ending::Quit, play);
+    scene.say(Role::Ok);
+    end(rules, Ending::Quit, scene);
 }
 
-fn say_yes(rules: &Rules<'_>, question: &Question, play: &mut Play<'_>)
-    requires { HasRoom (parts_of_arrival play.old.left + 1) play.old }
-    ensures play { scene_of play.new
-        ≡ yes_scene (cave_of rules.now) question.now (scene_of play.old) }
-    ensures same { IsSamePlay play.old play.new }
-    ensures few { SaysUpTo (parts_of_arrival play.old.left + 1) play.old play.new }
+fn say_yes(rules: &Rules<'_>, question: &Question, scene: &mut Scene<'_>)
+    requires { HasRoom (parts_of_arrival scene.old.left + 1) scene.old }
+    ensures scene { scene_of scene.new
+        ≡ after_yes (cave_of rules.now) question.now (scene_of scene.old) }
+    ensures says { MovesOnSaying (parts_of_arrival scene.old.left + 1) scene.old scene.new }
 {
     match question {
         Question::Welcome => {
-            play.say(Role::Instructions);
-            instruct(play.state);
-            enter(rules, play)
+            scene.say(Role::Instructions);
+            instruct(scene.state);
+            enter(rules, scene)
         }
-        Question::Quit | Question::ScoreQuit => quit(rules, play),
-        Question::Die => come_back(rules, play),
-        Question::Hint(number) => price(rules, *number, play),
-        Question::Take(number) => give_hint(rules, *number, play),
+        Question::Quit | Question::ScoreQuit => quit(rules, scene),
+        Question::Die => come_back(rules, scene),
+        Question::Hint(number) => price(rules, *number, scene),
+        Question::Take(number) => give_hint(rules, *number, scene),
         Question::Oyster => {
-            play.say(Role::OysterHint);
-            play.state.take_hint(HintNumber::new(CLUE_HINT));
+            scene.say(Role::OysterHint);
+            scene.state.take_hint(HintNumber::new(CLUE_HINT));
         }
-        Question::Dragon => fight(rules, play),
+        Question::Dragon => fight(rules, scene),
     }
 }
 
-fn say_no(rules: &Rules<'_>, question: &Question, play: &mut Play<'_>)
-    requires { HasRoom (parts_of_arrival play.old.left + 1) play.old }
-    ensures play { scene_of play.new
-        ≡ no_scene (cave_of rules.now) question.now (scene_of play.old) }
-    ensures same { IsSamePlay play.old play.new }
-    ensures few { SaysUpTo (parts_of_arrival play.old.left + 1) play.old play.new }
+fn say_no(rules: &Rules<'_>, question: &Question, scene: &mut Scene<'_>)
+    requires { HasRoom (parts_of_arrival scene.old.left + 1) scene.old }
+    ensures scene { scene_of scene.new
+        ≡ after_no (cave_of rules.now) question.now (scene_of scene.old) }
+    ensures says { MovesOnSaying (parts_of_arrival scene.old.left + 1) scene.old scene.new }
 {
     match question {
-        Question::Welcome => enter(rules, play),
-        Question::Die => bury(rules, play),
+        Question::Welcome => enter(rules, scene),
+        Question::Die => bury(rules, scene),
         Question::Dragon => {}
         Question::Quit
         | Question::ScoreQuit
         | Question::Hint(_)
         | Question::Take(_)
-        | Question::Oyster => play.say(Role::Ok),
+        | Question::Oyster => scene.say(Role::Ok),
     }
 }
 
-fn take_reply(rules: &Rules<'_>, question: &Question, answer: Answer, play: &mut Play<'_>)
-    requires { HasRoom (parts_of_arrival play.old.left + 1) play.old }
-    ensures play { scene_of play.new
-        ≡ reply_scene (cave_of rules.now) question.now answer (scene_of play.old) }
-    ensures same { IsSamePlay play.old play.new }
-    ensures few { SaysUpTo (parts_of_arrival play.old.left + 1) play.old play.new }
+fn take_reply(rules: &Rules<'_>, question: &Question, answer: Answer, scene: &mut Scene<'_>)
+    requires { HasRoom (parts_of_arrival scene.old.left + 1) scene.old }
+    ensures scene { scene_of scene.new
+        ≡ reply_scene (cave_of rules.now) question.now answer (scene_of scene.old) }
+    ensures says { MovesOnSaying (parts_of_arrival scene.old.left + 1) scene.old scene.new }
 {
     match answer {
         Answer::Yes => {
-            close_question(play.state);
-            say_yes(rules, question, play)
+            close_question(scene.state);
+            say_yes(rules, question, scene)
         }
         Answer::No => {
-            close_question(play.state);
-            say_no(rules, question, play)
+            close_question(scene.state);
+            say_no(rules, question, scene)
         }
         Answer::Neither => {
-            play.say(Role::Answer);
-            tell_question(rules, question, play)
+            scene.say(Role::Answer);
+            tell_question(rules, question, scene)
         }
     }
 }
@@ -189,15 +182,14 @@ fn is_of_hint(question: &Question) -> bool
 }
 
 /// The turn ends, except after an answer about a hint.
-fn end_answer(rules: &Rules<'_>, question: &Question, play: &mut Play<'_>)
-    requires { HasRoom (parts_of_finish + parts_of_question) play.old }
-    ensures play { scene_of play.new
-        ≡ end_of_answer (cave_of rules.now) question.now (scene_of play.old) }
-    ensures same { GoesOn play.old play.new }
-    ensures few { SaysUpTo parts_of_finish play.old play.new }
+fn end_answer(rules: &Rules<'_>, question: &Question, scene: &mut Scene<'_>)
+    requires { HasRoom (parts_of_finish + parts_of_question) scene.old }
+    ensures scene { scene_of scene.new
+        ≡ end_of_answer (cave_of rules.now) question.now (scene_of scene.old) }
+    ensures says { GoesOnSaying parts_of_finish scene.old scene.new }
 {
     if !is_of_hint(question) {
-        end_turn(rules, play);
+        end_turn(rules, scene);
     }
 }
 

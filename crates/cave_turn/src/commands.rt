@@ -1,36 +1,30 @@
 ghost use Rattle.std.specs.Prelude.{◌≡◌, ◌+◌, ◌<◌, ◌≤◌, []};
 ghost use Rattle.arrayvec.specs.ArrayVec.{array_vec_len};
-ghost use Rattle.cave_scene.specs.Bounds.{HasRoom, SaysUpTo, parts_of_journey};
-ghost use Rattle.cave_scene.specs.Bounds.{parts_of_arrival, parts_of_command, room_of_request};
-ghost use Rattle.cave_scene.specs.Bounds.{parts_of_request, parts_of_timed_request};
-ghost use Rattle.cave_scene.specs.Bounds.{room_of_timed_request};
-ghost use Rattle.cave_scene.specs.Play.{scene_of, IsSamePlay, GoesOn};
-ghost use Rattle.cave_scene.specs.Rules.{cave_of};
-ghost use Rattle.cave_turn.specs.Commands.{with_magic_waiting, knife_here};
-ghost use Rattle.cave_turn.specs.Commands.{after_beginning};
-ghost use Rattle.cave_turn.specs.Commands.{travel_scene, puzzlement, puzzled_scene};
-ghost use Rattle.cave_turn.specs.Commands.{after_vanished_knives};
-ghost use Rattle.cave_turn.specs.Commands.{next_scene, half_command_kept, after_words};
-ghost use Rattle.cave_turn.specs.Commands.{words_done_by_verb, words_done_by_request};
-ghost use Rattle.cave_turn.specs.Commands.{after_remembering};
-ghost use Rattle.cave_turn.specs.Commands.{kept_scene, scene_of_understood, scene_of_words};
-ghost use Rattle.cave_turn.specs.Commands.{unread_scene};
-ghost use Rattle.cave_turn.specs.Commands.{after_clocks};
+ghost use Rattle.turn_begin.specs.turn_scene.Bounds.{GoesOnSaying, HasRoom, MovesOnSaying};
+ghost use Rattle.turn_begin.specs.turn_scene.Bounds.{parts_of_journey, parts_of_arrival};
+ghost use Rattle.turn_begin.specs.turn_scene.Bounds.{parts_of_command, room_of_request};
+ghost use Rattle.turn_begin.specs.turn_scene.Bounds.{parts_of_request, parts_of_timed_request};
+ghost use Rattle.turn_begin.specs.turn_scene.Bounds.{room_of_timed_request};
+ghost use Rattle.turn_begin.specs.turn_scene.Scene.{scene_of};
+ghost use Rattle.turn_begin.specs.turn_scene.Rules.{cave_of};
+ghost use Rattle.cave_turn.specs.Commands.{with_magic_waiting, knife_here, begin_command};
+ghost use Rattle.cave_turn.specs.Commands.{after_travel, puzzlement, after_puzzle};
+ghost use Rattle.cave_turn.specs.Commands.{after_vanished_knives, next_scene, half_command_kept};
+ghost use Rattle.cave_turn.specs.Commands.{after_words, words_done_by_verb, words_done_by_request};
+ghost use Rattle.cave_turn.specs.Commands.{after_remembering, kept_scene, scene_of_understood};
+ghost use Rattle.cave_turn.specs.Commands.{scene_of_words, unread_scene, after_clocks};
 ghost use Rattle.cave_turn.specs.Commands.{clocks_scene, command_scene, words_done_by_action};
-ghost use Rattle.cave_orders.specs.Verbs.{verb_of};
+ghost use Rattle.cave_verbs.specs.verb_commands.Verbs.{verb_of};
 
 use crate::finish::end_turn;
 use crate::request::{HalfCommand, Request, Understood, read_words};
-use cave_clocks::{Clocks, run_clocks};
-use cave_ends::{ask, end};
-use cave_moves::{arrive, describe_here, journey_by_request};
-use cave_objects::{Object, Place};
-use cave_orders::{Next, Order, Verb, tell_default};
-use cave_rows::Role;
-use cave_scene::{Play, Rules};
-use cave_verbs::act;
-use cave_words::{Named, Word, Words};
-use cave_world::{Ending, Knife, Magic, Out, Part, State, WordLine};
+use cave_verbs::{Command, Next, Verb, act, tell_default};
+use turn_begin::{Rules, Scene};
+use turn_clocks::{Clocks, run_clocks};
+use turn_moves::{arrive, ask, describe_here, end, journey_by_request};
+use turn_text::{
+    Ending, Knife, Magic, Named, Object, Out, Part, Place, Role, State, Word, WordLine, Words,
+};
 
 /// Does what a line commands.
 #[tactic(auto, unfolding(crate::specs::Commands::command_scene))]
@@ -41,11 +35,11 @@ pub fn command(rules: &Rules<'_>, line: &[u8], state: &mut State, out: &mut Out)
     ensures few { array_vec_len out.new ≤ parts_of_command }
 {
     begin_command(state);
-    let was_dark = state.is_dark(rules.cave, rules.thing(Named::Lamp));
+    let was_dark = state.dark(rules.cave, rules.thing(Named::Lamp));
     let words = rules.words_of(line);
-    let mut play = Play::open(state, out, was_dark);
-    do_by_clocks(rules, words, &mut play);
-    end_turn(rules, &mut play);
+    let mut scene = Scene::open(state, out, was_dark);
+    do_by_clocks(rules, words, &mut scene);
+    end_turn(rules, &mut scene);
 }
 
 /// The magic words go on from where the last command left them, and stop where it left them twice.
@@ -72,23 +66,23 @@ fn knife_here(here: Place, knife: Knife) -> Knife
     }
 }
 
-#[tactic(auto, unfolding(crate::specs::Commands::after_beginning))]
+#[tactic(auto, unfolding(crate::specs::Commands::begin_command))]
 fn begin_command(state: &mut State)
-    ensures { state.new ≡ after_beginning state.old }
+    ensures { state.new ≡ begin_command state.old }
 {
     wait_for_magic(state);
     state.dwarves.knife = knife_here(state.trail.here, state.dwarves.knife);
 }
 
-#[tactic(auto, unfolding(crate::specs::Commands::travel_scene))]
-fn travel_by(rules: &Rules<'_>, motion: u16, play: &mut Play<'_>)
-    requires { HasRoom (parts_of_arrival play.old.left + parts_of_journey) play.old }
-    ensures play { scene_of play.new ≡ travel_scene (cave_of rules.now) motion (scene_of play.old) }
-    ensures same { IsSamePlay play.old play.new }
-    ensures few { SaysUpTo (parts_of_arrival play.old.left + parts_of_journey) play.old play.new }
+#[tactic(auto, unfolding(crate::specs::Commands::after_travel))]
+fn travel_by(rules: &Rules<'_>, motion: u16, scene: &mut Scene<'_>)
+    requires { HasRoom (parts_of_arrival scene.old.left + parts_of_journey) scene.old }
+    ensures scene { scene_of scene.new ≡ after_travel (cave_of rules.now) motion (scene_of scene.old) }
+    ensures says { MovesOnSaying (parts_of_arrival scene.old.left + parts_of_journey) scene.old
+        scene.new }
 {
-    let place = journey_by_request(rules, motion, play);
-    arrive(rules, place, play);
+    let place = journey_by_request(rules, motion, scene);
+    arrive(rules, place, scene);
 }
 
 fn puzzlement(first: bool, second: bool) -> Role
@@ -104,42 +98,39 @@ fn puzzlement(first: bool, second: bool) -> Role
 }
 
 /// The cave doesn't have the word.
-#[tactic(auto, unfolding(crate::specs::Commands::puzzled_scene))]
-fn puzzle(play: &mut Play<'_>)
-    requires { HasRoom 1 play.old }
-    ensures play { scene_of play.new ≡ puzzled_scene (scene_of play.old) }
-    ensures same { GoesOn play.old play.new }
-    ensures few { SaysUpTo 1 play.old play.new }
+#[tactic(auto, unfolding(crate::specs::Commands::after_puzzle))]
+fn puzzle(scene: &mut Scene<'_>)
+    requires { HasRoom 1 scene.old }
+    ensures scene { scene_of scene.new ≡ after_puzzle (scene_of scene.old) }
+    ensures says { GoesOnSaying 1 scene.old scene.new }
 {
-    let first = play.happens(20);
-    let second = play.happens(20);
-    play.say(puzzlement(first, second));
+    let first = scene.happens(20);
+    let second = scene.happens(20);
+    scene.say(puzzlement(first, second));
 }
 
 /// It is said that the knives vanished.
-fn tell_of_knives(play: &mut Play<'_>)
-    requires { HasRoom 1 play.old }
-    ensures play { scene_of play.new ≡ after_vanished_knives (scene_of play.old) }
-    ensures same { GoesOn play.old play.new }
-    ensures few { SaysUpTo 1 play.old play.new }
+fn tell_of_knives(scene: &mut Scene<'_>)
+    requires { HasRoom 1 scene.old }
+    ensures scene { scene_of scene.new ≡ after_vanished_knives (scene_of scene.old) }
+    ensures says { GoesOnSaying 1 scene.old scene.new }
 {
-    play.state.dwarves.knife = Knife::Vanished;
-    play.say(Role::Knife);
+    scene.state.dwarves.knife = Knife::Vanished;
+    scene.say(Role::Knife);
 }
 
 /// Does what a verb left to the turn.
-fn do_next(rules: &Rules<'_>, next: &Next, play: &mut Play<'_>)
-    requires { HasRoom (parts_of_arrival play.old.left) play.old }
-    ensures play { scene_of play.new ≡ next_scene (cave_of rules.now) next.now (scene_of play.old) }
-    ensures same { IsSamePlay play.old play.new }
-    ensures few { SaysUpTo (parts_of_arrival play.old.left) play.old play.new }
+fn do_next(rules: &Rules<'_>, next: &Next, scene: &mut Scene<'_>)
+    requires { HasRoom (parts_of_arrival scene.old.left) scene.old }
+    ensures scene { scene_of scene.new ≡ next_scene (cave_of rules.now) next.now (scene_of scene.old) }
+    ensures says { MovesOnSaying (parts_of_arrival scene.old.left) scene.old scene.new }
 {
     match next {
         Next::Stay | Next::Keep => {}
-        Next::Describe => describe_here(rules, play),
-        Next::Arrive(place) => arrive(rules, *place, play),
-        Next::Ask(question) => ask(rules, question, play),
-        Next::End(ending) => end(rules, *ending, play),
+        Next::Describe => describe_here(rules, scene),
+        Next::Arrive(place) => arrive(rules, *place, scene),
+        Next::Ask(question) => ask(rules, question, scene),
+        Next::End(ending) => end(rules, *ending, scene),
     }
 }
 
@@ -158,16 +149,15 @@ fn half_command_kept(next: &Next, verb: u16) -> Option<HalfCommand>
 /// A verb is done by the first of its rows that fits, and then what follows. Returns what is kept
 /// for the next line.
 #[tactic(auto, unfolding(crate::specs::Commands::words_done_by_verb))]
-fn do_verb(rules: &Rules<'_>, order: Order, play: &mut Play<'_>) -> Option<HalfCommand>
-    requires { HasRoom (room_of_request play.old.left) play.old }
-    ensures play { after_words (scene_of play.new) result
-        ≡ words_done_by_verb (cave_of rules.now) order (scene_of play.old) }
-    ensures same { IsSamePlay play.old play.new }
-    ensures few { SaysUpTo (parts_of_request play.old.left) play.old play.new }
+fn do_verb(rules: &Rules<'_>, command: Command, scene: &mut Scene<'_>) -> Option<HalfCommand>
+    requires { HasRoom (room_of_request scene.old.left) scene.old }
+    ensures scene { after_words (scene_of scene.new) result
+        ≡ words_done_by_verb (cave_of rules.now) command (scene_of scene.old) }
+    ensures says { MovesOnSaying (parts_of_request scene.old.left) scene.old scene.new }
 {
-    let verb = order.verb.number();
-    let next = act(rules, order, play);
-    do_next(rules, &next, play);
+    let verb = command.verb.number();
+    let next = act(rules, command, scene);
+    do_next(rules, &next, scene);
     half_command_kept(&next, verb)
 }
 
@@ -177,19 +167,18 @@ fn do_action(
     number: u16,
     object: Object,
     word: Word,
-    play: &mut Play<'_>,
+    scene: &mut Scene<'_>,
 ) -> Option<HalfCommand>
-    requires { HasRoom (room_of_request play.old.left) play.old }
-    ensures play { after_words (scene_of play.new) result
+    requires { HasRoom (room_of_request scene.old.left) scene.old }
+    ensures scene { after_words (scene_of scene.new) result
         ≡ words_done_by_action (cave_of rules.now) (verb_of number) number object word
-        (scene_of play.old) }
-    ensures same { IsSamePlay play.old play.new }
-    ensures few { SaysUpTo (parts_of_request play.old.left) play.old play.new }
+        (scene_of scene.old) }
+    ensures says { MovesOnSaying (parts_of_request scene.old.left) scene.old scene.new }
 {
     match Verb::try_from(number) {
-        Ok(verb) => do_verb(rules, Order::of(verb, object, word), play),
+        Ok(verb) => do_verb(rules, Command::of(verb, object, word), scene),
         Err(_) => {
-            tell_default(rules, number, play);
+            tell_default(rules, number, scene);
             None
         }
     }
@@ -199,36 +188,35 @@ fn do_action(
 fn do_request(
     rules: &Rules<'_>,
     understood: &Understood,
-    play: &mut Play<'_>,
+    scene: &mut Scene<'_>,
 ) -> Option<HalfCommand>
-    requires { HasRoom (room_of_request play.old.left) play.old }
-    ensures play { after_words (scene_of play.new) result
+    requires { HasRoom (room_of_request scene.old.left) scene.old }
+    ensures scene { after_words (scene_of scene.new) result
         ≡ words_done_by_request (cave_of rules.now) understood.now.half understood.now.request
-        (scene_of play.old) }
-    ensures same { IsSamePlay play.old play.new }
-    ensures few { SaysUpTo (parts_of_request play.old.left) play.old play.new }
+        (scene_of scene.old) }
+    ensures says { MovesOnSaying (parts_of_request scene.old.left) scene.old scene.new }
 {
     let half = understood.half;
     match &understood.request {
         Request::Unknown => {
-            puzzle(play);
+            puzzle(scene);
             Some(half)
         }
         Request::Motion(motion) => {
-            travel_by(rules, *motion, play);
+            travel_by(rules, *motion, scene);
             None
         }
         Request::Tell(part) => {
-            play.tell(*part);
+            scene.tell(*part);
             None
         }
         Request::Knives => {
-            tell_of_knives(play);
+            tell_of_knives(scene);
             None
         }
-        Request::Act(number, object, word) => do_action(rules, *number, *object, *word, play),
+        Request::Act(number, object, word) => do_action(rules, *number, *object, *word, scene),
         Request::WhatToDo(word) => {
-            play.tell(Part::Word(WordLine::WhatToDo, *word));
+            scene.tell(Part::Word(WordLine::WhatToDo, *word));
             Some(half)
         }
     }
@@ -253,74 +241,69 @@ fn remember_command(kept: Option<HalfCommand>, object: Object, state: &mut State
 
 /// What was read is carried out, and what is left of it is remembered.
 #[tactic(auto, unfolding(crate::specs::Commands::scene_of_understood, crate::specs::Commands::kept_scene))]
-fn do_understood(rules: &Rules<'_>, understood: &Understood, play: &mut Play<'_>)
-    requires { HasRoom (room_of_request play.old.left) play.old }
-    ensures play { scene_of play.new
-        ≡ scene_of_understood (cave_of rules.now) understood.now (scene_of play.old) }
-    ensures same { IsSamePlay play.old play.new }
-    ensures few { SaysUpTo (parts_of_request play.old.left) play.old play.new }
+fn do_understood(rules: &Rules<'_>, understood: &Understood, scene: &mut Scene<'_>)
+    requires { HasRoom (room_of_request scene.old.left) scene.old }
+    ensures scene { scene_of scene.new
+        ≡ scene_of_understood (cave_of rules.now) understood.now (scene_of scene.old) }
+    ensures says { MovesOnSaying (parts_of_request scene.old.left) scene.old scene.new }
 {
-    let kept = do_request(rules, understood, play);
-    remember_command(kept, understood.half.object, play.state);
+    let kept = do_request(rules, understood, scene);
+    remember_command(kept, understood.half.object, scene.state);
 }
 
 /// Does what the words of a line say.
-fn do_words(rules: &Rules<'_>, words: Words, play: &mut Play<'_>)
-    requires { HasRoom (room_of_request play.old.left) play.old }
-    ensures play { scene_of play.new
-        ≡ scene_of_words (cave_of rules.now) words (scene_of play.old) }
-    ensures same { IsSamePlay play.old play.new }
-    ensures few { SaysUpTo (parts_of_request play.old.left) play.old play.new }
+fn do_words(rules: &Rules<'_>, words: Words, scene: &mut Scene<'_>)
+    requires { HasRoom (room_of_request scene.old.left) scene.old }
+    ensures scene { scene_of scene.new
+        ≡ scene_of_words (cave_of rules.now) words (scene_of scene.old) }
+    ensures says { MovesOnSaying (parts_of_request scene.old.left) scene.old scene.new }
 {
     match words.first {
         None => {}
         Some(word) => {
-            let half = HalfCommand::of(play.state.talk);
-            let understood = read_words(rules, play.state, half, word, words.second);
-            do_understood(rules, &understood, play);
+            let half = HalfCommand::of(scene.state.talk);
+            let understood = read_words(rules, scene.state, half, word, words.second);
+            do_understood(rules, &understood, scene);
         }
     }
 }
 
 /// A command that isn't read leaves nothing for the next line.
 #[tactic(auto, unfolding(crate::specs::Commands::kept_scene))]
-fn leave_unread(play: &mut Play<'_>)
-    ensures play { scene_of play.new ≡ unread_scene (scene_of play.old) }
-    ensures same { GoesOn play.old play.new }
-    ensures few { SaysUpTo 0 play.old play.new }
+fn leave_unread(scene: &mut Scene<'_>)
+    ensures scene { scene_of scene.new ≡ unread_scene (scene_of scene.old) }
+    ensures says { GoesOnSaying 0 scene.old scene.new }
 {
-    remember_command(None, Object::none(), play.state);
+    remember_command(None, Object::none(), scene.state);
 }
 
 /// Does what the clocks leave of a command.
-fn go_on_after_clocks(rules: &Rules<'_>, words: Words, clocks: Clocks, play: &mut Play<'_>)
-    requires { HasRoom (room_of_request play.old.left) play.old }
-    ensures play { scene_of play.new
-        ≡ after_clocks (cave_of rules.now) words clocks (scene_of play.old) }
-    ensures same { IsSamePlay play.old play.new }
-    ensures few { SaysUpTo (parts_of_request play.old.left) play.old play.new }
+fn go_on_after_clocks(rules: &Rules<'_>, words: Words, clocks: Clocks, scene: &mut Scene<'_>)
+    requires { HasRoom (room_of_request scene.old.left) scene.old }
+    ensures scene { scene_of scene.new
+        ≡ after_clocks (cave_of rules.now) words clocks (scene_of scene.old) }
+    ensures says { MovesOnSaying (parts_of_request scene.old.left) scene.old scene.new }
 {
     match clocks {
-        Clocks::GoOn => do_words(rules, words, play),
+        Clocks::GoOn => do_words(rules, words, scene),
         Clocks::GaveUp => {
-            end(rules, Ending::Quit, play);
-            leave_unread(play);
+            end(rules, Ending::Quit, scene);
+            leave_unread(scene);
         }
         Clocks::Closed(place) => {
-            arrive(rules, place, play);
-            leave_unread(play);
+            arrive(rules, place, scene);
+            leave_unread(scene);
         }
     }
 }
 
 /// The clocks run, and the words of the line are done.
 #[tactic(auto, unfolding(crate::specs::Commands::clocks_scene))]
-fn do_by_clocks(rules: &Rules<'_>, words: Words, play: &mut Play<'_>)
-    requires { HasRoom (room_of_timed_request play.old.left) play.old }
-    ensures play { scene_of play.new ≡ clocks_scene (cave_of rules.now) words (scene_of play.old) }
-    ensures same { IsSamePlay play.old play.new }
-    ensures few { SaysUpTo (parts_of_timed_request play.old.left) play.old play.new }
+fn do_by_clocks(rules: &Rules<'_>, words: Words, scene: &mut Scene<'_>)
+    requires { HasRoom (room_of_timed_request scene.old.left) scene.old }
+    ensures scene { scene_of scene.new ≡ clocks_scene (cave_of rules.now) words (scene_of scene.old) }
+    ensures says { MovesOnSaying (parts_of_timed_request scene.old.left) scene.old scene.new }
 {
-    let clocks = run_clocks(rules, play);
-    go_on_after_clocks(rules, words, clocks, play);
+    let clocks = run_clocks(rules, scene);
+    go_on_after_clocks(rules, words, clocks, scene);
 }

@@ -1,19 +1,14 @@
 ghost use Rattle.std.specs.Prelude.{◌≡◌, ◌+◌, ◌<◌};
-ghost use Rattle.cave_numbers.specs.Numbers.{last_object};
-ghost use Rattle.cave_scene.specs.Bounds.{HasRoom, SaysUpTo, parts_of_arrival};
-ghost use Rattle.cave_scene.specs.Play.{scene_of, IsSamePlay};
-ghost use Rattle.cave_scene.specs.Rules.{cave_of};
-ghost use Rattle.cave_turn.specs.Dragon.{between, lair, is_by_dragon, after_gathering};
-ghost use Rattle.cave_turn.specs.Dragon.{after_slaying, after_clearing};
-ghost use Rattle.cave_turn.specs.Dragon.{fight_scene};
+ghost use Rattle.turn_text.specs.data_numbers.Numbers.{LAST_OBJECT};
+ghost use Rattle.turn_begin.specs.turn_scene.Bounds.{HasRoom, MovesOnSaying, parts_of_arrival};
+ghost use Rattle.turn_begin.specs.turn_scene.Scene.{scene_of};
+ghost use Rattle.turn_begin.specs.turn_scene.Rules.{cave_of};
+ghost use Rattle.cave_turn.specs.Dragon.{between, lair, is_by_dragon, after_gathering, after_slay};
+ghost use Rattle.cave_turn.specs.Dragon.{after_clear, after_fight};
 
-use cave_moves::arrive;
-use cave_objects::object::OBJECTS;
-use cave_objects::{Anchor, Object, Objects, Place, Prop};
-use cave_scene::{Play, Rules};
-use cave_things::{home, second_home};
-use cave_words::Named;
-use cave_world::State;
+use turn_begin::{DRAGON_DEAD, DRAGON_DYING, RUG_FREE, Rules, Scene, home, second_home};
+use turn_moves::arrive;
+use turn_text::{Anchor, Named, OBJECTS, Object, Objects, Place, Prop, State};
 
 fn between(one: Place, other: Place, here: Place) -> Place
     ensures { result ≡ between one other here }
@@ -52,7 +47,7 @@ fn is_by_dragon(rules: &Rules<'_>, objects: &Objects, object: Object) -> bool
 
 /// All that is at the places of the dragon is moved to one place.
 fn gather(rules: &Rules<'_>, place: Place, objects: &mut Objects)
-    ensures { objects.new ≡ after_gathering (cave_of rules.now) place last_object objects.old }
+    ensures { objects.new ≡ after_gathering (cave_of rules.now) place LAST_OBJECT objects.old }
 {
     for before in 0..OBJECTS as u8 {
         let object = Object::new(before + 1);
@@ -63,14 +58,14 @@ fn gather(rules: &Rules<'_>, place: Place, objects: &mut Objects)
 }
 
 /// The dragon is dead, and its rug is loose beside it.
-#[tactic(auto, unfolding(crate::specs::Dragon::after_slaying))]
+#[tactic(auto, unfolding(crate::specs::Dragon::after_slay))]
 fn slay(rules: &Rules<'_>, place: Place, objects: &mut Objects)
-    ensures { objects.new ≡ after_slaying (cave_of rules.now) place objects.old }
+    ensures { objects.new ≡ after_slay (cave_of rules.now) place objects.old }
 {
     let dragon = rules.thing(Named::Dragon);
     let rug = rules.thing(Named::Rug);
-    objects.set_prop(dragon, Prop::new(2));
-    objects.set_prop(rug, Prop::new(0));
+    objects.set_prop(dragon, Prop::new(DRAGON_DEAD));
+    objects.set_prop(rug, Prop::new(RUG_FREE));
     objects.anchor_to(dragon, Anchor::Fixed);
     objects.anchor_to(rug, Anchor::Loose);
     objects.move_to(dragon, place);
@@ -78,25 +73,24 @@ fn slay(rules: &Rules<'_>, place: Place, objects: &mut Objects)
 }
 
 /// The dragon is dead, and all that was by it is at one place.
-#[tactic(auto, unfolding(crate::specs::Dragon::after_clearing))]
+#[tactic(auto, unfolding(crate::specs::Dragon::after_clear))]
 fn clear(rules: &Rules<'_>, place: Place, state: &mut State)
-    ensures { state.new ≡ after_clearing (cave_of rules.now) place state.old }
+    ensures { state.new ≡ after_clear (cave_of rules.now) place state.old }
 {
     slay(rules, place, &mut state.objects);
     gather(rules, place, &mut state.objects);
 }
 
 /// The player fights the dragon with bare hands, and wins.
-#[tactic(auto, unfolding(crate::specs::Dragon::fight_scene))]
-pub fn fight(rules: &Rules<'_>, play: &mut Play<'_>)
-    requires { HasRoom (parts_of_arrival play.old.left + 1) play.old }
-    ensures play { scene_of play.new ≡ fight_scene (cave_of rules.now) (scene_of play.old) }
-    ensures same { IsSamePlay play.old play.new }
-    ensures few { SaysUpTo (parts_of_arrival play.old.left + 1) play.old play.new }
+#[tactic(auto, unfolding(crate::specs::Dragon::after_fight))]
+pub fn fight(rules: &Rules<'_>, scene: &mut Scene<'_>)
+    requires { HasRoom (parts_of_arrival scene.old.left + 1) scene.old }
+    ensures scene { scene_of scene.new ≡ after_fight (cave_of rules.now) (scene_of scene.old) }
+    ensures says { MovesOnSaying (parts_of_arrival scene.old.left + 1) scene.old scene.new }
 {
-    let place = lair(rules, play.state);
-    play.look(rules.thing(Named::Dragon), 1);
-    clear(rules, place, play.state);
-    play.put_player_at(place);
-    arrive(rules, place, play);
+    let place = lair(rules, scene.state);
+    scene.look(rules.thing(Named::Dragon), DRAGON_DYING);
+    clear(rules, place, scene.state);
+    scene.put_player_at(place);
+    arrive(rules, place, scene);
 }

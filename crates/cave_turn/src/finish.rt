@@ -1,32 +1,31 @@
 //! How a turn ends that leaves no question open.
 
 ghost use Rattle.std.specs.Prelude.{◌≡◌, ◌+◌};
-ghost use Rattle.cave_numbers.specs.Numbers.{last_object};
-ghost use Rattle.cave_scene.specs.Bounds.{HasRoom, SaysUpTo, parts_of_finish, parts_of_question};
-ghost use Rattle.cave_scene.specs.Play.{scene_of, GoesOn};
-ghost use Rattle.cave_scene.specs.Rules.{cave_of};
-ghost use Rattle.cave_turn.specs.Finish.{is_hidden_in_hand, after_oyster_shows, layout_with_shown};
-ghost use Rattle.cave_turn.specs.Finish.{layout_with_shown_up_to, after_hands_show, end_of_turn};
+ghost use Rattle.turn_text.specs.data_numbers.Numbers.{LAST_OBJECT};
+ghost use Rattle.turn_begin.specs.turn_scene.Bounds.{GoesOnSaying, HasRoom, parts_of_finish};
+ghost use Rattle.turn_begin.specs.turn_scene.Bounds.{parts_of_question};
+ghost use Rattle.turn_begin.specs.turn_scene.Scene.{scene_of};
+ghost use Rattle.turn_begin.specs.turn_scene.Rules.{cave_of};
+ghost use Rattle.cave_turn.specs.Finish.{is_hidden_in_hand, after_oyster_shows};
+ghost use Rattle.cave_turn.specs.Finish.{layout_with_object_shown, layout_with_shown_up_to};
+ghost use Rattle.cave_turn.specs.Finish.{after_hands_show, end_of_turn};
 
-use cave_hints::consider_all;
-use cave_objects::object::OBJECTS;
-use cave_objects::{Object, Objects, Prop};
-use cave_scene::{Play, Rules};
-use cave_words::Named;
+use turn_begin::{OYSTER_WRITTEN_ON, Rules, Scene, UNSEEN};
+use turn_hints::consider_all;
+use turn_text::{Named, OBJECTS, Object, Objects, Prop};
 
 /// A turn ends; after a question or the end of the game nothing more is done.
 #[tactic(auto, unfolding(crate::specs::Finish::end_of_turn))]
-pub fn end_turn(rules: &Rules<'_>, play: &mut Play<'_>)
-    requires { HasRoom (parts_of_finish + parts_of_question) play.old }
-    ensures play { scene_of play.new ≡ end_of_turn (cave_of rules.now) (scene_of play.old) }
-    ensures same { GoesOn play.old play.new }
-    ensures few { SaysUpTo parts_of_finish play.old play.new }
+pub fn end_turn(rules: &Rules<'_>, scene: &mut Scene<'_>)
+    requires { HasRoom (parts_of_finish + parts_of_question) scene.old }
+    ensures scene { scene_of scene.new ≡ end_of_turn (cave_of rules.now) (scene_of scene.old) }
+    ensures says { GoesOnSaying parts_of_finish scene.old scene.new }
 {
-    if play.state.takes_no_command() {
+    if scene.state.takes_no_command() {
         return;
     }
-    show_hands(rules, play);
-    consider_all(rules, play);
+    show_hands(rules, scene);
+    consider_all(rules, scene);
 }
 
 /// Whether an object is carried and shows nothing yet.
@@ -38,31 +37,30 @@ fn is_hidden_in_hand(objects: &Objects, object: Object) -> bool
 
 /// The oyster that a player takes in a closed cave shows what is written under it.
 #[tactic(auto, unfolding(crate::specs::Finish::after_oyster_shows))]
-fn show_oyster(rules: &Rules<'_>, play: &mut Play<'_>)
-    requires { HasRoom 1 play.old }
-    ensures play { scene_of play.new ≡ after_oyster_shows (cave_of rules.now) (scene_of play.old) }
-    ensures same { GoesOn play.old play.new }
-    ensures few { SaysUpTo 1 play.old play.new }
+fn show_oyster(rules: &Rules<'_>, scene: &mut Scene<'_>)
+    requires { HasRoom 1 scene.old }
+    ensures scene { scene_of scene.new ≡ after_oyster_shows (cave_of rules.now) (scene_of scene.old) }
+    ensures says { GoesOnSaying 1 scene.old scene.new }
 {
     let oyster = rules.thing(Named::Oyster);
-    if is_hidden_in_hand(&play.state.objects, oyster) {
-        play.look(oyster, 1);
+    if is_hidden_in_hand(&scene.state.objects, oyster) {
+        scene.look(oyster, OYSTER_WRITTEN_ON);
     }
 }
 
-#[tactic(auto, unfolding(crate::specs::Finish::layout_with_shown))]
+#[tactic(auto, unfolding(crate::specs::Finish::layout_with_object_shown))]
 fn show_object(object: Object, objects: &mut Objects)
-    ensures { objects.new ≡ layout_with_shown object objects.old }
+    ensures { objects.new ≡ layout_with_object_shown object objects.old }
 {
     if is_hidden_in_hand(objects, object) {
         let prop = objects.prop(object).value();
-        objects.set_prop(object, Prop::new(-1 - prop));
+        objects.set_prop(object, Prop::new(UNSEEN - prop));
     }
 }
 
 /// All objects that are carried show themselves.
 fn show_objects(objects: &mut Objects)
-    ensures { objects.new ≡ layout_with_shown_up_to last_object objects.old }
+    ensures { objects.new ≡ layout_with_shown_up_to LAST_OBJECT objects.old }
 {
     for before in 0..OBJECTS as u8 {
         show_object(Object::new(before + 1), objects);
@@ -71,14 +69,13 @@ fn show_objects(objects: &mut Objects)
 
 /// In a closed cave all that is carried shows itself.
 #[tactic(auto, unfolding(crate::specs::Finish::after_hands_show))]
-fn show_hands(rules: &Rules<'_>, play: &mut Play<'_>)
-    requires { HasRoom 1 play.old }
-    ensures play { scene_of play.new ≡ after_hands_show (cave_of rules.now) (scene_of play.old) }
-    ensures same { GoesOn play.old play.new }
-    ensures few { SaysUpTo 1 play.old play.new }
+fn show_hands(rules: &Rules<'_>, scene: &mut Scene<'_>)
+    requires { HasRoom 1 scene.old }
+    ensures scene { scene_of scene.new ≡ after_hands_show (cave_of rules.now) (scene_of scene.old) }
+    ensures says { GoesOnSaying 1 scene.old scene.new }
 {
-    if play.state.closing.is_closed {
-        show_oyster(rules, play);
-        show_objects(&mut play.state.objects);
+    if scene.state.closing.is_closed {
+        show_oyster(rules, scene);
+        show_objects(&mut scene.state.objects);
     }
 }

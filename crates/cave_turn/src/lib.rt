@@ -10,4 +10,7 @@ pub mod request;
 pub mod revival;
 pub mod turns;
 
-pub use turns::{start, take_line};
+pub use turn_begin::{Rules, begun_state};
+pub use turn_moves::{max_score, score};
+pub use turn_text::{Cave, Meter, Object, Out, Part, State, render};
+pub use turns::{Turned, start, take_line, turn};

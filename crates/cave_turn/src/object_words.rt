@@ -1,15 +1,14 @@
 ghost use Rattle.std.specs.Prelude.{◌≡◌};
-ghost use Rattle.cave_scene.specs.Rules.{cave_of};
+ghost use Rattle.turn_begin.specs.turn_scene.Rules.{cave_of};
 ghost use Rattle.cave_turn.specs.ObjectWords.{is_there, is_liquid_here, is_grown_plant};
 ghost use Rattle.cave_turn.specs.ObjectWords.{is_knife_at, is_sought, is_above_grate};
 ghost use Rattle.cave_turn.specs.ObjectWords.{is_below_grate, object_word};
 
-use cave_objects::{Object, Place};
-use cave_orders::Verb;
-use cave_scene::Rules;
-use cave_things::{has_other_prop, is_dwarf_here, is_in_hand, is_liquid, is_near, lake, liquid};
-use cave_words::Named;
-use cave_world::{Knife, Motion, State};
+use cave_verbs::Verb;
+use turn_begin::{
+    PLANT_SMALL, Rules, has_other_prop, is_dwarf_here, is_in_hand, is_liquid, is_near, lake, liquid,
+};
+use turn_text::{Knife, Motion, Named, Object, Place, State};
 
 /// What a word says that names an object.
 #[derive(Clone, Copy, Debug, PartialEq, Eq)]
@@ -71,7 +70,7 @@ pub fn object_word(
 fn is_there(rules: &Rules<'_>, state: &State, object: Object) -> bool
     ensures { result ≡ is_there (cave_of rules.now) state.now object }
 {
-    state.is_here(object) || is_in_hand(rules, state, object)
+    state.at(object) || is_in_hand(rules, state, object)
 }
 
 /// Whether an object is what a bottle at hand has in it, or what the lake is of.
@@ -89,7 +88,7 @@ fn is_grown_plant(rules: &Rules<'_>, state: &State, object: Object) -> bool
     ensures { result ≡ is_grown_plant (cave_of rules.now) state.now object }
 {
     let grown = rules.thing(Named::SecondPlant);
-    rules.is(object, Named::Plant) && state.is_here(grown) && has_other_prop(state, grown, 0)
+    rules.is(object, Named::Plant) && state.at(grown) && has_other_prop(state, grown, PLANT_SMALL)
 }
 
 fn is_knife_at(here: Place, knife: Knife) -> bool

@@ -1,22 +1,17 @@
 ghost use Rattle.std.specs.Prelude.{◌≡◌};
-ghost use Rattle.cave_scene.specs.Rules.{cave_of};
-ghost use Rattle.cave_world.specs.Motions.{motion_of};
+ghost use Rattle.turn_begin.specs.turn_scene.Rules.{cave_of};
+ghost use Rattle.turn_text.specs.cave_world.Motions.{motion_of};
 ghost use Rattle.cave_turn.specs.Request.{with_verb, with_object, said_word, object_alone};
-ghost use Rattle.cave_turn.specs.Request.{action_alone, word_alone};
-ghost use Rattle.cave_turn.specs.Request.{is_magic, is_magic_motion};
+ghost use Rattle.cave_turn.specs.Request.{action_alone, word_alone, is_magic, is_magic_motion};
 ghost use Rattle.cave_turn.specs.Request.{word_aloud, object_before, action_before, before};
-ghost use Rattle.cave_turn.specs.Request.{enter_stream, enter_word, is_pouring, pour_in};
+ghost use Rattle.cave_turn.specs.Request.{enter_stream, enter_into_word, is_pouring, pour_in};
 ghost use Rattle.cave_turn.specs.Request.{two_words, is_saying, read_words, half_command_of};
 ghost use Rattle.cave_turn.specs.Request.{understanding};
 
 use crate::object_words::{ObjectWord, object_word};
-use cave_objects::Object;
-use cave_orders::Verb;
-use cave_rows::Role;
-use cave_scene::{Rules, or_no_object};
-use cave_things::{is_liquid, lake};
-use cave_words::{Class, Meaning, Named, Word};
-use cave_world::{Motion, Part, State, Talk, WordLine};
+use cave_verbs::Verb;
+use turn_begin::{Rules, is_liquid, lake, or_no_object};
+use turn_text::{Class, Meaning, Motion, Named, Object, Part, Role, State, Talk, Word, WordLine};
 
 /// Half a command: what was said of it before its other half.
 #[derive(Clone, Copy, Debug, PartialEq, Eq)]
@@ -292,9 +287,9 @@ fn enter_stream(rules: &Rules<'_>, state: &State, half: HalfCommand) -> Understo
 }
 
 /// What it says to enter what a word names.
-#[tactic(auto, unfolding(crate::specs::Request::enter_word))]
+#[tactic(auto, unfolding(crate::specs::Request::enter_into_word))]
 fn enter_into(rules: &Rules<'_>, state: &State, half: HalfCommand, word: Word) -> Understood
-    ensures { result ≡ enter_word (cave_of rules.now) state.now half word }
+    ensures { result ≡ enter_into_word (cave_of rules.now) state.now half word }
 {
     if word.is(b"STREA") || word.is(b"WATER") {
         return enter_stream(rules, state, half);
@@ -308,8 +303,8 @@ fn is_pouring(rules: &Rules<'_>, state: &State, word: Word, next: Word) -> bool
     ensures { result ≡ is_pouring (cave_of rules.now) state.now word next }
 {
     (word.is(b"WATER") || word.is(b"OIL"))
-        && ((next.is(b"PLANT") && state.is_here(rules.thing(Named::Plant)))
-            || (next.is(b"DOOR") && state.is_here(rules.thing(Named::Door))))
+        && ((next.is(b"PLANT") && state.at(rules.thing(Named::Plant)))
+            || (next.is(b"DOOR") && state.at(rules.thing(Named::Door))))
 }
 
 fn pour_in(rules: &Rules<'_>) -> SaidWord

@@ -1,24 +1,19 @@
 //! How a player comes back from death.
 
 ghost use Rattle.std.specs.Prelude.{◌≡◌, ◌+◌};
-ghost use Rattle.cave_numbers.specs.Numbers.{last_object};
-ghost use Rattle.cave_scene.specs.Bounds.{HasRoom, SaysUpTo, parts_of_arrival, parts_of_end};
-ghost use Rattle.cave_scene.specs.Play.{scene_of, GoesOn, IsSamePlay};
-ghost use Rattle.cave_scene.specs.Rules.{cave_of};
+ghost use Rattle.turn_text.specs.data_numbers.Numbers.{LAST_OBJECT};
+ghost use Rattle.turn_begin.specs.turn_scene.Bounds.{GoesOnSaying, HasRoom, MovesOnSaying};
+ghost use Rattle.turn_begin.specs.turn_scene.Bounds.{parts_of_arrival, parts_of_end};
+ghost use Rattle.turn_begin.specs.turn_scene.Scene.{scene_of};
+ghost use Rattle.turn_begin.specs.turn_scene.Rules.{cave_of};
 ghost use Rattle.cave_turn.specs.Revival.{revival_role, layout_with_lamp_out, fallen_place};
 ghost use Rattle.cave_turn.specs.Revival.{layout_after_fall, layout_after_falls};
-ghost use Rattle.cave_turn.specs.Revival.{without_belongings};
-ghost use Rattle.cave_turn.specs.Revival.{revival_scene, return_scene, burial_scene};
+ghost use Rattle.cave_turn.specs.Revival.{without_belongings, after_revive, after_come_back};
+ghost use Rattle.cave_turn.specs.Revival.{after_bury};
 
-use cave_ends::{count_death, end};
-use cave_moves::describe_here;
-use cave_objects::object::OBJECTS;
-use cave_objects::{Object, Objects, Place, Prop};
-use cave_rows::Role;
-use cave_scene::{Play, Rules};
-use cave_things::{building_place, is_in_hand, start_place};
-use cave_words::Named;
-use cave_world::{Ending, LIVES, State};
+use turn_begin::{LAMP_OFF, Rules, Scene, building_place, is_in_hand, start_place};
+use turn_moves::{count_death, describe_here, end};
+use turn_text::{Ending, LIVES, Named, OBJECTS, Object, Objects, Place, Prop, Role, State};
 
 /// What is said of a revival, by the deaths before.
 fn revival_role(deaths: u16) -> Role
@@ -39,7 +34,7 @@ fn put_lamp_out(rules: &Rules<'_>, state: &mut State)
 {
     let lamp = rules.thing(Named::Lamp);
     if is_in_hand(rules, state, lamp) {
-        state.objects.set_prop(lamp, Prop::new(0));
+        state.objects.set_prop(lamp, Prop::new(LAMP_OFF));
     }
 }
 
@@ -64,7 +59,7 @@ fn let_fall(rules: &Rules<'_>, place: Place, object: Object, objects: &mut Objec
 
 /// What was carried falls, the last object first.
 fn let_all_fall(rules: &Rules<'_>, place: Place, objects: &mut Objects)
-    ensures { objects.new ≡ layout_after_falls (cave_of rules.now) place last_object objects.old }
+    ensures { objects.new ≡ layout_after_falls (cave_of rules.now) place LAST_OBJECT objects.old }
 {
     for before in 0..OBJECTS as u8 {
         let object = Object::new(OBJECTS as u8 - before);
@@ -84,45 +79,42 @@ fn leave_belongings(rules: &Rules<'_>, state: &mut State)
 }
 
 /// The player is back, without what was carried.
-#[tactic(auto, unfolding(crate::specs::Revival::revival_scene))]
-fn revive(rules: &Rules<'_>, play: &mut Play<'_>)
-    requires { HasRoom (parts_of_arrival play.old.left) play.old }
-    ensures play { scene_of play.new ≡ revival_scene (cave_of rules.now) (scene_of play.old) }
-    ensures same { IsSamePlay play.old play.new }
-    ensures few { SaysUpTo (parts_of_arrival play.old.left) play.old play.new }
+#[tactic(auto, unfolding(crate::specs::Revival::after_revive))]
+fn revive(rules: &Rules<'_>, scene: &mut Scene<'_>)
+    requires { HasRoom (parts_of_arrival scene.old.left) scene.old }
+    ensures scene { scene_of scene.new ≡ after_revive (cave_of rules.now) (scene_of scene.old) }
+    ensures says { MovesOnSaying (parts_of_arrival scene.old.left) scene.old scene.new }
 {
-    leave_belongings(rules, play.state);
-    play.state.put_player_from(building_place(rules.cave));
-    describe_here(rules, play);
+    leave_belongings(rules, scene.state);
+    scene.state.put_player_from(building_place(rules.cave));
+    describe_here(rules, scene);
 }
 
 /// A player who wants to come back does so twice; the third death is the last.
-#[tactic(auto, unfolding(crate::specs::Revival::return_scene))]
-pub fn come_back(rules: &Rules<'_>, play: &mut Play<'_>)
-    requires { HasRoom (parts_of_arrival play.old.left + 1) play.old }
-    ensures play { scene_of play.new ≡ return_scene (cave_of rules.now) (scene_of play.old) }
-    ensures same { IsSamePlay play.old play.new }
-    ensures few { SaysUpTo (parts_of_arrival play.old.left + 1) play.old play.new }
+#[tactic(auto, unfolding(crate::specs::Revival::after_come_back))]
+pub fn come_back(rules: &Rules<'_>, scene: &mut Scene<'_>)
+    requires { HasRoom (parts_of_arrival scene.old.left + 1) scene.old }
+    ensures scene { scene_of scene.new ≡ after_come_back (cave_of rules.now) (scene_of scene.old) }
+    ensures says { MovesOnSaying (parts_of_arrival scene.old.left + 1) scene.old scene.new }
 {
-    let deaths = play.state.tallies.deaths.number();
-    play.say(revival_role(deaths));
-    count_death(play.state);
-    if LIVES <= play.state.tallies.deaths.number() {
-        end(rules, Ending::Killed, play);
+    let deaths = scene.state.tallies.deaths.number();
+    scene.say(revival_role(deaths));
+    count_death(scene.state);
+    if LIVES <= scene.state.tallies.deaths.number() {
+        end(rules, Ending::Killed, scene);
         return;
     }
-    revive(rules, play);
+    revive(rules, scene);
 }
 
 /// A player who doesn't want to come back is dead.
-#[tactic(auto, unfolding(crate::specs::Revival::burial_scene))]
-pub fn bury(rules: &Rules<'_>, play: &mut Play<'_>)
-    requires { HasRoom (1 + parts_of_end) play.old }
-    ensures play { scene_of play.new ≡ burial_scene (cave_of rules.now) (scene_of play.old) }
-    ensures same { GoesOn play.old play.new }
-    ensures few { SaysUpTo (1 + parts_of_end) play.old play.new }
+#[tactic(auto, unfolding(crate::specs::Revival::after_bury))]
+pub fn bury(rules: &Rules<'_>, scene: &mut Scene<'_>)
+    requires { HasRoom (1 + parts_of_end) scene.old }
+    ensures scene { scene_of scene.new ≡ after_bury (cave_of rules.now) (scene_of scene.old) }
+    ensures says { GoesOnSaying (1 + parts_of_end) scene.old scene.new }
 {
-    play.say(Role::Ok);
-    count_death(play.state);
-    end(rules, Ending::Killed, play);
+    scene.say(Role::Ok);
+    count_death(scene.state);
+    end(rules, Ending::Killed, scene);
 }

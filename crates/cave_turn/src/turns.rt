@@ -1,19 +1,14 @@
 ghost use Rattle.std.specs.Prelude.{◌≡◌, ◌+◌, ◌^◌, ◌<◌, ◌≤◌, [], false, IsTrue};
 ghost use Rattle.arrayvec.specs.ArrayVec.{array_vec_len};
-ghost use Rattle.log_lines.specs.Line.{is_line};
-ghost use Rattle.cave_scene.specs.Bounds.{parts_of_turn};
-ghost use Rattle.cave_scene.specs.Rules.{cave_of};
-ghost use Rattle.cave_turn.specs.Turns.{game_beginning, turn_on_line, turn_of_input};
+ghost use Rattle.turn_text.specs.base_lines.Line.{is_line};
+ghost use Rattle.turn_begin.specs.turn_scene.Bounds.{parts_of_turn};
+ghost use Rattle.turn_begin.specs.turn_scene.Rules.{cave_of};
+ghost use Rattle.cave_turn.specs.Turns.{start_of_game, turn_on_line, turn_of_input};
 
 use crate::answers::{answers, close_question, take_answer};
 use crate::commands::command;
-use cave_begin::begun_state;
-use cave_data::Cave;
-use cave_rows::Role;
-use cave_scene::Rules;
-use cave_words::Stream;
-use cave_world::{Out, Part, State};
-use log_lines::{LogLine, Meter};
+use turn_begin::{Rules, begun_state};
+use turn_text::{Cave, LogLine, Meter, Out, Part, Role, State, Stream};
 
 /// Plays a line of a log in the state itself. Returns whether it is a turn of the game.
 #[tactic(auto, unfolding(crate::specs::Turns::turn_on_line))]
@@ -44,11 +39,40 @@ pub fn take_line(
     }
 }
 
+/// What a line makes of a game: the state after it, and whether it is a turn of the game.
+#[derive(Clone, Copy, Debug, PartialEq, Eq)]
+pub struct Turned {
+    pub state: State,
+    pub ticked: bool,
+}
+
+/// Plays a line of a log, and leaves the state as it was before the line to the caller.
+pub fn turn(
+    rules: &Rules<'_>,
+    state: &State,
+    line: &[u8],
+    out: &mut Out,
+    meter: &mut Meter,
+) -> Turned
+    requires line { IsTrue (is_line line.now) }
+    requires empty { out.old.items ≡ [] }
+    requires room { meter.old + 1 < 2 ^ 64 }
+
+    ensures turn { record { state = result.state; parts = out.new.items; ticked = result.ticked }
+        ≡ turn_on_line (cave_of rules.now) state.now line.now }
+    ensures few { array_vec_len out.new ≤ parts_of_turn }
+    ensures counted { meter.new ≡ meter.old + 1 }
+{
+    let mut state = *state;
+    let ticked = take_line(rules, &mut state, line, out, meter);
+    Turned { state, ticked }
+}
+
 /// Begins a game.
-#[tactic(auto, unfolding(crate::specs::Turns::game_beginning))]
+#[tactic(auto, unfolding(crate::specs::Turns::start_of_game))]
 pub fn start(cave: &Cave, seed: u32, out: &mut Out) -> State
     requires { out.old.items ≡ [] }
-    ensures { record { state = result; parts = out.new.items } ≡ game_beginning cave.now seed }
+    ensures { record { state = result; parts = out.new.items } ≡ start_of_game cave.now seed }
 {
     out.push(Part::Role(Role::Welcome));
     begun_state(cave, Stream::seeded(seed))

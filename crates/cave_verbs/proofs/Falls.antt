@@ -1,21 +1,20 @@
 -- Where a verb goes on, the rank falls.
-use Rattle.std.proofs.Common.{◌≡◌, ℕ, ◌<◌, ◌≤◌, zero, suc, true, false, arith, refl, sym, ◌∙◌}
-use Rattle.std.proofs.Common.{◌==◌, not}
+use Rattle.std.proofs.Common.{◌≡◌, ℕ, ◌<◌, ◌≤◌, zero, suc, true, false, arith, refl, sym, ◌∙◌, ◌==◌}
+use Rattle.std.proofs.Common.{not}
 use Rattle.std.proofs.lemmas.Bool.{true≢false, false≢true}
 use Rattle.std.specs.Prelude.{◌||◌, ◌&&◌, Option, Some, None, option_and_then}
-use Rattle.cave_data.specs.CaveView.{CaveView}
-use Rattle.cave_words.specs.Named.{object_named, object_of_word, next_object, name_of}
-use Rattle.cave_words.specs.declared.named.Named.TheVariants as name
-use Rattle.cave_world.specs.declared.state.State.{State}
-use Rattle.cave_scene.specs.Rules.{or_no_object}
-use Rattle.cave_scene.specs.Rules.{thing, object_called}
-use Rattle.cave_scene.specs.Rules.{is_called}
-use Rattle.cave_things.specs.Reach.{is_in_hand, is_near}
-use Rattle.cave_objects.specs.Objects.{is_carried, is_first_at, spot_of}
-use Rattle.cave_things.specs.Liquids.{liquid_of, is_liquid}
+use Rattle.verb_commands.specs.cave_data.CaveView.{CaveView}
+use Rattle.verb_commands.specs.cave_words.Named.{object_named, object_of_word, next_object}
+use Rattle.verb_commands.specs.cave_words.Named.{word_of_name}
+use Rattle.verb_commands.specs.cave_words.declared.named.Named.TheVariants as name
+use Rattle.verb_commands.specs.cave_world.declared.state.State.{State}
+use Rattle.verb_commands.specs.turn_scene.Rules.{or_no_object, thing, object_called, is_called}
+use Rattle.verb_commands.specs.turn_things.Reach.{is_in_hand, is_near}
+use Rattle.verb_commands.specs.world_objects.Objects.{is_carried, is_first_at, spot_of}
+use Rattle.verb_commands.specs.turn_things.Liquids.{liquid_of, is_liquid}
 use Rattle.cave_verbs.specs.Opening.{opens_or_locks}
-use Rattle.cave_orders.specs.declared.verb.Verb.{Verb}
-use Rattle.cave_orders.specs.declared.verb.Verb.TheVariants as verb
+use Rattle.verb_commands.specs.declared.verb.Verb.{Verb}
+use Rattle.verb_commands.specs.declared.verb.Verb.TheVariants as verb
 use Rattle.cave_verbs.specs.Ranks.{take_rank, drop_rank, bare_rank, rank}
 
 -- the bottle is no liquid
@@ -57,8 +56,8 @@ second_differs (Some n) = grind arith
 
 -- the second rod is not the first
 pub second-rod : (cave : CaveView) → is_called cave (thing cave name.SecondRod) name.Rod ≡ false
-unfolding is_called thing object_called object_named name_of
-second-rod cave = second_differs (object_of_word cave (name_of name.Rod))
+unfolding is_called thing object_called object_named word_of_name
+second-rod cave = second_differs (object_of_word cave (word_of_name name.Rod))
 
 -- from the rod to the second rod the rank of DROP falls
 pub drop_falls : (cave : CaveView) (x y : ℕ) → is_called cave x name.Rod ≡ true

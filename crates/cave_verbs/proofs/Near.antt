@@ -1,11 +1,11 @@
 -- What is near is an object.
 use Rattle.std.proofs.Common.{◌≡◌, ℕ, zero, suc, ◌<◌, true, arith}
 use Rattle.std.proofs.lemmas.Bool.{false≢true}
-use Rattle.cave_data.specs.CaveView.{CaveView}
-use Rattle.cave_objects.specs.Objects.{spot_of, is_carried, is_first_at}
-use Rattle.cave_world.specs.declared.state.State.{State}
-use Rattle.cave_scene.specs.Rules.{is_called}
-use Rattle.cave_things.specs.Reach.{is_in_hand, is_near}
+use Rattle.verb_commands.specs.cave_data.CaveView.{CaveView}
+use Rattle.verb_commands.specs.world_objects.Objects.{spot_of, is_carried, is_first_at}
+use Rattle.verb_commands.specs.cave_world.declared.state.State.{State}
+use Rattle.verb_commands.specs.turn_scene.Rules.{is_called}
+use Rattle.verb_commands.specs.turn_things.Reach.{is_in_hand, is_near}
 
 pub is_something : (cave : CaveView) (s : State) (x : ℕ) → is_near cave s x ≡ true → 0 < x
 unfolding is_near is_in_hand is_called is_carried is_first_at spot_of

@@ -1,10 +1,10 @@
 -- What a verb does by its rules, and by those that it goes on with.
 use Rattle.std.specs.Prelude.{ℕ, ◌==◌, if◌then◌else◌, List, suc, zero}
-use Rattle.cave_data.specs.CaveView.{CaveView}
-use Rattle.cave_scene.specs.Play.{Scene}
+use Rattle.verb_commands.specs.cave_data.CaveView.{CaveView}
+use Rattle.verb_commands.specs.turn_scene.Scene.{Scene}
 use Rattle.cave_verbs.specs.Blasting.{blast_rows}
 use Rattle.cave_verbs.specs.Breaking.{break_rows, wake_rows}
-use Rattle.cave_orders.specs.Deeds.{Deed, Act, deed, going_on}
+use Rattle.verb_commands.specs.Deeds.{Deed, Act, deed, going_on}
 use Rattle.cave_verbs.specs.Dropping.{drop_rows}
 use Rattle.cave_verbs.specs.Feeding.{feed_rows, bare_eat_rows, eat_rows}
 use Rattle.cave_verbs.specs.Finding.{find_rows, bare_inventory_rows}
@@ -14,19 +14,19 @@ use Rattle.cave_verbs.specs.Magic.{bare_foo_rows}
 use Rattle.cave_verbs.specs.Opening.{bare_open_rows, open_rows}
 use Rattle.cave_verbs.specs.Pouring.{pour_rows, drink_rows, bare_fill_rows, fill_rows}
 use Rattle.cave_verbs.specs.Reading.{bare_read_rows, read_rows}
-use Rattle.cave_orders.specs.Rows.{VerbRow, first_fitting}
+use Rattle.verb_commands.specs.Rows.{VerbRow, first_fitting}
 use Rattle.cave_verbs.specs.Small.{bare_rows, other_rows, nothing_rows, bare_quit_rows}
 use Rattle.cave_verbs.specs.Small.{bare_score_rows, bare_brief_rows}
 use Rattle.cave_verbs.specs.Taking.{bare_take_rows, take_rows}
 use Rattle.cave_verbs.specs.Throwing.{throw_act}
 use Rattle.cave_verbs.specs.Waving.{wave_rows, rub_rows}
-use Rattle.cave_orders.specs.declared.next.Next.{Next}
-use Rattle.cave_orders.specs.declared.next.Next.TheVariants.{Stay}
-use Rattle.cave_orders.specs.declared.next.Step.{Step}
-use Rattle.cave_orders.specs.declared.next.Step.TheVariants.{Done, GoOn}
-use Rattle.cave_orders.specs.declared.order.Order.{Order}
-use Rattle.cave_orders.specs.declared.verb.Verb.{Verb}
-use Rattle.cave_orders.specs.declared.verb.Verb.TheVariants as verb
+use Rattle.verb_commands.specs.declared.next.Next.{Next}
+use Rattle.verb_commands.specs.declared.next.Next.TheVariants.{Stay}
+use Rattle.verb_commands.specs.declared.next.Step.{Step}
+use Rattle.verb_commands.specs.declared.next.Step.TheVariants.{Done, GoOn}
+use Rattle.verb_commands.specs.declared.command.Command.{Command}
+use Rattle.verb_commands.specs.declared.verb.Verb.{Verb}
+use Rattle.verb_commands.specs.declared.verb.Verb.TheVariants as verb
 
 -- the rows of a verb without an object
 abbrev pub bare_rows_of : Verb → List VerbRow
@@ -86,14 +86,14 @@ object_act verb.Wake d = first_fitting wake_rows d
 object_act _ d = first_fitting other_rows d
 
 unfoldable pub act_bare : Deed → Act
-act_bare d = first_fitting (bare_rows_of d.order.verb) d
+act_bare d = first_fitting (bare_rows_of d.command.verb) d
 
 unfoldable pub act_on : Deed → Act
-act_on d = object_act d.order.verb d
+act_on d = object_act d.command.verb d
 
 -- what a verb does by its own rules
 abbrev pub act_once : Deed → Act
-act_once d = if d.order.object == 0 then act_bare d else act_on d
+act_once d = if d.command.object == 0 then act_bare d else act_on d
 
 -- what a verb does with those that it goes on with, so many at most
 unfoldable pub act_within : ℕ → Deed → Act
@@ -102,7 +102,7 @@ act_within (suc left) d =
     let a = act_once d in
     elim a.step as (λ _. Act) [
       | Done next ↦ a
-      | GoOn v x ↦ act_within left (deed d.cave (going_on d.order v x) a.scene)
+      | GoOn v x ↦ act_within left (deed d.cave (going_on d.command v x) a.scene)
     ]
 
 -- what follows in the end
@@ -110,6 +110,6 @@ abbrev pub next_of_step : Step → Next
 next_of_step (Done next) = next
 next_of_step (GoOn v x) = Stay
 
--- what is ordered is done; no verb goes on more than three times
-unfoldable pub act : CaveView → Order → Scene → Act
-act cave order p = act_within 3 (deed cave order p)
+-- what is commanded is done; no verb goes on more than three times
+unfoldable pub act : CaveView → Command → Scene → Act
+act cave command p = act_within 3 (deed cave command p)

@@ -1,16 +1,17 @@
 -- BREAK and WAKE.
-use Rattle.std.specs.Prelude.{pos, List, [], ◌∷◌}
-use Rattle.cave_rows.specs.declared.role.Role.TheVariants as role
-use Rattle.cave_words.specs.declared.named.Named.TheVariants as name
-use Rattle.cave_world.specs.declared.ending.Ending.TheVariants as ending
-use Rattle.cave_orders.specs.Effects.{say, default, fix, set_prop, lay_down}
-use Rattle.cave_orders.specs.Rows.{VerbRow, row, row_then, ends}
-use Rattle.cave_orders.specs.Tests.{x, is, prop, cave_closed}
+use Rattle.std.specs.Prelude.{List, [], ◌∷◌}
+use Rattle.verb_commands.specs.data_rows.declared.role.Role.TheVariants as role
+use Rattle.verb_commands.specs.cave_words.declared.named.Named.TheVariants as name
+use Rattle.verb_commands.specs.cave_world.declared.ending.Ending.TheVariants as ending
+use Rattle.verb_commands.specs.Effects.{say, default, fix, set_prop, lay_down}
+use Rattle.verb_commands.specs.Rows.{VerbRow, row, row_then, ends}
+use Rattle.verb_commands.specs.Tests.{x, is, prop, cave_closed}
+use Rattle.verb_commands.specs.turn_things.Props.{VASE_BROKEN, VASE_WHOLE}
 
 unfoldable pub break_rows : List VerbRow
 break_rows =
-    row (is name.Vase ∷ prop x (pos 0) ∷ [])
-    (lay_down x ∷ set_prop x (pos 2) ∷ fix x ∷ say role.VaseSmash ∷ [])
+    row (is name.Vase ∷ prop x VASE_WHOLE ∷ [])
+    (lay_down x ∷ set_prop x VASE_BROKEN ∷ fix x ∷ say role.VaseSmash ∷ [])
     ∷ row_then (is name.Mirror ∷ cave_closed ∷ []) (say role.MirrorBreak ∷ say role.Disturbed ∷ [])
     (ends ending.Killed)
     ∷ row (is name.Mirror ∷ []) (say role.MirrorNo ∷ [])

@@ -1,20 +1,22 @@
 -- FEED and EAT.
-use Rattle.std.specs.Prelude.{pos, ◌+◌, ◌++◌, min, List, [], ◌∷◌}
-use Rattle.cave_rows.specs.declared.role.Role.TheVariants as role
-use Rattle.cave_words.specs.declared.named.Named.{Named}
-use Rattle.cave_words.specs.declared.named.Named.TheVariants as name
-use Rattle.cave_world.specs.Dwarves.{MAX_ANGER}
-use Rattle.cave_world.specs.declared.state.State.{State}
-use Rattle.cave_scene.specs.Rules.{is_one_of}
-use Rattle.cave_orders.specs.Effects.{in_state, say, default, ask_what, destroy, loosen, set_prop}
-use Rattle.cave_orders.specs.Effects.{lose_one}
-use Rattle.cave_orders.specs.Rows.{VerbRow, Test, Effect, row, row_then, keeps, goes_on}
-use Rattle.cave_orders.specs.declared.verb.Verb.TheVariants as verb
-use Rattle.cave_orders.specs.Tests.{x, the, no, either, is, near, prop, other_prop, cave_closed}
+use Rattle.std.specs.Prelude.{◌+◌, ◌++◌, min, List, [], ◌∷◌}
+use Rattle.verb_commands.specs.data_rows.declared.role.Role.TheVariants as role
+use Rattle.verb_commands.specs.cave_words.declared.named.Named.{Named}
+use Rattle.verb_commands.specs.cave_words.declared.named.Named.TheVariants as name
+use Rattle.verb_commands.specs.cave_world.Dwarves.{MAX_ANGER}
+use Rattle.verb_commands.specs.cave_world.declared.state.State.{State}
+use Rattle.verb_commands.specs.turn_scene.Rules.{is_one_of}
+use Rattle.verb_commands.specs.Effects.{in_state, say, default, ask_what, destroy, loosen, set_prop}
+use Rattle.verb_commands.specs.Effects.{lose_one}
+use Rattle.verb_commands.specs.Rows.{VerbRow, Test, Effect, row, row_then, keeps, goes_on}
+use Rattle.verb_commands.specs.declared.verb.Verb.TheVariants as verb
+use Rattle.verb_commands.specs.Tests.{x, the, no, either, is, near, prop, other_prop, cave_closed}
+use Rattle.verb_commands.specs.turn_things.Props.{AXE_FREE, BEAR_DEAD, BEAR_FED, BEAR_WILD}
+use Rattle.verb_commands.specs.turn_things.Props.{BIRD_FREE, DRAGON_ALIVE}
 
--- the order's object has one of the names
+-- the command's object has one of the names
 abbrev pub is_any : List Named → Test
-is_any names d = is_one_of d.cave d.order.object names
+is_any names d = is_one_of d.cave d.command.object names
 
 -- the dwarves are angrier by one, up to the most
 abbrev pub with_more_anger : State → State
@@ -29,10 +31,10 @@ anger d = in_state (with_more_anger d.scene.state) d
 abbrev pub feed_bear_rows : List VerbRow
 feed_bear_rows =
     row (is name.Bear ∷ near (the name.Food) ∷ [])
-    (destroy (the name.Food) ∷ set_prop x (pos 1) ∷ loosen (the name.Axe)
-    ∷ set_prop (the name.Axe) (pos 0) ∷ say role.BearFed ∷ [])
-    ∷ row (is name.Bear ∷ prop x (pos 0) ∷ []) (say role.NotHungry ∷ [])
-    ∷ row (is name.Bear ∷ prop x (pos 3) ∷ []) (say role.Ridiculous ∷ [])
+    (destroy (the name.Food) ∷ set_prop x BEAR_FED ∷ loosen (the name.Axe)
+    ∷ set_prop (the name.Axe) AXE_FREE ∷ say role.BearFed ∷ [])
+    ∷ row (is name.Bear ∷ prop x BEAR_WILD ∷ []) (say role.NotHungry ∷ [])
+    ∷ row (is name.Bear ∷ prop x BEAR_DEAD ∷ []) (say role.Ridiculous ∷ [])
     ∷ row (is name.Bear ∷ []) (default ∷ [])
     ∷ []
 
@@ -40,9 +42,9 @@ unfoldable pub feed_rows : List VerbRow
 feed_rows =
     row (is name.Bird ∷ []) (say role.BirdFeed ∷ [])
     ∷ row (is name.Snake ∷ no cave_closed ∷ near (the name.Bird) ∷ [])
-    (destroy (the name.Bird) ∷ set_prop (the name.Bird) (pos 0) ∷ lose_one ∷ say role.BirdEaten
+    (destroy (the name.Bird) ∷ set_prop (the name.Bird) BIRD_FREE ∷ lose_one ∷ say role.BirdEaten
     ∷ [])
-    ∷ row (is name.Dragon ∷ other_prop x (pos 0) ∷ []) (say role.Ridiculous ∷ [])
+    ∷ row (is name.Dragon ∷ other_prop x DRAGON_ALIVE ∷ []) (say role.Ridiculous ∷ [])
     ∷ row (either (is name.Snake) (is name.Dragon) ∷ []) (say role.NotHungry ∷ [])
     ∷ row (is name.Troll ∷ []) (say role.TrollFeed ∷ [])
     ∷ row (is name.Dwarf ∷ near (the name.Food) ∷ []) (anger ∷ say role.DwarfFeed ∷ [])

@@ -2,21 +2,20 @@
 use Rattle.std.specs.Prelude.{ℕ, Bool, ◌==◌, ◌&&◌, not, if◌then◌else◌, List, [], ◌∷◌, ◌++◌, length}
 use Rattle.std.specs.Prelude.{map, filter}
 use Rattle.std.specs.List.{range_with_len}
-use Rattle.cave_numbers.specs.Numbers.{last_object}
-use Rattle.cave_data.specs.CaveView.{CaveView}
-use Rattle.cave_rows.specs.declared.role.Role.TheVariants as role
-use Rattle.cave_words.specs.declared.named.Named.TheVariants as name
-use Rattle.cave_world.specs.declared.part.Part.TheVariants as part
-use Rattle.cave_world.specs.declared.state.State.{State}
-use Rattle.cave_scene.specs.Rules.{thing}
-use Rattle.cave_scene.specs.Rules.{is_called}
-use Rattle.cave_things.specs.Reach.{is_in_hand}
-use Rattle.cave_scene.specs.Play.{Scene, after_saying}
-use Rattle.cave_orders.specs.Deeds.{Deed}
-use Rattle.cave_orders.specs.Effects.{in_scene, say, default}
-use Rattle.cave_orders.specs.Rows.{VerbRow, Test, Effect, row}
-use Rattle.cave_orders.specs.Tests.{x, the, is, in_hand, is_here, dwarf, cave_closed, in_bottle}
-use Rattle.cave_orders.specs.Tests.{in_lake}
+use Rattle.verb_commands.specs.data_numbers.Numbers.{LAST_OBJECT}
+use Rattle.verb_commands.specs.cave_data.CaveView.{CaveView}
+use Rattle.verb_commands.specs.data_rows.declared.role.Role.TheVariants as role
+use Rattle.verb_commands.specs.cave_words.declared.named.Named.TheVariants as name
+use Rattle.verb_commands.specs.cave_world.declared.part.Part.TheVariants as part
+use Rattle.verb_commands.specs.cave_world.declared.state.State.{State}
+use Rattle.verb_commands.specs.turn_scene.Rules.{thing, is_called}
+use Rattle.verb_commands.specs.turn_things.Reach.{is_in_hand}
+use Rattle.verb_commands.specs.turn_scene.Scene.{Scene, after_saying}
+use Rattle.verb_commands.specs.Deeds.{Deed}
+use Rattle.verb_commands.specs.Effects.{in_scene, say, default}
+use Rattle.verb_commands.specs.Rows.{VerbRow, Test, Effect, row}
+use Rattle.verb_commands.specs.Tests.{x, the, is, in_hand, is_here, dwarf, cave_closed, in_bottle}
+use Rattle.verb_commands.specs.Tests.{in_lake}
 
 -- FIND an object, and INVENTORY of one
 unfoldable pub find_rows : List VerbRow
@@ -40,7 +39,7 @@ listed_up_to cave s n = filter (is_in_inventory cave s) (range_with_len 1 n)
 
 -- the objects that the inventory lists, ascending
 abbrev pub objects_listed : Deed → List ℕ
-objects_listed d = listed_up_to d.cave d.scene.state last_object
+objects_listed d = listed_up_to d.cave d.scene.state LAST_OBJECT
 
 abbrev pub nothing_listed : Test
 nothing_listed d = length (objects_listed d) == 0

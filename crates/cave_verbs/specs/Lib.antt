@@ -15,3 +15,4 @@ pub mod Small
 pub mod Taking
 pub mod Throwing
 pub mod Waving
+pub use Rattle.verb_commands.specs as verb_commands

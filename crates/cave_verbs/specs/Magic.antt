@@ -1,24 +1,26 @@
 -- FOO, the first of the magic words that are said one after another.
 use Rattle.std.specs.Prelude.{ℕ, ℤ, pos, ◌-ℤ◌, ◌==◌, not, if◌then◌else◌, List, [], ◌∷◌}
 use Rattle.std.specs.Ordering.{int_eq}
-use Rattle.cave_data.specs.CaveView.{CaveView}
-use Rattle.cave_rows.specs.declared.role.Role.TheVariants as role
-use Rattle.cave_words.specs.declared.named.Named.TheVariants as name
-use Rattle.cave_objects.specs.Objects.{is_gone, with_place}
-use Rattle.cave_world.specs.declared.state.State.{State}
-use Rattle.cave_things.specs.Effects.{with_objects}
-use Rattle.cave_things.specs.Homes.{home, is_at_home, is_home_here}
-use Rattle.cave_things.specs.Reach.{is_near}
-use Rattle.cave_things.specs.SpecialWords.{special}
-use Rattle.cave_scene.specs.Play.{Scene, with_state, after_look_at}
-use Rattle.cave_orders.specs.Deeds.{Deed}
-use Rattle.cave_orders.specs.Effects.{in_scene, in_state, say, set_prop}
-use Rattle.cave_orders.specs.Rows.{VerbRow, Test, Effect, Thing, row}
-use Rattle.cave_orders.specs.Tests.{the, no, either, there_is, in_hand, prop}
+use Rattle.verb_commands.specs.cave_data.CaveView.{CaveView}
+use Rattle.verb_commands.specs.data_rows.declared.role.Role.TheVariants as role
+use Rattle.verb_commands.specs.cave_words.declared.named.Named.TheVariants as name
+use Rattle.verb_commands.specs.world_objects.Objects.{is_gone, after_move_to}
+use Rattle.verb_commands.specs.cave_world.declared.state.State.{State}
+use Rattle.verb_commands.specs.turn_things.Effects.{with_objects}
+use Rattle.verb_commands.specs.turn_things.Homes.{home, is_at_home, is_home_here}
+use Rattle.verb_commands.specs.turn_things.Reach.{is_near}
+use Rattle.verb_commands.specs.turn_things.SpecialWords.{special}
+use Rattle.verb_commands.specs.turn_things.Props.{EGGS_APPEARING, EGGS_ELSEWHERE, EGGS_VANISHING}
+use Rattle.verb_commands.specs.turn_things.Props.{TROLL_CALM, TROLL_RETURNING}
+use Rattle.verb_commands.specs.turn_scene.Scene.{Scene, with_state, after_look_at}
+use Rattle.verb_commands.specs.Deeds.{Deed}
+use Rattle.verb_commands.specs.Effects.{in_scene, in_state, say, set_prop}
+use Rattle.verb_commands.specs.Rows.{VerbRow, Test, Effect, Thing, row}
+use Rattle.verb_commands.specs.Tests.{the, no, either, there_is, in_hand, prop}
 
 -- the number of the word that was just read among the special words; 0 if it is none of them
 abbrev pub k : Deed → ℕ
-k d = special d.cave d.order.word
+k d = special d.cave d.command.word
 
 -- how far the player has come with the magic words
 abbrev pub foo : Deed → ℤ
@@ -73,10 +75,11 @@ begin_anew d = in_state (with_magic (pos 0) d.scene.state) d
 -- elsewhere
 abbrev pub homing_sight : CaveView → State → ℕ → ℤ
 homing_sight cave s x =
-    if is_home_here cave s x then pos 0 else (if is_near cave s x then pos 1 else pos 2)
+    if is_home_here cave s x then EGGS_APPEARING
+    else (if is_near cave s x then EGGS_VANISHING else EGGS_ELSEWHERE)
 
 abbrev pub with_object_at_home : CaveView → ℕ → State → State
-with_object_at_home cave x s = with_objects (with_place s.objects x (home cave x)) s
+with_object_at_home cave x s = with_objects (after_move_to s.objects x (home cave x)) s
 
 -- the text of an object that goes home is printed, and the object goes there
 abbrev pub after_sending_home : CaveView → ℕ → Scene → Scene
@@ -95,7 +98,7 @@ bare_foo_rows =
     ∷ row (no (there_is eggs) ∷ []) (begin_anew ∷ say role.Magic ∷ [])
     ∷ row (at_home eggs ∷ []) (begin_anew ∷ say role.Magic ∷ [])
     ∷ row (in_hand eggs ∷ home_here eggs ∷ []) (begin_anew ∷ say role.Magic ∷ [])
-    ∷ row (is_nowhere eggs ∷ is_nowhere troll ∷ prop troll (pos 0) ∷ [])
-    (begin_anew ∷ set_prop troll (pos 1) ∷ send_home eggs ∷ [])
+    ∷ row (is_nowhere eggs ∷ is_nowhere troll ∷ prop troll TROLL_CALM ∷ [])
+    (begin_anew ∷ set_prop troll TROLL_RETURNING ∷ send_home eggs ∷ [])
     ∷ row [] (begin_anew ∷ send_home eggs ∷ [])
     ∷ []

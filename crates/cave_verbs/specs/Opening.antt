@@ -1,31 +1,33 @@
 -- OPEN and LOCK.
-use Rattle.std.specs.Prelude.{ℕ, pos, Bool, true, false, List, [], ◌∷◌, if◌then◌else◌, Option, Some}
+use Rattle.std.specs.Prelude.{ℕ, Bool, true, false, List, [], ◌∷◌, if◌then◌else◌, Option, Some}
 use Rattle.std.specs.Prelude.{None}
-use Rattle.cave_data.specs.CaveView.{CaveView}
-use Rattle.cave_rows.specs.declared.place_role.PlaceRole.{PlaceRole}
-use Rattle.cave_rows.specs.declared.place_role.PlaceRole.TheVariants as place
-use Rattle.cave_rows.specs.declared.role.Role.TheVariants as role
-use Rattle.cave_words.specs.declared.named.Named.TheVariants as name
-use Rattle.cave_objects.specs.Objects.{with_place, is_object_at}
-use Rattle.cave_world.specs.declared.state.State.{State}
-use Rattle.cave_things.specs.Effects.{with_objects}
-use Rattle.cave_things.specs.Homes.{is_home_elsewhere}
-use Rattle.cave_things.specs.Panic.{after_panic}
-use Rattle.cave_things.specs.Places.{place_named}
-use Rattle.cave_things.specs.Reach.{is_near}
-use Rattle.cave_scene.specs.Rules.{thing}
-use Rattle.cave_orders.specs.Deeds.{Deed}
-use Rattle.cave_orders.specs.Effects.{in_state, say, default, ask_what, bring, destroy, fix, loosen}
-use Rattle.cave_orders.specs.Effects.{set_prop, lay_down}
-use Rattle.cave_orders.specs.Rows.{VerbRow, Test, Effect, Thing, row, row_then, keeps}
-use Rattle.cave_orders.specs.declared.verb.Verb.{Verb}
-use Rattle.cave_orders.specs.declared.verb.Verb.TheVariants as verb
-use Rattle.cave_orders.specs.Tests.{x, the, no, either, there_is, is, in_hand, near, prop}
-use Rattle.cave_orders.specs.Tests.{other_prop}
-use Rattle.cave_orders.specs.Tests.{cave_closing}
-use Rattle.cave_orders.specs.Verbs.{is_verb}
-use Rattle.cave_orders.specs.declared.next.Step.{Step}
-use Rattle.cave_orders.specs.declared.next.Step.TheVariants.{GoOn}
+use Rattle.verb_commands.specs.cave_data.CaveView.{CaveView}
+use Rattle.verb_commands.specs.data_rows.declared.place_role.PlaceRole.{PlaceRole}
+use Rattle.verb_commands.specs.data_rows.declared.place_role.PlaceRole.TheVariants as place
+use Rattle.verb_commands.specs.data_rows.declared.role.Role.TheVariants as role
+use Rattle.verb_commands.specs.cave_words.declared.named.Named.TheVariants as name
+use Rattle.verb_commands.specs.world_objects.Objects.{after_move_to, is_object_at}
+use Rattle.verb_commands.specs.cave_world.declared.state.State.{State}
+use Rattle.verb_commands.specs.turn_things.Effects.{with_objects}
+use Rattle.verb_commands.specs.turn_things.Homes.{is_home_elsewhere}
+use Rattle.verb_commands.specs.turn_things.Panic.{after_panic}
+use Rattle.verb_commands.specs.turn_things.Places.{place_named}
+use Rattle.verb_commands.specs.turn_things.Reach.{is_near}
+use Rattle.verb_commands.specs.turn_things.Props.{BEAR_DEAD, BEAR_FREE, BEAR_WILD, CHAIN_LOCKED}
+use Rattle.verb_commands.specs.turn_things.Props.{CHAIN_UNLOCKED, DOOR_OILED, GRATE_LOCKED}
+use Rattle.verb_commands.specs.turn_things.Props.{GRATE_UNLOCKED}
+use Rattle.verb_commands.specs.turn_scene.Rules.{thing}
+use Rattle.verb_commands.specs.Deeds.{Deed}
+use Rattle.verb_commands.specs.Effects.{in_state, say, default, ask_what, bring, destroy, fix}
+use Rattle.verb_commands.specs.Effects.{loosen, set_prop, lay_down}
+use Rattle.verb_commands.specs.Rows.{VerbRow, Test, Effect, Thing, row, row_then, keeps}
+use Rattle.verb_commands.specs.declared.verb.Verb.{Verb}
+use Rattle.verb_commands.specs.declared.verb.Verb.TheVariants as verb
+use Rattle.verb_commands.specs.Tests.{x, the, no, either, there_is, is, in_hand, near, prop}
+use Rattle.verb_commands.specs.Tests.{other_prop, cave_closing}
+use Rattle.verb_commands.specs.Verbs.{is_verb}
+use Rattle.verb_commands.specs.declared.next.Step.{Step}
+use Rattle.verb_commands.specs.declared.next.Step.TheVariants.{GoOn}
 
 abbrev pub opens_or_locks : Verb → Bool
 opens_or_locks verb.Open = true
@@ -33,14 +35,14 @@ opens_or_locks verb.Lock = true
 opens_or_locks _ = false
 
 abbrev pub is_opening : Test
-is_opening d = is_verb d.order.verb verb.Open
+is_opening d = is_verb d.command.verb verb.Open
 
 abbrev pub is_locking : Test
-is_locking d = is_verb d.order.verb verb.Lock
+is_locking d = is_verb d.command.verb verb.Lock
 
--- the player isn't where the order's object is at home
+-- the player isn't where the command's object is at home
 abbrev pub away_from_home : Test
-away_from_home d = is_home_elsewhere d.cave d.scene.state d.order.object
+away_from_home d = is_home_elsewhere d.cave d.scene.state d.command.object
 
 -- a player who tries to get out of a closing cave panics
 abbrev pub panic : Effect
@@ -49,16 +51,16 @@ panic d = in_state (after_panic d.scene.state) d
 -- an object is moved to a place, if there is the place
 abbrev pub after_sending : ℕ → Option ℕ → State → State
 after_sending x None s = s
-after_sending x (Some place) s = with_objects (with_place s.objects x place) s
+after_sending x (Some place) s = with_objects (after_move_to s.objects x place) s
 
 abbrev pub send : Thing → PlaceRole → Effect
 send t role d = in_state (after_sending (t d) (place_named d.cave role) d.scene.state) d
 
 -- it goes on with the same verb and an object
 abbrev pub goes_on_with : Thing → Deed → Step
-goes_on_with t d = GoOn d.order.verb (t d)
+goes_on_with t d = GoOn d.command.verb (t d)
 
--- what is meant where the order names nothing: the grate or the door that is here, the oyster or
+-- what is meant where the command names nothing: the grate or the door that is here, the oyster or
 -- the clam at hand
 unfoldable pub lock_meant : CaveView → State → ℕ
 lock_meant cave s =
@@ -81,16 +83,19 @@ bare_open_rows =
 -- with the keys: what is done to the chain, and of what is neither grate nor chain the default
 unfoldable pub chain_rows : List VerbRow
 chain_rows =
-    row (is name.Chain ∷ is_opening ∷ prop x (pos 0) ∷ []) (say role.WasUnlocked ∷ [])
-    ∷ row (is name.Chain ∷ is_opening ∷ prop (the name.Bear) (pos 0) ∷ []) (say role.BearBars ∷ [])
-    ∷ row (is name.Chain ∷ is_opening ∷ prop (the name.Bear) (pos 3) ∷ [])
-    (set_prop x (pos 0) ∷ loosen x ∷ fix (the name.Bear) ∷ say role.ChainFree ∷ [])
+    row (is name.Chain ∷ is_opening ∷ prop x CHAIN_UNLOCKED ∷ []) (say role.WasUnlocked ∷ [])
+    ∷ row (is name.Chain ∷ is_opening ∷ prop (the name.Bear) BEAR_WILD ∷ [])
+    (say role.BearBars ∷ [])
+    ∷ row (is name.Chain ∷ is_opening ∷ prop (the name.Bear) BEAR_DEAD ∷ [])
+    (set_prop x CHAIN_UNLOCKED ∷ loosen x ∷ fix (the name.Bear) ∷ say role.ChainFree ∷ [])
     ∷ row (is name.Chain ∷ is_opening ∷ [])
-    (set_prop x (pos 0) ∷ loosen x ∷ set_prop (the name.Bear) (pos 2) ∷ loosen (the name.Bear)
+    (set_prop x CHAIN_UNLOCKED ∷ loosen x ∷ set_prop (the name.Bear) BEAR_FREE
+    ∷ loosen (the name.Bear)
     ∷ say role.ChainFree ∷ [])
     ∷ row (is name.Chain ∷ away_from_home ∷ []) (say role.NoLockHere ∷ [])
-    ∷ row (is name.Chain ∷ other_prop x (pos 0) ∷ []) (say role.WasLocked ∷ [])
-    ∷ row (is name.Chain ∷ []) (lay_down x ∷ set_prop x (pos 2) ∷ fix x ∷ say role.ChainLock ∷ [])
+    ∷ row (is name.Chain ∷ other_prop x CHAIN_UNLOCKED ∷ []) (say role.WasLocked ∷ [])
+    ∷ row (is name.Chain ∷ [])
+    (lay_down x ∷ set_prop x CHAIN_LOCKED ∷ fix x ∷ say role.ChainLock ∷ [])
     ∷ row [] (default ∷ [])
     ∷ []
 
@@ -98,11 +103,11 @@ chain_rows =
 unfoldable pub lock_rows : List VerbRow
 lock_rows =
     row (is name.Grate ∷ cave_closing ∷ []) (say role.ClosingExit ∷ panic ∷ [])
-    ∷ row (is name.Grate ∷ is_opening ∷ prop x (pos 0) ∷ [])
-    (set_prop x (pos 1) ∷ say role.Unlocked ∷ [])
+    ∷ row (is name.Grate ∷ is_opening ∷ prop x GRATE_LOCKED ∷ [])
+    (set_prop x GRATE_UNLOCKED ∷ say role.Unlocked ∷ [])
     ∷ row (is name.Grate ∷ is_opening ∷ []) (say role.WasUnlocked ∷ [])
-    ∷ row (is name.Grate ∷ prop x (pos 0) ∷ []) (say role.WasLocked ∷ [])
-    ∷ row (is name.Grate ∷ []) (set_prop x (pos 0) ∷ say role.Locked ∷ [])
+    ∷ row (is name.Grate ∷ prop x GRATE_LOCKED ∷ []) (say role.WasLocked ∷ [])
+    ∷ row (is name.Grate ∷ []) (set_prop x GRATE_LOCKED ∷ say role.Locked ∷ [])
     ∷ chain_rows
 
 unfoldable pub open_rows : List VerbRow
@@ -116,7 +121,7 @@ open_rows =
     (destroy x ∷ bring (the name.Oyster) ∷ send (the name.Pearl) place.Culdesac ∷ say role.Pearl
     ∷ [])
     ∷ row (is name.Oyster ∷ []) (say role.OysterOpen ∷ [])
-    ∷ row (is name.Door ∷ prop x (pos 1) ∷ []) (say role.Ok ∷ [])
+    ∷ row (is name.Door ∷ prop x DOOR_OILED ∷ []) (say role.Ok ∷ [])
     ∷ row (is name.Door ∷ []) (say role.Rusty ∷ [])
     ∷ row (is name.Cage ∷ []) (say role.NoLatch ∷ [])
     ∷ row (is name.Keys ∷ []) (say role.KeysWhat ∷ [])

@@ -2,20 +2,22 @@
 use Rattle.std.specs.Prelude.{ℕ, pos, ◌+ℤ◌, int_div, ◌==◌, ◌||◌, if◌then◌else◌, List, [], ◌∷◌}
 use Rattle.std.specs.Prelude.{unwrap_or}
 use Rattle.std.specs.Int.{int_rem_euclid}
-use Rattle.cave_data.specs.CaveView.{CaveView}
-use Rattle.cave_rows.specs.declared.role.Role.TheVariants as role
-use Rattle.cave_words.specs.declared.named.Named.{Named}
-use Rattle.cave_words.specs.declared.named.Named.TheVariants as name
-use Rattle.cave_objects.specs.Objects.{prop_of}
-use Rattle.cave_world.specs.declared.state.State.{State}
-use Rattle.cave_things.specs.Liquids.{liquid_of}
-use Rattle.cave_scene.specs.Rules.{is_called}
-use Rattle.cave_orders.specs.Effects.{say, default, ask_what, look, bring, fix, set_prop}
-use Rattle.cave_orders.specs.Rows.{VerbRow, Test, Effect, Thing, row, row_then, keeps, again}
-use Rattle.cave_orders.specs.Rows.{goes_on}
-use Rattle.cave_orders.specs.declared.verb.Verb.TheVariants as verb
-use Rattle.cave_orders.specs.Tests.{x, the, bare, no, either, both, is, in_hand, near, is_here}
-use Rattle.cave_orders.specs.Tests.{in_bottle, bottle_full, in_lake, lake}
+use Rattle.verb_commands.specs.cave_data.CaveView.{CaveView}
+use Rattle.verb_commands.specs.data_rows.declared.role.Role.TheVariants as role
+use Rattle.verb_commands.specs.cave_words.declared.named.Named.{Named}
+use Rattle.verb_commands.specs.cave_words.declared.named.Named.TheVariants as name
+use Rattle.verb_commands.specs.world_objects.Objects.{prop_of}
+use Rattle.verb_commands.specs.cave_world.declared.state.State.{State}
+use Rattle.verb_commands.specs.turn_things.Liquids.{liquid_of}
+use Rattle.verb_commands.specs.turn_things.Props.{BOTTLE_EMPTY, BOTTLE_OF_OIL, BOTTLE_OF_WATER}
+use Rattle.verb_commands.specs.turn_things.Props.{DOOR_OILED, DOOR_RUSTY, VASE_BROKEN}
+use Rattle.verb_commands.specs.turn_scene.Rules.{is_called}
+use Rattle.verb_commands.specs.Effects.{say, default, ask_what, look, bring, fix, set_prop}
+use Rattle.verb_commands.specs.Rows.{VerbRow, Test, Effect, Thing, row, row_then, keeps, again}
+use Rattle.verb_commands.specs.Rows.{goes_on}
+use Rattle.verb_commands.specs.declared.verb.Verb.TheVariants as verb
+use Rattle.verb_commands.specs.Tests.{x, the, bare, no, either, both, is, in_hand, near, is_here}
+use Rattle.verb_commands.specs.Tests.{in_bottle, bottle_full, in_lake, lake}
 
 -- what is poured: what is in the bottle, where that or nothing is named; 0 for a liquid without a
 -- name
@@ -24,14 +26,14 @@ poured_of cave s y =
     if y == 0 || is_called cave y name.Bottle then unwrap_or (liquid_of cave s) 0 else y
 
 abbrev pub what_is_poured : Thing
-what_is_poured d = poured_of d.cave d.scene.state d.order.object
+what_is_poured d = poured_of d.cave d.scene.state d.command.object
 
 -- what is poured has a name
 abbrev pub pours : Named → Test
 pours n d = is_called d.cave (what_is_poured d) n
 
 abbrev pub empty_bottle : Effect
-empty_bottle d = set_prop (the name.Bottle) (pos 1) d
+empty_bottle d = set_prop (the name.Bottle) BOTTLE_EMPTY d
 
 -- the text for the prop above an object's
 abbrev pub look_above : Thing → Effect
@@ -61,9 +63,9 @@ pour_rows =
     ∷ row (no (in_hand what_is_poured) ∷ []) (default ∷ [])
     ∷ row (no (pours name.Water) ∷ no (pours name.Oil) ∷ []) (say role.CantPour ∷ [])
     ∷ row (is_here (the name.Door) ∷ pours name.Oil ∷ [])
-    (empty_bottle ∷ set_prop (the name.Door) (pos 1) ∷ say role.DoorOiled ∷ [])
+    (empty_bottle ∷ set_prop (the name.Door) DOOR_OILED ∷ say role.DoorOiled ∷ [])
     ∷ row (is_here (the name.Door) ∷ [])
-    (empty_bottle ∷ set_prop (the name.Door) (pos 0) ∷ say role.DoorWet ∷ [])
+    (empty_bottle ∷ set_prop (the name.Door) DOOR_RUSTY ∷ say role.DoorWet ∷ [])
     ∷ row_then (is_here (the name.Plant) ∷ pours name.Water ∷ [])
     (empty_bottle ∷ plant_watered) again
     ∷ row (is_here (the name.Plant) ∷ []) (empty_bottle ∷ say role.PlantOil ∷ [])
@@ -88,10 +90,10 @@ unfoldable pub fill_rows : List VerbRow
 fill_rows =
     row (is name.Vase ∷ no lake ∷ []) (say role.VaseDry ∷ [])
     ∷ row (is name.Vase ∷ no (in_hand x) ∷ []) (say role.NotHeld ∷ [])
-    ∷ row (is name.Vase ∷ []) (say role.VaseBreak ∷ set_prop x (pos 2) ∷ fix x ∷ bring x ∷ [])
+    ∷ row (is name.Vase ∷ []) (say role.VaseBreak ∷ set_prop x VASE_BROKEN ∷ fix x ∷ bring x ∷ [])
     ∷ row (no (is name.Bottle) ∷ []) (default ∷ [])
     ∷ row (bottle_full ∷ []) (say role.BottleFull ∷ [])
     ∷ row (no lake ∷ []) (say role.NoLake ∷ [])
-    ∷ row (in_lake (the name.Oil) ∷ []) (set_prop x (pos 2) ∷ say role.FilledOil ∷ [])
-    ∷ row [] (set_prop x (pos 0) ∷ say role.FilledWater ∷ [])
+    ∷ row (in_lake (the name.Oil) ∷ []) (set_prop x BOTTLE_OF_OIL ∷ say role.FilledOil ∷ [])
+    ∷ row [] (set_prop x BOTTLE_OF_WATER ∷ say role.FilledWater ∷ [])
     ∷ []

@@ -1,31 +1,31 @@
 -- READ.
 use Rattle.std.specs.Prelude.{ℕ, ◌&&◌, if◌then◌else◌, List, [], ◌∷◌}
-use Rattle.cave_rows.specs.declared.role.Role.TheVariants as role
-use Rattle.cave_words.specs.declared.named.Named.TheVariants as name
-use Rattle.cave_world.specs.Sight.{is_dark}
-use Rattle.cave_world.specs.State.{CLUE_HINT, is_hint_taken}
-use Rattle.cave_world.specs.declared.ending.Question.TheVariants as question
-use Rattle.cave_world.specs.declared.part.Part.TheVariants as part
-use Rattle.cave_world.specs.declared.part.WordLine.TheVariants as line
-use Rattle.cave_scene.specs.Rules.{thing}
-use Rattle.cave_orders.specs.Choice.{candidate, objects_meant, only}
-use Rattle.cave_orders.specs.Deeds.{Deed}
-use Rattle.cave_orders.specs.Effects.{tell, say, default, ask_what}
-use Rattle.cave_orders.specs.Rows.{VerbRow, Test, Effect, Thing, row, row_then, keeps, asks}
-use Rattle.cave_orders.specs.Rows.{goes_on}
-use Rattle.cave_orders.specs.declared.verb.Verb.TheVariants as verb
-use Rattle.cave_orders.specs.Tests.{x, the, no, there_is, is, in_hand, near, cave_closed}
+use Rattle.verb_commands.specs.data_rows.declared.role.Role.TheVariants as role
+use Rattle.verb_commands.specs.cave_words.declared.named.Named.TheVariants as name
+use Rattle.verb_commands.specs.cave_world.Sight.{dark}
+use Rattle.verb_commands.specs.cave_world.State.{CLUE_HINT, is_hint_taken}
+use Rattle.verb_commands.specs.cave_world.declared.ending.Question.TheVariants as question
+use Rattle.verb_commands.specs.cave_world.declared.part.Part.TheVariants as part
+use Rattle.verb_commands.specs.cave_world.declared.part.WordLine.TheVariants as line
+use Rattle.verb_commands.specs.turn_scene.Rules.{thing}
+use Rattle.verb_commands.specs.Choice.{candidate, objects_meant, only}
+use Rattle.verb_commands.specs.Deeds.{Deed}
+use Rattle.verb_commands.specs.Effects.{tell, say, default, ask_what}
+use Rattle.verb_commands.specs.Rows.{VerbRow, Test, Effect, Thing, row, row_then, keeps, asks}
+use Rattle.verb_commands.specs.Rows.{goes_on}
+use Rattle.verb_commands.specs.declared.verb.Verb.TheVariants as verb
+use Rattle.verb_commands.specs.Tests.{x, the, no, there_is, is, in_hand, near, cave_closed}
 
 -- the player sees nothing
-abbrev pub dark : Test
-dark d = is_dark d.cave (thing d.cave name.Lamp) d.scene.state
+abbrev pub in_the_dark : Test
+in_the_dark d = dark d.cave (thing d.cave name.Lamp) d.scene.state
 
 abbrev pub hint_taken : ℕ → Test
 hint_taken number d = is_hint_taken d.scene.state number
 
 -- it is said that the word that was just read isn't seen here
 abbrev pub not_seen : Effect
-not_seen d = tell (part.Word line.NotSeen d.order.word) d
+not_seen d = tell (part.Word line.NotSeen d.command.word) d
 
 abbrev pub papers : Deed → List ℕ
 papers = objects_meant
@@ -42,13 +42,13 @@ what_to_read d =
 
 unfoldable pub bare_read_rows : List VerbRow
 bare_read_rows =
-    row_then (there_is what_to_read ∷ no dark ∷ []) [] (goes_on verb.Read what_to_read)
+    row_then (there_is what_to_read ∷ no in_the_dark ∷ []) [] (goes_on verb.Read what_to_read)
     ∷ row_then [] (ask_what ∷ []) keeps
     ∷ []
 
 unfoldable pub read_rows : List VerbRow
 read_rows =
-    row (dark ∷ []) (not_seen ∷ [])
+    row (in_the_dark ∷ []) (not_seen ∷ [])
     ∷ row (is name.Magazine ∷ []) (say role.ReadMagazine ∷ [])
     ∷ row (is name.Tablet ∷ []) (say role.ReadTablet ∷ [])
     ∷ row (is name.Message ∷ []) (say role.ReadMessage ∷ [])

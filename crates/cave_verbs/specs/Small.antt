@@ -1,10 +1,10 @@
 -- Verbs of few rules, and verbs that have none of their own.
 use Rattle.std.specs.Prelude.{true, List, [], ◌∷◌}
-use Rattle.cave_rows.specs.declared.role.Role.TheVariants as role
-use Rattle.cave_world.specs.declared.ending.Question.TheVariants as question
-use Rattle.cave_world.specs.declared.state.State.{State}
-use Rattle.cave_orders.specs.Effects.{in_state, say, default, ask_what}
-use Rattle.cave_orders.specs.Rows.{VerbRow, Effect, row, row_then, keeps, asks}
+use Rattle.verb_commands.specs.data_rows.declared.role.Role.TheVariants as role
+use Rattle.verb_commands.specs.cave_world.declared.ending.Question.TheVariants as question
+use Rattle.verb_commands.specs.cave_world.declared.state.State.{State}
+use Rattle.verb_commands.specs.Effects.{in_state, say, default, ask_what}
+use Rattle.verb_commands.specs.Rows.{VerbRow, Effect, row, row_then, keeps, asks}
 
 -- a verb that needs an object and has none
 unfoldable pub bare_rows : List VerbRow

@@ -1,22 +1,23 @@
 -- THROW. An axe that is thrown at a dwarf misses in one of three cases.
-use Rattle.std.specs.Prelude.{ℕ, pos, ◌+◌, false, ◌==◌, min, if◌then◌else◌, List, [], ◌∷◌, take}
-use Rattle.std.specs.Prelude.{Option, Some, None, slice_index_or, slice_set}
+use Rattle.std.specs.Prelude.{ℕ, ◌+◌, false, ◌==◌, min, if◌then◌else◌, List, [], ◌∷◌, take, Option}
+use Rattle.std.specs.Prelude.{Some, None, slice_index_or, slice_set}
 use Rattle.std.specs.List.{position}
-use Rattle.cave_rows.specs.declared.role.Role.TheVariants as role
-use Rattle.cave_words.specs.Stream.{next, number_drawn}
-use Rattle.cave_words.specs.declared.named.Named.TheVariants as name
-use Rattle.cave_world.specs.Dwarves.{MAX_KILLS}
-use Rattle.cave_world.specs.Fresh.{no_dwarf}
-use Rattle.cave_world.specs.declared.dwarves.Dwarf.{Dwarf}
-use Rattle.cave_world.specs.declared.state.State.{State}
-use Rattle.cave_things.specs.Reach.{is_dwarf_at}
-use Rattle.cave_orders.specs.Deeds.{Deed, Act}
-use Rattle.cave_orders.specs.Effects.{in_state, say, default, bring, destroy, fix, juggle}
-use Rattle.cave_orders.specs.Effects.{set_prop, troll_goes}
-use Rattle.cave_orders.specs.Rows.{VerbRow, Test, Effect, Thing, row, row_then, again, goes_on}
-use Rattle.cave_orders.specs.Rows.{fits, act_of_row, first_fitting}
-use Rattle.cave_orders.specs.declared.verb.Verb.TheVariants as verb
-use Rattle.cave_orders.specs.Tests.{x, the, no, is, in_hand, near, is_here, prop, dwarf, treasure}
+use Rattle.verb_commands.specs.data_rows.declared.role.Role.TheVariants as role
+use Rattle.verb_commands.specs.cave_words.Stream.{next, number_drawn}
+use Rattle.verb_commands.specs.cave_words.declared.named.Named.TheVariants as name
+use Rattle.verb_commands.specs.cave_world.Dwarves.{MAX_KILLS}
+use Rattle.verb_commands.specs.cave_world.Fresh.{no_dwarf}
+use Rattle.verb_commands.specs.cave_world.declared.dwarves.Dwarf.{Dwarf}
+use Rattle.verb_commands.specs.cave_world.declared.state.State.{State}
+use Rattle.verb_commands.specs.turn_things.Reach.{is_dwarf_at}
+use Rattle.verb_commands.specs.turn_things.Props.{AXE_BY_BEAR, BEAR_WILD, DRAGON_ALIVE}
+use Rattle.verb_commands.specs.Deeds.{Deed, Act}
+use Rattle.verb_commands.specs.Effects.{in_state, say, default, bring, destroy, fix, juggle}
+use Rattle.verb_commands.specs.Effects.{set_prop, troll_goes}
+use Rattle.verb_commands.specs.Rows.{VerbRow, Test, Effect, Thing, row, row_then, again, goes_on}
+use Rattle.verb_commands.specs.Rows.{fits, act_of_row, first_fitting}
+use Rattle.verb_commands.specs.declared.verb.Verb.TheVariants as verb
+use Rattle.verb_commands.specs.Tests.{x, the, no, is, in_hand, near, is_here, prop, dwarf, treasure}
 
 -- no object
 abbrev pub no_thing : Thing
@@ -87,11 +88,11 @@ hit_rows =
 -- the axe where no dwarf is
 unfoldable pub axe_rows : List VerbRow
 axe_rows =
-    row_then (is_here (the name.Dragon) ∷ prop (the name.Dragon) (pos 0) ∷ [])
+    row_then (is_here (the name.Dragon) ∷ prop (the name.Dragon) DRAGON_ALIVE ∷ [])
     (say role.AxeDragon ∷ bring x ∷ []) again
     ∷ row_then (is_here (the name.Troll) ∷ []) (say role.AxeTroll ∷ bring x ∷ []) again
-    ∷ row (near (the name.Bear) ∷ prop (the name.Bear) (pos 0) ∷ [])
-    (bring x ∷ fix x ∷ set_prop x (pos 1) ∷ juggle (the name.Bear) ∷ say role.AxeBear ∷ [])
+    ∷ row (near (the name.Bear) ∷ prop (the name.Bear) BEAR_WILD ∷ [])
+    (bring x ∷ fix x ∷ set_prop x AXE_BY_BEAR ∷ juggle (the name.Bear) ∷ say role.AxeBear ∷ [])
     ∷ row_then [] [] (goes_on verb.Kill no_thing)
     ∷ []
 

@@ -1,11 +1,11 @@
 -- WAVE and RUB.
 use Rattle.std.specs.Prelude.{pos, ◌-ℤ◌, List, [], ◌∷◌}
-use Rattle.cave_rows.specs.declared.role.Role.TheVariants as role
-use Rattle.cave_words.specs.declared.named.Named.TheVariants as name
-use Rattle.cave_objects.specs.Objects.{prop_of}
-use Rattle.cave_orders.specs.Effects.{say, default, look, set_prop}
-use Rattle.cave_orders.specs.Rows.{VerbRow, Effect, Thing, row}
-use Rattle.cave_orders.specs.Tests.{x, the, no, both, is, in_hand, is_here, cave_closing}
+use Rattle.verb_commands.specs.data_rows.declared.role.Role.TheVariants as role
+use Rattle.verb_commands.specs.cave_words.declared.named.Named.TheVariants as name
+use Rattle.verb_commands.specs.world_objects.Objects.{prop_of}
+use Rattle.verb_commands.specs.Effects.{say, default, look, set_prop}
+use Rattle.verb_commands.specs.Rows.{VerbRow, Effect, Thing, row}
+use Rattle.verb_commands.specs.Tests.{x, the, no, both, is, in_hand, is_here, cave_closing}
 
 -- a prop becomes 1 less what it was
 abbrev pub flip : Thing → Effect

@@ -1,33 +1,31 @@
-ghost use Rattle.cave_scene.specs.Bounds.{HasRoom};
+ghost use Rattle.verb_commands.specs.turn_scene.Bounds.{HasRoom};
 ghost use Rattle.cave_verbs.specs.Blasting.{blast_rows};
-ghost use Rattle.cave_orders.specs.Rows.{DoneByRows};
+ghost use Rattle.verb_commands.specs.Rows.{DoneByRows};
 
-use cave_orders::{Next, Order};
-use cave_rows::{PlaceRole, Role};
-use cave_scene::{Play, Rules};
-use cave_things::{has_prop_up_to, is_near, is_place, place_named};
-use cave_words::Named;
-use cave_world::Ending;
+use verb_commands::{
+    Command, Ending, Named, Next, PlaceRole, Role, Rules, Scene, UNSEEN, has_prop_up_to, is_near,
+    is_place, place_named,
+};
 
 /// BLAST, with an object or without one.
 #[tactic(auto, unfolding(crate::specs::Blasting::blast_rows))]
-pub fn blast(rules: &Rules<'_>, order: Order, play: &mut Play<'_>) -> Next
-    requires { HasRoom 1 play.old }
-    ensures row { DoneByRows blast_rows rules.now order play.old play.new result }
+pub fn blast(rules: &Rules<'_>, command: Command, scene: &mut Scene<'_>) -> Next
+    requires { HasRoom 1 scene.old }
+    ensures row { DoneByRows blast_rows rules.now command scene.old scene.new result }
 {
     let rod = rules.thing(Named::SecondRod);
-    if !play.state.closing.is_closed || has_prop_up_to(play.state, rod, -1) {
-        return order.say_default(rules, play);
+    if !scene.state.closing.is_closed || has_prop_up_to(scene.state, rod, UNSEEN) {
+        return command.say_default(rules, scene);
     }
-    if is_near(rules, play.state, rod) {
-        play.say(Role::Klutz);
+    if is_near(rules, scene.state, rod) {
+        scene.say(Role::Klutz);
         return Next::End(Ending::Klutz);
     }
     let northeast = place_named(rules.cave, PlaceRole::Ne);
-    if is_place(play.state.trail.here, northeast) {
-        play.say(Role::WrongWay);
+    if is_place(scene.state.trail.here, northeast) {
+        scene.say(Role::WrongWay);
         return Next::End(Ending::WrongWay);
     }
-    play.say(Role::Success);
+    scene.say(Role::Success);
     Next::End(Ending::Success)
 }

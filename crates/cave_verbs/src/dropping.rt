@@ -1,109 +1,109 @@
 ghost use Rattle.std.specs.Prelude.{◌≤◌, IsTrue};
-ghost use Rattle.cave_words.specs.declared.named.Named.TheVariants as name;
-ghost use Rattle.cave_scene.specs.Rules.{is_called, cave_of, thing};
-ghost use Rattle.cave_things.specs.Homes.{is_home_elsewhere};
-ghost use Rattle.cave_things.specs.Reach.{is_in_hand, is_near};
-ghost use Rattle.cave_scene.specs.Bounds.{HasRoom, parts_of_row};
-ghost use Rattle.cave_orders.specs.Rows.{ByRows, DoneByRows};
+ghost use Rattle.verb_commands.specs.cave_words.declared.named.Named.TheVariants as name;
+ghost use Rattle.verb_commands.specs.turn_scene.Rules.{is_called, cave_of, thing};
+ghost use Rattle.verb_commands.specs.turn_things.Homes.{is_home_elsewhere};
+ghost use Rattle.verb_commands.specs.turn_things.Reach.{is_in_hand, is_near};
+ghost use Rattle.verb_commands.specs.turn_scene.Bounds.{HasRoom, parts_of_row};
+ghost use Rattle.verb_commands.specs.Rows.{ByRows, DoneByRows};
 ghost use Rattle.cave_verbs.specs.Ranks.{rank_of, drop_rank};
 ghost use Rattle.cave_verbs.specs.Dropping.{drop_rows, drop_vase_rows};
 
-use cave_objects::{Anchor, Prop};
-use cave_orders::{Next, Order, Step, Verb};
-use cave_rows::Role;
-use cave_scene::{Play, Rules};
-use cave_things::{
-    has_prop, is_home_elsewhere, is_in_hand, is_near, lose_to_snake, put_down, remove_troll,
+use verb_commands::{
+    Anchor, BATTERIES_FRESH, BIRD_FREE, Command, DRAGON_ALIVE, Named, Next, Prop, Role, Rules,
+    SNAKE_GONE, Scene, Step, TROLL_FLED, VASE_BREAKING, VASE_BROKEN, VASE_ON_PILLOW, VASE_WHOLE,
+    Verb, has_prop, is_home_elsewhere, is_in_hand, is_near, lose_to_snake, put_down, remove_troll,
 };
-use cave_words::Named;
 
 /// The bird drives the snake away; in the closed cave it wakes the dwarves.
 #[tactic(auto, unfolding(crate::specs::Dropping::drop_rows))]
-fn drop_bird_by_snake(rules: &Rules<'_>, order: Order, play: &mut Play<'_>) -> Next
-    requires room { HasRoom parts_of_row play.old }
-    requires held { IsTrue (is_in_hand (cave_of rules.now) play.old.state.now order.object) }
-    requires bird { IsTrue (is_called (cave_of rules.now) order.object name.Bird) }
+fn drop_bird_by_snake(rules: &Rules<'_>, command: Command, scene: &mut Scene<'_>) -> Next
+    requires room { HasRoom parts_of_row scene.old }
+    requires held { IsTrue (is_in_hand (cave_of rules.now) scene.old.state.now command.object) }
+    requires bird { IsTrue (is_called (cave_of rules.now) command.object name.Bird) }
     requires snake { let cave = cave_of rules.now in
-        IsTrue (is_near cave play.old.state.now (thing cave name.Snake)) }
-    ensures row { DoneByRows drop_rows rules.now order play.old play.new result }
+        IsTrue (is_near cave scene.old.state.now (thing cave name.Snake)) }
+    ensures row { DoneByRows drop_rows rules.now command scene.old scene.new result }
 {
-    if play.state.closing.is_closed {
-        play.say(Role::BirdSnake);
-        return Next::disturb(play);
+    if scene.state.closing.is_closed {
+        scene.say(Role::BirdSnake);
+        return Next::disturb(scene);
     }
     let snake = rules.thing(Named::Snake);
-    play.state.destroy(snake);
-    play.state.objects.set_prop(snake, Prop::new(1));
-    put_down(rules, order.object, play.state);
-    Next::say(Role::BirdSnake, play)
+    scene.state.destroy(snake);
+    scene.state.objects.set_prop(snake, Prop::new(SNAKE_GONE));
+    put_down(rules, command.object, scene.state);
+    Next::say(Role::BirdSnake, scene)
 }
 
 /// A vase that is put down elsewhere than where the pillow is at home breaks without the pillow.
-fn drop_vase(rules: &Rules<'_>, order: Order, play: &mut Play<'_>) -> Next
-    requires room { HasRoom parts_of_row play.old }
-    requires vase { IsTrue (is_called (cave_of rules.now) order.object name.Vase) }
+fn drop_vase(rules: &Rules<'_>, command: Command, scene: &mut Scene<'_>) -> Next
+    requires room { HasRoom parts_of_row scene.old }
+    requires vase { IsTrue (is_called (cave_of rules.now) command.object name.Vase) }
     requires away { let cave = cave_of rules.now in
-        IsTrue (is_home_elsewhere cave play.old.state.now (thing cave name.Pillow)) }
-    ensures row { DoneByRows drop_vase_rows rules.now order play.old play.new result }
+        IsTrue (is_home_elsewhere cave scene.old.state.now (thing cave name.Pillow)) }
+    ensures row { DoneByRows drop_vase_rows rules.now command scene.old scene.new result }
 {
-    let x = order.object;
-    if play.state.is_here(rules.thing(Named::Pillow)) {
-        play.state.objects.set_prop(x, Prop::new(0));
-        play.look(x, 1);
+    let x = command.object;
+    if scene.state.at(rules.thing(Named::Pillow)) {
+        scene.state.objects.set_prop(x, Prop::new(VASE_WHOLE));
+        scene.look(x, VASE_ON_PILLOW);
     } else {
-        play.state.objects.set_prop(x, Prop::new(2));
-        play.look(x, 3);
-        play.state.objects.anchor_to(x, Anchor::Fixed);
+        scene.state.objects.set_prop(x, Prop::new(VASE_BROKEN));
+        scene.look(x, VASE_BREAKING);
+        scene.state.objects.anchor_to(x, Anchor::Fixed);
     }
-    put_down(rules, x, play.state);
+    put_down(rules, x, scene.state);
     Next::Stay
 }
 
 /// DROP an object.
 #[tactic(auto, unfolding(crate::specs::Dropping::drop_rows), using(crate::proofs::Falls::drop_falls))]
-pub fn drop_object(rules: &Rules<'_>, order: Order, play: &mut Play<'_>) -> Step
-    requires { HasRoom parts_of_row play.old }
-    ensures row { ByRows drop_rows rules.now order play.old play.new result }
+pub fn drop_object(rules: &Rules<'_>, command: Command, scene: &mut Scene<'_>) -> Step
+    requires { HasRoom parts_of_row scene.old }
+    ensures row { ByRows drop_rows rules.now command scene.old scene.new result }
     ensures ranks { let cave = cave_of rules.now in
-        rank_of cave result ≤ drop_rank cave order.object }
+        rank_of cave result ≤ drop_rank cave command.object }
 {
-    let x = order.object;
-    if !is_in_hand(rules, play.state, x) {
+    let x = command.object;
+    if !is_in_hand(rules, scene.state, x) {
         let second_rod = rules.thing(Named::SecondRod);
-        if rules.is(x, Named::Rod) && is_in_hand(rules, play.state, second_rod) {
+        if rules.is(x, Named::Rod) && is_in_hand(rules, scene.state, second_rod) {
             return Step::GoOn(Verb::Drop, second_rod);
         }
-        return Step::Done(order.say_default(rules, play));
+        return Step::Done(command.say_default(rules, scene));
     }
-    if rules.is(x, Named::Bird) && is_near(rules, play.state, rules.thing(Named::Snake)) {
-        return Step::Done(drop_bird_by_snake(rules, order, play));
+    if rules.is(x, Named::Bird) && is_near(rules, scene.state, rules.thing(Named::Snake)) {
+        return Step::Done(drop_bird_by_snake(rules, command, scene));
     }
-    if rules.is(x, Named::Coins) && is_near(rules, play.state, rules.thing(Named::Vending)) {
+    if rules.is(x, Named::Coins) && is_near(rules, scene.state, rules.thing(Named::Vending)) {
         let batteries = rules.thing(Named::Batteries);
-        play.state.destroy(x);
-        let here = play.state.trail.here;
-        play.state.move_to(batteries, here);
-        play.look(batteries, 0);
+        scene.state.destroy(x);
+        let here = scene.state.trail.here;
+        scene.state.move_to(batteries, here);
+        scene.look(batteries, BATTERIES_FRESH);
         return Step::Done(Next::Stay);
     }
     let dragon = rules.thing(Named::Dragon);
-    if rules.is(x, Named::Bird) && play.state.is_here(dragon) && has_prop(play.state, dragon, 0) {
-        play.state.destroy(x);
-        play.state.objects.set_prop(x, Prop::new(0));
-        lose_to_snake(rules, play.state);
-        return Step::Done(Next::say(Role::BirdDragon, play));
+    if rules.is(x, Named::Bird)
+        && scene.state.at(dragon)
+        && has_prop(scene.state, dragon, DRAGON_ALIVE)
+    {
+        scene.state.destroy(x);
+        scene.state.objects.set_prop(x, Prop::new(BIRD_FREE));
+        lose_to_snake(rules, scene.state);
+        return Step::Done(Next::say(Role::BirdDragon, scene));
     }
     let troll = rules.thing(Named::Troll);
-    if rules.is(x, Named::Bear) && play.state.is_here(troll) {
-        remove_troll(rules, play.state);
-        play.state.objects.set_prop(troll, Prop::new(2));
-        put_down(rules, x, play.state);
-        return Step::Done(Next::say(Role::TrollFlees, play));
+    if rules.is(x, Named::Bear) && scene.state.at(troll) {
+        remove_troll(rules, scene.state);
+        scene.state.objects.set_prop(troll, Prop::new(TROLL_FLED));
+        put_down(rules, x, scene.state);
+        return Step::Done(Next::say(Role::TrollFlees, scene));
     }
     let pillow = rules.thing(Named::Pillow);
-    if rules.is(x, Named::Vase) && is_home_elsewhere(rules, play.state, pillow) {
-        return Step::Done(drop_vase(rules, order, play));
+    if rules.is(x, Named::Vase) && is_home_elsewhere(rules, scene.state, pillow) {
+        return Step::Done(drop_vase(rules, command, scene));
     }
-    put_down(rules, x, play.state);
-    Step::Done(Next::say(Role::Ok, play))
+    put_down(rules, x, scene.state);
+    Step::Done(Next::say(Role::Ok, scene))
 }

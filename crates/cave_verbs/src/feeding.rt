@@ -1,17 +1,15 @@
 ghost use Rattle.std.specs.Prelude.{◌≤◌, IsTrue};
-ghost use Rattle.cave_words.specs.declared.named.Named.TheVariants as name;
-ghost use Rattle.cave_scene.specs.Bounds.{HasRoom, parts_of_row};
-ghost use Rattle.cave_orders.specs.Rows.{ByRows, DoneByRows};
-ghost use Rattle.cave_scene.specs.Rules.{is_called, cave_of};
+ghost use Rattle.verb_commands.specs.cave_words.declared.named.Named.TheVariants as name;
+ghost use Rattle.verb_commands.specs.turn_scene.Bounds.{HasRoom, parts_of_row};
+ghost use Rattle.verb_commands.specs.Rows.{ByRows, DoneByRows};
+ghost use Rattle.verb_commands.specs.turn_scene.Rules.{is_called, cave_of};
 ghost use Rattle.cave_verbs.specs.Ranks.{rank_of};
 ghost use Rattle.cave_verbs.specs.Feeding.{feed_rows, feed_bear_rows, bare_eat_rows, eat_rows};
 
-use cave_objects::{Anchor, Prop};
-use cave_orders::{Next, Order, Step, Verb};
-use cave_rows::Role;
-use cave_scene::{Play, Rules};
-use cave_things::{has_other_prop, has_prop, is_near, lose_one};
-use cave_words::Named;
+use verb_commands::{
+    AXE_FREE, Anchor, BEAR_DEAD, BEAR_FED, BEAR_WILD, BIRD_FREE, Command, DRAGON_ALIVE, Named,
+    Next, Prop, Role, Rules, Scene, Step, Verb, has_other_prop, has_prop, is_near, lose_one,
+};
 
 /// Living beings that are no food.
 const LIVING: [Named; 8] = [
@@ -27,95 +25,95 @@ const LIVING: [Named; 8] = [
 
 /// FEED an object.
 #[tactic(auto, unfolding(crate::specs::Feeding::feed_rows))]
-pub fn feed(rules: &Rules<'_>, order: Order, play: &mut Play<'_>) -> Next
-    requires { HasRoom parts_of_row play.old }
-    ensures row { DoneByRows feed_rows rules.now order play.old play.new result }
+pub fn feed(rules: &Rules<'_>, command: Command, scene: &mut Scene<'_>) -> Next
+    requires { HasRoom parts_of_row scene.old }
+    ensures row { DoneByRows feed_rows rules.now command scene.old scene.new result }
 {
-    let x = order.object;
+    let x = command.object;
     let bird = rules.thing(Named::Bird);
     let food = rules.thing(Named::Food);
     let role = if rules.is(x, Named::Bird) {
         Role::BirdFeed
     } else if rules.is(x, Named::Snake)
-        && !play.state.closing.is_closed
-        && is_near(rules, play.state, bird)
+        && !scene.state.closing.is_closed
+        && is_near(rules, scene.state, bird)
     {
-        play.state.destroy(bird);
-        play.state.objects.set_prop(bird, Prop::new(0));
-        lose_one(play.state);
+        scene.state.destroy(bird);
+        scene.state.objects.set_prop(bird, Prop::new(BIRD_FREE));
+        lose_one(scene.state);
         Role::BirdEaten
-    } else if rules.is(x, Named::Dragon) && has_other_prop(play.state, x, 0) {
+    } else if rules.is(x, Named::Dragon) && has_other_prop(scene.state, x, DRAGON_ALIVE) {
         Role::Ridiculous
     } else if rules.is(x, Named::Snake) || rules.is(x, Named::Dragon) {
         Role::NotHungry
     } else if rules.is(x, Named::Troll) {
         Role::TrollFeed
-    } else if rules.is(x, Named::Dwarf) && is_near(rules, play.state, food) {
-        play.state.dwarves.anger = play.state.dwarves.anger.up();
+    } else if rules.is(x, Named::Dwarf) && is_near(rules, scene.state, food) {
+        scene.state.dwarves.anger = scene.state.dwarves.anger.up();
         Role::DwarfFeed
     } else if rules.is(x, Named::Dwarf) {
-        return order.say_default(rules, play);
+        return command.say_default(rules, scene);
     } else if rules.is(x, Named::Bear) {
-        return feed_bear(rules, order, play);
+        return feed_bear(rules, command, scene);
     } else {
         Role::FeedWhat
     };
-    Next::say(role, play)
+    Next::say(role, scene)
 }
 
 /// FEED the bear.
 #[tactic(auto, unfolding(crate::specs::Feeding::feed_bear_rows))]
-fn feed_bear(rules: &Rules<'_>, order: Order, play: &mut Play<'_>) -> Next
-    requires room { HasRoom parts_of_row play.old }
-    requires bear { IsTrue (is_called (cave_of rules.now) order.object name.Bear) }
-    ensures row { DoneByRows feed_bear_rows rules.now order play.old play.new result }
+fn feed_bear(rules: &Rules<'_>, command: Command, scene: &mut Scene<'_>) -> Next
+    requires room { HasRoom parts_of_row scene.old }
+    requires bear { IsTrue (is_called (cave_of rules.now) command.object name.Bear) }
+    ensures row { DoneByRows feed_bear_rows rules.now command scene.old scene.new result }
 {
-    let bear = order.object;
+    let bear = command.object;
     let food = rules.thing(Named::Food);
-    if is_near(rules, play.state, food) {
-        play.state.destroy(food);
-        play.state.objects.set_prop(bear, Prop::new(1));
+    if is_near(rules, scene.state, food) {
+        scene.state.destroy(food);
+        scene.state.objects.set_prop(bear, Prop::new(BEAR_FED));
         let axe = rules.thing(Named::Axe);
-        play.state.objects.anchor_to(axe, Anchor::Loose);
-        play.state.objects.set_prop(axe, Prop::new(0));
-        return Next::say(Role::BearFed, play);
+        scene.state.objects.anchor_to(axe, Anchor::Loose);
+        scene.state.objects.set_prop(axe, Prop::new(AXE_FREE));
+        return Next::say(Role::BearFed, scene);
     }
-    if has_prop(play.state, bear, 0) {
-        return Next::say(Role::NotHungry, play);
+    if has_prop(scene.state, bear, BEAR_WILD) {
+        return Next::say(Role::NotHungry, scene);
     }
-    if has_prop(play.state, bear, 3) {
-        return Next::say(Role::Ridiculous, play);
+    if has_prop(scene.state, bear, BEAR_DEAD) {
+        return Next::say(Role::Ridiculous, scene);
     }
-    order.say_default(rules, play)
+    command.say_default(rules, scene)
 }
 
 /// EAT without an object.
 #[tactic(auto, using(crate::proofs::Near::is_something), unfolding(crate::specs::Feeding::bare_eat_rows))]
-pub fn eat_what_is_here(rules: &Rules<'_>, order: Order, play: &mut Play<'_>) -> Step
-    requires { HasRoom parts_of_row play.old }
-    ensures row { ByRows bare_eat_rows rules.now order play.old play.new result }
+pub fn eat_what_is_here(rules: &Rules<'_>, command: Command, scene: &mut Scene<'_>) -> Step
+    requires { HasRoom parts_of_row scene.old }
+    ensures row { ByRows bare_eat_rows rules.now command scene.old scene.new result }
     ensures ranks { rank_of (cave_of rules.now) result ≤ 1 }
 {
     let food = rules.thing(Named::Food);
-    if is_near(rules, play.state, food) {
+    if is_near(rules, scene.state, food) {
         return Step::GoOn(Verb::Eat, food);
     }
-    Step::Done(order.ask_what(rules, play))
+    Step::Done(command.ask_what(rules, scene))
 }
 
 /// EAT an object.
 #[tactic(auto, unfolding(crate::specs::Feeding::eat_rows))]
-pub fn eat(rules: &Rules<'_>, order: Order, play: &mut Play<'_>) -> Next
-    requires { HasRoom parts_of_row play.old }
-    ensures row { DoneByRows eat_rows rules.now order play.old play.new result }
+pub fn eat(rules: &Rules<'_>, command: Command, scene: &mut Scene<'_>) -> Next
+    requires { HasRoom parts_of_row scene.old }
+    ensures row { DoneByRows eat_rows rules.now command scene.old scene.new result }
 {
-    let x = order.object;
+    let x = command.object;
     if rules.is(x, Named::Food) {
-        play.state.destroy(x);
-        return Next::say(Role::Eaten, play);
+        scene.state.destroy(x);
+        return Next::say(Role::Eaten, scene);
     }
     if rules.is_one_of(x, &LIVING) {
-        return Next::say(Role::NoAppetite, play);
+        return Next::say(Role::NoAppetite, scene);
     }
-    order.say_default(rules, play)
+    command.say_default(rules, scene)
 }

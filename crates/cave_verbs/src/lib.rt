@@ -19,3 +19,7 @@ pub mod throwing;
 pub mod waving;
 
 pub use acting::act;
+pub use verb_commands::{
+    Command, Ending, Named, Next, NoRules, Object, Place, Question, Rules, Scene, State, Verb,
+    tell_default,
+};

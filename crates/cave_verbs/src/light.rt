@@ -1,30 +1,25 @@
-ghost use Rattle.cave_scene.specs.Bounds.{HasRoom, parts_of_row};
+ghost use Rattle.verb_commands.specs.turn_scene.Bounds.{HasRoom, parts_of_row};
 ghost use Rattle.cave_verbs.specs.Light.{on_rows, off_rows};
-ghost use Rattle.cave_orders.specs.Rows.{DoneByRows};
+ghost use Rattle.verb_commands.specs.Rows.{DoneByRows};
 
-use cave_objects::Prop;
-use cave_orders::{Next, Order};
-use cave_rows::Role;
-use cave_scene::{Play, Rules};
-use cave_things::is_near;
-use cave_words::Named;
+use verb_commands::{Command, LAMP_OFF, LAMP_ON, Named, Next, Prop, Role, Rules, Scene, is_near};
 
 /// ON, whatever it is done to.
 #[tactic(auto, unfolding(crate::specs::Light::on_rows))]
-pub fn turn_on(rules: &Rules<'_>, order: Order, play: &mut Play<'_>) -> Next
-    requires { HasRoom parts_of_row play.old }
-    ensures row { DoneByRows on_rows rules.now order play.old play.new result }
+pub fn turn_on(rules: &Rules<'_>, command: Command, scene: &mut Scene<'_>) -> Next
+    requires { HasRoom parts_of_row scene.old }
+    ensures row { DoneByRows on_rows rules.now command scene.old scene.new result }
 {
     let lamp = rules.thing(Named::Lamp);
-    if !is_near(rules, play.state, lamp) {
-        return order.say_default(rules, play);
+    if !is_near(rules, scene.state, lamp) {
+        return command.say_default(rules, scene);
     }
-    if play.state.lamp.charge.turns() < 0 {
-        return Next::say(Role::LampDead, play);
+    if scene.state.lamp.charge.turns() < 0 {
+        return Next::say(Role::LampDead, scene);
     }
-    play.state.objects.set_prop(lamp, Prop::new(1));
-    play.say(Role::LampOn);
-    if play.was_dark {
+    scene.state.objects.set_prop(lamp, Prop::new(LAMP_ON));
+    scene.say(Role::LampOn);
+    if scene.was_dark {
         return Next::Describe;
     }
     Next::Stay
@@ -32,18 +27,18 @@ pub fn turn_on(rules: &Rules<'_>, order: Order, play: &mut Play<'_>) -> Next
 
 /// OFF, whatever it is done to.
 #[tactic(auto, unfolding(crate::specs::Light::off_rows))]
-pub fn turn_off(rules: &Rules<'_>, order: Order, play: &mut Play<'_>) -> Next
-    requires { HasRoom parts_of_row play.old }
-    ensures row { DoneByRows off_rows rules.now order play.old play.new result }
+pub fn turn_off(rules: &Rules<'_>, command: Command, scene: &mut Scene<'_>) -> Next
+    requires { HasRoom parts_of_row scene.old }
+    ensures row { DoneByRows off_rows rules.now command scene.old scene.new result }
 {
     let lamp = rules.thing(Named::Lamp);
-    if !is_near(rules, play.state, lamp) {
-        return order.say_default(rules, play);
+    if !is_near(rules, scene.state, lamp) {
+        return command.say_default(rules, scene);
     }
-    play.state.objects.set_prop(lamp, Prop::new(0));
-    play.say(Role::LampOff);
-    if play.state.is_dark(rules.cave, lamp) {
-        return Next::say(Role::Dark, play);
+    scene.state.objects.set_prop(lamp, Prop::new(LAMP_OFF));
+    scene.say(Role::LampOff);
+    if scene.state.dark(rules.cave, lamp) {
+        return Next::say(Role::Dark, scene);
     }
     Next::Stay
 }

@@ -1,22 +1,20 @@
 ghost use Rattle.std.specs.Prelude.{◌≡◌, ◌<◌, ◌-ℤ◌, not, pos};
 ghost use Rattle.std.specs.Ordering.{int_eq};
-ghost use Rattle.cave_scene.specs.Bounds.{HasRoom, SaysUpTo};
-ghost use Rattle.cave_scene.specs.Play.{scene_of, GoesOn};
-ghost use Rattle.cave_scene.specs.Rules.{cave_of};
-ghost use Rattle.cave_orders.specs.declared.next.Next.TheVariants.{Stay};
+ghost use Rattle.verb_commands.specs.turn_scene.Bounds.{GoesOnSaying, HasRoom};
+ghost use Rattle.verb_commands.specs.turn_scene.Scene.{scene_of};
+ghost use Rattle.verb_commands.specs.turn_scene.Rules.{cave_of};
+ghost use Rattle.verb_commands.specs.declared.next.Next.TheVariants.{Stay};
 ghost use Rattle.cave_verbs.specs.Magic.{after_sending_home, bare_foo_rows, homing_sight};
 ghost use Rattle.cave_verbs.specs.Magic.{with_magic};
-ghost use Rattle.cave_orders.specs.Rows.{DoneByRows};
-ghost use Rattle.cave_rows.specs.Rows.{WORDS_PER_CLASS};
-ghost use Rattle.cave_world.specs.Magic.{IsMagic};
+ghost use Rattle.verb_commands.specs.Rows.{DoneByRows};
+ghost use Rattle.verb_commands.specs.data_rows.Rows.{WORDS_PER_CLASS};
+ghost use Rattle.verb_commands.specs.cave_world.Magic.{IsMagic};
 
-use cave_objects::{Object, Prop};
-use cave_orders::{Next, Order};
-use cave_rows::Role;
-use cave_scene::{Play, Rules};
-use cave_things::{has_prop, home, is_at_home, is_home_here, is_in_hand, is_near, special};
-use cave_words::Named;
-use cave_world::{Magic, State};
+use verb_commands::{
+    Command, EGGS_APPEARING, EGGS_ELSEWHERE, EGGS_VANISHING, Magic, Named, Next, Object, Prop,
+    Role, Rules, Scene, State, TROLL_CALM, TROLL_RETURNING, has_prop, home, is_at_home,
+    is_home_here, is_in_hand, is_near, special,
+};
 
 /// How far the player has come with the magic words.
 fn magic_of(state: &State) -> i16
@@ -55,59 +53,64 @@ fn homing_sight(rules: &Rules<'_>, state: &State, object: Object) -> Prop
     ensures { result ≡ homing_sight (cave_of rules.now) state.now object }
 {
     if is_home_here(rules, state, object) {
-        Prop::new(0)
+        Prop::new(EGGS_APPEARING)
     } else if is_near(rules, state, object) {
-        Prop::new(1)
+        Prop::new(EGGS_VANISHING)
     } else {
-        Prop::new(2)
+        Prop::new(EGGS_ELSEWHERE)
     }
 }
 
 /// The text of an object that goes home is printed, and the object goes there.
-fn send_home(rules: &Rules<'_>, object: Object, play: &mut Play<'_>) -> Next
-    requires { HasRoom 1 play.old }
-    ensures play { scene_of play.new
-        ≡ after_sending_home (cave_of rules.now) object (scene_of play.old) }
-    ensures same { GoesOn play.old play.new }
-    ensures few { SaysUpTo 1 play.old play.new }
+fn send_home(rules: &Rules<'_>, object: Object, scene: &mut Scene<'_>) -> Next
+    requires { HasRoom 1 scene.old }
+    ensures scene { scene_of scene.new
+        ≡ after_sending_home (cave_of rules.now) object (scene_of scene.old) }
+    ensures says { GoesOnSaying 1 scene.old scene.new }
     ensures next { result ≡ Stay }
 {
-    let sight = homing_sight(rules, play.state, object);
-    play.look(object, sight.value());
-    play.state.move_to(object, home(rules, object));
+    let sight = homing_sight(rules, scene.state, object);
+    scene.look(object, sight.value());
+    scene.state.move_to(object, home(rules, object));
     Next::Stay
 }
 
 /// FOO without an object.
 #[tactic(auto, unfolding(crate::specs::Magic::bare_foo_rows))]
-pub fn foo(rules: &Rules<'_>, order: Order, play: &mut Play<'_>) -> Next
-    requires { HasRoom 1 play.old }
-    ensures row { DoneByRows bare_foo_rows rules.now order play.old play.new result }
+pub fn foo(rules: &Rules<'_>, command: Command, scene: &mut Scene<'_>) -> Next
+    requires { HasRoom 1 scene.old }
+    ensures row { DoneByRows bare_foo_rows rules.now command scene.old scene.new result }
 {
-    let k = special(rules, order.word);
-    if k == 0 || is_out_of_turn(play.state, k) {
-        if magic_of(play.state) == 0 {
-            return Next::say(Role::Magic, play);
+    let k = special(rules, command.word);
+    if k == 0 || is_out_of_turn(scene.state, k) {
+        if magic_of(scene.state) == 0 {
+            return Next::say(Role::Magic, scene);
         }
-        return Next::say(Role::FooOrder, play);
+        return Next::say(Role::FooOrder, scene);
     }
     if k != 4 {
-        remember(play.state, k);
-        return Next::say(Role::Ok, play);
+        remember(scene.state, k);
+        return Next::say(Role::Ok, scene);
     }
     let (eggs, troll) = (rules.thing(Named::Eggs), rules.thing(Named::Troll));
     if eggs.is_none()
-        || is_at_home(rules, play.state, eggs)
-        || is_in_hand(rules, play.state, eggs) && is_home_here(rules, play.state, eggs)
+        || is_at_home(rules, scene.state, eggs)
+        || is_in_hand(rules, scene.state, eggs) && is_home_here(rules, scene.state, eggs)
     {
-        set_magic(play.state, 0);
-        return Next::say(Role::Magic, play);
+        set_magic(scene.state, 0);
+        return Next::say(Role::Magic, scene);
     }
-    if play.state.is_gone(eggs) && play.state.is_gone(troll) && has_prop(play.state, troll, 0) {
-        set_magic(play.state, 0);
-        play.state.objects.set_prop(troll, Prop::new(1));
-        return send_home(rules, eggs, play);
+    if scene.state.is_gone(eggs)
+        && scene.state.is_gone(troll)
+        && has_prop(scene.state, troll, TROLL_CALM)
+    {
+        set_magic(scene.state, 0);
+        scene
+            .state
+            .objects
+            .set_prop(troll, Prop::new(TROLL_RETURNING));
+        return send_home(rules, eggs, scene);
     }
-    set_magic(play.state, 0);
-    send_home(rules, eggs, play)
+    set_magic(scene.state, 0);
+    send_home(rules, eggs, scene)
 }

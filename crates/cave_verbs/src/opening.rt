@@ -1,34 +1,31 @@
 ghost use Rattle.std.specs.Prelude.{◌≡◌, ◌≤◌, ◌||◌, IsTrue};
-ghost use Rattle.cave_words.specs.declared.named.Named.TheVariants as name;
-ghost use Rattle.cave_scene.specs.Rules.{is_called, cave_of};
-ghost use Rattle.cave_scene.specs.Bounds.{HasRoom, parts_of_row};
-ghost use Rattle.cave_orders.specs.Rows.{ByRows, DoneByRows};
+ghost use Rattle.verb_commands.specs.cave_words.declared.named.Named.TheVariants as name;
+ghost use Rattle.verb_commands.specs.turn_scene.Rules.{is_called, cave_of};
+ghost use Rattle.verb_commands.specs.turn_scene.Bounds.{HasRoom, parts_of_row};
+ghost use Rattle.verb_commands.specs.Rows.{ByRows, DoneByRows};
 ghost use Rattle.cave_verbs.specs.Ranks.{rank_of};
 ghost use Rattle.cave_verbs.specs.Opening.{after_sending, bare_open_rows, chain_rows, lock_meant};
 ghost use Rattle.cave_verbs.specs.Opening.{lock_rows, open_rows, opens_or_locks};
 
-use cave_objects::{Anchor, Object, Place, Prop};
-use cave_orders::{Next, Order, Step, Verb};
-use cave_rows::{PlaceRole, Role};
-use cave_scene::{Play, Rules};
-use cave_things::panic::panic;
-use cave_things::places::place_named;
-use cave_things::{has_other_prop, has_prop, is_home_elsewhere, is_in_hand, is_near, let_go};
-use cave_words::Named;
-use cave_world::State;
+use verb_commands::{
+    Anchor, BEAR_DEAD, BEAR_FREE, BEAR_WILD, CHAIN_LOCKED, CHAIN_UNLOCKED, Command, DOOR_OILED,
+    GRATE_LOCKED, GRATE_UNLOCKED, Named, Next, Object, Place, PlaceRole, Prop, Role, Rules, Scene,
+    State, Step, Verb, has_other_prop, has_prop, is_home_elsewhere, is_in_hand, is_near, let_go,
+    panic, place_named,
+};
 
-/// What is meant where the order names nothing: the grate or the door that is here, the oyster or
+/// What is meant where the command names nothing: the grate or the door that is here, the oyster or
 /// the clam at hand.
 #[tactic(auto, unfolding(crate::specs::Opening::lock_meant))]
 fn lock_meant(rules: &Rules<'_>, state: &State) -> Object
     ensures { result ≡ lock_meant (cave_of rules.now) state.now }
 {
     let grate = rules.thing(Named::Grate);
-    if state.is_here(grate) {
+    if state.at(grate) {
         return grate;
     }
     let door = rules.thing(Named::Door);
-    if state.is_here(door) {
+    if state.at(door) {
         return door;
     }
     let oyster = rules.thing(Named::Oyster);
@@ -44,25 +41,25 @@ fn lock_meant(rules: &Rules<'_>, state: &State) -> Object
 
 /// OPEN or LOCK without an object.
 #[tactic(auto, using(crate::proofs::Near::is_something, crate::proofs::Falls::lock_falls), unfolding(crate::specs::Opening::bare_open_rows))]
-pub fn open_what_is_here(rules: &Rules<'_>, order: Order, play: &mut Play<'_>) -> Step
-    requires room { HasRoom parts_of_row play.old }
-    requires verb { IsTrue (opens_or_locks order.verb) }
-    ensures row { ByRows bare_open_rows rules.now order play.old play.new result }
+pub fn open_what_is_here(rules: &Rules<'_>, command: Command, scene: &mut Scene<'_>) -> Step
+    requires room { HasRoom parts_of_row scene.old }
+    requires verb { IsTrue (opens_or_locks command.verb) }
+    ensures row { ByRows bare_open_rows rules.now command scene.old scene.new result }
     ensures ranks { rank_of (cave_of rules.now) result ≤ 1 }
 {
-    let meant = lock_meant(rules, play.state);
+    let meant = lock_meant(rules, scene.state);
     let chain = rules.thing(Named::Chain);
-    let is_chain_near = is_near(rules, play.state, chain);
+    let is_chain_near = is_near(rules, scene.state, chain);
     if !meant.is_none() && is_chain_near {
-        return Step::Done(order.ask_what(rules, play));
+        return Step::Done(command.ask_what(rules, scene));
     }
     if !meant.is_none() {
-        return Step::GoOn(order.verb, meant);
+        return Step::GoOn(command.verb, meant);
     }
     if is_chain_near {
-        return Step::GoOn(order.verb, chain);
+        return Step::GoOn(command.verb, chain);
     }
-    Step::Done(Next::say(Role::NoLock, play))
+    Step::Done(Next::say(Role::NoLock, scene))
 }
 
 /// An object is moved to a place, if there is the place.
@@ -77,115 +74,115 @@ fn send(object: Object, place: Option<Place>, state: &mut State)
 
 /// OPEN or LOCK the clam or the oyster.
 #[tactic(auto, unfolding(crate::specs::Opening::open_rows))]
-fn open_shell(rules: &Rules<'_>, order: Order, play: &mut Play<'_>) -> Next
-    requires room { HasRoom parts_of_row play.old }
-    requires shell { IsTrue (is_called (cave_of rules.now) order.object name.Clam
-        || is_called (cave_of rules.now) order.object name.Oyster) }
-    ensures row { DoneByRows open_rows rules.now order play.old play.new result }
+fn open_shell(rules: &Rules<'_>, command: Command, scene: &mut Scene<'_>) -> Next
+    requires room { HasRoom parts_of_row scene.old }
+    requires shell { IsTrue (is_called (cave_of rules.now) command.object name.Clam
+        || is_called (cave_of rules.now) command.object name.Oyster) }
+    ensures row { DoneByRows open_rows rules.now command scene.old scene.new result }
 {
-    let x = order.object;
+    let x = command.object;
     let is_clam = rules.is(x, Named::Clam);
-    let has_trident = is_in_hand(rules, play.state, rules.thing(Named::Trident));
-    let role = if order.verb.is(Verb::Lock) {
+    let has_trident = is_in_hand(rules, scene.state, rules.thing(Named::Trident));
+    let role = if command.verb.is(Verb::Lock) {
         Role::LockWhat
     } else if is_clam && !has_trident {
         Role::ClamTool
     } else if !has_trident {
         Role::OysterTool
-    } else if is_clam && is_in_hand(rules, play.state, x) {
+    } else if is_clam && is_in_hand(rules, scene.state, x) {
         Role::ClamHeld
-    } else if is_in_hand(rules, play.state, x) {
+    } else if is_in_hand(rules, scene.state, x) {
         Role::OysterHeld
     } else if is_clam {
-        play.state.destroy(x);
-        let here = play.state.trail.here;
-        play.state.move_to(rules.thing(Named::Oyster), here);
+        scene.state.destroy(x);
+        let here = scene.state.trail.here;
+        scene.state.move_to(rules.thing(Named::Oyster), here);
         let culdesac = place_named(rules.cave, PlaceRole::Culdesac);
-        send(rules.thing(Named::Pearl), culdesac, play.state);
+        send(rules.thing(Named::Pearl), culdesac, scene.state);
         Role::Pearl
     } else {
         Role::OysterOpen
     };
-    Next::say(role, play)
+    Next::say(role, scene)
 }
 
 /// OPEN or LOCK the grate, with the keys.
 #[tactic(auto, unfolding(crate::specs::Opening::lock_rows))]
-fn open_grate(rules: &Rules<'_>, order: Order, play: &mut Play<'_>) -> Next
-    requires room { HasRoom parts_of_row play.old }
-    requires grate { IsTrue (is_called (cave_of rules.now) order.object name.Grate) }
-    ensures row { DoneByRows lock_rows rules.now order play.old play.new result }
+fn open_or_lock_grate(rules: &Rules<'_>, command: Command, scene: &mut Scene<'_>) -> Next
+    requires room { HasRoom parts_of_row scene.old }
+    requires grate { IsTrue (is_called (cave_of rules.now) command.object name.Grate) }
+    ensures row { DoneByRows lock_rows rules.now command scene.old scene.new result }
 {
-    let x = order.object;
-    let is_opening = order.verb.is(Verb::Open);
-    let role = if play.state.closing.is_closing {
-        panic(play.state);
+    let x = command.object;
+    let is_opening = command.verb.is(Verb::Open);
+    let role = if scene.state.closing.is_closing {
+        panic(scene.state);
         Role::ClosingExit
-    } else if is_opening && has_prop(play.state, x, 0) {
-        play.state.objects.set_prop(x, Prop::new(1));
+    } else if is_opening && has_prop(scene.state, x, GRATE_LOCKED) {
+        scene.state.objects.set_prop(x, Prop::new(GRATE_UNLOCKED));
         Role::Unlocked
     } else if is_opening {
         Role::WasUnlocked
-    } else if has_prop(play.state, x, 0) {
+    } else if has_prop(scene.state, x, GRATE_LOCKED) {
         Role::WasLocked
     } else {
-        play.state.objects.set_prop(x, Prop::new(0));
+        scene.state.objects.set_prop(x, Prop::new(GRATE_LOCKED));
         Role::Locked
     };
-    Next::say(role, play)
+    Next::say(role, scene)
 }
 
 /// OPEN or LOCK the chain, with the keys.
 #[tactic(auto, unfolding(crate::specs::Opening::chain_rows))]
-fn open_chain(rules: &Rules<'_>, order: Order, play: &mut Play<'_>) -> Next
-    requires room { HasRoom parts_of_row play.old }
-    requires chain { IsTrue (is_called (cave_of rules.now) order.object name.Chain) }
-    ensures row { DoneByRows chain_rows rules.now order play.old play.new result }
+fn open_chain(rules: &Rules<'_>, command: Command, scene: &mut Scene<'_>) -> Next
+    requires room { HasRoom parts_of_row scene.old }
+    requires chain { IsTrue (is_called (cave_of rules.now) command.object name.Chain) }
+    ensures row { DoneByRows chain_rows rules.now command scene.old scene.new result }
 {
-    let x = order.object;
+    let x = command.object;
     let bear = rules.thing(Named::Bear);
-    let is_opening = order.verb.is(Verb::Open);
-    let role = if is_opening && has_prop(play.state, x, 0) {
+    let is_opening = command.verb.is(Verb::Open);
+    let role = if is_opening && has_prop(scene.state, x, CHAIN_UNLOCKED) {
         Role::WasUnlocked
-    } else if is_opening && has_prop(play.state, bear, 0) {
+    } else if is_opening && has_prop(scene.state, bear, BEAR_WILD) {
         Role::BearBars
-    } else if is_opening && has_prop(play.state, bear, 3) {
-        play.state.objects.set_prop(x, Prop::new(0));
-        play.state.objects.anchor_to(x, Anchor::Loose);
-        play.state.objects.anchor_to(bear, Anchor::Fixed);
+    } else if is_opening && has_prop(scene.state, bear, BEAR_DEAD) {
+        scene.state.objects.set_prop(x, Prop::new(CHAIN_UNLOCKED));
+        scene.state.objects.anchor_to(x, Anchor::Loose);
+        scene.state.objects.anchor_to(bear, Anchor::Fixed);
         Role::ChainFree
     } else if is_opening {
-        play.state.objects.set_prop(x, Prop::new(0));
-        play.state.objects.anchor_to(x, Anchor::Loose);
-        play.state.objects.set_prop(bear, Prop::new(2));
-        play.state.objects.anchor_to(bear, Anchor::Loose);
+        scene.state.objects.set_prop(x, Prop::new(CHAIN_UNLOCKED));
+        scene.state.objects.anchor_to(x, Anchor::Loose);
+        scene.state.objects.set_prop(bear, Prop::new(BEAR_FREE));
+        scene.state.objects.anchor_to(bear, Anchor::Loose);
         Role::ChainFree
-    } else if is_home_elsewhere(rules, play.state, x) {
+    } else if is_home_elsewhere(rules, scene.state, x) {
         Role::NoLockHere
-    } else if has_other_prop(play.state, x, 0) {
+    } else if has_other_prop(scene.state, x, CHAIN_UNLOCKED) {
         Role::WasLocked
     } else {
-        let_go(rules, x, play.state);
-        play.state.objects.set_prop(x, Prop::new(2));
-        play.state.objects.anchor_to(x, Anchor::Fixed);
+        let_go(rules, x, scene.state);
+        scene.state.objects.set_prop(x, Prop::new(CHAIN_LOCKED));
+        scene.state.objects.anchor_to(x, Anchor::Fixed);
         Role::ChainLock
     };
-    Next::say(role, play)
+    Next::say(role, scene)
 }
 
 /// OPEN or LOCK an object.
 #[tactic(auto, unfolding(crate::specs::Opening::open_rows, crate::specs::Opening::lock_rows, crate::specs::Opening::chain_rows))]
-pub fn open(rules: &Rules<'_>, order: Order, play: &mut Play<'_>) -> Next
-    requires { HasRoom parts_of_row play.old }
-    ensures row { DoneByRows open_rows rules.now order play.old play.new result }
+pub fn open(rules: &Rules<'_>, command: Command, scene: &mut Scene<'_>) -> Next
+    requires { HasRoom parts_of_row scene.old }
+    ensures row { DoneByRows open_rows rules.now command scene.old scene.new result }
 {
-    let x = order.object;
+    let x = command.object;
     let is_grate = rules.is(x, Named::Grate);
     let is_chain = rules.is(x, Named::Chain);
-    let has_keys = is_near(rules, play.state, rules.thing(Named::Keys));
+    let has_keys = is_near(rules, scene.state, rules.thing(Named::Keys));
     let role = if rules.is(x, Named::Clam) || rules.is(x, Named::Oyster) {
-        return open_shell(rules, order, play);
-    } else if rules.is(x, Named::Door) && has_prop(play.state, x, 1) {
+        return open_shell(rules, command, scene);
+    } else if rules.is(x, Named::Door) && has_prop(scene.state, x, DOOR_OILED) {
         Role::Ok
     } else if rules.is(x, Named::Door) {
         Role::Rusty
@@ -196,11 +193,11 @@ pub fn open(rules: &Rules<'_>, order: Order, play: &mut Play<'_>) -> Next
     } else if (is_grate || is_chain) && !has_keys {
         Role::NoKeys
     } else if is_grate {
-        return open_grate(rules, order, play);
+        return open_or_lock_grate(rules, command, scene);
     } else if is_chain {
-        return open_chain(rules, order, play);
+        return open_chain(rules, command, scene);
     } else {
-        return order.say_default(rules, play);
+        return command.say_default(rules, scene);
     };
-    Next::say(role, play)
+    Next::say(role, scene)
 }

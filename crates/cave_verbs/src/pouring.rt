@@ -1,19 +1,17 @@
 ghost use Rattle.std.specs.Prelude.{◌≡◌, ◌+◌, ◌≤◌, ◌+ℤ◌, pos, int_div, []};
 ghost use Rattle.std.specs.Int.{int_rem_euclid};
-ghost use Rattle.cave_scene.specs.Bounds.{HasRoom, parts_of_row};
-ghost use Rattle.cave_orders.specs.Rows.{ByRows, DoneByRow, DoneByRows, row_then, again};
-ghost use Rattle.cave_scene.specs.Rules.{cave_of};
+ghost use Rattle.verb_commands.specs.turn_scene.Bounds.{HasRoom, parts_of_row};
+ghost use Rattle.verb_commands.specs.Rows.{ByRows, DoneByRow, DoneByRows, row_then, again};
+ghost use Rattle.verb_commands.specs.turn_scene.Rules.{cave_of};
 ghost use Rattle.cave_verbs.specs.Ranks.{rank_of};
 ghost use Rattle.cave_verbs.specs.Pouring.{poured_of, plant_watered, pour_rows, drink_rows};
 ghost use Rattle.cave_verbs.specs.Pouring.{bare_fill_rows, fill_rows};
 
-use cave_objects::{Anchor, Object, Prop};
-use cave_orders::{Next, Order, Step, Verb};
-use cave_rows::Role;
-use cave_scene::{Play, Rules};
-use cave_things::{is_in_hand, is_liquid, is_near, lake, liquid};
-use cave_words::Named;
-use cave_world::State;
+use verb_commands::{
+    Anchor, BOTTLE_EMPTY, BOTTLE_OF_OIL, BOTTLE_OF_WATER, Command, DOOR_OILED, DOOR_RUSTY, Named,
+    Next, Object, Prop, Role, Rules, Scene, State, Step, VASE_BROKEN, Verb, is_in_hand, is_liquid,
+    is_near, lake, liquid,
+};
 
 /// What is poured: of the bottle, and where nothing is named, what is in the bottle.
 fn poured(rules: &Rules<'_>, state: &State, object: Object) -> Object
@@ -48,132 +46,144 @@ fn half(prop: Prop) -> Prop
 }
 
 /// The plant is watered, and the player arrives again where the player is.
-fn water_plant(rules: &Rules<'_>, order: Order, play: &mut Play<'_>) -> Next
-    requires { HasRoom 1 play.old }
-    ensures row { DoneByRow (row_then [] plant_watered again) rules.now order play.old play.new
+fn water_plant(rules: &Rules<'_>, command: Command, scene: &mut Scene<'_>) -> Next
+    requires { HasRoom 1 scene.old }
+    ensures row { DoneByRow (row_then [] plant_watered again) rules.now command scene.old scene.new
         result }
 {
     let plant = rules.thing(Named::Plant);
-    let prop = play.state.objects.prop(plant);
-    play.look(plant, above(prop));
-    play.state.objects.set_prop(plant, grown(prop));
+    let prop = scene.state.objects.prop(plant);
+    scene.look(plant, above(prop));
+    scene.state.objects.set_prop(plant, grown(prop));
     let second_plant = rules.thing(Named::SecondPlant);
-    let half = half(play.state.objects.prop(plant));
-    play.state.objects.set_prop(second_plant, half);
-    Next::Arrive(play.state.trail.here)
+    let half = half(scene.state.objects.prop(plant));
+    scene.state.objects.set_prop(second_plant, half);
+    Next::Arrive(scene.state.trail.here)
 }
 
 /// POUR, with an object or without one.
 #[tactic(auto, unfolding(crate::specs::Pouring::pour_rows))]
-pub fn pour(rules: &Rules<'_>, order: Order, play: &mut Play<'_>) -> Next
-    requires { HasRoom parts_of_row play.old }
-    ensures row { DoneByRows pour_rows rules.now order play.old play.new result }
+pub fn pour(rules: &Rules<'_>, command: Command, scene: &mut Scene<'_>) -> Next
+    requires { HasRoom parts_of_row scene.old }
+    ensures row { DoneByRows pour_rows rules.now command scene.old scene.new result }
 {
-    if (order.object.is_none() || rules.is(order.object, Named::Bottle))
-        && liquid(rules, play.state).is_none()
+    if (command.object.is_none() || rules.is(command.object, Named::Bottle))
+        && liquid(rules, scene.state).is_none()
     {
-        return order.ask_what(rules, play);
+        return command.ask_what(rules, scene);
     }
-    let x = poured(rules, play.state, order.object);
-    if !is_in_hand(rules, play.state, x) {
-        return order.say_default(rules, play);
+    let x = poured(rules, scene.state, command.object);
+    if !is_in_hand(rules, scene.state, x) {
+        return command.say_default(rules, scene);
     }
     let is_water = rules.is(x, Named::Water);
     let is_oil = rules.is(x, Named::Oil);
     if !is_water && !is_oil {
-        return Next::say(Role::CantPour, play);
+        return Next::say(Role::CantPour, scene);
     }
     let bottle = rules.thing(Named::Bottle);
     let door = rules.thing(Named::Door);
-    if play.state.is_here(door) {
-        play.state.objects.set_prop(bottle, Prop::new(1));
+    if scene.state.at(door) {
+        scene
+            .state
+            .objects
+            .set_prop(bottle, Prop::new(BOTTLE_EMPTY));
         if is_oil {
-            play.state.objects.set_prop(door, Prop::new(1));
-            return Next::say(Role::DoorOiled, play);
+            scene.state.objects.set_prop(door, Prop::new(DOOR_OILED));
+            return Next::say(Role::DoorOiled, scene);
         }
-        play.state.objects.set_prop(door, Prop::new(0));
-        return Next::say(Role::DoorWet, play);
+        scene.state.objects.set_prop(door, Prop::new(DOOR_RUSTY));
+        return Next::say(Role::DoorWet, scene);
     }
-    if play.state.is_here(rules.thing(Named::Plant)) {
-        play.state.objects.set_prop(bottle, Prop::new(1));
+    if scene.state.at(rules.thing(Named::Plant)) {
+        scene
+            .state
+            .objects
+            .set_prop(bottle, Prop::new(BOTTLE_EMPTY));
         if is_water {
-            return water_plant(rules, order, play);
+            return water_plant(rules, command, scene);
         }
-        return Next::say(Role::PlantOil, play);
+        return Next::say(Role::PlantOil, scene);
     }
-    play.state.objects.set_prop(bottle, Prop::new(1));
-    Next::say(Role::PourGround, play)
+    scene
+        .state
+        .objects
+        .set_prop(bottle, Prop::new(BOTTLE_EMPTY));
+    Next::say(Role::PourGround, scene)
 }
 
 /// DRINK, with an object or without one.
 #[tactic(auto, unfolding(crate::specs::Pouring::drink_rows))]
-pub fn drink(rules: &Rules<'_>, order: Order, play: &mut Play<'_>) -> Next
-    requires { HasRoom parts_of_row play.old }
-    ensures row { DoneByRows drink_rows rules.now order play.old play.new result }
+pub fn drink(rules: &Rules<'_>, command: Command, scene: &mut Scene<'_>) -> Next
+    requires { HasRoom parts_of_row scene.old }
+    ensures row { DoneByRows drink_rows rules.now command scene.old scene.new result }
 {
-    let x = order.object;
+    let x = command.object;
     let water = rules.thing(Named::Water);
     let bottle = rules.thing(Named::Bottle);
-    let has_water = is_liquid(water, liquid(rules, play.state))
-        && is_near(rules, play.state, bottle);
-    if x.is_none() && !is_liquid(water, lake(rules, play.state)) && !has_water {
-        return order.ask_what(rules, play);
+    let has_water = is_liquid(water, liquid(rules, scene.state))
+        && is_near(rules, scene.state, bottle);
+    if x.is_none() && !is_liquid(water, lake(rules, scene.state)) && !has_water {
+        return command.ask_what(rules, scene);
     }
     if !x.is_none() && !rules.is(x, Named::Water) {
-        return Next::say(Role::Ridiculous, play);
+        return Next::say(Role::Ridiculous, scene);
     }
     if has_water {
-        play.state.objects.set_prop(bottle, Prop::new(1));
-        return Next::say(Role::Drunk, play);
+        scene
+            .state
+            .objects
+            .set_prop(bottle, Prop::new(BOTTLE_EMPTY));
+        return Next::say(Role::Drunk, scene);
     }
-    order.say_default(rules, play)
+    command.say_default(rules, scene)
 }
 
 /// FILL without an object.
 #[tactic(auto, unfolding(crate::specs::Pouring::bare_fill_rows), using(crate::proofs::Falls::fill_falls))]
-pub fn fill_what(rules: &Rules<'_>, order: Order, play: &mut Play<'_>) -> Step
-    requires { HasRoom parts_of_row play.old }
-    ensures row { ByRows bare_fill_rows rules.now order play.old play.new result }
+pub fn fill_what(rules: &Rules<'_>, command: Command, scene: &mut Scene<'_>) -> Step
+    requires { HasRoom parts_of_row scene.old }
+    ensures row { ByRows bare_fill_rows rules.now command scene.old scene.new result }
     ensures ranks { rank_of (cave_of rules.now) result ≤ 1 }
 {
     let bottle = rules.thing(Named::Bottle);
-    if is_near(rules, play.state, bottle) {
+    if is_near(rules, scene.state, bottle) {
         return Step::GoOn(Verb::Fill, bottle);
     }
-    Step::Done(order.ask_what(rules, play))
+    Step::Done(command.ask_what(rules, scene))
 }
 
 /// FILL an object.
 #[tactic(auto, unfolding(crate::specs::Pouring::fill_rows))]
-pub fn fill(rules: &Rules<'_>, order: Order, play: &mut Play<'_>) -> Next
-    requires { HasRoom parts_of_row play.old }
-    ensures row { DoneByRows fill_rows rules.now order play.old play.new result }
+pub fn fill(rules: &Rules<'_>, command: Command, scene: &mut Scene<'_>) -> Next
+    requires { HasRoom parts_of_row scene.old }
+    ensures row { DoneByRows fill_rows rules.now command scene.old scene.new result }
 {
-    let x = order.object;
+    let x = command.object;
     let is_vase = rules.is(x, Named::Vase);
-    let lake_here = lake(rules, play.state);
+    let lake_here = lake(rules, scene.state);
     let role = if is_vase && lake_here.is_none() {
         Role::VaseDry
-    } else if is_vase && !is_in_hand(rules, play.state, x) {
+    } else if is_vase && !is_in_hand(rules, scene.state, x) {
         Role::NotHeld
     } else if is_vase {
-        play.state.objects.set_prop(x, Prop::new(2));
-        play.state.objects.anchor_to(x, Anchor::Fixed);
-        let here = play.state.trail.here;
-        play.state.move_to(x, here);
+        scene.state.objects.set_prop(x, Prop::new(VASE_BROKEN));
+        scene.state.objects.anchor_to(x, Anchor::Fixed);
+        let here = scene.state.trail.here;
+        scene.state.move_to(x, here);
         Role::VaseBreak
     } else if !rules.is(x, Named::Bottle) {
-        return order.say_default(rules, play);
-    } else if liquid(rules, play.state).is_some() {
+        return command.say_default(rules, scene);
+    } else if liquid(rules, scene.state).is_some() {
         Role::BottleFull
     } else if lake_here.is_none() {
         Role::NoLake
     } else if is_liquid(rules.thing(Named::Oil), lake_here) {
-        play.state.objects.set_prop(x, Prop::new(2));
+        scene.state.objects.set_prop(x, Prop::new(BOTTLE_OF_OIL));
         Role::FilledOil
     } else {
-        play.state.objects.set_prop(x, Prop::new(0));
+        scene.state.objects.set_prop(x, Prop::new(BOTTLE_OF_WATER));
         Role::FilledWater
     };
-    Next::say(role, play)
+    Next::say(role, scene)
 }

@@ -1,22 +1,20 @@
 ghost use Rattle.std.specs.Prelude.{◌≡◌, ◌≤◌};
 ghost use Rattle.std.specs.List.{position};
-ghost use Rattle.cave_scene.specs.Bounds.{HasRoom, parts_of_row};
-ghost use Rattle.cave_orders.specs.Rows.{ActsBy, ByRows, DoneBy, DoneByRows};
-ghost use Rattle.cave_scene.specs.Rules.{cave_of};
-ghost use Rattle.cave_things.specs.Reach.{is_dwarf_at};
-ghost use Rattle.cave_things.specs.Effects.{put_here};
-ghost use Rattle.cave_orders.specs.declared.next.Next.TheVariants.{Arrive};
+ghost use Rattle.verb_commands.specs.turn_scene.Bounds.{HasRoom, parts_of_row};
+ghost use Rattle.verb_commands.specs.Rows.{ActsBy, ByRows, DoneBy, DoneByRows};
+ghost use Rattle.verb_commands.specs.turn_scene.Rules.{cave_of};
+ghost use Rattle.verb_commands.specs.turn_things.Reach.{is_dwarf_at};
+ghost use Rattle.verb_commands.specs.turn_things.Effects.{put_here};
+ghost use Rattle.verb_commands.specs.declared.next.Next.TheVariants.{Arrive};
 ghost use Rattle.cave_verbs.specs.Ranks.{rank_of, throw_rank};
 ghost use Rattle.cave_verbs.specs.Throwing.{with_one_killed, hit_rows, axe_rows};
 ghost use Rattle.cave_verbs.specs.Throwing.{axe_thrown_at_dwarf, axe_act, throw_act};
 
-use cave_objects::{Anchor, Object, Place, Prop};
-use cave_orders::{Next, Order, Step, Verb};
-use cave_rows::Role;
-use cave_scene::{Play, Rules};
-use cave_things::{has_prop, is_dwarf_here, is_in_hand, is_near, is_treasure, remove_troll};
-use cave_words::Named;
-use cave_world::{Dwarf, PIRATE, State};
+use verb_commands::{
+    AXE_BY_BEAR, Anchor, BEAR_WILD, Command, DRAGON_ALIVE, Dwarf, Named, Next, Object, PIRATE,
+    Place, Prop, Role, Rules, Scene, State, Step, Verb, has_prop, is_dwarf_here, is_in_hand,
+    is_near, is_treasure, remove_troll,
+};
 
 /// The index of the first dwarf at a place.
 fn first_at(place: Place, dwarves: &[Dwarf]) -> Option<usize>
@@ -52,101 +50,101 @@ fn put_here(axe: Object, state: &mut State) -> Next
 }
 
 #[tactic(auto, unfolding(crate::specs::Throwing::hit_rows))]
-fn hit_dwarf(rules: &Rules<'_>, order: Order, play: &mut Play<'_>) -> Next
-    requires { HasRoom parts_of_row play.old }
-    ensures row { DoneByRows hit_rows rules.now order play.old play.new result }
+fn hit_dwarf(rules: &Rules<'_>, command: Command, scene: &mut Scene<'_>) -> Next
+    requires { HasRoom parts_of_row scene.old }
+    ensures row { DoneByRows hit_rows rules.now command scene.old scene.new result }
 {
-    if play.state.dwarves.kills.number() == 0 {
-        kill_one(play.state);
-        play.say(Role::AxeFirst);
-        return put_here(order.object, play.state);
+    if scene.state.dwarves.kills.number() == 0 {
+        kill_one(scene.state);
+        scene.say(Role::AxeFirst);
+        return put_here(command.object, scene.state);
     }
-    kill_one(play.state);
-    play.say(Role::AxeKill);
-    put_here(order.object, play.state)
+    kill_one(scene.state);
+    scene.say(Role::AxeKill);
+    put_here(command.object, scene.state)
 }
 
 /// The axe is thrown at a dwarf: one number of three is drawn, and 0 is a miss.
 #[tactic(auto, unfolding(crate::specs::Throwing::axe_thrown_at_dwarf, crate::specs::Throwing::miss_rows))]
-fn throw_at_dwarf(rules: &Rules<'_>, order: Order, play: &mut Play<'_>) -> Next
-    requires { HasRoom parts_of_row play.old }
-    ensures row { DoneBy axe_thrown_at_dwarf rules.now order play.old play.new result }
+fn throw_at_dwarf(rules: &Rules<'_>, command: Command, scene: &mut Scene<'_>) -> Next
+    requires { HasRoom parts_of_row scene.old }
+    ensures row { DoneBy axe_thrown_at_dwarf rules.now command scene.old scene.new result }
 {
-    if play.state.stream.draw(3) == 0 {
-        play.say(Role::AxeMiss);
-        return put_here(order.object, play.state);
+    if scene.state.stream.draw(3) == 0 {
+        scene.say(Role::AxeMiss);
+        return put_here(command.object, scene.state);
     }
-    hit_dwarf(rules, order, play)
+    hit_dwarf(rules, command, scene)
 }
 
 /// The axe is thrown where no dwarf is.
 #[tactic(auto, unfolding(crate::specs::Throwing::axe_rows))]
-fn throw_at_beast(rules: &Rules<'_>, order: Order, play: &mut Play<'_>) -> Step
-    requires { HasRoom parts_of_row play.old }
-    ensures row { ByRows axe_rows rules.now order play.old play.new result }
+fn throw_axe_at_beast(rules: &Rules<'_>, command: Command, scene: &mut Scene<'_>) -> Step
+    requires { HasRoom parts_of_row scene.old }
+    ensures row { ByRows axe_rows rules.now command scene.old scene.new result }
     ensures ranks { rank_of (cave_of rules.now) result ≤ 2 }
 {
-    let x = order.object;
+    let x = command.object;
     let dragon = rules.thing(Named::Dragon);
     let bear = rules.thing(Named::Bear);
-    if play.state.is_here(dragon) && has_prop(play.state, dragon, 0) {
-        play.say(Role::AxeDragon);
-        return Step::Done(put_here(x, play.state));
+    if scene.state.at(dragon) && has_prop(scene.state, dragon, DRAGON_ALIVE) {
+        scene.say(Role::AxeDragon);
+        return Step::Done(put_here(x, scene.state));
     }
-    if play.state.is_here(rules.thing(Named::Troll)) {
-        play.say(Role::AxeTroll);
-        return Step::Done(put_here(x, play.state));
+    if scene.state.at(rules.thing(Named::Troll)) {
+        scene.say(Role::AxeTroll);
+        return Step::Done(put_here(x, scene.state));
     }
-    if is_near(rules, play.state, bear) && has_prop(play.state, bear, 0) {
-        let here = play.state.trail.here;
-        play.state.move_to(x, here);
-        play.state.objects.anchor_to(x, Anchor::Fixed);
-        play.state.objects.set_prop(x, Prop::new(1));
-        play.state.objects.juggle(bear);
-        return Step::Done(Next::say(Role::AxeBear, play));
+    if is_near(rules, scene.state, bear) && has_prop(scene.state, bear, BEAR_WILD) {
+        let here = scene.state.trail.here;
+        scene.state.move_to(x, here);
+        scene.state.objects.anchor_to(x, Anchor::Fixed);
+        scene.state.objects.set_prop(x, Prop::new(AXE_BY_BEAR));
+        scene.state.objects.juggle(bear);
+        return Step::Done(Next::say(Role::AxeBear, scene));
     }
     Step::GoOn(Verb::Kill, Object::none())
 }
 
 #[tactic(auto, unfolding(crate::specs::Throwing::axe_act))]
-fn throw_axe(rules: &Rules<'_>, order: Order, play: &mut Play<'_>) -> Step
-    requires { HasRoom parts_of_row play.old }
-    ensures row { ActsBy axe_act rules.now order play.old play.new result }
+fn throw_axe(rules: &Rules<'_>, command: Command, scene: &mut Scene<'_>) -> Step
+    requires { HasRoom parts_of_row scene.old }
+    ensures row { ActsBy axe_act rules.now command scene.old scene.new result }
     ensures ranks { rank_of (cave_of rules.now) result ≤ 2 }
 {
-    if is_dwarf_here(play.state) {
-        return Step::Done(throw_at_dwarf(rules, order, play));
+    if is_dwarf_here(scene.state) {
+        return Step::Done(throw_at_dwarf(rules, command, scene));
     }
-    throw_at_beast(rules, order, play)
+    throw_axe_at_beast(rules, command, scene)
 }
 
 /// THROW an object.
 #[tactic(auto, unfolding(crate::specs::Throwing::throw_act, crate::specs::Throwing::throw_rows))]
-pub fn throw(rules: &Rules<'_>, order: Order, play: &mut Play<'_>) -> Step
-    requires { HasRoom parts_of_row play.old }
-    ensures row { ActsBy throw_act rules.now order play.old play.new result }
+pub fn throw(rules: &Rules<'_>, command: Command, scene: &mut Scene<'_>) -> Step
+    requires { HasRoom parts_of_row scene.old }
+    ensures row { ActsBy throw_act rules.now command scene.old scene.new result }
     ensures ranks { let cave = cave_of rules.now in
-        rank_of cave result ≤ throw_rank cave order.object }
+        rank_of cave result ≤ throw_rank cave command.object }
 {
-    let x = order.object;
+    let x = command.object;
     let bear = rules.thing(Named::Bear);
-    if !is_in_hand(rules, play.state, x) {
+    if !is_in_hand(rules, scene.state, x) {
         let second_rod = rules.thing(Named::SecondRod);
-        if rules.is(x, Named::Rod) && is_in_hand(rules, play.state, second_rod) {
+        if rules.is(x, Named::Rod) && is_in_hand(rules, scene.state, second_rod) {
             return Step::GoOn(Verb::Throw, second_rod);
         }
-        return Step::Done(order.say_default(rules, play));
+        return Step::Done(command.say_default(rules, scene));
     }
-    if is_treasure(x) && play.state.is_here(rules.thing(Named::Troll)) {
-        play.state.destroy(x);
-        remove_troll(rules, play.state);
-        return Step::Done(Next::say(Role::TrollPaid, play));
+    if is_treasure(x) && scene.state.at(rules.thing(Named::Troll)) {
+        scene.state.destroy(x);
+        remove_troll(rules, scene.state);
+        return Step::Done(Next::say(Role::TrollPaid, scene));
     }
-    if rules.is(x, Named::Food) && is_near(rules, play.state, bear) {
+    if rules.is(x, Named::Food) && is_near(rules, scene.state, bear) {
         return Step::GoOn(Verb::Feed, bear);
     }
     if !rules.is(x, Named::Axe) {
         return Step::GoOn(Verb::Drop, x);
     }
-    throw_axe(rules, order, play)
+    throw_axe(rules, command, scene)
 }

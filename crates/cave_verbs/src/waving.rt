@@ -1,14 +1,9 @@
 ghost use Rattle.std.specs.Prelude.{◌≡◌, ◌-ℤ◌, pos};
-ghost use Rattle.cave_scene.specs.Bounds.{HasRoom, parts_of_row};
+ghost use Rattle.verb_commands.specs.turn_scene.Bounds.{HasRoom, parts_of_row};
 ghost use Rattle.cave_verbs.specs.Waving.{wave_rows, rub_rows};
-ghost use Rattle.cave_orders.specs.Rows.{DoneByRows};
+ghost use Rattle.verb_commands.specs.Rows.{DoneByRows};
 
-use cave_objects::Prop;
-use cave_orders::{Next, Order};
-use cave_rows::Role;
-use cave_scene::{Play, Rules};
-use cave_things::is_in_hand;
-use cave_words::Named;
+use verb_commands::{Command, Named, Next, Prop, Role, Rules, Scene, is_in_hand};
 
 fn flipped(prop: Prop) -> Prop
     ensures { result ≡ pos 1 -ℤ prop }
@@ -25,40 +20,40 @@ fn text_of_flipped(prop: Prop) -> i8
 
 /// WAVE an object.
 #[tactic(auto, unfolding(crate::specs::Waving::wave_rows))]
-pub fn wave(rules: &Rules<'_>, order: Order, play: &mut Play<'_>) -> Next
-    requires { HasRoom parts_of_row play.old }
-    ensures row { DoneByRows wave_rows rules.now order play.old play.new result }
+pub fn wave(rules: &Rules<'_>, command: Command, scene: &mut Scene<'_>) -> Next
+    requires { HasRoom parts_of_row scene.old }
+    ensures row { DoneByRows wave_rows rules.now command scene.old scene.new result }
 {
-    let x = order.object;
+    let x = command.object;
     let is_rod = rules.is(x, Named::Rod);
-    if !is_in_hand(rules, play.state, x)
-        && !(is_rod && is_in_hand(rules, play.state, rules.thing(Named::SecondRod)))
+    if !is_in_hand(rules, scene.state, x)
+        && !(is_rod && is_in_hand(rules, scene.state, rules.thing(Named::SecondRod)))
     {
-        return Next::say(Role::NotHeld, play);
+        return Next::say(Role::NotHeld, scene);
     }
     let fissure = rules.thing(Named::Fissure);
     if is_rod
-        && play.state.is_here(fissure)
-        && is_in_hand(rules, play.state, rules.thing(Named::Rod))
-        && !play.state.closing.is_closing
+        && scene.state.at(fissure)
+        && is_in_hand(rules, scene.state, rules.thing(Named::Rod))
+        && !scene.state.closing.is_closing
     {
-        let was = play.state.objects.prop(fissure);
-        play.state.objects.set_prop(fissure, flipped(was));
-        let prop = play.state.objects.prop(fissure);
-        play.look(fissure, text_of_flipped(prop));
+        let was = scene.state.objects.prop(fissure);
+        scene.state.objects.set_prop(fissure, flipped(was));
+        let prop = scene.state.objects.prop(fissure);
+        scene.look(fissure, text_of_flipped(prop));
         return Next::Stay;
     }
-    order.say_default(rules, play)
+    command.say_default(rules, scene)
 }
 
 /// RUB an object.
 #[tactic(auto, unfolding(crate::specs::Waving::rub_rows))]
-pub fn rub(rules: &Rules<'_>, order: Order, play: &mut Play<'_>) -> Next
-    requires { HasRoom parts_of_row play.old }
-    ensures row { DoneByRows rub_rows rules.now order play.old play.new result }
+pub fn rub(rules: &Rules<'_>, command: Command, scene: &mut Scene<'_>) -> Next
+    requires { HasRoom parts_of_row scene.old }
+    ensures row { DoneByRows rub_rows rules.now command scene.old scene.new result }
 {
-    if rules.is(order.object, Named::Lamp) {
-        return order.say_default(rules, play);
+    if rules.is(command.object, Named::Lamp) {
+        return command.say_default(rules, scene);
     }
-    Next::say(Role::RubOdd, play)
+    Next::say(Role::RubOdd, scene)
 }

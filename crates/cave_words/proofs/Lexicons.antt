@@ -1,9 +1,9 @@
-use Rattle.std.proofs.Common.{◌≡◌, ℕ, List, map, get_or, ap, ◌∙◌, refl}
-use Rattle.std.proofs.Common.{Option, None, option_map, option_and_then}
+use Rattle.std.proofs.Common.{◌≡◌, ℕ, List, map, get_or, ap, ◌∙◌, refl, Option, None, option_map}
+use Rattle.std.proofs.Common.{option_and_then}
 use Rattle.cave_data.specs.CaveView.{CaveView}
 use Rattle.cave_words.proofs.Indexes.{first-meanings_of, in_class-meanings_of}
 use Rattle.cave_words.specs.Index.{Index, LexiconView, IsIndexOf, meanings_in}
-use Rattle.cave_words.specs.Lexicon.{IsLexiconOf, meaning_of_word, found_in, found_object}
+use Rattle.cave_words.specs.Lexicon.{IsLexiconOf, find_word, find_in_class, found_object}
 use Rattle.cave_words.specs.Meaning.{meaning, meaning_in}
 use Rattle.cave_words.specs.Meanings.{meaning_in_class}
 use Rattle.cave_words.specs.Named.{name_number, object_of_word, object_named}
@@ -17,11 +17,11 @@ use Rattle.cave_words.specs.declared.named.Named.TheVariants as name
 use Rattle.cave_words.specs.declared.named.TheConstants.{EACH_NAME}
 
 pub finds : (cave : CaveView) (lexicon : LexiconView) (word : List ℕ)
-    → IsLexiconOf cave lexicon → meaning_of_word lexicon word ≡ meaning cave word
+    → IsLexiconOf cave lexicon → find_word lexicon word ≡ meaning cave word
 finds cave lexicon word is = is.finds word
 
 pub finds_in : (cave : CaveView) (lexicon : LexiconView) (word : List ℕ) (class : Class)
-    → IsLexiconOf cave lexicon → found_in lexicon word class ≡ meaning_in cave word class
+    → IsLexiconOf cave lexicon → find_in_class lexicon word class ≡ meaning_in cave word class
 finds_in cave lexicon word class is = is.finds_in word class
 
 pub found_object_means : (cave : CaveView) (lexicon : LexiconView) (name : Named)
@@ -52,7 +52,7 @@ pub lexicon_of : (cave : CaveView) (lexicon : LexiconView) → lexicon.letters �
     → IsIndexOf cave.letters cave.words lexicon.words
     → lexicon.names ≡ map (object_named cave) EACH_NAME
     → IsLexiconOf cave lexicon
-unfolding meaning_of_word found_in meaning meaning_in
+unfolding find_word find_in_class meaning meaning_in
 lexicon_of cave lexicon letters words names = record {
   letters = letters;
   finds = λ word. ap (option_map (λ (k : Meanings). k.first)) (words word)

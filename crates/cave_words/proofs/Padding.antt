@@ -7,14 +7,14 @@ use Rattle.std.proofs.lemmas.List.{take_more, map-append, length-map, length-tak
 use Rattle.std.proofs.Math.Seq.{set-append_seam}
 use Rattle.std.specs.Char.{to_ascii_uppercase}
 use Rattle.std.specs.List.{list_all}
-use Rattle.log_lines.specs.Prefixes.{prefix_while-append}
-use Rattle.log_lines.specs.Bytes.{is_nonblank, prefix_while}
+use Rattle.cave_data.specs.base_lines.Prefixes.{prefix_while-append}
+use Rattle.cave_data.specs.base_lines.Bytes.{is_nonblank, prefix_while}
 use Rattle.cave_words.specs.Word.{letters_that_count, with_padding, word_of, MAX_LETTERS}
 
-set-filled : (letters : List ℕ) (byte k : ℕ)
+set-word_of : (letters : List ℕ) (byte k : ℕ)
     → set (letters ++ replicate (suc k) 32) (length letters) byte ≡ (letters ++ byte ∷ [])
     ++ replicate k 32
-set-filled letters byte k = set-append_seam letters 32 (replicate k 32) byte
+set-word_of letters byte k = set-append_seam letters 32 (replicate k 32) byte
     ∙ sym (append_assoc letters (byte ∷ []) (replicate k 32))
 
 -- a byte written over the first space after the letters is one letter more
@@ -24,7 +24,7 @@ set-with_padding letters byte i same short =
     let room : MAX_LETTERS - length letters ≡ suc (MAX_LETTERS - (i + 1)) = omega arith in
     let less : MAX_LETTERS - length (letters ++ byte ∷ []) ≡ MAX_LETTERS - (i + 1) =
     omega (arith, length-append letters (byte ∷ [])) in
-    rw (room, less, ← same) (set-filled letters byte _)
+    rw (room, less, ← same) (set-word_of letters byte _)
 
 pub padded_more : (bytes : List ℕ) (i : ℕ) → i < length bytes → i < MAX_LETTERS
     → set (with_padding (map to_ascii_uppercase (take i bytes))) i

@@ -1,6 +1,6 @@
 use Rattle.std.specs.Prelude.{◌≡◌, ℕ, List, Option, bytes_eq}
 use Rattle.std.specs.Map.{lookup}
-use Rattle.cave_rows.specs.Rows.{WordEntry}
+use Rattle.cave_data.specs.data_rows.Rows.{WordEntry}
 use Rattle.cave_words.specs.Meanings.{meanings_of}
 use Rattle.cave_words.specs.declared.meanings.Meanings.{Meanings}
 

@@ -1,6 +1,6 @@
 use Rattle.std.specs.Prelude.{ℕ, ◌/◌, ◌%◌, Bool, ◌==◌, ◌&&◌, bytes_eq, List, Option, option_map}
 use Rattle.std.specs.Prelude.{find, if◌then◌else◌}
-use Rattle.cave_rows.specs.Rows.{WordEntry, WORDS_PER_CLASS}
+use Rattle.cave_data.specs.data_rows.Rows.{WordEntry, WORDS_PER_CLASS}
 use Rattle.cave_data.specs.CaveView.{CaveView}
 use Rattle.cave_words.specs.Word.{word_of}
 use Rattle.cave_words.specs.declared.meaning.Class.{Class}

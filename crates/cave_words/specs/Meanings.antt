@@ -1,6 +1,6 @@
 use Rattle.std.specs.Prelude.{ℕ, List, Option, Some, None, fold, unwrap_or, if◌then◌else◌}
 use Rattle.std.specs.Option.{option_or}
-use Rattle.cave_rows.specs.Rows.{WordEntry}
+use Rattle.cave_data.specs.data_rows.Rows.{WordEntry}
 use Rattle.cave_words.specs.Meaning.{meaning_of, is_word}
 use Rattle.cave_words.specs.declared.meaning.Class.{Class}
 use Rattle.cave_words.specs.declared.meaning.Class.TheVariants.{Motion, Object, Action, Special}

@@ -1,13 +1,13 @@
-use Rattle.std.specs.Prelude.{ℕ, ◌+◌, Bool, true, false, nat_lt, if◌then◌else◌}
-use Rattle.std.specs.Prelude.{List, [], ◌∷◌, codes, slice_index_or}
-use Rattle.std.specs.Prelude.{Option, Some, None, option_map, option_and_then}
+use Rattle.std.specs.Prelude.{ℕ, ◌+◌, Bool, true, false, nat_lt, if◌then◌else◌, List, [], ◌∷◌}
+use Rattle.std.specs.Prelude.{codes, slice_index_or, Option, Some, None, option_map}
+use Rattle.std.specs.Prelude.{option_and_then}
 use Rattle.cave_data.specs.CaveView.{CaveView}
 use Rattle.cave_words.specs.Meaning.{first_meaning, is_word_in}
 use Rattle.cave_words.specs.Word.{word_of, NAME_LETTERS}
 use Rattle.cave_words.specs.declared.meaning.Class.TheVariants.{Object}
 use Rattle.cave_words.specs.declared.named.Named.{Named}
 use Rattle.cave_words.specs.declared.named.Named.TheVariants as name
-use Rattle.cave_numbers.specs.Numbers.{last_object}
+use Rattle.cave_data.specs.data_numbers.Numbers.{LAST_OBJECT}
 
 -- the words of the names, in the order of their numbers
 abbrev pub names : List (List ℕ)
@@ -22,8 +22,8 @@ names =
     codes "CHAIN" ∷ codes "ROD" ∷ codes "PLANT" ∷ codes "TROLL" ∷ []
 
 -- how many names there are
-abbrev pub name_count : ℕ
-name_count = 46
+abbrev pub NAME_COUNT : ℕ
+NAME_COUNT = 46
 
 -- its place in the table of words
 abbrev pub name_number : Named → ℕ
@@ -82,8 +82,8 @@ is_second name.SecondTroll = true
 is_second _ = false
 
 -- the word that names it
-unfoldable pub name_of : Named → List ℕ
-name_of name = slice_index_or names (name_number name) []
+unfoldable pub word_of_name : Named → List ℕ
+word_of_name name = slice_index_or names (name_number name) []
 
 -- the object that a word names in a cave, by the word's first five letters
 unfoldable pub object_of_word : CaveView → List ℕ → Option ℕ
@@ -94,10 +94,10 @@ object_of_word cave word =
 
 -- the object after, if there may be one
 abbrev pub next_object : ℕ → Option ℕ
-next_object object = if nat_lt object last_object then Some (object + 1) else None
+next_object object = if nat_lt object LAST_OBJECT then Some (object + 1) else None
 
 -- the object of a name in a cave
 unfoldable pub object_named : CaveView → Named → Option ℕ
 object_named cave name =
-    if is_second name then option_and_then next_object (object_of_word cave (name_of name))
-    else object_of_word cave (name_of name)
+    if is_second name then option_and_then next_object (object_of_word cave (word_of_name name))
+    else object_of_word cave (word_of_name name)

@@ -1,5 +1,5 @@
 use Rattle.std.specs.Prelude.{ℕ, List, [], ◌∷◌, Option, Some, None, option_map}
-use Rattle.log_lines.specs.Bytes.{is_blank, is_nonblank, prefix_while, after_prefix}
+use Rattle.cave_data.specs.base_lines.Bytes.{is_blank, is_nonblank, prefix_while, after_prefix}
 use Rattle.cave_words.specs.Word.{word_of}
 use Rattle.cave_words.specs.declared.words.Words.{Words}
 

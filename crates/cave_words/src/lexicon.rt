@@ -4,14 +4,14 @@ ghost use Rattle.cave_data.specs.CaveView.{CaveView};
 ghost use Rattle.cave_words.specs.Meaning.{meaning, meaning_in};
 ghost use Rattle.cave_words.specs.Index.{meanings_in, IsIndexOf};
 ghost use Rattle.cave_words.specs.Named.{object_of_word, object_named};
-ghost use Rattle.cave_words.specs.Word.{MAX_LETTERS, NAME_LETTERS};
+ghost use Rattle.cave_words.specs.Word.{MAX_LETTERS};
+ghost use Rattle.cave_words.specs.Word as defined;
 
 use crate::meaning::{Class, Meaning};
 use crate::meanings::Meanings;
 use crate::named::{EACH_NAME, NAME_COUNT, Named};
 use crate::word::{NAME_LETTERS, Word};
-use cave_data::{Cave, WordTable};
-use cave_numbers::LAST_OBJECT;
+use cave_data::{Cave, LAST_OBJECT, WordTable};
 use indexmap::IndexMap;
 use std::alloc::{AllocError, Global};
 use std::marker::Model;
@@ -27,17 +27,18 @@ pub struct Lexicon {
 impl Model for Lexicon {
     ghost use Rattle.std.specs.Prelude.{◌≤◌};
     ghost use Rattle.cave_words.specs.Index.{LexiconView};
-    ghost use Rattle.cave_words.specs.Word.{MAX_LETTERS, NAME_LETTERS};
+    ghost use Rattle.cave_words.specs.Word.{MAX_LETTERS};
+    ghost use Rattle.cave_words.specs.Word as defined;
 
     ghost Value = { LexiconView };
 
     ghost view = { λ l. record { letters = l.letters; words = l.words.entries; names = l.names } };
 
-    ghost invariant = { λ l. (NAME_LETTERS ≤ l.letters) × (l.letters ≤ MAX_LETTERS) };
+    ghost invariant = { λ l. (defined.NAME_LETTERS ≤ l.letters) × (l.letters ≤ MAX_LETTERS) };
 }
 
 impl Lexicon {
-    ghost use Rattle.cave_words.specs.Lexicon.{IsLexiconOf, meaning_of_word, found_in};
+    ghost use Rattle.cave_words.specs.Lexicon.{IsLexiconOf, find_word, find_in_class};
 
     /// The lexicon of a cave.
     pub fn build(alloc: Global, cave: &Cave) -> Result<Lexicon, AllocError>
@@ -61,16 +62,16 @@ impl Lexicon {
     /// How many letters of a word count.
     pub fn letters(&self) -> u8
         ensures value { result ≡ self.now.letters }
-        ensures fewest { NAME_LETTERS ≤ result }
+        ensures fewest { defined.NAME_LETTERS ≤ result }
         ensures most { result ≤ MAX_LETTERS }
     {
         self.letters
     }
 
     /// What a word means: what its first row in the cave says.
-    #[tactic(auto, using(crate::proofs::Lexicons::finds), unfolding(crate::specs::Lexicon::meaning_of_word))]
+    #[tactic(auto, using(crate::proofs::Lexicons::finds), unfolding(crate::specs::Lexicon::find_word))]
     pub fn find(&self, word: Word) -> Option<Meaning>
-        ensures meaning_of_word { result ≡ meaning_of_word self.now word }
+        ensures find_word { result ≡ find_word self.now word }
         ensures meaning { (cave : CaveView) → IsLexiconOf cave self.now
             → result ≡ meaning cave word }
     {
@@ -78,9 +79,9 @@ impl Lexicon {
     }
 
     /// What a word means in a class: what its first row of that class in the cave says.
-    #[tactic(auto, using(crate::proofs::Lexicons::finds_in), unfolding(crate::specs::Lexicon::found_in))]
+    #[tactic(auto, using(crate::proofs::Lexicons::finds_in), unfolding(crate::specs::Lexicon::find_in_class))]
     pub fn find_in(&self, word: Word, class: Class) -> Option<Meaning>
-        ensures meaning_of_word { result ≡ found_in self.now word class }
+        ensures find_word { result ≡ find_in_class self.now word class }
         ensures meaning { (cave : CaveView) → IsLexiconOf cave self.now
             → result ≡ meaning_in cave word class }
     {
@@ -100,7 +101,7 @@ impl Lexicon {
 /// The object that a word names, by its first five letters. The index has words of so many letters.
 #[tactic(auto, using(crate::proofs::Lexicons::object_of_word_means))]
 fn object_of_word(index: &IndexMap<Word, Meanings>, written: &[u8]) -> Option<u16>
-    ensures { (cave : CaveView) → IsIndexOf NAME_LETTERS cave.words index.now.entries
+    ensures { (cave : CaveView) → IsIndexOf defined.NAME_LETTERS cave.words index.now.entries
         → result ≡ object_of_word cave written.now }
 {
     let word = Word::of(written, NAME_LETTERS);
@@ -111,7 +112,7 @@ fn object_of_word(index: &IndexMap<Word, Meanings>, written: &[u8]) -> Option<u1
 /// The object of a name. The index has words of five letters.
 #[tactic(auto, unfolding(crate::specs::Named::object_named))]
 fn object_named(index: &IndexMap<Word, Meanings>, name: Named) -> Option<u16>
-    ensures { (cave : CaveView) → IsIndexOf NAME_LETTERS cave.words index.now.entries
+    ensures { (cave : CaveView) → IsIndexOf defined.NAME_LETTERS cave.words index.now.entries
         → result ≡ object_named cave name }
 {
     let object = object_of_word(index, name.word())?;
@@ -127,7 +128,7 @@ fn object_named(index: &IndexMap<Word, Meanings>, name: Named) -> Option<u16>
 
 /// The object of each name, by the numbers of the names. The index has words of five letters.
 fn objects_of_names(index: &IndexMap<Word, Meanings>) -> [Option<u16>; NAME_COUNT]
-    ensures { (cave : CaveView) → IsIndexOf NAME_LETTERS cave.words index.now.entries
+    ensures { (cave : CaveView) → IsIndexOf defined.NAME_LETTERS cave.words index.now.entries
         → result ≡ map (object_named cave) EACH_NAME }
 {
     let mut objects = [None; NAME_COUNT];

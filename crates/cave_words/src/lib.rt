@@ -10,6 +10,11 @@ pub mod stream;
 pub mod word;
 pub mod words;
 
+pub use cave_data::cave::{DEFAULT_BUILDING, DEFAULT_DEEP, DEFAULT_OUTSIDE, DEFAULT_START};
+pub use cave_data::{
+    Cave, CaveError, Condition, Destination, Hint, LineFault, LogLine, Meter, PlaceRole, Rating,
+    Role, Row, Special, Steps, WORDS_PER_CLASS, check_line,
+};
 pub use lexicon::Lexicon;
 pub use meaning::{Class, Meaning};
 pub use named::Named;

@@ -1,6 +1,7 @@
 //! The objects that rules of play name by a word.
 ghost use Rattle.std.specs.Prelude.{◌≡◌, ◌<◌};
-ghost use Rattle.cave_words.specs.Named.{name_count, name_number, name_of, is_second};
+ghost use Rattle.cave_words.specs.Named.{name_number, word_of_name, is_second};
+ghost use Rattle.cave_words.specs.Named as defined;
 
 /// An object that rules of play name by a word of the cave.
 #[derive(Clone, Copy, Debug, PartialEq, Eq)]
@@ -122,15 +123,15 @@ impl Named {
     /// Its place in the tables of names, from 0.
     pub fn number(self) -> usize
         ensures value { result ≡ name_number self }
-        ensures within { result < name_count }
+        ensures within { result < defined.NAME_COUNT }
     {
         self as usize
     }
 
     /// The word that names it, or that names the object before a second one.
-    #[tactic(auto, unfolding(crate::specs::Named::name_of))]
+    #[tactic(auto, unfolding(crate::specs::Named::word_of_name))]
     pub fn word(self) -> &'static [u8]
-        ensures { result.now ≡ name_of self }
+        ensures { result.now ≡ word_of_name self }
     {
         NAMES[self as usize]
     }

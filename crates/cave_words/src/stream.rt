@@ -1,7 +1,7 @@
 //! The random stream of a play.
 ghost use Rattle.std.specs.Prelude.{◌≡◌, ◌<◌, ◌≤◌};
-ghost use Rattle.cave_words.specs.Stream.{stream_of_seed, number_drawn, next, is_within_percent};
-ghost use Rattle.cave_words.specs.Stream.{max_choices, stream_size};
+ghost use Rattle.cave_words.specs.Stream.{stream_of_seed, number_drawn, next, pct, max_choices};
+ghost use Rattle.cave_words.specs.Stream as defined;
 
 use std::marker::Model;
 
@@ -22,13 +22,13 @@ pub struct Stream {
 
 impl Model for Stream {
     ghost use Rattle.std.specs.Prelude.{ℕ, ◌<◌};
-    ghost use Rattle.cave_words.specs.Stream.{stream_size};
+    ghost use Rattle.cave_words.specs.Stream as defined;
 
     ghost Value = { ℕ };
 
     ghost view = { λ s. s.x };
 
-    ghost invariant = { λ s. s.x < stream_size };
+    ghost invariant = { λ s. s.x < defined.STREAM_SIZE };
 
     ghost inverse = { λ x. record { x = x } };
 }
@@ -46,7 +46,7 @@ impl Stream {
     /// The number at which the stream is, which as a seed begins it there.
     pub fn position(self) -> u32
         ensures value { result ≡ self }
-        ensures within { result < stream_size }
+        ensures within { result < defined.STREAM_SIZE }
     {
         self.x
     }
@@ -65,8 +65,8 @@ impl Stream {
     }
 
     /// Draws whether something happens that happens in `p` of 100 cases, and moves on.
-    pub fn is_within_percent(&mut self, p: u32) -> bool
-        ensures value { result ≡ is_within_percent p self.old }
+    pub fn pct(&mut self, p: u32) -> bool
+        ensures value { result ≡ pct p self.old }
         ensures moves_on { self.new ≡ next self.old }
     {
         self.draw(100) < p

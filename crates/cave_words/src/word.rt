@@ -1,9 +1,10 @@
 ghost use Rattle.std.specs.Prelude.{◌≡◌, ◌≤◌, IsTrue, bytes_eq};
 ghost use Rattle.std.specs.List.{list_all};
-ghost use Rattle.log_lines.specs.Bytes.{prefix_while, is_nonblank};
-ghost use Rattle.cave_words.specs.Word.{letters_that_count, word_of, is_written, MAX_LETTERS};
+ghost use Rattle.cave_data.specs.base_lines.Bytes.{prefix_while, is_nonblank};
+ghost use Rattle.cave_words.specs.Word.{letters_that_count, word_of, is_written};
+ghost use Rattle.cave_words.specs.Word as defined;
 
-use log_lines::bytes::split_word;
+use cave_data::split_word;
 use std::hash::{Hash, Hasher};
 use std::marker::Model;
 
@@ -77,19 +78,19 @@ impl Word {
     /// The word that a run of nonblanks makes, of which `letters` letters count.
     #[tactic(auto, using(crate::proofs::Padding::padding))]
     pub fn of(bytes: &[u8], letters: u8) -> Word
-        requires { letters ≤ MAX_LETTERS }
+        requires { letters ≤ defined.MAX_LETTERS }
         ensures word { result ≡ word_of letters bytes.now }
 
         // So words are equal exactly where what counts of them is.
         ensures letters { IsTrue (list_all is_nonblank bytes.now)
             → prefix_while is_nonblank result ≡ letters_that_count letters bytes.now }
     {
-        Word::filled(bytes, letters)
+        Word::word_of(bytes, letters)
     }
 
     #[tactic(auto, unfolding(crate::specs::Word::word_of))]
-    fn filled(bytes: &[u8], letters: u8) -> Word
-        requires { letters ≤ MAX_LETTERS }
+    fn word_of(bytes: &[u8], letters: u8) -> Word
+        requires { letters ≤ defined.MAX_LETTERS }
         ensures { result ≡ word_of letters bytes.now }
     {
         let cut = &bytes[..bytes.len().min(usize::from(letters))];

@@ -3,7 +3,7 @@ ghost use Rattle.cave_words.specs.Word.{word_of, MAX_LETTERS, NAME_LETTERS};
 ghost use Rattle.cave_words.specs.Words.{first_word_of, after_first_run, words_of};
 
 use crate::word::Word;
-use log_lines::bytes::{skip_blanks, split_word};
+use cave_data::{skip_blanks, split_word};
 
 /// The words of a line: at most two, the rest is ignored.
 #[derive(Clone, Copy, Debug, PartialEq, Eq)]

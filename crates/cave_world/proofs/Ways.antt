@@ -4,7 +4,7 @@ use Rattle.std.proofs.Common.{ap, arith}
 use Rattle.std.specs.Option.{option_eq}
 use Rattle.std.proofs.lemmas.Bool.{false≢true}
 use Rattle.std.proofs.lemmas.Bool.Decides.{nat_tests}
-use Rattle.cave_rows.specs.Rows.{Going}
+use Rattle.cave_words.specs.data_rows.Rows.{Going}
 use Rattle.cave_world.specs.Travel.{without_leading_target}
 
 abbrev pub passed_after : Option ℕ → List Going → List Going

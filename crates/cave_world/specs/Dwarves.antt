@@ -6,8 +6,8 @@ abbrev pub dwarf_count : ℕ
 dwarf_count = 6
 
 -- the number of the pirate, who comes after the other dwarves
-abbrev pub pirate : ℕ
-pirate = 5
+abbrev pub PIRATE : ℕ
+PIRATE = 5
 
 -- how angry dwarves are at most
 abbrev pub MAX_ANGER : ℕ

@@ -7,7 +7,7 @@ use Rattle.cave_world.specs.declared.dwarves.Dwarf.{Dwarf}
 use Rattle.cave_world.specs.declared.dwarves.Dwarves.{Dwarves}
 use Rattle.cave_world.specs.declared.dwarves.Knife.TheVariants.{Unthrown}
 use Rattle.cave_world.specs.declared.hints.Hints.{Hints}
-use Rattle.cave_numbers.specs.Numbers.{last_hint}
+use Rattle.world_objects.specs.data_numbers.Numbers.{LAST_HINT}
 use Rattle.cave_world.specs.Dwarves.{dwarf_count}
 
 unfoldable pub full_lamp : Lamp
@@ -23,8 +23,8 @@ far_closing =
       is_panicking = false;
     }
 
-unfoldable pub nothing_said : Talk
-nothing_said =
+unfoldable pub silent_talk : Talk
+silent_talk =
     record { verb = None; object = 0; last = 0; is_brief = false; details = 0; magic = pos 0 }
 
 abbrev pub no_dwarf : Dwarf
@@ -33,5 +33,5 @@ no_dwarf = record { place = 0; last = 0; has_seen = false }
 unfoldable pub asleep : Dwarves
 asleep = record { anger = 0; kills = 0; knife = Unthrown; each = replicate dwarf_count no_dwarf }
 
-unfoldable pub no_hint_used : Hints
-no_hint_used = record { turns = replicate last_hint 0; is_taken = replicate last_hint false }
+unfoldable pub unused_hints : Hints
+unused_hints = record { turns = replicate LAST_HINT 0; is_taken = replicate LAST_HINT false }

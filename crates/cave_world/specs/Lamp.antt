@@ -2,9 +2,9 @@
 use Rattle.std.specs.Prelude.{ℕ}
 
 -- the most turns that a lamp can still burn
-abbrev pub max_lamp_turns : ℕ
-max_lamp_turns = 100000
+abbrev pub MAX_LAMP_TURNS : ℕ
+MAX_LAMP_TURNS = 100000
 
 -- a lamp that burns so many turns more, or fewer, is low
-abbrev pub low_charge : ℕ
-low_charge = 30
+abbrev pub LOW_CHARGE : ℕ
+LOW_CHARGE = 30

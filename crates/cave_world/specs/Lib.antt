@@ -3,9 +3,16 @@ pub mod Equality
 pub mod Lamp
 pub mod Magic
 pub mod Fresh
+pub mod Handling
 pub mod Motions
 pub mod Part
 pub mod SameGame
 pub mod Sight
 pub mod State
 pub mod Travel
+pub use Rattle.cave_words.specs.base_lines as base_lines
+pub use Rattle.cave_words.specs.cave_data as cave_data
+pub use Rattle.cave_words.specs as cave_words
+pub use Rattle.world_objects.specs.data_numbers as data_numbers
+pub use Rattle.cave_words.specs.data_rows as data_rows
+pub use Rattle.world_objects.specs as world_objects

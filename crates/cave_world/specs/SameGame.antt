@@ -2,8 +2,8 @@
 use Rattle.std.proofs.Common.{◌≡◌, ℕ, refl, subst}
 use Rattle.std.specs.Prelude.{◌↔◌}
 use Rattle.cave_world.specs.declared.state.State.{State}
-use Rattle.cave_objects.specs.Lists.{halves_at, AreLists}
-use Rattle.cave_objects.specs.SameLists.{Ascend-AreLists, same_lists}
+use Rattle.world_objects.specs.Lists.{halves_at, AreLists}
+use Rattle.world_objects.specs.SameLists.{Ascend-AreLists, same_lists}
 
 -- everything but the lists of objects is equal, and so is the list of each place
 pub record IsSameGame (a b : State) : Type 0 where

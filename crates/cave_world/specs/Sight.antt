@@ -1,11 +1,11 @@
 -- Light, and places with a forced motion.
 use Rattle.std.specs.Prelude.{ℕ, pos, ◌/◌, ◌%◌, ◌^◌, Bool, false, ◌==◌, ◌&&◌, not, List, [], ◌∷◌}
 use Rattle.std.specs.Ordering.{int_eq}
-use Rattle.cave_rows.specs.Rows.{Going}
-use Rattle.cave_data.specs.CaveView.{CaveView, ways_from, conditions_of}
+use Rattle.cave_words.specs.data_rows.Rows.{Going}
+use Rattle.cave_words.specs.cave_data.CaveView.{CaveView, ways_from, cond_of}
 use Rattle.cave_world.specs.Motions.{any_motion}
 use Rattle.cave_world.specs.declared.state.State.{State}
-use Rattle.cave_objects.specs.Objects.{is_at_hand, prop_of}
+use Rattle.world_objects.specs.Objects.{is_at_hand, prop_of}
 
 -- the bit of the places that have light
 abbrev pub LIGHT_BIT : ℕ
@@ -13,7 +13,7 @@ LIGHT_BIT = 0
 
 -- a bit is set for a place
 unfoldable pub has_condition : CaveView → ℕ → ℕ → Bool
-has_condition cave place bit = conditions_of cave place / 2 ^ bit % 2 == 1
+has_condition cave place bit = cond_of cave place / 2 ^ bit % 2 == 1
 
 -- the first motion of the first way out is the one that any motion is
 abbrev pub starts_with_any : List ℕ → Bool
@@ -25,11 +25,11 @@ leads_on [] = false
 leads_on (way ∷ ways) = starts_with_any way.motions
 
 -- the place has a forced motion, which moves the player on from it
-unfoldable pub is_forced : CaveView → ℕ → Bool
-is_forced cave place = leads_on (ways_from cave place)
+unfoldable pub forced : CaveView → ℕ → Bool
+forced cave place = leads_on (ways_from cave place)
 
 -- the place has no light, and no burning lamp is at hand
-unfoldable pub is_dark : CaveView → ℕ → State → Bool
-is_dark cave lamp s =
+unfoldable pub dark : CaveView → ℕ → State → Bool
+dark cave lamp s =
     not (has_condition cave s.trail.here LIGHT_BIT)
     && not (is_at_hand s.objects s.trail.here lamp && int_eq (prop_of s.objects lamp) (pos 1))

@@ -1,24 +1,24 @@
 -- Where the player is, how often places were described, and how a game begins and is over.
-use Rattle.std.specs.Prelude.{ℕ, ◌+◌, ◌-◌, ◌%◌, Bool, true, false, ◌==◌, ◌||◌, if◌then◌else◌}
-use Rattle.std.specs.Prelude.{None, Some, is_some, replicate, slice_index_or, slice_set}
+use Rattle.std.specs.Prelude.{ℕ, ◌+◌, ◌-◌, ◌%◌, Bool, true, false, ◌==◌, ◌||◌, if◌then◌else◌, None}
+use Rattle.std.specs.Prelude.{Some, is_some, replicate, slice_index_or, slice_set}
 use Rattle.cave_world.specs.declared.state.State.{State}
 use Rattle.cave_world.specs.declared.ending.Question.TheVariants.{Welcome}
-use Rattle.cave_objects.specs.Objects.{without_places}
-use Rattle.cave_world.specs.Fresh.{full_lamp, far_closing, nothing_said, asleep, no_hint_used}
-use Rattle.cave_numbers.specs.Numbers.{last_place}
+use Rattle.world_objects.specs.Objects.{unplaced_objects}
+use Rattle.cave_world.specs.Fresh.{full_lamp, far_closing, silent_talk, asleep, unused_hints}
+use Rattle.world_objects.specs.data_numbers.Numbers.{LAST_PLACE}
 
 -- a game begins: the player is at a place and is greeted, and nothing is placed yet
 unfoldable pub starting_state : ℕ → ℕ → State
 starting_state place x = record {
   trail = record { here = place; last = place; older = place };
-  objects = without_places;
-  visits = replicate last_place 0;
+  objects = unplaced_objects;
+  visits = replicate LAST_PLACE 0;
   lamp = full_lamp;
   closing = far_closing;
   tallies = record { unseen = 0; lost = 0; deaths = 0 };
-  talk = nothing_said;
+  talk = silent_talk;
   dwarves = asleep;
-  hints = no_hint_used;
+  hints = unused_hints;
   question = Some Welcome;
   ending = None;
   stream = x;
@@ -39,8 +39,8 @@ with_player_from place s =
     let trail = s.trail in record s { trail = record trail { here = place; last = place } }
 
 -- the player's place is remembered as where the player comes from
-unfoldable pub state_after_setting_out : State → State
-state_after_setting_out s =
+unfoldable pub state_after_set_out : State → State
+state_after_set_out s =
     record s { trail = record { here = s.trail.here; last = s.trail.here; older = s.trail.last } }
 
 unfoldable pub visits_of : State → ℕ → ℕ

@@ -2,7 +2,7 @@ ghost use Rattle.std.specs.Prelude.{◌≡◌};
 ghost use Rattle.cave_world.specs.Fresh.{no_dwarf, asleep};
 
 use crate::count::Count;
-use cave_objects::Place;
+use world_objects::Place;
 
 /// How many dwarves there are, with the pirate.
 pub const DWARVES: usize = 6;

@@ -1,19 +1,18 @@
-ghost use Rattle.std.specs.Prelude.{◌≡◌, ℕ, ◌+◌, ◌==◌, ◌<◌, ◌≤◌, ◌||◌};
-ghost use Rattle.std.specs.Prelude.{false, [], length, All, IsTrue};
-ghost use Rattle.cave_objects.specs.Lists.{halves_at, AreRelisted};
-ghost use Rattle.cave_objects.specs.Layout.{is_listed};
-ghost use Rattle.cave_objects.specs.Halves.{object_of};
-ghost use Rattle.cave_objects.specs.Spots.{place_of_spot, spot_at};
-ghost use Rattle.cave_objects.specs.Objects.{carried_objects};
-ghost use Rattle.cave_objects.specs.Objects.{is_carried, is_gone, is_object_at, is_at_hand};
-ghost use Rattle.cave_objects.specs.Objects.{with_place, with_carried};
-ghost use Rattle.cave_numbers.specs.Numbers.{last_object};
+ghost use Rattle.std.specs.Prelude.{◌≡◌, ℕ, ◌+◌, ◌==◌, ◌<◌, ◌≤◌, ◌||◌, false, [], length, All};
+ghost use Rattle.std.specs.Prelude.{IsTrue, Some};
+ghost use Rattle.world_objects.specs.Lists.{halves_at, AreRelisted};
+ghost use Rattle.world_objects.specs.Layout.{is_listed};
+ghost use Rattle.world_objects.specs.Halves.{object_of};
+ghost use Rattle.world_objects.specs.Spots.{place_of_spot, spot_at};
+ghost use Rattle.world_objects.specs.Objects.{carried_objects, is_gone, after_move_to, after_carry};
+ghost use Rattle.world_objects.specs.data_numbers.Numbers.{LAST_OBJECT};
+ghost use Rattle.cave_world.specs.Handling.{toting, at, here, holding};
 
 use crate::state::State;
 use arrayvec::ArrayVec;
-use cave_objects::lists::HALVES;
-use cave_objects::object::OBJECTS;
-use cave_objects::{Half, Object, Place};
+use world_objects::lists::HALVES;
+use world_objects::object::OBJECTS;
+use world_objects::{Half, Object, Place};
 
 impl State {
     /// Whether there is the object, and its first half is nowhere.
@@ -24,8 +23,8 @@ impl State {
     }
 
     /// Whether the player carries an object.
-    pub fn is_carried(&self, object: Object) -> bool
-        ensures value { result ≡ is_carried self.now.objects object }
+    pub fn toting(&self, object: Object) -> bool
+        ensures value { result ≡ toting self.now object }
         ensures unlisted { IsTrue result → 0 < object → (q : ℕ)
             → is_listed object (halves_at q self.now.objects.lists) ≡ false }
     {
@@ -33,28 +32,28 @@ impl State {
     }
 
     /// Whether a half of an object is where the player is.
-    pub fn is_here(&self, object: Object) -> bool
-        ensures value { result ≡ is_object_at self.now.objects self.now.trail.here object }
+    pub fn at(&self, object: Object) -> bool
+        ensures value { result ≡ at self.now object }
         ensures listed { let halves = halves_at self.now.trail.here self.now.objects.lists in
             0 < object
-            → result ≡ (is_listed object halves || is_listed (last_object + object) halves) }
+            → result ≡ (is_listed object halves || is_listed (LAST_OBJECT + object) halves) }
     {
         self.objects.is_object_at(self.trail.here, object)
     }
 
     /// Whether the player carries an object, or its first half is where the player is.
-    pub fn is_at_hand(&self, object: Object) -> bool
-        ensures value { result ≡ is_at_hand self.now.objects self.now.trail.here object }
+    pub fn here(&self, object: Object) -> bool
+        ensures value { result ≡ here self.now object }
         ensures listed { let halves = halves_at self.now.trail.here self.now.objects.lists in
-            0 < object → result ≡ (is_carried self.now.objects object || is_listed object halves) }
+            0 < object → result ≡ (toting self.now object || is_listed object halves) }
     {
         self.objects.is_at_hand(self.trail.here, object)
     }
 
     /// How many objects the player carries.
-    pub fn count_carried(&self) -> usize
-        ensures value { result ≡ length (carried_objects self.now.objects) }
-        ensures within { result ≤ last_object }
+    pub fn holding(&self) -> usize
+        ensures value { result ≡ holding self.now }
+        ensures within { result ≤ LAST_OBJECT }
     {
         self.objects.count_carried()
     }
@@ -86,7 +85,7 @@ impl State {
     /// The player takes an object, if the player doesn't carry it yet.
     pub fn carry(&mut self, object: Object)
         ensures value { let s = self.old in
-            self.new ≡ record s { objects = with_carried s.objects object } }
+            self.new ≡ record s { objects = after_carry s.objects object } }
         ensures lists { 0 < object
             → AreRelisted self.old.objects.lists self.new.objects.lists (Half.First object) None }
     {
@@ -97,7 +96,7 @@ impl State {
     /// nowhere.
     pub fn move_to(&mut self, object: Object, place: Place)
         ensures value { let s = self.old in
-            self.new ≡ record s { objects = with_place s.objects object place } }
+            self.new ≡ record s { objects = after_move_to s.objects object place } }
         ensures lists { 0 < object
             → AreRelisted self.old.objects.lists self.new.objects.lists (Half.First object)
             (place_of_spot (spot_at place)) }
@@ -105,10 +104,22 @@ impl State {
         self.objects.move_to(object, place);
     }
 
+    /// An object falls at a place, from the player's hands too, and is the latest there.
+    pub fn drop_at(&mut self, object: Object, place: Place)
+        requires { 0 < place }
+        ensures value { let s = self.old in
+            self.new ≡ record s { objects = after_move_to s.objects object place } }
+        ensures lists { 0 < object
+            → AreRelisted self.old.objects.lists self.new.objects.lists (Half.First object)
+            (Some place) }
+    {
+        self.move_to(object, place);
+    }
+
     /// An object is nowhere from now on.
     pub fn destroy(&mut self, object: Object)
         ensures value { let s = self.old in
-            self.new ≡ record s { objects = with_place s.objects object 0 } }
+            self.new ≡ record s { objects = after_move_to s.objects object 0 } }
         ensures lists { 0 < object
             → AreRelisted self.old.objects.lists self.new.objects.lists (Half.First object)
             (place_of_spot (spot_at 0)) }

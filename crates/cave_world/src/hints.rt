@@ -1,12 +1,12 @@
 ghost use Rattle.std.specs.Prelude.{◌≡◌, ◌≤◌};
-ghost use Rattle.cave_world.specs.Fresh.{no_hint_used};
+ghost use Rattle.cave_world.specs.Fresh.{unused_hints};
 ghost use Rattle.cave_world.specs.State.{is_hint_taken, with_hint_taken};
-ghost use Rattle.cave_numbers.specs.Numbers.{last_hint};
+ghost use Rattle.world_objects.specs.data_numbers.Numbers as defined;
 
 use crate::count::Count;
 use crate::state::State;
-use cave_numbers::LAST_HINT;
 use std::marker::Model;
+use world_objects::LAST_HINT;
 
 /// How many hints there may be.
 pub const HINTS: usize = LAST_HINT as usize;
@@ -28,13 +28,13 @@ pub struct HintNumber {
 
 impl Model for HintNumber {
     ghost use Rattle.std.specs.Prelude.{ℕ, ◌≤◌};
-    ghost use Rattle.cave_numbers.specs.Numbers.{last_hint};
+    ghost use Rattle.world_objects.specs.data_numbers.Numbers as defined;
 
     ghost Value = { ℕ };
 
     ghost view = { λ h. h.number };
 
-    ghost invariant = { λ h. (1 ≤ h.number) × (h.number ≤ last_hint) };
+    ghost invariant = { λ h. (1 ≤ h.number) × (h.number ≤ defined.LAST_HINT) };
 
     ghost inverse = { λ n. record { number = n } };
 }
@@ -43,7 +43,7 @@ impl HintNumber {
     /// The hint of a number.
     pub fn new(number: u8) -> HintNumber
         requires low { 1 ≤ number }
-        requires high { number ≤ last_hint }
+        requires high { number ≤ defined.LAST_HINT }
         ensures { result ≡ number }
     {
         HintNumber { number }
@@ -53,7 +53,7 @@ impl HintNumber {
     pub fn number(self) -> u8
         ensures value { result ≡ self }
         ensures low { 1 ≤ result }
-        ensures high { result ≤ last_hint }
+        ensures high { result ≤ defined.LAST_HINT }
     {
         self.number
     }
@@ -68,9 +68,9 @@ pub struct Hints {
 
 impl Hints {
     /// No hint was taken yet, nor waited for.
-    #[tactic(auto, unfolding(crate::specs::Fresh::no_hint_used))]
+    #[tactic(auto, unfolding(crate::specs::Fresh::unused_hints))]
     pub fn unused() -> Hints
-        ensures { result ≡ no_hint_used }
+        ensures { result ≡ unused_hints }
     {
         Hints {
             turns: [Count::new(0); HINTS],

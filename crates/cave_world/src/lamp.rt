@@ -1,6 +1,6 @@
 ghost use Rattle.std.specs.Prelude.{◌≡◌, pos, negsuc, ◌≤ℤ◌};
 ghost use Rattle.std.specs.Int.{int_min};
-ghost use Rattle.cave_world.specs.Lamp.{max_lamp_turns};
+ghost use Rattle.cave_world.specs.Lamp as defined;
 
 use std::marker::Model;
 
@@ -21,13 +21,13 @@ pub struct Charge {
 
 impl Model for Charge {
     ghost use Rattle.std.specs.Prelude.{ℤ, pos, negsuc, ◌≤ℤ◌};
-    ghost use Rattle.cave_world.specs.Lamp.{max_lamp_turns};
+    ghost use Rattle.cave_world.specs.Lamp as defined;
 
     ghost Value = { ℤ };
 
     ghost view = { λ c. c.turns };
 
-    ghost invariant = { λ c. (negsuc 0 ≤ℤ c.turns) × (c.turns ≤ℤ pos max_lamp_turns) };
+    ghost invariant = { λ c. (negsuc 0 ≤ℤ c.turns) × (c.turns ≤ℤ pos defined.MAX_LAMP_TURNS) };
 
     ghost inverse = { λ n. record { turns = n } };
 }
@@ -36,7 +36,7 @@ impl Charge {
     /// The charge of a number of turns.
     pub fn new(turns: i32) -> Charge
         requires low { negsuc 0 ≤ℤ turns }
-        requires high { turns ≤ℤ pos max_lamp_turns }
+        requires high { turns ≤ℤ pos defined.MAX_LAMP_TURNS }
         ensures { result ≡ turns }
     {
         Charge { turns }
@@ -45,7 +45,7 @@ impl Charge {
     /// The charge of a number of turns, or the greatest one where there are more.
     pub fn capped(turns: i32) -> Charge
         requires { negsuc 0 ≤ℤ turns }
-        ensures { result ≡ int_min turns (pos max_lamp_turns) }
+        ensures { result ≡ int_min turns (pos defined.MAX_LAMP_TURNS) }
     {
         Charge {
             turns: turns.min(MAX_LAMP_TURNS),
@@ -56,7 +56,7 @@ impl Charge {
     pub fn turns(self) -> i32
         ensures value { result ≡ self }
         ensures low { negsuc 0 ≤ℤ result }
-        ensures high { result ≤ℤ pos max_lamp_turns }
+        ensures high { result ≤ℤ pos defined.MAX_LAMP_TURNS }
     {
         self.turns
     }

@@ -15,9 +15,14 @@ pub mod part;
 pub mod sight;
 pub mod state;
 pub mod talk;
-pub mod travel;
+pub mod travel_rows;
 pub mod visits;
 
+pub use cave_words::{
+    Cave, Class, Condition, DEFAULT_BUILDING, DEFAULT_DEEP, DEFAULT_OUTSIDE, DEFAULT_START,
+    Destination, Hint, Lexicon, LogLine, Meaning, Meter, Named, PlaceRole, Rating, Role, Row,
+    Special, Stream, WORDS_PER_CLASS, Word, Words,
+};
 pub use closing::Closing;
 pub use count::Count;
 pub use dwarves::{DWARVES, Dwarf, Dwarves, Knife, PIRATE};
@@ -27,8 +32,13 @@ pub use lamp::{Charge, LOW_CHARGE, Lamp};
 pub use magic::Magic;
 pub use motion::{Motion, NoNamedMotion};
 pub use part::{NumberLine, Out, Part, WordLine};
-pub use sight::{has_condition, is_forced};
+pub use sight::{forced, has_condition};
 pub use state::{LIVES, MAX_TREASURES, State, Tallies, Trail};
 pub use talk::{MAX_DETAILS, Talk};
-pub use travel::{Special, TravelOutcome, travel_by_motion};
+pub use travel_rows::{Outcome, travel};
 pub use visits::Visits;
+pub use world_objects::object::OBJECTS;
+pub use world_objects::place::PLACES;
+pub use world_objects::{
+    Anchor, Half, LAST_OBJECT, LAST_PLACE, Object, Objects, Place, Prop, Spot,
+};

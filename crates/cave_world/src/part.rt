@@ -1,9 +1,8 @@
 ghost use Rattle.std.specs.Prelude.{◌≡◌};
 
 use arrayvec::ArrayVec;
-use cave_objects::Object;
-use cave_rows::Role;
-use cave_words::Word;
+use cave_words::{Role, Word};
+use world_objects::Object;
 
 /// A line of the game's own, with a number.
 #[derive(Clone, Copy, Debug, PartialEq, Eq)]

@@ -1,7 +1,6 @@
 ghost use Rattle.std.specs.Prelude.{◌≡◌};
-ghost use Rattle.cave_world.specs.State.{starting_state, takes_no_command};
-ghost use Rattle.cave_world.specs.State.{state_with_player_at, with_player_from};
-ghost use Rattle.cave_world.specs.State.{state_after_setting_out};
+ghost use Rattle.cave_world.specs.State.{starting_state, takes_no_command, state_with_player_at};
+ghost use Rattle.cave_world.specs.State.{with_player_from, state_after_set_out};
 
 use crate::closing::Closing;
 use crate::count::Count;
@@ -11,9 +10,9 @@ use crate::hints::Hints;
 use crate::lamp::Lamp;
 use crate::talk::Talk;
 use crate::visits::Visits;
-use cave_objects::place::PLACES;
-use cave_objects::{Objects, Place};
 use cave_words::Stream;
+use world_objects::place::PLACES;
+use world_objects::{Objects, Place};
 
 /// The deaths that a game has: after the last of them nobody comes back.
 pub const LIVES: u16 = 3;
@@ -121,9 +120,9 @@ impl State {
     }
 
     /// Remembers the player's place as where the player comes from.
-    #[tactic(auto, unfolding(crate::specs::State::state_after_setting_out))]
+    #[tactic(auto, unfolding(crate::specs::State::state_after_set_out))]
     pub fn set_out(&mut self)
-        ensures { self.new ≡ state_after_setting_out self.old }
+        ensures { self.new ≡ state_after_set_out self.old }
     {
         self.trail.older = self.trail.last;
         self.trail.last = self.trail.here;

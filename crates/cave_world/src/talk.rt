@@ -1,9 +1,9 @@
 ghost use Rattle.std.specs.Prelude.{◌≡◌};
-ghost use Rattle.cave_world.specs.Fresh.{nothing_said};
+ghost use Rattle.cave_world.specs.Fresh.{silent_talk};
 
 use crate::count::Count;
 use crate::magic::Magic;
-use cave_objects::Object;
+use world_objects::Object;
 
 /// How often it is said that there are no more details.
 pub const MAX_DETAILS: u16 = 3;
@@ -24,9 +24,9 @@ pub struct Talk {
 
 impl Talk {
     /// Nothing was said yet.
-    #[tactic(auto, unfolding(crate::specs::Fresh::nothing_said))]
+    #[tactic(auto, unfolding(crate::specs::Fresh::silent_talk))]
     pub fn silent() -> Talk
-        ensures { result ≡ nothing_said }
+        ensures { result ≡ silent_talk }
     {
         Talk {
             verb: None,

@@ -3,7 +3,7 @@ ghost use Rattle.cave_world.specs.State.{visits_of, with_visit, without_visits};
 
 use crate::count::Count;
 use crate::state::State;
-use cave_objects::Place;
+use world_objects::Place;
 
 /// The most visits that are counted.
 const MAX_VISITS: u16 = 9999;

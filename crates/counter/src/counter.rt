@@ -1,7 +1,6 @@
 //! The machine.
 
-use log_lines::Meter;
-use log_replay::{Machine, Started, Stepped, Whole};
+use cave_replay::{Machine, Meter, Started, Stepped, Whole};
 use std::alloc::{AllocError, Global};
 
 /// A counter of four digits.

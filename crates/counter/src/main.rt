@@ -5,9 +5,8 @@ mod counter;
 
 use crate::counter::Counter;
 use anyhow::Result;
-use edit_scripts::Script;
-use log_lines::Meter;
-use log_replay::Session;
+use cave_replay::{Meter, Session};
+use replay_scripts::Script;
 use std::str;
 
 const LOG: &[u8] = b"click\nclick\n# a rest\nclick\n";
@@ -20,8 +19,7 @@ fn edit(rt: &HostRuntime, session: &mut Session<Counter>, script: &Script) -> Re
     for item in &script.items {
         match session.edit_group(&item.edits, &mut Meter::new()) {
             Ok(report) => {
-                let (line, stretch) = (item.line, report.stretch);
-                let (from, played) = (stretch.from, stretch.played);
+                let (line, from, played) = (item.line, report.from, report.played);
                 println!(rt; "line {line}: from {from}, played {played}")?;
             }
             Err(fault) => {

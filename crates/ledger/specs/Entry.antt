@@ -1,10 +1,10 @@
 -- What a line of a ledger says, and what becomes of a balance there.
-use Rattle.std.specs.Prelude.{ℕ, ◌+◌, ◌-◌, ◌^◌, ◌&&◌, Bool, true, false, nat_lt, nat_le}
-use Rattle.std.specs.Prelude.{List, length, take, drop, codes, bytes_eq}
-use Rattle.std.specs.Prelude.{Option, Some, None, unwrap_or, if◌then◌else◌}
+use Rattle.std.specs.Prelude.{ℕ, ◌+◌, ◌-◌, ◌^◌, ◌&&◌, Bool, true, false, nat_lt, nat_le, List}
+use Rattle.std.specs.Prelude.{length, take, drop, codes, bytes_eq, Option, Some, None, unwrap_or}
+use Rattle.std.specs.Prelude.{if◌then◌else◌}
 use Rattle.std.specs.List.{list_all}
 use Rattle.std.specs.Option.{option_or, option_map}
-use Rattle.log_lines.specs.Bytes.{is_digit, number_of}
+use Rattle.cave_replay.specs.base_lines.Bytes.{is_digit, number_of}
 use Rattle.ledger.specs.declared.entry.BookEntry.{BookEntry}
 use Rattle.ledger.specs.declared.entry.BookEntry.TheVariants.{In, Out, Comment}
 

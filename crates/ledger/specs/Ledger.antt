@@ -1,8 +1,8 @@
 -- The rules of a ledger.
 use Rattle.std.specs.Prelude.{ℕ, false, List, Option, Some}
-use Rattle.log_replay.specs.Machine.{MachineRules}
-use Rattle.log_edits.specs.Game.{Game}
-use Rattle.log_replay.specs.Play.{state_after}
+use Rattle.cave_replay.specs.Machine.{MachineRules}
+use Rattle.cave_replay.specs.replay_edits.Game.{Game}
+use Rattle.cave_replay.specs.Play.{state_after}
 use Rattle.ledger.specs.declared.account.Account.{Account}
 use Rattle.ledger.specs.Account.{account_after}
 use Rattle.ledger.specs.Entry.{entry_of, is_payment, balance_after}

@@ -1,9 +1,9 @@
 ghost use Rattle.std.specs.Prelude.{◌≡◌};
 ghost use Rattle.std.specs.List.{list_all};
-ghost use Rattle.log_lines.specs.Bytes.{is_digit};
+ghost use Rattle.cave_replay.specs.base_lines.Bytes.{is_digit};
 ghost use Rattle.ledger.specs.Entry.{amount_after, entry_of, is_payment, balance_after};
 
-use log_lines::bytes::number_of;
+use cave_replay::number_of;
 
 /// What a line of a ledger says.
 #[derive(Clone, Copy)]

@@ -3,8 +3,7 @@ ghost use Rattle.ledger.specs.Ledger.{ledger_rules, balance_of};
 
 use crate::account::Account;
 use crate::entry::BookEntry;
-use log_lines::Meter;
-use log_replay::{Machine, Session, Started, Stepped, Whole};
+use cave_replay::{Machine, Meter, Session, Started, Stepped, Whole};
 use std::alloc::{AllocError, Global};
 
 /// A ledger of one account, which is opened with the seed as its balance.
@@ -15,7 +14,7 @@ impl Machine for Ledger {
     ghost use Rattle.std.specs.Prelude.{ℕ, Option};
     ghost use Rattle.ledger.specs.declared.account.Account.{Account};
     ghost use Rattle.std.proofs.Common.{rules};
-    ghost use Rattle.log_replay.specs.Equality.{equality, exact_struct};
+    ghost use Rattle.cave_replay.specs.Equality.{equality, exact_struct};
     ghost use Rattle.ledger.specs.contracts.account.Account as account;
 
     type State = Account;

@@ -7,17 +7,15 @@ pub mod ledger;
 
 use crate::ledger::{Ledger, closing_balance};
 use anyhow::Result;
-use log_edits::{Edit, LineText};
-use log_lines::Meter;
-use log_replay::{Session, Stretch};
+use cave_replay::{Edit, GroupReport, LineText, Meter, Session};
 use std::str;
 
 const LOG: &[u8] = b"in 100\nout 30\n# October\nout 50\nout 40\nin 60\nout 10\nin 5\n";
 
 /// Prints what was replayed, and what is said at each line of the log as it is now.
-fn tell(rt: &HostRuntime, session: &Session<Ledger>, replayed: Stretch) -> Result<()> {
-    let Stretch { from, met, played } = replayed;
-    match met {
+fn tell(rt: &HostRuntime, session: &Session<Ledger>, report: &GroupReport) -> Result<()> {
+    let (from, played) = (report.from, report.played);
+    match report.met {
         Some(met) => println!(rt; "from {from}, met {met}, played {played}")?,
         None => println!(rt; "from {from}, met none, played {played}")?,
     }
@@ -41,5 +39,5 @@ fn main(rt: HostRuntime) -> Result<()> {
         Edit::Replace(4, LineText::from_slice(rt.alloc(), b"out 75")?),
     ];
     let report = session.edit_group(&edits, &mut meter)?;
-    tell(&rt, &session, report.stretch)
+    tell(&rt, &session, &report)
 }

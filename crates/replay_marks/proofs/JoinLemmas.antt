@@ -1,10 +1,9 @@
 -- Checkpoints after an edit: the list that a splice and a shift leave.
 use Rattle.std.proofs.Common.{◌≡◌, ℕ, ◌+◌, ◌-◌, ◌<◌, ◌≤◌, List, ◌++◌, map, length, take, drop}
 use Rattle.std.proofs.Common.{arith, refl, ap, sym, ◌∙◌, append_assoc, length-append}
-use Rattle.std.specs.Prelude.{slice_index}
+use Rattle.std.specs.Prelude.{slice_index, if◌then◌else◌}
 use Rattle.std.specs.List.{splice}
 use Rattle.std.proofs.lemmas.List.{take_at, drop_at, length-take-le, length-drop, get_or-drop}
-use Rattle.std.specs.Prelude.{if◌then◌else◌}
 use borrow.Author.Tests.{lt-ltb, le-ltb}
 use Rattle.replay_marks.specs.Spacing.{IsSpaced}
 use Rattle.replay_marks.specs.Thinning.{IsThinned, IsRest, after_shift}

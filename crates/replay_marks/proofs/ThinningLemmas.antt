@@ -3,11 +3,10 @@ use Rattle.std.proofs.Common.{◌≡◌, ℕ, ◌+◌, ◌-◌, ◌<◌, ◌≤�
 use Rattle.std.proofs.Common.{⊎_elim, refl, ap, ◌∙◌}
 use Rattle.std.specs.Prelude.{slice_index}
 use Rattle.std.proofs.lemmas.Bool.{cases_lt}
-use Rattle.std.proofs.lemmas.List.{length-append, length_push}
+use Rattle.std.proofs.lemmas.List.{length-append, length_push, length-take-le, get_or-take}
 use Rattle.replay_marks.specs.Spacing.{IsSpaced}
 use Rattle.replay_marks.specs.Thinning.{IsThinned, IsRest, after_shift}
 use Rattle.std.specs.List.Sorted.{IsStrictlyIncreasing}
-use Rattle.std.proofs.lemmas.List.{length-take-le, get_or-take}
 use Rattle.replay_marks.proofs.Places.{non_decreasing}
 use Rattle.replay_marks.proofs.Runs.{IsRun, IsMeeting, run_of, at_left, at_right, joined, front}
 use Rattle.replay_marks.proofs.Runs.{back, length-moved, at_moved}

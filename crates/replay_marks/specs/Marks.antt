@@ -1,6 +1,6 @@
 -- What contracts see of marks that are being thinned, and of the checkpoints of a log.
-use Rattle.std.specs.Prelude.{◌≡◌, ℕ, ◌+◌, ◌-◌, ◌<◌, ◌≤◌, Bool, nat_lt, if◌then◌else◌}
-use Rattle.std.specs.Prelude.{List, [], ◌∷◌, ◌++◌, length, take, drop, slice_index}
+use Rattle.std.specs.Prelude.{◌≡◌, ℕ, ◌+◌, ◌-◌, ◌<◌, ◌≤◌, Bool, nat_lt, if◌then◌else◌, List, []}
+use Rattle.std.specs.Prelude.{◌∷◌, ◌++◌, length, take, drop, slice_index}
 use Rattle.replay_marks.specs.Spacing.{IsSpaced}
 use Rattle.replay_marks.specs.Thinning.{IsThinned, after_shift}
 

@@ -1,5 +1,5 @@
-ghost use Rattle.std.specs.Prelude.{◌≡◌, ◌+◌, ◌-◌, ◌<◌, ◌≤◌, [], ◌∷◌, length};
-ghost use Rattle.std.specs.Prelude.{slice_index, slice_get, Some, IfOk, OnOk};
+ghost use Rattle.std.specs.Prelude.{◌≡◌, ◌+◌, ◌-◌, ◌<◌, ◌≤◌, [], ◌∷◌, length, slice_index};
+ghost use Rattle.std.specs.Prelude.{slice_get, Some, IfOk, OnOk};
 ghost use Rattle.replay_marks.specs.Marks.{IsBegunAt};
 ghost use Rattle.replay_marks.specs.Spacing.{IsSpaced, most_spaced};
 

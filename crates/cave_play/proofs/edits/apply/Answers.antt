@@ -3,8 +3,8 @@ use Rattle.std.specs.Prelude.{◌⊎◌}
 use Rattle.std.proofs.lemmas.Result.{err_from_is_err_and}
 use Rattle.cave_play.specs.Strict.{first_strict_fault}
 use Rattle.cave_play.specs.declared.fault.PlayFault.TheVariants as fault
-use Rattle.edit_scripts.specs.Views.{applied_item}
-use Rattle.edit_scripts.specs.declared.script.Item.{Item}
+use Rattle.replay_scripts.specs.Views.{applied_item}
+use Rattle.replay_scripts.specs.declared.script.Item.{Item}
 use Rattle.cave_play.specs.Edits.{IsApplied}
 use Rattle.cave_play.proofs.EditLemmas.{Completes-none, Completes-more, IsApplied-whole}
 use Rattle.cave_play.proofs.EditLemmas.{game_after_items-more}

@@ -1,6 +1,6 @@
 -- What came of the items so far, with what is still to come, and the game that comes of it.
 use Rattle.std.proofs.Common.{◌≡◌, ◌≤◌, ◌*◌, ◌^◌, drop, map}
-use Rattle.edit_scripts.specs.Views.{applied_item}
+use Rattle.replay_scripts.specs.Views.{applied_item}
 use Rattle.cave_play.specs.Output.{game_after_items}
 use Rattle.cave_play.specs.Strict.{first_strict_fault}
 use Rattle.cave_play.proofs.EditLemmas.{Completes}

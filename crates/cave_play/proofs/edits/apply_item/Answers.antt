@@ -1,5 +1,5 @@
 use Rattle.std.proofs.Common.{◌∙◌, inr}
-use Rattle.edit_scripts.specs.Views.{applied_item}
+use Rattle.replay_scripts.specs.Views.{applied_item}
 use Rattle.std.proofs.lemmas.Result.{err_from_is_err_and}
 use Rattle.cave_play.proofs.StrictLemmas.{strict_fault-outcome}
 use Rattle.cave_play.proofs.edits.apply_item.Goals as goal

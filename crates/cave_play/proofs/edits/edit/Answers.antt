@@ -1,10 +1,10 @@
 use Rattle.std.proofs.Common.{◌≡◌, Some, length, sym, subst, ap, ◌∙◌}
-use Rattle.replay_marks.specs.Spacing.{IsSpaced}
-use Rattle.log_edits.specs.Edit.{changes_of, apply_all}
-use Rattle.log_edits.specs.Game.{Game}
-use Rattle.log_edits.specs.declared.fault.EditFault.TheVariants as cause
-use Rattle.edit_scripts.specs.Views.{applied_item}
-use Rattle.cave_data.specs.CaveView.{CaveView}
+use Rattle.world_packed.specs.replay_marks.Spacing.{IsSpaced}
+use Rattle.cave_replay.specs.replay_edits.Edit.{changes_of, apply_all}
+use Rattle.cave_replay.specs.replay_edits.Game.{Game}
+use Rattle.cave_replay.specs.replay_edits.declared.fault.EditFault.TheVariants as cause
+use Rattle.replay_scripts.specs.Views.{applied_item}
+use Rattle.data_bindings.specs.cave_data.CaveView.{CaveView}
 use Rattle.cave_play.specs.Outcome.{standing_of}
 use Rattle.cave_play.specs.Output.{group_refusal}
 use Rattle.cave_play.proofs.EditLemmas.{group_refusal-fresh, accepted_without, refused_by}
@@ -28,8 +28,8 @@ returns-in-Ok c =
         came = record {
           accepted = none;
           report =
-              IsReport-same _ _ _ _ _ _ _ _ same c.replay_of.ensures.stretch
-              c.in-Ok.ensures.report;
+              IsReport-same _ _ _ _ _ _ same c.replay_of.ensures.from c.replay_of.ensures.met
+              c.replay_of.ensures.played c.in-Ok.ensures.report;
           lines = c.replay_of.ensures.lines ∙ ap (λ (g : Game). length g.log) made;
           standing = c.replay_of.ensures.standing
               ∙ ap (λ (k : CaveView). standing_of k c.edit_group.new.self.game) cave_is

@@ -1,5 +1,5 @@
 use Rattle.std.proofs.Common.{refl, ap, ◌∙◌}
-use Rattle.cave_score.specs.Score.{score_of, max_score_of}
+use Rattle.cave_turn.specs.turn_score.Score.{score_of, max_score_of}
 use Rattle.cave_play.specs.Transcript.{ticks}
 use Rattle.cave_play.proofs.StandingLemmas.{standing-played, standing-same}
 use Rattle.cave_play.proofs.edits.standing_of.Goals as goal

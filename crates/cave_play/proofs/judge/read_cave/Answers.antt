@@ -1,6 +1,6 @@
 use Rattle.std.proofs.Common.{subst, ◌∙◌}
 use Rattle.std.proofs.lemmas.Result.{err_from_is_err_and}
-use Rattle.cave_data.specs.Reads.{Reads}
+use Rattle.data_bindings.specs.cave_data.Reads.{Reads}
 use Rattle.cave_play.proofs.InputLemmas.{Says-some}
 use Rattle.cave_play.proofs.JudgeLemmas.{IsFoundIn-database, IsFoundIn-bindings, cave_stages-read}
 use Rattle.cave_play.proofs.judge.read_cave.Goals as goal

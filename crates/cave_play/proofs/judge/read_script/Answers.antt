@@ -1,8 +1,8 @@
 use Rattle.std.proofs.Common.{subst, sym, ap, ◌∙◌}
 use Rattle.std.specs.Str.Lines.{lines}
 use Rattle.std.proofs.lemmas.Result.{err_from_is_err_and}
-use Rattle.edit_scripts.specs.Script.{IsScript, script_of}
-use Rattle.edit_scripts.specs.Views.{items_of}
+use Rattle.replay_scripts.specs.Script.{IsScript, script_of}
+use Rattle.replay_scripts.specs.Views.{items_of}
 use Rattle.cave_play.specs.Stages.{script_stage}
 use Rattle.cave_play.proofs.ScriptLemmas.{few_items}
 use Rattle.cave_play.proofs.StageLemmas.{first_decided-one}

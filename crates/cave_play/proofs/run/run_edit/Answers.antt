@@ -1,51 +1,138 @@
-use Rattle.std.proofs.Common.{subst, sym}
+use Rattle.std.proofs.Common.{ℕ, List, [], ◌∷◌, ◌++◌, inl, inr, subst, sym, ◌∙◌}
+use Rattle.std.specs.Str.Lines.{lines}
 use Rattle.std.proofs.lemmas.Result.{err_from_is_err_and}
 use Rattle.std.proofs.KnownBytes.{Keeps-refl}
+use Rattle.play_command.specs.play_options.declared.editing.Editing.{Editing}
+use Rattle.cave_replay.specs.replay_edits.Game.{game_of}
+use Rattle.cave_play.specs.Judge.{large_seed, every_fault}
+use Rattle.cave_play.specs.Stage.{Stage, judging_stage}
+use Rattle.cave_play.specs.Stages.{cave_stages, edit_stages, log_stage, script_stage, strict_stage}
 use Rattle.cave_play.specs.Views.{IsEdited}
-use Rattle.cave_play.specs.Stages.{edit_stages}
+use Rattle.cave_play.proofs.InputLemmas.{Says-some}
 use Rattle.cave_play.proofs.RunLemmas.{EndsBy-unwritten, Runs-written, unwritten_by_edit}
+use Rattle.cave_play.proofs.StageLemmas.{IsFoundIn-first, IsFoundIn-later, first_decided-after}
+use Rattle.cave_play.proofs.StageLemmas.{first_decided-later}
+use Rattle.cave_play.proofs.TextsLemmas.{AreTextsOf-some}
 use Rattle.cave_play.proofs.run.run_edit.Goals as goal
+
+-- the stages of the log and of the script
+abbrev after_cave : List ℕ → List ℕ → Editing → List Stage
+after_cave log script editing =
+    log_stage log ∷ script_stage script
+    ∷ strict_stage editing.strict (game_of editing.seed (lines log)) script ∷ []
+
+-- the stages after that of the distance of checkpoints
+abbrev after_every : List ℕ → List ℕ → List ℕ → List ℕ → Editing → List Stage
+after_every database bindings log script editing =
+    cave_stages database bindings ++ after_cave log script editing
+
+pub returns-in_err-check_seed : goal.returns-in_err-check_seed
+returns-in_err-check_seed g c =
+    let exit = err_from_is_err_and c.from_residual.result c.from_residual.ensures.1 in
+    let (texts, said) =
+    AreTextsOf-some g.C.Read.remaining g.B.Read.remaining g.L.Read.remaining g.S.Read.remaining
+    c.args.inputs.now in
+    rw (exit.1, exit.2)
+    (record {
+      runs = (
+        texts,
+        said,
+        EndsBy-unwritten
+            _ (edit_stages texts.database texts.bindings texts.log texts.script c.args.editing) _ _ _
+            (unwritten_by_edit texts.database texts.bindings texts.log texts.script
+            c.args.editing) (inl (inr c.in_err-check_seed.ensures)) (Keeps-refl _),
+      );
+    })
+
+pub returns-in_err-check_every : goal.returns-in_err-check_every
+returns-in_err-check_every g c =
+    let exit =
+    err_from_is_err_and c.from_residual-in_err-check_every.result
+    c.from_residual-in_err-check_every.ensures.1 in
+    let (texts, said) =
+    AreTextsOf-some g.C.Read.remaining g.B.Read.remaining g.L.Read.remaining g.S.Read.remaining
+    c.args.inputs.now in
+    rw (exit.1, exit.2)
+    (record {
+      runs = (
+        texts,
+        said,
+        EndsBy-unwritten
+            _ (edit_stages texts.database texts.bindings texts.log texts.script c.args.editing) _ _ _
+            (unwritten_by_edit texts.database texts.bindings texts.log texts.script
+            c.args.editing)
+            (inr (c.in_ok-check_seed.ensures, inl (inr c.in_err-check_every.ensures)))
+            (Keeps-refl _),
+      );
+    })
+
+pub returns-in_err-cave : goal.returns-in_err-cave
+returns-in_err-cave g c =
+    let exit =
+    err_from_is_err_and c.from_residual-in_err-cave.result
+    c.from_residual-in_err-cave.ensures.1 in
+    let (database, bindings, one, two, refused) = c.in_err-cave.ensures.judged in
+    let (moves, three) = Says-some (g.L.Read.remaining c.args.inputs.now.log) in
+    let (edits, four) = Says-some (g.S.Read.remaining c.args.inputs.now.script) in
+    let found =
+    IsFoundIn-first (cave_stages database bindings) (after_cave moves edits c.args.editing)
+    _ refused in
+    rw (exit.1, exit.2)
+    (record {
+      runs = (
+        record { database = database; bindings = bindings; log = moves; script = edits },
+        record { database = one; bindings = two; log = three; script = four },
+        EndsBy-unwritten
+            _ (edit_stages database bindings moves edits c.args.editing) _ _ _
+            (unwritten_by_edit database bindings moves edits c.args.editing)
+            (inr (c.in_ok-check_seed.ensures, inr (c.in_ok-check_every.ensures, found)))
+            (Keeps-refl _),
+      );
+    })
 
 pub returns-in_err-text : goal.returns-in_err-text
 returns-in_err-text g c =
-    let exit = err_from_is_err_and c.from_residual.result c.from_residual.ensures.1 in
-    let (database, bindings, lines, edits, said, others, third, last, decided) =
-    c.in_err-text.ensures.judged in
-    rw (exit.1, exit.2) (record {
+    let exit =
+    err_from_is_err_and c.from_residual-in_err-text.result
+    c.from_residual-in_err-text.ensures.1 in
+    let (database, bindings, one, two, read) = c.in_ok-cave.ensures.judged in
+    let (moves, edits, three, four, refused) = c.in_err-text.ensures.judged in
+    let found =
+    IsFoundIn-later (cave_stages database bindings) (after_cave moves edits c.args.editing)
+    _ read.0 refused in
+    rw (exit.1, exit.2)
+    (record {
       runs = (
-        database,
-        bindings,
-        lines,
-        edits,
-        said,
-        others,
-        third,
-        last,
+        record { database = database; bindings = bindings; log = moves; script = edits },
+        record { database = one; bindings = two; log = three; script = four },
         EndsBy-unwritten
-            _ _ _ _ _ (unwritten_by_edit database bindings lines edits c.args.editing) decided
+            _ (edit_stages database bindings moves edits c.args.editing) _ _ _
+            (unwritten_by_edit database bindings moves edits c.args.editing)
+            (inr (c.in_ok-check_seed.ensures, inr (c.in_ok-check_every.ensures, found)))
             (Keeps-refl _),
       );
     })
 
 pub returns : goal.returns
 returns g c =
-    let (database, bindings, lines, edits, said, others, third, last, made) =
-    c.in_ok-text.ensures.judged in
+    let (database, bindings, one, two, read) = c.in_ok-cave.ensures.judged in
+    let (moves, edits, three, four, edited) = c.in_ok-text.ensures.judged in
+    let editing = c.args.editing in
+    let right = IsEdited database bindings moves edits editing in
     let output =
-    subst (IsEdited database bindings lines edits c.args.editing) (sym c.deref.ensures.value)
-    made.1 in
-    let stages = edit_stages database bindings lines edits c.args.editing in
+    subst right (sym c.deref.ensures.value) (c.in_ok-cave.cave, read.1, edited.1) in
+    let later = after_every database bindings moves edits editing in
+    let none =
+    first_decided-after (large_seed editing.seed) (judging_stage (every_fault editing.every) ∷ later)
+    c.in_ok-check_seed.ensures
+    (first_decided-after (every_fault editing.every) later c.in_ok-check_every.ensures
+    (first_decided-later (cave_stages database bindings) (after_cave moves edits editing) read.0
+    ∙ edited.0)) in
     record {
       runs = (
-        database,
-        bindings,
-        lines,
-        edits,
-        said,
-        others,
-        third,
-        last,
-        Runs-written stages (IsEdited database bindings lines edits c.args.editing) _ _ _ _ made.0
-            output c.write_output.ensures.written,
+        record { database = database; bindings = bindings; log = moves; script = edits },
+        record { database = one; bindings = two; log = three; script = four },
+        Runs-written (edit_stages database bindings moves edits editing) right _ _ _ _ none output
+            c.write_output.ensures.written,
       );
     }

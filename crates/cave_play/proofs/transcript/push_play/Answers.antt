@@ -3,7 +3,7 @@ use Rattle.std.proofs.Common.{rules}
 use Rattle.std.specs.Iterator.Adapters.{enumerate_source, enumerate_count}
 use Rattle.std.proofs.lemmas.Result.{on_ok_weaker}
 use Rattle.cave_play.specs.Machine.{rendering_of}
-use Rattle.cave_score.specs.Score.{score_of, max_score_of}
+use Rattle.cave_turn.specs.turn_score.Score.{score_of, max_score_of}
 use Rattle.cave_play.specs.Output.{play_text}
 use Rattle.cave_play.specs.Transcript.{last_line, ticks}
 use Rattle.cave_play.proofs.RunLemmas.{transcript-played}

@@ -5,7 +5,7 @@ use Rattle.std.specs.Prelude.{slice_index}
 use Rattle.std.specs.Iterator.Adapters.{enumerate_source, enumerate_count}
 use Rattle.cave_play.specs.Machine.{rendering_of}
 use Rattle.cave_play.specs.Transcript.{last_line, ticks, transcript}
-use Rattle.cave_score.specs.Score.{score_of, max_score_of}
+use Rattle.cave_turn.specs.turn_score.Score.{score_of, max_score_of}
 use Rattle.cave_play.proofs.TranscriptLemmas.{told_from}
 use Rattle.cave_play.proofs.transcript.push_play.Given as goal
 

@@ -1,10 +1,10 @@
 use Rattle.std.proofs.Common.{◌≡◌, ℕ, ◌<◌, ◌≤◌, ◌-◌, suc, zero, arith, sym, ◌∙◌, ap, subst}
-use Rattle.cave_scene.specs.Play.{scene_of}
-use Rattle.cave_scene.specs.Rules.{cave_of}
+use Rattle.verb_commands.specs.turn_scene.Scene.{scene_of}
+use Rattle.verb_commands.specs.turn_scene.Rules.{cave_of}
 use Rattle.cave_verbs.specs.Acting.{act_within, act_once}
-use Rattle.cave_orders.specs.Deeds.{Deed, Act, deed, act_of, going_on}
-use Rattle.cave_orders.specs.declared.next.Step.TheVariants.{Done, GoOn}
-use Rattle.cave_orders.specs.declared.verb.Verb.{Verb}
+use Rattle.verb_commands.specs.Deeds.{Deed, Act, deed, act_of, going_on}
+use Rattle.verb_commands.specs.declared.next.Step.TheVariants.{Done, GoOn}
+use Rattle.verb_commands.specs.declared.verb.Verb.{Verb}
 use Rattle.cave_verbs.proofs.acting.+act_within.Goals as goal
 
 -- what a greater rank doesn't exceed isn't 0
@@ -14,21 +14,21 @@ above low high left greater fits = omega arith
 -- what goes on has one verb less left
 going_within : (left : ℕ) (d : Deed) (v : Verb) (x : ℕ) → 0 < left → (act_once d).step ≡ GoOn v x
     → act_within left d
-    ≡ act_within (left - 1) (deed d.cave (going_on d.order v x) (act_once d).scene)
+    ≡ act_within (left - 1) (deed d.cave (going_on d.command v x) (act_once d).scene)
 unfolding act_within
 going_within zero d v x some is = grind (arith, some)
 going_within (suc left) d v x some is = grind (arith, is)
 
 pub returns-in-GoOn-clause-rules : goal.returns-in-GoOn-clause-rules
 returns-in-GoOn-clause-rules t c =
-    let deed_now = deed (cave_of c.args.rules.now) c.args.order (scene_of c.args.play.now) in
+    let deed_now = deed (cave_of c.args.rules.now) c.args.command (scene_of c.args.scene.now) in
     let once = c.act_once.ensures.rules.0 in
     let some = above _ _ c.args.left c.in-GoOn.ensures.ranks c.requires.rank in
     let step = sym (ap (λ (a : Act). a.step) once) ∙ c.in-GoOn.is in
     let here =
-    λ (a : Act). act_of (scene_of c.act_within.new.play) (Done c.act_within.result)
+    λ (a : Act). act_of (scene_of c.act_within.new.scene) (Done c.act_within.result)
     ≡ act_within (c.args.left - 1)
     (deed (cave_of c.args.rules.now)
-    (going_on c.args.order c.in-GoOn.verb c.in-GoOn.object) a.scene) in
+    (going_on c.args.command c.in-GoOn.verb c.in-GoOn.object) a.scene) in
     subst here once c.act_within.ensures.rules
     ∙ sym (going_within c.args.left deed_now c.in-GoOn.verb c.in-GoOn.object some step)

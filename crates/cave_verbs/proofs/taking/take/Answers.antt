@@ -1,5 +1,5 @@
 -- TAKE goes on from a liquid to its bottle.
-use Rattle.cave_scene.specs.Rules.{cave_of}
+use Rattle.verb_commands.specs.turn_scene.Rules.{cave_of}
 use Rattle.cave_verbs.proofs.Falls.{take-falls}
 use Rattle.std.proofs.Common.{rules}
 use Rattle.cave_verbs.proofs.taking.take.Goals as goal
@@ -7,5 +7,5 @@ use Rattle.cave_verbs.proofs.taking.take.Goals as goal
 pub returns-then-is_near-clause-ranks : goal.returns-then-is_near-clause-ranks
 returns-then-is_near-clause-ranks c =
     rw c.thing-bottle.ensures
-    (take-falls (cave_of c.args.rules.now) c.args.play.now.state.now c.args.order.object
+    (take-falls (cave_of c.args.rules.now) c.args.scene.now.state.now c.args.command.object
     (search rules))

@@ -1,5 +1,5 @@
 use Rattle.std.proofs.Common.{sym, ◌∙◌}
-use Rattle.cave_rows.specs.RowViews.{word_entry}
+use Rattle.data_rows.specs.RowViews.{word_entry}
 use Rattle.cave_data.proofs.WordLemmas.{first_word-found, first_word-other}
 use Rattle.cave_data.proofs.words.WordTable.first_word.Goals as goal
 

@@ -1,5 +1,5 @@
 use Rattle.std.proofs.Common.{ap, ◌∙◌, [], ◌∷◌, ◌++◌, map}
-use Rattle.cave_rows.specs.RowViews.{word_entry}
+use Rattle.data_rows.specs.RowViews.{word_entry}
 use Rattle.cave_data.specs.Spans.{word_of_span}
 use Rattle.cave_data.proofs.SpanLemmas.{word_added}
 use Rattle.cave_data.proofs.words.WordTable.push.Goals as goal

@@ -1,5 +1,0 @@
-pub mod App
-pub mod Fault
-pub mod Number
-pub mod Read
-pub mod Run

@@ -1,5 +1,0 @@
-use Rattle.cave_cover.proofs.LawLemmas.{again_is_nothing}
-use Rattle.cave_cover.proofs.laws.again_is_nothing.Goals as goal
-
-pub returns : goal.returns
-returns c = again_is_nothing

@@ -1,5 +1,0 @@
-use Rattle.cave_cover.proofs.LawLemmas.{one_covered_output}
-use Rattle.cave_cover.proofs.laws.one_covered_output.Goals as goal
-
-pub returns : goal.returns
-returns c = one_covered_output

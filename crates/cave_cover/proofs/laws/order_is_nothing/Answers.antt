@@ -1,5 +1,0 @@
-use Rattle.cave_cover.proofs.LawLemmas.{order_is_nothing}
-use Rattle.cave_cover.proofs.laws.order_is_nothing.Goals as goal
-
-pub returns : goal.returns
-returns c = order_is_nothing

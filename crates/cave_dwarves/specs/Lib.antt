@@ -1,9 +1,0 @@
-pub mod Band
-pub mod Dwarves
-pub mod Knives
-pub mod Lines
-pub mod Moving
-pub mod Pirate
-pub mod Booty
-pub mod Waking
-pub mod Candidates

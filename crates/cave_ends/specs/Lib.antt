@@ -1,3 +1,0 @@
-pub mod Deaths
-pub mod Endings
-pub mod Questions

@@ -1,5 +1,0 @@
-use Rattle.cave_graph.proofs.PartLemmas.{nodes_are_lines}
-use Rattle.cave_graph.proofs.laws.nodes_are_lines.Goals as goal
-
-pub returns : goal.returns
-returns c = nodes_are_lines

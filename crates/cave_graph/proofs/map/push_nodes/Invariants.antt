@@ -1,9 +1,0 @@
-use Rattle.std.proofs.Common.{◌≡◌, ◌++◌, take}
-use Rattle.std.specs.List.{flat_map}
-use Rattle.cave_graph.specs.Places.{node}
-use Rattle.cave_graph.proofs.map.push_nodes.Given as goal
-
-abbrev pub invariant-loop-place : goal.invariant-loop-place
-invariant-loop-place l =
-    l.text.items ≡ l.initial.text.items
-    ++ flat_map (node l.cave l.stops l.logs) (take l.place-index l.places)

@@ -1,5 +1,0 @@
-use Rattle.cave_objects.specs.SameObjects.{objects_decides}
-use Rattle.cave_kept.proofs.packed_state.are_same.Goals as goal
-
-pub returns : goal.returns
-returns c = rw c.eq.ensures (objects_decides c.args.objects.now c.args.others.now)

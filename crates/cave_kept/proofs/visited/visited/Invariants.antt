@@ -1,9 +1,0 @@
-use Rattle.std.proofs.Common.{◌≤◌, length}
-use Rattle.cave_kept.specs.Packed.{IsUnvisitedAfter}
-use Rattle.cave_kept.proofs.visited.visited.Given as goal
-
-abbrev pub invariant-blocks-2 : goal.invariant-blocks-2
-invariant-blocks-2 l = IsUnvisitedAfter l.visits l.first × (length l.first ≤ length l.visits)
-
-abbrev pub decreases-blocks-2 : goal.decreases-blocks-2
-decreases-blocks-2 l = length l.first

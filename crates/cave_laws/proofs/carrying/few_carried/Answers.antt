@@ -1,5 +1,0 @@
-use Rattle.cave_laws.proofs.Hands.{few_carried}
-use Rattle.cave_laws.proofs.carrying.few_carried.Goals as goal
-
-pub returns : goal.returns
-returns c = few_carried

@@ -1,5 +1,0 @@
-use Rattle.cave_score.proofs.Most.{score_within}
-use Rattle.cave_laws.proofs.courses.no_score_is_greater.Goals as goal
-
-pub returns : goal.returns
-returns c = score_within

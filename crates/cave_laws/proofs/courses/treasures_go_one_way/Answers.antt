@@ -1,5 +1,0 @@
-use Rattle.cave_laws.proofs.Onward.{treasures_go_one_way}
-use Rattle.cave_laws.proofs.courses.treasures_go_one_way.Goals as goal
-
-pub returns : goal.returns
-returns c = treasures_go_one_way

@@ -1,5 +1,0 @@
-use Rattle.cave_laws.proofs.Band.{few_dwarves}
-use Rattle.cave_laws.proofs.dwarf_laws.few_dwarves.Goals as goal
-
-pub returns : goal.returns
-returns c = few_dwarves

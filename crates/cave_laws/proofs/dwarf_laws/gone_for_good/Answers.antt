@@ -1,5 +1,0 @@
-use Rattle.cave_laws.proofs.Band.{gone_for_good}
-use Rattle.cave_laws.proofs.dwarf_laws.gone_for_good.Goals as goal
-
-pub returns : goal.returns
-returns c = gone_for_good

@@ -1,5 +1,0 @@
-use Rattle.cave_laws.proofs.Claims.{player_is_somewhere}
-use Rattle.cave_laws.proofs.player_is_somewhere.Goals as goal
-
-pub returns : goal.returns
-returns c = player_is_somewhere

@@ -1,8 +1,0 @@
-//! Laws of what is carried.
-
-ghost use Rattle.cave_laws.specs.Carrying.{FewCarried};
-
-/// At most eight objects are carried, as a game begins and after each line.
-pub fn few_carried()
-    ensures { FewCarried }
-{}

@@ -1,5 +1,0 @@
-use Rattle.cave_map.proofs.LawLemmas.{one_map}
-use Rattle.cave_map.proofs.laws.one_map.Goals as goal
-
-pub returns : goal.returns
-returns c = one_map

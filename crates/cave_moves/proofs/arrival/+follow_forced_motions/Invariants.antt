@@ -1,5 +1,0 @@
-use Rattle.cave_moves.proofs.arrival.+follow_forced_motions.Given as goal
-
--- the forced motions that are left
-abbrev pub decreases-follow_forced_motions : goal.decreases-follow_forced_motions
-decreases-follow_forced_motions l = l.play.now.left

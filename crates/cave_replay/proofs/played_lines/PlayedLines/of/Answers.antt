@@ -1,0 +1,17 @@
+use Rattle.std.proofs.Common.{◌∙◌, arith}
+use Rattle.replay_edits.specs.Game.{log_of}
+use Rattle.replay_edits.proofs.Lines.{length-log_of}
+use Rattle.cave_replay.proofs.PlayedRows.{length-rows_from, rows-at}
+use Rattle.cave_replay.proofs.played_lines.PlayedLines.of.Goals as goal
+
+pub returns-clause-each_line : goal.returns-clause-each_line
+returns-clause-each_line g c =
+    let lines = length-log_of c.args.log.now in
+    length-rows_from 0 0 (log_of c.args.log.now) c.args.pieces.now c.args.ticked.now
+    (omega (arith, c.requires.pieces)) (omega (arith, c.requires.ticked)) ∙ lines
+
+pub returns-clause-rows : goal.returns-clause-rows
+returns-clause-rows g c = λ place below.
+    let lines = length-log_of c.args.log.now in
+    rows-at (log_of c.args.log.now) c.args.pieces.now c.args.ticked.now
+    (omega (arith, c.requires.pieces)) (omega (arith, c.requires.ticked)) place (omega arith)

@@ -1,0 +1,131 @@
+use Rattle.std.proofs.Common.{◌≡◌, ℕ, List, length, map, ap, ◌∙◌, refl, sym, arith}
+use Rattle.std.specs.Prelude.{slice_index}
+use Rattle.std.proofs.lemmas.List.{length-map}
+use Rattle.replay_edits.specs.LineText.{LineText}
+use Rattle.cave_replay.specs.declared.playthrough.Playthrough.{Playthrough}
+use Rattle.cave_replay.specs.declared.ready_edits.ReadyEdits.{ReadyEdits}
+use Rattle.replay_edits.specs.Game.{Game}
+use Rattle.replay_edits.specs.Edit.{Change, changes_of, apply_all, inverses_of}
+use Rattle.replay_edits.specs.Faults.{log_after_all}
+use Rattle.cave_replay.specs.Playthrough.{kept_game, KeepsAll}
+use Rattle.cave_replay.specs.ReadyEdits.{AreEditsOf}
+use Rattle.replay_edits.proofs.Inverses.{IsFree-from_none, none_from_IsFree, log-apply_all}
+use Rattle.replay_edits.proofs.Inverses.{apply_all-inverses_of, IsFree-inverses_of}
+use Rattle.cave_replay.proofs.Joins.{map-splice}
+use Rattle.replay_edits.proofs.Lines.{length-log_of}
+use Rattle.cave_replay.proofs.Plays.{length-pieces, length-ticks}
+use Rattle.cave_replay.proofs.TakeoverLemmas.{replay_of, kept_after, report_after, met_inside}
+use Rattle.cave_replay.proofs.TakeoverLemmas.{stretch_ready, stretch_same, places_same, states_same}
+use Rattle.cave_replay.proofs.TakeoverLemmas.{opened_text}
+use Rattle.cave_replay.proofs.replay.edit_kept.Goals as goal
+
+-- what the edits make of the game, once there is room, is what the changes make of the old one
+make_same : {Machine State Kept Piece Meter Scratch X : Type 0} (make : List Change → Game → X)
+    {changes : List Change} {seed : ℕ} {log : List LineText} {ready : ReadyEdits}
+    {old roomy : Playthrough Machine State Kept Piece Meter Scratch}
+    → AreEditsOf changes seed log ready
+    → KeepsAll old roomy
+    → make (changes_of ready.edits.items) (kept_game roomy) ≡ make changes (kept_game old)
+make_same make edits same = rw (edits.edits, same.seed, same.log) refl
+
+pub take_over-inverse-requires-clause-whole : goal.take_over-inverse-requires-clause-whole
+take_over-inverse-requires-clause-whole g c =
+    let kept = c.args.kept.now in
+    let roomy = c.make_room.new.kept in
+    let same = c.make_room.ensures.same in
+    let n = length-log_of kept.log.items in
+    let m = length-map kept.pieces.items g.M.Machine.text in
+    let plays = c.requires.kept.plays in
+    let pieces = length-pieces plays in
+    let ticks = length-ticks plays in
+    let said = ap length same.pieces in
+    let ticked = ap length same.ticked in
+    let lines = ap length same.log in
+    let all = c.requires.kept.lines in
+    record {
+      pieces = omega (arith, roomy.pieces.ok, roomy.log.ok);
+      ticked = omega (arith, roomy.log.ok);
+      lines = omega (arith, same.lines, roomy.log.ok);
+    }
+
+pub take_over-inverse-requires-clause-stretch : goal.take_over-inverse-requires-clause-stretch
+take_over-inverse-requires-clause-stretch g c =
+    let replay =
+    replay_of c.requires.kept c.in_ok-rerun.ensures.edits c.places.ensures.spaced
+    c.in_ok-rerun.ensures.rerun in
+    let same = c.make_room.ensures.same in
+    stretch_ready replay c.make_room.new.kept.checkpoints same.every same.lines same.places
+
+pub returns-clause-kept : goal.returns-clause-kept
+returns-clause-kept g c =
+    let replay =
+    replay_of c.requires.kept c.in_ok-rerun.ensures.edits c.places.ensures.spaced
+    c.in_ok-rerun.ensures.rerun in
+    let text = g.M.Machine.text in
+    let kept = c.args.kept.now in
+    let C = kept.checkpoints in
+    let roomy = c.make_room.new.kept in
+    let same = c.make_room.ensures.same in
+    let edits = c.in_ok-rerun.ensures.edits in
+    let played = c.in_ok-rerun.rerun.played in
+    let at = c.in_ok-rerun.rerun.at in
+    let after = c.take_over-inverse.new.kept in
+    let done = c.take_over-inverse.ensures.taken in
+    let stretch = stretch_same roomy.checkpoints C same.lines same.places played.met in
+    let from = ap (λ x. slice_index x at) same.places in
+    rw (done.game ∙ make_same apply_all edits same ∙ sym edits.game)
+    (kept_after replay (text after.opening) (map text after.pieces.items) after.ticked.items
+    after.state after.checkpoints
+    (opened_text text c.in_ok-rerun.rerun.opening after.opening roomy.opening kept.opening
+    same.opening
+    done.opening_is)
+    (ap (map text) done.pieces
+    ∙ map-splice text roomy.pieces.items played.pieces.items
+    (slice_index roomy.checkpoints.places at) _ ∙ rw (same.pieces, stretch, from) refl)
+    (done.ticked ∙ rw (same.ticked, stretch, from) refl)
+    (done.state ∙ rw same.state refl)
+    (done.every ∙ same.every)
+    done.lines
+    (done.places ∙ places_same roomy.checkpoints C same.places played.marks at played.met)
+    (done.states
+    ∙ states_same roomy.checkpoints C same.places same.states played.marks at played.met))
+
+pub returns-clause-report : goal.returns-clause-report
+returns-clause-report g c =
+    let replay =
+    replay_of c.requires.kept c.in_ok-rerun.ensures.edits c.places.ensures.spaced
+    c.in_ok-rerun.ensures.rerun in
+    rw (c.places.ensures.places, c.met_place-met.ensures, c.next-end.ensures.next)
+    (report_after replay (changes_of c.args.edits.now) c.in_ok-rerun.ensures.edits.game refl refl)
+
+pub make_room-requires : goal.make_room-requires
+make_room-requires g c =
+    let replay =
+    replay_of c.requires.kept c.in_ok-rerun.ensures.edits c.places.ensures.spaced
+    c.in_ok-rerun.ensures.rerun in
+    let inside = met_inside replay in
+    record { among = replay.new_play.begun.among; passed = inside.0; met = inside.1 }
+
+pub returns-clause-game : goal.returns-clause-game
+returns-clause-game g c =
+    c.take_over-inverse.ensures.taken.game
+    ∙ make_same apply_all c.in_ok-rerun.ensures.edits c.make_room.ensures.same
+
+pub returns-clause-inverse : goal.returns-clause-inverse
+returns-clause-inverse g c =
+    let edits = c.in_ok-rerun.ensures.edits in
+    let same = c.make_room.ensures.same in
+    let done = c.take_over-inverse.ensures in
+    let changes = changes_of c.args.edits.now in
+    let old = kept_game c.args.kept.now in
+    let free = IsFree-from_none changes old.log 0 edits.accepted in
+    let game = done.taken.game ∙ make_same apply_all edits same in
+    let inverse = done.inverse ∙ make_same inverses_of edits same in
+    let log_is = ap (λ (x : Game). x.log) game ∙ log-apply_all changes old in
+    record {
+      inverses = inverse;
+      accepted = rw (inverse, log_is)
+          (none_from_IsFree (inverses_of changes old) (log_after_all changes old.log) 0
+          (IsFree-inverses_of changes old c.requires.kept.game_is free));
+      back = rw (inverse, game) (apply_all-inverses_of changes old free);
+    }

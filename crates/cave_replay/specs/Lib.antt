@@ -1,0 +1,16 @@
+pub mod Agreement
+pub mod Equality
+pub mod LogText
+pub mod Machine
+pub mod Opening
+pub mod Play
+pub mod PlayedRow
+pub mod Playthrough
+pub mod ReadyEdits
+pub mod Replay
+pub mod Report
+pub mod Session
+pub mod Table
+pub mod Takeover
+pub use Rattle.replay_edits.specs.base_lines as base_lines
+pub use Rattle.replay_edits.specs as replay_edits

@@ -1,0 +1,37 @@
+-- A game, and its play by a machine: states, texts and ticks.
+use Rattle.std.specs.Prelude.{◌≡◌, ℕ, ◌+◌, Bool, if◌then◌else◌, List, [], ◌∷◌}
+use Rattle.replay_edits.specs.Game.{Game}
+use Rattle.cave_replay.specs.Machine.{MachineRules}
+
+-- the state after the lines
+abbrev pub state_after : {S T : Type 0} → MachineRules S T → S → List (List ℕ) → S
+state_after rules state [] = state
+state_after rules state (line ∷ lines) = state_after rules (rules.after state line) lines
+
+-- what is said at each of the lines
+abbrev pub texts_of : {S T : Type 0} → MachineRules S T → S → List (List ℕ) → List T
+texts_of rules state [] = []
+texts_of rules state (line ∷ lines) =
+    rules.said state line ∷ texts_of rules (rules.after state line) lines
+
+-- whether each of the lines ticks
+abbrev pub ticks_of : {S T : Type 0} → MachineRules S T → S → List (List ℕ) → List Bool
+ticks_of rules state [] = []
+ticks_of rules state (line ∷ lines) =
+    rules.ticked state line ∷ ticks_of rules (rules.after state line) lines
+
+-- this is what comes of playing the game from its first line to its last
+pub record IsPlay {S T : Type 0} (rules : MachineRules S T) (game : Game) (opening : T)
+    (pieces : List T)
+    (ticks : List Bool) (state : S) : Type 0 where
+  pub opening_is : opening ≡ rules.greeting game.seed
+  pub pieces_are : pieces ≡ texts_of rules (rules.begun game.seed) game.log
+  pub ticks_are : ticks ≡ ticks_of rules (rules.begun game.seed) game.log
+  pub state_is : state ≡ state_after rules (rules.begun game.seed) game.log
+
+-- how many lines ticked up to each of these lines and with it, where so many before them did
+abbrev pub counts_after : ℕ → List Bool → List ℕ
+counts_after count [] = []
+counts_after count (ticks ∷ ticked) =
+    let next = count + (if ticks then 1 else 0) in
+    next ∷ counts_after next ticked

@@ -1,0 +1,69 @@
+-- What a session keeps: a game, its play, and the states at its checkpoints.
+use Rattle.std.specs.Prelude.{◌≡◌, ℕ, ◌<◌, ◌≤◌, Bool, List, length, map}
+use Rattle.replay_marks.specs.Marks.{CheckpointsView}
+use Rattle.cave_replay.specs.declared.playthrough.Playthrough.{Playthrough}
+use Rattle.cave_replay.specs.Machine.{MachineRules}
+use Rattle.replay_edits.specs.Game.{Game, game_in, log_of, IsGame}
+use Rattle.cave_replay.specs.Play.{IsPlay}
+use Rattle.cave_replay.specs.Agreement.{state_at}
+use Rattle.cave_replay.specs.Replay.{AreStates}
+use Rattle.replay_edits.specs.base_limits.Limits.{MAX_EVERY}
+
+-- a distance that checkpoints may have
+pub record IsDistance (every : ℕ) : Type 0 where
+  pub some : 0 < every
+  pub few : every ≤ MAX_EVERY
+
+-- a game that may be held, with its play and the states at its checkpoints
+pub record IsPlaythrough {State S T : Type 0} (meaning : State → S) (is_state : State → Type 0)
+    (rules : MachineRules S T) (game : Game) (opening : T) (pieces : List T) (ticks : List Bool)
+    (state : State) (checkpoints : CheckpointsView State) : Type 0 where
+  pub game_is : IsGame game
+  pub every_is : IsDistance checkpoints.every
+  pub plays : IsPlay rules game opening pieces ticks (meaning state)
+  pub made : is_state state
+  pub lines : checkpoints.lines ≡ length game.log
+  pub states : AreStates meaning is_state (state_at rules game) checkpoints.places
+      checkpoints.states
+
+-- the game that is kept
+abbrev pub kept_game : {Machine State Kept Piece Meter Scratch : Type 0}
+    → Playthrough Machine State Kept Piece Meter Scratch → Game
+kept_game kept = game_in kept.seed kept.log
+
+-- What is kept is the play of the game that is kept, with the states at its checkpoints; the game
+-- and their distance are valid.
+abbrev pub KeepsPlay : {Machine State Kept Piece Meter Scratch Meaning Text : Type 0}
+    → (State → Meaning) → (State → Type 0) → (Piece → Text) → MachineRules Meaning Text
+    → Playthrough Machine State Kept Piece Meter Scratch → Type 0
+KeepsPlay meaning is_state text rules kept =
+    IsPlaythrough meaning is_state rules (kept_game kept) (text kept.opening)
+    (map text kept.pieces.items) kept.ticked.items kept.state kept.checkpoints
+
+-- A copy keeps what is kept, by what the pieces say.
+pub record IsCopyOf {Machine State Kept Piece Meter Scratch T : Type 0} (text : Piece → T)
+    (kept copy : Playthrough Machine State Kept Piece Meter Scratch) : Type 0 where
+  pub seed : copy.seed ≡ kept.seed
+  pub log : log_of copy.log.items ≡ log_of kept.log.items
+  pub opening : text copy.opening ≡ text kept.opening
+  pub pieces : map text copy.pieces.items ≡ map text kept.pieces.items
+  pub ticked : copy.ticked.items ≡ kept.ticked.items
+  pub every : copy.checkpoints.every ≡ kept.checkpoints.every
+  pub lines : copy.checkpoints.lines ≡ kept.checkpoints.lines
+  pub places : copy.checkpoints.places ≡ kept.checkpoints.places
+  pub states : copy.checkpoints.states ≡ kept.checkpoints.states
+  pub state : copy.state ≡ kept.state
+
+-- Only capacity has changed: all that is kept is as it was.
+pub record KeepsAll {Machine State Kept Piece Meter Scratch : Type 0}
+    (old new : Playthrough Machine State Kept Piece Meter Scratch) : Type 0 where
+  pub seed : new.seed ≡ old.seed
+  pub log : new.log.items ≡ old.log.items
+  pub opening : new.opening ≡ old.opening
+  pub pieces : new.pieces.items ≡ old.pieces.items
+  pub ticked : new.ticked.items ≡ old.ticked.items
+  pub every : new.checkpoints.every ≡ old.checkpoints.every
+  pub lines : new.checkpoints.lines ≡ old.checkpoints.lines
+  pub places : new.checkpoints.places ≡ old.checkpoints.places
+  pub states : new.checkpoints.states ≡ old.checkpoints.states
+  pub state : new.state ≡ old.state

@@ -1,0 +1,92 @@
+-- Edits that are accepted, and what is known of them before anything is replayed.
+use Rattle.std.specs.Prelude.{◌≡◌, ℕ, ◌+◌, ◌-◌, ◌≤◌, List, length, None}
+use Rattle.replay_edits.specs.LineText.{LineText}
+use Rattle.cave_replay.specs.declared.ready_edits.ReadyEdits.{ReadyEdits}
+use Rattle.cave_replay.specs.declared.segment.OldPlay.{OldPlay}
+use Rattle.cave_replay.specs.declared.segment.Segment.{Segment}
+use Rattle.cave_replay.specs.declared.playthrough.Playthrough.{Playthrough}
+use Rattle.cave_replay.specs.declared.replay.Rerun.{Rerun}
+use Rattle.replay_marks.specs.Marks.{MarksView}
+use Rattle.cave_replay.specs.Machine.{MachineRules}
+use Rattle.replay_edits.specs.Game.{Game, game_of, log_of, IsGame}
+use Rattle.cave_replay.specs.Playthrough.{kept_game}
+use Rattle.replay_edits.specs.Margins.{margins_of}
+use Rattle.cave_replay.specs.Replay.{Revision, IsShift, MayBegin, IsPlayed, IsWithinBound, IsRerun}
+use Rattle.cave_replay.specs.Replay.{revision_to, segment_view, rerun_view}
+use Rattle.replay_edits.specs.Edit.{Change, changes_of, apply_all}
+use Rattle.replay_edits.specs.Faults.{fault_of_all, log_after_all}
+
+-- a log after the edits
+abbrev pub log_after_edits : ReadyEdits → List (List ℕ) → List (List ℕ)
+log_after_edits ready log = log_after_all (changes_of ready.edits.items) log
+
+-- the game with that log
+abbrev pub new_game : ReadyEdits → List (List ℕ) → Game
+new_game ready log = game_of ready.seed (log_after_edits ready log)
+
+-- the revision of an old game by the edits
+abbrev pub ready_revision : {Kept State S T : Type 0} → MachineRules S T → OldPlay Kept State
+    → ReadyEdits
+    → Revision S T
+ready_revision rules old ready = record {
+  rules = rules;
+  old = game_of old.seed (log_of old.log.now);
+  new = new_game ready (log_of old.log.now);
+  head = ready.head;
+  tail = length old.log.now - ready.rest;
+}
+
+-- the replay of an old game by the edits may begin with these marks
+abbrev pub MayReplay : {Kept State S T : Type 0} → (State → S) → (State → Type 0) → MachineRules S T
+    → OldPlay Kept State → ReadyEdits → MarksView State → Type 0
+MayReplay meaning is_state rules old ready marks =
+    MayBegin meaning is_state (ready_revision rules old ready) old.checkpoints.now marks
+
+-- this was played in it, from the open place of the marks on
+abbrev pub IsReplayed : {Machine State Kept Piece Meter Scratch S T : Type 0} → (State → S)
+    → (State → Type 0) → (Piece → T) → MachineRules S T → OldPlay Kept State → ReadyEdits
+    → MarksView State
+    → Segment Machine State Kept Piece Meter Scratch → Type 0
+IsReplayed meaning is_state text rules old ready marks played =
+    IsPlayed meaning is_state (ready_revision rules old ready) old.checkpoints.now.places marks
+    (segment_view text played)
+
+-- so many steps are within its bound
+abbrev pub IsReplayBounded : {Kept State S T : Type 0} → MachineRules S T → OldPlay Kept State
+    → ReadyEdits
+    → ℕ → ℕ → Type 0
+IsReplayBounded rules old ready every steps =
+    IsWithinBound (ready_revision rules old ready) every steps
+
+-- this is the rerun of the game that is kept, by changes of which the ready edits are made
+abbrev pub IsRerunOf : {Machine State Kept Piece Meter Scratch S T : Type 0} → (State → S)
+    → (State → Type 0) → (Piece → T) → MachineRules S T → List Change
+    → Playthrough Machine State Kept Piece Meter Scratch
+    → Rerun Machine State Kept Piece Meter Scratch → Type 0
+IsRerunOf meaning is_state text rules changes kept rerun =
+    let old = kept_game kept in
+    let revision = revision_to rules changes old (new_game rerun.ready old.log) in
+    IsRerun meaning is_state revision kept.checkpoints (rerun_view text rerun)
+
+-- The edits may be made in a game: they meet no fault, and leave a game that may be held, of so
+-- many lines. Its lines before `head` are those of the log, and its last lines are those of the log
+-- from `rest` on; with another seed `head` is 0.
+pub record IsReady (seed : ℕ) (log : List LineText) (ready : ReadyEdits) : Type 0 where
+  pub free : fault_of_all (changes_of ready.edits.items) (log_of log) 0 ≡ None
+  pub lines : ready.lines ≡ length (log_after_edits ready (log_of log))
+  pub ordered : ready.head ≤ ready.rest
+  pub within : ready.rest ≤ length log
+  pub shift : IsShift (game_of seed (log_of log)) (new_game ready (log_of log)) ready.head
+      (length log - ready.rest)
+  pub good : IsGame (new_game ready (log_of log))
+
+-- They are these changes of a game, which meet no fault and leave its new game; and `head` and
+-- `rest` bound the lines that the changes don't leave alone.
+pub record AreEditsOf (changes : List Change) (seed : ℕ) (log : List LineText)
+    (ready : ReadyEdits) : Type 0 where
+  pub accepted : fault_of_all changes (log_of log) 0 ≡ None
+  pub edits : changes_of ready.edits.items ≡ changes
+  pub game : new_game ready (log_of log) ≡ apply_all changes (game_of seed (log_of log))
+  pub ordered : ready.head ≤ ready.rest
+  pub head : ready.head ≡ (margins_of changes (log_of log)).head
+  pub tail : ready.rest + (margins_of changes (log_of log)).tail ≡ length log

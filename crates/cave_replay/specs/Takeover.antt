@@ -1,0 +1,106 @@
+-- What is left when a replay is taken over.
+use Rattle.std.specs.Prelude.{◌≡◌, ℕ, ◌+◌, ◌-◌, ◌<◌, ◌≤◌, List, ◌++◌, length, take, slice_index}
+use Rattle.std.specs.Prelude.{Option, Some, None, MatchOption, vec_len, vec_capacity}
+use Rattle.std.specs.List.{splice}
+use Rattle.replay_marks.specs.Marks.{MarksView, CheckpointsView, IsBegunAt, places_met, states_met}
+use Rattle.cave_replay.specs.declared.playthrough.Playthrough.{Playthrough}
+use Rattle.cave_replay.specs.declared.replay.Rerun.{Rerun}
+use Rattle.replay_edits.specs.Edit.{changes_of, lines_inserted_by_all, apply_all}
+use Rattle.cave_replay.specs.Playthrough.{kept_game}
+
+-- the old place up to which what was played comes in: the checkpoint that was met, or the end
+abbrev pub end_of_stretch : {S : Type 0} → CheckpointsView S → Option ℕ → ℕ
+end_of_stretch checkpoints None = checkpoints.lines
+end_of_stretch checkpoints (Some index) = slice_index checkpoints.places index
+
+-- The marks of a replay from the checkpoint of the index `at` end at the end of the new log; or,
+-- where the old play was met, as far from it as the checkpoint that was met is from the end of the
+-- old log.
+abbrev pub MarksEnd : {S : Type 0} → CheckpointsView S → MarksView S → ℕ → Option ℕ → Type 0
+MarksEnd checkpoints marks at met =
+    MatchOption met (marks.next ≡ marks.end)
+    (λ index. (at ≤ index) × (index < length checkpoints.places)
+    × (checkpoints.lines - slice_index checkpoints.places index + marks.next ≡ marks.end))
+
+-- The marks of a replay began at the checkpoint of the index `at`, end where they are to end, and
+-- what comes in goes from there on.
+pub record IsStretch {S : Type 0} (checkpoints : CheckpointsView S) (marks : MarksView S) (at : ℕ)
+    (met : Option ℕ) : Type 0 where
+  pub begun : IsBegunAt checkpoints at marks
+  pub ends : MarksEnd checkpoints marks at met
+  pub forward : slice_index checkpoints.places at ≤ end_of_stretch checkpoints met
+
+-- how many lines of the old play go where a replay from the checkpoint of the index `at` is taken
+-- over
+abbrev pub lines_gone : {S : Type 0} → CheckpointsView S → ℕ → Option ℕ → ℕ
+lines_gone checkpoints at met = end_of_stretch checkpoints met - slice_index checkpoints.places at
+
+-- how many checkpoints are before that place: all of them where it is the end
+abbrev pub checkpoints_passed : {S : Type 0} → CheckpointsView S → Option ℕ → ℕ
+checkpoints_passed checkpoints None = length checkpoints.places
+checkpoints_passed checkpoints (Some index) = index
+
+-- There is room for the checkpoints that the marks of a replay from the one of the index `at`
+-- leave, where those go that it passed: they are those before the index `count`.
+abbrev pub FitsMarks : {S : Type 0} → CheckpointsView S → MarksView S → ℕ → ℕ → Type 0
+FitsMarks checkpoints marks at count =
+    length checkpoints.places + length marks.places + (at - 1) ≤ checkpoints.room + count
+
+-- each line that is kept has a piece, and ticked or not, and the checkpoints are of all the lines
+pub record IsWhole {Machine State Kept Piece Meter Scratch : Type 0}
+    (kept : Playthrough Machine State Kept Piece Meter Scratch) : Type 0 where
+  pub pieces : vec_len kept.pieces ≡ vec_len kept.log
+  pub ticked : vec_len kept.ticked ≡ vec_len kept.log
+  pub lines : kept.checkpoints.lines ≡ vec_len kept.log
+
+-- There is room for the lines that the edits of a rerun insert, and for what it played, where the
+-- lines and the checkpoints go that it passed.
+pub record HasRoomFor {Machine State Kept Piece Meter Scratch : Type 0}
+    (kept : Playthrough Machine State Kept Piece Meter Scratch)
+    (rerun : Rerun Machine State Kept Piece Meter Scratch) :
+    Type 0 where
+  pub log : vec_len kept.log + lines_inserted_by_all (changes_of rerun.ready.edits.items)
+      ≤ vec_capacity kept.log
+  pub pieces : vec_len kept.pieces + vec_len rerun.played.pieces
+      ≤ vec_capacity kept.pieces + lines_gone kept.checkpoints rerun.at rerun.played.met
+  pub ticked : vec_len kept.ticked + vec_len rerun.played.ticked
+      ≤ vec_capacity kept.ticked + lines_gone kept.checkpoints rerun.at rerun.played.met
+  pub marks : FitsMarks kept.checkpoints rerun.played.marks rerun.at
+      (checkpoints_passed kept.checkpoints rerun.played.met)
+
+-- the checkpoints after a replay from the one of the index `at`, and their states
+abbrev pub new_places : {S : Type 0} → CheckpointsView S → MarksView S → ℕ → Option ℕ → List ℕ
+new_places checkpoints marks at None = take (at - 1) checkpoints.places ++ marks.places
+new_places checkpoints marks at (Some index) = places_met checkpoints marks at index
+
+abbrev pub new_states : {S : Type 0} → CheckpointsView S → MarksView S → ℕ → Option ℕ → List S
+new_states checkpoints marks at None = take (at - 1) checkpoints.states ++ marks.states
+new_states checkpoints marks at (Some index) = states_met checkpoints marks at index
+
+-- the last state: that of the marks, or the old one if the plays met
+abbrev pub new_state : {S : Type 0} → S → MarksView S → Option ℕ → S
+new_state state marks None = marks.state
+new_state state marks (Some index) = state
+
+-- What is kept once a rerun is taken over: the game that its edits make of the old one, and what it
+-- played in the place of what was there.
+pub record IsTakenOver {Machine State Kept Piece Meter Scratch : Type 0}
+    (old new : Playthrough Machine State Kept Piece Meter Scratch)
+    (rerun : Rerun Machine State Kept Piece Meter Scratch) :
+    Type 0 where
+  pub game : kept_game new ≡ apply_all (changes_of rerun.ready.edits.items) (kept_game old)
+  pub opening_is : MatchOption rerun.opening (new.opening ≡ old.opening)
+      (λ piece. new.opening ≡ piece)
+  pub pieces : new.pieces.items
+      ≡ splice old.pieces.items (slice_index old.checkpoints.places rerun.at)
+      (end_of_stretch old.checkpoints rerun.played.met) rerun.played.pieces.items
+  pub ticked : new.ticked.items
+      ≡ splice old.ticked.items (slice_index old.checkpoints.places rerun.at)
+      (end_of_stretch old.checkpoints rerun.played.met) rerun.played.ticked.items
+  pub every : new.checkpoints.every ≡ old.checkpoints.every
+  pub lines : new.checkpoints.lines ≡ rerun.played.marks.end
+  pub places : new.checkpoints.places
+      ≡ new_places old.checkpoints rerun.played.marks rerun.at rerun.played.met
+  pub states : new.checkpoints.states
+      ≡ new_states old.checkpoints rerun.played.marks rerun.at rerun.played.met
+  pub state : new.state ≡ new_state old.state rerun.played.marks rerun.played.met

@@ -1,0 +1,57 @@
+ghost use Rattle.std.specs.Prelude.{◌≡◌, map, IfOk};
+ghost use Rattle.replay_edits.specs.Game.{log_of};
+ghost use Rattle.cave_replay.specs.Playthrough.{IsCopyOf};
+
+use crate::machine::Machine;
+use crate::playthrough::Playthrough;
+use replay_edits::LineText;
+use std::alloc::{AllocError, Global};
+
+/// A copy of what a session keeps.
+pub(crate) fn copy_kept<M: Machine>(
+    alloc: Global,
+    machine: &M,
+    kept: &Playthrough<M>,
+) -> Result<Playthrough<M>, AllocError>
+    ensures { IfOk result (IsCopyOf M.text kept.now) }
+{
+    let log = copy_lines(alloc, &kept.log)?;
+    let opening = machine.copy_piece(alloc, &kept.opening)?;
+    let pieces = copy_pieces(alloc, machine, &kept.pieces)?;
+    let ticked = Vec::from_slice(alloc, &kept.ticked)?;
+    let checkpoints = kept.checkpoints.copy(alloc)?;
+    Ok(Playthrough {
+        seed: kept.seed,
+        log,
+        opening,
+        pieces,
+        ticked,
+        checkpoints,
+        state: kept.state,
+    })
+}
+
+fn copy_lines(alloc: Global, lines: &[LineText]) -> Result<Vec<LineText>, AllocError>
+    ensures { IfOk result (λ copy. log_of copy.items ≡ log_of lines.now) }
+{
+    let mut copy = Vec::with_capacity(alloc, lines.len())?;
+    for line in lines {
+        copy.push(LineText::from_slice(alloc, line)?)?;
+    }
+    Ok(copy)
+}
+
+/// Pieces that say the same.
+fn copy_pieces<M: Machine>(
+    alloc: Global,
+    machine: &M,
+    pieces: &[M::Piece],
+) -> Result<Vec<M::Piece>, AllocError>
+    ensures { IfOk result (λ copy. map M.text copy.items ≡ map M.text pieces.now) }
+{
+    let mut copy = Vec::with_capacity(alloc, pieces.len())?;
+    for piece in pieces {
+        copy.push(machine.copy_piece(alloc, piece)?)?;
+    }
+    Ok(copy)
+}

@@ -1,0 +1,27 @@
+//! Sessions over any machine: a log of lines that is played, edited and played again.
+#![tactic(auto)]
+
+mod copies;
+pub mod fault;
+pub mod laws;
+mod log;
+pub mod machine;
+mod played_lines;
+mod playthrough;
+mod ready_edits;
+mod replay;
+pub mod report;
+mod segment;
+pub mod session;
+mod takeover;
+mod tick_counts;
+mod workspace;
+
+pub use fault::OpenFault;
+pub use machine::{Machine, Started, Stepped};
+pub use played_lines::{PlayedLine, PlayedLines};
+pub use replay_edits::{Edit, EditFault, GroupFault, LineFlaw, LineText, Meter, Steps, number_of};
+pub use replay_marks::{KeptState, Whole};
+pub use report::{GroupReport, Report};
+pub use session::Session;
+pub use tick_counts::TickCounts;

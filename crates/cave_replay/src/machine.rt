@@ -1,0 +1,99 @@
+ghost use Rattle.std.specs.Prelude.{◌≡◌, ◌+◌, ◌^◌, ◌<◌, ◌↔◌, IfOk, OnOk, IsTrue};
+ghost use Rattle.replay_edits.specs.base_lines.Line.{is_line};
+ghost use Rattle.cave_replay.specs.Machine.{MachineRules};
+
+use replay_edits::Steps;
+use replay_marks::KeptState;
+use std::alloc::{AllocError, Global};
+
+/// What a machine begins with: its first state, and the piece that greets.
+#[derive(Drop)]
+pub struct Started<S, P> {
+    pub state: S,
+    pub piece: P,
+}
+
+/// What a machine answers to one line: the piece that it says, and whether the line ticked.
+#[derive(Drop)]
+pub struct Stepped<P> {
+    pub piece: P,
+    pub ticked: bool,
+}
+
+/// What plays a log line by line. Its answers are functions of the seed, of the state and of the
+/// line.
+pub trait Machine: Drop {
+    /// What the machine goes on from.
+    type State: Copy + Eq;
+
+    /// How a checkpoint keeps a state: whole, as `Whole<Self::State>`, or in a smaller form.
+    type Kept: KeptState<State = Self::State>;
+
+    /// What it says at the start and to each line.
+    type Piece: Drop;
+
+    /// What counts the lines that it plays.
+    type Meter: Steps;
+
+    /// What it works in at a step, which is made once for all steps. No answer depends on what is
+    /// left in it.
+    type Scratch: Drop;
+
+    /// What a state means, and what a piece says.
+    ghost Meaning: { Type 0 };
+
+    ghost Text: { Type 0 };
+
+    ghost meaning: { Self.State → Meaning };
+
+    ghost text: { Self.Piece → Text };
+
+    ghost rules: { Self → MachineRules Meaning Text };
+
+    /// Holds of the states that the machine makes.
+    ghost is_state: { Self.State → Type 0 } = { λ _. Unit {0} };
+
+    /// The state at the start, and the greeting.
+    fn start(
+        &self,
+        alloc: Global,
+        seed: u32,
+    ) -> Result<Started<Self::State, Self::Piece>, AllocError>
+        ensures made { IfOk result (λ made. is_state made.state) }
+        ensures state { IfOk result (λ made. meaning made.state ≡ (rules self.now).begun seed) }
+        ensures piece { IfOk result (λ made. text made.piece ≡ (rules self.now).greeting seed) };
+
+    /// What the machine works in.
+    fn scratch(&self, alloc: Global) -> Result<Self::Scratch, AllocError>;
+
+    /// Plays one line in the state itself, so that no state is copied for it. The meter counts the
+    /// line, also where memory is refused; then the state is of no more use to its owner. Whatever
+    /// earlier steps left in the scratch, the answer is the same.
+    fn step(
+        &self,
+        alloc: Global,
+        scratch: &mut Self::Scratch,
+        state: &mut Self::State,
+        line: &[u8],
+        meter: &mut Self::Meter,
+    ) -> Result<Stepped<Self::Piece>, AllocError>
+        requires known { is_state state.old }
+        requires line { IsTrue (is_line line.now) }
+        requires room { Self.Meter.count meter.old + 1 < 2 ^ 64 }
+        ensures counted { Self.Meter.count meter.new ≡ Self.Meter.count meter.old + 1 }
+        ensures made { OnOk result (is_state state.new) }
+        ensures state { OnOk result (meaning state.new
+            ≡ (rules self.now).after (meaning state.old) line.now) }
+        ensures piece { IfOk result (λ made. text made.piece
+            ≡ (rules self.now).said (meaning state.old) line.now) }
+        ensures ticked { IfOk result (λ made. made.ticked
+            ≡ (rules self.now).ticked (meaning state.old) line.now) };
+
+    /// A piece that says the same.
+    fn copy_piece(&self, alloc: Global, piece: &Self::Piece) -> Result<Self::Piece, AllocError>
+        ensures { IfOk result (λ copy. text copy ≡ text piece.now) };
+
+    /// States are equal exactly when their meanings are.
+    ghost exact: { (a b : Self.State) → is_state a → is_state b
+        → IsTrue (Self.State.eq a b) ↔ (meaning a ≡ meaning b) };
+}

@@ -1,0 +1,27 @@
+use replay_edits::Edit;
+
+/// What came of an edit.
+#[derive(Debug, Drop)]
+pub struct Report {
+    /// The place that the replay began at.
+    pub from: u32,
+    /// The place at which the replay met the old play, if it did.
+    pub met: Option<u32>,
+    /// How many lines were played.
+    pub played: u32,
+    /// The edit that takes this one back.
+    pub inverse: Edit,
+}
+
+/// What came of a group of edits.
+#[derive(Debug, Drop)]
+pub struct GroupReport {
+    /// The place that the replay began at.
+    pub from: u32,
+    /// The place at which the replay met the old play, if it did.
+    pub met: Option<u32>,
+    /// How many lines were played.
+    pub played: u32,
+    /// The edits that take the whole group back.
+    pub inverse: Vec<Edit>,
+}

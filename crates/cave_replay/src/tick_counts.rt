@@ -1,0 +1,63 @@
+ghost use Rattle.std.specs.Prelude.{◌≡◌, ℕ, ◌+◌, ◌<◌, ◌≤◌, ◌^◌, length, take, slice_index};
+ghost use Rattle.std.specs.Prelude.{count_by};
+ghost use Rattle.std.specs.Iterator.{YieldsFirst, item_count};
+
+use std::marker::Model;
+
+/// How many of the first lines, `count` of them, ticked.
+pub(crate) fn count_ticks(ticked: &[bool], count: usize) -> u32
+    requires within { count ≤ length ticked.now }
+    requires few { length ticked.now < 2 ^ 32 }
+    ensures { result ≡ count_by (λ ticks. ticks) (take count ticked.now) }
+{
+    let mut ticks = 0;
+    for ticked in &ticked[..count] {
+        ticks += u32::from(*ticked);
+    }
+    ticks
+}
+
+/// How many lines ticked up to each line and with it, one line after another. It counts as it goes.
+#[derive(Drop)]
+pub struct TickCounts<'a> {
+    ticked: &'a [bool],
+    count: u32,
+}
+
+impl<'a> Model for TickCounts<'a> {
+    ghost use Rattle.std.specs.Prelude.{ℕ, ◌+◌, ◌<◌, ◌^◌, List, length};
+    ghost use Rattle.cave_replay.specs.Play.{counts_after};
+
+    ghost Value = { List ℕ };
+
+    ghost view = { λ c. counts_after c.count c.ticked.now };
+
+    ghost invariant = { λ c. c.count + length c.ticked.now < 2 ^ 32 };
+}
+
+impl<'a> TickCounts<'a> {
+    /// The counts of lines of which each ticked or not.
+    pub(crate) fn of(ticked: &'a [bool]) -> Self
+        requires { length ticked.now < 2 ^ 32 }
+        ensures each_line { length result ≡ length ticked.now }
+        ensures counts { (line : ℕ) → line < length ticked.now
+            → slice_index result line ≡ count_by (λ ticks. ticks) (take (line + 1) ticked.now) }
+    {
+        TickCounts { ticked, count: 0 }
+    }
+}
+
+impl<'a> Iterator for TickCounts<'a> {
+    type Item = u32;
+
+    ghost next_gives = { YieldsFirst (λ counts. counts) };
+
+    ghost remaining = { item_count (λ counts. counts) };
+
+    fn next(&mut self) -> Option<u32> {
+        let (ticked, rest) = self.ticked.split_first()?;
+        self.ticked = rest;
+        self.count += u32::from(*ticked);
+        Some(self.count)
+    }
+}

@@ -1,5 +1,0 @@
-pub mod FieldLemmas
-pub mod ListLemmas
-pub mod MinusLemmas
-pub mod NameLemmas
-pub mod NumberLemmas

@@ -1,2 +1,0 @@
-pub mod Score
-pub mod Treasures

@@ -1,2 +1,0 @@
-pub mod OwnLines
-pub mod Text

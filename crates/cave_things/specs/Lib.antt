@@ -1,9 +1,0 @@
-pub mod Conditions
-pub mod Effects
-pub mod Homes
-pub mod Liquids
-pub mod Panic
-pub mod Places
-pub mod Reach
-pub mod SpecialWords
-pub mod Treasures

@@ -1,5 +1,0 @@
-use Rattle.cave_ways.proofs.WayLemmas.{each_place_has_one_node}
-use Rattle.cave_ways.proofs.laws.each_place_has_one_node.Goals as goal
-
-pub returns : goal.returns
-returns c = each_place_has_one_node

@@ -1,5 +1,0 @@
-use Rattle.cave_ways.proofs.WayLemmas.{ends_are_nodes}
-use Rattle.cave_ways.proofs.laws.ends_are_nodes.Goals as goal
-
-pub returns : goal.returns
-returns c = ends_are_nodes

@@ -1,9 +1,0 @@
-//! The ways between the places of a cave: which places a map has, and which edges.
-#![tactic(auto)]
-
-pub mod laws;
-pub mod ways;
-
-pub use ways::{
-    count_ends_of_ways, count_nowhere, ends_at, ends_of_edges, is_both_ways, is_way, mapped_places,
-};

@@ -1,0 +1,10 @@
+use Rattle.std.proofs.Common.{◌≡◌, ◌++◌, take}
+use Rattle.std.specs.List.{flat_map}
+use Rattle.cave_data.specs.data_rows.PlaceRole.{place_number}
+use Rattle.data_bindings.specs.Listing.{place_key_line}
+use Rattle.data_bindings.proofs.listing.push_place_roles.Given as goal
+
+abbrev pub invariant-loop-role : goal.invariant-loop-role
+invariant-loop-role l =
+    l.text.items ≡ l.initial.text.items
+    ++ flat_map (λ role. place_key_line l.cave (place_number role)) (take l.role-index l.roles)

@@ -1,0 +1,52 @@
+-- What the target of a way says: under which condition the way is taken, and where it leads.
+use Rattle.std.specs.Prelude.{ℕ, ◌-◌, ◌/◌, ◌%◌, ◌≤◌, Bool, false, ◌==◌, nat_lt, nat_le}
+use Rattle.std.specs.Prelude.{if◌then◌else◌}
+use Rattle.data_rows.specs.declared.targets.Condition.{Condition}
+use Rattle.data_rows.specs.declared.targets.Condition.TheVariants.{Always, Chance, NotForDwarves}
+use Rattle.data_rows.specs.declared.targets.Condition.TheVariants.{Carried, AtHand, OtherProp}
+use Rattle.data_rows.specs.declared.targets.Destination.{Destination}
+use Rattle.data_rows.specs.declared.targets.Destination.TheVariants.{Place, Special, NoWay, Message}
+use Rattle.data_rows.specs.declared.targets.Destination.TheVariants.{PutsEmeraldDown}
+use Rattle.data_rows.specs.declared.targets.Special.TheVariants.{Squeeze, Bridge}
+use Rattle.data_numbers.specs.Numbers.{LAST_PLACE, LAST_OBJECT}
+
+-- the thousands of a target are its condition: none, a chance in percent, or that of ways that
+-- aren't for dwarves; then come the objects to be carried, those to be carried or here, and, by the
+-- hundred, the props that an object must not have
+unfoldable pub condition_of : ℕ → Condition
+condition_of target =
+    let m = target / 1000 in
+    if m == 0 then Always
+    else (if m == 100 then NotForDwarves
+    else (if nat_lt m 100 then Chance m
+    else (if nat_le m 200 then Carried (m - 100)
+    else (if nat_le m 300 then AtHand (m - 200)
+    else OtherProp (m % 100) (m / 100 - 3)))))
+
+-- the rest of a target is its destination: a place up to 300, three ways with rules of their own,
+-- and from 501 on a message
+unfoldable pub destination_of : ℕ → Destination
+destination_of target =
+    let n = target % 1000 in
+    if n == 301 then Special Squeeze
+    else (if n == 302 then PutsEmeraldDown
+    else (if n == 303 then Special Bridge
+    else (if nat_le n 300 then Place n
+    else (if nat_lt 500 n then Message (n - 500) else NoWay))))
+
+-- the objects of a condition are objects that there may be
+abbrev pub IsWithin : Condition → Type 0
+IsWithin (Carried object) = object ≤ LAST_OBJECT
+IsWithin (AtHand object) = object ≤ LAST_OBJECT
+IsWithin (OtherProp object prop) = object ≤ LAST_OBJECT
+IsWithin _ = Unit {0}
+
+-- the place of a destination is a place that there may be
+abbrev pub EndsWithin : Destination → Type 0
+EndsWithin (Place place) = place ≤ LAST_PLACE
+EndsWithin _ = Unit {0}
+
+-- the destination is that place
+abbrev pub leads_to_place : ℕ → Destination → Bool
+leads_to_place place (Place number) = number == place
+leads_to_place place _ = false

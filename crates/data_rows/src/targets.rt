@@ -1,0 +1,89 @@
+//! What the target of a way says: under which condition the way is taken, and where it leads.
+ghost use Rattle.std.specs.Prelude.{◌≡◌};
+ghost use Rattle.data_rows.specs.Targets.{condition_of, destination_of, IsWithin, leads_to_place};
+ghost use Rattle.data_rows.specs.Targets.{EndsWithin};
+
+/// The condition under which a way is taken. Objects have their numbers.
+#[derive(Clone, Copy, Debug, PartialEq, Eq)]
+pub enum Condition {
+    /// It always holds.
+    Always,
+    /// It holds in so many of a hundred cases.
+    Chance(u8),
+    /// It always holds, but dwarves don't take the way.
+    NotForDwarves,
+    /// The player carries the object.
+    Carried(u8),
+    /// The object is carried, or is where the player is.
+    AtHand(u8),
+    /// The object has another prop than this one.
+    OtherProp(u8, u16),
+}
+
+/// A way with rules of its own.
+#[derive(Clone, Copy, Debug, PartialEq, Eq)]
+pub enum Special {
+    /// Through a passage in which almost nothing can be carried.
+    Squeeze,
+    /// Over a bridge that a troll guards.
+    Bridge,
+}
+
+/// Where a way leads.
+#[derive(Clone, Copy, Debug, PartialEq, Eq)]
+pub enum Destination {
+    /// To the place of a number; 0 is nowhere.
+    Place(u16),
+    /// Where rules of its own say.
+    Special(Special),
+    /// To no other place: the emerald is put down where the player is, and the next way is tried.
+    PutsEmeraldDown,
+    /// To no other place: the message of a number is printed.
+    Message(u16),
+    /// To no place at all.
+    NoWay,
+}
+
+impl Destination {
+    /// Whether it is the place of a number.
+    pub fn leads_to_place(self, place: u16) -> bool
+        ensures { result ≡ leads_to_place place self }
+    {
+        match self {
+            Destination::Place(number) => number == place,
+            _ => false,
+        }
+    }
+}
+
+/// The condition that a target says.
+#[tactic(auto, unfolding(crate::specs::Targets::condition_of))]
+pub(crate) fn condition_of(target: u32) -> Condition
+    ensures value { result ≡ condition_of target }
+    ensures within { IsWithin result }
+{
+    match target / 1000 {
+        0 => Condition::Always,
+        100 => Condition::NotForDwarves,
+        percent if percent < 100 => Condition::Chance(percent as u8),
+        carried if carried <= 200 => Condition::Carried((carried - 100) as u8),
+        at_hand if at_hand <= 300 => Condition::AtHand((at_hand - 200) as u8),
+        other => Condition::OtherProp((other % 100) as u8, (other / 100 - 3) as u16),
+    }
+}
+
+/// The destination that a target says.
+#[tactic(auto, unfolding(crate::specs::Targets::destination_of))]
+pub(crate) fn destination_of(target: u32) -> Destination
+    ensures value { result ≡ destination_of target }
+    ensures within { EndsWithin result }
+{
+    match (target % 1000) as u16 {
+        301 => Destination::Special(Special::Squeeze),
+        302 => Destination::PutsEmeraldDown,
+        303 => Destination::Special(Special::Bridge),
+        place if place <= 300 => Destination::Place(place),
+        message if message > 500 => Destination::Message(message - 500),
+        _ => Destination::NoWay,
+    }
+}

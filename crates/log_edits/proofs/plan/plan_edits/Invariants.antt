@@ -1,9 +1,0 @@
-use Rattle.std.proofs.Common.{◌≡◌, ℕ, List, length, drop}
-use Rattle.log_edits.specs.Edit.{changes_of}
-use Rattle.log_edits.proofs.Groups.{IsReached}
-use Rattle.log_edits.proofs.plan.plan_edits.Given as goal
-
-abbrev pub invariant-loop-number : goal.invariant-loop-number
-invariant-loop-number l = (log : List (List ℕ)) → length log ≡ l.fn.lines
-    → IsReached (changes_of l.edits) log (changes_of (drop l.number l.edits)) l.number l.after
-    l.margins

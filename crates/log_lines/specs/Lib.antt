@@ -1,4 +1,0 @@
-pub mod Bytes
-pub mod Prefixes
-pub mod Line
-pub mod LogLine

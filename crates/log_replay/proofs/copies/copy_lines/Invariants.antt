@@ -1,6 +1,0 @@
-use Rattle.std.proofs.Common.{◌≡◌, take}
-use Rattle.log_edits.specs.Game.{log_of}
-use Rattle.log_replay.proofs.copies.copy_lines.Given as goal
-
-abbrev pub invariant-loop-line : goal.invariant-loop-line
-invariant-loop-line l = log_of l.copy.items ≡ take l.line-index (log_of l.lines)

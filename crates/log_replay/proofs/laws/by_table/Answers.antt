@@ -1,5 +1,0 @@
-use Rattle.log_replay.proofs.TableLemmas.{by_table}
-use Rattle.log_replay.proofs.laws.by_table.Goals as goal
-
-pub returns : goal.returns
-returns c = by_table

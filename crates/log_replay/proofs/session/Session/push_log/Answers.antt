@@ -1,8 +1,0 @@
-use Rattle.log_edits.specs.Game.{log_of}
-use Rattle.log_replay.proofs.LogTextLemmas.{reads_back}
-use Rattle.log_replay.proofs.session.Session.push_log.Goals as goal
-
-pub returns-clause-reads_back : goal.returns-clause-reads_back
-returns-clause-reads_back g c =
-    rw (← c.self.view_is)
-    (reads_back (log_of c.self.inside.kept.log.items) c.self.invariant.game_is.lines)

@@ -1,0 +1,101 @@
+-- The node of a place.
+use Rattle.std.specs.Prelude.{ℕ, pos, Bool, false, ◌==◌, ◌||◌, if◌then◌else◌, List, [], ◌++◌, codes}
+use Rattle.std.specs.Prelude.{Option, None, Some, slice_index_or}
+use Rattle.std.specs.Fmt.{decimal}
+use Rattle.std.specs.List.{filter, flat_map, range_with_len}
+use Rattle.std.specs.FinMap as map
+use Rattle.std.specs.Ordering.{int_eq}
+use Rattle.data_bindings.specs.Listing.{place_keys}
+use Rattle.data_bindings.specs.cave_data.CaveView.{CaveView, placement_of}
+use Rattle.data_bindings.specs.data_numbers.Numbers.{LAST_OBJECT}
+use Rattle.data_bindings.specs.data_rows.PlaceRole.{PLACE_NAMES}
+use Rattle.map_ways.specs.cave_world.Sight.{LIGHT_BIT, has_condition, forced}
+use Rattle.map_labels.specs.Labels.{label_of}
+use Rattle.map_graph.specs.Names.{word_or_number, number_of_object}
+use Rattle.map_graph.specs.Stops.{is_visited, visits}
+use Rattle.map_graph.specs.Titles.{title}
+use Rattle.map_ways.specs.Ways.{count_nowhere}
+use Rattle.map_graph.specs.declared.stops.Stop.{Stop}
+
+-- a half of the object is there as a game begins
+abbrev pub begins_at : CaveView → ℕ → ℕ → Bool
+begins_at cave place object =
+    (placement_of cave object).first == place
+    || int_eq (placement_of cave object).second (pos place)
+
+-- the objects that begin at the place
+unfoldable pub objects_beginning : CaveView → ℕ → List ℕ
+objects_beginning cave place = filter (begins_at cave place) (range_with_len 1 LAST_OBJECT)
+
+-- the line of an object
+abbrev pub object_label_line : CaveView → ℕ → List ℕ
+object_label_line cave object =
+    codes "+" ++ (word_or_number cave (number_of_object object) ++ codes "\n")
+
+abbrev pub is_number : Option ℕ → ℕ → Bool
+is_number None number = false
+is_number (Some found) number = found == number
+
+-- the line of a role, by its number, if the place has it
+abbrev pub role_label_line : CaveView → ℕ → ℕ → List ℕ
+role_label_line cave place role =
+    if is_number (map.get cave.places role) place
+    then codes "= " ++ (slice_index_or PLACE_NAMES role [] ++ codes "\n") else []
+
+-- the line of the visits, if there are any
+abbrev pub visits_label_line : ℕ → List ℕ
+visits_label_line count =
+    if count == 0 then [] else codes "visits " ++ (decimal count ++ codes "\n")
+
+-- the line of a place: its number and its title
+abbrev pub title_line : CaveView → ℕ → List ℕ
+title_line cave place = decimal place ++ (title cave place ++ codes "\n")
+
+-- what is written at a place where a player stays, line by line
+unfoldable pub stay_text : CaveView → List Stop → ℕ → List ℕ
+stay_text cave stops place =
+    title_line cave place
+    ++ (flat_map (object_label_line cave) (objects_beginning cave place)
+    ++ (flat_map (role_label_line cave place) place_keys
+    ++ visits_label_line (visits stops place)))
+
+-- what is written at a node: of a place of a forced motion its number alone
+unfoldable pub node_text : CaveView → List Stop → ℕ → List ℕ
+node_text cave stops place =
+    if forced cave place then decimal place else stay_text cave stops place
+
+-- a place of a forced motion is a small circle, and one without light is dark
+unfoldable pub look_of_place : CaveView → ℕ → List ℕ
+look_of_place cave place =
+    if forced cave place then codes ", shape=circle, fixedsize=true, width=0.2, fontsize=7"
+    else (if has_condition cave place LIGHT_BIT then []
+    else codes ", fillcolor=gray80")
+
+-- how strong something is drawn: without logs as it is, with logs strong where they were and
+-- grey elsewhere
+unfoldable pub strength : ℕ → Bool → List ℕ
+strength logs is_reached =
+    if logs == 0 then []
+    else (if is_reached then codes ", penwidth=2.5"
+    else codes ", color=gray65, fontcolor=gray40")
+
+-- how many rows lead to no place, if there are any, as a comment
+abbrev pub nowhere_note : ℕ → List ℕ
+nowhere_note count = if count == 0 then []
+    else codes " // ways not drawn: " ++ decimal count
+
+-- how the line of a node begins
+abbrev pub node_opening : ℕ → List ℕ
+node_opening place = codes "  " ++ (decimal place ++ codes " [label=")
+
+-- how it ends
+abbrev pub node_end : ℕ → List ℕ
+node_end count = codes "];" ++ (nowhere_note count ++ codes "\n")
+
+-- the line of a node
+unfoldable pub node : CaveView → List Stop → ℕ → ℕ → List ℕ
+node cave stops logs place =
+    node_opening place
+    ++ (label_of (node_text cave stops place)
+    ++ (look_of_place cave place
+    ++ (strength logs (is_visited cave stops place) ++ node_end (count_nowhere cave place))))

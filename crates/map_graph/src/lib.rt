@@ -1,0 +1,13 @@
+//! The map of a cave as a graph in Graphviz's language, with what plays saw of it.
+#![tactic(auto)]
+
+pub mod edges;
+pub mod laws;
+pub mod map;
+pub mod names;
+pub mod nodes;
+pub mod stops;
+pub mod titles;
+
+pub use data_bindings::Cave;
+pub use map_ways::{Out, Place, State};

@@ -1,0 +1,49 @@
+-- The stops of the plays of logs, and the map with what they saw.
+use Rattle.std.specs.Prelude.{◌≡◌, ℕ, List, [], ◌∷◌, length}
+use Rattle.std.specs.List.{flat_map}
+use Rattle.std.specs.Str.Lines.{lines}
+use Rattle.map_graph.specs.cave_data.CaveView.{CaveView}
+use Rattle.map_graph.specs.cave_data.Reads.{Reads}
+use Rattle.play_logs.specs.cave_play.Machine.{cave_rules}
+use Rattle.map_graph.specs.cave_world.declared.part.Part.{Part}
+use Rattle.map_graph.specs.cave_world.declared.state.State.{State}
+use Rattle.play_logs.specs.cave_replay.Machine.{MachineRules}
+use Rattle.play_logs.specs.replay_edits.Game.{Game, game_of}
+use Rattle.map_graph.specs.Map.{map_of_places}
+use Rattle.map_graph.specs.Stops.{stop}
+use Rattle.map_graph.specs.declared.stops.Stop.{Stop}
+
+-- the stops at the states that follow a state, one at each line
+abbrev pub stops_after : MachineRules State (List Part) → State → List (List ℕ) → List Stop
+stops_after rules state [] = []
+stops_after rules state (line ∷ lines) =
+    stop state.trail.here (rules.after state line).trail
+    ∷ stops_after rules (rules.after state line) lines
+
+-- the stops of playing a game; none is before the first state
+unfoldable pub stops_in : CaveView → Game → List Stop
+stops_in cave game =
+    let rules = cave_rules cave in
+    let begun = rules.begun game.seed in
+    stop 0 begun.trail ∷ stops_after rules begun game.log
+
+-- the map of a cave with what the plays of games saw of it
+abbrev pub map_of_games : CaveView → List Game → List ℕ
+map_of_games cave games = map_of_places cave (flat_map (stops_in cave) games) (length games)
+
+-- the stops of playing a log
+abbrev pub stops_in_log : CaveView → ℕ → List ℕ → List Stop
+stops_in_log cave seed log = stops_in cave (game_of seed (lines log))
+
+-- the stops where each log is played by itself
+abbrev pub stops_in_all : CaveView → ℕ → List (List ℕ) → List Stop
+stops_in_all cave seed logs = flat_map (stops_in_log cave seed) logs
+
+-- the map of a cave and logs
+abbrev pub map_text : CaveView → ℕ → List (List ℕ) → List ℕ
+map_text cave seed logs = map_of_places cave (stops_in_all cave seed logs) (length logs)
+
+-- the output is the map of the logs in the cave of the database and its bindings
+abbrev pub IsMapped : List ℕ → List ℕ → List (List ℕ) → ℕ → List ℕ → Type 0
+IsMapped database bindings logs seed output =
+    (cave : CaveView) × Reads database bindings cave × (output ≡ map_text cave seed logs)

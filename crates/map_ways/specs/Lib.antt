@@ -1,0 +1,4 @@
+pub mod Ways
+pub mod Laws
+pub use Rattle.cave_world.specs.cave_words as cave_words
+pub use Rattle.cave_world.specs as cave_world

@@ -1,0 +1,100 @@
+-- Places of a cave, and the ways between them.
+use Rattle.std.specs.Prelude.{ℕ, Bool, true, ◌==◌, ◌&&◌, ◌||◌, not, nat_le, is_some, List, length}
+use Rattle.std.specs.List.{filter, list_all, list_any, range_with_len}
+use Rattle.std.specs.FinMap as map
+use Rattle.cave_world.specs.data_rows.Rows.{Going}
+use Rattle.cave_world.specs.data_rows.Targets.{leads_to_place}
+use Rattle.cave_world.specs.data_rows.declared.targets.Condition.{Condition}
+use Rattle.cave_world.specs.data_rows.declared.targets.Condition.TheVariants.{Always, NotForDwarves}
+use Rattle.cave_world.specs.data_rows.declared.targets.Destination.{Destination}
+use Rattle.cave_world.specs.data_rows.declared.targets.Destination.TheVariants.{Place}
+use Rattle.cave_world.specs.data_rows.contracts.targets.ConditionPartialEq.TheImpl as condition_eq
+use Rattle.cave_world.specs.cave_data.CaveView.{CaveView, ways_from}
+use Rattle.cave_world.specs.data_numbers.Numbers.{LAST_PLACE}
+use Rattle.cave_world.specs.Travel.{row_condition, row_destination}
+
+-- the numbers that a place may have, in ascending order
+unfoldable pub place_numbers : List ℕ
+place_numbers = range_with_len 1 LAST_PLACE
+
+-- the row leads to the place
+abbrev pub ends_at : ℕ → Going → Bool
+ends_at place row = leads_to_place place (row_destination row)
+
+-- a way leads from the one place to the other
+abbrev pub is_way : CaveView → ℕ → ℕ → Bool
+is_way cave from to = list_any (ends_at to) (ways_from cave from)
+
+-- a way begins or ends at the place
+abbrev pub has_way : CaveView → ℕ → Bool
+has_way cave place =
+    list_any (λ other. is_way cave place other || is_way cave other place) place_numbers
+
+-- a place is on the map where it has a text, or a way
+abbrev pub is_mapped : CaveView → ℕ → Bool
+is_mapped cave place =
+    is_some (map.get cave.long place) || is_some (map.get cave.short place) || has_way cave place
+
+-- the places that are on the map
+unfoldable pub mapped_places : CaveView → List ℕ
+mapped_places cave = filter (is_mapped cave) place_numbers
+
+-- the places that ways lead to from a place
+unfoldable pub ends_of_ways : CaveView → ℕ → List ℕ
+ends_of_ways cave from = filter (is_way cave from) place_numbers
+
+-- the destination is no place, but a message or a way with rules of its own
+abbrev pub is_nowhere : Destination → Bool
+is_nowhere (Place place) = place == 0
+is_nowhere _ = true
+
+-- the row leads to no place
+abbrev pub leads_nowhere : Going → Bool
+leads_nowhere row = is_nowhere (row_destination row)
+
+-- how many rows of a place lead to no place
+abbrev pub count_nowhere : CaveView → ℕ → ℕ
+count_nowhere cave place = length (filter leads_nowhere (ways_from cave place))
+
+-- a condition for a player, for whom that of dwarves holds always
+abbrev pub for_player : Condition → Condition
+for_player NotForDwarves = Always
+for_player condition = condition
+
+abbrev pub condition_for_player : Going → Condition
+condition_for_player row = for_player (row_condition row)
+
+abbrev pub is_same_condition : Condition → Condition → Bool
+is_same_condition = condition_eq.eq-value.it
+
+-- the rows that lead to the place have the condition
+abbrev pub have_condition : Condition → ℕ → List Going → Bool
+have_condition condition place rows =
+    list_all (λ row. not (ends_at place row)
+    || is_same_condition (condition_for_player row) condition) rows
+
+-- all rows that lead to a place, and all others that lead back, have one condition
+abbrev pub rows_agree : ℕ → ℕ → List Going → List Going → Bool
+rows_agree to from rows others =
+    list_all (λ row. not (ends_at to row)
+    || have_condition (condition_for_player row) from others) rows
+
+-- the rows from each of two places to the other have one condition
+abbrev pub have_one_condition : CaveView → ℕ → ℕ → Bool
+have_one_condition cave from to = rows_agree to from (ways_from cave from) (ways_from cave to)
+
+-- the ways from a place to another one and back are drawn as one
+abbrev pub is_both_ways : CaveView → ℕ → ℕ → Bool
+is_both_ways cave from to =
+    not (from == to) && is_way cave from to && is_way cave to from
+    && have_one_condition cave from to
+
+-- the way begins an edge of its place: where one edge is for both ways, it is that of the lower
+-- place
+abbrev pub begins_edge : CaveView → ℕ → ℕ → Bool
+begins_edge cave from to =
+    is_way cave from to && (nat_le from to || not (is_both_ways cave from to))
+
+-- the other ends of the edges of a place
+unfoldable pub ends_of_edges : CaveView → ℕ → List ℕ
+ends_of_edges cave from = filter (begins_edge cave from) place_numbers

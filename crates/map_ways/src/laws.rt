@@ -1,0 +1,18 @@
+//! Laws of ways. Each is the contract of a function that does nothing.
+
+ghost use Rattle.map_ways.specs.Laws.{EachPlaceHasOneNode, EachWayHasOneEdge, EndsAreNodes};
+
+/// Each place that has a text, or a way, is once among the places of the map, and no other is.
+pub fn each_place_has_one_node()
+    ensures { EachPlaceHasOneNode }
+{}
+
+/// One edge is for each way, and none is where no row leads.
+pub fn each_way_has_one_edge()
+    ensures { EachWayHasOneEdge }
+{}
+
+/// Each place that a way leads from or to is on the map.
+pub fn ends_are_nodes()
+    ensures { EndsAreNodes }
+{}

@@ -1,0 +1,154 @@
+//! Places of a cave, and the ways between them.
+
+ghost use Rattle.std.specs.Prelude.{◌≡◌, ◌≤◌, IfOk, length, map};
+ghost use Rattle.std.specs.List.{filter, list_any};
+ghost use Rattle.cave_world.specs.data_numbers.Numbers as defined;
+ghost use Rattle.cave_world.specs.data_rows.RowViews.{going};
+ghost use Rattle.map_ways.specs.Ways.{begins_edge, condition_for_player, count_nowhere};
+ghost use Rattle.map_ways.specs.Ways.{ends_of_edges, ends_of_ways, has_way, have_condition};
+ghost use Rattle.map_ways.specs.Ways.{have_one_condition, is_both_ways, is_mapped, is_way, ends_at};
+ghost use Rattle.map_ways.specs.Ways.{leads_nowhere, mapped_places, rows_agree};
+
+use cave_world::{Cave, Condition, Destination, LAST_PLACE, Row};
+use std::alloc::{AllocError, Global};
+
+/// Whether a row leads to a place.
+pub fn ends_at(row: &Row, place: u16) -> bool
+    ensures { result ≡ ends_at place (going row.now) }
+{
+    row.destination().leads_to_place(place)
+}
+
+/// Whether a way leads from the one place to the other.
+pub fn is_way(cave: &Cave, from: u16, to: u16) -> bool
+    ensures { result ≡ is_way cave.now from to }
+{
+    any_ends_at(cave.travel(from), to)
+}
+
+/// Whether one of some rows leads to a place.
+fn any_ends_at(rows: &[Row], place: u16) -> bool
+    ensures { result ≡ list_any (ends_at place) (map going rows.now) }
+{
+    rows.iter().any(|row| ends_at(row, place))
+}
+
+/// Whether a way begins or ends at a place.
+#[tactic(auto, unfolding(crate::specs::Ways::place_numbers))]
+fn has_way(cave: &Cave, place: u16) -> bool
+    ensures { result ≡ has_way cave.now place }
+{
+    (1..LAST_PLACE + 1).any(|other| is_way(cave, place, other) || is_way(cave, other, place))
+}
+
+/// Whether a place is on the map.
+fn is_mapped(cave: &Cave, place: u16) -> bool
+    ensures { result ≡ is_mapped cave.now place }
+{
+    cave.long(place).is_some() || cave.short(place).is_some() || has_way(cave, place)
+}
+
+/// The places that are on the map.
+#[tactic(auto, unfolding(crate::specs::Ways::mapped_places, crate::specs::Ways::place_numbers))]
+pub fn mapped_places(alloc: Global, cave: &Cave) -> Result<Vec<u16>, AllocError>
+    ensures { IfOk result (λ places. places.items ≡ mapped_places cave.now) }
+{
+    (1..LAST_PLACE + 1)
+        .filter(|place| is_mapped(cave, *place))
+        .collect(alloc)
+}
+
+/// How many places ways lead to from a place.
+#[tactic(auto, unfolding(crate::specs::Ways::ends_of_ways, crate::specs::Ways::place_numbers))]
+pub fn count_ends_of_ways(cave: &Cave, from: u16) -> usize
+    ensures value { result ≡ length (ends_of_ways cave.now from) }
+    ensures within { result ≤ defined.LAST_PLACE }
+{
+    (1..LAST_PLACE + 1)
+        .filter(|to| is_way(cave, from, *to))
+        .count()
+}
+
+/// Whether a row leads to no place.
+fn leads_nowhere(row: &Row) -> bool
+    ensures { result ≡ leads_nowhere (going row.now) }
+{
+    match row.destination() {
+        Destination::Place(place) => place == 0,
+        _ => true,
+    }
+}
+
+/// How many rows of a place lead to no place.
+pub fn count_nowhere(cave: &Cave, place: u16) -> usize
+    ensures { result ≡ count_nowhere cave.now place }
+{
+    count_leading_nowhere(cave.travel(place))
+}
+
+#[tactic(auto, using(crate::proofs::Rows::rows))]
+fn count_leading_nowhere(rows: &[Row]) -> usize
+    ensures { result ≡ length (filter leads_nowhere (map going rows.now)) }
+{
+    rows.iter().filter(|row| leads_nowhere(*row)).count()
+}
+
+/// The condition of a row for a player.
+fn condition_for_player(row: &Row) -> Condition
+    ensures { result ≡ condition_for_player (going row.now) }
+{
+    match row.condition() {
+        Condition::NotForDwarves => Condition::Always,
+        condition => condition,
+    }
+}
+
+/// Whether the rows that lead to a place have a condition.
+fn have_condition(rows: &[Row], place: u16, condition: Condition) -> bool
+    ensures { result ≡ have_condition condition place (map going rows.now) }
+{
+    rows.iter().all(|row| !ends_at(row, place) || condition_for_player(row) == condition)
+}
+
+/// Whether the rows from each of two places to the other have one condition.
+fn have_one_condition(cave: &Cave, from: u16, to: u16) -> bool
+    ensures { result ≡ have_one_condition cave.now from to }
+{
+    rows_agree(cave.travel(from), to, cave.travel(to), from)
+}
+
+/// Whether all rows that lead to a place, and all others that lead back, have one condition.
+fn rows_agree(rows: &[Row], to: u16, others: &[Row], from: u16) -> bool
+    ensures { result ≡ rows_agree to from (map going rows.now) (map going others.now) }
+{
+    rows.iter().all(|row| {
+        !ends_at(row, to) || have_condition(others, from, condition_for_player(row))
+    })
+}
+
+/// Whether the ways from a place to another one and back are drawn as one.
+pub fn is_both_ways(cave: &Cave, from: u16, to: u16) -> bool
+    ensures { result ≡ is_both_ways cave.now from to }
+{
+    from != to
+        && is_way(cave, from, to)
+        && is_way(cave, to, from)
+        && have_one_condition(cave, from, to)
+}
+
+/// Whether a way begins an edge of its place.
+fn begins_edge(cave: &Cave, from: u16, to: u16) -> bool
+    ensures { result ≡ begins_edge cave.now from to }
+{
+    is_way(cave, from, to) && (from <= to || !is_both_ways(cave, from, to))
+}
+
+/// The other ends of the edges of a place.
+#[tactic(auto, unfolding(crate::specs::Ways::ends_of_edges, crate::specs::Ways::place_numbers))]
+pub fn ends_of_edges(alloc: Global, cave: &Cave, from: u16) -> Result<Vec<u16>, AllocError>
+    ensures { IfOk result (λ ends. ends.items ≡ ends_of_edges cave.now from) }
+{
+    (1..LAST_PLACE + 1)
+        .filter(|to| begins_edge(cave, from, *to))
+        .collect(alloc)
+}

@@ -1,0 +1,130 @@
+-- What the parser answers to the words, and what that comes to.
+use Rattle.std.proofs.Common.{◌≡◌, true, List, [], Some, None, Result, Ok, Err, IfOk, IfErr}
+use Rattle.std.proofs.Common.{MatchResult, refl, sym, subst, ap, ◌∙◌, inl, inr}
+use Rattle.clap.specs.Words.{App, HasKind, HasMatchesOf, FailsBy, IsAmong, Kinds, app_of, fault_of}
+use Rattle.clap.specs.Words.{is_simple, is_simple_and_free, kind_of}
+use Rattle.clap.specs.Walk.{Text}
+use Rattle.clap.specs.declared.builder.command.Command.{Command}
+use Rattle.clap.specs.declared.error.Error.{Error}
+use Rattle.clap.specs.declared.error.kind.ErrorKind.TheVariants.{OutOfMemory}
+use Rattle.clap.specs.declared.parser.matches.ArgMatches.{ArgMatches}
+use Rattle.clap.proofs.OnLiterals.{clap_on_literals}
+use Rattle.play_command.specs.App.{cave_app}
+use Rattle.play_command.specs.Line.{IsAsked, IsRun, IsRunMet, IsRefusal, IsRefused, IsRequest}
+use Rattle.play_command.specs.Line.{IsUnmade, IsWrong, MetCommand}
+use Rattle.play_command.specs.Read.{IsParse}
+use Rattle.play_command.specs.declared.fault.CommandFault.{CommandFault}
+use Rattle.play_command.specs.declared.fault.CommandFault.TheVariants.{Usage, Incomplete, BadSeed}
+use Rattle.play_command.specs.declared.fault.CommandFault.TheVariants.{BadEvery, BadView, Memory}
+use Rattle.play_command.specs.declared.fault.CommandFault.TheVariants.{BadPlayView, BadCheckView}
+use Rattle.play_command.specs.declared.fault.CommandFault.TheVariants.{BadCoverView}
+use Rattle.play_command.specs.declared.line.Line.{Line}
+use Rattle.play_command.specs.declared.line.Line.TheVariants as run
+
+cave_is_simple : is_simple cave_app ≡ true
+unfolding clap_on_literals
+cave_is_simple = refl
+
+cave_is_free : is_simple_and_free cave_app ≡ true
+unfolding clap_on_literals
+cave_is_free = refl
+
+parse_of_cave : (words : List Text) (answer : Result ArgMatches Error)
+    → IfOk answer (HasMatchesOf cave_app words) → FailsBy (fault_of cave_app words) answer
+    → IsParse words answer
+parse_of_cave words (Ok matches) has fails = (fails, (has cave_is_simple).1)
+parse_of_cave words (Err error) has fails = fails
+
+parse_of : (app : App) (words : List Text) (answer : Result ArgMatches Error) → app ≡ cave_app
+    → IfOk answer (HasMatchesOf app words)
+    → (is_simple_and_free app ≡ true → FailsBy (fault_of app words) answer) → IsParse words answer
+parse_of app words answer same has fails =
+    let has_here = subst (λ (a : App). IfOk answer (HasMatchesOf a words)) same has in
+    let fails_here =
+    subst (λ (a : App). FailsBy (fault_of a words) answer) same
+    (fails (ap is_simple_and_free same ∙ cave_is_free)) in
+    parse_of_cave words answer has_here fails_here
+
+pub parse_is : (command : Command) (words : List Text) (answer : Result ArgMatches Error)
+    → app_of command ≡ cave_app
+    → IfOk answer (HasMatchesOf (app_of command) words)
+    → (is_simple_and_free (app_of command) ≡ true
+    → FailsBy (fault_of (app_of command) words) answer) → IsParse words answer
+parse_is command words answer same has fails = parse_of (app_of command) words answer same has fails
+
+-- ---- what the run that was found comes to
+
+abbrev pub Reads : MetCommand → Result Line CommandFault → Type 0
+Reads met answer = MatchResult answer (IsRunMet met) (IsUnmade met)
+
+pub found_run : (met : MetCommand) (answer : Result Line CommandFault) → Reads met answer
+    → IfOk answer (IsRun met)
+found_run met (Ok (run.Check files view)) is = is
+found_run met (Ok (run.Play files log seed view)) is = is
+found_run met (Ok (run.Edit files log script editing)) is = is
+found_run met (Ok (run.Cover files logs seed view)) is = is
+found_run met (Ok (run.Map files logs seed)) is = is
+found_run met (Ok (run.Text error)) is = tt
+found_run met (Err fault) is = tt
+
+no_text : (met : MetCommand) (error : Error) → IsRunMet met (run.Text error) → ⊥
+no_text None error is = is
+no_text (Some found) error is = is
+
+pub found_asked : (kinds : Kinds) (met : MetCommand) (answer : Result Line CommandFault)
+    → kinds ≡ [] → Reads met answer → IfOk answer (IsAsked kinds)
+found_asked kinds met (Ok (run.Check files view)) none is = none
+found_asked kinds met (Ok (run.Play files log seed view)) none is = none
+found_asked kinds met (Ok (run.Edit files log script editing)) none is = none
+found_asked kinds met (Ok (run.Cover files logs seed view)) none is = none
+found_asked kinds met (Ok (run.Map files logs seed)) none is = none
+found_asked kinds met (Ok (run.Text error)) none is = absurd (no_text met error is)
+found_asked kinds met (Err fault) none is = tt
+
+no_usage : (met : MetCommand) (error : Error) → IsWrong met (Usage error) → ⊥
+no_usage None error is = is
+no_usage (Some found) error (inl bad) = bad
+no_usage (Some found) error (inr bad) = bad
+
+pub found_refused : (kinds : Kinds) (met : MetCommand) (answer : Result Line CommandFault)
+    → kinds ≡ [] → Reads met answer → IfErr answer (IsRefused kinds met)
+found_refused kinds met (Ok found) none is = tt
+found_refused kinds met (Err (Usage error)) none is = absurd (no_usage met error is)
+found_refused kinds met (Err Incomplete) none is = (none, is)
+found_refused kinds met (Err (BadSeed text)) none is = (none, is)
+found_refused kinds met (Err (BadEvery text)) none is = (none, is)
+found_refused kinds met (Err (BadView name)) none is = (none, is)
+found_refused kinds met (Err (BadPlayView name)) none is = (none, is)
+found_refused kinds met (Err (BadCheckView name)) none is = (none, is)
+found_refused kinds met (Err (BadCoverView name)) none is = (none, is)
+found_refused kinds met (Err Memory) none is = tt
+
+-- ---- what an error comes to
+
+no_memory : (error : Error) → IsRequest (kind_of error) → kind_of error ≡ OutOfMemory → ⊥
+no_memory error (inl help) memory = cc
+no_memory error (inr version) memory = cc
+
+among : (kinds : Kinds) (error : Error) → HasKind kinds error → (kind_of error ≡ OutOfMemory → ⊥)
+    → IsAmong (kind_of error) kinds
+among kinds error (inl memory) other = absurd (other memory)
+among kinds error (inr is) other = is
+
+pub text_asked : (kinds : Kinds) (error : Error) (asked : Line) → HasKind kinds error
+    → (asked ≡ run.Text error) × IsRequest (kind_of error) → IsAsked kinds asked
+text_asked kinds error asked has (same, request) =
+    subst (IsAsked kinds) (sym same) (request, among kinds error has (no_memory error request))
+
+pub error_refused : (kinds : Kinds) (met : MetCommand) (error : Error) (fault : CommandFault)
+    → HasKind kinds error → IsRefusal error fault → IsRefused kinds met fault
+error_refused kinds met error (Usage given) has (same, asks, memory) =
+    subst (λ (e : Error). (¬ IsRequest (kind_of e)) × IsAmong (kind_of e) kinds) (sym same)
+    (asks, among kinds error has memory)
+error_refused kinds met error Incomplete has is = absurd is
+error_refused kinds met error (BadSeed text) has is = absurd is
+error_refused kinds met error (BadEvery text) has is = absurd is
+error_refused kinds met error (BadView name) has is = absurd is
+error_refused kinds met error (BadPlayView name) has is = absurd is
+error_refused kinds met error (BadCheckView name) has is = absurd is
+error_refused kinds met error (BadCoverView name) has is = absurd is
+error_refused kinds met error Memory has is = tt

@@ -1,0 +1,8 @@
+pub mod App
+pub mod Fault
+pub mod Number
+pub mod Read
+pub mod Line
+pub use Rattle.base_lines.specs.base_limits as base_limits
+pub use Rattle.base_lines.specs as base_lines
+pub use Rattle.play_options.specs as play_options

@@ -1,0 +1,169 @@
+//! The arguments of the commands.
+
+ghost use Rattle.std.specs.Prelude.{◌≡◌, false};
+ghost use Rattle.clap.specs.Words.{rule_of};
+ghost use Rattle.play_command.specs.App.{bind_argument, cave_argument, every_argument};
+ghost use Rattle.play_command.specs.App.{log_argument, logs_argument, output_argument};
+ghost use Rattle.play_command.specs.App.{print_argument, script_argument, seed_argument};
+ghost use Rattle.play_command.specs.App.{some_logs_argument, strict_argument};
+
+use clap::{Arg, ArgAction};
+use std::alloc::Global;
+
+pub(crate) fn cave_argument<'a>(alloc: Global) -> Arg<'a>
+    ensures rule { rule_of result ≡ cave_argument }
+    ensures local { result.global ≡ false }
+{
+    Arg::new(alloc, "cave")
+        .required(true)
+        .value_name("CAVE")
+        .help("The database of the cave")
+}
+
+pub(crate) fn log_argument<'a>(alloc: Global) -> Arg<'a>
+    ensures rule { rule_of result ≡ log_argument }
+    ensures local { result.global ≡ false }
+{
+    Arg::new(alloc, "log")
+        .required(true)
+        .value_name("LOG")
+        .help("The log of the game: what the player says, line by line")
+}
+
+pub(crate) fn logs_argument<'a>(alloc: Global) -> Arg<'a>
+    ensures rule { rule_of result ≡ logs_argument }
+    ensures local { result.global ≡ false }
+{
+    Arg::new(alloc, "log")
+        .required(true)
+        .action(ArgAction::Append)
+        .value_name("LOG")
+        .help("The logs, each of which is played by itself from its first line")
+}
+
+pub(crate) fn some_logs_argument<'a>(alloc: Global) -> Arg<'a>
+    ensures rule { rule_of result ≡ some_logs_argument }
+    ensures local { result.global ≡ false }
+{
+    Arg::new(alloc, "log")
+        .action(ArgAction::Append)
+        .value_name("LOG")
+        .help("Logs, each of which is played by itself: what they saw is drawn strong")
+}
+
+pub(crate) fn script_argument<'a>(alloc: Global) -> Arg<'a>
+    ensures rule { rule_of result ≡ script_argument }
+    ensures local { result.global ≡ false }
+{
+    Arg::new(alloc, "script")
+        .required(true)
+        .value_name("SCRIPT")
+        .help(
+            "The edits of the log: lines `insert N TEXT`, `delete N`, `replace N TEXT`, \
+             `seed N`, and groups from `begin` to `end`",
+        )
+}
+
+pub(crate) fn bind_argument<'a>(alloc: Global) -> Arg<'a>
+    ensures rule { rule_of result ≡ bind_argument }
+    ensures local { result.global ≡ false }
+{
+    Arg::new(alloc, "bind").long("bind").value_name("FILE").help(
+        "The bindings of messages and places to what the rules call them",
+    )
+}
+
+pub(crate) fn seed_argument<'a>(alloc: Global) -> Arg<'a>
+    ensures rule { rule_of result ≡ seed_argument }
+    ensures local { result.global ≡ false }
+{
+    Arg::new(alloc, "seed").long("seed").value_name("N").help(
+        "Where the random numbers begin, from 0 to 2147483647 [default: 0]",
+    )
+}
+
+pub(crate) fn every_argument<'a>(alloc: Global) -> Arg<'a>
+    ensures rule { rule_of result ≡ every_argument }
+    ensures local { result.global ≡ false }
+{
+    Arg::new(alloc, "every").long("every").value_name("K").help(
+        "The most lines between two checkpoints, from 1 to 10000: the fewer, the less an \
+         edit replays and the more is kept [default: 50]",
+    )
+}
+
+pub(crate) fn output_argument<'a>(alloc: Global) -> Arg<'a>
+    ensures rule { rule_of result ≡ output_argument }
+    ensures local { result.global ≡ false }
+{
+    Arg::new(alloc, "output")
+        .long("output")
+        .value_name("FILE")
+        .help(
+            "The file that the output goes into, whole or not at all, in the place of standard \
+             output; it may be one of the files that are read",
+        )
+}
+
+pub(crate) fn edit_print_argument<'a>(alloc: Global) -> Arg<'a>
+    ensures rule { rule_of result ≡ print_argument }
+    ensures local { result.global ≡ false }
+{
+    Arg::new(alloc, "print")
+        .long("print")
+        .value_name("WHAT")
+        .help(
+            "What is printed: `transcript`, the reports and what the game says, `play`, what it \
+             says alone, `log`, the edited log without its seed, `reports`, what each edit \
+             replayed and what came of it, or `state`, the final state [default: transcript]",
+        )
+}
+
+pub(crate) fn play_print_argument<'a>(alloc: Global) -> Arg<'a>
+    ensures rule { rule_of result ≡ print_argument }
+    ensures local { result.global ≡ false }
+{
+    Arg::new(alloc, "print")
+        .long("print")
+        .value_name("WHAT")
+        .help(
+            "What is printed: `transcript`, what the game says, or `state`, the final state \
+             [default: transcript]",
+        )
+}
+
+pub(crate) fn check_print_argument<'a>(alloc: Global) -> Arg<'a>
+    ensures rule { rule_of result ≡ print_argument }
+    ensures local { result.global ≡ false }
+{
+    Arg::new(alloc, "print")
+        .long("print")
+        .value_name("WHAT")
+        .help(
+            "What is printed: `maximum`, the greatest score, or `bindings`, each key of the \
+             bindings with its number and the first line of the text there [default: maximum]",
+        )
+}
+
+pub(crate) fn cover_print_argument<'a>(alloc: Global) -> Arg<'a>
+    ensures rule { rule_of result ≡ print_argument }
+    ensures local { result.global ≡ false }
+{
+    Arg::new(alloc, "print")
+        .long("print")
+        .value_name("WHAT")
+        .help(
+            "What is printed: `counts`, how many texts are said and the names of the others, or \
+             `texts`, each that is never said with its first line [default: counts]",
+        )
+}
+
+pub(crate) fn strict_argument<'a>(alloc: Global) -> Arg<'a>
+    ensures rule { rule_of result ≡ strict_argument }
+    ensures local { result.global ≡ false }
+{
+    Arg::new(alloc, "strict")
+        .long("strict")
+        .action(ArgAction::SetTrue)
+        .help("Where an edit is refused, ends with status 4, and prints and writes only its line")
+}

@@ -1,0 +1,69 @@
+ghost use Rattle.std.specs.Prelude.{◌≡◌};
+ghost use Rattle.play_command.specs.Fault.{status_of_command};
+ghost use Rattle.play_command.specs.declared.fault.CommandFault.TheVariants.{Memory};
+
+use clap::Error as ParseError;
+use std::alloc::{AllocError, AllocFailed};
+use thiserror::Error;
+
+/// Why a command line asks for no run. Its text is whole lines, for standard error.
+#[derive(Debug, Drop, Error)]
+pub enum CommandFault<'a> {
+    /// The parser refused the words.
+    #[error("{0}")]
+    Usage(ParseError),
+    /// The words name no command or not all of its files.
+    #[error("error: a command and its files are wanted\n\nFor more information, try '--help'.\n")]
+    Incomplete,
+    #[error("error: invalid value '{0}' for '--seed <N>': wanted are 1 to 10 digits, \
+        from 0 to 2147483647\n\n\
+        For more information, try '--help'.\n")]
+    BadSeed(&'a str),
+    #[error("error: invalid value '{0}' for '--every <K>': wanted are 1 to 10 digits, \
+        from 1 to 10000\n\n\
+        For more information, try '--help'.\n")]
+    BadEvery(&'a str),
+    #[error("error: invalid value '{0}' for '--print <WHAT>': wanted is transcript, \
+        play, log, reports or state\n\n\
+        For more information, try '--help'.\n")]
+    BadView(&'a str),
+    #[error("error: invalid value '{0}' for '--print <WHAT>': wanted is transcript or state\n\n\
+        For more information, try '--help'.\n")]
+    BadPlayView(&'a str),
+    #[error("error: invalid value '{0}' for '--print <WHAT>': wanted is maximum or bindings\n\n\
+        For more information, try '--help'.\n")]
+    BadCheckView(&'a str),
+    #[error("error: invalid value '{0}' for '--print <WHAT>': wanted is counts or texts\n\n\
+        For more information, try '--help'.\n")]
+    BadCoverView(&'a str),
+    #[error("cave: there isn't enough memory\n")]
+    Memory,
+}
+
+impl CommandFault<'_> {
+    /// The status with which the program ends.
+    pub fn status(&self) -> u8
+        ensures { result ≡ status_of_command self.now }
+    {
+        match self {
+            CommandFault::Memory => 7,
+            _ => 2,
+        }
+    }
+}
+
+impl From<AllocError> for CommandFault<'_> {
+    ghost from_gives = { λ _ fault. fault ≡ Memory };
+
+    fn from(_: AllocError) -> Self {
+        CommandFault::Memory
+    }
+}
+
+impl<T: Drop> From<AllocFailed<T>> for CommandFault<'_> {
+    ghost from_gives = { λ _ fault. fault ≡ Memory };
+
+    fn from(_: AllocFailed<T>) -> Self {
+        CommandFault::Memory
+    }
+}

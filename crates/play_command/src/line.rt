@@ -1,0 +1,47 @@
+use clap::Error;
+use play_options::{CheckView, CoverView, Editing, PlayView};
+
+/// The files of a cave, and the one that the output goes into.
+#[derive(Clone, Copy, Debug, PartialEq, Eq)]
+pub struct Files<'a> {
+    pub cave: &'a str,
+    /// The bindings, where there are any.
+    pub bind: Option<&'a str>,
+    /// The file of the output, where it doesn't go to standard output.
+    pub output: Option<&'a str>,
+}
+
+/// What the words ask for.
+#[derive(Debug, Drop)]
+pub enum Line<'a> {
+    Check {
+        files: Files<'a>,
+        view: CheckView,
+    },
+    Play {
+        files: Files<'a>,
+        log: &'a str,
+        seed: u32,
+        view: PlayView,
+    },
+    Edit {
+        files: Files<'a>,
+        log: &'a str,
+        script: &'a str,
+        editing: Editing,
+    },
+    Cover {
+        files: Files<'a>,
+        logs: Vec<&'a str>,
+        seed: u32,
+        view: CoverView,
+    },
+    Map {
+        files: Files<'a>,
+        /// The logs of which the map shows what they saw. There may be none.
+        logs: Vec<&'a str>,
+        seed: u32,
+    },
+    /// Help or the version: the text to print.
+    Text(Error),
+}

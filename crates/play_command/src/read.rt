@@ -1,0 +1,299 @@
+//! Which run the words ask for.
+
+ghost use Rattle.std.specs.Prelude.{◌≡◌, IfOk, IfErr, MatchOption, MatchResult, None, Some, codes};
+ghost use Rattle.std.specs.Prelude.{map, option_map};
+ghost use Rattle.clap.specs.Words.{all_of, fault_of, first_of, kind_of, subcommand_of};
+ghost use Rattle.clap.specs.Words.{subcommand_rows_of};
+ghost use Rattle.play_command.specs.App.{cave_app};
+ghost use Rattle.play_command.specs.Read.{IsParse};
+ghost use Rattle.play_command.specs.Line.{IsAsked, IsBadCheckView, IsBadCoverView, IsBadEvery};
+ghost use Rattle.play_command.specs.Line.{IsBadOption, IsBadSeed, IsBadView, IsCheckView};
+ghost use Rattle.play_command.specs.Line.{IsCoverView, IsEditing, IsEveryGiven, IsFiles, IsRun};
+ghost use Rattle.play_command.specs.Line.{IsRunMet, IsRunOf, IsRefusal, IsRefused, IsRequest};
+ghost use Rattle.play_command.specs.Line.{IsSeed, IsUnmade, IsView, is_strict, rows_in};
+ghost use Rattle.play_command.specs.Line.{IsBadPlayView, IsPlayView};
+
+use crate::app::cave_app;
+use crate::fault::CommandFault;
+use crate::line::{Files, Line};
+use crate::number::number_in;
+use base_lines::{MAX_EVERY, MAX_SEED, USUAL_EVERY};
+use clap::error::ErrorKind;
+use clap::{ArgMatches, Error};
+use play_options::{CheckView, CoverView, EditView, Editing, PlayView};
+use std::alloc::Global;
+use std::convert::AsStr;
+
+/// The seed where none is given.
+const USUAL_SEED: u32 = 0;
+
+/// What an edit prints where nothing is asked for.
+const USUAL_EDIT_VIEW: EditView = EditView::Transcript;
+
+/// What a play prints where nothing is asked for.
+const USUAL_PLAY_VIEW: PlayView = PlayView::Transcript;
+
+/// What the words of a command line ask for. The first word is the program's name.
+pub fn command_line<'a, S: AsStr>(
+    alloc: Global,
+    words: &'a [S],
+) -> Result<Line<'a>, CommandFault<'a>>
+    ensures found { IfOk result (IsRun (subcommand_of cave_app (map S.text words.entry.now))) }
+    ensures asked { IfOk result (IsAsked (fault_of cave_app (map S.text words.entry.now))) }
+    ensures refused { let given = map S.text words.entry.now in
+        IfErr result (IsRefused (fault_of cave_app given) (subcommand_of cave_app given)) }
+{
+    match parse(alloc, words) {
+        Ok(matches) => run_met(alloc, &matches),
+        Err(error) => answer_to(error),
+    }
+}
+
+/// What the parser finds in the words.
+fn parse<'a, S: AsStr>(alloc: Global, words: &'a [S]) -> Result<ArgMatches<'a>, Error>
+    ensures { IsParse (map S.text words.entry.now) result }
+{
+    let command = cave_app(alloc)?;
+    command.try_get_matches_from(words)
+}
+
+/// What an error of the parser comes to: a text to print, or a fault.
+fn answer_to<'a>(error: Error) -> Result<Line<'a>, CommandFault<'a>>
+    ensures ok { IfOk result (λ run. (run ≡ Line.Text error) × IsRequest (kind_of error)) }
+    ensures err { IfErr result (λ fault. IsRefusal error fault) }
+{
+    match error.kind() {
+        ErrorKind::DisplayHelp | ErrorKind::DisplayVersion => Ok(Line::Text(error)),
+        ErrorKind::OutOfMemory => Err(CommandFault::Memory),
+        _ => Err(CommandFault::Usage(error)),
+    }
+}
+
+/// The run of the command that was met.
+fn run_met<'a>(alloc: Global, matches: &ArgMatches<'a>) -> Result<Line<'a>, CommandFault<'a>>
+    ensures { MatchResult result (IsRunMet (subcommand_rows_of matches.now))
+        (IsUnmade (subcommand_rows_of matches.now)) }
+{
+    let Some((name, found)) = matches.subcommand() else {
+        return Err(CommandFault::Incomplete);
+    };
+    run_of(alloc, name, found)
+}
+
+/// The run of a command.
+fn run_of<'a>(
+    alloc: Global,
+    name: &str,
+    found: &ArgMatches<'a>,
+) -> Result<Line<'a>, CommandFault<'a>>
+    ensures { MatchResult result (IsRunOf name.now (rows_in found.now))
+        (IsUnmade (Some (name.now, rows_in found.now))) }
+{
+    let Some(files) = files_in(found) else {
+        return Err(CommandFault::Incomplete);
+    };
+    if name == "check" {
+        let view = check_view_in(found)?;
+        return Ok(Line::Check { files, view });
+    }
+    if name == "cover" {
+        return cover_of(alloc, files, found);
+    }
+    if name == "map" {
+        return map_of(alloc, files, found);
+    }
+    let Some(log) = value_in(found, "log") else {
+        return Err(CommandFault::Incomplete);
+    };
+    if name == "play" {
+        return play_of(files, log, found);
+    }
+    let Some(script) = value_in(found, "script") else {
+        return Err(CommandFault::Incomplete);
+    };
+    if name != "edit" {
+        return Err(CommandFault::Incomplete);
+    }
+    Ok(Line::Edit {
+        files,
+        log,
+        script,
+        editing: editing_in(found)?,
+    })
+}
+
+/// The run of `play`, of a log in the cave that has these files.
+fn play_of<'a>(
+    files: Files<'a>,
+    log: &'a str,
+    found: &ArgMatches<'a>,
+) -> Result<Line<'a>, CommandFault<'a>>
+    requires files { IsFiles (rows_in found.now) files }
+    requires log { first_of (codes "log") (rows_in found.now) ≡ Some log.now }
+    ensures { MatchResult result (IsRunOf (codes "play") (rows_in found.now))
+        (IsUnmade (Some (codes "play", rows_in found.now))) }
+{
+    let seed = seed_in(found)?;
+    let view = play_view_in(found)?;
+    Ok(Line::Play {
+        files,
+        log,
+        seed,
+        view,
+    })
+}
+
+/// The run of `cover`, whose cave has these files.
+fn cover_of<'a>(
+    alloc: Global,
+    files: Files<'a>,
+    found: &ArgMatches<'a>,
+) -> Result<Line<'a>, CommandFault<'a>>
+    requires { IsFiles (rows_in found.now) files }
+    ensures { MatchResult result (IsRunOf (codes "cover") (rows_in found.now))
+        (IsUnmade (Some (codes "cover", rows_in found.now))) }
+{
+    let Some(logs) = values_in(found, "log") else {
+        return Err(CommandFault::Incomplete);
+    };
+    let seed = seed_in(found)?;
+    let view = cover_view_in(found)?;
+    let logs = Vec::from_slice(alloc, logs)?;
+    Ok(Line::Cover {
+        files,
+        logs,
+        seed,
+        view,
+    })
+}
+
+/// The run of `map`, whose cave has these files.
+fn map_of<'a>(
+    alloc: Global,
+    files: Files<'a>,
+    found: &ArgMatches<'a>,
+) -> Result<Line<'a>, CommandFault<'a>>
+    requires { IsFiles (rows_in found.now) files }
+    ensures { MatchResult result (IsRunOf (codes "map") (rows_in found.now))
+        (IsUnmade (Some (codes "map", rows_in found.now))) }
+{
+    let logs = values_in(found, "log").unwrap_or(&[]);
+    let seed = seed_in(found)?;
+    let logs = Vec::from_slice(alloc, logs)?;
+    Ok(Line::Map { files, logs, seed })
+}
+
+/// All that was found for an argument.
+#[tactic(auto, using(crate::proofs::Values::values))]
+fn values_in<'a, 'm>(found: &'m ArgMatches<'a>, id: &str) -> Option<&'m [&'a str]>
+    ensures { option_map (λ texts. map (λ text. text.now) texts.now) result
+        ≡ all_of id.now (rows_in found.now) }
+{
+    found.get_strs(id)
+}
+
+/// What was found for an argument.
+#[tactic(auto, using(crate::proofs::Values::values))]
+fn value_in<'a>(found: &ArgMatches<'a>, id: &str) -> Option<&'a str>
+    ensures { MatchOption result (first_of id.now (rows_in found.now) ≡ None)
+        (λ text. first_of id.now (rows_in found.now) ≡ Some text.now) }
+{
+    found.get_str(id)
+}
+
+/// The files of a cave and of the output, if the cave's was found.
+fn files_in<'a>(found: &ArgMatches<'a>) -> Option<Files<'a>>
+    ensures { MatchOption result (first_of (codes "cave") (rows_in found.now) ≡ None)
+        (IsFiles (rows_in found.now)) }
+{
+    let cave = value_in(found, "cave")?;
+    Some(Files {
+        cave,
+        bind: value_in(found, "bind"),
+        output: value_in(found, "output"),
+    })
+}
+
+fn seed_in<'a>(found: &ArgMatches<'a>) -> Result<u32, CommandFault<'a>>
+    ensures { MatchResult result (IsSeed (rows_in found.now)) (IsBadSeed (rows_in found.now)) }
+{
+    match value_in(found, "seed") {
+        None => Ok(USUAL_SEED),
+        Some(text) => number_in(0, MAX_SEED, text).ok_or(CommandFault::BadSeed(text)),
+    }
+}
+
+fn every_in<'a>(found: &ArgMatches<'a>) -> Result<u32, CommandFault<'a>>
+    ensures { MatchResult result (IsEveryGiven (rows_in found.now))
+        (IsBadEvery (rows_in found.now)) }
+{
+    match value_in(found, "every") {
+        None => Ok(USUAL_EVERY),
+        Some(text) => number_in(1, MAX_EVERY, text).ok_or(CommandFault::BadEvery(text)),
+    }
+}
+
+fn edit_view_in<'a>(found: &ArgMatches<'a>) -> Result<EditView, CommandFault<'a>>
+    ensures { MatchResult result (IsView (rows_in found.now)) (IsBadView (rows_in found.now)) }
+{
+    match value_in(found, "print") {
+        None => Ok(USUAL_EDIT_VIEW),
+        Some(name) => EditView::named(name).ok_or(CommandFault::BadView(name)),
+    }
+}
+
+/// What a play prints.
+fn play_view_in<'a>(found: &ArgMatches<'a>) -> Result<PlayView, CommandFault<'a>>
+    ensures { MatchResult result (IsPlayView (rows_in found.now))
+        (IsBadPlayView (rows_in found.now)) }
+{
+    match value_in(found, "print") {
+        None => Ok(USUAL_PLAY_VIEW),
+        Some(name) => PlayView::named(name).ok_or(CommandFault::BadPlayView(name)),
+    }
+}
+
+/// What a check prints.
+fn check_view_in<'a>(found: &ArgMatches<'a>) -> Result<CheckView, CommandFault<'a>>
+    ensures { MatchResult result (IsCheckView (rows_in found.now))
+        (IsBadCheckView (rows_in found.now)) }
+{
+    match value_in(found, "print") {
+        None => Ok(CheckView::Maximum),
+        Some(name) => CheckView::named(name).ok_or(CommandFault::BadCheckView(name)),
+    }
+}
+
+/// What is printed of the texts that logs say.
+fn cover_view_in<'a>(found: &ArgMatches<'a>) -> Result<CoverView, CommandFault<'a>>
+    ensures { MatchResult result (IsCoverView (rows_in found.now))
+        (IsBadCoverView (rows_in found.now)) }
+{
+    match value_in(found, "print") {
+        None => Ok(CoverView::Counts),
+        Some(name) => CoverView::named(name).ok_or(CommandFault::BadCoverView(name)),
+    }
+}
+
+/// Whether a refused edit ends the run.
+fn strict_in(found: &ArgMatches<'_>) -> bool
+    ensures { result ≡ is_strict (rows_in found.now) }
+{
+    match value_in(found, "strict") {
+        Some(text) => text == "true",
+        None => false,
+    }
+}
+
+/// How a log is to be edited.
+fn editing_in<'a>(found: &ArgMatches<'a>) -> Result<Editing, CommandFault<'a>>
+    ensures { MatchResult result (IsEditing (rows_in found.now))
+        (IsBadOption (codes "edit") (rows_in found.now)) }
+{
+    Ok(Editing {
+        seed: seed_in(found)?,
+        every: every_in(found)?,
+        view: edit_view_in(found)?,
+        strict: strict_in(found),
+    })
+}

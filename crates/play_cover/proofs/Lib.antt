@@ -1,0 +1,5 @@
+pub mod Agreeing
+pub mod LawLemmas
+pub mod Noting
+pub mod Telling
+pub mod PlayLemmas

@@ -1,0 +1,63 @@
+-- The report by marks is that of the texts that were noted.
+use Rattle.std.proofs.Common.{◌≡◌, ℕ, Bool, true, false, List, [], ◌++◌, length, refl, sym, ap, ◌∙◌}
+use Rattle.std.specs.Prelude.{◌||◌}
+use Rattle.std.specs.Str.Lines.{lines}
+use Rattle.std.proofs.lemmas.List.{length-map}
+use Rattle.std.proofs.lemmas.List.Folds.{flat_map-map, list_any-append}
+use Rattle.play_logs.specs.cave_data.CaveView.{CaveView}
+use Rattle.play_logs.specs.play_options.declared.views.CoverView.{CoverView}
+use Rattle.play_logs.specs.replay_edits.Game.{Game, game_of}
+use Rattle.play_cover.specs.Marks.{AreMarksOf, Notes, is_marked}
+use Rattle.play_cover.specs.Missing.{report_by}
+use Rattle.play_logs.specs.Noted.{IsReported, games_of}
+use Rattle.play_cover.specs.Plays.{IsCovered, report_of_logs, report_on_games, said_in_games}
+use Rattle.play_cover.specs.Plays.{texts_said_in}
+use Rattle.play_cover.specs.Texts.{is_among, is_same}
+use Rattle.play_cover.specs.declared.text.Text.{Text}
+use Rattle.play_cover.proofs.Agreeing.{agree_view}
+
+or_swapped : (p q : Bool) → (q || p) ≡ (p || q)
+or_swapped true true = refl
+or_swapped true false = refl
+or_swapped false true = refl
+or_swapped false false = refl
+
+-- no text is marked yet
+pub AreMarksOf-none : (marks : List Bool) → ((text : Text) → is_marked marks text ≡ false)
+    → AreMarksOf [] marks
+AreMarksOf-none marks none = record { is = λ text fits. none text }
+
+-- more texts were noted
+pub AreMarksOf-more : (texts more : List Text) (old new : List Bool) → AreMarksOf texts old
+    → Notes more old new → AreMarksOf (texts ++ more) new
+AreMarksOf-more texts more old new marked noted = record {
+  is = λ text fits.
+      noted.is text fits ∙ ap (λ b. is_among text more || b) (marked.is text fits)
+      ∙ or_swapped (is_among text texts) (is_among text more)
+      ∙ sym (list_any-append (is_same text) texts more);
+}
+
+-- the report by the marks of what games say is that on the games
+pub told_by_marks : (cave : CaveView) (view : CoverView) (games : List Game) (marks : List Bool)
+    (count : ℕ) → AreMarksOf (said_in_games cave games) marks → count ≡ length games
+    → report_by cave (is_marked marks) view count ≡ report_on_games cave view games
+told_by_marks cave view games marks count marked many =
+    let is_said = λ (text : Text). is_among text (said_in_games cave games) in
+    agree_view cave (is_marked marks) is_said marked.is view count
+    ∙ ap (report_by cave is_said view) many
+
+-- the report on the games of logs is that on the logs
+pub covered-reported : (database bindings : List ℕ) (logs : List (List ℕ)) (seed : ℕ)
+    (view : CoverView) (output : List ℕ)
+    → IsReported report_on_games database bindings logs seed view output
+    → IsCovered database bindings logs seed view output
+covered-reported database bindings logs seed view output (cave, reads, is) =
+    let game = λ (log : List ℕ). game_of seed (lines log) in
+    let texts = flat_map-map (texts_said_in cave) game logs in (
+      cave,
+      reads,
+      is
+          ∙ ap (λ said. report_by cave (λ text. is_among text said) view
+          (length (games_of seed logs))) texts
+          ∙ ap (report_of_logs cave seed view logs) (length-map logs game),
+    )

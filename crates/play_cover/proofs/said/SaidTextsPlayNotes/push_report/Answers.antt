@@ -1,0 +1,14 @@
+use Rattle.std.proofs.Common.{◌++◌, ap, ◌∙◌}
+use Rattle.std.proofs.lemmas.Result.{on_ok_weaker}
+use Rattle.play_cover.proofs.Telling.{told_by_marks}
+use Rattle.play_cover.proofs.said.SaidTextsPlayNotes.push_report.Goals as goal
+
+pub returns : goal.returns
+returns c =
+    let args = c.args in
+    on_ok_weaker c.push_view.result
+    (λ pushed games marked many.
+    pushed
+    ∙ ap (λ report. args.text.now.items ++ report)
+    (told_by_marks args.cave.now args.view games args.self.now args.logs marked many))
+    c.push_view.ensures

@@ -1,0 +1,98 @@
+-- The texts of a cave, each by its kind and its number, and which of them a part says.
+use Rattle.std.specs.Prelude.{ℕ, ◌+◌, ◌*◌, ◌/◌, ◌%◌, ℤ, pos, negsuc, Bool, false, ◌==◌, nat_lt}
+use Rattle.std.specs.Prelude.{◌&&◌, is_some, if◌then◌else◌, List, [], ◌∷◌, length, Option, Some}
+use Rattle.std.specs.Prelude.{None}
+use Rattle.std.specs.List.{list_any, flat_map}
+use Rattle.std.specs.FinMap as map
+use Rattle.play_logs.specs.cave_data.CaveView.{CaveView, Rated, class_of, look_of, name_of}
+use Rattle.play_logs.specs.data_rows.Role.{ROLE_NAMES, role_number}
+use Rattle.play_logs.specs.cave_world.declared.part.Part.{Part}
+use Rattle.play_logs.specs.cave_world.declared.part.Part.TheVariants as part
+use Rattle.play_cover.specs.declared.text.Kind.{Kind}
+use Rattle.play_cover.specs.declared.text.Kind.TheVariants as kind
+use Rattle.play_cover.specs.declared.text.Text.{Text}
+
+-- the numbers of texts are below it
+abbrev pub end_of_numbers : ℕ
+end_of_numbers = 10000
+
+-- the number of a look is that of its object times this, and its prop
+abbrev pub PROPS_PER_OBJECT : ℕ
+PROPS_PER_OBJECT = 100
+
+-- how many kinds there are
+abbrev pub KIND_COUNT : ℕ
+KIND_COUNT = 7
+
+-- its place among the kinds, from 0
+abbrev pub kind_number : Kind → ℕ
+kind_number kind.Long = 0
+kind_number kind.Short = 1
+kind_number kind.Look = 2
+kind_number kind.Name = 3
+kind_number kind.Message = 4
+kind_number kind.Role = 5
+kind_number kind.Class = 6
+
+-- a text by its kind and its number
+abbrev pub text : Kind → ℕ → Text
+text kind number = record { kind = kind; number = number }
+
+abbrev pub is_same : Text → Text → Bool
+is_same one other = kind_number one.kind == kind_number other.kind && one.number == other.number
+
+abbrev pub is_among : Text → List Text → Bool
+is_among one texts = list_any (is_same one) texts
+
+-- ---- which texts a cave has
+
+-- the class is one with that bound
+abbrev pub has_bound : Option Rated → ℕ → Bool
+has_bound None bound = false
+has_bound (Some rated) bound = rated.bound == bound
+
+-- whether the cave has the text; a class that no score belongs to is none of its texts
+abbrev pub has_text : CaveView → Kind → ℕ → Bool
+has_text cave kind.Long number = is_some (map.get cave.long number)
+has_text cave kind.Short number = is_some (map.get cave.short number)
+has_text cave kind.Look number =
+    is_some (look_of cave (number / PROPS_PER_OBJECT) (number % PROPS_PER_OBJECT))
+has_text cave kind.Name number = is_some (name_of cave number)
+has_text cave kind.Message number = is_some (map.get cave.messages number)
+has_text cave kind.Role number = nat_lt number (length ROLE_NAMES)
+has_text cave kind.Class number = has_bound (class_of cave number) number
+
+-- ---- which texts a part says
+
+-- a role that is bound says its message too
+abbrev pub message_said : Option ℕ → List Text
+message_said None = []
+message_said (Some number) = text kind.Message number ∷ []
+
+abbrev pub class_said : Option Rated → List Text
+class_said None = []
+class_said (Some rated) = text kind.Class rated.bound ∷ []
+
+abbrev pub look_said : CaveView → ℕ → ℤ → List Text
+look_said cave object (pos prop) =
+    if is_some (look_of cave object prop)
+    then text kind.Look (PROPS_PER_OBJECT * object + prop) ∷ [] else []
+look_said cave object (negsuc n) = []
+
+-- the texts that a part says; the game's own lines are none of the cave's
+unfoldable pub said_by_part : CaveView → Part → List Text
+said_by_part cave (part.Long place) = text kind.Long place ∷ []
+said_by_part cave (part.Short place) = text kind.Short place ∷ []
+said_by_part cave (part.Object object prop) = look_said cave object prop
+said_by_part cave (part.Name object) = text kind.Name object ∷ []
+said_by_part cave (part.Message number) = text kind.Message number ∷ []
+said_by_part cave (part.Role role) =
+    text kind.Role (role_number role) ∷ message_said (map.get cave.roles (role_number role))
+said_by_part cave (part.Class score) = class_said (class_of cave score)
+said_by_part cave (part.Number form number most) = []
+said_by_part cave (part.Word form word) = []
+said_by_part cave (part.Turns score most) = []
+
+-- the texts that several parts say
+abbrev pub said_by_all : CaveView → List Part → List Text
+said_by_all cave parts = flat_map (said_by_part cave) parts

@@ -1,0 +1,158 @@
+//! The list of the texts that were never said, each with its first line.
+
+ghost use Rattle.std.specs.Prelude.{◌≡◌, ◌++◌, OnOk, option_map};
+ghost use Rattle.std.specs.List.{flat_map};
+ghost use Rattle.play_cover.specs.Marks.{is_marked};
+ghost use Rattle.play_cover.specs.Missing.{first_words, missing_line, missing_lines};
+ghost use Rattle.play_cover.specs.Missing.{missing_report, report_by, text_at, word_of_kind};
+
+use crate::marks::SaidTexts;
+use crate::report::{missing, push_name, push_report, push_sums};
+use crate::text::{KINDS, Kind, PROPS_PER_OBJECT};
+use play_logs::{Cave, CoverView, first_line};
+use std::alloc::{AllocError, Global};
+
+/// What one text of a kind is called.
+fn word(kind: Kind) -> &'static str
+    ensures { result.now ≡ word_of_kind kind }
+{
+    match kind {
+        Kind::Long => "long text",
+        Kind::Short => "short text",
+        Kind::Look => "object text",
+        Kind::Name => "inventory text",
+        Kind::Message => "message",
+        Kind::Role => "role",
+        Kind::Class => "class",
+    }
+}
+
+/// The text of a number.
+fn text_at(cave: &Cave, kind: Kind, number: u16) -> Option<&[u8]>
+    ensures { option_map (λ text. text.now) result ≡ text_at cave.now kind number }
+{
+    match kind {
+        Kind::Long => cave.long(number),
+        Kind::Short => cave.short(number),
+        Kind::Look => cave.look(number / PROPS_PER_OBJECT, number % PROPS_PER_OBJECT),
+        Kind::Name => cave.name(number),
+        Kind::Message => cave.message(number),
+        Kind::Role => None,
+        Kind::Class => match cave.class_of(u32::from(number)) {
+            Some(rating) => Some(rating.text),
+            None => None,
+        },
+    }
+}
+
+/// Appends the first line of a text, where there is one.
+fn push_first_words(found: Option<&[u8]>, text: &mut Vec<u8>) -> Result<(), AllocError>
+    ensures { OnOk result (text.new.items
+        ≡ text.old.items ++ first_words (option_map (λ found. found.now) found.entry)) }
+{
+    match found {
+        Some(found) => {
+            text.extend_from_slice(b": ")?;
+            text.extend_from_slice(first_line(found))?;
+            text.extend_from_slice(b"\n")
+        }
+        None => text.extend_from_slice(b"\n"),
+    }
+}
+
+/// Appends the line of a text.
+fn push_missing_line(
+    alloc: Global,
+    cave: &Cave,
+    kind: Kind,
+    number: u16,
+    text: &mut Vec<u8>,
+) -> Result<(), AllocError>
+    ensures { OnOk result
+        (text.new.items ≡ text.old.items ++ missing_line cave.now kind number) }
+{
+    text.extend_from_slice(word(kind).as_bytes())?;
+    push_name(alloc, kind, number, text)?;
+    push_first_words(text_at(cave, kind, number), text)
+}
+
+fn push_numbers(
+    alloc: Global,
+    cave: &Cave,
+    kind: Kind,
+    numbers: &[u16],
+    text: &mut Vec<u8>,
+) -> Result<(), AllocError>
+    ensures { OnOk result
+        (text.new.items ≡ text.old.items ++ flat_map (missing_line cave.now kind) numbers.now) }
+{
+    for number in numbers {
+        push_missing_line(alloc, cave, kind, *number, text)?;
+    }
+    Ok(())
+}
+
+/// Appends the lines of the texts of a kind that were never said.
+fn push_missing(
+    alloc: Global,
+    cave: &Cave,
+    said: &SaidTexts,
+    kind: Kind,
+    text: &mut Vec<u8>,
+) -> Result<(), AllocError>
+    ensures { OnOk result (text.new.items
+        ≡ text.old.items ++ missing_lines cave.now (is_marked said.now) kind) }
+{
+    let numbers = missing(alloc, cave, said, kind)?;
+    push_numbers(alloc, cave, kind, &numbers, text)
+}
+
+fn push_kinds(
+    alloc: Global,
+    cave: &Cave,
+    said: &SaidTexts,
+    kinds: &[Kind],
+    text: &mut Vec<u8>,
+) -> Result<(), AllocError>
+    ensures { OnOk result (text.new.items
+        ≡ text.old.items ++ flat_map (missing_lines cave.now (is_marked said.now)) kinds.now) }
+{
+    for kind in kinds {
+        push_missing(alloc, cave, said, *kind, text)?;
+    }
+    Ok(())
+}
+
+/// Appends a line for each text that was never said, and the sum.
+#[tactic(auto, unfolding(crate::specs::Missing::missing_report))]
+fn push_missing_report(
+    alloc: Global,
+    cave: &Cave,
+    said: &SaidTexts,
+    logs: usize,
+    text: &mut Vec<u8>,
+) -> Result<(), AllocError>
+    ensures { OnOk result (text.new.items
+        ≡ text.old.items ++ missing_report cave.now (is_marked said.now) logs) }
+{
+    push_kinds(alloc, cave, said, &KINDS, text)?;
+    push_sums(alloc, cave, said, logs, text)
+}
+
+/// Appends what is asked for of a cave of whose texts some were said in so many logs.
+pub fn push_view(
+    alloc: Global,
+    cave: &Cave,
+    said: &SaidTexts,
+    view: CoverView,
+    logs: usize,
+    text: &mut Vec<u8>,
+) -> Result<(), AllocError>
+    ensures { OnOk result (text.new.items
+        ≡ text.old.items ++ report_by cave.now (is_marked said.now) view logs) }
+{
+    match view {
+        CoverView::Counts => push_report(alloc, cave, said, logs, text),
+        CoverView::Texts => push_missing_report(alloc, cave, said, logs, text),
+    }
+}

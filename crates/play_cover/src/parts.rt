@@ -1,0 +1,78 @@
+//! Which texts the parts of a play say.
+
+ghost use Rattle.std.specs.Prelude.{◌∷◌, []};
+ghost use Rattle.std.specs.FinMap.{get};
+ghost use Rattle.play_logs.specs.cave_data.CaveView.{class_of};
+ghost use Rattle.play_logs.specs.data_rows.Role.{role_number};
+ghost use Rattle.play_cover.specs.Marks.{Notes};
+ghost use Rattle.play_cover.specs.Texts.{class_said, look_said, message_said, text, said_by_part};
+ghost use Rattle.play_cover.specs.Texts.{said_by_all};
+
+use crate::marks::SaidTexts;
+use crate::text::{Kind, PROPS_PER_OBJECT, Text};
+use play_logs::{Cave, Object, Part, Role};
+
+/// Notes the text of a kind that has a number.
+fn note(said: &mut SaidTexts, kind: Kind, number: u16)
+    ensures { Notes (text kind number ∷ []) said.old said.new }
+{
+    said.note(Text { kind, number });
+}
+
+/// Notes a role, and the message that is bound to it.
+fn note_role(said: &mut SaidTexts, cave: &Cave, role: Role)
+    ensures { Notes (text Kind.Role (role_number role)
+        ∷ message_said (get cave.now.roles (role_number role))) said.old said.new }
+{
+    note(said, Kind::Role, role.number());
+    if let Some(number) = cave.role(role) {
+        note(said, Kind::Message, number);
+    }
+}
+
+/// Notes the text of an object at a prop, if it has one.
+fn note_look(said: &mut SaidTexts, cave: &Cave, object: Object, prop: i8)
+    ensures { Notes (look_said cave.now object prop) said.old said.new }
+{
+    if prop < 0 {
+        return;
+    }
+    let (object, prop) = (u16::from(object.number()), prop as u16);
+    if cave.look(object, prop).is_some() {
+        note(said, Kind::Look, PROPS_PER_OBJECT * object + prop);
+    }
+}
+
+/// Notes the class that a score belongs to, if it belongs to one.
+fn note_class(said: &mut SaidTexts, cave: &Cave, score: u32)
+    ensures { Notes (class_said (class_of cave.now score)) said.old said.new }
+{
+    if let Some(rating) = cave.class_of(score) {
+        note(said, Kind::Class, rating.bound);
+    }
+}
+
+#[tactic(auto, unfolding(crate::specs::Texts::said_by_part))]
+fn note_part(said: &mut SaidTexts, cave: &Cave, part: Part)
+    ensures { Notes (said_by_part cave.now part) said.old said.new }
+{
+    match part {
+        Part::Long(place) => note(said, Kind::Long, place),
+        Part::Short(place) => note(said, Kind::Short, place),
+        Part::Object(object, prop) => note_look(said, cave, object, prop),
+        Part::Name(object) => note(said, Kind::Name, u16::from(object.number())),
+        Part::Message(number) => note(said, Kind::Message, number),
+        Part::Role(role) => note_role(said, cave, role),
+        Part::Class(score) => note_class(said, cave, score),
+        Part::Number(..) | Part::Word(..) | Part::Turns(..) => {}
+    }
+}
+
+/// Notes what parts say.
+pub fn note_parts(said: &mut SaidTexts, cave: &Cave, parts: &[Part])
+    ensures { Notes (said_by_all cave.now parts.now) said.old said.new }
+{
+    for part in parts {
+        note_part(said, cave, *part);
+    }
+}

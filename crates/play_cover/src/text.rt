@@ -1,0 +1,63 @@
+//! The texts of a cave, each by its kind and its number.
+
+ghost use Rattle.std.specs.Prelude.{◌≡◌, ◌<◌};
+ghost use Rattle.play_cover.specs.Texts.{kind_number};
+ghost use Rattle.play_cover.specs.Texts as defined;
+
+/// One more than the greatest number that a text may have.
+pub const NUMBERS: usize = 10_000;
+
+/// The number of a look is that of its object times this, and its prop.
+pub const PROPS_PER_OBJECT: u16 = 100;
+
+/// A kind of text.
+#[derive(Clone, Copy, Debug, PartialEq, Eq)]
+pub enum Kind {
+    /// The long text of a place.
+    Long,
+    /// The short text of a place.
+    Short,
+    /// The text of an object at a prop.
+    Look,
+    /// The inventory text of an object.
+    Name,
+    /// A message.
+    Message,
+    /// A message that the rules name by its role.
+    Role,
+    /// A class of players.
+    Class,
+}
+
+/// How many kinds there are.
+pub const KIND_COUNT: usize = 7;
+
+/// The kinds in the order of the sections.
+pub const KINDS: [Kind; KIND_COUNT] = [
+    Kind::Long,
+    Kind::Short,
+    Kind::Look,
+    Kind::Name,
+    Kind::Message,
+    Kind::Role,
+    Kind::Class,
+];
+
+impl Kind {
+    /// Its place among the kinds, from 0.
+    pub fn number(self) -> usize
+        ensures value { result ≡ kind_number self }
+        ensures within { result < defined.KIND_COUNT }
+    {
+        self as usize
+    }
+}
+
+/// A text of a cave. It has the number of its place, its object, its message or its role, and a
+/// class that of its greatest score. The text of an object at a prop has a hundred times the number
+/// of the object and the prop, as in a database.
+#[derive(Clone, Copy, Debug, PartialEq, Eq)]
+pub struct Text {
+    pub kind: Kind,
+    pub number: u16,
+}

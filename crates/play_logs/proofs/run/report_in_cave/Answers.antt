@@ -1,0 +1,46 @@
+use Rattle.std.proofs.Common.{◌≡◌, ◌++◌, length, map, subst, sym, ap, ◌∙◌, inl, arith, refl}
+use Rattle.std.proofs.lemmas.List.{length-map}
+use Rattle.std.proofs.lemmas.Result.{err_from_is_err_and}
+use Rattle.std.specs.Str.Lines.{lines}
+use Rattle.cave_play.specs.Input.{Says}
+use Rattle.cave_play.specs.replay_edits.Game.{game_of}
+use Rattle.play_logs.specs.Noted.{games_of}
+use Rattle.play_logs.proofs.FaultLemmas.{AllSay-some, AllZip-length}
+use Rattle.play_logs.proofs.run.report_in_cave.Goals as goal
+
+pub returns-in_err-lexicon : goal.returns-in_err-lexicon
+returns-in_err-lexicon g c =
+    let exit = err_from_is_err_and c.from_residual.result c.from_residual.ensures.1 in
+    let known = AllSay-some (map g.L.Read.remaining c.args.logs.now) in
+    rw (exit.1, exit.2) (record { judged = (known.0, known.1, inl (refl, refl)) })
+
+pub returns-in_err-notes : goal.returns-in_err-notes
+returns-in_err-notes g c =
+    let exit =
+    err_from_is_err_and c.from_residual-in_err-notes.result
+    c.from_residual-in_err-notes.ensures.1 in
+    let known = AllSay-some (map g.L.Read.remaining c.args.logs.now) in
+    rw (exit.1, exit.2) (record { judged = (known.0, known.1, inl (refl, refl)) })
+
+pub note_logs-requires-clause-none : goal.note_logs-requires-clause-none
+note_logs-requires-clause-none g c = c.in_ok-notes.ensures c.new-machine.result.rules.cave.now
+
+pub returns : goal.returns
+returns g c =
+    let (moves, said, noted) = c.in_ok-note_logs.ensures.judged in
+    let notes = c.note_logs.new.notes in
+    let report_on = g.N.PlayNotes.report_on in
+    let played = games_of c.args.seed moves in
+    let count = length c.note_logs.new.logs in
+    let kept : count ≡ length c.args.logs.now = omega arith in
+    let many : count ≡ length played =
+    kept ∙ sym (length-map c.args.logs.now g.L.Read.remaining)
+    ∙ AllZip-length Says (map g.L.Read.remaining c.args.logs.now) moves said
+    ∙ sym (length-map moves (λ log. game_of c.args.seed (lines log))) in
+    let here =
+    subst (λ cave. g.N.PlayNotes.AreNotesOn cave played notes) (sym c.cave.ensures) noted.2 in
+    let text =
+    c.in_ok-push_report.ensures played here many
+    ∙ ap (λ t. t ++ report_on c.cave.result.now c.args.view played) c.new-text.ensures.items
+    ∙ ap (λ k. report_on k c.args.view played) (c.cave.ensures ∙ c.new-machine.ensures) in
+    record { judged = (moves, said, (noted.0, noted.1, text)) }

@@ -1,0 +1,115 @@
+use Rattle.std.proofs.Common.{inl, inr, map, refl, subst, sym}
+use Rattle.std.proofs.lemmas.Result.{err_from_is_err_and}
+use Rattle.std.proofs.KnownBytes.{Keeps-refl}
+use Rattle.cave_play.specs.Judge.{large_seed}
+use Rattle.cave_play.specs.Stages.{cave_stages}
+use Rattle.cave_play.proofs.InputLemmas.{Says-some}
+use Rattle.cave_play.proofs.StageLemmas.{first_decided-after}
+use Rattle.play_logs.specs.Faults.{first_stages}
+use Rattle.play_logs.specs.Noted.{IsReported}
+use Rattle.play_logs.proofs.FaultLemmas.{AllSay-some, IsFoundInLogs-after}
+use Rattle.play_logs.proofs.run.run_logs.Goals as goal
+
+pub returns-in_err-check_seed : goal.returns-in_err-check_seed
+returns-in_err-check_seed g c =
+    let exit = err_from_is_err_and c.from_residual.result c.from_residual.ensures.1 in
+    let (database, said) = Says-some (g.C.Read.remaining c.args.cave.now.database) in
+    let (bindings, others) = Says-some (g.B.Read.remaining c.args.cave.now.bindings) in
+    let (moves, last) = AllSay-some (map g.L.Read.remaining c.args.logs.now) in
+    rw (exit.1, exit.2)
+    (record {
+      runs = (
+        database,
+        bindings,
+        moves,
+        said,
+        others,
+        last,
+        inr (inl (refl, inl (inr c.in_err-check_seed.ensures)), Keeps-refl _),
+      );
+    })
+
+pub returns-in_err-cave : goal.returns-in_err-cave
+returns-in_err-cave g c =
+    let exit =
+    err_from_is_err_and c.from_residual-in_err-cave.result
+    c.from_residual-in_err-cave.ensures.1 in
+    let (database, bindings, said, others, refused) = c.in_err-cave.ensures.judged in
+    let (moves, last) = AllSay-some (map g.L.Read.remaining c.args.logs.now) in
+    rw (exit.1, exit.2)
+    (record {
+      runs = (
+        database,
+        bindings,
+        moves,
+        said,
+        others,
+        last,
+        inr (inl (refl, inr (c.in_ok-check_seed.ensures, refused)), Keeps-refl _),
+      );
+    })
+
+pub returns-in_err-text : goal.returns-in_err-text
+returns-in_err-text g c =
+    let exit =
+    err_from_is_err_and c.from_residual-in_err-text.result
+    c.from_residual-in_err-text.ensures.1 in
+    let (database, bindings, said, others, read) = c.in_ok-cave.ensures.judged in
+    let (moves, last, refused) = c.in_err-text.ensures.judged in
+    let none =
+    first_decided-after (large_seed c.args.seed) (cave_stages database bindings)
+    c.in_ok-check_seed.ensures read.0 in
+    let found =
+    IsFoundInLogs-after (first_stages database bindings c.args.seed) moves _ none refused in
+    rw (exit.1, exit.2)
+    (record {
+      runs = (database, bindings, moves, said, others, last, inr (found, Keeps-refl _));
+    })
+
+pub returns-in_err-write_output : goal.returns-in_err-write_output
+returns-in_err-write_output g c =
+    let exit =
+    err_from_is_err_and c.from_residual-in_err-write_output.result
+    c.from_residual-in_err-write_output.ensures.1 in
+    let (database, bindings, said, others, read) = c.in_ok-cave.ensures.judged in
+    let (moves, last, told) = c.in_ok-text.ensures.judged in
+    let none =
+    first_decided-after (large_seed c.args.seed) (cave_stages database bindings)
+    c.in_ok-check_seed.ensures read.0 in
+    let output =
+    subst (IsReported g.N.PlayNotes.report_on database bindings moves c.args.seed c.args.view)
+    (sym c.deref.ensures.value) (c.in_ok-cave.cave, read.1, told.2) in
+    let (failed, front) = c.in_err-write_output.ensures.written in
+    rw (exit.1, exit.2, failed) (record {
+      runs = (
+        database,
+        bindings,
+        moves,
+        said,
+        others,
+        last,
+        inl (refl, none, told.1, (_, output, front)),
+      );
+    })
+
+pub returns : goal.returns
+returns g c =
+    let (database, bindings, said, others, read) = c.in_ok-cave.ensures.judged in
+    let (moves, last, told) = c.in_ok-text.ensures.judged in
+    let none =
+    first_decided-after (large_seed c.args.seed) (cave_stages database bindings)
+    c.in_ok-check_seed.ensures read.0 in
+    let output =
+    subst (IsReported g.N.PlayNotes.report_on database bindings moves c.args.seed c.args.view)
+    (sym c.deref.ensures.value) (c.in_ok-cave.cave, read.1, told.2) in
+    record {
+      runs = (
+        database,
+        bindings,
+        moves,
+        said,
+        others,
+        last,
+        (none, told.1, (_, output, c.in_ok-write_output.ensures.written)),
+      );
+    }

@@ -1,0 +1,68 @@
+-- Where the fault of a run over several logs is found, and what a run has written when it ends.
+use Rattle.std.specs.Prelude.{◌≡◌, ℕ, ◌+◌, ◌⊎◌, ⊤, List, [], ◌∷◌, Option, Some, None, Result, Ok}
+use Rattle.std.specs.Prelude.{Err}
+use Rattle.std.specs.Io.KnownBytes.{Appends, Keeps}
+use Rattle.cave_play.specs.Judge.{log_fault, large_seed}
+use Rattle.cave_play.specs.Run.{WritesPrefix}
+use Rattle.cave_play.specs.Stage.{Stage, IsFoundAt, first_decided, judging_stage}
+use Rattle.cave_play.specs.Stage as stage
+use Rattle.cave_play.specs.Stages.{cave_stages, log_stage}
+use Rattle.cave_play.specs.declared.fault.PlayFault.{PlayFault}
+use Rattle.cave_play.specs.declared.fault.PlayFault.TheVariants as fault
+use Rattle.play_logs.specs.declared.fault.LogsFault.{LogsFault}
+
+-- a fault that is met at no log
+abbrev pub at_none : PlayFault → LogsFault
+at_none found = record { fault = found; log = None }
+
+-- a fault that is met at a log
+abbrev pub at_log : ℕ → PlayFault → LogsFault
+at_log place found = record { fault = found; log = Some place }
+
+-- first the seed is judged, then the cave
+abbrev pub first_stages : List ℕ → List ℕ → ℕ → List Stage
+first_stages database bindings seed =
+    judging_stage (large_seed seed) ∷ cave_stages database bindings
+
+-- no log has a fault
+abbrev pub AreValidLogs : List (List ℕ) → Type 0
+AreValidLogs [] = ⊤
+AreValidLogs (log ∷ logs) = (log_fault log ≡ None) × AreValidLogs logs
+
+-- the fault is found at a log, and none before it has one; after the last, memory may run out.
+-- The first log has that place
+abbrev pub IsFoundFrom : ℕ → List (List ℕ) → LogsFault → Type 0
+IsFoundFrom place [] found = found ≡ at_none fault.Memory
+IsFoundFrom place (log ∷ logs) found =
+    ((found.log ≡ Some place) × IsFoundAt (log_stage log) found.fault)
+    ⊎ ((log_fault log ≡ None) × IsFoundFrom (place + 1) logs found)
+
+-- the fault is found at the first stages, or at the logs that are read after them
+abbrev pub IsFoundInLogs : List Stage → List (List ℕ) → LogsFault → Type 0
+IsFoundInLogs first logs found =
+    ((found.log ≡ None) × stage.IsFoundIn first found.fault)
+    ⊎ ((first_decided first ≡ None) × IsFoundFrom 0 logs found)
+
+-- where neither the first stages nor the logs decide a fault, what was made is right, and else the
+-- fault is found in them
+abbrev pub JudgesLogs : {X : Type 0} → List Stage → List (List ℕ) → (X → Type 0)
+    → Result X LogsFault → Type 0
+JudgesLogs first logs P (Ok made) = (first_decided first ≡ None) × AreValidLogs logs × P made
+JudgesLogs first logs P (Err found) = IsFoundInLogs first logs found
+
+-- a failing writer got a prefix of a right output, or a fault was found in the inputs and nothing
+-- is written
+abbrev pub EndsLogsBy : LogsFault → List Stage → List (List ℕ) → (List ℕ → Type 0)
+    → Option (List ℕ) → Option (List ℕ) → Type 0
+EndsLogsBy found first logs IsOutput old new =
+    ((found ≡ at_none fault.Write) × (first_decided first ≡ None) × AreValidLogs logs
+    × WritesPrefix IsOutput old new)
+    ⊎ (IsFoundInLogs first logs found × Keeps old new)
+
+-- what a run leaves: a right output, where no fault is decided, or what its fault leaves
+abbrev pub RunsLogs : List Stage → List (List ℕ) → (List ℕ → Type 0)
+    → Option (List ℕ) → Option (List ℕ) → Result (Unit {0}) LogsFault → Type 0
+RunsLogs first logs IsOutput old new (Ok done) =
+    (first_decided first ≡ None) × AreValidLogs logs
+    × ((output : List ℕ) × IsOutput output × Appends old new output)
+RunsLogs first logs IsOutput old new (Err found) = EndsLogsBy found first logs IsOutput old new

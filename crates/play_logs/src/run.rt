@@ -1,0 +1,69 @@
+//! Runs over several logs: from readers of the inputs to a writer of the output.
+
+ghost use Rattle.std.specs.Prelude.{◌≡◌, ℕ, List, [], None, map};
+ghost use Rattle.std.specs.List.{AllZip};
+ghost use Rattle.cave_play.specs.Input.{Says};
+ghost use Rattle.cave_play.specs.Judge.{large_seed};
+ghost use Rattle.play_logs.specs.Faults.{JudgesLogs, RunsLogs, first_stages};
+ghost use Rattle.play_logs.specs.Noted.{IsReported, games_of};
+
+use crate::fault::LogsFault;
+use crate::notes::PlayNotes;
+use crate::plays::note_logs;
+use cave_play::inputs::CaveReaders;
+use cave_play::judge::{check_seed, read_cave};
+use cave_play::machine::CaveMachine;
+use cave_play::output::write_output;
+use cave_play::{Cave, Lexicon};
+use std::alloc::Global;
+use std::io::{Read, Write};
+
+/// Plays logs, each by itself from its first line, and writes the report on what is noted of their
+/// plays, once it is whole.
+pub fn run_logs<N: PlayNotes, C: Read, B: Read, L: Read, W: Write>(
+    alloc: Global,
+    cave: &mut CaveReaders<C, B>,
+    logs: &mut [L],
+    seed: u32,
+    view: N::View,
+    output: &mut W,
+) -> Result<(), LogsFault>
+    ensures runs { (database : List ℕ) × (bindings : List ℕ) × (moves : List (List ℕ))
+        × Says (C.remaining cave.old.database) database
+        × Says (B.remaining cave.old.bindings) bindings
+        × AllZip Says (map L.remaining logs.old) moves
+        × RunsLogs (first_stages database bindings seed) moves
+        (IsReported N.report_on database bindings moves seed view)
+        (W.contents output.old) (W.contents output.new) result }
+{
+    check_seed(seed)?;
+    let cave = read_cave(alloc, cave)?;
+    let made = report_in_cave::<N, L>(alloc, &cave, logs, seed, view);
+    // By a call, as in other runs: the checker goes through the tables of a cave in one place.
+    drop(cave);
+    let text = made?;
+    write_output(output, &text)?;
+    Ok(())
+}
+
+/// The report on logs in a cave.
+fn report_in_cave<N: PlayNotes, L: Read>(
+    alloc: Global,
+    cave: &Cave,
+    logs: &mut [L],
+    seed: u32,
+    view: N::View,
+) -> Result<Vec<u8>, LogsFault>
+    requires { large_seed seed ≡ None }
+    ensures judged { (moves : List (List ℕ)) × AllZip Says (map L.remaining logs.old) moves
+        × JudgesLogs [] moves
+        (λ text. text.items ≡ N.report_on cave.now view (games_of seed moves)) result }
+{
+    let lexicon = Lexicon::build(alloc, cave)?;
+    let machine = CaveMachine::new(cave, &lexicon);
+    let mut notes = N::none(alloc)?;
+    note_logs(alloc, machine, logs, seed, &mut notes)?;
+    let mut text = Vec::new(alloc);
+    notes.push_report(alloc, machine.cave(), view, logs.len(), &mut text)?;
+    Ok(text)
+}

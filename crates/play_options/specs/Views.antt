@@ -1,0 +1,23 @@
+-- What a check of a cave, a play of a log and the coverage of logs may print.
+use Rattle.std.specs.Prelude.{ℕ, List, bytes_eq, codes, if◌then◌else◌, Option, Some, None}
+use Rattle.play_options.specs.declared.views.CheckView.{CheckView}
+use Rattle.play_options.specs.declared.views.CheckView.TheVariants.{Maximum, Bindings}
+use Rattle.play_options.specs.declared.views.CoverView.{CoverView}
+use Rattle.play_options.specs.declared.views.CoverView.TheVariants.{Counts, Texts}
+use Rattle.play_options.specs.declared.views.PlayView.{PlayView}
+use Rattle.play_options.specs.declared.views.PlayView.TheVariants.{Transcript, FinalState}
+
+abbrev pub check_view_named : List ℕ → Option CheckView
+check_view_named name =
+    if bytes_eq name (codes "maximum") then Some Maximum
+    else (if bytes_eq name (codes "bindings") then Some Bindings else None)
+
+abbrev pub cover_view_named : List ℕ → Option CoverView
+cover_view_named name =
+    if bytes_eq name (codes "counts") then Some Counts
+    else (if bytes_eq name (codes "texts") then Some Texts else None)
+
+abbrev pub play_view_named : List ℕ → Option PlayView
+play_view_named name =
+    if bytes_eq name (codes "transcript") then Some Transcript
+    else (if bytes_eq name (codes "state") then Some FinalState else None)

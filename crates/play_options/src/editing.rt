@@ -1,0 +1,46 @@
+ghost use Rattle.std.specs.Prelude.{◌≡◌};
+ghost use Rattle.play_options.specs.Editing.{edit_view_named};
+
+/// What an edit of a log prints.
+#[derive(Clone, Copy, Debug, PartialEq, Eq)]
+pub enum EditView {
+    /// Whether each edit was accepted, and what playing the edited log prints.
+    Transcript,
+    /// What playing the edited log prints.
+    Play,
+    /// The lines of the edited log.
+    Log,
+    /// What each edit replayed.
+    Reports,
+    /// The state that the edited log leads to.
+    FinalState,
+}
+
+impl EditView {
+    /// The view of a name, if it is the name of one.
+    pub fn named(name: &str) -> Option<EditView>
+        ensures { result ≡ edit_view_named name.now }
+    {
+        match name {
+            "transcript" => Some(EditView::Transcript),
+            "play" => Some(EditView::Play),
+            "log" => Some(EditView::Log),
+            "reports" => Some(EditView::Reports),
+            "state" => Some(EditView::FinalState),
+            _ => None,
+        }
+    }
+}
+
+/// How a log is edited.
+#[derive(Clone, Copy, Debug, PartialEq, Eq)]
+pub struct Editing {
+    /// Where the random numbers begin.
+    pub seed: u32,
+    /// The most lines between two checkpoints.
+    pub every: u32,
+    /// What is printed.
+    pub view: EditView,
+    /// Whether nothing is printed where an edit is refused.
+    pub strict: bool,
+}

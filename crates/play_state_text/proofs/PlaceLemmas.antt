@@ -1,0 +1,168 @@
+-- What is at places is read back from its lines.
+use Rattle.std.proofs.Common.{◌≡◌, ℕ, ◌+◌, ◌-◌, ◌≤◌, ◌<◌, Bool, true, false, List, [], ◌∷◌, ◌++◌}
+use Rattle.std.proofs.Common.{refl, sym, ◌∙◌, arith, append_assoc, subst, ◌⊎◌, inl, inr}
+use Rattle.std.specs.Prelude.{◌==◌, codes}
+use Rattle.std.specs.Bool.{Decides}
+use Rattle.std.specs.Cmp.{unsigned_Decides}
+use Rattle.std.specs.Cmp.Lexicographic.{pointwise, pointwise_decides}
+use Rattle.std.specs.Fmt.{decimal}
+use Rattle.std.proofs.lemmas.Bool.{false≢true, cases_lt}
+use Rattle.std.proofs.lemmas.List.{append_cancel_left}
+use Rattle.cave_world.specs.world_objects.Halves.{half_number, object_of}
+use Rattle.cave_world.specs.world_objects.Layout.{Layout}
+use Rattle.cave_world.specs.world_objects.Links.{AreEntriesWithin}
+use Rattle.cave_world.specs.world_objects.Lists.{AreLists, halves_at}
+use Rattle.cave_world.specs.world_objects.declared.lists.PlacedHalf.{PlacedHalf}
+use Rattle.cave_world.specs.world_objects.declared.object.Half.{Half}
+use Rattle.cave_world.specs.world_objects.declared.object.Half.TheVariants.{First, Second}
+use Rattle.cave_world.specs.world_objects.contracts.object.HalfPartialEq.TheImpl as half_eq
+use Rattle.play_state_text.specs.Entries.{text_up_to}
+use Rattle.play_state_text.specs.Numbers.{IsWide, IsUpTo}
+use Rattle.play_state_text.specs.Things.{half_text, each_half, halves_text, place_line}
+use Rattle.play_state_text.specs.Within.{AreObjectsWithin}
+use Rattle.play_state_text.proofs.EntryLemmas.{IsPast, entries_read}
+use Rattle.play_state_text.proofs.Reading.{GoesOn, number_first, number_read, after_name, differ}
+use Rattle.play_state_text.proofs.Reading.{peel}
+use Rattle.play_state_text.proofs.ListedLemmas.{not_zero, unequal}
+use Rattle.play_state_text.specs.Facts.{numbered_text}
+
+half_decides : (a b : Half) → Decides (half_eq.eq-value.it a b) (a ≡ b)
+half_decides (First x) (First y) =
+    (λ e i. First ((unsigned_Decides x y).0 e i), λ e. (unsigned_Decides x y).1 cc)
+half_decides (Second x) (Second y) =
+    (λ e i. Second ((unsigned_Decides x y).0 e i), λ e. (unsigned_Decides x y).1 cc)
+half_decides _ _ = (λ e. absurd (false≢true e), λ e. cc)
+
+abbrev AreHalvesWithin : List Half → Type 0
+AreHalvesWithin [] = Unit {0}
+AreHalvesWithin (half ∷ halves) = IsWide (object_of half) × AreHalvesWithin halves
+
+half_read : (a b : Half) (s t : List ℕ) → IsWide (object_of a) → IsWide (object_of b)
+    → GoesOn s → GoesOn t → half_text a ++ s ≡ half_text b ++ t → (a ≡ b) × (s ≡ t)
+unfolding numbered_text
+half_read (First m) (First n) s t ha hb g h e =
+    let number = number_read m n s t ha hb g h (after_name (codes " ") _ _ s t e) in
+    (λ i. First (number.0 i), number.1)
+half_read (Second m) (Second n) s t ha hb g h e =
+    let number = number_read m n s t ha hb g h (after_name (codes " also ") _ _ s t e) in
+    (λ i. Second (number.0 i), number.1)
+half_read (First m) (Second n) s t ha hb g h e =
+    let rest = after_name (codes " ") (decimal m) (codes "also " ++ decimal n) s t e in
+    absurd (number_first m 97 s (codes "lso " ++ (decimal n ++ t)) ha refl rest)
+half_read (Second m) (First n) s t ha hb g h e =
+    let rest = after_name (codes " ") (codes "also " ++ decimal m) (decimal n) s t e in
+    absurd (number_first n 97 t (codes "lso " ++ (decimal m ++ s)) hb refl (sym rest))
+
+halves_go_on : (halves : List Half) (s : List ℕ) → GoesOn (each_half halves ++ (codes "\n" ++ s))
+unfolding numbered_text
+halves_go_on [] s = refl
+halves_go_on (First x ∷ halves) s = refl
+halves_go_on (Second x ∷ halves) s = refl
+
+each_read : (xs ys : List Half) (s t : List ℕ) → AreHalvesWithin xs → AreHalvesWithin ys
+    → each_half xs ++ (codes "\n" ++ s) ≡ each_half ys ++ (codes "\n" ++ t) → (xs ≡ ys) × (s ≡ t)
+unfolding numbered_text
+each_read [] [] s t ha hb e = (refl, append_cancel_left (codes "\n") s t e)
+each_read [] (First b ∷ ys) s t ha hb e = absurd (false≢true (differ 0 _ _ e))
+each_read [] (Second b ∷ ys) s t ha hb e = absurd (false≢true (differ 0 _ _ e))
+each_read (First a ∷ xs) [] s t ha hb e = absurd (false≢true (differ 0 _ _ e))
+each_read (Second a ∷ xs) [] s t ha hb e = absurd (false≢true (differ 0 _ _ e))
+each_read (a ∷ xs) (b ∷ ys) s t ha hb e =
+    let first =
+    half_read a b _ _ ha.0 hb.0 (halves_go_on xs s) (halves_go_on ys t)
+    (peel (half_text a) (half_text b) (each_half xs) (each_half ys) (codes "\n" ++ s)
+    (codes "\n" ++ t) e) in
+    let rest = each_read xs ys s t ha.1 hb.1 first.1 in
+    (λ i. first.0 i ∷ rest.0 i, rest.1)
+
+not_nothing : (a : Half) (xs : List Half) (s t : List ℕ) → IsWide (object_of a)
+    → halves_text (a ∷ xs) ++ s ≡ codes " nothing\n" ++ t → ⊥
+unfolding numbered_text
+not_nothing (First m) xs s t h e =
+    let lists =
+    sym (append_assoc (half_text (First m)) (each_half xs) (codes "\n" ++ s))
+    ∙ (sym (append_assoc (half_text (First m) ++ each_half xs) (codes "\n") s) ∙ e) in
+    number_first m 110 _ _ h refl
+    (after_name (codes " ") (decimal m) (codes "nothing\n") (each_half xs ++ (codes "\n" ++ s)) t
+    lists)
+not_nothing (Second m) xs s t h e = false≢true (differ 1 _ _ e)
+
+halves_read : (xs ys : List Half) (s t : List ℕ) → AreHalvesWithin xs → AreHalvesWithin ys
+    → halves_text xs ++ s ≡ halves_text ys ++ t → (xs ≡ ys) × (s ≡ t)
+halves_read [] [] s t ha hb e = (refl, append_cancel_left (codes " nothing\n") s t e)
+halves_read (a ∷ xs) (b ∷ ys) s t ha hb e =
+    each_read (a ∷ xs) (b ∷ ys) s t ha hb
+    (peel (each_half (a ∷ xs)) (each_half (b ∷ ys)) (codes "\n") (codes "\n") s t e)
+halves_read [] (b ∷ ys) s t ha hb e = absurd (not_nothing b ys t s hb.0 (sym e))
+halves_read (a ∷ xs) [] s t ha hb e = absurd (not_nothing a xs s t ha.0 e)
+
+object_within : (half : Half) → half_number half ≤ 200 → IsWide (object_of half)
+object_within (First x) h = omega (arith, h)
+object_within (Second x) h = omega (arith, h)
+
+more_halves : (place : ℕ) (e : PlacedHalf) (es : List PlacedHalf) (b : Bool) → e.place == place ≡ b
+    → IsWide (object_of e.half) → AreHalvesWithin (halves_at place es)
+    → AreHalvesWithin (halves_at place (e ∷ es))
+more_halves place e es true here h rest = rw here (h, rest)
+more_halves place e es false here h rest = rw here rest
+
+halves_of_lists : (place : ℕ) (es : List PlacedHalf) → AreLists es
+    → AreHalvesWithin (halves_at place es)
+halves_of_lists place [] l = tt
+halves_of_lists place (e ∷ es) l =
+    more_halves place e es (e.place == place) refl (object_within e.half l.1.0)
+    (halves_of_lists place es l.1.1.1.1)
+
+-- nothing is at a place after the last
+past_places : (place : ℕ) (es : List PlacedHalf) → AreEntriesWithin es → 300 < place
+    → halves_at place es ≡ []
+past_places place [] w h = refl
+past_places place (e ∷ es) w h =
+    let other : e.place == place ≡ false = unequal e.place place (omega (arith, w.0.0, h)) in
+    rw other (past_places place es w.1 h)
+
+-- nothing is at place 0
+no_place : (es : List PlacedHalf) → AreLists es → halves_at 0 es ≡ []
+no_place [] l = refl
+no_place (e ∷ es) l =
+    let other : e.place == 0 ≡ false = not_zero e.place l.0.1 in
+    rw other (no_place es l.1.1.1.1)
+
+abbrev AreSameAt : Layout → Layout → ℕ → Type 0
+AreSameAt o p place = halves_at place o.lists ≡ halves_at place p.lists
+
+as_begun : (begun o : Layout) (place : ℕ)
+    → pointwise half_eq.eq-value.it (halves_at place o.lists) (halves_at place begun.lists) ≡ true
+    → AreSameAt o begun place
+as_begun begun o place e =
+    (pointwise_decides half_decides (halves_at place o.lists) (halves_at place begun.lists)).0 e
+
+pub places_read : (begun o p : Layout) (s t : List ℕ) → AreObjectsWithin o → AreObjectsWithin p
+    → IsPast (codes "place ") 300 s → IsPast (codes "place ") 300 t
+    → text_up_to (place_line begun o) 300 ++ s ≡ text_up_to (place_line begun p) 300 ++ t
+    → ((place : ℕ) → AreSameAt o p place) × (s ≡ t)
+unfolding place_line
+places_read begun o p s t ho hp past other e =
+    let same : Layout → ℕ → Bool =
+    λ l place. pointwise half_eq.eq-value.it (halves_at place l.lists) (halves_at place begun.lists)
+    in
+    let read =
+    entries_read (codes "place ") (same o) (same p) (λ place. halves_text (halves_at place o.lists))
+    (λ place. halves_text (halves_at place p.lists)) (AreSameAt o p) 300 s t (omega arith)
+    (λ place up. (
+      λ here there.
+          as_begun begun o place here ∙ sym (as_begun begun p place there),
+      λ u v. halves_read (halves_at place o.lists) (halves_at place p.lists) u v
+          (halves_of_lists place o.lists ho.lists) (halves_of_lists place p.lists hp.lists),
+    ))
+    past other e in
+    (λ place. everywhere place read.0 (cases_lt 300 place) (cases_lt 0 place), read.1)
+  where
+    everywhere : (place : ℕ) → ((q : ℕ) → IsUpTo 300 q → AreSameAt o p q)
+        → (300 < place) ⊎ (place ≤ 300) → (0 < place) ⊎ (place ≤ 0) → AreSameAt o p place
+    everywhere place each (inl more) low =
+        past_places place o.lists ho.entries more ∙ sym (past_places place p.lists hp.entries more)
+    everywhere place each (inr less) (inl some) = each place (some, less)
+    everywhere place each (inr less) (inr none) =
+        let is : 0 ≡ place = omega (arith, none) in
+        subst (AreSameAt o p) is (no_place o.lists ho.lists ∙ sym (no_place p.lists hp.lists))

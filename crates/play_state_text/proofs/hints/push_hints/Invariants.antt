@@ -1,0 +1,9 @@
+-- The lines so far are written.
+use Rattle.std.proofs.Common.{◌≡◌, ◌++◌}
+use Rattle.play_state_text.specs.Entries.{text_up_to}
+use Rattle.play_state_text.specs.Things.{hint_line}
+use Rattle.play_state_text.proofs.hints.push_hints.Given as goal
+
+abbrev pub invariant-loop-before : goal.invariant-loop-before
+invariant-loop-before l =
+    l.text.items ≡ l.initial.text.items ++ text_up_to (hint_line l.state) l.before

@@ -1,0 +1,37 @@
+-- The text of a state, one fact a line.
+use Rattle.std.specs.Prelude.{ℕ, List, ◌++◌, codes}
+use Rattle.cave_world.specs.data_numbers.Numbers.{LAST_HINT, LAST_OBJECT, LAST_PLACE}
+use Rattle.cave_world.specs.cave_data.CaveView.{CaveView}
+use Rattle.cave_world.specs.world_objects.Layout.{Layout}
+use Rattle.cave_world.specs.Dwarves.{dwarf_count}
+use Rattle.cave_world.specs.declared.state.State.{State}
+use Rattle.play_state_text.specs.Entries.{text_up_to}
+use Rattle.play_state_text.specs.Facts.{counts_text, trail_text, question_text, end_line, lamp_text}
+use Rattle.play_state_text.specs.Facts.{closing_text, tallies_text, talk_text, anger_text}
+use Rattle.play_state_text.specs.Facts.{knife_text, numbered_line}
+use Rattle.play_state_text.specs.Things.{thing_line, place_line, visits_line, dwarf_line, hint_line}
+
+-- where the game is
+abbrev pub game_text : State → List ℕ
+game_text s =
+    trail_text s.trail ++ (question_text s.question ++ (end_line s.ending
+    ++ (lamp_text s.lamp ++ (closing_text s.closing ++ tallies_text s.tallies))))
+
+-- the objects, what is remembered of what was said, and what is at places
+abbrev pub objects_text : CaveView → Layout → State → List ℕ
+objects_text cave begun s =
+    text_up_to (thing_line cave begun s.objects) LAST_OBJECT
+    ++ (talk_text s.talk ++ text_up_to (place_line begun s.objects) LAST_PLACE)
+
+-- the dwarves, the hints, the random stream, and how often places were described
+abbrev pub rest_text : State → List ℕ
+rest_text s =
+    anger_text s.dwarves ++ (text_up_to (dwarf_line s) dwarf_count ++ (knife_text s.dwarves.knife
+    ++ (text_up_to (hint_line s) LAST_HINT
+    ++ (numbered_line (codes "stream ") s.stream ++ text_up_to (visits_line s) LAST_PLACE))))
+
+-- the text of a state after so many turns and with this score, in a cave where objects begin thus
+unfoldable pub state_text : CaveView → Layout → ℕ → ℕ → State → List ℕ
+state_text cave begun turns score s =
+    counts_text turns score
+    ++ (game_text s ++ (objects_text cave begun s ++ rest_text s))

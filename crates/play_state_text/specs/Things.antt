@@ -1,0 +1,111 @@
+-- Lines for what there is more than once in a state: objects, places, dwarves, hints.
+use Rattle.std.specs.Prelude.{ℕ, ◌+◌, ◌-◌, Bool, false, ◌==◌, ◌&&◌, not, List, [], ◌∷◌, ◌++◌, codes}
+use Rattle.std.specs.Prelude.{unwrap_or, slice_index_or}
+use Rattle.std.specs.Ordering.{int_eq}
+use Rattle.std.specs.Cmp.Lexicographic.{pointwise}
+use Rattle.cave_world.specs.data_rows.Rows.{WORDS_PER_CLASS}
+use Rattle.cave_world.specs.cave_data.CaveView.{CaveView, first_word}
+use Rattle.cave_world.specs.world_objects.Layout.{Layout}
+use Rattle.cave_world.specs.world_objects.Lists.{halves_at}
+use Rattle.cave_world.specs.world_objects.Objects.{spot_of, anchor_of, prop_of}
+use Rattle.cave_world.specs.world_objects.declared.object.Half.{Half}
+use Rattle.cave_world.specs.world_objects.declared.object.Half.TheVariants.{First, Second}
+use Rattle.cave_world.specs.world_objects.declared.spot.Spot.{Spot}
+use Rattle.cave_world.specs.world_objects.declared.spot.Spot.TheVariants as spot
+use Rattle.cave_world.specs.world_objects.declared.spot.Anchor.{Anchor}
+use Rattle.cave_world.specs.world_objects.declared.spot.Anchor.TheVariants as anchor
+use Rattle.cave_world.specs.world_objects.contracts.object.HalfPartialEq.TheImpl as half_eq
+use Rattle.cave_world.specs.world_objects.contracts.spot.SpotPartialEq.TheImpl as spot_eq
+use Rattle.cave_world.specs.world_objects.contracts.spot.AnchorPartialEq.TheImpl as anchor_eq
+use Rattle.cave_world.specs.Fresh.{no_dwarf}
+use Rattle.cave_world.specs.State.{visits_of, turns_in_area, is_hint_taken}
+use Rattle.cave_world.specs.declared.dwarves.Dwarf.{Dwarf}
+use Rattle.cave_world.specs.declared.state.State.{State}
+use Rattle.play_state_text.specs.Entries.{entry}
+use Rattle.play_state_text.specs.Facts.{numbered_text, numbered_line, signed_line, answer_line}
+
+-- ---- objects
+
+-- the first word of an object in the cave, or a dash where it has none
+unfoldable pub word_of_object : CaveView → ℕ → List ℕ
+word_of_object cave x = unwrap_or (first_word cave.words (WORDS_PER_CLASS + x)) (codes "-")
+
+abbrev pub spot_text : Spot → List ℕ
+spot_text spot.Away = codes " away"
+spot_text spot.Carried = codes " carried"
+spot_text (spot.At place) = numbered_text (codes " at ") place
+
+abbrev pub anchor_text : Anchor → List ℕ
+anchor_text anchor.Loose = []
+anchor_text anchor.Fixed = codes ", fixed"
+anchor_text (anchor.At place) = numbered_text (codes ", also at ") place
+
+-- an object is as another layout has it
+abbrev pub is_as_in : Layout → Layout → ℕ → Bool
+is_as_in begun o x =
+    spot_eq.eq-value.it (spot_of o x) (spot_of begun x)
+    && (anchor_eq.eq-value.it (anchor_of o x) (anchor_of begun x)
+    && int_eq (prop_of o x) (prop_of begun x))
+
+-- the word of an object, where it is, what holds it there, and its prop
+unfoldable pub thing_text : CaveView → Layout → ℕ → List ℕ
+thing_text cave o x =
+    codes " " ++ (word_of_object cave x ++ (spot_text (spot_of o x)
+    ++ (anchor_text (anchor_of o x) ++ signed_line (codes ", prop ") (prop_of o x))))
+
+-- an object, where it isn't as it was when the game began
+unfoldable pub thing_line : CaveView → Layout → Layout → ℕ → List ℕ
+thing_line cave begun o x =
+    entry (codes "object ") (is_as_in begun o x) x (thing_text cave o x)
+
+-- ---- what is at places
+
+-- a half by the number of its object
+abbrev pub half_text : Half → List ℕ
+half_text (First x) = numbered_text (codes " ") x
+half_text (Second x) = numbered_text (codes " also ") x
+
+abbrev pub each_half : List Half → List ℕ
+each_half [] = []
+each_half (half ∷ halves) = half_text half ++ each_half halves
+
+abbrev pub halves_text : List Half → List ℕ
+halves_text [] = codes " nothing\n"
+halves_text (half ∷ halves) = each_half (half ∷ halves) ++ codes "\n"
+
+-- the list of a place, latest first, where it isn't as it was when the game began
+unfoldable pub place_line : Layout → Layout → ℕ → List ℕ
+place_line begun o place =
+    entry (codes "place ")
+    (pointwise half_eq.eq-value.it (halves_at place o.lists) (halves_at place begun.lists)) place
+    (halves_text (halves_at place o.lists))
+
+-- how often a place was described, where it was
+unfoldable pub visits_line : State → ℕ → List ℕ
+visits_line s place =
+    entry (codes "visits ") (visits_of s place == 0) place
+    (numbered_line (codes " ") (visits_of s place))
+
+-- ---- dwarves and hints
+
+abbrev pub dwarf_numbered : State → ℕ → Dwarf
+dwarf_numbered s number = slice_index_or s.dwarves.each (number - 1) no_dwarf
+
+unfoldable pub dwarf_text : Dwarf → List ℕ
+dwarf_text dwarf =
+    numbered_text (codes " at ") dwarf.place
+    ++ (numbered_text (codes ", was at ") dwarf.last
+    ++ answer_line (codes ", has seen the player ") dwarf.has_seen)
+
+unfoldable pub dwarf_line : State → ℕ → List ℕ
+dwarf_line s number = entry (codes "dwarf ") false number (dwarf_text (dwarf_numbered s number))
+
+unfoldable pub hint_text : ℕ → Bool → List ℕ
+hint_text turns is_taken =
+    numbered_text (codes " waited ") turns ++ answer_line (codes ", taken ") is_taken
+
+-- a hint that was waited for or taken
+unfoldable pub hint_line : State → ℕ → List ℕ
+hint_line s hint =
+    entry (codes "hint ") (turns_in_area s hint == 0 && not (is_hint_taken s hint)) hint
+    (hint_text (turns_in_area s hint) (is_hint_taken s hint))

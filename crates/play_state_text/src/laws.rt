@@ -1,0 +1,14 @@
+//! The law of the text of a state. It is the contract of a function that changes nothing.
+
+ghost use Rattle.play_state_text.specs.Laws.{AreToldApart};
+
+use crate::within::is_within;
+use cave_world::{Cave, Objects, State};
+
+/// Two states of one cave are written alike only where they are the same state.
+pub fn are_told_apart(cave: &Cave, begun: &Objects, first: &State, second: &State)
+    ensures { AreToldApart cave.now begun.now first.now second.now }
+{
+    is_within(first);
+    is_within(second);
+}

@@ -1,0 +1,113 @@
+//! Lines for objects.
+
+ghost use Rattle.std.specs.Prelude.{◌≡◌, ◌++◌, OnOk};
+ghost use Rattle.cave_world.specs.data_numbers.Numbers.{LAST_OBJECT};
+ghost use Rattle.play_state_text.specs.Entries.{text_up_to};
+ghost use Rattle.play_state_text.specs.Things.{word_of_object, spot_text, anchor_text, is_as_in};
+ghost use Rattle.play_state_text.specs.Things.{thing_text, thing_line};
+
+use crate::facts::{push_numbered, push_signed, push_start};
+use cave_world::{Anchor, Cave, OBJECTS, Object, Objects, Spot, WORDS_PER_CLASS};
+use std::alloc::{AllocError, Global};
+
+/// The first word of an object, or a dash where it has none.
+#[tactic(auto, unfolding(crate::specs::Things::word_of_object))]
+fn word_of_object(cave: &Cave, object: Object) -> &[u8]
+    ensures { result.now ≡ word_of_object cave.now object }
+{
+    let number = WORDS_PER_CLASS + u16::from(object.number());
+    cave.words().first_word(number).unwrap_or(b"-")
+}
+
+fn push_spot(alloc: Global, text: &mut Vec<u8>, spot: Spot) -> Result<(), AllocError>
+    ensures { OnOk result (text.new.items ≡ text.old.items ++ spot_text spot) }
+{
+    match spot {
+        Spot::Away => text.extend_from_slice(b" away"),
+        Spot::Carried => text.extend_from_slice(b" carried"),
+        Spot::At(site) => { push_numbered(alloc, text, " at ", u32::from(site.place().number())) }
+    }
+}
+
+fn push_anchor(alloc: Global, text: &mut Vec<u8>, anchor: Anchor) -> Result<(), AllocError>
+    ensures { OnOk result (text.new.items ≡ text.old.items ++ anchor_text anchor) }
+{
+    match anchor {
+        Anchor::Loose => Ok(()),
+        Anchor::Fixed => text.extend_from_slice(b", fixed"),
+        Anchor::At(site) => {
+            push_numbered(alloc, text, ", also at ", u32::from(site.place().number()))
+        }
+    }
+}
+
+/// Whether an object is as others have it.
+fn is_as_in(begun: &Objects, objects: &Objects, object: Object) -> bool
+    ensures { result ≡ is_as_in begun.now objects.now object }
+{
+    objects.spot(object) == begun.spot(object)
+        && objects.anchor(object) == begun.anchor(object)
+        && objects.prop(object).value() == begun.prop(object).value()
+}
+
+/// Appends the word of an object, where it is, what holds it there, and its prop.
+#[tactic(auto, unfolding(crate::specs::Things::thing_text))]
+fn push_thing(
+    alloc: Global,
+    text: &mut Vec<u8>,
+    cave: &Cave,
+    objects: &Objects,
+    object: Object,
+) -> Result<(), AllocError>
+    ensures { OnOk result (text.new.items ≡ text.old.items
+        ++ thing_text cave.now objects.now object) }
+{
+    text.extend_from_slice(b" ")?;
+    text.extend_from_slice(word_of_object(cave, object))?;
+    push_spot(alloc, text, objects.spot(object))?;
+    push_anchor(alloc, text, objects.anchor(object))?;
+    push_signed(
+        alloc,
+        text,
+        ", prop ",
+        i32::from(objects.prop(object).value()),
+    )
+}
+
+/// Appends the line of an object, if it isn't as it was when the game began.
+#[tactic(auto, unfolding(crate::specs::Things::thing_line))]
+fn push_thing_line(
+    alloc: Global,
+    text: &mut Vec<u8>,
+    cave: &Cave,
+    begun: &Objects,
+    objects: &Objects,
+    object: Object,
+) -> Result<(), AllocError>
+    ensures { OnOk result (text.new.items ≡ text.old.items
+        ++ thing_line cave.now begun.now objects.now object) }
+{
+    if is_as_in(begun, objects, object) {
+        return Ok(());
+    }
+    push_start(alloc, text, "object ", u32::from(object.number()))?;
+    push_thing(alloc, text, cave, objects, object)
+}
+
+/// Appends the lines of objects that aren't as they were when the game began.
+#[tactic(auto, using(crate::proofs::EntryLemmas::no_lines))]
+pub(crate) fn push_objects(
+    alloc: Global,
+    text: &mut Vec<u8>,
+    cave: &Cave,
+    begun: &Objects,
+    objects: &Objects,
+) -> Result<(), AllocError>
+    ensures { OnOk result (text.new.items ≡ text.old.items
+        ++ text_up_to (thing_line cave.now begun.now objects.now) LAST_OBJECT) }
+{
+    for before in 0..OBJECTS as u8 {
+        push_thing_line(alloc, text, cave, begun, objects, Object::new(before + 1))?;
+    }
+    Ok(())
+}

@@ -1,0 +1,101 @@
+-- The first fault of an edit, and of a group of edits.
+use Rattle.std.specs.Prelude.{◌≡◌, ℕ, ◌+◌, ◌-◌, ◌^◌, not, nat_lt, nat_le, if◌then◌else◌, List, []}
+use Rattle.std.specs.Prelude.{◌∷◌, length, Option, None, Some, MatchOption, IfErr, Result, Err}
+use Rattle.base_lines.specs.Line.{is_line}
+use Rattle.replay_edits.specs.declared.fault.EditFault.{EditFault}
+use Rattle.replay_edits.specs.declared.fault.EditFault.TheVariants.{NoSuchPlace, BadLine, LogFull}
+use Rattle.replay_edits.specs.declared.fault.EditFault.TheVariants.{BadSeed, MeterFull, EmptyGroup}
+use Rattle.replay_edits.specs.declared.fault.EditFault.TheVariants.{Memory}
+use Rattle.replay_edits.specs.declared.fault.GroupFault.{GroupFault}
+use Rattle.base_lines.specs.base_limits.Limits.{MAX_LOG_LINES, MAX_SEED}
+use Rattle.replay_edits.specs.Game.{Game}
+use Rattle.replay_edits.specs.Edit.{Change, inserts, deletes, replaces, reseeds, log_after}
+use Rattle.replay_edits.specs.Edit.{apply_all, inverses_of}
+
+-- a fault of a seed
+abbrev pub reseed_fault : ℕ → Option EditFault
+reseed_fault seed = if nat_lt MAX_SEED seed then Some BadSeed else None
+
+-- the first fault of a line that comes in the place of another
+abbrev pub replaced_fault : List ℕ → Option EditFault
+replaced_fault line = if is_line line then None else Some BadLine
+
+-- the first fault of a line that is added to a log
+abbrev pub added_fault : List ℕ → List (List ℕ) → Option EditFault
+added_fault line log =
+    if not (is_line line) then Some BadLine
+    else (if nat_le MAX_LOG_LINES (length log) then Some LogFull else None)
+
+-- the first fault that a change meets in a log, memory and the meter aside
+abbrev pub fault_of : Change → List (List ℕ) → Option EditFault
+fault_of (inserts place line) log =
+    if nat_lt (length log) place then Some NoSuchPlace else added_fault line log
+fault_of (deletes place) log = if nat_le (length log) place then Some NoSuchPlace else None
+fault_of (replaces place line) log =
+    if nat_le (length log) place then Some NoSuchPlace else replaced_fault line
+fault_of (reseeds seed) log = reseed_fault seed
+
+-- a fault, with the number of the change that met it, or else the fault of a later one
+abbrev pub first_of_two : Option EditFault → ℕ → Option GroupFault → Option GroupFault
+first_of_two (Some cause) number later = Some (record { cause = cause; number = number })
+first_of_two None number later = later
+
+-- the first fault that one of several changes meets in the log as those before it left it; they are
+-- numbered from `number` on
+abbrev pub fault_of_all : List Change → List (List ℕ) → ℕ → Option GroupFault
+fault_of_all [] log number = None
+fault_of_all (change ∷ changes) log number =
+    first_of_two (fault_of change log) number
+    (fault_of_all changes (log_after change log) (number + 1))
+
+-- the log after several changes
+abbrev pub log_after_all : List Change → List (List ℕ) → List (List ℕ)
+log_after_all [] log = log
+log_after_all (change ∷ changes) log = log_after_all changes (log_after change log)
+
+-- the fault of a group that was found, or else that the meter has no room for the new log
+abbrev pub or_group_meter_full : Option GroupFault → List (List ℕ) → ℕ → Option GroupFault
+or_group_meter_full (Some fault) log left = Some fault
+or_group_meter_full None log left =
+    if nat_lt left (length log) then Some (record { cause = MeterFull; number = 0 }) else None
+
+-- the fault of a group of changes of a log where the meter has so many steps left, memory aside
+abbrev pub group_fault : List Change → List (List ℕ) → ℕ → Option GroupFault
+group_fault [] log left = Some (record { cause = EmptyGroup; number = 0 })
+group_fault (change ∷ changes) log left =
+    or_group_meter_full (fault_of_all (change ∷ changes) log 0)
+    (log_after_all (change ∷ changes) log)
+    left
+
+-- A result is this fault, if there is one; else it is an error only by running out of memory.
+abbrev pub IsFaultOr : {A F : Type 0} → F → Option F → Result A F → Type 0
+IsFaultOr memory fault result =
+    MatchOption fault (IfErr result (λ refused. refused ≡ memory)) (λ found. result ≡ Err found)
+
+-- a group of edits is refused for this fault, if there is one
+abbrev pub IsAnswerTo : {A : Type 0} → Option GroupFault → Result A GroupFault → Type 0
+IsAnswerTo fault result = IsFaultOr (record { cause = Memory; number = 0 }) fault result
+
+-- one edit is refused for this fault, if there is one
+abbrev pub IsAnswerToEdit : {A : Type 0} → Option EditFault → Result A EditFault → Type 0
+IsAnswerToEdit fault result = IsFaultOr Memory fault result
+
+-- Changes take others back that were made in the game `old`: they are the inverses of these, meet
+-- no fault in the game `new`, and give the old one.
+pub record TakesBack (inverse changes : List Change) (old new : Game) : Type 0 where
+  pub inverses : inverse ≡ inverses_of changes old
+  pub accepted : fault_of_all inverse new.log 0 ≡ None
+  pub back : apply_all inverse new ≡ old
+
+-- how many steps a meter has left that has counted so many: it counts in 64 bits
+abbrev pub steps_left : ℕ → ℕ
+steps_left count = 2 ^ 64 - 1 - count
+
+-- the fault of one edit that was found, or else that the meter has no room for the new log
+abbrev pub or_edit_meter_full : Option EditFault → List (List ℕ) → ℕ → Option EditFault
+or_edit_meter_full (Some fault) log left = Some fault
+or_edit_meter_full None log left = if nat_lt left (length log) then Some MeterFull else None
+
+-- the fault of one change of a log where the meter has so many steps left, memory aside
+abbrev pub edit_fault : Change → List (List ℕ) → ℕ → Option EditFault
+edit_fault change log left = or_edit_meter_full (fault_of change log) (log_after change log) left

@@ -1,0 +1,61 @@
+ghost use Rattle.std.specs.Prelude.{◌≡◌};
+
+use std::alloc::AllocError;
+use std::fmt;
+use thiserror::Error;
+
+/// Why an edit was refused. The first of these that holds is answered; `EmptyGroup` is a group's
+/// alone and comes first.
+#[derive(Clone, Copy, Debug, Drop, PartialEq, Eq, Error)]
+pub enum EditFault {
+    #[error("the place is past the end of the log")]
+    NoSuchPlace,
+    #[error("the line is over 255 bytes or has a byte that is neither printable ASCII nor a tab")]
+    BadLine,
+    #[error("the log has 65535 lines already, and no more fit in")]
+    LogFull,
+    #[error("the seed is over 2147483647")]
+    BadSeed,
+    #[error("the meter has fewer steps left than the log would have lines")]
+    MeterFull,
+    #[error("there isn't enough memory")]
+    Memory,
+    #[error("the group has no edit")]
+    EmptyGroup,
+}
+
+/// Why a group of edits was refused, and which of its edits, from 0, met that. The number is 0
+/// where none is to blame.
+#[derive(Clone, Copy, Debug, Drop, PartialEq, Eq)]
+pub struct GroupFault {
+    pub cause: EditFault,
+    pub number: usize,
+}
+
+impl fmt::Display for GroupFault {
+    fn fmt<W: fmt::Write>(&self, f: &mut fmt::Formatter<W>) -> fmt::Result {
+        let GroupFault { cause, number } = *self;
+        match cause {
+            EditFault::NoSuchPlace | EditFault::BadLine | EditFault::LogFull | EditFault::BadSeed =>
+                write!(f, "edit {number} of the group, counted from 0: {cause}"),
+            EditFault::MeterFull | EditFault::Memory | EditFault::EmptyGroup => {
+                write!(f, "{cause}")
+            }
+        }
+    }
+}
+
+impl std::error::Error for GroupFault {}
+
+impl From<AllocError> for GroupFault {
+    ghost use Rattle.replay_edits.specs.declared.fault.EditFault.TheVariants.{Memory};
+
+    ghost from_gives = { λ _ fault. fault ≡ record { cause = Memory; number = 0 } };
+
+    fn from(_: AllocError) -> GroupFault {
+        GroupFault {
+            cause: EditFault::Memory,
+            number: 0,
+        }
+    }
+}

@@ -1,0 +1,22 @@
+//! Edits of a log of lines and of its seed: what they make of a game, what takes them back, and why
+//! they are refused.
+#![tactic(auto)]
+
+pub mod copies;
+pub mod edit;
+pub mod fault;
+pub mod line_text;
+pub mod margins;
+pub mod plan;
+pub mod trace;
+
+pub use base_lines::bytes::{is_all_blank, is_blank, number_of, split_digits};
+pub use base_lines::{
+    LineFlaw, Meter, Steps, is_bad_every, is_large_seed, is_long_log, is_long_number, is_skipped,
+    split_line, split_log_line, with_digit,
+};
+pub use edit::Edit;
+pub use fault::{EditFault, GroupFault};
+pub use line_text::LineText;
+pub use margins::Margins;
+pub use plan::Plan;

@@ -1,0 +1,64 @@
+ghost use Rattle.std.specs.Prelude.{◌≡◌};
+ghost use Rattle.replay_scripts.specs.declared.fault.ScriptRefusal.TheVariants.{Memory};
+
+use std::alloc::{AllocError, AllocFailed};
+use std::fmt;
+use thiserror::Error;
+
+/// What is said of a line that is no edit, where there is little room.
+const NO_EDIT: &str =
+    "expected `insert N TEXT`, `delete N`, `replace N TEXT`, `seed N`, `begin` or `end`";
+
+/// What is wrong with a line of a script.
+#[derive(Clone, Copy, Debug, PartialEq, Eq, Error)]
+pub enum Flaw {
+    #[error("{}, with one blank between the words and N of 1 to 10 digits", NO_EDIT)]
+    NoEdit,
+    #[error("`begin` inside a group: a group can't hold another")]
+    BeginInGroup,
+    #[error("`end` without a `begin` before it")]
+    EndOutsideGroup,
+    #[error("`begin` without an `end` after it")]
+    NoEnd,
+}
+
+/// Why a script was refused as a whole.
+#[derive(Clone, Copy, Debug, PartialEq, Eq)]
+pub enum ScriptRefusal {
+    /// The number, from 1, of the first malformed line, and what is wrong with it.
+    Malformed(usize, Flaw),
+    Memory,
+}
+
+/// Its text fits in an `anyhow::Error`, which has room for 120 bytes.
+impl fmt::Display for ScriptRefusal {
+    fn fmt<W: fmt::Write>(&self, f: &mut fmt::Formatter<W>) -> fmt::Result {
+        match *self {
+            ScriptRefusal::Malformed(line, Flaw::NoEdit) => {
+                write!(f, "line {line} of the script: {}", NO_EDIT)
+            }
+            ScriptRefusal::Malformed(line, flaw) => {
+                write!(f, "line {line} of the script: {flaw}")
+            }
+            ScriptRefusal::Memory => write!(f, "there isn't enough memory"),
+        }
+    }
+}
+
+impl std::error::Error for ScriptRefusal {}
+
+impl From<AllocError> for ScriptRefusal {
+    ghost from_gives = { λ _ fault. fault ≡ Memory };
+
+    fn from(_: AllocError) -> ScriptRefusal {
+        ScriptRefusal::Memory
+    }
+}
+
+impl<T: Drop> From<AllocFailed<T>> for ScriptRefusal {
+    ghost from_gives = { λ _ fault. fault ≡ Memory };
+
+    fn from(_: AllocFailed<T>) -> ScriptRefusal {
+        ScriptRefusal::Memory
+    }
+}

@@ -1,0 +1,22 @@
+//! Reading inputs, for what is wrong with them.
+
+use cave_data::{Cause, Cave, CaveError};
+use std::alloc::Global;
+
+/// The cave of the inputs. It promises nothing, so that tests which call it are proved without the
+/// facts of `Cave::read`.
+pub fn read(alloc: Global, database: &[u8], bindings: &[u8]) -> Result<Cave, CaveError> {
+    Cave::read(alloc, database, bindings)
+}
+
+/// Why the inputs are refused, and at which line; nothing where they are read.
+pub fn refusal(alloc: Global, database: &[u8], bindings: &[u8]) -> Option<(Cause, usize)> {
+    match read(alloc, database, bindings) {
+        Ok(cave) => {
+            // By a call: the check goes through the tables of a cave in one place then.
+            drop(cave);
+            None
+        }
+        Err(fault) => Some((fault.cause, fault.line)),
+    }
+}

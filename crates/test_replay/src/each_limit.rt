@@ -1,0 +1,122 @@
+//! The greatest logs, lines, distances and seeds, and those that are too great.
+
+use crate::edits::{LineChange, edits_of, flat, letters};
+use crate::machines::counter::Counter;
+use crate::machines::counts::Counts;
+use crate::machines::told::Told;
+use crate::play::{Counting, TestSession};
+use cave_replay::{EditFault, LineFlaw, Meter, OpenFault, Steps};
+use std::alloc::Global;
+use std::process::Abort;
+use std::test::Fail;
+
+/// Expects that a log isn't opened, and that no step is taken.
+fn expect_closed(
+    rt: &impl Abort,
+    alloc: Global,
+    seed: u32,
+    log: &[u8],
+    every: u32,
+    fault: OpenFault,
+) {
+    let counts = Counts::new();
+    let mut meter = Meter::new();
+    let opened = TestSession::open(
+        alloc,
+        Told::new(Counter, &counts),
+        seed,
+        log,
+        every,
+        &mut meter,
+    );
+    assert!(rt; opened.err() == Some(fault), "{fault:?}");
+    assert_eq!(rt; meter.used(), 0);
+    assert_eq!(rt; counts.steps(), 0);
+}
+
+#[test]
+fn the_first_fault_of_an_opening_is_told(rt: HostRuntime) -> Result<(), Fail> {
+    let full = flat(rt.alloc(), 65_536)?;
+    let long = letters(rt.alloc(), 256)?;
+    for (fault, log, every) in [
+        (OpenFault::BadEvery, b"\x01".as_slice(), 0),
+        (OpenFault::BadEvery, b"\x01".as_slice(), 10_001),
+        (
+            OpenFault::BadLine(2, LineFlaw::Byte(1, 1)),
+            b"ok\n\x01\n\x02".as_slice(),
+            10_000,
+        ),
+        (
+            OpenFault::BadLine(1, LineFlaw::Long(256)),
+            long.as_slice(),
+            1,
+        ),
+        (OpenFault::LogFull, full.as_slice(), 1),
+        (OpenFault::BadSeed, b"ok".as_slice(), 1),
+    ] {
+        expect_closed(&rt, rt.alloc(), 2_147_483_648, log, every, fault);
+    }
+    Ok(())
+}
+
+/// Edits that a full log refuses, by the lowest cause.
+const REFUSED: [(LineChange<'static>, EditFault); 7] = [
+    (LineChange::Insert(0, b"b"), EditFault::LogFull),
+    (LineChange::Insert(65_535, b"b"), EditFault::LogFull),
+    (LineChange::Insert(0, b"\x7f"), EditFault::BadLine),
+    (LineChange::Replace(0, b"\x1f"), EditFault::BadLine),
+    (LineChange::Insert(65_536, b"b"), EditFault::NoSuchPlace),
+    (LineChange::Delete(65_535), EditFault::NoSuchPlace),
+    (LineChange::Reseed(2_147_483_648), EditFault::BadSeed),
+];
+
+/// Expects that a full log takes no further line.
+fn expect_full(rt: &impl Abort, alloc: Global, session: &mut Counting<'_>) -> Result<(), Fail> {
+    for (change, fault) in REFUSED {
+        let edit = change.edit(alloc)?;
+        let answer = session.edit(&edit, &mut Meter::new());
+        assert!(rt; answer.err() == Some(fault), "{edit:?}");
+    }
+    Ok(())
+}
+
+/// Makes the greatest changes that a full log takes.
+fn change(rt: &impl Abort, alloc: Global, session: &mut Counting<'_>) -> Result<(), Fail> {
+    let longest = letters(alloc, 255)?;
+    let changes = [
+        LineChange::Delete(0),
+        LineChange::Insert(65_534, longest.as_slice()),
+        LineChange::Reseed(2_147_483_646),
+    ];
+    let report = session.edit_group(&edits_of(alloc, &changes)?, &mut Meter::new())?;
+    assert_eq!(rt; report.inverse.len(), 3);
+    assert_eq!(rt; session.lines(), 65_535);
+    assert_eq!(rt; session.number(), 255);
+    Ok(())
+}
+
+/// Expects that the greatest seed and distance of checkpoints were taken.
+fn expect_greatest(rt: &impl Abort, session: &Counting<'_>) {
+    assert_eq!(rt; session.seed(), 2_147_483_647);
+    assert_eq!(rt; session.every(), 10_000);
+    assert_eq!(rt; session.lines(), 65_535);
+    assert!(rt; session.checkpoints().len() >= 7);
+}
+
+#[test]
+fn the_greatest_log_is_taken_and_takes_no_line_more(rt: HostRuntime) -> Result<(), Fail> {
+    let counts = Counts::new();
+    let log = flat(rt.alloc(), 65_535)?;
+    let (seed, mut meter) = (2_147_483_647, Meter::new());
+    let mut session = TestSession::open(
+        rt.alloc(),
+        Told::new(Counter, &counts),
+        seed,
+        &log,
+        10_000,
+        &mut meter,
+    )?;
+    expect_greatest(&rt, &session);
+    expect_full(&rt, rt.alloc(), &mut session)?;
+    change(&rt, rt.alloc(), &mut session)
+}

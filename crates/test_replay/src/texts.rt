@@ -1,0 +1,72 @@
+//! What faults say.
+
+use cave_replay::{EditFault, GroupFault, LineFlaw, OpenFault};
+use std::test::Fail;
+
+#[test]
+fn faults_of_an_opening_say_what_is_wrong(rt: HostRuntime) -> Result<(), Fail> {
+    let texts = [
+        (
+            OpenFault::BadEvery,
+            "the distance of checkpoints is not from 1 to 10000",
+        ),
+        (
+            OpenFault::BadLine(12, LineFlaw::Long(256)),
+            "line 12 of the log can't be played: the line has 256 bytes, and a line of a log has at \
+            most 255",
+        ),
+        (OpenFault::LogFull, "the log has more than 65535 lines"),
+        (OpenFault::BadSeed, "the seed is over 2147483647"),
+        (OpenFault::Memory, "there isn't enough memory"),
+    ];
+    for (fault, text) in texts {
+        assert_eq!(rt; format!(in rt.alloc(); "{fault}")?.as_str(), text);
+    }
+    Ok(())
+}
+
+/// Each fault of an edit, what a group says before it, and what it says. The last three name no
+/// edit.
+const TEXTS: [(EditFault, &str, &str); 7] = [
+    (
+        EditFault::NoSuchPlace,
+        "edit 3 of the group, counted from 0: ",
+        "the place is past the end of the log",
+    ),
+    (
+        EditFault::BadLine,
+        "edit 3 of the group, counted from 0: ",
+        "the line is over 255 bytes or has a byte that is neither printable ASCII nor a tab",
+    ),
+    (
+        EditFault::LogFull,
+        "edit 3 of the group, counted from 0: ",
+        "the log has 65535 lines already, and no more fit in",
+    ),
+    (
+        EditFault::BadSeed,
+        "edit 3 of the group, counted from 0: ",
+        "the seed is over 2147483647",
+    ),
+    (
+        EditFault::MeterFull,
+        "",
+        "the meter has fewer steps left than the log would have lines",
+    ),
+    (EditFault::Memory, "", "there isn't enough memory"),
+    (EditFault::EmptyGroup, "", "the group has no edit"),
+];
+
+#[test]
+fn faults_of_an_edit_and_of_a_group_say_what_is_wrong(rt: HostRuntime) -> Result<(), Fail> {
+    for (cause, before, text) in TEXTS {
+        assert_eq!(rt; format!(in rt.alloc(); "{cause}")?.as_str(), text);
+        let fault = GroupFault { cause, number: 3 };
+        let shown = format!(in rt.alloc(); "{fault}")?;
+        assert!(rt;
+            shown.as_str().strip_prefix(before) == Some(text),
+            "{cause:?}"
+        );
+    }
+    Ok(())
+}

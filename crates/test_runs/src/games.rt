@@ -1,0 +1,106 @@
+//! Caves with their words, and sessions of games, through calls that promise nothing: the tests are
+//! proved without what caves and sessions promise, and look at what they do.
+
+ghost use Rattle.play_cover.specs.cave_words.Lexicon.{IsLexiconOf};
+
+use play_cover::{
+    Cave, CaveMachine, Edit, EditFault, Lexicon, Machine, OpenFault, Report, Session, Steps,
+};
+use std::alloc::Global;
+use std::process::Abort;
+
+/// A cave, and the lexicon of it.
+pub struct TestCave {
+    cave: Cave,
+    lexicon: Lexicon,
+    ghost words: { IsLexiconOf cave lexicon },
+}
+
+impl Drop for TestCave {
+    fn drop(self) {
+        let TestCave { cave, lexicon } = self;
+        drop(lexicon);
+        drop(cave);
+    }
+}
+
+impl TestCave {
+    /// The cave of a database, without bindings, where there is memory to read it.
+    pub fn read(alloc: Global, database: &[u8]) -> Option<TestCave> {
+        let cave = Cave::read(alloc, database, b"").ok()?;
+        let lexicon = Lexicon::build(alloc, &cave).ok()?;
+        Some(TestCave { cave, lexicon })
+    }
+
+    pub fn cave(&self) -> &Cave {
+        &self.cave
+    }
+
+    /// What plays in it.
+    pub fn machine(&self) -> CaveMachine<'_> {
+        CaveMachine::new(&self.cave, &self.lexicon)
+    }
+}
+
+/// A session over any machine.
+pub struct TestSession<M: Machine> {
+    session: Session<M>,
+}
+
+impl<M: Machine> Drop for TestSession<M> {
+    fn drop(self) {
+        let TestSession { session } = self;
+        drop(session);
+    }
+}
+
+impl<M: Machine> TestSession<M> {
+    /// A session with seed 0 and a checkpoint at each line.
+    pub fn open(
+        rt: &impl Abort,
+        alloc: Global,
+        machine: M,
+        log: &[u8],
+        meter: &mut M::Meter,
+    ) -> Result<TestSession<M>, OpenFault> {
+        assert!(rt; meter.left() > 65_535);
+        let session = Session::open(alloc, machine, 0, log, 1, meter)?;
+        Ok(TestSession { session })
+    }
+
+    /// Edits the game.
+    pub fn edit(&mut self, edit: &Edit, meter: &mut M::Meter) -> Result<Report, EditFault> {
+        self.session.edit(edit, meter)
+    }
+
+    /// What was said at each line.
+    pub fn pieces(&self) -> &[M::Piece] {
+        self.session.pieces()
+    }
+
+    /// How many lines ticked.
+    pub fn ticks(&self) -> u32 {
+        self.session.ticks(self.session.lines())
+    }
+
+    /// Whether two sessions have the same line at a place, which ticked in both or in neither.
+    fn is_like_at(&self, other: &TestSession<M>, place: u32) -> bool {
+        place < self.session.lines()
+            && place < other.session.lines()
+            && self.session.line(place) == other.session.line(place)
+            && self.session.ticked(place) == other.session.ticked(place)
+    }
+
+    /// Whether two sessions hold the same game, checkpoints and last state, what was said aside.
+    pub fn is_like(&self, other: &TestSession<M>) -> bool {
+        for place in 0..self.session.lines() {
+            if !self.is_like_at(other, place) {
+                return false;
+            }
+        }
+        self.session.lines() == other.session.lines()
+            && self.session.seed() == other.session.seed()
+            && self.session.checkpoints() == other.session.checkpoints()
+            && *self.session.state() == *other.session.state()
+    }
+}

@@ -1,0 +1,246 @@
+//! Words of a command line, right and wrong, with what they ask for.
+
+use play_command::{CommandFault, EditView, Editing, Line, command_line};
+use std::alloc::{AllocError, Global};
+use std::test::Fail;
+
+/// The answer to words. It promises nothing, so that the tests are proved without what a command
+/// line promises.
+fn answer_to<'a>(alloc: Global, words: &'a [&'a str]) -> Result<Line<'a>, CommandFault<'a>> {
+    command_line(alloc, words)
+}
+
+/// What the answer to words says: a run, the kind of a text, or a status with what is wrong.
+fn shown(alloc: Global, words: &[&str]) -> Result<String, AllocError> {
+    match answer_to(alloc, words) {
+        Ok(Line::Text(text)) => format!(in alloc; "text {:?}", text.kind()),
+        Ok(line) => format!(in alloc; "{line:?}"),
+        Err(CommandFault::Usage(fault)) => format!(in alloc; "2 {:?}", fault.kind()),
+        Err(fault) => format!(in alloc; "{} {fault:?}", fault.status()),
+    }
+}
+
+/// Words, and what the answer to them says.
+const ANSWERS: [(&[&str], &str); 27] = [
+    (
+        &["cave", "check", "a"],
+        "Check { files: Files { cave: \"a\", bind: None, output: None }, view: Maximum }",
+    ),
+    (
+        &["cave", "play", "a", "--bind=c", "b", "--seed", "2147483647"],
+        "Play { files: Files { cave: \"a\", bind: Some(\"c\"), output: None }, \
+        log: \"b\", seed: 2147483647, view: Transcript }",
+    ),
+    (
+        &["cave", "play", "--", "-a", "--seed"],
+        "Play { files: Files { cave: \"-a\", bind: None, output: None }, \
+        log: \"--seed\", seed: 0, view: Transcript }",
+    ),
+    (
+        &["cave", "play", "a", "b", "--print", "state"],
+        "Play { files: Files { cave: \"a\", bind: None, output: None }, \
+        log: \"b\", seed: 0, view: FinalState }",
+    ),
+    (
+        &["cave", "edit", "a", "b", "c"],
+        "Edit { files: Files { cave: \"a\", bind: None, output: None }, \
+        log: \"b\", script: \"c\", \
+        editing: Editing { seed: 0, every: 50, view: Transcript, strict: false } }",
+    ),
+    (
+        &[
+            "cave",
+            "edit",
+            "--every=10000",
+            "a",
+            "--seed=0000000003",
+            "b",
+            "c",
+        ],
+        "Edit { files: Files { cave: \"a\", bind: None, output: None }, \
+        log: \"b\", script: \"c\", \
+        editing: Editing { seed: 3, every: 10000, view: Transcript, strict: false } }",
+    ),
+    (
+        &[
+            "cave",
+            "edit",
+            "a",
+            "--print",
+            "log",
+            "b",
+            "c",
+            "--strict",
+            "--output=d",
+        ],
+        "Edit { files: Files { cave: \"a\", bind: None, output: Some(\"d\") }, \
+        log: \"b\", script: \"c\", \
+        editing: Editing { seed: 0, every: 50, view: Log, strict: true } }",
+    ),
+    (
+        &["cave", "edit", "a", "b", "c", "--print=reports"],
+        "Edit { files: Files { cave: \"a\", bind: None, output: None }, \
+        log: \"b\", script: \"c\", \
+        editing: Editing { seed: 0, every: 50, view: Reports, strict: false } }",
+    ),
+    (&["cave", "help", "edit"], "text DisplayHelp"),
+    (&["cave", "-V"], "text DisplayVersion"),
+    (&[], "2 DisplayHelpOnMissingArgumentOrSubcommand"),
+    (
+        &[
+            "cave", "cover", "a", "b", "--seed=7", "c", "--bind", "d", "e",
+        ],
+        "Cover { files: Files { cave: \"a\", bind: Some(\"d\"), output: None }, \
+        logs: [\"b\", \"c\", \"e\"], seed: 7, view: Counts }",
+    ),
+    (
+        &["cave", "map", "a"],
+        "Map { files: Files { cave: \"a\", bind: None, output: None }, logs: [], seed: 0 }",
+    ),
+    (
+        &["cave", "map", "--bind", "d", "a", "b", "--seed=7", "c"],
+        "Map { files: Files { cave: \"a\", bind: Some(\"d\"), output: None }, \
+        logs: [\"b\", \"c\"], seed: 7 }",
+    ),
+    (&["cave", "play", "a"], "2 MissingRequiredArgument"),
+    (&["cave", "cover", "a"], "2 MissingRequiredArgument"),
+    (&["cave", "play", "a", "b", "--seed"], "2 InvalidValue"),
+    (&["cave", "sing"], "2 InvalidSubcommand"),
+    (&["cave", "check", "a", "--seed", "7"], "2 UnknownArgument"),
+    (
+        &["cave", "check", "a", "--bind=b", "--bind=b"],
+        "2 ArgumentConflict",
+    ),
+    (
+        &["cave", "play", "a", "b", "--seed", "2147483648"],
+        "2 BadSeed(\"2147483648\")",
+    ),
+    (
+        &["cave", "play", "a", "b", "--seed", "00000000007"],
+        "2 BadSeed(\"00000000007\")",
+    ),
+    (
+        &["cave", "edit", "a", "b", "c", "--every", "0"],
+        "2 BadEvery(\"0\")",
+    ),
+    (
+        &["cave", "edit", "a", "b", "c", "--every", "10001"],
+        "2 BadEvery(\"10001\")",
+    ),
+    (
+        &["cave", "edit", "a", "b", "c", "--every", "00000000001"],
+        "2 BadEvery(\"00000000001\")",
+    ),
+    (
+        &["cave", "edit", "a", "b", "c", "--print", "Log"],
+        "2 BadView(\"Log\")",
+    ),
+    (
+        &["cave", "play", "a", "b", "--print", "log"],
+        "2 BadPlayView(\"log\")",
+    ),
+];
+
+#[test]
+fn words_ask_for_a_run_or_a_text_or_are_refused(rt: HostRuntime) -> Result<(), Fail> {
+    for &(words, want) in &ANSWERS {
+        assert_eq!(rt; shown(rt.alloc(), words)?.as_str(), want);
+    }
+    Ok(())
+}
+
+/// The text that is printed for words, of help or of a fault.
+fn printed(alloc: Global, words: &[&str]) -> Result<String, AllocError> {
+    match answer_to(alloc, words) {
+        Ok(Line::Text(text)) => format!(in alloc; "{text}"),
+        Ok(_) => Ok(String::new(alloc)),
+        Err(fault) => format!(in alloc; "{fault}"),
+    }
+}
+
+/// Words, and a part of the text that is printed for them.
+const TEXTS: [(&[&str], &str); 16] = [
+    (
+        &["cave", "check", "-h"],
+        "Usage: cave check [OPTIONS] <CAVE>",
+    ),
+    (&["cave", "play", "-h"], "Example: cave play "),
+    (
+        &["cave", "edit", "--help"],
+        "Usage: cave edit [OPTIONS] <CAVE> <LOG> <SCRIPT>",
+    ),
+    (
+        &["cave", "cover", "--help"],
+        "Usage: cave cover [OPTIONS] <CAVE> <LOG>...",
+    ),
+    (
+        &["cave", "map", "--help"],
+        "Usage: cave map [OPTIONS] <CAVE> [LOG]...",
+    ),
+    (
+        &["cave", "edit", "-h"],
+        "  1  no such line: the log has none at that place\n",
+    ),
+    (&["cave", "-h"], "  7  memory ran out\n"),
+    (&["cave", "-V"], "cave 1.0"),
+    (&["cave"], "Usage: cave <COMMAND>"),
+    (&["cave", "sing"], "error: unrecognized subcommand 'sing'"),
+    (
+        &["cave", "check"],
+        "error: the following required arguments were not provided:\n  <CAVE>",
+    ),
+    (
+        &["cave", "check", "a", "--bind"],
+        "error: a value is required for '--bind <FILE>'",
+    ),
+    (
+        &["cave", "check", "a", "--bind=b", "--bind=b"],
+        "error: the argument '--bind <FILE>' cannot be used multiple times",
+    ),
+    (
+        &["cave", "play", "a", "b", "--seed", "+7"],
+        "error: invalid value '+7' for '--seed <N>': wanted are 1 to 10 digits, from 0 to \
+        2147483647",
+    ),
+    (
+        &["cave", "edit", "a", "b", "c", "--every="],
+        "error: invalid value '' for '--every <K>': wanted are 1 to 10 digits, from 1 to 10000",
+    ),
+    (
+        &["cave", "edit", "a", "b", "c", "--print", "text"],
+        "error: invalid value 'text' for '--print <WHAT>': wanted is transcript, play, log, \
+        reports or state",
+    ),
+];
+
+#[test]
+fn texts_of_help_and_faults(rt: HostRuntime) -> Result<(), Fail> {
+    for &(words, want) in &TEXTS {
+        let text = printed(rt.alloc(), words)?;
+        assert!(rt; text.as_str().contains(want), "{text}");
+    }
+    Ok(())
+}
+
+/// Where an allocation is refused, the answer is that memory ran out and no other.
+#[test]
+fn refused_memory_is_no_other_fault(rt: HostRuntime) {
+    let words = ["cave", "edit", "a", "--seed=3", "b", "c", "--every", "7"];
+    match answer_to(rt.alloc(), words.as_slice()) {
+        Ok(line) => assert!(rt;
+            matches!(
+                &line,
+                Line::Edit {
+                    editing: Editing {
+                        seed: 3,
+                        every: 7,
+                        view: EditView::Transcript,
+                        strict: false,
+                    },
+                    ..
+                }
+            )
+        ),
+        Err(fault) => assert_eq!(rt; fault.status(), 7),
+    }
+}

@@ -1,0 +1,55 @@
+//! Lines of a log: what is reported of those that aren't allowed, and what kind each is.
+
+use play_command::{LogLine, check_line};
+use std::alloc::{AllocError, Global};
+
+/// What is reported of a line.
+fn report_of(alloc: Global, line: &[u8]) -> Result<String, AllocError> {
+    match check_line(line) {
+        Ok(()) => String::from_str(alloc, "it is valid"),
+        Err(fault) => format!(in alloc; "{fault}"),
+    }
+}
+
+/// The kind of a line, of which nothing is promised.
+fn kind_of(line: &[u8]) -> LogLine {
+    LogLine::of(line)
+}
+
+#[test]
+fn lines_are_valid_or_their_fault_is_reported(rt: HostRuntime) -> Result<(), AllocError> {
+    let long = [b'a'; 256];
+    let bad_byte = "the line has a byte that is neither printable ASCII nor a tab";
+    let cases: [(&[u8], &str); 5] = [
+        (b" ~\t", "it is valid"),
+        (&long[..255], "it is valid"),
+        (&long, "the line is longer than 255 bytes"),
+        (b"in\x7f", bad_byte),
+        (b"\xc3\xa4", bad_byte),
+    ];
+    for (line, want) in cases {
+        assert_eq!(rt; report_of(rt.alloc(), line)?.as_str(), want);
+    }
+    Ok(())
+}
+
+const KINDS: [(&[u8], LogLine); 11] = [
+    (b"# seed 7", LogLine::Comment),
+    (b" # note", LogLine::Input),
+    (b"", LogLine::Blank),
+    (b" \t ", LogLine::Blank),
+    (b"\t seed 7\t ", LogLine::Seed(7)),
+    (b"seed 2147483647", LogLine::Seed(2_147_483_647)),
+    (b"seed 2147483648", LogLine::Input),
+    (b"seed 0000000007", LogLine::Seed(7)),
+    (b"seed 00000000007", LogLine::Input),
+    (b"seed  7", LogLine::Input),
+    (b"in", LogLine::Input),
+];
+
+#[test]
+fn a_line_has_a_kind(rt: HostRuntime) {
+    for &(line, want) in &KINDS {
+        assert_eq!(rt; kind_of(line), want, "{line:?}");
+    }
+}

@@ -1,0 +1,116 @@
+//! Scripts that are written out, with what they say.
+
+use replay_scripts::{Item, Script, ScriptRefusal};
+use std::alloc::{AllocError, Global};
+use std::test::Fail;
+
+/// The script of a text, of which nothing is promised.
+fn script_of(alloc: Global, text: &[u8]) -> Result<Script, ScriptRefusal> {
+    Script::read(alloc, text)
+}
+
+/// An item of a script as text: `LINE: EDIT on LINE, EDIT on LINE,`.
+fn item_shown(alloc: Global, item: &Item) -> Result<String, AllocError> {
+    let mut text = format!(in alloc; "{}:", item.line)?;
+    for (edit, line) in item.edits.iter().zip(item.lines.iter()) {
+        text.push_str(format!(in alloc; " {edit:?} on {line},")?.as_str())?;
+    }
+    Ok(text)
+}
+
+/// The items of a script as text, with a semicolon after each.
+fn items_shown(alloc: Global, items: &[Item]) -> Result<String, AllocError> {
+    let mut text = String::new(alloc);
+    for item in items {
+        text.push_str(item_shown(alloc, item)?.as_str())?;
+        text.push_str(";")?;
+    }
+    Ok(text)
+}
+
+/// The items of a script as text, or what is reported of it where it is refused.
+fn shown(alloc: Global, text: &[u8]) -> Result<String, AllocError> {
+    match script_of(alloc, text) {
+        Ok(script) => items_shown(alloc, &script.items),
+        Err(fault) => format!(in alloc; "{fault}"),
+    }
+}
+
+const ITEMS: [(&[u8], &str); 9] = [
+    (b"\n\n", ""),
+    (b"insert 2", "1: Insert(2, []) on 1,;"),
+    (b"insert\t2\tx ", "1: Insert(2, [120, 32]) on 1,;"),
+    (
+        b"insert 0  \xff\x00\r\n",
+        "1: Insert(0, [32, 255, 0]) on 1,;",
+    ),
+    (b"replace 3 on\n", "1: Replace(3, [111, 110]) on 1,;"),
+    (
+        b"# note\n \t\ndelete 3 \t\r\ndelete\t2",
+        "3: Delete(3) on 3,;4: Delete(2) on 4,;",
+    ),
+    (
+        b"seed 0000000007\nseed 4294967296",
+        "1: Reseed(7) on 1,;2: Reseed(4294967295) on 2,;",
+    ),
+    (
+        b"delete 9\nbegin\ninsert 2 #\n\ndelete 3\nend \t\nbegin\nend",
+        "1: Delete(9) on 1,;2: Insert(2, [35]) on 3, Delete(3) on 5,;7:;",
+    ),
+    (
+        b"begin\ninsert 0 end\nend",
+        "1: Insert(0, [101, 110, 100]) on 2,;",
+    ),
+];
+
+#[test]
+fn a_script_has_items(rt: HostRuntime) -> Result<(), Fail> {
+    for &(text, want) in &ITEMS {
+        assert_eq!(rt; shown(rt.alloc(), text)?.as_str(), want);
+    }
+    Ok(())
+}
+
+/// Malformed scripts, and what is reported of them.
+const FAULTS: [(&[u8], &str); 5] = [
+    (
+        b"delete 0\ninsert 9 a\n# x\nbegone\nend\n",
+        "line 4 of the script: expected `insert N TEXT`, `delete N`, `replace N TEXT`, `seed N`, \
+        `begin` or `end`",
+    ),
+    (
+        b"delete 00000000000",
+        "line 1 of the script: expected `insert N TEXT`, `delete N`, `replace N TEXT`, `seed N`, \
+        `begin` or `end`",
+    ),
+    (
+        b"begin\nbegin\nend\nend\n",
+        "line 2 of the script: `begin` inside a group: a group can't hold another",
+    ),
+    (
+        b"begin\nend\nend",
+        "line 3 of the script: `end` without a `begin` before it",
+    ),
+    (
+        b"delete 0\n\nbegin",
+        "line 3 of the script: `begin` without an `end` after it",
+    ),
+];
+
+#[test]
+fn a_malformed_script_is_told_by_its_first_line_at_fault(rt: HostRuntime) -> Result<(), Fail> {
+    for &(text, want) in &FAULTS {
+        assert_eq!(rt; shown(rt.alloc(), text)?.as_str(), want);
+    }
+    Ok(())
+}
+
+/// Where an allocation is refused, the answer is that memory ran out and no other.
+#[test]
+fn refused_memory_is_no_other_fault(rt: HostRuntime) {
+    let text = b"insert 2 take lamp\nbegin\nreplace 0 x\ndelete 1\nend\nseed 3\n";
+    match script_of(rt.alloc(), text) {
+        Ok(script) => assert_eq!(rt; script.items.len(), 3),
+        Err(fault) => assert_eq!(rt; fault, ScriptRefusal::Memory),
+    }
+}

@@ -1,0 +1,67 @@
+-- The ways that a dwarf may go.
+use Rattle.turn_things.specs.world_objects.Spots.{is_place}
+use Rattle.std.specs.Prelude.{ℕ, Bool, ◌==◌, ◌&&◌, not, nat_le, if◌then◌else◌, List, [], ◌∷◌, take}
+use Rattle.std.specs.Prelude.{Option, None, Some}
+use Rattle.std.specs.List.{filter_map}
+use Rattle.turn_things.specs.data_rows.Rows.{Going}
+use Rattle.turn_things.specs.data_rows.declared.targets.Condition.{Condition}
+use Rattle.turn_things.specs.data_rows.declared.targets.Condition.TheVariants.{NotForDwarves}
+use Rattle.turn_things.specs.data_rows.declared.targets.Destination.{Destination}
+use Rattle.turn_things.specs.data_rows.declared.targets.Destination.TheVariants.{Place}
+use Rattle.turn_things.specs.cave_data.CaveView.{CaveView, ways_from}
+use Rattle.turn_things.specs.cave_world.Sight.{forced}
+use Rattle.turn_things.specs.cave_world.Travel.{row_condition, row_destination}
+use Rattle.turn_things.specs.cave_world.declared.dwarves.Dwarf.{Dwarf}
+use Rattle.turn_things.specs.Conditions.{has_condition_of}
+use Rattle.turn_things.specs.declared.conditions.PlaceCondition.TheVariants as condition
+use Rattle.turn_things.specs.data_numbers.Numbers.{LAST_PLACE}
+
+-- the first of the places where dwarves go
+abbrev pub FIRST_HAUNT : ℕ
+FIRST_HAUNT = 15
+
+-- the places where dwarves go are those from the first without forced motion; to some of them the
+-- pirate doesn't come
+unfoldable pub is_haunt : CaveView → Bool → ℕ → Bool
+is_haunt cave is_pirate place =
+    nat_le FIRST_HAUNT place && nat_le place LAST_PLACE && not (forced cave place)
+    && not (is_pirate && has_condition_of cave place condition.NoPirate)
+
+-- the place of a destination, if the dwarf goes there and neither is nor was there before
+abbrev pub haunt_ahead : CaveView → Bool → Dwarf → Destination → Option ℕ
+haunt_ahead cave is_pirate dwarf (Place place) =
+    if not (place == dwarf.last) && not (place == dwarf.place) && is_haunt cave is_pirate place
+    then Some place else None
+haunt_ahead cave is_pirate dwarf _ = None
+
+-- the place to which a way leads a dwarf on: to none, if it isn't for dwarves
+abbrev pub place_ahead_if : CaveView → Bool → Dwarf → Condition → Destination → Option ℕ
+place_ahead_if cave is_pirate dwarf NotForDwarves destination = None
+place_ahead_if cave is_pirate dwarf _ destination = haunt_ahead cave is_pirate dwarf destination
+
+-- the place to which a row leads a dwarf on
+unfoldable pub place_ahead : CaveView → Bool → Dwarf → Going → Option ℕ
+place_ahead cave is_pirate dwarf row =
+    place_ahead_if cave is_pirate dwarf (row_condition row) (row_destination row)
+
+-- places in their order, without those that are the same as the last one that was kept
+abbrev pub without_repeats : Option ℕ → List ℕ → List ℕ
+without_repeats last [] = []
+without_repeats last (place ∷ places) =
+    if is_place place last then without_repeats last places
+    else place ∷ without_repeats (Some place) places
+
+-- the places to which the rows of a dwarf's place lead it, in the order of the rows: 19 at most
+unfoldable pub candidates : CaveView → Bool → Dwarf → List ℕ
+candidates cave is_pirate dwarf =
+    let ahead = filter_map (place_ahead cave is_pirate dwarf) (ways_from cave dwarf.place) in
+    take 19 (without_repeats None ahead)
+
+-- the places, or where there are none, another alone
+abbrev pub or_alone : ℕ → List ℕ → List ℕ
+or_alone other [] = other ∷ []
+or_alone other (place ∷ places) = place ∷ places
+
+-- the ways of a dwarf: where there is no other, back to where it was before
+unfoldable pub ways_of_dwarf : CaveView → Bool → Dwarf → List ℕ
+ways_of_dwarf cave is_pirate dwarf = or_alone dwarf.last (candidates cave is_pirate dwarf)

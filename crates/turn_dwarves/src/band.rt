@@ -1,0 +1,25 @@
+//! The six dwarves by their numbers from 0. The last is the pirate.
+
+ghost use Rattle.std.specs.Prelude.{◌≡◌, ◌<◌};
+ghost use Rattle.turn_dwarves.specs.Band.{dwarf_of, with_dwarf};
+ghost use Rattle.turn_things.specs.cave_world.Dwarves.{dwarf_count};
+
+use turn_things::{Dwarf, State};
+
+/// The dwarf of a number.
+#[tactic(auto, unfolding(crate::specs::Band::dwarf_of))]
+pub fn dwarf_of(state: &State, number: usize) -> Dwarf
+    requires { number < dwarf_count }
+    ensures { result ≡ dwarf_of state.now number }
+{
+    state.dwarves.each[number]
+}
+
+/// Changes the dwarf of a number.
+#[tactic(auto, unfolding(crate::specs::Band::with_dwarf))]
+pub fn set_dwarf(number: usize, dwarf: Dwarf, state: &mut State)
+    requires { number < dwarf_count }
+    ensures { state.new ≡ with_dwarf number dwarf state.old }
+{
+    state.dwarves.each[number] = dwarf;
+}

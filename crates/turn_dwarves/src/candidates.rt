@@ -1,0 +1,86 @@
+ghost use Rattle.std.specs.Prelude.{◌≡◌};
+ghost use Rattle.turn_things.specs.data_rows.RowViews.{going};
+ghost use Rattle.turn_things.specs.turn_scene.Rules.{cave_of};
+ghost use Rattle.turn_things.specs.data_rows.Targets.{EndsWithin};
+ghost use Rattle.turn_dwarves.specs.Candidates.{is_haunt, haunt_ahead, place_ahead, candidates};
+
+use crate::haunt::Haunt;
+use arrayvec::ArrayVec;
+use turn_things::{
+    Condition, Destination, Dwarf, Place, PlaceCondition, Row, Rules, forced, has_condition_of,
+};
+
+/// The most places among which a dwarf chooses.
+pub const MAX_CANDIDATES: usize = 19;
+
+/// The first of the places where dwarves go.
+const FIRST_HAUNT: u16 = 15;
+
+/// Whether a dwarf goes to a place; the pirate keeps away from more of them.
+#[tactic(auto, unfolding(crate::specs::Candidates::is_haunt))]
+fn is_haunt(rules: &Rules<'_>, is_pirate: bool, place: Place) -> bool
+    ensures { result ≡ is_haunt (cave_of rules.now) is_pirate place }
+{
+    FIRST_HAUNT <= place.number()
+        && !forced(rules.cave, place)
+        && !(is_pirate && has_condition_of(rules, place, PlaceCondition::NoPirate))
+}
+
+/// The place of a destination, if a dwarf goes on there.
+#[tactic(auto, unfolding(crate::specs::Candidates::is_haunt))]
+fn haunt_ahead(
+    rules: &Rules<'_>,
+    is_pirate: bool,
+    dwarf: &Dwarf,
+    destination: Destination,
+) -> Option<Place>
+    requires { EndsWithin destination }
+    ensures { result ≡ haunt_ahead (cave_of rules.now) is_pirate dwarf.now destination }
+{
+    let Destination::Place(number) = destination else {
+        return None;
+    };
+    let place = Place::new(number);
+    if place == dwarf.last || place == dwarf.place || !is_haunt(rules, is_pirate, place) {
+        return None;
+    }
+    Some(place)
+}
+
+/// The place to which a row leads a dwarf on.
+#[tactic(auto, unfolding(crate::specs::Candidates::place_ahead))]
+fn place_ahead(rules: &Rules<'_>, is_pirate: bool, dwarf: &Dwarf, row: &Row) -> Option<Place>
+    ensures { result ≡ place_ahead (cave_of rules.now) is_pirate dwarf.now (going row.now) }
+{
+    match row.condition() {
+        Condition::NotForDwarves => None,
+        _ => haunt_ahead(rules, is_pirate, dwarf, row.destination()),
+    }
+}
+
+/// The places to which the rows of a dwarf's place lead it, in the order of the rows.
+#[tactic(auto, unfolding(crate::specs::Candidates::candidates))]
+pub fn candidates(
+    rules: &Rules<'_>,
+    is_pirate: bool,
+    dwarf: &Dwarf,
+) -> ArrayVec<Haunt, MAX_CANDIDATES>
+    ensures { result.items ≡ candidates (cave_of rules.now) is_pirate dwarf.now }
+{
+    let mut found = ArrayVec::new();
+    let mut last = None;
+    for row in rules.cave.travel(dwarf.place.number()) {
+        if found.len() == MAX_CANDIDATES {
+            return found;
+        }
+        let Some(place) = place_ahead(rules, is_pirate, dwarf, row) else {
+            continue;
+        };
+        if last == Some(place) {
+            continue;
+        }
+        found.push(Haunt::at(place));
+        last = Some(place);
+    }
+    found
+}

@@ -1,0 +1,133 @@
+ghost use Rattle.std.specs.Prelude.{◌≡◌, ◌<◌, ◌≤◌};
+ghost use Rattle.turn_things.specs.turn_scene.Bounds.{GoesOnSaying, HasRoom};
+ghost use Rattle.turn_things.specs.turn_scene.Scene.{scene_of};
+ghost use Rattle.turn_things.specs.turn_scene.Rules.{cave_of};
+ghost use Rattle.turn_dwarves.specs.Waking.{with_anger, stir, without_dwarf, perhaps_without_one};
+ghost use Rattle.turn_dwarves.specs.Waking.{place_apart, dwarf_apart, with_dwarves_apart};
+ghost use Rattle.turn_dwarves.specs.Waking.{wake_dwarves, axe_scene, perhaps_wake};
+ghost use Rattle.turn_things.specs.cave_world.Dwarves.{MAX_ANGER};
+ghost use Rattle.turn_things.specs.cave_world.Dwarves as defined;
+
+use crate::band::{dwarf_of, set_dwarf};
+use turn_things::{
+    Count, Dwarf, Named, PIRATE, Place, PlaceRole, Role, Rules, Scene, State, deep_place,
+    place_named,
+};
+
+/// The dwarves are so angry from now on.
+pub fn set_anger(degree: u16, state: &mut State)
+    requires { degree ≤ MAX_ANGER }
+    ensures { state.new ≡ with_anger degree state.old }
+{
+    state.dwarves.anger = Count::new(degree);
+}
+
+/// The dwarves stir once the player comes to the depths.
+#[tactic(auto, unfolding(crate::specs::Waking::stir))]
+pub fn stir(rules: &Rules<'_>, state: &mut State)
+    ensures { state.new ≡ stir (cave_of rules.now) state.old }
+{
+    if deep_place(rules.cave).number() <= state.trail.here.number() {
+        set_anger(1, state);
+    }
+}
+
+/// A dwarf goes nowhere.
+#[tactic(auto, unfolding(crate::specs::Waking::without_dwarf))]
+fn remove_dwarf(number: usize, state: &mut State)
+    requires { number < defined.PIRATE }
+    ensures { state.new ≡ without_dwarf number state.old }
+{
+    let dwarf = dwarf_of(state, number);
+    let gone = Dwarf {
+        place: Place::new(0),
+        last: dwarf.last,
+        has_seen: dwarf.has_seen,
+    };
+    set_dwarf(number, gone, state);
+}
+
+/// One of those before the pirate is drawn, and in half of the cases it is gone.
+#[tactic(auto, unfolding(crate::specs::Waking::perhaps_without_one))]
+fn perhaps_remove_one(state: &mut State)
+    ensures { state.new ≡ perhaps_without_one state.old }
+{
+    let number = state.stream.draw(PIRATE as u32);
+    if state.stream.pct(50) {
+        remove_dwarf(number as usize, state);
+    }
+}
+
+/// Where a dwarf goes that is to be elsewhere than the player.
+fn place_apart(rules: &Rules<'_>, here: Place, place: Place) -> Place
+    ensures { result ≡ place_apart (cave_of rules.now) here place }
+{
+    if place == here {
+        place_named(rules.cave, PlaceRole::Dwarfalt).unwrap_or(place)
+    } else {
+        place
+    }
+}
+
+#[tactic(auto, unfolding(crate::specs::Waking::dwarf_apart))]
+fn dwarf_apart(rules: &Rules<'_>, here: Place, dwarf: &Dwarf) -> Dwarf
+    ensures { result ≡ dwarf_apart (cave_of rules.now) here dwarf.now }
+{
+    let place = place_apart(rules, here, dwarf.place);
+    Dwarf {
+        place,
+        last: place,
+        has_seen: dwarf.has_seen,
+    }
+}
+
+/// The dwarves before the pirate are kept apart from the player, and forget where they came from.
+fn keep_apart(rules: &Rules<'_>, state: &mut State)
+    ensures { state.new ≡ with_dwarves_apart (cave_of rules.now) defined.PIRATE state.old }
+{
+    for number in 0..PIRATE {
+        let dwarf = dwarf_of(state, number);
+        let dwarf = dwarf_apart(rules, state.trail.here, &dwarf);
+        set_dwarf(number, dwarf, state);
+    }
+}
+
+/// The dwarves are awake, and two of them may be gone.
+#[tactic(auto, unfolding(crate::specs::Waking::wake_dwarves))]
+fn wake_dwarves(rules: &Rules<'_>, state: &mut State)
+    ensures { state.new ≡ wake_dwarves (cave_of rules.now) state.old }
+{
+    set_anger(2, state);
+    perhaps_remove_one(state);
+    perhaps_remove_one(state);
+    keep_apart(rules, state);
+}
+
+/// The dwarves wake, and one throws its axe, which stays at the player's place.
+#[tactic(auto, unfolding(crate::specs::Waking::axe_scene))]
+fn throw_first_axe(rules: &Rules<'_>, scene: &mut Scene<'_>)
+    requires { HasRoom 1 scene.old }
+    ensures scene { scene_of scene.new ≡ axe_scene (cave_of rules.now) (scene_of scene.old) }
+    ensures says { GoesOnSaying 1 scene.old scene.new }
+{
+    wake_dwarves(rules, scene.state);
+    scene.say(Role::AxeThrown);
+    let here = scene.state.trail.here;
+    scene.state.move_to(rules.thing(Named::Axe), here);
+}
+
+/// In the depths, dwarves that stir may wake.
+#[tactic(auto, unfolding(crate::specs::Waking::perhaps_wake))]
+pub fn perhaps_wake(rules: &Rules<'_>, scene: &mut Scene<'_>)
+    requires { HasRoom 1 scene.old }
+    ensures scene { scene_of scene.new ≡ perhaps_wake (cave_of rules.now) (scene_of scene.old) }
+    ensures says { GoesOnSaying 1 scene.old scene.new }
+{
+    if scene.state.trail.here.number() < deep_place(rules.cave).number() {
+        return;
+    }
+    if scene.happens(95) {
+        return;
+    }
+    throw_first_axe(rules, scene);
+}

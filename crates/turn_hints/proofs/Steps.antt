@@ -1,0 +1,64 @@
+-- One hint more is considered.
+use Rattle.std.proofs.Common.{◌≡◌, ℕ, zero, suc, ◌+◌, ◌-◌, ◌≤◌, ◌⊎◌, inl, inr, Bool, true, false}
+use Rattle.std.proofs.Common.{None, min, refl, sym, ap, ◌∙◌, arith}
+use Rattle.std.proofs.lemmas.Bool.{cases_eq}
+use Rattle.std.specs.FinMap as map
+use Rattle.turn_ends.specs.cave_data.CaveView.{CaveView}
+use Rattle.turn_ends.specs.cave_data.Tables.{IsAbove}
+use Rattle.turn_hints.specs.Hints.{after_consider, after_considering_if, after_hints_up_to}
+use Rattle.turn_hints.specs.Hints.{FIRST_HINT, OFFERED_HINTS}
+use Rattle.turn_ends.specs.turn_scene.Scene.{Scene}
+
+-- the next hint comes after those so far
+pub after_consider-more : (cave : CaveView) (n : ℕ) (p : Scene)
+    → after_hints_up_to cave (n + 1) p
+    ≡ after_consider cave (n + FIRST_HINT) (after_hints_up_to cave n p)
+unfolding after_hints_up_to
+after_consider-more cave n p = let next : n + 1 ≡ suc n = omega arith in rw next refl
+
+-- a hint that the cave doesn't have changes nothing
+after_consider-none : (cave : CaveView) (h : ℕ) (p : Scene) → map.get cave.hints h ≡ None
+    → after_consider cave h p ≡ p
+unfolding after_consider
+after_consider-none cave h p none = ap (λ hint. after_considering_if cave h hint p) none
+
+after_hints-later : (cave : CaveView) (count more : ℕ) (p : Scene)
+    → IsAbove (count + FIRST_HINT) cave.hints
+    → after_hints_up_to cave (more + count) p ≡ after_hints_up_to cave count p
+unfolding after_hints_up_to
+after_hints-later cave count zero p above =
+    let same : zero + count ≡ count = omega arith in ap (λ n. after_hints_up_to cave n p) same
+after_hints-later cave count (suc more) p above =
+    let next : suc more + count ≡ suc (more + count) = omega arith in
+    ap (λ n. after_hints_up_to cave n p) next
+    ∙ after_consider-none cave (more + count + FIRST_HINT) _ (above _ (omega arith))
+    ∙ after_hints-later cave count more p above
+
+-- either no hint of the cave comes after the first few, or they are all that are offered
+pub few_hints : (cave : CaveView) (end few : ℕ) → IsAbove end cave.hints
+    → few ≡ min (end - FIRST_HINT) OFFERED_HINTS
+    → IsAbove (few + FIRST_HINT) cave.hints ⊎ (few ≡ OFFERED_HINTS)
+few_hints cave end few above least = at (cases_eq few OFFERED_HINTS) where
+  at : (few ≡ OFFERED_HINTS) ⊎ (few ≡ OFFERED_HINTS → ⊥)
+      → IsAbove (few + FIRST_HINT) cave.hints ⊎ (few ≡ OFFERED_HINTS)
+  at (inl all) = inr all
+  at (inr some) = inl (λ n low. above n (omega (arith, least, some, low)))
+
+-- hints above those of the cave change nothing
+pub after_hints-all : (cave : CaveView) (count : ℕ) (p : Scene) → count ≤ OFFERED_HINTS
+    → IsAbove (count + FIRST_HINT) cave.hints ⊎ (count ≡ OFFERED_HINTS)
+    → after_hints_up_to cave count p ≡ after_hints_up_to cave OFFERED_HINTS p
+after_hints-all cave count p few (inl above) =
+    let all : OFFERED_HINTS - count + count ≡ OFFERED_HINTS = omega arith in
+    sym (after_hints-later cave count (OFFERED_HINTS - count) p above)
+    ∙ ap (λ n. after_hints_up_to cave n p) all
+after_hints-all cave count p few (inr all) = ap (λ n. after_hints_up_to cave n p) all
+
+-- one question is said at most: after one no other is asked
+pub few-asked : (over : Bool) (start before after : ℕ) → before ≤ start + 2
+    → (over ≡ false → before ≤ start + 0)
+    → after ≤ before + 2 → (over ≡ true → after ≤ before + 0) → after ≤ start + 2
+few-asked true start before after few none one quiet =
+    let same = quiet refl in omega (arith, few, same)
+few-asked false start before after few none one quiet =
+    let same = none refl in omega (arith, one, same)

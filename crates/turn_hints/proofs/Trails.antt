@@ -1,0 +1,17 @@
+-- A hint that is offered doesn't move the player.
+use Rattle.std.proofs.Common.{◌≡◌, ℕ, Option, Some, None, refl, ap}
+use Rattle.std.specs.FinMap as map
+use Rattle.turn_ends.specs.cave_data.CaveView.{CaveView}
+use Rattle.turn_ends.specs.Questions.{after_offer, after_question, after_ask}
+use Rattle.turn_ends.specs.data_rows.declared.rows.Hint.{Hint}
+use Rattle.turn_ends.specs.turn_scene.Scene.{Scene}
+use Rattle.turn_ends.specs.cave_world.declared.ending.Question.TheVariants as question
+
+state_offered : (hint : Option Hint) (p : Scene) → (after_offer hint p).state ≡ p.state
+state_offered None p = refl
+state_offered (Some hint) p = refl
+
+pub trail_asked : (cave : CaveView) (hint : ℕ) (p : Scene)
+    → (after_ask cave (question.Hint hint) p).state.trail ≡ p.state.trail
+unfolding after_ask after_question
+trail_asked cave hint p = ap (λ s. s.trail) (state_offered (map.get cave.hints hint) p)

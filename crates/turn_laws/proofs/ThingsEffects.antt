@@ -1,0 +1,144 @@
+-- What the effects of verbs, and the rows that have them, make of a claim about objects.
+use Rattle.std.proofs.Common.{ℕ, pos, true, List, [], ◌∷◌}
+use Rattle.std.specs.Prelude.{◌==◌, ◌&&◌, ◌||◌, Option, None, Some}
+use Rattle.cave_turn.specs.cave_data.CaveView.{CaveView, default_message}
+use Rattle.cave_turn.specs.data_rows.declared.role.Role.TheVariants as role
+use Rattle.cave_turn.specs.cave_words.declared.named.Named.TheVariants as name
+use Rattle.cave_turn.specs.world_objects.Objects.{after_move_to, with_anchor, with_prop}
+use Rattle.cave_turn.specs.world_objects.declared.spot.Anchor.TheVariants as anchor
+use Rattle.cave_turn.specs.cave_world.Sight.{dark}
+use Rattle.cave_turn.specs.cave_world.declared.part.Part.TheVariants as part
+use Rattle.cave_turn.specs.cave_world.declared.state.State.{State}
+use Rattle.cave_turn.specs.turn_things.Effects.{put_down, let_go, without_troll}
+use Rattle.cave_turn.specs.turn_things.Effects.{after_loss_to_snake, with_one_more_lost}
+use Rattle.cave_turn.specs.turn_things.Effects.{with_objects, put_here, vessel, with_free_bird}
+use Rattle.cave_turn.specs.turn_things.Effects.{with_bird_in_cage}
+use Rattle.cave_turn.specs.turn_things.Homes.{home, hold_of, is_at_home}
+use Rattle.cave_turn.specs.turn_things.Panic.{after_panic}
+use Rattle.cave_turn.specs.turn_scene.Rules.{is_called, thing}
+use Rattle.cave_turn.specs.turn_things.Reach.{is_in_hand, has_other_prop}
+use Rattle.cave_turn.specs.turn_scene.Scene.{Scene, after_telling}
+use Rattle.cave_turn.specs.verb_commands.Deeds.{Deed, Act}
+use Rattle.cave_turn.specs.verb_commands.Effects.{after_default, default, say}
+use Rattle.cave_turn.specs.verb_commands.Rows.{Effect, VerbRow, first_fitting, fits, after_all}
+use Rattle.cave_turn.specs.verb_commands.Rows.{act_of_row}
+use Rattle.cave_turn.specs.cave_verbs.Light.{say_dark}
+use Rattle.cave_turn.specs.cave_verbs.Opening.{after_sending}
+use Rattle.cave_turn.specs.verb_commands.Verbs.{verb_number}
+use Rattle.cave_turn.specs.cave_verbs.Throwing.{first_fitting_or}
+use Rattle.turn_laws.proofs.ThingsFrame.{Claim, On, IsMoved, Clocked, choose, chosen, chosen_scene}
+
+-- effects one after another keep a claim
+abbrev pub KeepsAll : Claim → List Effect → Type 0
+KeepsAll P effects = (d : Deed) → On P d.scene.state → On P (after_all effects d).scene.state
+
+-- the effects of rows keep a claim
+abbrev pub KeepsRows : Claim → List VerbRow → Type 0
+KeepsRows P [] = Unit {0}
+KeepsRows P (r ∷ rows) = KeepsAll P r.effects × KeepsRows P rows
+
+-- what comes of a deed keeps a claim
+abbrev pub KeepsAct : Claim → (Deed → Act) → Type 0
+KeepsAct P f = (d : Deed) → On P d.scene.state → On P (f d).scene.state
+
+-- a default message keeps a claim
+pub said_kept : (P : Claim) (cave : CaveView) (number : ℕ) (p : Scene) → On P p.state
+    → On P (after_default cave number p).state
+said_kept P cave number p h =
+    chosen_scene P (default_message cave number == 0) p
+    (after_telling (part.Message (default_message cave number)) p) h h
+
+pub default_kept : (P : Claim) (d : Deed) → On P d.scene.state → On P (default d).scene.state
+default_kept P d h = said_kept P d.cave (verb_number d.command.verb) d.scene h
+
+-- saying that it is dark keeps a claim
+pub say_dark_kept : (P : Claim) (d : Deed) → On P d.scene.state → On P (say_dark d).scene.state
+say_dark_kept P d h =
+    choose (λ (e : Deed). On P e.scene.state) (dark d.cave (thing d.cave name.Lamp)
+    d.scene.state)
+    (say role.Dark d) d (λ _. h) (λ _. h)
+
+-- to free a bird keeps a claim
+pub free_kept : {P : Claim} (k : IsMoved P) (cave : CaveView) (x : ℕ) (s : State) → On P s
+    → On P (with_free_bird cave x s)
+free_kept {P} k cave x s h =
+    chosen P (is_called cave x name.Bird) (with_objects (with_prop s.objects x (pos 0)) s) s
+    (k.prop _ _ _ _ _ _ h) h
+
+-- to put down a cage with its bird keeps a claim
+pub cage_kept : {P : Claim} (k : IsMoved P) (cave : CaveView) (x : ℕ) (s : State) → On P s
+    → On P (with_bird_in_cage cave x s)
+cage_kept {P} k cave x s h =
+    chosen P (is_called cave x name.Cage && has_other_prop s (thing cave name.Bird) (pos 0))
+    (with_objects (after_move_to s.objects (thing cave name.Bird) s.trail.here) s) s
+    (k.place _ _ _ _ _ _ h) h
+
+-- to put an object down keeps a claim
+pub put_down_kept : {P : Claim} (k : IsMoved P) (cave : CaveView) (x : ℕ) (s : State) → On P s
+    → On P (put_down cave x s)
+unfolding put_down
+put_down_kept k cave x s h =
+    let y = vessel cave s x in
+    k.place _ _ _ _ _ _
+    (free_kept k cave y (with_bird_in_cage cave y s) (cage_kept k cave y s h))
+
+-- to let an object go keeps a claim
+pub let_go_kept : {P : Claim} (k : IsMoved P) (cave : CaveView) (x : ℕ) (s : State) → On P s
+    → On P (let_go cave x s)
+unfolding let_go
+let_go_kept {P} k cave x s h =
+    chosen P (is_in_hand cave s x) (put_here x s) s (k.place _ _ _ _ _ _ h) h
+
+-- a troll that goes keeps a claim
+pub without_troll_kept : {P : Claim} (k : IsMoved P) (cave : CaveView) (s : State) → On P s
+    → On P (without_troll cave s)
+unfolding without_troll
+without_troll_kept k cave s h =
+    let troll = thing cave name.Troll in let second = thing cave name.SecondTroll in
+    let o = s.objects in
+    let away = after_move_to o troll 0 in
+    let gone = with_anchor away troll anchor.Loose in
+    let back = after_move_to gone second (home cave troll) in
+    k.latest _ _ _ _ (thing cave name.Chasm)
+    (k.anchor _ back _ _ second (hold_of cave troll)
+    (k.place _ gone _ _ second (home cave troll)
+    (k.anchor _ away _ _ troll anchor.Loose (k.place _ o _ _ troll 0 h))))
+
+-- a treasure that is lost keeps a claim
+pub lost_kept : (P : Claim) (cave : CaveView) (s : State) → On P s
+    → On P (after_loss_to_snake cave s)
+unfolding after_loss_to_snake
+lost_kept P cave s h = chosen P (is_at_home cave s (thing cave name.Snake)) (with_one_more_lost s) s
+    h h
+
+pub panicking_kept : {P : Claim} (k : Clocked P) (s : State) → On P s → On P (after_panic s)
+panicking_kept {P} k s h =
+    let closing = s.closing in
+    chosen P (closing.is_panicking || closing.is_closed)
+    (record s { closing = record closing { is_panicking = true } })
+    (record s { closing = record closing { second_clock = pos 15; is_panicking = true } })
+    (k _ _ _ _ _ _ _ _ h) (k _ _ _ _ _ _ _ _ h)
+
+-- an object that is sent to a place keeps a claim
+pub sent_kept : {P : Claim} (k : IsMoved P) (x : ℕ) (o : Option ℕ) (s : State) → On P s
+    → On P (after_sending x o s)
+sent_kept k x None s h = h
+sent_kept k x (Some place) s h = k.place _ _ _ _ x place h
+
+-- the first row that fits keeps a claim
+pub first_kept : (P : Claim) (rows : List VerbRow) → KeepsRows P rows
+    → KeepsAct P (first_fitting rows)
+first_kept P [] k d h = h
+first_kept P (r ∷ rows) k d h =
+    choose (λ (o : Act). On P o.scene.state) (fits r.tests d) (act_of_row r d)
+    (first_fitting rows d)
+    (λ _. k.0 d h) (λ _. first_kept P rows k.1 d h)
+
+-- the first row that fits, or what comes of it if none does, keeps a claim
+pub first_or_kept : (P : Claim) (rows : List VerbRow) (f : Deed → Act) → KeepsRows P rows
+    → KeepsAct P f → KeepsAct P (first_fitting_or rows f)
+first_or_kept P [] f k other d h = other d h
+first_or_kept P (r ∷ rows) f k other d h =
+    choose (λ (o : Act). On P o.scene.state) (fits r.tests d) (act_of_row r d)
+    (first_fitting_or rows f d)
+    (λ _. k.0 d h) (λ _. first_or_kept P rows f k.1 other d h)

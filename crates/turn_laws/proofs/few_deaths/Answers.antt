@@ -1,0 +1,5 @@
+use Rattle.turn_laws.proofs.Claims.{few_deaths}
+use Rattle.turn_laws.proofs.few_deaths.Goals as goal
+
+pub returns : goal.returns
+returns c = few_deaths

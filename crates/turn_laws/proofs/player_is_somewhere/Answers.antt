@@ -1,0 +1,5 @@
+use Rattle.turn_laws.proofs.Claims.{player_is_somewhere}
+use Rattle.turn_laws.proofs.player_is_somewhere.Goals as goal
+
+pub returns : goal.returns
+returns c = player_is_somewhere

@@ -1,0 +1,134 @@
+-- Laws of what only ever goes one way in a game.
+use Rattle.std.specs.Prelude.{◌≡◌, ◌≤◌, ◌<◌, ◌+◌, ◌⊎◌, ℕ, ℤ, pos, negsuc, ◌≤ℤ◌, ◌-ℤ◌, Bool, true}
+use Rattle.std.specs.Prelude.{false, ◌&&◌, if◌then◌else◌, List, Option, Some, None}
+use Rattle.std.specs.Int.{int_min}
+use Rattle.std.specs.Ordering.{int_eq}
+use Rattle.cave_turn.specs.cave_data.CaveView.{CaveView}
+use Rattle.cave_turn.specs.data_rows.declared.place_role.PlaceRole.TheVariants as place
+use Rattle.cave_turn.specs.cave_words.declared.named.Named.TheVariants as name
+use Rattle.cave_turn.specs.cave_world.declared.ending.Question.TheVariants as question
+use Rattle.cave_turn.specs.cave_world.declared.state.State.{State}
+use Rattle.cave_turn.specs.turn_things.Homes.{home, second_home}
+use Rattle.cave_turn.specs.turn_things.Places.{outside_place, place_named}
+use Rattle.cave_turn.specs.turn_scene.Scene.{Scene}
+use Rattle.cave_turn.specs.turn_things.Reach.{has_prop}
+use Rattle.cave_turn.specs.turn_things.Props.{LAMP_ON}
+use Rattle.cave_turn.specs.turn_scene.Rules.{thing}
+use Rattle.cave_turn.specs.cave_world.State.{is_hint_taken, MAX_LOST}
+use Rattle.cave_turn.specs.turn_score.Score.{score_of, max_score_of}
+use Rattle.cave_turn.specs.Answers.{without_question}
+use Rattle.cave_turn.specs.Turns.{turn_on_line, start_of_game}
+use Rattle.turn_laws.specs.Laws.{before_clocks, before_lamp, brings_batteries, is_command, pays}
+
+-- dwarves are awake once their anger is 2
+abbrev pub AreAwake : State → Type 0
+AreAwake s = 2 ≤ s.dwarves.anger
+
+-- what one state has of the closing, of hints and of the dwarves, a later one has too
+pub record IsAfter (s t : State) : Type 0 where
+  pub closing : s.closing.is_closing ≡ true → t.closing.is_closing ≡ true
+  pub closed : s.closing.is_closed ≡ true → t.closing.is_closed ≡ true
+  pub hints : (h : ℕ) → is_hint_taken s h ≡ true → is_hint_taken t h ≡ true
+  pub awake : AreAwake s → AreAwake t
+
+-- no line takes back that the cave is closing or closed, that a hint was taken, or that the dwarves
+-- are awake
+abbrev pub NothingGoesBack : Type 0
+NothingGoesBack =
+    (cave : CaveView) (s : State) (line : List ℕ) → IsAfter s (turn_on_line cave s line).state
+
+-- a closed cave is a closing one, and so is one whose first clock has stopped
+pub record ClosesInOrder (s : State) : Type 0 where
+  pub closed : s.closing.is_closed ≡ true → s.closing.is_closing ≡ true
+  pub stopped : s.closing.first_clock ≡ negsuc 0 → s.closing.is_closing ≡ true
+
+-- a game begins so, and each line keeps it so
+pub record ClosedIsClosing : Type 0 where
+  pub start : (cave : CaveView) (seed : ℕ) → ClosesInOrder (start_of_game cave seed).state
+  pub kept :
+      (cave : CaveView) (s : State) (line : List ℕ) → ClosesInOrder s
+      → ClosesInOrder (turn_on_line cave s line).state
+
+-- no more treasures count as unseen than did, and no fewer as lost, up to the most that are counted
+pub record TreasuresAfter (s t : State) : Type 0 where
+  pub unseen : t.tallies.unseen ≤ s.tallies.unseen
+  pub lost : s.tallies.lost ≤ MAX_LOST → s.tallies.lost ≤ t.tallies.lost
+
+-- each line keeps to that
+abbrev pub TreasuresGoOneWay : Type 0
+TreasuresGoOneWay =
+    (cave : CaveView) (s : State) (line : List ℕ)
+    → TreasuresAfter s (turn_on_line cave s line).state
+
+-- no state scores more than the greatest score of its cave
+abbrev pub NoScoreIsGreater : Type 0
+NoScoreIsGreater = (cave : CaveView) (s : State) → score_of cave s ≤ max_score_of cave
+
+-- nobody is asked in a closing cave whether to come back from death
+abbrev pub IsAskedInTime : State → Type 0
+IsAskedInTime s = s.question ≡ Some question.Die → s.closing.is_closing ≡ false
+
+-- a game begins so, and each line keeps it so
+pub record AskedInTime : Type 0 where
+  pub start : (cave : CaveView) (seed : ℕ) → IsAskedInTime (start_of_game cave seed).state
+  pub kept :
+      (cave : CaveView) (s : State) (line : List ℕ) → IsAskedInTime s
+      → IsAskedInTime (turn_on_line cave s line).state
+
+-- deaths don't get fewer, of the three that are counted at most, and rise by one at most
+pub record DeathsAfter (s t : State) : Type 0 where
+  pub no_fewer : s.tallies.deaths ≤ 3 → s.tallies.deaths ≤ t.tallies.deaths
+  pub one_more : t.tallies.deaths ≤ s.tallies.deaths + 1
+
+-- each line keeps to that where nobody is asked in a closing cave whether to come back
+abbrev pub DeathsComeOneByOne : Type 0
+DeathsComeOneByOne =
+    (cave : CaveView) (s : State) (line : List ℕ) → IsAskedInTime s
+    → DeathsAfter s (turn_on_line cave s line).state
+
+-- the places outside the cave are those from 1 to the last of them
+abbrev pub IsOutsideCave : CaveView → ℕ → Type 0
+IsOutsideCave cave place = (1 ≤ place) × (place ≤ outside_place cave)
+
+-- where the player is put is not outside: the northeast end of the repository, and where the dragon
+-- dies, which is between its places
+pub record PutsInside (cave : CaveView) : Type 0 where
+  pub repository : (ne : ℕ) → place_named cave place.Ne ≡ Some ne → ¬ IsOutsideCave cave ne
+  pub dragon : ¬ IsOutsideCave cave (home cave (thing cave name.Dragon))
+  pub second : ¬ IsOutsideCave cave (second_home cave (thing cave name.Dragon))
+
+-- a line that leaves the cave closing leaves nobody outside who wasn't there before
+abbrev pub NobodyGetsOut : Type 0
+NobodyGetsOut =
+    (cave : CaveView) (s : State) (line : List ℕ) → PutsInside cave → IsAskedInTime s
+    → (let t = (turn_on_line cave s line).state in
+    t.closing.is_closing ≡ true → IsOutsideCave cave t.trail.here → t.trail.here ≡ s.trail.here)
+
+-- the lamp is reached while it is lit
+abbrev pub is_lit : CaveView → Option Scene → Bool
+is_lit cave None = false
+is_lit cave (Some p) = has_prop p.state (thing cave name.Lamp) LAMP_ON
+
+-- a line is a command in which the lamp burns
+abbrev pub burns : CaveView → State → List ℕ → Bool
+burns cave s line =
+    is_command cave s line
+    && is_lit cave (before_lamp cave (before_clocks cave (without_question s)))
+
+-- the charge after a turn in which the lamp burns, or doesn't: it goes out as its last turn is
+-- burnt
+abbrev pub charge_after : Bool → ℤ → ℤ
+charge_after burns charge =
+    if burns then (if int_eq charge (pos 1) then negsuc 0 else charge -ℤ pos 1) else charge
+
+-- a charge above 0 goes down by one in each command in which the lamp burns, and by no other line;
+-- to 35 where a treasure is found, too. It rises by nothing but the instructions, a hint and, in a
+-- command, new batteries
+abbrev pub LampBurnsByOne : Type 0
+LampBurnsByOne =
+    (cave : CaveView) (s : State) (line : List ℕ) → pos 1 ≤ℤ s.lamp.charge
+    → pays cave line s.question ≡ false → brings_batteries cave s line ≡ false
+    → (let t = (turn_on_line cave s line).state in
+    let charge = charge_after (burns cave s line) s.lamp.charge in
+    (t.lamp.charge ≡ charge)
+    ⊎ ((t.lamp.charge ≡ int_min charge (pos 35)) × (t.tallies.unseen < s.tallies.unseen)))

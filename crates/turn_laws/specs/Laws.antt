@@ -1,0 +1,154 @@
+-- Laws of the game: each says what a line makes of any state in any cave.
+use Rattle.std.specs.Prelude.{◌≡◌, ◌≤◌, ◌⊎◌, ℕ, negsuc, ◌≤ℤ◌, Bool, false, true, ◌&&◌, not, List}
+use Rattle.std.specs.Prelude.{[], Option, None, Some, is_some, if◌then◌else◌}
+use Rattle.cave_turn.specs.cave_data.CaveView.{CaveView}
+use Rattle.cave_turn.specs.base_lines.LogLine.{IsSeedLine, log_line}
+use Rattle.cave_turn.specs.base_lines.declared.log_line.LogLine.{LogLine}
+use Rattle.cave_turn.specs.base_lines.declared.log_line.LogLine.TheVariants as kind
+use Rattle.cave_turn.specs.cave_words.declared.named.Named.TheVariants as name
+use Rattle.cave_turn.specs.cave_world.Sight.{dark}
+use Rattle.cave_turn.specs.cave_world.declared.ending.Question.{Question}
+use Rattle.cave_turn.specs.cave_world.declared.ending.Question.TheVariants as question
+use Rattle.cave_turn.specs.cave_world.declared.state.State.{State}
+use Rattle.cave_turn.specs.turn_things.Places.{building_place, start_place}
+use Rattle.cave_turn.specs.turn_scene.Scene.{Scene, scene_at_start}
+use Rattle.cave_turn.specs.turn_scene.Rules.{thing}
+use Rattle.cave_turn.specs.turn_clocks.FirstClock.{after_first_clock}
+use Rattle.cave_turn.specs.turn_clocks.Lamp.{burn, can_change_batteries}
+use Rattle.cave_turn.specs.turn_clocks.Repository.{after_second_clock}
+use Rattle.cave_turn.specs.Answers.{answer_in, without_question, is_dragon, is_yes}
+use Rattle.cave_turn.specs.Commands.{begin_command}
+use Rattle.cave_turn.specs.Turns.{Turn, turn_on_line, start_of_game, with_seed, silent_turn}
+
+abbrev pub HasEnded : State → Type 0
+HasEnded s = is_some s.ending ≡ true
+
+abbrev pub IsNoSeedLine : List ℕ → Type 0
+IsNoSeedLine line = (seed : ℕ) → ¬ IsSeedLine line seed
+
+-- nothing is said, no turn passes, and nothing changes but the random stream at a seed line
+pub record IsQuiet (s : State) (line : List ℕ) (t : Turn) : Type 0 where
+  pub says_nothing : t.parts ≡ []
+  pub no_turn : t.ticked ≡ false
+  pub same : t.state ≡ record s { stream = t.state.stream }
+  pub same_stream : IsNoSeedLine line → t.state ≡ s
+
+-- after the end every line is quiet
+abbrev pub EndIsQuiet : Type 0
+EndIsQuiet =
+    (cave : CaveView) (s : State) (line : List ℕ) → HasEnded s
+    → IsQuiet s line (turn_on_line cave s line)
+
+-- a seed line changes the random stream alone, says nothing and is no turn
+abbrev pub SeedsAlone : Type 0
+SeedsAlone =
+    (cave : CaveView) (s : State) (line : List ℕ) (seed : ℕ) → IsSeedLine line seed
+    → turn_on_line cave s line ≡ silent_turn (with_seed s seed)
+
+-- input is any line that is not a comment, not blank and not a seed line
+abbrev pub is_input_kind : LogLine → Bool
+is_input_kind kind.Comment = false
+is_input_kind kind.Blank = false
+is_input_kind (kind.Seed seed) = false
+is_input_kind kind.Input = true
+
+abbrev pub is_input : List ℕ → Bool
+is_input line = is_input_kind (log_line line)
+
+-- a line leaves a question unanswered, and is a command: anything but yes, where the player is
+-- asked whether to fight the dragon
+abbrev pub leaves : CaveView → List ℕ → Question → Bool
+leaves cave line question = is_dragon question && not (is_yes (answer_in cave line))
+
+-- no question is open that the line answers
+abbrev pub is_no_answer : CaveView → List ℕ → Option Question → Bool
+is_no_answer cave line None = true
+is_no_answer cave line (Some question) = leaves cave line question
+
+-- a command is input while the game goes on that answers no question
+abbrev pub is_command : CaveView → State → List ℕ → Bool
+is_command cave s line =
+    is_input line && not (is_some s.ending) && is_no_answer cave line s.question
+
+-- turns are counted for commands, and for nothing else
+abbrev pub CommandsTick : Type 0
+CommandsTick =
+    (cave : CaveView) (s : State) (line : List ℕ)
+    → (turn_on_line cave s line).ticked ≡ is_command cave s line
+
+-- there are at most three deaths, and after the third the game has ended
+pub record HasFewDeaths (s : State) : Type 0 where
+  pub at_most : s.tallies.deaths ≤ 3
+  pub last : s.tallies.deaths ≡ 3 → HasEnded s
+
+-- a game begins so, and each line keeps it so
+pub record FewDeaths : Type 0 where
+  pub start : (cave : CaveView) (seed : ℕ) → HasFewDeaths (start_of_game cave seed).state
+  pub kept :
+      (cave : CaveView) (s : State) (line : List ℕ) → HasFewDeaths s
+      → HasFewDeaths (turn_on_line cave s line).state
+
+-- the player is at place 0, which is none, only where the game has ended, or where the player died
+-- and is asked whether to come back
+abbrev pub IsSomewhere : State → Type 0
+IsSomewhere s = s.trail.here ≡ 0 → HasEnded s ⊎ (s.question ≡ Some question.Die)
+
+-- a game begins so in a cave where the first place isn't 0, and each line keeps it so in a cave
+-- where the building, to which the dead come back, isn't place 0
+pub record PlayerIsSomewhere : Type 0 where
+  pub start :
+      (cave : CaveView) (seed : ℕ) → 1 ≤ start_place cave
+      → IsSomewhere (start_of_game cave seed).state
+  pub kept :
+      (cave : CaveView) (s : State) (line : List ℕ) → 1 ≤ building_place cave → IsSomewhere s
+      → IsSomewhere (turn_on_line cave s line).state
+
+-- two questions are about a price that the lamp gains by: the instructions, and a hint
+abbrev pub is_priced : Question → Bool
+is_priced question.Welcome = true
+is_priced (question.Take hint) = true
+is_priced _ = false
+
+-- the player says yes to such a question
+abbrev pub pays : CaveView → List ℕ → Option Question → Bool
+pays cave line None = false
+pays cave line (Some question) = is_yes (answer_in cave line) && is_priced question
+
+-- the scene in which the clocks begin to run, in a command that begins in a state
+abbrev pub before_clocks : CaveView → State → Scene
+before_clocks cave s =
+    let t = begin_command s in scene_at_start (dark cave (thing cave name.Lamp) t) t
+
+-- the lamp isn't reached where the second clock closed the cave
+abbrev pub unless_closed : Option ℕ → Scene → Option Scene
+unless_closed None p = Some p
+unless_closed (Some place) p = None
+
+-- the scene that the clocks leave to the lamp: after the first clock where it has the cave begin
+-- to close, and else after the second
+abbrev pub before_lamp : CaveView → Scene → Option Scene
+before_lamp cave p =
+    let first = after_first_clock cave p in
+    let second = after_second_clock cave first.scene in
+    if first.has_begun then Some first.scene else unless_closed second.place second.scene
+
+-- the lamp is reached, and its batteries are changed: they can be, once a turn is burnt
+abbrev pub is_changed : CaveView → Option Scene → Bool
+is_changed cave None = false
+is_changed cave (Some p) = can_change_batteries cave (burn cave p.state)
+
+-- the lamp gets new batteries in a command that begins in a state
+abbrev pub gets_batteries : CaveView → State → Bool
+gets_batteries cave s = is_changed cave (before_lamp cave (before_clocks cave s))
+
+-- a line is a command in which the lamp gets new batteries; a question that it leaves is closed
+abbrev pub brings_batteries : CaveView → State → List ℕ → Bool
+brings_batteries cave s line = is_command cave s line && gets_batteries cave (without_question s)
+
+-- a charge of at least -1 that the lamp has rises by nothing but the instructions, a hint and, in
+-- a command, new batteries
+abbrev pub LampBurnsDown : Type 0
+LampBurnsDown =
+    (cave : CaveView) (s : State) (line : List ℕ) → negsuc 0 ≤ℤ s.lamp.charge
+    → pays cave line s.question ≡ false → brings_batteries cave s line ≡ false
+    → (turn_on_line cave s line).state.lamp.charge ≤ℤ s.lamp.charge

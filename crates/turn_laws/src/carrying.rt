@@ -1,0 +1,8 @@
+//! Laws of what is carried.
+
+ghost use Rattle.turn_laws.specs.Carrying.{FewCarried};
+
+/// At most eight objects are carried, as a game begins and after each line.
+pub fn few_carried()
+    ensures { FewCarried }
+{}

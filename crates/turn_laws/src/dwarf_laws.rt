@@ -1,0 +1,15 @@
+//! Laws of the dwarves.
+
+ghost use Rattle.turn_laws.specs.DwarfLaws.{FewDwarves, GoneForGood};
+
+/// The dwarves that were killed and those that live are five together at most, and none of the
+/// five lives once the cave is closing: a game begins so, and each line keeps it so where the
+/// player is somewhere.
+pub fn few_dwarves()
+    ensures { FewDwarves }
+{}
+
+/// One of the five dwarves that is gone stays gone, at each line where the player is somewhere.
+pub fn gone_for_good()
+    ensures { GoneForGood }
+{}

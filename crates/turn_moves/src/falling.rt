@@ -1,0 +1,37 @@
+ghost use Rattle.std.specs.Prelude.{◌≡◌, IsTrue};
+ghost use Rattle.turn_moves.specs.Falling.{with_all_left_at, fall_at, falling_here};
+ghost use Rattle.turn_dwarves.specs.turn_scene.Bounds.{GoesOnSaying, HasRoom, parts_of_death};
+ghost use Rattle.turn_dwarves.specs.turn_scene.Scene.{scene_of};
+ghost use Rattle.turn_dwarves.specs.turn_scene.Rules.{cave_of};
+ghost use Rattle.turn_dwarves.specs.cave_world.State.{takes_no_command};
+
+use turn_dwarves::{Place, Rules, Scene, State};
+use turn_ends::die;
+
+fn leave_all_at(place: Place, state: &mut State)
+    ensures { state.new ≡ with_all_left_at place state.old }
+{
+    state.trail.older = place;
+}
+
+/// The player dies, and what is carried will be put at a place once the player comes back.
+#[tactic(auto, unfolding(crate::specs::Falling::fall_at))]
+pub fn fall_at(rules: &Rules<'_>, place: Place, scene: &mut Scene<'_>)
+    requires { HasRoom parts_of_death scene.old }
+    ensures scene { scene_of scene.new ≡ fall_at (cave_of rules.now) place (scene_of scene.old) }
+    ensures says { GoesOnSaying parts_of_death scene.old scene.new }
+    ensures over { IsTrue (takes_no_command scene.new.state.now) }
+{
+    leave_all_at(place, scene.state);
+    die(rules, scene);
+}
+
+/// The player dies here.
+pub fn fall_here(rules: &Rules<'_>, scene: &mut Scene<'_>)
+    requires { HasRoom parts_of_death scene.old }
+    ensures scene { scene_of scene.new ≡ falling_here (cave_of rules.now) (scene_of scene.old) }
+    ensures says { GoesOnSaying parts_of_death scene.old scene.new }
+{
+    let here = scene.state.trail.here;
+    fall_at(rules, here, scene);
+}

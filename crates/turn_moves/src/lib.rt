@@ -1,0 +1,15 @@
+//! Moves: where a motion leads, the bridge, arrival among dwarves, and how a place is described.
+#![tactic(auto)]
+
+pub mod arrival;
+pub mod back;
+pub mod bridge;
+pub mod description;
+pub mod falling;
+pub mod journeys;
+pub mod objects;
+pub mod ways;
+
+pub use arrival::{arrive, describe_here};
+pub use journeys::journey_by_request;
+pub use turn_ends::{ask, count_death, end, max_score, score, tell_question};

@@ -1,0 +1,29 @@
+ghost use Rattle.std.specs.Prelude.{◌≡◌};
+ghost use Rattle.turn_moves.specs.Ways.{journey_here, other_end};
+ghost use Rattle.turn_dwarves.specs.turn_scene.Bounds.{GoesOnSaying, HasRoom};
+ghost use Rattle.turn_dwarves.specs.turn_scene.Scene.{after_saying, scene_of};
+
+use turn_dwarves::{Place, Role, Scene};
+
+/// The other end of a passage between two places, from one of its ends.
+pub fn other_end(here: Place, one: Option<Place>, other: Option<Place>) -> Option<Place>
+    ensures { result ≡ other_end here one other }
+{
+    let one = one?;
+    let other = other?;
+    if here == one {
+        return Some(other);
+    }
+    if here == other { Some(one) } else { None }
+}
+
+/// The player stays, and a role's message is said.
+pub fn stay(scene: &mut Scene<'_>, role: Role) -> Place
+    requires { HasRoom 1 scene.old }
+    ensures journey { record { place = result; scene = scene_of scene.new }
+        ≡ journey_here (after_saying role (scene_of scene.old)) }
+    ensures says { GoesOnSaying 1 scene.old scene.new }
+{
+    scene.say(role);
+    scene.state.trail.here
+}

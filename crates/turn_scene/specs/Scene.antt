@@ -1,0 +1,84 @@
+-- A turn while it is played.
+use Rattle.std.specs.Prelude.{◌≡◌, ℕ, ℤ, Bool, ◌==◌, if◌then◌else◌, List, [], ◌∷◌, ◌++◌}
+use Rattle.cave_world.specs.data_rows.declared.role.Role.{Role}
+use Rattle.cave_world.specs.cave_words.Stream.{next, pct}
+use Rattle.cave_world.specs.State.{state_with_player_at, state_after_set_out}
+use Rattle.cave_world.specs.declared.part.Part.{Part}
+use Rattle.cave_world.specs.declared.part.Part.TheVariants as part
+use Rattle.cave_world.specs.declared.state.State.{State}
+use Rattle.turn_scene.specs.declared.scene.Scene.{Scene as OpenScene}
+
+-- the state, what was said, whether it was dark as the turn began, and the forced motions that are
+-- left in it
+pub record Scene : Type 0 where
+  pub state : State
+  pub parts : List Part
+  pub was_dark : Bool
+  pub left : ℕ
+
+-- the scene of a turn while it is played
+abbrev pub scene_of : OpenScene → Scene
+scene_of scene =
+    record {
+      state = scene.state.now;
+      parts = scene.out.now.items;
+      was_dark = scene.was_dark;
+      left = scene.left;
+    }
+
+-- it is the same state and the same parts that change
+abbrev pub IsSameScene : OpenScene → OpenScene → Type 0
+IsSameScene old new =
+    (new.state.ghost_name ≡ old.state.ghost_name) × (new.out.ghost_name ≡ old.out.ghost_name)
+
+-- the same ones change, and no forced motion was counted
+abbrev pub GoesOn : OpenScene → OpenScene → Type 0
+GoesOn old new = IsSameScene old new × (new.left ≡ old.left)
+
+-- the most forced motions of a turn
+abbrev pub MAX_FORCED_MOTIONS : ℕ
+MAX_FORCED_MOTIONS = 20
+
+-- a turn begins with nothing said, and with all its forced motions
+abbrev pub scene_at_start : Bool → State → Scene
+scene_at_start was_dark s =
+    record { state = s; parts = []; was_dark = was_dark; left = MAX_FORCED_MOTIONS }
+
+abbrev pub with_state : State → Scene → Scene
+with_state s p = record p { state = s }
+
+-- one more part is said
+abbrev pub after_telling : Part → Scene → Scene
+after_telling told p = record p { parts = p.parts ++ told ∷ [] }
+
+-- a role's message is said
+abbrev pub after_saying : Role → Scene → Scene
+after_saying role p = after_telling (part.Role role) p
+
+-- the text of an object for a number is printed, if there is the object
+abbrev pub after_look_at : ℕ → ℤ → Scene → Scene
+after_look_at x v p = if x == 0 then p else after_telling (part.Object x v) p
+
+-- so many forced motions are left
+abbrev pub with_left : ℕ → Scene → Scene
+with_left left p = record p { left = left }
+
+-- where the player is
+abbrev pub here_of : Scene → ℕ
+here_of p = p.state.trail.here
+
+-- the player is at the place
+abbrev pub scene_at_place : ℕ → Scene → Scene
+scene_at_place place p = with_state (state_with_player_at p.state place) p
+
+-- the player sets out: the player's place becomes the one that the player came from
+abbrev pub after_setting_out : Scene → Scene
+after_setting_out p = with_state (state_after_set_out p.state) p
+
+-- the random stream goes on after a draw
+abbrev pub after_draw : Scene → Scene
+after_draw p = let s = p.state in with_state (record s { stream = next s.stream }) p
+
+-- what happens in so many of 100 cases happens now
+abbrev pub happens : ℕ → Scene → Bool
+happens percent p = pct percent p.state.stream

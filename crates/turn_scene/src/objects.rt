@@ -1,0 +1,16 @@
+//! Objects by the numbers that a cave has for them.
+
+ghost use Rattle.std.specs.Prelude.{◌≡◌};
+ghost use Rattle.turn_scene.specs.Rules.{or_no_object};
+
+use cave_world::{LAST_OBJECT, Object};
+
+/// The object of a number; object 0 where there is none.
+pub fn or_no_object(object: Option<u16>) -> Object
+    ensures { result ≡ or_no_object object }
+{
+    match object {
+        Some(number) if number <= LAST_OBJECT => Object::new(number as u8),
+        _ => Object::none(),
+    }
+}

@@ -1,0 +1,85 @@
+//! What a cave says, by which its rules go: the cave, its words, and the objects that rules name.
+
+ghost use Rattle.std.specs.Prelude.{◌≡◌};
+ghost use Rattle.cave_world.specs.cave_words.Lexicon.{IsLexiconOf};
+ghost use Rattle.cave_world.specs.cave_words.Meaning.{meaning};
+ghost use Rattle.cave_world.specs.cave_words.Words.{words_of};
+
+use crate::objects::or_no_object;
+use cave_world::{Cave, Lexicon, Meaning, Named, Object, Word, Words};
+
+/// The rules of a cave: what its database says, and the objects that rules name.
+#[derive(Clone, Copy)]
+pub struct Rules<'a> {
+    pub cave: &'a Cave,
+    pub lexicon: &'a Lexicon,
+    pub ghost words: { IsLexiconOf cave.now lexicon.now },
+}
+
+impl<'a> Rules<'a> {
+    ghost use Rattle.turn_scene.specs.Rules.{cave_of, is_liquid_name, object_called, thing};
+    ghost use Rattle.turn_scene.specs.Rules.{is_called, is_one_of};
+
+    /// The rules of a cave, with the lexicon of that cave.
+    pub fn of(cave: &'a Cave, lexicon: &'a Lexicon) -> Rules<'a>
+        requires { IsLexiconOf cave.now lexicon.now }
+        ensures { cave_of result ≡ cave.now }
+    {
+        Rules { cave, lexicon }
+    }
+
+    /// What a word means.
+    pub fn meaning(&self, word: Word) -> Option<Meaning>
+        ensures { result ≡ meaning (cave_of self.now) word }
+    {
+        self.lexicon.find(word)
+    }
+
+    /// The words of a line.
+    pub fn words_of(&self, line: &[u8]) -> Words
+        ensures { result ≡ words_of (cave_of self.now).letters line.now }
+    {
+        Words::of(line, self.lexicon.letters())
+    }
+
+    /// The object that the word of a name means.
+    #[tactic(auto, unfolding(crate::specs::Rules::object_called))]
+    fn called(&self, name: Named) -> Object
+        ensures { result ≡ object_called (cave_of self.now) name }
+    {
+        or_no_object(self.lexicon.named(self.cave, name))
+    }
+
+    fn is_liquid_name(name: Named) -> bool
+        ensures { result ≡ is_liquid_name name }
+    {
+        matches!(name, Named::Water | Named::Oil)
+    }
+
+    /// The object of a name; object 0 where the cave has none.
+    #[tactic(auto, unfolding(crate::specs::Rules::thing))]
+    pub fn thing(&self, name: Named) -> Object
+        ensures { result ≡ thing (cave_of self.now) name }
+    {
+        let object = self.called(name);
+        if Self::is_liquid_name(name) && object == self.called(Named::Bottle) {
+            return Object::none();
+        }
+        object
+    }
+
+    /// Whether an object is the one of a name.
+    #[tactic(auto, unfolding(crate::specs::Rules::is_called))]
+    pub fn is(&self, object: Object, name: Named) -> bool
+        ensures { result ≡ is_called (cave_of self.now) object name }
+    {
+        !object.is_none() && self.thing(name) == object
+    }
+
+    /// Whether an object is the one of one of the names.
+    pub fn is_one_of(&self, object: Object, names: &[Named]) -> bool
+        ensures { result ≡ is_one_of (cave_of self.now) object names.now }
+    {
+        names.iter().any(|name| self.is(object, *name))
+    }
+}

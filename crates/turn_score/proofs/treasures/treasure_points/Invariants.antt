@@ -1,0 +1,13 @@
+use Rattle.std.proofs.Common.{◌≡◌, ◌+◌, ◌*◌, ◌≤◌}
+use Rattle.turn_things.specs.turn_scene.Rules.{cave_of}
+use Rattle.turn_score.specs.Treasures.{treasure_points}
+use Rattle.turn_score.proofs.Sums.{points_from}
+use Rattle.turn_score.proofs.treasures.treasure_points.Given as goal
+
+-- what was counted so far and what is left are all, and each treasure counts 16 points at most
+abbrev pub invariant-loop-number : goal.invariant-loop-number
+invariant-loop-number l = record {
+  counted : l.points + points_from (cave_of l.rules) l.state l.number
+      ≡ treasure_points (cave_of l.rules) l.state;
+  few : l.points + 800 ≤ 16 * l.number;
+}

@@ -1,0 +1,59 @@
+ghost use Rattle.std.specs.Prelude.{◌≡◌, ◌≤◌};
+ghost use Rattle.turn_things.specs.turn_scene.Rules.{cave_of};
+ghost use Rattle.turn_score.specs.Treasures.{is_seen, is_safe, points_of_treasure, treasure_points};
+ghost use Rattle.turn_score.specs.Treasures.{MAX_TREASURE_POINTS, WORTH_AFTER_CHEST};
+
+use crate::worths::worth;
+use turn_things::props::SEEN;
+use turn_things::treasures::{FIRST_TREASURE, LAST_TREASURE};
+use turn_things::{Object, Rules, State, building_place, has_prop, is_known};
+
+/// What a treasure counts that was seen.
+const POINTS_OF_SEEING: u32 = 2;
+
+fn is_seen(state: &State, treasure: Object) -> bool
+    ensures { result ≡ is_seen state.now treasure }
+{
+    state.objects.prop(treasure).value() >= 0
+}
+
+fn is_safe(rules: &Rules<'_>, state: &State, treasure: Object) -> bool
+    ensures { result ≡ is_safe (cave_of rules.now) state.now treasure }
+{
+    let building = building_place(rules.cave);
+    state.objects.is_first_at(building, treasure) && has_prop(state, treasure, SEEN)
+}
+
+#[tactic(auto, unfolding(crate::specs::Treasures::points_of_treasure))]
+fn points_of_treasure(rules: &Rules<'_>, state: &State, treasure: Object) -> u32
+    ensures value { result ≡ points_of_treasure (cave_of rules.now) state.now treasure }
+    ensures most { result ≤ WORTH_AFTER_CHEST }
+{
+    let seen = if is_seen(state, treasure) {
+        POINTS_OF_SEEING
+    } else {
+        0
+    };
+    let safe = if is_safe(rules, state, treasure) {
+        worth(rules, treasure) - POINTS_OF_SEEING
+    } else {
+        0
+    };
+    seen + safe
+}
+
+/// What the treasures count that the cave knows.
+#[tactic(auto, using(crate::proofs::Sums::points))]
+pub fn treasure_points(rules: &Rules<'_>, state: &State) -> u32
+    ensures value { result ≡ treasure_points (cave_of rules.now) state.now }
+    ensures most { result ≤ MAX_TREASURE_POINTS }
+{
+    let mut points = 0;
+    for number in FIRST_TREASURE..LAST_TREASURE + 1 {
+        let treasure = Object::new(number);
+        if is_known(rules.cave, treasure) {
+            points += points_of_treasure(rules, state, treasure);
+        }
+    }
+    points
+}

@@ -1,0 +1,29 @@
+-- The places that rules name.
+use Rattle.std.specs.Prelude.{ℕ, Option, unwrap_or}
+use Rattle.std.specs.FinMap as map
+use Rattle.turn_scene.specs.cave_data.CaveView.{CaveView}
+use Rattle.turn_scene.specs.data_rows.PlaceRole.{place_number}
+use Rattle.turn_scene.specs.data_rows.declared.place_role.PlaceRole.{PlaceRole}
+use Rattle.turn_scene.specs.data_rows.declared.place_role.PlaceRole.TheVariants as place
+use Rattle.turn_scene.specs.cave_data.Bindings.{DEFAULT_START, DEFAULT_BUILDING, DEFAULT_OUTSIDE}
+use Rattle.turn_scene.specs.cave_data.Bindings.{DEFAULT_DEEP}
+
+-- the place that has a role
+unfoldable pub place_named : CaveView → PlaceRole → Option ℕ
+place_named cave role = map.get cave.places (place_number role)
+
+-- the place where a game begins
+unfoldable pub start_place : CaveView → ℕ
+start_place cave = unwrap_or (place_named cave place.Start) DEFAULT_START
+
+-- the last place outside the cave
+unfoldable pub outside_place : CaveView → ℕ
+outside_place cave = unwrap_or (place_named cave place.Outside) DEFAULT_OUTSIDE
+
+-- the first place of the cave's depths
+unfoldable pub deep_place : CaveView → ℕ
+deep_place cave = unwrap_or (place_named cave place.Deep) DEFAULT_DEEP
+
+-- the place where treasures are to be brought
+unfoldable pub building_place : CaveView → ℕ
+building_place cave = unwrap_or (place_named cave place.Building) DEFAULT_BUILDING

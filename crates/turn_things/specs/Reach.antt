@@ -1,0 +1,59 @@
+-- What the player can get at, and what rules ask of objects. Of an object that isn't there each
+-- test is false.
+use Rattle.std.specs.Prelude.{ℕ, ℤ, Bool, true, false, ◌==◌, ◌&&◌, ◌||◌, not, nat_le, int_le}
+use Rattle.std.specs.Prelude.{if◌then◌else◌, take}
+use Rattle.std.specs.Ordering.{int_eq}
+use Rattle.std.specs.List.{list_any}
+use Rattle.turn_scene.specs.cave_data.CaveView.{CaveView}
+use Rattle.turn_scene.specs.cave_words.declared.named.Named.TheVariants as name
+use Rattle.turn_scene.specs.world_objects.Objects.{is_carried, is_first_at, anchor_of, prop_of}
+use Rattle.turn_scene.specs.world_objects.declared.spot.Anchor.{Anchor}
+use Rattle.turn_scene.specs.world_objects.declared.spot.Anchor.TheVariants as anchor
+use Rattle.turn_scene.specs.cave_world.declared.dwarves.Dwarf.{Dwarf}
+use Rattle.turn_scene.specs.cave_world.declared.state.State.{State}
+use Rattle.turn_scene.specs.Rules.{is_called, thing}
+use Rattle.turn_things.specs.Liquids.{liquid_of, is_liquid}
+use Rattle.turn_things.specs.Treasures.{FIRST_TREASURE, LAST_TREASURE}
+use Rattle.turn_scene.specs.cave_world.Dwarves.{PIRATE}
+
+-- an object is carried: a liquid where the bottle is carried and has it
+unfoldable pub is_in_hand : CaveView → State → ℕ → Bool
+is_in_hand cave s x =
+    if is_called cave x name.Water || is_called cave x name.Oil
+    then is_carried s.objects (thing cave name.Bottle) && is_liquid x (liquid_of cave s)
+    else is_carried s.objects x
+
+-- an object is carried, or its first half is where the player is
+unfoldable pub is_near : CaveView → State → ℕ → Bool
+is_near cave s x = is_in_hand cave s x || is_first_at s.objects s.trail.here x
+
+-- an object has a prop, another one, or one up to a number
+unfoldable pub has_prop : State → ℕ → ℤ → Bool
+has_prop s x v = not (x == 0) && int_eq (prop_of s.objects x) v
+
+unfoldable pub has_other_prop : State → ℕ → ℤ → Bool
+has_other_prop s x v = not (x == 0) && not (int_eq (prop_of s.objects x) v)
+
+unfoldable pub has_prop_up_to : State → ℕ → ℤ → Bool
+has_prop_up_to s x v = not (x == 0) && int_le (prop_of s.objects x) v
+
+-- an object is a treasure, by its number
+abbrev pub is_treasure : ℕ → Bool
+is_treasure x = nat_le FIRST_TREASURE x && nat_le x LAST_TREASURE
+
+abbrev pub is_dwarf_at : ℕ → Dwarf → Bool
+is_dwarf_at place dwarf = dwarf.place == place
+
+-- one of the dwarves before the pirate, once they are angry, is where the player is
+unfoldable pub is_dwarf_here : State → Bool
+is_dwarf_here s =
+    nat_le 2 s.dwarves.anger && list_any (is_dwarf_at s.trail.here) (take PIRATE s.dwarves.each)
+
+abbrev pub is_anchored : Anchor → Bool
+is_anchored anchor.Loose = false
+is_anchored anchor.Fixed = true
+is_anchored (anchor.At place) = true
+
+-- an object can't be moved
+unfoldable pub is_fixed : State → ℕ → Bool
+is_fixed s x = is_anchored (anchor_of s.objects x)

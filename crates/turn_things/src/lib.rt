@@ -1,0 +1,33 @@
+//! What rules name and ask: objects and places, conditions, liquids, reach, and what is done to
+//! objects.
+#![tactic(auto)]
+
+pub mod conditions;
+pub mod effects;
+pub mod homes;
+pub mod liquids;
+pub mod panicking;
+pub mod places;
+pub mod props;
+pub mod reach;
+pub mod special_words;
+pub mod treasures;
+
+pub use conditions::{PlaceCondition, has_condition_of};
+pub use effects::{let_go, lose_one, lose_to_snake, put_down, remove_troll};
+pub use homes::{hold, home, is_at_home, is_home_elsewhere, is_home_here, second_home};
+pub use liquids::{is_liquid, lake, liquid};
+pub use places::{building_place, deep_place, is_place, outside_place, place_named, start_place};
+pub use reach::{
+    has_other_prop, has_prop, has_prop_up_to, is_dwarf_here, is_fixed, is_in_hand, is_near,
+    is_treasure,
+};
+pub use special_words::special;
+pub use treasures::is_known;
+pub use turn_scene::{
+    Anchor, CLUE_HINT, Cave, Charge, Condition, Count, DWARVES, Destination, Dwarf, Ending, HINTS,
+    Half, Hint, HintNumber, Knife, LIVES, LOW_CHARGE, MAX_DETAILS, MAX_TREASURES,
+    MAX_TURNS_IN_AREA, Magic, Motion, Named, NumberLine, OBJECTS, Object, Objects, Outcome, PIRATE,
+    Part, Place, PlaceRole, Prop, Question, Rating, Role, Row, Rules, Scene, Special, State,
+    Stream, Word, WordLine, forced, or_no_object, travel,
+};

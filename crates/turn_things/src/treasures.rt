@@ -1,0 +1,17 @@
+ghost use Rattle.std.specs.Prelude.{◌≡◌};
+ghost use Rattle.turn_things.specs.Treasures.{is_known};
+
+use turn_scene::{Cave, Object};
+
+/// The least number of a treasure.
+pub const FIRST_TREASURE: u8 = 50;
+
+/// The greatest number of a treasure.
+pub const LAST_TREASURE: u8 = 79;
+
+/// Whether a cave has an inventory text for an object.
+pub fn is_known(cave: &Cave, object: Object) -> bool
+    ensures { result ≡ is_known cave.now object }
+{
+    cave.name(u16::from(object.number())).is_some()
+}

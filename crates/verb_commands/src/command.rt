@@ -1,0 +1,70 @@
+ghost use Rattle.std.specs.Prelude.{◌≡◌, [], ◌∷◌};
+ghost use Rattle.turn_things.specs.turn_scene.Bounds.{GoesOnSaying, HasRoom};
+ghost use Rattle.turn_things.specs.turn_scene.Scene.{scene_of};
+ghost use Rattle.turn_things.specs.turn_scene.Rules.{cave_of};
+ghost use Rattle.verb_commands.specs.Effects.{after_default, default, ask_what};
+ghost use Rattle.verb_commands.specs.Rows.{DoneByRow, keeps, row, row_then};
+
+use crate::next::Next;
+use crate::verb::Verb;
+use turn_things::{Object, Part, Rules, Scene, Word, WordLine};
+
+/// What a verb is to do: what the player commands, or what a row goes on with.
+#[derive(Clone, Copy, Debug, PartialEq, Eq)]
+pub struct Command {
+    pub verb: Verb,
+    /// The object that it is done to; object 0 is none.
+    pub object: Object,
+    /// The verb that the player commands.
+    pub commanded: Verb,
+    /// The word that was just read.
+    pub word: Word,
+}
+
+/// The message that the cave gives an action is said, if there is one.
+pub fn tell_default(rules: &Rules<'_>, number: u16, scene: &mut Scene<'_>)
+    requires { HasRoom 1 scene.old }
+    ensures scene { scene_of scene.new
+        ≡ after_default (cave_of rules.now) number (scene_of scene.old) }
+    ensures says { GoesOnSaying 1 scene.old scene.new }
+{
+    let message = rules.cave.default_of(number);
+    if message != 0 {
+        scene.tell(Part::Message(message));
+    }
+}
+
+impl Command {
+    ghost use Rattle.verb_commands.specs.Deeds.{command_of};
+
+    /// What a player commands.
+    pub fn of(verb: Verb, object: Object, word: Word) -> Command
+        ensures { result ≡ command_of verb object word }
+    {
+        Command {
+            verb,
+            object,
+            commanded: verb,
+            word,
+        }
+    }
+
+    /// The message that the cave gives the verb is said, if there is one.
+    pub fn say_default(self, rules: &Rules<'_>, scene: &mut Scene<'_>) -> Next
+        requires { HasRoom 1 scene.old }
+        ensures row { DoneByRow (row [] (default ∷ [])) rules.now self scene.old scene.new result }
+    {
+        tell_default(rules, self.verb.number(), scene);
+        Next::Stay
+    }
+
+    /// The word that was just read is asked back, and the verb is kept for the next line.
+    pub fn ask_what(self, rules: &Rules<'_>, scene: &mut Scene<'_>) -> Next
+        requires { HasRoom 1 scene.old }
+        ensures row { DoneByRow (row_then [] (ask_what ∷ []) keeps) rules.now self scene.old
+            scene.new result }
+    {
+        scene.tell(Part::Word(WordLine::What, self.word));
+        Next::Keep
+    }
+}

@@ -1,0 +1,83 @@
+-- For each place the list of the halves that are there, latest first.
+use Rattle.std.specs.Prelude.{◌≡◌, ℕ, ◌<◌, ◌≤◌, ◌==◌, Bool, not, nat_lt, if◌then◌else◌, List, []}
+use Rattle.std.specs.Prelude.{◌∷◌, map, filter, Option, Some, None}
+use Rattle.world_objects.specs.declared.object.Half.{Half}
+use Rattle.world_objects.specs.declared.lists.PlacedHalf.{PlacedHalf}
+use Rattle.world_objects.specs.Halves.{object_of, half_number, last_half}
+
+-- the entries are in the order of their places, and those of one place are its list
+abbrev pub halves_at : ℕ → List PlacedHalf → List Half
+halves_at place entries = map (λ e. e.half) (filter (λ e. e.place == place) entries)
+
+-- the lists without the half of a number
+unfoldable pub without : ℕ → List PlacedHalf → List PlacedHalf
+without number entries = filter (λ e. not (half_number e.half == number)) entries
+
+-- an entry put at the front of the list of its place
+unfoldable pub put_first : PlacedHalf → List PlacedHalf → List PlacedHalf
+put_first first [] = first ∷ []
+put_first first (e ∷ es) = if nat_lt e.place first.place then e ∷ put_first first es
+    else first ∷ e ∷ es
+
+-- a half at the front of the list of the place, or in no list
+abbrev pub with_half : Half → Option ℕ → List PlacedHalf → List PlacedHalf
+with_half half None lists = lists
+with_half half (Some place) lists = put_first (record { place = place; half = half }) lists
+
+-- a half at the front of the list of the place, or in no list, once it was taken from the list in
+-- which it was
+unfoldable pub after_relist : Half → Option ℕ → List PlacedHalf → List PlacedHalf
+after_relist half place lists = with_half half place (without (half_number half) lists)
+
+-- the halves of a list except that of a number
+unfoldable pub others : ℕ → List Half → List Half
+others number halves = filter (λ h. not (half_number h == number)) halves
+
+-- the list of a place once a half was put at the front of the list of another, or in no list
+unfoldable pub listed_at : ℕ → Half → Option ℕ → List Half → List Half
+listed_at q half None halves = others (half_number half) halves
+listed_at q half (Some place) halves =
+    let rest = others (half_number half) halves in if place == q then half ∷ rest else rest
+
+-- from the old lists to the new ones a half went to the front of the list of a place, or to no
+-- list, and nothing else changed
+abbrev pub AreRelisted : List PlacedHalf → List PlacedHalf → Half → Option ℕ → Type 0
+AreRelisted old new half place = (q : ℕ)
+    → halves_at q new ≡ listed_at q half place (halves_at q old)
+
+-- no entry has a half of this number
+abbrev pub Lacks : ℕ → List PlacedHalf → Type 0
+Lacks number [] = Unit {0}
+Lacks number (e ∷ es) = (half_number e.half ≡ number → ⊥) × Lacks number es
+
+-- no entry has a place before this one
+abbrev pub StartsAt : ℕ → List PlacedHalf → Type 0
+StartsAt place [] = Unit {0}
+StartsAt place (e ∷ es) = (place ≤ e.place) × StartsAt place es
+
+-- an entry has a half of an object, and a place where it can be
+abbrev pub IsEntry : PlacedHalf → Type 0
+IsEntry e = (0 < object_of e.half) × (0 < e.place)
+
+-- each is an entry, no half is there twice, and places ascend
+abbrev pub AreLists : List PlacedHalf → Type 0
+AreLists [] = Unit {0}
+AreLists (e ∷ es) =
+    IsEntry e
+    × ((half_number e.half ≤ last_half)
+    × (Lacks (half_number e.half) es × (StartsAt e.place es × AreLists es)))
+
+-- the half of a number is nowhere but at the place
+abbrev pub IsOnlyAt : ℕ → Option ℕ → List PlacedHalf → Type 0
+IsOnlyAt number from [] = Unit {0}
+IsOnlyAt number from (e ∷ es) = (half_number e.half ≡ number → from ≡ Some e.place)
+    × IsOnlyAt number from es
+
+-- a half of an object, which is nowhere
+abbrev pub IsNew : Half → List PlacedHalf → Type 0
+IsNew half es =
+    (0 < object_of half) × ((half_number half ≤ last_half) × Lacks (half_number half) es)
+
+-- the entry has the half of a number
+abbrev pub has_half : ℕ → PlacedHalf → Bool
+has_half number e = half_number e.half == number

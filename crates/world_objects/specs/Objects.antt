@@ -1,0 +1,97 @@
+-- What holds of objects, and what is done to them. Object 0 is no object: no test of it holds, and
+-- nothing is done to it.
+use Rattle.std.specs.Prelude.{ℕ, ℤ, pos, ◌-◌, Bool, not, ◌==◌, ◌&&◌, ◌||◌, if◌then◌else◌, List, []}
+use Rattle.std.specs.Prelude.{filter, slice_index_or, slice_set, replicate}
+use Rattle.std.specs.List.{range_with_len}
+use Rattle.world_objects.specs.declared.object.Half.TheVariants.{First, Second}
+use Rattle.world_objects.specs.declared.spot.Spot.{Spot}
+use Rattle.world_objects.specs.declared.spot.Spot.TheVariants as spot
+use Rattle.world_objects.specs.declared.spot.Anchor.{Anchor}
+use Rattle.world_objects.specs.declared.spot.Anchor.TheVariants as anchor
+use Rattle.world_objects.specs.Layout.{Layout}
+use Rattle.world_objects.specs.Lists.{after_relist}
+use Rattle.world_objects.specs.Spots.{spot_at, place_of_spot, is_carried_spot, is_away_spot}
+use Rattle.world_objects.specs.Spots.{place_of_anchor, is_place}
+use Rattle.data_numbers.specs.Numbers.{LAST_OBJECT}
+
+-- where the first half of an object is
+unfoldable pub spot_of : Layout → ℕ → Spot
+spot_of o x = if x == 0 then spot.Away else slice_index_or o.first (x - 1) spot.Away
+
+-- what holds an object where it is
+unfoldable pub anchor_of : Layout → ℕ → Anchor
+anchor_of o x = if x == 0 then anchor.Loose else slice_index_or o.second (x - 1) anchor.Loose
+
+unfoldable pub prop_of : Layout → ℕ → ℤ
+prop_of o x = if x == 0 then pos 0 else slice_index_or o.props (x - 1) (pos 0)
+
+unfoldable pub is_carried : Layout → ℕ → Bool
+is_carried o x = is_carried_spot (spot_of o x)
+
+-- its first half is nowhere; object 0 is not gone
+unfoldable pub is_gone : Layout → ℕ → Bool
+is_gone o x = not (x == 0) && is_away_spot (spot_of o x)
+
+-- its first half is at the place
+unfoldable pub is_first_at : Layout → ℕ → ℕ → Bool
+is_first_at o place x = is_place place (place_of_spot (spot_of o x))
+
+-- one of its halves is at the place
+unfoldable pub is_object_at : Layout → ℕ → ℕ → Bool
+is_object_at o place x = is_first_at o place x || is_place place (place_of_anchor (anchor_of o x))
+
+-- it is carried, or its first half is at the place
+unfoldable pub is_at_hand : Layout → ℕ → ℕ → Bool
+is_at_hand o place x = is_carried o x || is_first_at o place x
+
+-- of the objects from 1 on so many, those that are carried
+unfoldable pub carried_up_to : Layout → ℕ → List ℕ
+carried_up_to o n = filter (is_carried o) (range_with_len 1 n)
+
+-- the objects that are carried, ascending
+abbrev pub carried_objects : Layout → List ℕ
+carried_objects o = carried_up_to o LAST_OBJECT
+
+-- the first half of an object moved to a spot
+unfoldable pub with_spot : Layout → ℕ → Spot → Layout
+with_spot o x s = if x == 0 then o
+    else record o {
+      first = slice_set o.first (x - 1) s;
+      lists = after_relist (First x) (place_of_spot s) o.lists;
+    }
+
+-- another anchor for an object: its second half goes to the front of the anchor's place, or is in
+-- no list
+unfoldable pub with_anchor : Layout → ℕ → Anchor → Layout
+with_anchor o x a = if x == 0 then o
+    else record o {
+      second = slice_set o.second (x - 1) a;
+      lists = after_relist (Second x) (place_of_anchor a) o.lists;
+    }
+
+-- another prop for an object
+unfoldable pub with_prop : Layout → ℕ → ℤ → Layout
+with_prop o x v = if x == 0 then o else record o { props = slice_set o.props (x - 1) v }
+
+-- the first half moved to the front of a place's list; place 0 is nowhere
+unfoldable pub after_move_to : Layout → ℕ → ℕ → Layout
+after_move_to o x place = with_spot o x (spot_at place)
+
+-- the first half taken from its list and carried, if it isn't carried yet
+unfoldable pub after_carry : Layout → ℕ → Layout
+after_carry o x = if is_carried o x then o else with_spot o x spot.Carried
+
+-- both halves put to the front of the lists that they are in, if it isn't carried
+unfoldable pub after_juggle : Layout → ℕ → Layout
+after_juggle o x = if is_carried o x then o else let once = with_spot o x (spot_of o x) in
+    with_anchor once x (anchor_of once x)
+
+-- objects of which none is placed
+unfoldable pub unplaced_objects : Layout
+unplaced_objects =
+    record {
+      first = replicate LAST_OBJECT spot.Away;
+      second = replicate LAST_OBJECT anchor.Loose;
+      props = replicate LAST_OBJECT (pos 0);
+      lists = [];
+    }

@@ -1,0 +1,52 @@
+-- Spots and anchors as numbers: two are for what is at no place, and each further one is for a
+-- place.
+use Rattle.std.specs.Prelude.{◌≡◌, ◌≢◌, ℕ, zero, suc, ◌+◌, ◌≤◌, refl}
+use Rattle.world_objects.specs.declared.spot.Spot.{Spot}
+use Rattle.world_objects.specs.declared.spot.Spot.TheVariants as spot
+use Rattle.world_objects.specs.declared.spot.Anchor.{Anchor}
+use Rattle.world_objects.specs.declared.spot.Anchor.TheVariants as anchor
+use Rattle.data_numbers.specs.Numbers.{LAST_PLACE}
+
+abbrev pub code_of_spot : Spot → ℕ
+code_of_spot spot.Away = 0
+code_of_spot spot.Carried = 1
+code_of_spot (spot.At place) = suc (suc place)
+
+abbrev pub spot_of_code : ℕ → Spot
+spot_of_code zero = spot.Away
+spot_of_code (suc zero) = spot.Carried
+spot_of_code (suc (suc place)) = spot.At place
+
+abbrev pub code_of_anchor : Anchor → ℕ
+code_of_anchor anchor.Loose = 0
+code_of_anchor anchor.Fixed = 1
+code_of_anchor (anchor.At place) = suc (suc place)
+
+abbrev pub anchor_of_code : ℕ → Anchor
+anchor_of_code zero = anchor.Loose
+anchor_of_code (suc zero) = anchor.Fixed
+anchor_of_code (suc (suc place)) = anchor.At place
+
+-- a code is of a place where something can be, or of no place
+abbrev pub IsCode : ℕ → Type 0
+IsCode code = (code ≤ LAST_PLACE + 2) × (code ≢ 2)
+
+pub spot_back : (code : ℕ) → code_of_spot (spot_of_code code) ≡ code
+spot_back zero = refl
+spot_back (suc zero) = refl
+spot_back (suc (suc place)) = refl
+
+pub anchor_back : (code : ℕ) → code_of_anchor (anchor_of_code code) ≡ code
+anchor_back zero = refl
+anchor_back (suc zero) = refl
+anchor_back (suc (suc place)) = refl
+
+pub code_of_spot_back : (s : Spot) → spot_of_code (code_of_spot s) ≡ s
+code_of_spot_back spot.Away = refl
+code_of_spot_back spot.Carried = refl
+code_of_spot_back (spot.At place) = refl
+
+pub code_of_anchor_back : (a : Anchor) → anchor_of_code (code_of_anchor a) ≡ a
+code_of_anchor_back anchor.Loose = refl
+code_of_anchor_back anchor.Fixed = refl
+code_of_anchor_back (anchor.At place) = refl

@@ -1,0 +1,5 @@
+use Rattle.cave_world.specs.world_objects.SameObjects.{objects_decides}
+use Rattle.world_packed.proofs.packed_state.are_same.Goals as goal
+
+pub returns : goal.returns
+returns c = rw c.eq.ensures (objects_decides c.args.objects.now c.args.others.now)

@@ -1,0 +1,9 @@
+use Rattle.std.specs.Cmp.{unsigned_Decides}
+use Rattle.std.specs.Cmp.Lexicographic.{pointwise_decides}
+use Rattle.world_packed.specs.Packed.{unvisited_block}
+use Rattle.world_packed.proofs.visited.is_unvisited.Goals as goal
+
+pub returns : goal.returns
+returns c =
+    rw (c.eq.ensures, c.new.ensures)
+    (pointwise_decides unsigned_Decides c.args.block.now unvisited_block)

@@ -1,0 +1,8 @@
+//! How a checkpoint keeps the state of a game: in a small form.
+#![tactic(auto)]
+
+mod packed_state;
+mod visited;
+
+pub use cave_world::{Ending, Lexicon, Object, Out, Part, State, Stream};
+pub use packed_state::PackedState;
