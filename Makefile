@@ -1,4 +1,4 @@
-.PHONY: try play test soak suite graphviz map install
+.PHONY: try play checks test soak suite duel graphviz map install
 
 PREFIX ?= $(HOME)/.local
 PROGRAM = crates/cave/out/cave
@@ -26,40 +26,58 @@ play: $(PROGRAM)
 $(PROGRAM): $(SOURCES)
 	@mkdir -p crates/cave/out
 	@echo "Proving and building. What is said goes into out/build.log."
-	@cd crates/cave && ../../bench/progress cave ../../out/build.log rt run -- $(FIRST_GAME)
+	@cd crates/cave && ../../tools/progress cave ../../out/build.log rt run -- $(FIRST_GAME)
 	@touch $@
 
-# The lines that must not compile, names that nobody uses, and what the documents show; then the gate:
-# each proof from nothing, the edits that must fail, each of which has to compile, the tests and the
-# program; and then the suite with the program that was proved, and what the suite leaves out.
-test:
-	bench/snippets
-	bench/unused
-	logs/documents
-	logs/strict
+# What takes seconds and needs no proof and no program: what nobody uses, functions that don't go by
+# the word of their definition, what the pages name and show, and that the checks of pages and of
+# suites fail what they should.
+checks:
+	tools/check-unused
+	tools/check-names
+	tools/check-numbers
+	tools/check-pages
+	tools/check-strict
+	logs/tools/check-documents
+	logs/tools/check-runner
+
+# Those checks, and the lines that must not compile; then the gate: each proof from nothing, the
+# edits that must fail, each of which has to compile, the tests and the program; and then the suite
+# with the program that was proved, and what the suite leaves out; and last the second opinion.
+test: checks
+	tools/check-refused-lines
 	@mkdir -p out
-	bench/manual docs/PROGRAM.md > out/cave.1
-	bench/progress all out/test.log rt ci
+	tools/manual docs/PROGRAM.md > out/cave.1
+	tools/progress all out/test.log rt ci
 	@tail -n 1 out/test.log
 	@! grep 'BAD EDIT' out/test.log
 	logs/run $(PROGRAM)
-	logs/large $(PROGRAM)
-	logs/coverage $(PROGRAM)
-	logs/maps $(PROGRAM)
+	logs/tools/check-large-cave $(PROGRAM)
+	logs/tools/check-coverage $(PROGRAM)
+	logs/tools/check-maps $(PROGRAM)
+	model/suite
+	model/duel $(PROGRAM) --count 300 --databases 1000 --seed 1 --quiet
 
 # What takes too long for the gate, after it: cut inputs, each allocation refused in turn, small wrong
-# bodies, and the example of a new rule. It prints a line for each part.
+# bodies, the example of a new rule, and the long duel. It prints a line for each part.
 soak: $(PROGRAM)
-	bench/soak
+	tools/soak
 
 # Plays each log of logs/ with the program, and compares what it says with the transcript beside it.
-suite: $(PROGRAM)
-	@logs/documents
-	@logs/strict
+suite: checks $(PROGRAM)
 	@logs/run $(PROGRAM)
-	@logs/large $(PROGRAM)
-	@logs/coverage $(PROGRAM)
-	@logs/maps $(PROGRAM)
+	@logs/tools/check-large-cave $(PROGRAM)
+	@logs/tools/check-coverage $(PROGRAM)
+	@logs/tools/check-maps $(PROGRAM)
+
+# Plays random games, and reads mutated databases, with the program and with the model in Python, and
+# compares what both say. Case N of a seed is the same for any counts and jobs.
+COUNT ?= 300
+DATABASES ?= 1000
+SEED ?= 1
+JOBS ?= $(shell nproc)
+duel: $(PROGRAM)
+	@model/duel $(PROGRAM) --count $(COUNT) --databases $(DATABASES) --seed $(SEED) --jobs $(JOBS)
 
 graphviz:
 	@command -v dot > /dev/null || { echo "There is no \`dot\`, which draws maps:" \
@@ -76,5 +94,5 @@ map: graphviz $(PROGRAM)
 install: $(PROGRAM)
 	install -D -m 755 $(PROGRAM) $(PREFIX)/bin/cave
 	@mkdir -p out
-	bench/manual docs/PROGRAM.md > out/cave.1
+	tools/manual docs/PROGRAM.md > out/cave.1
 	install -D -m 644 out/cave.1 $(PREFIX)/share/man/man1/cave.1
