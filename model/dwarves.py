@@ -1,0 +1,188 @@
+"""The five dwarves and the pirate (docs/TURN.md, Dwarves)."""
+
+import terms
+from state import DWARVES, PIRATE
+from tables import EFFECTS, TESTS, phrases, rule, tables
+
+MOST_OFFERED = 19
+TREASURES = range(50, 80)
+
+
+def act(game):
+    """What they do as the player arrives."""
+    ANGER.apply(game)
+
+
+def wake(game):
+    game.anger = 2
+    for _ in range(2):
+        drawn = game.draw(5)
+        if game.happens(50):
+            rule("waking: one of two is gone")
+            game.dwarf_at[drawn] = 0
+    aside = game.cave.place("dwarfalt")
+    for it in DWARVES:
+        if game.dwarf_at[it] == game.here and aside:
+            rule("waking: one steps aside")
+            game.dwarf_at[it] = aside
+        game.dwarf_was[it] = game.dwarf_at[it]
+
+
+def offered(game, it):
+    """The places that the rows of a dwarf's place offer it."""
+    cave, places = game.cave, []
+    for target, _ in cave.travel.get(game.dwarf_at[it], []):
+        place = target % 1000
+        if not (
+            target // 1000 == 100 or not 15 <= place <= 300
+            or place in (game.dwarf_at[it], game.dwarf_was[it]) or places[-1:] == [place]
+            or cave.is_forced(place) or it == PIRATE and cave.has(place, 3)
+        ):
+            places.append(place)
+    if len(places) > MOST_OFFERED:
+        rule("moving: more than 19 places")
+    if not places:
+        rule("moving: back to the old place")
+    return places[:MOST_OFFERED] or [game.dwarf_was[it]]
+
+
+def step(game, it):
+    """A dwarf moves. Whether it sees the player then."""
+    places = offered(game, it)
+    chosen = places[game.draw(len(places))]
+    game.dwarf_was[it], game.dwarf_at[it] = game.dwarf_at[it], chosen
+    is_deep = game.here >= game.cave.place("deep")
+    sees = game.dwarf_saw[it] and is_deep or game.here in (chosen, game.dwarf_was[it])
+    if sees:
+        rule("moving: sees the player")
+        game.dwarf_at[it] = game.here
+    elif game.dwarf_saw[it]:
+        rule("moving: loses the player")
+    game.dwarf_saw[it] = sees
+    return sees
+
+
+def move_all(game):
+    """The five move, and may throw; then the pirate moves; and it is said what they did."""
+    game.seeing = game.knives = game.hits = 0
+    for it in DWARVES:
+        if game.dwarf_at[it] and step(game, it):
+            game.seeing += 1
+            if game.dwarf_was[it] == game.here:
+                throw(game)
+    if game.dwarf_at[PIRATE] and step(game, PIRATE):
+        meet_pirate(game)
+    SAID_OF_DWARVES.apply(game)
+    if game.knives and game.anger == 2:
+        rule("knives: dwarves are angrier by the first")
+        game.anger = 3
+    SAID_OF_KNIVES.apply(game)
+
+
+def throw(game):
+    """A knife is thrown, and hits or not."""
+    game.knives += 1
+    if game.knife >= 0:
+        game.knife = game.here
+    else:
+        rule("knives: none lies any more")
+    if game.draw(1000) < 95 * (game.anger - 2):
+        game.hits += 1
+
+
+phrases(TESTS, {
+    "the anger is {N}": lambda game, anger: game.anger == anger,
+    "the place is deep": lambda game: game.here >= game.cave.place("deep"),
+    "{N} (dwarves|knives|hits)":
+        lambda game, count, of: count == getattr(game, of.replace("dwarves", "seeing")),
+})
+phrases(EFFECTS, {
+    "they are stirring": lambda game: vars(game).update(anger=1),
+    "they wake": wake,
+    "they move": move_all,
+    "how many dwarves":
+        lambda game: game.line(
+            f"There are {game.seeing} threatening little dwarves in the room with you."),
+    "how many knives": lambda game: game.line(f"{game.knives} of them throw knives at you!"),
+    "how many hits": lambda game: game.line(f"{game.hits} of them get you!"),
+})
+
+ANGER, SAID_OF_DWARVES, SAID_OF_KNIVES = tables("""
+    anger
+        the anger is 0, the place is deep | they are stirring
+        the anger is 0 | nothing
+        the anger is 1, the place isn't deep | nothing
+        the anger is 1, draw 95 of 100 | nothing
+        the anger is 1 | they wake; say axe-thrown; bring AXE
+        | they move
+    dwarves
+        0 dwarves | nothing
+        1 dwarves | say dwarf-one
+        | how many dwarves
+    knives
+        0 knives | nothing
+        1 knives, 0 hits | say knife-one; say miss-one
+        1 knives | say knife-one; say hit-one; die here
+        0 hits | how many knives; say miss-all
+        1 hits | how many knives; say hit-many; die here
+        | how many knives; how many hits; die here
+    """).values()
+
+# ---- The pirate
+
+
+def meet_pirate(game):
+    chest = game.thing("CHEST")
+    if game.is_at("chest") or chest and game.prop[chest] >= 0:
+        rule("pirate: held back")
+    else:
+        PIRATE_ROWS.apply(game)
+
+
+def takes(game, x):
+    """Whether the pirate takes a treasure: not PYRAMID at home, nor where EMERALD is at home."""
+    homes = [game.home(it)[0] for it in map(game.thing, ("PYRAMID", "EMERALD")) if it]
+    return not (game.is_thing(x, "PYRAMID") and game.here in homes)
+
+
+def rob(game):
+    for x in TREASURES:
+        lies_loose = game.is_here(x) and not game.held[x]
+        if takes(game, x) and (game.is_carried(x) or lies_loose):
+            terms.move_to_role(game, x, "chest")
+
+
+def hide_chest(game):
+    message = game.thing("MESSAGE")
+    if message and game.where[message] == 0:
+        terms.move_to_role(game, game.thing("CHEST"), "chest")
+
+
+def go_home(game):
+    game.dwarf_at[PIRATE] = game.dwarf_was[PIRATE] = game.cave.place("chest") or 0
+    game.dwarf_saw[PIRATE] = False
+
+
+phrases(TESTS, {
+    "a treasure that it takes is carried":
+        lambda game: any(game.is_carried(it) and takes(game, it) for it in TREASURES),
+    "no treasure is at hand": lambda game: not any(map(game.is_at_hand, TREASURES)),
+    "one treasure is left to be seen": lambda game: game.unseen == game.lost + 1,
+    "it was elsewhere": lambda game: game.dwarf_at[PIRATE] != game.dwarf_was[PIRATE],
+})
+
+phrases(EFFECTS, {
+    "rob the player": rob,
+    "hide CHEST, if MESSAGE is nowhere": hide_chest,
+    "it goes home": go_home,
+})
+PIRATE_ROWS, = tables("""
+    pirate
+        a treasure that it takes is carried | say booty; hide CHEST, if MESSAGE is nowhere; \
+            move MESSAGE to message; rob the player; it goes home
+        no treasure is at hand, one treasure is left to be seen, CHEST is nowhere, \
+            LAMP is at hand, LAMP prop is 1 | say chest-hid; move CHEST to chest; \
+            move MESSAGE to message; it goes home
+        it was elsewhere, draw 20 of 100 | say rustle
+        | nothing
+    """).values()

@@ -1,0 +1,212 @@
+"""The program `cave` (docs/PROGRAM.md): its words, files, output, messages and statuses.
+
+What is left out: `cover`, `map`, `--output`, `--help`, and what `edit --print reports` says with a
+distance of checkpoints above 1, for which the pages leave room.
+"""
+
+import os
+from functools import lru_cache
+
+import edits
+from database import KEYS, PLACES, ROLES, Cave, bindings_of, check_size, sections_of
+from lines import GREATEST_SEED, Fault, log_of
+
+FILES = {"check": ["<CAVE>"], "play": ["<CAVE>", "<LOG>"], "edit": ["<CAVE>", "<LOG>", "<SCRIPT>"]}
+PRINTS = {"check": ["maximum", "bindings"], "play": ["transcript", "state"],
+          "edit": ["transcript", "play", "log", "reports", "state"]}
+OPTIONS = {"--bind": "FILE", "--seed": "N", "--every": "K", "--print": "WHAT", "--strict": None}
+KNOWN = {"check": ["--bind", "--print"], "play": ["--bind", "--seed", "--print"], "edit": OPTIONS}
+
+
+class Stop(Exception):
+    """The end of a run: its status, and what is said on standard error."""
+
+    def __init__(self, status, message):
+        super().__init__(message)
+        self.status, self.message = status, message
+
+
+# ---- The words
+
+
+def wrong(message, usage=None):
+    shown = f"\n\nUsage: cave {usage}" if usage else ""
+    return Stop(2, f"error: {message}{shown}\n\nFor more information, try '--help'.\n")
+
+
+def words_of(words):
+    """The command, its files and its options."""
+    if not words or words[0] not in FILES:
+        raise wrong(f"unrecognized subcommand '{(words or [''])[0]}'", "<COMMAND>")
+    command, files, options, rest, only_files = words[0], [], {}, list(words[1:]), False
+    usage = f"{command} {' '.join(FILES[command])}"
+    with_options = usage.replace(" ", " [OPTIONS] ", 1)
+    while rest:
+        word = rest.pop(0)
+        name, has_value, value = word.partition("=")
+        if only_files or not word.startswith("-") or word == "-":
+            files.append(word)
+            if len(files) > len(FILES[command]):
+                raise wrong(f"unexpected argument '{word}' found", with_options)
+        elif word == "--":
+            only_files = True
+        elif name not in KNOWN[command]:
+            is_long = name.startswith("--")
+            raise wrong(f"unexpected argument '{name if is_long else name[:2]}' found",
+                        usage if is_long else with_options)
+        else:
+            shown = f"{name} <{OPTIONS[name]}>" if OPTIONS[name] else name
+            if name in options:
+                raise wrong(f"the argument '{shown}' cannot be used multiple times", with_options)
+            if has_value and not OPTIONS[name]:
+                raise wrong(f"unexpected value '{value}' for '{name}' found; no more were expected",
+                            usage.replace(" ", f" {name} ", 1))
+            if OPTIONS[name] and not has_value:
+                if not rest or rest[0].startswith("--"):
+                    raise wrong(f"a value is required for '{shown}' but none was supplied")
+                if rest[0].startswith("-") and rest[0] != "-":
+                    raise wrong(f"unexpected argument '{rest[0][:2]}' found", with_options)
+                value = rest.pop(0)
+            options[name] = value
+    if missing := FILES[command][len(files):]:
+        listed = "".join(f"\n  {it}" for it in missing)
+        used = [command, *(f"{it} <{OPTIONS[it]}>" if OPTIONS[it] else it for it in options)]
+        raise wrong(f"the following required arguments were not provided:{listed}",
+                    " ".join([*used, *FILES[command]]))
+    return command, files, judged_options(command, options)
+
+
+def judged_options(command, options):
+    """The options, and what they are where they aren't there."""
+    number_in("--every", options.get("--every", "50"), 1, 10_000)
+    prints = options.get("--print", PRINTS[command][0])
+    if prints not in PRINTS[command]:
+        *some, last = PRINTS[command]
+        raise wrong(f"invalid value '{prints}' for '--print <WHAT>': wanted is"
+                    f" {', '.join(some)} or {last}")
+    return {"bind": options.get("--bind"), "print": prints, "strict": "--strict" in options,
+            "seed": number_in("--seed", options.get("--seed", "0"), 0, GREATEST_SEED)}
+
+
+def number_in(option, text, least, most):
+    """The number of an option, of 1 to 10 digits."""
+    if text.isascii() and text.isdigit() and len(text) <= 10 and least <= int(text) <= most:
+        return int(text)
+    raise wrong(f"invalid value '{text}' for '{option} <{OPTIONS[option]}>': wanted are 1 to 10"
+                f" digits, from {least} to {most}")
+
+
+# ---- Files
+
+
+def opened(name):
+    """A file that can be read, or status 5."""
+    try:
+        return open(name, "rb")
+    except IsADirectoryError:
+        raise Stop(5, f"cave: {name}: the file can't be opened: is a directory\n") from None
+    except OSError as error:
+        reason = f"{os.strerror(error.errno)} (os error {error.errno})"
+        raise Stop(5, f"cave: {name}: the file can't be opened: {reason}\n") from None
+
+
+def text_of(file):
+    with file:
+        return file.read().decode("latin-1")
+
+
+def judged_as(status, name, judge, *of):
+    """What a judge says of an input; its fault ends the run."""
+    try:
+        return judge(*of)
+    except Fault as fault:
+        at = f"{name}:{fault.line}" if fault.line else name
+        raise Stop(status, f"cave: {at}: {fault.message}\n") from None
+
+
+@lru_cache(maxsize=2)
+def cave_of(name, database, bind, bindings):
+    """The cave of a database and of bindings, the last of which are kept for another run."""
+    sections = judged_as(1, name, sections_of, database)
+    return Cave(sections, judged_as(1, bind, bindings_of, bindings))
+
+
+# ---- Commands
+
+
+def bindings_lines(cave):
+    """Each key with what it is bound to."""
+    counts = {"msg": 0, "place": 0}
+    for key in KEYS[:-1]:
+        family, number = key.split(".")[0], cave.bound.get(key)
+        texts = [cave.messages] if family == "msg" else [cave.long, cave.short]
+        found = next((it[number] for it in texts if number in it), None)
+        if number is None:
+            yield f"{key} unbound"
+        elif found is None:
+            yield f"{key} {number}: no such {'message' if family == 'msg' else 'place'}"
+        else:
+            counts[family] += 1
+            yield f"{key} {number}: {'' if found == ['>$<'] else found[0]}"
+    yield f"num.letters {cave.letters}"
+    yield (f"-- {counts['msg']} of {len(ROLES)} messages and {counts['place']} of {len(PLACES)}"
+           " places have a text")
+
+
+def run_edit(cave, file, log, script, options):
+    """Edits a log by a script, and gives what is printed, as lines."""
+    seed, reports, replays = options["seed"], [], options["print"] == "reports"
+    before, played, wanted = edits.play(cave, seed, log, True) if replays else None, 0, 0
+    for group in script:
+        try:
+            new_seed, new_log = edits.apply_group(group, seed, log)
+        except edits.Refused as refused:
+            said, words = f"refused {refused.fault}", f", {edits.WORDS[refused.fault]}"
+            if options["strict"]:
+                raise Stop(4, f"cave: {file}:{refused.line}: {said}{words}\n") from None
+            reports.append(f"line {refused.line}: {said}{words if replays else ''}")
+            continue
+        report = f"line {group.line}: ok"
+        if replays:
+            after = edits.play(cave, new_seed, new_log, True)
+            start, met, count = edits.stretch(group, log, new_log, before.states, after.states)
+            report += (f", from {start}, met {'none' if met is None else met}, played {count} of"
+                       f" {len(new_log)}, {edits.score_and_turns(after.game)}, at {after.game.here}"
+                       + (f", ended: {after.game.ended}" if after.game.ended else ""))
+            before, played, wanted = after, played + count, wanted + len(new_log)
+        reports.append(report)
+        seed, log = new_seed, new_log
+    if replays:
+        return [*reports, f"played {played} lines; from the start it would have been {wanted}"]
+    ended = edits.play(cave, seed, log)
+    return {"log": log, "state": ended.game.state_lines(), "play": ended.transcript,
+            "transcript": [*reports, *ended.transcript]}[options["print"]]
+
+
+def run_words(words):
+    """What a run prints, as lines; a fault of it ends it by `Stop`."""
+    command, names, options = words_of(words)
+    bind, in_order = options["bind"], names[:1] + [options["bind"]] + names[1:]
+    files = [None if it is None else opened(it) for it in in_order]
+    database, bindings = text_of(files[0]), text_of(files[1]) if files[1] else ""
+    judged_as(1, names[0], check_size, database, "a database has")
+    judged_as(1, bind, check_size, bindings, "bindings have")
+    cave = cave_of(names[0], database, bind, bindings)
+    if command == "check" and options["print"] == "bindings":
+        return bindings_lines(cave)
+    if command == "check":
+        return [f"cave ok, maximum {cave.greatest_score()}"]
+    log = judged_as(3, names[1], log_of, text_of(files[2]))
+    if command == "edit":
+        script = judged_as(4, names[2], edits.script_of, text_of(files[3]))
+        return run_edit(cave, names[2], log, script, options)
+    played = edits.play(cave, options["seed"], log)
+    return played.game.state_lines() if options["print"] == "state" else played.transcript
+
+
+def run(words):
+    """The status, the output and what is said on standard error, as bytes."""
+    try:
+        return 0, "".join(it + "\n" for it in run_words(words)).encode("latin-1"), b""
+    except Stop as stop:
+        return stop.status, b"", stop.message.encode()

@@ -1,0 +1,333 @@
+"""A game: its state, what is done to objects, what is asked of them, and what is said.
+
+docs/PLAY.md, What a state keeps; docs/VERBS.md, Terms; docs/TURN.md, The score, Questions, Death.
+"""
+
+from tables import rule
+
+CARRIED, NATURE = -1, -1
+DWARVES, PIRATE = range(5), 5
+ENDINGS = {"success": 45, "wrong way": 30, "klutz": 25}
+ASKED_BY_ROLE = {"welcome": "welcome", "quit": "quit", "score quit": "score-quit",
+                 "take hint": "hint-take", "oyster": "oyster-ask", "dragon": "with-what"}
+
+
+class Game:
+    """A game in a cave. `out` is what the line that is played has said so far."""
+
+    letters = {}  # what the letters of tables stand for, but x
+
+    def __init__(self, cave, seed):
+        self.cave, self.out, self.turns = cave, [], 0
+        self.names = {**cave.things, "x": 0}
+        self.here = self.last = self.older = cave.place("start")
+        self.where, self.held, self.prop = [0] * 101, [0] * 101, [0] * 101
+        self.lists = {}  # of each place the halves there, latest first; -x is the second half of x
+        self.visits = {}
+        self.lamp, self.warned = 330, False
+        self.clock1, self.clock2 = 30, 50
+        self.closing = self.closed = self.panicked = False
+        self.unseen, self.lost, self.deaths = len(cave.treasures), 0, 0
+        self.half_verb = self.half_object = self.last_object = 0
+        self.brief, self.details, self.magic = False, 0, 0
+        self.dwarf_at = [cave.place(f"dwarf{it + 1}") or 0 for it in DWARVES]
+        self.dwarf_at.append(cave.place("chest") or 0)
+        self.dwarf_was, self.dwarf_saw = self.dwarf_at[:], [False] * 6
+        self.anger, self.kills, self.knife = 0, 0, 0  # a knife at -1 has vanished
+        self.waited, self.taken = {}, set()
+        self.question, self.hint, self.ended = None, 0, None
+        self.stream = seed % 1_048_576
+        # What belongs to a line alone.
+        self.was_dark, self.forced_left = False, 20
+        self.word, self.verb, self.player_verb = "", 0, 0
+        self.put_objects()
+        self.first = (self.where[:], self.held[:], self.prop[:],
+                      {place: halves[:] for place, halves in self.lists.items()})
+        self.ask("welcome")
+
+    def put_objects(self):
+        """Puts each object where it is as a game begins: first those with two places."""
+        for treasure in self.cave.treasures:
+            self.prop[treasure] = -1
+        homes = self.cave.homes
+        for x in sorted(homes, reverse=True):
+            if homes[x][1] > 0:
+                self.anchor(x, homes[x][1])
+                self.move(x, homes[x][0])
+        for x in sorted(homes, reverse=True):
+            if homes[x][1] <= 0:
+                self.move(x, homes[x][0])
+                self.held[x] = homes[x][1]
+
+    # ---- Chance
+
+    def draw(self, below):
+        drawn = below * self.stream >> 20
+        self.stream = (1093 * self.stream + 221_587) % 1_048_576
+        return drawn
+
+    def happens(self, percent):
+        return self.draw(100) < percent
+
+    # ---- What is done to objects. Object 0 is none, and nothing is done to it.
+
+    def unlist(self, half, place):
+        if place > 0:
+            self.lists[place].remove(half)
+
+    def enlist(self, half, place):
+        if place > 0:
+            self.lists.setdefault(place, []).insert(0, half)
+
+    def move(self, x, place):
+        """The first half of x comes to the front of a place's list; at place 0 it is away."""
+        if x:
+            self.unlist(x, self.where[x])
+            self.where[x] = place
+            self.enlist(x, place)
+
+    def carry(self, x):
+        if x:
+            self.unlist(x, self.where[x])
+            self.where[x] = CARRIED
+
+    def anchor(self, x, place):
+        """The second half of x comes to a place; NATURE alone holds it, or at 0 nothing."""
+        if x:
+            self.unlist(-x, self.held[x])
+            self.held[x] = place
+            self.enlist(-x, place)
+
+    def juggle(self, x):
+        """Both halves of x come to the fronts of their lists, unless x is carried."""
+        if x and self.where[x] != CARRIED:
+            self.move(x, self.where[x])
+            self.anchor(x, self.held[x])
+
+    def set_prop(self, x, prop):
+        if x:
+            self.prop[x] = prop
+
+    def put_down(self, x):
+        if x and x == self.liquid():
+            x = self.thing("BOTTLE")
+        bird = self.thing("BIRD")
+        if self.is_thing(x, "CAGE") and self.prop_of(bird) not in (None, 0):
+            self.move(bird, self.here)
+        if self.is_thing(x, "BIRD"):
+            self.set_prop(x, 0)
+        self.move(x, self.here)
+
+    def lose(self):
+        """A treasure is lost."""
+        self.lost = min(self.lost + 1, 60_000)
+
+    def troll_leaves(self):
+        troll, second = self.thing("TROLL"), self.thing("TROLL2")
+        if troll:
+            self.move(troll, 0)
+            self.anchor(troll, 0)
+            self.move(second, self.home(troll)[0])
+            self.anchor(second, self.home(troll)[1])
+        self.juggle(self.thing("CHASM"))
+
+    # ---- What is asked of objects
+
+    def thing(self, name):
+        """The object of a name, or of a letter that stands for one; 0 for none."""
+        return self.names[name] if name in self.names else self.letters[name](self)
+
+    def is_thing(self, x, name):
+        return x != 0 and x == self.names[name]
+
+    def home(self, x):
+        """The two places at which the cave puts an object."""
+        return self.cave.homes.get(x, (0, 0))
+
+    def prop_of(self, x):
+        """The prop of an object; None of an absent one, whose prop no test holds of."""
+        return self.prop[x] if x else None
+
+    def liquid(self):
+        """What is in the bottle: an object, 0 for one that the cave has no word for, or None."""
+        prop = self.prop_of(self.thing("BOTTLE"))
+        return {0: self.thing("WATER"), 2: self.thing("OIL")}.get(prop)
+
+    def lake(self):
+        """What the lake of this place is of, as `liquid` says it; None where there is no lake."""
+        if not self.cave.has(self.here, 2):
+            return None
+        return self.thing("OIL" if self.cave.has(self.here, 1) else "WATER")
+
+    def is_carried(self, x):
+        if x and x in (self.thing("WATER"), self.thing("OIL")):
+            return self.where[self.thing("BOTTLE")] == CARRIED and self.liquid() == x
+        return x != 0 and self.where[x] == CARRIED
+
+    def is_here(self, x):
+        return x != 0 and self.here in (self.where[x], self.held[x])
+
+    def is_at_hand(self, x):
+        return self.is_carried(x) or x != 0 and self.where[x] == self.here
+
+    def is_at(self, role):
+        """Whether the player is at the place of a role, which has to be bound."""
+        return self.cave.place(role) == self.here
+
+    def in_hands(self):
+        """The objects whose first half is carried, ascending."""
+        return [x for x in range(1, 101) if self.where[x] == CARRIED]
+
+    def dwarf_here(self):
+        """The first of the five dwarves that is here, if they are awake; else None."""
+        if self.anger < 2:
+            return None
+        return next((it for it in DWARVES if self.dwarf_at[it] == self.here), None)
+
+    def is_dark(self):
+        lamp = self.thing("LAMP")
+        return not self.cave.has(self.here, 0) and not (
+            lamp and self.prop[lamp] == 1 and self.is_at_hand(lamp))
+
+    # ---- What is said
+
+    def show(self, lines):
+        """Prints a text of the cave, if there is one."""
+        if lines and lines != [">$<"]:
+            self.out += lines
+
+    def say(self, role):
+        number = self.cave.bound.get(f"msg.{role}")
+        if number is None:
+            self.out.append(f"[{role}]")
+        else:
+            self.message(number)
+
+    def message(self, number):
+        self.show(self.cave.messages.get(number))
+
+    def object_text(self, x, prop):
+        if x:
+            self.show(self.cave.object_texts.get((x, prop)))
+
+    def line(self, text):
+        """A line of the game's own."""
+        self.out.append(text)
+
+    # ---- Questions, deaths and ends
+
+    def is_over(self):
+        """Whether a question is open or the game has ended, so that nothing more is done."""
+        return self.question is not None or self.ended is not None
+
+    def ask(self, question):
+        self.question = question
+        self.repeat_question()
+
+    def repeat_question(self):
+        if self.question == "hint":
+            self.message(self.cave.hints[self.hint][2])
+        elif self.question == "revive":
+            self.say(f"die{self.deaths + 1}")
+        else:
+            self.say(ASKED_BY_ROLE[self.question])
+
+    def light(self, turns):
+        """The lamp burns so many turns more."""
+        self.lamp = min(self.lamp + turns, 100_000)
+
+    def panic(self):
+        if not self.panicked:
+            self.panicked = True
+            if not self.closed:
+                self.clock2 = 15
+
+    def die(self, lies_at):
+        """A death; what is carried will lie at a place."""
+        self.older = lies_at
+        if self.closing:
+            rule("death: in a closing cave")
+            self.say("killed-closing")
+            self.deaths += 1
+            self.end("killed")
+        else:
+            self.ask("revive")
+
+    def end(self, ending):
+        """Ends the game, with the score, the class, and the way to the next one."""
+        self.ended, self.question = ending, None
+        score, classes = self.score(), self.cave.classes
+        self.line(f"You scored {score} out of a possible {self.cave.greatest_score()}, using"
+                  f" {self.turns} turn{'s' * (self.turns != 1)}.")
+        at = next((it for it, (bound, _) in enumerate(classes) if bound >= score), None)
+        if at is None:
+            rule("end: off the scale")
+            self.say("off-scale")
+            return
+        self.show([classes[at][1]])
+        if at == len(classes) - 1:
+            rule("end: top class")
+            self.say("top-class")
+        else:
+            rule("end: a class and the next one")
+            more = classes[at][0] + 1 - score
+            self.line("To achieve the next higher rating, you need"
+                      f" {more} more point{'s' * (more != 1)}.")
+
+    def score(self):
+        """The score of the state as it is."""
+        cave, of_magazine = self.cave, self.thing("MAGAZINE")
+        seen = [it for it in cave.treasures if self.prop[it] >= 0]
+        safe = [it for it in seen
+                if self.prop[it] == 0 and self.where[it] == cave.place("building")]
+        costs = [cave.hints[it][1] for it in self.taken if it in cave.hints]
+        at_witt = of_magazine and self.where[of_magazine] == cave.place("witt")
+        points = [2 + 10 * (3 - self.deaths), 2 * len(seen), sum(cave.worth(it) - 2 for it in safe),
+                  4 * (self.ended not in (None, "quit")), 25 * (self.anger > 0), 25 * self.closing,
+                  ENDINGS.get(self.ended, 10) if self.closed else 0, 1 if at_witt else 0,
+                  -sum(costs)]
+        return max(sum(points), 0)
+
+    # ---- A state as a text
+
+    def state_lines(self):
+        """The state, one fact a line (docs/PLAY.md, A state as a text)."""
+        yes = {False: "no", True: "yes"}
+        asked = {None: "none", "score quit": "score, quit"}.get(self.question, self.question)
+        asked += f" {self.hint}" if asked in ("hint", "take hint") else ""
+        yield from [
+            f"turns {self.turns}", f"score {self.score()}", f"here {self.here}",
+            f"last {self.last}", f"older {self.older}", f"question {asked}",
+            f"ended {self.ended or 'no'}", f"lamp {self.lamp}", f"lamp warned {yes[self.warned]}",
+            f"first clock {self.clock1}", f"second clock {self.clock2}",
+            f"closing {yes[self.closing]}", f"closed {yes[self.closed]}",
+            f"panic {yes[self.panicked]}", f"unseen treasures {self.unseen}",
+            f"lost treasures {self.lost}", f"deaths {self.deaths}"]
+        yield from self.object_lines()
+        yield f"half verb {self.half_verb}" if self.half_verb else "half command none"
+        yield from [f"half object {self.half_object}", f"last object {self.last_object}",
+                    f"brief {yes[self.brief]}", f"details {self.details}", f"magic {self.magic}"]
+        for place in range(1, 301):
+            if (halves := self.lists.get(place, [])) != self.first[3].get(place, []):
+                shown = [str(it) if it > 0 else f"also {-it}" for it in halves]
+                yield f"place {place}: {' '.join(shown) or 'nothing'}"
+        yield from [f"anger {self.anger}", f"kills {self.kills}"]
+        for it in range(6):
+            yield (f"dwarf {it + 1}: at {self.dwarf_at[it]}, was at {self.dwarf_was[it]}, has seen"
+                   f" the player {yes[self.dwarf_saw[it]]}")
+        yield {0: "knife none", -1: "knife vanished"}.get(self.knife, f"knife at {self.knife}")
+        for it in range(1, 21):
+            if self.waited.get(it) or it in self.taken:
+                yield f"hint {it}: waited {self.waited.get(it, 0)}, taken {yes[it in self.taken]}"
+        yield f"stream {self.stream}"
+        yield from (f"visits {it}: {self.visits[it]}" for it in sorted(self.visits)
+                    if self.visits[it])
+
+    def object_lines(self):
+        for x in range(1, 101):
+            place, held, prop = self.where[x], self.held[x], self.prop[x]
+            if (place, held, prop) == tuple(part[x] for part in self.first[:3]):
+                continue
+            where = "away" if place == 0 else "carried" if place == CARRIED else f"at {place}"
+            by = ", fixed" if held == NATURE else f", also at {held}" if held else ""
+            yield f"object {x}: {self.cave.first_word(x) or '-'} {where}{by}, prop {prop}"
