@@ -59,7 +59,7 @@ pub fn split_log_line(text: &[u8]) -> Option<Result<(&[u8], &[u8]), LineFlaw>>
         (λ good. StartsWithLine text.now good.0.now good.1.now)
         (λ flaw. StartsWithFlaw text.now flaw)) }
 {
-    // Most lines are looked at once.
+    // Most lines are looked at once; one with a tab or a carriage return, or a faulty one, twice.
     if let Some(found) = split_good_line(text) {
         return Some(Ok(found));
     }

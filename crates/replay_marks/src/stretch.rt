@@ -5,9 +5,10 @@ ghost use Rattle.std.specs.List.{splice};
 /// Puts `middle` in the place of the items from `from` up to `to`, which are dropped, and leaves it
 /// empty.
 ///
-/// It takes no memory: room for what `items` comes to hold is the caller's to reserve. The last
-/// items of both change places one by one, as many as both have; then one turn moves these, and
-/// what comes after them, by what the lengths differ.
+/// Unlike `Vec::splice` it takes no memory: once an edit is made nothing may be refused. Room for
+/// what `items` comes to hold is the caller's to reserve. The last items of both change places one
+/// by one, as many as both have; then one turn moves these, and what comes after them, by what the
+/// lengths differ.
 pub fn splice<T: Drop>(items: &mut Vec<T>, from: usize, to: usize, middle: &mut Vec<T>)
     requires ordered { from ≤ to }
     requires within { to ≤ vec_len items.old }
