@@ -27,7 +27,6 @@ abbrev pub after_prefix : (ℕ → Bool) → List ℕ → List ℕ
 after_prefix test [] = []
 after_prefix test (byte ∷ bytes) = if test byte then after_prefix test bytes else byte ∷ bytes
 
--- the number with one more digit
 abbrev pub with_digit : ℕ → ℕ → ℕ
 with_digit number digit = 10 * number + (digit - 48)
 

@@ -28,16 +28,12 @@ line_fault line =
 unfoldable pub is_line : List ℕ → Bool
 is_line line = is_none (line_fault line)
 
--- the byte at a place, and its column, from 1
-abbrev pub byte_at : List ℕ → ℕ → LineFlaw
-byte_at line place = Byte (slice_index_or line place 0) (place + 1)
-
 -- what is wrong with a line that isn't allowed in a log: how many bytes it has where they are too
 -- many, else the first byte that isn't allowed
 unfoldable pub flaw_of : List ℕ → LineFlaw
 flaw_of line =
     if nat_lt MAX_LINE_BYTES (length line) then Long (length line)
-    else byte_at line (prefix_len is_line_byte line)
+    else let place = prefix_len is_line_byte line in Byte (slice_index_or line place 0) (place + 1)
 
 -- the first line of a text is this one, which a log may have, and the rest follows it
 pub record StartsWithLine (text line rest : List ℕ) : Type 0 where

@@ -47,7 +47,6 @@ seed_in digits after =
     && nat_le (number_of digits) MAX_SEED
     then Some (number_of digits) else None
 
--- the seed that the line names, if it is a seed line
 unfoldable pub seed_of : List ℕ → Option ℕ
 seed_of line =
     let rest = after_prefix is_blank line in

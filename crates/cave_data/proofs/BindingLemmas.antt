@@ -106,7 +106,7 @@ bind_row_is : (bs : List Binding) (read : Result Binding Cause)
 bind_row_is bs (Ok binding) = bind_new_is bs binding
 bind_row_is bs (Err cause) = refl
 
-bindings-append : (before lines : List (List ℕ))
+pub bindings-append : (before lines : List (List ℕ))
     → bindings_of (before ++ lines) ≡ bindings_of before ++ bindings_of lines
 bindings-append [] lines = refl
 bindings-append (line ∷ before) lines =

@@ -17,5 +17,8 @@ pub mod LawLemmas
 pub mod BindingLemmas
 pub mod CaveLemmas
 pub mod RangeLemmas
+pub mod GrammarLemmas
+pub mod BindingRows
 pub mod ReadLemmas
+pub mod PartsRead
 pub mod LowestLemmas

@@ -26,12 +26,14 @@ use Rattle.data_rows.specs.Grammar.{position_after_heading, closes, position_aft
 use Rattle.data_rows.specs.Grammar.{entry_at, entries}
 use Rattle.cave_data.specs.FirstFault.{shape_here, shape_cause, limit_cause, first_limit}
 use Rattle.cave_data.specs.FirstFault.{line_cause}
-use Rattle.cave_data.specs.LowestCause.{has_parts, is_in_range, IsLowest, IsLowestAt, ReportsLowest}
+use Rattle.cave_data.specs.LowestCause.{ReportsLowest}
+use Rattle.cave_data.proofs.PartsRead.{reads_parts, reads_in_range, IsLowestRead, IsLowestReadAt}
+use Rattle.cave_data.proofs.PartsRead.{lowest_read_at}
 
 -- what reading a row says of its parts and ranges
 abbrev Judged : {X : Type 0} → Result X Cause → Bool → Bool → Type 0
 Judged (Ok x) parts ranges = (parts ≡ true) × (ranges ≡ true)
-Judged (Err cause) parts ranges = IsLowest cause parts ranges
+Judged (Err cause) parts ranges = IsLowestRead cause parts ranges
 
 -- the same of a row without a list, which is never too long
 abbrev Simple : {X : Type 0} → Result X Cause → Bool → Type 0
@@ -91,14 +93,14 @@ second_only (Negative n) = chosen OutOfRange _ _
 
 -- Steps of a row: its parts, its ranges, its length.
 
-lacks : (cause : Cause) (ranges : Bool) → cause ≡ BadNumber → IsLowest cause false ranges
-lacks cause ranges e = subst (λ (c : Cause). IsLowest c false ranges) (sym e) refl
+lacks : (cause : Cause) (ranges : Bool) → cause ≡ BadNumber → IsLowestRead cause false ranges
+lacks cause ranges e = subst (λ (c : Cause). IsLowestRead c false ranges) (sym e) refl
 
-exceeds : (cause : Cause) (ranges : Bool) → cause ≡ OutOfRange → IsLowest cause true ranges
-exceeds cause ranges e = subst (λ (c : Cause). IsLowest c true ranges) (sym e) refl
+exceeds : (cause : Cause) (ranges : Bool) → cause ≡ OutOfRange → IsLowestRead cause true ranges
+exceeds cause ranges e = subst (λ (c : Cause). IsLowestRead c true ranges) (sym e) refl
 
-is_long : (cause : Cause) → cause ≡ TooManyRows → IsLowest cause true true
-is_long cause e = subst (λ (c : Cause). IsLowest c true true) (sym e) (refl, refl)
+is_long : (cause : Cause) → cause ≡ TooManyRows → IsLowestRead cause true true
+is_long cause e = subst (λ (c : Cause). IsLowestRead c true true) (sym e) (refl, refl)
 
 part : {A B C : Type 0} (r : Result A Cause) (f : A → Result B Cause) (g : A → Result C Cause)
     → OnlyErr BadNumber r → ((a : A) → Simple (f a) (is_ok (g a)))
@@ -154,8 +156,8 @@ entered (Err cause) f parts ranges h = h
 judged : {A B : Type 0} (r : Result A Cause) (f : A → B) (parts : Bool) → Simple r parts
     → Judged (r >>= λ a. Ok (f a)) parts (is_ok (r >>= λ a. Ok (f a)))
 judged (Ok a) f parts h = (h, refl)
-judged (Err cause) f parts (inl h) = subst (λ (c : Cause). IsLowest c parts false) (sym h.0) h.1
-judged (Err cause) f parts (inr h) = subst (λ (c : Cause). IsLowest c parts false) (sym h.0) h.1
+judged (Err cause) f parts (inl h) = subst (λ (c : Cause). IsLowestRead c parts false) (sym h.0) h.1
+judged (Err cause) f parts (inr h) = subst (λ (c : Cause). IsLowestRead c parts false) (sym h.0) h.1
 
 -- Rows.
 
@@ -183,14 +185,14 @@ object_judged line =
     ranged (object_or_prop n.0) _ (object_only n.0)
     (λ number. ranged (text_or_cause n.1) _ (chosen OutOfRange _ _) (λ text. refl)))
 
-word_judged : (line : List ℕ) → Simple (word_row line) (has_parts section.Words line)
+word_judged : (line : List ℕ) → Simple (word_row line) (reads_parts section.Words line)
 unfolding word_row
 word_judged line =
     part (number_or_cause line) _ _ (number_only line) (λ n.
     last_part (word_or_cause n.1) _ (chosen BadNumber _ _)
     (λ word. ranged (word_number n.0) _ (word_only n.0) (λ number. refl)))
 
-placement_judged : (line : List ℕ) → Simple (placement_row line) (has_parts section.Placements line)
+placement_judged : (line : List ℕ) → Simple (placement_row line) (reads_parts section.Placements line)
 unfolding placement_row
 placement_judged line =
     part (number_or_cause line) _ _ (number_only line) (λ x.
@@ -200,7 +202,7 @@ placement_judged line =
     ranged (within 0 300 p.0) _ (within_only 0 300 p.0)
     (λ first. ranged (second_place q.0) _ (second_only q.0) (λ second. refl))))))
 
-default_judged : (line : List ℕ) → Simple (default_row line) (has_parts section.Defaults line)
+default_judged : (line : List ℕ) → Simple (default_row line) (reads_parts section.Defaults line)
 unfolding default_row
 default_judged line =
     part (number_or_cause line) _ _ (number_only line) (λ a.
@@ -208,7 +210,7 @@ default_judged line =
     ranged (within 1 99 a.0) _ (within_only 1 99 a.0)
     (λ action. ranged (within 0 499 m.0) _ (within_only 0 499 m.0) (λ message. refl))))
 
-hint_judged : (line : List ℕ) → Simple (hint_row line) (has_parts section.Hints line)
+hint_judged : (line : List ℕ) → Simple (hint_row line) (reads_parts section.Hints line)
 unfolding hint_row
 hint_judged line =
     part (number_or_cause line) _ _ (number_only line) (λ h.
@@ -223,8 +225,8 @@ hint_judged line =
     (λ question. ranged (within 0 499 x.0) _ (within_only 0 499 x.0) (λ text. refl))))))))))
 
 condition_judged : (line : List ℕ)
-    → Judged (condition_row line) (has_parts section.Conditions line)
-    (is_in_range section.Conditions line)
+    → Judged (condition_row line) (reads_parts section.Conditions line)
+    (reads_in_range section.Conditions line)
 unfolding condition_row
 condition_judged line =
     listed (number_or_cause line) _ _ _ (number_only line) (λ b.
@@ -237,7 +239,7 @@ abbrev some_if : Bool → List Number → Result (List Number) Cause
 some_if some list = cond some (Ok list) (Err BadNumber)
 
 way_judged : (line : List ℕ)
-    → Judged (way_row line) (has_parts section.Travel line) (is_in_range section.Travel line)
+    → Judged (way_row line) (reads_parts section.Travel line) (reads_in_range section.Travel line)
 unfolding way_row
 way_judged line =
     listed (number_or_cause line) _ _ _ (number_only line) (λ x.
@@ -249,8 +251,8 @@ way_judged line =
         >>= λ place. within 0 999999 y.0 >>= λ target. all_within 1 999 ns >>= λ all. few_of all
         >>= λ motions. Ok (place, record { target = target; motions = motions }))
         (is_ok (some_if some list))
-        (is_ok (within 1 300 x.0 >>= λ place. within 0 999999 y.0
-        >>= λ target. all_within 1 999 list))
+        (is_ok (some_if some list >>= λ ns. within 1 300 x.0 >>= λ place. within 0 999999 y.0
+        >>= λ target. all_within 1 999 ns))
     at x y list false = refl
     at x y list true =
         in_ranges (within 1 300 x.0) _ _ (within_only 1 300 x.0) (λ place.
@@ -259,7 +261,7 @@ way_judged line =
         (λ all. short (few_of all) _ (chosen TooManyRows _ all))))
 
 row_judged : (s : Section) (line : List ℕ)
-    → Judged (entry_in s line) (has_parts s line) (is_in_range s line)
+    → Judged (entry_in s line) (reads_parts s line) (reads_in_range s line)
 row_judged section.LongTexts line = judged (text_line 1 300 line) _ _ (text_judged 1 300 line)
 row_judged section.ShortTexts line = judged (text_line 1 300 line) _ _ (text_judged 1 300 line)
 row_judged section.Travel line = entered (way_row line) _ _ _ (way_judged line)
@@ -284,7 +286,7 @@ met true only cause e = cc
 met false only cause e = cc
 
 limit_lowest : (before : List Entry) (entry : Entry) (cause : Cause)
-    → limit_cause before entry ≡ Some cause → IsLowest cause true true
+    → limit_cause before entry ≡ Some cause → IsLowestRead cause true true
 limit_lowest before (LongLine line) cause e = cc
 limit_lowest before (ShortLine line) cause e = cc
 limit_lowest before (Way place going) cause e = is_long cause (missed _ TooManyRows cause e)
@@ -303,16 +305,16 @@ limit_lowest before (MagicLine line) cause e = cc
 row_lowest : (r : Result Entry Cause) (parts ranges : Bool) (rows : List Entry) (cause : Cause)
     → Judged r parts ranges
     → option_or (result_err r) (first_limit rows (option_to_list (result_ok r))) ≡ Some cause
-    → IsLowest cause parts ranges
+    → IsLowestRead cause parts ranges
 row_lowest (Ok entry) parts ranges rows cause judged e =
-    subst (λ p. IsLowest cause p ranges) (sym judged.0)
-    (subst (λ p. IsLowest cause true p) (sym judged.1) (limit_lowest rows entry cause e))
+    subst (λ p. IsLowestRead cause p ranges) (sym judged.0)
+    (subst (λ p. IsLowestRead cause true p) (sym judged.1) (limit_lowest rows entry cause e))
 row_lowest (Err other) parts ranges rows cause judged e =
-    let same : other ≡ cause = cc in subst (λ (c : Cause). IsLowest c parts ranges) same judged
+    let same : other ≡ cause = cc in subst (λ (c : Cause). IsLowestRead c parts ranges) same judged
 
 here_lowest : (position : Position) (line : List ℕ) (rows : List Entry) (cause : Cause)
     → option_or (shape_here position line) (first_limit rows (entry_here position line))
-    ≡ Some cause → IsLowestAt position line cause
+    ≡ Some cause → IsLowestReadAt position line cause
 here_lowest Outside line rows cause e = at (is_some (position_after_heading line)) e where
   at : (b : Bool) → option_or (cond b None (Some BadSection)) None ≡ Some cause → cause ≡ BadSection
   at true e = cc
@@ -321,17 +323,22 @@ here_lowest (Inside s) line rows cause e = at (closes line) e where
   at : (b : Bool)
       → option_or (cond b None (result_err (entry_in s line)))
       (first_limit rows (cond b [] (option_to_list (result_ok (entry_in s line))))) ≡ Some cause
-      → IsLowest cause (has_parts s line) (is_in_range s line)
+      → IsLowestRead cause (reads_parts s line) (reads_in_range s line)
   at true e = cc
   at false e = row_lowest (entry_in s line) _ _ rows cause (row_judged s line) e
 here_lowest After line rows cause e = cc
 
-pub tells_lowest : ReportsLowest
+lowest_is_read : (before : List (List ℕ)) (line : List ℕ) (cause : Cause)
+    → line_cause before line ≡ Some cause → IsLowestReadAt (position_after before) line cause
 unfolding line_cause shape_cause entry_at
-tells_lowest before line cause e = at (is_all_blank line) e where
+lowest_is_read before line cause e = at (is_all_blank line) e where
   at : (b : Bool)
       → option_or (cond b None (shape_here (position_after before) line))
       (first_limit (entries before) (cond b [] (entry_here (position_after before) line)))
-      ≡ Some cause → IsLowestAt (position_after before) line cause
+      ≡ Some cause → IsLowestReadAt (position_after before) line cause
   at true e = cc
   at false e = here_lowest (position_after before) line (entries before) cause e
+
+pub tells_lowest : ReportsLowest
+tells_lowest before line cause e =
+    lowest_read_at (position_after before) line cause (lowest_is_read before line cause e)

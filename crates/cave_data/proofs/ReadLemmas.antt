@@ -1,6 +1,6 @@
 -- A cave that was made of tables and bindings is the one that the inputs describe, and no other is.
-use Rattle.std.proofs.Common.{◌≡◌, inl, inr, ℕ, suc, Bool, true, false, cond, ltb, List, [], ◌∷◌}
-use Rattle.std.proofs.Common.{◌++◌, length, map, Option, Some, None, Result, Ok, Err, option_map}
+use Rattle.std.proofs.Common.{◌≡◌, inl, inr, ℕ, Bool, true, false, cond, ltb, List, [], ◌∷◌}
+use Rattle.std.proofs.Common.{◌++◌, length, map, Option, Some, None, Result, Ok, Err}
 use Rattle.std.proofs.Common.{unwrap_or, refl, sym, ap, subst, ◌∙◌}
 use Rattle.std.specs.Option.{option_or}
 use Rattle.std.specs.Result.{IfOk, IfErr, MatchResult}
@@ -11,91 +11,38 @@ use Rattle.std.specs.FinMap as fin
 use Rattle.std.proofs.lemmas.Bool.{ltb-false, le-ltb}
 use Rattle.std.proofs.lemmas.List.{append_assoc, append-nil}
 use Rattle.data_rows.specs.base_limits.Limits.{MAX_INPUT_BYTES}
-use Rattle.data_rows.specs.declared.error.Cause.{Cause}
-use Rattle.data_rows.specs.declared.error.Cause.TheVariants.{NoEnd}
 use Rattle.data_rows.specs.declared.error.FaultSite.TheVariants as site
 use Rattle.data_rows.specs.declared.error.CaveError.{CaveError}
-use Rattle.data_rows.specs.declared.position.Position.{Position}
-use Rattle.data_rows.specs.declared.position.Position.TheVariants.{Outside, Inside, After}
+use Rattle.data_rows.specs.declared.position.Position.TheVariants.{Outside}
 use Rattle.cave_data.specs.declared.reader.Tables.{Tables}
 use Rattle.cave_data.specs.declared.bindings.Bindings.{Bindings}
 use Rattle.cave_data.specs.CaveView.{CaveView}
 use Rattle.cave_data.specs.Printing.{printed_class}
 use Rattle.data_rows.specs.Rows.{Entry, TextLine}
-use Rattle.data_rows.specs.Grammar.{position_after, entries}
-use Rattle.cave_data.specs.FirstFault.{site_of_fault, line_cause, fault_after, is_after, end_fault}
-use Rattle.cave_data.specs.FirstFault.{first_fault_by, first_fault}
+use Rattle.data_rows.specs.Grammar.{entries}
+use Rattle.cave_data.specs.FirstFault.{line_cause, fault_after}
+use Rattle.cave_data.specs.FirstFault.{first_fault}
 use Rattle.cave_data.specs.Database.{printed_class_of_line, AreValidTogether, IsDatabase, Holds}
 use Rattle.data_rows.specs.BindingLines.{bindings_of}
 use Rattle.cave_data.specs.Bindings.{default_place}
-use Rattle.cave_data.specs.BindingFault.{binding_cause, binding_fault, first_binding_fault}
+use Rattle.cave_data.specs.BindingFault.{first_binding_fault}
 use Rattle.cave_data.specs.BindingSteps.{bindings_from}
 use Rattle.cave_data.specs.Steps.{tables_of, class_of_line}
 use Rattle.cave_data.specs.Faults.{FaultIs, no_memory}
 use Rattle.cave_data.specs.Cave.{Finished}
-use Rattle.cave_data.specs.Reads.{AreBindings, AreValidInputs, Reads, fault, too_large_input}
+use Rattle.cave_data.specs.Reads.{AreBindings, AreValidInputs, IsDescribed, Reads, fault}
+use Rattle.cave_data.specs.Reads.{too_large_input}
 use Rattle.cave_data.proofs.PartLemmas.{long_after, short_after, messages_after, objects_after}
 use Rattle.cave_data.proofs.PartLemmas.{travel_after, words_after, classes_after, placements_after}
 use Rattle.cave_data.proofs.PartLemmas.{defaults_after, conditions_after, hints_after}
 use Rattle.cave_data.proofs.BindingLemmas.{roles_bound, places_bound, letters_bound}
 use Rattle.cave_data.proofs.CaveLemmas.{get-with_defaults}
-use Rattle.cave_data.specs.Laws.{Laws}
+use Rattle.cave_data.specs.Laws.{Laws, KeepsLaws}
 use Rattle.cave_data.proofs.LawLemmas.{laws_hold}
-use Rattle.cave_data.proofs.RightLemmas.{neither, line_right, line_together, none_together}
-use Rattle.cave_data.proofs.RightLemmas.{line_fine, binding_right, binding_fine}
-
--- Lines of which none is at fault.
-
-none_parts : (o : Option Cause) (tell : Cause → CaveError) (rest : Option CaveError)
-    → option_or (option_map tell o) rest ≡ None → (o ≡ None) × (rest ≡ None)
-none_parts None tell rest e = (refl, e)
-none_parts (Some cause) tell rest e = cc
-
-module _ (cause : List (List ℕ) → List ℕ → Option Cause) (tell : List (List ℕ) → Cause → CaveError)
-    (ending : List (List ℕ) → Option CaveError) where
-  abbrev Right : List (List ℕ) → List (List ℕ) → Type 0
-  Right before ls = (mid : List (List ℕ)) (line : List ℕ) (later : List (List ℕ))
-      → ls ≡ mid ++ line ∷ later → cause (before ++ mid) line ≡ None
-
-  right_each : (before ls : List (List ℕ)) → first_fault_by cause tell ending before ls ≡ None
-      → Right before ls
-  right_each before [] e [] line later same = cc
-  right_each before [] e (x ∷ mid) line later same = cc
-  right_each before (l ∷ ls) e [] line later same =
-      let this : l ≡ line = cc in
-      ap (λ b. cause b line) (append-nil before) ∙ ap (cause before) (sym this)
-      ∙ (none_parts (cause before l) (tell before) _ e).0
-  right_each before (l ∷ ls) e (x ∷ mid) line later same =
-      let this : l ≡ x = cc in
-      let others : ls ≡ mid ++ line ∷ later = cc in
-      ap (λ b. cause b line) (ap (λ k. before ++ k ∷ mid) (sym this)
-      ∙ sym (append_assoc before (l ∷ []) mid))
-      ∙ right_each (before ++ l ∷ []) ls (none_parts (cause before l) (tell before) _ e).1 mid line
-      later others
-
-  right_end : (before ls : List (List ℕ)) → first_fault_by cause tell ending before ls ≡ None
-      → ending (before ++ ls) ≡ None
-  right_end before [] e = ap ending (append-nil before) ∙ e
-  right_end before (l ∷ ls) e = ap ending (sym (append_assoc before (l ∷ []) ls))
-      ∙ right_end (before ++ l ∷ []) ls (none_parts (cause before l) (tell before) _ e).1
-
-  none_told : (before ls : List (List ℕ)) → Right before ls → ending (before ++ ls) ≡ None
-      → first_fault_by cause tell ending before ls ≡ None
-  none_told before [] right e = ap ending (sym (append-nil before)) ∙ e
-  none_told before (l ∷ ls) right e =
-      let here : cause before l ≡ None = ap (λ b. cause b l) (sym (append-nil before))
-      ∙ right [] l ls refl in
-      ap (λ o. option_or (option_map (tell before) o)
-      (first_fault_by cause tell ending (before ++ l ∷ []) ls)) here
-      ∙ none_told (before ++ l ∷ []) ls
-      (λ mid line later same. ap (λ b. cause b line) (append_assoc before (l ∷ []) mid)
-      ∙ right (l ∷ mid) line later (ap (λ k. l ∷ k) same))
-      (ap ending (append_assoc before (l ∷ []) ls) ∙ e)
-
-at_after : (p : Position) (x : CaveError) → cond (is_after p) None (Some x) ≡ None → p ≡ After
-at_after Outside x e = cc
-at_after (Inside s) x e = cc
-at_after After x e = refl
+use Rattle.cave_data.proofs.RightLemmas.{neither, line_together, none_together}
+use Rattle.cave_data.proofs.GrammarLemmas.{rows_known, rows_faultless, no_cause, faultless_rows}
+use Rattle.cave_data.proofs.BindingRows.{bindings_known, bindings_without_fault, faultless_bindings}
+use Rattle.data_rows.specs.declared.binding.Binding.{Binding}
 
 -- rows that are valid together stay so with lines after them that have no cause
 together_after : (before ls : List (List ℕ)) → first_fault before ls ≡ None
@@ -103,39 +50,27 @@ together_after : (before ls : List (List ℕ)) → first_fault before ls ≡ Non
 together_after before [] e may =
     subst (λ b. AreValidTogether (entries b)) (sym (append-nil before)) may
 together_after before (line ∷ ls) e may =
-    let parts = none_parts (line_cause before line) (fault_after before) _ e in
+    let parts = no_cause (line_cause before line) (fault_after before) _ e in
     subst (λ b. AreValidTogether (entries b)) (append_assoc before (line ∷ []) ls)
     (together_after (before ++ line ∷ []) ls parts.1 (line_together before line parts.0 may))
 
 database_right : (ls : List (List ℕ)) → first_fault [] ls ≡ None → IsDatabase ls
 database_right ls e = record {
-  each = λ before line later same. line_right before line
-      (right_each line_cause fault_after end_fault [] ls e before line later same);
+  rows = entries ls;
+  has_rows = faultless_rows ls e;
   together = together_after [] ls e none_together;
-  ended = at_after (position_after ls) _ (right_end line_cause fault_after end_fault [] ls e);
 }
 
 database_faultless : (ls : List (List ℕ)) → IsDatabase ls → first_fault [] ls ≡ None
-database_faultless ls is =
-    none_told line_cause fault_after end_fault [] ls
-    (λ before line later same. line_fine before line later (is.each before line later same)
-    (subst (λ xs. AreValidTogether (entries xs)) same is.together))
-    (ap (λ p.
-    cond (is_after p) None
-    (Some (record { cause = NoEnd; line = suc (length ls); site = site_of_fault p }))) is.ended)
+database_faultless ls is = rows_faultless Outside ls is.rows is.has_rows [] refl is.together
 
 bindings_right : (ls : List (List ℕ)) → first_binding_fault [] ls ≡ None → AreBindings ls
 bindings_right ls e =
-    record {
-      each =
-          λ before line later same. binding_right before line
-          (right_each binding_cause binding_fault (λ before. None) [] ls e before line later same);
-    }
+    let found = faultless_bindings ls e in
+    record { bindings = bindings_of ls; has_bindings = found.0; anew = found.1 }
 
 bindings_faultless : (ls : List (List ℕ)) → AreBindings ls → first_binding_fault [] ls ≡ None
-bindings_faultless ls are =
-    none_told binding_cause binding_fault (λ before. None) [] ls
-    (λ before line later same. binding_fine before line (are.each before line later same)) refl
+bindings_faultless ls are = bindings_without_fault ls are.bindings are.has_bindings [] are.anew
 
 -- The cave that was made.
 
@@ -165,6 +100,7 @@ pub made_reads : (database bindings : List ℕ) (t : Tables) (b : Bindings) (c :
     → first_fault [] (lines database) ≡ None → t ≡ tables_of (entries (lines database))
     → first_binding_fault [] (lines bindings) ≡ None
     → b ≡ bindings_from (bindings_of (lines bindings)) → Finished t b c → Reads database bindings c
+unfolding database_right bindings_right
 made_reads database bindings t b c small bindings_small right tables bindings_are_right are made =
     let made_of = subst (λ t'. Finished t' b c) tables made in
     record {
@@ -174,16 +110,19 @@ made_reads database bindings t b c small bindings_small right tables bindings_ar
         is_database = database_right (lines database) right;
         are_bindings = bindings_right (lines bindings) bindings_are_right;
       };
-      holds = holds (entries (lines database)) b c made_of;
-      roles = λ n. ap (λ m. fin.get m n) (made.roles ∙ ap (λ x. x.roles) are)
-          ∙ roles_bound (bindings_of (lines bindings)) n;
-      places = λ n. ap (λ m. fin.get m n) made.places ∙ get-with_defaults b.places n
-          ∙ ap (λ m. option_or (fin.get m n) (default_place n)) (ap (λ x. x.places) are)
-          ∙ ap (λ o. option_or o (default_place n)) (places_bound (bindings_of (lines bindings)) n);
-      letters =
-          made.letters
-          ∙ ap (λ o. unwrap_or o 5) (ap (λ x. x.letters) are
-          ∙ letters_bound (bindings_of (lines bindings)));
+      described = record {
+        holds = holds (entries (lines database)) b c made_of;
+        roles = λ n. ap (λ m. fin.get m n) (made.roles ∙ ap (λ x. x.roles) are)
+            ∙ roles_bound (bindings_of (lines bindings)) n;
+        places = λ n. ap (λ m. fin.get m n) made.places ∙ get-with_defaults b.places n
+            ∙ ap (λ m. option_or (fin.get m n) (default_place n)) (ap (λ x. x.places) are)
+            ∙ ap (λ o. option_or o (default_place n))
+            (places_bound (bindings_of (lines bindings)) n);
+        letters =
+            made.letters
+            ∙ ap (λ o. unwrap_or o 5) (ap (λ x. x.letters) are
+            ∙ letters_bound (bindings_of (lines bindings)));
+      };
     }
 
 -- One cave at most is described.
@@ -191,9 +130,9 @@ made_reads database bindings t b c small bindings_small right tables bindings_ar
 same : {X : Type 0} (m n : fin.FinMap nat_cmp X) → ((q : ℕ) → fin.get m q ≡ fin.get n q) → m ≡ n
 same m n alike = fin.same_map nat_cmp_total fin.nat_cmp-IsAntisymmetric m n alike
 
-pub same_cave : (database bindings : List ℕ) (c d : CaveView) → Reads database bindings c
-    → Reads database bindings d → d ≡ c
-same_cave database bindings c d rc rd =
+same_described : (rows : List Entry) (bindings : List Binding) (c d : CaveView)
+    → IsDescribed rows bindings c → IsDescribed rows bindings d → d ≡ c
+same_described rows bindings c d rc rd =
     let long = same d.long c.long (λ n. rd.holds.long n ∙ sym (rc.holds.long n)) in
     let short = same d.short c.short (λ n. rd.holds.short n ∙ sym (rc.holds.short n)) in
     let travel = same d.travel c.travel (λ n. rd.holds.travel n ∙ sym (rc.holds.travel n)) in
@@ -228,6 +167,23 @@ same_cave database bindings c d rc rd =
       places = places i;
       letters = letters i;
     }
+
+-- the rows and the bindings that are described are those that are read
+described_read : (database bindings : List ℕ) (c : CaveView) → Reads database bindings c
+    → IsDescribed (entries (lines database)) (bindings_of (lines bindings)) c
+described_read database bindings c reads =
+    subst (λ rows. IsDescribed rows (bindings_of (lines bindings)) c)
+    (sym (rows_known Outside (lines database) reads.right.is_database.rows
+    reads.right.is_database.has_rows))
+    (subst (λ bs. IsDescribed reads.right.is_database.rows bs c)
+    (sym (bindings_known (lines bindings) reads.right.are_bindings.bindings
+    reads.right.are_bindings.has_bindings)) reads.described)
+
+pub same_cave : (database bindings : List ℕ) (c d : CaveView) → Reads database bindings c
+    → Reads database bindings d → d ≡ c
+same_cave database bindings c d rc rd =
+    same_described (entries (lines database)) (bindings_of (lines bindings)) c d
+    (described_read database bindings c rc) (described_read database bindings d rd)
 
 -- Faults.
 
@@ -343,7 +299,13 @@ read_decides database bindings (Err e) c found told reads =
     only_memory database bindings c e reads told
 
 pub read_laws : (database bindings : List ℕ) (r : Result CaveView CaveError)
-    → IfOk r (λ c. Reads database bindings c) → IfOk r (λ c. Laws (entries (lines database)) c)
+    → IfOk r (λ c. Reads database bindings c) → IfOk r (λ c. KeepsLaws database c)
 read_laws database bindings (Ok c) reads =
-    laws_hold (entries (lines database)) c reads.right.is_database.together.objects reads.holds
+    λ rows has.
+    let is = reads.right.is_database in
+    let same : is.rows ≡ rows =
+    sym (rows_known Outside (lines database) is.rows is.has_rows)
+    ∙ rows_known Outside (lines database) rows has in
+    subst (λ xs. Laws xs c) same
+    (laws_hold is.rows c is.together.objects reads.described.holds)
 read_laws database bindings (Err e) reads = tt

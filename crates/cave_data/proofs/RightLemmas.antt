@@ -1,91 +1,32 @@
--- The inputs are a database and bindings exactly where no line of them has a cause.
-use Rattle.std.proofs.Common.{◌≡◌, ◌⊎◌, inl, inr, ℕ, ◌+◌, ◌<◌, ◌≤◌, Bool, true, false, cond, leb}
+-- Rows are valid together exactly where none of them has a cause.
+use Rattle.std.proofs.Common.{◌≡◌, ℕ, ◌+◌, ◌<◌, ◌≤◌, Bool, true, false, cond, leb}
 use Rattle.std.proofs.Common.{ltb, eqb, List, [], ◌∷◌, ◌++◌, length, fold, Option, Some, None}
-use Rattle.std.proofs.Common.{option_to_list, is_some, Result, Ok, Err, refl, sym, ap, subst, ◌∙◌}
+use Rattle.std.proofs.Common.{option_to_list, Result, Ok, Err, refl, sym, ap, subst, ◌∙◌}
 use Rattle.std.proofs.Common.{arith}
 use Rattle.std.specs.Option.{option_or}
-use Rattle.std.specs.Result.{result_ok, result_err}
+use Rattle.std.specs.Result.{result_ok}
 use Rattle.std.specs.List.{filter_map}
 use Rattle.std.proofs.lemmas.Bool.{ltb-true, lt-ltb, ne_eqb, and_parts}
 use Rattle.std.proofs.lemmas.List.{append_assoc, append-nil, length-append}
 use Rattle.std.proofs.lemmas.List.Elements.{filter_map-append}
 use Rattle.data_rows.specs.declared.error.Cause.{Cause}
-use Rattle.data_rows.specs.declared.error.BindingFlaw.TheVariants.{Repeated}
-use Rattle.data_rows.specs.declared.error.Cause.TheVariants.{BadSection, OutOfRange, TooManyRows}
-use Rattle.data_rows.specs.declared.error.Cause.TheVariants.{BadBinding}
+use Rattle.data_rows.specs.declared.error.Cause.TheVariants.{OutOfRange, TooManyRows}
 use Rattle.data_rows.specs.declared.position.Position.{Position}
 use Rattle.data_rows.specs.declared.position.Position.TheVariants.{Outside, Inside, After}
-use Rattle.data_rows.specs.declared.binding.Binding.{Binding}
 use Rattle.data_rows.specs.base_lines.Bytes.{is_all_blank}
 use Rattle.data_rows.specs.Rows.{Entry, TextLine, Way, Word, ObjectLine, ClassLine, entry_in}
 use Rattle.cave_data.specs.Texts.{names_object, object_after, object_after_lines}
-use Rattle.data_rows.specs.Grammar.{position_after_heading, closes, position_after, IsRow}
-use Rattle.data_rows.specs.Grammar.{IsValidAt, IsValidLine, entry_here, entry_at, entries}
+use Rattle.data_rows.specs.Grammar.{closes, position_after, entry_here, entry_at, entries}
 use Rattle.data_rows.specs.SectionRows.{way_of, word_entry_of, class_line_of, object_line_of}
-use Rattle.cave_data.specs.FirstFault.{shape_here, shape_cause, at_most, limit_cause, first_limit}
+use Rattle.cave_data.specs.FirstFault.{shape_cause, at_most, limit_cause, first_limit}
 use Rattle.cave_data.specs.FirstFault.{line_cause}
-use Rattle.data_rows.specs.base_lines.LogLine.{is_skipped}
-use Rattle.data_rows.specs.BindingLines.{binding_row, binding_at, bindings_of}
-use Rattle.cave_data.specs.Bindings.{value_of}
-use Rattle.cave_data.specs.BindingFault.{repeat_cause, binding_cause}
 use Rattle.cave_data.specs.Database.{BeginWithObject, AreValidTogether}
-use Rattle.cave_data.specs.Reads.{BindsAnew, IsValidBindingLine}
-use Rattle.cave_data.proofs.StepLemmas.{entries-append, entries_push}
+use Rattle.cave_data.proofs.StepLemmas.{entries_push}
 
 -- neither is there where their choice isn't
 pub neither : {X : Type 0} (a b : Option X) → option_or a b ≡ None → (a ≡ None) × (b ≡ None)
 neither None b e = (refl, e)
 neither (Some x) b e = cc
-
--- What a line is at its place in the database.
-
-row_of : (r : Result Entry Cause) → result_err r ≡ None → (entry : Entry) × (r ≡ Ok entry)
-row_of (Ok entry) e = (entry, refl)
-row_of (Err cause) e = cc
-
-position_of : (o : Option Position) → cond (is_some o) None (Some BadSection) ≡ None
-    → (position : Position) × (o ≡ Some position)
-position_of None e = cc
-position_of (Some position) e = (position, refl)
-
-stands_here : (position : Position) (line : List ℕ) → shape_here position line ≡ None
-    → IsValidAt position line
-stands_here Outside line e = position_of (position_after_heading line) e
-stands_here (Inside s) line e = at (closes line) refl e where
-  at : (b : Bool) → closes line ≡ b → cond b None (result_err (entry_in s line)) ≡ None
-      → (closes line ≡ true) ⊎ IsRow s line
-  at true is none = inl is
-  at false is none = inr (row_of (entry_in s line) none)
-stands_here After line e = tt
-
-fine_here : (position : Position) (line : List ℕ) → IsValidAt position line
-    → shape_here position line ≡ None
-fine_here Outside line may = ap (λ o. cond (is_some o) None (Some BadSection)) may.1
-fine_here (Inside s) line (inl closed) = ap (λ b. cond b None (result_err (entry_in s line))) closed
-fine_here (Inside s) line (inr row) = ap (λ r. cond (closes line) None (result_err r)) row.1
-    ∙ at (closes line) where
-      at : (b : Bool) → cond b None (result_err {E = Cause} (Ok row.0)) ≡ None
-      at true = refl
-      at false = refl
-fine_here After line may = refl
-
-stands_right : (position : Position) (line : List ℕ) → shape_cause position line ≡ None
-    → (is_all_blank line ≡ true) ⊎ IsValidAt position line
-unfolding shape_cause
-stands_right position line e = at (is_all_blank line) refl e where
-  at : (b : Bool) → is_all_blank line ≡ b → cond b None (shape_here position line) ≡ None
-      → (is_all_blank line ≡ true) ⊎ IsValidAt position line
-  at true is none = inl is
-  at false is none = inr (stands_here position line none)
-
-fine_shape : (position : Position) (line : List ℕ)
-    → (is_all_blank line ≡ true) ⊎ IsValidAt position line → shape_cause position line ≡ None
-unfolding shape_cause
-fine_shape position line (inl blank) = ap (λ b. cond b None (shape_here position line)) blank
-fine_shape position line (inr may) = at (is_all_blank line) where
-  at : (b : Bool) → cond b None (shape_here position line) ≡ None
-  at true = refl
-  at false = fine_here position line may
 
 -- A row more.
 
@@ -178,7 +119,7 @@ begin_less [] more begin = tt
 begin_less (line ∷ lines) more begin = begin
 
 -- a prefix of rows that are valid together is valid
-some_less : (rows more : List Entry) → AreValidTogether (rows ++ more) → AreValidTogether rows
+pub some_less : (rows more : List Entry) → AreValidTogether (rows ++ more) → AreValidTogether rows
 unfolding count
 some_less rows more may = record {
   ways = fewer way_of 2000 rows more may.ways;
@@ -272,7 +213,7 @@ row_at position line rows none may = at (is_all_blank line) none where
   at false none = row_here position line rows none may
 
 -- the first of more rows has no fault where all are valid together
-first_fine : (rows more : List Entry) → AreValidTogether (rows ++ more)
+pub first_fine : (rows more : List Entry) → AreValidTogether (rows ++ more)
     → first_limit rows more ≡ None
 first_fine rows [] may = refl
 first_fine rows (e ∷ more) may =
@@ -281,14 +222,6 @@ first_fine rows (e ∷ more) may =
     (subst AreValidTogether (sym (append_assoc rows (e ∷ []) more)) may))
 
 -- Lines.
-
-pub line_right : (before : List (List ℕ)) (line : List ℕ) → line_cause before line ≡ None
-    → IsValidLine before line
-unfolding line_cause
-line_right before line e =
-    stands_right (position_after before) line
-    (neither (shape_cause (position_after before) line)
-    (first_limit (entries before) (entry_at (position_after before) line)) e).0
 
 pub line_together : (before : List (List ℕ)) (line : List ℕ) → line_cause before line ≡ None
     → AreValidTogether (entries before) → AreValidTogether (entries (before ++ line ∷ []))
@@ -302,63 +235,3 @@ line_together before line e may =
 pub none_together : AreValidTogether []
 none_together =
     record { ways = omega arith; words = omega arith; classes = omega arith; objects = tt }
-
-pub line_fine : (before : List (List ℕ)) (line : List ℕ) (later : List (List ℕ))
-    → IsValidLine before line → AreValidTogether (entries (before ++ line ∷ later))
-    → line_cause before line ≡ None
-unfolding line_cause
-line_fine before line later right may =
-    ap (λ o. option_or o (first_limit (entries before) (entry_at (position_after before) line)))
-    (fine_shape (position_after before) line right)
-    ∙ first_fine (entries before) (entry_at (position_after before) line)
-    (subst AreValidTogether (entries_push before line)
-    (some_less (entries (before ++ line ∷ []))
-    _ (subst AreValidTogether (ap entries (sym (append_assoc before (line ∷ []) later))
-    ∙ entries-append Outside (before ++ line ∷ []) later) may)))
-
--- Bindings.
-
-anew_one : (before : List (List ℕ)) (line : List ℕ) (r : Result Binding Cause)
-    → binding_row line ≡ r
-    → option_or (result_err r) (repeat_cause (bindings_of before) (option_to_list (result_ok r)))
-    ≡ None → BindsAnew before line
-anew_one before line (Ok binding) is e =
-    record {
-      binding = binding;
-      is = is;
-      anew = free (value_of binding.key (bindings_of before)) e;
-    } where
-      free : (o : Option ℕ) → cond (is_some o) (Some (BadBinding Repeated)) None ≡ None → o ≡ None
-      free None e = refl
-      free (Some n) e = cc
-anew_one before line (Err cause) is e = cc
-
-pub binding_right : (before : List (List ℕ)) (line : List ℕ) → binding_cause before line ≡ None
-    → IsValidBindingLine before line
-unfolding binding_cause binding_at
-binding_right before line e = at (is_skipped line) refl e where
-  at : (b : Bool) → is_skipped line ≡ b
-      → option_or (cond b None (result_err (binding_row line)))
-      (repeat_cause (bindings_of before)
-      (cond b [] (option_to_list (result_ok (binding_row line))))) ≡ None
-      → IsValidBindingLine before line
-  at true is none = inl is
-  at false is none = inr (anew_one before line (binding_row line) refl none)
-
-pub binding_fine : (before : List (List ℕ)) (line : List ℕ) → IsValidBindingLine before line
-    → binding_cause before line ≡ None
-unfolding binding_cause binding_at
-binding_fine before line (inl skipped) =
-    ap (λ b. option_or (cond b None (result_err (binding_row line)))
-    (repeat_cause (bindings_of before)
-    (cond b [] (option_to_list (result_ok (binding_row line)))))) skipped
-binding_fine before line (inr binds) =
-    ap (λ r. option_or (cond (is_skipped line) None (result_err r))
-    (repeat_cause (bindings_of before)
-    (cond (is_skipped line) [] (option_to_list (result_ok r))))) binds.is
-    ∙ at (is_skipped line) where
-      at : (b : Bool)
-          → option_or (cond b None (result_err {E = Cause} (Ok binds.binding)))
-          (repeat_cause (bindings_of before) (cond b [] (binds.binding ∷ []))) ≡ None
-      at true = refl
-      at false = ap (λ o. cond (is_some o) (Some (BadBinding Repeated)) None) binds.anew

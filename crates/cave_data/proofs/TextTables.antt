@@ -9,14 +9,14 @@ use Rattle.std.proofs.Math.Seq.{drop-length}
 use Rattle.std.specs.FinMap as fin
 use Rattle.cave_data.specs.declared.span.TextSpan.{TextSpan}
 use Rattle.cave_data.specs.Slots.{slot, by_number, SameSlots, ChangesSlot}
-use Rattle.cave_data.specs.Spans.{text_of_span, IsWithin, IsLast, IsFrom, AreWithin, LastEnds}
+use Rattle.cave_data.specs.Spans.{text_of_span, IsSpanWithin, IsLast, IsFrom, AreWithin, LastEnds}
 use Rattle.cave_data.specs.Tables.{with_line, is_same_number}
 use Rattle.cave_data.proofs.SlotLemmas.{get-by_number}
 use Rattle.cave_data.proofs.SlotChanges.{by_number-put, by_number-shows}
 use Rattle.cave_data.proofs.SpanLemmas.{text_of_span-append, text_of_span-from, within_more}
 
 if_within_more : (old new : List ℕ) (o : Option TextSpan) → length old ≤ length new
-    → IfSome o (IsWithin old) → IfSome o (IsWithin new)
+    → IfSome o (IsSpanWithin old) → IfSome o (IsSpanWithin new)
 if_within_more old new None grows h = tt
 if_within_more old new (Some span) grows h = within_more old new span grows h
 
@@ -27,19 +27,19 @@ texts_within old new spans grows h n = if_within_more old new (slot spans n) gro
 pub texts_same : (bytes : List ℕ) (old new : List (Option TextSpan)) → SameSlots old new
     → AreWithin bytes old → AreWithin bytes new
 texts_same bytes old new same h n =
-    subst (λ (o : Option TextSpan). IfSome o (IsWithin bytes)) (sym (same n)) (h n)
+    subst (λ (o : Option TextSpan). IfSome o (IsSpanWithin bytes)) (sym (same n)) (h n)
 
 pub texts_put : (bytes : List ℕ) (old new : List (Option TextSpan)) (number : ℕ) (span : TextSpan)
     → ChangesSlot old new number (Some span) → AreWithin bytes old → IsLast bytes span
     → AreWithin bytes new
 texts_put bytes old new number span put h last n = at (cases_eq n number) where
-  at : (n ≡ number) ⊎ (n ≡ number → ⊥) → IfSome (slot new n) (IsWithin bytes)
+  at : (n ≡ number) ⊎ (n ≡ number → ⊥) → IfSome (slot new n) (IsSpanWithin bytes)
   at (inl same) =
-      let ends : IsWithin bytes span = omega arith in
-      subst (λ k. IfSome (slot new k) (IsWithin bytes)) (sym same)
-      (subst (λ (o : Option TextSpan). IfSome o (IsWithin bytes)) (sym put.changed) ends)
+      let ends : IsSpanWithin bytes span = omega arith in
+      subst (λ k. IfSome (slot new k) (IsSpanWithin bytes)) (sym same)
+      (subst (λ (o : Option TextSpan). IfSome o (IsSpanWithin bytes)) (sym put.changed) ends)
   at (inr other) =
-      subst (λ (o : Option TextSpan). IfSome o (IsWithin bytes)) (sym (put.others n other)) (h n)
+      subst (λ (o : Option TextSpan). IfSome o (IsSpanWithin bytes)) (sym (put.others n other)) (h n)
 
 pub last_put : (bytes : List ℕ) (old new : List (Option TextSpan)) (number : ℕ) (span : TextSpan)
     → ChangesSlot old new number (Some span) → IsLast bytes span → LastEnds bytes new (Some number)
@@ -75,7 +75,7 @@ starts_at bytes true (Some span) h =
           (record { start_is = refl; last = last }));
     }
 
-kept : (bytes more : List ℕ) (o : Option TextSpan) → IfSome o (IsWithin bytes)
+kept : (bytes more : List ℕ) (o : Option TextSpan) → IfSome o (IsSpanWithin bytes)
     → option_map (text_of_span (bytes ++ more)) o ≡ option_map (text_of_span bytes) o
 kept bytes more None h = refl
 kept bytes more (Some span) h = ap Some (text_of_span-append bytes more span h)

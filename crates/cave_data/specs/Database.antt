@@ -1,14 +1,14 @@
 -- The relation of a database and a cave.
-use Rattle.std.specs.Prelude.{◌≡◌, ℕ, ◌^◌, ◌≤◌, Bool, true, ◌==◌, List, [], ◌∷◌, ◌++◌, length, map}
+use Rattle.std.specs.Prelude.{◌≡◌, ℕ, ◌^◌, ◌≤◌, Bool, true, ◌==◌, List, [], ◌∷◌, length, map}
 use Rattle.std.specs.Prelude.{reverse, fold, filter, Option, option_map, bit_or}
 use Rattle.std.specs.List.{filter_map, find, list_any}
 use Rattle.std.specs.FinMap.{get}
-use Rattle.data_rows.specs.declared.position.Position.TheVariants.{After}
+use Rattle.data_rows.specs.declared.position.Position.TheVariants.{Outside}
 use Rattle.data_rows.specs.Rows.{Going, Entry, TextLine}
 use Rattle.cave_data.specs.CaveView.{CaveView, ClassEntry}
 use Rattle.cave_data.specs.Printing.{printed_text}
 use Rattle.cave_data.specs.Texts.{line_text, nonempty, text_of_number, names_object, by_object}
-use Rattle.data_rows.specs.Grammar.{IsValidLine, position_after, entries}
+use Rattle.data_rows.specs.DatabaseGrammar.{HasRows}
 use Rattle.data_rows.specs.SectionRows.{way_of, word_entry_of, class_line_of, object_line_of}
 use Rattle.data_rows.specs.SectionRows.{long_line_of, short_line_of, message_line_of}
 use Rattle.data_rows.specs.SectionRows.{placement_of_row, default_of_row, marks_of_row, hint_of_row}
@@ -50,13 +50,11 @@ pub record AreValidTogether (rows : List Entry) : Type 0 where
   pub classes : length (filter_map class_line_of rows) ≤ MAX_CLASSES
   pub objects : BeginWithObject (filter_map object_line_of rows)
 
--- The lines are those of a database: each is valid where it is, the rows are valid together, and
--- the 0 is there.
+-- The lines are those of a database, and its rows are valid together.
 pub record IsDatabase (ls : List (List ℕ)) : Type 0 where
-  pub each : (before : List (List ℕ)) (line : List ℕ) (later : List (List ℕ))
-      → ls ≡ before ++ line ∷ later → IsValidLine before line
-  pub together : AreValidTogether (entries ls)
-  pub ended : position_after ls ≡ After
+  pub rows : List Entry
+  pub has_rows : HasRows Outside ls rows
+  pub together : AreValidTogether rows
 
 -- The cave has what these rows say.
 pub record Holds (rows : List Entry) (c : CaveView) : Type 0 where

@@ -3,8 +3,11 @@ use Rattle.std.specs.Prelude.{◌≡◌, ℕ, ◌≤◌, ◌<◌, Bool, false, t
 use Rattle.std.specs.Prelude.{length, map, filter, Some, None, is_some}
 use Rattle.std.specs.List.{filter_map, flat_map, list_all, list_any}
 use Rattle.std.specs.FinMap.{get}
+use Rattle.std.specs.Str.Lines.{lines}
+use Rattle.data_rows.specs.declared.position.Position.TheVariants.{Outside}
 use Rattle.cave_data.specs.CaveView.{CaveView, Texts, name_of, ways_from}
 use Rattle.cave_data.specs.Printing.{printed_text}
+use Rattle.data_rows.specs.DatabaseGrammar.{HasRows}
 use Rattle.data_rows.specs.Rows.{Entry, TextLine}
 use Rattle.cave_data.specs.Texts.{line_text, by_object}
 use Rattle.data_rows.specs.SectionRows.{way_of, object_line_of, long_line_of, short_line_of}
@@ -43,3 +46,7 @@ pub record Laws (rows : List Entry) (c : CaveView) : Type 0 where
   pub known : (object : ℕ) → 1 ≤ object → object ≤ LAST_NAMED
       → is_some (name_of c object)
       ≡ list_any (has_number object) (filter_map object_line_of rows)
+
+-- the laws hold of the rows of the database
+abbrev pub KeepsLaws : List ℕ → CaveView → Type 0
+KeepsLaws database c = (rows : List Entry) → HasRows Outside (lines database) rows → Laws rows c

@@ -11,8 +11,8 @@ abbrev pub text_of_span : List ℕ → TextSpan → List ℕ
 text_of_span bytes span = take span.len (drop span.start bytes)
 
 -- a span ends within the bytes
-abbrev pub IsWithin : List ℕ → TextSpan → Type 0
-IsWithin bytes span = span.start + span.len ≤ length bytes
+abbrev pub IsSpanWithin : List ℕ → TextSpan → Type 0
+IsSpanWithin bytes span = span.start + span.len ≤ length bytes
 
 -- a span ends where the bytes end
 abbrev pub IsLast : List ℕ → TextSpan → Type 0
@@ -25,7 +25,7 @@ pub record IsFrom (bytes : List ℕ) (start : ℕ) (span : TextSpan) : Type 0 wh
 
 -- each span in a table by number ends within the bytes
 abbrev pub AreWithin : List ℕ → List (Option TextSpan) → Type 0
-AreWithin bytes spans = (n : ℕ) → IfSome (slot spans n) (IsWithin bytes)
+AreWithin bytes spans = (n : ℕ) → IfSome (slot spans n) (IsSpanWithin bytes)
 
 -- the span of the last number ends where the bytes end
 abbrev pub LastEnds : List ℕ → List (Option TextSpan) → Option ℕ → Type 0
@@ -33,7 +33,7 @@ LastEnds bytes spans last = IfSome last (λ n. IfSome (slot spans n) (IsLast byt
 
 -- a span with a number ends within the bytes
 abbrev pub RowWithin : List ℕ → NumberedSpan → Type 0
-RowWithin bytes row = IsWithin bytes row.span
+RowWithin bytes row = IsSpanWithin bytes row.span
 
 -- a word and its number
 abbrev pub word_of_span : List ℕ → NumberedSpan → WordEntry

@@ -11,11 +11,9 @@ ghost use Rattle.cave_data.specs.Faults.{FaultIs, no_memory};
 ghost use Rattle.cave_data.specs.Cave.{Finished};
 ghost use Rattle.cave_data.specs.Ranges.{IsLetters, IsMessage, IsPlace, IsPlacementInRange};
 ghost use Rattle.cave_data.specs.Ranges.{HasOnly, AreInRange};
-ghost use Rattle.data_rows.specs.Grammar.{entries};
-ghost use Rattle.cave_data.specs.Laws.{Laws};
+ghost use Rattle.cave_data.specs.Laws.{KeepsLaws};
 ghost use Rattle.cave_data.specs.LowestCause.{ReportsLowest};
 ghost use Rattle.cave_data.specs.Reads.{AreValidInputs, Reads, fault, size_fault};
-ghost use Rattle.std.specs.Str.Lines.{lines};
 ghost use Rattle.cave_data.specs.Printing.{rating};
 ghost use Rattle.cave_data.specs.Tables.{IsAbove};
 ghost use Rattle.data_rows.specs.RowViews.{going};
@@ -205,7 +203,7 @@ impl Cave {
         ensures right { (AreValidInputs database.now bindings.now
             → fault database.now bindings.now ≡ None)
             × (fault database.now bindings.now ≡ None → AreValidInputs database.now bindings.now) }
-        ensures laws { IfOk result (λ c. Laws (entries (lines database.now)) c) }
+        ensures laws { IfOk result (λ c. KeepsLaws database.now c) }
         // Where a cave is described, it is read, unless memory runs out.
         ensures only { (c : CaveView) → Reads database.now bindings.now c
             → MatchResult result (λ d. d ≡ c) (λ e. e ≡ no_memory) }

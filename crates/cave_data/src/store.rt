@@ -1,6 +1,6 @@
 //! A store of bytes that has many texts, one after another.
 ghost use Rattle.std.specs.Prelude.{◌≡◌, ◌≤◌, ◌++◌, ◌∷◌, [], IfOk, OnOk, length};
-ghost use Rattle.cave_data.specs.Spans.{text_of_span, IsWithin, IsFrom};
+ghost use Rattle.cave_data.specs.Spans.{text_of_span, IsSpanWithin, IsFrom};
 
 use crate::span::TextSpan;
 use std::alloc::{AllocError, Global};
@@ -45,7 +45,7 @@ impl Store {
 
     /// The text that the span refers to.
     pub fn text(&self, span: TextSpan) -> &[u8]
-        requires { IsWithin self.now span }
+        requires { IsSpanWithin self.now span }
         ensures { result.now ≡ text_of_span self.now span }
     {
         let start = span.start as usize;

@@ -6,23 +6,23 @@ use Rattle.std.proofs.lemmas.Bool.{false≢true, eqb-true}
 use Rattle.base_lines.specs.Bytes.{is_blank, is_nonblank, prefix_while, after_prefix}
 use Rattle.data_rows.specs.Fields.{after_blanks, field, after_field, ends_field, fields}
 
-blank_ahead : (b : ℕ) (bs : List ℕ) → is_blank b ≡ true → after_blanks (b ∷ bs) ≡ after_blanks bs
+pub blank_ahead : (b : ℕ) (bs : List ℕ) → is_blank b ≡ true → after_blanks (b ∷ bs) ≡ after_blanks bs
 blank_ahead b bs e = ap (λ v. cond v (after_prefix is_blank bs) (b ∷ bs)) e
 
-none_ahead : (b : ℕ) (bs : List ℕ) → is_blank b ≡ false → after_blanks (b ∷ bs) ≡ b ∷ bs
+pub none_ahead : (b : ℕ) (bs : List ℕ) → is_blank b ≡ false → after_blanks (b ∷ bs) ≡ b ∷ bs
 none_ahead b bs e = ap (λ v. cond v (after_prefix is_blank bs) (b ∷ bs)) e
 
-field-cons : (b : ℕ) (bs : List ℕ) → is_blank b ≡ false → field (b ∷ bs) ≡ b ∷ field bs
+pub field-cons : (b : ℕ) (bs : List ℕ) → is_blank b ≡ false → field (b ∷ bs) ≡ b ∷ field bs
 field-cons b bs e = ap (λ v. cond (not v) (b ∷ prefix_while is_nonblank bs) []) e
 
 after_field-cons : (b : ℕ) (bs : List ℕ) → is_blank b ≡ false
     → after_field (b ∷ bs) ≡ after_field bs
 after_field-cons b bs e = ap (λ v. cond (not v) (after_prefix is_nonblank bs) (b ∷ bs)) e
 
-field-blank : (b : ℕ) (bs : List ℕ) → is_blank b ≡ true → field (b ∷ bs) ≡ []
+pub field-blank : (b : ℕ) (bs : List ℕ) → is_blank b ≡ true → field (b ∷ bs) ≡ []
 field-blank b bs e = ap (λ v. cond (not v) (b ∷ prefix_while is_nonblank bs) []) e
 
-after_field-blank : (b : ℕ) (bs : List ℕ) → is_blank b ≡ true → after_field (b ∷ bs) ≡ b ∷ bs
+pub after_field-blank : (b : ℕ) (bs : List ℕ) → is_blank b ≡ true → after_field (b ∷ bs) ≡ b ∷ bs
 after_field-blank b bs e = ap (λ v. cond (not v) (after_prefix is_nonblank bs) (b ∷ bs)) e
 
 after_blanks-nil : after_blanks [] ≡ []

@@ -1,6 +1,13 @@
+pub mod BindingForms
 pub mod FieldLemmas
+pub mod LineLemmas
 pub mod ListLemmas
 pub mod MinusLemmas
 pub mod NameLemmas
+pub mod PartLemmas
+pub mod ReadParts
+pub mod RowKinds
+pub mod RowLemmas
+pub mod SectionRows
 pub mod NumberLemmas
 pub mod TargetLemmas

@@ -6,15 +6,15 @@ use Rattle.data_rows.specs.declared.targets.Condition.TheVariants.{Carried, AtHa
 use Rattle.data_rows.specs.declared.targets.Destination.TheVariants.{Place, Special, NoWay, Message}
 use Rattle.data_rows.specs.declared.targets.Destination.TheVariants.{PutsEmeraldDown}
 use Rattle.data_rows.specs.declared.targets.Special.TheVariants.{Squeeze, Bridge}
-use Rattle.data_rows.specs.Targets.{condition_of, destination_of, IsWithin, EndsWithin}
+use Rattle.data_rows.specs.Targets.{condition_of, destination_of, IsConditionWithin, EndsWithin}
 
-pub condition_within : (target : ℕ) → IsWithin (condition_of target)
+pub condition_within : (target : ℕ) → IsConditionWithin (condition_of target)
 unfolding condition_of
 condition_within target =
     at (target / 1000) _ _ _ (leb (target / 1000) 200) (leb (target / 1000) 300) refl refl
   where
     at : (m : ℕ) (always never chance low high : Bool) → leb m 200 ≡ low → leb m 300 ≡ high
-        → IsWithin (cond always Always (cond never NotForDwarves (cond chance (Chance m)
+        → IsConditionWithin (cond always Always (cond never NotForDwarves (cond chance (Chance m)
         (cond low (Carried (m - 100)) (cond high (AtHand (m - 200))
         (OtherProp (m % 100) (m / 100 - 3)))))))
     at m true never chance low high is_low is_high = tt

@@ -1,7 +1,6 @@
--- A database: where each of its lines is, and its rows.
-use Rattle.std.specs.Prelude.{◌≡◌, ◌⊎◌, ℕ, Bool, true, false, ◌==◌, if◌then◌else◌, List, [], ◌∷◌}
+-- Reading a database line by line: where each line is, and its rows.
+use Rattle.std.specs.Prelude.{ℕ, Bool, false, ◌==◌, if◌then◌else◌, List, [], ◌∷◌}
 use Rattle.std.specs.Prelude.{◌++◌, fold, Option, Some, None, option_map, option_to_list, unwrap_or}
-use Rattle.std.specs.Prelude.{Ok}
 use Rattle.std.specs.Result.{result_ok}
 use Rattle.base_lines.specs.Bytes.{is_all_blank}
 use Rattle.data_rows.specs.declared.error.Section.{Section}
@@ -68,21 +67,6 @@ position_after_line position line = if is_all_blank line then position
 -- where the line after these is
 abbrev pub position_after : List (List ℕ) → Position
 position_after lines = fold position_after_line Outside lines
-
--- a row of the section
-abbrev pub IsRow : Section → List ℕ → Type 0
-IsRow s line = (entry : Entry) × (entry_in s line ≡ Ok entry)
-
--- outside every section a heading or the end, inside a section its end or a row of it, and after
--- the end anything
-abbrev pub IsValidAt : Position → List ℕ → Type 0
-IsValidAt Outside line = (position : Position) × (position_after_heading line ≡ Some position)
-IsValidAt (Inside s) line = (closes line ≡ true) ⊎ IsRow s line
-IsValidAt After line = Unit {0}
-
--- the line after these lines is blank, or is valid there
-abbrev pub IsValidLine : List (List ℕ) → List ℕ → Type 0
-IsValidLine before line = (is_all_blank line ≡ true) ⊎ IsValidAt (position_after before) line
 
 abbrev pub entry_here : Position → List ℕ → List Entry
 entry_here Outside line = []

@@ -1,10 +1,14 @@
+pub mod BindingGrammar
 pub mod BindingLines
+pub mod DatabaseGrammar
 pub mod Fields
 pub mod Answers
 pub mod Grammar
 pub mod Lists
 pub mod PlaceRole
 pub mod Role
+pub mod RowGrammar
+pub mod RowParts
 pub mod RowViews
 pub mod Rows
 pub mod SectionRows

@@ -35,11 +35,11 @@ destination_of target =
     else (if nat_lt 500 n then Message (n - 500) else NoWay))))
 
 -- the objects of a condition are objects that there may be
-abbrev pub IsWithin : Condition → Type 0
-IsWithin (Carried object) = object ≤ LAST_OBJECT
-IsWithin (AtHand object) = object ≤ LAST_OBJECT
-IsWithin (OtherProp object prop) = object ≤ LAST_OBJECT
-IsWithin _ = Unit {0}
+abbrev pub IsConditionWithin : Condition → Type 0
+IsConditionWithin (Carried object) = object ≤ LAST_OBJECT
+IsConditionWithin (AtHand object) = object ≤ LAST_OBJECT
+IsConditionWithin (OtherProp object prop) = object ≤ LAST_OBJECT
+IsConditionWithin _ = Unit {0}
 
 -- the place of a destination is a place that there may be
 abbrev pub EndsWithin : Destination → Type 0

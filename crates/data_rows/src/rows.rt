@@ -1,6 +1,6 @@
 //! Rows of a database.
 ghost use Rattle.std.specs.Prelude.{◌≡◌};
-ghost use Rattle.data_rows.specs.Targets.{condition_of, destination_of, IsWithin, EndsWithin};
+ghost use Rattle.data_rows.specs.Targets.{condition_of, destination_of, IsConditionWithin, EndsWithin};
 
 use crate::targets::{Condition, Destination, condition_of, destination_of};
 use arrayvec::ArrayVec;
@@ -44,7 +44,7 @@ impl Row {
     /// The condition under which the way is taken.
     pub fn condition(&self) -> Condition
         ensures value { result ≡ condition_of self.now.target }
-        ensures within { IsWithin result }
+        ensures within { IsConditionWithin result }
     {
         self.condition
     }

@@ -1,6 +1,6 @@
 //! What the target of a way says: under which condition the way is taken, and where it leads.
 ghost use Rattle.std.specs.Prelude.{◌≡◌};
-ghost use Rattle.data_rows.specs.Targets.{condition_of, destination_of, IsWithin, leads_to_place};
+ghost use Rattle.data_rows.specs.Targets.{condition_of, destination_of, IsConditionWithin, leads_to_place};
 ghost use Rattle.data_rows.specs.Targets.{EndsWithin};
 
 /// The condition under which a way is taken. Objects have their numbers.
@@ -60,7 +60,7 @@ impl Destination {
 #[tactic(auto, unfolding(crate::specs::Targets::condition_of))]
 pub(crate) fn condition_of(target: u32) -> Condition
     ensures value { result ≡ condition_of target }
-    ensures within { IsWithin result }
+    ensures within { IsConditionWithin result }
 {
     match target / 1000 {
         0 => Condition::Always,

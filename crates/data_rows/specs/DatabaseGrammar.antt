@@ -1,0 +1,50 @@
+-- Which lines are those of a database, and its rows.
+use Rattle.std.specs.Prelude.{ℕ, List, [], ◌∷◌, IsTrue}
+use Rattle.base_lines.specs.Bytes.{is_all_blank}
+use Rattle.data_rows.specs.declared.error.Section.{Section}
+use Rattle.data_rows.specs.declared.error.Section.TheVariants as section
+use Rattle.data_rows.specs.declared.number.Number.{Number}
+use Rattle.data_rows.specs.declared.number.Number.TheVariants.{Natural, Negative}
+use Rattle.data_rows.specs.declared.position.Position.{Position}
+use Rattle.data_rows.specs.declared.position.Position.TheVariants.{Outside, Inside}
+use Rattle.data_rows.specs.Rows.{Entry}
+use Rattle.data_rows.specs.RowParts.{BeginsWithNumber}
+use Rattle.data_rows.specs.RowGrammar.{IsRow}
+
+abbrev pub section_number : Section → ℕ
+section_number section.LongTexts = 1
+section_number section.ShortTexts = 2
+section_number section.Travel = 3
+section_number section.Words = 4
+section_number section.Objects = 5
+section_number section.Messages = 6
+section_number section.Placements = 7
+section_number section.Defaults = 8
+section_number section.Conditions = 9
+section_number section.Classes = 10
+section_number section.Hints = 11
+section_number section.Magic = 12
+
+-- the line begins with the number; what follows it is ignored
+abbrev pub IsLineOfNumber : Number → List ℕ → Type 0
+IsLineOfNumber number line = (ignored : List ℕ) × BeginsWithNumber line number ignored
+
+-- From this position on the lines are those of a database, and these are its rows: outside every
+-- section the number of one opens it, inside a section each line is a row of it up to one that
+-- begins with -1, and a 0 outside is the end, after which anything may come.
+pub data HasRows : Position → List (List ℕ) → List Entry → Type 0 where
+  blank_line : {position : Position} {line : List ℕ} {lines : List (List ℕ)} {rows : List Entry}
+      → IsTrue (is_all_blank line) → HasRows position lines rows
+      → HasRows position (line ∷ lines) rows
+  section_opens : {s : Section} {line : List ℕ} {lines : List (List ℕ)} {rows : List Entry}
+      → IsLineOfNumber (Natural (section_number s)) line → HasRows (Inside s) lines rows
+      → HasRows Outside (line ∷ lines) rows
+  row_line : {s : Section} {line : List ℕ} {row : Entry} {lines : List (List ℕ)}
+      {rows : List Entry}
+      → IsRow s line row → HasRows (Inside s) lines rows
+      → HasRows (Inside s) (line ∷ lines) (row ∷ rows)
+  section_ends : {s : Section} {line : List ℕ} {lines : List (List ℕ)} {rows : List Entry}
+      → IsLineOfNumber (Negative 1) line → HasRows Outside lines rows
+      → HasRows (Inside s) (line ∷ lines) rows
+  database_ends : {line : List ℕ} {lines : List (List ℕ)}
+      → IsLineOfNumber (Natural 0) line → HasRows Outside (line ∷ lines) []
