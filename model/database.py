@@ -2,54 +2,54 @@
 
 from collections import namedtuple
 
-from lines import FIELD, LINE_LENGTH, MOST_BYTES, Fault, fields_of, folded, lines_of, number_of
+from lines import FIELD, LINE_LENGTH, Fault, fields_of, folded, lines_of, number_of
 
 PLACE, MESSAGE = (1, 300), (1, 499)
+LONGEST_LIST = 40
 
-# Of each section: what a row is made of, the ranges of its numbers, what is expected, what is out
-# of range, and the limit of its rows. The kinds of rows: a number and a text; a number and a word;
-# numbers, some of which may be left out; numbers with a list after them.
-Section = namedtuple("Section", "kind ranges expects range_says limit")
+# Of each section: what a row is made of, the ranges of its numbers, how many of them it has to have
+# (before its list, if it has one), what is expected, what its ranges are, and its limits. The kinds
+# of rows: a number and a text; a number and a word; numbers; numbers with a list after them.
+Section = namedtuple("Section", "kind ranges fewest expects within limit limits")
 TEXT, NUMBERS = "a line of text has at most 255 bytes", "of them numbers of 1 to 9 digits"
 OF_PLACE = f"a place is from 1 to 300, and {TEXT}"
 OF_MESSAGE = f"a message is from 1 to 499, and {TEXT}"
-SECTIONS = {
-    1: Section("text", [PLACE], "a place and a line of its long text", OF_PLACE, None),
-    2: Section("text", [PLACE], "a place and a line of its short text", OF_PLACE, None),
-    3: Section("list", [PLACE, (0, 999_999), (1, 999)],
-               f"a place, a target and at least one motion, all {NUMBERS}",
-               "a place is from 1 to 300, a target from 0 to 999999, and a motion from 1 to 999",
-               2000),
-    4: Section("word", [], "a number of 1 to 9 digits and a word",
-               "a word's number is from 1 to 999, from 1001 to 1100, from 2001 to 2099 or from"
-               " 3001 to 3499", 1000),
-    5: Section("object", [],
-               "the number of an object, or a hundred times a prop, and a line of its text",
-               "an object is from 1 to 99, a prop's line is one of 0, 100, 200 to 9900 after an"
-               f" object's, and {TEXT}", None),
-    6: Section("text", [MESSAGE], "a message and a line of its text", OF_MESSAGE, None),
-    7: Section("numbers", [(1, 100), (0, 300), (-1, 300)],
-               f"an object and at most two places of it, all {NUMBERS}",
-               "an object is from 1 to 100, its first place from 0 to 300, and its second from -1"
-               " to 300", None),
-    8: Section("numbers", [(1, 99), (0, 499)], f"an action and a message, both {NUMBERS}",
-               "an action is from 1 to 99, and its message from 0 to 499", None),
-    9: Section("list", [(0, 20), PLACE], f"a bit and the places that have it, all {NUMBERS}",
-               "a bit is from 0 to 20, and a place from 1 to 300", None),
-    10: Section("text", [(0, 9999)], "the greatest score of a class and its text",
-                "a score is from 0 to 9999, and a text has at most 255 bytes", 50),
-    11: Section("numbers", [(1, 20), (0, 9999), (0, 100), (0, 499), (0, 499)],
-                f"a hint, its turns, its points, its question and its text, all {NUMBERS}",
-                "a hint is from 1 to 20, its turns from 0 to 9999, its points from 0 to 100, and"
-                " its messages from 0 to 499", None),
-    12: Section("text", [MESSAGE], "a message and a line of its text", OF_MESSAGE, None),
-}
-LIMITS = {3: "section 3 has at most 2000 rows, and a row at most 40 motions",
-          4: "section 4 has at most 1000 rows", 9: "a row of section 9 has at most 40 places",
-          10: "section 10 has at most 50 rows"}
-FEWEST = {3: 2, 7: 1, 8: 2, 9: 1, 11: 5}  # numbers that a row has to have before its list
-WORD_RANGES = [(1, 999), (1001, 1100), (2001, 2099), (3001, 3499)]
-LONGEST_LIST = 40
+SECTIONS = {number: Section(*of) for number, *of in [
+    (1, "text", [PLACE], 1, "a place and a line of its long text", OF_PLACE, None, ""),
+    (2, "text", [PLACE], 1, "a place and a line of its short text", OF_PLACE, None, ""),
+    (3, "list", [PLACE, (0, 999_999), (1, 999)], 2,
+     f"a place, a target and at least one motion, all {NUMBERS}",
+     "a place is from 1 to 300, a target from 0 to 999999, and a motion from 1 to 999",
+     2000, "section 3 has at most 2000 rows, and a row at most 40 motions"),
+    (4, "word", [(1, 999), (1001, 1100), (2001, 2099), (3001, 3499)], 1,
+     "a number of 1 to 9 digits and a word",
+     "a word's number is from 1 to 999, from 1001 to 1100, from 2001 to 2099 or from 3001 to 3499",
+     1000, "section 4 has at most 1000 rows"),
+    (5, "text", [(1, 99)], 1,
+     "the number of an object, or a hundred times a prop, and a line of its text",
+     "an object is from 1 to 99, a prop's line is one of 0, 100, 200 to 9900 after an object's, and"
+     f" {TEXT}", None, ""),
+    (6, "text", [MESSAGE], 1, "a message and a line of its text", OF_MESSAGE, None, ""),
+    (7, "numbers", [(1, 100), (0, 300), (-1, 300)], 1,
+     f"an object and at most two places of it, all {NUMBERS}",
+     "an object is from 1 to 100, its first place from 0 to 300, and its second from -1 to 300",
+     None, ""),
+    (8, "numbers", [(1, 99), (0, 499)], 2, f"an action and a message, both {NUMBERS}",
+     "an action is from 1 to 99, and its message from 0 to 499", None, ""),
+    (9, "list", [(0, 20), PLACE], 1, f"a bit and the places that have it, all {NUMBERS}",
+     "a bit is from 0 to 20, and a place from 1 to 300",
+     None, "a row of section 9 has at most 40 places"),
+    (10, "text", [(0, 9999)], 1, "the greatest score of a class and its text",
+     "a score is from 0 to 9999, and a text has at most 255 bytes",
+     50, "section 10 has at most 50 rows"),
+    (11, "numbers", [(1, 20), (0, 9999), (0, 100), (0, 499), (0, 499)], 5,
+     f"a hint, its turns, its points, its question and its text, all {NUMBERS}",
+     "a hint is from 1 to 20, its turns from 0 to 9999, its points from 0 to 100, and its messages"
+     " from 0 to 499", None, ""),
+    (12, "text", [MESSAGE], 1, "a message and a line of its text", OF_MESSAGE, None, ""),
+]}
+CAUSES = ["a number or a word is missing: section {0} expects {1.expects}, or -1 at its end",
+          "a number or a text is out of its range: {1.within}", "a limit is passed: {1.limits}"]
 
 ROLES = """
     answer around axe-bear axe-dragon axe-first axe-kill axe-miss axe-thrown axe-troll back-no
@@ -83,121 +83,56 @@ NAMES = """
     GOLD COINS CHEST EGGS TRIDENT VASE EMERALD PYRAMID PEARL RUG SPICES CHAIN""".split()
 SECONDS = {"ROD2": "ROD", "PLANT2": "PLANT", "TROLL2": "TROLL"}
 
-
 def is_within(number, bounds):
     return bounds[0] <= number <= bounds[1]
 
-
-def missing(section):
-    return Fault(0, f"a number or a word is missing: section {section} expects"
-                    f" {SECTIONS[section].expects}, or -1 at its end")
-
-
-def out_of_range(section):
-    return Fault(0, f"a number or a text is out of its range: {SECTIONS[section].range_says}")
-
-
-def limit_passed(section):
-    return Fault(0, f"a limit is passed: {LIMITS[section]}")
-
-
-def text_row(line, section):
-    """A number and the text after the one blank that follows it."""
-    found = FIELD.search(line)
-    number = number_of(found[0])
-    if number is None:
-        raise missing(section)
-    return number, line[found.end() + 1:]
-
-
-def number_row(line, section):
-    """Numbers, as many as the section knows at most, and at least as many as it needs."""
-    fields = fields_of(line)[:len(SECTIONS[section].ranges)]
-    numbers = [number_of(it) for it in fields]
-    if len(numbers) < FEWEST[section] or None in numbers:
-        raise missing(section)
-    if not all(map(is_within, numbers, SECTIONS[section].ranges)):
-        raise out_of_range(section)
-    return numbers
-
-
-def list_row(line, section):
-    """Numbers, and a list that goes on to a 0 or to the end of the line."""
-    fields, heads = fields_of(line), FEWEST[section]
-    numbers, listed = [number_of(it) for it in fields[:heads]], []
-    for field in fields[heads:]:
-        if (number := number_of(field)) == 0:
-            break
-        listed.append(number)
-    if len(numbers) < heads or None in numbers + listed or section == 3 and not listed:
-        raise missing(section)
-    *ranges, of_list = SECTIONS[section].ranges
-    if not (all(map(is_within, numbers, ranges)) and all(is_within(it, of_list) for it in listed)):
-        raise out_of_range(section)
-    if len(listed) > LONGEST_LIST:
-        raise limit_passed(section)
-    return [*numbers, listed]
-
-
-def row_of(line, section, rows):
+def row_of(line, at, section, rows):
     """The row that a line of a section says; `rows` are those before it."""
-    kind = SECTIONS[section].kind
-    if kind == "list":
-        return list_row(line, section)
-    if kind == "numbers":
-        return number_row(line, section)
-    if kind == "word":
-        number, word = number_of(fields_of(line)[0]), fields_of(line)[1:2]
-        if number is None or not word:
-            raise missing(section)
-        if not any(is_within(number, it) for it in WORD_RANGES):
-            raise out_of_range(section)
-        return number, word[0]
-    number, text = text_row(line, section)
-    if kind == "object":
-        is_prop = number % 100 == 0 and 0 <= number <= 9900 and rows
-        right = is_prop or 1 <= number <= 99
+    kind, ranges, fewest, *_, limit, _ = SECTIONS[section]
+    fields, text, listed = fields_of(line), line[FIELD.search(line).end() + 1:], []
+    numbers = [number_of(it) for it in fields]
+    first, heads = numbers[0], numbers[:fewest if kind == "list" else len(ranges)]
+    if kind == "text":
+        row, is_there = (first, text), first is not None
+        is_prop = is_there and section == 5 and rows and first % 100 == 0 and 0 <= first <= 9900
+        fits = is_there and (is_prop or is_within(first, ranges[0])) and len(text) <= LINE_LENGTH
+    elif kind == "word":
+        row, is_there = (first, *fields[1:2]), first is not None and len(fields) > 1
+        fits = is_there and any(is_within(first, it) for it in ranges)
     else:
-        right = is_within(number, SECTIONS[section].ranges[0])
-    if not right or len(text) > LINE_LENGTH:
-        raise out_of_range(section)
-    return number, text
-
+        listed = numbers[fewest:] if kind == "list" else []
+        listed = listed[:listed.index(0)] if 0 in listed else listed
+        row = [*heads, listed] if kind == "list" else heads
+        is_there = len(heads) >= fewest and None not in heads + listed and (listed or section != 3)
+        fits = is_there and all(map(is_within, heads, ranges)) and all(
+            is_within(it, ranges[-1]) for it in listed)
+    is_short = len(listed) <= LONGEST_LIST and len(rows) != limit
+    for holds, cause in zip((is_there, fits, is_short), CAUSES):
+        if not holds:
+            raise Fault(at, cause.format(section, SECTIONS[section]))
+    return row
 
 def sections_of(text):
     """The rows of each section of a database, or its first fault."""
-    sections, section, number = {it: [] for it in SECTIONS}, 0, 0
-    for number, line in enumerate(lines_of(text), 1):
+    sections, section, at = {it: [] for it in SECTIONS}, 0, 0
+    for at, line in enumerate(lines_of(text), 1):
         if not (first := FIELD.search(line)):
             continue
         value = number_of(first[0])
-        if not section:
-            if value == 0:
-                return sections
-            if value not in SECTIONS:
-                raise Fault(number, "this opens no section: expected the number of a section, 1 to"
-                                    " 12, or 0 at the end of the database")
-            section = value
-        elif value == -1:
+        if section and value != -1:
+            sections[section].append(row_of(line, at, section, sections[section]))
+        elif section:
             section = 0
+        elif value == 0:
+            return sections
+        elif value in SECTIONS:
+            section = value
         else:
-            add_row(sections, section, line, number)
+            raise Fault(at, "this opens no section: expected the number of a section, 1 to 12, or 0"
+                            " at the end of the database")
     ends = f"section {section} has to end with -1, and the database with 0"
-    missing_end = ends if section else "its last line has to be 0"
-    raise Fault(number + 1, f"the database has no end: {missing_end}")
-
-
-def add_row(sections, section, line, number):
-    """Adds the row of a line to its section."""
-    rows, limit = sections[section], SECTIONS[section].limit
-    try:
-        row = row_of(line, section, rows)
-        if limit and len(rows) == limit:
-            raise limit_passed(section)
-    except Fault as fault:
-        raise Fault(number, fault.message) from None
-    rows.append(row)
-
+    says = ends if section else "its last line has to be 0"
+    raise Fault(at + 1, f"the database has no end: {says}")
 
 def last_runs(rows):
     """The lines of the last run of each key: adjacent rows of a key are one run."""
@@ -209,7 +144,6 @@ def last_runs(rows):
         before = key
     return texts
 
-
 def keyed_by_object(rows):
     """The rows of section 5, each with its object, and with its prop or None."""
     owner = 0
@@ -218,46 +152,28 @@ def keyed_by_object(rows):
         owner = owner if is_prop else number
         yield (owner, number // 100 if is_prop else None), line
 
-
-def binding_of(line, bound):
-    """The key and the number of a line of bindings."""
-    fields = fields_of(line)
-    number = number_of(fields[1]) if len(fields) == 2 and not fields[1].startswith("-") else None
-    if number is None:
-        raise Fault(0, "this is no binding: expected two fields, `msg.NAME N`, `place.NAME N` or"
-                       " `num.letters N`, with N of 1 to 9 digits")
-    key = fields[0]
-    family = (5, 8) if key == "num.letters" else FAMILIES.get(key[:key.find(".") + 1])
-    if family and not is_within(number, family):
-        raise Fault(0, "the number of a binding is out of its range: in `msg.NAME N` it is from 1"
-                       " to 499, in `place.NAME N` from 1 to 300, in `num.letters N` from 5 to 8")
-    if key in bound:
-        raise Fault(0, "the key was bound before: each key is bound at most once")
-    if key not in KEYS:
-        raise Fault(0, "the key is not known: expected `msg.` or `place.` with a name that the game"
-                       " knows, or `num.letters`")
-    return key, number
-
-
-def check_size(text, says):
-    """Refuses a text that is too large; that of bindings is judged before the database is read."""
-    if len(text) > MOST_BYTES:
-        raise Fault(0, f"the input is too large: {says} at most 1,048,576 bytes")
-
-
 def bindings_of(text):
     """What a text binds, or its first fault."""
     bound = {}
-    for number, line in enumerate(lines_of(text), 1):
+    for at, line in enumerate(lines_of(text), 1):
         if line.startswith("#") or not FIELD.search(line):
             continue
-        try:
-            key, value = binding_of(line, bound)
-        except Fault as fault:
-            raise Fault(number, fault.message) from None
-        bound[key] = value
+        key, number = (fields_of(line) + [""])[:2]
+        if len(fields_of(line)) != 2 or number.startswith("-") or number_of(number) is None:
+            raise Fault(at, "this is no binding: expected two fields, `msg.NAME N`, `place.NAME N`"
+                            " or `num.letters N`, with N of 1 to 9 digits")
+        family = (5, 8) if key == "num.letters" else FAMILIES.get(key[:key.find(".") + 1])
+        if family and not is_within(int(number), family):
+            raise Fault(at, "the number of a binding is out of its range: in `msg.NAME N` it is"
+                            " from 1 to 499, in `place.NAME N` from 1 to 300, in `num.letters N`"
+                            " from 5 to 8")
+        if key in bound:
+            raise Fault(at, "the key was bound before: each key is bound at most once")
+        if key not in KEYS:
+            raise Fault(at, "the key is not known: expected `msg.` or `place.` with a name that the"
+                            " game knows, or `num.letters`")
+        bound[key] = int(number)
     return bound
-
 
 class Cave:
     """A database read together with its bindings. A text is the list of its lines."""
@@ -288,26 +204,14 @@ class Cave:
             self.lexicon.setdefault(word, (kind, number))
             if kind == 3:
                 self.specials.setdefault(word, number)
-        self.things = {name: self.object_called(name) for name in NAMES}
-        self.things.update({name: self.object_after(of) for name, of in SECONDS.items()})
+        things = {word[:5]: it for kind, it, word in reversed(self.words) if kind == 1}
+        self.things = {name: things.get(name[:5], 0) for name in NAMES}
+        for second, name in SECONDS.items():  # one number after that of the name
+            self.things[second] = self.things[name] + 1 if 0 < self.things[name] < 100 else 0
         for liquid in ("WATER", "OIL"):
             if self.things[liquid] == self.things["BOTTLE"]:
                 self.things[liquid] = 0
         self.treasures = [it for it in range(50, 80) if (it, None) in self.object_texts]
-
-    def object_called(self, name):
-        """The object of the first word whose first five letters are the name's; 0 for none."""
-        return next((number for kind, number, word in self.words
-                     if kind == 1 and word[:5] == name[:5]), 0)
-
-    def object_after(self, name):
-        """The object one number after that of a name; 0 for none."""
-        first = self.things[name]
-        return first + 1 if 0 < first < 100 else 0
-
-    def first_word(self, number):
-        """The first word of an object as the database has it, or None."""
-        return self.first_words.get(number)
 
     def place(self, role):
         """The place of a role; None where it isn't bound."""

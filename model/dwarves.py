@@ -1,20 +1,15 @@
 """The five dwarves and the pirate (docs/TURN.md, Dwarves)."""
 
-import terms
 from state import DWARVES, PIRATE
-from tables import EFFECTS, TESTS, phrases, rule, tables
+from tables import TABLES, phrases, rule, tables
+from terms import move_to_role
 
 MOST_OFFERED = 19
 TREASURES = range(50, 80)
 
+# ---- Waking and moving
 
-def act(game):
-    """What they do as the player arrives."""
-    ANGER.apply(game)
-
-
-def wake(game):
-    game.anger = 2
+def they_wake(game):
     for _ in range(2):
         drawn = game.draw(5)
         if game.happens(50):
@@ -26,7 +21,6 @@ def wake(game):
             rule("waking: one steps aside")
             game.dwarf_at[it] = aside
         game.dwarf_was[it] = game.dwarf_at[it]
-
 
 def offered(game, it):
     """The places that the rows of a dwarf's place offer it."""
@@ -45,7 +39,6 @@ def offered(game, it):
         rule("moving: back to the old place")
     return places[:MOST_OFFERED] or [game.dwarf_was[it]]
 
-
 def step(game, it):
     """A dwarf moves. Whether it sees the player then."""
     places = offered(game, it)
@@ -61,9 +54,8 @@ def step(game, it):
     game.dwarf_saw[it] = sees
     return sees
 
-
-def move_all(game):
-    """The five move, and may throw; then the pirate moves; and it is said what they did."""
+def they_move(game):
+    """The five move, and may throw; then the pirate moves."""
     game.seeing = game.knives = game.hits = 0
     for it in DWARVES:
         if game.dwarf_at[it] and step(game, it):
@@ -71,118 +63,85 @@ def move_all(game):
             if game.dwarf_was[it] == game.here:
                 throw(game)
     if game.dwarf_at[PIRATE] and step(game, PIRATE):
-        meet_pirate(game)
-    SAID_OF_DWARVES.apply(game)
-    if game.knives and game.anger == 2:
-        rule("knives: dwarves are angrier by the first")
-        game.anger = 3
-    SAID_OF_KNIVES.apply(game)
-
+        TABLES["pirate"].apply(game)
 
 def throw(game):
     """A knife is thrown, and hits or not."""
     game.knives += 1
+    game.hits += game.draw(1000) < 95 * (game.anger - 2)
     if game.knife >= 0:
         game.knife = game.here
     else:
         rule("knives: none lies any more")
-    if game.draw(1000) < 95 * (game.anger - 2):
-        game.hits += 1
 
-
-phrases(TESTS, {
-    "the anger is {N}": lambda game, anger: game.anger == anger,
-    "the place is deep": lambda game: game.here >= game.cave.place("deep"),
-    "{N} (dwarves|knives|hits)":
-        lambda game, count, of: count == getattr(game, of.replace("dwarves", "seeing")),
-})
-phrases(EFFECTS, {
-    "they are stirring": lambda game: vars(game).update(anger=1),
-    "they wake": wake,
-    "they move": move_all,
-    "how many dwarves":
-        lambda game: game.line(
-            f"There are {game.seeing} threatening little dwarves in the room with you."),
-    "how many knives": lambda game: game.line(f"{game.knives} of them throw knives at you!"),
-    "how many hits": lambda game: game.line(f"{game.hits} of them get you!"),
-})
-
-ANGER, SAID_OF_DWARVES, SAID_OF_KNIVES = tables("""
-    anger
-        the anger is 0, the place is deep | they are stirring
-        the anger is 0 | nothing
-        the anger is 1, the place isn't deep | nothing
-        the anger is 1, draw 95 of 100 | nothing
-        the anger is 1 | they wake; say axe-thrown; bring AXE
-        | they move
-    dwarves
-        0 dwarves | nothing
-        1 dwarves | say dwarf-one
-        | how many dwarves
-    knives
-        0 knives | nothing
-        1 knives, 0 hits | say knife-one; say miss-one
-        1 knives | say knife-one; say hit-one; die here
-        0 hits | how many knives; say miss-all
-        1 hits | how many knives; say hit-many; die here
-        | how many knives; how many hits; die here
-    """).values()
+def they_grow_angrier(game):
+    """The first knives make the dwarves angrier."""
+    if game.knives and game.anger == 2:
+        rule("knives: dwarves are angrier by the first")
+        game.anger = 3
 
 # ---- The pirate
-
-
-def meet_pirate(game):
-    chest = game.thing("CHEST")
-    if game.is_at("chest") or chest and game.prop[chest] >= 0:
-        rule("pirate: held back")
-    else:
-        PIRATE_ROWS.apply(game)
-
 
 def takes(game, x):
     """Whether the pirate takes a treasure: not PYRAMID at home, nor where EMERALD is at home."""
     homes = [game.home(it)[0] for it in map(game.thing, ("PYRAMID", "EMERALD")) if it]
     return not (game.is_thing(x, "PYRAMID") and game.here in homes)
 
-
-def rob(game):
+def rob_the_player(game):
     for x in TREASURES:
         lies_loose = game.is_here(x) and not game.held[x]
         if takes(game, x) and (game.is_carried(x) or lies_loose):
-            terms.move_to_role(game, x, "chest")
+            move_to_role(game, x, "chest")
 
-
-def hide_chest(game):
-    message = game.thing("MESSAGE")
-    if message and game.where[message] == 0:
-        terms.move_to_role(game, game.thing("CHEST"), "chest")
-
-
-def go_home(game):
+def it_goes_home(game):
     game.dwarf_at[PIRATE] = game.dwarf_was[PIRATE] = game.cave.place("chest") or 0
     game.dwarf_saw[PIRATE] = False
 
+# ---- What rows say, and the rows, in the order of the pages
 
-phrases(TESTS, {
+phrases({
     "a treasure that it takes is carried":
         lambda game: any(game.is_carried(it) and takes(game, it) for it in TREASURES),
     "no treasure is at hand": lambda game: not any(map(game.is_at_hand, TREASURES)),
     "one treasure is left to be seen": lambda game: game.unseen == game.lost + 1,
     "it was elsewhere": lambda game: game.dwarf_at[PIRATE] != game.dwarf_was[PIRATE],
+}, {
+    "how many dwarves": lambda game: game.out.append(
+        f"There are {game.seeing} threatening little dwarves in the room with you."),
+    "how many knives":
+        lambda game: game.out.append(f"{game.knives} of them throw knives at you!"),
+    "how many hits": lambda game: game.out.append(f"{game.hits} of them get you!"),
 })
 
-phrases(EFFECTS, {
-    "rob the player": rob,
-    "hide CHEST, if MESSAGE is nowhere": hide_chest,
-    "it goes home": go_home,
-})
-PIRATE_ROWS, = tables("""
+tables("""
+    anger
+        anger is 0, here is at least deep | anger becomes 1
+        anger is 0 | nothing
+        anger is 1, here is below deep | nothing
+        anger is 1, draw 95 of 100 | nothing
+        anger is 1 | anger becomes 2; they wake; say axe-thrown; bring AXE
+        | they move; the rows of dwarves; they grow angrier; the rows of knives
+    dwarves
+        seeing is 0 | nothing
+        seeing is 1 | say dwarf-one
+        | how many dwarves
+    knives
+        knives is 0 | nothing
+        knives is 1, hits is 0 | say knife-one; say miss-one
+        knives is 1 | say knife-one; say hit-one; die here
+        hits is 0 | how many knives; say miss-all
+        hits is 1 | how many knives; say hit-many; die here
+        | how many knives; how many hits; die here
     pirate
-        a treasure that it takes is carried | say booty; hide CHEST, if MESSAGE is nowhere; \
+        the player is at chest | nothing
+        CHEST prop is at least 0 | nothing
+        a treasure that it takes is carried, MESSAGE is nowhere | say booty; move CHEST to chest; \
             move MESSAGE to message; rob the player; it goes home
+        a treasure that it takes is carried | say booty; move MESSAGE to message; \
+            rob the player; it goes home
         no treasure is at hand, one treasure is left to be seen, CHEST is nowhere, \
             LAMP is at hand, LAMP prop is 1 | say chest-hid; move CHEST to chest; \
             move MESSAGE to message; it goes home
         it was elsewhere, draw 20 of 100 | say rustle
         | nothing
-    """).values()
+    """, globals())

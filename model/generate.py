@@ -5,6 +5,7 @@ rules that applied least so far, as the model says. Everything comes from a rand
 so that a seed gives the same case again.
 """
 
+import random
 import re
 from collections import Counter
 
@@ -25,8 +26,9 @@ STUCK = "SNAKE BEAR CHAIN TABLET VENDING MESSAGE RUG PLANT DWARF".split()
 TREASURES = "GOLD COINS CHEST EGGS TRIDENT VASE EMERALD PYRAMID PEARL RUG SPICES CHAIN".split()
 GO = 200  # the first of the motions that lead anywhere
 
-# What players do, step by step: `+X` fetches an object, `@X` goes to where one is, `~` to a lake,
-# and `?` anywhere.
+# What players do, step by step: `+X` fetches an object, `@X` goes to where one is, `=R` to the
+# place of a role, `~` to a lake, and `?` anywhere; `!` has dwarves wake, and `%` has a draw of the
+# next step fall on a border. The word before a colon is for the cave of a game that begins so.
 ERRANDS = [it.strip().split(", ") for it in """
     +CAGE, @BIRD, take bird, drop cage, take cage
     +CAGE, @BIRD, take bird, @SNAKE, drop bird
@@ -60,7 +62,7 @@ ERRANDS = [it.strip().split(", ") for it in """
     +BEAR, inventory, @TROLL, over, inventory, y
     +BEAR, @TROLL, over, yes, kill bear, feed bear, @CHAIN, open chain
     +BEAR, @TROLL, over, +KEYS, @CHAIN, lock chain, open chain
-    +CHAIN, ?, +KEYS, lock chain
+    +CHAIN, +KEYS, ?, lock chain
     +LAMP, +KEYS, ?, ?, ?, ?, look
     +AXE, ?, throw axe, ?, throw axe, ?, throw axe
     +LAMP, on, ?, ?, ?, ?, ?
@@ -72,6 +74,8 @@ ERRANDS = [it.strip().split(", ") for it in """
     +ROD, @FISSURE, wave rod, wave rod
     +ROD2, @FISSURE, wave rod, throw rod
     +ROD2, drop rod
+    +ROD2, @ROD, drop rod
+    +ROD2, @ROD, throw rod
     +PILLOW, +VASE, drop pillow, drop vase, take vase
     +VASE, drop vase, take vase
     +VASE, fill vase, break vase, @VASE, break vase, take vase
@@ -82,6 +86,58 @@ ERRANDS = [it.strip().split(", ") for it in """
     @DRAGON, kill dragon, y, kill dragon, take rug, feed dragon
     @CHEST, take chest
     @KNIFE, knife, knife
+    +PILLOW, ?, drop pillow, +VASE, ?, @PILLOW, drop vase, take vase
+    +BOTTLE, drink, ~oil, fill bottle, @DOOR, pour oil, open door, open door
+    +BOTTLE, drink, ~water, fill bottle, @DOOR, pour water, open door
+    +BOTTLE, drink, ~oil, fill bottle, @PLANT, pour oil, fill bottle
+    +BOTTLE, @PLANT, pour water, @PLANT2, plant, climb, plant
+    +LAMP, ?, drop lamp, take, take
+    +FOOD, @BEAR, feed bear, @CHAIN, take chain, take bear
+    +FOOD, @BEAR, feed bear, take bear, @TROLL, over, y, @BEAR, kill bear, feed bear
+    +FOOD, @BEAR, feed bear, take bear, @TROLL, over, y, +KEYS, @CHAIN, open chain
+    +FOOD, @BEAR, feed bear, +KEYS, @CHAIN, open chain, kill bear, feed bear
+    +FOOD, @BEAR, throw food, throw food, feed bear
+    +FOOD, @BEAR, throw food, inventory
+    +FOOD, @TROLL, throw food, +AXE, throw axe
+    dark: on, look, off, look, +LAMP, off, on
+    dark: +LAMP, on, off, look, read lamp
+    +BOTTLE, drink, take water, ~oil, drink, take oil, take water
+    +FOOD, @BEAR, feed bear, take bear, +KEYS, @CHAIN, open chain, take bear, feed bear, kill bear
+    +VASE, ~water, fill vase, take vase
+    +EGGS, ?, drop eggs, ?, fee, fie, foe, fum, fee, fie, foo, fum
+    @BIRD, @CLAM, kill, kill clam
+    +PLANT, @PLANT, water plant, take plant, plant, plant
+    @TROLL, feed troll, +FOOD, feed troll, +BEAR, drop bear
+    @STEPS, look, +GOLD, look
+    ?, back, ?, back, back
+    grate, ?, grate, ?, grate, ?, grate
+    hints: +ROD, @BIRD, +CAGE, bird, inventory bird, bird, bird, bird
+    hints: +LAMP, +KEYS, ?, ?, ?, ?, look, look, look
+    hints: @SNAKE, look, look, look, look
+    dwarves: !, look, look, take axe, throw axe, take axe, throw axe, take axe, throw axe, look
+    dwarves: +FOOD, !, look, look, feed dwarf, look, look, take axe, throw axe, look, look, look
+    dwarves: !, look, look, look, look, look, knife, look, look, look, look, look, look, look
+    dwarves: !, look, look, +AXE, throw axe, +AXE, throw axe, +AXE, throw axe, +AXE, throw axe
+    dwarves: !, look, look, look, %, look, %, look, %, look, %, look, %, look, %, look, %, look
+    dwarves: !, look, look, look, look, %, out, %, look, %, out, %, look, %, out, %, look
+    dark: ?, %, out, %, up, %, in, %, out, %, up, %, in, %, out, %, up, %, in, %, out
+    dark: ?, %, down, %, in, yes, ?, %, up, %, in, %, down, %, east, %, west, %, down
+    pirate: +LAMP, on, !, look, =chest, ?, ?, look, ?, look, ?, look
+    pirate: +GOLD, +COINS, !, look, =chest, ?, ?, look, ?, look
+    pirate: +GOLD, +PEARL, !, look, =chest, ?, look, ?, look, =chest, ?, look, ?, look
+    closing: +KEYS, open grate, @GRATE, open grate, lock grate
+    closing: ?, ?, +ROD, wave rod, out, ?, ?
+    bear: +FOOD, @BEAR, feed bear, take bear, @TROLL, over
+    closed: =sw, take rod, blast
+    closed: =sw, take rod, drop rod, =ne, blast
+    closed: =sw, take rod, =ne, drop rod, =sw, blast
+    closed: take oyster, read oyster, yes, read oyster
+    closed: take oyster, read oyster, no, take lamp, find lamp, find grate
+    closed: =sw, take bird, take cage, take bird, drop bird, kill bird
+    closed: break mirror, take bottle, find bottle, feed snake, kill dwarf
+    lamp: on, nothing, on, @LAMP, on
+    lamp: take batteries, on, look, on
+    lamp: =start, look, take lamp, look
     """.strip().split("\n")]
 NEAR_DWARF = ["throw axe", "throw axe", "take axe", "feed dwarf", "find dwarf", "inventory dwarf",
               "knife", "kill dwarf", "dwarf", "back", "kill", "look", "look"]
@@ -115,6 +171,34 @@ GOALS = [goal_of(label, row) for label, row in tables.rows.items()
          if label.split(":")[0].split()[0] in VERBS and row]
 
 
+def steps_of(goal, rng):
+    """What brings about a row of a verb's table."""
+    _, verbs, of, carried, here, is_left = goal
+    x = [rng.choice(of)] if of else []
+    return [*(f"+{it}" for it in carried), *(f"@{it}" for it in (here or x)[:1]),
+            *(f"drop {it}" for it in x if is_left), " ".join([rng.choice(verbs), *x])]
+
+
+def parted(errand):
+    """What an errand wants of a cave and its clocks, and its steps."""
+    if not errand or ":" not in errand[0]:
+        return "", [*errand]
+    kind, _, step = errand[0].partition(":")
+    return kind, [step.strip(), *errand[1:]]
+
+
+def stage_of(seed, number):
+    """With what the player of a game begins: each errand has its turn, in another order for each
+    seed, those that need much of a cave more than once; every third game has none."""
+    if number % 3 == 2:
+        return []
+    weights = {"": 1, "closed": 3, "lamp": 4, "pirate": 4}
+    stages = [it for it in ERRANDS for _ in range(weights.get(parted(it)[0], 2))]
+    turn_of, at = divmod(number // 3 * 2 + number % 3, len(stages))
+    random.Random(f"{seed} stage {turn_of}").shuffle(stages)
+    return stages[at]
+
+
 # ---- The stream of chance, backwards
 
 
@@ -138,17 +222,29 @@ def border_seed(rng, below, border):
 
 
 class Maker:
-    """Makes a cave: the rows of its sections, as lines."""
+    """Makes a cave: the rows of its sections, as lines. What the errand of a stage names is where
+    the player begins, mostly, so that the rows are reached for which it is."""
 
-    def __init__(self, rng):
+    def __init__(self, rng, stage=()):
         self.rng = rng
         self.rows = {it: [] for it in range(1, 13)}
+        kind, self.errand = parted(stage)
+        self.kind = kind if stage else None
+        named = {it.lstrip("+@").upper() for step in self.errand for it in step.split()
+                 if " " in step or step[0] in "+@"}
+        away = {"PLANT2"} | ({"ROD"} if "+ROD2" in self.errand else set())
+        self.staged = named & {*NAMES, *SECONDS} - away
+        self.staged |= {"lamp": {"LAMP"}, "dwarves": {"AXE"}}.get(self.kind, set())
+        self.staged |= {"BATTERIES"} if self.kind == "lamp" and self.often(0.6) else set()
         count = rng.choice([2, 3, 4, 5, 6, 7, 9, 12])
-        self.is_hasty = self.often(0.4)  # no treasure is known, so that the cave soon closes
+        # No treasure is known, so that the cave soon closes.
+        self.is_hasty = self.kind in ("closing", "closed", "bear") or (
+            self.often(0.4) and self.kind != "pirate")
         lacks = {1} if self.often(0.2) else set()
         self.places = sorted({1, 3, *rng.sample(range(1, 70), count)} - lacks)
         if rng.random() < 0.5:
             self.places = sorted({*self.places, *rng.sample([4, 7, 10, 12, 14, 15, 20], 2)})
+        self.start = rng.choice([it for it in self.places if it > 1] or self.places)
         self.number_objects()
         self.add_texts()
         self.add_words()
@@ -170,11 +266,11 @@ class Maker:
         rich = rng.sample(range(50, 80), 30)
         lacks = rng.choice([0, 0, 0.03, 0.1])
         for name in NAMES:
-            if self.often(lacks):
+            if self.often(lacks) and name not in self.staged:
                 continue
             if name in ("ROD", "PLANT", "TROLL"):
                 self.of[name] = {"ROD": 41, "PLANT": 43, "TROLL": 45}[name]
-            elif self.often(0.97 if name in TREASURES else 0.1 if name == "STEPS" else 0):
+            elif self.often(0.97 if name in TREASURES else 0.3 if name == "STEPS" else 0):
                 self.of[name] = rich.pop()
             else:
                 self.of[name] = (low or high).pop()
@@ -183,7 +279,7 @@ class Maker:
         if self.often(0.06) and {"WATER", "OIL", "BOTTLE"} <= self.of.keys():
             self.of[rng.choice(["WATER", "OIL"])] = self.of[rng.choice(["BOTTLE", "WATER", "OIL"])]
         one, other = rng.choice([("DRAGON", "AXE"), *[("BATTERIES", "BOTTLE")] * 2])
-        if self.often(0.08) and {one, other} <= self.of.keys():
+        if self.often(0.3 if self.kind == "lamp" else 0.08) and {one, other} <= self.of.keys():
             self.of[one] = self.of[other]
         self.objects = sorted({*self.of.values(), 42, 44, 46})
 
@@ -197,8 +293,12 @@ class Maker:
                 rows[2].append(f"{place} " + rng.choice([*[f"At {place}."] * 2, ">$<", ""]))
         few = 0 if self.is_hasty else rng.choice([0, 0.1, 0.2, 0.5, 1])
         chest = self.of.get("CHEST") if not self.is_hasty and self.often(0.5) else None
+        if self.kind == "pirate":
+            few, chest = few if "GOLD" in self.staged else 0, self.of.get("CHEST")
+        known = set() if self.is_hasty or self.kind == "pirate" else {
+            self.of.get(name) for name in self.staged if self.often(0.7)}
         for x in self.objects:
-            if 50 <= x != chest and not self.often(few) or self.often(0.05):
+            if x not in known and (50 <= x != chest and not self.often(few) or self.often(0.05)):
                 continue
             rows[5].append(f"{x} " + rng.choice([f"Thing {x}", f"Thing {x}", ">$<"]))
             for prop in range(rng.choice([1, 2, 4, 7])):
@@ -228,6 +328,9 @@ class Maker:
         for number, word in enumerate(MAGIC, 1):
             pair = [(2025, word), (3000 + number, word)]
             rows += pair if self.often(0.9) else pair[::-1]
+        if self.often(0.04):  # WATER is a verb, and POUR leads somewhere
+            other = {"WATER": 2000 + VERBS["RUB"], "POUR": 62}
+            rows = [(other.get(word, number), word) for number, word in rows]
         if self.often(0.3):
             rng.shuffle(rows)
         self.rows[4] = [f"{number}{rng.choice([' ', chr(9), '  '])}"
@@ -235,14 +338,28 @@ class Maker:
 
     def add_homes(self):
         depot = self.place() if self.often(0.2) else 0  # nearly all is there, and places are empty
+        if "?" in self.errand and self.often(0.9 if self.kind == "hints" else 0.7):
+            depot = self.start
+        names = {number: name for name, number in self.of.items()} | {
+            self.of[name] + 1: second for second, name in SECONDS.items() if name in self.of}
         for x in self.objects:
-            name = next((it for it, number in self.of.items() if number == x), "")
+            name = names.get(x, "")
             first = 0 if self.often(0.7 if name == "CHEST" else 0.1) else depot or self.place()
+            if name in self.staged and self.often(0.9):
+                first = self.start
+            elif name == "ROD" and "ROD2" in self.staged:
+                first = self.place()
+            elif name == "MESSAGE" and self.kind == "pirate" and self.often(0.4):
+                first = 0
             second = 0
-            if name in TWO_PLACES and self.often(0.7) or self.often(0.04):
+            is_taken = {f"+{name}", f"take {name.lower()}"} & {*self.errand}
+            crosses = name == "TROLL" and "over" in self.errand
+            if name in TWO_PLACES and self.often(0.95 if crosses else 0.7) or self.often(0.04):
                 second = self.place()
-            elif name in STUCK and self.often(0.6) or self.often(0.04):
+            elif name in STUCK and self.often(0.1 if is_taken else 0.6) or self.often(0.04):
                 second = -1
+            if name == "STEPS" and name in self.staged and self.often(0.5):
+                first, second = self.place(), self.start
             if not self.often(0.04):
                 self.rows[7].append(f"{x} {first} {second}" if second or self.often(0.3) else
                                     f"{x} {first}")
@@ -262,6 +379,7 @@ class Maker:
         homes = {x: of for x, *of in map(str.split, self.rows[7])}
         troll = homes.get(str(self.of.get("TROLL")), [])
         self.forced = {it for it in self.places if self.often(0.12)}
+        self.forced -= {self.start} if self.kind is not None else set()
         for place in self.places:
             rows = []
             if place in self.forced:
@@ -277,7 +395,8 @@ class Maker:
                 rows.append(f"{place} {rng.choice([303, 303, 50303])} 9")
             rows.append(f"{place} 301 71") if self.often(0.4) else None
             rows += [f"{place} {to + 100_000 * self.often(0.1)} {GO + it}"
-                     for it, to in enumerate(self.places) if self.often(0.9)]
+                     for it, to in enumerate(self.places) if self.kind is not None
+                     or self.often(0.9)]
             if len(rows) > 1 and self.often(0.2) and place not in self.forced:
                 rng.shuffle(rows)
             self.rows[3] += rows
@@ -291,15 +410,30 @@ class Maker:
         dark = rng.choice([0.4, 0.8, 0.95, 1])
         for bit, chance in [(0, dark), (1, 0.3), (2, 0.4), (3, 0.2),
                             *[(it, 0.3) for it in (4, 5, 6, 7, 8, 9, 15)]]:
-            of = [str(it) for it in self.places if self.often(chance)]
-            rows[9].append(" ".join([str(bit), *of]))
+            of = [it for it in self.places if self.often(chance)]
+            rows[9].append(" ".join(map(str, [bit, *self.staged_bit(bit, of)])))
         bounds = rng.choices([20, 32, 40, 60, 120, 200, 999], k=rng.choice([0, 1, 2, 4]))
         rows[10] = [f"{it} Class {it}." for it in (sorted(bounds) if self.often(0.8) else bounds)]
         for hint in [1, 2, 3, 4, 5, 6, 7, 8, 9, 15]:
-            if self.often(0.6):
-                turns = rng.choice([0, 1, 2, 3, 5, 8, 20])
+            if self.often(0.9 if self.kind == "hints" else 0.6):
+                turns = rng.choice([0, 1, 2, 3] if self.kind == "hints" else [0, 1, 2, 3, 5, 8, 20])
                 points = rng.choice([0, 1, 5, 10, 40])
                 rows[11].append(f"{hint} {turns} {points} {self.message()} {self.message()}")
+
+    def staged_bit(self, bit, places):
+        """The places that have a bit; of the start an errand may want that it has it, or not."""
+        lakes = {"~water", "~oil"} & {*self.errand}
+        if self.kind is None or bit in (1, 2) and len(lakes) != 1:
+            return places
+        if (bit, self.kind) in ((3, "dwarves"), (3, "pirate"), (0, "dark")):
+            return []
+        if bit > 3 and self.kind == "hints":
+            wanted = {"+ROD": 5, "@SNAKE": 6, "+LAMP": 7}
+            return self.places if bit == wanted.get(self.errand[0]) else []
+        if bit > 3:
+            return places
+        has = {0: True, 1: "~oil" in lakes, 2: True, 3: False}[bit]
+        return sorted({*places} - {self.start} | ({self.start} if has else set()))
 
     def database(self):
         """The text of the database."""
@@ -320,12 +454,23 @@ class Maker:
         bound = rng.choice([0, 0.1, 0.5])
         lines = [f"msg.{it} {self.message()}" for it in ROLES if self.often(bound)]
         keeps = 1 if self.is_hasty else rng.choice([0.7, 0.95, 1])
+        kind = self.kind
         for role in PLACES:
             place = self.place() if not self.often(0.02) else rng.randrange(1, 300)
             if role == "deep":
-                place = 1 if self.is_hasty else rng.choice([1, 1, 2, 9, 15, place])
+                is_deep = self.is_hasty or kind in ("dwarves", "pirate")
+                place = 1 if is_deep else rng.choice([1, 1, 2, 9, 15, place])
             if role == "outside":
                 place = rng.choice([1, 1, 2, 3, 8, place])
+                place = {"closed": 1, "closing": 1, "lamp": rng.choice([1, 299])}.get(kind, place)
+            if role == "start" and kind is not None or role == "ne" and kind == "closed":
+                place = self.start
+            if role == "sw" and kind == "closed":
+                place = rng.choice([it for it in self.places if it not in (1, self.start)] or [3])
+            if role.startswith("dwarf") and kind == "dwarves":
+                place = self.start
+            if kind == "pirate" and role.startswith("dwarf"):
+                continue
             if role in ("start", "building") or self.often(keeps):
                 lines.append(f"place.{role} {place}")
         if self.often(0.2):
@@ -348,9 +493,10 @@ def copy_of(game):
 class Player:
     """Makes a log, as a player would who wants to see every rule."""
 
-    def __init__(self, rng, cave, seed, counts):
+    def __init__(self, rng, cave, seed, counts, stage=()):
         self.rng, self.cave, self.counts = rng, cave, counts
         self.game, self.log, self.plan = Game(cave, seed), [], []
+        self.kind, self.errand = parted(stage)
         self.words = {}
         for kind, number, word in cave.words:
             self.words.setdefault((kind, number), word)
@@ -379,23 +525,23 @@ class Player:
         """Where a step of an errand leads, or 0."""
         if step[0] in "+@":
             return self.place_of(step[1:])
+        if step[0] == "=":
+            return self.cave.place(step[1:]) or 0
         if step == "?":
-            return self.rng.choice([*self.cave.travel] or [0])
+            return self.rng.choice([it for it in self.cave.travel if it != self.game.here] or [0])
         wanted = {1, 2} if step == "~oil" else {2}
         return next((it for it, bits in self.cave.bits.items() if bits & {1, 2} == wanted), 0)
 
     def goal(self):
         """What brings about a row of a verb's table that seldom applied."""
         some = self.rng.sample(GOALS, 8)
-        _, verbs, of, carried, here, is_left = min(some, key=lambda it: self.counts[it[0]])
-        x = [self.rng.choice(of)] if of else []
-        return [*(f"+{it}" for it in carried), *(f"@{it}" for it in (here or x)[:1]),
-                *(f"drop {it}" for it in x if is_left), " ".join([self.rng.choice(verbs), *x])]
+        return steps_of(min(some, key=lambda it: self.counts[it[0]]), self.rng)
 
     def new_plan(self):
         rng = self.rng
         return rng.choice([
-            lambda: rng.choice(ERRANDS)[:], lambda: rng.choice(ERRANDS)[:], self.goal, self.goal,
+            lambda: parted(rng.choice(ERRANDS))[1], lambda: parted(rng.choice(ERRANDS))[1],
+            self.goal, self.goal,
             lambda: [f"+{it}" for it in rng.sample(NAMES, 12)],
             lambda: [f"@{it}" for it in rng.sample(TREASURES, 5)],
         ])()
@@ -406,7 +552,11 @@ class Player:
             return None
         while self.plan:
             step, name = self.plan[0], self.plan[0][1:]
-            if step[0] not in "+@~?":
+            if step == "!":
+                return f"seed {seed_before(self.rng.randrange(1_000_000, 1 << 20), 0)}"
+            if step == "%":
+                return f"seed {self.seed_for(self.plan[1])}"
+            if step[0] not in "+@=~?":
                 return step
             place = self.place_for(step)
             if place in (0, self.game.here):
@@ -464,6 +614,18 @@ class Player:
             self.plan.insert(0, step)
         return f"seed {border_seed(rng, *rng.choice(borders))}"
 
+    def seed_for(self, line):
+        """A seed by which a draw of a line falls on a border or just below it, if one is found."""
+        below, border = (1000, 95 * (self.game.anger - 2)) if self.game.anger > 2 else (100, 35)
+        for _ in range(16):
+            game, seed, drawn = copy_of(self.game), border_seed(self.rng, below, border), []
+            game.stream = seed % (1 << 20)
+            game.draw = lambda of: drawn.append((of, Game.draw(game, of))) or drawn[-1][1]
+            turn.play_line(game, line)
+            if {(below, border), (below, border - 1)} & {*drawn}:
+                break
+        return seed
+
     def odd_line(self):
         rng = self.rng
         return rng.choice([
@@ -504,7 +666,7 @@ class Player:
         self.log.append(self.dressed(line))
         self.counts.update(applied.keys())
         if line == planned:
-            if self.plan[0][0] not in "+@~" or self.plan[0] == "?":
+            if self.plan[0][0] not in "+@=~":
                 self.plan.pop(0)
             elif self.often(0.15):
                 self.plan = []
@@ -549,7 +711,9 @@ class Player:
         """The log. Some players wait until the cave closes, or until the lamp is low."""
         rng, tries = self.rng, self.rng.choice([1, 3, 5])
         kind = rng.random()
-        if kind < 0.12:
+        if self.errand:
+            self.act()
+        elif kind < 0.08:
             self.burn_lamp()
         self.steps(rng.choice([5, 30, 60, 100, 160]), tries)
         if self.game.unseen == 0 and kind > 0.3:
@@ -560,20 +724,54 @@ class Player:
                 self.steps(40, 5)
         return self.log
 
+    def act(self):
+        """Does the errand of the stage, once the clocks are where it wants them."""
+        self.add("no" if self.kind == "lamp" else self.rng.choice(["no", "no", "yes"]))
+        if self.kind == "lamp":
+            self.burn_lamp()
+        if self.kind == "bear":
+            self.follow(self.errand)
+        if self.kind in ("closing", "closed", "bear"):
+            self.idle(self.game.clock1)
+        if self.kind == "closed" and self.game.closing:
+            self.idle(self.game.clock2)
+        self.follow(self.errand)
+
+    def follow(self, errand):
+        """Does the steps of an errand and nothing else, as far as there is a way."""
+        self.plan = [*errand]
+        for _ in range(3 * len(errand)):
+            if self.game.ended:
+                return
+            if self.game.question:
+                self.put(self.plan.pop(0) if self.plan[:1] in (["yes"], ["no"], ["y"]) else
+                         {"revive": "yes", "dragon": "yes"}.get(self.game.question, "no"))
+            elif (line := self.planned()) is None:
+                return
+            else:
+                if self.plan[0][0] not in "+@=~":
+                    self.plan.pop(0)
+                self.put(line.lower())
+
     def burn_lamp(self):
         """Takes the lamp, at times the batteries too, lights it, and waits until it is nearly low,
         or nearly out."""
         lamp = self.game.thing("LAMP")
         drinks = self.game.thing("BATTERIES") == self.game.thing("BOTTLE") != 0
-        self.add("no")
+        if self.game.question:
+            self.add("no")
         for name in ["BATTERIES", "LAMP"] if self.often(0.6) else ["LAMP"]:
             if self.place_of(name) not in (0, self.game.here):
                 self.add(self.go(self.place_of(name)))
             self.add(f"take {name}")
         for line in (["take bottle", "drink"] if drinks else []) + ["on"]:
             self.add(line)
+        if self.kind == "lamp" and self.often(0.3):
+            self.add("drop lamp")
+            self.add(self.go(self.rng.choice([*self.cave.travel] or [1])))
         if lamp and self.game.prop[lamp] == 1:
-            self.idle(self.game.lamp - self.rng.choice([1, 2, 25, 31, 32]))
+            least = [0, 1, 25, 31] if self.kind == "lamp" else [1, 2, 25, 31, 32]
+            self.idle(min(self.game.lamp, 340) - self.rng.choice(least))
 
 
 # ---- Scripts

@@ -6,17 +6,18 @@ distance of checkpoints above 1, for which the pages leave room.
 
 import os
 from functools import lru_cache
+from itertools import takewhile
+from re import fullmatch
 
 import edits
-from database import KEYS, PLACES, ROLES, Cave, bindings_of, check_size, sections_of
-from lines import GREATEST_SEED, Fault, log_of
+from database import KEYS, PLACES, ROLES, Cave, bindings_of, sections_of
+from lines import GREATEST_SEED, MOST_BYTES, Fault, log_of
 
 FILES = {"check": ["<CAVE>"], "play": ["<CAVE>", "<LOG>"], "edit": ["<CAVE>", "<LOG>", "<SCRIPT>"]}
 PRINTS = {"check": ["maximum", "bindings"], "play": ["transcript", "state"],
           "edit": ["transcript", "play", "log", "reports", "state"]}
 OPTIONS = {"--bind": "FILE", "--seed": "N", "--every": "K", "--print": "WHAT", "--strict": None}
 KNOWN = {"check": ["--bind", "--print"], "play": ["--bind", "--seed", "--print"], "edit": OPTIONS}
-
 
 class Stop(Exception):
     """The end of a run: its status, and what is said on standard error."""
@@ -25,20 +26,18 @@ class Stop(Exception):
         super().__init__(message)
         self.status, self.message = status, message
 
-
 # ---- The words
-
 
 def wrong(message, usage=None):
     shown = f"\n\nUsage: cave {usage}" if usage else ""
     return Stop(2, f"error: {message}{shown}\n\nFor more information, try '--help'.\n")
-
 
 def words_of(words):
     """The command, its files and its options."""
     if not words or words[0] not in FILES:
         raise wrong(f"unrecognized subcommand '{(words or [''])[0]}'", "<COMMAND>")
     command, files, options, rest, only_files = words[0], [], {}, list(words[1:]), False
+    below_zero = seed_below_zero(command, rest)
     usage = f"{command} {' '.join(FILES[command])}"
     with_options = usage.replace(" ", " [OPTIONS] ", 1)
     while rest:
@@ -47,13 +46,13 @@ def words_of(words):
         if only_files or not word.startswith("-") or word == "-":
             files.append(word)
             if len(files) > len(FILES[command]):
-                raise wrong(f"unexpected argument '{word}' found", with_options)
+                raise unexpected(word, below_zero, with_options)
         elif word == "--":
             only_files = True
         elif name not in KNOWN[command]:
             is_long = name.startswith("--")
-            raise wrong(f"unexpected argument '{name if is_long else name[:2]}' found",
-                        usage if is_long else with_options)
+            raise unexpected(name if is_long else name[:2], below_zero,
+                             usage if is_long else with_options)
         else:
             shown = f"{name} <{OPTIONS[name]}>" if OPTIONS[name] else name
             if name in options:
@@ -65,7 +64,7 @@ def words_of(words):
                 if not rest or rest[0].startswith("--"):
                     raise wrong(f"a value is required for '{shown}' but none was supplied")
                 if rest[0].startswith("-") and rest[0] != "-":
-                    raise wrong(f"unexpected argument '{rest[0][:2]}' found", with_options)
+                    raise unexpected(rest[0][:2], below_zero, with_options)
                 value = rest.pop(0)
             options[name] = value
     if missing := FILES[command][len(files):]:
@@ -75,6 +74,18 @@ def words_of(words):
                     " ".join([*used, *FILES[command]]))
     return command, files, judged_options(command, options)
 
+def seed_below_zero(command, words):
+    """The seed of a command, where it is a hyphen and digits; after `--` each word is a file."""
+    before = list(takewhile(lambda it: it not in ("--", "--seed"), words))
+    option, seed = [*words[len(before):][:2], "", ""][:2]
+    is_one = "--seed" in KNOWN[command] and option == "--seed"
+    return seed if is_one and fullmatch("-[0-9]+", seed) else None
+
+def unexpected(word, below_zero, usage):
+    """What is said of an argument that is none: of a seed below zero, that it is no seed."""
+    if below_zero:
+        return not_in("--seed", below_zero, 0, GREATEST_SEED)
+    return wrong(f"unexpected argument '{word}' found", usage)
 
 def judged_options(command, options):
     """The options, and what they are where they aren't there."""
@@ -87,17 +98,17 @@ def judged_options(command, options):
     return {"bind": options.get("--bind"), "print": prints, "strict": "--strict" in options,
             "seed": number_in("--seed", options.get("--seed", "0"), 0, GREATEST_SEED)}
 
-
 def number_in(option, text, least, most):
     """The number of an option, of 1 to 10 digits."""
     if text.isascii() and text.isdigit() and len(text) <= 10 and least <= int(text) <= most:
         return int(text)
-    raise wrong(f"invalid value '{text}' for '{option} <{OPTIONS[option]}>': wanted are 1 to 10"
-                f" digits, from {least} to {most}")
+    raise not_in(option, text, least, most)
 
+def not_in(option, text, least, most):
+    return wrong(f"invalid value '{text}' for '{option} <{OPTIONS[option]}>': wanted are 1 to 10"
+                 f" digits, from {least} to {most}")
 
 # ---- Files
-
 
 def opened(name):
     """A file that can be read, or status 5."""
@@ -109,11 +120,9 @@ def opened(name):
         reason = f"{os.strerror(error.errno)} (os error {error.errno})"
         raise Stop(5, f"cave: {name}: the file can't be opened: {reason}\n") from None
 
-
 def text_of(file):
     with file:
         return file.read().decode("latin-1")
-
 
 def judged_as(status, name, judge, *of):
     """What a judge says of an input; its fault ends the run."""
@@ -123,16 +132,13 @@ def judged_as(status, name, judge, *of):
         at = f"{name}:{fault.line}" if fault.line else name
         raise Stop(status, f"cave: {at}: {fault.message}\n") from None
 
-
 @lru_cache(maxsize=2)
 def cave_of(name, database, bind, bindings):
     """The cave of a database and of bindings, the last of which are kept for another run."""
     sections = judged_as(1, name, sections_of, database)
     return Cave(sections, judged_as(1, bind, bindings_of, bindings))
 
-
 # ---- Commands
-
 
 def bindings_lines(cave):
     """Each key with what it is bound to."""
@@ -152,6 +158,24 @@ def bindings_lines(cave):
     yield (f"-- {counts['msg']} of {len(ROLES)} messages and {counts['place']} of {len(PLACES)}"
            " places have a text")
 
+def stretch(group, log, new_log, old, new):
+    """Where a replay begins, the place where it meets the old play or None, and how many lines it
+    plays. `old` and `new` are the states at all places, each of which is a checkpoint, but the end
+    of a log that isn't empty."""
+    prefix, suffix, length = len(log), len(log), len(log)
+    for edit in group.edits:
+        if edit.kind == "seed":
+            prefix = 0
+            continue
+        prefix = min(prefix, edit.number)
+        suffix = min(suffix, length - edit.number - (edit.kind != "insert"))
+        length += {"insert": 1, "delete": -1, "replace": 0}[edit.kind]
+    start = min(prefix, max(len(log) - 1, 0))
+    shift = len(new_log) - len(log)
+    for at in range(len(log) - suffix, len(log) or 1):
+        if old[at] == new[at + shift]:
+            return start, at + shift, at + shift - start
+    return start, None, len(new_log) - start
 
 def run_edit(cave, file, log, script, options):
     """Edits a log by a script, and gives what is printed, as lines."""
@@ -169,7 +193,7 @@ def run_edit(cave, file, log, script, options):
         report = f"line {group.line}: ok"
         if replays:
             after = edits.play(cave, new_seed, new_log, True)
-            start, met, count = edits.stretch(group, log, new_log, before.states, after.states)
+            start, met, count = stretch(group, log, new_log, before.states, after.states)
             report += (f", from {start}, met {'none' if met is None else met}, played {count} of"
                        f" {len(new_log)}, {edits.score_and_turns(after.game)}, at {after.game.here}"
                        + (f", ended: {after.game.ended}" if after.game.ended else ""))
@@ -182,15 +206,17 @@ def run_edit(cave, file, log, script, options):
     return {"log": log, "state": ended.game.state_lines(), "play": ended.transcript,
             "transcript": [*reports, *ended.transcript]}[options["print"]]
 
-
 def run_words(words):
     """What a run prints, as lines; a fault of it ends it by `Stop`."""
     command, names, options = words_of(words)
     bind, in_order = options["bind"], names[:1] + [options["bind"]] + names[1:]
     files = [None if it is None else opened(it) for it in in_order]
     database, bindings = text_of(files[0]), text_of(files[1]) if files[1] else ""
-    judged_as(1, names[0], check_size, database, "a database has")
-    judged_as(1, bind, check_size, bindings, "bindings have")
+    for name, text, says in [(names[0], database, "a database has"),
+                             (bind, bindings, "bindings have")]:
+        if len(text) > MOST_BYTES:
+            most = "at most 1,048,576 bytes"
+            raise Stop(1, f"cave: {name}: the input is too large: {says} {most}\n")
     cave = cave_of(names[0], database, bind, bindings)
     if command == "check" and options["print"] == "bindings":
         return bindings_lines(cave)
@@ -202,7 +228,6 @@ def run_words(words):
         return run_edit(cave, names[2], log, script, options)
     played = edits.play(cave, options["seed"], log)
     return played.game.state_lines() if options["print"] == "state" else played.transcript
-
 
 def run(words):
     """The status, the output and what is said on standard error, as bytes."""

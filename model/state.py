@@ -3,7 +3,7 @@
 docs/PLAY.md, What a state keeps; docs/VERBS.md, Terms; docs/TURN.md, The score, Questions, Death.
 """
 
-from tables import rule
+from tables import TABLES, rule
 
 CARRIED, NATURE = -1, -1
 DWARVES, PIRATE = range(5), 5
@@ -11,15 +11,14 @@ ENDINGS = {"success": 45, "wrong way": 30, "klutz": 25}
 ASKED_BY_ROLE = {"welcome": "welcome", "quit": "quit", "score quit": "score-quit",
                  "take hint": "hint-take", "oyster": "oyster-ask", "dragon": "with-what"}
 
-
 class Game:
     """A game in a cave. `out` is what the line that is played has said so far."""
 
-    letters = {}  # what the letters of tables stand for, but x
+    letters = {}  # what the letters of tables stand for, but x and k
 
     def __init__(self, cave, seed):
         self.cave, self.out, self.turns = cave, [], 0
-        self.names = {**cave.things, "x": 0}
+        self.names = {**cave.things, "x": 0, "k": 0}
         self.here = self.last = self.older = cave.place("start")
         self.where, self.held, self.prop = [0] * 101, [0] * 101, [0] * 101
         self.lists = {}  # of each place the halves there, latest first; -x is the second half of x
@@ -50,14 +49,9 @@ class Game:
         for treasure in self.cave.treasures:
             self.prop[treasure] = -1
         homes = self.cave.homes
-        for x in sorted(homes, reverse=True):
-            if homes[x][1] > 0:
-                self.anchor(x, homes[x][1])
-                self.move(x, homes[x][0])
-        for x in sorted(homes, reverse=True):
-            if homes[x][1] <= 0:
-                self.move(x, homes[x][0])
-                self.held[x] = homes[x][1]
+        for x in sorted(homes, key=lambda it: (homes[it][1] > 0, it), reverse=True):
+            self.anchor(x, homes[x][1])
+            self.move(x, homes[x][0])
 
     # ---- Chance
 
@@ -71,32 +65,22 @@ class Game:
 
     # ---- What is done to objects. Object 0 is none, and nothing is done to it.
 
-    def unlist(self, half, place):
-        if place > 0:
-            self.lists[place].remove(half)
-
-    def enlist(self, half, place):
-        if place > 0:
-            self.lists.setdefault(place, []).insert(0, half)
+    def put_half(self, half, halves, place):
+        """Puts a half to the front of a place's list; `halves` says where such halves are."""
+        if half:
+            if halves[abs(half)] > 0:
+                self.lists[halves[abs(half)]].remove(half)
+            halves[abs(half)] = place
+            if place > 0:
+                self.lists.setdefault(place, []).insert(0, half)
 
     def move(self, x, place):
-        """The first half of x comes to the front of a place's list; at place 0 it is away."""
-        if x:
-            self.unlist(x, self.where[x])
-            self.where[x] = place
-            self.enlist(x, place)
-
-    def carry(self, x):
-        if x:
-            self.unlist(x, self.where[x])
-            self.where[x] = CARRIED
+        """Moves the first half of x; at place 0 it is away, and at -1 it is carried."""
+        self.put_half(x, self.where, place)
 
     def anchor(self, x, place):
-        """The second half of x comes to a place; NATURE alone holds it, or at 0 nothing."""
-        if x:
-            self.unlist(-x, self.held[x])
-            self.held[x] = place
-            self.enlist(-x, place)
+        """Moves the second half of x; at -1 NATURE alone holds x, and at 0 nothing."""
+        self.put_half(-x, self.held, place)
 
     def juggle(self, x):
         """Both halves of x come to the fronts of their lists, unless x is carried."""
@@ -134,8 +118,8 @@ class Game:
     # ---- What is asked of objects
 
     def thing(self, name):
-        """The object of a name, or of a letter that stands for one; 0 for none."""
-        return self.names[name] if name in self.names else self.letters[name](self)
+        """The object of a name; 0 for none."""
+        return self.names[name]
 
     def is_thing(self, x, name):
         return x != 0 and x == self.names[name]
@@ -155,9 +139,8 @@ class Game:
 
     def lake(self):
         """What the lake of this place is of, as `liquid` says it; None where there is no lake."""
-        if not self.cave.has(self.here, 2):
-            return None
-        return self.thing("OIL" if self.cave.has(self.here, 1) else "WATER")
+        oil, lake = (self.cave.has(self.here, bit) for bit in (1, 2))
+        return None if not lake else self.thing("OIL" if oil else "WATER")
 
     def is_carried(self, x):
         if x and x in (self.thing("WATER"), self.thing("OIL")):
@@ -170,19 +153,14 @@ class Game:
     def is_at_hand(self, x):
         return self.is_carried(x) or x != 0 and self.where[x] == self.here
 
-    def is_at(self, role):
-        """Whether the player is at the place of a role, which has to be bound."""
-        return self.cave.place(role) == self.here
-
     def in_hands(self):
         """The objects whose first half is carried, ascending."""
         return [x for x in range(1, 101) if self.where[x] == CARRIED]
 
     def dwarf_here(self):
         """The first of the five dwarves that is here, if they are awake; else None."""
-        if self.anger < 2:
-            return None
-        return next((it for it in DWARVES if self.dwarf_at[it] == self.here), None)
+        here = [it for it in DWARVES if self.dwarf_at[it] == self.here and self.anger >= 2]
+        return here[0] if here else None
 
     def is_dark(self):
         lamp = self.thing("LAMP")
@@ -198,21 +176,13 @@ class Game:
 
     def say(self, role):
         number = self.cave.bound.get(f"msg.{role}")
-        if number is None:
-            self.out.append(f"[{role}]")
-        else:
-            self.message(number)
+        self.show([f"[{role}]"] if number is None else self.cave.messages.get(number))
 
     def message(self, number):
         self.show(self.cave.messages.get(number))
 
     def object_text(self, x, prop):
-        if x:
-            self.show(self.cave.object_texts.get((x, prop)))
-
-    def line(self, text):
-        """A line of the game's own."""
-        self.out.append(text)
+        self.show(self.cave.object_texts.get((x, prop)))
 
     # ---- Questions, deaths and ends
 
@@ -222,15 +192,10 @@ class Game:
 
     def ask(self, question):
         self.question = question
-        self.repeat_question()
-
-    def repeat_question(self):
-        if self.question == "hint":
+        if question == "hint":
             self.message(self.cave.hints[self.hint][2])
-        elif self.question == "revive":
-            self.say(f"die{self.deaths + 1}")
         else:
-            self.say(ASKED_BY_ROLE[self.question])
+            self.say(ASKED_BY_ROLE.get(question) or f"die{self.deaths + 1}")
 
     def light(self, turns):
         """The lamp burns so many turns more."""
@@ -238,27 +203,19 @@ class Game:
 
     def panic(self):
         if not self.panicked:
-            self.panicked = True
-            if not self.closed:
-                self.clock2 = 15
+            self.panicked, self.clock2 = True, self.clock2 if self.closed else 15
 
     def die(self, lies_at):
         """A death; what is carried will lie at a place."""
         self.older = lies_at
-        if self.closing:
-            rule("death: in a closing cave")
-            self.say("killed-closing")
-            self.deaths += 1
-            self.end("killed")
-        else:
-            self.ask("revive")
+        TABLES["death"].apply(self)
 
     def end(self, ending):
         """Ends the game, with the score, the class, and the way to the next one."""
         self.ended, self.question = ending, None
         score, classes = self.score(), self.cave.classes
-        self.line(f"You scored {score} out of a possible {self.cave.greatest_score()}, using"
-                  f" {self.turns} turn{'s' * (self.turns != 1)}.")
+        self.out.append(f"You scored {score} out of a possible {self.cave.greatest_score()}, using"
+                        f" {self.turns} turn{'s' * (self.turns != 1)}.")
         at = next((it for it, (bound, _) in enumerate(classes) if bound >= score), None)
         if at is None:
             rule("end: off the scale")
@@ -271,8 +228,8 @@ class Game:
         else:
             rule("end: a class and the next one")
             more = classes[at][0] + 1 - score
-            self.line("To achieve the next higher rating, you need"
-                      f" {more} more point{'s' * (more != 1)}.")
+            self.out.append("To achieve the next higher rating, you need"
+                            f" {more} more point{'s' * (more != 1)}.")
 
     def score(self):
         """The score of the state as it is."""
@@ -282,9 +239,9 @@ class Game:
                 if self.prop[it] == 0 and self.where[it] == cave.place("building")]
         costs = [cave.hints[it][1] for it in self.taken if it in cave.hints]
         at_witt = of_magazine and self.where[of_magazine] == cave.place("witt")
-        points = [2 + 10 * (3 - self.deaths), 2 * len(seen), sum(cave.worth(it) - 2 for it in safe),
+        points = [2 * len(seen), sum(cave.worth(it) - 2 for it in safe), 10 * (3 - self.deaths),
                   4 * (self.ended not in (None, "quit")), 25 * (self.anger > 0), 25 * self.closing,
-                  ENDINGS.get(self.ended, 10) if self.closed else 0, 1 if at_witt else 0,
+                  ENDINGS.get(self.ended, 10) if self.closed else 0, 1 if at_witt else 0, 2,
                   -sum(costs)]
         return max(sum(points), 0)
 
@@ -303,7 +260,12 @@ class Game:
             f"closing {yes[self.closing]}", f"closed {yes[self.closed]}",
             f"panic {yes[self.panicked]}", f"unseen treasures {self.unseen}",
             f"lost treasures {self.lost}", f"deaths {self.deaths}"]
-        yield from self.object_lines()
+        for x in range(1, 101):
+            place, held, prop = now = self.where[x], self.held[x], self.prop[x]
+            if now != tuple(part[x] for part in self.first[:3]):
+                where = "away" if place == 0 else "carried" if place == CARRIED else f"at {place}"
+                by = ", fixed" if held == NATURE else f", also at {held}" if held else ""
+                yield f"object {x}: {self.cave.first_words.get(x, '-')} {where}{by}, prop {prop}"
         yield f"half verb {self.half_verb}" if self.half_verb else "half command none"
         yield from [f"half object {self.half_object}", f"last object {self.last_object}",
                     f"brief {yes[self.brief]}", f"details {self.details}", f"magic {self.magic}"]
@@ -312,22 +274,11 @@ class Game:
                 shown = [str(it) if it > 0 else f"also {-it}" for it in halves]
                 yield f"place {place}: {' '.join(shown) or 'nothing'}"
         yield from [f"anger {self.anger}", f"kills {self.kills}"]
-        for it in range(6):
-            yield (f"dwarf {it + 1}: at {self.dwarf_at[it]}, was at {self.dwarf_was[it]}, has seen"
-                   f" the player {yes[self.dwarf_saw[it]]}")
+        for it, (at, was, saw) in enumerate(zip(self.dwarf_at, self.dwarf_was, self.dwarf_saw), 1):
+            yield f"dwarf {it}: at {at}, was at {was}, has seen the player {yes[saw]}"
         yield {0: "knife none", -1: "knife vanished"}.get(self.knife, f"knife at {self.knife}")
         for it in range(1, 21):
             if self.waited.get(it) or it in self.taken:
                 yield f"hint {it}: waited {self.waited.get(it, 0)}, taken {yes[it in self.taken]}"
         yield f"stream {self.stream}"
-        yield from (f"visits {it}: {self.visits[it]}" for it in sorted(self.visits)
-                    if self.visits[it])
-
-    def object_lines(self):
-        for x in range(1, 101):
-            place, held, prop = self.where[x], self.held[x], self.prop[x]
-            if (place, held, prop) == tuple(part[x] for part in self.first[:3]):
-                continue
-            where = "away" if place == 0 else "carried" if place == CARRIED else f"at {place}"
-            by = ", fixed" if held == NATURE else f", also at {held}" if held else ""
-            yield f"object {x}: {self.cave.first_word(x) or '-'} {where}{by}, prop {prop}"
+        yield from (f"visits {it}: {count}" for it, count in sorted(self.visits.items()) if count)

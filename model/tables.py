@@ -3,10 +3,10 @@
 A row is `test, test | effect; effect`. The rows are tried from the top, and the first one whose
 tests hold is done alone. A test or an effect is a phrase; modules say, by `phrases`, which
 functions they call. Each row counts how often it applied, and `rule` counts what is a row of no
-table.
+table. A phrase for which there is no such function is the name of one: `ask back` is `ask_back`, of
+the module that has the table.
 """
 
-import os
 import re
 from collections import Counter
 
@@ -14,58 +14,57 @@ from database import NAMES, SECONDS
 
 applied = Counter()
 rows = {}  # of each row its text, in the order in which the tables were made
-TESTS, EFFECTS = [], []
-# An object by its name, or by a letter: x is what a verb is for.
-SUBJECT = r"([A-Z][A-Z0-9]*|[a-z])"
-
+TESTS, EFFECTS, TABLES = [], [], {}
+# In a phrase A is an object by its name, or by a letter (x is what a verb is for), N a number, and
+# W a word.
+PARTS = {"A": r"([A-Z][A-Z0-9]*|[a-z])", "N": r"(-?\d+)", "W": r"([a-z][\w-]+)"}
 
 def rule(label):
     """Counts that a rule applied which is a row of no table."""
     applied[label] += 1
 
-
-def phrases(kind, meanings):
-    """Says which functions phrases call. In a phrase A is a subject, N a number and W a word."""
-    for pattern, function in meanings.items():
-        kind.append((re.compile(pattern.replace(" are ", " is ").format(
-            A=SUBJECT, N=r"(-?\d+)", W=r"([a-z][\w-]+)")), function))
-
+def phrases(tests, effects):
+    """Says which functions phrases call, with what they have in the place of A, N and W."""
+    for kind, meanings in (TESTS, tests), (EFFECTS, effects):
+        for pattern, function in meanings.items():
+            kind.append((re.compile(pattern.replace(" are ", " is ").format(**PARTS)), function))
 
 def argument(word):
     """An argument of a phrase: a number, an object by its name or letter, or a word as it is."""
-    if re.fullmatch(r"-?\d+", word):
-        return lambda game: int(word)
-    if word in NAMES or word in SECONDS or len(word) == 1:
-        return lambda game: game.thing(word)
-    return lambda game: word
+    if word in NAMES or word in SECONDS or word in ("x", "k"):
+        return lambda game: game.names[word]
+    if len(word) == 1 and word.isalpha():
+        return lambda game: game.letters[word](game)
+    return int(word) if re.fullmatch(r"-?\d+", word) else word
 
+def called(function, of):
+    """What calls a function with a game and arguments; it is called often."""
+    if not any(map(callable, of)):
+        return (lambda game: function(game, *of)) if of else function
+    first, *others = of
+    if callable(first) and not any(map(callable, others)):
+        return lambda game: function(game, first(game), *others)
+    return lambda game: function(game, *[it(game) if callable(it) else it for it in of])
 
-def meaning(kind, text):
+def meaning(kind, text, names):
     """Whether a phrase says that something is so, and what it calls, as a function of a game."""
-    plain = re.sub(r" (isn't|aren't|are) ", " is ", text)
+    plain = re.sub(r" (isn't|aren't|are) ", " is ", text).replace("doesn't come", "comes")
     for form, function in kind:
         if found := form.fullmatch(plain):
-            of = [argument(it) for it in found.groups()]
-            if len(of) < 2:
-                call = (lambda game: function(game, of[0](game))) if of else function
-            else:
-                call = lambda game: function(game, *[it(game) for it in of])
-            return "n't " not in text, call
-    raise ValueError(f"no phrase: {text}")
-
+            return "n't " not in text, called(function, [argument(it) for it in found.groups()])
+    return "n't " not in text, names[text.replace("n't", "").replace(" ", "_").lower()]
 
 class Table:
     """The rows of a table of the pages."""
 
-    def __init__(self, name, lines):
-        self.rows = []
+    def __init__(self, name, lines, names):
+        self.rows, TABLES[name] = [], self
         for number, line in enumerate(lines, 1):
-            when, _, do = line.partition("|")
-            label = f"{name}: row {number}"
+            label, (when, _, do) = f"{name}: row {number}", line.partition("|")
             rows[label] = " ".join(line.split())
-            tests = [meaning(TESTS, it.strip()) for it in when.split(",") if it.strip()]
-            effects = [meaning(EFFECTS, it.strip()) for it in do.split(";") if it.strip()]
-            self.rows.append((label, tests, effects))
+            tests = [meaning(TESTS, it.strip(), names) for it in when.split(",") if it.strip()]
+            effects = [meaning(EFFECTS, it.strip(), names) for it in do.split(";") if it.strip()]
+            self.rows.append((label, tests, [effect for _, effect in effects]))
 
     def apply(self, game):
         """Does the first row that fits, if there is one."""
@@ -75,13 +74,13 @@ class Table:
                     break
             else:
                 rule(label)
-                for _, effect in effects:
+                for effect in effects:
                     effect(game)
                 return
 
-
-def tables(text):
-    """The tables of a text by their names: a line without a bar is the name of what follows it."""
+def tables(text, names):
+    """The tables of a text by their names: a line without a bar is the name of what follows it.
+    `names` has the functions of the module."""
     found = {}
     for line in filter(str.strip, text.split("\n")):
         if "|" in line:
@@ -89,20 +88,4 @@ def tables(text):
         else:
             name = line.strip()
             found[name] = []
-    return {name: Table(name, lines) for name, lines in found.items()}
-
-
-def known():
-    """Each rule with its text: the rows of all tables, and what modules count by `rule`."""
-    found, folder = dict(rows), os.path.dirname(os.path.abspath(__file__))
-    for name in sorted(os.listdir(folder)):
-        if name.endswith(".py"):
-            with open(os.path.join(folder, name), encoding="utf-8") as file:
-                calls = re.findall(r'\brule\("([^"]+)"(?:\s+if .*?else "([^"]+)")?\)', file.read())
-            found.update((it, "") for call in calls for it in call if it)
-    return found
-
-
-def counted():
-    """How often each rule applied, a line each."""
-    return [f"{applied[it]:8} {it}{text and '  ' + text}\n" for it, text in known().items()]
+    return {name: Table(name, lines, names) for name, lines in found.items()}

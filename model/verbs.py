@@ -1,33 +1,29 @@
 """Verbs: the tables of docs/VERBS.md, row by row."""
 
-import travel  # its phrases are those of tables here too
+import travel  # what its phrases say, rows of verbs say too
 from state import Game
-from tables import EFFECTS, TESTS, phrases, rule, tables
+from tables import phrases, rule, tables
 
 ACTIONS = {name: number for number, name in enumerate(
     """TAKE DROP SAY OPEN NOTHING LOCK ON OFF WAVE CALM WALK KILL POUR EAT DRINK RUB THROW QUIT FIND
     INVENTORY FEED FILL BLAST SCORE FOO BRIEF READ BREAK WAKE SUSPEND HOURS""".split(), 1)}
 MOST_CARRIED, MAGIC_WORDS, MOST_ANGER = 7, 4, 13
 
-# ---- Letters that stand for objects in the tables. `x` is what the verb is for.
-
-
-def poured(game):
-    """What POUR pours: x, or what is in the bottle."""
-    x = game.thing("x")
-    return game.liquid() or 0 if x == 0 or game.is_thing(x, "BOTTLE") else x
-
+# ---- What verbs mean that are said alone, and what is one of several things
 
 def there(game, *tests):
     """The objects of the names whose tests hold, but for absent ones."""
     found = [(game.thing(name), is_so) for name, is_so in tests]
     return [x for x, is_so in found if x and is_so(x)]
 
+def poured(game):
+    """What POUR pours: x, or what is in the bottle."""
+    x = game.names["x"]
+    return game.liquid() or 0 if x == 0 or game.is_thing(x, "BOTTLE") else x
 
 def meant_by_open(game):
     return [*there(game, ("GRATE", game.is_here), ("DOOR", game.is_here),
                    ("OYSTER", game.is_at_hand), ("CLAM", game.is_at_hand)), 0][0]
-
 
 def meant_by_read(game):
     if game.closed and game.is_carried(game.thing("OYSTER")):
@@ -35,17 +31,10 @@ def meant_by_read(game):
     pages = there(game, *((it, game.is_at_hand) for it in ("MAGAZINE", "TABLET", "MESSAGE")))
     return pages[0] if len(pages) == 1 else 0
 
-
 def only_one_here(game):
     """The object of the only half in the list of this place, or 0."""
     halves = game.lists.get(game.here, [])
     return abs(halves[0]) if len(halves) == 1 else 0
-
-
-Game.letters.update(y=poured, m=meant_by_open, r=meant_by_read, o=only_one_here)
-
-# ---- What phrases call that only verbs need
-
 
 def foes(game):
     """What KILL by itself may be meant for."""
@@ -54,33 +43,41 @@ def foes(game):
                  ("DRAGON", lambda x: game.is_here(x) and game.prop[x] == 0),
                  ("BEAR", lambda x: game.is_at_hand(x) and game.prop[x] == 0))
 
-
 def preys(game):
     """What it may be meant for where there is no foe."""
     throws = game.player_verb == ACTIONS["THROW"]
     return there(game, ("BIRD", lambda x: game.is_at_hand(x) and not throws),
                  ("CLAM", lambda x: game.is_at_hand(x) or game.is_at_hand(game.thing("OYSTER"))))
 
+Game.letters.update(y=poured, m=meant_by_open, r=meant_by_read, o=only_one_here,
+                    f=lambda game: foes(game)[0], p=lambda game: preys(game)[0])
+
+# ---- Magic words, eggs, and what else only verbs ask and do
 
 def number_of_magic(game):
     return game.cave.specials.get(game.word, 0)
 
+def eggs_are_home(game):
+    eggs, home = game.thing("EGGS"), game.home(game.thing("EGGS"))[0]
+    return not eggs or game.where[eggs] == home or game.is_carried(eggs) and game.here == home
+
+def eggs_go_home(game):
+    eggs, home = game.thing("EGGS"), game.home(game.thing("EGGS"))[0]
+    game.object_text(eggs, 0 if game.here == home else 1 if game.is_at_hand(eggs) else 2)
+    game.move(eggs, home)
 
 def carried_list(game):
     """What INVENTORY lists: what is carried but BEAR, and the liquid in a carried bottle."""
     return [x for x in range(1, 101) if game.is_carried(x) and not game.is_thing(x, "BEAR")]
 
-
 def ask_back(game):
-    game.line(f"{game.word} what?")
+    game.out.append(f"{game.word} what?")
     game.kept = game.player_verb, 0
-
 
 def turn_fissure(game):
     x = game.thing("FISSURE")
     shown, game.prop[x] = game.prop[x] + 1, 1 - game.prop[x]
     game.object_text(x, shown)
-
 
 def water_plant(game):
     plant = game.thing("PLANT")
@@ -88,89 +85,48 @@ def water_plant(game):
     game.prop[plant] = (game.prop[plant] + 2) % 6
     game.set_prop(game.thing("PLANT2"), game.prop[plant] // 2)
 
-
-def kill_dwarf(game):
+def kill_the_dwarf(game):
     it = game.dwarf_here()
     game.dwarf_at[it], game.dwarf_saw[it] = 0, False
     game.kills += 1
 
-
-def score_so_far(game):
-    game.line(f"If you were to quit now, you would score {game.score()} out of a possible"
-              f" {game.cave.greatest_score()}.")
-    game.ask("score quit")
-
-
-def list_carried(game):
-    for x in carried_list(game):
-        game.show(game.cave.object_texts.get((x, None)))
-
-
-def eggs_go_home(game):
-    eggs, home = game.thing("EGGS"), game.home(game.thing("EGGS"))[0]
-    game.object_text(eggs, 0 if game.here == home else 1 if game.is_at_hand(eggs) else 2)
-    game.move(eggs, home)
-
-
-def eggs_are_home(game):
-    eggs, home = game.thing("EGGS"), game.home(game.thing("EGGS"))[0]
-    return not eggs or game.where[eggs] == home or game.is_carried(eggs) and game.here == home
-
-
-phrases(TESTS, {
+phrases({
+    "it is meant for {A}": lambda game, x: x != 0,
     "two foes or more": lambda game: len(foes(game)) > 1,
     "one foe": lambda game: len(foes(game)) == 1,
     "two preys": lambda game: len(preys(game)) == 2,
     "one prey": lambda game: len(preys(game)) == 1,
-    "one half is in the list": lambda game: only_one_here(game) != 0,
-    "it is meant for something": lambda game:
-        game.thing("r" if game.verb == ACTIONS["READ"] else "m") != 0,
     "to ([A-Z]+)": lambda game, verb: game.verb == ACTIONS[verb],
     "water is at hand": lambda game: game.is_at_hand(game.thing("BOTTLE"))
         and game.liquid() == game.thing("WATER") != 0,
-    "the lamp went out": lambda game: game.lamp < 0,
-    "none was killed": lambda game: game.kills == 0,
-    "by itself or with BOTTLE": lambda game:
-        game.thing("x") == 0 or game.is_thing(game.thing("x"), "BOTTLE"),
     "{A} is ROD with ROD2 carried": lambda game, x:
         game.is_thing(x, "ROD") and game.is_carried(game.thing("ROD2")),
     "{A} is one of ([A-Z ]+)": lambda game, x, names:
         any(game.is_thing(x, it) for it in names.split()),
     "seven objects are carried": lambda game: len(game.in_hands()) >= MOST_CARRIED,
+    "by itself or with BOTTLE": lambda game: game.names["x"] in (0, game.thing("BOTTLE")),
     "the list is empty": lambda game: not carried_list(game),
-    "it is the turn of k": lambda game:
+    "it is the turn of the word": lambda game:
         number_of_magic(game) != 0 and game.magic == 1 - number_of_magic(game),
-    "nothing was begun": lambda game: game.magic == 0,
-    "k is the last": lambda game: number_of_magic(game) == MAGIC_WORDS,
-    "EGGS are home already": eggs_are_home,
-})
-phrases(EFFECTS, {
+    "the word is the last": lambda game: number_of_magic(game) == MAGIC_WORDS,
+}, {
+    "the score so far": lambda game: game.out.append("If you were to quit now, you would score"
+        f" {game.score()} out of a possible {game.cave.greatest_score()}."),
+    "list what is carried": lambda game: [game.object_text(x, None) for x in carried_list(game)],
     "default": lambda game: game.message(game.cave.defaults.get(game.verb, 0)),
-    "ask back": ask_back,
     "as ([A-Z]+)": lambda game, verb: perform(game, ACTIONS[verb], 0),
     "as ([A-Z]+) {A}": lambda game, verb, x: perform(game, ACTIONS[verb], x),
     "the same verb with {A}": lambda game, x: perform(game, game.verb, x),
-    "kill the foe or the prey": lambda game:
-        perform(game, game.verb, (foes(game) or preys(game))[0]),
-    "I see no W here.": lambda game: game.line(f"I see no {game.word} here."),
     "say dark, if it is dark now": lambda game: game.is_dark() and game.say("dark"),
-    "the game is brief": lambda game: vars(game).update(brief=True, details=3),
-    "come to k": lambda game: vars(game).update(magic=number_of_magic(game)),
-    "begin nothing": lambda game: vars(game).update(magic=0),
-    "turn FISSURE": turn_fissure,
-    "water PLANT": water_plant,
-    "kill the dwarf": kill_dwarf,
-    "the score so far": score_so_far,
-    "list what is carried": list_carried,
+    "come to the word": lambda game: vars(game).update(magic=number_of_magic(game)),
     "anger them": lambda game: vars(game).update(anger=min(game.anger + 1, MOST_ANGER)),
-    "eggs go home": eggs_go_home,
 })
 
 # ---- The tables. A verb has one for itself alone, one with an object, or one for both.
 
 TABLES = tables("""
     TAKE alone
-        one half is in the list, a dwarf isn't here | as TAKE o
+        it is meant for o, a dwarf isn't here | as TAKE o
         | ask back
     TAKE
         x is carried | default
@@ -204,8 +160,8 @@ TABLES = tables("""
             put down x
         | say ok; put down x
     OPEN LOCK alone
-        it is meant for something, CHAIN is at hand | ask back
-        it is meant for something | the same verb with m
+        it is meant for m, CHAIN is at hand | ask back
+        it is meant for m | the same verb with m
         CHAIN is at hand | the same verb with CHAIN
         | say no-lock
     OPEN LOCK
@@ -236,7 +192,7 @@ TABLES = tables("""
         | default
     ON in any case
         LAMP isn't at hand | default
-        the lamp went out | say lamp-dead
+        lamp is below 0 | say lamp-dead
         it was dark | prop LAMP 1; say lamp-on; describe
         | prop LAMP 1; say lamp-on
     OFF in any case
@@ -248,9 +204,9 @@ TABLES = tables("""
         | default
     KILL alone
         two foes or more | ask back
-        one foe | kill the foe or the prey
+        one foe | as KILL f
         two preys | ask back
-        one prey | kill the foe or the prey
+        one prey | as KILL p
         | say none-to-kill
     KILL
         x is BIRD, the cave is closed | say bird-no
@@ -284,7 +240,7 @@ TABLES = tables("""
         | default
     DRINK in any case
         by itself, the lake isn't WATER, water isn't at hand | ask back
-        with an object, x isn't WATER | say ridiculous
+        x is other than WATER | say ridiculous
         water is at hand | prop BOTTLE 1; say drunk
         | default
     RUB
@@ -297,7 +253,7 @@ TABLES = tables("""
         x is FOOD, BEAR is at hand | as FEED BEAR
         x isn't AXE | as DROP x
         a dwarf is here, draw 1 of 3 | say axe-miss; bring AXE; arrive
-        a dwarf is here, none was killed | kill the dwarf; say axe-first; bring AXE; arrive
+        a dwarf is here, kills is 0 | kill the dwarf; say axe-first; bring AXE; arrive
         a dwarf is here | kill the dwarf; say axe-kill; bring AXE; arrive
         DRAGON is here, DRAGON prop is 0 | say axe-dragon; bring AXE; arrive
         TROLL is here | say axe-troll; bring AXE; arrive
@@ -306,7 +262,7 @@ TABLES = tables("""
     QUIT alone
         | question quit
     SCORE alone
-        | the score so far
+        | the score so far; question score quit
     FIND INVENTORY
         x is carried | say held-it
         the cave is closed | say around
@@ -316,8 +272,8 @@ TABLES = tables("""
         x is DWARF, a dwarf is here | say here-it
         | default
     INVENTORY alone
-        the list is empty | say empty; the bear follows
-        | say holding; list what is carried; the bear follows
+        the list is empty | say empty; the rows of bear
+        | say holding; list what is carried; the rows of bear
     FEED
         x is BIRD | say bird-feed
         x is SNAKE, the cave isn't closed, BIRD is at hand | BIRD vanishes; prop BIRD 0; \
@@ -352,20 +308,20 @@ TABLES = tables("""
         the player is at ne | say wrong-way; end wrong way
         | say success; end success
     FOO alone
-        it isn't the turn of k, nothing was begun | say magic
-        it isn't the turn of k | say foo-order
-        k isn't the last | come to k; say ok
-        EGGS are home already | begin nothing; say magic
-        EGGS are nowhere, TROLL is nowhere, TROLL prop is 0 | begin nothing; prop TROLL 1; \
+        it isn't the turn of the word, magic is 0 | say magic
+        it isn't the turn of the word | say foo-order
+        the word isn't the last | come to the word; say ok
+        EGGS are home | magic becomes 0; say magic
+        EGGS are nowhere, TROLL is nowhere, TROLL prop is 0 | magic becomes 0; prop TROLL 1; \
             eggs go home
-        | begin nothing; eggs go home
+        | magic becomes 0; eggs go home
     BRIEF alone
-        | the game is brief; say brief
+        | brief becomes 1; details becomes 3; say brief
     READ alone
-        it is meant for something, it isn't dark | as READ r
+        it is meant for r, it isn't dark | as READ r
         | ask back
     READ
-        it is dark | I see no W here.
+        it is dark | I see no W here
         x is MAGAZINE | say read-magazine
         x is TABLET | say read-tablet
         x is MESSAGE | say read-message
@@ -386,13 +342,12 @@ TABLES = tables("""
         | ask back
     CALM QUIT SCORE FOO BRIEF
         | default
-    """)
+    """, {**vars(travel), **globals()})
 ALONE, WITH = {}, {}
 for heading, table in TABLES.items():
     verbs = {ACTIONS[it]: table for it in heading.split() if it in ACTIONS}
     ALONE.update(verbs if "alone" in heading or "in any case" in heading else {})
     WITH.update(verbs if "alone" not in heading else {})
-
 
 def perform(game, verb, x):
     """Does a verb with an object, or by itself where x is 0."""
