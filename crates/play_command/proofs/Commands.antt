@@ -6,13 +6,13 @@ use Rattle.clap.specs.Words.{is_simple, is_simple_and_free, kind_of}
 use Rattle.clap.specs.Walk.{Text}
 use Rattle.clap.specs.declared.builder.command.Command.{Command}
 use Rattle.clap.specs.declared.error.Error.{Error}
-use Rattle.clap.specs.declared.error.kind.ErrorKind.TheVariants.{OutOfMemory}
+use Rattle.clap.specs.declared.error.kind.ErrorKind.{ErrorKind}
+use Rattle.clap.specs.declared.error.kind.ErrorKind.TheVariants.{OutOfMemory, UnknownArgument}
 use Rattle.clap.specs.declared.parser.matches.ArgMatches.{ArgMatches}
 use Rattle.clap.proofs.OnLiterals.{clap_on_literals}
 use Rattle.play_command.specs.App.{cave_app}
-use Rattle.play_command.specs.Line.{IsAsked, IsRun, IsRunMet, IsRefusal, IsRefused, IsRequest}
-use Rattle.play_command.specs.Line.{IsUnmade, IsWrong, MetCommand}
-use Rattle.play_command.specs.Read.{IsParse}
+use Rattle.play_command.specs.Line.{HasNoSeedBelowZero, IsAsked, IsRun, IsRunMet, IsRefusal}
+use Rattle.play_command.specs.Line.{IsRefused, IsRequest, IsUnmade, IsWrong, MetCommand, IsParse}
 use Rattle.play_command.specs.declared.fault.CommandFault.{CommandFault}
 use Rattle.play_command.specs.declared.fault.CommandFault.TheVariants.{Usage, Incomplete, BadSeed}
 use Rattle.play_command.specs.declared.fault.CommandFault.TheVariants.{BadEvery, BadView, Memory}
@@ -86,18 +86,19 @@ no_usage None error is = is
 no_usage (Some found) error (inl bad) = bad
 no_usage (Some found) error (inr bad) = bad
 
-pub found_refused : (kinds : Kinds) (met : MetCommand) (answer : Result Line CommandFault)
-    → kinds ≡ [] → Reads met answer → IfErr answer (IsRefused kinds met)
-found_refused kinds met (Ok found) none is = tt
-found_refused kinds met (Err (Usage error)) none is = absurd (no_usage met error is)
-found_refused kinds met (Err Incomplete) none is = (none, is)
-found_refused kinds met (Err (BadSeed text)) none is = (none, is)
-found_refused kinds met (Err (BadEvery text)) none is = (none, is)
-found_refused kinds met (Err (BadView name)) none is = (none, is)
-found_refused kinds met (Err (BadPlayView name)) none is = (none, is)
-found_refused kinds met (Err (BadCheckView name)) none is = (none, is)
-found_refused kinds met (Err (BadCoverView name)) none is = (none, is)
-found_refused kinds met (Err Memory) none is = tt
+pub found_refused : (words : List Text) (kinds : Kinds) (met : MetCommand)
+    (answer : Result Line CommandFault)
+    → kinds ≡ [] → Reads met answer → IfErr answer (IsRefused words kinds met)
+found_refused words kinds met (Ok found) none is = tt
+found_refused words kinds met (Err (Usage error)) none is = absurd (no_usage met error is)
+found_refused words kinds met (Err Incomplete) none is = (none, is)
+found_refused words kinds met (Err (BadSeed text)) none is = inl (none, is)
+found_refused words kinds met (Err (BadEvery text)) none is = (none, is)
+found_refused words kinds met (Err (BadView name)) none is = (none, is)
+found_refused words kinds met (Err (BadPlayView name)) none is = (none, is)
+found_refused words kinds met (Err (BadCheckView name)) none is = (none, is)
+found_refused words kinds met (Err (BadCoverView name)) none is = (none, is)
+found_refused words kinds met (Err Memory) none is = tt
 
 -- ---- what an error comes to
 
@@ -115,16 +116,26 @@ pub text_asked : (kinds : Kinds) (error : Error) (asked : Line) → HasKind kind
 text_asked kinds error asked has (same, request) =
     subst (IsAsked kinds) (sym same) (request, among kinds error has (no_memory error request))
 
-pub error_refused : (kinds : Kinds) (met : MetCommand) (error : Error) (fault : CommandFault)
-    → HasKind kinds error → IsRefusal error fault → IsRefused kinds met fault
-error_refused kinds met error (Usage given) has (same, asks, memory) =
-    subst (λ (e : Error). (¬ IsRequest (kind_of e)) × IsAmong (kind_of e) kinds) (sym same)
-    (asks, among kinds error has memory)
-error_refused kinds met error Incomplete has is = absurd is
-error_refused kinds met error (BadSeed text) has is = absurd is
-error_refused kinds met error (BadEvery text) has is = absurd is
-error_refused kinds met error (BadView name) has is = absurd is
-error_refused kinds met error (BadPlayView name) has is = absurd is
-error_refused kinds met error (BadCheckView name) has is = absurd is
-error_refused kinds met error (BadCoverView name) has is = absurd is
-error_refused kinds met error Memory has is = tt
+no_memory_unknown : (kind : ErrorKind) → kind ≡ UnknownArgument → kind ≡ OutOfMemory → ⊥
+no_memory_unknown kind unknown memory = cc
+
+pub error_refused : (words : List Text) (kinds : Kinds) (met : MetCommand) (error : Error)
+    (fault : CommandFault)
+    → HasKind kinds error → IsRefusal words error fault → IsRefused words kinds met fault
+error_refused words kinds met error (Usage given) has (same, asks, memory, none) =
+    subst (λ (e : Error). (¬ IsRequest (kind_of e)) × IsAmong (kind_of e) kinds
+    × HasNoSeedBelowZero words (kind_of e)) (sym same)
+    (asks, among kinds error has memory, none)
+error_refused words kinds met error Incomplete has is = absurd is
+error_refused words kinds met error (BadSeed text) has (unknown, seed) =
+    inr (
+      subst (λ (kind : ErrorKind). IsAmong kind kinds) unknown
+          (among kinds error has (no_memory_unknown (kind_of error) unknown)),
+      seed,
+    )
+error_refused words kinds met error (BadEvery text) has is = absurd is
+error_refused words kinds met error (BadView name) has is = absurd is
+error_refused words kinds met error (BadPlayView name) has is = absurd is
+error_refused words kinds met error (BadCheckView name) has is = absurd is
+error_refused words kinds met error (BadCoverView name) has is = absurd is
+error_refused words kinds met error Memory has is = tt

@@ -16,7 +16,6 @@ cave_argument = record (new_rule (codes "cave")) { required = true; value_names 
 abbrev pub log_argument : Rule
 log_argument = record (new_rule (codes "log")) { required = true; value_names = 1 }
 
--- one log or more
 abbrev pub logs_argument : Rule
 logs_argument =
     record (new_rule (codes "log")) { required = true; value_names = 1; action = Some Append }
@@ -75,7 +74,6 @@ with_options app = with_rule (with_rule app bind_argument) seed_argument
 abbrev pub with_cover_options : App → App
 with_cover_options app = with_rule (with_options app) print_argument
 
--- a command with the options of an edit alone
 abbrev pub with_edit_options : App → App
 with_edit_options app =
     with_rule (with_rule (with_rule app every_argument) print_argument) strict_argument

@@ -1,7 +1,5 @@
 pub mod App
-pub mod Fault
-pub mod Number
-pub mod Read
+pub mod BelowZero
 pub mod Line
 pub use Rattle.base_lines.specs.base_limits as base_limits
 pub use Rattle.base_lines.specs as base_lines

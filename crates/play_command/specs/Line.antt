@@ -1,16 +1,18 @@
--- Which run the words ask for.
+-- Which run the words ask for, and why they are refused.
 use Rattle.std.specs.Prelude.{◌≡◌, ◌≢◌, ◌⊎◌, ◌&&◌, ◌||◌, ℕ, Bool, false, bytes_eq, is_some, List}
-use Rattle.std.specs.Prelude.{[], Option, Some, None, option_map, unwrap_or, map, codes}
+use Rattle.std.specs.Prelude.{[], Option, Some, None, option_map, unwrap_or, map, codes, Result}
+use Rattle.std.specs.Prelude.{MatchResult, nat_lt, nat_le, length, if◌then◌else◌}
 use Rattle.std.specs.Option.{option_map_or}
 use Rattle.clap.specs.Words.{IsAmong, Kinds, Row, all_of, first_of, found_of, kind_of, rows_of}
+use Rattle.clap.specs.Words.{HasKind, fault_of, subcommand_of, subcommand_rows_of}
 use Rattle.clap.specs.declared.error.Error.{Error}
 use Rattle.clap.specs.declared.error.kind.ErrorKind.{ErrorKind}
 use Rattle.clap.specs.declared.error.kind.ErrorKind.TheVariants.{DisplayHelp, DisplayVersion}
-use Rattle.clap.specs.declared.error.kind.ErrorKind.TheVariants.{OutOfMemory}
+use Rattle.clap.specs.declared.error.kind.ErrorKind.TheVariants.{OutOfMemory, UnknownArgument}
 use Rattle.clap.specs.declared.parser.matches.ArgMatches.{ArgMatches}
-use Rattle.play_command.specs.Number.{IsNumber, number_in}
-use Rattle.play_options.specs.Editing.{edit_view_named}
-use Rattle.play_options.specs.Views.{check_view_named, cover_view_named, play_view_named}
+use Rattle.play_command.specs.BelowZero.{seed_below_zero}
+use Rattle.play_options.specs.Views.{edit_view_named, check_view_named, cover_view_named}
+use Rattle.play_options.specs.Views.{play_view_named}
 use Rattle.play_options.specs.declared.views.CheckView.{CheckView}
 use Rattle.play_options.specs.declared.views.CheckView.TheVariants.{Maximum}
 use Rattle.play_options.specs.declared.views.CoverView.{CoverView}
@@ -21,14 +23,43 @@ use Rattle.play_options.specs.declared.editing.EditView.TheVariants.{Transcript}
 use Rattle.play_options.specs.declared.views.PlayView.{PlayView}
 use Rattle.play_options.specs.declared.views.PlayView.TheVariants as play
 use Rattle.play_command.specs.declared.fault.CommandFault.{CommandFault}
-use Rattle.play_command.specs.declared.fault.CommandFault.TheVariants.{Usage, Incomplete, BadSeed}
-use Rattle.play_command.specs.declared.fault.CommandFault.TheVariants.{BadEvery, BadView, Memory}
-use Rattle.play_command.specs.declared.fault.CommandFault.TheVariants.{BadPlayView, BadCheckView}
-use Rattle.play_command.specs.declared.fault.CommandFault.TheVariants.{BadCoverView}
+use Rattle.play_command.specs.declared.fault.CommandFault.TheVariants as fault_is
 use Rattle.play_command.specs.declared.line.Files.{Files}
 use Rattle.play_command.specs.declared.line.Line.{Line}
 use Rattle.play_command.specs.declared.line.Line.TheVariants.{Check, Play, Edit, Cover, Map, Text}
-use Rattle.base_lines.specs.base_limits.Limits.{MAX_SEED, MAX_EVERY}
+use Rattle.base_lines.specs.base_limits.Limits.{MAX_SEED, MAX_EVERY, MAX_DIGITS}
+use Rattle.play_command.specs.App.{cave_app}
+use Rattle.std.specs.List.{list_all}
+use Rattle.base_lines.specs.Bytes.{is_digit, number_of}
+
+-- 7 where memory ran out, and 2 for anything wrong with the words
+abbrev pub status_of_command : CommandFault → ℕ
+status_of_command fault_is.Memory = 7
+status_of_command _ = 2
+
+-- the parser's answer to the words: what they come to, where nothing is wrong with them, and else
+-- an error of what is, unless memory ran out
+abbrev pub IsParse : List (List ℕ) → Result ArgMatches Error → Type 0
+IsParse words answer = MatchResult answer
+    (λ matches. (fault_of cave_app words ≡ [])
+    × (subcommand_rows_of matches ≡ subcommand_of cave_app words))
+    (HasKind (fault_of cave_app words))
+
+-- 1 to 10 digits and nothing else
+abbrev pub is_option_number : List ℕ → Bool
+is_option_number text = nat_lt 0 (length text) && nat_le (length text) MAX_DIGITS
+    && list_all is_digit text
+
+-- the number that the text writes, if it is from `least` to `most`
+unfoldable pub number_in : ℕ → ℕ → List ℕ → Option ℕ
+number_in least most text =
+    if is_option_number text && nat_le least (number_of text) && nat_le (number_of text) most
+    then Some (number_of text) else None
+
+-- the value of an option of a number, or its default where the option isn't given
+abbrev pub IsNumberGiven : ℕ → ℕ → ℕ → Option (List ℕ) → ℕ → Type 0
+IsNumberGiven least most absent None number = number ≡ absent
+IsNumberGiven least most absent (Some text) number = number_in least most text ≡ Some number
 
 -- a command that was met, with what was found for its arguments
 abbrev pub MetCommand : Type 0
@@ -46,11 +77,11 @@ pub record IsFiles (rows : List Row) (files : Files) : Type 0 where
 
 -- a seed is what was found for it, or 0
 abbrev pub IsSeed : List Row → ℕ → Type 0
-IsSeed rows seed = IsNumber 0 MAX_SEED 0 (first_of (codes "seed") rows) seed
+IsSeed rows seed = IsNumberGiven 0 MAX_SEED 0 (first_of (codes "seed") rows) seed
 
 -- a distance of checkpoints is what was found for it, or 50
 abbrev pub IsEveryGiven : List Row → ℕ → Type 0
-IsEveryGiven rows every = IsNumber 1 MAX_EVERY 50 (first_of (codes "every") rows) every
+IsEveryGiven rows every = IsNumberGiven 1 MAX_EVERY 50 (first_of (codes "every") rows) every
 
 -- what a check prints, where this was found for it, or else the greatest score
 abbrev pub IsCheckViewGiven : Option (List ℕ) → CheckView → Type 0
@@ -121,12 +152,10 @@ abbrev pub IsRunMet : MetCommand → Line → Type 0
 IsRunMet None run = ⊥
 IsRunMet (Some found) run = IsRunOf found.0 found.1 run
 
--- a run is what was found for its command
 abbrev pub IsRun : MetCommand → Line → Type 0
 IsRun met (Text error) = Unit {0}
 IsRun met run = IsRunMet met run
 
--- help or the version was asked for
 abbrev pub IsRequest : ErrorKind → Type 0
 IsRequest kind = (kind ≡ DisplayHelp) ⊎ (kind ≡ DisplayVersion)
 
@@ -152,72 +181,86 @@ is_complete (Some found) = has_files found.0 found.1
 
 -- what was found for the seed is no seed
 abbrev pub IsBadSeed : List Row → CommandFault → Type 0
-IsBadSeed rows (BadSeed text) = (first_of (codes "seed") rows ≡ Some text.now)
+IsBadSeed rows (fault_is.BadSeed text) = (first_of (codes "seed") rows ≡ Some text.now)
     × (number_in 0 MAX_SEED text.now ≡ None)
 IsBadSeed rows _ = ⊥
 
 -- what was found for the distance of checkpoints is none
 abbrev pub IsBadEvery : List Row → CommandFault → Type 0
-IsBadEvery rows (BadEvery text) = (first_of (codes "every") rows ≡ Some text.now)
+IsBadEvery rows (fault_is.BadEvery text) = (first_of (codes "every") rows ≡ Some text.now)
     × (number_in 1 MAX_EVERY text.now ≡ None)
 IsBadEvery rows _ = ⊥
 
 -- what was found for what an edit prints names nothing that it may print
 abbrev pub IsBadView : List Row → CommandFault → Type 0
-IsBadView rows (BadView name) = (first_of (codes "print") rows ≡ Some name.now)
+IsBadView rows (fault_is.BadView name) = (first_of (codes "print") rows ≡ Some name.now)
     × (edit_view_named name.now ≡ None)
 IsBadView rows _ = ⊥
 
 -- what was found for what a check prints names nothing that it may print
 abbrev pub IsBadCheckView : List Row → CommandFault → Type 0
-IsBadCheckView rows (BadCheckView name) = (first_of (codes "print") rows ≡ Some name.now)
+IsBadCheckView rows (fault_is.BadCheckView name) = (first_of (codes "print") rows ≡ Some name.now)
     × (check_view_named name.now ≡ None)
 IsBadCheckView rows _ = ⊥
 
 -- and the same for what is printed of texts
 abbrev pub IsBadCoverView : List Row → CommandFault → Type 0
-IsBadCoverView rows (BadCoverView name) = (first_of (codes "print") rows ≡ Some name.now)
+IsBadCoverView rows (fault_is.BadCoverView name) = (first_of (codes "print") rows ≡ Some name.now)
     × (cover_view_named name.now ≡ None)
 IsBadCoverView rows _ = ⊥
 
 -- what was found for what a play prints names nothing that it may print
 abbrev pub IsBadPlayView : List Row → CommandFault → Type 0
-IsBadPlayView rows (BadPlayView name) = (first_of (codes "print") rows ≡ Some name.now)
+IsBadPlayView rows (fault_is.BadPlayView name) = (first_of (codes "print") rows ≡ Some name.now)
     × (play_view_named name.now ≡ None)
 IsBadPlayView rows _ = ⊥
 
 -- what is wrong with the options of a command: each prints what it alone may print
 abbrev pub IsBadOption : List ℕ → List Row → CommandFault → Type 0
-IsBadOption name rows (BadView given) =
-    (name ≡ codes "edit") × IsBadView rows (BadView given)
-IsBadOption name rows (BadCheckView given) =
-    (name ≡ codes "check") × IsBadCheckView rows (BadCheckView given)
-IsBadOption name rows (BadPlayView given) =
-    (name ≡ codes "play") × IsBadPlayView rows (BadPlayView given)
-IsBadOption name rows (BadCoverView given) =
-    (name ≡ codes "cover") × IsBadCoverView rows (BadCoverView given)
+IsBadOption name rows (fault_is.BadView given) =
+    (name ≡ codes "edit") × IsBadView rows (fault_is.BadView given)
+IsBadOption name rows (fault_is.BadCheckView given) =
+    (name ≡ codes "check") × IsBadCheckView rows (fault_is.BadCheckView given)
+IsBadOption name rows (fault_is.BadPlayView given) =
+    (name ≡ codes "play") × IsBadPlayView rows (fault_is.BadPlayView given)
+IsBadOption name rows (fault_is.BadCoverView given) =
+    (name ≡ codes "cover") × IsBadCoverView rows (fault_is.BadCoverView given)
 IsBadOption name rows fault = IsBadSeed rows fault ⊎ IsBadEvery rows fault
 
 -- what is wrong with what was found
 abbrev pub IsWrong : MetCommand → CommandFault → Type 0
-IsWrong met Incomplete = is_complete met ≡ false
+IsWrong met fault_is.Incomplete = is_complete met ≡ false
 IsWrong None fault = ⊥
 IsWrong (Some found) fault = IsBadOption found.0 found.1 fault
 
 -- why no run is made of what was found: what is wrong with it, unless memory ran out
 abbrev pub IsUnmade : MetCommand → CommandFault → Type 0
-IsUnmade met Memory = Unit {0}
+IsUnmade met fault_is.Memory = Unit {0}
 IsUnmade met fault = IsWrong met fault
 
--- the parser's error, as a fault
-abbrev pub IsRefusal : Error → CommandFault → Type 0
-IsRefusal error Memory = kind_of error ≡ OutOfMemory
-IsRefusal error (Usage given) = (given ≡ error) × (¬ IsRequest (kind_of error))
-    × (kind_of error ≢ OutOfMemory)
-IsRefusal error _ = ⊥
+-- where the parser finds an argument that it doesn't know, the words give no seed below zero
+abbrev pub HasNoSeedBelowZero : List (List ℕ) → ErrorKind → Type 0
+HasNoSeedBelowZero words kind = kind ≡ UnknownArgument → seed_below_zero words ≡ None
+
+-- the parser's error, as a fault: a seed below zero is an argument that it doesn't know
+abbrev pub IsRefusal : List (List ℕ) → Error → CommandFault → Type 0
+IsRefusal words error fault_is.Memory = kind_of error ≡ OutOfMemory
+IsRefusal words error (fault_is.Usage given) = (given ≡ error) × (¬ IsRequest (kind_of error))
+    × (kind_of error ≢ OutOfMemory) × HasNoSeedBelowZero words (kind_of error)
+IsRefusal words error (fault_is.BadSeed text) =
+    (kind_of error ≡ UnknownArgument) × (seed_below_zero words ≡ Some text.now)
+IsRefusal words error _ = ⊥
+
+-- the words give a seed below zero, which is an argument that the parser doesn't know
+abbrev pub IsSeedBelowZero : List (List ℕ) → Kinds → List ℕ → Type 0
+IsSeedBelowZero words kinds seed =
+    IsAmong UnknownArgument kinds × (seed_below_zero words ≡ Some seed)
 
 -- the words are refused for what is wrong with them, unless memory ran out
-abbrev pub IsRefused : Kinds → MetCommand → CommandFault → Type 0
-IsRefused kinds met Memory = Unit {0}
-IsRefused kinds met (Usage error) = (¬ IsRequest (kind_of error)) × IsAmong (kind_of error) kinds
-IsRefused kinds met fault = (kinds ≡ []) × IsWrong met fault
+abbrev pub IsRefused : List (List ℕ) → Kinds → MetCommand → CommandFault → Type 0
+IsRefused words kinds met fault_is.Memory = Unit {0}
+IsRefused words kinds met (fault_is.Usage error) = (¬ IsRequest (kind_of error))
+    × IsAmong (kind_of error) kinds × HasNoSeedBelowZero words (kind_of error)
+IsRefused words kinds met (fault_is.BadSeed text) =
+    ((kinds ≡ []) × IsWrong met (fault_is.BadSeed text)) ⊎ IsSeedBelowZero words kinds text.now
+IsRefused words kinds met fault = (kinds ≡ []) × IsWrong met fault

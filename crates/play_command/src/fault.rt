@@ -1,5 +1,5 @@
 ghost use Rattle.std.specs.Prelude.{◌≡◌};
-ghost use Rattle.play_command.specs.Fault.{status_of_command};
+ghost use Rattle.play_command.specs.Line.{status_of_command};
 ghost use Rattle.play_command.specs.declared.fault.CommandFault.TheVariants.{Memory};
 
 use clap::Error as ParseError;

@@ -3,6 +3,7 @@
 
 pub mod app;
 mod arguments;
+mod below_zero;
 pub mod fault;
 pub mod line;
 mod number;

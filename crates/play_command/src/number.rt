@@ -3,19 +3,19 @@
 ghost use Rattle.std.specs.Prelude.{◌≡◌, ◌<◌};
 ghost use Rattle.std.specs.List.{list_all};
 ghost use Rattle.base_lines.specs.Bytes.{is_digit};
-ghost use Rattle.play_command.specs.Number.{number_in};
+ghost use Rattle.play_command.specs.Line.{number_in};
 
 use base_lines::bytes::number_of;
 use base_lines::is_long_number;
 
-fn is_all_digits(text: &[u8]) -> bool
+pub(crate) fn is_all_digits(text: &[u8]) -> bool
     ensures { result ≡ list_all is_digit text.now }
 {
     text.iter().all(|byte| byte.is_ascii_digit())
 }
 
 /// The number that a text writes in 1 to 10 digits, if it is from `least` to `most`.
-#[tactic(auto, unfolding(crate::specs::Number::number_in))]
+#[tactic(auto, unfolding(crate::specs::Line::number_in))]
 pub(crate) fn number_in(least: u32, most: u32, text: &str) -> Option<u32>
     ensures { result ≡ number_in least most text.now }
 {

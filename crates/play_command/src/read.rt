@@ -4,16 +4,17 @@ ghost use Rattle.std.specs.Prelude.{◌≡◌, IfOk, IfErr, MatchOption, MatchRe
 ghost use Rattle.std.specs.Prelude.{map, option_map};
 ghost use Rattle.clap.specs.Words.{all_of, fault_of, first_of, kind_of, subcommand_of};
 ghost use Rattle.clap.specs.Words.{subcommand_rows_of};
+ghost use Rattle.clap.specs.declared.error.kind.ErrorKind.TheVariants.{UnknownArgument};
 ghost use Rattle.play_command.specs.App.{cave_app};
-ghost use Rattle.play_command.specs.Read.{IsParse};
-ghost use Rattle.play_command.specs.Line.{IsAsked, IsBadCheckView, IsBadCoverView, IsBadEvery};
-ghost use Rattle.play_command.specs.Line.{IsBadOption, IsBadSeed, IsBadView, IsCheckView};
-ghost use Rattle.play_command.specs.Line.{IsCoverView, IsEditing, IsEveryGiven, IsFiles, IsRun};
-ghost use Rattle.play_command.specs.Line.{IsRunMet, IsRunOf, IsRefusal, IsRefused, IsRequest};
-ghost use Rattle.play_command.specs.Line.{IsSeed, IsUnmade, IsView, is_strict, rows_in};
+ghost use Rattle.play_command.specs.Line.{IsParse, IsAsked, IsBadCheckView, IsBadCoverView};
+ghost use Rattle.play_command.specs.Line.{IsBadEvery, IsBadOption, IsBadSeed, IsBadView};
+ghost use Rattle.play_command.specs.Line.{IsCheckView, IsCoverView, IsEditing, IsEveryGiven};
+ghost use Rattle.play_command.specs.Line.{IsFiles, IsRun, IsRunMet, IsRunOf, IsRefusal, IsRefused};
+ghost use Rattle.play_command.specs.Line.{IsRequest, IsSeed, IsUnmade, IsView, is_strict, rows_in};
 ghost use Rattle.play_command.specs.Line.{IsBadPlayView, IsPlayView};
 
 use crate::app::cave_app;
+use crate::below_zero::seed_below_zero;
 use crate::fault::CommandFault;
 use crate::line::{Files, Line};
 use crate::number::number_in;
@@ -41,11 +42,11 @@ pub fn command_line<'a, S: AsStr>(
     ensures found { IfOk result (IsRun (subcommand_of cave_app (map S.text words.entry.now))) }
     ensures asked { IfOk result (IsAsked (fault_of cave_app (map S.text words.entry.now))) }
     ensures refused { let given = map S.text words.entry.now in
-        IfErr result (IsRefused (fault_of cave_app given) (subcommand_of cave_app given)) }
+        IfErr result (IsRefused given (fault_of cave_app given) (subcommand_of cave_app given)) }
 {
     match parse(alloc, words) {
         Ok(matches) => run_met(alloc, &matches),
-        Err(error) => answer_to(error),
+        Err(error) => answer_to(error, words),
     }
 }
 
@@ -58,18 +59,29 @@ fn parse<'a, S: AsStr>(alloc: Global, words: &'a [S]) -> Result<ArgMatches<'a>, 
 }
 
 /// What an error of the parser comes to: a text to print, or a fault.
-fn answer_to<'a>(error: Error) -> Result<Line<'a>, CommandFault<'a>>
+fn answer_to<'a, S: AsStr>(error: Error, words: &'a [S]) -> Result<Line<'a>, CommandFault<'a>>
     ensures ok { IfOk result (λ run. (run ≡ Line.Text error) × IsRequest (kind_of error)) }
-    ensures err { IfErr result (λ fault. IsRefusal error fault) }
+    ensures err { IfErr result (IsRefusal (map S.text words.now) error) }
 {
     match error.kind() {
         ErrorKind::DisplayHelp | ErrorKind::DisplayVersion => Ok(Line::Text(error)),
         ErrorKind::OutOfMemory => Err(CommandFault::Memory),
+        ErrorKind::UnknownArgument => Err(unknown_argument(error, words)),
         _ => Err(CommandFault::Usage(error)),
     }
 }
 
-/// The run of the command that was met.
+/// The fault of words in which the parser found an argument that it doesn't know.
+fn unknown_argument<'a, S: AsStr>(error: Error, words: &'a [S]) -> CommandFault<'a>
+    requires { kind_of error ≡ UnknownArgument }
+    ensures { IsRefusal (map S.text words.now) error result }
+{
+    match seed_below_zero(words) {
+        Some(text) => CommandFault::BadSeed(text),
+        None => CommandFault::Usage(error),
+    }
+}
+
 fn run_met<'a>(alloc: Global, matches: &ArgMatches<'a>) -> Result<Line<'a>, CommandFault<'a>>
     ensures { MatchResult result (IsRunMet (subcommand_rows_of matches.now))
         (IsUnmade (subcommand_rows_of matches.now)) }
@@ -80,7 +92,6 @@ fn run_met<'a>(alloc: Global, matches: &ArgMatches<'a>) -> Result<Line<'a>, Comm
     run_of(alloc, name, found)
 }
 
-/// The run of a command.
 fn run_of<'a>(
     alloc: Global,
     name: &str,
@@ -201,7 +212,6 @@ fn value_in<'a>(found: &ArgMatches<'a>, id: &str) -> Option<&'a str>
     found.get_str(id)
 }
 
-/// The files of a cave and of the output, if the cave's was found.
 fn files_in<'a>(found: &ArgMatches<'a>) -> Option<Files<'a>>
     ensures { MatchOption result (first_of (codes "cave") (rows_in found.now) ≡ None)
         (IsFiles (rows_in found.now)) }
@@ -242,7 +252,6 @@ fn edit_view_in<'a>(found: &ArgMatches<'a>) -> Result<EditView, CommandFault<'a>
     }
 }
 
-/// What a play prints.
 fn play_view_in<'a>(found: &ArgMatches<'a>) -> Result<PlayView, CommandFault<'a>>
     ensures { MatchResult result (IsPlayView (rows_in found.now))
         (IsBadPlayView (rows_in found.now)) }
@@ -253,7 +262,6 @@ fn play_view_in<'a>(found: &ArgMatches<'a>) -> Result<PlayView, CommandFault<'a>
     }
 }
 
-/// What a check prints.
 fn check_view_in<'a>(found: &ArgMatches<'a>) -> Result<CheckView, CommandFault<'a>>
     ensures { MatchResult result (IsCheckView (rows_in found.now))
         (IsBadCheckView (rows_in found.now)) }

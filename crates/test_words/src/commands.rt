@@ -21,10 +21,15 @@ fn shown(alloc: Global, words: &[&str]) -> Result<String, AllocError> {
 }
 
 /// Words, and what the answer to them says.
-const ANSWERS: [(&[&str], &str); 27] = [
+const ANSWERS: [(&[&str], &str); 28] = [
     (
         &["cave", "check", "a"],
         "Check { files: Files { cave: \"a\", bind: None, output: None }, view: Maximum }",
+    ),
+    (
+        &["cave", "play", "a", "b", "--seed", "7"],
+        "Play { files: Files { cave: \"a\", bind: None, output: None }, \
+        log: \"b\", seed: 7, view: Transcript }",
     ),
     (
         &["cave", "play", "a", "--bind=c", "b", "--seed", "2147483647"],
@@ -159,7 +164,7 @@ fn printed(alloc: Global, words: &[&str]) -> Result<String, AllocError> {
 }
 
 /// Words, and a part of the text that is printed for them.
-const TEXTS: [(&[&str], &str); 16] = [
+const TEXTS: [(&[&str], &str); 22] = [
     (
         &["cave", "check", "-h"],
         "Usage: cave check [OPTIONS] <CAVE>",
@@ -203,6 +208,31 @@ const TEXTS: [(&[&str], &str); 16] = [
         2147483647",
     ),
     (
+        &["cave", "map", "a", "--seed", "-12"],
+        "error: invalid value '-12' for '--seed <N>': wanted are 1 to 10 digits, from 0 to \
+        2147483647",
+    ),
+    (
+        &["cave", "check", "a", "--seed", "-1"],
+        "error: unexpected argument '--seed' found",
+    ),
+    (
+        &["cave", "play", "a", "b", "--seed", "-x"],
+        "error: unexpected argument '-x' found",
+    ),
+    (
+        &["cave", "play", "a", "b", "--seed", "-"],
+        "error: invalid value '-' for '--seed <N>': wanted are 1 to 10 digits",
+    ),
+    (
+        &["cave", "play", "--", "a", "b", "--seed", "-1"],
+        "error: unexpected argument '--seed' found",
+    ),
+    (
+        &["cave", "play", "a", "b", "-1"],
+        "error: unexpected argument '-1' found",
+    ),
+    (
         &["cave", "edit", "a", "b", "c", "--every="],
         "error: invalid value '' for '--every <K>': wanted are 1 to 10 digits, from 1 to 10000",
     ),
@@ -224,7 +254,7 @@ fn texts_of_help_and_faults(rt: HostRuntime) -> Result<(), Fail> {
 
 /// Where an allocation is refused, the answer is that memory ran out and no other.
 #[test]
-fn refused_memory_is_no_other_fault(rt: HostRuntime) {
+fn out_of_memory_is_no_other_fault(rt: HostRuntime) {
     let words = ["cave", "edit", "a", "--seed=3", "b", "c", "--every", "7"];
     match answer_to(rt.alloc(), words.as_slice()) {
         Ok(line) => assert!(rt;

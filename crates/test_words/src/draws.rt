@@ -13,12 +13,22 @@ fn draw(stream: &mut Stream) -> u32 {
 }
 
 #[test]
-fn draws_of_a_hundred(rt: HostRuntime) {
+fn draws_of_a_hundred_from_seed_0(rt: HostRuntime) {
     let mut stream = stream_of(0);
     for want in [0, 21, 18, 59, 86, 39] {
         assert_eq!(rt; draw(&mut stream), want);
     }
-    let mut last = stream_of(1_048_575);
-    assert_eq!(rt; draw(&mut last), 99);
-    assert_eq!(rt; last, stream_of(220_494));
+}
+
+#[test]
+fn the_greatest_number_of_the_stream_draws_99_and_leads_to_220494(rt: HostRuntime) {
+    let mut stream = stream_of(1_048_575);
+    assert_eq!(rt; draw(&mut stream), 99);
+    assert_eq!(rt; stream, stream_of(220_494));
+}
+
+#[test]
+fn seed_1048576_is_seed_0(rt: HostRuntime) {
+    assert_eq!(rt; stream_of(1_048_576), stream_of(0));
+    assert!(rt; stream_of(1_048_575) != stream_of(0));
 }

@@ -45,6 +45,20 @@ fn a_word_means_its_first_row(rt: HostRuntime) -> Result<(), Fail> {
     Ok(())
 }
 
+/// How many letters count, by bindings, and the object that `goldenrod` then means.
+const GOLDENRODS: [(&[u8], u16); 3] = [(b"", 50), (b"num.letters 6", 50), (b"num.letters 8", 51)];
+
+#[test]
+fn goldenrod_is_golden_until_eight_letters_count(rt: HostRuntime) -> Result<(), Fail> {
+    for &(bindings, object) in &GOLDENRODS {
+        let cave = cave_of(rt.alloc(), DATABASE, bindings)?;
+        let known = Known::of(rt.alloc(), cave)?;
+        let found = parts(known.meaning_in(b"goldenrod", Class::Object));
+        assert_eq!(rt; found, Some((Class::Object, object)), "{bindings:?}");
+    }
+    Ok(())
+}
+
 // Passes with any allocation refused too: `rt try --test --fail-alloc N`, N from 1 on.
 #[test]
 fn out_of_memory_is_the_only_refusal(rt: HostRuntime) {

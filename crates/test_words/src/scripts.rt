@@ -107,7 +107,7 @@ fn a_malformed_script_is_told_by_its_first_line_at_fault(rt: HostRuntime) -> Res
 
 /// Where an allocation is refused, the answer is that memory ran out and no other.
 #[test]
-fn refused_memory_is_no_other_fault(rt: HostRuntime) {
+fn out_of_memory_is_no_other_fault(rt: HostRuntime) {
     let text = b"insert 2 take lamp\nbegin\nreplace 0 x\ndelete 1\nend\nseed 3\n";
     match script_of(rt.alloc(), text) {
         Ok(script) => assert_eq!(rt; script.items.len(), 3),

@@ -25,7 +25,7 @@ returns-in-Ok-clause-asked g c =
 pub returns-in-Ok-clause-refused : goal.returns-in-Ok-clause-refused
 returns-in-Ok-clause-refused g c =
     let words = map g.S.AsStr.text c.args.words.now in
-    found_refused (fault_of cave_app words) (subcommand_of cave_app words) c.run_met.result
+    found_refused words (fault_of cave_app words) (subcommand_of cave_app words) c.run_met.result
     c.in-Ok.ensures.0
     (subst (λ (met : MetCommand). Reads met c.run_met.result) c.in-Ok.ensures.1
     c.run_met.ensures)
@@ -43,5 +43,5 @@ returns-in-Err-clause-refused g c =
     let kinds = fault_of cave_app words in
     let has : HasKind kinds c.in-Err.error = c.in-Err.ensures in
     IfErr-weaker c.answer_to.result
-    _ _ (λ fault is. error_refused kinds (subcommand_of cave_app words) c.in-Err.error fault has
-    is) c.answer_to.ensures.err
+    _ _ (λ fault is. error_refused words kinds (subcommand_of cave_app words) c.in-Err.error
+    fault has is) c.answer_to.ensures.err
