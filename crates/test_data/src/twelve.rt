@@ -93,6 +93,15 @@ fn twelve_sections_are_read_through_each_getter(rt: HostRuntime) -> Result<(), F
     Ok(())
 }
 
+#[test]
+fn an_object_alone_in_its_row_is_nowhere(rt: HostRuntime) -> Result<(), Fail> {
+    let cave = read(rt.alloc(), b"7\n2\n3 5\n-1\n0\n", b"")?;
+    assert_eq!(rt; cave.placement(2), (0, 0));
+    assert_eq!(rt; cave.placement(3), (5, 0));
+    drop(cave);
+    Ok(())
+}
+
 // Passes with any allocation refused too: `rt try --test --fail-alloc N`, N from 1 on.
 #[test]
 fn out_of_memory_is_told_at_no_line(rt: HostRuntime) {

@@ -1,7 +1,7 @@
 -- The rules of a machine whose states are numbers and whose pieces say the number after their line.
 use Rattle.std.specs.Prelude.{◌≡◌, ◌↔◌, ℕ, ◌==◌, Bool, IsTrue, List, [], ◌∷◌}
 use Rattle.std.proofs.lemmas.Bool.{eqb-true, eq-eqb}
-use Rattle.cave_replay.specs.Machine.{MachineRules}
+use Rattle.cave_replay.specs.Play.{MachineRules}
 
 abbrev pub telling_rules : (ℕ → ℕ) → (ℕ → List ℕ → ℕ) → (ℕ → List ℕ → Bool)
     → MachineRules ℕ (List ℕ)

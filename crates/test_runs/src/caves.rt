@@ -1,4 +1,4 @@
-//! A shipped cave, as bytes, and a log that is played in it.
+//! A shipped cave, as bytes, what is played in it, and what is then printed.
 
 /// A road, a hut and a cellar.
 pub const CAVE: &[u8] =
@@ -18,3 +18,45 @@ pub const LONG_LOG: &[u8] = b"no\nin\ntake lamp\non\ndown\n";
 pub const LONG_TEXT: &str = "[welcome]\n\n> no\nYou stand on a road.\n\n\
 > in\nYou are in a hut.\nA lamp is here.\n\n> take lamp\n[ok]\n\n\
 > on\n[lamp-on]\n\n> down\nYou are in a cellar.\n-- score 32 of 132, turns 4\n";
+
+/// Another log, of one line.
+pub const SHORT_LOG: &[u8] = b"no\n";
+
+/// A script of an edit, a refused one and a group.
+pub const SCRIPT: &[u8] = b"insert 2 # note\ndelete 9\nbegin\nreplace 1 IN\ndelete 3\nend\n";
+
+/// The long log as that script edits it.
+pub const EDITED_LOG: &str = "no\nIN\n# note\non\ndown\n";
+
+/// What playing that log prints.
+pub const EDITED_PLAY: &str = "[welcome]\n\n> no\nYou stand on a road.\n\n\
+> IN\nYou are in a hut.\nA lamp is here.\n\n> on\n[lamp-on]\n\n> down\n[dark]\n\
+-- score 32 of 132, turns 3\n";
+
+/// What the edit prints.
+pub const EDITED_TEXT: &str = "line 1: ok\nline 2: refused 1\nline 3: ok\n[welcome]\n\n\
+> no\nYou stand on a road.\n\n> IN\nYou are in a hut.\nA lamp is here.\n\n\
+> on\n[lamp-on]\n\n> down\n[dark]\n-- score 32 of 132, turns 3\n";
+
+/// What it replays, with a checkpoint at each line.
+pub const REPORTS: &str =
+    "line 1: ok, from 2, met 3, played 1 of 6, score 32 of 132, turns 4, at 9\n\
+line 2: refused 1, no such line\n\
+line 3: ok, from 1, met none, played 4 of 5, score 32 of 132, turns 3, at 9\n\
+played 5 lines; from the start it would have been 11\n";
+
+/// How the list of keys ends, none of which is bound.
+pub const KEYS_TAIL: &str =
+    "\nnum.letters 5\n-- 0 of 156 messages and 2 of 19 places have a text\n";
+
+/// How what both logs cover begins and ends.
+pub const COVERED_HEAD: &str = "long texts: 3 of 3\nshort texts: 0 of 2, never 1 3\n\
+object texts: 1 of 2, never 2:1\ninventory texts: 0 of 1, never 2\nmessages: 0 of 0\n\
+roles: 3 of 156, never answer around axe-bear ";
+
+pub const COVERED_TAIL: &str = "\nclasses: 0 of 0\n-- 7 of 164 texts in 2 logs\n";
+
+/// How the map of the cave with what both logs saw of it begins and ends.
+pub const MAP_HEAD: &str = "digraph cave {\n";
+
+pub const MAP_TAIL: &str = "\n}\n// -- 3 of 3 places, 2 of 4 ways in 2 logs\n";

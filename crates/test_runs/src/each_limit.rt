@@ -1,10 +1,11 @@
 //! How much the inputs of a run may have.
 
 use crate::caves::{CAVE, LONG_LOG, LONG_TEXT};
-use crate::runs::{Changing, Feeds, INPUTS, Playing, Run, edit, play};
+use crate::runs::{COVER, EDIT, Feeds, PLAY, Run, RunEnd, edit, play};
 use crate::streams::Source;
 use play_cover::{
-    Cause, CaveError, FaultSite, Input, LineFlaw, LogFault, MAX_INPUT_BYTES, PlayFault, ScriptFault,
+    Cause, CaveError, FaultSite, Flaw, Input, LineFlaw, LogFault, LogsFault, MAX_INPUT_BYTES,
+    PlayFault, ScriptFault,
 };
 use std::alloc::{AllocError, Global};
 use std::process::Abort;
@@ -25,13 +26,18 @@ fn too_large(input: Input) -> PlayFault {
     })
 }
 
+/// Each input of an edit, and the second log of a run over several.
+const ENDLESS: [(Run, usize); 5] = [(EDIT, 0), (EDIT, 1), (EDIT, 2), (EDIT, 3), (COVER, 3)];
+
 #[test]
 fn a_reader_without_end_is_asked_for_one_byte_too_many(rt: HostRuntime) {
-    for input in INPUTS {
-        let mut feeds = Feeds::with(input, Source::endless());
-        let run = feeds.run::<Changing>(rt.alloc());
-        assert!(rt; run.failed(too_large(input)), "{input:?}");
-        assert_eq!(rt; feeds.asks(input), 1_048_577);
+    for &(run, number) in &ENDLESS {
+        let mut feeds = Feeds::usual(run);
+        feeds.put(number, Source::endless());
+        let end = feeds.run(rt.alloc(), run);
+        let fault = run.fault_at(number, too_large(run.input(number)));
+        assert!(rt; end.failed_at(fault), "{run:?}, {number}");
+        assert_eq!(rt; feeds.asks(number), 1_048_577);
     }
 }
 
@@ -48,9 +54,26 @@ fn filled(alloc: Global, text: &[u8], size: usize) -> Result<Vec<u8>, AllocError
 fn inputs_of_the_greatest_size_are_read(rt: HostRuntime) -> Result<(), Fail> {
     let cave = filled(rt.alloc(), CAVE, MAX_INPUT_BYTES)?;
     let comments = filled(rt.alloc(), b"", MAX_INPUT_BYTES)?;
-    let mut feeds = Feeds::of(&cave, &comments, &comments, &comments);
-    let run = feeds.run::<Changing>(rt.alloc());
+    let run = edit(rt.alloc(), &cave, &comments, &comments, 1);
     assert!(rt; run.wrote(b"[welcome]\n-- score 32 of 132, turns 0\n"));
+    Ok(())
+}
+
+/// Edits the long log by a script of the greatest size, which is given byte by byte.
+fn edit_byte_by_byte(rt: &impl Abort, alloc: Global, start: &[u8]) -> Result<RunEnd, Fail> {
+    let script = filled(alloc, start, MAX_INPUT_BYTES)?;
+    let mut feeds = Feeds::usual(EDIT);
+    feeds.put(3, Source::in_pieces(&script, 1));
+    let end = feeds.run(alloc, EDIT);
+    assert_eq!(rt; feeds.asks(3), 1_048_577);
+    Ok(end)
+}
+
+#[test]
+fn an_input_of_the_greatest_size_is_judged_by_its_bytes_alone(rt: HostRuntime) -> Result<(), Fail> {
+    assert!(rt; edit_byte_by_byte(&rt, rt.alloc(), b"")?.wrote(LONG_TEXT.as_bytes()));
+    let malformed = PlayFault::Script(ScriptFault::Malformed(1, Flaw::NoEdit));
+    assert!(rt; edit_byte_by_byte(&rt, rt.alloc(), b"begone\n")?.failed(malformed));
     Ok(())
 }
 
@@ -89,47 +112,30 @@ fn a_line_of_a_log_has_at_most_255_bytes(rt: HostRuntime) -> Result<(), Fail> {
     Ok(())
 }
 
-/// A seed and a distance of checkpoints, and why a run with them is refused.
-type Numbers = (u32, u32, Option<PlayFault>);
-
-/// Expects a run with these numbers to end so. Where it is refused, no reader is asked, though each
-/// would fail.
-fn expect_end<R: Run>(rt: &impl Abort, alloc: Global, numbers: Numbers) {
-    let (seed, every, fault) = numbers;
-    let mut feeds = Feeds::usual();
-    feeds.seed = seed;
-    feeds.every = every;
-    if fault.is_some() {
-        for input in INPUTS {
-            feeds.put(input, Source::broken());
-        }
-    }
-    assert_eq!(rt; feeds.run::<R>(alloc).ended.err(), fault);
-    if fault.is_some() {
-        for input in INPUTS {
-            assert_eq!(rt; feeds.asks(input), 0, "{input:?}");
-        }
-    }
-}
-
-const PLAYED: [Numbers; 2] = [
-    (2_147_483_647, 1, None),
-    (2_147_483_648, 1, Some(PlayFault::Seed)),
-];
-
-const EDITED: [Numbers; 4] = [
-    (2_147_483_647, 10_000, None),
-    (2_147_483_648, 0, Some(PlayFault::Seed)),
-    (0, 0, Some(PlayFault::Every)),
-    (0, 10_001, Some(PlayFault::Every)),
+/// A run, its seed and distance of checkpoints, and why it is refused.
+const NUMBERS: [(Run, u32, u32, Option<PlayFault>); 9] = [
+    (PLAY, 2_147_483_647, 1, None),
+    (PLAY, 2_147_483_648, 1, Some(PlayFault::Seed)),
+    (EDIT, 2_147_483_647, 10_000, None),
+    (EDIT, 2_147_483_648, 0, Some(PlayFault::Seed)),
+    (EDIT, 0, 0, Some(PlayFault::Every)),
+    (EDIT, 0, 10_001, Some(PlayFault::Every)),
+    (COVER, 2_147_483_647, 1, None),
+    (COVER, 2_147_483_648, 1, Some(PlayFault::Seed)),
+    (Run::Map, 2_147_483_648, 1, Some(PlayFault::Seed)),
 ];
 
 #[test]
 fn numbers_have_limits_and_are_judged_before_any_reader_is_asked(rt: HostRuntime) {
-    for &numbers in &PLAYED {
-        expect_end::<Playing>(&rt, rt.alloc(), numbers);
-    }
-    for &numbers in &EDITED {
-        expect_end::<Changing>(&rt, rt.alloc(), numbers);
+    for &(run, seed, every, fault) in &NUMBERS {
+        let mut feeds = Feeds::usual(run);
+        feeds.seed = seed;
+        feeds.every = every;
+        if fault.is_some() {
+            feeds.break_from(0);
+        }
+        let found = feeds.run(rt.alloc(), run).ended.err();
+        assert_eq!(rt; found, fault.map(LogsFault::from), "{run:?}");
+        assert_eq!(rt; feeds.is_unread_from(0), fault.is_some());
     }
 }

@@ -101,7 +101,7 @@ fn a_file_that_is_not_opened_is_told_with_the_reason(rt: HostRuntime) -> Result<
 /// What is printed of a play that is refused.
 fn refusal(alloc: Global, database: &[u8], bind: &[u8], log: &[u8]) -> Result<String, AllocError> {
     match play(alloc, database, bind, log).ended {
-        Err(fault) => complaint_of(alloc, fault),
+        Err(found) => complaint_of(alloc, found.fault),
         Ok(()) => Ok(String::new(alloc)),
     }
 }

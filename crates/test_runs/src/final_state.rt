@@ -1,18 +1,20 @@
 //! The final state, as a run prints it.
 
-use crate::caves::CAVE;
-use crate::runs::{Changing, Feeds, Leading};
-use play_cover::EditView;
+use crate::caves::{CAVE, EDITED_LOG};
+use crate::runs::{Feeds, Run, RunEnd};
+use play_cover::{EditView, PlayView};
+use std::alloc::Global;
 
-/// The long log as the usual script edits it.
-const EDITED_LOG: &[u8] = b"no\nIN\n# note\non\ndown\n";
+/// The state that a log leads to.
+fn state_after(alloc: Global, log: &[u8]) -> RunEnd {
+    Feeds::of(CAVE, b"", log, b"").run(alloc, Run::Play(PlayView::FinalState))
+}
 
 #[test]
 fn an_edit_prints_the_state_of_playing_its_log(rt: HostRuntime) {
-    let mut changing = Feeds::usual();
-    changing.view = EditView::FinalState;
-    let edited = changing.run::<Changing>(rt.alloc());
-    let played = Feeds::of(CAVE, b"", EDITED_LOG, b"").run::<Leading>(rt.alloc());
+    let run = Run::Edit(EditView::FinalState);
+    let edited = Feeds::usual(run).run(rt.alloc(), run);
+    let played = state_after(rt.alloc(), EDITED_LOG.as_bytes());
     assert!(rt;
         played
             .output
@@ -24,7 +26,7 @@ fn an_edit_prints_the_state_of_playing_its_log(rt: HostRuntime) {
 
 #[test]
 fn another_log_leads_to_another_state(rt: HostRuntime) {
-    let one = Feeds::of(CAVE, b"", b"no\nin\n", b"").run::<Leading>(rt.alloc());
-    let other = Feeds::of(CAVE, b"", b"no\n", b"").run::<Leading>(rt.alloc());
+    let one = state_after(rt.alloc(), b"no\nin\n");
+    let other = state_after(rt.alloc(), b"no\n");
     assert!(rt; one.output.as_slice() != other.output.as_slice());
 }

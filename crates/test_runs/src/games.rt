@@ -4,7 +4,7 @@
 ghost use Rattle.play_cover.specs.cave_words.Lexicon.{IsLexiconOf};
 
 use play_cover::{
-    Cave, CaveMachine, Edit, EditFault, Lexicon, Machine, OpenFault, Report, Session, Steps,
+    Cave, CaveMachine, Edit, EditFault, Lexicon, Machine, OpenFault, Piece, Report, Session, Steps,
 };
 use std::alloc::Global;
 use std::process::Abort;
@@ -42,6 +42,22 @@ impl TestCave {
     }
 }
 
+/// What came of a group of edits.
+#[derive(Drop)]
+pub struct Replayed {
+    pub from: u32,
+    pub met: Option<u32>,
+    pub played: u32,
+    pub inverse: Vec<Edit>,
+}
+
+/// Why a group of edits is refused, and at which of them, from 0.
+#[derive(Clone, Copy, Debug, PartialEq, Eq)]
+pub struct RefusedEdit {
+    pub cause: EditFault,
+    pub number: usize,
+}
+
 /// A session over any machine.
 pub struct TestSession<M: Machine> {
     session: Session<M>,
@@ -55,22 +71,52 @@ impl<M: Machine> Drop for TestSession<M> {
 }
 
 impl<M: Machine> TestSession<M> {
-    /// A session with seed 0 and a checkpoint at each line.
+    /// A session with seed 0.
     pub fn open(
         rt: &impl Abort,
         alloc: Global,
         machine: M,
         log: &[u8],
+        every: u32,
         meter: &mut M::Meter,
     ) -> Result<TestSession<M>, OpenFault> {
         assert!(rt; meter.left() > 65_535);
-        let session = Session::open(alloc, machine, 0, log, 1, meter)?;
+        let session = Session::open(alloc, machine, 0, log, every, meter)?;
         Ok(TestSession { session })
     }
 
-    /// Edits the game.
+    /// Edits the game by an edit alone.
     pub fn edit(&mut self, edit: &Edit, meter: &mut M::Meter) -> Result<Report, EditFault> {
         self.session.edit(edit, meter)
+    }
+
+    /// Edits the game by a group of edits.
+    pub fn edit_group(
+        &mut self,
+        edits: &[Edit],
+        meter: &mut M::Meter,
+    ) -> Result<Replayed, RefusedEdit> {
+        match self.session.edit_group(edits, meter) {
+            Ok(report) => {
+                let (from, met, played) = (report.from, report.met, report.played);
+                let inverse = report.inverse;
+                Ok(Replayed {
+                    from,
+                    met,
+                    played,
+                    inverse,
+                })
+            }
+            Err(fault) => {
+                let (cause, number) = (fault.cause, fault.number);
+                Err(RefusedEdit { cause, number })
+            }
+        }
+    }
+
+    /// What was said at the start.
+    pub fn opening(&self) -> &M::Piece {
+        self.session.opening()
     }
 
     /// What was said at each line.
@@ -103,4 +149,23 @@ impl<M: Machine> TestSession<M> {
             && self.session.checkpoints() == other.session.checkpoints()
             && *self.session.state() == *other.session.state()
     }
+}
+
+/// Whether two lists of pieces are the same.
+fn are_same(pieces: &[Piece], others: &[Piece]) -> bool {
+    pieces.len() == others.len()
+        && pieces
+            .iter()
+            .zip(others)
+            .all(|(piece, other)| piece.as_slice() == other.as_slice())
+}
+
+/// Whether two sessions show the same.
+pub fn show_the_same<'a>(
+    one: &TestSession<CaveMachine<'a>>,
+    other: &TestSession<CaveMachine<'a>>,
+) -> bool {
+    one.is_like(other)
+        && one.opening().as_slice() == other.opening().as_slice()
+        && are_same(one.pieces(), other.pieces())
 }

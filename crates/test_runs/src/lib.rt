@@ -2,13 +2,13 @@
 #![tactic(auto)]
 
 #[cfg(test)]
-mod caves;
+mod ample_memory;
 #[cfg(test)]
-mod cover;
+mod caves;
 #[cfg(test)]
 mod each_limit;
 #[cfg(test)]
-mod endings;
+mod edits;
 #[cfg(test)]
 mod faults;
 #[cfg(test)]
@@ -22,8 +22,12 @@ mod readers;
 #[cfg(test)]
 mod refusals;
 #[cfg(test)]
+mod replays;
+#[cfg(test)]
 mod runs;
 #[cfg(test)]
 mod streams;
+#[cfg(test)]
+mod worked;
 #[cfg(test)]
 mod writers;

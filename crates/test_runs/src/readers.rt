@@ -1,102 +1,108 @@
 //! Runs whose readers fail, and the order in which inputs are read and judged.
 
 use crate::caves::{CAVE, LONG_LOG, LONG_TEXT};
-use crate::runs::{Changing, Checking, Feeds, INPUTS, Playing, Run};
+use crate::runs::{COVER, EDIT, Feeds, PLAY, RUNS, Run};
 use crate::streams::Source;
-use play_cover::{
-    Cause, CaveError, FaultSite, Flaw, Input, LineFlaw, LogFault, PlayFault, ScriptFault,
-};
+use play_cover::{Cause, CaveError, FaultSite, Flaw, LineFlaw, LogFault, PlayFault, ScriptFault};
 use std::alloc::Global;
 use std::process::Abort;
 use std::test::Fail;
 
-/// Expects the reader of an input that fails at one of its asks to be named, and no later reader to
-/// be asked.
-fn expect_named<R: Run>(rt: &impl Abort, alloc: Global, number: usize, failing: u64) {
-    let Some(&input) = INPUTS.get(number) else {
-        return;
-    };
-    let mut source = Source::in_pieces(b"# x", 1);
+/// Expects the reader of an input that fails at one of its asks to be named, nothing to be written,
+/// and no later reader to be asked.
+fn expect_named(rt: &impl Abort, alloc: Global, run: Run, number: usize, failing: u64) {
+    let mut source = Source::in_pieces(run.text(number), 1);
     source.failing = failing;
-    let mut feeds = Feeds::with(input, source);
-    for later in INPUTS.iter().skip(number).skip(1) {
-        feeds.put(*later, Source::broken());
-    }
-    let run = feeds.run::<R>(alloc);
-    assert!(rt; run.failed(PlayFault::Read(input)), "{input:?}");
-    assert_eq!(rt; feeds.asks(input), failing);
-    for later in INPUTS.iter().skip(number).skip(1) {
-        assert_eq!(rt; feeds.asks(*later), 0);
-    }
+    let later = number.saturating_add(1);
+    let mut feeds = Feeds::usual(run);
+    feeds.put(number, source);
+    feeds.break_from(later);
+    let end = feeds.run(alloc, run);
+    let fault = run.fault_at(number, PlayFault::Read(run.input(number)));
+    assert!(rt; end.failed_at(fault), "{run:?}, {number}, {failing}");
+    assert_eq!(rt; fault.fault.status(), 5);
+    assert_eq!(rt; feeds.asks(number), failing);
+    assert!(rt; feeds.is_unread_from(later), "{run:?}, {number}");
 }
 
-/// Expects so of each of the inputs of a run, of which there are so many.
-fn expect_each_named<R: Run>(rt: &impl Abort, alloc: Global, inputs: usize) {
-    for number in 0..inputs {
-        expect_named::<R>(rt, alloc, number, 1);
-        expect_named::<R>(rt, alloc, number, 3);
+/// Expects so of each of a run's inputs, at each byte of it and at its end.
+fn expect_each_named(rt: &impl Abort, alloc: Global, run: Run) {
+    for number in 0..run.inputs() {
+        let asks = run.text(number).len().saturating_add(1) as u64;
+        for before in 0..asks {
+            expect_named(rt, alloc, run, number, before.saturating_add(1));
+        }
     }
 }
 
 #[test]
-fn the_first_reader_that_fails_is_named_and_no_later_one_is_asked(rt: HostRuntime) {
-    expect_each_named::<Checking>(&rt, rt.alloc(), 2);
-    expect_each_named::<Playing>(&rt, rt.alloc(), 3);
-    expect_each_named::<Changing>(&rt, rt.alloc(), 4);
+fn a_reader_that_fails_at_any_byte_is_named_and_no_later_one_is_asked(rt: HostRuntime) {
+    for &(run, _) in &RUNS {
+        expect_each_named(&rt, rt.alloc(), run);
+    }
 }
 
-/// An input that is refused, an input whose reader fails, and what is then printed of an edit.
-const JUDGED: [(Input, &[u8], Input, PlayFault); 5] = [
-    (
-        Input::Cave,
-        b"",
-        Input::Log,
-        PlayFault::Cave(CaveError {
-            cause: Cause::NoEnd,
-            line: 1,
-            site: FaultSite::Database,
-        }),
-    ),
-    (
-        Input::Cave,
-        b"",
-        Input::Bindings,
-        PlayFault::Read(Input::Bindings),
-    ),
-    (
-        Input::Bindings,
-        b"msg.okay 1\n",
-        Input::Log,
-        PlayFault::Cave(CaveError {
-            cause: Cause::UnknownRole,
-            line: 1,
-            site: FaultSite::Bindings,
-        }),
-    ),
-    (
-        Input::Log,
-        b"no\n\x7f",
-        Input::Script,
-        PlayFault::Log(LogFault::BadLine(2, LineFlaw::Byte(127, 1))),
-    ),
-    (
-        Input::Script,
-        b"delete 0\nbegone",
-        Input::Script,
-        PlayFault::Script(ScriptFault::Malformed(2, Flaw::NoEdit)),
-    ),
+/// Why a database without a byte is refused.
+const NO_END: PlayFault = PlayFault::Cave(CaveError {
+    cause: Cause::NoEnd,
+    line: 1,
+    site: FaultSite::Database,
+});
+
+/// Why bindings with a key that nobody knows are refused.
+const UNKNOWN_ROLE: PlayFault = PlayFault::Cave(CaveError {
+    cause: Cause::UnknownRole,
+    line: 1,
+    site: FaultSite::Bindings,
+});
+
+/// Why a log is refused whose first line begins with a byte that isn't printable, and one whose
+/// second does.
+const BAD_FIRST_LINE: PlayFault = PlayFault::Log(LogFault::BadLine(1, LineFlaw::Byte(127, 1)));
+
+const BAD_SECOND_LINE: PlayFault = PlayFault::Log(LogFault::BadLine(2, LineFlaw::Byte(127, 1)));
+
+/// Why a script is refused whose second line is no line of a script.
+const NO_EDIT: PlayFault = PlayFault::Script(ScriptFault::Malformed(2, Flaw::NoEdit));
+
+/// Runs with the number of an input and what it has, why it is refused, the status of that, and
+/// how many inputs are read.
+const REFUSED: [(Run, usize, &[u8], PlayFault, u8, usize); 10] = [
+    (PLAY, 0, b"", NO_END, 1, 2),
+    (PLAY, 2, b"\x7f", BAD_FIRST_LINE, 3, 3),
+    (EDIT, 0, b"", NO_END, 1, 2),
+    (EDIT, 1, b"msg.okay 1\n", UNKNOWN_ROLE, 1, 2),
+    (EDIT, 2, b"no\n\x7f", BAD_SECOND_LINE, 3, 3),
+    (EDIT, 3, b"delete 0\nbegone", NO_EDIT, 4, 4),
+    (COVER, 0, b"", NO_END, 1, 2),
+    (COVER, 2, b"\x7f", BAD_FIRST_LINE, 3, 3),
+    (COVER, 3, b"no\n\x7f", BAD_SECOND_LINE, 3, 4),
+    (Run::Map, 2, b"\x7f", BAD_FIRST_LINE, 3, 3),
 ];
 
 #[test]
 fn an_input_is_judged_before_the_next_is_read(rt: HostRuntime) {
-    for &(input, bytes, broken, fault) in &JUDGED {
-        let mut feeds = Feeds::usual();
-        feeds.put(broken, Source::broken());
-        feeds.put(input, Source::of(bytes));
-        assert!(rt;
-            feeds.run::<Changing>(rt.alloc()).failed(fault),
-            "{fault:?}"
-        );
+    for &(run, number, bytes, fault, status, unread) in &REFUSED {
+        let mut feeds = Feeds::usual(run);
+        feeds.break_from(unread);
+        feeds.put(number, Source::of(bytes));
+        let end = feeds.run(rt.alloc(), run);
+        let found = run.fault_at(number, fault);
+        assert!(rt; end.failed_at(found), "{run:?}: {fault:?}");
+        assert_eq!(rt; fault.status(), status);
+        assert!(rt; feeds.is_unread_from(unread), "{run:?}: {fault:?}");
+    }
+}
+
+#[test]
+fn the_bindings_are_read_before_the_database_is_judged(rt: HostRuntime) {
+    for &(run, _) in &RUNS {
+        let mut feeds = Feeds::usual(run);
+        feeds.break_from(1);
+        feeds.put(0, Source::of(b""));
+        let end = feeds.run(rt.alloc(), run);
+        let fault = run.fault_at(1, PlayFault::Read(run.input(1)));
+        assert!(rt; end.failed_at(fault), "{run:?}");
     }
 }
 
@@ -108,7 +114,7 @@ fn readers_that_give_one_byte_at_a_time_give_all(rt: HostRuntime) -> Result<(), 
     feeds.inputs.log.piece = 1;
     feeds.inputs.script.piece = 1;
     let want = format!(in rt.alloc(); "line 1: ok\n{LONG_TEXT}")?;
-    assert!(rt; feeds.run::<Changing>(rt.alloc()).wrote(want.as_bytes()));
+    assert!(rt; feeds.run(rt.alloc(), EDIT).wrote(want.as_bytes()));
     assert_eq!(rt; feeds.inputs.script.asks, 17);
     Ok(())
 }

@@ -1,50 +1,146 @@
 //! Runs of the program over inputs from sources that can be made to misbehave.
 
-use crate::caves::{CAVE, LONG_LOG};
+use crate::caves::{
+    CAVE, COVERED_HEAD, COVERED_TAIL, EDITED_LOG, EDITED_PLAY, EDITED_TEXT, KEYS_TAIL, LONG_LOG,
+    LONG_TEXT, MAP_HEAD, MAP_TAIL, REPORTS, SCRIPT, SHORT_LOG,
+};
 use crate::streams::{Sink, Source};
+use map_run::run::run_map;
+use play_cover::run::run_cover;
 use play_cover::{
-    CaveReaders, CheckView, EditView, Editing, Input, Inputs, PlayFault, PlayView, run_check,
-    run_edit, run_play,
+    CaveReaders, CheckView, CoverView, EditView, Editing, Input, Inputs, LogsFault, PlayFault,
+    PlayView, run_check, run_edit, run_play,
 };
 use std::alloc::Global;
 use std::io::{Read, Write};
 
 /// What the program can be asked to do.
-pub trait Run {
-    /// Does it over the inputs, into a sink.
-    fn run_into(feeds: &mut Feeds<'_>, alloc: Global, sink: &mut Sink) -> Result<(), PlayFault>;
+#[derive(Clone, Copy, Debug)]
+pub enum Run {
+    Check(CheckView),
+    Play(PlayView),
+    Edit(EditView),
+    Cover(CoverView),
+    Map,
 }
 
-/// Checking the cave.
-pub struct Checking;
+/// What a run prints: this, or what begins and ends so.
+#[derive(Clone, Copy)]
+pub enum Printed {
+    Whole(&'static str),
+    Between(&'static str, &'static str),
+}
 
-/// Playing the log.
-pub struct Playing;
+/// Playing a log.
+pub const PLAY: Run = Run::Play(PlayView::Transcript);
 
-/// Playing the log to the state that it leads to.
-pub struct Leading;
+/// Editing a log.
+pub const EDIT: Run = Run::Edit(EditView::Transcript);
 
-/// Editing the log by the script.
-pub struct Changing;
+/// What several logs cover.
+pub const COVER: Run = Run::Cover(CoverView::Counts);
 
-/// Each input, in the order in which they are read.
-pub const INPUTS: [Input; 4] = [Input::Cave, Input::Bindings, Input::Log, Input::Script];
+/// Each run that the program can be asked for, and what it prints of the usual inputs.
+pub const RUNS: [(Run, Printed); 12] = [
+    (
+        Run::Check(CheckView::Maximum),
+        Printed::Whole("cave ok, maximum 132\n"),
+    ),
+    (
+        Run::Check(CheckView::Bindings),
+        Printed::Between("msg.answer unbound\n", KEYS_TAIL),
+    ),
+    (PLAY, Printed::Whole(LONG_TEXT)),
+    (
+        Run::Play(PlayView::FinalState),
+        Printed::Between("turns 4\nscore 32\nhere 9\n", "\n"),
+    ),
+    (EDIT, Printed::Whole(EDITED_TEXT)),
+    (Run::Edit(EditView::Play), Printed::Whole(EDITED_PLAY)),
+    (Run::Edit(EditView::Log), Printed::Whole(EDITED_LOG)),
+    (Run::Edit(EditView::Reports), Printed::Whole(REPORTS)),
+    (
+        Run::Edit(EditView::FinalState),
+        Printed::Between("turns 3\nscore 32\nhere 9\n", "\n"),
+    ),
+    (COVER, Printed::Between(COVERED_HEAD, COVERED_TAIL)),
+    (
+        Run::Cover(CoverView::Texts),
+        Printed::Between("short text 1: Road.\n", "\n"),
+    ),
+    (Run::Map, Printed::Between(MAP_HEAD, MAP_TAIL)),
+];
 
-/// A script of an edit, a refused one and a group.
-pub const SCRIPT: &[u8] = b"insert 2 # note\ndelete 9\nbegin\nreplace 1 IN\ndelete 3\nend\n";
+/// How many inputs there are: the database, the bindings, the log, and last the script or another
+/// log.
+pub const INPUTS: usize = 4;
 
-/// What a check of the cave prints.
-pub const CHECKED_TEXT: &str = "cave ok, maximum 132\n";
+/// How many of these are the cave's.
+const CAVE_INPUTS: usize = 2;
 
-/// What an edit of the long log by that script prints.
-pub const EDITED_TEXT: &str = "line 1: ok\nline 2: refused 1\nline 3: ok\n[welcome]\n\n\
-> no\nYou stand on a road.\n\n> IN\nYou are in a hut.\nA lamp is here.\n\n\
-> on\n[lamp-on]\n\n> down\n[dark]\n-- score 32 of 132, turns 3\n";
+impl Printed {
+    /// Whether a run printed so.
+    pub fn is(self, output: &[u8]) -> bool {
+        match self {
+            Printed::Whole(text) => output == text.as_bytes(),
+            Printed::Between(head, tail) => {
+                output.starts_with(head.as_bytes()) && output.ends_with(tail.as_bytes())
+            }
+        }
+    }
+}
+
+impl Run {
+    /// How many of the inputs it reads, the first of them first.
+    pub fn inputs(self) -> usize {
+        match self {
+            Run::Check(_) => CAVE_INPUTS,
+            Run::Play(_) => 3,
+            _ => INPUTS,
+        }
+    }
+
+    /// Whether it plays several logs.
+    fn has_several_logs(self) -> bool {
+        matches!(self, Run::Cover(_) | Run::Map)
+    }
+
+    /// What the input of a number is.
+    pub fn input(self, number: usize) -> Input {
+        match number {
+            0 => Input::Cave,
+            1 => Input::Bindings,
+            3 if !self.has_several_logs() => Input::Script,
+            _ => Input::Log,
+        }
+    }
+
+    /// A fault that it meets at the input of a number: of several logs it is named which.
+    pub fn fault_at(self, number: usize, fault: PlayFault) -> LogsFault {
+        let log = if self.has_several_logs() {
+            number.checked_sub(CAVE_INPUTS)
+        } else {
+            None
+        };
+        LogsFault { fault, log }
+    }
+
+    /// What it usually reads as the input of a number.
+    pub fn text(self, number: usize) -> &'static [u8] {
+        match number {
+            0 => CAVE,
+            1 => b"# none\n",
+            2 => LONG_LOG,
+            _ if self.has_several_logs() => SHORT_LOG,
+            _ => SCRIPT,
+        }
+    }
+}
 
 /// How a run ended, and what it wrote.
 #[derive(Drop)]
 pub struct RunEnd {
-    pub ended: Result<(), PlayFault>,
+    pub ended: Result<(), LogsFault>,
     pub output: Vec<u8>,
 }
 
@@ -54,8 +150,13 @@ impl RunEnd {
         self.ended == Ok(()) && self.output.as_slice() == output
     }
 
-    /// Whether the run failed so and wrote nothing.
+    /// Whether the run failed so, and wrote nothing.
     pub fn failed(&self, fault: PlayFault) -> bool {
+        self.failed_at(LogsFault::from(fault))
+    }
+
+    /// Whether the run failed so, at a log perhaps, and wrote nothing.
+    pub fn failed_at(&self, fault: LogsFault) -> bool {
         self.ended == Err(fault) && self.output.is_empty()
     }
 }
@@ -63,13 +164,12 @@ impl RunEnd {
 /// The inputs of a run, which are sources.
 pub type Sources<'a> = Inputs<Source<'a>, Source<'a>, Source<'a>, Source<'a>>;
 
-/// The inputs of a run, and what is asked of it.
+/// The inputs of a run, the last of them a script or a log, and what is asked of it.
 #[derive(Drop)]
 pub struct Feeds<'a> {
     pub inputs: Sources<'a>,
     pub seed: u32,
     pub every: u32,
-    pub view: EditView,
 }
 
 // These promise nothing, and are of readers and writers of any kind: what calls them over sources
@@ -78,9 +178,10 @@ pub struct Feeds<'a> {
 fn check_into<C: Read, B: Read, L: Read, S: Read, W: Write>(
     alloc: Global,
     inputs: &mut Inputs<C, B, L, S>,
+    view: CheckView,
     sink: &mut W,
 ) -> Result<(), PlayFault> {
-    run_check(alloc, inputs, CheckView::Maximum, sink)
+    run_check(alloc, inputs, view, sink)
 }
 
 fn play_into<C: Read, B: Read, L: Read, S: Read, W: Write>(
@@ -102,9 +203,30 @@ fn edit_into<C: Read, B: Read, L: Read, S: Read, W: Write>(
     run_edit(alloc, inputs, editing, sink)
 }
 
+fn cover_into<C: Read, B: Read, L: Read, W: Write>(
+    alloc: Global,
+    cave: &mut CaveReaders<C, B>,
+    logs: &mut [L; 2],
+    seed: u32,
+    view: CoverView,
+    sink: &mut W,
+) -> Result<(), LogsFault> {
+    run_cover(alloc, cave, logs, seed, view, sink)
+}
+
+fn map_into<C: Read, B: Read, L: Read, W: Write>(
+    alloc: Global,
+    cave: &mut CaveReaders<C, B>,
+    logs: &mut [L; 2],
+    seed: u32,
+    sink: &mut W,
+) -> Result<(), LogsFault> {
+    run_map(alloc, cave, logs, seed, sink)
+}
+
 impl<'a> Feeds<'a> {
     /// Inputs that give what they have, with seed 0 and a checkpoint at each line.
-    pub fn of(cave: &'a [u8], bind: &'a [u8], log: &'a [u8], script: &'a [u8]) -> Feeds<'a> {
+    pub fn of(cave: &'a [u8], bind: &'a [u8], log: &'a [u8], last: &'a [u8]) -> Feeds<'a> {
         Feeds {
             inputs: Inputs {
                 cave: CaveReaders {
@@ -112,50 +234,97 @@ impl<'a> Feeds<'a> {
                     bindings: Source::of(bind),
                 },
                 log: Source::of(log),
-                script: Source::of(script),
+                script: Source::of(last),
             },
             seed: 0,
             every: 1,
-            view: EditView::Transcript,
         }
     }
 
-    /// The first cave without bindings, a log and a script.
-    pub fn usual() -> Feeds<'a> {
-        Feeds::of(CAVE, b"", LONG_LOG, SCRIPT)
+    /// The usual inputs of a run: the first cave without bindings, and logs or a log and a script.
+    pub fn usual(run: Run) -> Feeds<'a> {
+        Feeds::of(run.text(0), run.text(1), run.text(2), run.text(3))
     }
 
-    /// The same with another source for an input.
-    pub fn with(input: Input, source: Source<'a>) -> Feeds<'a> {
-        let mut feeds = Feeds::usual();
-        feeds.put(input, source);
-        feeds
-    }
-
-    /// Puts another source in the place of an input's.
-    pub fn put(&mut self, input: Input, source: Source<'a>) {
-        match input {
-            Input::Cave => self.inputs.cave.database = source,
-            Input::Bindings => self.inputs.cave.bindings = source,
-            Input::Log => self.inputs.log = source,
-            Input::Script => self.inputs.script = source,
+    /// Puts another source in the place of the input of a number.
+    pub fn put(&mut self, number: usize, source: Source<'a>) {
+        match number {
+            0 => self.inputs.cave.database = source,
+            1 => self.inputs.cave.bindings = source,
+            2 => self.inputs.log = source,
+            _ => self.inputs.script = source,
         }
     }
 
-    /// How often the source of an input was asked.
-    pub fn asks(&self, input: Input) -> u64 {
-        match input {
-            Input::Cave => self.inputs.cave.database.asks,
-            Input::Bindings => self.inputs.cave.bindings.asks,
-            Input::Log => self.inputs.log.asks,
-            Input::Script => self.inputs.script.asks,
+    /// Breaks the sources of the inputs from a number on.
+    pub fn break_from(&mut self, number: usize) {
+        for later in number..INPUTS {
+            self.put(later, Source::broken());
         }
+    }
+
+    /// How often the source of the input of a number was asked.
+    pub fn asks(&self, number: usize) -> u64 {
+        match number {
+            0 => self.inputs.cave.database.asks,
+            1 => self.inputs.cave.bindings.asks,
+            2 => self.inputs.log.asks,
+            _ => self.inputs.script.asks,
+        }
+    }
+
+    /// Whether no source of the inputs from a number on was asked.
+    pub fn is_unread_from(&self, number: usize) -> bool {
+        for later in number..INPUTS {
+            if self.asks(later) != 0 {
+                return false;
+            }
+        }
+        true
+    }
+
+    /// Does a run over the last two inputs as logs: the map, or with a view what they cover.
+    fn run_over_logs(
+        &mut self,
+        alloc: Global,
+        view: Option<CoverView>,
+        sink: &mut Sink,
+    ) -> Result<(), LogsFault> {
+        let mut logs = [self.inputs.log, self.inputs.script];
+        let cave = &mut self.inputs.cave;
+        let ended = match view {
+            Some(view) => cover_into(alloc, cave, &mut logs, self.seed, view, sink),
+            None => map_into(alloc, cave, &mut logs, self.seed, sink),
+        };
+        self.inputs.log = logs[0];
+        self.inputs.script = logs[1];
+        ended
+    }
+
+    /// Does a run into a sink.
+    pub fn run_into(&mut self, alloc: Global, run: Run, sink: &mut Sink) -> Result<(), LogsFault> {
+        match run {
+            Run::Check(view) => check_into(alloc, &mut self.inputs, view, sink)?,
+            Run::Play(view) => play_into(alloc, &mut self.inputs, self.seed, view, sink)?,
+            Run::Edit(view) => {
+                let editing = Editing {
+                    seed: self.seed,
+                    every: self.every,
+                    view,
+                    strict: false,
+                };
+                edit_into(alloc, &mut self.inputs, editing, sink)?;
+            }
+            Run::Cover(view) => self.run_over_logs(alloc, Some(view), sink)?,
+            Run::Map => self.run_over_logs(alloc, None, sink)?,
+        }
+        Ok(())
     }
 
     /// Does a run into a sink that takes all.
-    pub fn run<R: Run>(&mut self, alloc: Global) -> RunEnd {
+    pub fn run(&mut self, alloc: Global, run: Run) -> RunEnd {
         let mut sink = Sink::in_pieces(alloc, usize::MAX);
-        let ended = R::run_into(self, alloc, &mut sink);
+        let ended = self.run_into(alloc, run, &mut sink);
         let Sink { taken, .. } = sink;
         RunEnd {
             ended,
@@ -164,56 +333,14 @@ impl<'a> Feeds<'a> {
     }
 }
 
-impl Run for Checking {
-    fn run_into(feeds: &mut Feeds<'_>, alloc: Global, sink: &mut Sink) -> Result<(), PlayFault> {
-        check_into(alloc, &mut feeds.inputs, sink)
-    }
-}
-
-impl Run for Playing {
-    fn run_into(feeds: &mut Feeds<'_>, alloc: Global, sink: &mut Sink) -> Result<(), PlayFault> {
-        play_into(
-            alloc,
-            &mut feeds.inputs,
-            feeds.seed,
-            PlayView::Transcript,
-            sink,
-        )
-    }
-}
-
-impl Run for Leading {
-    fn run_into(feeds: &mut Feeds<'_>, alloc: Global, sink: &mut Sink) -> Result<(), PlayFault> {
-        play_into(
-            alloc,
-            &mut feeds.inputs,
-            feeds.seed,
-            PlayView::FinalState,
-            sink,
-        )
-    }
-}
-
-impl Run for Changing {
-    fn run_into(feeds: &mut Feeds<'_>, alloc: Global, sink: &mut Sink) -> Result<(), PlayFault> {
-        let editing = Editing {
-            seed: feeds.seed,
-            every: feeds.every,
-            view: feeds.view,
-            strict: false,
-        };
-        edit_into(alloc, &mut feeds.inputs, editing, sink)
-    }
-}
-
 /// Plays a log with bindings, from seed 0.
 pub fn play(alloc: Global, cave: &[u8], bind: &[u8], log: &[u8]) -> RunEnd {
-    Feeds::of(cave, bind, log, b"").run::<Playing>(alloc)
+    Feeds::of(cave, bind, log, b"").run(alloc, PLAY)
 }
 
 /// Edits a log by a script, from seed 0.
 pub fn edit(alloc: Global, cave: &[u8], log: &[u8], script: &[u8], every: u32) -> RunEnd {
     let mut feeds = Feeds::of(cave, b"", log, script);
     feeds.every = every;
-    feeds.run::<Changing>(alloc)
+    feeds.run(alloc, EDIT)
 }

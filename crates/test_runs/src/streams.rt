@@ -6,7 +6,7 @@ use std::io::{Read, Write};
 
 /// Gives its bytes in pieces. It fails at the ask with the number `failing`, or gives a byte at
 /// each ask without end.
-#[derive(Drop)]
+#[derive(Clone, Copy)]
 pub struct Source<'a> {
     /// What is left to give.
     pub bytes: &'a [u8],

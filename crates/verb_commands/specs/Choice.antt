@@ -2,8 +2,7 @@
 use Rattle.std.specs.Prelude.{ℕ, Bool, ◌==◌, ◌&&◌, not, nat_le, if◌then◌else◌, List, [], ◌∷◌, ◌++◌}
 use Rattle.std.specs.Prelude.{length}
 use Rattle.turn_things.specs.cave_words.declared.named.Named.{Named}
-use Rattle.verb_commands.specs.Deeds.{Deed}
-use Rattle.verb_commands.specs.Rows.{Test, Thing}
+use Rattle.verb_commands.specs.Rows.{Deed, Test, Thing}
 use Rattle.verb_commands.specs.Tests.{the}
 
 -- of how many objects a verb without an object could be meant for one

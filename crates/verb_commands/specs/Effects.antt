@@ -13,8 +13,7 @@ use Rattle.turn_things.specs.Effects.{put_down, let_go, without_troll, after_los
 use Rattle.turn_things.specs.Effects.{with_one_more_lost, with_objects}
 use Rattle.turn_things.specs.turn_scene.Scene.{Scene, with_state, after_telling, after_saying}
 use Rattle.turn_things.specs.turn_scene.Scene.{after_look_at}
-use Rattle.verb_commands.specs.Deeds.{Deed}
-use Rattle.verb_commands.specs.Rows.{Effect, Thing}
+use Rattle.verb_commands.specs.Rows.{Deed, Effect, Thing}
 use Rattle.verb_commands.specs.Verbs.{verb_number}
 
 abbrev pub in_scene : Scene → Deed → Deed
@@ -51,7 +50,6 @@ look t v d = in_scene (after_look_at (t d) v d.scene) d
 abbrev pub carry : Thing → Effect
 carry t d = in_state (with_objects (after_carry d.scene.state.objects (t d)) d.scene.state) d
 
--- an object is moved to where the player is
 abbrev pub bring : Thing → Effect
 bring t d =
     in_state (with_objects (after_move_to d.scene.state.objects (t d) d.scene.state.trail.here)

@@ -1,6 +1,6 @@
 pub mod Choice
-pub mod Deeds
 pub mod Effects
+pub mod Laws
 pub mod Room
 pub mod Rows
 pub mod Tests

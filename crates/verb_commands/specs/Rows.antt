@@ -3,11 +3,9 @@ use Rattle.std.specs.Prelude.{◌≡◌, ℕ, Bool, true, ◌&&◌, if◌then◌
 use Rattle.turn_things.specs.cave_world.declared.ending.Ending.{Ending}
 use Rattle.turn_things.specs.cave_world.declared.ending.Question.{Question}
 use Rattle.turn_things.specs.turn_scene.Bounds.{GoesOnSaying}
-use Rattle.turn_things.specs.turn_scene.Scene.{scene_of}
-use Rattle.turn_things.specs.turn_scene.Rules.{cave_of}
+use Rattle.turn_things.specs.turn_scene.Scene.{scene_of, Scene, cave_of}
 use Rattle.turn_things.specs.turn_scene.declared.scene.Scene.{Scene as OpenScene}
 use Rattle.turn_things.specs.turn_scene.declared.rules.Rules.{Rules}
-use Rattle.verb_commands.specs.Deeds.{Deed, Act, deed, act_of}
 use Rattle.verb_commands.specs.Room.{parts_by}
 use Rattle.verb_commands.specs.declared.next.Next.{Next}
 use Rattle.verb_commands.specs.declared.next.Next.TheVariants as next_is
@@ -15,6 +13,32 @@ use Rattle.verb_commands.specs.declared.next.Step.{Step}
 use Rattle.verb_commands.specs.declared.next.Step.TheVariants.{Done, GoOn}
 use Rattle.verb_commands.specs.declared.command.Command.{Command}
 use Rattle.verb_commands.specs.declared.verb.Verb.{Verb}
+use Rattle.turn_things.specs.cave_data.CaveView.{CaveView}
+
+pub record Deed : Type 0 where
+  pub cave : CaveView
+  pub command : Command
+  pub scene : Scene
+
+-- the scene after a verb, and what follows
+pub record Act : Type 0 where
+  pub scene : Scene
+  pub step : Step
+
+abbrev pub deed : CaveView → Command → Scene → Deed
+deed cave command p = record { cave = cave; command = command; scene = p }
+
+abbrev pub act_of : Scene → Step → Act
+act_of p step = record { scene = p; step = step }
+
+-- what a player commands
+abbrev pub command_of : Verb → ℕ → List ℕ → Command
+command_of v x word = record { verb = v; object = x; commanded = v; word = word }
+
+-- the command that a verb goes on with: what the player commands stays
+abbrev pub going_on : Command → Verb → ℕ → Command
+going_on command v x =
+    record { verb = v; object = x; commanded = command.commanded; word = command.word }
 
 abbrev pub Test : Type 0
 Test = Deed → Bool
@@ -77,7 +101,6 @@ after_all (effect ∷ effects) d = after_all effects (effect d)
 abbrev pub act_of_row : VerbRow → Deed → Act
 act_of_row r d = let e = after_all r.effects d in act_of e.scene (r.end e)
 
--- what the first row that fits does
 abbrev pub first_fitting : List VerbRow → Deed → Act
 first_fitting [] d = act_of d.scene (stays d)
 first_fitting (r ∷ rows) d = if fits r.tests d then act_of_row r d else first_fitting rows d

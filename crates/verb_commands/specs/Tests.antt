@@ -2,10 +2,10 @@
 use Rattle.std.specs.Prelude.{ℤ, ◌==◌, ◌&&◌, ◌||◌, not, nat_le, length, is_some}
 use Rattle.turn_things.specs.cave_words.declared.named.Named.{Named}
 use Rattle.turn_things.specs.world_objects.Objects.{is_object_at, carried_objects}
-use Rattle.turn_things.specs.turn_scene.Rules.{thing, is_called}
-use Rattle.turn_things.specs.Liquids.{liquid_of, lake_of, is_liquid}
-use Rattle.turn_things.specs.Reach.{is_in_hand, is_near, has_prop, has_other_prop, has_prop_up_to}
-use Rattle.turn_things.specs.Reach.{is_treasure, is_dwarf_here, is_fixed}
+use Rattle.turn_things.specs.turn_scene.Scene.{thing, is_called}
+use Rattle.turn_things.specs.Reach.{liquid_of, lake_of, is_liquid, is_in_hand, is_near, has_prop}
+use Rattle.turn_things.specs.Reach.{has_other_prop, has_prop_up_to, is_treasure, is_dwarf_here}
+use Rattle.turn_things.specs.Reach.{is_fixed}
 use Rattle.verb_commands.specs.Rows.{Test, Thing}
 
 -- the command's object

@@ -40,11 +40,9 @@ verb_number verb.Wake = 29
 abbrev pub is_verb : Verb → Verb → Bool
 is_verb v other = verb_number v == verb_number other
 
--- the first of some verbs with a number
 unfoldable pub verb_among : List Verb → ℕ → Option Verb
 verb_among verbs number = find (λ v. verb_number v == number) verbs
 
--- the verb of a number, if it has rules
 unfoldable pub verb_of : ℕ → Option Verb
 verb_of number = verb_among EACH_VERB number
 

@@ -1,7 +1,6 @@
 ghost use Rattle.std.specs.Prelude.{◌≡◌, [], ◌∷◌};
 ghost use Rattle.turn_things.specs.turn_scene.Bounds.{GoesOnSaying, HasRoom};
-ghost use Rattle.turn_things.specs.turn_scene.Scene.{scene_of};
-ghost use Rattle.turn_things.specs.turn_scene.Rules.{cave_of};
+ghost use Rattle.turn_things.specs.turn_scene.Scene.{scene_of, cave_of};
 ghost use Rattle.verb_commands.specs.Effects.{after_default, default, ask_what};
 ghost use Rattle.verb_commands.specs.Rows.{DoneByRow, keeps, row, row_then};
 
@@ -35,7 +34,7 @@ pub fn tell_default(rules: &Rules<'_>, number: u16, scene: &mut Scene<'_>)
 }
 
 impl Command {
-    ghost use Rattle.verb_commands.specs.Deeds.{command_of};
+    ghost use Rattle.verb_commands.specs.Rows.{command_of};
 
     /// What a player commands.
     pub fn of(verb: Verb, object: Object, word: Word) -> Command

@@ -4,12 +4,12 @@
 
 pub mod choice;
 pub mod command;
+pub mod laws;
 pub mod next;
 pub mod verb;
 
 pub use command::{Command, tell_default};
 pub use next::{Next, Step};
-pub use turn_things::panicking::panic;
 pub use turn_things::props::{
     AXE_BY_BEAR, AXE_FREE, BATTERIES_FRESH, BEAR_DEAD, BEAR_FED, BEAR_FREE, BEAR_WILD, BIRD_CAGED,
     BIRD_FREE, BOTTLE_EMPTY, BOTTLE_OF_OIL, BOTTLE_OF_WATER, CHAIN_LOCKED, CHAIN_UNLOCKED,
@@ -23,5 +23,6 @@ pub use turn_things::{
     has_other_prop, has_prop, has_prop_up_to, home, is_at_home, is_dwarf_here, is_fixed,
     is_home_elsewhere, is_home_here, is_in_hand, is_liquid, is_near, is_place, is_treasure, lake,
     let_go, liquid, lose_one, lose_to_snake, place_named, put_down, remove_troll, special,
+    start_panic,
 };
 pub use verb::{NoRules, Verb};

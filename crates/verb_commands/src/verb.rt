@@ -87,7 +87,6 @@ impl Verb {
     }
 }
 
-/// The first verb with a number, if one has it.
 #[tactic(auto, unfolding(crate::specs::Verbs::verb_among))]
 fn verb_among(verbs: &[Verb], number: u16) -> Option<Verb>
     ensures { result ≡ verb_among verbs.now number }

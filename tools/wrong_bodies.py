@@ -1,0 +1,131 @@
+"""Which clause refuses a wrong body, as the prover names it: a module.
+
+`rt` says a line of each wrong body, with the beginning of what the prover said first. That names a
+place: a function of src/ by its line, with the goal that has no proof; the answers of a function in
+proofs/, with the goal; or a definition or a lemma. A goal is a clause of the function itself, or,
+as `CALLED-requires`, of one that it calls. It ends in `-clause-LABEL`, or has no such end: where the
+function has one such clause alone, and where the prover says of no clause that it isn't shown. What
+a type promises of its values is its `invariant`. A lemma that has the name of a function shows that
+function's clause.
+"""
+
+import glob
+import os
+import re
+from functools import cache
+
+TOP = os.path.dirname(os.path.dirname(os.path.abspath(__file__)))
+SAID = re.compile(r"^(?:rt: )?must-fail (\w+)/([\w.-]+)\.edit: (.*)$", re.M)
+REFUSED = "refused, as it must be: "
+IN_CODE = re.compile(r"(?:note: )?(?:\./)?(src/\S+\.rt):(\d+):(\d+): .*?\(`([\w-]+)`\)")
+CHANGE = re.compile(r"^old: (.*)\nnew: (.*)$", re.M)
+IN_ANSWERS = re.compile(r"(?:\./)?proofs/(?:\S+/)?(\w+)/Answers\.antt:\d+:\d+: error: `([\w-]+)`")
+IN_FACTS = re.compile(r"(?:\./)?(?:specs|proofs)/\S+\.antt:\d+:\d+: error: `([\w'-]+)`")
+FUNCTION = re.compile(r"\bfn (\w+)")
+BEGINS = re.compile(r"(?:pub(?:\(crate\))? )?(?:const )?fn (\w+)")
+NAMES = re.compile(r"`([^`]+)`")
+
+
+def text_of(path):
+    with open(f"{TOP}/{path}", encoding="utf-8") as file:
+        return file.read()
+
+
+@cache
+def texts(crate, pattern):
+    """The texts of the files of a crate, or of all."""
+    paths = glob.glob(f"crates/{crate}/{pattern}", root_dir=TOP, recursive=True)
+    return [*map(text_of, sorted(paths))]
+
+
+def said_of(log):
+    """What was said of each wrong body, by crate and name."""
+    return {(crate, name): said for crate, name, said in SAID.findall(log)}
+
+
+def clause_of(function, goal):
+    """The clause that a goal of a function is of: the function, or the one called, and the label."""
+    if goal.startswith("invariant_of-"):
+        return function, "invariant"
+    called = re.match(r"(\w+)(?:-[\w-]+)?-requires", goal)
+    label = re.search(r"-clause-(\w+)", goal)
+    return called[1] if called else function, label[1] if label else ""
+
+
+def edited(crate, name, path):
+    """The text of a file of a crate, as a wrong body has it."""
+    text = text_of(f"crates/{crate}/{path}")
+    for folder in (f"crates/{crate}/must-fail", f"tools/loops/{crate}"):
+        if os.path.exists(f"{TOP}/{folder}/{name}.edit"):
+            change = text_of(f"{folder}/{name}.edit")
+            if f"file: {path}\n" in change:
+                for old, new in CHANGE.findall(change):
+                    text = text.replace(old, new)
+    return text
+
+
+def function_at(text, line, column):
+    """The function that begins at a place in a text, or else of which the place is part."""
+    *before, last = text.splitlines()[:line] or [""]
+    if begun := BEGINS.match(last, column - 1):
+        return begun[1]
+    found = FUNCTION.findall("\n".join([*before, last[:column]]))
+    return found[-1] if found else ""
+
+
+def refuser(crate, name, said):
+    """The function, or the definition, whose clause refuses a wrong body, with the label."""
+    if not said.startswith(REFUSED):
+        return None
+    said = said.removeprefix(REFUSED)
+    if found := IN_CODE.match(said):
+        text = edited(crate, name, found[1])
+        return clause_of(function_at(text, int(found[2]), int(found[3])), found[4])
+    if found := IN_ANSWERS.match(said):
+        return clause_of(found[1], found[2])
+    if found := IN_FACTS.match(said):
+        return found[1], ""
+    return None
+
+
+def labels_of(function):
+    """The labels of the clauses of a function, a list for what each of that name asks and one for
+    what it promises."""
+    for text in texts("*", "src/**/*.rt"):
+        for found in re.finditer(rf"^( *)(?:pub(?:\(crate\))? )?fn {function}\b", text, re.M):
+            contract = re.split(rf"\n{found[1]}\{{|;\n", text[found.end() :])[0]
+            for kind in ("requires", r"ensures\*?"):
+                yield re.findall(rf"^ *{kind} (?:(\w+) )?\{{", contract, re.M)
+
+
+def is_clause(crate, function, label):
+    """Whether a function has such a clause, or the crate a fact of that name in its specs/."""
+    if any(label in [*labels, "invariant", ""] for labels in labels_of(function)):
+        return True
+    facts = texts(crate, "specs/**/*.antt")
+    return not label and any(re.search(rf"^(?:pub )?{function} :", it, re.M) for it in facts)
+
+
+def is_refused_by(crate, name, said, clause):
+    """Whether what was said of a wrong body names this clause. A function's only one has no name
+    there."""
+    found = refuser(crate, name, said)
+    alone = any(labels == [clause[1]] for labels in labels_of(clause[0]))
+    return found == clause or alone and found == (clause[0], "")
+
+
+def clause_in(text):
+    """The function and the label of a clause as pages name it: `function`: `label`."""
+    function, *labels = NAMES.findall(text) or [""]
+    return function, "".join(labels[:1])
+
+
+def shown(function, label):
+    """A clause as pages name it."""
+    return f"`{function}`: `{label}`" if label else f"`{function}`"
+
+
+def told(crate, name, said):
+    """What refused a wrong body, as pages name it, or what else was said of it."""
+    found = refuser(crate, name, said)
+    return shown(*found) if found else said
