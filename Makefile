@@ -30,31 +30,36 @@ $(PROGRAM): $(SOURCES)
 	@touch $@
 
 # What takes seconds and needs no proof and no program: what nobody uses, functions that don't go by
-# the word of their definition, what the pages name and show, and that the checks of pages and of
-# suites fail what they should.
+# the word of their definition, what the pages name and show, that the checks of pages and of suites
+# fail what they should, and what shells complete.
 checks:
 	tools/check-unused
 	tools/check-names
 	tools/check-numbers
 	tools/check-pages
-	tools/check-strict
+	tools/check-checks
 	logs/tools/check-documents
 	logs/tools/check-runner
+	tools/check-completions
 
 # Those checks, and the lines that must not compile; then the gate: each proof from nothing, the
 # edits that must fail, each of which has to compile, the tests and the program; and then the suite
-# with the program that was proved, and what the suite leaves out; and last the second opinion.
+# with the program that was proved, and what the suite leaves out; cut caves, and refused memory; and
+# last the second opinion.
 test: checks
-	tools/check-refused-lines
+	tools/check-wrong-lines
 	@mkdir -p out
 	tools/manual docs/PROGRAM.md > out/cave.1
 	tools/progress all out/test.log rt ci
 	@tail -n 1 out/test.log
 	@! grep 'BAD EDIT' out/test.log
+	tools/check-wrong-bodies
 	logs/run $(PROGRAM)
 	logs/tools/check-large-cave $(PROGRAM)
 	logs/tools/check-coverage $(PROGRAM)
 	logs/tools/check-maps $(PROGRAM)
+	tools/prefixes --lines $(PROGRAM)
+	tools/check-memory
 	model/suite
 	model/duel $(PROGRAM) --count 300 --databases 1000 --seed 1 --quiet
 
@@ -63,12 +68,14 @@ test: checks
 soak: $(PROGRAM)
 	tools/soak
 
-# Plays each log of logs/ with the program, and compares what it says with the transcript beside it.
+# Plays each log of logs/ with the program, and compares what it says with the transcript beside it;
+# and then those that the model can play with the model.
 suite: checks $(PROGRAM)
 	@logs/run $(PROGRAM)
 	@logs/tools/check-large-cave $(PROGRAM)
 	@logs/tools/check-coverage $(PROGRAM)
 	@logs/tools/check-maps $(PROGRAM)
+	@model/suite
 
 # Plays random games, and reads mutated databases, with the program and with the model in Python, and
 # compares what both say. Case N of a seed is the same for any counts and jobs.
@@ -96,3 +103,7 @@ install: $(PROGRAM)
 	@mkdir -p out
 	tools/manual docs/PROGRAM.md > out/cave.1
 	install -D -m 644 out/cave.1 $(PREFIX)/share/man/man1/cave.1
+	tools/completions bash > out/cave.bash
+	install -D -m 644 out/cave.bash $(PREFIX)/share/bash-completion/completions/cave
+	tools/completions zsh > out/_cave
+	install -D -m 644 out/_cave $(PREFIX)/share/zsh/site-functions/_cave

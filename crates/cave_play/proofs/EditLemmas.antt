@@ -6,14 +6,13 @@ use Rattle.std.proofs.lemmas.List.{drop_more, drop_all}
 use Rattle.std.specs.Prelude.{Result, IfErr}
 use Rattle.std.specs.declared.option.Option.{Option}
 use Rattle.std.proofs.lemmas.Result.{IfErr-at_err}
-use Rattle.cave_replay.specs.replay_edits.Edit.{Change, apply_all}
+use Rattle.cave_replay.specs.replay_edits.Edit.{Change, apply_all, Game}
 use Rattle.cave_replay.specs.replay_edits.Faults.{group_fault}
 use Rattle.cave_replay.specs.replay_edits.declared.fault.EditFault.TheVariants as cause
 use Rattle.cave_replay.specs.replay_edits.declared.fault.GroupFault.{GroupFault}
-use Rattle.cave_replay.specs.replay_edits.Game.{Game}
 use Rattle.cave_replay.specs.Report.{IsReport}
-use Rattle.cave_replay.specs.Machine.{MachineRules}
-use Rattle.replay_scripts.specs.Item.{Applied}
+use Rattle.cave_replay.specs.Play.{MachineRules}
+use Rattle.replay_scripts.specs.Script.{Applied}
 use Rattle.replay_scripts.specs.Views.{applied_item}
 use Rattle.replay_scripts.specs.declared.script.Item.{Item}
 use Rattle.cave_play.specs.Piece.{Piece}

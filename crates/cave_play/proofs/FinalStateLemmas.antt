@@ -2,15 +2,15 @@
 use Rattle.std.proofs.Common.{◌≡◌, ℕ, Bool, List, length, subst, refl}
 use Rattle.cave_turn.specs.turn_begin.Begin.{begun_state, starting_objects}
 use Rattle.data_bindings.specs.cave_data.CaveView.{CaveView}
-use Rattle.world_packed.specs.world_objects.Layout.{Layout}
-use Rattle.cave_play.specs.FinalState.{final_state_text}
+use Rattle.world_packed.specs.world_objects.Objects.{Layout}
+use Rattle.cave_play.specs.Output.{final_state_text}
 use Rattle.cave_play.specs.Machine.{cave_rules}
 use Rattle.cave_play.specs.Transcript.{ticks}
 use Rattle.cave_turn.specs.turn_score.Score.{score_of}
 use Rattle.play_state_text.specs.StateText.{state_text}
 use Rattle.world_packed.specs.cave_world.declared.part.Part.{Part}
 use Rattle.world_packed.specs.cave_world.declared.state.State.{State}
-use Rattle.cave_replay.specs.replay_edits.Game.{Game}
+use Rattle.cave_replay.specs.replay_edits.Edit.{Game}
 use Rattle.cave_replay.specs.Play.{IsPlay}
 
 pub begun_objects : (cave : CaveView) (stream : ℕ)

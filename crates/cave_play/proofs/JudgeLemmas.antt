@@ -21,8 +21,7 @@ use Rattle.cave_replay.specs.declared.fault.OpenFault.{OpenFault}
 use Rattle.cave_replay.specs.declared.fault.OpenFault.TheVariants as session
 use Rattle.play_command.specs.base_limits.Limits.{MAX_SEED, MAX_EVERY, MAX_LOG_LINES}
 use Rattle.play_command.specs.base_limits.Limits.{MAX_INPUT_BYTES}
-use Rattle.replay_scripts.specs.Item.{Applied}
-use Rattle.replay_scripts.specs.Script.{script_of}
+use Rattle.replay_scripts.specs.Script.{Applied, script_of}
 use Rattle.replay_scripts.specs.Views.{IsFaultOf}
 use Rattle.replay_scripts.specs.declared.fault.ScriptRefusal.{ScriptRefusal}
 use Rattle.replay_scripts.specs.declared.fault.ScriptRefusal.TheVariants.{Malformed, Memory}
@@ -30,9 +29,8 @@ use Rattle.cave_play.proofs.StageLemmas.{Judges-read}
 use Rattle.cave_play.specs.Judge.{large_seed, every_fault, too_large, input_size_fault}
 use Rattle.cave_play.specs.Judge.{inputs_fault, lines_fault, log_fault, script_fault}
 use Rattle.cave_play.specs.Judge.{first_malformed, script_refusal, or_too_many, opening_fault}
-use Rattle.cave_play.specs.Run.{Judges}
-use Rattle.cave_play.specs.Stage.{reading_stage, judging_stage, first_decided, IsOutsideOf}
-use Rattle.cave_play.specs.Stage.{IsFoundAt, IsFoundIn}
+use Rattle.cave_play.specs.Run.{Judges, reading_stage, judging_stage, first_decided, IsOutsideOf}
+use Rattle.cave_play.specs.Run.{IsFoundAt, IsFoundIn}
 use Rattle.cave_play.specs.Stages.{cave_stages, log_stage, script_stage}
 use Rattle.cave_play.specs.declared.fault.Input.{Input}
 use Rattle.cave_play.specs.declared.fault.Input.TheVariants as input

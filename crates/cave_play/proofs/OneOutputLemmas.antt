@@ -7,12 +7,11 @@ use Rattle.play_command.specs.play_options.declared.editing.EditView.{EditView}
 use Rattle.play_command.specs.play_options.declared.editing.EditView.TheVariants.{Transcript, Play}
 use Rattle.play_command.specs.play_options.declared.editing.EditView.TheVariants.{Log, Reports}
 use Rattle.play_command.specs.play_options.declared.editing.EditView.TheVariants.{FinalState}
-use Rattle.cave_replay.specs.replay_edits.Game.{Game, game_of}
+use Rattle.cave_replay.specs.replay_edits.Edit.{Game, game_of}
 use Rattle.replay_scripts.proofs.Grammar.{script_of-only}
-use Rattle.replay_scripts.specs.Item.{Applied}
-use Rattle.replay_scripts.specs.Script.{IsScript}
-use Rattle.cave_play.specs.OneOutput.{OneCheckedOutput, OnePlayedOutput, OneEditedOutput}
-use Rattle.cave_play.specs.OneOutput.{KnowsNoCheckpoints}
+use Rattle.replay_scripts.specs.Script.{Applied, IsScript}
+use Rattle.cave_play.specs.Laws.{OneCheckedOutput, OnePlayedOutput, OneEditedOutput}
+use Rattle.cave_play.specs.Laws.{KnowsNoCheckpoints}
 use Rattle.cave_play.specs.Output.{check_text, play_view_text}
 use Rattle.cave_play.specs.Views.{IsViewOf}
 

@@ -6,13 +6,12 @@ use Rattle.std.specs.Str.Lines.{lines}
 use Rattle.play_command.specs.base_limits.Limits.{MAX_INPUT_BYTES, MAX_LOG_LINES, MAX_SEED}
 use Rattle.play_command.specs.base_lines.Line.{is_line}
 use Rattle.play_command.specs.base_lines.declared.line_flaw.LineFlaw.{LineFlaw}
-use Rattle.replay_scripts.specs.Item.{Applied}
+use Rattle.replay_scripts.specs.Script.{Applied}
 use Rattle.cave_replay.specs.replay_edits.Edit.{Change, inserts, deletes, replaces, reseeds}
-use Rattle.cave_replay.specs.replay_edits.Edit.{log_after}
+use Rattle.cave_replay.specs.replay_edits.Edit.{log_after, Game, game_of, IsGame}
 use Rattle.cave_replay.specs.replay_edits.Faults.{fault_of, fault_of_all, first_of_two}
 use Rattle.cave_replay.specs.replay_edits.Faults.{log_after_all, or_group_meter_full}
 use Rattle.cave_replay.specs.Opening.{first_bad_line, or_game_fault}
-use Rattle.cave_replay.specs.replay_edits.Game.{Game, game_of, IsGame}
 use Rattle.cave_replay.specs.replay_edits.declared.fault.EditFault.{EditFault}
 use Rattle.cave_replay.specs.replay_edits.declared.fault.EditFault.TheVariants.{NoSuchPlace}
 use Rattle.cave_replay.specs.replay_edits.declared.fault.EditFault.TheVariants.{BadLine, LogFull}

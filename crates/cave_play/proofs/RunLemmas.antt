@@ -9,7 +9,7 @@ use Rattle.std.specs.Str.Lines.{lines}
 use Rattle.data_bindings.specs.cave_data.CaveView.{CaveView}
 use Rattle.data_bindings.specs.cave_data.Reads.{fault as cave_fault}
 use Rattle.data_bindings.specs.data_rows.declared.error.CaveError.{CaveError}
-use Rattle.cave_replay.specs.replay_edits.Game.{Game, game_of}
+use Rattle.cave_replay.specs.replay_edits.Edit.{Game, game_of}
 use Rattle.cave_replay.specs.Play.{IsPlay}
 use Rattle.play_command.specs.base_lines.declared.line_flaw.LineFlaw.{LineFlaw}
 use Rattle.cave_replay.specs.Opening.{first_bad_line}
@@ -18,8 +18,7 @@ use Rattle.play_command.specs.base_limits.Limits.{MAX_INPUT_BYTES}
 use Rattle.world_packed.specs.cave_world.declared.part.Part.{Part}
 use Rattle.world_packed.specs.cave_world.declared.state.State.{State}
 use Rattle.cave_turn.specs.turn_score.Score.{score_of, max_score_of}
-use Rattle.replay_scripts.specs.Item.{Applied}
-use Rattle.replay_scripts.specs.Script.{script_of}
+use Rattle.replay_scripts.specs.Script.{Applied, script_of}
 use Rattle.replay_scripts.specs.declared.fault.ScriptRefusal.{ScriptRefusal}
 use Rattle.replay_scripts.specs.declared.fault.ScriptRefusal.TheVariants.{Malformed, Memory}
 use Rattle.cave_play.specs.Machine.{cave_rules, rendering_of}
@@ -28,8 +27,7 @@ use Rattle.cave_play.specs.Judge.{input_size_fault, log_fault, script_fault, fir
 use Rattle.cave_play.proofs.StageLemmas.{first_is_found}
 use Rattle.cave_play.specs.Laws.{IsDecided}
 use Rattle.cave_play.specs.Output.{play_text}
-use Rattle.cave_play.specs.Run.{EndsBy, Runs}
-use Rattle.cave_play.specs.Stage.{Stage, first_decided, IsFoundIn}
+use Rattle.cave_play.specs.Run.{EndsBy, Runs, Stage, first_decided, IsFoundIn}
 use Rattle.cave_play.specs.Stages.{cave_stages, log_stage, script_stage, strict_stage, play_stages}
 use Rattle.cave_play.specs.Stages.{edit_stages}
 use Rattle.cave_play.proofs.StrictLemmas.{unwritten_by_strict}

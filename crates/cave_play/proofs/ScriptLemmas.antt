@@ -8,8 +8,7 @@ use Rattle.std.specs.Global.{Vec}
 use Rattle.std.proofs.lemmas.List.{length-map}
 use Rattle.std.proofs.lemmas.List.Sums.{count_by-le-length}
 use Rattle.std.proofs.lemmas.List.Splits.{length-slice_split}
-use Rattle.replay_scripts.specs.Item.{Applied}
-use Rattle.replay_scripts.specs.Script.{IsScript, done, skips, spells, groups}
+use Rattle.replay_scripts.specs.Script.{Applied, IsScript, done, skips, spells, groups}
 use Rattle.replay_scripts.specs.Views.{applied_item, items_of}
 use Rattle.replay_scripts.specs.declared.script.Item.{Item}
 

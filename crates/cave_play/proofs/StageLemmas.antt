@@ -4,10 +4,9 @@ use Rattle.std.proofs.Common.{refl}
 use Rattle.std.specs.Prelude.{Result}
 use Rattle.std.specs.Option.{option_or}
 use Rattle.std.specs.declared.option.Option.{Option}
-use Rattle.cave_play.specs.Stage.{Stage, reading_stage, judging_stage, first_decided, IsOutsideOf}
-use Rattle.cave_play.specs.Stage.{IsFoundIn}
+use Rattle.cave_play.specs.Run.{Stage, reading_stage, judging_stage, first_decided, IsOutsideOf}
+use Rattle.cave_play.specs.Run.{IsFoundIn, Judges}
 use Rattle.cave_play.specs.Laws.{IsOutside, IsDecided}
-use Rattle.cave_play.specs.Run.{Judges}
 use Rattle.cave_play.specs.declared.fault.Input.{Input}
 use Rattle.cave_play.specs.declared.fault.PlayFault.{PlayFault}
 use Rattle.cave_play.specs.declared.fault.PlayFault.TheVariants as fault

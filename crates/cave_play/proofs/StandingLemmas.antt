@@ -6,7 +6,7 @@ use Rattle.cave_turn.specs.turn_score.Score.{score_of, max_score_of}
 use Rattle.world_packed.specs.cave_world.declared.ending.Ending.{Ending}
 use Rattle.world_packed.specs.cave_world.declared.part.Part.{Part}
 use Rattle.world_packed.specs.cave_world.declared.state.State.{State}
-use Rattle.cave_replay.specs.replay_edits.Game.{Game}
+use Rattle.cave_replay.specs.replay_edits.Edit.{Game}
 use Rattle.cave_replay.specs.Play.{IsPlay}
 use Rattle.cave_play.specs.Machine.{cave_rules}
 use Rattle.cave_play.specs.Outcome.{standing_of}

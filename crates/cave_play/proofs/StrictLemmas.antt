@@ -6,16 +6,15 @@ use Rattle.std.specs.Option.{option_or}
 use Rattle.std.specs.declared.option.Option.{Option}
 use Rattle.std.proofs.lemmas.List.{drop_all}
 use Rattle.data_bindings.specs.cave_data.CaveView.{CaveView}
-use Rattle.cave_replay.specs.replay_edits.Game.{Game}
+use Rattle.cave_replay.specs.replay_edits.Edit.{Game}
 use Rattle.cave_replay.specs.replay_edits.declared.fault.GroupFault.{GroupFault}
-use Rattle.replay_scripts.specs.Item.{Applied}
-use Rattle.replay_scripts.specs.Script.{script_of}
+use Rattle.replay_scripts.specs.Script.{Applied, script_of}
 use Rattle.replay_scripts.specs.Views.{applied_item}
 use Rattle.replay_scripts.specs.declared.script.Item.{Item}
 use Rattle.replay_scripts.specs.declared.fault.ScriptRefusal.{ScriptRefusal}
 use Rattle.cave_play.specs.Outcome.{IsOutcome, refusal_in}
 use Rattle.cave_play.specs.Output.{game_after_item, group_refusal}
-use Rattle.cave_play.specs.Stage.{IsFoundIn, first_decided, judging_stage}
+use Rattle.cave_play.specs.Run.{IsFoundIn, first_decided, judging_stage}
 use Rattle.cave_play.specs.Stages.{strict_stage}
 use Rattle.cave_play.specs.Strict.{fault_of_items, first_strict_fault, strict_fault}
 use Rattle.cave_play.specs.Strict.{strict_fault_by}

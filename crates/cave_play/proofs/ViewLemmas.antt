@@ -9,13 +9,12 @@ use Rattle.play_command.specs.play_options.declared.editing.EditView.TheVariants
 use Rattle.play_command.specs.play_options.declared.editing.EditView.TheVariants.{FinalState}
 use Rattle.world_packed.specs.replay_marks.Spacing.{IsSpaced}
 use Rattle.cave_replay.specs.LogText.{log_text}
-use Rattle.cave_replay.specs.replay_edits.Game.{Game}
-use Rattle.replay_scripts.specs.Item.{Applied}
+use Rattle.cave_replay.specs.replay_edits.Edit.{Game}
+use Rattle.replay_scripts.specs.Script.{Applied}
 use Rattle.cave_play.specs.Edits.{ReadsBack, text_at_end, text_of_item}
-use Rattle.cave_play.specs.FinalState.{final_state_text}
+use Rattle.cave_play.specs.Output.{final_state_text, game_after_item, game_after_items, play_text}
+use Rattle.cave_play.specs.Output.{group_refusal, report, report_by, reports}
 use Rattle.cave_play.specs.Outcome.{AreOutcomes, IsOutcome, lines_in, played_in, refusal_in}
-use Rattle.cave_play.specs.Output.{game_after_item, game_after_items, play_text, group_refusal}
-use Rattle.cave_play.specs.Output.{report, report_by, reports}
 use Rattle.cave_play.specs.Views.{IsViewOf, text_of_items, totals_line}
 use Rattle.cave_play.specs.declared.outcome.ItemOutcome.{ItemOutcome}
 use Rattle.cave_play.specs.declared.outcome.ItemOutcome.TheVariants.{Refused, Replayed}

@@ -5,18 +5,15 @@ use Rattle.std.specs.List.{sum_by}
 use Rattle.std.specs.Str.Lines.{lines}
 use Rattle.data_bindings.specs.cave_data.CaveView.{CaveView}
 use Rattle.play_command.specs.play_options.declared.editing.EditView.{EditView}
-use Rattle.play_command.specs.play_options.declared.editing.EditView.TheVariants.{Transcript, Play}
-use Rattle.play_command.specs.play_options.declared.editing.EditView.TheVariants.{Log, Reports}
-use Rattle.play_command.specs.play_options.declared.editing.EditView.TheVariants.{FinalState}
+use Rattle.play_command.specs.play_options.declared.editing.EditView.TheVariants as asked
 use Rattle.cave_replay.specs.Session.{SessionView}
 use Rattle.cave_replay.specs.LogText.{log_text}
-use Rattle.cave_replay.specs.replay_edits.Game.{Game}
-use Rattle.replay_scripts.specs.Item.{Applied}
+use Rattle.cave_replay.specs.replay_edits.Edit.{Game}
+use Rattle.replay_scripts.specs.Script.{Applied}
 use Rattle.world_packed.specs.cave_world.declared.state.State.{State}
-use Rattle.cave_play.specs.FinalState.{final_state_text}
+use Rattle.cave_play.specs.Output.{final_state_text, game_after_item, play_text, report_by}
 use Rattle.cave_play.specs.Outcome.{IsOutcome, AreLeft, AreOutcomes, lines_in, played_in}
 use Rattle.cave_play.specs.Outcome.{refusal_in}
-use Rattle.cave_play.specs.Output.{game_after_item, play_text, report_by}
 use Rattle.cave_play.specs.Views.{account, text_of_items, totals_line}
 use Rattle.cave_play.specs.declared.machine.CaveMachine.{CaveMachine}
 use Rattle.cave_play.specs.declared.outcome.ItemOutcome.{ItemOutcome}
@@ -37,11 +34,11 @@ pub record Applies (item : Applied) (old new : SessionView CaveMachine Piece Sta
 
 -- what is written of an item, by what is asked for
 abbrev pub text_of_item : EditView → Applied → ItemOutcome → List ℕ
-text_of_item Transcript item outcome = report_by item (refusal_in outcome)
-text_of_item Play item outcome = []
-text_of_item Log item outcome = []
-text_of_item Reports item outcome = account item outcome
-text_of_item FinalState item outcome = []
+text_of_item asked.Transcript item outcome = report_by item (refusal_in outcome)
+text_of_item asked.Play item outcome = []
+text_of_item asked.Log item outcome = []
+text_of_item asked.Reports item outcome = account item outcome
+text_of_item asked.FinalState item outcome = []
 
 -- items were applied to what a session held: the text grew by what is written of each, and the
 -- totals are theirs
@@ -57,16 +54,16 @@ pub record IsApplied (view : EditView) (items : List Applied)
 
 -- what is written after all items, by what is asked for
 abbrev pub text_at_end : EditView → CaveView → Game → ℕ → ℕ → List ℕ
-text_at_end Transcript cave game played lines = play_text cave game
-text_at_end Play cave game played lines = play_text cave game
-text_at_end Log cave game played lines = log_text game.log
-text_at_end Reports cave game played lines = totals_line played lines
-text_at_end FinalState cave game played lines = final_state_text cave game
+text_at_end asked.Transcript cave game played lines = play_text cave game
+text_at_end asked.Play cave game played lines = play_text cave game
+text_at_end asked.Log cave game played lines = log_text game.log
+text_at_end asked.Reports cave game played lines = totals_line played lines
+text_at_end asked.FinalState cave game played lines = final_state_text cave game
 
 -- the written log reads back
 abbrev pub ReadsBack : EditView → List (List ℕ) → Type 0
-ReadsBack Transcript log = ⊤
-ReadsBack Play log = ⊤
-ReadsBack Log log = lines (log_text log) ≡ log
-ReadsBack Reports log = ⊤
-ReadsBack FinalState log = ⊤
+ReadsBack asked.Transcript log = ⊤
+ReadsBack asked.Play log = ⊤
+ReadsBack asked.Log log = lines (log_text log) ≡ log
+ReadsBack asked.Reports log = ⊤
+ReadsBack asked.FinalState log = ⊤

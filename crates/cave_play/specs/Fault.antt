@@ -44,7 +44,6 @@ script_line_of (script.Malformed line flaw) = Some line
 script_line_of (script.Refused line refusal) = Some line
 script_line_of _ = None
 
--- the line of the input that is at fault
 abbrev pub faulty_line : PlayFault → Option ℕ
 faulty_line (fault.Cave error) = if nat_lt 0 error.line then Some error.line else None
 faulty_line (fault.Log refused) = log_line_of refused

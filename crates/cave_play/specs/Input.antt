@@ -1,4 +1,4 @@
--- What is known of an input before it is read, and what a reading of it answers.
+-- What is known of the inputs before they are read, and what a reading of one answers.
 use Rattle.std.specs.Prelude.{◌≡◌, ℕ, ◌+◌, ◌<◌, ⊤, Bool, true, false, List, ◌++◌, length, Option}
 use Rattle.std.specs.Prelude.{None, Some, []}
 use Rattle.std.specs.Io.KnownBytes.{Consumes, IsAtEnd}
@@ -7,6 +7,7 @@ use Rattle.cave_play.specs.declared.input.InputFault.{InputFault}
 use Rattle.cave_play.specs.declared.input.InputFault.TheVariants.{Unreadable, TooLarge, Memory}
 use Rattle.cave_play.specs.declared.inputs.InputReader.{InputReader}
 use Rattle.cave_play.specs.declared.inputs.InputReader.TheVariants.{Absent, Given}
+use Rattle.cave_play.specs.declared.inputs.Inputs.{Inputs}
 
 -- the bytes are those that a reader is known to have left, where it is known
 abbrev pub Says : Option (List ℕ) → List ℕ → Type 0
@@ -34,3 +35,21 @@ pub record Exceeds (old new : Option (List ℕ)) (before : List ℕ) (fault : In
 abbrev pub input_left : {R : Type 0} → (R → Option (List ℕ)) → InputReader R → Option (List ℕ)
 input_left remaining Absent = Some []
 input_left remaining (Given reader) = remaining reader
+
+-- the bytes of each input
+pub record InputTexts : Type 0 where
+  pub database : List ℕ
+  pub bindings : List ℕ
+  pub log : List ℕ
+  pub script : List ℕ
+
+-- the texts are those that the readers of the inputs are known to have left, where it is known: the
+-- first four say what a reader has left
+pub record AreTextsOf {C B L S : Type 0} (left_database : C → Option (List ℕ))
+    (left_bindings : B → Option (List ℕ)) (left_log : L → Option (List ℕ))
+    (left_script : S → Option (List ℕ)) (inputs : Inputs C B L S) (texts : InputTexts)
+    : Type 0 where
+  pub database : Says (left_database inputs.cave.database) texts.database
+  pub bindings : Says (left_bindings inputs.cave.bindings) texts.bindings
+  pub log : Says (left_log inputs.log) texts.log
+  pub script : Says (left_script inputs.script) texts.script

@@ -11,8 +11,7 @@ use Rattle.play_command.specs.base_limits.Limits.{MAX_SEED, MAX_EVERY, MAX_LOG_L
 use Rattle.play_command.specs.base_limits.Limits.{MAX_INPUT_BYTES}
 use Rattle.cave_replay.specs.declared.fault.OpenFault.{OpenFault}
 use Rattle.cave_replay.specs.declared.fault.OpenFault.TheVariants as session
-use Rattle.replay_scripts.specs.Item.{Applied}
-use Rattle.replay_scripts.specs.Script.{script_of}
+use Rattle.replay_scripts.specs.Script.{Applied, script_of}
 use Rattle.replay_scripts.specs.declared.fault.ScriptRefusal.{ScriptRefusal}
 use Rattle.replay_scripts.specs.declared.fault.ScriptRefusal.TheVariants.{Malformed, Memory}
 use Rattle.cave_play.specs.declared.fault.Input.{Input}
@@ -42,7 +41,6 @@ abbrev pub input_size_fault : Input → List ℕ → Option PlayFault
 input_size_fault from bytes = if nat_lt MAX_INPUT_BYTES (length bytes) then Some (too_large from)
     else None
 
--- the first fault of a database and its bindings
 abbrev pub inputs_fault : List ℕ → List ℕ → Option PlayFault
 inputs_fault database bindings =
     option_map (λ error. fault.Cave error) (cave_fault database bindings)
@@ -51,21 +49,17 @@ abbrev pub or_too_many : Option (ℕ × LineFlaw) → ℕ → Option PlayFault
 or_too_many (Some (number, flaw)) count = Some (fault.Log (log.BadLine number flaw))
 or_too_many None count = if nat_lt MAX_LOG_LINES count then Some (fault.Log log.Full) else None
 
--- the first fault of the lines of a log
 unfoldable pub lines_fault : List (List ℕ) → Option PlayFault
 lines_fault log = or_too_many (first_bad_line log 1) (length log)
 
--- the first fault of a log
 unfoldable pub log_fault : List ℕ → Option PlayFault
 log_fault bytes = if nat_lt MAX_INPUT_BYTES (length bytes) then Some (fault.Log log.TooLarge)
     else lines_fault (lines bytes)
 
--- the first malformed line of a script, if it has one
 abbrev pub first_malformed : Result (List Applied) ScriptRefusal → Option PlayFault
 first_malformed (Err (Malformed line flaw)) = Some (fault.Script (script.Malformed line flaw))
 first_malformed _ = None
 
--- the first fault of a script
 unfoldable pub script_fault : List ℕ → Option PlayFault
 script_fault bytes = if nat_lt MAX_INPUT_BYTES (length bytes)
     then Some (fault.Script script.TooLarge) else first_malformed (script_of bytes)

@@ -1,17 +1,57 @@
--- Laws of the order in which faults are found, and of what edits are refused for.
-use Rattle.std.specs.Prelude.{◌≡◌, ℕ, ◌⊎◌, ⊤, List, None, Some}
+-- Laws of the order in which faults are found, of what edits are refused for, and that the inputs
+-- have one output at most.
+use Rattle.std.specs.Prelude.{◌≡◌, ℕ, ◌⊎◌, ⊤, List, None, Some, Bool}
 use Rattle.std.specs.Str.Lines.{lines}
-use Rattle.replay_scripts.specs.Item.{Applied}
-use Rattle.cave_replay.specs.replay_edits.Game.{game_of}
+use Rattle.replay_scripts.specs.Script.{Applied}
+use Rattle.cave_replay.specs.replay_edits.Edit.{game_of}
 use Rattle.cave_replay.specs.replay_edits.declared.fault.EditFault.{EditFault}
 use Rattle.cave_replay.specs.replay_edits.declared.fault.EditFault.TheVariants.{MeterFull, Memory}
 use Rattle.cave_replay.specs.replay_edits.declared.fault.GroupFault.{GroupFault}
 use Rattle.cave_play.specs.Judge.{inputs_fault, large_seed, log_fault}
-use Rattle.cave_play.specs.Output.{game_after_items, group_refusal}
-use Rattle.cave_play.specs.Stage.{Stage, first_decided, IsFoundIn}
+use Rattle.cave_play.specs.Output.{game_after_items, group_refusal, IsChecked, IsPlayed}
+use Rattle.cave_play.specs.Run.{Stage, first_decided, IsFoundIn, AtMostOne}
 use Rattle.cave_play.specs.Stages.{cave_stages}
 use Rattle.cave_play.specs.declared.fault.PlayFault.{PlayFault}
 use Rattle.cave_play.specs.declared.fault.PlayFault.TheVariants as fault
+use Rattle.play_command.specs.play_options.declared.editing.EditView.{EditView}
+use Rattle.play_command.specs.play_options.declared.views.CheckView.{CheckView}
+use Rattle.play_command.specs.play_options.declared.editing.EditView.TheVariants as asked
+use Rattle.play_command.specs.play_options.declared.views.PlayView.{PlayView}
+use Rattle.cave_play.specs.Views.{IsEdited}
+
+-- a database and its bindings have one output of a check at most
+abbrev pub OneCheckedOutput : Type 0
+OneCheckedOutput =
+    (database bindings : List ℕ) (view : CheckView) → AtMostOne (IsChecked view database bindings)
+
+-- with a log and a seed, one output of a play, by what is asked for
+abbrev pub OnePlayedOutput : Type 0
+OnePlayedOutput =
+    (database bindings log : List ℕ) (seed : ℕ) (view : PlayView)
+    → AtMostOne (IsPlayed database bindings log seed view)
+
+-- what is asked for knows nothing of checkpoints
+abbrev pub KnowsNoCheckpoints : EditView → Type 0
+KnowsNoCheckpoints asked.Transcript = ⊤
+KnowsNoCheckpoints asked.Play = ⊤
+KnowsNoCheckpoints asked.Log = ⊤
+KnowsNoCheckpoints asked.Reports = ⊥
+KnowsNoCheckpoints asked.FinalState = ⊤
+
+-- with a log, a script and a seed, one output of an edit, of the transcript, with reports or
+-- without, of the edited log and of the final state, whatever the distances of checkpoints, and
+-- whether the runs are strict
+abbrev pub OneEditedOutput : Type 0
+OneEditedOutput =
+    (database bindings log script : List ℕ) (seed near far : ℕ) (view : EditView)
+    (first second : Bool)
+    → KnowsNoCheckpoints view
+    → (one other : List ℕ)
+    → IsEdited database bindings log script
+    (record { seed = seed; every = near; view = view; strict = first }) one
+    → IsEdited database bindings log script
+    (record { seed = seed; every = far; view = view; strict = second }) other
+    → one ≡ other
 
 -- a fault that no bytes decide
 abbrev pub IsOutside : PlayFault → Type 0

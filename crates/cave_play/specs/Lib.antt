@@ -1,9 +1,7 @@
 pub mod Input
-pub mod Texts
 pub mod Fault
 pub mod Judge
 pub mod Strict
-pub mod Stage
 pub mod Stages
 pub mod Laws
 pub mod Run
@@ -12,11 +10,9 @@ pub mod Piece
 pub mod PieceParts
 pub mod Machine
 pub mod Output
-pub mod FinalState
 pub mod Outcome
 pub mod Views
 pub mod Edits
-pub mod OneOutput
 pub use Rattle.play_command.specs.base_lines as base_lines
 pub use Rattle.data_bindings.specs.cave_data as cave_data
 pub use Rattle.cave_replay.specs as cave_replay

@@ -1,7 +1,7 @@
 -- The rules by which a cave is played.
 use Rattle.std.specs.Prelude.{ℕ, List}
 use Rattle.data_bindings.specs.cave_data.CaveView.{CaveView}
-use Rattle.cave_replay.specs.Machine.{MachineRules}
+use Rattle.cave_replay.specs.Play.{MachineRules}
 use Rattle.cave_turn.specs.turn_text.Text.{text_of_all}
 use Rattle.cave_turn.specs.Turns.{start_of_game, turn_on_line}
 use Rattle.world_packed.specs.cave_world.declared.part.Part.{Part}
@@ -17,6 +17,5 @@ cave_rules cave = record {
   ticked = λ state line. (turn_on_line cave state line).ticked;
 }
 
--- the text of some parts, where so many turns have been taken
 abbrev pub rendering_of : CaveView → List Part → ℕ → List ℕ
 rendering_of cave parts turns = text_of_all cave turns parts

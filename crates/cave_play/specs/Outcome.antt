@@ -2,13 +2,13 @@
 use Rattle.std.specs.Prelude.{◌≡◌, ℕ, List, [], ◌∷◌, length, Option, None, Some}
 use Rattle.data_bindings.specs.cave_data.CaveView.{CaveView}
 use Rattle.world_packed.specs.replay_marks.Spacing.{IsSpaced}
-use Rattle.cave_replay.specs.replay_edits.Game.{Game}
+use Rattle.cave_replay.specs.replay_edits.Edit.{Game}
 use Rattle.cave_replay.specs.Play.{state_after, ticks_of}
 use Rattle.cave_turn.specs.turn_score.Score.{score_of, max_score_of}
 use Rattle.cave_play.specs.Transcript.{ticks}
 use Rattle.cave_replay.specs.Report.{IsReport}
 use Rattle.cave_replay.specs.replay_edits.declared.fault.GroupFault.{GroupFault}
-use Rattle.replay_scripts.specs.Item.{Applied}
+use Rattle.replay_scripts.specs.Script.{Applied}
 use Rattle.cave_play.specs.Machine.{cave_rules}
 use Rattle.cave_play.specs.Output.{group_refusal, game_after_item}
 use Rattle.cave_play.specs.declared.outcome.ItemOutcome.{ItemOutcome}
@@ -16,12 +16,10 @@ use Rattle.cave_play.specs.declared.outcome.ItemOutcome.TheVariants.{Refused, Re
 use Rattle.cave_play.specs.declared.outcome.ItemReplay.{ItemReplay}
 use Rattle.cave_play.specs.declared.outcome.Standing.{Standing}
 
--- why an item was refused, if it was
 abbrev pub refusal_in : ItemOutcome → Option GroupFault
 refusal_in (Refused fault) = Some fault
 refusal_in (Replayed replay) = None
 
--- how many lines were played for an item
 abbrev pub played_in : ItemOutcome → ℕ
 played_in (Refused fault) = 0
 played_in (Replayed replay) = replay.played
@@ -55,7 +53,6 @@ pub record IsReplay (cave : CaveView) (every : ℕ) (item : Applied) (game : Gam
   pub lines : replay.lines ≡ length (game_after_item item game).log
   pub standing : replay.standing ≡ standing_of cave (game_after_item item game)
 
--- what came of an item in the game
 abbrev pub IsOutcome : CaveView → ℕ → Applied → Game → List ℕ → ItemOutcome → Type 0
 IsOutcome cave every item game checkpoints (Refused fault) =
     group_refusal item.changes game.log ≡ Some fault

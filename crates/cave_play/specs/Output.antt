@@ -1,5 +1,6 @@
 -- What a run writes.
 use Rattle.std.specs.Prelude.{◌≡◌, ℕ, ◌-◌, ◌^◌, List, [], ◌∷◌, ◌++◌, codes, Option, None, Some}
+use Rattle.std.specs.Prelude.{length}
 use Rattle.std.specs.Fmt.{decimal}
 use Rattle.std.specs.Str.Lines.{lines}
 use Rattle.data_bindings.specs.cave_data.CaveView.{CaveView}
@@ -9,21 +10,27 @@ use Rattle.play_command.specs.play_options.declared.views.CheckView.{CheckView}
 use Rattle.play_command.specs.play_options.declared.views.CheckView.TheVariants.{Maximum, Bindings}
 use Rattle.play_command.specs.play_options.declared.views.PlayView.{PlayView}
 use Rattle.play_command.specs.play_options.declared.views.PlayView.TheVariants as play
-use Rattle.cave_replay.specs.replay_edits.Edit.{Change, apply_all}
+use Rattle.cave_replay.specs.replay_edits.Edit.{Change, apply_all, Game, game_of}
 use Rattle.cave_replay.specs.replay_edits.Faults.{group_fault}
-use Rattle.cave_replay.specs.replay_edits.Game.{Game, game_of}
 use Rattle.cave_replay.specs.Play.{texts_of, ticks_of, state_after}
 use Rattle.cave_replay.specs.replay_edits.declared.fault.EditFault.{EditFault}
-use Rattle.cave_replay.specs.replay_edits.declared.fault.EditFault.TheVariants.{NoSuchPlace}
-use Rattle.cave_replay.specs.replay_edits.declared.fault.EditFault.TheVariants.{BadLine, LogFull}
-use Rattle.cave_replay.specs.replay_edits.declared.fault.EditFault.TheVariants.{BadSeed, MeterFull}
-use Rattle.cave_replay.specs.replay_edits.declared.fault.EditFault.TheVariants.{Memory, EmptyGroup}
+use Rattle.cave_replay.specs.replay_edits.declared.fault.EditFault.TheVariants as cause
 use Rattle.cave_replay.specs.replay_edits.declared.fault.GroupFault.{GroupFault}
 use Rattle.cave_turn.specs.turn_score.Score.{score_of, max_score_of}
-use Rattle.replay_scripts.specs.Item.{Applied, line_of_refusal}
-use Rattle.cave_play.specs.FinalState.{final_state_text}
+use Rattle.replay_scripts.specs.Script.{Applied, line_of_refusal}
 use Rattle.cave_play.specs.Machine.{cave_rules, rendering_of}
-use Rattle.cave_play.specs.Transcript.{transcript}
+use Rattle.cave_play.specs.Transcript.{transcript, ticks}
+use Rattle.cave_turn.specs.turn_begin.Begin.{starting_objects}
+use Rattle.play_state_text.specs.StateText.{state_text}
+
+-- the state to which playing a log in a cave leads, from its first line on
+unfoldable pub final_state_text : CaveView → Game → List ℕ
+final_state_text cave game =
+    let rules = cave_rules cave in
+    let begun = rules.begun game.seed in
+    let last = state_after rules begun game.log in
+    state_text cave (starting_objects cave)
+    (ticks (ticks_of rules begun game.log) (length game.log)) (score_of cave last) last
 
 -- ---- what is checked
 
@@ -67,13 +74,13 @@ IsPlayed database bindings log seed view output =
 
 -- the number by which a report names a refusal
 abbrev pub refusal_number : EditFault → ℕ
-refusal_number NoSuchPlace = 1
-refusal_number BadLine = 2
-refusal_number LogFull = 3
-refusal_number BadSeed = 4
-refusal_number MeterFull = 5
-refusal_number Memory = 6
-refusal_number EmptyGroup = 7
+refusal_number cause.NoSuchPlace = 1
+refusal_number cause.BadLine = 2
+refusal_number cause.LogFull = 3
+refusal_number cause.BadSeed = 4
+refusal_number cause.MeterFull = 5
+refusal_number cause.Memory = 6
+refusal_number cause.EmptyGroup = 7
 
 -- why the changes of an item are refused as a group, if they are, where the meter has counted no
 -- step yet
@@ -106,7 +113,3 @@ reports (item ∷ items) game = report item game ++ reports items (game_after_it
 abbrev pub game_after_items : List Applied → Game → Game
 game_after_items [] game = game
 game_after_items (item ∷ items) game = game_after_items items (game_after_item item game)
-
--- the reports on the items of a script, and then what playing the log that they leave prints
-abbrev pub edit_text : CaveView → Game → List Applied → List ℕ
-edit_text cave game items = reports items game ++ play_text cave (game_after_items items game)

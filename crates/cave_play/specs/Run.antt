@@ -1,9 +1,41 @@
--- What a run leaves, and what its parts make of the inputs.
-use Rattle.std.specs.Prelude.{◌≡◌, ℕ, List, take, Option, None, Result, Ok, Err}
+-- The stages of a run, what it leaves, and what its parts make of the inputs.
+use Rattle.std.specs.Prelude.{◌≡◌, ℕ, List, take, Option, None, Result, Ok, Err, ◌⊎◌, ⊤, [], ◌∷◌}
+use Rattle.std.specs.Prelude.{Some}
 use Rattle.std.specs.Io.KnownBytes.{Appends, Keeps}
-use Rattle.cave_play.specs.Stage.{Stage, first_decided, IsFoundIn}
 use Rattle.cave_play.specs.declared.fault.PlayFault.{PlayFault}
 use Rattle.cave_play.specs.declared.fault.PlayFault.TheVariants as fault
+use Rattle.std.specs.Option.{option_or}
+use Rattle.cave_play.specs.declared.fault.Input.{Input}
+
+-- a stage of a run: the input that is read there, if one is, and the fault that is decided there
+pub record Stage : Type 0 where
+  pub reads : Option Input
+  pub decides : Option PlayFault
+
+abbrev pub reading_stage : Input → Option PlayFault → Stage
+reading_stage input decides = record { reads = Some input; decides = decides }
+
+abbrev pub judging_stage : Option PlayFault → Stage
+judging_stage decides = record { reads = None; decides = decides }
+
+abbrev pub first_decided : List Stage → Option PlayFault
+first_decided [] = None
+first_decided (stage ∷ stages) = option_or stage.decides (first_decided stages)
+
+-- no bytes decide the fault: the reading of the input failed, or memory was refused
+abbrev pub IsOutsideOf : Option Input → PlayFault → Type 0
+IsOutsideOf reads (fault.Read from) = reads ≡ Some from
+IsOutsideOf reads fault.Memory = ⊤
+IsOutsideOf reads _ = ⊥
+
+abbrev pub IsFoundAt : Stage → PlayFault → Type 0
+IsFoundAt stage found = IsOutsideOf stage.reads found ⊎ (stage.decides ≡ Some found)
+
+-- the fault is found at a stage before which none decides one; after the last, memory may run out
+abbrev pub IsFoundIn : List Stage → PlayFault → Type 0
+IsFoundIn [] found = found ≡ fault.Memory
+IsFoundIn (stage ∷ stages) found =
+    IsFoundAt stage found ⊎ ((stage.decides ≡ None) × IsFoundIn stages found)
 
 -- where the stages decide no fault, what was made is right, and else the fault is found in them
 abbrev pub Judges : {X : Type 0} → List Stage → (X → Type 0) → Result X PlayFault → Type 0

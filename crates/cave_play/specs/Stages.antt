@@ -2,12 +2,12 @@
 use Rattle.std.specs.Prelude.{ℕ, Bool, List, [], ◌∷◌, ◌++◌}
 use Rattle.std.specs.Str.Lines.{lines}
 use Rattle.play_command.specs.play_options.declared.editing.Editing.{Editing}
-use Rattle.cave_replay.specs.replay_edits.Game.{Game, game_of}
+use Rattle.cave_replay.specs.replay_edits.Edit.{Game, game_of}
 use Rattle.replay_scripts.specs.Script.{script_of}
 use Rattle.cave_play.specs.Judge.{large_seed, every_fault, input_size_fault, inputs_fault}
 use Rattle.cave_play.specs.Judge.{log_fault, script_fault}
 use Rattle.cave_play.specs.Strict.{fault_of_items}
-use Rattle.cave_play.specs.Stage.{Stage, reading_stage, judging_stage}
+use Rattle.cave_play.specs.Run.{Stage, reading_stage, judging_stage}
 use Rattle.cave_play.specs.declared.fault.Input.TheVariants as input
 
 -- the database is read, then its bindings, and then both are judged
@@ -18,15 +18,12 @@ cave_stages database bindings =
     ∷ judging_stage (inputs_fault database bindings)
     ∷ []
 
--- the log is read and judged
 abbrev pub log_stage : List ℕ → Stage
 log_stage log = reading_stage input.Log (log_fault log)
 
--- the script is read and judged
 abbrev pub script_stage : List ℕ → Stage
 script_stage script = reading_stage input.Script (script_fault script)
 
--- first the seed is judged, then the cave, and the log
 abbrev pub play_stages : List ℕ → List ℕ → List ℕ → ℕ → List Stage
 play_stages database bindings log seed =
     judging_stage (large_seed seed) ∷ cave_stages database bindings ++ log_stage log ∷ []

@@ -2,16 +2,15 @@
 use Rattle.std.specs.Prelude.{Bool, List, [], ◌∷◌, Option, None, Some, Result, Ok, Err}
 use Rattle.std.specs.Prelude.{if◌then◌else◌}
 use Rattle.std.specs.Option.{option_or}
-use Rattle.cave_replay.specs.replay_edits.Game.{Game}
+use Rattle.cave_replay.specs.replay_edits.Edit.{Game}
 use Rattle.cave_replay.specs.replay_edits.declared.fault.GroupFault.{GroupFault}
-use Rattle.replay_scripts.specs.Item.{Applied, line_of_refusal}
+use Rattle.replay_scripts.specs.Script.{Applied, line_of_refusal}
 use Rattle.replay_scripts.specs.declared.fault.ScriptRefusal.{ScriptRefusal}
 use Rattle.cave_play.specs.Output.{game_after_item, group_refusal}
 use Rattle.cave_play.specs.declared.fault.ScriptFault.TheVariants as script
 use Rattle.cave_play.specs.declared.fault.PlayFault.{PlayFault}
 use Rattle.cave_play.specs.declared.fault.PlayFault.TheVariants as fault
 
--- the fault that a refusal of an item is
 abbrev pub refusal_fault : Applied → GroupFault → PlayFault
 refusal_fault item found = fault.Script
     (script.Refused (line_of_refusal item found.number) (record { cause = found.cause }))
@@ -22,7 +21,6 @@ strict_fault_by strict item None = None
 strict_fault_by strict item (Some found) =
     if strict then Some (refusal_fault item found) else None
 
--- the fault of an item in the game
 unfoldable pub strict_fault : Bool → Applied → Game → Option PlayFault
 strict_fault strict item game = strict_fault_by strict item (group_refusal item.changes game.log)
 

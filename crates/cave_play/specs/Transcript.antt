@@ -5,8 +5,7 @@ use Rattle.std.specs.List.{enumerate_from, flat_map, zip}
 use Rattle.std.specs.Fmt.{decimal}
 use Rattle.play_command.specs.base_lines.LogLine.{log_line}
 use Rattle.play_command.specs.base_lines.declared.log_line.LogLine.{LogLine}
-use Rattle.play_command.specs.base_lines.declared.log_line.LogLine.TheVariants.{Comment, Blank}
-use Rattle.play_command.specs.base_lines.declared.log_line.LogLine.TheVariants.{Seed, Input}
+use Rattle.play_command.specs.base_lines.declared.log_line.LogLine.TheVariants as kind
 
 -- a line of the log, as it is shown above what was said at it
 abbrev pub echo : List ℕ → List ℕ
@@ -14,10 +13,10 @@ echo line = codes "\n> " ++ (line ++ codes "\n")
 
 -- comments and blank lines aren't shown
 abbrev pub is_shown : LogLine → Bool
-is_shown Comment = false
-is_shown Blank = false
-is_shown (Seed seed) = true
-is_shown Input = true
+is_shown kind.Comment = false
+is_shown kind.Blank = false
+is_shown (kind.Seed seed) = true
+is_shown kind.Input = true
 
 -- the last line of a transcript: the score, the greatest score of the cave, and the turns
 abbrev pub last_line : ℕ → ℕ → ℕ → List ℕ

@@ -7,26 +7,19 @@ use Rattle.data_bindings.specs.cave_data.CaveView.{CaveView}
 use Rattle.data_bindings.specs.cave_data.Reads.{Reads}
 use Rattle.play_command.specs.play_options.declared.editing.Editing.{Editing}
 use Rattle.play_command.specs.play_options.declared.editing.EditView.{EditView}
-use Rattle.play_command.specs.play_options.declared.editing.EditView.TheVariants.{Transcript, Play}
-use Rattle.play_command.specs.play_options.declared.editing.EditView.TheVariants.{Log, Reports}
-use Rattle.play_command.specs.play_options.declared.editing.EditView.TheVariants.{FinalState}
+use Rattle.play_command.specs.play_options.declared.editing.EditView.TheVariants as asked
 use Rattle.world_packed.specs.replay_marks.Spacing.{IsSpaced}
 use Rattle.cave_replay.specs.LogText.{log_text}
-use Rattle.cave_replay.specs.replay_edits.Game.{Game, game_of}
+use Rattle.cave_replay.specs.replay_edits.Edit.{Game, game_of}
 use Rattle.cave_replay.specs.replay_edits.declared.fault.EditFault.{EditFault}
-use Rattle.cave_replay.specs.replay_edits.declared.fault.EditFault.TheVariants.{NoSuchPlace}
-use Rattle.cave_replay.specs.replay_edits.declared.fault.EditFault.TheVariants.{BadLine, LogFull}
-use Rattle.cave_replay.specs.replay_edits.declared.fault.EditFault.TheVariants.{BadSeed, MeterFull}
-use Rattle.cave_replay.specs.replay_edits.declared.fault.EditFault.TheVariants.{Memory, EmptyGroup}
-use Rattle.replay_scripts.specs.Item.{Applied, line_of_refusal}
-use Rattle.replay_scripts.specs.Script.{IsScript}
-use Rattle.cave_play.specs.FinalState.{final_state_text}
+use Rattle.cave_replay.specs.replay_edits.declared.fault.EditFault.TheVariants as cause
+use Rattle.replay_scripts.specs.Script.{Applied, line_of_refusal, IsScript}
+use Rattle.cave_play.specs.Output.{final_state_text, game_after_items, play_text, reports}
+use Rattle.cave_play.specs.Output.{refusal_number}
 use Rattle.cave_play.specs.Outcome.{AreOutcomes, lines_in, played_in}
-use Rattle.cave_play.specs.Output.{edit_text, game_after_items, play_text, refusal_number}
 use Rattle.cave_play.specs.declared.outcome.Standing.{Standing}
 use Rattle.world_packed.specs.cave_world.declared.ending.Ending.{Ending}
-use Rattle.world_packed.specs.cave_world.declared.ending.Ending.TheVariants.{Quit, Killed, Klutz}
-use Rattle.world_packed.specs.cave_world.declared.ending.Ending.TheVariants.{WrongWay, Success}
+use Rattle.world_packed.specs.cave_world.declared.ending.Ending.TheVariants as ending_is
 use Rattle.cave_play.specs.declared.outcome.ItemOutcome.{ItemOutcome}
 use Rattle.cave_play.specs.declared.outcome.ItemOutcome.TheVariants.{Refused, Replayed}
 
@@ -41,13 +34,13 @@ pub record IsLogOf (game : Game) (text : List ℕ) : Type 0 where
 
 -- what is said beside the number of a refusal
 abbrev pub refusal_words : EditFault → List ℕ
-refusal_words NoSuchPlace = codes "no such line"
-refusal_words BadLine = codes "a bad line"
-refusal_words LogFull = codes "a full log"
-refusal_words BadSeed = codes "a bad seed"
-refusal_words MeterFull = codes "a full meter"
-refusal_words Memory = codes "no memory"
-refusal_words EmptyGroup = codes "an empty group"
+refusal_words cause.NoSuchPlace = codes "no such line"
+refusal_words cause.BadLine = codes "a bad line"
+refusal_words cause.LogFull = codes "a full log"
+refusal_words cause.BadSeed = codes "a bad seed"
+refusal_words cause.MeterFull = codes "a full meter"
+refusal_words cause.Memory = codes "no memory"
+refusal_words cause.EmptyGroup = codes "an empty group"
 
 -- the place at which a replay met the old play, if it did
 abbrev pub met_text : Option ℕ → List ℕ
@@ -56,11 +49,11 @@ met_text (Some place) = decimal place
 
 -- how a game has ended
 abbrev pub ending_words : Ending → List ℕ
-ending_words Quit = codes ", ended: quit"
-ending_words Killed = codes ", ended: killed"
-ending_words Klutz = codes ", ended: klutz"
-ending_words WrongWay = codes ", ended: wrong way"
-ending_words Success = codes ", ended: success"
+ending_words ending_is.Quit = codes ", ended: quit"
+ending_words ending_is.Killed = codes ", ended: killed"
+ending_words ending_is.Klutz = codes ", ended: klutz"
+ending_words ending_is.WrongWay = codes ", ended: wrong way"
+ending_words ending_is.Success = codes ", ended: success"
 
 abbrev pub ending_text : Option Ending → List ℕ
 ending_text None = []
@@ -119,11 +112,12 @@ IsAccount cave every game items text =
 
 -- the text is what was asked for of the items that edit the game in the cave
 abbrev pub IsViewOf : EditView → CaveView → ℕ → Game → List Applied → List ℕ → Type 0
-IsViewOf Transcript cave every game items text = text ≡ edit_text cave game items
-IsViewOf Play cave every game items text = text ≡ play_text cave (game_after_items items game)
-IsViewOf Log cave every game items text = IsLogOf (game_after_items items game) text
-IsViewOf Reports cave every game items text = IsAccount cave every game items text
-IsViewOf FinalState cave every game items text =
+IsViewOf asked.Transcript cave every game items text =
+    text ≡ reports items game ++ play_text cave (game_after_items items game)
+IsViewOf asked.Play cave every game items text = text ≡ play_text cave (game_after_items items game)
+IsViewOf asked.Log cave every game items text = IsLogOf (game_after_items items game) text
+IsViewOf asked.Reports cave every game items text = IsAccount cave every game items text
+IsViewOf asked.FinalState cave every game items text =
     text ≡ final_state_text cave (game_after_items items game)
 
 -- the text is what the view of an edit prints, of the items that the script spells

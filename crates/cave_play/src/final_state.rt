@@ -1,7 +1,7 @@
 //! The state that a play leads to.
 
 ghost use Rattle.std.specs.Prelude.{◌≡◌, ◌++◌, OnOk};
-ghost use Rattle.cave_play.specs.FinalState.{final_state_text};
+ghost use Rattle.cave_play.specs.Output.{final_state_text};
 
 use crate::machine::CaveMachine;
 use cave_replay::Session;

@@ -5,15 +5,14 @@ ghost use Rattle.std.specs.Prelude.{MatchResult, length};
 ghost use Rattle.std.specs.Str.Lines.{lines};
 ghost use Rattle.world_packed.specs.replay_marks.Spacing.{IsSpaced};
 ghost use Rattle.data_bindings.specs.cave_data.Reads.{Reads};
-ghost use Rattle.cave_replay.specs.replay_edits.Game.{game_of};
+ghost use Rattle.cave_replay.specs.replay_edits.Edit.{game_of};
 ghost use Rattle.replay_scripts.specs.Script.{IsScript, script_of};
 ghost use Rattle.replay_scripts.specs.Views.{items_of};
 ghost use Rattle.cave_play.specs.Input.{Says};
 ghost use Rattle.cave_play.specs.Judge.{large_seed, every_fault, lines_fault, script_refusal};
 ghost use Rattle.cave_play.specs.Judge.{opening_fault};
 ghost use Rattle.cave_play.specs.Edits.{HoldsGame};
-ghost use Rattle.cave_play.specs.Run.{Judges};
-ghost use Rattle.cave_play.specs.Stage.{judging_stage};
+ghost use Rattle.cave_play.specs.Run.{Judges, judging_stage};
 ghost use Rattle.cave_play.specs.Stages.{cave_stages, log_stage, script_stage};
 
 use crate::fault::{Input, LogFault, PlayFault, ScriptFault};
@@ -125,7 +124,6 @@ pub fn play_log<'a, L: Read>(
     open_session(alloc, machine, &log, seed, every)
 }
 
-/// Reads a script.
 pub(crate) fn read_script<S: Read>(alloc: Global, script: &mut S) -> Result<Script, PlayFault>
     ensures judged { (bytes : List ℕ) × Says (S.remaining script.old) bytes
         × Judges (script_stage bytes ∷ [])

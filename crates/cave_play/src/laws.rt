@@ -2,7 +2,7 @@
 //! determine the output. Each is the contract of a function that does nothing.
 
 ghost use Rattle.cave_play.specs.Laws.{CavesAreJudgedWhole, FirstIsFound, RefusalsAreOfChanges};
-ghost use Rattle.cave_play.specs.OneOutput.{OneCheckedOutput, OneEditedOutput, OnePlayedOutput};
+ghost use Rattle.cave_play.specs.Laws.{OneCheckedOutput, OneEditedOutput, OnePlayedOutput};
 
 /// A fault that is found comes from outside, or is the first that a stage decides.
 pub fn first_is_found()

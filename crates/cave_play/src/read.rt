@@ -4,7 +4,7 @@ ghost use Rattle.std.specs.Prelude.{◌≡◌, ℕ, ◌≤◌, ◌<◌, ◌⊎�
 ghost use Rattle.play_command.specs.base_limits.Limits.{MAX_INPUT_BYTES};
 ghost use Rattle.cave_play.specs.Input.{Says};
 ghost use Rattle.cave_play.specs.Judge.{too_large};
-ghost use Rattle.cave_play.specs.Stage.{IsOutsideOf};
+ghost use Rattle.cave_play.specs.Run.{IsOutsideOf};
 
 use crate::fault::{Input, LogFault, PlayFault, ScriptFault};
 use crate::input::{InputFault, read_input};

@@ -98,7 +98,6 @@ fn ending_words(ending: Ending) -> &'static str
     }
 }
 
-/// How a game has ended, as it is written, if it has.
 fn ending_text(ending: Option<Ending>) -> &'static str
     ensures { result.now ≡ ending_text ending }
 {
@@ -123,7 +122,6 @@ fn standing_text(alloc: Global, standing: Standing) -> Result<String, AllocError
     format!(in alloc; ", score {score} of {most}, turns {turns}, at {place}{ended}")
 }
 
-/// The line of an item that was replayed.
 fn account_text(alloc: Global, item: &Item, replay: ItemReplay) -> Result<String, AllocError>
     ensures { IfOk result (λ told.
         string_bytes told ≡ account (applied_item item.now) (Replayed replay)) }

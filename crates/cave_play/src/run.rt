@@ -3,9 +3,8 @@
 
 ghost use Rattle.std.specs.Prelude.{◌≡◌, ℕ, List, [], ◌∷◌, None};
 ghost use Rattle.std.specs.Str.Lines.{lines};
-ghost use Rattle.cave_replay.specs.replay_edits.Game.{game_of};
-ghost use Rattle.cave_play.specs.Input.{Says};
-ghost use Rattle.cave_play.specs.Texts.{Texts, AreTextsOf};
+ghost use Rattle.cave_replay.specs.replay_edits.Edit.{game_of};
+ghost use Rattle.cave_play.specs.Input.{Says, InputTexts, AreTextsOf};
 ghost use Rattle.cave_play.specs.Judge.{large_seed, every_fault};
 ghost use Rattle.cave_play.specs.Output.{IsChecked, IsPlayed, play_view_text};
 ghost use Rattle.cave_play.specs.Run.{Judges, Runs};
@@ -38,7 +37,7 @@ pub fn run_check<C: Read, B: Read, L: Read, S: Read, W: Write>(
     view: CheckView,
     output: &mut W,
 ) -> Result<(), PlayFault>
-    ensures runs { (texts : Texts)
+    ensures runs { (texts : InputTexts)
         × AreTextsOf C.remaining B.remaining L.remaining S.remaining inputs.old texts
         × Runs (cave_stages texts.database texts.bindings)
         (IsChecked view texts.database texts.bindings)
@@ -60,7 +59,7 @@ pub fn run_play<C: Read, B: Read, L: Read, S: Read, W: Write>(
     view: PlayView,
     output: &mut W,
 ) -> Result<(), PlayFault>
-    ensures runs { (texts : Texts)
+    ensures runs { (texts : InputTexts)
         × AreTextsOf C.remaining B.remaining L.remaining S.remaining inputs.old texts
         × Runs (play_stages texts.database texts.bindings texts.log seed)
         (IsPlayed texts.database texts.bindings texts.log seed view)
@@ -83,7 +82,7 @@ pub fn run_edit<C: Read, B: Read, L: Read, S: Read, W: Write>(
     editing: Editing,
     output: &mut W,
 ) -> Result<(), PlayFault>
-    ensures runs { (texts : Texts)
+    ensures runs { (texts : InputTexts)
         × AreTextsOf C.remaining B.remaining L.remaining S.remaining inputs.old texts
         × Runs (edit_stages texts.database texts.bindings texts.log texts.script editing)
         (IsEdited texts.database texts.bindings texts.log texts.script editing)

@@ -46,7 +46,6 @@ pub(crate) fn push_play(
     )
 }
 
-/// Whether a line of a log is shown.
 #[tactic(auto, using(crate::proofs::Shown::shown_unless_skipped))]
 fn is_shown(line: &[u8]) -> bool
     ensures { result ≡ is_shown (log_line line.now) }

@@ -15,7 +15,6 @@ use play_command::{CheckView, PlayView};
 use std::alloc::{AllocError, Global};
 use world_packed::Lexicon;
 
-/// What is said of a cave.
 pub(crate) fn check_text(alloc: Global, cave: &Cave, view: CheckView) -> Result<Vec<u8>, PlayFault>
     ensures told { MatchResult result (λ text. text.items ≡ check_text view cave.now)
         (λ fault. fault ≡ PlayFault.Memory) }

@@ -10,13 +10,11 @@ use Rattle.std.proofs.lemmas.List.{drop_all, length-map}
 use Rattle.std.proofs.lemmas.List.Elements.{All-append, All-take, All-drop}
 use Rattle.std.proofs.lemmas.Bool.{cases_lt}
 use Rattle.replay_marks.specs.Marks.{MarksView, CheckpointsView, places_before, states_before}
-use Rattle.replay_marks.specs.Marks.{next_place}
-use Rattle.replay_marks.specs.Thinning.{after_shift}
+use Rattle.replay_marks.specs.Marks.{next_place, after_shift}
 use Rattle.replay_marks.proofs.Counts.{place_within}
 use Rattle.replay_marks.proofs.NextPlaceLemmas.{states_joined_follow}
-use Rattle.cave_replay.specs.Machine.{MachineRules}
-use Rattle.replay_edits.specs.Game.{Game}
-use Rattle.cave_replay.specs.Play.{state_after, texts_of, ticks_of}
+use Rattle.cave_replay.specs.Play.{MachineRules, state_after, texts_of, ticks_of}
+use Rattle.replay_edits.specs.Edit.{Game}
 use Rattle.cave_replay.specs.Agreement.{state_at, image, AgreesAt}
 use Rattle.cave_replay.specs.Replay.{Revision, IsShift, texts_at, ticks_at, AreStates, IsMarking}
 use Rattle.cave_replay.specs.Replay.{states_of_old, states_of_new, MetAt}

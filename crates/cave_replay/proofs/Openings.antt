@@ -8,7 +8,7 @@ use Rattle.replay_edits.specs.base_lines.declared.line_flaw.LineFlaw.{LineFlaw}
 use Rattle.cave_replay.specs.declared.fault.OpenFault.{OpenFault}
 use Rattle.cave_replay.specs.declared.fault.OpenFault.TheVariants.{BadEvery, LogFull, BadSeed}
 use Rattle.replay_edits.specs.base_limits.Limits.{MAX_LOG_LINES, MAX_SEED, MAX_EVERY}
-use Rattle.replay_edits.specs.Game.{game_of, IsGame}
+use Rattle.replay_edits.specs.Edit.{game_of, IsGame}
 use Rattle.cave_replay.specs.Opening.{first_bad_line, game_fault, or_game_fault, open_fault}
 use Rattle.cave_replay.specs.Playthrough.{IsDistance}
 

@@ -2,10 +2,9 @@
 use Rattle.std.proofs.Common.{◌≡◌, ℕ, suc, ◌+◌, ◌<◌, get_or, take, Bool, List, [], ◌∷◌, ◌++◌}
 use Rattle.std.proofs.Common.{length, refl, ap, ◌∙◌}
 use Rattle.replay_edits.specs.LineText.{LineText}
-use Rattle.cave_replay.specs.Machine.{MachineRules}
-use Rattle.replay_edits.specs.Game.{log_of, Game, game_of}
+use Rattle.cave_replay.specs.Play.{MachineRules, state_after, texts_of, ticks_of, IsPlay}
+use Rattle.replay_edits.specs.Edit.{log_of, Game, game_of}
 use Rattle.replay_edits.proofs.Lines.{take-log_of_more}
-use Rattle.cave_replay.specs.Play.{state_after, texts_of, ticks_of, IsPlay}
 
 pub length-texts_of : {S T : Type 0} (rules : MachineRules S T) (state : S) (lines : List (List ℕ))
     → length (texts_of rules state lines) ≡ length lines

@@ -6,16 +6,14 @@ use Rattle.std.specs.Option.{option_map}
 use Rattle.replay_edits.specs.LineText.{LineText}
 use Rattle.replay_marks.specs.Spacing.{IsSpaced}
 use Rattle.cave_replay.specs.declared.ready_edits.ReadyEdits.{ReadyEdits}
-use Rattle.cave_replay.specs.Machine.{MachineRules}
-use Rattle.replay_edits.specs.Game.{log_of, Game, game_of, IsGame}
-use Rattle.replay_edits.specs.Edit.{Change, log_after}
+use Rattle.cave_replay.specs.Play.{MachineRules}
+use Rattle.replay_edits.specs.Edit.{log_of, Game, game_of, IsGame, Change, log_after, margins_of}
 use Rattle.cave_replay.specs.ReadyEdits.{new_game, IsReady, AreEditsOf}
 use Rattle.replay_edits.specs.Faults.{fault_of, first_of_two, or_group_meter_full}
 use Rattle.replay_edits.specs.Faults.{or_edit_meter_full, group_fault, edit_fault}
 use Rattle.replay_edits.specs.declared.fault.EditFault.{EditFault}
 use Rattle.replay_edits.specs.declared.fault.EditFault.TheVariants.{MeterFull}
 use Rattle.replay_edits.specs.declared.fault.GroupFault.{GroupFault}
-use Rattle.replay_edits.specs.Margins.{margins_of}
 use Rattle.cave_replay.specs.Replay.{IsShift, Revision, HasMet, IsWithinBound}
 use Rattle.cave_replay.specs.Report.{AreStepsBounded}
 use Rattle.replay_edits.proofs.LogAfterLemmas.{stays_after_all}

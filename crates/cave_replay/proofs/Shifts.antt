@@ -4,10 +4,8 @@ use Rattle.std.proofs.Common.{drop, refl, sym, ap, ◌∙◌, arith}
 use Rattle.std.proofs.Math.Seq.{take-add}
 use Rattle.std.proofs.lemmas.List.{take-append-drop, take-take, drop-drop, length-take-le, take_at}
 use Rattle.std.proofs.lemmas.List.{drop_at, take_more, append_assoc}
-use Rattle.cave_replay.specs.Machine.{MachineRules}
-use Rattle.replay_edits.specs.Game.{Game}
-use Rattle.cave_replay.specs.Play.{state_after, texts_of, ticks_of}
-use Rattle.replay_edits.specs.Edit.{line_at}
+use Rattle.cave_replay.specs.Play.{MachineRules, state_after, texts_of, ticks_of}
+use Rattle.replay_edits.specs.Edit.{Game, line_at}
 use Rattle.cave_replay.specs.Agreement.{state_at, image, AgreesAt}
 use Rattle.cave_replay.specs.Replay.{IsShift, texts_at, ticks_at}
 use Rattle.cave_replay.proofs.Plays.{state_after-append, texts_of-append, ticks_of-append}

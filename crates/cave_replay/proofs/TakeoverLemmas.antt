@@ -10,12 +10,9 @@ use Rattle.std.proofs.lemmas.Bool.{cases_lt}
 use Rattle.std.proofs.lemmas.List.{get_or_default}
 use Rattle.replay_marks.specs.Spacing.{IsSpaced}
 use Rattle.replay_marks.specs.Marks.{MarksView, CheckpointsView}
-use Rattle.cave_replay.specs.Machine.{MachineRules}
+use Rattle.cave_replay.specs.Play.{MachineRules, state_after, texts_of, ticks_of}
 use Rattle.cave_replay.specs.declared.ready_edits.ReadyEdits.{ReadyEdits}
-use Rattle.replay_edits.specs.Game.{game_of, log_of, IsGame}
-use Rattle.cave_replay.specs.Play.{state_after, texts_of, ticks_of}
-use Rattle.replay_edits.specs.Edit.{Change, apply_all}
-use Rattle.replay_edits.specs.Margins.{margins_of}
+use Rattle.replay_edits.specs.Edit.{game_of, log_of, IsGame, Change, apply_all, margins_of}
 use Rattle.cave_replay.specs.Playthrough.{IsPlaythrough}
 use Rattle.cave_replay.specs.Agreement.{IsMeet, IsLastTo}
 use Rattle.cave_replay.specs.ReadyEdits.{new_game, AreEditsOf}

@@ -1,9 +1,8 @@
 -- Where an old play and a new one agree, which checkpoint is met, and how much is replayed.
 use Rattle.std.specs.Prelude.{◌≡◌, ℕ, ◌+◌, ◌-◌, ◌*◌, ◌<◌, ◌≤◌, List, length, take, Contains, Option}
 use Rattle.std.specs.Prelude.{None, Some}
-use Rattle.cave_replay.specs.Machine.{MachineRules}
-use Rattle.replay_edits.specs.Game.{Game}
-use Rattle.cave_replay.specs.Play.{state_after}
+use Rattle.cave_replay.specs.Play.{MachineRules, state_after}
+use Rattle.replay_edits.specs.Edit.{Game}
 
 -- the state of a play at a place: after so many lines
 abbrev pub state_at : {S T : Type 0} → MachineRules S T → Game → ℕ → S

@@ -1,7 +1,6 @@
 pub mod Agreement
 pub mod Equality
 pub mod LogText
-pub mod Machine
 pub mod Opening
 pub mod Play
 pub mod PlayedRow

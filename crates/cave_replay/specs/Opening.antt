@@ -4,8 +4,7 @@ use Rattle.std.specs.Prelude.{Option, None, Some, MatchOption, Result}
 use Rattle.replay_edits.specs.base_lines.Line.{is_line, flaw_of}
 use Rattle.replay_edits.specs.base_lines.declared.line_flaw.LineFlaw.{LineFlaw}
 use Rattle.cave_replay.specs.declared.fault.OpenFault.{OpenFault}
-use Rattle.cave_replay.specs.declared.fault.OpenFault.TheVariants.{BadEvery, BadLine, LogFull}
-use Rattle.cave_replay.specs.declared.fault.OpenFault.TheVariants.{BadSeed, Memory}
+use Rattle.cave_replay.specs.declared.fault.OpenFault.TheVariants as cause
 use Rattle.replay_edits.specs.Faults.{IsFaultOr}
 use Rattle.cave_replay.specs.Report.{RisesByAtMost}
 use Rattle.replay_edits.specs.base_limits.Limits.{MAX_LOG_LINES, MAX_SEED, MAX_EVERY}
@@ -20,23 +19,23 @@ first_bad_line (line ∷ lines) number =
 -- what is wrong with a game, apart from its lines
 abbrev pub game_fault : List (List ℕ) → ℕ → Option OpenFault
 game_fault log seed =
-    if nat_lt MAX_LOG_LINES (length log) then Some LogFull
-    else (if nat_lt MAX_SEED seed then Some BadSeed else None)
+    if nat_lt MAX_LOG_LINES (length log) then Some cause.LogFull
+    else (if nat_lt MAX_SEED seed then Some cause.BadSeed else None)
 
 -- the first bad line, or else what is wrong with the game apart from it
 abbrev pub or_game_fault : Option (ℕ × LineFlaw) → List (List ℕ) → ℕ → Option OpenFault
-or_game_fault (Some (number, flaw)) log seed = Some (BadLine number flaw)
+or_game_fault (Some (number, flaw)) log seed = Some (cause.BadLine number flaw)
 or_game_fault None log seed = game_fault log seed
 
 -- the first fault of what a session is opened with, memory aside
 abbrev pub open_fault : ℕ → List (List ℕ) → ℕ → Option OpenFault
 open_fault every log seed =
-    if every == 0 || nat_lt MAX_EVERY every then Some BadEvery
+    if every == 0 || nat_lt MAX_EVERY every then Some cause.BadEvery
     else or_game_fault (first_bad_line log 1) log seed
 
 -- opening a session returns the first fault, or runs out of memory
 abbrev pub IsAnswerToOpen : {A : Type 0} → Option OpenFault → Result A OpenFault → Type 0
-IsAnswerToOpen fault result = IsFaultOr Memory fault result
+IsAnswerToOpen fault result = IsFaultOr cause.Memory fault result
 
 -- a meter rises by at most the lines that are played, and not at all at a fault that was found
 abbrev pub AreOpenSteps : Option OpenFault → ℕ → ℕ → ℕ → Type 0

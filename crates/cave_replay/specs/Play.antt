@@ -1,20 +1,25 @@
--- A game, and its play by a machine: states, texts and ticks.
+-- What a machine does, and the play of a game by it: states, texts and ticks.
 use Rattle.std.specs.Prelude.{◌≡◌, ℕ, ◌+◌, Bool, if◌then◌else◌, List, [], ◌∷◌}
-use Rattle.replay_edits.specs.Game.{Game}
-use Rattle.cave_replay.specs.Machine.{MachineRules}
+use Rattle.replay_edits.specs.Edit.{Game}
 
--- the state after the lines
+-- what a machine answers: at the start as a function of the seed, and then of the state and of the
+-- line
+pub record MachineRules (S T : Type 0) : Type 0 where
+  pub begun : ℕ → S
+  pub greeting : ℕ → T
+  pub after : S → List ℕ → S
+  pub said : S → List ℕ → T
+  pub ticked : S → List ℕ → Bool
+
 abbrev pub state_after : {S T : Type 0} → MachineRules S T → S → List (List ℕ) → S
 state_after rules state [] = state
 state_after rules state (line ∷ lines) = state_after rules (rules.after state line) lines
 
--- what is said at each of the lines
 abbrev pub texts_of : {S T : Type 0} → MachineRules S T → S → List (List ℕ) → List T
 texts_of rules state [] = []
 texts_of rules state (line ∷ lines) =
     rules.said state line ∷ texts_of rules (rules.after state line) lines
 
--- whether each of the lines ticks
 abbrev pub ticks_of : {S T : Type 0} → MachineRules S T → S → List (List ℕ) → List Bool
 ticks_of rules state [] = []
 ticks_of rules state (line ∷ lines) =

@@ -44,6 +44,5 @@ pub record IsRowAt {Piece : Type 0} (log : List (List ℕ)) (pieces : List Piece
   pub ticked_is : slice_get ticks place ≡ Some row.ticked
   pub ticks_are : row.ticks ≡ count_by (λ ticks. ticks) (take (place + 1) ticks)
 
--- the row is that of a place of the log that a session holds
 abbrev pub IsRowOf : {M P S : Type 0} → SessionView M P S → ℕ → PlayedRow P → Type 0
 IsRowOf held place row = IsRowAt held.game.log held.pieces held.ticks place row

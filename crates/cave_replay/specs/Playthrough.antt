@@ -2,9 +2,8 @@
 use Rattle.std.specs.Prelude.{◌≡◌, ℕ, ◌<◌, ◌≤◌, Bool, List, length, map}
 use Rattle.replay_marks.specs.Marks.{CheckpointsView}
 use Rattle.cave_replay.specs.declared.playthrough.Playthrough.{Playthrough}
-use Rattle.cave_replay.specs.Machine.{MachineRules}
-use Rattle.replay_edits.specs.Game.{Game, game_in, log_of, IsGame}
-use Rattle.cave_replay.specs.Play.{IsPlay}
+use Rattle.cave_replay.specs.Play.{MachineRules, IsPlay}
+use Rattle.replay_edits.specs.Edit.{Game, game_in, log_of, IsGame}
 use Rattle.cave_replay.specs.Agreement.{state_at}
 use Rattle.cave_replay.specs.Replay.{AreStates}
 use Rattle.replay_edits.specs.base_limits.Limits.{MAX_EVERY}
@@ -26,7 +25,6 @@ pub record IsPlaythrough {State S T : Type 0} (meaning : State → S) (is_state 
   pub states : AreStates meaning is_state (state_at rules game) checkpoints.places
       checkpoints.states
 
--- the game that is kept
 abbrev pub kept_game : {Machine State Kept Piece Meter Scratch : Type 0}
     → Playthrough Machine State Kept Piece Meter Scratch → Game
 kept_game kept = game_in kept.seed kept.log

@@ -7,24 +7,20 @@ use Rattle.cave_replay.specs.declared.segment.Segment.{Segment}
 use Rattle.cave_replay.specs.declared.playthrough.Playthrough.{Playthrough}
 use Rattle.cave_replay.specs.declared.replay.Rerun.{Rerun}
 use Rattle.replay_marks.specs.Marks.{MarksView}
-use Rattle.cave_replay.specs.Machine.{MachineRules}
-use Rattle.replay_edits.specs.Game.{Game, game_of, log_of, IsGame}
+use Rattle.cave_replay.specs.Play.{MachineRules}
+use Rattle.replay_edits.specs.Edit.{Game, game_of, log_of, IsGame, margins_of, Change, changes_of}
+use Rattle.replay_edits.specs.Edit.{apply_all}
 use Rattle.cave_replay.specs.Playthrough.{kept_game}
-use Rattle.replay_edits.specs.Margins.{margins_of}
-use Rattle.cave_replay.specs.Replay.{Revision, IsShift, MayBegin, IsPlayed, IsWithinBound, IsRerun}
+use Rattle.cave_replay.specs.Replay.{Revision, IsShift, MayBegin, IsPlayedOn, IsRerun}
 use Rattle.cave_replay.specs.Replay.{revision_to, segment_view, rerun_view}
-use Rattle.replay_edits.specs.Edit.{Change, changes_of, apply_all}
 use Rattle.replay_edits.specs.Faults.{fault_of_all, log_after_all}
 
--- a log after the edits
 abbrev pub log_after_edits : ReadyEdits → List (List ℕ) → List (List ℕ)
 log_after_edits ready log = log_after_all (changes_of ready.edits.items) log
 
--- the game with that log
 abbrev pub new_game : ReadyEdits → List (List ℕ) → Game
 new_game ready log = game_of ready.seed (log_after_edits ready log)
 
--- the revision of an old game by the edits
 abbrev pub ready_revision : {Kept State S T : Type 0} → MachineRules S T → OldPlay Kept State
     → ReadyEdits
     → Revision S T
@@ -36,29 +32,18 @@ ready_revision rules old ready = record {
   tail = length old.log.now - ready.rest;
 }
 
--- the replay of an old game by the edits may begin with these marks
 abbrev pub MayReplay : {Kept State S T : Type 0} → (State → S) → (State → Type 0) → MachineRules S T
     → OldPlay Kept State → ReadyEdits → MarksView State → Type 0
 MayReplay meaning is_state rules old ready marks =
     MayBegin meaning is_state (ready_revision rules old ready) old.checkpoints.now marks
 
--- this was played in it, from the open place of the marks on
 abbrev pub IsReplayed : {Machine State Kept Piece Meter Scratch S T : Type 0} → (State → S)
     → (State → Type 0) → (Piece → T) → MachineRules S T → OldPlay Kept State → ReadyEdits
-    → MarksView State
-    → Segment Machine State Kept Piece Meter Scratch → Type 0
+    → MarksView State → Segment Machine State Kept Piece Meter Scratch → Type 0
 IsReplayed meaning is_state text rules old ready marks played =
-    IsPlayed meaning is_state (ready_revision rules old ready) old.checkpoints.now.places marks
+    IsPlayedOn meaning is_state (ready_revision rules old ready) old.checkpoints.now.places marks
     (segment_view text played)
 
--- so many steps are within its bound
-abbrev pub IsReplayBounded : {Kept State S T : Type 0} → MachineRules S T → OldPlay Kept State
-    → ReadyEdits
-    → ℕ → ℕ → Type 0
-IsReplayBounded rules old ready every steps =
-    IsWithinBound (ready_revision rules old ready) every steps
-
--- this is the rerun of the game that is kept, by changes of which the ready edits are made
 abbrev pub IsRerunOf : {Machine State Kept Piece Meter Scratch S T : Type 0} → (State → S)
     → (State → Type 0) → (Piece → T) → MachineRules S T → List Change
     → Playthrough Machine State Kept Piece Meter Scratch

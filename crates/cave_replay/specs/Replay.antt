@@ -5,11 +5,8 @@ use Rattle.std.specs.Option.{option_map}
 use Rattle.replay_marks.specs.Marks.{MarksView, CheckpointsView, IsBegunAt}
 use Rattle.cave_replay.specs.declared.replay.Rerun.{Rerun}
 use Rattle.cave_replay.specs.declared.segment.Segment.{Segment}
-use Rattle.cave_replay.specs.Machine.{MachineRules}
-use Rattle.replay_edits.specs.Game.{Game}
-use Rattle.cave_replay.specs.Play.{texts_of, ticks_of}
-use Rattle.replay_edits.specs.Edit.{Change}
-use Rattle.replay_edits.specs.Margins.{margins_of}
+use Rattle.cave_replay.specs.Play.{MachineRules, texts_of, ticks_of}
+use Rattle.replay_edits.specs.Edit.{Game, Change, margins_of}
 use Rattle.cave_replay.specs.Agreement.{state_at, image, AgreesAt, NoneMeetsBefore, IsMeet}
 use Rattle.cave_replay.specs.Agreement.{IsBounded}
 
@@ -22,11 +19,9 @@ pub record IsShift (old new : Game) (head tail : ℕ) : Type 0 where
   pub rest : drop (length new.log - tail) new.log ≡ drop (length old.log - tail) old.log
   pub seed : 0 < head → new.seed ≡ old.seed
 
--- what is said before a place
 abbrev pub texts_at : {S T : Type 0} → MachineRules S T → Game → ℕ → List T
 texts_at rules game place = texts_of rules (rules.begun game.seed) (take place game.log)
 
--- what ticks before a place
 abbrev pub ticks_at : {S T : Type 0} → MachineRules S T → Game → ℕ → List Bool
 ticks_at rules game place = ticks_of rules (rules.begun game.seed) (take place game.log)
 
@@ -39,7 +34,6 @@ pub record Revision (S T : Type 0) : Type 0 where
   pub head : ℕ
   pub tail : ℕ
 
--- the revision where changes make a new game of an old one
 abbrev pub revision_to : {S T : Type 0} → MachineRules S T → List Change → Game → Game
     → Revision S T
 revision_to rules changes old new = record {
@@ -94,7 +88,6 @@ abbrev pub NoneMetBefore : {S T : Type 0} → Revision S T → List ℕ → ℕ 
 NoneMetBefore revision checkpoints limit =
     NoneMeetsBefore revision.rules revision.old revision.new revision.tail checkpoints limit
 
--- So many steps are within the bound of the replay.
 abbrev pub IsWithinBound : {S T : Type 0} → Revision S T → ℕ → ℕ → Type 0
 IsWithinBound revision every steps =
     IsBounded revision.rules revision.old revision.new revision.head revision.tail every steps
@@ -168,7 +161,7 @@ pub record PlaysLine {State S T : Type 0} (meaning : State → S) (is_state : St
 
 -- The new game was played from the open place of the marks `begun` on, until it met the old play
 -- at a checkpoint, or to its end.
-pub record IsPlayed {State S T : Type 0} (meaning : State → S) (is_state : State → Type 0)
+pub record IsPlayedOn {State S T : Type 0} (meaning : State → S) (is_state : State → Type 0)
     (revision : Revision S T) (checkpoints : List ℕ) (begun : MarksView State)
     (played : SegmentView State T) : Type 0 where
   pub texts : SaysNew revision begun.next played.pieces played.marks.next
@@ -247,7 +240,6 @@ pub record RerunView (State T : Type 0) : Type 0 where
   pub marks : MarksView State
   pub met : Option ℕ
 
--- a rerun by what its pieces say
 abbrev pub rerun_view : {Machine State Kept Piece Meter Scratch T : Type 0}
     → (Piece → T) → Rerun Machine State Kept Piece Meter Scratch → RerunView State T
 rerun_view text rerun = record {

@@ -1,11 +1,9 @@
 -- What a report on edits says of a replay.
 use Rattle.std.specs.Prelude.{◌≡◌, ℕ, ◌+◌, ◌-◌, ◌≤◌, List, [], ◌∷◌, length, Option, MatchOption}
 use Rattle.std.specs.Prelude.{unwrap_or}
-use Rattle.cave_replay.specs.Machine.{MachineRules}
-use Rattle.replay_edits.specs.Game.{Game}
-use Rattle.replay_edits.specs.Edit.{Change, apply_all}
+use Rattle.cave_replay.specs.Play.{MachineRules}
+use Rattle.replay_edits.specs.Edit.{Game, Change, apply_all, margins_of}
 use Rattle.replay_edits.specs.Faults.{group_fault, edit_fault, steps_left}
-use Rattle.replay_edits.specs.Margins.{margins_of}
 use Rattle.cave_replay.specs.Agreement.{IsLastTo, IsMeet, IsBounded}
 
 -- a count that was `old` has risen by at most `most`

@@ -1,10 +1,8 @@
 -- What a session shows, and what its calls say of it.
 use Rattle.std.specs.Prelude.{◌≡◌, ℕ, Bool, List, Option, map}
 use Rattle.cave_replay.specs.declared.playthrough.Playthrough.{Playthrough}
-use Rattle.cave_replay.specs.Machine.{MachineRules}
-use Rattle.replay_edits.specs.Game.{Game}
-use Rattle.cave_replay.specs.Play.{IsPlay}
-use Rattle.replay_edits.specs.Edit.{Change}
+use Rattle.cave_replay.specs.Play.{MachineRules, IsPlay}
+use Rattle.replay_edits.specs.Edit.{Game, Change}
 use Rattle.cave_replay.specs.Playthrough.{kept_game}
 use Rattle.cave_replay.specs.Report.{IsReport}
 

@@ -1,9 +1,8 @@
 -- What one change leaves alone of a log, by its kind.
 use Rattle.std.specs.Prelude.{◌≡◌, ℕ, ◌+◌, ◌-◌, ◌≤◌, [], ◌∷◌, length, None}
-use Rattle.replay_edits.specs.Game.{Game}
-use Rattle.replay_edits.specs.Edit.{Change, inserts, deletes, replaces, reseeds, apply}
+use Rattle.replay_edits.specs.Edit.{Game, Change, inserts, deletes, replaces, reseeds, apply}
+use Rattle.replay_edits.specs.Edit.{margins_of}
 use Rattle.replay_edits.specs.Faults.{fault_of}
-use Rattle.replay_edits.specs.Margins.{margins_of}
 use Rattle.cave_replay.specs.Agreement.{image}
 
 -- the first place that a change changes

@@ -1,5 +1,5 @@
 ghost use Rattle.std.specs.Prelude.{◌≡◌, map, IfOk};
-ghost use Rattle.replay_edits.specs.Game.{log_of};
+ghost use Rattle.replay_edits.specs.Edit.{log_of};
 ghost use Rattle.cave_replay.specs.Playthrough.{IsCopyOf};
 
 use crate::machine::Machine;
@@ -41,7 +41,6 @@ fn copy_lines(alloc: Global, lines: &[LineText]) -> Result<Vec<LineText>, AllocE
     Ok(copy)
 }
 
-/// Pieces that say the same.
 fn copy_pieces<M: Machine>(
     alloc: Global,
     machine: &M,

@@ -2,7 +2,7 @@ ghost use Rattle.std.specs.Prelude.{◌≡◌, ◌++◌, ◌∷◌, [], length, 
 ghost use Rattle.std.specs.Prelude.{Some, Err};
 ghost use Rattle.std.specs.Str.Lines.{lines};
 ghost use Rattle.cave_replay.specs.LogText.{log_text};
-ghost use Rattle.replay_edits.specs.Game.{log_of};
+ghost use Rattle.replay_edits.specs.Edit.{log_of};
 ghost use Rattle.cave_replay.specs.Opening.{first_bad_line, open_fault, IsAnswerToOpen};
 
 use crate::fault::OpenFault;
@@ -63,7 +63,6 @@ fn copy_lines(alloc: Global, log: &[u8]) -> Result<(usize, Copies), (usize, Line
     Ok((count, copies))
 }
 
-/// The copies with one of a line after them.
 fn with_copy(alloc: Global, copies: Copies, line: &[u8]) -> Copies
     ensures { MatchResult copies
         (λ old. IfOk result (λ new. log_of new.items ≡ log_of old.items ++ line.now ∷ []))

@@ -1,6 +1,6 @@
 ghost use Rattle.std.specs.Prelude.{◌≡◌, ◌+◌, ◌^◌, ◌<◌, ◌↔◌, IfOk, OnOk, IsTrue};
 ghost use Rattle.replay_edits.specs.base_lines.Line.{is_line};
-ghost use Rattle.cave_replay.specs.Machine.{MachineRules};
+ghost use Rattle.cave_replay.specs.Play.{MachineRules};
 
 use replay_edits::Steps;
 use replay_marks::KeptState;

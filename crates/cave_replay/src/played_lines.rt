@@ -1,5 +1,5 @@
 ghost use Rattle.std.specs.Prelude.{◌≡◌, ℕ, ◌<◌, ◌^◌, length, slice_get, IfSome};
-ghost use Rattle.replay_edits.specs.Game.{log_of};
+ghost use Rattle.replay_edits.specs.Edit.{log_of};
 ghost use Rattle.cave_replay.specs.PlayedRow.{IsRowAt};
 
 use replay_edits::LineText;
@@ -30,7 +30,7 @@ pub struct PlayedLines<'a, P> {
 
 impl<'a, P> Model for PlayedLines<'a, P> {
     ghost use Rattle.std.specs.Prelude.{◌+◌, ◌<◌, ◌^◌, List, length};
-    ghost use Rattle.replay_edits.specs.Game.{log_of};
+    ghost use Rattle.replay_edits.specs.Edit.{log_of};
     ghost use Rattle.cave_replay.specs.PlayedRow.{PlayedRow, rows_from};
 
     ghost Value = { List (PlayedRow P) };

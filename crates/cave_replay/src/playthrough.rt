@@ -1,6 +1,6 @@
 ghost use Rattle.std.specs.Prelude.{◌≡◌, ◌+◌, ◌^◌, ◌<◌, length, IfOk, OnOk};
 ghost use Rattle.replay_marks.specs.Spacing.{IsSpaced};
-ghost use Rattle.replay_edits.specs.Game.{IsGame, game_in};
+ghost use Rattle.replay_edits.specs.Edit.{IsGame, game_in};
 ghost use Rattle.cave_replay.specs.Playthrough.{IsDistance, kept_game, KeepsPlay};
 ghost use Rattle.cave_replay.specs.Report.{RisesByAtMost};
 

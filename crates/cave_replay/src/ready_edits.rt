@@ -1,6 +1,5 @@
 ghost use Rattle.std.specs.Prelude.{◌≡◌, ◌+◌, ◌-◌, ◌<◌, ◌≤◌, length, IfOk, OnOk, None};
-ghost use Rattle.replay_edits.specs.Game.{game_of, log_of, IsGame};
-ghost use Rattle.replay_edits.specs.Edit.{changes_of, line_at};
+ghost use Rattle.replay_edits.specs.Edit.{game_of, log_of, IsGame, changes_of, line_at};
 ghost use Rattle.replay_edits.specs.Faults.{fault_of_all, group_fault, IsAnswerTo};
 ghost use Rattle.cave_replay.specs.ReadyEdits.{log_after_edits, new_game, IsReady, AreEditsOf};
 ghost use Rattle.cave_replay.specs.Replay.{IsShift};

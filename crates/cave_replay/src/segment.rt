@@ -1,11 +1,11 @@
 ghost use Rattle.std.specs.Prelude.{◌≡◌, ℕ, ◌+◌, ◌-◌, ◌^◌, ◌<◌, ◌≤◌, ◌↔◌, length, slice_index};
 ghost use Rattle.std.specs.Prelude.{IfOk, OnOk, IsTrue, None, Some};
 ghost use Rattle.replay_edits.specs.base_lines.Line.{is_line};
-ghost use Rattle.replay_edits.specs.Game.{log_of};
+ghost use Rattle.replay_edits.specs.Edit.{log_of};
 ghost use Rattle.cave_replay.specs.ReadyEdits.{log_after_edits, IsReady, MayReplay, IsReplayed};
-ghost use Rattle.cave_replay.specs.ReadyEdits.{IsReplayBounded};
+ghost use Rattle.cave_replay.specs.ReadyEdits.{ready_revision};
 ghost use Rattle.cave_replay.specs.Replay.{AreStates, IsMarking, IsNextIndex, PlaysLine};
-ghost use Rattle.cave_replay.specs.Replay.{segment_view};
+ghost use Rattle.cave_replay.specs.Replay.{IsWithinBound, segment_view};
 ghost use Rattle.cave_replay.specs.Report.{RisesByAtMost};
 ghost use Rattle.replay_edits.specs.base_limits.Limits.{MAX_LOG_LINES};
 
@@ -56,7 +56,7 @@ pub(crate) fn play_changed<M: Machine>(
         ≡ M.Meter.count meter.old + played.marks.next) }
     ensures counted { M.Meter.count meter.old ≤ M.Meter.count meter.new }
     ensures bounded { let steps = M.Meter.count meter.new - M.Meter.count meter.old in
-        IsReplayBounded (M.rules machine.now) old.now ready.now marks.every steps }
+        IsWithinBound (ready_revision (M.rules machine.now) old.now ready.now) marks.every steps }
 {
     let end = ready.lines;
     let new = ready.rest_after(old.log);
@@ -110,8 +110,6 @@ fn pass<M: Machine>(
     Some(index + 1)
 }
 
-/// Whether the old checkpoint of this index comes to the new place, as the old place `old` comes to
-/// `new`.
 fn comes_to(places: &[u32], index: usize, old: usize, new: usize, place: usize) -> bool
     requires after { index < length places.now → old ≤ slice_index places.now index }
     requires few { new ≤ MAX_LOG_LINES }
@@ -136,7 +134,6 @@ fn agrees<M: Machine>(
     checkpoints.state(index) == *marks.state()
 }
 
-/// Plays one line more.
 pub(crate) fn play_line<M: Machine>(
     workspace: &mut Workspace<M>,
     machine: &M,

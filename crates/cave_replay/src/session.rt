@@ -4,11 +4,10 @@ ghost use Rattle.std.specs.Prelude.{IfOk, IfSome, OnOk, OnErr};
 ghost use Rattle.std.specs.Str.Lines.{lines};
 ghost use Rattle.replay_marks.specs.Spacing.{IsSpaced, most_spaced};
 ghost use Rattle.replay_edits.specs.base_lines.Line.{is_line};
-ghost use Rattle.replay_edits.specs.Game.{game_of, IsGame};
-ghost use Rattle.replay_edits.specs.Edit.{change_of, changes_of, apply, apply_all, inverse_of};
-ghost use Rattle.replay_edits.specs.Edit.{inverses_of, line_at};
+ghost use Rattle.replay_edits.specs.Edit.{game_of, IsGame, change_of, changes_of, apply, apply_all};
+ghost use Rattle.replay_edits.specs.Edit.{inverse_of, inverses_of, line_at};
 ghost use Rattle.replay_edits.specs.Faults.{fault_of, fault_of_all, edit_fault, group_fault};
-ghost use Rattle.replay_edits.specs.Faults.{steps_left, IsAnswerTo, IsAnswerToEdit};
+ghost use Rattle.replay_edits.specs.Faults.{steps_left, IsAnswerTo, IsFaultOr};
 ghost use Rattle.cave_replay.specs.Opening.{open_fault, IsAnswerToOpen, AreOpenSteps};
 ghost use Rattle.cave_replay.specs.LogText.{log_text};
 ghost use Rattle.cave_replay.specs.PlayedRow.{IsRowOf};
@@ -142,7 +141,8 @@ impl<M: Machine> Session<M> {
 
         ensures refused { OnErr result (self.new ≡ self.old) }
         ensures faults { let left = steps_left (M.Meter.count meter.old) in
-            IsAnswerToEdit (edit_fault (change_of edit.now) self.old.game.log left) result }
+            IsFaultOr EditFault.Memory (edit_fault (change_of edit.now) self.old.game.log left)
+            result }
 
         ensures report { let rules = M.rules self.old.machine in
             IfOk result (λ report.

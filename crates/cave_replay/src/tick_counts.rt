@@ -4,7 +4,6 @@ ghost use Rattle.std.specs.Iterator.{YieldsFirst, item_count};
 
 use std::marker::Model;
 
-/// How many of the first lines, `count` of them, ticked.
 pub(crate) fn count_ticks(ticked: &[bool], count: usize) -> u32
     requires within { count ≤ length ticked.now }
     requires few { length ticked.now < 2 ^ 32 }

@@ -2,7 +2,7 @@
 use Rattle.std.proofs.Common.{◌≡◌, ℕ, zero, suc, ◌-◌, ◌<◌, refl, arith}
 use Rattle.turn_text.specs.cave_data.CaveView.{CaveView}
 use Rattle.cave_turn.specs.Revival.{layout_after_fall, layout_after_falls}
-use Rattle.turn_text.specs.world_objects.Layout.{Layout}
+use Rattle.turn_text.specs.world_objects.Objects.{Layout}
 
 -- of the objects up to a number the last one falls first
 pub falling-one : (cave : CaveView) (place n : ℕ) (o : Layout) → 0 < n

@@ -6,8 +6,7 @@ use Rattle.turn_text.specs.data_rows.declared.role.Role.TheVariants as role
 use Rattle.turn_moves.specs.Arrival.{after_arrival}
 use Rattle.turn_begin.specs.turn_scene.Scene.{Scene, scene_at_start, after_saying, with_state}
 use Rattle.turn_begin.specs.turn_things.Places.{start_place}
-use Rattle.turn_text.specs.cave_words.Word.{is_written}
-use Rattle.turn_text.specs.cave_words.Words.{words_of}
+use Rattle.turn_text.specs.cave_words.Words.{is_written, words_of}
 use Rattle.turn_text.specs.cave_world.State.{CLUE_HINT, INSTRUCTIONS_HINT, with_hint_taken}
 use Rattle.turn_text.specs.cave_world.declared.ending.Ending.TheVariants as ending_is
 use Rattle.turn_text.specs.cave_world.declared.ending.Question.{Question}
@@ -53,7 +52,6 @@ after_enter cave p = after_arrival cave (start_place cave) p
 abbrev pub after_quit : CaveView → Scene → Scene
 after_quit cave p = after_end cave ending_is.Quit (after_saying role.Ok p)
 
--- yes
 abbrev pub after_yes : CaveView → Question → Scene → Scene
 after_yes cave question.Welcome p =
     after_enter cave (with_state (after_instructions p.state) (after_saying role.Instructions p))

@@ -7,15 +7,13 @@ use Rattle.turn_text.specs.data_rows.declared.role.Role.TheVariants as role
 use Rattle.turn_moves.specs.Arrival.{after_arrival, description_anew}
 use Rattle.turn_moves.specs.Journeys.{journey_by_request}
 use Rattle.turn_begin.specs.turn_scene.Scene.{Scene, scene_at_start, after_telling, after_saying}
-use Rattle.turn_begin.specs.turn_scene.Scene.{with_state, after_draw, happens}
-use Rattle.turn_begin.specs.turn_scene.Rules.{thing}
+use Rattle.turn_begin.specs.turn_scene.Scene.{with_state, after_draw, happens, thing}
 use Rattle.cave_verbs.specs.Acting.{act, next_of_step}
-use Rattle.cave_verbs.specs.verb_commands.Deeds.{command_of}
+use Rattle.cave_verbs.specs.verb_commands.Rows.{command_of}
 use Rattle.cave_verbs.specs.verb_commands.Effects.{after_default}
 use Rattle.cave_verbs.specs.verb_commands.Verbs.{verb_number, verb_of}
 use Rattle.cave_verbs.specs.verb_commands.declared.next.Next.{Next}
-use Rattle.cave_verbs.specs.verb_commands.declared.next.Next.TheVariants.{Stay, Keep, Describe}
-use Rattle.cave_verbs.specs.verb_commands.declared.next.Next.TheVariants.{Arrive, Ask, End}
+use Rattle.cave_verbs.specs.verb_commands.declared.next.Next.TheVariants as next_is
 use Rattle.cave_verbs.specs.verb_commands.declared.command.Command.{Command}
 use Rattle.cave_verbs.specs.verb_commands.declared.verb.Verb.{Verb}
 use Rattle.turn_text.specs.cave_words.Words.{words_of}
@@ -37,8 +35,7 @@ use Rattle.turn_text.specs.cave_world.declared.part.Part.TheVariants as part
 use Rattle.turn_text.specs.cave_world.declared.part.WordLine.TheVariants as line
 use Rattle.cave_turn.specs.declared.request.HalfCommand.{HalfCommand}
 use Rattle.cave_turn.specs.declared.request.Request.{Request}
-use Rattle.cave_turn.specs.declared.request.Request.TheVariants.{Unknown, Motion, Tell, Knives, Act}
-use Rattle.cave_turn.specs.declared.request.Request.TheVariants.{WhatToDo}
+use Rattle.cave_turn.specs.declared.request.Request.TheVariants as request
 use Rattle.cave_turn.specs.declared.request.Understood.{Understood}
 
 -- the magic words go on from where the last command left them, and stop where it left them twice
@@ -60,7 +57,6 @@ unfoldable pub begin_command : State → State
 begin_command s =
     let t = with_magic_waiting s in with_knife (knife_here t.trail.here t.dwarves.knife) t
 
--- the player travels by a motion
 unfoldable pub after_travel : CaveView → ℕ → Scene → Scene
 after_travel cave motion p =
     let j = journey_by_request cave motion p in after_arrival cave j.place j.scene
@@ -75,18 +71,17 @@ after_puzzle p =
     let once = after_draw p in let twice = after_draw once in
     after_saying (puzzlement (happens 20 p) (happens 20 once)) twice
 
--- it is said that the knives vanished
 abbrev pub after_vanished_knives : Scene → Scene
 after_vanished_knives p = after_saying role.Knife (with_state (with_knife knife.Vanished p.state) p)
 
 -- what follows what a verb did
 abbrev pub next_scene : CaveView → Next → Scene → Scene
-next_scene cave Stay p = p
-next_scene cave Keep p = p
-next_scene cave Describe p = description_anew cave p
-next_scene cave (Arrive place) p = after_arrival cave place p
-next_scene cave (Ask question) p = after_ask cave question p
-next_scene cave (End how) p = after_end cave how p
+next_scene cave next_is.Stay p = p
+next_scene cave next_is.Keep p = p
+next_scene cave next_is.Describe p = description_anew cave p
+next_scene cave (next_is.Arrive place) p = after_arrival cave place p
+next_scene cave (next_is.Ask question) p = after_ask cave question p
+next_scene cave (next_is.End how) p = after_end cave how p
 
 -- what a line has done, and the half command that it leaves for the next one
 pub record WordsDone : Type 0 where
@@ -98,7 +93,7 @@ after_words p kept = record { scene = p; kept = kept }
 
 -- a verb that asks what it is to be done to is kept alone
 abbrev pub half_command_kept : Next → ℕ → Option HalfCommand
-half_command_kept Keep v = Some (record { verb = Some v; object = 0 })
+half_command_kept next_is.Keep v = Some (record { verb = Some v; object = 0 })
 half_command_kept _ v = None
 
 -- a verb is done by the first of its rows that fits, and then what follows
@@ -117,13 +112,13 @@ words_done_by_action cave None number x word p = after_words (after_default cave
 -- what was read is done. After an unknown word, or where a verb is missing, the half command stays
 -- as it then is
 abbrev pub words_done_by_request : CaveView → HalfCommand → Request → Scene → WordsDone
-words_done_by_request cave half Unknown p = after_words (after_puzzle p) (Some half)
-words_done_by_request cave half (Motion motion) p = after_words (after_travel cave motion p) None
-words_done_by_request cave half (Tell told) p = after_words (after_telling told p) None
-words_done_by_request cave half Knives p = after_words (after_vanished_knives p) None
-words_done_by_request cave half (Act number x word) p =
+words_done_by_request cave half request.Unknown p = after_words (after_puzzle p) (Some half)
+words_done_by_request cave half (request.Motion motion) p = after_words (after_travel cave motion p) None
+words_done_by_request cave half (request.Tell told) p = after_words (after_telling told p) None
+words_done_by_request cave half request.Knives p = after_words (after_vanished_knives p) None
+words_done_by_request cave half (request.Act number x word) p =
     words_done_by_action cave (verb_of number) number x word p
-words_done_by_request cave half (WhatToDo word) p =
+words_done_by_request cave half (request.WhatToDo word) p =
     after_words (after_telling (part.Word line.WhatToDo word) p) (Some half)
 
 -- what is kept is remembered; where nothing is, the object that was read is the last one

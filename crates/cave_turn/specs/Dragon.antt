@@ -4,13 +4,12 @@ use Rattle.turn_text.specs.data_numbers.Numbers.{LAST_OBJECT}
 use Rattle.turn_text.specs.cave_data.CaveView.{CaveView}
 use Rattle.turn_moves.specs.Arrival.{after_arrival}
 use Rattle.turn_begin.specs.turn_scene.Scene.{Scene, after_look_at, with_state, scene_at_place}
+use Rattle.turn_begin.specs.turn_scene.Scene.{thing}
 use Rattle.turn_begin.specs.turn_things.Effects.{with_objects}
 use Rattle.turn_begin.specs.turn_things.Homes.{home, second_home}
 use Rattle.turn_begin.specs.turn_things.Props.{DRAGON_DEAD, DRAGON_DYING, RUG_FREE}
-use Rattle.turn_begin.specs.turn_scene.Rules.{thing}
 use Rattle.turn_text.specs.cave_words.declared.named.Named.TheVariants as name
-use Rattle.turn_text.specs.world_objects.Layout.{Layout}
-use Rattle.turn_text.specs.world_objects.Objects.{after_move_to, with_anchor, with_prop}
+use Rattle.turn_text.specs.world_objects.Objects.{Layout, after_move_to, with_anchor, with_prop}
 use Rattle.turn_text.specs.world_objects.Objects.{is_first_at}
 use Rattle.turn_text.specs.world_objects.declared.spot.Anchor.TheVariants as anchor
 use Rattle.turn_text.specs.cave_world.declared.state.State.{State}

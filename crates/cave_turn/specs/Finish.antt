@@ -4,12 +4,10 @@ use Rattle.turn_text.specs.data_numbers.Numbers.{LAST_OBJECT}
 use Rattle.turn_text.specs.cave_data.CaveView.{CaveView}
 use Rattle.turn_begin.specs.turn_things.Effects.{with_objects}
 use Rattle.turn_begin.specs.turn_things.Props.{OYSTER_WRITTEN_ON, UNSEEN}
-use Rattle.turn_begin.specs.turn_scene.Scene.{Scene, after_look_at, with_state}
-use Rattle.turn_begin.specs.turn_scene.Rules.{thing}
+use Rattle.turn_begin.specs.turn_scene.Scene.{Scene, after_look_at, with_state, thing}
 use Rattle.turn_hints.specs.Hints.{after_hints}
 use Rattle.turn_text.specs.cave_words.declared.named.Named.TheVariants as name
-use Rattle.turn_text.specs.world_objects.Layout.{Layout}
-use Rattle.turn_text.specs.world_objects.Objects.{is_carried, prop_of, with_prop}
+use Rattle.turn_text.specs.world_objects.Objects.{Layout, is_carried, prop_of, with_prop}
 use Rattle.turn_text.specs.cave_world.State.{takes_no_command}
 
 -- an object that is carried and shows nothing yet

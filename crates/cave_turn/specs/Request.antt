@@ -3,12 +3,12 @@ use Rattle.std.specs.Prelude.{ℕ, Bool, true, false, ◌==◌, ◌&&◌, ◌||�
 use Rattle.std.specs.Prelude.{Option, Some, None}
 use Rattle.turn_text.specs.cave_data.CaveView.{CaveView}
 use Rattle.turn_text.specs.data_rows.declared.role.Role.TheVariants as role
-use Rattle.turn_begin.specs.turn_things.Liquids.{lake_of, is_liquid}
-use Rattle.turn_begin.specs.turn_scene.Rules.{or_no_object, thing}
+use Rattle.turn_begin.specs.turn_things.Reach.{lake_of, is_liquid}
+use Rattle.turn_begin.specs.turn_scene.Scene.{or_no_object, thing}
 use Rattle.cave_verbs.specs.verb_commands.Verbs.{verb_number}
 use Rattle.cave_verbs.specs.verb_commands.declared.verb.Verb.TheVariants as verb
-use Rattle.turn_text.specs.cave_words.Meaning.{meaning}
-use Rattle.turn_text.specs.cave_words.Word.{is_written, word_of}
+use Rattle.turn_text.specs.cave_words.Meanings.{meaning}
+use Rattle.turn_text.specs.cave_words.Words.{is_written, word_of}
 use Rattle.turn_text.specs.cave_words.declared.meaning.Class.{Class}
 use Rattle.turn_text.specs.cave_words.declared.meaning.Class.TheVariants as class
 use Rattle.turn_text.specs.cave_words.declared.meaning.Meaning.{Meaning}
@@ -41,7 +41,6 @@ with_verb v half = record { verb = v; object = half.object }
 abbrev pub with_object : ℕ → HalfCommand → HalfCommand
 with_object x half = record { verb = half.verb; object = x }
 
--- a word, and what it means in the cave
 abbrev pub said_word : CaveView → List ℕ → SaidWord
 said_word cave word = record { word = word; meaning = meaning cave word }
 

@@ -5,17 +5,14 @@ use Rattle.turn_text.specs.cave_data.CaveView.{CaveView}
 use Rattle.turn_text.specs.data_rows.declared.role.Role.{Role}
 use Rattle.turn_text.specs.data_rows.declared.role.Role.TheVariants as role
 use Rattle.turn_moves.specs.Arrival.{description_anew}
-use Rattle.turn_moves.specs.turn_ends.Deaths.{with_one_death}
-use Rattle.turn_moves.specs.turn_ends.Endings.{after_end}
+use Rattle.turn_moves.specs.turn_ends.Endings.{with_one_death, after_end}
 use Rattle.turn_begin.specs.turn_things.Effects.{with_objects}
 use Rattle.turn_begin.specs.turn_things.Places.{building_place, start_place}
-use Rattle.turn_begin.specs.turn_scene.Scene.{Scene, after_saying, with_state}
-use Rattle.turn_begin.specs.turn_scene.Rules.{is_called, thing}
+use Rattle.turn_begin.specs.turn_scene.Scene.{Scene, after_saying, with_state, is_called, thing}
 use Rattle.turn_begin.specs.turn_things.Reach.{is_in_hand}
 use Rattle.turn_begin.specs.turn_things.Props.{LAMP_OFF}
 use Rattle.turn_text.specs.cave_words.declared.named.Named.TheVariants as name
-use Rattle.turn_text.specs.world_objects.Layout.{Layout}
-use Rattle.turn_text.specs.world_objects.Objects.{is_carried, after_move_to, with_prop}
+use Rattle.turn_text.specs.world_objects.Objects.{Layout, is_carried, after_move_to, with_prop}
 use Rattle.turn_text.specs.cave_world.declared.ending.Ending.TheVariants.{Killed}
 use Rattle.turn_text.specs.cave_world.declared.state.State.{State}
 use Rattle.turn_text.specs.cave_world.State.{LIVES, with_player_from}

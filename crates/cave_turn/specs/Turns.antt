@@ -39,7 +39,6 @@ turn_of_input cave line None (Some question) s =
     else turn_of true (command_scene cave line (without_question s))
 turn_of_input cave line None None s = turn_of true (command_scene cave line s)
 
--- the random stream goes on from a seed
 abbrev pub with_seed : State → ℕ → State
 with_seed s seed = record s { stream = stream_of_seed seed }
 

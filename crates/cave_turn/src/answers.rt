@@ -4,8 +4,7 @@ ghost use Rattle.turn_begin.specs.turn_scene.Bounds.{GoesOnSaying, HasRoom, Move
 ghost use Rattle.turn_begin.specs.turn_scene.Bounds.{parts_of_arrival, parts_of_end};
 ghost use Rattle.turn_begin.specs.turn_scene.Bounds.{parts_of_finish, parts_of_question};
 ghost use Rattle.turn_begin.specs.turn_scene.Bounds.{parts_of_answer};
-ghost use Rattle.turn_begin.specs.turn_scene.Scene.{scene_of};
-ghost use Rattle.turn_begin.specs.turn_scene.Rules.{cave_of};
+ghost use Rattle.turn_begin.specs.turn_scene.Scene.{scene_of, cave_of};
 ghost use Rattle.cave_turn.specs.Answers.{answer_of, answer_in, after_instructions, after_enter};
 ghost use Rattle.cave_turn.specs.Answers.{after_quit, after_yes, after_no, reply_scene, is_of_hint};
 ghost use Rattle.cave_turn.specs.Answers.{end_of_answer, after_answer, answers, without_question};

@@ -5,8 +5,7 @@ ghost use Rattle.turn_begin.specs.turn_scene.Bounds.{parts_of_journey, parts_of_
 ghost use Rattle.turn_begin.specs.turn_scene.Bounds.{parts_of_command, room_of_request};
 ghost use Rattle.turn_begin.specs.turn_scene.Bounds.{parts_of_request, parts_of_timed_request};
 ghost use Rattle.turn_begin.specs.turn_scene.Bounds.{room_of_timed_request};
-ghost use Rattle.turn_begin.specs.turn_scene.Scene.{scene_of};
-ghost use Rattle.turn_begin.specs.turn_scene.Rules.{cave_of};
+ghost use Rattle.turn_begin.specs.turn_scene.Scene.{scene_of, cave_of};
 ghost use Rattle.cave_turn.specs.Commands.{with_magic_waiting, knife_here, begin_command};
 ghost use Rattle.cave_turn.specs.Commands.{after_travel, puzzlement, after_puzzle};
 ghost use Rattle.cave_turn.specs.Commands.{after_vanished_knives, next_scene, half_command_kept};

@@ -1,8 +1,7 @@
 ghost use Rattle.std.specs.Prelude.{◌≡◌, ◌+◌, ◌<◌};
 ghost use Rattle.turn_text.specs.data_numbers.Numbers.{LAST_OBJECT};
 ghost use Rattle.turn_begin.specs.turn_scene.Bounds.{HasRoom, MovesOnSaying, parts_of_arrival};
-ghost use Rattle.turn_begin.specs.turn_scene.Scene.{scene_of};
-ghost use Rattle.turn_begin.specs.turn_scene.Rules.{cave_of};
+ghost use Rattle.turn_begin.specs.turn_scene.Scene.{scene_of, cave_of};
 ghost use Rattle.cave_turn.specs.Dragon.{between, lair, is_by_dragon, after_gathering, after_slay};
 ghost use Rattle.cave_turn.specs.Dragon.{after_clear, after_fight};
 

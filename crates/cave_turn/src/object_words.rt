@@ -1,5 +1,5 @@
 ghost use Rattle.std.specs.Prelude.{◌≡◌};
-ghost use Rattle.turn_begin.specs.turn_scene.Rules.{cave_of};
+ghost use Rattle.turn_begin.specs.turn_scene.Scene.{cave_of};
 ghost use Rattle.cave_turn.specs.ObjectWords.{is_there, is_liquid_here, is_grown_plant};
 ghost use Rattle.cave_turn.specs.ObjectWords.{is_knife_at, is_sought, is_above_grate};
 ghost use Rattle.cave_turn.specs.ObjectWords.{is_below_grate, object_word};

@@ -1,5 +1,5 @@
 ghost use Rattle.std.specs.Prelude.{◌≡◌};
-ghost use Rattle.turn_begin.specs.turn_scene.Rules.{cave_of};
+ghost use Rattle.turn_begin.specs.turn_scene.Scene.{cave_of};
 ghost use Rattle.turn_text.specs.cave_world.Motions.{motion_of};
 ghost use Rattle.cave_turn.specs.Request.{with_verb, with_object, said_word, object_alone};
 ghost use Rattle.cave_turn.specs.Request.{action_alone, word_alone, is_magic, is_magic_motion};

@@ -4,8 +4,7 @@ ghost use Rattle.std.specs.Prelude.{◌≡◌, ◌+◌};
 ghost use Rattle.turn_text.specs.data_numbers.Numbers.{LAST_OBJECT};
 ghost use Rattle.turn_begin.specs.turn_scene.Bounds.{GoesOnSaying, HasRoom, MovesOnSaying};
 ghost use Rattle.turn_begin.specs.turn_scene.Bounds.{parts_of_arrival, parts_of_end};
-ghost use Rattle.turn_begin.specs.turn_scene.Scene.{scene_of};
-ghost use Rattle.turn_begin.specs.turn_scene.Rules.{cave_of};
+ghost use Rattle.turn_begin.specs.turn_scene.Scene.{scene_of, cave_of};
 ghost use Rattle.cave_turn.specs.Revival.{revival_role, layout_with_lamp_out, fallen_place};
 ghost use Rattle.cave_turn.specs.Revival.{layout_after_fall, layout_after_falls};
 ghost use Rattle.cave_turn.specs.Revival.{without_belongings, after_revive, after_come_back};
@@ -15,7 +14,6 @@ use turn_begin::{LAMP_OFF, Rules, Scene, building_place, is_in_hand, start_place
 use turn_moves::{count_death, describe_here, end};
 use turn_text::{Ending, LIVES, Named, OBJECTS, Object, Objects, Place, Prop, Role, State};
 
-/// What is said of a revival, by the deaths before.
 fn revival_role(deaths: u16) -> Role
     ensures { result ≡ revival_role deaths }
 {

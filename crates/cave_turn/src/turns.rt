@@ -2,7 +2,7 @@ ghost use Rattle.std.specs.Prelude.{◌≡◌, ◌+◌, ◌^◌, ◌<◌, ◌≤
 ghost use Rattle.arrayvec.specs.ArrayVec.{array_vec_len};
 ghost use Rattle.turn_text.specs.base_lines.Line.{is_line};
 ghost use Rattle.turn_begin.specs.turn_scene.Bounds.{parts_of_turn};
-ghost use Rattle.turn_begin.specs.turn_scene.Rules.{cave_of};
+ghost use Rattle.turn_begin.specs.turn_scene.Scene.{cave_of};
 ghost use Rattle.cave_turn.specs.Turns.{start_of_game, turn_on_line, turn_of_input};
 
 use crate::answers::{answers, close_question, take_answer};

@@ -4,7 +4,7 @@ use Rattle.verb_commands.specs.cave_data.CaveView.{CaveView}
 use Rattle.verb_commands.specs.turn_scene.Scene.{Scene}
 use Rattle.cave_verbs.specs.Blasting.{blast_rows}
 use Rattle.cave_verbs.specs.Breaking.{break_rows, wake_rows}
-use Rattle.verb_commands.specs.Deeds.{Deed, Act, deed, going_on}
+use Rattle.verb_commands.specs.Rows.{Deed, Act, deed, going_on, VerbRow, first_fitting}
 use Rattle.cave_verbs.specs.Dropping.{drop_rows}
 use Rattle.cave_verbs.specs.Feeding.{feed_rows, bare_eat_rows, eat_rows}
 use Rattle.cave_verbs.specs.Finding.{find_rows, bare_inventory_rows}
@@ -14,7 +14,6 @@ use Rattle.cave_verbs.specs.Magic.{bare_foo_rows}
 use Rattle.cave_verbs.specs.Opening.{bare_open_rows, open_rows}
 use Rattle.cave_verbs.specs.Pouring.{pour_rows, drink_rows, bare_fill_rows, fill_rows}
 use Rattle.cave_verbs.specs.Reading.{bare_read_rows, read_rows}
-use Rattle.verb_commands.specs.Rows.{VerbRow, first_fitting}
 use Rattle.cave_verbs.specs.Small.{bare_rows, other_rows, nothing_rows, bare_quit_rows}
 use Rattle.cave_verbs.specs.Small.{bare_score_rows, bare_brief_rows}
 use Rattle.cave_verbs.specs.Taking.{bare_take_rows, take_rows}
@@ -59,7 +58,6 @@ bare_rows_of verb.Read = bare_read_rows
 bare_rows_of verb.Break = bare_rows
 bare_rows_of verb.Wake = bare_rows
 
--- what a verb does that is done to an object
 abbrev pub object_act : Verb → Deed → Act
 object_act verb.Take d = first_fitting take_rows d
 object_act verb.Drop d = first_fitting drop_rows d

@@ -1,5 +1,5 @@
 -- BLAST, with an object or without one.
-use Rattle.verb_commands.specs.world_objects.Spots.{is_place}
+use Rattle.verb_commands.specs.world_objects.Objects.{is_place}
 use Rattle.std.specs.Prelude.{List, [], ◌∷◌}
 use Rattle.verb_commands.specs.data_rows.declared.place_role.PlaceRole.{PlaceRole}
 use Rattle.verb_commands.specs.data_rows.declared.place_role.PlaceRole.TheVariants as place
@@ -12,7 +12,6 @@ use Rattle.verb_commands.specs.Effects.{say, default}
 use Rattle.verb_commands.specs.Rows.{VerbRow, Test, row, row_then, ends}
 use Rattle.verb_commands.specs.Tests.{the, no, near, prop_up_to, cave_closed}
 
--- the player is at the place that has a role
 abbrev pub player_at : PlaceRole → Test
 player_at role d = is_place d.scene.state.trail.here (place_named d.cave role)
 

@@ -3,9 +3,9 @@ use Rattle.std.specs.Prelude.{◌+◌, ◌++◌, min, List, [], ◌∷◌}
 use Rattle.verb_commands.specs.data_rows.declared.role.Role.TheVariants as role
 use Rattle.verb_commands.specs.cave_words.declared.named.Named.{Named}
 use Rattle.verb_commands.specs.cave_words.declared.named.Named.TheVariants as name
-use Rattle.verb_commands.specs.cave_world.Dwarves.{MAX_ANGER}
+use Rattle.verb_commands.specs.cave_world.Limits.{MAX_ANGER}
 use Rattle.verb_commands.specs.cave_world.declared.state.State.{State}
-use Rattle.verb_commands.specs.turn_scene.Rules.{is_one_of}
+use Rattle.verb_commands.specs.turn_scene.Scene.{is_one_of}
 use Rattle.verb_commands.specs.Effects.{in_state, say, default, ask_what, destroy, loosen, set_prop}
 use Rattle.verb_commands.specs.Effects.{lose_one}
 use Rattle.verb_commands.specs.Rows.{VerbRow, Test, Effect, row, row_then, keeps, goes_on}
@@ -14,7 +14,6 @@ use Rattle.verb_commands.specs.Tests.{x, the, no, either, is, near, prop, other_
 use Rattle.verb_commands.specs.turn_things.Props.{AXE_FREE, BEAR_DEAD, BEAR_FED, BEAR_WILD}
 use Rattle.verb_commands.specs.turn_things.Props.{BIRD_FREE, DRAGON_ALIVE}
 
--- the command's object has one of the names
 abbrev pub is_any : List Named → Test
 is_any names d = is_one_of d.cave d.command.object names
 

@@ -8,12 +8,10 @@ use Rattle.verb_commands.specs.data_rows.declared.role.Role.TheVariants as role
 use Rattle.verb_commands.specs.cave_words.declared.named.Named.TheVariants as name
 use Rattle.verb_commands.specs.cave_world.declared.part.Part.TheVariants as part
 use Rattle.verb_commands.specs.cave_world.declared.state.State.{State}
-use Rattle.verb_commands.specs.turn_scene.Rules.{thing, is_called}
+use Rattle.verb_commands.specs.turn_scene.Scene.{thing, is_called, Scene, after_saying}
 use Rattle.verb_commands.specs.turn_things.Reach.{is_in_hand}
-use Rattle.verb_commands.specs.turn_scene.Scene.{Scene, after_saying}
-use Rattle.verb_commands.specs.Deeds.{Deed}
+use Rattle.verb_commands.specs.Rows.{Deed, VerbRow, Test, Effect, row}
 use Rattle.verb_commands.specs.Effects.{in_scene, say, default}
-use Rattle.verb_commands.specs.Rows.{VerbRow, Test, Effect, row}
 use Rattle.verb_commands.specs.Tests.{x, the, is, in_hand, is_here, dwarf, cave_closed, in_bottle}
 use Rattle.verb_commands.specs.Tests.{in_lake}
 
@@ -44,11 +42,9 @@ objects_listed d = listed_up_to d.cave d.scene.state LAST_OBJECT
 abbrev pub nothing_listed : Test
 nothing_listed d = length (objects_listed d) == 0
 
--- objects are named
 abbrev pub after_naming : List ℕ → Scene → Scene
 after_naming objects p = record p { parts = p.parts ++ map part.Name objects }
 
--- the objects that the inventory lists are named
 abbrev pub name_them : Effect
 name_them d = in_scene (after_naming (objects_listed d) d.scene) d
 

@@ -5,9 +5,8 @@ use Rattle.verb_commands.specs.cave_words.declared.named.Named.TheVariants as na
 use Rattle.verb_commands.specs.cave_world.declared.ending.Ending.TheVariants as ending
 use Rattle.verb_commands.specs.cave_world.declared.ending.Question.TheVariants as question
 use Rattle.verb_commands.specs.Choice.{candidate, objects_meant, several, first}
-use Rattle.verb_commands.specs.Deeds.{Deed}
+use Rattle.verb_commands.specs.Rows.{Deed, VerbRow, Test, row, row_then, keeps, asks, ends, goes_on}
 use Rattle.verb_commands.specs.Effects.{say, default, ask_what, destroy, set_prop, lose_to_snake}
-use Rattle.verb_commands.specs.Rows.{VerbRow, Test, row, row_then, keeps, asks, ends, goes_on}
 use Rattle.verb_commands.specs.Verbs.{is_verb}
 use Rattle.verb_commands.specs.declared.verb.Verb.{Verb}
 use Rattle.verb_commands.specs.declared.verb.Verb.TheVariants as verb

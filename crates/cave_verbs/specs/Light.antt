@@ -3,7 +3,7 @@ use Rattle.std.specs.Prelude.{int_lt, pos, List, [], ◌∷◌, if◌then◌else
 use Rattle.verb_commands.specs.data_rows.declared.role.Role.TheVariants as role
 use Rattle.verb_commands.specs.cave_words.declared.named.Named.TheVariants as name
 use Rattle.verb_commands.specs.cave_world.Sight.{dark}
-use Rattle.verb_commands.specs.turn_scene.Rules.{thing}
+use Rattle.verb_commands.specs.turn_scene.Scene.{thing}
 use Rattle.verb_commands.specs.Effects.{say, default, set_prop}
 use Rattle.verb_commands.specs.Rows.{VerbRow, Test, Effect, row, row_then, describes}
 use Rattle.verb_commands.specs.Tests.{the, no, near}

@@ -13,9 +13,8 @@ use Rattle.verb_commands.specs.turn_things.SpecialWords.{special}
 use Rattle.verb_commands.specs.turn_things.Props.{EGGS_APPEARING, EGGS_ELSEWHERE, EGGS_VANISHING}
 use Rattle.verb_commands.specs.turn_things.Props.{TROLL_CALM, TROLL_RETURNING}
 use Rattle.verb_commands.specs.turn_scene.Scene.{Scene, with_state, after_look_at}
-use Rattle.verb_commands.specs.Deeds.{Deed}
+use Rattle.verb_commands.specs.Rows.{Deed, VerbRow, Test, Effect, Thing, row}
 use Rattle.verb_commands.specs.Effects.{in_scene, in_state, say, set_prop}
-use Rattle.verb_commands.specs.Rows.{VerbRow, Test, Effect, Thing, row}
 use Rattle.verb_commands.specs.Tests.{the, no, either, there_is, in_hand, prop}
 
 -- the number of the word that was just read among the special words; 0 if it is none of them
@@ -30,7 +29,6 @@ foo d = d.scene.state.talk.magic
 abbrev pub is_plain : Test
 is_plain d = k d == 0
 
--- it isn't its turn
 abbrev pub is_out_of_turn : Test
 is_out_of_turn d = not (int_eq (foo d) (pos 1 -ℤ pos (k d)))
 
@@ -57,8 +55,8 @@ abbrev pub home_here : Thing → Test
 home_here t d = is_home_here d.cave d.scene.state (t d)
 
 -- the first half of an object is nowhere
-abbrev pub is_nowhere : Thing → Test
-is_nowhere t d = is_gone d.scene.state.objects (t d)
+abbrev pub nowhere : Thing → Test
+nowhere t d = is_gone d.scene.state.objects (t d)
 
 abbrev pub with_magic : ℤ → State → State
 with_magic v s = let talk = s.talk in record s { talk = record talk { magic = v } }
@@ -67,7 +65,6 @@ with_magic v s = let talk = s.talk in record s { talk = record talk { magic = v 
 abbrev pub remember : Effect
 remember d = in_state (with_magic (pos (k d)) d.scene.state) d
 
--- the magic words begin anew
 abbrev pub begin_anew : Effect
 begin_anew d = in_state (with_magic (pos 0) d.scene.state) d
 
@@ -98,7 +95,7 @@ bare_foo_rows =
     ∷ row (no (there_is eggs) ∷ []) (begin_anew ∷ say role.Magic ∷ [])
     ∷ row (at_home eggs ∷ []) (begin_anew ∷ say role.Magic ∷ [])
     ∷ row (in_hand eggs ∷ home_here eggs ∷ []) (begin_anew ∷ say role.Magic ∷ [])
-    ∷ row (is_nowhere eggs ∷ is_nowhere troll ∷ prop troll TROLL_CALM ∷ [])
+    ∷ row (nowhere eggs ∷ nowhere troll ∷ prop troll TROLL_CALM ∷ [])
     (begin_anew ∷ set_prop troll TROLL_RETURNING ∷ send_home eggs ∷ [])
     ∷ row [] (begin_anew ∷ send_home eggs ∷ [])
     ∷ []

@@ -8,19 +8,17 @@ use Rattle.verb_commands.specs.data_rows.declared.role.Role.TheVariants as role
 use Rattle.verb_commands.specs.cave_words.declared.named.Named.TheVariants as name
 use Rattle.verb_commands.specs.world_objects.Objects.{after_move_to, is_object_at}
 use Rattle.verb_commands.specs.cave_world.declared.state.State.{State}
-use Rattle.verb_commands.specs.turn_things.Effects.{with_objects}
+use Rattle.verb_commands.specs.turn_things.Effects.{with_objects, after_panic}
 use Rattle.verb_commands.specs.turn_things.Homes.{is_home_elsewhere}
-use Rattle.verb_commands.specs.turn_things.Panic.{after_panic}
 use Rattle.verb_commands.specs.turn_things.Places.{place_named}
 use Rattle.verb_commands.specs.turn_things.Reach.{is_near}
 use Rattle.verb_commands.specs.turn_things.Props.{BEAR_DEAD, BEAR_FREE, BEAR_WILD, CHAIN_LOCKED}
 use Rattle.verb_commands.specs.turn_things.Props.{CHAIN_UNLOCKED, DOOR_OILED, GRATE_LOCKED}
 use Rattle.verb_commands.specs.turn_things.Props.{GRATE_UNLOCKED}
-use Rattle.verb_commands.specs.turn_scene.Rules.{thing}
-use Rattle.verb_commands.specs.Deeds.{Deed}
+use Rattle.verb_commands.specs.turn_scene.Scene.{thing}
+use Rattle.verb_commands.specs.Rows.{Deed, VerbRow, Test, Effect, Thing, row, row_then, keeps}
 use Rattle.verb_commands.specs.Effects.{in_state, say, default, ask_what, bring, destroy, fix}
 use Rattle.verb_commands.specs.Effects.{loosen, set_prop, lay_down}
-use Rattle.verb_commands.specs.Rows.{VerbRow, Test, Effect, Thing, row, row_then, keeps}
 use Rattle.verb_commands.specs.declared.verb.Verb.{Verb}
 use Rattle.verb_commands.specs.declared.verb.Verb.TheVariants as verb
 use Rattle.verb_commands.specs.Tests.{x, the, no, either, there_is, is, in_hand, near, prop}
@@ -40,7 +38,6 @@ is_opening d = is_verb d.command.verb verb.Open
 abbrev pub is_locking : Test
 is_locking d = is_verb d.command.verb verb.Lock
 
--- the player isn't where the command's object is at home
 abbrev pub away_from_home : Test
 away_from_home d = is_home_elsewhere d.cave d.scene.state d.command.object
 

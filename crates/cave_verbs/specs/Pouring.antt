@@ -8,10 +8,10 @@ use Rattle.verb_commands.specs.cave_words.declared.named.Named.{Named}
 use Rattle.verb_commands.specs.cave_words.declared.named.Named.TheVariants as name
 use Rattle.verb_commands.specs.world_objects.Objects.{prop_of}
 use Rattle.verb_commands.specs.cave_world.declared.state.State.{State}
-use Rattle.verb_commands.specs.turn_things.Liquids.{liquid_of}
+use Rattle.verb_commands.specs.turn_things.Reach.{liquid_of}
 use Rattle.verb_commands.specs.turn_things.Props.{BOTTLE_EMPTY, BOTTLE_OF_OIL, BOTTLE_OF_WATER}
 use Rattle.verb_commands.specs.turn_things.Props.{DOOR_OILED, DOOR_RUSTY, VASE_BROKEN}
-use Rattle.verb_commands.specs.turn_scene.Rules.{is_called}
+use Rattle.verb_commands.specs.turn_scene.Scene.{is_called}
 use Rattle.verb_commands.specs.Effects.{say, default, ask_what, look, bring, fix, set_prop}
 use Rattle.verb_commands.specs.Rows.{VerbRow, Test, Effect, Thing, row, row_then, keeps, again}
 use Rattle.verb_commands.specs.Rows.{goes_on}
@@ -35,7 +35,6 @@ pours n d = is_called d.cave (what_is_poured d) n
 abbrev pub empty_bottle : Effect
 empty_bottle d = set_prop (the name.Bottle) BOTTLE_EMPTY d
 
--- the text for the prop above an object's
 abbrev pub look_above : Thing → Effect
 look_above t d = look t (prop_of d.scene.state.objects (t d) +ℤ pos 1) d
 
@@ -53,7 +52,6 @@ plant_watered =
     look_above (the name.Plant) ∷ grow (the name.Plant)
     ∷ halve (the name.SecondPlant) (the name.Plant) ∷ []
 
--- the bottle is at hand, and water is in it
 abbrev pub water_at_hand : Test
 water_at_hand = both (in_bottle (the name.Water)) (near (the name.Bottle))
 

@@ -3,7 +3,7 @@
 use Rattle.std.specs.Prelude.{ℕ, suc, ◌==◌, ◌||◌, if◌then◌else◌}
 use Rattle.verb_commands.specs.cave_data.CaveView.{CaveView}
 use Rattle.verb_commands.specs.cave_words.declared.named.Named.TheVariants as name
-use Rattle.verb_commands.specs.turn_scene.Rules.{is_called}
+use Rattle.verb_commands.specs.turn_scene.Scene.{is_called}
 use Rattle.verb_commands.specs.declared.next.Step.{Step}
 use Rattle.verb_commands.specs.declared.next.Step.TheVariants.{Done, GoOn}
 use Rattle.verb_commands.specs.declared.verb.Verb.{Verb}

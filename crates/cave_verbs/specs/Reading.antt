@@ -7,12 +7,11 @@ use Rattle.verb_commands.specs.cave_world.State.{CLUE_HINT, is_hint_taken}
 use Rattle.verb_commands.specs.cave_world.declared.ending.Question.TheVariants as question
 use Rattle.verb_commands.specs.cave_world.declared.part.Part.TheVariants as part
 use Rattle.verb_commands.specs.cave_world.declared.part.WordLine.TheVariants as line
-use Rattle.verb_commands.specs.turn_scene.Rules.{thing}
+use Rattle.verb_commands.specs.turn_scene.Scene.{thing}
 use Rattle.verb_commands.specs.Choice.{candidate, objects_meant, only}
-use Rattle.verb_commands.specs.Deeds.{Deed}
-use Rattle.verb_commands.specs.Effects.{tell, say, default, ask_what}
-use Rattle.verb_commands.specs.Rows.{VerbRow, Test, Effect, Thing, row, row_then, keeps, asks}
+use Rattle.verb_commands.specs.Rows.{Deed, VerbRow, Test, Effect, Thing, row, row_then, keeps, asks}
 use Rattle.verb_commands.specs.Rows.{goes_on}
+use Rattle.verb_commands.specs.Effects.{tell, say, default, ask_what}
 use Rattle.verb_commands.specs.declared.verb.Verb.TheVariants as verb
 use Rattle.verb_commands.specs.Tests.{x, the, no, there_is, is, in_hand, near, cave_closed}
 

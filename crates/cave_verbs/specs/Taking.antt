@@ -2,8 +2,7 @@
 use Rattle.std.specs.Prelude.{ℕ, List, [], ◌∷◌}
 use Rattle.verb_commands.specs.data_rows.declared.role.Role.TheVariants as role
 use Rattle.verb_commands.specs.cave_words.declared.named.Named.TheVariants as name
-use Rattle.verb_commands.specs.world_objects.Halves.{object_of}
-use Rattle.verb_commands.specs.world_objects.Lists.{halves_at}
+use Rattle.verb_commands.specs.world_objects.Lists.{object_of, halves_at}
 use Rattle.verb_commands.specs.world_objects.declared.object.Half.{Half}
 use Rattle.verb_commands.specs.Effects.{say, default, ask_what, carry, set_prop}
 use Rattle.verb_commands.specs.Rows.{VerbRow, Thing, row, row_then, keeps, goes_on}

@@ -5,17 +5,16 @@ use Rattle.std.specs.List.{position}
 use Rattle.verb_commands.specs.data_rows.declared.role.Role.TheVariants as role
 use Rattle.verb_commands.specs.cave_words.Stream.{next, number_drawn}
 use Rattle.verb_commands.specs.cave_words.declared.named.Named.TheVariants as name
-use Rattle.verb_commands.specs.cave_world.Dwarves.{MAX_KILLS}
-use Rattle.verb_commands.specs.cave_world.Fresh.{no_dwarf}
+use Rattle.verb_commands.specs.cave_world.Limits.{MAX_KILLS}
+use Rattle.verb_commands.specs.cave_world.State.{no_dwarf}
 use Rattle.verb_commands.specs.cave_world.declared.dwarves.Dwarf.{Dwarf}
 use Rattle.verb_commands.specs.cave_world.declared.state.State.{State}
 use Rattle.verb_commands.specs.turn_things.Reach.{is_dwarf_at}
 use Rattle.verb_commands.specs.turn_things.Props.{AXE_BY_BEAR, BEAR_WILD, DRAGON_ALIVE}
-use Rattle.verb_commands.specs.Deeds.{Deed, Act}
+use Rattle.verb_commands.specs.Rows.{Deed, Act, VerbRow, Test, Effect, Thing, row, row_then, again}
+use Rattle.verb_commands.specs.Rows.{goes_on, fits, act_of_row, first_fitting}
 use Rattle.verb_commands.specs.Effects.{in_state, say, default, bring, destroy, fix, juggle}
 use Rattle.verb_commands.specs.Effects.{set_prop, troll_goes}
-use Rattle.verb_commands.specs.Rows.{VerbRow, Test, Effect, Thing, row, row_then, again, goes_on}
-use Rattle.verb_commands.specs.Rows.{fits, act_of_row, first_fitting}
 use Rattle.verb_commands.specs.declared.verb.Verb.TheVariants as verb
 use Rattle.verb_commands.specs.Tests.{x, the, no, is, in_hand, near, is_here, prop, dwarf, treasure}
 

@@ -1,12 +1,10 @@
 ghost use Rattle.std.specs.Prelude.{◌≡◌, ◌+◌, ◌<◌, ◌≤◌};
 ghost use Rattle.verb_commands.specs.turn_scene.Bounds.{GoesOnSaying, HasRoom, parts_of_goings_on};
 ghost use Rattle.verb_commands.specs.turn_scene.Bounds.{parts_of_inventory, parts_of_verb};
-ghost use Rattle.verb_commands.specs.turn_scene.Scene.{scene_of};
-ghost use Rattle.verb_commands.specs.turn_scene.Rules.{cave_of};
+ghost use Rattle.verb_commands.specs.turn_scene.Scene.{scene_of, cave_of};
 ghost use Rattle.verb_commands.specs.declared.next.Step.TheVariants.{Done};
 ghost use Rattle.cave_verbs.specs.Acting.{act, act_bare, act_on, act_once, act_within};
-ghost use Rattle.verb_commands.specs.Deeds.{act_of, deed};
-ghost use Rattle.verb_commands.specs.Rows.{ActsBy};
+ghost use Rattle.verb_commands.specs.Rows.{act_of, deed, ActsBy};
 ghost use Rattle.cave_verbs.specs.Ranks.{rank, rank_of};
 ghost use Rattle.verb_commands.specs.Room.{parts_before};
 

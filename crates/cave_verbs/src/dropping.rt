@@ -1,6 +1,6 @@
 ghost use Rattle.std.specs.Prelude.{◌≤◌, IsTrue};
 ghost use Rattle.verb_commands.specs.cave_words.declared.named.Named.TheVariants as name;
-ghost use Rattle.verb_commands.specs.turn_scene.Rules.{is_called, cave_of, thing};
+ghost use Rattle.verb_commands.specs.turn_scene.Scene.{is_called, cave_of, thing};
 ghost use Rattle.verb_commands.specs.turn_things.Homes.{is_home_elsewhere};
 ghost use Rattle.verb_commands.specs.turn_things.Reach.{is_in_hand, is_near};
 ghost use Rattle.verb_commands.specs.turn_scene.Bounds.{HasRoom, parts_of_row};

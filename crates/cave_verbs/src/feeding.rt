@@ -2,7 +2,7 @@ ghost use Rattle.std.specs.Prelude.{◌≤◌, IsTrue};
 ghost use Rattle.verb_commands.specs.cave_words.declared.named.Named.TheVariants as name;
 ghost use Rattle.verb_commands.specs.turn_scene.Bounds.{HasRoom, parts_of_row};
 ghost use Rattle.verb_commands.specs.Rows.{ByRows, DoneByRows};
-ghost use Rattle.verb_commands.specs.turn_scene.Rules.{is_called, cave_of};
+ghost use Rattle.verb_commands.specs.turn_scene.Scene.{is_called, cave_of};
 ghost use Rattle.cave_verbs.specs.Ranks.{rank_of};
 ghost use Rattle.cave_verbs.specs.Feeding.{feed_rows, feed_bear_rows, bare_eat_rows, eat_rows};
 

@@ -1,14 +1,13 @@
 ghost use Rattle.std.specs.Prelude.{◌≡◌, ◌<◌, ◌-ℤ◌, not, pos};
 ghost use Rattle.std.specs.Ordering.{int_eq};
 ghost use Rattle.verb_commands.specs.turn_scene.Bounds.{GoesOnSaying, HasRoom};
-ghost use Rattle.verb_commands.specs.turn_scene.Scene.{scene_of};
-ghost use Rattle.verb_commands.specs.turn_scene.Rules.{cave_of};
+ghost use Rattle.verb_commands.specs.turn_scene.Scene.{scene_of, cave_of};
 ghost use Rattle.verb_commands.specs.declared.next.Next.TheVariants.{Stay};
 ghost use Rattle.cave_verbs.specs.Magic.{after_sending_home, bare_foo_rows, homing_sight};
 ghost use Rattle.cave_verbs.specs.Magic.{with_magic};
 ghost use Rattle.verb_commands.specs.Rows.{DoneByRows};
 ghost use Rattle.verb_commands.specs.data_rows.Rows.{WORDS_PER_CLASS};
-ghost use Rattle.verb_commands.specs.cave_world.Magic.{IsMagic};
+ghost use Rattle.verb_commands.specs.cave_world.Limits.{IsMagic};
 
 use verb_commands::{
     Command, EGGS_APPEARING, EGGS_ELSEWHERE, EGGS_VANISHING, Magic, Named, Next, Object, Prop,
@@ -31,7 +30,6 @@ fn set_magic(state: &mut State, k: i16)
     state.talk.magic = Magic::new(k);
 }
 
-/// Whether the number of a word isn't the one whose turn it is.
 fn is_out_of_turn(state: &State, k: u16) -> bool
     requires { k < WORDS_PER_CLASS }
     ensures { result ≡ not (int_eq state.now.talk.magic (pos 1 -ℤ pos k)) }

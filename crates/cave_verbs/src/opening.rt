@@ -1,6 +1,6 @@
 ghost use Rattle.std.specs.Prelude.{◌≡◌, ◌≤◌, ◌||◌, IsTrue};
 ghost use Rattle.verb_commands.specs.cave_words.declared.named.Named.TheVariants as name;
-ghost use Rattle.verb_commands.specs.turn_scene.Rules.{is_called, cave_of};
+ghost use Rattle.verb_commands.specs.turn_scene.Scene.{is_called, cave_of};
 ghost use Rattle.verb_commands.specs.turn_scene.Bounds.{HasRoom, parts_of_row};
 ghost use Rattle.verb_commands.specs.Rows.{ByRows, DoneByRows};
 ghost use Rattle.cave_verbs.specs.Ranks.{rank_of};
@@ -11,7 +11,7 @@ use verb_commands::{
     Anchor, BEAR_DEAD, BEAR_FREE, BEAR_WILD, CHAIN_LOCKED, CHAIN_UNLOCKED, Command, DOOR_OILED,
     GRATE_LOCKED, GRATE_UNLOCKED, Named, Next, Object, Place, PlaceRole, Prop, Role, Rules, Scene,
     State, Step, Verb, has_other_prop, has_prop, is_home_elsewhere, is_in_hand, is_near, let_go,
-    panic, place_named,
+    place_named, start_panic,
 };
 
 /// What is meant where the command names nothing: the grate or the door that is here, the oyster or
@@ -116,7 +116,7 @@ fn open_or_lock_grate(rules: &Rules<'_>, command: Command, scene: &mut Scene<'_>
     let x = command.object;
     let is_opening = command.verb.is(Verb::Open);
     let role = if scene.state.closing.is_closing {
-        panic(scene.state);
+        start_panic(scene.state);
         Role::ClosingExit
     } else if is_opening && has_prop(scene.state, x, GRATE_LOCKED) {
         scene.state.objects.set_prop(x, Prop::new(GRATE_UNLOCKED));

@@ -2,7 +2,7 @@ ghost use Rattle.std.specs.Prelude.{◌≡◌, ◌+◌, ◌≤◌, ◌+ℤ◌, p
 ghost use Rattle.std.specs.Int.{int_rem_euclid};
 ghost use Rattle.verb_commands.specs.turn_scene.Bounds.{HasRoom, parts_of_row};
 ghost use Rattle.verb_commands.specs.Rows.{ByRows, DoneByRow, DoneByRows, row_then, again};
-ghost use Rattle.verb_commands.specs.turn_scene.Rules.{cave_of};
+ghost use Rattle.verb_commands.specs.turn_scene.Scene.{cave_of};
 ghost use Rattle.cave_verbs.specs.Ranks.{rank_of};
 ghost use Rattle.cave_verbs.specs.Pouring.{poured_of, plant_watered, pour_rows, drink_rows};
 ghost use Rattle.cave_verbs.specs.Pouring.{bare_fill_rows, fill_rows};
@@ -32,7 +32,6 @@ fn above(prop: Prop) -> i8
     prop.value() + 1
 }
 
-/// The prop of a plant that was watered.
 fn grown(prop: Prop) -> Prop
     ensures { result ≡ int_rem_euclid (prop +ℤ pos 2) (pos 6) }
 {

@@ -1,7 +1,7 @@
 ghost use Rattle.std.specs.Prelude.{◌≡◌, ◌≤◌};
 ghost use Rattle.verb_commands.specs.turn_scene.Bounds.{HasRoom};
 ghost use Rattle.verb_commands.specs.Rows.{ByRows, DoneByRows};
-ghost use Rattle.verb_commands.specs.turn_scene.Rules.{cave_of};
+ghost use Rattle.verb_commands.specs.turn_scene.Scene.{cave_of};
 ghost use Rattle.cave_verbs.specs.Ranks.{rank_of, take_rank};
 ghost use Rattle.cave_verbs.specs.Taking.{bare_take_rows, take_rows, take_freely_rows, lone_object};
 
@@ -14,7 +14,6 @@ use verb_commands::{
 /// A player who carries so many things can't take another.
 const MAX_TAKEN: usize = 7;
 
-/// The object of which a half is alone here, if one is.
 fn lone_object(halves: &[Half]) -> Object
     ensures { result ≡ lone_object halves.now }
 {

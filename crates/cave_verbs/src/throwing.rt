@@ -2,7 +2,7 @@ ghost use Rattle.std.specs.Prelude.{◌≡◌, ◌≤◌};
 ghost use Rattle.std.specs.List.{position};
 ghost use Rattle.verb_commands.specs.turn_scene.Bounds.{HasRoom, parts_of_row};
 ghost use Rattle.verb_commands.specs.Rows.{ActsBy, ByRows, DoneBy, DoneByRows};
-ghost use Rattle.verb_commands.specs.turn_scene.Rules.{cave_of};
+ghost use Rattle.verb_commands.specs.turn_scene.Scene.{cave_of};
 ghost use Rattle.verb_commands.specs.turn_things.Reach.{is_dwarf_at};
 ghost use Rattle.verb_commands.specs.turn_things.Effects.{put_here};
 ghost use Rattle.verb_commands.specs.declared.next.Next.TheVariants.{Arrive};
@@ -16,14 +16,12 @@ use verb_commands::{
     is_near, is_treasure, remove_troll,
 };
 
-/// The index of the first dwarf at a place.
 fn first_at(place: Place, dwarves: &[Dwarf]) -> Option<usize>
     ensures { result ≡ position (is_dwarf_at place) dwarves.now }
 {
     dwarves.iter().position(|dwarf| dwarf.place == place)
 }
 
-/// The first dwarf that is here is killed.
 #[tactic(auto, unfolding(crate::specs::Throwing::without_first_at))]
 fn kill_one(state: &mut State)
     ensures { state.new ≡ with_one_killed state.old }

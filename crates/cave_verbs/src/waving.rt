@@ -11,7 +11,6 @@ fn flipped(prop: Prop) -> Prop
     Prop::new(1 - prop.value())
 }
 
-/// Which text says that a prop was flipped.
 fn text_of_flipped(prop: Prop) -> i8
     ensures { result ≡ pos 2 -ℤ prop }
 {

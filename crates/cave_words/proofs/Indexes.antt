@@ -9,11 +9,11 @@ use Rattle.std.proofs.lemmas.Option.{get_or_from_slice_get, slice_get_within}
 use Rattle.std.proofs.lemmas.List.Sums.{fold_push}
 use Rattle.std.proofs.lemmas.Slice.Eq.{bytes_eq-Decides}
 use Rattle.cave_data.specs.data_rows.Rows.{WordEntry}
-use Rattle.cave_words.specs.Index.{Index, meanings_in}
-use Rattle.cave_words.specs.Meaning.{meaning_of, same_class, is_word, is_word_in, first_meaning}
+use Rattle.cave_words.specs.Lexicon.{Index, meanings_in}
+use Rattle.cave_words.specs.Meanings.{meaning_of, same_class, is_word, is_word_in, first_meaning}
 use Rattle.cave_words.specs.Meanings.{meaning_in_class, with_in_class, with_meaning, with_row}
 use Rattle.cave_words.specs.Meanings.{only_first, meanings_of}
-use Rattle.cave_words.specs.Word.{word_of}
+use Rattle.cave_words.specs.Words.{word_of}
 use Rattle.cave_words.specs.declared.meaning.Class.{Class}
 use Rattle.cave_words.specs.declared.meaning.Class.TheVariants.{Motion, Object, Action, Special}
 use Rattle.cave_words.specs.declared.meaning.Meaning.{Meaning}

@@ -2,12 +2,11 @@ use Rattle.std.proofs.Common.{◌≡◌, ℕ, List, map, get_or, ap, ◌∙◌, 
 use Rattle.std.proofs.Common.{option_and_then}
 use Rattle.cave_data.specs.CaveView.{CaveView}
 use Rattle.cave_words.proofs.Indexes.{first-meanings_of, in_class-meanings_of}
-use Rattle.cave_words.specs.Index.{Index, LexiconView, IsIndexOf, meanings_in}
-use Rattle.cave_words.specs.Lexicon.{IsLexiconOf, find_word, find_in_class, found_object}
-use Rattle.cave_words.specs.Meaning.{meaning, meaning_in}
-use Rattle.cave_words.specs.Meanings.{meaning_in_class}
+use Rattle.cave_words.specs.Lexicon.{Index, LexiconView, IsIndexOf, meanings_in, IsLexiconOf}
+use Rattle.cave_words.specs.Lexicon.{find_word, find_in_class, found_object}
+use Rattle.cave_words.specs.Meanings.{meaning, meaning_in, meaning_in_class}
 use Rattle.cave_words.specs.Named.{name_number, object_of_word, object_named}
-use Rattle.cave_words.specs.Word.{word_of, NAME_LETTERS}
+use Rattle.cave_words.specs.Words.{word_of, NAME_LETTERS}
 use Rattle.cave_words.specs.declared.meaning.Class.{Class}
 use Rattle.cave_words.specs.declared.meaning.Class.TheVariants.{Object}
 use Rattle.cave_words.specs.declared.meaning.Meaning.{Meaning}

@@ -9,7 +9,7 @@ use Rattle.std.specs.Char.{to_ascii_uppercase}
 use Rattle.std.specs.List.{list_all}
 use Rattle.cave_data.specs.base_lines.Prefixes.{prefix_while-append}
 use Rattle.cave_data.specs.base_lines.Bytes.{is_nonblank, prefix_while}
-use Rattle.cave_words.specs.Word.{letters_that_count, with_padding, word_of, MAX_LETTERS}
+use Rattle.cave_words.specs.Words.{letters_that_count, with_padding, word_of, MAX_LETTERS}
 
 set-word_of : (letters : List ℕ) (byte k : ℕ)
     → set (letters ++ replicate (suc k) 32) (length letters) byte ≡ (letters ++ byte ∷ [])

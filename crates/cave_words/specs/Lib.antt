@@ -1,10 +1,7 @@
-pub mod Index
 pub mod Lexicon
-pub mod Meaning
 pub mod Meanings
 pub mod Named
 pub mod Stream
-pub mod Word
 pub mod Words
 pub use Rattle.cave_data.specs.base_lines as base_lines
 pub use Rattle.cave_data.specs as cave_data

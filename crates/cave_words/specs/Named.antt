@@ -2,8 +2,8 @@ use Rattle.std.specs.Prelude.{ℕ, ◌+◌, Bool, true, false, nat_lt, if◌then
 use Rattle.std.specs.Prelude.{codes, slice_index_or, Option, Some, None, option_map}
 use Rattle.std.specs.Prelude.{option_and_then}
 use Rattle.cave_data.specs.CaveView.{CaveView}
-use Rattle.cave_words.specs.Meaning.{first_meaning, is_word_in}
-use Rattle.cave_words.specs.Word.{word_of, NAME_LETTERS}
+use Rattle.cave_words.specs.Meanings.{first_meaning, is_word_in}
+use Rattle.cave_words.specs.Words.{word_of, NAME_LETTERS}
 use Rattle.cave_words.specs.declared.meaning.Class.TheVariants.{Object}
 use Rattle.cave_words.specs.declared.named.Named.{Named}
 use Rattle.cave_words.specs.declared.named.Named.TheVariants as name
@@ -21,7 +21,6 @@ names =
     codes "VASE" ∷ codes "EMERA" ∷ codes "PYRAM" ∷ codes "PEARL" ∷ codes "RUG" ∷ codes "SPICE" ∷
     codes "CHAIN" ∷ codes "ROD" ∷ codes "PLANT" ∷ codes "TROLL" ∷ []
 
--- how many names there are
 abbrev pub NAME_COUNT : ℕ
 NAME_COUNT = 46
 
@@ -81,7 +80,6 @@ is_second name.SecondPlant = true
 is_second name.SecondTroll = true
 is_second _ = false
 
--- the word that names it
 unfoldable pub word_of_name : Named → List ℕ
 word_of_name name = slice_index_or names (name_number name) []
 
@@ -96,7 +94,6 @@ object_of_word cave word =
 abbrev pub next_object : ℕ → Option ℕ
 next_object object = if nat_lt object LAST_OBJECT then Some (object + 1) else None
 
--- the object of a name in a cave
 unfoldable pub object_named : CaveView → Named → Option ℕ
 object_named cave name =
     if is_second name then option_and_then next_object (object_of_word cave (word_of_name name))

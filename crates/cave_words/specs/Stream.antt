@@ -17,15 +17,12 @@ MULTIPLIER = 1093
 abbrev pub INCREMENT : ℕ
 INCREMENT = 221587
 
--- where the stream of a seed begins
 abbrev pub stream_of_seed : ℕ → ℕ
 stream_of_seed seed = seed % STREAM_SIZE
 
--- the number below n that is drawn where the stream is at x
 abbrev pub number_drawn : ℕ → ℕ → ℕ
 number_drawn n x = n * x / STREAM_SIZE
 
--- where the stream goes on from x
 abbrev pub next : ℕ → ℕ
 next x = (MULTIPLIER * x + INCREMENT) % STREAM_SIZE
 

@@ -1,11 +1,11 @@
 //! The words of a cave with what they mean, for lookups that neither walk the rows nor take memory.
 ghost use Rattle.std.specs.Prelude.{◌≡◌, ◌≤◌, map, option_copied, IfOk};
 ghost use Rattle.cave_data.specs.CaveView.{CaveView};
-ghost use Rattle.cave_words.specs.Meaning.{meaning, meaning_in};
-ghost use Rattle.cave_words.specs.Index.{meanings_in, IsIndexOf};
+ghost use Rattle.cave_words.specs.Meanings.{meaning, meaning_in};
+ghost use Rattle.cave_words.specs.Lexicon.{meanings_in, IsIndexOf};
 ghost use Rattle.cave_words.specs.Named.{object_of_word, object_named};
-ghost use Rattle.cave_words.specs.Word.{MAX_LETTERS};
-ghost use Rattle.cave_words.specs.Word as defined;
+ghost use Rattle.cave_words.specs.Words.{MAX_LETTERS};
+ghost use Rattle.cave_words.specs.Words as defined;
 
 use crate::meaning::{Class, Meaning};
 use crate::meanings::Meanings;
@@ -26,9 +26,9 @@ pub struct Lexicon {
 
 impl Model for Lexicon {
     ghost use Rattle.std.specs.Prelude.{◌≤◌};
-    ghost use Rattle.cave_words.specs.Index.{LexiconView};
-    ghost use Rattle.cave_words.specs.Word.{MAX_LETTERS};
-    ghost use Rattle.cave_words.specs.Word as defined;
+    ghost use Rattle.cave_words.specs.Lexicon.{LexiconView};
+    ghost use Rattle.cave_words.specs.Words.{MAX_LETTERS};
+    ghost use Rattle.cave_words.specs.Words as defined;
 
     ghost Value = { LexiconView };
 
@@ -145,7 +145,6 @@ fn look_at(index: &IndexMap<Word, Meanings>, word: Word) -> Option<&Meanings>
     index.get(&word)
 }
 
-/// The meanings of a word.
 fn look_up(index: &IndexMap<Word, Meanings>, word: Word) -> Option<Meanings>
     ensures { result ≡ meanings_in index.now.entries word }
 {

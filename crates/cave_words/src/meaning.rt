@@ -21,7 +21,7 @@ pub struct Meaning {
 }
 
 impl Meaning {
-    ghost use Rattle.cave_words.specs.Meaning.{meaning_of};
+    ghost use Rattle.cave_words.specs.Meanings.{meaning_of};
 
     /// What the number of a row of words says: its thousands are the class, the rest is the number
     /// within it.

@@ -1,8 +1,8 @@
 ghost use Rattle.std.specs.Prelude.{◌≡◌, ◌≤◌, IsTrue, bytes_eq};
 ghost use Rattle.std.specs.List.{list_all};
 ghost use Rattle.cave_data.specs.base_lines.Bytes.{prefix_while, is_nonblank};
-ghost use Rattle.cave_words.specs.Word.{letters_that_count, word_of, is_written};
-ghost use Rattle.cave_words.specs.Word as defined;
+ghost use Rattle.cave_words.specs.Words.{letters_that_count, word_of, is_written};
+ghost use Rattle.cave_words.specs.Words as defined;
 
 use cave_data::split_word;
 use std::hash::{Hash, Hasher};
@@ -88,7 +88,7 @@ impl Word {
         Word::word_of(bytes, letters)
     }
 
-    #[tactic(auto, unfolding(crate::specs::Word::word_of))]
+    #[tactic(auto, unfolding(crate::specs::Words::word_of))]
     fn word_of(bytes: &[u8], letters: u8) -> Word
         requires { letters ≤ defined.MAX_LETTERS }
         ensures { result ≡ word_of letters bytes.now }
@@ -110,7 +110,7 @@ impl Word {
     }
 
     /// Whether the first five letters are those of a word that a rule writes out.
-    #[tactic(auto, unfolding(crate::specs::Word::is_written))]
+    #[tactic(auto, unfolding(crate::specs::Words::is_written))]
     pub fn is(self, written: &[u8]) -> bool
         ensures { result ≡ is_written written.now self }
     {

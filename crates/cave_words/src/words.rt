@@ -1,6 +1,6 @@
 ghost use Rattle.std.specs.Prelude.{◌≡◌, ◌≤◌, option_map};
-ghost use Rattle.cave_words.specs.Word.{word_of, MAX_LETTERS, NAME_LETTERS};
-ghost use Rattle.cave_words.specs.Words.{first_word_of, after_first_run, words_of};
+ghost use Rattle.cave_words.specs.Words.{word_of, MAX_LETTERS, NAME_LETTERS, first_word_of};
+ghost use Rattle.cave_words.specs.Words.{after_first_run, words_of};
 
 use crate::word::Word;
 use cave_data::{skip_blanks, split_word};

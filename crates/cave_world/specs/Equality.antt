@@ -211,8 +211,9 @@ hints_decides a b =
     (Decides-and _ _ (pointwise_decides unsigned_Decides a.turns b.turns)
     (pointwise_decides booleans_Decides a.is_taken b.is_taken))
 
-state_decides : (a b : State) → Decides (state_eq.eq-value.it a b) (a ≡ b)
-state_decides a b =
+-- `==` holds of two states exactly where they are equal in every field
+pub state_equality : (a b : State) → IsTrue (state_eq.eq-value.it a b) ↔ (a ≡ b)
+state_equality a b =
     Decides-like _
     (λ h i.
     let (trail, (objects, (visits, (lamp, (closing, others))))) = h in
@@ -274,10 +275,6 @@ state_decides a b =
     (Decides-and _ _ (option_decides _ (question_decides) a.question b.question)
     (Decides-and _ _ (option_decides _ (ending_decides) a.ending b.ending)
     (unsigned_Decides a.stream b.stream))))))))))))
-
--- `==` holds of two states exactly where they are equal in every field
-pub state_equality : (a b : State) → IsTrue (state_eq.eq-value.it a b) ↔ (a ≡ b)
-state_equality = state_decides
 
 -- `==` holds of two states exactly where everything but the lists of objects is equal, and the list
 -- of each place; the lists of every state that a program makes are in order

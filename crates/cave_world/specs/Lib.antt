@@ -1,9 +1,5 @@
-pub mod Dwarves
 pub mod Equality
-pub mod Lamp
-pub mod Magic
-pub mod Fresh
-pub mod Handling
+pub mod Limits
 pub mod Motions
 pub mod Part
 pub mod SameGame

@@ -39,7 +39,6 @@ motion_number motion.Plover = 71
 abbrev pub any_motion : ℕ
 any_motion = motion_number motion.Any
 
--- the first of some motions with a number
 unfoldable pub motion_among : List Motion → ℕ → Option Motion
 motion_among motions number = find (λ m. motion_number m == number) motions
 

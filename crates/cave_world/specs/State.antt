@@ -1,11 +1,61 @@
 -- Where the player is, how often places were described, and how a game begins and is over.
 use Rattle.std.specs.Prelude.{ℕ, ◌+◌, ◌-◌, ◌%◌, Bool, true, false, ◌==◌, ◌||◌, if◌then◌else◌, None}
-use Rattle.std.specs.Prelude.{Some, is_some, replicate, slice_index_or, slice_set}
+use Rattle.std.specs.Prelude.{Some, is_some, replicate, slice_index_or, slice_set, length, pos}
 use Rattle.cave_world.specs.declared.state.State.{State}
 use Rattle.cave_world.specs.declared.ending.Question.TheVariants.{Welcome}
-use Rattle.world_objects.specs.Objects.{unplaced_objects}
-use Rattle.cave_world.specs.Fresh.{full_lamp, far_closing, silent_talk, asleep, unused_hints}
-use Rattle.world_objects.specs.data_numbers.Numbers.{LAST_PLACE}
+use Rattle.world_objects.specs.Objects.{unplaced_objects, carried_objects, is_at_hand, is_carried}
+use Rattle.world_objects.specs.Objects.{is_object_at}
+use Rattle.world_objects.specs.data_numbers.Numbers.{LAST_PLACE, LAST_HINT}
+use Rattle.cave_world.specs.declared.lamp.Lamp.{Lamp}
+use Rattle.cave_world.specs.declared.closing.Closing.{Closing}
+use Rattle.cave_world.specs.declared.talk.Talk.{Talk}
+use Rattle.cave_world.specs.declared.dwarves.Dwarf.{Dwarf}
+use Rattle.cave_world.specs.declared.dwarves.Dwarves.{Dwarves}
+use Rattle.cave_world.specs.declared.dwarves.Knife.TheVariants.{Unthrown}
+use Rattle.cave_world.specs.declared.hints.Hints.{Hints}
+use Rattle.cave_world.specs.Limits.{dwarf_count}
+
+unfoldable pub full_lamp : Lamp
+full_lamp = record { charge = pos 330; is_warned = false }
+
+unfoldable pub far_closing : Closing
+far_closing =
+    record {
+      first_clock = pos 30;
+      second_clock = pos 50;
+      is_closing = false;
+      is_closed = false;
+      is_panicking = false;
+    }
+
+unfoldable pub silent_talk : Talk
+silent_talk =
+    record { verb = None; object = 0; last = 0; is_brief = false; details = 0; magic = pos 0 }
+
+abbrev pub no_dwarf : Dwarf
+no_dwarf = record { place = 0; last = 0; has_seen = false }
+
+unfoldable pub asleep : Dwarves
+asleep = record { anger = 0; kills = 0; knife = Unthrown; each = replicate dwarf_count no_dwarf }
+
+unfoldable pub unused_hints : Hints
+unused_hints = record { turns = replicate LAST_HINT 0; is_taken = replicate LAST_HINT false }
+
+-- the player carries the object
+abbrev pub toting : State → ℕ → Bool
+toting s x = is_carried s.objects x
+
+-- a half of the object is where the player is
+abbrev pub at : State → ℕ → Bool
+at s x = is_object_at s.objects s.trail.here x
+
+-- the player carries the object, or its first half is where the player is
+abbrev pub here : State → ℕ → Bool
+here s x = is_at_hand s.objects s.trail.here x
+
+-- how many objects the player carries
+abbrev pub holding : State → ℕ
+holding s = length (carried_objects s.objects)
 
 -- a game begins: the player is at a place and is greeted, and nothing is placed yet
 unfoldable pub starting_state : ℕ → ℕ → State
@@ -28,7 +78,6 @@ starting_state place x = record {
 unfoldable pub takes_no_command : State → Bool
 takes_no_command s = is_some s.question || is_some s.ending
 
--- the player is at a place
 unfoldable pub state_with_player_at : State → ℕ → State
 state_with_player_at s place =
     record s { trail = record { here = place; last = s.trail.last; older = s.trail.older } }
@@ -85,11 +134,9 @@ CLUE_HINT = 2
 abbrev pub INSTRUCTIONS_HINT : ℕ
 INSTRUCTIONS_HINT = 3
 
--- a hint was taken
 abbrev pub is_hint_taken : State → ℕ → Bool
 is_hint_taken s hint = slice_index_or s.hints.is_taken (hint - 1) false
 
--- a hint is taken
 abbrev pub with_hint_taken : ℕ → State → State
 with_hint_taken hint s =
     let hints = s.hints in

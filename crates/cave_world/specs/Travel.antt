@@ -27,7 +27,6 @@ pub record TravelResult : Type 0 where
 abbrev pub lists_motion : ℕ → Going → Bool
 lists_motion motion row = list_any (λ m. m == motion || m == any_motion) row.motions
 
--- the condition of a row, and where it leads
 abbrev pub row_condition : Going → Condition
 row_condition row = condition_of row.target
 
@@ -63,7 +62,6 @@ after_go emerald destination.PutsEmeraldDown s =
     record s { objects = after_move_to s.objects emerald s.trail.here }
 after_go emerald _ s = s
 
--- where a row leads, if its condition holds
 unfoldable pub row_outcome : State → Going → Option Outcome
 row_outcome s row =
     if holds (row_condition row) s then outcome_at (row_destination row) else None

@@ -1,5 +1,5 @@
 ghost use Rattle.std.specs.Prelude.{◌≡◌};
-ghost use Rattle.cave_world.specs.Fresh.{far_closing};
+ghost use Rattle.cave_world.specs.State.{far_closing};
 
 /// How many turns in the depths come before the cave begins to close.
 const TURNS_BEFORE_CLOSING: i8 = 30;
@@ -22,7 +22,7 @@ pub struct Closing {
 
 impl Closing {
     /// A cave that won't close soon.
-    #[tactic(auto, unfolding(crate::specs::Fresh::far_closing))]
+    #[tactic(auto, unfolding(crate::specs::State::far_closing))]
     pub fn far() -> Closing
         ensures { result ≡ far_closing }
     {

@@ -1,5 +1,5 @@
 ghost use Rattle.std.specs.Prelude.{◌≡◌};
-ghost use Rattle.cave_world.specs.Fresh.{no_dwarf, asleep};
+ghost use Rattle.cave_world.specs.State.{no_dwarf, asleep};
 
 use crate::count::Count;
 use world_objects::Place;
@@ -59,7 +59,7 @@ impl Dwarf {
 
 impl Dwarves {
     /// No dwarf is anywhere, and none has seen the player.
-    #[tactic(auto, unfolding(crate::specs::Fresh::asleep))]
+    #[tactic(auto, unfolding(crate::specs::State::asleep))]
     pub fn asleep() -> Dwarves
         ensures { result ≡ asleep }
     {

@@ -1,12 +1,10 @@
 ghost use Rattle.std.specs.Prelude.{◌≡◌, ℕ, ◌+◌, ◌==◌, ◌<◌, ◌≤◌, ◌||◌, false, [], length, All};
 ghost use Rattle.std.specs.Prelude.{IsTrue, Some};
-ghost use Rattle.world_objects.specs.Lists.{halves_at, AreRelisted};
-ghost use Rattle.world_objects.specs.Layout.{is_listed};
-ghost use Rattle.world_objects.specs.Halves.{object_of};
-ghost use Rattle.world_objects.specs.Spots.{place_of_spot, spot_at};
-ghost use Rattle.world_objects.specs.Objects.{carried_objects, is_gone, after_move_to, after_carry};
+ghost use Rattle.world_objects.specs.Lists.{halves_at, AreRelisted, object_of};
+ghost use Rattle.world_objects.specs.Objects.{is_listed, place_of_spot, spot_at, carried_objects};
+ghost use Rattle.world_objects.specs.Objects.{is_gone, after_move_to, after_carry};
 ghost use Rattle.world_objects.specs.data_numbers.Numbers.{LAST_OBJECT};
-ghost use Rattle.cave_world.specs.Handling.{toting, at, here, holding};
+ghost use Rattle.cave_world.specs.State.{toting, at, here, holding};
 
 use crate::state::State;
 use arrayvec::ArrayVec;

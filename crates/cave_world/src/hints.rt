@@ -1,6 +1,5 @@
 ghost use Rattle.std.specs.Prelude.{◌≡◌, ◌≤◌};
-ghost use Rattle.cave_world.specs.Fresh.{unused_hints};
-ghost use Rattle.cave_world.specs.State.{is_hint_taken, with_hint_taken};
+ghost use Rattle.cave_world.specs.State.{unused_hints, is_hint_taken, with_hint_taken};
 ghost use Rattle.world_objects.specs.data_numbers.Numbers as defined;
 
 use crate::count::Count;
@@ -68,7 +67,7 @@ pub struct Hints {
 
 impl Hints {
     /// No hint was taken yet, nor waited for.
-    #[tactic(auto, unfolding(crate::specs::Fresh::unused_hints))]
+    #[tactic(auto, unfolding(crate::specs::State::unused_hints))]
     pub fn unused() -> Hints
         ensures { result ≡ unused_hints }
     {

@@ -1,6 +1,6 @@
 ghost use Rattle.std.specs.Prelude.{◌≡◌, pos, negsuc, ◌≤ℤ◌};
 ghost use Rattle.std.specs.Int.{int_min};
-ghost use Rattle.cave_world.specs.Lamp as defined;
+ghost use Rattle.cave_world.specs.Limits as defined;
 
 use std::marker::Model;
 
@@ -21,7 +21,7 @@ pub struct Charge {
 
 impl Model for Charge {
     ghost use Rattle.std.specs.Prelude.{ℤ, pos, negsuc, ◌≤ℤ◌};
-    ghost use Rattle.cave_world.specs.Lamp as defined;
+    ghost use Rattle.cave_world.specs.Limits as defined;
 
     ghost Value = { ℤ };
 
@@ -70,10 +70,10 @@ pub struct Lamp {
 }
 
 impl Lamp {
-    ghost use Rattle.cave_world.specs.Fresh.{full_lamp};
+    ghost use Rattle.cave_world.specs.State.{full_lamp};
 
     /// A lamp that wasn't lit yet.
-    #[tactic(auto, unfolding(crate::specs::Fresh::full_lamp))]
+    #[tactic(auto, unfolding(crate::specs::State::full_lamp))]
     pub fn full() -> Lamp
         ensures { result ≡ full_lamp }
     {

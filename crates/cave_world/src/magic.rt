@@ -1,5 +1,5 @@
 ghost use Rattle.std.specs.Prelude.{◌≡◌, ◌≤ℤ◌};
-ghost use Rattle.cave_world.specs.Magic.{HIGHEST_MAGIC, LOWEST_MAGIC};
+ghost use Rattle.cave_world.specs.Limits.{HIGHEST_MAGIC, LOWEST_MAGIC};
 
 use std::marker::Model;
 
@@ -11,7 +11,7 @@ pub struct Magic {
 
 impl Model for Magic {
     ghost use Rattle.std.specs.Prelude.{ℤ};
-    ghost use Rattle.cave_world.specs.Magic.{IsMagic};
+    ghost use Rattle.cave_world.specs.Limits.{IsMagic};
 
     ghost Value = { ℤ };
 

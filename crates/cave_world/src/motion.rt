@@ -80,7 +80,6 @@ impl Motion {
     }
 }
 
-/// The first motion with a number, if one has it.
 #[tactic(auto, unfolding(crate::specs::Motions::motion_among))]
 fn motion_among(motions: &[Motion], number: u16) -> Option<Motion>
     ensures { result ≡ motion_among motions.now number }

@@ -1,5 +1,5 @@
 ghost use Rattle.std.specs.Prelude.{◌≡◌};
-ghost use Rattle.cave_world.specs.Fresh.{silent_talk};
+ghost use Rattle.cave_world.specs.State.{silent_talk};
 
 use crate::count::Count;
 use crate::magic::Magic;
@@ -24,7 +24,7 @@ pub struct Talk {
 
 impl Talk {
     /// Nothing was said yet.
-    #[tactic(auto, unfolding(crate::specs::Fresh::silent_talk))]
+    #[tactic(auto, unfolding(crate::specs::State::silent_talk))]
     pub fn silent() -> Talk
         ensures { result ≡ silent_talk }
     {

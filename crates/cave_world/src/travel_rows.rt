@@ -1,6 +1,6 @@
 ghost use Rattle.std.specs.Prelude.{◌≡◌, map, []};
 ghost use Rattle.cave_words.specs.data_rows.RowViews.{going};
-ghost use Rattle.cave_words.specs.data_rows.Targets.{IsWithin, EndsWithin};
+ghost use Rattle.cave_words.specs.data_rows.Targets.{IsConditionWithin, EndsWithin};
 ghost use Rattle.cave_world.specs.Travel.{lists_motion, holds, after_condition, outcome_at};
 ghost use Rattle.cave_world.specs.Travel.{after_go, row_outcome, after_row, rows_to_try, first_way};
 ghost use Rattle.cave_world.specs.Travel.{from_listed, travel_by_rows, travel};
@@ -46,7 +46,7 @@ fn lists(row: &Row, motion: u16) -> bool
 impl State {
     /// Whether the condition of a row holds. A condition by chance takes a draw.
     pub fn holds(&mut self, condition: Condition) -> bool
-        requires { IsWithin condition }
+        requires { IsConditionWithin condition }
         ensures value { result ≡ holds condition self.old }
         ensures after { self.new ≡ after_condition condition self.old }
     {

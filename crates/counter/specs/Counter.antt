@@ -1,6 +1,6 @@
 -- The rules of a counter of four digits.
 use Rattle.std.specs.Prelude.{ℕ, ◌+◌, ◌%◌, ◌<◌, Bool, List, bytes_eq, codes, if◌then◌else◌}
-use Rattle.cave_replay.specs.Machine.{MachineRules}
+use Rattle.cave_replay.specs.Play.{MachineRules}
 
 -- a line that counts
 abbrev pub is_click : List ℕ → Bool

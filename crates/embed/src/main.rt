@@ -2,8 +2,6 @@
 //! edits a log and takes the edit back.
 #![tactic(auto)]
 
-ghost use Rattle.std.specs.Prelude.{◌≡◌, []};
-
 mod boathouse;
 mod telling;
 
@@ -40,15 +38,15 @@ fn play(rt: &HostRuntime, rules: &Rules<'_>, lines: &[&[u8]]) -> Result<State> {
 }
 
 /// The lamp falls in the boathouse, and the player takes it there, though no line says so.
-fn take_lamp(rules: &Rules<'_>, state: &mut State, out: &mut Out)
-    requires { out.old.items ≡ [] }
-{
+fn take_lamp(rt: &HostRuntime, rules: &Rules<'_>, state: &mut State) -> Result<()> {
     let lamp = Object::new(2);
     state.drop_at(lamp, Place::new(3));
+    let mut out = Out::new();
     if let Some(word) = rules.words_of(b"lamp").first {
-        let command = Command::of(Verb::Take, lamp, word);
-        act(rules, command, &mut Scene::open(state, out, false));
+        let take = Command::of(Verb::Take, lamp, word);
+        act(rules, take, &mut Scene::open(state, &mut out, false));
     }
+    tell(rt, rules.cave, out.as_slice(), 1)
 }
 
 /// Puts a line into a session's log, and takes it out again, with the state before and after.
@@ -60,38 +58,22 @@ fn edit_and_undo(rt: &HostRuntime, session: &mut Session<CaveMachine<'_>>) -> Re
     tell_state(rt, session)
 }
 
-// A session, a lexicon and a cave are let go by a call here, and not where a block ends: the checker
-// then goes through all that they have once, and not at each way out.
-
 /// Plays a few lines, and then edits a log.
 fn play_and_edit(rt: &HostRuntime, rules: &Rules<'_>, machine: CaveMachine<'_>) -> Result<()> {
     let mut state = play(rt, rules, &[b"no", b"in"])?;
-    let mut out = Out::new();
-    take_lamp(rules, &mut state, &mut out);
-    tell(rt, rules.cave, out.as_slice(), 1)?;
+    take_lamp(rt, rules, &mut state)?;
     let (score, most) = (score(rules, &state), max_score(rules));
     println!(rt; "score {score} of {most}")?;
     let mut session = Session::open(rt.alloc(), machine, 0, LOG, 2, &mut Meter::new())?;
     let told = edit_and_undo(rt, &mut session);
+    // The checker can't drop a session over a borrowed machine at the end of a block.
     drop(session);
-    told
-}
-
-/// Builds the lexicon of a cave, and plays there.
-fn visit(rt: &HostRuntime, cave: &Cave) -> Result<()> {
-    let lexicon = Lexicon::build(rt.alloc(), cave)?;
-    let told = play_and_edit(
-        rt,
-        &Rules::of(cave, &lexicon),
-        CaveMachine::new(cave, &lexicon),
-    );
-    drop(lexicon);
     told
 }
 
 fn main(rt: HostRuntime) -> Result<()> {
     let cave = Cave::read(rt.alloc(), DATABASE, BINDINGS)?;
-    let told = visit(&rt, &cave);
-    drop(cave);
-    told
+    let lexicon = Lexicon::build(rt.alloc(), &cave)?;
+    let rules = Rules::of(&cave, &lexicon);
+    play_and_edit(&rt, &rules, CaveMachine::new(&cave, &lexicon))
 }

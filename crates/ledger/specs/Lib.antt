@@ -1,4 +1,2 @@
-pub mod Account
-pub mod Entry
 pub mod Ledger
 pub mod SameAccounts

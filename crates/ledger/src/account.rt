@@ -1,5 +1,5 @@
 ghost use Rattle.std.specs.Prelude.{◌≡◌};
-ghost use Rattle.ledger.specs.Account.{account_after};
+ghost use Rattle.ledger.specs.Ledger.{account_after};
 
 /// What an account holds, and whether a payment was ever refused.
 #[derive(Clone, Copy, PartialEq, Eq)]

@@ -1,7 +1,7 @@
 ghost use Rattle.std.specs.Prelude.{◌≡◌};
 ghost use Rattle.std.specs.List.{list_all};
 ghost use Rattle.cave_replay.specs.base_lines.Bytes.{is_digit};
-ghost use Rattle.ledger.specs.Entry.{amount_after, entry_of, is_payment, balance_after};
+ghost use Rattle.ledger.specs.Ledger.{amount_after, entry_of, is_payment, balance_after};
 
 use cave_replay::number_of;
 
@@ -23,7 +23,7 @@ fn are_digits(bytes: &[u8]) -> bool
 }
 
 /// The amount after a word, written in one to ten digits.
-#[tactic(auto, unfolding(crate::specs::Entry::amount_after))]
+#[tactic(auto, unfolding(crate::specs::Ledger::amount_after))]
 fn amount_after(word: &[u8], line: &[u8]) -> Option<u64>
     ensures { result ≡ amount_after word.now line.now }
 {

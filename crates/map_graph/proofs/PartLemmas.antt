@@ -7,9 +7,8 @@ use Rattle.map_ways.specs.cave_world.Sight.{LIGHT_BIT, has_condition, forced}
 use Rattle.map_graph.specs.Edges.{edge, edge_opening, edge_parts, edge_strength, edge_text}
 use Rattle.map_graph.specs.Edges.{head_back, head_there, is_edge_taken, label_look, part_from_label}
 use Rattle.map_graph.specs.Edges.{part_to_label}
-use Rattle.map_labels.specs.Labels.{label_of}
-use Rattle.map_graph.specs.Laws.{EdgesAreLines, NodesAreLines}
-use Rattle.map_labels.specs.Lines.{is_one_line, is_within_line}
+use Rattle.map_labels.specs.Labels.{label_of, is_one_line, is_within_line}
+use Rattle.map_graph.specs.Map.{EdgesAreLines, NodesAreLines}
 use Rattle.map_graph.specs.Places.{look_of_place, node, node_opening, node_end, node_text}
 use Rattle.map_graph.specs.Places.{nowhere_note, strength}
 use Rattle.map_graph.specs.Stops.{is_way_taken, is_visited}

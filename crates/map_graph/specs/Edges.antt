@@ -22,11 +22,9 @@ motion_name cave motion = if motion == any_motion then [] else word_or_number ca
 abbrev pub MOTIONS_SHOWN : ℕ
 MOTIONS_SHOWN = 2
 
--- a row has more motions than are named
 abbrev pub more_mark : Going → List ℕ
 more_mark row = if nat_lt MOTIONS_SHOWN (length row.motions) then codes " .." else []
 
--- the names of the first motions of a row, and its condition
 unfoldable pub row_text : CaveView → Going → List ℕ
 row_text cave row =
     flat_map (motion_name cave) (take MOTIONS_SHOWN row.motions)
@@ -42,7 +40,6 @@ abbrev pub row_line : CaveView → List ℕ → ℕ → Going → List ℕ
 row_line cave prefix place row =
     if ends_at place row then line_of_text prefix (row_text cave row) else []
 
--- the lines of the rows from a place to another
 abbrev pub way_text : CaveView → List ℕ → ℕ → ℕ → List ℕ
 way_text cave prefix from to = flat_map (row_line cave prefix to) (ways_from cave from)
 
@@ -84,7 +81,6 @@ part_to_label from to head strong =
     codes "]; " ++ (decimal from ++ (codes " -> " ++ (decimal from ++ (codes "."
     ++ (decimal to ++ (codes " [" ++ (head ++ strong)))))))
 
--- the part from the label to the other place
 abbrev pub part_from_label : ℕ → ℕ → List ℕ → List ℕ → List ℕ
 part_from_label from to head strong =
     codes "]; " ++ (decimal from ++ (codes "." ++ (decimal to ++ (codes " -> "
@@ -94,7 +90,6 @@ part_from_label from to head strong =
 abbrev pub edge_strength : CaveView → List Stop → ℕ → ℕ → ℕ → List ℕ
 edge_strength cave stops logs from to = strength logs (is_edge_taken cave stops from to)
 
--- the parts of an edge
 abbrev pub edge_parts : CaveView → List Stop → ℕ → ℕ → ℕ → List ℕ
 edge_parts cave stops logs from to =
     part_to_label from to

@@ -4,7 +4,6 @@ pub mod Titles
 pub mod Places
 pub mod Edges
 pub mod Map
-pub mod Laws
 pub use Rattle.data_bindings.specs.cave_data as cave_data
 pub use Rattle.map_ways.specs.cave_world as cave_world
 pub use Rattle.map_ways.specs as map_ways

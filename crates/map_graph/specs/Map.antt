@@ -1,13 +1,26 @@
 -- The map of a cave as a graph, and what plays saw of it.
-use Rattle.std.specs.Prelude.{ℕ, ◌==◌, if◌then◌else◌, List, [], ◌++◌, length, codes}
+use Rattle.std.specs.Prelude.{ℕ, ◌==◌, if◌then◌else◌, List, [], ◌++◌, length, codes, ◌≡◌, true}
 use Rattle.std.specs.Fmt.{decimal}
 use Rattle.std.specs.List.{filter, flat_map, sum_by}
 use Rattle.data_bindings.specs.cave_data.CaveView.{CaveView}
-use Rattle.map_graph.specs.Edges.{edges}
+use Rattle.map_graph.specs.Edges.{edges, edge}
 use Rattle.map_graph.specs.Places.{node}
 use Rattle.map_graph.specs.Stops.{is_way_taken, is_visited}
 use Rattle.map_ways.specs.Ways.{ends_of_ways, mapped_places}
 use Rattle.map_graph.specs.declared.stops.Stop.{Stop}
+use Rattle.map_labels.specs.Labels.{is_one_line}
+
+-- each node is one line
+abbrev pub NodesAreLines : Type 0
+NodesAreLines =
+    (cave : CaveView) (stops : List Stop) (logs place : ℕ)
+    → is_one_line (node cave stops logs place) ≡ true
+
+-- each edge is one line
+abbrev pub EdgesAreLines : Type 0
+EdgesAreLines =
+    (cave : CaveView) (stops : List Stop) (logs from to : ℕ)
+    → is_one_line (edge cave stops logs from to) ≡ true
 
 -- how the graph begins: with its layout, with its page, which is one A3, and with how places and
 -- edges look where they don't say it
@@ -28,7 +41,6 @@ labels_opening = codes "  node [shape=plaintext, margin=0];\n"
 unfoldable pub ends_taken : CaveView → List Stop → ℕ → List ℕ
 ends_taken cave stops from = filter (is_way_taken cave stops from) (ends_of_ways cave from)
 
--- the places on the map where plays were
 unfoldable pub places_visited : CaveView → List Stop → List ℕ
 places_visited cave stops = filter (is_visited cave stops) (mapped_places cave)
 
@@ -36,7 +48,6 @@ places_visited cave stops = filter (is_visited cave stops) (mapped_places cave)
 unfoldable pub count_taken : CaveView → List Stop → ℕ
 count_taken cave stops = sum_by (λ from. length (ends_taken cave stops from)) (mapped_places cave)
 
--- how many ways there are from the places on the map
 unfoldable pub count_ways : CaveView → ℕ
 count_ways cave = sum_by (λ from. length (ends_of_ways cave from)) (mapped_places cave)
 
@@ -54,7 +65,6 @@ sums cave stops logs =
     else seen_line (length (places_visited cave stops)) (length (mapped_places cave))
     (count_taken cave stops) (count_ways cave) logs
 
--- the nodes of places, and then their edges, each with its label
 abbrev pub nodes_and_edges : CaveView → List Stop → ℕ → List ℕ → List ℕ
 nodes_and_edges cave stops logs places =
     flat_map (node cave stops logs) places

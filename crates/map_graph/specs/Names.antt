@@ -4,12 +4,8 @@ use Rattle.std.specs.Fmt.{decimal}
 use Rattle.data_bindings.specs.cave_data.CaveView.{CaveView, first_word}
 use Rattle.data_bindings.specs.data_rows.Rows.{WORDS_PER_CLASS}
 use Rattle.data_bindings.specs.data_rows.declared.targets.Condition.{Condition}
-use Rattle.data_bindings.specs.data_rows.declared.targets.Condition.TheVariants.{Always, Chance}
-use Rattle.data_bindings.specs.data_rows.declared.targets.Condition.TheVariants.{NotForDwarves}
-use Rattle.data_bindings.specs.data_rows.declared.targets.Condition.TheVariants.{Carried, AtHand}
-use Rattle.data_bindings.specs.data_rows.declared.targets.Condition.TheVariants.{OtherProp}
+use Rattle.data_bindings.specs.data_rows.declared.targets.Condition.TheVariants as condition
 
--- the number of the word of an object
 abbrev pub number_of_object : ℕ → ℕ
 number_of_object object = WORDS_PER_CLASS + object
 
@@ -18,24 +14,22 @@ unfoldable pub word_or_number : CaveView → ℕ → List ℕ
 word_or_number cave number =
     codes " " ++ unwrap_or (first_word cave.words number) (decimal (number % WORDS_PER_CLASS))
 
--- what is asked of an object, with the object
 abbrev pub object_mark : CaveView → List ℕ → ℕ → List ℕ
 object_mark cave asked object = asked ++ word_or_number cave (number_of_object object)
 
--- that the prop is another one
-abbrev pub other_prop : ℕ → List ℕ
-other_prop prop = codes " isn't " ++ (decimal prop ++ codes ")")
+abbrev pub other_prop_text : ℕ → List ℕ
+other_prop_text prop = codes " isn't " ++ (decimal prop ++ codes ")")
 
 -- a prop that an object must not have, as a mark
 abbrev pub prop_mark : CaveView → ℕ → ℕ → List ℕ
-prop_mark cave object prop = object_mark cave (codes " (if prop of") object ++ other_prop prop
+prop_mark cave object prop = object_mark cave (codes " (if prop of") object ++ other_prop_text prop
 
 -- the condition of a way as a mark: a chance, an object that is carried or is here, or a prop that
 -- the object must not have
 abbrev pub condition_mark : CaveView → Condition → List ℕ
-condition_mark cave Always = []
-condition_mark cave NotForDwarves = []
-condition_mark cave (Chance percent) = codes " (" ++ (decimal percent ++ codes " %)")
-condition_mark cave (Carried object) = object_mark cave (codes " (with") object ++ codes ")"
-condition_mark cave (AtHand object) = object_mark cave (codes " (near") object ++ codes ")"
-condition_mark cave (OtherProp object prop) = prop_mark cave object prop
+condition_mark cave condition.Always = []
+condition_mark cave condition.NotForDwarves = []
+condition_mark cave (condition.Chance percent) = codes " (" ++ (decimal percent ++ codes " %)")
+condition_mark cave (condition.Carried object) = object_mark cave (codes " (with") object ++ codes ")"
+condition_mark cave (condition.AtHand object) = object_mark cave (codes " (near") object ++ codes ")"
+condition_mark cave (condition.OtherProp object prop) = prop_mark cave object prop

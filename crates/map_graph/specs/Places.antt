@@ -23,11 +23,9 @@ begins_at cave place object =
     (placement_of cave object).first == place
     || int_eq (placement_of cave object).second (pos place)
 
--- the objects that begin at the place
 unfoldable pub objects_beginning : CaveView → ℕ → List ℕ
 objects_beginning cave place = filter (begins_at cave place) (range_with_len 1 LAST_OBJECT)
 
--- the line of an object
 abbrev pub object_label_line : CaveView → ℕ → List ℕ
 object_label_line cave object =
     codes "+" ++ (word_or_number cave (number_of_object object) ++ codes "\n")
@@ -36,18 +34,15 @@ abbrev pub is_number : Option ℕ → ℕ → Bool
 is_number None number = false
 is_number (Some found) number = found == number
 
--- the line of a role, by its number, if the place has it
 abbrev pub role_label_line : CaveView → ℕ → ℕ → List ℕ
 role_label_line cave place role =
     if is_number (map.get cave.places role) place
     then codes "= " ++ (slice_index_or PLACE_NAMES role [] ++ codes "\n") else []
 
--- the line of the visits, if there are any
 abbrev pub visits_label_line : ℕ → List ℕ
 visits_label_line count =
     if count == 0 then [] else codes "visits " ++ (decimal count ++ codes "\n")
 
--- the line of a place: its number and its title
 abbrev pub title_line : CaveView → ℕ → List ℕ
 title_line cave place = decimal place ++ (title cave place ++ codes "\n")
 

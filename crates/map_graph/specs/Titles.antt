@@ -22,12 +22,10 @@ abbrev pub word_start : ℕ → List ℕ
 word_start shown =
     if not (shown == 0) && shown % WORDS_PER_LINE == 0 then LINE_FEED ∷ [] else BLANK ∷ []
 
--- a word, if there is one, and then others
 abbrev pub words_from : Option (List ℕ) → List (List ℕ) → List (List ℕ)
 words_from None others = []
 words_from (Some word) others = word ∷ others
 
--- the first words of a line, and so many at most
 abbrev pub first_words : ℕ → List ℕ → List (List ℕ)
 first_words zero line = []
 first_words (suc most) line =
@@ -39,11 +37,9 @@ words_as_shown shown [] = []
 words_as_shown shown (word ∷ words) =
     word_start shown ++ (word ++ words_as_shown (shown + 1) words)
 
--- the first words of a line, as they are shown
 unfoldable pub first_words_shown : List ℕ → List ℕ
 first_words_shown line = words_as_shown 0 (first_words WORDS_SHOWN line)
 
--- the short text of a place, or its long one where there is no short one
 abbrev pub text_for_title : CaveView → ℕ → List ℕ
 text_for_title cave place =
     unwrap_or (option_or (map.get cave.short place) (map.get cave.long place)) []

@@ -1,6 +1,6 @@
 //! Laws of the graph. Each is the contract of a function that does nothing.
 
-ghost use Rattle.map_graph.specs.Laws.{EdgesAreLines, NodesAreLines};
+ghost use Rattle.map_graph.specs.Map.{EdgesAreLines, NodesAreLines};
 
 /// Each node is one line of the map.
 pub fn nodes_are_lines()

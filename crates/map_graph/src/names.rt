@@ -2,7 +2,7 @@
 
 ghost use Rattle.std.specs.Prelude.{◌≡◌, ◌++◌, OnOk};
 ghost use Rattle.map_graph.specs.Names.{condition_mark, number_of_object, object_mark};
-ghost use Rattle.map_graph.specs.Names.{other_prop, prop_mark, word_or_number};
+ghost use Rattle.map_graph.specs.Names.{other_prop_text, prop_mark, word_or_number};
 
 use data_bindings::{Cave, Condition, WORDS_PER_CLASS};
 use std::alloc::{AllocError, Global};
@@ -52,9 +52,8 @@ fn push_object_mark(
     push_word_or_number(alloc, cave, number_of_object(object), text)
 }
 
-/// Appends that the prop is another one.
 fn push_other_prop(alloc: Global, prop: u16, text: &mut Vec<u8>) -> Result<(), AllocError>
-    ensures { OnOk result (text.new.items ≡ text.old.items ++ other_prop prop) }
+    ensures { OnOk result (text.new.items ≡ text.old.items ++ other_prop_text prop) }
 {
     let rest = format!(in alloc; " isn't {prop})")?;
     text.extend_from_slice(rest.as_bytes())

@@ -29,7 +29,6 @@ fn begins_at(cave: &Cave, place: u16, object: u16) -> bool
     first == place || i32::from(second) == i32::from(place)
 }
 
-/// The objects that begin at a place.
 #[tactic(auto, using(map_ways::proofs::Rows::in_range), unfolding(crate::specs::Places::objects_beginning))]
 fn objects_beginning(alloc: Global, cave: &Cave, place: u16) -> Result<Vec<u16>, AllocError>
     ensures value { IfOk result (λ objects. objects.items ≡ objects_beginning cave.now place) }
@@ -106,7 +105,6 @@ fn push_roles(
     Ok(())
 }
 
-/// Appends the lines of the roles that a place has.
 fn push_roles_of_place(cave: &Cave, place: u16, text: &mut Vec<u8>) -> Result<(), AllocError>
     ensures { OnOk result (text.new.items
         ≡ text.old.items ++ flat_map (role_label_line cave.now place) place_keys) }
@@ -114,7 +112,6 @@ fn push_roles_of_place(cave: &Cave, place: u16, text: &mut Vec<u8>) -> Result<()
     push_roles(cave, place, place_keys(), text)
 }
 
-/// Appends the line of the visits, if there are any.
 fn push_visits_label_line(alloc: Global, count: usize, text: &mut Vec<u8>) -> Result<(), AllocError>
     ensures { OnOk result (text.new.items ≡ text.old.items ++ visits_label_line count) }
 {
@@ -140,7 +137,6 @@ fn push_title_line(
     text.extend_from_slice(b"\n")
 }
 
-/// Appends the lines of the objects that begin at a place.
 fn push_objects_beginning(
     alloc: Global,
     cave: &Cave,

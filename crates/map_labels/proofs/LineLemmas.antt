@@ -6,8 +6,8 @@ use Rattle.std.specs.Fmt.{decimal, digit_glyph, digits, digits_onto}
 use Rattle.std.specs.List.{flat_map}
 use Rattle.std.proofs.lemmas.Bool.{and_from, false≢true, ne_eqb}
 use Rattle.std.proofs.lemmas.List.Folds.{list_all-append}
-use Rattle.map_labels.specs.Labels.{LINE_FEED, escape_of, is_control, label_of}
-use Rattle.map_labels.specs.Lines.{is_one_line, is_within_line}
+use Rattle.map_labels.specs.Labels.{LINE_FEED, escape_of, is_control, label_of, is_one_line}
+use Rattle.map_labels.specs.Labels.{is_within_line}
 use Rattle.map_labels.proofs.Bytes.{IsOther, by_bytes}
 
 line_test : (is_feed : Bool) (before line : List ℕ) → (not is_feed && is_within_line before) ≡ true

@@ -1,7 +1,7 @@
--- Labels of a graph: a text between quotes, and how it is read back.
+-- Labels of a graph: a text between quotes, how it is read back, and what one line is.
 use Rattle.std.specs.Prelude.{ℕ, Bool, ◌==◌, ◌||◌, nat_lt, if◌then◌else◌, List, [], ◌∷◌, ◌++◌}
-use Rattle.std.specs.Prelude.{codes, Option, Some, None, option_map}
-use Rattle.std.specs.List.{flat_map}
+use Rattle.std.specs.Prelude.{codes, Option, Some, None, option_map, false, not, length}
+use Rattle.std.specs.List.{flat_map, list_all}
 
 abbrev pub LINE_FEED : ℕ
 LINE_FEED = 10
@@ -78,3 +78,12 @@ text_of_label AfterBackslash (byte ∷ bytes) =
 text_of_label (InEntity []) (byte ∷ bytes) = None
 text_of_label (InEntity (wanted ∷ more)) (byte ∷ bytes) =
     if byte == wanted then text_of_label (part_of_entity more) bytes else None
+
+-- no byte is a line feed
+abbrev pub is_within_line : List ℕ → Bool
+is_within_line bytes = list_all (λ byte. not (byte == LINE_FEED)) bytes
+
+-- one line: a line feed ends it, and has none before it
+abbrev pub is_one_line : List ℕ → Bool
+is_one_line [] = false
+is_one_line (byte ∷ bytes) = if byte == LINE_FEED then length bytes == 0 else is_one_line bytes

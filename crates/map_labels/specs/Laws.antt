@@ -2,7 +2,7 @@
 use Rattle.std.specs.Prelude.{◌≡◌, ℕ, true, List, ◌∷◌, ◌++◌, map, Some}
 use Rattle.std.specs.List.{flat_map}
 use Rattle.map_labels.specs.Labels.{InText, QUOTE, escape_of, text_of_label, label_of, shown_byte}
-use Rattle.map_labels.specs.Lines.{is_within_line}
+use Rattle.map_labels.specs.Labels.{is_within_line}
 
 -- what is between the quotes of a label reads back as its text as it is shown, whatever follows: no
 -- byte of a text ends its label

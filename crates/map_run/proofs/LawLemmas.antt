@@ -10,9 +10,8 @@ use Rattle.std.proofs.lemmas.List.Sorted.{sum_by-IsPermutation}
 use Rattle.play_logs.proofs.Lists.{any_flat}
 use Rattle.map_graph.specs.cave_data.CaveView.{CaveView}
 use Rattle.cave_data.proofs.ReadLemmas.{same_cave}
-use Rattle.map_run.specs.Laws.{OneMap, OrderOfLogsIsNothing}
+use Rattle.map_run.specs.Plays.{OneMap, OrderOfLogsIsNothing, map_text, stops_in_all, stops_in_log}
 use Rattle.map_graph.specs.Map.{map_of_places}
-use Rattle.map_run.specs.Plays.{map_text, stops_in_all, stops_in_log}
 use Rattle.map_graph.specs.Stops.{arrives_at, comes_by, is_at}
 use Rattle.map_graph.specs.declared.stops.Stop.{Stop}
 use Rattle.map_run.proofs.Agreeing.{agree_map}

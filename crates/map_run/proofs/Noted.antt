@@ -3,10 +3,10 @@ use Rattle.std.proofs.Common.{ℕ, List, length, ap, ◌∙◌}
 use Rattle.std.specs.Str.Lines.{lines}
 use Rattle.std.proofs.lemmas.List.{length-map}
 use Rattle.std.proofs.lemmas.List.Folds.{flat_map-map}
-use Rattle.play_logs.specs.Noted.{IsReported, games_of}
+use Rattle.play_logs.specs.Faults.{IsReported, games_of}
 use Rattle.map_graph.specs.Map.{map_of_places}
 use Rattle.map_run.specs.Plays.{IsMapped, map_of_games, stops_in, stops_in_all}
-use Rattle.play_logs.specs.replay_edits.Game.{game_of}
+use Rattle.play_logs.specs.replay_edits.Edit.{game_of}
 
 -- the map of the games of logs is that of the logs
 pub mapped-reported : (database bindings : List ℕ) (logs : List (List ℕ)) (seed : ℕ)

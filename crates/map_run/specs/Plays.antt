@@ -7,11 +7,13 @@ use Rattle.map_graph.specs.cave_data.Reads.{Reads}
 use Rattle.play_logs.specs.cave_play.Machine.{cave_rules}
 use Rattle.map_graph.specs.cave_world.declared.part.Part.{Part}
 use Rattle.map_graph.specs.cave_world.declared.state.State.{State}
-use Rattle.play_logs.specs.cave_replay.Machine.{MachineRules}
-use Rattle.play_logs.specs.replay_edits.Game.{Game, game_of}
+use Rattle.play_logs.specs.cave_replay.Play.{MachineRules}
+use Rattle.play_logs.specs.replay_edits.Edit.{Game, game_of}
 use Rattle.map_graph.specs.Map.{map_of_places}
 use Rattle.map_graph.specs.Stops.{stop}
 use Rattle.map_graph.specs.declared.stops.Stop.{Stop}
+use Rattle.std.specs.List.Sorted.{IsPermutation}
+use Rattle.play_logs.specs.cave_play.Run.{AtMostOne}
 
 -- the stops at the states that follow a state, one at each line
 abbrev pub stops_after : MachineRules State (List Part) → State → List (List ℕ) → List Stop
@@ -31,7 +33,6 @@ stops_in cave game =
 abbrev pub map_of_games : CaveView → List Game → List ℕ
 map_of_games cave games = map_of_places cave (flat_map (stops_in cave) games) (length games)
 
--- the stops of playing a log
 abbrev pub stops_in_log : CaveView → ℕ → List ℕ → List Stop
 stops_in_log cave seed log = stops_in cave (game_of seed (lines log))
 
@@ -39,7 +40,6 @@ stops_in_log cave seed log = stops_in cave (game_of seed (lines log))
 abbrev pub stops_in_all : CaveView → ℕ → List (List ℕ) → List Stop
 stops_in_all cave seed logs = flat_map (stops_in_log cave seed) logs
 
--- the map of a cave and logs
 abbrev pub map_text : CaveView → ℕ → List (List ℕ) → List ℕ
 map_text cave seed logs = map_of_places cave (stops_in_all cave seed logs) (length logs)
 
@@ -47,3 +47,15 @@ map_text cave seed logs = map_of_places cave (stops_in_all cave seed logs) (leng
 abbrev pub IsMapped : List ℕ → List ℕ → List (List ℕ) → ℕ → List ℕ → Type 0
 IsMapped database bindings logs seed output =
     (cave : CaveView) × Reads database bindings cave × (output ≡ map_text cave seed logs)
+
+-- the order of the logs changes no byte of a map
+abbrev pub OrderOfLogsIsNothing : Type 0
+OrderOfLogsIsNothing =
+    (cave : CaveView) (seed : ℕ) (logs others : List (List ℕ))
+    → IsPermutation logs others → map_text cave seed others ≡ map_text cave seed logs
+
+-- a database with its bindings, logs and a seed have one map at most
+abbrev pub OneMap : Type 0
+OneMap =
+    (database bindings : List ℕ) (logs : List (List ℕ)) (seed : ℕ)
+    → AtMostOne (IsMapped database bindings logs seed)

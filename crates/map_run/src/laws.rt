@@ -1,6 +1,6 @@
 //! Laws of maps. Each is the contract of a function that does nothing.
 
-ghost use Rattle.map_run.specs.Laws.{OneMap, OrderOfLogsIsNothing};
+ghost use Rattle.map_run.specs.Plays.{OneMap, OrderOfLogsIsNothing};
 
 /// The order of the logs changes no byte of a map.
 pub fn order_of_logs_is_nothing()

@@ -57,7 +57,6 @@ fn push_later_stops(
     Ok(())
 }
 
-/// The stop at which a play begins.
 fn first_stop(state: &State) -> Stop
     ensures { result ≡ stop 0 state.now.trail }
 {
@@ -67,7 +66,6 @@ fn first_stop(state: &State) -> Stop
     }
 }
 
-/// The state in which a play begins.
 fn beginning_state(alloc: Global, machine: CaveMachine<'_>, seed: u32) -> Result<State, AllocError>
     ensures { IfOk result
         (λ state. state ≡ (cave_rules machine.entry.rules.cave.now).begun seed) }

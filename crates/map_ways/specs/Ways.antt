@@ -17,7 +17,6 @@ use Rattle.cave_world.specs.Travel.{row_condition, row_destination}
 unfoldable pub place_numbers : List ℕ
 place_numbers = range_with_len 1 LAST_PLACE
 
--- the row leads to the place
 abbrev pub ends_at : ℕ → Going → Bool
 ends_at place row = leads_to_place place (row_destination row)
 
@@ -35,11 +34,9 @@ abbrev pub is_mapped : CaveView → ℕ → Bool
 is_mapped cave place =
     is_some (map.get cave.long place) || is_some (map.get cave.short place) || has_way cave place
 
--- the places that are on the map
 unfoldable pub mapped_places : CaveView → List ℕ
 mapped_places cave = filter (is_mapped cave) place_numbers
 
--- the places that ways lead to from a place
 unfoldable pub ends_of_ways : CaveView → ℕ → List ℕ
 ends_of_ways cave from = filter (is_way cave from) place_numbers
 
@@ -48,11 +45,9 @@ abbrev pub is_nowhere : Destination → Bool
 is_nowhere (Place place) = place == 0
 is_nowhere _ = true
 
--- the row leads to no place
 abbrev pub leads_nowhere : Going → Bool
 leads_nowhere row = is_nowhere (row_destination row)
 
--- how many rows of a place lead to no place
 abbrev pub count_nowhere : CaveView → ℕ → ℕ
 count_nowhere cave place = length (filter leads_nowhere (ways_from cave place))
 
@@ -67,7 +62,6 @@ condition_for_player row = for_player (row_condition row)
 abbrev pub is_same_condition : Condition → Condition → Bool
 is_same_condition = condition_eq.eq-value.it
 
--- the rows that lead to the place have the condition
 abbrev pub have_condition : Condition → ℕ → List Going → Bool
 have_condition condition place rows =
     list_all (λ row. not (ends_at place row)

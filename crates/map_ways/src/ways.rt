@@ -41,7 +41,6 @@ fn has_way(cave: &Cave, place: u16) -> bool
     (1..LAST_PLACE + 1).any(|other| is_way(cave, place, other) || is_way(cave, other, place))
 }
 
-/// Whether a place is on the map.
 fn is_mapped(cave: &Cave, place: u16) -> bool
     ensures { result ≡ is_mapped cave.now place }
 {
@@ -69,7 +68,6 @@ pub fn count_ends_of_ways(cave: &Cave, from: u16) -> usize
         .count()
 }
 
-/// Whether a row leads to no place.
 fn leads_nowhere(row: &Row) -> bool
     ensures { result ≡ leads_nowhere (going row.now) }
 {
@@ -93,7 +91,6 @@ fn count_leading_nowhere(rows: &[Row]) -> usize
     rows.iter().filter(|row| leads_nowhere(*row)).count()
 }
 
-/// The condition of a row for a player.
 fn condition_for_player(row: &Row) -> Condition
     ensures { result ≡ condition_for_player (going row.now) }
 {
@@ -103,7 +100,6 @@ fn condition_for_player(row: &Row) -> Condition
     }
 }
 
-/// Whether the rows that lead to a place have a condition.
 fn have_condition(rows: &[Row], place: u16, condition: Condition) -> bool
     ensures { result ≡ have_condition condition place (map going rows.now) }
 {

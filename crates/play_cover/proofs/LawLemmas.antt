@@ -7,8 +7,8 @@ use Rattle.std.proofs.lemmas.List.Folds.{list_any_at}
 use Rattle.std.proofs.lemmas.List.Sorted.{length_permutation, list_any-IsPermutation}
 use Rattle.play_logs.specs.cave_data.CaveView.{CaveView}
 use Rattle.cave_data.proofs.ReadLemmas.{same_cave}
-use Rattle.play_cover.specs.Laws.{OrderIsNothing, AgainIsNothing, OneCoveredOutput}
-use Rattle.play_cover.specs.Plays.{cover_text, said_in_all, said_in_log, report_of_logs}
+use Rattle.play_cover.specs.Plays.{OrderIsNothing, AgainIsNothing, OneCoveredOutput, cover_text}
+use Rattle.play_cover.specs.Plays.{said_in_all, said_in_log, report_of_logs}
 use Rattle.play_cover.specs.Texts.{is_among, is_same, end_of_numbers}
 use Rattle.play_cover.specs.declared.text.Text.{Text}
 use Rattle.play_cover.proofs.Agreeing.{agree_view}

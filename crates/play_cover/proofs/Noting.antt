@@ -7,8 +7,7 @@ use Rattle.std.specs.List.{flat_map}
 use Rattle.std.proofs.lemmas.List.{take_all, take_more}
 use Rattle.std.proofs.lemmas.Grind.{flat_map-append}
 use Rattle.std.proofs.lemmas.List.Folds.{list_any-append}
-use Rattle.play_cover.specs.Marks.{Notes, is_marked, place_of_mark}
-use Rattle.play_cover.specs.Texts.{is_among, is_same}
+use Rattle.play_cover.specs.Texts.{Notes, is_marked, place_of_mark, is_among, is_same}
 use Rattle.play_cover.specs.declared.text.Text.{Text}
 
 get_or-unmarked : (n i : ℕ) → get_or (replicate n false) i false ≡ false

@@ -5,13 +5,12 @@ use Rattle.std.specs.List.{flat_map}
 use Rattle.std.proofs.lemmas.List.Folds.{flat_map-map}
 use Rattle.play_logs.specs.cave_data.CaveView.{CaveView}
 use Rattle.play_logs.specs.cave_play.Machine.{cave_rules}
-use Rattle.play_logs.specs.replay_edits.Game.{Game}
+use Rattle.play_logs.specs.replay_edits.Edit.{Game}
 use Rattle.play_logs.specs.cave_replay.Play.{IsPlay}
 use Rattle.play_logs.specs.cave_world.declared.part.Part.{Part}
 use Rattle.play_logs.specs.cave_world.declared.state.State.{State}
-use Rattle.play_cover.specs.Marks.{Notes}
+use Rattle.play_cover.specs.Texts.{Notes, said_by_all}
 use Rattle.play_cover.specs.Plays.{texts_said_in}
-use Rattle.play_cover.specs.Texts.{said_by_all}
 use Rattle.play_cover.proofs.Noting.{Notes-append}
 
 pub noted-played : (cave kept : CaveView) (game : Game) (opening : List Part)

@@ -6,13 +6,12 @@ use Rattle.std.proofs.lemmas.List.{length-map}
 use Rattle.std.proofs.lemmas.List.Folds.{flat_map-map, list_any-append}
 use Rattle.play_logs.specs.cave_data.CaveView.{CaveView}
 use Rattle.play_logs.specs.play_options.declared.views.CoverView.{CoverView}
-use Rattle.play_logs.specs.replay_edits.Game.{Game, game_of}
-use Rattle.play_cover.specs.Marks.{AreMarksOf, Notes, is_marked}
+use Rattle.play_logs.specs.replay_edits.Edit.{Game, game_of}
+use Rattle.play_cover.specs.Texts.{AreMarksOf, Notes, is_marked, is_among, is_same}
 use Rattle.play_cover.specs.Missing.{report_by}
-use Rattle.play_logs.specs.Noted.{IsReported, games_of}
+use Rattle.play_logs.specs.Faults.{IsReported, games_of}
 use Rattle.play_cover.specs.Plays.{IsCovered, report_of_logs, report_on_games, said_in_games}
 use Rattle.play_cover.specs.Plays.{texts_said_in}
-use Rattle.play_cover.specs.Texts.{is_among, is_same}
 use Rattle.play_cover.specs.declared.text.Text.{Text}
 use Rattle.play_cover.proofs.Agreeing.{agree_view}
 

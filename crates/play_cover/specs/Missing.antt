@@ -34,14 +34,14 @@ text_at cave kind.Class number = option_map (λ (rated : Rated). rated.text)
     (class_of cave number)
 
 -- what follows the name of a text: its first line, where there is one
-abbrev pub first_words : Option (List ℕ) → List ℕ
-first_words None = codes "\n"
-first_words (Some text) = codes ": " ++ (first_line text ++ codes "\n")
+abbrev pub first_line_shown : Option (List ℕ) → List ℕ
+first_line_shown None = codes "\n"
+first_line_shown (Some text) = codes ": " ++ (first_line text ++ codes "\n")
 
 abbrev pub missing_line : CaveView → Kind → ℕ → List ℕ
 missing_line cave kind number =
     word_of_kind kind
-    ++ ((codes " " ++ name kind number) ++ first_words (text_at cave kind number))
+    ++ ((codes " " ++ name kind number) ++ first_line_shown (text_at cave kind number))
 
 module _ (cave : CaveView) (is_said : Text → Bool) where
   abbrev pub missing_lines : Kind → List ℕ

@@ -1,16 +1,18 @@
 -- Which texts the plays of logs say, and what is reported of them.
-use Rattle.std.specs.Prelude.{◌≡◌, ℕ, List, ◌++◌, length}
-use Rattle.std.specs.List.{flat_map}
+use Rattle.std.specs.Prelude.{◌≡◌, ℕ, List, ◌++◌, length, ◌∷◌}
+use Rattle.std.specs.List.{flat_map, Contains}
 use Rattle.std.specs.Str.Lines.{lines}
 use Rattle.play_logs.specs.cave_data.CaveView.{CaveView}
 use Rattle.play_logs.specs.cave_data.Reads.{Reads}
 use Rattle.play_logs.specs.cave_play.Machine.{cave_rules}
-use Rattle.play_logs.specs.replay_edits.Game.{Game, game_of}
+use Rattle.play_logs.specs.replay_edits.Edit.{Game, game_of}
 use Rattle.play_logs.specs.cave_replay.Play.{texts_of}
 use Rattle.play_logs.specs.play_options.declared.views.CoverView.{CoverView}
 use Rattle.play_cover.specs.Missing.{report_by}
 use Rattle.play_cover.specs.Texts.{is_among, said_by_all}
 use Rattle.play_cover.specs.declared.text.Text.{Text}
+use Rattle.std.specs.List.Sorted.{IsPermutation}
+use Rattle.play_logs.specs.cave_play.Run.{AtMostOne}
 
 -- the texts that playing a game says, from its first line to its last
 unfoldable pub texts_said_in : CaveView → Game → List Text
@@ -19,16 +21,13 @@ texts_said_in cave game =
     said_by_all cave (rules.greeting game.seed)
     ++ flat_map (said_by_all cave) (texts_of rules (rules.begun game.seed) game.log)
 
--- the texts that playing games says
 abbrev pub said_in_games : CaveView → List Game → List Text
 said_in_games cave games = flat_map (texts_said_in cave) games
 
--- the report on the plays of games
 abbrev pub report_on_games : CaveView → CoverView → List Game → List ℕ
 report_on_games cave view games =
     report_by cave (λ text. is_among text (said_in_games cave games)) view (length games)
 
--- the texts that playing a log says
 abbrev pub said_in_log : CaveView → ℕ → List ℕ → List Text
 said_in_log cave seed log = texts_said_in cave (game_of seed (lines log))
 
@@ -36,12 +35,10 @@ said_in_log cave seed log = texts_said_in cave (game_of seed (lines log))
 abbrev pub said_in_all : CaveView → ℕ → List (List ℕ) → List Text
 said_in_all cave seed logs = flat_map (said_in_log cave seed) logs
 
--- the report on logs, where so many are counted
 abbrev pub report_of_logs : CaveView → ℕ → CoverView → List (List ℕ) → ℕ → List ℕ
 report_of_logs cave seed view logs count =
     report_by cave (λ text. is_among text (said_in_all cave seed logs)) view count
 
--- the report on logs
 abbrev pub cover_text : CaveView → ℕ → CoverView → List (List ℕ) → List ℕ
 cover_text cave seed view logs = report_of_logs cave seed view logs (length logs)
 
@@ -49,3 +46,23 @@ cover_text cave seed view logs = report_of_logs cave seed view logs (length logs
 abbrev pub IsCovered : List ℕ → List ℕ → List (List ℕ) → ℕ → CoverView → List ℕ → Type 0
 IsCovered database bindings logs seed view output =
     (cave : CaveView) × Reads database bindings cave × (output ≡ cover_text cave seed view logs)
+
+-- the order of the logs changes no byte of the output
+abbrev pub OrderIsNothing : Type 0
+OrderIsNothing =
+    (cave : CaveView) (seed : ℕ) (view : CoverView) (logs others : List (List ℕ))
+    → IsPermutation logs others → cover_text cave seed view others ≡ cover_text cave seed view logs
+
+-- a log that is given once more changes nothing of it but the number of logs
+abbrev pub AgainIsNothing : Type 0
+AgainIsNothing =
+    (cave : CaveView) (seed : ℕ) (view : CoverView) (logs : List (List ℕ)) (log : List ℕ)
+    → Contains logs log
+    → (count : ℕ)
+    → report_of_logs cave seed view (log ∷ logs) count ≡ report_of_logs cave seed view logs count
+
+-- a database with its bindings, logs and a seed have one output at most
+abbrev pub OneCoveredOutput : Type 0
+OneCoveredOutput =
+    (database bindings : List ℕ) (logs : List (List ℕ)) (seed : ℕ) (view : CoverView)
+    → AtMostOne (IsCovered database bindings logs seed view)

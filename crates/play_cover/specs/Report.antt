@@ -34,11 +34,9 @@ name kind.Look number = decimal (number / PROPS_PER_OBJECT)
 name kind.Role number = slice_index_or ROLE_NAMES number []
 name _ number = decimal number
 
--- names of texts, each after a blank
 abbrev pub names_of_texts : Kind → List ℕ → List ℕ
 names_of_texts kind numbers = flat_map (λ number. codes " " ++ name kind number) numbers
 
--- the names of the texts that were never said, if there are any
 abbrev pub never : Kind → List ℕ → List ℕ
 never kind [] = []
 never kind (first ∷ others) = codes ", never" ++ names_of_texts kind (first ∷ others)

@@ -1,7 +1,7 @@
--- The texts of a cave, each by its kind and its number, and which of them a part says.
+-- The texts of a cave, each by its kind and its number, which of them a part says, and their marks.
 use Rattle.std.specs.Prelude.{ℕ, ◌+◌, ◌*◌, ◌/◌, ◌%◌, ℤ, pos, negsuc, Bool, false, ◌==◌, nat_lt}
 use Rattle.std.specs.Prelude.{◌&&◌, is_some, if◌then◌else◌, List, [], ◌∷◌, length, Option, Some}
-use Rattle.std.specs.Prelude.{None}
+use Rattle.std.specs.Prelude.{None, ◌≡◌, ◌<◌, ◌||◌, slice_index_or}
 use Rattle.std.specs.List.{list_any, flat_map}
 use Rattle.std.specs.FinMap as map
 use Rattle.play_logs.specs.cave_data.CaveView.{CaveView, Rated, class_of, look_of, name_of}
@@ -20,7 +20,6 @@ end_of_numbers = 10000
 abbrev pub PROPS_PER_OBJECT : ℕ
 PROPS_PER_OBJECT = 100
 
--- how many kinds there are
 abbrev pub KIND_COUNT : ℕ
 KIND_COUNT = 7
 
@@ -34,7 +33,6 @@ kind_number kind.Message = 4
 kind_number kind.Role = 5
 kind_number kind.Class = 6
 
--- a text by its kind and its number
 abbrev pub text : Kind → ℕ → Text
 text kind number = record { kind = kind; number = number }
 
@@ -93,6 +91,24 @@ said_by_part cave (part.Number form number most) = []
 said_by_part cave (part.Word form word) = []
 said_by_part cave (part.Turns score most) = []
 
--- the texts that several parts say
 abbrev pub said_by_all : CaveView → List Part → List Text
 said_by_all cave parts = flat_map (said_by_part cave) parts
+
+abbrev pub place_of_mark : Text → ℕ
+place_of_mark text = end_of_numbers * kind_number text.kind + text.number
+
+-- there is a mark for each number of each of the seven kinds
+abbrev pub MARK_COUNT : ℕ
+MARK_COUNT = 70000
+
+abbrev pub is_marked : List Bool → Text → Bool
+is_marked marks text = slice_index_or marks (place_of_mark text) false
+
+-- the marks are those of these texts
+pub record AreMarksOf (texts : List Text) (marks : List Bool) : Type 0 where
+  pub is : (text : Text) → text.number < end_of_numbers → is_marked marks text ≡ is_among text texts
+
+-- the texts were noted: a text is marked now if it is one of them or was marked before
+pub record Notes (texts : List Text) (old new : List Bool) : Type 0 where
+  pub is : (text : Text) → text.number < end_of_numbers
+      → is_marked new text ≡ (is_among text texts || is_marked old text)

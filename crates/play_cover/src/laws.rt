@@ -1,7 +1,7 @@
 //! Laws of what is written of the plays of logs. Each is the contract of a function that does
 //! nothing.
 
-ghost use Rattle.play_cover.specs.Laws.{AgainIsNothing, OneCoveredOutput, OrderIsNothing};
+ghost use Rattle.play_cover.specs.Plays.{AgainIsNothing, OneCoveredOutput, OrderIsNothing};
 
 /// The order of the logs changes no byte of the output.
 pub fn order_is_nothing()

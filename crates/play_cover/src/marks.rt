@@ -1,10 +1,9 @@
 //! The set of texts that were said.
 
 ghost use Rattle.std.specs.Prelude.{◌≡◌, ◌<◌, ◌∷◌, [], false, IfOk};
-ghost use Rattle.play_cover.specs.Marks.{Notes, is_marked, place_of_mark};
-ghost use Rattle.play_cover.specs.Marks as defined;
+ghost use Rattle.play_cover.specs.Texts.{Notes, is_marked, place_of_mark, end_of_numbers};
+ghost use Rattle.play_cover.specs.Texts as defined;
 ghost use Rattle.play_cover.specs.declared.text.Text.{Text};
-ghost use Rattle.play_cover.specs.Texts.{end_of_numbers};
 
 use crate::text::{NUMBERS, Text};
 use std::alloc::{AllocError, Global};
@@ -21,7 +20,7 @@ pub struct SaidTexts {
 
 impl Model for SaidTexts {
     ghost use Rattle.std.specs.Prelude.{◌≡◌, List, Bool, vec_len};
-    ghost use Rattle.play_cover.specs.Marks as defined;
+    ghost use Rattle.play_cover.specs.Texts as defined;
 
     ghost Value = { List Bool };
 
@@ -30,7 +29,6 @@ impl Model for SaidTexts {
     ghost invariant = { λ s. vec_len s.marks ≡ defined.MARK_COUNT };
 }
 
-/// Where the mark of a text is.
 fn place_of(text: Text) -> usize
     ensures value { result ≡ place_of_mark text }
     ensures within { text.number < end_of_numbers → result < defined.MARK_COUNT }

@@ -2,8 +2,8 @@
 
 ghost use Rattle.std.specs.Prelude.{◌≡◌, ◌++◌, OnOk, option_map};
 ghost use Rattle.std.specs.List.{flat_map};
-ghost use Rattle.play_cover.specs.Marks.{is_marked};
-ghost use Rattle.play_cover.specs.Missing.{first_words, missing_line, missing_lines};
+ghost use Rattle.play_cover.specs.Texts.{is_marked};
+ghost use Rattle.play_cover.specs.Missing.{first_line_shown, missing_line, missing_lines};
 ghost use Rattle.play_cover.specs.Missing.{missing_report, report_by, text_at, word_of_kind};
 
 use crate::marks::SaidTexts;
@@ -27,7 +27,6 @@ fn word(kind: Kind) -> &'static str
     }
 }
 
-/// The text of a number.
 fn text_at(cave: &Cave, kind: Kind, number: u16) -> Option<&[u8]>
     ensures { option_map (λ text. text.now) result ≡ text_at cave.now kind number }
 {
@@ -46,9 +45,9 @@ fn text_at(cave: &Cave, kind: Kind, number: u16) -> Option<&[u8]>
 }
 
 /// Appends the first line of a text, where there is one.
-fn push_first_words(found: Option<&[u8]>, text: &mut Vec<u8>) -> Result<(), AllocError>
+fn push_first_line(found: Option<&[u8]>, text: &mut Vec<u8>) -> Result<(), AllocError>
     ensures { OnOk result (text.new.items
-        ≡ text.old.items ++ first_words (option_map (λ found. found.now) found.entry)) }
+        ≡ text.old.items ++ first_line_shown (option_map (λ found. found.now) found.entry)) }
 {
     match found {
         Some(found) => {
@@ -73,7 +72,7 @@ fn push_missing_line(
 {
     text.extend_from_slice(word(kind).as_bytes())?;
     push_name(alloc, kind, number, text)?;
-    push_first_words(text_at(cave, kind, number), text)
+    push_first_line(text_at(cave, kind, number), text)
 }
 
 fn push_numbers(

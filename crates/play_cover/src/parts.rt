@@ -4,15 +4,13 @@ ghost use Rattle.std.specs.Prelude.{◌∷◌, []};
 ghost use Rattle.std.specs.FinMap.{get};
 ghost use Rattle.play_logs.specs.cave_data.CaveView.{class_of};
 ghost use Rattle.play_logs.specs.data_rows.Role.{role_number};
-ghost use Rattle.play_cover.specs.Marks.{Notes};
-ghost use Rattle.play_cover.specs.Texts.{class_said, look_said, message_said, text, said_by_part};
-ghost use Rattle.play_cover.specs.Texts.{said_by_all};
+ghost use Rattle.play_cover.specs.Texts.{Notes, class_said, look_said, message_said, text};
+ghost use Rattle.play_cover.specs.Texts.{said_by_part, said_by_all};
 
 use crate::marks::SaidTexts;
 use crate::text::{Kind, PROPS_PER_OBJECT, Text};
 use play_logs::{Cave, Object, Part, Role};
 
-/// Notes the text of a kind that has a number.
 fn note(said: &mut SaidTexts, kind: Kind, number: u16)
     ensures { Notes (text kind number ∷ []) said.old said.new }
 {
@@ -30,7 +28,6 @@ fn note_role(said: &mut SaidTexts, cave: &Cave, role: Role)
     }
 }
 
-/// Notes the text of an object at a prop, if it has one.
 fn note_look(said: &mut SaidTexts, cave: &Cave, object: Object, prop: i8)
     ensures { Notes (look_said cave.now object prop) said.old said.new }
 {

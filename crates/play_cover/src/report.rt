@@ -3,18 +3,16 @@
 ghost use Rattle.std.specs.Prelude.{◌≡◌, ◌&&◌, not, codes, ◌++◌, ◌≤◌, [], length, map, OnOk, IfOk};
 ghost use Rattle.std.specs.Prelude.{slice_index_or};
 ghost use Rattle.std.specs.List.{flat_map, sum_by};
-ghost use Rattle.play_cover.specs.Marks.{is_marked};
+ghost use Rattle.play_cover.specs.Texts.{is_marked, has_text, text, end_of_numbers, KIND_COUNT};
 ghost use Rattle.play_cover.specs.Report.{sums_line, heading_of_kind, kinds, line, name};
 ghost use Rattle.play_cover.specs.Report.{names_of_texts, never, numbers_missing, present, report};
 ghost use Rattle.play_cover.specs.Report.{numbers_said};
-ghost use Rattle.play_cover.specs.Texts.{has_text, text, end_of_numbers, KIND_COUNT};
 
 use crate::marks::SaidTexts;
 use crate::text::{KINDS, Kind, NUMBERS, PROPS_PER_OBJECT, Text};
 use play_logs::{Cave, ROLE_NAMES};
 use std::alloc::{AllocError, Global};
 
-/// Whether a cave has a text.
 fn has(cave: &Cave, kind: Kind, number: u16) -> bool
     ensures { result ≡ has_text cave.now kind number }
 {
@@ -34,7 +32,6 @@ fn has(cave: &Cave, kind: Kind, number: u16) -> bool
     }
 }
 
-/// Whether a text that the cave has was said.
 fn is_said(cave: &Cave, said: &SaidTexts, kind: Kind, number: u16) -> bool
     ensures { result ≡ (has_text cave.now kind number && is_marked said.now (text kind number)) }
 {
@@ -49,7 +46,6 @@ fn is_missing(cave: &Cave, said: &SaidTexts, kind: Kind, number: u16) -> bool
     has(cave, kind, number) && !said.is_marked(Text { kind, number })
 }
 
-/// How many texts of a kind the cave has.
 #[tactic(auto, unfolding(crate::specs::Report::present, crate::specs::Report::numbers))]
 fn count_present(cave: &Cave, kind: Kind) -> usize
     ensures value { result ≡ length (present cave.now kind) }
@@ -60,7 +56,6 @@ fn count_present(cave: &Cave, kind: Kind) -> usize
         .count()
 }
 
-/// How many of them were said.
 #[tactic(auto, unfolding(crate::specs::Report::numbers_said, crate::specs::Report::numbers))]
 fn count_said(cave: &Cave, said: &SaidTexts, kind: Kind) -> usize
     ensures value { result ≡ length (numbers_said cave.now (is_marked said.now) kind) }

@@ -1,9 +1,8 @@
 //! Which texts plays say.
 
 ghost use Rattle.std.specs.List.{flat_map};
-ghost use Rattle.play_cover.specs.Marks.{Notes};
+ghost use Rattle.play_cover.specs.Texts.{Notes, said_by_all};
 ghost use Rattle.play_cover.specs.Plays.{texts_said_in};
-ghost use Rattle.play_cover.specs.Texts.{said_by_all};
 
 use crate::marks::SaidTexts;
 use crate::missing::push_view;
@@ -34,7 +33,7 @@ fn note_session(said: &mut SaidTexts, session: &Session<CaveMachine<'_>>)
 }
 
 impl PlayNotes for SaidTexts {
-    ghost use Rattle.play_cover.specs.Marks.{AreMarksOf};
+    ghost use Rattle.play_cover.specs.Texts.{AreMarksOf};
     ghost use Rattle.play_cover.specs.Plays.{report_on_games, said_in_games};
 
     type View = CoverView;

@@ -1,7 +1,7 @@
 //! Files of the system, each with a draft in the same folder.
 
 ghost use Rattle.std.specs.Prelude.{◌≡◌, IfOk, None, string_bytes};
-ghost use Rattle.play_file.specs.Name.{draft_name};
+ghost use Rattle.play_file.specs.Target.{draft_name};
 
 use crate::target::Target;
 use std::alloc::{AllocError, Global};

@@ -8,12 +8,12 @@ use Rattle.std.proofs.lemmas.List.{drop-set-lt, drop_more, get_or-drop, length-m
 use Rattle.std.proofs.lemmas.List.{map-append, take-append-drop, take_all, take_more}
 use Rattle.cave_play.specs.Input.{Says}
 use Rattle.cave_play.specs.Judge.{log_fault}
-use Rattle.cave_play.specs.Stage as stage
+use Rattle.cave_play.specs.Run as stage
 use Rattle.cave_play.specs.Stages.{log_stage}
 use Rattle.cave_play.specs.declared.fault.PlayFault.{PlayFault}
-use Rattle.cave_play.specs.replay_edits.Game.{Game, game_of}
-use Rattle.play_logs.specs.Faults.{AreValidLogs, IsFoundFrom, IsFoundInLogs, at_log}
-use Rattle.play_logs.specs.Noted.{NotesMore, games_of}
+use Rattle.cave_play.specs.replay_edits.Edit.{Game, game_of}
+use Rattle.play_logs.specs.Faults.{AreValidLogs, IsFoundFrom, IsFoundInLogs, at_log, NotesMore}
+use Rattle.play_logs.specs.Faults.{games_of}
 use Rattle.play_logs.proofs.FaultLemmas.{AllSay-some, AllZip-append, AllZip-length}
 use Rattle.play_logs.proofs.FaultLemmas.{AreValidLogs-more, IsFoundFrom-here, IsFoundFrom-later}
 

@@ -1,30 +1,44 @@
 -- Where the fault of a run over several logs is found, and what a run has written when it ends.
 use Rattle.std.specs.Prelude.{◌≡◌, ℕ, ◌+◌, ◌⊎◌, ⊤, List, [], ◌∷◌, Option, Some, None, Result, Ok}
-use Rattle.std.specs.Prelude.{Err}
+use Rattle.std.specs.Prelude.{Err, ◌++◌, map}
 use Rattle.std.specs.Io.KnownBytes.{Appends, Keeps}
 use Rattle.cave_play.specs.Judge.{log_fault, large_seed}
-use Rattle.cave_play.specs.Run.{WritesPrefix}
-use Rattle.cave_play.specs.Stage.{Stage, IsFoundAt, first_decided, judging_stage}
-use Rattle.cave_play.specs.Stage as stage
+use Rattle.cave_play.specs.Run.{WritesPrefix, Stage, IsFoundAt, first_decided, judging_stage}
+use Rattle.cave_play.specs.Run as stage
 use Rattle.cave_play.specs.Stages.{cave_stages, log_stage}
 use Rattle.cave_play.specs.declared.fault.PlayFault.{PlayFault}
 use Rattle.cave_play.specs.declared.fault.PlayFault.TheVariants as fault
 use Rattle.play_logs.specs.declared.fault.LogsFault.{LogsFault}
+use Rattle.std.specs.Str.Lines.{lines}
+use Rattle.cave_play.specs.cave_data.CaveView.{CaveView}
+use Rattle.cave_play.specs.cave_data.Reads.{Reads}
+use Rattle.cave_play.specs.replay_edits.Edit.{Game, game_of}
 
--- a fault that is met at no log
+abbrev pub games_of : ℕ → List (List ℕ) → List Game
+games_of seed logs = map (λ log. game_of seed (lines log)) logs
+
+-- the play of one more game was noted
+abbrev pub NotesMore : {N : Type 0} → (List Game → N → Type 0) → Game → N → N → Type 0
+NotesMore AreNotesOn game old new =
+    (games : List Game) → AreNotesOn games old → AreNotesOn (games ++ game ∷ []) new
+
+-- the output is the report on the plays of the logs in the cave of the database and its bindings
+abbrev pub IsReported : {V : Type 0} → (CaveView → V → List Game → List ℕ)
+    → List ℕ → List ℕ → List (List ℕ) → ℕ → V → List ℕ → Type 0
+IsReported report_on database bindings logs seed view output =
+    (cave : CaveView) × Reads database bindings cave
+    × (output ≡ report_on cave view (games_of seed logs))
+
 abbrev pub at_none : PlayFault → LogsFault
 at_none found = record { fault = found; log = None }
 
--- a fault that is met at a log
 abbrev pub at_log : ℕ → PlayFault → LogsFault
 at_log place found = record { fault = found; log = Some place }
 
--- first the seed is judged, then the cave
 abbrev pub first_stages : List ℕ → List ℕ → ℕ → List Stage
 first_stages database bindings seed =
     judging_stage (large_seed seed) ∷ cave_stages database bindings
 
--- no log has a fault
 abbrev pub AreValidLogs : List (List ℕ) → Type 0
 AreValidLogs [] = ⊤
 AreValidLogs (log ∷ logs) = (log_fault log ≡ None) × AreValidLogs logs

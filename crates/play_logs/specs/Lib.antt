@@ -1,4 +1,3 @@
-pub mod Noted
 pub mod Faults
 pub use Rattle.cave_play.specs.base_lines as base_lines
 pub use Rattle.cave_play.specs.cave_data as cave_data

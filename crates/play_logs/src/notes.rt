@@ -1,9 +1,9 @@
 //! What is noted of the plays of logs, whatever it is.
 
 ghost use Rattle.std.specs.Prelude.{◌≡◌, ℕ, List, [], ◌++◌, IfOk, OnOk, length};
-ghost use Rattle.play_logs.specs.Noted.{NotesMore};
+ghost use Rattle.play_logs.specs.Faults.{NotesMore};
 ghost use Rattle.cave_play.specs.cave_data.CaveView.{CaveView};
-ghost use Rattle.cave_play.specs.replay_edits.Game.{Game};
+ghost use Rattle.cave_play.specs.replay_edits.Edit.{Game};
 
 use cave_play::machine::CaveMachine;
 use cave_play::{Cave, Session};

@@ -3,13 +3,12 @@
 ghost use Rattle.std.specs.Prelude.{◌≡◌, ℕ, List, [], ◌∷◌, None, map};
 ghost use Rattle.std.specs.List.{AllZip};
 ghost use Rattle.std.specs.Str.Lines.{lines};
-ghost use Rattle.play_logs.specs.Faults.{JudgesLogs as JudgesAll};
-ghost use Rattle.play_logs.specs.Noted.{NotesMore, games_of};
+ghost use Rattle.play_logs.specs.Faults.{JudgesLogs as JudgesAll, NotesMore, games_of};
 ghost use Rattle.cave_play.specs.Input.{Says};
 ghost use Rattle.cave_play.specs.Judge.{large_seed};
 ghost use Rattle.cave_play.specs.Run.{Judges};
 ghost use Rattle.cave_play.specs.Stages.{log_stage};
-ghost use Rattle.cave_play.specs.replay_edits.Game.{game_of};
+ghost use Rattle.cave_play.specs.replay_edits.Edit.{game_of};
 
 use crate::fault::LogsFault;
 use crate::notes::PlayNotes;

@@ -4,8 +4,7 @@ ghost use Rattle.std.specs.Prelude.{◌≡◌, ℕ, List, [], None, map};
 ghost use Rattle.std.specs.List.{AllZip};
 ghost use Rattle.cave_play.specs.Input.{Says};
 ghost use Rattle.cave_play.specs.Judge.{large_seed};
-ghost use Rattle.play_logs.specs.Faults.{JudgesLogs, RunsLogs, first_stages};
-ghost use Rattle.play_logs.specs.Noted.{IsReported, games_of};
+ghost use Rattle.play_logs.specs.Faults.{JudgesLogs, RunsLogs, first_stages, IsReported, games_of};
 
 use crate::fault::LogsFault;
 use crate::notes::PlayNotes;
@@ -46,7 +45,6 @@ pub fn run_logs<N: PlayNotes, C: Read, B: Read, L: Read, W: Write>(
     Ok(())
 }
 
-/// The report on logs in a cave.
 fn report_in_cave<N: PlayNotes, L: Read>(
     alloc: Global,
     cave: &Cave,

@@ -1,2 +1,1 @@
-pub mod Editing
 pub mod Views

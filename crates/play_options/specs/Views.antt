@@ -1,4 +1,4 @@
--- What a check of a cave, a play of a log and the coverage of logs may print.
+-- What runs may print.
 use Rattle.std.specs.Prelude.{ℕ, List, bytes_eq, codes, if◌then◌else◌, Option, Some, None}
 use Rattle.play_options.specs.declared.views.CheckView.{CheckView}
 use Rattle.play_options.specs.declared.views.CheckView.TheVariants.{Maximum, Bindings}
@@ -6,6 +6,16 @@ use Rattle.play_options.specs.declared.views.CoverView.{CoverView}
 use Rattle.play_options.specs.declared.views.CoverView.TheVariants.{Counts, Texts}
 use Rattle.play_options.specs.declared.views.PlayView.{PlayView}
 use Rattle.play_options.specs.declared.views.PlayView.TheVariants.{Transcript, FinalState}
+use Rattle.play_options.specs.declared.editing.EditView.{EditView}
+use Rattle.play_options.specs.declared.editing.EditView.TheVariants as asked
+
+abbrev pub edit_view_named : List ℕ → Option EditView
+edit_view_named name =
+    if bytes_eq name (codes "transcript") then Some asked.Transcript
+    else (if bytes_eq name (codes "play") then Some asked.Play
+    else (if bytes_eq name (codes "log") then Some asked.Log
+    else (if bytes_eq name (codes "reports") then Some asked.Reports
+    else (if bytes_eq name (codes "state") then Some asked.FinalState else None))))
 
 abbrev pub check_view_named : List ℕ → Option CheckView
 check_view_named name =

@@ -1,5 +1,5 @@
 ghost use Rattle.std.specs.Prelude.{◌≡◌};
-ghost use Rattle.play_options.specs.Editing.{edit_view_named};
+ghost use Rattle.play_options.specs.Views.{edit_view_named};
 
 /// What an edit of a log prints.
 #[derive(Clone, Copy, Debug, PartialEq, Eq)]

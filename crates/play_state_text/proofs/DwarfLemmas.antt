@@ -2,11 +2,10 @@
 use Rattle.std.proofs.Common.{◌≡◌, ℕ, ◌+◌, true, false, List, ◌++◌, refl, arith}
 use Rattle.std.specs.Prelude.{codes}
 use Rattle.std.proofs.lemmas.Bool.{false≢true}
-use Rattle.cave_world.specs.Fresh.{no_dwarf}
+use Rattle.cave_world.specs.State.{no_dwarf}
 use Rattle.cave_world.specs.declared.dwarves.Dwarf.{Dwarf}
 use Rattle.cave_world.specs.declared.state.State.{State}
-use Rattle.play_state_text.specs.Entries.{text_up_to}
-use Rattle.play_state_text.specs.Things.{dwarf_numbered, dwarf_text, dwarf_line}
+use Rattle.play_state_text.specs.Things.{text_up_to, dwarf_numbered, dwarf_text, dwarf_line}
 use Rattle.play_state_text.specs.Within.{IsDwarfWithin, AreDwarvesWithin}
 use Rattle.play_state_text.proofs.EntryLemmas.{IsPast, entries_read}
 use Rattle.play_state_text.proofs.FactLemmas.{answer_line_read}

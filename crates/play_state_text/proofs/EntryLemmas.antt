@@ -6,8 +6,8 @@ use Rattle.std.specs.Prelude.{codes}
 use Rattle.std.specs.Fmt.{decimal}
 use Rattle.std.proofs.lemmas.Bool.{cases_lt}
 use Rattle.std.proofs.lemmas.List.{append_cancel_left, append-nil}
-use Rattle.play_state_text.specs.Entries.{entry, text_up_to}
-use Rattle.play_state_text.specs.Numbers.{IsWide, IsUpTo}
+use Rattle.play_state_text.specs.Things.{entry, text_up_to}
+use Rattle.play_state_text.specs.Within.{IsWide, IsUpTo}
 use Rattle.play_state_text.proofs.Reading.{number_read}
 
 up_or_last : {P : ℕ → Type 0} (last n : ℕ) → IsUpTo (suc last) n

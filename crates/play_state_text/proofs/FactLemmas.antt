@@ -19,10 +19,9 @@ use Rattle.play_state_text.specs.Facts.{counts_text, trail_text, question_text, 
 use Rattle.play_state_text.specs.Facts.{closing_text, tallies_text, verb_text, talk_text}
 use Rattle.play_state_text.specs.Facts.{anger_text, knife_text, numbered_line, signed_line}
 use Rattle.play_state_text.specs.Facts.{answer_line}
-use Rattle.play_state_text.specs.Numbers.{IsWide, IsSigned}
-use Rattle.play_state_text.specs.Within.{IsTrailWithin, IsQuestionWithin, IsClosingWithin}
-use Rattle.play_state_text.specs.Within.{AreTalliesWithin, IsVerbWithin, IsTalkWithin}
-use Rattle.play_state_text.specs.Within.{IsKnifeWithin}
+use Rattle.play_state_text.specs.Within.{IsWide, IsSigned, IsTrailWithin, IsQuestionWithin}
+use Rattle.play_state_text.specs.Within.{IsClosingWithin, AreTalliesWithin, IsVerbWithin}
+use Rattle.play_state_text.specs.Within.{IsTalkWithin, IsKnifeWithin}
 use Rattle.play_state_text.proofs.Reading.{number_step, signed_step, answer_step, differ, peel}
 
 -- a line with a number

@@ -5,10 +5,8 @@ use Rattle.std.specs.Cmp.{unsigned_Decides}
 use Rattle.std.proofs.lemmas.Bool.{false≢true}
 use Rattle.cave_world.specs.State.{turns_in_area, is_hint_taken}
 use Rattle.cave_world.specs.declared.state.State.{State}
-use Rattle.play_state_text.specs.Entries.{text_up_to}
-use Rattle.play_state_text.specs.Numbers.{IsWide}
-use Rattle.play_state_text.specs.Things.{hint_text, hint_line}
-use Rattle.play_state_text.specs.Within.{AreHintsWithin}
+use Rattle.play_state_text.specs.Things.{text_up_to, hint_text, hint_line}
+use Rattle.play_state_text.specs.Within.{IsWide, AreHintsWithin}
 use Rattle.play_state_text.proofs.EntryLemmas.{IsPast, entries_read}
 use Rattle.play_state_text.proofs.FactLemmas.{answer_line_read}
 use Rattle.play_state_text.proofs.Reading.{number_step, both_true}

@@ -4,7 +4,7 @@ use Rattle.std.proofs.Common.{get_or}
 use Rattle.std.specs.Prelude.{◌==◌, slice_index_or}
 use Rattle.std.proofs.lemmas.Bool.Decides.{nat_tests}
 use Rattle.std.proofs.lemmas.List.{ext_get_or}
-use Rattle.play_state_text.specs.Numbers.{IsUpTo}
+use Rattle.play_state_text.specs.Within.{IsUpTo}
 
 pub unequal : (a b : ℕ) → a < b → a == b ≡ false
 unequal a b h = grind (arith, nat_tests)

@@ -9,19 +9,16 @@ use Rattle.std.specs.Ordering.{int_eq}
 use Rattle.std.proofs.lemmas.Bool.{false≢true}
 use Rattle.std.proofs.lemmas.List.{append_cancel_left}
 use Rattle.cave_world.specs.cave_data.CaveView.{CaveView}
-use Rattle.cave_world.specs.world_objects.Layout.{Layout}
-use Rattle.cave_world.specs.world_objects.Objects.{spot_of, anchor_of, prop_of}
+use Rattle.cave_world.specs.world_objects.Objects.{Layout, spot_of, anchor_of, prop_of}
 use Rattle.cave_world.specs.world_objects.declared.spot.Spot.{Spot}
 use Rattle.cave_world.specs.world_objects.declared.spot.Spot.TheVariants as spot
 use Rattle.cave_world.specs.world_objects.declared.spot.Anchor.{Anchor}
 use Rattle.cave_world.specs.world_objects.declared.spot.Anchor.TheVariants as anchor
 use Rattle.cave_world.specs.world_objects.contracts.spot.SpotPartialEq.TheImpl as spot_eq
 use Rattle.cave_world.specs.world_objects.contracts.spot.AnchorPartialEq.TheImpl as anchor_eq
-use Rattle.play_state_text.specs.Entries.{text_up_to}
-use Rattle.play_state_text.specs.Numbers.{IsUpTo}
-use Rattle.play_state_text.specs.Things.{word_of_object, spot_text, anchor_text, is_as_in}
-use Rattle.play_state_text.specs.Things.{thing_line, thing_text}
-use Rattle.play_state_text.specs.Within.{AreObjectsWithin, IsSpotWithin, IsAnchorWithin}
+use Rattle.play_state_text.specs.Things.{text_up_to, word_of_object, spot_text, anchor_text}
+use Rattle.play_state_text.specs.Things.{is_as_in, thing_line, thing_text}
+use Rattle.play_state_text.specs.Within.{IsUpTo, AreObjectsWithin, IsSpotWithin, IsAnchorWithin}
 use Rattle.play_state_text.specs.Within.{IsThingWithin}
 use Rattle.play_state_text.proofs.EntryLemmas.{IsPast, entries_read}
 use Rattle.play_state_text.proofs.Reading.{GoesOn, number_read, signed_step, after_name, both_true}

@@ -8,18 +8,15 @@ use Rattle.std.specs.Cmp.Lexicographic.{pointwise, pointwise_decides}
 use Rattle.std.specs.Fmt.{decimal}
 use Rattle.std.proofs.lemmas.Bool.{false≢true, cases_lt}
 use Rattle.std.proofs.lemmas.List.{append_cancel_left}
-use Rattle.cave_world.specs.world_objects.Halves.{half_number, object_of}
-use Rattle.cave_world.specs.world_objects.Layout.{Layout}
+use Rattle.cave_world.specs.world_objects.Lists.{half_number, object_of, AreLists, halves_at}
+use Rattle.cave_world.specs.world_objects.Objects.{Layout}
 use Rattle.cave_world.specs.world_objects.Links.{AreEntriesWithin}
-use Rattle.cave_world.specs.world_objects.Lists.{AreLists, halves_at}
 use Rattle.cave_world.specs.world_objects.declared.lists.PlacedHalf.{PlacedHalf}
 use Rattle.cave_world.specs.world_objects.declared.object.Half.{Half}
 use Rattle.cave_world.specs.world_objects.declared.object.Half.TheVariants.{First, Second}
 use Rattle.cave_world.specs.world_objects.contracts.object.HalfPartialEq.TheImpl as half_eq
-use Rattle.play_state_text.specs.Entries.{text_up_to}
-use Rattle.play_state_text.specs.Numbers.{IsWide, IsUpTo}
-use Rattle.play_state_text.specs.Things.{half_text, each_half, halves_text, place_line}
-use Rattle.play_state_text.specs.Within.{AreObjectsWithin}
+use Rattle.play_state_text.specs.Things.{text_up_to, half_text, each_half, halves_text, place_line}
+use Rattle.play_state_text.specs.Within.{IsWide, IsUpTo, AreObjectsWithin}
 use Rattle.play_state_text.proofs.EntryLemmas.{IsPast, entries_read}
 use Rattle.play_state_text.proofs.Reading.{GoesOn, number_first, number_read, after_name, differ}
 use Rattle.play_state_text.proofs.Reading.{peel}

@@ -11,7 +11,7 @@ use Rattle.std.proofs.lemmas.Bool.{false≢true}
 use Rattle.std.proofs.lemmas.Fmt.{decimal_injective, signed_decimal_injective, digits_decimal}
 use Rattle.std.proofs.lemmas.Fmt.{decimal_nonempty}
 use Rattle.std.proofs.lemmas.Str.Parse.{numerals_by_value, tells_all_ascii_digits}
-use Rattle.play_state_text.specs.Numbers.{IsWide, IsSigned}
+use Rattle.play_state_text.specs.Within.{IsWide, IsSigned}
 
 -- a byte that numbers are made of
 abbrev pub is_number_byte : ℕ → Bool

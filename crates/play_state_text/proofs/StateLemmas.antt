@@ -5,7 +5,7 @@ use Rattle.std.proofs.lemmas.Bool.{false≢true}
 use Rattle.std.proofs.lemmas.List.{append-nil}
 use Rattle.std.specs.Prelude.{codes}
 use Rattle.cave_world.specs.cave_data.CaveView.{CaveView}
-use Rattle.cave_world.specs.world_objects.Layout.{Layout}
+use Rattle.cave_world.specs.world_objects.Objects.{Layout}
 use Rattle.cave_world.specs.world_objects.Lists.{halves_at}
 use Rattle.cave_world.specs.SameGame.{IsSameGame, same_state}
 use Rattle.cave_world.specs.declared.dwarves.Dwarves.{Dwarves}
@@ -13,14 +13,13 @@ use Rattle.cave_world.specs.declared.dwarves.Knife.{Knife}
 use Rattle.cave_world.specs.declared.dwarves.Knife.TheVariants.{Unthrown, At, Vanished}
 use Rattle.cave_world.specs.declared.state.State.{State}
 use Rattle.cave_world.specs.declared.talk.Talk.{Talk}
-use Rattle.play_state_text.specs.Entries.{text_up_to}
+use Rattle.play_state_text.specs.Things.{text_up_to, thing_line, place_line, visits_line}
 use Rattle.play_state_text.specs.Facts.{trail_text, question_text, end_line, lamp_text}
 use Rattle.play_state_text.specs.Facts.{closing_text, talk_text, verb_text, anger_text, knife_text}
 use Rattle.play_state_text.specs.Facts.{numbered_line}
-use Rattle.play_state_text.specs.Laws.{AreToldApart}
-use Rattle.play_state_text.specs.StateText.{state_text, game_text, objects_text, rest_text}
-use Rattle.play_state_text.specs.Things.{thing_line, place_line, visits_line}
-use Rattle.play_state_text.specs.Within.{IsWithin}
+use Rattle.play_state_text.specs.StateText.{AreToldApart, state_text, game_text, objects_text}
+use Rattle.play_state_text.specs.StateText.{rest_text}
+use Rattle.play_state_text.specs.Within.{IsStateWithin}
 use Rattle.play_state_text.proofs.EntryLemmas.{IsPast}
 use Rattle.play_state_text.proofs.FactLemmas.{counts_read, trail_read, question_read, ending_read}
 use Rattle.play_state_text.proofs.FactLemmas.{lamp_read, closing_read, tallies_read, talk_read}
@@ -41,7 +40,7 @@ record AreSameGames (a b : State) : Type 0 where
   closing : a.closing ≡ b.closing
   tallies : a.tallies ≡ b.tallies
 
-game_read : (a b : State) (s t : List ℕ) → IsWithin a → IsWithin b
+game_read : (a b : State) (s t : List ℕ) → IsStateWithin a → IsStateWithin b
     → game_text a ++ s ≡ game_text b ++ t → AreSameGames a b × (s ≡ t)
 game_read a b s t ha hb e =
     let trail =
@@ -111,8 +110,8 @@ record AreSameObjects (a b : State) : Type 0 where
   lists : (place : ℕ) → halves_at place a.objects.lists ≡ halves_at place b.objects.lists
   talk : a.talk ≡ b.talk
 
-things_read : (cave : CaveView) (begun : Layout) (a b : State) (s t : List ℕ) → IsWithin a
-    → IsWithin b
+things_read : (cave : CaveView) (begun : Layout) (a b : State) (s t : List ℕ) → IsStateWithin a
+    → IsStateWithin b
     → objects_text cave begun a ++ (anger_text a.dwarves ++ s)
     ≡ objects_text cave begun b ++ (anger_text b.dwarves ++ t)
     → AreSameObjects a b × (anger_text a.dwarves ++ s ≡ anger_text b.dwarves ++ t)
@@ -150,7 +149,7 @@ record AreSameOthers (a b : State) : Type 0 where
   hints : a.hints ≡ b.hints
   stream : a.stream ≡ b.stream
 
-rest_read : (a b : State) → IsWithin a → IsWithin b → rest_text a ≡ rest_text b
+rest_read : (a b : State) → IsStateWithin a → IsStateWithin b → rest_text a ≡ rest_text b
     → AreSameOthers a b
 rest_read a b ha hb e =
     let anger =
@@ -184,7 +183,7 @@ rest_read a b ha hb e =
       stream = stream.0;
     }
 
-pub told_apart : (cave : CaveView) (begun : Layout) (a b : State) → IsWithin a → IsWithin b
+pub told_apart : (cave : CaveView) (begun : Layout) (a b : State) → IsStateWithin a → IsStateWithin b
     → AreToldApart cave begun a b
 unfolding state_text
 told_apart cave begun a b ha hb turns others score other ht ho hs hq e =

@@ -5,8 +5,7 @@ use Rattle.std.specs.Cmp.{unsigned_Decides}
 use Rattle.play_state_text.specs.Facts.{numbered_line}
 use Rattle.cave_world.specs.State.{visits_of}
 use Rattle.cave_world.specs.declared.state.State.{State}
-use Rattle.play_state_text.specs.Entries.{text_up_to}
-use Rattle.play_state_text.specs.Things.{visits_line}
+use Rattle.play_state_text.specs.Things.{text_up_to, visits_line}
 use Rattle.play_state_text.specs.Within.{AreVisitsWithin}
 use Rattle.play_state_text.proofs.EntryLemmas.{IsPast, entries_read}
 use Rattle.play_state_text.proofs.FactLemmas.{line_read}

@@ -5,8 +5,8 @@ use Rattle.std.specs.Prelude.{◌≤ℤ◌}
 use Rattle.std.proofs.lemmas.Bool.{cases_lt}
 use Rattle.std.proofs.lemmas.Int.{ints}
 use Rattle.cave_world.specs.world_objects.Props.{HIGHEST_PROP, LOWEST_PROP}
-use Rattle.cave_world.specs.Magic.{HIGHEST_MAGIC, LOWEST_MAGIC}
-use Rattle.play_state_text.specs.Numbers.{IsSigned, IsUpTo}
+use Rattle.cave_world.specs.Limits.{HIGHEST_MAGIC, LOWEST_MAGIC}
+use Rattle.play_state_text.specs.Within.{IsSigned, IsUpTo}
 
 signed_within : (z : ℤ) (least most : ℕ) → negsuc least ≤ℤ z → z ≤ℤ pos most → least < 2 ^ 63
     → most < 2 ^ 63 → IsSigned z

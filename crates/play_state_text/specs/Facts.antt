@@ -19,11 +19,9 @@ abbrev pub yes_or_no : Bool → List ℕ
 yes_or_no true = codes "yes"
 yes_or_no false = codes "no"
 
--- a number after what says what it is of
 unfoldable pub numbered_text : List ℕ → ℕ → List ℕ
 numbered_text before n = before ++ decimal n
 
--- a line with a number
 unfoldable pub numbered_line : List ℕ → ℕ → List ℕ
 numbered_line before n = before ++ (decimal n ++ codes "\n")
 
@@ -31,11 +29,9 @@ numbered_line before n = before ++ (decimal n ++ codes "\n")
 unfoldable pub signed_line : List ℕ → ℤ → List ℕ
 signed_line before z = before ++ (signed_decimal z ++ codes "\n")
 
--- a line with yes or no
 unfoldable pub answer_line : List ℕ → Bool → List ℕ
 answer_line before answer = before ++ (yes_or_no answer ++ codes "\n")
 
--- the turns and the score
 unfoldable pub counts_text : ℕ → ℕ → List ℕ
 counts_text turns score =
     numbered_line (codes "turns ") turns ++ numbered_line (codes "score ") score
@@ -81,14 +77,12 @@ closing_text closing =
     ++ (answer_line (codes "closed ") closing.is_closed
     ++ answer_line (codes "panic ") closing.is_panicking)))
 
--- the treasures that count as unseen and as lost, and the deaths
 unfoldable pub tallies_text : Tallies → List ℕ
 tallies_text tallies =
     numbered_line (codes "unseen treasures ") tallies.unseen
     ++ (numbered_line (codes "lost treasures ") tallies.lost
     ++ numbered_line (codes "deaths ") tallies.deaths)
 
--- the verb of half a command
 abbrev pub verb_text : Option ℕ → List ℕ
 verb_text None = codes "half command none\n"
 verb_text (Some verb) = numbered_line (codes "half verb ") verb
@@ -103,7 +97,6 @@ talk_text talk =
     ++ (numbered_line (codes "details ") talk.details
     ++ signed_line (codes "magic ") talk.magic))))
 
--- how angry the dwarves are, and how many were killed
 unfoldable pub anger_text : Dwarves → List ℕ
 anger_text dwarves =
     numbered_line (codes "anger ") dwarves.anger ++ numbered_line (codes "kills ") dwarves.kills

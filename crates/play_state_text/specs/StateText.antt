@@ -1,23 +1,21 @@
--- The text of a state, one fact a line.
-use Rattle.std.specs.Prelude.{ℕ, List, ◌++◌, codes}
+-- The text of a state, one fact a line; no other state has it.
+use Rattle.std.specs.Prelude.{ℕ, List, ◌++◌, codes, ◌≡◌, ◌<◌, ◌^◌}
 use Rattle.cave_world.specs.data_numbers.Numbers.{LAST_HINT, LAST_OBJECT, LAST_PLACE}
 use Rattle.cave_world.specs.cave_data.CaveView.{CaveView}
-use Rattle.cave_world.specs.world_objects.Layout.{Layout}
-use Rattle.cave_world.specs.Dwarves.{dwarf_count}
+use Rattle.cave_world.specs.world_objects.Objects.{Layout}
+use Rattle.cave_world.specs.Limits.{dwarf_count}
 use Rattle.cave_world.specs.declared.state.State.{State}
-use Rattle.play_state_text.specs.Entries.{text_up_to}
+use Rattle.play_state_text.specs.Things.{text_up_to, thing_line, place_line, visits_line}
+use Rattle.play_state_text.specs.Things.{dwarf_line, hint_line}
 use Rattle.play_state_text.specs.Facts.{counts_text, trail_text, question_text, end_line, lamp_text}
 use Rattle.play_state_text.specs.Facts.{closing_text, tallies_text, talk_text, anger_text}
 use Rattle.play_state_text.specs.Facts.{knife_text, numbered_line}
-use Rattle.play_state_text.specs.Things.{thing_line, place_line, visits_line, dwarf_line, hint_line}
 
--- where the game is
 abbrev pub game_text : State → List ℕ
 game_text s =
     trail_text s.trail ++ (question_text s.question ++ (end_line s.ending
     ++ (lamp_text s.lamp ++ (closing_text s.closing ++ tallies_text s.tallies))))
 
--- the objects, what is remembered of what was said, and what is at places
 abbrev pub objects_text : CaveView → Layout → State → List ℕ
 objects_text cave begun s =
     text_up_to (thing_line cave begun s.objects) LAST_OBJECT
@@ -35,3 +33,15 @@ unfoldable pub state_text : CaveView → Layout → ℕ → ℕ → State → Li
 state_text cave begun turns score s =
     counts_text turns score
     ++ (game_text s ++ (objects_text cave begun s ++ rest_text s))
+
+-- a number of turns, or a score
+abbrev pub IsCount : ℕ → Type 0
+IsCount n = n < 2 ^ 32
+
+-- where two states of one cave are written alike, they are the same state, after as many turns
+abbrev pub AreToldApart : CaveView → Layout → State → State → Type 0
+AreToldApart cave begun a b =
+    (turns other_turns score other_score : ℕ)
+    → IsCount turns → IsCount other_turns → IsCount score → IsCount other_score
+    → state_text cave begun turns score a ≡ state_text cave begun other_turns other_score b
+    → (turns ≡ other_turns) × (a ≡ b)

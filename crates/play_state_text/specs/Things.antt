@@ -1,13 +1,12 @@
 -- Lines for what there is more than once in a state: objects, places, dwarves, hints.
 use Rattle.std.specs.Prelude.{ℕ, ◌+◌, ◌-◌, Bool, false, ◌==◌, ◌&&◌, not, List, [], ◌∷◌, ◌++◌, codes}
-use Rattle.std.specs.Prelude.{unwrap_or, slice_index_or}
+use Rattle.std.specs.Prelude.{unwrap_or, slice_index_or, zero, suc, if◌then◌else◌, decimal}
 use Rattle.std.specs.Ordering.{int_eq}
 use Rattle.std.specs.Cmp.Lexicographic.{pointwise}
 use Rattle.cave_world.specs.data_rows.Rows.{WORDS_PER_CLASS}
 use Rattle.cave_world.specs.cave_data.CaveView.{CaveView, first_word}
-use Rattle.cave_world.specs.world_objects.Layout.{Layout}
+use Rattle.cave_world.specs.world_objects.Objects.{Layout, spot_of, anchor_of, prop_of}
 use Rattle.cave_world.specs.world_objects.Lists.{halves_at}
-use Rattle.cave_world.specs.world_objects.Objects.{spot_of, anchor_of, prop_of}
 use Rattle.cave_world.specs.world_objects.declared.object.Half.{Half}
 use Rattle.cave_world.specs.world_objects.declared.object.Half.TheVariants.{First, Second}
 use Rattle.cave_world.specs.world_objects.declared.spot.Spot.{Spot}
@@ -17,12 +16,20 @@ use Rattle.cave_world.specs.world_objects.declared.spot.Anchor.TheVariants as an
 use Rattle.cave_world.specs.world_objects.contracts.object.HalfPartialEq.TheImpl as half_eq
 use Rattle.cave_world.specs.world_objects.contracts.spot.SpotPartialEq.TheImpl as spot_eq
 use Rattle.cave_world.specs.world_objects.contracts.spot.AnchorPartialEq.TheImpl as anchor_eq
-use Rattle.cave_world.specs.Fresh.{no_dwarf}
-use Rattle.cave_world.specs.State.{visits_of, turns_in_area, is_hint_taken}
+use Rattle.cave_world.specs.State.{no_dwarf, visits_of, turns_in_area, is_hint_taken}
 use Rattle.cave_world.specs.declared.dwarves.Dwarf.{Dwarf}
 use Rattle.cave_world.specs.declared.state.State.{State}
-use Rattle.play_state_text.specs.Entries.{entry}
 use Rattle.play_state_text.specs.Facts.{numbered_text, numbered_line, signed_line, answer_line}
+
+-- the line of a number, or nothing where it is left out
+abbrev pub entry : List ℕ → Bool → ℕ → List ℕ → List ℕ
+entry name is_left_out number rest =
+    if is_left_out then [] else name ++ (decimal number ++ (codes ":" ++ rest))
+
+-- what is written for each number from 1 to the last
+unfoldable pub text_up_to : (ℕ → List ℕ) → ℕ → List ℕ
+text_up_to text zero = []
+text_up_to text (suc last) = text_up_to text last ++ text (suc last)
 
 -- ---- objects
 
@@ -47,7 +54,6 @@ is_as_in begun o x =
     && (anchor_eq.eq-value.it (anchor_of o x) (anchor_of begun x)
     && int_eq (prop_of o x) (prop_of begun x))
 
--- the word of an object, where it is, what holds it there, and its prop
 unfoldable pub thing_text : CaveView → Layout → ℕ → List ℕ
 thing_text cave o x =
     codes " " ++ (word_of_object cave x ++ (spot_text (spot_of o x)
@@ -60,7 +66,6 @@ thing_line cave begun o x =
 
 -- ---- what is at places
 
--- a half by the number of its object
 abbrev pub half_text : Half → List ℕ
 half_text (First x) = numbered_text (codes " ") x
 half_text (Second x) = numbered_text (codes " also ") x

@@ -1,15 +1,14 @@
 -- The numbers of a state are within what is written of numbers.
-use Rattle.std.specs.Prelude.{◌≡◌, ℕ, ⊤, length, Option, None, Some}
+use Rattle.std.specs.Prelude.{◌≡◌, ℕ, ⊤, length, Option, None, Some, ℤ, ◌≤◌, ◌<◌, ◌^◌}
 use Rattle.cave_world.specs.data_numbers.Numbers.{LAST_HINT, LAST_OBJECT, LAST_PLACE}
-use Rattle.cave_world.specs.world_objects.Layout.{Layout}
+use Rattle.cave_world.specs.world_objects.Objects.{Layout, spot_of, anchor_of, prop_of}
 use Rattle.cave_world.specs.world_objects.Lists.{AreLists}
 use Rattle.cave_world.specs.world_objects.Links.{AreEntriesWithin}
-use Rattle.cave_world.specs.world_objects.Objects.{spot_of, anchor_of, prop_of}
 use Rattle.cave_world.specs.world_objects.declared.spot.Spot.{Spot}
 use Rattle.cave_world.specs.world_objects.declared.spot.Spot.TheVariants as spot
 use Rattle.cave_world.specs.world_objects.declared.spot.Anchor.{Anchor}
 use Rattle.cave_world.specs.world_objects.declared.spot.Anchor.TheVariants as anchor
-use Rattle.cave_world.specs.Dwarves.{dwarf_count}
+use Rattle.cave_world.specs.Limits.{dwarf_count}
 use Rattle.cave_world.specs.State.{turns_in_area, visits_of}
 use Rattle.cave_world.specs.declared.closing.Closing.{Closing}
 use Rattle.cave_world.specs.declared.dwarves.Dwarf.{Dwarf}
@@ -21,8 +20,19 @@ use Rattle.cave_world.specs.declared.state.State.{State}
 use Rattle.cave_world.specs.declared.state.Tallies.{Tallies}
 use Rattle.cave_world.specs.declared.state.Trail.{Trail}
 use Rattle.cave_world.specs.declared.talk.Talk.{Talk}
-use Rattle.play_state_text.specs.Numbers.{IsWide, IsSigned, IsUpTo}
 use Rattle.play_state_text.specs.Things.{dwarf_numbered}
+use Rattle.std.specs.Int.Signed.{mag}
+
+-- the number has sixty-four bits at most
+abbrev pub IsWide : ℕ → Type 0
+IsWide n = n < 2 ^ 64
+
+abbrev pub IsSigned : ℤ → Type 0
+IsSigned z = mag z < 2 ^ 63
+
+-- the number is one of those from 1 to the last
+abbrev pub IsUpTo : ℕ → ℕ → Type 0
+IsUpTo last n = (1 ≤ n) × (n ≤ last)
 
 abbrev pub IsTrailWithin : Trail → Type 0
 IsTrailWithin trail = IsWide trail.here × (IsWide trail.last × IsWide trail.older)
@@ -103,7 +113,7 @@ pub record AreHintsWithin (s : State) : Type 0 where
   pub all_taken : length s.hints.is_taken ≡ LAST_HINT
   pub each : (hint : ℕ) → IsUpTo LAST_HINT hint → IsWide (turns_in_area s hint)
 
-pub record IsWithin (s : State) : Type 0 where
+pub record IsStateWithin (s : State) : Type 0 where
   pub facts : AreFactsWithin s
   pub objects : AreObjectsWithin s.objects
   pub visits : AreVisitsWithin s

@@ -1,9 +1,8 @@
 //! Lines for dwarves.
 
 ghost use Rattle.std.specs.Prelude.{◌≡◌, ◌++◌, ◌≤◌, OnOk};
-ghost use Rattle.cave_world.specs.Dwarves.{dwarf_count};
-ghost use Rattle.play_state_text.specs.Entries.{text_up_to};
-ghost use Rattle.play_state_text.specs.Things.{dwarf_text, dwarf_line};
+ghost use Rattle.cave_world.specs.Limits.{dwarf_count};
+ghost use Rattle.play_state_text.specs.Things.{text_up_to, dwarf_text, dwarf_line};
 
 use crate::facts::{push_answer, push_numbered, push_start};
 use cave_world::dwarves::DWARVES;

@@ -45,7 +45,6 @@ pub(crate) fn push_start(
     text.extend_from_slice(start.as_bytes())
 }
 
-/// Appends a line with a number.
 #[tactic(auto, unfolding(crate::specs::Facts::numbered_line))]
 pub(crate) fn push_numbered_line(
     alloc: Global,
@@ -73,7 +72,6 @@ pub(crate) fn push_signed(
     text.extend_from_slice(line.as_bytes())
 }
 
-/// Appends a line with yes or no.
 #[tactic(auto, unfolding(crate::specs::Facts::answer_line))]
 pub(crate) fn push_answer(
     alloc: Global,
@@ -88,7 +86,6 @@ pub(crate) fn push_answer(
     text.extend_from_slice(line.as_bytes())
 }
 
-/// Appends a line with a count.
 fn push_count<const MOST: u16>(
     alloc: Global,
     text: &mut Vec<u8>,
@@ -101,7 +98,6 @@ fn push_count<const MOST: u16>(
     push_numbered_line(alloc, text, before, u32::from(count.number()))
 }
 
-/// Appends a line with the number of an object.
 fn push_object_number(
     alloc: Global,
     text: &mut Vec<u8>,

@@ -2,8 +2,7 @@
 
 ghost use Rattle.std.specs.Prelude.{◌≡◌, ◌++◌, OnOk};
 ghost use Rattle.cave_world.specs.data_numbers.Numbers.{LAST_HINT};
-ghost use Rattle.play_state_text.specs.Entries.{text_up_to};
-ghost use Rattle.play_state_text.specs.Things.{hint_text, hint_line};
+ghost use Rattle.play_state_text.specs.Things.{text_up_to, hint_text, hint_line};
 
 use crate::facts::{push_answer, push_numbered, push_start};
 use cave_world::hints::HINTS;

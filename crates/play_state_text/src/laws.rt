@@ -1,6 +1,6 @@
 //! The law of the text of a state. It is the contract of a function that changes nothing.
 
-ghost use Rattle.play_state_text.specs.Laws.{AreToldApart};
+ghost use Rattle.play_state_text.specs.StateText.{AreToldApart};
 
 use crate::within::is_within;
 use cave_world::{Cave, Objects, State};

@@ -2,9 +2,8 @@
 
 ghost use Rattle.std.specs.Prelude.{◌≡◌, ◌++◌, OnOk};
 ghost use Rattle.cave_world.specs.data_numbers.Numbers.{LAST_OBJECT};
-ghost use Rattle.play_state_text.specs.Entries.{text_up_to};
-ghost use Rattle.play_state_text.specs.Things.{word_of_object, spot_text, anchor_text, is_as_in};
-ghost use Rattle.play_state_text.specs.Things.{thing_text, thing_line};
+ghost use Rattle.play_state_text.specs.Things.{text_up_to, word_of_object, spot_text, anchor_text};
+ghost use Rattle.play_state_text.specs.Things.{is_as_in, thing_text, thing_line};
 
 use crate::facts::{push_numbered, push_signed, push_start};
 use cave_world::{Anchor, Cave, OBJECTS, Object, Objects, Spot, WORDS_PER_CLASS};

@@ -2,9 +2,8 @@
 
 ghost use Rattle.std.specs.Prelude.{◌≡◌, ◌++◌, OnOk};
 ghost use Rattle.cave_world.specs.data_numbers.Numbers.{LAST_PLACE};
-ghost use Rattle.play_state_text.specs.Entries.{text_up_to};
-ghost use Rattle.play_state_text.specs.Things.{half_text, halves_text, each_half, place_line};
-ghost use Rattle.play_state_text.specs.Things.{visits_line};
+ghost use Rattle.play_state_text.specs.Things.{text_up_to, half_text, halves_text, each_half};
+ghost use Rattle.play_state_text.specs.Things.{place_line, visits_line};
 
 use crate::facts::{push_numbered, push_numbered_line, push_start};
 use cave_world::{Half, Objects, PLACES, Place, State};

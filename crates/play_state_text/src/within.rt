@@ -3,16 +3,15 @@
 
 ghost use Rattle.std.specs.Prelude.{◌≡◌, ◌≤◌, length, Some};
 ghost use Rattle.cave_world.specs.data_numbers.Numbers.{LAST_HINT};
-ghost use Rattle.cave_world.specs.Dwarves.{dwarf_count};
+ghost use Rattle.cave_world.specs.Limits.{dwarf_count};
 ghost use Rattle.cave_world.specs.State.{turns_in_area, visits_of};
-ghost use Rattle.play_state_text.specs.Numbers.{IsWide};
+ghost use Rattle.play_state_text.specs.Within.{IsWide, IsStateWithin, AreFactsWithin};
+ghost use Rattle.play_state_text.specs.Within.{AreObjectsWithin, AreVisitsWithin, AreDwarvesWithin};
+ghost use Rattle.play_state_text.specs.Within.{AreHintsWithin, IsTrailWithin, IsQuestionWithin};
+ghost use Rattle.play_state_text.specs.Within.{IsClosingWithin, AreTalliesWithin, IsTalkWithin};
+ghost use Rattle.play_state_text.specs.Within.{IsKnifeWithin, IsDwarfWithin, IsSpotWithin};
+ghost use Rattle.play_state_text.specs.Within.{IsAnchorWithin, IsThingWithin};
 ghost use Rattle.play_state_text.specs.Things.{dwarf_numbered};
-ghost use Rattle.play_state_text.specs.Within.{IsWithin, AreFactsWithin, AreObjectsWithin};
-ghost use Rattle.play_state_text.specs.Within.{AreVisitsWithin, AreDwarvesWithin, AreHintsWithin};
-ghost use Rattle.play_state_text.specs.Within.{IsTrailWithin, IsQuestionWithin, IsClosingWithin};
-ghost use Rattle.play_state_text.specs.Within.{AreTalliesWithin, IsTalkWithin, IsKnifeWithin};
-ghost use Rattle.play_state_text.specs.Within.{IsDwarfWithin, IsSpotWithin, IsAnchorWithin};
-ghost use Rattle.play_state_text.specs.Within.{IsThingWithin};
 
 use cave_world::dwarves::DWARVES;
 use cave_world::hints::HINTS;
@@ -202,7 +201,7 @@ fn hints(state: &State)
 
 /// The numbers of a state are within what is written of numbers.
 pub(crate) fn is_within(state: &State)
-    ensures { IsWithin state.now }
+    ensures { IsStateWithin state.now }
 {
     facts(state);
     objects(&state.objects);

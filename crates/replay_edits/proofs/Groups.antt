@@ -8,10 +8,9 @@ use Rattle.std.proofs.lemmas.List.{reverse-append}
 use Rattle.replay_edits.specs.declared.edit.Edit.{Edit}
 use Rattle.replay_edits.specs.declared.fault.EditFault.{EditFault}
 use Rattle.replay_edits.specs.declared.fault.GroupFault.{GroupFault}
-use Rattle.replay_edits.specs.Game.{log_of}
-use Rattle.replay_edits.specs.Edit.{Change, change_of, changes_of, log_after}
+use Rattle.replay_edits.specs.Edit.{log_of, Change, change_of, changes_of, log_after, margins_after}
+use Rattle.replay_edits.specs.Edit.{margins_after_all, margins_of}
 use Rattle.replay_edits.specs.declared.margins.Margins.{Margins}
-use Rattle.replay_edits.specs.Margins.{margins_after, margins_after_all, margins_of}
 use Rattle.replay_edits.specs.Faults.{fault_of, first_of_two, fault_of_all, log_after_all}
 
 -- the changes from a place on are the one there and those after it

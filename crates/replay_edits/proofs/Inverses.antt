@@ -15,10 +15,9 @@ use Rattle.replay_edits.specs.declared.fault.EditFault.TheVariants.{NoSuchPlace,
 use Rattle.replay_edits.specs.declared.fault.EditFault.TheVariants.{BadSeed, MeterFull}
 use Rattle.replay_edits.specs.declared.fault.GroupFault.{GroupFault}
 use Rattle.base_lines.specs.base_limits.Limits.{MAX_LOG_LINES, MAX_SEED}
-use Rattle.replay_edits.specs.Game.{Game, game_of, IsGame}
-use Rattle.replay_edits.specs.Edit.{Change, inserts, deletes, replaces, reseeds, line_at, log_after}
-use Rattle.replay_edits.specs.Edit.{seed_after, seed_after_all, apply, apply_all, inverse_of}
-use Rattle.replay_edits.specs.Edit.{inverse_of_each, inverses_of}
+use Rattle.replay_edits.specs.Edit.{Game, game_of, IsGame, Change, inserts, deletes, replaces}
+use Rattle.replay_edits.specs.Edit.{reseeds, line_at, log_after, seed_after, seed_after_all, apply}
+use Rattle.replay_edits.specs.Edit.{apply_all, inverse_of, inverse_of_each, inverses_of}
 use Rattle.replay_edits.specs.Faults.{fault_of, added_fault, replaced_fault, fault_of_all}
 use Rattle.replay_edits.specs.Faults.{or_group_meter_full, group_fault, log_after_all}
 use Rattle.replay_edits.proofs.Groups.{first_is_free}

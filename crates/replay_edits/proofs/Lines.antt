@@ -5,8 +5,7 @@ use Rattle.replay_edits.specs.LineText.{LineText}
 use Rattle.std.proofs.lemmas.List.{take_more, get_or-map, length-map}
 use Rattle.std.proofs.lemmas.List.Elements.{All-get_or}
 use Rattle.base_lines.specs.Line.{is_line}
-use Rattle.replay_edits.specs.Game.{log_of}
-use Rattle.replay_edits.specs.Edit.{line_at}
+use Rattle.replay_edits.specs.Edit.{log_of, line_at}
 
 pub length-log_of : (log : List LineText) → length (log_of log) ≡ length log
 length-log_of log = length-map log (λ line. line.items)

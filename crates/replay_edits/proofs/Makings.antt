@@ -1,8 +1,7 @@
 -- Changes that are made one after another, and those that take them back.
 use Rattle.std.proofs.Common.{◌≡◌, List, [], ◌∷◌, ◌++◌, refl, ◌∙◌, None}
 use Rattle.std.proofs.lemmas.List.{append_assoc}
-use Rattle.replay_edits.specs.Game.{Game}
-use Rattle.replay_edits.specs.Edit.{Change, apply, apply_all, inverse_of, inverse_of_each}
+use Rattle.replay_edits.specs.Edit.{Game, Change, apply, apply_all, inverse_of, inverse_of_each}
 use Rattle.replay_edits.specs.Faults.{fault_of}
 use Rattle.replay_edits.proofs.Inverses.{IsFree}
 

@@ -4,11 +4,10 @@ use Rattle.std.proofs.lemmas.List.{length-map}
 use Rattle.replay_edits.specs.LineText.{LineText}
 use Rattle.replay_edits.specs.declared.margins.Margins.{Margins}
 use Rattle.replay_edits.specs.declared.edit.Edit.{Edit}
-use Rattle.replay_edits.specs.Game.{log_of, Game}
-use Rattle.replay_edits.specs.Edit.{Change, change_of, changes_of, inserts, deletes, replaces}
-use Rattle.replay_edits.specs.Edit.{reseeds, log_after, apply, apply_all}
+use Rattle.replay_edits.specs.Edit.{log_of, Game, Change, change_of, changes_of, inserts, deletes}
+use Rattle.replay_edits.specs.Edit.{replaces, reseeds, log_after, apply, apply_all, margins_after}
+use Rattle.replay_edits.specs.Edit.{margins_after_all, margins_of}
 use Rattle.replay_edits.specs.Faults.{fault_of, fault_of_all}
-use Rattle.replay_edits.specs.Margins.{margins_after, margins_after_all, margins_of}
 use Rattle.replay_edits.proofs.Lines.{length-log_of}
 use Rattle.replay_edits.proofs.Inverses.{IsFree, IsFree-from_none, insert_within, delete_within}
 use Rattle.replay_edits.proofs.Inverses.{replace_within}

@@ -1,6 +1,7 @@
 -- The first fault of an edit, and of a group of edits.
 use Rattle.std.specs.Prelude.{◌≡◌, ℕ, ◌+◌, ◌-◌, ◌^◌, not, nat_lt, nat_le, if◌then◌else◌, List, []}
 use Rattle.std.specs.Prelude.{◌∷◌, length, Option, None, Some, MatchOption, IfErr, Result, Err}
+use Rattle.std.specs.Prelude.{MatchResult}
 use Rattle.base_lines.specs.Line.{is_line}
 use Rattle.replay_edits.specs.declared.fault.EditFault.{EditFault}
 use Rattle.replay_edits.specs.declared.fault.EditFault.TheVariants.{NoSuchPlace, BadLine, LogFull}
@@ -8,15 +9,10 @@ use Rattle.replay_edits.specs.declared.fault.EditFault.TheVariants.{BadSeed, Met
 use Rattle.replay_edits.specs.declared.fault.EditFault.TheVariants.{Memory}
 use Rattle.replay_edits.specs.declared.fault.GroupFault.{GroupFault}
 use Rattle.base_lines.specs.base_limits.Limits.{MAX_LOG_LINES, MAX_SEED}
-use Rattle.replay_edits.specs.Game.{Game}
-use Rattle.replay_edits.specs.Edit.{Change, inserts, deletes, replaces, reseeds, log_after}
-use Rattle.replay_edits.specs.Edit.{apply_all, inverses_of}
+use Rattle.replay_edits.specs.Edit.{Game, Change, inserts, deletes, replaces, reseeds, log_after}
+use Rattle.replay_edits.specs.Edit.{apply_all, inverses_of, margins_of}
+use Rattle.replay_edits.specs.declared.plan.Plan.{Plan}
 
--- a fault of a seed
-abbrev pub reseed_fault : ℕ → Option EditFault
-reseed_fault seed = if nat_lt MAX_SEED seed then Some BadSeed else None
-
--- the first fault of a line that comes in the place of another
 abbrev pub replaced_fault : List ℕ → Option EditFault
 replaced_fault line = if is_line line then None else Some BadLine
 
@@ -33,7 +29,7 @@ fault_of (inserts place line) log =
 fault_of (deletes place) log = if nat_le (length log) place then Some NoSuchPlace else None
 fault_of (replaces place line) log =
     if nat_le (length log) place then Some NoSuchPlace else replaced_fault line
-fault_of (reseeds seed) log = reseed_fault seed
+fault_of (reseeds seed) log = if nat_lt MAX_SEED seed then Some BadSeed else None
 
 -- a fault, with the number of the change that met it, or else the fault of a later one
 abbrev pub first_of_two : Option EditFault → ℕ → Option GroupFault → Option GroupFault
@@ -48,7 +44,6 @@ fault_of_all (change ∷ changes) log number =
     first_of_two (fault_of change log) number
     (fault_of_all changes (log_after change log) (number + 1))
 
--- the log after several changes
 abbrev pub log_after_all : List Change → List (List ℕ) → List (List ℕ)
 log_after_all [] log = log
 log_after_all (change ∷ changes) log = log_after_all changes (log_after change log)
@@ -76,10 +71,6 @@ IsFaultOr memory fault result =
 abbrev pub IsAnswerTo : {A : Type 0} → Option GroupFault → Result A GroupFault → Type 0
 IsAnswerTo fault result = IsFaultOr (record { cause = Memory; number = 0 }) fault result
 
--- one edit is refused for this fault, if there is one
-abbrev pub IsAnswerToEdit : {A : Type 0} → Option EditFault → Result A EditFault → Type 0
-IsAnswerToEdit fault result = IsFaultOr Memory fault result
-
 -- Changes take others back that were made in the game `old`: they are the inverses of these, meet
 -- no fault in the game `new`, and give the old one.
 pub record TakesBack (inverse changes : List Change) (old new : Game) : Type 0 where
@@ -99,3 +90,23 @@ or_edit_meter_full None log left = if nat_lt left (length log) then Some MeterFu
 -- the fault of one change of a log where the meter has so many steps left, memory aside
 abbrev pub edit_fault : Change → List (List ℕ) → ℕ → Option EditFault
 edit_fault change log left = or_edit_meter_full (fault_of change log) (log_after change log) left
+
+pub record HasLinesAfter (change : Change) (log : List (List ℕ)) (lines : ℕ) : Type 0 where
+  pub free : fault_of change log ≡ None
+  pub lines_are : lines ≡ length (log_after change log)
+
+abbrev pub IsLinesOrFault : Change → List (List ℕ) → Result ℕ EditFault → Type 0
+IsLinesOrFault change log result =
+    MatchResult result (HasLinesAfter change log) (λ fault. fault_of change log ≡ Some fault)
+
+-- what changes make of a log where this is their fault: none
+pub record IsPlan (changes : List Change) (log : List (List ℕ)) (fault : Option GroupFault)
+    (plan : Plan) : Type 0 where
+  pub free : fault ≡ None
+  pub lines : plan.lines ≡ length (log_after_all changes log)
+  pub margins : plan.margins ≡ margins_of changes log
+
+abbrev pub IsPlanOrFault : List Change → List (List ℕ) → Option GroupFault
+    → Result Plan GroupFault → Type 0
+IsPlanOrFault changes log fault result =
+    MatchResult result (IsPlan changes log fault) (λ found. fault ≡ Some found)

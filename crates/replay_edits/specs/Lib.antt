@@ -1,10 +1,6 @@
 pub mod Edit
 pub mod Faults
-pub mod Game
 pub mod LineBytes
 pub mod LineText
-pub mod Margins
-pub mod Plan
-pub mod Trace
 pub use Rattle.base_lines.specs.base_limits as base_limits
 pub use Rattle.base_lines.specs as base_lines

@@ -16,11 +16,11 @@ line_in [] = record { items = [] }
 line_in (bytes ∷ more) = record { items = bytes_of bytes }
 
 -- a short line has no more bytes than lie there
-abbrev pub IsSound : LineBytes → Type 0
-IsSound (Short len bytes) = len ≤ MAX_SHORT_LINE
-IsSound (Long bytes) = Unit {0}
+abbrev pub AreSoundBytes : LineBytes → Type 0
+AreSoundBytes (Short len bytes) = len ≤ MAX_SHORT_LINE
+AreSoundBytes (Long bytes) = Unit {0}
 
 -- the bytes in the first place are sound
 abbrev pub IsSoundLine : List LineBytes → Type 0
 IsSoundLine [] = Unit {0}
-IsSoundLine (bytes ∷ more) = IsSound bytes
+IsSoundLine (bytes ∷ more) = AreSoundBytes bytes

@@ -1,8 +1,7 @@
 ghost use Rattle.std.specs.Prelude.{◌≡◌, ◌+◌, ◌≤◌, ◌<◌, vec_len, vec_capacity, None};
-ghost use Rattle.replay_edits.specs.Game.{game_in, log_of};
-ghost use Rattle.replay_edits.specs.Edit.{change_of, changes_of, apply, apply_all, inverse_of};
-ghost use Rattle.replay_edits.specs.Edit.{inverses_of, lines_inserted, lines_inserted_by_all};
-ghost use Rattle.replay_edits.specs.Edit.{seed_after_all};
+ghost use Rattle.replay_edits.specs.Edit.{game_in, log_of, change_of, changes_of, apply, apply_all};
+ghost use Rattle.replay_edits.specs.Edit.{inverse_of, inverses_of, lines_inserted};
+ghost use Rattle.replay_edits.specs.Edit.{lines_inserted_by_all, seed_after_all};
 ghost use Rattle.replay_edits.specs.Faults.{fault_of, fault_of_all};
 
 use crate::line_text::LineText;

@@ -8,7 +8,7 @@ pub struct Margins {
 }
 
 impl Margins {
-    ghost use Rattle.replay_edits.specs.Margins.{narrowed_margins};
+    ghost use Rattle.replay_edits.specs.Edit.{narrowed_margins};
 
     /// Leaves alone at most so many at the start, and at most so many at the end.
     pub fn narrow(self, head: usize, tail: usize) -> Margins

@@ -1,8 +1,7 @@
 ghost use Rattle.std.specs.Prelude.{◌≡◌, ℕ, List, length};
-ghost use Rattle.replay_edits.specs.Edit.{change_of, changes_of};
-ghost use Rattle.replay_edits.specs.Faults.{fault_of_all, group_fault};
-ghost use Rattle.replay_edits.specs.Margins.{margins_after};
-ghost use Rattle.replay_edits.specs.Plan.{IsLinesOrFault, IsPlanOrFault};
+ghost use Rattle.replay_edits.specs.Edit.{change_of, changes_of, margins_after};
+ghost use Rattle.replay_edits.specs.Faults.{fault_of_all, group_fault, IsLinesOrFault};
+ghost use Rattle.replay_edits.specs.Faults.{IsPlanOrFault};
 
 use crate::edit::Edit;
 use crate::fault::{EditFault, GroupFault};

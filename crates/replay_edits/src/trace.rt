@@ -1,8 +1,7 @@
 ghost use Rattle.std.specs.Prelude.{◌≡◌, ℕ, List, ◌+◌, ◌^◌, ◌<◌, ◌≤◌, length, IfSome, None};
 ghost use Rattle.replay_edits.specs.Edit.{change_of, changes_of, own_line, line_at, log_after};
+ghost use Rattle.replay_edits.specs.Edit.{log_of, ComesFrom};
 ghost use Rattle.replay_edits.specs.Faults.{fault_of, fault_of_all, log_after_all};
-ghost use Rattle.replay_edits.specs.Game.{log_of};
-ghost use Rattle.replay_edits.specs.Trace.{ComesFrom};
 
 use crate::edit::Edit;
 use crate::line_text::LineText;

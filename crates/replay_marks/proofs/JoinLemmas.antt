@@ -6,8 +6,7 @@ use Rattle.std.specs.List.{splice}
 use Rattle.std.proofs.lemmas.List.{take_at, drop_at, length-take-le, length-drop, get_or-drop}
 use borrow.Author.Tests.{lt-ltb, le-ltb}
 use Rattle.replay_marks.specs.Spacing.{IsSpaced}
-use Rattle.replay_marks.specs.Thinning.{IsThinned, IsRest, after_shift}
-use Rattle.replay_marks.specs.Marks.{CheckpointsView, next_place}
+use Rattle.replay_marks.specs.Marks.{IsThinned, IsRest, after_shift, CheckpointsView, next_place}
 use Rattle.replay_marks.specs.declared.checkpoints.join.Seam.{Seam}
 use Rattle.replay_marks.proofs.Counts.{place_within}
 use Rattle.replay_marks.proofs.Places.{non_decreasing}

@@ -5,8 +5,7 @@ use Rattle.std.proofs.Common.{◌++◌, map, length, take, drop, arith, refl, ap
 use Rattle.std.specs.Prelude.{slice_index, if◌then◌else◌}
 use Rattle.std.proofs.lemmas.List.{map-append, map_push, take-map, drop-map, length-take-le}
 use Rattle.std.proofs.lemmas.List.{length-drop, get_or-take, get_or-drop}
-use Rattle.replay_marks.specs.Thinning.{after_shift}
-use Rattle.replay_marks.specs.Marks.{MarksView, is_far, places_before, states_before}
+use Rattle.replay_marks.specs.Marks.{after_shift, MarksView, is_far, places_before, states_before}
 
 module _ {S T : Type 0} (meaning : S → T) (at : ℕ → T) where
   class_before : (far : Bool) (places : List ℕ) (states : List S) (next : ℕ) (state : S)

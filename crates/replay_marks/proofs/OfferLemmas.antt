@@ -4,8 +4,7 @@ use Rattle.std.proofs.Common.{length, arith, refl, ap}
 use Rattle.std.specs.Prelude.{slice_index, if◌then◌else◌}
 use borrow.Author.Tests.{ltb-true, ltb-false}
 use Rattle.std.proofs.lemmas.List.{length_push}
-use Rattle.replay_marks.specs.Thinning.{IsThinned}
-use Rattle.replay_marks.specs.Marks.{IsSound, is_far}
+use Rattle.replay_marks.specs.Marks.{IsThinned, IsSound, is_far}
 use Rattle.replay_marks.proofs.Runs.{at_left}
 use Rattle.replay_marks.proofs.ThinningLemmas.{thinned_keep, thinned_pass}
 

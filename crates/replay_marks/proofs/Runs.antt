@@ -8,7 +8,7 @@ use Rattle.std.proofs.lemmas.List.{get_or_append_left, get_or-append-add, get_or
 use Rattle.std.proofs.lemmas.List.{get_or-map, length-append, length-take-le, length-drop}
 use Rattle.std.proofs.lemmas.List.{length-map, ext_get_or}
 use Rattle.replay_marks.specs.Spacing.{IsSpacedFrom}
-use Rattle.replay_marks.specs.Thinning.{after_shift}
+use Rattle.replay_marks.specs.Marks.{after_shift}
 
 pub record IsRun (K : ℕ) (places : List ℕ) : Type 0 where
   pub rising : IsStrictlyIncreasing places

@@ -5,7 +5,7 @@ use Rattle.std.specs.Prelude.{slice_index}
 use Rattle.std.proofs.lemmas.Bool.{cases_lt}
 use Rattle.std.proofs.lemmas.List.{length-append, length_push, length-take-le, get_or-take}
 use Rattle.replay_marks.specs.Spacing.{IsSpaced}
-use Rattle.replay_marks.specs.Thinning.{IsThinned, IsRest, after_shift}
+use Rattle.replay_marks.specs.Marks.{IsThinned, IsRest, after_shift}
 use Rattle.std.specs.List.Sorted.{IsStrictlyIncreasing}
 use Rattle.replay_marks.proofs.Places.{non_decreasing}
 use Rattle.replay_marks.proofs.Runs.{IsRun, IsMeeting, run_of, at_left, at_right, joined, front}

@@ -1,4 +1,2 @@
 pub mod Marks
-pub mod PlacedStates
 pub mod Spacing
-pub mod Thinning

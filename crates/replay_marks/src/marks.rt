@@ -1,8 +1,7 @@
 ghost use Rattle.std.specs.Prelude.{◌≡◌, ℕ, ◌+◌, ◌-◌, ◌<◌, ◌≤◌, ◌^◌, [], ◌∷◌, length, slice_index};
 ghost use Rattle.std.specs.Prelude.{IfOk, OnOk, OnErr};
-ghost use Rattle.replay_marks.specs.Marks.{places_before, states_before};
+ghost use Rattle.replay_marks.specs.Marks.{places_before, states_before, IsThinned};
 ghost use Rattle.replay_marks.specs.Spacing.{most_spaced};
-ghost use Rattle.replay_marks.specs.Thinning.{IsThinned};
 
 use crate::kept_state::{KeptState, keep_again};
 use crate::placed_states::PlacedStates;

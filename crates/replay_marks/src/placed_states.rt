@@ -1,8 +1,7 @@
 ghost use Rattle.std.specs.Prelude.{◌≡◌, ◌+◌, ◌-◌, ℕ, ◌<◌, ◌≤◌, ◌^◌, [], ◌∷◌, ◌++◌, if◌then◌else◌};
 ghost use Rattle.std.specs.Prelude.{length, map, take, slice_index, slice_get, Some, IfOk, OnOk};
 ghost use Rattle.std.specs.List.{splice};
-ghost use Rattle.replay_marks.specs.Marks.{is_far};
-ghost use Rattle.replay_marks.specs.Thinning.{after_shift};
+ghost use Rattle.replay_marks.specs.Marks.{is_far, after_shift};
 
 use crate::kept_state::{KeptState, keep_again};
 use crate::shift::shift_from;
@@ -19,7 +18,7 @@ pub struct PlacedStates<K: KeptState> {
 
 impl<K: KeptState> Model for PlacedStates<K> {
     ghost use Rattle.std.specs.Prelude.{◌≡◌, length, map, min, vec_capacity};
-    ghost use Rattle.replay_marks.specs.PlacedStates.{PlacedView};
+    ghost use Rattle.replay_marks.specs.Marks.{PlacedView};
 
     ghost Value = { PlacedView K.State };
 

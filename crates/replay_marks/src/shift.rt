@@ -1,6 +1,6 @@
 ghost use Rattle.std.specs.Prelude.{◌≡◌, ℕ, ◌+◌, ◌-◌, ◌<◌, ◌≤◌, ◌^◌, ◌++◌, length, map, take};
 ghost use Rattle.std.specs.Prelude.{slice_index, vec_len, vec_capacity};
-ghost use Rattle.replay_marks.specs.Thinning.{after_shift};
+ghost use Rattle.replay_marks.specs.Marks.{after_shift};
 
 /// Moves the numbers from the index `from` on, none of them below `old`, as `old` moves to `new`.
 pub fn shift_from(numbers: &mut Vec<u32>, from: usize, old: u32, new: u32)

@@ -9,7 +9,7 @@ use Rattle.replay_edits.specs.Edit.{Change, inserts, deletes, replaces, reseeds}
 use Rattle.replay_scripts.specs.Line.{LineKind, nothing, begin, end, edit, nonsense, IsKind}
 use Rattle.replay_scripts.specs.Line.{IsNumbered, IsText, IsWord, Spells, change_without_text}
 use Rattle.replay_scripts.specs.Line.{edit_of, edit_or_nonsense, is_word_line, kind_of_script_line}
-use Rattle.replay_scripts.specs.Line.{number_after, text_of_edit, with_text}
+use Rattle.replay_scripts.specs.Line.{number_after_word, text_of_edit, with_text}
 use Rattle.replay_edits.specs.base_lines.LogLine.{is_skipped}
 use Rattle.replay_scripts.proofs.WordLines.{not_true, first_of_text, first_of_blanks}
 use Rattle.replay_scripts.proofs.WordLines.{text_of_edit-from_text, IsText-from_text_in}
@@ -20,8 +20,8 @@ use Rattle.replay_scripts.proofs.WordLines.{IsNumbered-from_number_after}
 -- ---- edits
 
 missed : (word line : List ℕ) → bytes_eq (take (length word) line) word ≡ false
-    → number_after word line ≡ None
-unfolding number_after
+    → number_after_word word line ≡ None
+unfolding number_after_word
 missed word line other = rw other refl
 
 edit_of-from_line : (line : List ℕ) (change : Change) → Spells line change
@@ -112,7 +112,7 @@ alone_gives make (Some (number, rest)) later change is = split (list_all is_blan
 Spells-of_text : (make : ℕ → List ℕ → Change) (word line : List ℕ) (change : Change)
     → ((number : ℕ) (rest text : List ℕ) → IsNumbered word line number rest → IsText rest text
     → Spells line (make number text))
-    → IsOfText make (number_after word line) change → Spells line change
+    → IsOfText make (number_after_word word line) change → Spells line change
 Spells-of_text make word line change spell is =
     subst (Spells line) is.made
     (spell is.number is.rest is.text
@@ -121,25 +121,25 @@ Spells-of_text make word line change spell is =
 Spells-change_without_text : (make : ℕ → Change) (word line : List ℕ) (change : Change)
     → ((number : ℕ) (rest : List ℕ) → IsNumbered word line number rest
     → IsTrue (list_all is_blank rest) → Spells line (make number))
-    → IsAlone make (number_after word line) change → Spells line change
+    → IsAlone make (number_after_word word line) change → Spells line change
 Spells-change_without_text make word line change spell is =
     subst (Spells line) is.made
     (spell is.number is.rest
     (IsNumbered-from_number_after word line is.number is.rest is.is_found) is.all_blank)
 
 abbrev reseed_in : List ℕ → Option Change
-reseed_in line = change_without_text reseeds (number_after (codes "seed") line) None
+reseed_in line = change_without_text reseeds (number_after_word (codes "seed") line) None
 
 abbrev replace_in : List ℕ → Option Change
-replace_in line = with_text replaces (number_after (codes "replace") line) (reseed_in line)
+replace_in line = with_text replaces (number_after_word (codes "replace") line) (reseed_in line)
 
 abbrev delete_in : List ℕ → Option Change
-delete_in line = change_without_text deletes (number_after (codes "delete") line) (replace_in line)
+delete_in line = change_without_text deletes (number_after_word (codes "delete") line) (replace_in line)
 
 Spells-from_reseed : (line : List ℕ) (change : Change) → reseed_in line ≡ Some change
     → Spells line change
 Spells-from_reseed line change is =
-    elim (alone_gives reseeds (number_after (codes "seed") line) None change is) [
+    elim (alone_gives reseeds (number_after_word (codes "seed") line) None change is) [
       | inl here ↦ Spells-change_without_text reseeds (codes "seed") line change
           (λ number rest numbered blank. (rest, numbered, blank)) here
       | inr none ↦ cc
@@ -148,7 +148,7 @@ Spells-from_reseed line change is =
 Spells-from_replace : (line : List ℕ) (change : Change) → replace_in line ≡ Some change
     → Spells line change
 Spells-from_replace line change is =
-    elim (with_text_gives replaces (number_after (codes "replace") line)
+    elim (with_text_gives replaces (number_after_word (codes "replace") line)
     (reseed_in line) change is) [
       | inl here ↦ Spells-of_text replaces (codes "replace") line change
           (λ number rest text numbered of. (rest, numbered, of)) here
@@ -158,7 +158,7 @@ Spells-from_replace line change is =
 Spells-from_delete : (line : List ℕ) (change : Change) → delete_in line ≡ Some change
     → Spells line change
 Spells-from_delete line change is =
-    elim (alone_gives deletes (number_after (codes "delete") line) (replace_in line) change is) [
+    elim (alone_gives deletes (number_after_word (codes "delete") line) (replace_in line) change is) [
       | inl here ↦ Spells-change_without_text deletes (codes "delete") line change
           (λ number rest numbered blank. (rest, numbered, blank)) here
       | inr later ↦ Spells-from_replace line change later
@@ -168,7 +168,7 @@ Spells-from_edit_of : (line : List ℕ) (change : Change) → edit_of line ≡ S
     → Spells line change
 unfolding edit_of
 Spells-from_edit_of line change is =
-    elim (with_text_gives inserts (number_after (codes "insert") line) (delete_in line) change is) [
+    elim (with_text_gives inserts (number_after_word (codes "insert") line) (delete_in line) change is) [
       | inl here ↦ Spells-of_text inserts (codes "insert") line change
           (λ number rest text numbered of. (rest, numbered, of)) here
       | inr later ↦ Spells-from_delete line change later

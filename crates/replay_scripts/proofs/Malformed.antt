@@ -12,18 +12,18 @@ use Rattle.replay_scripts.specs.declared.fault.ScriptRefusal.TheVariants.{Malfor
 use Rattle.replay_scripts.specs.declared.script.Script.{Script}
 use Rattle.replay_scripts.specs.Line.{LineKind, nothing, begin, end, edit, nonsense, IsKind, IsWord}
 use Rattle.replay_scripts.specs.Line.{kind_of_script_line}
-use Rattle.replay_scripts.specs.Item.{Applied, group_at_line, group_with_change, single}
-use Rattle.replay_scripts.specs.Malformed.{IsFirstFault, IsMalformedAt, IsOpen, IsWhole, IsLineAt}
-use Rattle.replay_scripts.specs.Script.{IsBody, body_done, body_skips, body_spells, IsScript, done}
-use Rattle.replay_scripts.specs.Script.{skips, spells, groups, reading_in_group, onward}
+use Rattle.replay_scripts.specs.Script.{Applied, group_at_line, group_with_change, single, IsBody}
+use Rattle.replay_scripts.specs.Script.{body_done, body_skips, body_spells, IsScript, done, skips}
+use Rattle.replay_scripts.specs.Script.{spells, groups, reading_in_group, onward}
 use Rattle.replay_scripts.specs.Script.{reading_outside_group, read_from, script_of}
+use Rattle.replay_scripts.specs.Malformed.{IsFirstFault, IsMalformedAt, IsOpen, AreWholeItems, IsLineAt}
 use Rattle.replay_scripts.specs.Views.{IsFaultOf, items_of}
 use Rattle.replay_scripts.proofs.Lines.{IsKind-kind_of_script_line}
 
 -- ---- after well-formed lines
 
 module _ (number : ℕ) (piece : List (List ℕ)) (grow : (whole : List (List ℕ))
-    → IsWhole (number + length piece) whole → IsWhole number (piece ++ whole)) where
+    → AreWholeItems (number + length piece) whole → AreWholeItems number (piece ++ whole)) where
   open_after : (whole : List (List ℕ)) (since : ℕ) → IsOpen (number + length piece) whole since
       → IsOpen number (piece ++ whole) since
   open_after whole since is =
@@ -80,19 +80,19 @@ module _ (number : ℕ) (piece : List (List ℕ)) (grow : (whole : List (List �
   behind whole at NoEnd is = open_after whole at is
 
 -- after one line that is skipped or spells a change
-module _ (number : ℕ) (line : List ℕ) (grow : (whole : List (List ℕ)) → IsWhole (number + 1) whole
-    → IsWhole number (line ∷ whole)) where
+module _ (number : ℕ) (line : List ℕ) (grow : (whole : List (List ℕ)) → AreWholeItems (number + 1) whole
+    → AreWholeItems number (line ∷ whole)) where
   after_line : (whole : List (List ℕ)) (at : ℕ) (flaw : Flaw)
       → IsMalformedAt (number + 1) whole at flaw → IsMalformedAt number (line ∷ whole) at flaw
   after_line whole at flaw is = behind number (line ∷ []) grow whole at flaw is
 
 skip_grows : (number : ℕ) (line : List ℕ) → IsKind line nothing → (whole : List (List ℕ))
-    → IsWhole (number + 1) whole → IsWhole number (line ∷ whole)
+    → AreWholeItems (number + 1) whole → AreWholeItems number (line ∷ whole)
 skip_grows number line skipped whole is =
     record { items = is.items; is_script = skips skipped is.is_script }
 
 edit_grows : (number : ℕ) (line : List ℕ) (change : Change) → IsKind line (edit change)
-    → (whole : List (List ℕ)) → IsWhole (number + 1) whole → IsWhole number (line ∷ whole)
+    → (whole : List (List ℕ)) → AreWholeItems (number + 1) whole → AreWholeItems number (line ∷ whole)
 edit_grows number line change spelled whole is =
     record { items = single number change ∷ is.items; is_script = spells spelled is.is_script }
 
@@ -215,8 +215,8 @@ module _ (number : ℕ) (first : List ℕ) (begins : IsWord (codes "begin") firs
 
   group_grows : (inner : List (List ℕ)) (last : List ℕ) → IsInner (number + 1) inner
       → IsWord (codes "end") last
-      → (whole : List (List ℕ)) → IsWhole (number + length (first ∷ (inner ++ last ∷ []))) whole
-      → IsWhole number ((first ∷ (inner ++ last ∷ [])) ++ whole)
+      → (whole : List (List ℕ)) → AreWholeItems (number + length (first ∷ (inner ++ last ∷ []))) whole
+      → AreWholeItems number ((first ∷ (inner ++ last ∷ [])) ++ whole)
   group_grows inner last is ends whole more =
       let here : number + length (first ∷ (inner ++ last ∷ [])) ≡ number + 2 + length inner =
       omega (arith, length-append inner (last ∷ [])) in
@@ -266,7 +266,7 @@ stands_first : (number : ℕ) (line : List ℕ) (rest : List (List ℕ)) (at : �
 stands_first number line rest at same =
     let here : at ≡ number + 0 = omega arith in record { rest = rest; parts = refl; here = here }
 
-whole_none : (number : ℕ) → IsWhole number []
+whole_none : (number : ℕ) → AreWholeItems number []
 whole_none number = record { items = []; is_script = done }
 
 module _ (number : ℕ) (line : List ℕ) (rest : List (List ℕ)) (at : ℕ) (flaw : Flaw)

@@ -9,7 +9,7 @@ use Rattle.std.proofs.lemmas.List.{take-append-drop}
 use Rattle.std.proofs.lemmas.Slice.Eq.{bytes_eq-Decides}
 use Rattle.replay_edits.specs.base_lines.Bytes.{is_blank, is_digit, prefix_while, after_prefix}
 use Rattle.replay_edits.specs.base_lines.Bytes.{number_of}
-use Rattle.replay_scripts.specs.Line.{IsNumbered, IsText, IsWord, is_word_line, number_after}
+use Rattle.replay_scripts.specs.Line.{IsNumbered, IsText, IsWord, is_word_line, number_after_word}
 use Rattle.replay_scripts.specs.Line.{number_after_blank, number_and_rest, text_of_edit}
 use Rattle.replay_edits.specs.base_lines.Prefixes.{prefix_while-append-after_prefix}
 use Rattle.replay_edits.specs.base_lines.Prefixes.{list_all-prefix_while}
@@ -86,8 +86,8 @@ IsWord-from_is_word word line is =
 
 pub number_after-from_line : (word line : List ℕ) (number : ℕ) (rest : List ℕ)
     → IsNumbered word line number rest → NoDigitFirst rest
-    → number_after word line ≡ Some (number, rest)
-unfolding number_after
+    → number_after_word word line ≡ Some (number, rest)
+unfolding number_after_word
 number_after-from_line word line number rest is first =
     let parts = is.parts in
     let begins = begins_with word (is.blank ∷ (is.digits ++ rest)) in
@@ -159,8 +159,8 @@ numbered_by_blank word line (byte ∷ bytes) number rest parts is = split (is_bl
     split true e h = numbered_by_digits word line byte number bytes rest parts e h
 
 pub IsNumbered-from_number_after : (word line : List ℕ) (number : ℕ) (rest : List ℕ)
-    → number_after word line ≡ Some (number, rest) → IsNumbered word line number rest
-unfolding number_after
+    → number_after_word word line ≡ Some (number, rest) → IsNumbered word line number rest
+unfolding number_after_word
 IsNumbered-from_number_after word line number rest is =
     split (bytes_eq (take (length word) line) word) refl is
   where

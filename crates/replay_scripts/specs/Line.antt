@@ -9,8 +9,7 @@ use Rattle.replay_edits.specs.base_lines.LogLine.{is_skipped}
 use Rattle.replay_edits.specs.Edit.{Change, inserts, deletes, replaces, reseeds, change_of}
 use Rattle.replay_edits.specs.base_limits.Limits.{MAX_DIGITS, max_script_number}
 use Rattle.replay_scripts.specs.declared.line.ScriptLine.{ScriptLine}
-use Rattle.replay_scripts.specs.declared.line.ScriptLine.TheVariants.{Nothing, Begin, End, Edit}
-use Rattle.replay_scripts.specs.declared.line.ScriptLine.TheVariants.{Nonsense}
+use Rattle.replay_scripts.specs.declared.line.ScriptLine.TheVariants as line_is
 
 -- ---- the grammar of a line
 
@@ -56,7 +55,6 @@ pub data LineKind : Type 0 where
   edit : Change → LineKind
   nonsense : LineKind
 
--- the line is of this kind
 abbrev pub IsKind : List ℕ → LineKind → Type 0
 IsKind line nothing = IsTrue (is_skipped line)
 IsKind line begin = IsWord (codes "begin") line
@@ -71,7 +69,6 @@ unfoldable pub is_word_line : List ℕ → List ℕ → Bool
 is_word_line word line = bytes_eq (take (length word) line) word
     && list_all is_blank (drop (length word) line)
 
--- the number that digits write, and the rest after them
 abbrev pub number_and_rest : List ℕ → List ℕ → Option (ℕ × List ℕ)
 number_and_rest digits rest =
     if nat_lt 0 (length digits) && nat_le (length digits) MAX_DIGITS
@@ -83,9 +80,8 @@ number_after_blank [] = None
 number_after_blank (byte ∷ bytes) = if is_blank byte
     then number_and_rest (prefix_while is_digit bytes) (after_prefix is_digit bytes) else None
 
--- the number after a word and one blank, and the rest after it
-unfoldable pub number_after : List ℕ → List ℕ → Option (ℕ × List ℕ)
-number_after word line = if bytes_eq (take (length word) line) word
+unfoldable pub number_after_word : List ℕ → List ℕ → Option (ℕ × List ℕ)
+number_after_word word line = if bytes_eq (take (length word) line) word
     then number_after_blank (drop (length word) line) else None
 
 abbrev pub text_of_edit : List ℕ → Option (List ℕ)
@@ -105,13 +101,12 @@ change_without_text change (Some found) later = if list_all is_blank found.1
     then Some (change found.0) else None
 change_without_text change None later = later
 
--- the change that the line spells, if it spells one
 unfoldable pub edit_of : List ℕ → Option Change
 edit_of line =
-    with_text inserts (number_after (codes "insert") line)
-    (change_without_text deletes (number_after (codes "delete") line)
-    (with_text replaces (number_after (codes "replace") line)
-    (change_without_text reseeds (number_after (codes "seed") line) None)))
+    with_text inserts (number_after_word (codes "insert") line)
+    (change_without_text deletes (number_after_word (codes "delete") line)
+    (with_text replaces (number_after_word (codes "replace") line)
+    (change_without_text reseeds (number_after_word (codes "seed") line) None)))
 
 abbrev pub edit_or_nonsense : Option Change → LineKind
 edit_or_nonsense (Some change) = edit change
@@ -125,8 +120,8 @@ kind_of_script_line line =
 
 -- what is said of a line, as its kind
 abbrev pub kind_said : ScriptLine → LineKind
-kind_said Nothing = nothing
-kind_said Begin = begin
-kind_said End = end
-kind_said (Edit change) = edit (change_of change)
-kind_said Nonsense = nonsense
+kind_said line_is.Nothing = nothing
+kind_said line_is.Begin = begin
+kind_said line_is.End = end
+kind_said (line_is.Edit change) = edit (change_of change)
+kind_said line_is.Nonsense = nonsense

@@ -2,16 +2,14 @@
 use Rattle.std.specs.Prelude.{◌≡◌, ◌⊎◌, ℕ, ◌+◌, List, ◌∷◌, ◌++◌, length, codes}
 use Rattle.replay_edits.specs.Edit.{Change}
 use Rattle.replay_scripts.specs.Line.{IsKind, IsWord, nonsense}
-use Rattle.replay_scripts.specs.Item.{Applied}
-use Rattle.replay_scripts.specs.Script.{IsBody, IsScript}
+use Rattle.replay_scripts.specs.Script.{Applied, IsBody, IsScript}
 use Rattle.replay_scripts.specs.declared.fault.Flaw.{Flaw}
-use Rattle.replay_scripts.specs.declared.fault.Flaw.TheVariants.{NoEdit, BeginInGroup}
-use Rattle.replay_scripts.specs.declared.fault.Flaw.TheVariants.{EndOutsideGroup, NoEnd}
+use Rattle.replay_scripts.specs.declared.fault.Flaw.TheVariants as flaw_is
 use Rattle.replay_scripts.specs.declared.fault.ScriptRefusal.{ScriptRefusal}
 use Rattle.replay_scripts.specs.declared.fault.ScriptRefusal.TheVariants.{Malformed, Memory}
 
 -- the lines, numbered from `number` on, are whole items
-pub record IsWhole (number : ℕ) (whole : List (List ℕ)) : Type 0 where
+pub record AreWholeItems (number : ℕ) (whole : List (List ℕ)) : Type 0 where
   pub items : List Applied
   pub is_script : IsScript number whole items
 
@@ -25,7 +23,7 @@ pub record IsOpen (number : ℕ) (whole : List (List ℕ)) (begun : ℕ) : Type 
   pub numbers : List ℕ
   pub parts : whole ≡ before ++ first ∷ inner
   pub here : begun ≡ number + length before
-  pub is_whole : IsWhole number before
+  pub is_whole : AreWholeItems number before
   pub begins : IsWord (codes "begin") first
   pub is_body : IsBody (begun + 1) inner changes numbers
 
@@ -38,18 +36,18 @@ pub record IsLineAt (number : ℕ) (whole : List (List ℕ)) (at : ℕ) (before 
 
 -- the line of number `at` is the first malformed one, and has this flaw
 abbrev pub IsMalformedAt : ℕ → List (List ℕ) → ℕ → Flaw → Type 0
-IsMalformedAt number whole at NoEdit =
+IsMalformedAt number whole at flaw_is.NoEdit =
     (before : List (List ℕ)) × (line : List ℕ) × IsLineAt number whole at before line
     × IsKind line nonsense
-    × (IsWhole number before ⊎ ((begun : ℕ) × IsOpen number before begun))
-IsMalformedAt number whole at BeginInGroup =
+    × (AreWholeItems number before ⊎ ((begun : ℕ) × IsOpen number before begun))
+IsMalformedAt number whole at flaw_is.BeginInGroup =
     (before : List (List ℕ)) × (line : List ℕ) × IsLineAt number whole at before line
     × IsWord (codes "begin") line
     × ((begun : ℕ) × IsOpen number before begun)
-IsMalformedAt number whole at EndOutsideGroup =
+IsMalformedAt number whole at flaw_is.EndOutsideGroup =
     (before : List (List ℕ)) × (line : List ℕ) × IsLineAt number whole at before line
-    × IsWord (codes "end") line × IsWhole number before
-IsMalformedAt number whole at NoEnd = IsOpen number whole at
+    × IsWord (codes "end") line × AreWholeItems number before
+IsMalformedAt number whole at flaw_is.NoEnd = IsOpen number whole at
 
 -- the fault is that of the first malformed line, unless memory ran out
 abbrev pub IsFirstFault : List (List ℕ) → ScriptRefusal → Type 0

@@ -2,9 +2,8 @@
 use Rattle.std.specs.Prelude.{◌≡◌, ℕ, List, map, Option, option_map, Result, Ok, Err}
 use Rattle.std.specs.Global.{Vec}
 use Rattle.replay_edits.specs.Edit.{changes_of}
-use Rattle.replay_scripts.specs.Item.{Applied}
+use Rattle.replay_scripts.specs.Script.{Applied, ScriptReading, reading_after_line, reading_with}
 use Rattle.replay_scripts.specs.Line.{LineKind}
-use Rattle.replay_scripts.specs.Script.{ScriptReading, reading_after_line, reading_with}
 use Rattle.replay_scripts.specs.declared.script.Item.{Item}
 use Rattle.replay_scripts.specs.declared.script.ScriptReader.{ScriptReader}
 use Rattle.replay_scripts.specs.declared.fault.ScriptRefusal.{ScriptRefusal}
@@ -24,7 +23,6 @@ open_of = option_map applied_item
 abbrev pub reading_of : ScriptReader → ScriptReading
 reading_of reader = reading_with (items_of reader.items) (open_of reader.group)
 
--- what a line of this kind and this number makes of what was read
 abbrev pub step_of : ℕ → LineKind → ScriptReading → Result ScriptReading ScriptRefusal
 step_of number kind now = reading_after_line number kind now.items now.open_group
 

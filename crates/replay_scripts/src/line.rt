@@ -4,7 +4,7 @@ ghost use Rattle.std.specs.Prelude.{◌≡◌, IfOk, MatchOption, None, Some, op
 ghost use Rattle.replay_edits.specs.base_limits.Limits.{max_script_number};
 ghost use Rattle.replay_edits.specs.base_lines.Bytes.{is_blank, number_of};
 ghost use Rattle.replay_edits.specs.Edit.{change_of};
-ghost use Rattle.replay_scripts.specs.Line.{is_word_line, number_after, text_of_edit, edit_of};
+ghost use Rattle.replay_scripts.specs.Line.{is_word_line, number_after_word, text_of_edit, edit_of};
 ghost use Rattle.replay_scripts.specs.Line.{kind_of_script_line, kind_said};
 
 use replay_edits::{
@@ -22,7 +22,6 @@ pub(crate) enum ScriptLine {
     Nonsense,
 }
 
-/// What a line says.
 #[tactic(auto, unfolding(crate::specs::Line::kind_of_script_line))]
 pub(crate) fn read_line(alloc: Global, line: &[u8]) -> Result<ScriptLine, AllocError>
     ensures { IfOk result (λ said. kind_said said ≡ kind_of_script_line line.now) }
@@ -42,7 +41,6 @@ pub(crate) fn read_line(alloc: Global, line: &[u8]) -> Result<ScriptLine, AllocE
     }
 }
 
-/// Whether a line is the word, with blanks after it or none.
 #[tactic(auto, unfolding(crate::specs::Line::is_word_line))]
 fn is_word_line(word: &[u8], line: &[u8]) -> bool
     ensures { result ≡ is_word_line word.now line.now }
@@ -64,10 +62,10 @@ fn capped_number(digits: &[u8]) -> u32
 }
 
 /// The number after a word and one blank, and what follows the number.
-#[tactic(auto, unfolding(crate::specs::Line::number_after))]
-fn number_after<'a>(word: &[u8], line: &'a [u8]) -> Option<(u32, &'a [u8])>
-    ensures { MatchOption result (number_after word.now line.now ≡ None)
-        (λ found. number_after word.now line.now ≡ Some (found.0, found.1.now)) }
+#[tactic(auto, unfolding(crate::specs::Line::number_after_word))]
+fn number_after_word<'a>(word: &[u8], line: &'a [u8]) -> Option<(u32, &'a [u8])>
+    ensures { MatchOption result (number_after_word word.now line.now ≡ None)
+        (λ found. number_after_word word.now line.now ≡ Some (found.0, found.1.now)) }
 {
     let (&blank, rest) = line.strip_prefix(word)?.split_first()?;
     if !is_blank(blank) {
@@ -97,22 +95,22 @@ fn text_in(rest: &[u8]) -> Option<&[u8]>
 fn edit_of(alloc: Global, line: &[u8]) -> Result<Option<Edit>, AllocError>
     ensures { IfOk result (λ edit. option_map change_of edit ≡ edit_of line.now) }
 {
-    if let Some((at, rest)) = number_after(b"insert", line) {
+    if let Some((at, rest)) = number_after_word(b"insert", line) {
         let Some(text) = text_in(rest) else {
             return Ok(None);
         };
         return Ok(Some(Edit::Insert(at, LineText::from_slice(alloc, text)?)));
     }
-    if let Some((at, rest)) = number_after(b"delete", line) {
+    if let Some((at, rest)) = number_after_word(b"delete", line) {
         return Ok(is_all_blank(rest).then_some(Edit::Delete(at)));
     }
-    if let Some((at, rest)) = number_after(b"replace", line) {
+    if let Some((at, rest)) = number_after_word(b"replace", line) {
         let Some(text) = text_in(rest) else {
             return Ok(None);
         };
         return Ok(Some(Edit::Replace(at, LineText::from_slice(alloc, text)?)));
     }
-    if let Some((seed, rest)) = number_after(b"seed", line) {
+    if let Some((seed, rest)) = number_after_word(b"seed", line) {
         return Ok(is_all_blank(rest).then_some(Edit::Reseed(seed)));
     }
     Ok(None)

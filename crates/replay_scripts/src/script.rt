@@ -1,11 +1,10 @@
 ghost use Rattle.std.specs.Prelude.{◌≡◌, ◌⊎◌, List, IfErr, IfOk, MatchResult, Ok, Err};
 ghost use Rattle.std.specs.Str.Lines.{lines};
 ghost use Rattle.replay_edits.specs.Edit.{change_of};
-ghost use Rattle.replay_scripts.specs.Item.{Applied, group_at_line, group_with_change};
-ghost use Rattle.replay_scripts.specs.Item.{line_of_refusal};
+ghost use Rattle.replay_scripts.specs.Script.{Applied, group_at_line, group_with_change};
+ghost use Rattle.replay_scripts.specs.Script.{line_of_refusal, IsScript, items_at_end, script_of};
 ghost use Rattle.replay_scripts.specs.Line.{begin, end, edit, kind_of_script_line};
 ghost use Rattle.replay_scripts.specs.Malformed.{IsFirstFault};
-ghost use Rattle.replay_scripts.specs.Script.{IsScript, items_at_end, script_of};
 ghost use Rattle.replay_scripts.specs.Views.{IsFaultOf, IsStep, applied_item, items_of, open_of};
 ghost use Rattle.replay_scripts.specs.Views.{reading_of, step_of};
 

@@ -8,13 +8,10 @@ use Rattle.std.proofs.lemmas.Bool.Decides.{nat_tests}
 use Rattle.std.proofs.lemmas.List.{length-set, length-replicate, get_or-replicate}
 use Rattle.std.specs.Prelude.{is_some}
 use Rattle.turn_things.specs.cave_data.CaveView.{CaveView, name_of}
-use Rattle.turn_things.specs.world_objects.Halves.{half_number}
-use Rattle.turn_things.specs.world_objects.Layout.{Layout}
-use Rattle.turn_things.specs.world_objects.Lists.{halves_at, has_half, with_half, put_first}
-use Rattle.turn_things.specs.world_objects.Lists.{after_relist, without}
-use Rattle.turn_things.specs.world_objects.Objects.{with_anchor, with_spot, after_move_to}
-use Rattle.turn_things.specs.world_objects.Objects.{unplaced_objects, with_prop}
-use Rattle.turn_things.specs.world_objects.Spots.{is_place, spot_at}
+use Rattle.turn_things.specs.world_objects.Lists.{half_number, halves_at, has_half, with_half}
+use Rattle.turn_things.specs.world_objects.Lists.{put_first, after_relist, without}
+use Rattle.turn_things.specs.world_objects.Objects.{Layout, with_anchor, with_spot, after_move_to}
+use Rattle.turn_things.specs.world_objects.Objects.{unplaced_objects, with_prop, is_place, spot_at}
 use Rattle.turn_things.specs.world_objects.declared.lists.PlacedHalf.{PlacedHalf}
 use Rattle.turn_things.specs.world_objects.declared.object.Half.{Half}
 use Rattle.turn_things.specs.world_objects.declared.object.Half.TheVariants.{First, Second}
@@ -24,8 +21,8 @@ use Rattle.world_objects.proofs.Places.{halves_at-put_first}
 use Rattle.turn_things.specs.Homes.{home, hold_of}
 use Rattle.turn_begin.specs.Begin.{all_objects, start_prop, start_order, start_halves, start_list}
 use Rattle.turn_begin.specs.Begin.{both_halves, place_of_half, lists_of_halves, starting_objects}
-use Rattle.turn_things.specs.Treasures.{treasures, known_treasures}
-use Rattle.turn_begin.specs.Placing.{after_placing, after_placing_all, after_hiding_all}
+use Rattle.turn_begin.specs.Begin.{after_placing, after_placing_all, after_hiding_all}
+use Rattle.turn_things.specs.Reach.{treasures, known_treasures}
 use Rattle.turn_begin.proofs.Orders.{IsOrder, order_kept, start_is_order, each_in_order, sets}
 use Rattle.turn_begin.proofs.Orders.{get-set, each_is, all_set}
 

@@ -5,9 +5,9 @@ use Rattle.std.specs.List.{list_any, range_with_len}
 use Rattle.turn_things.specs.cave_data.CaveView.{CaveView}
 use Rattle.turn_things.specs.data_rows.declared.place_role.PlaceRole.{PlaceRole}
 use Rattle.turn_things.specs.data_rows.declared.place_role.PlaceRole.TheVariants as place
-use Rattle.turn_things.specs.world_objects.Layout.{Layout}
+use Rattle.turn_things.specs.world_objects.Objects.{Layout, spot_at, place_of_spot, place_of_anchor}
+use Rattle.turn_things.specs.world_objects.Objects.{is_place, after_move_to, with_anchor, with_prop}
 use Rattle.turn_things.specs.world_objects.Lists.{with_half}
-use Rattle.turn_things.specs.world_objects.Spots.{spot_at, place_of_spot, place_of_anchor, is_place}
 use Rattle.turn_things.specs.cave_world.State.{starting_state}
 use Rattle.turn_things.specs.cave_world.declared.dwarves.Dwarf.{Dwarf}
 use Rattle.turn_things.specs.world_objects.declared.lists.PlacedHalf.{PlacedHalf}
@@ -18,9 +18,23 @@ use Rattle.turn_things.specs.world_objects.declared.spot.Anchor.TheVariants as a
 use Rattle.turn_things.specs.cave_world.declared.state.State.{State}
 use Rattle.turn_things.specs.Homes.{home, hold_of}
 use Rattle.turn_things.specs.Places.{place_named, start_place}
-use Rattle.turn_things.specs.Treasures.{known_treasures}
+use Rattle.turn_things.specs.Reach.{known_treasures}
 use Rattle.turn_things.specs.Props.{UNSEEN}
 use Rattle.turn_things.specs.data_numbers.Numbers.{LAST_OBJECT}
+
+-- an object is put where it is as the game begins, its second half first
+unfoldable pub after_placing : CaveView → ℕ → Layout → Layout
+after_placing cave x o = after_move_to (with_anchor o x (hold_of cave x)) x (home cave x)
+
+-- the objects of a list are, the last one first
+abbrev pub after_placing_all : CaveView → List ℕ → Layout → Layout
+after_placing_all cave [] o = o
+after_placing_all cave (x ∷ xs) o = after_placing cave x (after_placing_all cave xs o)
+
+-- the objects of a list weren't seen yet
+abbrev pub after_hiding_all : List ℕ → Layout → Layout
+after_hiding_all [] o = o
+after_hiding_all (x ∷ xs) o = after_hiding_all xs (with_prop o x UNSEEN)
 
 -- the objects by their numbers
 unfoldable pub all_objects : List ℕ
@@ -44,7 +58,6 @@ objects_due cave twice = filter (λ x. is_placed_now twice (hold_of cave x)) all
 unfoldable pub start_order : CaveView → List ℕ
 start_order cave = objects_due cave false ++ objects_due cave true
 
--- the first half of an object comes before the second
 abbrev pub both_halves : ℕ → List Half
 both_halves x = First x ∷ Second x ∷ []
 
@@ -63,7 +76,6 @@ lists_of_halves cave [] = []
 lists_of_halves cave (half ∷ halves) = with_half half (place_of_half cave half)
     (lists_of_halves cave halves)
 
--- the list of a place at the start
 abbrev pub start_list : CaveView → ℕ → List Half
 start_list cave place =
     filter (λ half. is_place place (place_of_half cave half)) (start_halves cave)
@@ -78,11 +90,9 @@ starting_objects cave = record {
 }
 
 -- a dwarf at its place, or gone where there is none
-abbrev pub dwarf_at : ℕ → Dwarf
-dwarf_at place = record { place = place; last = place; has_seen = false }
-
 unfoldable pub dwarf_by_role : CaveView → PlaceRole → Dwarf
-dwarf_by_role cave role = dwarf_at (unwrap_or (place_named cave role) 0)
+dwarf_by_role cave role = let at = unwrap_or (place_named cave role) 0 in
+    record { place = at; last = at; has_seen = false }
 
 unfoldable pub starting_dwarves : CaveView → List Dwarf
 starting_dwarves cave =

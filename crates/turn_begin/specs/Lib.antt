@@ -1,4 +1,3 @@
 pub mod Begin
-pub mod Placing
 pub use Rattle.turn_things.specs.turn_scene as turn_scene
 pub use Rattle.turn_things.specs as turn_things

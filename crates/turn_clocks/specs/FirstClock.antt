@@ -1,23 +1,22 @@
 -- The first clock, and how the cave begins to close where it runs out.
-use Rattle.turn_things.specs.world_objects.Spots.{is_place}
-use Rattle.std.specs.Prelude.{ℕ, pos, negsuc, ◌-ℤ◌, nat_le, int_lt, map, Bool, true, false, ◌==◌}
-use Rattle.std.specs.Prelude.{◌&&◌, not, if◌then◌else◌}
+use Rattle.turn_things.specs.world_objects.Objects.{is_place, Layout, after_move_to, with_anchor}
+use Rattle.turn_things.specs.world_objects.Objects.{with_prop}
+use Rattle.std.specs.Prelude.{ℕ, ℤ, pos, negsuc, ◌-ℤ◌, nat_le, int_lt, map, Bool, true, false}
+use Rattle.std.specs.Prelude.{◌==◌, ◌&&◌, not, if◌then◌else◌}
 use Rattle.std.specs.Ordering.{int_eq}
 use Rattle.turn_things.specs.cave_data.CaveView.{CaveView}
 use Rattle.turn_things.specs.data_rows.declared.place_role.PlaceRole.TheVariants as place
 use Rattle.turn_things.specs.data_rows.declared.role.Role.TheVariants as role
 use Rattle.turn_things.specs.cave_words.declared.named.Named.TheVariants as name
-use Rattle.turn_things.specs.world_objects.Layout.{Layout}
-use Rattle.turn_things.specs.world_objects.Objects.{after_move_to, with_anchor, with_prop}
 use Rattle.turn_things.specs.cave_world.declared.dwarves.Dwarf.{Dwarf}
 use Rattle.turn_things.specs.world_objects.declared.spot.Anchor.TheVariants as anchor
 use Rattle.turn_things.specs.cave_world.declared.state.State.{State}
 use Rattle.turn_things.specs.Effects.{with_objects, without_troll}
 use Rattle.turn_things.specs.Places.{place_named, deep_place}
-use Rattle.turn_things.specs.turn_scene.Scene.{Scene, after_saying, with_state}
+use Rattle.turn_things.specs.turn_scene.Scene.{Scene, after_saying, with_state, thing}
 use Rattle.turn_things.specs.Reach.{has_prop}
-use Rattle.turn_things.specs.Props.{BEAR_DEAD, FISSURE_OPEN, GRATE_LOCKED, LOOSE}
-use Rattle.turn_things.specs.turn_scene.Rules.{thing}
+use Rattle.turn_things.specs.Props.{AXE_FREE, BEAR_DEAD, CHAIN_UNLOCKED, FISSURE_OPEN}
+use Rattle.turn_things.specs.Props.{GRATE_LOCKED}
 
 -- the clock goes where no treasure counts as unseen, in the depths of the cave, but not at y2
 unfoldable pub is_first_clock_going : CaveView → State → Bool
@@ -51,14 +50,15 @@ abbrev pub without_bear : CaveView → State → State
 without_bear cave s = let bear = thing cave name.Bear in
     if has_prop s bear BEAR_DEAD then s else with_objects (after_move_to s.objects bear 0) s
 
--- an object is loose, and nothing holds it
-abbrev pub with_loose : ℕ → Layout → Layout
-with_loose x o = with_anchor (with_prop o x LOOSE) x anchor.Loose
+-- an object has the prop of one that is loose, and nothing holds it
+abbrev pub with_loose : ℕ → ℤ → Layout → Layout
+with_loose x v o = with_anchor (with_prop o x v) x anchor.Loose
 
 -- the chain is loose, and then the axe
 unfoldable pub loosen_chain_and_axe : CaveView → Layout → Layout
 loosen_chain_and_axe cave o =
-    with_loose (thing cave name.Axe) (with_loose (thing cave name.Chain) o)
+    with_loose (thing cave name.Axe) AXE_FREE
+    (with_loose (thing cave name.Chain) CHAIN_UNLOCKED o)
 
 -- the ways are barred, dwarves, troll and bear are gone, and nothing holds the chain and the axe
 unfoldable pub clear_cave : CaveView → State → State

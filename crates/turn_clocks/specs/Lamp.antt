@@ -11,11 +11,10 @@ use Rattle.turn_things.specs.world_objects.Objects.{is_gone, with_prop}
 use Rattle.turn_things.specs.cave_world.declared.state.State.{State}
 use Rattle.turn_things.specs.Effects.{with_objects, let_go}
 use Rattle.turn_things.specs.Places.{outside_place}
-use Rattle.turn_things.specs.turn_scene.Scene.{Scene, after_saying, with_state}
+use Rattle.turn_things.specs.turn_scene.Scene.{Scene, after_saying, with_state, thing}
 use Rattle.turn_things.specs.Reach.{is_near, has_prop}
 use Rattle.turn_things.specs.Props.{BATTERIES_FRESH, BATTERIES_USED, LAMP_OFF, LAMP_ON}
-use Rattle.turn_things.specs.turn_scene.Rules.{thing}
-use Rattle.turn_things.specs.cave_world.Lamp.{LOW_CHARGE, MAX_LAMP_TURNS}
+use Rattle.turn_things.specs.cave_world.Limits.{LOW_CHARGE, MAX_LAMP_TURNS}
 
 abbrev pub with_charge : ℤ → State → State
 with_charge turns s = let lamp = s.lamp in record s { lamp = record lamp { charge = turns } }

@@ -7,18 +7,15 @@ use Rattle.turn_things.specs.data_rows.declared.place_role.PlaceRole.TheVariants
 use Rattle.turn_things.specs.data_rows.declared.role.Role.TheVariants as role
 use Rattle.turn_things.specs.cave_words.declared.named.Named.{Named}
 use Rattle.turn_things.specs.cave_words.declared.named.Named.TheVariants as name
-use Rattle.turn_things.specs.world_objects.Layout.{Layout}
-use Rattle.turn_things.specs.world_objects.Objects.{after_move_to, with_anchor, with_prop}
-use Rattle.turn_things.specs.world_objects.Objects.{carried_objects}
-use Rattle.turn_things.specs.world_objects.Spots.{anchor_at}
+use Rattle.turn_things.specs.world_objects.Objects.{Layout, after_move_to, with_anchor, with_prop}
+use Rattle.turn_things.specs.world_objects.Objects.{carried_objects, anchor_at}
 use Rattle.turn_things.specs.cave_world.declared.state.State.{State}
 use Rattle.turn_things.specs.cave_world.State.{with_player_from}
 use Rattle.turn_things.specs.Effects.{with_objects}
 use Rattle.turn_things.specs.Places.{place_named}
 use Rattle.turn_things.specs.Props.{BIRD_CAGED, BOTTLE_EMPTY, GRATE_LOCKED, LAMP_OFF, PLANT_SMALL}
 use Rattle.turn_things.specs.Props.{SEEN, SNAKE_GONE, UNSEEN}
-use Rattle.turn_things.specs.turn_scene.Scene.{Scene, after_saying, with_state}
-use Rattle.turn_things.specs.turn_scene.Rules.{thing}
+use Rattle.turn_things.specs.turn_scene.Scene.{Scene, after_saying, with_state, thing}
 
 -- what is put into the repository, and the prop that it gets once the player has carried it there
 pub record Stored : Type 0 where

@@ -1,7 +1,6 @@
 ghost use Rattle.std.specs.Prelude.{◌≡◌};
-ghost use Rattle.turn_things.specs.turn_scene.Rules.{cave_of};
+ghost use Rattle.turn_things.specs.turn_scene.Scene.{cave_of, scene_of};
 ghost use Rattle.turn_things.specs.turn_scene.Bounds.{GoesOnSaying, HasRoom, parts_of_clocks};
-ghost use Rattle.turn_things.specs.turn_scene.Scene.{scene_of};
 ghost use Rattle.turn_clocks.specs.Clocks.{timing_of, finish_with_lamp, second_clock_and_lamp};
 ghost use Rattle.turn_clocks.specs.Clocks.{run_clocks};
 

@@ -1,14 +1,13 @@
 ghost use Rattle.std.specs.Prelude.{◌≡◌, ◌≤ℤ◌, pos, IsTrue, map};
-ghost use Rattle.turn_things.specs.turn_scene.Rules.{cave_of};
+ghost use Rattle.turn_things.specs.turn_scene.Scene.{cave_of, scene_of};
 ghost use Rattle.turn_things.specs.turn_scene.Bounds.{GoesOnSaying, HasRoom};
-ghost use Rattle.turn_things.specs.turn_scene.Scene.{scene_of};
 ghost use Rattle.turn_clocks.specs.FirstClock.{is_first_clock_going, bar_ways, dismissed_dwarf};
 ghost use Rattle.turn_clocks.specs.FirstClock.{without_dwarves, without_bear, with_loose};
 ghost use Rattle.turn_clocks.specs.FirstClock.{loosen_chain_and_axe, clear_cave};
 ghost use Rattle.turn_clocks.specs.FirstClock.{with_closing_begun, begin_closing, clock_turn};
 ghost use Rattle.turn_clocks.specs.FirstClock.{parts_of_beginning, after_first_clock};
 
-use turn_things::props::{BEAR_DEAD, FISSURE_OPEN, GRATE_LOCKED, LOOSE};
+use turn_things::props::{AXE_FREE, BEAR_DEAD, CHAIN_UNLOCKED, FISSURE_OPEN, GRATE_LOCKED};
 use turn_things::{
     Anchor, Dwarf, Named, Object, Objects, Place, PlaceRole, Prop, Role, Rules, Scene, State,
     deep_place, has_prop, is_place, place_named, remove_troll,
@@ -66,10 +65,10 @@ fn dismiss_bear(rules: &Rules<'_>, state: &mut State)
     }
 }
 
-fn loosen(object: Object, objects: &mut Objects)
-    ensures { objects.new ≡ with_loose object objects.old }
+fn loosen(object: Object, prop: Prop, objects: &mut Objects)
+    ensures { objects.new ≡ with_loose object prop objects.old }
 {
-    objects.set_prop(object, Prop::new(LOOSE));
+    objects.set_prop(object, prop);
     objects.anchor_to(object, Anchor::Loose);
 }
 
@@ -78,8 +77,12 @@ fn loosen(object: Object, objects: &mut Objects)
 fn loosen_chain_and_axe(rules: &Rules<'_>, objects: &mut Objects)
     ensures { objects.new ≡ loosen_chain_and_axe (cave_of rules.now) objects.old }
 {
-    loosen(rules.thing(Named::Chain), objects);
-    loosen(rules.thing(Named::Axe), objects);
+    loosen(
+        rules.thing(Named::Chain),
+        Prop::new(CHAIN_UNLOCKED),
+        objects,
+    );
+    loosen(rules.thing(Named::Axe), Prop::new(AXE_FREE), objects);
 }
 
 /// The ways are barred, dwarves, troll and bear are gone, and nothing holds the chain and the axe.

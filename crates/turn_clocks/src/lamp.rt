@@ -1,7 +1,6 @@
 ghost use Rattle.std.specs.Prelude.{◌≡◌};
-ghost use Rattle.turn_things.specs.turn_scene.Rules.{cave_of};
+ghost use Rattle.turn_things.specs.turn_scene.Scene.{cave_of, scene_of};
 ghost use Rattle.turn_things.specs.turn_scene.Bounds.{GoesOnSaying, HasRoom};
-ghost use Rattle.turn_things.specs.turn_scene.Scene.{scene_of};
 ghost use Rattle.turn_clocks.specs.Lamp.{burn, is_low, can_change_batteries, with_new_charge};
 ghost use Rattle.turn_clocks.specs.Lamp.{use_batteries, change_batteries, put_out, go_out};
 ghost use Rattle.turn_clocks.specs.Lamp.{is_stranded, is_warning_due, warning, with_warning, warn};

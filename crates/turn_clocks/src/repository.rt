@@ -1,7 +1,6 @@
 ghost use Rattle.std.specs.Prelude.{◌≡◌};
-ghost use Rattle.turn_things.specs.turn_scene.Rules.{cave_of};
+ghost use Rattle.turn_things.specs.turn_scene.Scene.{cave_of, scene_of};
 ghost use Rattle.turn_things.specs.turn_scene.Bounds.{GoesOnSaying, HasRoom};
-ghost use Rattle.turn_things.specs.turn_scene.Scene.{scene_of};
 ghost use Rattle.turn_clocks.specs.Repository.{furnish_northeast, furnish_southwest, with_thing};
 ghost use Rattle.turn_clocks.specs.Repository.{with_all_stored, hang_mirror, furnish_repository};
 ghost use Rattle.turn_clocks.specs.Repository.{without_all, empty_hands, with_cave_closed};

@@ -11,11 +11,10 @@ use Rattle.turn_things.specs.cave_world.declared.state.State.{State}
 use Rattle.turn_things.specs.Effects.{with_objects}
 use Rattle.turn_things.specs.Homes.{is_home_here}
 use Rattle.turn_things.specs.Places.{place_named}
-use Rattle.turn_things.specs.turn_scene.Rules.{is_called, thing}
-use Rattle.turn_things.specs.Reach.{is_in_hand, is_near, is_fixed}
-use Rattle.turn_things.specs.Treasures.{treasures}
+use Rattle.turn_things.specs.turn_scene.Scene.{is_called, thing}
+use Rattle.turn_things.specs.Reach.{is_in_hand, is_near, is_fixed, treasures}
 use Rattle.turn_dwarves.specs.Band.{dwarf_of, with_dwarf}
-use Rattle.turn_things.specs.cave_world.Dwarves.{PIRATE}
+use Rattle.turn_things.specs.cave_world.Limits.{PIRATE}
 
 -- an object is moved to the place that is named, if one is
 unfoldable pub after_move_to_named : ℕ → Option ℕ → State → State
@@ -57,7 +56,6 @@ carries_booty cave s = list_any (is_carried_booty cave s) treasures
 unfoldable pub is_treasure_near : CaveView → State → Bool
 is_treasure_near cave s = list_any (is_near cave s) treasures
 
--- the chest is put at the place that is named for it
 unfoldable pub with_chest : CaveView → State → State
 with_chest cave s = after_move_to_named (thing cave name.Chest) (place_named cave landmark.Chest) s
 
@@ -87,6 +85,5 @@ rob cave s =
     let marked = with_message cave (with_chest_at_first cave s) in
     with_pirate_home cave (after_thefts cave treasures marked)
 
--- the pirate hides its chest
 unfoldable pub hide_chest : CaveView → State → State
 hide_chest cave s = with_pirate_home cave (with_message cave (with_chest cave s))

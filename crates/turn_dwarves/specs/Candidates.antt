@@ -1,5 +1,5 @@
 -- The ways that a dwarf may go.
-use Rattle.turn_things.specs.world_objects.Spots.{is_place}
+use Rattle.turn_things.specs.world_objects.Objects.{is_place}
 use Rattle.std.specs.Prelude.{ℕ, Bool, ◌==◌, ◌&&◌, not, nat_le, if◌then◌else◌, List, [], ◌∷◌, take}
 use Rattle.std.specs.Prelude.{Option, None, Some}
 use Rattle.std.specs.List.{filter_map}
@@ -12,7 +12,7 @@ use Rattle.turn_things.specs.cave_data.CaveView.{CaveView, ways_from}
 use Rattle.turn_things.specs.cave_world.Sight.{forced}
 use Rattle.turn_things.specs.cave_world.Travel.{row_condition, row_destination}
 use Rattle.turn_things.specs.cave_world.declared.dwarves.Dwarf.{Dwarf}
-use Rattle.turn_things.specs.Conditions.{has_condition_of}
+use Rattle.turn_things.specs.Places.{has_condition_of}
 use Rattle.turn_things.specs.declared.conditions.PlaceCondition.TheVariants as condition
 use Rattle.turn_things.specs.data_numbers.Numbers.{LAST_PLACE}
 
@@ -39,7 +39,6 @@ abbrev pub place_ahead_if : CaveView → Bool → Dwarf → Condition → Destin
 place_ahead_if cave is_pirate dwarf NotForDwarves destination = None
 place_ahead_if cave is_pirate dwarf _ destination = haunt_ahead cave is_pirate dwarf destination
 
--- the place to which a row leads a dwarf on
 unfoldable pub place_ahead : CaveView → Bool → Dwarf → Going → Option ℕ
 place_ahead cave is_pirate dwarf row =
     place_ahead_if cave is_pirate dwarf (row_condition row) (row_destination row)

@@ -6,7 +6,7 @@ use Rattle.turn_dwarves.specs.Knives.{raid_of}
 use Rattle.turn_dwarves.specs.Lines.{after_attack}
 use Rattle.turn_dwarves.specs.Pirate.{after_pirate}
 use Rattle.turn_dwarves.specs.Waking.{stir, perhaps_wake}
-use Rattle.turn_things.specs.cave_world.Dwarves.{PIRATE}
+use Rattle.turn_things.specs.cave_world.Limits.{PIRATE}
 
 -- whether a knife hit the player, and the scene after that
 pub record Encounter : Type 0 where

@@ -11,7 +11,6 @@ use Rattle.turn_dwarves.specs.declared.knives.Threat.{Threat}
 use Rattle.turn_dwarves.specs.declared.knives.Threat.TheVariants as threat
 use Rattle.turn_dwarves.specs.declared.knives.Attack.{Attack}
 
--- what a dwarf did, and what the state is then
 pub record DwarfStep : Type 0 where
   pub threat : Threat
   pub state : State

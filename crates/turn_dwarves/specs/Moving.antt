@@ -8,7 +8,7 @@ use Rattle.turn_things.specs.cave_world.declared.state.State.{State}
 use Rattle.turn_things.specs.Places.{deep_place}
 use Rattle.turn_dwarves.specs.Band.{dwarf_of, with_dwarf, state_after_draw}
 use Rattle.turn_dwarves.specs.Candidates.{ways_of_dwarf}
-use Rattle.turn_things.specs.cave_world.Dwarves.{PIRATE}
+use Rattle.turn_things.specs.cave_world.Limits.{PIRATE}
 
 -- one of the ways is drawn, also where there is but one
 unfoldable pub chosen_way : CaveView → Bool → Dwarf → ℕ → ℕ
@@ -30,7 +30,6 @@ moved_dwarf cave here dwarf place = record {
   has_seen = sees cave here dwarf place;
 }
 
--- the dwarf of a number moves
 unfoldable pub after_dwarf_move : CaveView → ℕ → State → State
 after_dwarf_move cave number s =
     let dwarf = dwarf_of s number in

@@ -1,21 +1,20 @@
 -- What the pirate does.
-use Rattle.turn_things.specs.world_objects.Spots.{is_place}
+use Rattle.turn_things.specs.world_objects.Objects.{is_place, is_gone, prop_of}
 use Rattle.std.specs.Prelude.{pos, ◌+◌, Bool, ◌==◌, ◌&&◌, not, int_le, if◌then◌else◌}
 use Rattle.turn_things.specs.cave_data.CaveView.{CaveView}
 use Rattle.turn_things.specs.data_rows.declared.place_role.PlaceRole.TheVariants as landmark
 use Rattle.turn_things.specs.data_rows.declared.role.Role.TheVariants as role
 use Rattle.turn_things.specs.cave_words.declared.named.Named.TheVariants as name
-use Rattle.turn_things.specs.world_objects.Objects.{is_gone, prop_of}
 use Rattle.turn_things.specs.cave_world.declared.state.State.{State}
 use Rattle.turn_things.specs.Places.{place_named}
 use Rattle.turn_things.specs.turn_scene.Scene.{Scene, with_state, after_saying, after_draw, happens}
+use Rattle.turn_things.specs.turn_scene.Scene.{thing}
 use Rattle.turn_things.specs.Reach.{is_near, has_prop}
 use Rattle.turn_things.specs.Props.{LAMP_ON}
-use Rattle.turn_things.specs.turn_scene.Rules.{thing}
 use Rattle.turn_dwarves.specs.Band.{dwarf_of}
 use Rattle.turn_dwarves.specs.Moving.{after_dwarf_move}
 use Rattle.turn_dwarves.specs.Booty.{carries_booty, is_treasure_near, rob, hide_chest}
-use Rattle.turn_things.specs.cave_world.Dwarves.{PIRATE}
+use Rattle.turn_things.specs.cave_world.Limits.{PIRATE}
 
 unfoldable pub is_chest_seen : CaveView → State → Bool
 is_chest_seen cave s =

@@ -10,12 +10,10 @@ use Rattle.turn_things.specs.cave_world.declared.state.State.{State}
 use Rattle.turn_things.specs.Effects.{put_here}
 use Rattle.turn_things.specs.Places.{place_named, deep_place}
 use Rattle.turn_things.specs.turn_scene.Scene.{Scene, with_state, here_of, after_saying, after_draw}
-use Rattle.turn_things.specs.turn_scene.Scene.{happens}
-use Rattle.turn_things.specs.turn_scene.Rules.{thing}
+use Rattle.turn_things.specs.turn_scene.Scene.{happens, thing}
 use Rattle.turn_dwarves.specs.Band.{dwarf_of, with_dwarf, with_dwarves, state_after_draw}
-use Rattle.turn_things.specs.cave_world.Dwarves.{PIRATE}
+use Rattle.turn_things.specs.cave_world.Limits.{PIRATE}
 
--- another anger of the dwarves
 abbrev pub with_anger : ℕ → State → State
 with_anger anger s = let dwarves = s.dwarves in with_dwarves (record dwarves { anger = anger }) s
 

@@ -2,7 +2,7 @@
 
 ghost use Rattle.std.specs.Prelude.{◌≡◌, ◌<◌};
 ghost use Rattle.turn_dwarves.specs.Band.{dwarf_of, with_dwarf};
-ghost use Rattle.turn_things.specs.cave_world.Dwarves.{dwarf_count};
+ghost use Rattle.turn_things.specs.cave_world.Limits.{dwarf_count};
 
 use turn_things::{Dwarf, State};
 

@@ -1,12 +1,12 @@
 //! What the pirate does to the treasures.
 
 ghost use Rattle.std.specs.Prelude.{◌≡◌};
-ghost use Rattle.turn_things.specs.turn_scene.Rules.{cave_of};
+ghost use Rattle.turn_things.specs.turn_scene.Scene.{cave_of};
 ghost use Rattle.turn_dwarves.specs.Booty.{after_move_to_named, pirate_wants, is_carried_booty};
 ghost use Rattle.turn_dwarves.specs.Booty.{is_booty, steal, after_thefts, carries_booty};
 ghost use Rattle.turn_dwarves.specs.Booty.{is_treasure_near, with_chest, with_chest_at_first};
 ghost use Rattle.turn_dwarves.specs.Booty.{with_message, with_pirate_home, rob, hide_chest};
-ghost use Rattle.turn_things.specs.Treasures.{treasures};
+ghost use Rattle.turn_things.specs.Reach.{treasures};
 
 use crate::band::{dwarf_of, set_dwarf};
 use turn_things::treasures::{FIRST_TREASURE, LAST_TREASURE};
@@ -15,7 +15,6 @@ use turn_things::{
     is_in_hand, is_near, place_named,
 };
 
-/// An object is moved to the place that is named, if one is.
 #[tactic(auto, unfolding(crate::specs::Booty::after_move_to_named))]
 fn move_to_named(object: Object, named: Option<Place>, state: &mut State)
     ensures { state.new ≡ after_move_to_named object named state.old }
@@ -99,7 +98,6 @@ pub fn is_treasure_near(rules: &Rules<'_>, state: &State) -> bool
     false
 }
 
-/// The chest is put at the place that is named for it.
 #[tactic(auto, unfolding(crate::specs::Booty::with_chest))]
 fn put_chest(rules: &Rules<'_>, state: &mut State)
     ensures { state.new ≡ with_chest (cave_of rules.now) state.old }

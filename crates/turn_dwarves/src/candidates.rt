@@ -1,6 +1,6 @@
 ghost use Rattle.std.specs.Prelude.{◌≡◌};
 ghost use Rattle.turn_things.specs.data_rows.RowViews.{going};
-ghost use Rattle.turn_things.specs.turn_scene.Rules.{cave_of};
+ghost use Rattle.turn_things.specs.turn_scene.Scene.{cave_of};
 ghost use Rattle.turn_things.specs.data_rows.Targets.{EndsWithin};
 ghost use Rattle.turn_dwarves.specs.Candidates.{is_haunt, haunt_ahead, place_ahead, candidates};
 
@@ -26,7 +26,6 @@ fn is_haunt(rules: &Rules<'_>, is_pirate: bool, place: Place) -> bool
         && !(is_pirate && has_condition_of(rules, place, PlaceCondition::NoPirate))
 }
 
-/// The place of a destination, if a dwarf goes on there.
 #[tactic(auto, unfolding(crate::specs::Candidates::is_haunt))]
 fn haunt_ahead(
     rules: &Rules<'_>,
@@ -47,7 +46,6 @@ fn haunt_ahead(
     Some(place)
 }
 
-/// The place to which a row leads a dwarf on.
 #[tactic(auto, unfolding(crate::specs::Candidates::place_ahead))]
 fn place_ahead(rules: &Rules<'_>, is_pirate: bool, dwarf: &Dwarf, row: &Row) -> Option<Place>
     ensures { result ≡ place_ahead (cave_of rules.now) is_pirate dwarf.now (going row.now) }

@@ -1,7 +1,6 @@
 ghost use Rattle.std.specs.Prelude.{◌≡◌};
 ghost use Rattle.turn_things.specs.turn_scene.Bounds.{GoesOnSaying, HasRoom, parts_of_dwarves};
-ghost use Rattle.turn_things.specs.turn_scene.Scene.{scene_of};
-ghost use Rattle.turn_things.specs.turn_scene.Rules.{cave_of};
+ghost use Rattle.turn_things.specs.turn_scene.Scene.{scene_of, cave_of};
 ghost use Rattle.turn_dwarves.specs.Dwarves.{encounter_awake, encounter_dwarves};
 
 use crate::knives::raid;

@@ -1,9 +1,9 @@
 ghost use Rattle.std.specs.Prelude.{◌≡◌, ◌≤◌, ◌<◌, ◌+◌};
-ghost use Rattle.turn_things.specs.turn_scene.Rules.{cave_of};
+ghost use Rattle.turn_things.specs.turn_scene.Scene.{cave_of};
 ghost use Rattle.turn_dwarves.specs.Knives.{fallen_knife, with_knife_here, knife_step, threaten};
 ghost use Rattle.turn_dwarves.specs.Knives.{step_of_dwarf, with_threat, no_attack, raid_of};
-ghost use Rattle.turn_things.specs.cave_world.Dwarves.{dwarf_count};
-ghost use Rattle.turn_things.specs.cave_world.Dwarves as defined;
+ghost use Rattle.turn_things.specs.cave_world.Limits.{dwarf_count};
+ghost use Rattle.turn_things.specs.cave_world.Limits as defined;
 
 use crate::band::dwarf_of;
 use crate::moving::move_dwarf;
@@ -79,7 +79,6 @@ fn fallen_knife(here: Place, knife: Knife) -> Knife
     }
 }
 
-/// A knife was thrown here.
 #[tactic(auto, unfolding(crate::specs::Knives::with_knife_here))]
 fn drop_knife(state: &mut State)
     ensures { state.new ≡ with_knife_here state.old }

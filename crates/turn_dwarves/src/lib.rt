@@ -13,7 +13,6 @@ mod pirate;
 mod waking;
 
 pub use dwarves::encounter_dwarves;
-pub use turn_things::panicking::panic;
 pub use turn_things::places::{is_place, outside_place, place_named};
 pub use turn_things::props::{
     BEAR_DEAD, CHASM_UNBRIDGED, SEEN, SEEN_FASTENED, STEPS_FROM_ABOVE, TROLL_CALM, TROLL_FLED,
@@ -23,5 +22,5 @@ pub use turn_things::{
     Anchor, Charge, Destination, Dwarf, Half, MAX_DETAILS, Motion, Named, Object, Objects, Outcome,
     PIRATE, Part, Place, PlaceCondition, PlaceRole, Prop, Role, Row, Rules, Scene, Special, State,
     forced, has_condition_of, has_prop, has_prop_up_to, hold, home, is_in_hand, lose_one,
-    second_home, travel,
+    second_home, start_panic, travel,
 };

@@ -1,8 +1,8 @@
 ghost use Rattle.std.specs.Prelude.{◌≡◌, ◌<◌, ◌==◌};
 ghost use Rattle.turn_things.specs.cave_words.Stream.{next};
-ghost use Rattle.turn_things.specs.turn_scene.Rules.{cave_of};
+ghost use Rattle.turn_things.specs.turn_scene.Scene.{cave_of};
 ghost use Rattle.turn_dwarves.specs.Moving.{chosen_way, sees, moved_dwarf, after_dwarf_move};
-ghost use Rattle.turn_things.specs.cave_world.Dwarves.{dwarf_count};
+ghost use Rattle.turn_things.specs.cave_world.Limits.{dwarf_count};
 
 use crate::band::{dwarf_of, set_dwarf};
 use crate::candidates::candidates;

@@ -1,7 +1,6 @@
 ghost use Rattle.std.specs.Prelude.{◌≡◌};
 ghost use Rattle.turn_things.specs.turn_scene.Bounds.{GoesOnSaying, HasRoom};
-ghost use Rattle.turn_things.specs.turn_scene.Scene.{scene_of};
-ghost use Rattle.turn_things.specs.turn_scene.Rules.{cave_of};
+ghost use Rattle.turn_things.specs.turn_scene.Scene.{scene_of, cave_of};
 ghost use Rattle.turn_dwarves.specs.Pirate.{is_chest_seen, is_after_player, hides_chest};
 ghost use Rattle.turn_dwarves.specs.Pirate.{is_pirate_new, after_rustle, pirate_scene};
 ghost use Rattle.turn_dwarves.specs.Pirate.{meet_if_after_player, after_pirate};

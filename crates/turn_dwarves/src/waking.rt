@@ -1,12 +1,11 @@
 ghost use Rattle.std.specs.Prelude.{◌≡◌, ◌<◌, ◌≤◌};
 ghost use Rattle.turn_things.specs.turn_scene.Bounds.{GoesOnSaying, HasRoom};
-ghost use Rattle.turn_things.specs.turn_scene.Scene.{scene_of};
-ghost use Rattle.turn_things.specs.turn_scene.Rules.{cave_of};
+ghost use Rattle.turn_things.specs.turn_scene.Scene.{scene_of, cave_of};
 ghost use Rattle.turn_dwarves.specs.Waking.{with_anger, stir, without_dwarf, perhaps_without_one};
 ghost use Rattle.turn_dwarves.specs.Waking.{place_apart, dwarf_apart, with_dwarves_apart};
 ghost use Rattle.turn_dwarves.specs.Waking.{wake_dwarves, axe_scene, perhaps_wake};
-ghost use Rattle.turn_things.specs.cave_world.Dwarves.{MAX_ANGER};
-ghost use Rattle.turn_things.specs.cave_world.Dwarves as defined;
+ghost use Rattle.turn_things.specs.cave_world.Limits.{MAX_ANGER};
+ghost use Rattle.turn_things.specs.cave_world.Limits as defined;
 
 use crate::band::{dwarf_of, set_dwarf};
 use turn_things::{

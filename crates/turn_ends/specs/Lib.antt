@@ -1,4 +1,3 @@
-pub mod Deaths
 pub mod Endings
 pub mod Questions
 pub use Rattle.turn_score.specs.cave_data as cave_data

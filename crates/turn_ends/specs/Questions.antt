@@ -17,7 +17,6 @@ use Rattle.turn_score.specs.Score.{score_of, max_score_of}
 abbrev pub die_role : ℕ → Role
 die_role deaths = if deaths == 0 then role.Die1 else (if deaths == 1 then role.Die2 else role.Die3)
 
--- a hint is offered by its message, if the cave has it
 abbrev pub after_offer : Option Hint → Scene → Scene
 after_offer None p = p
 after_offer (Some hint) p = after_telling (part.Message hint.question) p

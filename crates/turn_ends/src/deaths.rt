@@ -1,9 +1,8 @@
 ghost use Rattle.std.specs.Prelude.{◌≡◌, IsTrue};
 ghost use Rattle.turn_score.specs.cave_world.State.{takes_no_command};
 ghost use Rattle.turn_score.specs.turn_scene.Bounds.{GoesOnSaying, HasRoom, parts_of_death};
-ghost use Rattle.turn_score.specs.turn_scene.Scene.{scene_of};
-ghost use Rattle.turn_score.specs.turn_scene.Rules.{cave_of};
-ghost use Rattle.turn_ends.specs.Deaths.{with_one_death, after_die_closing, after_die};
+ghost use Rattle.turn_score.specs.turn_scene.Scene.{scene_of, cave_of};
+ghost use Rattle.turn_ends.specs.Endings.{with_one_death, after_die_closing, after_die};
 
 use crate::endings::end;
 use crate::questions::ask;
@@ -17,7 +16,7 @@ pub fn count_death(state: &mut State)
 }
 
 /// The player dies in a closing cave, where nobody is brought back to life.
-#[tactic(auto, unfolding(crate::specs::Deaths::after_die_closing))]
+#[tactic(auto, unfolding(crate::specs::Endings::after_die_closing))]
 fn die_closing(rules: &Rules<'_>, scene: &mut Scene<'_>)
     requires { HasRoom parts_of_death scene.old }
     ensures scene { scene_of scene.new ≡ after_die_closing (cave_of rules.now) (scene_of scene.old) }
@@ -30,7 +29,7 @@ fn die_closing(rules: &Rules<'_>, scene: &mut Scene<'_>)
 }
 
 /// The player dies, and is asked whether to come back unless the cave is closing.
-#[tactic(auto, unfolding(crate::specs::Deaths::after_die))]
+#[tactic(auto, unfolding(crate::specs::Endings::after_die))]
 pub fn die(rules: &Rules<'_>, scene: &mut Scene<'_>)
     requires { HasRoom parts_of_death scene.old }
     ensures scene { scene_of scene.new ≡ after_die (cave_of rules.now) (scene_of scene.old) }

@@ -2,8 +2,7 @@ ghost use Rattle.std.specs.Prelude.{◌≡◌, ◌≤◌, IsTrue};
 ghost use Rattle.turn_score.specs.cave_data.Printing.{rating};
 ghost use Rattle.turn_score.specs.cave_world.State.{takes_no_command};
 ghost use Rattle.turn_score.specs.turn_scene.Bounds.{GoesOnSaying, HasRoom, parts_of_end};
-ghost use Rattle.turn_score.specs.turn_scene.Scene.{scene_of};
-ghost use Rattle.turn_score.specs.turn_scene.Rules.{cave_of};
+ghost use Rattle.turn_score.specs.turn_scene.Scene.{scene_of, cave_of};
 ghost use Rattle.turn_ends.specs.Endings.{with_ending, after_next_class, after_score, after_end};
 
 use turn_score::scores::{max_score, score};

@@ -2,8 +2,7 @@ ghost use Rattle.std.specs.Prelude.{◌≡◌, IsTrue};
 ghost use Rattle.std.specs.FinMap.{get};
 ghost use Rattle.turn_score.specs.cave_world.State.{takes_no_command};
 ghost use Rattle.turn_score.specs.turn_scene.Bounds.{GoesOnSaying, HasRoom, parts_of_question};
-ghost use Rattle.turn_score.specs.turn_scene.Scene.{scene_of};
-ghost use Rattle.turn_score.specs.turn_scene.Rules.{cave_of};
+ghost use Rattle.turn_score.specs.turn_scene.Scene.{scene_of, cave_of};
 ghost use Rattle.turn_ends.specs.Questions.{die_role, after_offer, after_question, after_preface};
 ghost use Rattle.turn_ends.specs.Questions.{with_question, after_ask};
 
@@ -35,7 +34,6 @@ fn die_role(state: &State) -> Role
     }
 }
 
-/// A hint is offered by its message, if the cave has it.
 fn offer_hint(cave: &Cave, hint: HintNumber, scene: &mut Scene<'_>)
     requires { HasRoom 1 scene.old }
     ensures scene { scene_of scene.new ≡ after_offer (get cave.now.hints hint) (scene_of scene.old) }

@@ -7,8 +7,7 @@ use Rattle.std.specs.Int.{int_min}
 use Rattle.turn_ends.specs.cave_data.CaveView.{CaveView}
 use Rattle.turn_ends.specs.data_rows.declared.rows.Hint.{Hint}
 use Rattle.turn_ends.specs.Questions.{after_ask}
-use Rattle.turn_ends.specs.turn_scene.Scene.{Scene, after_telling, with_state}
-use Rattle.turn_ends.specs.turn_scene.Rules.{is_called, thing}
+use Rattle.turn_ends.specs.turn_scene.Scene.{Scene, after_telling, with_state, is_called, thing}
 use Rattle.turn_ends.specs.turn_things.Reach.{is_near, is_in_hand, has_prop, has_other_prop}
 use Rattle.turn_ends.specs.turn_things.Props.{GRATE_LOCKED, UNSEEN}
 use Rattle.turn_ends.specs.cave_words.declared.named.Named.TheVariants as name
@@ -21,13 +20,12 @@ use Rattle.turn_ends.specs.cave_world.declared.ending.Question.TheVariants as qu
 use Rattle.turn_ends.specs.cave_world.declared.part.NumberLine.TheVariants.{HintCosts}
 use Rattle.turn_ends.specs.cave_world.declared.part.Part.TheVariants as part
 use Rattle.turn_ends.specs.cave_world.declared.state.State.{State}
-use Rattle.turn_ends.specs.cave_world.Lamp.{LOW_CHARGE, MAX_LAMP_TURNS}
+use Rattle.turn_ends.specs.cave_world.Limits.{LOW_CHARGE, MAX_LAMP_TURNS}
 
 -- the hints that are offered begin with this one
 abbrev pub FIRST_HINT : ℕ
 FIRST_HINT = 4
 
--- how many hints are offered
 abbrev pub OFFERED_HINTS : ℕ
 OFFERED_HINTS = 17
 
@@ -83,7 +81,6 @@ is_after_bird cave s =
     is_near cave s (thing cave name.Bird) && is_in_hand cave s (thing cave name.Rod)
     && is_called cave s.talk.last name.Bird
 
--- the snake is here, and the bird isn't at hand
 unfoldable pub is_held_by_snake : CaveView → State → Bool
 is_held_by_snake cave s =
     is_near cave s (thing cave name.Snake) && not (is_near cave s (thing cave name.Bird))

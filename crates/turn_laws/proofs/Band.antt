@@ -9,7 +9,7 @@ use Rattle.std.proofs.lemmas.List.Quantifiers.{position-Some}
 use Rattle.std.specs.Prelude.{◌==◌, ◌||◌, ◌&&◌, not, is_some, filter, map, min, take, Option, None}
 use Rattle.std.specs.Prelude.{Some, if◌then◌else◌, unwrap_or}
 use Rattle.std.specs.List.{list_any, position, prefix_len}
-use Rattle.cave_turn.specs.cave_world.Fresh.{no_dwarf, asleep, far_closing}
+use Rattle.cave_turn.specs.cave_world.State.{no_dwarf, asleep, far_closing, starting_state}
 use Rattle.cave_turn.specs.cave_world.declared.closing.Closing.{Closing}
 use Rattle.cave_turn.specs.cave_world.declared.dwarves.Dwarf.{Dwarf}
 use Rattle.cave_turn.specs.cave_world.declared.dwarves.Dwarves.{Dwarves}
@@ -19,7 +19,6 @@ use Rattle.cave_turn.specs.turn_clocks.FirstClock.{dismissed_dwarf}
 use Rattle.cave_turn.specs.cave_verbs.Throwing.{killed_dwarf, without_one, without_first_at}
 use Rattle.cave_turn.specs.cave_data.CaveView.{CaveView}
 use Rattle.cave_turn.specs.data_rows.declared.place_role.PlaceRole.TheVariants as landmark
-use Rattle.cave_turn.specs.cave_world.State.{starting_state}
 use Rattle.cave_turn.specs.cave_world.declared.ending.Ending.{Ending}
 use Rattle.cave_turn.specs.cave_world.declared.ending.Question.{Question}
 use Rattle.cave_turn.specs.cave_world.declared.ending.Question.TheVariants as question

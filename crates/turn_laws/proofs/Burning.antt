@@ -16,9 +16,8 @@ use Rattle.cave_turn.specs.cave_world.declared.ending.Ending.{Ending}
 use Rattle.cave_turn.specs.cave_world.declared.ending.Question.{Question}
 use Rattle.cave_turn.specs.cave_world.declared.state.State.{State}
 use Rattle.cave_turn.specs.turn_things.Places.{building_place}
-use Rattle.cave_turn.specs.turn_scene.Scene.{Scene, with_state}
+use Rattle.cave_turn.specs.turn_scene.Scene.{Scene, with_state, thing}
 use Rattle.cave_turn.specs.turn_things.Reach.{has_prop}
-use Rattle.cave_turn.specs.turn_scene.Rules.{thing}
 use Rattle.cave_turn.specs.turn_clocks.Lamp.{after_lamp, with_charge, burn, put_out}
 use Rattle.cave_turn.specs.Answers.{answer_in, after_answer, answers, is_dragon, is_yes}
 use Rattle.cave_turn.specs.Answers.{without_question}

@@ -11,14 +11,12 @@ use Rattle.cave_turn.specs.cave_data.CaveView.{CaveView}
 use Rattle.cave_turn.specs.data_rows.declared.place_role.PlaceRole.TheVariants as place
 use Rattle.cave_turn.specs.data_rows.declared.role.Role.TheVariants as role
 use Rattle.cave_turn.specs.cave_words.declared.named.Named.TheVariants as name
-use Rattle.cave_turn.specs.world_objects.Objects.{after_move_to}
+use Rattle.cave_turn.specs.world_objects.Objects.{after_move_to, is_place}
 use Rattle.cave_turn.specs.cave_world.declared.state.State.{State}
 use Rattle.cave_turn.specs.turn_things.Effects.{with_objects, without_troll}
-use Rattle.cave_turn.specs.world_objects.Spots.{is_place}
 use Rattle.cave_turn.specs.turn_things.Places.{deep_place, place_named}
-use Rattle.cave_turn.specs.turn_scene.Scene.{Scene, after_saying, with_state}
+use Rattle.cave_turn.specs.turn_scene.Scene.{Scene, after_saying, with_state, thing}
 use Rattle.cave_turn.specs.turn_things.Reach.{is_near, has_prop}
-use Rattle.cave_turn.specs.turn_scene.Rules.{thing}
 use Rattle.cave_turn.specs.turn_clocks.Clocks.{go_on_or_give_up, finish_with_lamp}
 use Rattle.cave_turn.specs.turn_clocks.Clocks.{lamp_unless_closed, second_clock_and_lamp}
 use Rattle.cave_turn.specs.turn_clocks.Clocks.{run_clocks}

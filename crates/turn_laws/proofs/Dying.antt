@@ -11,11 +11,10 @@ use Rattle.cave_turn.specs.cave_world.declared.ending.Question.{Question}
 use Rattle.cave_turn.specs.cave_world.declared.ending.Question.TheVariants as question
 use Rattle.cave_turn.specs.cave_world.declared.state.State.{State}
 use Rattle.cave_turn.specs.turn_begin.Begin.{begun_state}
-use Rattle.cave_turn.specs.cave_world.Fresh.{far_closing}
-use Rattle.cave_turn.specs.cave_world.State.{starting_state}
+use Rattle.cave_turn.specs.cave_world.State.{far_closing, starting_state}
 use Rattle.cave_turn.specs.turn_things.Homes.{home, second_home}
 use Rattle.cave_turn.specs.turn_things.Places.{building_place, outside_place}
-use Rattle.cave_turn.specs.turn_scene.Rules.{thing}
+use Rattle.cave_turn.specs.turn_scene.Scene.{thing}
 use Rattle.cave_turn.specs.Dragon.{between}
 use Rattle.cave_turn.specs.Turns.{start_of_game, turn_on_line}
 use Rattle.turn_laws.specs.Courses.{DeathsComeOneByOne, IsOutsideCave, NobodyGetsOut, AskedInTime}

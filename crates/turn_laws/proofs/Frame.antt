@@ -14,8 +14,7 @@ use Rattle.cave_turn.specs.cave_world.declared.ending.Question.TheVariants as qu
 use Rattle.cave_turn.specs.cave_world.declared.state.State.{State}
 use Rattle.cave_turn.specs.turn_things.Homes.{home, second_home}
 use Rattle.cave_turn.specs.turn_things.Places.{outside_place, place_named}
-use Rattle.cave_turn.specs.turn_scene.Scene.{Scene}
-use Rattle.cave_turn.specs.turn_scene.Rules.{thing}
+use Rattle.cave_turn.specs.turn_scene.Scene.{Scene, thing}
 use Rattle.cave_turn.specs.Dragon.{between}
 
 -- what only ever goes one way

@@ -5,13 +5,12 @@ use Rattle.std.proofs.lemmas.Bool.{true≢false, false≢true}
 use Rattle.std.proofs.lemmas.Bool.Decides.{nat_tests}
 use Rattle.std.specs.Prelude.{◌==◌, ◌&&◌, nat_le, filter, map, if◌then◌else◌}
 use Rattle.std.specs.List.{range_with_len}
-use Rattle.cave_turn.specs.world_objects.Layout.{Layout}
-use Rattle.cave_turn.specs.world_objects.Objects.{spot_of, anchor_of, is_carried, carried_up_to}
-use Rattle.cave_turn.specs.world_objects.Objects.{carried_objects, with_spot, with_anchor}
-use Rattle.cave_turn.specs.world_objects.Objects.{with_prop, after_move_to, after_carry}
-use Rattle.cave_turn.specs.world_objects.Objects.{after_juggle}
+use Rattle.cave_turn.specs.world_objects.Objects.{Layout, spot_of, anchor_of, is_carried}
+use Rattle.cave_turn.specs.world_objects.Objects.{carried_up_to, carried_objects, with_spot}
+use Rattle.cave_turn.specs.world_objects.Objects.{with_anchor, with_prop, after_move_to}
+use Rattle.cave_turn.specs.world_objects.Objects.{after_carry, after_juggle, is_carried_spot}
+use Rattle.cave_turn.specs.world_objects.Objects.{spot_at, place_of_spot}
 use Rattle.cave_turn.specs.world_objects.Lists.{after_relist}
-use Rattle.cave_turn.specs.world_objects.Spots.{is_carried_spot, spot_at, place_of_spot}
 use Rattle.cave_turn.specs.world_objects.declared.object.Half.TheVariants.{First}
 use Rattle.cave_turn.specs.world_objects.declared.spot.Spot.{Spot}
 use Rattle.cave_turn.specs.world_objects.declared.spot.Spot.TheVariants as spot
@@ -22,13 +21,13 @@ use Rattle.cave_turn.specs.cave_world.declared.state.State.{State}
 use Rattle.cave_turn.specs.turn_things.Homes.{home}
 use Rattle.cave_turn.specs.turn_begin.Begin.{begun_state, starting_objects, all_objects}
 use Rattle.cave_turn.specs.Turns.{start_of_game, turn_on_line}
-use Rattle.cave_turn.specs.verb_commands.Deeds.{Deed, Act}
-use Rattle.cave_turn.specs.verb_commands.Rows.{VerbRow, fits, after_all, act_of_row, first_fitting}
+use Rattle.cave_turn.specs.verb_commands.Rows.{Deed, Act, VerbRow, fits, after_all, act_of_row}
+use Rattle.cave_turn.specs.verb_commands.Rows.{first_fitting}
 use Rattle.cave_turn.specs.cave_verbs.Taking.{take_freely_rows, take_rows}
 use Rattle.turn_laws.proofs.ThingsEffects.{default_kept}
 use Rattle.turn_laws.proofs.ThingsFrame.{Claim, On, IsMoved, IsKept, choose}
 use Rattle.turn_laws.proofs.ThingsLines.{turned_kept}
-use Rattle.turn_laws.specs.Carrying.{CarriesFew, FewCarried}
+use Rattle.turn_laws.specs.ObjectLaws.{CarriesFew, FewCarried}
 
 -- a number more on both lists, or on the longer one alone
 head_fewer : (p q : Bool) (a : ℕ) (xs ys : List ℕ) → (q ≡ true → p ≡ true) → length ys ≤ length xs

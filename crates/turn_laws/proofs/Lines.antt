@@ -22,9 +22,8 @@ use Rattle.cave_turn.specs.cave_world.declared.part.NumberLine.TheVariants.{Hint
 use Rattle.cave_turn.specs.cave_world.declared.state.State.{State}
 use Rattle.cave_turn.specs.turn_things.Places.{building_place, start_place}
 use Rattle.cave_turn.specs.turn_scene.Scene.{Scene, scene_at_start, after_telling, after_saying}
-use Rattle.cave_turn.specs.turn_scene.Scene.{after_look_at, with_state, scene_at_place}
-use Rattle.cave_turn.specs.turn_scene.Rules.{thing}
-use Rattle.cave_turn.specs.turn_ends.Deaths.{with_one_death}
+use Rattle.cave_turn.specs.turn_scene.Scene.{after_look_at, with_state, scene_at_place, thing}
+use Rattle.cave_turn.specs.turn_ends.Endings.{with_one_death}
 use Rattle.cave_turn.specs.turn_hints.Hints.{price_scene_if, price_scene, hint_scene_if, hint_scene}
 use Rattle.cave_turn.specs.Answers.{answer_in, is_dragon, is_yes, without_question, after_enter}
 use Rattle.cave_turn.specs.Answers.{after_instructions, after_yes, after_no, reply_scene}

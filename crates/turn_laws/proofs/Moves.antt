@@ -27,8 +27,8 @@ use Rattle.cave_turn.specs.turn_things.Effects.{with_objects, with_one_more_lost
 use Rattle.cave_turn.specs.turn_things.Places.{outside_place}
 use Rattle.cave_turn.specs.turn_scene.Scene.{Scene, after_telling, after_saying, after_look_at}
 use Rattle.cave_turn.specs.turn_scene.Scene.{with_state, with_left, here_of, after_setting_out}
+use Rattle.cave_turn.specs.turn_scene.Scene.{thing}
 use Rattle.cave_turn.specs.turn_things.Reach.{is_in_hand, has_prop, has_prop_up_to}
-use Rattle.cave_turn.specs.turn_scene.Rules.{thing}
 use Rattle.cave_turn.specs.turn_moves.Arrival.{stop_at, after_forced_motions, after_arrival}
 use Rattle.cave_turn.specs.turn_moves.Arrival.{description_anew}
 use Rattle.cave_turn.specs.turn_moves.Bridge.{bridge_end, toll_scene, let_pass, without_bridge}

@@ -6,8 +6,7 @@ use Rattle.std.specs.Int.{int_min}
 use Rattle.std.specs.Ordering.{int_eq}
 use Rattle.std.proofs.lemmas.Int.{ints}
 use Rattle.cave_turn.specs.cave_data.CaveView.{CaveView}
-use Rattle.cave_turn.specs.cave_world.State.{starting_state}
-use Rattle.cave_turn.specs.cave_world.Fresh.{far_closing}
+use Rattle.cave_turn.specs.cave_world.State.{starting_state, far_closing}
 use Rattle.cave_turn.specs.cave_world.declared.state.State.{State}
 use Rattle.cave_turn.specs.turn_begin.Begin.{begun_state}
 use Rattle.cave_turn.specs.turn_things.Places.{building_place}

@@ -7,10 +7,9 @@ use Rattle.cave_turn.specs.cave_world.declared.state.State.{State}
 use Rattle.cave_turn.specs.turn_things.Effects.{put_down, let_go, without_troll}
 use Rattle.cave_turn.specs.turn_things.Effects.{after_loss_to_snake, with_one_more_lost}
 use Rattle.cave_turn.specs.turn_scene.Scene.{Scene}
-use Rattle.cave_turn.specs.verb_commands.Deeds.{Deed}
+use Rattle.cave_turn.specs.verb_commands.Rows.{Deed, VerbRow}
 use Rattle.cave_turn.specs.cave_verbs.Feeding.{with_more_anger}
 use Rattle.cave_turn.specs.cave_verbs.Opening.{after_sending}
-use Rattle.cave_turn.specs.verb_commands.Rows.{VerbRow}
 use Rattle.turn_laws.proofs.Frame.{Claim, Facts, On, choose, chosen}
 use Rattle.turn_laws.proofs.VerbEffects.{KeepsRows, angered_kept, let_go_kept, loss_kept, lost_kept}
 use Rattle.turn_laws.proofs.VerbEffects.{put_down_kept, sent_kept, without_troll_kept}

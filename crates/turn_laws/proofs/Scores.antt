@@ -12,7 +12,7 @@ use Rattle.cave_turn.specs.cave_world.declared.ending.Question.TheVariants as qu
 use Rattle.cave_turn.specs.cave_world.declared.part.Part.TheVariants as part
 use Rattle.cave_turn.specs.cave_world.declared.part.NumberLine.TheVariants as line
 use Rattle.cave_turn.specs.turn_scene.Scene.{Scene, after_telling, after_saying, with_state}
-use Rattle.cave_turn.specs.turn_ends.Deaths.{after_die, after_die_closing, with_one_death}
+use Rattle.cave_turn.specs.turn_ends.Endings.{after_die, after_die_closing, with_one_death}
 use Rattle.cave_turn.specs.turn_ends.Endings.{after_end, with_ending, after_score, after_class}
 use Rattle.cave_turn.specs.turn_ends.Questions.{after_ask, after_question, after_offer}
 use Rattle.cave_turn.specs.turn_ends.Questions.{after_preface, with_question}

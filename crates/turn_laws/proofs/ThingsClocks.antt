@@ -7,9 +7,8 @@ use Rattle.cave_turn.specs.cave_data.CaveView.{CaveView}
 use Rattle.cave_turn.specs.data_rows.declared.place_role.PlaceRole.TheVariants as place
 use Rattle.cave_turn.specs.data_rows.declared.role.Role.TheVariants as role
 use Rattle.cave_turn.specs.cave_words.declared.named.Named.TheVariants as name
-use Rattle.cave_turn.specs.world_objects.Layout.{Layout}
-use Rattle.cave_turn.specs.world_objects.Objects.{after_move_to, with_prop, carried_objects}
-use Rattle.cave_turn.specs.world_objects.Spots.{anchor_at}
+use Rattle.cave_turn.specs.world_objects.Objects.{Layout, after_move_to, with_prop, carried_objects}
+use Rattle.cave_turn.specs.world_objects.Objects.{anchor_at}
 use Rattle.cave_turn.specs.world_objects.declared.spot.Anchor.TheVariants as anchor
 use Rattle.cave_turn.specs.cave_world.declared.closing.Closing.{Closing}
 use Rattle.cave_turn.specs.cave_world.declared.dwarves.Dwarves.{Dwarves}
@@ -17,9 +16,8 @@ use Rattle.cave_turn.specs.cave_world.declared.state.State.{State}
 use Rattle.cave_turn.specs.turn_things.Effects.{with_objects, without_troll}
 use Rattle.cave_turn.specs.turn_things.Places.{place_named}
 use Rattle.cave_turn.specs.turn_things.Props.{SEEN, UNSEEN}
-use Rattle.cave_turn.specs.turn_scene.Scene.{Scene, after_saying, with_state}
+use Rattle.cave_turn.specs.turn_scene.Scene.{Scene, after_saying, with_state, thing}
 use Rattle.cave_turn.specs.turn_things.Reach.{is_near, has_prop}
-use Rattle.cave_turn.specs.turn_scene.Rules.{thing}
 use Rattle.cave_turn.specs.turn_clocks.Clocks.{finish_with_lamp, lamp_unless_closed, Timing}
 use Rattle.cave_turn.specs.turn_clocks.Clocks.{second_clock_and_lamp, run_clocks}
 use Rattle.cave_turn.specs.turn_clocks.FirstClock.{ClockTurn, clock_turn, is_first_clock_going}
@@ -64,7 +62,7 @@ bear_kept {P} k cave s h =
 
 -- an object has prop 0, and nothing holds it
 loose_kept : {P : Claim} (k : IsMoved P) (x n : ℕ) (o : Layout) (w : Dwarves) (c : Closing)
-    → P n o w c → P n (with_loose x o) w c
+    → P n o w c → P n (with_loose x (pos 0) o) w c
 loose_kept k x n o w c h =
     k.anchor n (with_prop o x (pos 0)) w c x anchor.Loose (k.prop n o w c x (pos 0) h)
 
@@ -78,7 +76,7 @@ cleared_kept k cave s h =
     let alone = without_dwarves shut in
     let locked = with_prop s.objects (thing cave name.Grate) (pos 0) in
     let quiet = without_bear cave (without_troll cave alone) in
-    loose_kept k (thing cave name.Axe) _ (with_loose (thing cave name.Chain) quiet.objects) _ _
+    loose_kept k (thing cave name.Axe) _ (with_loose (thing cave name.Chain) (pos 0) quiet.objects) _ _
     (loose_kept k (thing cave name.Chain) _ quiet.objects _ _
     (bear_kept k cave (without_troll cave alone)
     (without_troll_kept k cave alone

@@ -3,11 +3,10 @@ use Rattle.std.proofs.Common.{◌≡◌, ℕ, ◌+◌, ◌<◌, ℤ, Bool, false
 use Rattle.std.specs.Prelude.{◌==◌, min, map, take, slice_index_or, slice_set, if◌then◌else◌}
 use Rattle.std.specs.List.{list_any}
 use Rattle.cave_turn.specs.cave_data.CaveView.{CaveView}
-use Rattle.cave_turn.specs.world_objects.Layout.{Layout}
-use Rattle.cave_turn.specs.world_objects.Objects.{after_move_to, with_anchor, with_prop}
+use Rattle.cave_turn.specs.world_objects.Objects.{Layout, after_move_to, with_anchor, with_prop}
 use Rattle.cave_turn.specs.world_objects.Objects.{after_juggle}
 use Rattle.cave_turn.specs.world_objects.declared.spot.Anchor.{Anchor}
-use Rattle.cave_turn.specs.cave_world.Fresh.{no_dwarf}
+use Rattle.cave_turn.specs.cave_world.State.{no_dwarf}
 use Rattle.cave_turn.specs.cave_world.declared.closing.Closing.{Closing}
 use Rattle.cave_turn.specs.cave_world.declared.dwarves.Dwarf.{Dwarf}
 use Rattle.cave_turn.specs.cave_world.declared.dwarves.Dwarves.{Dwarves}
@@ -17,8 +16,7 @@ use Rattle.cave_turn.specs.turn_scene.Scene.{Scene}
 use Rattle.cave_turn.specs.turn_things.Reach.{is_dwarf_at}
 use Rattle.cave_turn.specs.turn_clocks.FirstClock.{dismissed_dwarf}
 use Rattle.cave_turn.specs.turn_dwarves.Waking.{dwarf_apart}
-use Rattle.cave_turn.specs.verb_commands.Deeds.{Deed}
-use Rattle.cave_turn.specs.verb_commands.Rows.{first_fitting}
+use Rattle.cave_turn.specs.verb_commands.Rows.{Deed, first_fitting}
 use Rattle.cave_turn.specs.cave_verbs.Taking.{take_rows}
 use Rattle.cave_turn.specs.cave_verbs.Throwing.{without_first_at}
 use Rattle.turn_laws.proofs.Frame as frame

@@ -11,8 +11,7 @@ use Rattle.cave_turn.specs.base_lines.LogLine.{log_line}
 use Rattle.cave_turn.specs.base_lines.declared.log_line.LogLine.{LogLine}
 use Rattle.cave_turn.specs.base_lines.declared.log_line.LogLine.TheVariants as kind
 use Rattle.cave_turn.specs.cave_words.declared.named.Named.TheVariants as name
-use Rattle.cave_turn.specs.world_objects.Layout.{Layout}
-use Rattle.cave_turn.specs.world_objects.Objects.{after_move_to, with_anchor, with_prop}
+use Rattle.cave_turn.specs.world_objects.Objects.{Layout, after_move_to, with_anchor, with_prop}
 use Rattle.cave_turn.specs.world_objects.declared.spot.Anchor.TheVariants as anchor
 use Rattle.cave_turn.specs.cave_world.State.{state_with_player_at, with_hint_taken}
 use Rattle.cave_turn.specs.cave_world.declared.closing.Closing.{Closing}
@@ -26,9 +25,8 @@ use Rattle.cave_turn.specs.cave_world.declared.part.Part.TheVariants as part
 use Rattle.cave_turn.specs.cave_world.declared.state.State.{State}
 use Rattle.cave_turn.specs.turn_things.Places.{start_place}
 use Rattle.cave_turn.specs.turn_scene.Scene.{Scene, scene_at_start, scene_at_place, after_telling}
-use Rattle.cave_turn.specs.turn_scene.Scene.{after_saying, after_look_at, with_state}
-use Rattle.cave_turn.specs.turn_scene.Rules.{thing}
-use Rattle.cave_turn.specs.turn_ends.Deaths.{with_one_death}
+use Rattle.cave_turn.specs.turn_scene.Scene.{after_saying, after_look_at, with_state, thing}
+use Rattle.cave_turn.specs.turn_ends.Endings.{with_one_death}
 use Rattle.cave_turn.specs.turn_hints.Hints.{price_scene_if, price_scene, hint_scene_if, hint_scene}
 use Rattle.cave_turn.specs.Answers.{answer_in, without_question, after_enter, after_yes, after_no}
 use Rattle.cave_turn.specs.Answers.{reply_scene, is_of_hint, is_dragon, is_yes, after_answer}

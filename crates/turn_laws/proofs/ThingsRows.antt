@@ -2,8 +2,7 @@
 use Rattle.std.proofs.Common.{ℕ, ℤ, Bool, Option}
 use Rattle.std.specs.Prelude.{if◌then◌else◌}
 use Rattle.cave_turn.specs.cave_data.CaveView.{CaveView}
-use Rattle.cave_turn.specs.world_objects.Layout.{Layout}
-use Rattle.cave_turn.specs.world_objects.Objects.{after_move_to, with_anchor, with_prop}
+use Rattle.cave_turn.specs.world_objects.Objects.{Layout, after_move_to, with_anchor, with_prop}
 use Rattle.cave_turn.specs.world_objects.Objects.{after_juggle}
 use Rattle.cave_turn.specs.world_objects.declared.spot.Anchor.{Anchor}
 use Rattle.cave_turn.specs.cave_world.declared.closing.Closing.{Closing}
@@ -11,10 +10,9 @@ use Rattle.cave_turn.specs.cave_world.declared.dwarves.Dwarves.{Dwarves}
 use Rattle.cave_turn.specs.cave_world.declared.dwarves.Knife.{Knife}
 use Rattle.cave_turn.specs.cave_world.declared.state.State.{State}
 use Rattle.cave_turn.specs.turn_things.Effects.{put_down, let_go, without_troll}
-use Rattle.cave_turn.specs.turn_things.Effects.{after_loss_to_snake}
-use Rattle.cave_turn.specs.turn_things.Panic.{after_panic}
+use Rattle.cave_turn.specs.turn_things.Effects.{after_loss_to_snake, after_panic}
 use Rattle.cave_turn.specs.turn_scene.Scene.{Scene}
-use Rattle.cave_turn.specs.verb_commands.Deeds.{Deed}
+use Rattle.cave_turn.specs.verb_commands.Rows.{Deed}
 use Rattle.cave_turn.specs.verb_commands.Effects.{default}
 use Rattle.cave_turn.specs.cave_verbs.Light.{say_dark, on_rows, off_rows}
 use Rattle.cave_turn.specs.cave_verbs.Opening.{after_sending, bare_open_rows, chain_rows, lock_rows}

@@ -12,15 +12,13 @@ use Rattle.cave_turn.specs.cave_world.State.{state_with_player_at, END_OF_VISITS
 use Rattle.cave_turn.specs.cave_world.declared.part.Part.TheVariants as part
 use Rattle.cave_turn.specs.world_objects.declared.object.Half.{Half}
 use Rattle.cave_turn.specs.cave_world.declared.state.State.{State}
-use Rattle.cave_turn.specs.turn_things.Conditions.{has_condition_of}
-use Rattle.cave_turn.specs.turn_things.Effects.{with_objects}
-use Rattle.cave_turn.specs.turn_things.Panic.{after_panic}
+use Rattle.cave_turn.specs.turn_things.Places.{has_condition_of}
+use Rattle.cave_turn.specs.turn_things.Effects.{with_objects, after_panic}
 use Rattle.cave_turn.specs.turn_scene.Scene.{Scene, after_telling, after_saying, with_state}
-use Rattle.cave_turn.specs.turn_scene.Scene.{here_of, after_draw, happens, scene_at_place}
-use Rattle.cave_turn.specs.turn_scene.Rules.{thing}
+use Rattle.cave_turn.specs.turn_scene.Scene.{here_of, after_draw, happens, scene_at_place, thing}
 use Rattle.cave_turn.specs.turn_things.declared.conditions.PlaceCondition.TheVariants.{NoPirate}
 use Rattle.cave_turn.specs.turn_dwarves.Dwarves.{Encounter, encounter_dwarves}
-use Rattle.cave_turn.specs.turn_ends.Deaths.{after_die}
+use Rattle.cave_turn.specs.turn_ends.Endings.{after_die}
 use Rattle.cave_turn.specs.turn_moves.Arrival.{is_shut, journey_unless_shut_in, is_barred}
 use Rattle.cave_turn.specs.turn_moves.Arrival.{journey_unless_way_is_barred, after_dwarves}
 use Rattle.cave_turn.specs.turn_moves.Arrival.{after_meet, come_to, stop_at}

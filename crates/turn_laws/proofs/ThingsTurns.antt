@@ -7,8 +7,8 @@ use Rattle.cave_turn.specs.data_rows.declared.rows.Hint.{Hint}
 use Rattle.cave_turn.specs.cave_words.Words.{words_of}
 use Rattle.cave_turn.specs.cave_words.declared.named.Named.TheVariants as name
 use Rattle.cave_turn.specs.cave_words.declared.words.Words.{Words}
-use Rattle.cave_turn.specs.world_objects.Layout.{Layout}
-use Rattle.cave_turn.specs.world_objects.Objects.{is_carried, prop_of, after_move_to, with_prop}
+use Rattle.cave_turn.specs.world_objects.Objects.{Layout, is_carried, prop_of, after_move_to}
+use Rattle.cave_turn.specs.world_objects.Objects.{with_prop}
 use Rattle.cave_turn.specs.cave_world.State.{takes_no_command, turns_in_area, MAX_TURNS_IN_AREA}
 use Rattle.cave_turn.specs.cave_world.State.{is_hint_taken, with_player_from}
 use Rattle.cave_turn.specs.cave_world.declared.closing.Closing.{Closing}
@@ -19,11 +19,10 @@ use Rattle.cave_turn.specs.cave_world.declared.ending.Question.TheVariants as qu
 use Rattle.cave_turn.specs.cave_world.declared.state.State.{State}
 use Rattle.cave_turn.specs.turn_things.Effects.{with_objects}
 use Rattle.cave_turn.specs.turn_things.Places.{building_place}
-use Rattle.cave_turn.specs.turn_scene.Scene.{Scene, after_saying, after_look_at, with_state}
+use Rattle.cave_turn.specs.turn_scene.Scene.{Scene, after_saying, after_look_at, with_state, thing}
 use Rattle.cave_turn.specs.turn_things.Reach.{is_in_hand}
-use Rattle.cave_turn.specs.turn_scene.Rules.{thing}
 use Rattle.cave_turn.specs.cave_verbs.Acting.{act, next_of_step}
-use Rattle.cave_turn.specs.verb_commands.Deeds.{command_of}
+use Rattle.cave_turn.specs.verb_commands.Rows.{command_of}
 use Rattle.cave_turn.specs.verb_commands.Verbs.{verb_of}
 use Rattle.cave_turn.specs.verb_commands.declared.next.Next.{Next}
 use Rattle.cave_turn.specs.verb_commands.declared.next.Next.TheVariants as next_is
@@ -32,8 +31,7 @@ use Rattle.cave_turn.specs.verb_commands.declared.verb.Verb.{Verb}
 use Rattle.cave_turn.specs.turn_clocks.Clocks.{run_clocks}
 use Rattle.cave_turn.specs.turn_clocks.declared.clocks.Clocks.{Clocks}
 use Rattle.cave_turn.specs.turn_clocks.declared.clocks.Clocks.TheVariants as clocks
-use Rattle.cave_turn.specs.turn_ends.Deaths.{with_one_death}
-use Rattle.cave_turn.specs.turn_ends.Endings.{after_end}
+use Rattle.cave_turn.specs.turn_ends.Endings.{with_one_death, after_end}
 use Rattle.cave_turn.specs.turn_ends.Questions.{after_ask}
 use Rattle.cave_turn.specs.turn_hints.Hints.{with_turns_in_area, is_in_area, BIRD_HINT, after_wait}
 use Rattle.cave_turn.specs.turn_hints.Hints.{after_consider, is_due, is_needed, after_putting_off}

@@ -9,8 +9,7 @@ use Rattle.cave_turn.specs.turn_things.Reach.{is_dwarf_at, is_dwarf_here}
 use Rattle.cave_turn.specs.turn_scene.Scene.{Scene}
 use Rattle.cave_turn.specs.cave_verbs.Acting.{bare_rows_of, object_act, act_bare, act_on, act_once}
 use Rattle.cave_turn.specs.cave_verbs.Acting.{act_within, act}
-use Rattle.cave_turn.specs.verb_commands.Deeds.{Deed, Act, deed, going_on}
-use Rattle.cave_turn.specs.verb_commands.Rows.{first_fitting}
+use Rattle.cave_turn.specs.verb_commands.Rows.{Deed, Act, deed, going_on, first_fitting}
 use Rattle.cave_turn.specs.cave_verbs.Blasting.{blast_rows}
 use Rattle.cave_turn.specs.cave_verbs.Breaking.{break_rows, wake_rows}
 use Rattle.cave_turn.specs.cave_verbs.Dropping.{drop_rows}

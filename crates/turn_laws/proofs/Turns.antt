@@ -15,10 +15,9 @@ use Rattle.cave_turn.specs.cave_world.declared.ending.Question.TheVariants as qu
 use Rattle.cave_turn.specs.cave_world.declared.state.State.{State}
 use Rattle.cave_turn.specs.turn_things.Effects.{with_objects}
 use Rattle.cave_turn.specs.turn_things.Places.{building_place}
-use Rattle.cave_turn.specs.turn_scene.Scene.{Scene, after_saying, after_look_at, with_state}
-use Rattle.cave_turn.specs.turn_scene.Rules.{thing}
+use Rattle.cave_turn.specs.turn_scene.Scene.{Scene, after_saying, after_look_at, with_state, thing}
 use Rattle.cave_turn.specs.cave_verbs.Acting.{act, next_of_step}
-use Rattle.cave_turn.specs.verb_commands.Deeds.{command_of}
+use Rattle.cave_turn.specs.verb_commands.Rows.{command_of}
 use Rattle.cave_turn.specs.verb_commands.Verbs.{verb_of}
 use Rattle.cave_turn.specs.verb_commands.declared.next.Next.{Next}
 use Rattle.cave_turn.specs.verb_commands.declared.next.Next.TheVariants as next_is
@@ -27,8 +26,7 @@ use Rattle.cave_turn.specs.verb_commands.declared.verb.Verb.{Verb}
 use Rattle.cave_turn.specs.turn_clocks.Clocks.{run_clocks}
 use Rattle.cave_turn.specs.turn_clocks.declared.clocks.Clocks.{Clocks}
 use Rattle.cave_turn.specs.turn_clocks.declared.clocks.Clocks.TheVariants as clocks
-use Rattle.cave_turn.specs.turn_ends.Deaths.{with_one_death}
-use Rattle.cave_turn.specs.turn_ends.Endings.{after_end}
+use Rattle.cave_turn.specs.turn_ends.Endings.{with_one_death, after_end}
 use Rattle.cave_turn.specs.turn_ends.Questions.{after_ask}
 use Rattle.cave_turn.specs.turn_hints.Hints.{with_turns_in_area, is_in_area, BIRD_HINT, after_wait}
 use Rattle.cave_turn.specs.turn_hints.Hints.{is_due, is_needed, after_putting_off, offer_scene}

@@ -11,16 +11,13 @@ use Rattle.cave_turn.specs.cave_world.declared.state.State.{State}
 use Rattle.cave_turn.specs.turn_things.Effects.{put_down, let_go, without_troll}
 use Rattle.cave_turn.specs.turn_things.Effects.{after_loss_to_snake, with_one_more_lost}
 use Rattle.cave_turn.specs.turn_things.Effects.{with_objects, put_here, vessel, with_free_bird}
-use Rattle.cave_turn.specs.turn_things.Effects.{with_bird_in_cage}
+use Rattle.cave_turn.specs.turn_things.Effects.{with_bird_in_cage, after_panic}
 use Rattle.cave_turn.specs.turn_things.Homes.{is_at_home}
-use Rattle.cave_turn.specs.turn_things.Panic.{after_panic}
-use Rattle.cave_turn.specs.turn_scene.Rules.{is_called, thing}
+use Rattle.cave_turn.specs.turn_scene.Scene.{is_called, thing, Scene, after_telling}
 use Rattle.cave_turn.specs.turn_things.Reach.{is_in_hand, has_other_prop}
-use Rattle.cave_turn.specs.turn_scene.Scene.{Scene, after_telling}
-use Rattle.cave_turn.specs.verb_commands.Deeds.{Deed, Act}
+use Rattle.cave_turn.specs.verb_commands.Rows.{Deed, Act, Effect, VerbRow, first_fitting, fits}
+use Rattle.cave_turn.specs.verb_commands.Rows.{after_all, act_of_row}
 use Rattle.cave_turn.specs.verb_commands.Effects.{after_default, default, say}
-use Rattle.cave_turn.specs.verb_commands.Rows.{Effect, VerbRow, first_fitting, fits, after_all}
-use Rattle.cave_turn.specs.verb_commands.Rows.{act_of_row}
 use Rattle.cave_turn.specs.cave_verbs.Feeding.{with_more_anger}
 use Rattle.cave_turn.specs.cave_verbs.Light.{say_dark}
 use Rattle.cave_turn.specs.cave_verbs.Opening.{after_sending}

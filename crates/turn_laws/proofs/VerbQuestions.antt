@@ -9,7 +9,8 @@ use Rattle.cave_turn.specs.cave_verbs.Acting.{bare_rows_of, object_act, act_bare
 use Rattle.cave_turn.specs.cave_verbs.Acting.{act_within, act, next_of_step}
 use Rattle.cave_turn.specs.cave_verbs.Blasting.{blast_rows}
 use Rattle.cave_turn.specs.cave_verbs.Breaking.{break_rows, wake_rows}
-use Rattle.cave_turn.specs.verb_commands.Deeds.{Deed, Act, deed, going_on}
+use Rattle.cave_turn.specs.verb_commands.Rows.{Deed, Act, deed, going_on, VerbRow, after_all}
+use Rattle.cave_turn.specs.verb_commands.Rows.{first_fitting, fits, act_of_row}
 use Rattle.cave_turn.specs.cave_verbs.Dropping.{drop_rows}
 use Rattle.cave_turn.specs.cave_verbs.Feeding.{feed_rows, bare_eat_rows, eat_rows}
 use Rattle.cave_turn.specs.cave_verbs.Finding.{find_rows, bare_inventory_rows}
@@ -19,7 +20,6 @@ use Rattle.cave_turn.specs.cave_verbs.Magic.{bare_foo_rows}
 use Rattle.cave_turn.specs.cave_verbs.Opening.{bare_open_rows, chain_rows, lock_rows, open_rows}
 use Rattle.cave_turn.specs.cave_verbs.Pouring.{pour_rows, drink_rows, bare_fill_rows, fill_rows}
 use Rattle.cave_turn.specs.cave_verbs.Reading.{bare_read_rows, read_rows}
-use Rattle.cave_turn.specs.verb_commands.Rows.{VerbRow, after_all, first_fitting, fits, act_of_row}
 use Rattle.cave_turn.specs.cave_verbs.Small.{bare_rows, other_rows, nothing_rows, bare_quit_rows}
 use Rattle.cave_turn.specs.cave_verbs.Small.{bare_score_rows, bare_brief_rows}
 use Rattle.cave_turn.specs.cave_verbs.Taking.{bare_take_rows, take_rows, take_freely_rows}

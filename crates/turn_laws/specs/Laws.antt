@@ -11,8 +11,7 @@ use Rattle.cave_turn.specs.cave_world.declared.ending.Question.{Question}
 use Rattle.cave_turn.specs.cave_world.declared.ending.Question.TheVariants as question
 use Rattle.cave_turn.specs.cave_world.declared.state.State.{State}
 use Rattle.cave_turn.specs.turn_things.Places.{building_place, start_place}
-use Rattle.cave_turn.specs.turn_scene.Scene.{Scene, scene_at_start}
-use Rattle.cave_turn.specs.turn_scene.Rules.{thing}
+use Rattle.cave_turn.specs.turn_scene.Scene.{Scene, scene_at_start, thing}
 use Rattle.cave_turn.specs.turn_clocks.FirstClock.{after_first_clock}
 use Rattle.cave_turn.specs.turn_clocks.Lamp.{burn, can_change_batteries}
 use Rattle.cave_turn.specs.turn_clocks.Repository.{after_second_clock}

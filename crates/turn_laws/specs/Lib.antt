@@ -1,5 +1,4 @@
 pub mod Laws
 pub mod Courses
-pub mod Carrying
 pub mod DwarfLaws
 pub mod ObjectLaws

@@ -1,9 +1,23 @@
--- Where objects are.
-use Rattle.std.specs.Prelude.{◌≡◌, ℕ, ◌+◌, true, false}
-use Rattle.cave_turn.specs.world_objects.Layout.{Layout, is_listed}
+-- Where objects are, and how many are carried.
+use Rattle.std.specs.Prelude.{◌≡◌, ℕ, ◌+◌, true, false, ◌≤◌, List, length}
+use Rattle.cave_turn.specs.world_objects.Objects.{Layout, is_listed, spot_of, anchor_of, is_carried}
+use Rattle.cave_turn.specs.world_objects.Objects.{carried_objects, place_of_spot, place_of_anchor}
+use Rattle.cave_turn.specs.world_objects.Objects.{is_place}
 use Rattle.cave_turn.specs.world_objects.Lists.{halves_at}
-use Rattle.cave_turn.specs.world_objects.Objects.{spot_of, anchor_of, is_carried}
-use Rattle.cave_turn.specs.world_objects.Spots.{place_of_spot, place_of_anchor, is_place}
+use Rattle.cave_turn.specs.cave_data.CaveView.{CaveView}
+use Rattle.cave_turn.specs.cave_world.declared.state.State.{State}
+use Rattle.cave_turn.specs.Turns.{turn_on_line, start_of_game}
+
+-- at most eight objects are carried
+abbrev pub CarriesFew : State → Type 0
+CarriesFew s = length (carried_objects s.objects) ≤ 8
+
+-- a game begins so, and each line keeps it so
+pub record FewCarried : Type 0 where
+  pub start : (cave : CaveView) (seed : ℕ) → CarriesFew (start_of_game cave seed).state
+  pub kept :
+      (cave : CaveView) (s : State) (line : List ℕ) → CarriesFew s
+      → CarriesFew (turn_on_line cave s line).state
 
 -- an object is in one place: the first half of one that is carried is in no list, and each half is
 -- in the list of the place where its object says it is, and in no other

@@ -1,6 +1,6 @@
 //! Laws of what is carried.
 
-ghost use Rattle.turn_laws.specs.Carrying.{FewCarried};
+ghost use Rattle.turn_laws.specs.ObjectLaws.{FewCarried};
 
 /// At most eight objects are carried, as a game begins and after each line.
 pub fn few_carried()

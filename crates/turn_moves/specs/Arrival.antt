@@ -9,19 +9,18 @@ use Rattle.turn_dwarves.specs.cave_world.Sight.{forced}
 use Rattle.turn_dwarves.specs.cave_world.State.{takes_no_command}
 use Rattle.turn_dwarves.specs.cave_world.declared.dwarves.Dwarf.{Dwarf}
 use Rattle.turn_dwarves.specs.cave_world.declared.state.State.{State}
-use Rattle.turn_dwarves.specs.turn_things.Conditions.{has_condition_of}
-use Rattle.turn_dwarves.specs.turn_things.Panic.{after_panic}
-use Rattle.turn_dwarves.specs.turn_things.Places.{outside_place}
+use Rattle.turn_dwarves.specs.turn_things.Places.{has_condition_of, outside_place}
+use Rattle.turn_dwarves.specs.turn_things.Effects.{after_panic}
 use Rattle.turn_dwarves.specs.turn_things.declared.conditions.PlaceCondition.TheVariants.{NoPirate}
 use Rattle.turn_dwarves.specs.Dwarves.{Encounter, encounter_dwarves}
-use Rattle.turn_ends.specs.Deaths.{after_die}
+use Rattle.turn_ends.specs.Endings.{after_die}
 use Rattle.turn_moves.specs.Description.{Halt, after_describe, stop_here, after_text}
 use Rattle.turn_moves.specs.Falling.{falling_here}
 use Rattle.turn_moves.specs.Journeys.{set_forth}
 use Rattle.turn_moves.specs.Ways.{Journey, journey_here}
 use Rattle.turn_dwarves.specs.turn_scene.Scene.{Scene, after_saying, with_state, with_left}
 use Rattle.turn_dwarves.specs.turn_scene.Scene.{scene_at_place, here_of}
-use Rattle.turn_dwarves.specs.cave_world.Dwarves.{PIRATE}
+use Rattle.turn_dwarves.specs.cave_world.Limits.{PIRATE}
 
 -- a cave that is closing has no way out
 unfoldable pub is_shut : CaveView → ℕ → State → Bool

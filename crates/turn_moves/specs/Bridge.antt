@@ -7,15 +7,13 @@ use Rattle.turn_moves.specs.Ways.{Journey, journey_here, other_end}
 use Rattle.turn_dwarves.specs.turn_things.Effects.{with_objects, with_one_more_lost}
 use Rattle.turn_dwarves.specs.turn_things.Homes.{home, hold_of, second_home}
 use Rattle.turn_dwarves.specs.turn_scene.Scene.{Scene, after_saying, after_look_at, with_state}
-use Rattle.turn_dwarves.specs.turn_scene.Scene.{here_of}
+use Rattle.turn_dwarves.specs.turn_scene.Scene.{here_of, thing}
 use Rattle.turn_dwarves.specs.turn_things.Reach.{is_in_hand, has_prop, has_prop_up_to}
 use Rattle.turn_dwarves.specs.turn_things.Props.{BEAR_DEAD, CHASM_UNBRIDGED, TROLL_CALM, TROLL_FLED}
 use Rattle.turn_dwarves.specs.turn_things.Props.{TROLL_RETURNING, UNSEEN}
-use Rattle.turn_dwarves.specs.turn_scene.Rules.{thing}
 use Rattle.turn_dwarves.specs.cave_words.declared.named.Named.TheVariants as name
-use Rattle.turn_dwarves.specs.world_objects.Layout.{Layout}
-use Rattle.turn_dwarves.specs.world_objects.Objects.{after_move_to, with_anchor, after_juggle}
-use Rattle.turn_dwarves.specs.world_objects.Objects.{with_prop}
+use Rattle.turn_dwarves.specs.world_objects.Objects.{Layout, after_move_to, with_anchor}
+use Rattle.turn_dwarves.specs.world_objects.Objects.{after_juggle, with_prop}
 use Rattle.turn_dwarves.specs.world_objects.declared.spot.Anchor.TheVariants as anchor
 use Rattle.turn_dwarves.specs.cave_world.declared.state.State.{State}
 

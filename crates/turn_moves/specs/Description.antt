@@ -1,5 +1,5 @@
 -- How the player's place is described.
-use Rattle.turn_dwarves.specs.world_objects.Spots.{is_place}
+use Rattle.turn_dwarves.specs.world_objects.Objects.{is_place, is_carried}
 use Rattle.std.specs.Prelude.{ℕ, ◌%◌, Bool, true, false, ◌==◌, ◌&&◌, ◌||◌, not, is_none}
 use Rattle.std.specs.Prelude.{if◌then◌else◌}
 use Rattle.std.specs.FinMap as map
@@ -8,18 +8,16 @@ use Rattle.turn_dwarves.specs.data_rows.declared.place_role.PlaceRole.TheVariant
 use Rattle.turn_dwarves.specs.data_rows.declared.role.Role.TheVariants as role
 use Rattle.turn_dwarves.specs.cave_words.declared.named.Named.TheVariants as name
 use Rattle.turn_dwarves.specs.world_objects.Lists.{halves_at}
-use Rattle.turn_dwarves.specs.world_objects.Objects.{is_carried}
 use Rattle.turn_dwarves.specs.cave_world.Sight.{dark, forced}
 use Rattle.turn_dwarves.specs.cave_world.State.{visits_of, with_visit}
 use Rattle.turn_dwarves.specs.cave_world.declared.part.Part.{Part}
 use Rattle.turn_dwarves.specs.cave_world.declared.part.Part.TheVariants as part
 use Rattle.turn_dwarves.specs.cave_world.declared.state.State.{State}
 use Rattle.turn_dwarves.specs.turn_things.Places.{place_named}
-use Rattle.turn_dwarves.specs.turn_scene.Rules.{thing}
+use Rattle.turn_dwarves.specs.turn_scene.Scene.{thing, Scene, after_telling, after_saying}
+use Rattle.turn_dwarves.specs.turn_scene.Scene.{with_state, here_of, after_draw, happens}
 use Rattle.turn_moves.specs.Falling.{falling_here}
 use Rattle.turn_moves.specs.Objects.{after_objects}
-use Rattle.turn_dwarves.specs.turn_scene.Scene.{Scene, after_telling, after_saying, with_state}
-use Rattle.turn_dwarves.specs.turn_scene.Scene.{here_of, after_draw, happens}
 
 -- the long text is printed at each fifth visit, or at the first alone where the player wants it
 -- brief, and at each visit of a place with no short one

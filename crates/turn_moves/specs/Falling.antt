@@ -1,7 +1,7 @@
 -- The player dies, and leaves what is carried where the player is or at another place.
 use Rattle.std.specs.Prelude.{ℕ}
 use Rattle.turn_dwarves.specs.cave_data.CaveView.{CaveView}
-use Rattle.turn_ends.specs.Deaths.{after_die}
+use Rattle.turn_ends.specs.Endings.{after_die}
 use Rattle.turn_dwarves.specs.turn_scene.Scene.{Scene, with_state}
 use Rattle.turn_dwarves.specs.cave_world.declared.state.State.{State}
 

@@ -27,9 +27,8 @@ use Rattle.turn_dwarves.specs.cave_world.declared.state.State.{State}
 use Rattle.turn_moves.specs.Bridge.{journey_by_bridge}
 use Rattle.turn_moves.specs.Ways.{Journey, journey_here, other_end}
 use Rattle.turn_dwarves.specs.turn_things.Places.{place_named, outside_place}
-use Rattle.turn_dwarves.specs.turn_scene.Rules.{thing}
-use Rattle.turn_dwarves.specs.turn_scene.Scene.{Scene, after_telling, after_saying, with_state}
-use Rattle.turn_dwarves.specs.turn_scene.Scene.{here_of, after_setting_out}
+use Rattle.turn_dwarves.specs.turn_scene.Scene.{thing, Scene, after_telling, after_saying}
+use Rattle.turn_dwarves.specs.turn_scene.Scene.{with_state, here_of, after_setting_out}
 
 -- what is said of a motion that no row lists: of a direction, of facing one, of in and out, of a
 -- magic word, of crawling, and of the rest
@@ -59,7 +58,6 @@ unfoldable pub squeeze_end : CaveView → ℕ → Option ℕ
 squeeze_end cave here =
     other_end here (place_named cave place.Alcove) (place_named cave place.Plover)
 
--- nothing is carried, or the emerald alone
 unfoldable pub is_slim : CaveView → State → Bool
 is_slim cave s =
     let carried = length (carried_objects s.objects) in
@@ -96,7 +94,6 @@ journey_by_rows cave motion p =
     let j = travel cave (thing cave name.Emerald) motion p.state in
     journey_of_outcome cave motion j.outcome (with_state j.state p)
 
--- the player sets out by a motion
 unfoldable pub set_forth : CaveView → ℕ → Scene → Journey
 set_forth cave motion p = journey_by_rows cave motion (after_setting_out p)
 

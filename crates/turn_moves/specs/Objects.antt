@@ -4,14 +4,13 @@ use Rattle.std.specs.Prelude.{List, [], ◌∷◌}
 use Rattle.std.specs.Int.{int_min}
 use Rattle.turn_dwarves.specs.cave_data.CaveView.{CaveView}
 use Rattle.turn_dwarves.specs.cave_words.declared.named.Named.TheVariants as name
-use Rattle.turn_dwarves.specs.world_objects.Halves.{object_of}
+use Rattle.turn_dwarves.specs.world_objects.Lists.{object_of}
 use Rattle.turn_dwarves.specs.world_objects.Objects.{is_carried, prop_of, anchor_of, with_prop}
-use Rattle.turn_dwarves.specs.world_objects.Spots.{place_of_anchor, is_place}
+use Rattle.turn_dwarves.specs.world_objects.Objects.{place_of_anchor, is_place}
 use Rattle.turn_dwarves.specs.world_objects.declared.object.Half.{Half}
 use Rattle.turn_dwarves.specs.cave_world.declared.part.Part.TheVariants as part
 use Rattle.turn_dwarves.specs.cave_world.declared.state.State.{State}
-use Rattle.turn_dwarves.specs.turn_scene.Rules.{thing}
-use Rattle.turn_dwarves.specs.turn_scene.Scene.{Scene, after_telling, with_state}
+use Rattle.turn_dwarves.specs.turn_scene.Scene.{thing, Scene, after_telling, with_state}
 use Rattle.turn_dwarves.specs.turn_things.Props.{SEEN, SEEN_FASTENED, STEPS_FROM_ABOVE}
 
 -- an object with a prop below 0 counts as unseen

@@ -1,6 +1,6 @@
 ghost use Rattle.std.specs.Prelude.{◌≡◌, ◌+◌, true, false, IsTrue};
 ghost use Rattle.std.specs.List.{list_any};
-ghost use Rattle.turn_dwarves.specs.turn_scene.Rules.{cave_of};
+ghost use Rattle.turn_dwarves.specs.turn_scene.Scene.{cave_of, scene_of};
 ghost use Rattle.turn_dwarves.specs.cave_world.State.{takes_no_command};
 ghost use Rattle.turn_moves.specs.Arrival.{is_shut, journey_unless_shut_in, comes_from, is_barred};
 ghost use Rattle.turn_moves.specs.Arrival.{after_meet, journey_unless_way_is_barred, come_to};
@@ -11,7 +11,6 @@ ghost use Rattle.turn_dwarves.specs.turn_scene.Bounds.{SaysUpTo, parts_of_dwarve
 ghost use Rattle.turn_dwarves.specs.turn_scene.Bounds.{parts_of_passing, parts_of_stop};
 ghost use Rattle.turn_dwarves.specs.turn_scene.Bounds.{parts_of_text, parts_of_forced_motions};
 ghost use Rattle.turn_dwarves.specs.turn_scene.Bounds.{parts_of_arrival};
-ghost use Rattle.turn_dwarves.specs.turn_scene.Scene.{scene_of};
 
 use crate::description::{describe, stop_here, tell_text};
 use crate::falling::fall_here;
@@ -19,7 +18,7 @@ use crate::journeys::set_forth;
 use crate::ways::stay;
 use turn_dwarves::{
     Dwarf, Motion, PIRATE, Place, PlaceCondition, Role, Rules, Scene, State, encounter_dwarves,
-    forced, has_condition_of, outside_place, panic,
+    forced, has_condition_of, outside_place, start_panic,
 };
 use turn_ends::die;
 
@@ -55,7 +54,7 @@ fn shut_in(rules: &Rules<'_>, place: Place, scene: &mut Scene<'_>) -> Place
     if !is_shut(rules, place, scene.state) {
         return place;
     }
-    panic(scene.state);
+    start_panic(scene.state);
     stay(scene, Role::ClosingExit)
 }
 

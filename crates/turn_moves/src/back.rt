@@ -1,13 +1,12 @@
 ghost use Rattle.std.specs.Prelude.{◌≡◌, false, map, option_map};
 ghost use Rattle.turn_dwarves.specs.cave_data.CaveView.{ways_from};
 ghost use Rattle.turn_dwarves.specs.data_rows.RowViews.{going};
-ghost use Rattle.turn_dwarves.specs.turn_scene.Rules.{cave_of};
+ghost use Rattle.turn_dwarves.specs.turn_scene.Scene.{cave_of, scene_of};
 ghost use Rattle.turn_dwarves.specs.cave_world.State.{takes_no_command};
 ghost use Rattle.turn_moves.specs.Journeys.{back_place, leads_through, direct_row, indirect_row};
 ghost use Rattle.turn_moves.specs.Journeys.{row_back, first_motion, leads_at_once, journey_back};
 ghost use Rattle.turn_dwarves.specs.turn_scene.Bounds.{GoesOnSaying, HasRoom, SaysUpTo};
 ghost use Rattle.turn_dwarves.specs.turn_scene.Bounds.{parts_of_journey};
-ghost use Rattle.turn_dwarves.specs.turn_scene.Scene.{scene_of};
 
 use crate::journeys::journey_by_rows;
 use crate::ways::stay;
@@ -36,7 +35,6 @@ fn leads_through(rules: &Rules<'_>, sought: Place, row: &Row) -> bool
     }
 }
 
-/// Whether the first row leads to the place that is sought.
 fn leads_at_once(sought: Place, rows: &[Row]) -> bool
     ensures { result ≡ leads_at_once sought (map going rows.now) }
 {

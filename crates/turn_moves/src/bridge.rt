@@ -6,8 +6,7 @@ ghost use Rattle.turn_moves.specs.Bridge.{without_bridge, without_spices, with_b
 ghost use Rattle.turn_moves.specs.Bridge.{after_break_through, cross_to, journey_by_bridge};
 ghost use Rattle.turn_dwarves.specs.turn_scene.Bounds.{GoesOnSaying, HasRoom, SaysUpTo};
 ghost use Rattle.turn_dwarves.specs.turn_scene.Bounds.{parts_of_journey};
-ghost use Rattle.turn_dwarves.specs.turn_scene.Scene.{scene_of};
-ghost use Rattle.turn_dwarves.specs.turn_scene.Rules.{cave_of};
+ghost use Rattle.turn_dwarves.specs.turn_scene.Scene.{scene_of, cave_of};
 ghost use Rattle.turn_dwarves.specs.cave_world.State.{takes_no_command};
 
 use crate::falling::fall_at;

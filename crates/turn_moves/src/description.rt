@@ -1,5 +1,5 @@
 ghost use Rattle.std.specs.Prelude.{◌≡◌, ◌<◌, IsTrue};
-ghost use Rattle.turn_dwarves.specs.turn_scene.Rules.{cave_of};
+ghost use Rattle.turn_dwarves.specs.turn_scene.Scene.{cave_of, scene_of};
 ghost use Rattle.turn_moves.specs.Description.{is_described_at_length, place_text, after_bear};
 ghost use Rattle.turn_moves.specs.Description.{after_text, is_hollow, after_hollow, after_pit};
 ghost use Rattle.turn_moves.specs.Description.{after_darkness, dark_scene, sight_scene};
@@ -7,7 +7,6 @@ ghost use Rattle.turn_moves.specs.Description.{after_describe, stop_here};
 ghost use Rattle.turn_dwarves.specs.turn_scene.Bounds.{GoesOnSaying, HasRoom, SaysUpTo};
 ghost use Rattle.turn_dwarves.specs.turn_scene.Bounds.{parts_of_place, parts_of_text};
 ghost use Rattle.turn_dwarves.specs.turn_scene.Bounds.{parts_of_darkness, parts_of_fall};
-ghost use Rattle.turn_dwarves.specs.turn_scene.Scene.{scene_of};
 
 use crate::falling::fall_here;
 use crate::objects::tell_objects;

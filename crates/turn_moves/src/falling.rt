@@ -1,8 +1,7 @@
 ghost use Rattle.std.specs.Prelude.{◌≡◌, IsTrue};
 ghost use Rattle.turn_moves.specs.Falling.{with_all_left_at, fall_at, falling_here};
 ghost use Rattle.turn_dwarves.specs.turn_scene.Bounds.{GoesOnSaying, HasRoom, parts_of_death};
-ghost use Rattle.turn_dwarves.specs.turn_scene.Scene.{scene_of};
-ghost use Rattle.turn_dwarves.specs.turn_scene.Rules.{cave_of};
+ghost use Rattle.turn_dwarves.specs.turn_scene.Scene.{scene_of, cave_of};
 ghost use Rattle.turn_dwarves.specs.cave_world.State.{takes_no_command};
 
 use turn_dwarves::{Place, Rules, Scene, State};

@@ -1,10 +1,9 @@
 ghost use Rattle.std.specs.Prelude.{◌≡◌, false};
-ghost use Rattle.turn_dwarves.specs.turn_scene.Rules.{cave_of};
+ghost use Rattle.turn_dwarves.specs.turn_scene.Scene.{cave_of, scene_of, GoesOn};
 ghost use Rattle.turn_dwarves.specs.cave_world.Motions.{motion_of};
 ghost use Rattle.turn_dwarves.specs.cave_world.State.{takes_no_command};
 ghost use Rattle.turn_dwarves.specs.turn_scene.Bounds.{GoesOnSaying, HasRoom, SaysUpTo};
 ghost use Rattle.turn_dwarves.specs.turn_scene.Bounds.{parts_of_journey};
-ghost use Rattle.turn_dwarves.specs.turn_scene.Scene.{scene_of, GoesOn};
 ghost use Rattle.turn_moves.specs.Journeys.{refusal_role, squeeze_end, is_slim, journey_by_squeeze};
 ghost use Rattle.turn_moves.specs.Journeys.{journey_by_special, journey_of_outcome};
 ghost use Rattle.turn_moves.specs.Journeys.{journey_by_rows, set_forth, after_enough};

@@ -1,15 +1,12 @@
 ghost use Rattle.std.specs.Prelude.{◌≡◌, ◌<◌, length};
-ghost use Rattle.turn_dwarves.specs.world_objects.Lists.{halves_at};
-ghost use Rattle.turn_dwarves.specs.world_objects.Objects.{anchor_of};
-ghost use Rattle.turn_dwarves.specs.world_objects.Spots.{place_of_anchor, is_place};
-ghost use Rattle.turn_dwarves.specs.turn_scene.Rules.{cave_of};
+ghost use Rattle.turn_dwarves.specs.world_objects.Lists.{halves_at, last_half};
+ghost use Rattle.turn_dwarves.specs.world_objects.Objects.{anchor_of, place_of_anchor, is_place};
+ghost use Rattle.turn_dwarves.specs.turn_scene.Scene.{cave_of, scene_of};
 ghost use Rattle.turn_moves.specs.Objects.{is_unseen, is_kept_back, first_prop, one_less_unseen};
 ghost use Rattle.turn_moves.specs.Objects.{with_lamp_of_rest_lost, after_find};
 ghost use Rattle.turn_moves.specs.Objects.{after_find_if_unseen, described_prop, after_object};
 ghost use Rattle.turn_moves.specs.Objects.{after_objects};
 ghost use Rattle.turn_dwarves.specs.turn_scene.Bounds.{GoesOnSaying, HasRoom};
-ghost use Rattle.turn_dwarves.specs.turn_scene.Scene.{scene_of};
-ghost use Rattle.turn_dwarves.specs.world_objects.Halves.{last_half};
 
 use turn_dwarves::{
     Charge, Half, Named, Object, Part, Prop, Rules, SEEN, SEEN_FASTENED, STEPS_FROM_ABOVE, Scene,
@@ -79,7 +76,6 @@ fn find_if_unseen(rules: &Rules<'_>, object: Object, state: &mut State)
     }
 }
 
-/// The prop for which an object is described.
 #[tactic(auto, unfolding(crate::specs::Objects::described_prop))]
 fn described_prop(rules: &Rules<'_>, state: &State, object: Object) -> Prop
     ensures { result ≡ described_prop (cave_of rules.now) state.now object }

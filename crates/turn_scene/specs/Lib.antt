@@ -1,6 +1,5 @@
 pub mod Bounds
 pub mod Scene
-pub mod Rules
 pub use Rattle.cave_world.specs.cave_data as cave_data
 pub use Rattle.cave_world.specs.cave_words as cave_words
 pub use Rattle.cave_world.specs as cave_world

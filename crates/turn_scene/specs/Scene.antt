@@ -1,5 +1,6 @@
--- A turn while it is played.
-use Rattle.std.specs.Prelude.{◌≡◌, ℕ, ℤ, Bool, ◌==◌, if◌then◌else◌, List, [], ◌∷◌, ◌++◌}
+-- A turn while it is played, and the objects that its rules name.
+use Rattle.std.specs.Prelude.{◌≡◌, ℕ, ℤ, Bool, ◌==◌, if◌then◌else◌, List, [], ◌∷◌, ◌++◌, true}
+use Rattle.std.specs.Prelude.{false, ◌&&◌, not, nat_le, Option, Some, None}
 use Rattle.cave_world.specs.data_rows.declared.role.Role.{Role}
 use Rattle.cave_world.specs.cave_words.Stream.{next, pct}
 use Rattle.cave_world.specs.State.{state_with_player_at, state_after_set_out}
@@ -7,6 +8,44 @@ use Rattle.cave_world.specs.declared.part.Part.{Part}
 use Rattle.cave_world.specs.declared.part.Part.TheVariants as part
 use Rattle.cave_world.specs.declared.state.State.{State}
 use Rattle.turn_scene.specs.declared.scene.Scene.{Scene as OpenScene}
+use Rattle.std.specs.List.{list_any}
+use Rattle.cave_world.specs.cave_data.CaveView.{CaveView}
+use Rattle.cave_world.specs.cave_words.Named.{object_named}
+use Rattle.cave_world.specs.cave_words.declared.named.Named.{Named}
+use Rattle.cave_world.specs.cave_words.declared.named.Named.TheVariants as named
+use Rattle.turn_scene.specs.declared.rules.Rules.{Rules}
+use Rattle.cave_world.specs.data_numbers.Numbers.{LAST_OBJECT}
+
+abbrev pub or_no_object : Option ℕ → ℕ
+or_no_object None = 0
+or_no_object (Some object) = if nat_le object LAST_OBJECT then object else 0
+
+abbrev pub cave_of : Rules → CaveView
+cave_of rules = rules.cave.now
+
+-- the object that a word of the rules names
+unfoldable pub object_called : CaveView → Named → ℕ
+object_called cave name = or_no_object (object_named cave name)
+
+-- a liquid, which the bottle may hold
+abbrev pub is_liquid_name : Named → Bool
+is_liquid_name named.Water = true
+is_liquid_name named.Oil = true
+is_liquid_name _ = false
+
+-- the object of a name: WATER and OIL count as absent where their number is that of BOTTL
+unfoldable pub thing : CaveView → Named → ℕ
+thing cave name =
+    if is_liquid_name name && object_called cave name == object_called cave named.Bottle then 0
+    else object_called cave name
+
+-- an object is the one of a name
+unfoldable pub is_called : CaveView → ℕ → Named → Bool
+is_called cave x n = not (x == 0) && thing cave n == x
+
+-- an object is the one of one of the names
+abbrev pub is_one_of : CaveView → ℕ → List Named → Bool
+is_one_of cave x names = list_any (is_called cave x) names
 
 -- the state, what was said, whether it was dark as the turn began, and the forced motions that are
 -- left in it
@@ -35,7 +74,6 @@ IsSameScene old new =
 abbrev pub GoesOn : OpenScene → OpenScene → Type 0
 GoesOn old new = IsSameScene old new × (new.left ≡ old.left)
 
--- the most forced motions of a turn
 abbrev pub MAX_FORCED_MOTIONS : ℕ
 MAX_FORCED_MOTIONS = 20
 
@@ -47,7 +85,6 @@ scene_at_start was_dark s =
 abbrev pub with_state : State → Scene → Scene
 with_state s p = record p { state = s }
 
--- one more part is said
 abbrev pub after_telling : Part → Scene → Scene
 after_telling told p = record p { parts = p.parts ++ told ∷ [] }
 
@@ -67,7 +104,6 @@ with_left left p = record p { left = left }
 abbrev pub here_of : Scene → ℕ
 here_of p = p.state.trail.here
 
--- the player is at the place
 abbrev pub scene_at_place : ℕ → Scene → Scene
 scene_at_place place p = with_state (state_with_player_at p.state place) p
 
@@ -75,7 +111,6 @@ scene_at_place place p = with_state (state_with_player_at p.state place) p
 abbrev pub after_setting_out : Scene → Scene
 after_setting_out p = with_state (state_after_set_out p.state) p
 
--- the random stream goes on after a draw
 abbrev pub after_draw : Scene → Scene
 after_draw p = let s = p.state in with_state (record s { stream = next s.stream }) p
 

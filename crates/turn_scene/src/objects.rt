@@ -1,7 +1,7 @@
 //! Objects by the numbers that a cave has for them.
 
 ghost use Rattle.std.specs.Prelude.{◌≡◌};
-ghost use Rattle.turn_scene.specs.Rules.{or_no_object};
+ghost use Rattle.turn_scene.specs.Scene.{or_no_object};
 
 use cave_world::{LAST_OBJECT, Object};
 

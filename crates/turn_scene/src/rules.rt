@@ -2,7 +2,7 @@
 
 ghost use Rattle.std.specs.Prelude.{◌≡◌};
 ghost use Rattle.cave_world.specs.cave_words.Lexicon.{IsLexiconOf};
-ghost use Rattle.cave_world.specs.cave_words.Meaning.{meaning};
+ghost use Rattle.cave_world.specs.cave_words.Meanings.{meaning};
 ghost use Rattle.cave_world.specs.cave_words.Words.{words_of};
 
 use crate::objects::or_no_object;
@@ -17,8 +17,8 @@ pub struct Rules<'a> {
 }
 
 impl<'a> Rules<'a> {
-    ghost use Rattle.turn_scene.specs.Rules.{cave_of, is_liquid_name, object_called, thing};
-    ghost use Rattle.turn_scene.specs.Rules.{is_called, is_one_of};
+    ghost use Rattle.turn_scene.specs.Scene.{cave_of, is_liquid_name, object_called, thing};
+    ghost use Rattle.turn_scene.specs.Scene.{is_called, is_one_of};
 
     /// The rules of a cave, with the lexicon of that cave.
     pub fn of(cave: &'a Cave, lexicon: &'a Lexicon) -> Rules<'a>
@@ -43,7 +43,7 @@ impl<'a> Rules<'a> {
     }
 
     /// The object that the word of a name means.
-    #[tactic(auto, unfolding(crate::specs::Rules::object_called))]
+    #[tactic(auto, unfolding(crate::specs::Scene::object_called))]
     fn called(&self, name: Named) -> Object
         ensures { result ≡ object_called (cave_of self.now) name }
     {
@@ -57,7 +57,7 @@ impl<'a> Rules<'a> {
     }
 
     /// The object of a name; object 0 where the cave has none.
-    #[tactic(auto, unfolding(crate::specs::Rules::thing))]
+    #[tactic(auto, unfolding(crate::specs::Scene::thing))]
     pub fn thing(&self, name: Named) -> Object
         ensures { result ≡ thing (cave_of self.now) name }
     {
@@ -69,7 +69,7 @@ impl<'a> Rules<'a> {
     }
 
     /// Whether an object is the one of a name.
-    #[tactic(auto, unfolding(crate::specs::Rules::is_called))]
+    #[tactic(auto, unfolding(crate::specs::Scene::is_called))]
     pub fn is(&self, object: Object, name: Named) -> bool
         ensures { result ≡ is_called (cave_of self.now) object name }
     {

@@ -13,7 +13,7 @@ use Rattle.turn_things.specs.cave_world.declared.ending.Ending.TheVariants as en
 use Rattle.turn_things.specs.cave_world.declared.state.State.{State}
 use Rattle.turn_things.specs.cave_world.State.{LIVES, is_hint_taken}
 use Rattle.turn_things.specs.Places.{place_named}
-use Rattle.turn_things.specs.turn_scene.Rules.{thing}
+use Rattle.turn_things.specs.turn_scene.Scene.{thing}
 use Rattle.turn_score.specs.Treasures.{treasure_points, most_treasure_points}
 use Rattle.turn_things.specs.data_numbers.Numbers.{LAST_HINT}
 
@@ -124,7 +124,6 @@ points_of cave s =
     + closing_points s + closed_points s + magazine_points cave s
     + POINTS_OF_PLAYING
 
--- the hints that were taken
 unfoldable pub hints_taken : State → List ℕ
 hints_taken s = filter (is_hint_taken s) (range_with_len 1 LAST_HINT)
 
@@ -136,7 +135,6 @@ price_in (Some row) = row.points
 unfoldable pub price_of : CaveView → ℕ → ℕ
 price_of cave hint = price_in (map.get cave.hints hint)
 
--- what all hints cost that were taken
 abbrev pub hint_costs : CaveView → State → ℕ
 hint_costs cave s = sum_by (price_of cave) (hints_taken s)
 

@@ -7,9 +7,8 @@ use Rattle.turn_things.specs.cave_words.declared.named.Named.TheVariants as name
 use Rattle.turn_things.specs.world_objects.Objects.{is_first_at, prop_of}
 use Rattle.turn_things.specs.cave_world.declared.state.State.{State}
 use Rattle.turn_things.specs.Places.{building_place}
-use Rattle.turn_things.specs.Reach.{has_prop}
-use Rattle.turn_things.specs.turn_scene.Rules.{thing}
-use Rattle.turn_things.specs.Treasures.{known_treasures}
+use Rattle.turn_things.specs.Reach.{has_prop, known_treasures}
+use Rattle.turn_things.specs.turn_scene.Scene.{thing}
 use Rattle.turn_things.specs.Props.{SEEN}
 
 -- what a treasure is worth whose number is below the chest's, the chest itself, and one whose
@@ -51,7 +50,6 @@ points_of_treasure cave s x =
     (if is_seen s x then POINTS_OF_SEEING else 0)
     + (if is_safe cave s x then worth cave x - POINTS_OF_SEEING else 0)
 
--- all treasures that the cave knows
 abbrev pub treasure_points : CaveView → State → ℕ
 treasure_points cave s = sum_by (points_of_treasure cave s) (known_treasures cave)
 

@@ -1,5 +1,5 @@
 ghost use Rattle.std.specs.Prelude.{◌≡◌, ◌≤◌, ◌<◌, ◌*◌};
-ghost use Rattle.turn_things.specs.turn_scene.Rules.{cave_of};
+ghost use Rattle.turn_things.specs.turn_scene.Scene.{cave_of};
 ghost use Rattle.turn_things.specs.cave_world.State as defined_state;
 ghost use Rattle.turn_score.specs.Score.{life_points, ending_points, dwarf_points, closing_points};
 ghost use Rattle.turn_score.specs.Score.{escape_points, closed_points, lies_at, magazine_points};
@@ -158,7 +158,6 @@ fn price_of(cave: &Cave, hint: u16) -> u32
     }
 }
 
-/// What the hints cost that were taken.
 #[tactic(auto, using(crate::proofs::Sums::costs))]
 fn hint_costs(cave: &Cave, state: &State) -> u32
     ensures { result ≡ hint_costs cave.now state.now }

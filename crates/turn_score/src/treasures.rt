@@ -1,5 +1,5 @@
 ghost use Rattle.std.specs.Prelude.{◌≡◌, ◌≤◌};
-ghost use Rattle.turn_things.specs.turn_scene.Rules.{cave_of};
+ghost use Rattle.turn_things.specs.turn_scene.Scene.{cave_of};
 ghost use Rattle.turn_score.specs.Treasures.{is_seen, is_safe, points_of_treasure, treasure_points};
 ghost use Rattle.turn_score.specs.Treasures.{MAX_TREASURE_POINTS, WORTH_AFTER_CHEST};
 

@@ -1,5 +1,5 @@
 ghost use Rattle.std.specs.Prelude.{◌≡◌, ◌≤◌};
-ghost use Rattle.turn_things.specs.turn_scene.Rules.{cave_of};
+ghost use Rattle.turn_things.specs.turn_scene.Scene.{cave_of};
 ghost use Rattle.turn_score.specs.Treasures.{worth, most_treasure_points, MAX_TREASURE_POINTS};
 ghost use Rattle.turn_score.specs.Treasures as defined;
 

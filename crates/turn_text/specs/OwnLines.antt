@@ -52,7 +52,6 @@ final_line score most turns =
 abbrev pub word_between : List ℕ → List ℕ → List ℕ → List ℕ
 word_between before w after = before ++ (prefix_while is_nonblank w ++ after)
 
--- a line that repeats a word
 unfoldable pub word_line : WordLine → List ℕ → List ℕ
 word_line word.NotSeen w = word_between (codes "I see no ") w (codes " here.\n")
 word_line word.WhatToDo w = word_between (codes "What do you want to do with the ") w (codes "?\n")

@@ -9,7 +9,6 @@ use Rattle.cave_world.specs.declared.part.Part.{Part}
 use Rattle.cave_world.specs.declared.part.Part.TheVariants as part
 use Rattle.turn_text.specs.OwnLines.{number_line, word_line, final_line}
 
--- a text that isn't there prints nothing
 abbrev pub or_nothing : Option (List ℕ) → List ℕ
 or_nothing text = unwrap_or text []
 
@@ -20,7 +19,6 @@ message_text cave number = or_nothing (map.get cave.messages number)
 abbrev pub name_line : Role → List ℕ
 name_line role = codes "[" ++ slice_index_or ROLE_NAMES (role_number role) [] ++ codes "]\n"
 
--- the text of a role: the message that is bound to it, or else its name
 abbrev pub role_text : CaveView → Option ℕ → Role → List ℕ
 role_text cave None role = name_line role
 role_text cave (Some number) role = message_text cave number
@@ -30,7 +28,6 @@ abbrev pub look_text : CaveView → ℕ → ℤ → List ℕ
 look_text cave object (pos prop) = or_nothing (look_of cave object prop)
 look_text cave object (negsuc n) = []
 
--- the text of the class that a score belongs to
 abbrev pub class_text : CaveView → ℕ → List ℕ
 class_text cave score = or_nothing (option_map (λ rating. rating.text) (class_of cave score))
 

@@ -3,7 +3,7 @@ use Rattle.std.proofs.Common.{ℕ, ◌<◌, List, Option, Some, None, arith}
 use Rattle.std.specs.Prelude.{option_map, find}
 use Rattle.turn_scene.specs.data_rows.Rows.{WordEntry, WORDS_PER_CLASS}
 use Rattle.turn_scene.specs.cave_data.CaveView.{CaveView}
-use Rattle.turn_scene.specs.cave_words.Meaning.{meaning_in, meaning_of, is_word_in}
+use Rattle.turn_scene.specs.cave_words.Meanings.{meaning_in, meaning_of, is_word_in}
 use Rattle.turn_scene.specs.cave_words.declared.meaning.Class.TheVariants.{Special}
 use Rattle.turn_things.specs.SpecialWords.{number_or_none, special}
 

@@ -1,20 +1,25 @@
 -- What rules do to objects. What is done to an object that isn't there does nothing.
-use Rattle.std.specs.Prelude.{ℕ, ◌+◌, ◌&&◌, if◌then◌else◌, min}
+use Rattle.std.specs.Prelude.{ℕ, ◌+◌, ◌&&◌, if◌then◌else◌, min, pos, true, ◌||◌}
 use Rattle.turn_scene.specs.cave_data.CaveView.{CaveView}
 use Rattle.turn_scene.specs.cave_words.declared.named.Named.TheVariants as name
 use Rattle.turn_scene.specs.world_objects.Objects.{after_move_to, with_anchor, after_juggle}
-use Rattle.turn_scene.specs.world_objects.Objects.{with_prop}
+use Rattle.turn_scene.specs.world_objects.Objects.{with_prop, Layout}
 use Rattle.turn_scene.specs.world_objects.declared.spot.Anchor.TheVariants as anchor
 use Rattle.turn_scene.specs.cave_world.State.{MAX_LOST}
 use Rattle.turn_scene.specs.cave_world.declared.state.State.{State}
-use Rattle.turn_scene.specs.world_objects.Layout.{Layout}
-use Rattle.turn_scene.specs.Rules.{thing, is_called}
-use Rattle.turn_things.specs.Liquids.{liquid_of, is_liquid}
+use Rattle.turn_scene.specs.Scene.{thing, is_called}
+use Rattle.turn_things.specs.Reach.{liquid_of, is_liquid, is_in_hand, has_other_prop}
 use Rattle.turn_things.specs.Homes.{home, hold_of, is_at_home}
-use Rattle.turn_things.specs.Reach.{is_in_hand, has_other_prop}
 use Rattle.turn_things.specs.Props.{BIRD_FREE}
 
--- other objects in the same state
+-- a player who tries to get out has 15 turns left, unless that was tried before
+abbrev pub after_panic : State → State
+after_panic s =
+    let closing = s.closing in
+    if closing.is_panicking || closing.is_closed
+    then record s { closing = record closing { is_panicking = true } }
+    else record s { closing = record closing { second_clock = pos 15; is_panicking = true } }
+
 abbrev pub with_objects : Layout → State → State
 with_objects o s = record s { objects = o }
 
@@ -22,14 +27,12 @@ with_objects o s = record s { objects = o }
 abbrev pub vessel : CaveView → State → ℕ → ℕ
 vessel cave s x = if is_liquid x (liquid_of cave s) then thing cave name.Bottle else x
 
--- the cage is put down with the bird in it
 abbrev pub with_bird_in_cage : CaveView → ℕ → State → State
 with_bird_in_cage cave x s =
     if is_called cave x name.Cage && has_other_prop s (thing cave name.Bird) BIRD_FREE
     then with_objects (after_move_to s.objects (thing cave name.Bird) s.trail.here) s
     else s
 
--- the bird that is put down is free
 abbrev pub with_free_bird : CaveView → ℕ → State → State
 with_free_bird cave x s =
     if is_called cave x name.Bird then with_objects (with_prop s.objects x BIRD_FREE) s else s
@@ -61,7 +64,6 @@ with_one_more_lost s =
     let tallies = s.tallies in
     record s { tallies = record tallies { lost = min (tallies.lost + 1) MAX_LOST } }
 
--- one treasure more is lost while the snake is at home
 unfoldable pub after_loss_to_snake : CaveView → State → State
 after_loss_to_snake cave s = if is_at_home cave s (thing cave name.Snake) then with_one_more_lost s
     else s

@@ -2,8 +2,7 @@
 use Rattle.std.specs.Prelude.{ℕ, ℤ, pos, negsuc, zero, suc, Bool, ◌==◌, ◌&&◌, not, Option, Some}
 use Rattle.std.specs.Prelude.{None}
 use Rattle.turn_scene.specs.cave_data.CaveView.{CaveView, placement_of}
-use Rattle.turn_scene.specs.world_objects.Objects.{spot_of}
-use Rattle.turn_scene.specs.world_objects.Spots.{is_place}
+use Rattle.turn_scene.specs.world_objects.Objects.{spot_of, is_place}
 use Rattle.turn_scene.specs.world_objects.declared.spot.Anchor.{Anchor}
 use Rattle.turn_scene.specs.world_objects.declared.spot.Anchor.TheVariants as anchor
 use Rattle.turn_scene.specs.world_objects.declared.spot.Spot.{Spot}

@@ -1,5 +1,5 @@
--- The places that rules name.
-use Rattle.std.specs.Prelude.{ℕ, Option, unwrap_or}
+-- The places that rules name, and their conditions.
+use Rattle.std.specs.Prelude.{ℕ, Option, unwrap_or, Bool}
 use Rattle.std.specs.FinMap as map
 use Rattle.turn_scene.specs.cave_data.CaveView.{CaveView}
 use Rattle.turn_scene.specs.data_rows.PlaceRole.{place_number}
@@ -7,8 +7,18 @@ use Rattle.turn_scene.specs.data_rows.declared.place_role.PlaceRole.{PlaceRole}
 use Rattle.turn_scene.specs.data_rows.declared.place_role.PlaceRole.TheVariants as place
 use Rattle.turn_scene.specs.cave_data.Bindings.{DEFAULT_START, DEFAULT_BUILDING, DEFAULT_OUTSIDE}
 use Rattle.turn_scene.specs.cave_data.Bindings.{DEFAULT_DEEP}
+use Rattle.turn_scene.specs.cave_world.Sight.{has_condition}
+use Rattle.turn_things.specs.declared.conditions.PlaceCondition.{PlaceCondition}
+use Rattle.turn_things.specs.declared.conditions.PlaceCondition.TheVariants as condition
 
--- the place that has a role
+abbrev pub bit_of : PlaceCondition → ℕ
+bit_of condition.Oil = 1
+bit_of condition.Liquid = 2
+bit_of condition.NoPirate = 3
+
+abbrev pub has_condition_of : CaveView → ℕ → PlaceCondition → Bool
+has_condition_of cave place c = has_condition cave place (bit_of c)
+
 unfoldable pub place_named : CaveView → PlaceRole → Option ℕ
 place_named cave role = map.get cave.places (place_number role)
 
@@ -16,7 +26,6 @@ place_named cave role = map.get cave.places (place_number role)
 unfoldable pub start_place : CaveView → ℕ
 start_place cave = unwrap_or (place_named cave place.Start) DEFAULT_START
 
--- the last place outside the cave
 unfoldable pub outside_place : CaveView → ℕ
 outside_place cave = unwrap_or (place_named cave place.Outside) DEFAULT_OUTSIDE
 

@@ -1,7 +1,7 @@
 -- The magic words that count by their numbers.
 use Rattle.std.specs.Prelude.{ℕ, Option, option_map, unwrap_or, List}
 use Rattle.turn_scene.specs.cave_data.CaveView.{CaveView}
-use Rattle.turn_scene.specs.cave_words.Meaning.{meaning_in}
+use Rattle.turn_scene.specs.cave_words.Meanings.{meaning_in}
 use Rattle.turn_scene.specs.cave_words.declared.meaning.Class.TheVariants.{Special}
 use Rattle.turn_scene.specs.cave_words.declared.meaning.Meaning.{Meaning}
 

@@ -1,8 +1,8 @@
 //! The conditions that a place may have.
 
 ghost use Rattle.std.specs.Prelude.{◌≡◌, ◌<◌};
-ghost use Rattle.turn_things.specs.Conditions.{bit_of, has_condition_of};
-ghost use Rattle.turn_scene.specs.Rules.{cave_of};
+ghost use Rattle.turn_things.specs.Places.{bit_of, has_condition_of};
+ghost use Rattle.turn_scene.specs.Scene.{cave_of};
 
 use turn_scene::{Place, Rules, has_condition};
 

@@ -1,5 +1,5 @@
 ghost use Rattle.std.specs.Prelude.{◌≡◌};
-ghost use Rattle.turn_scene.specs.Rules.{cave_of};
+ghost use Rattle.turn_scene.specs.Scene.{cave_of};
 ghost use Rattle.turn_things.specs.Effects.{vessel, with_bird_in_cage, with_free_bird, put_down};
 ghost use Rattle.turn_things.specs.Effects.{let_go, without_troll, with_one_more_lost};
 ghost use Rattle.turn_things.specs.Effects.{after_loss_to_snake};

@@ -1,5 +1,5 @@
 ghost use Rattle.std.specs.Prelude.{◌≡◌, ◌≤ℤ◌, pos};
-ghost use Rattle.turn_scene.specs.Rules.{cave_of};
+ghost use Rattle.turn_scene.specs.Scene.{cave_of};
 ghost use Rattle.turn_things.specs.Homes.{home, anchor_by, hold_of, second_home, is_at_home};
 ghost use Rattle.turn_things.specs.Homes.{is_home_here, is_home_elsewhere};
 ghost use Rattle.turn_scene.specs.data_numbers.Numbers.{LAST_PLACE};

@@ -1,5 +1,5 @@
 ghost use Rattle.std.specs.Prelude.{◌≡◌};
-ghost use Rattle.turn_things.specs.Panic.{after_panic};
+ghost use Rattle.turn_things.specs.Effects.{after_panic};
 
 use turn_scene::State;
 
@@ -7,7 +7,7 @@ use turn_scene::State;
 const TURNS_IN_PANIC: i8 = 15;
 
 /// The player tries to get out of a closing cave.
-pub fn panic(state: &mut State)
+pub fn start_panic(state: &mut State)
     ensures { state.new ≡ after_panic state.old }
 {
     if !(state.closing.is_panicking || state.closing.is_closed) {

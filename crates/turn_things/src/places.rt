@@ -1,4 +1,4 @@
-ghost use Rattle.turn_scene.specs.world_objects.Spots.{is_place};
+ghost use Rattle.turn_scene.specs.world_objects.Objects.{is_place};
 ghost use Rattle.std.specs.Prelude.{◌≡◌};
 ghost use Rattle.turn_things.specs.Places.{place_named, start_place, outside_place, deep_place};
 ghost use Rattle.turn_things.specs.Places.{building_place};

@@ -6,8 +6,6 @@ pub const UNSEEN: i8 = -1;
 pub const SEEN: i8 = 0;
 /// The rug under the dragon and the chain round the bear, as they are first seen.
 pub const SEEN_FASTENED: i8 = 1;
-/// The chain and the axe, where nothing holds them.
-pub const LOOSE: i8 = 0;
 
 /// The axe, for the taking.
 pub const AXE_FREE: i8 = 0;

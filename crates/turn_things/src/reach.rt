@@ -1,6 +1,6 @@
 ghost use Rattle.std.specs.Prelude.{◌≡◌};
 ghost use Rattle.std.specs.List.{list_any};
-ghost use Rattle.turn_scene.specs.Rules.{cave_of};
+ghost use Rattle.turn_scene.specs.Scene.{cave_of};
 ghost use Rattle.turn_things.specs.Reach.{is_in_hand, is_near, is_fixed, is_treasure, has_prop};
 ghost use Rattle.turn_things.specs.Reach.{has_other_prop, has_prop_up_to, is_dwarf_at};
 ghost use Rattle.turn_things.specs.Reach.{is_dwarf_here};

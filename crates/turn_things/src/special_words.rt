@@ -1,6 +1,6 @@
 ghost use Rattle.std.specs.Prelude.{◌≡◌, ◌<◌};
 ghost use Rattle.turn_scene.specs.data_rows.Rows.{WORDS_PER_CLASS};
-ghost use Rattle.turn_scene.specs.Rules.{cave_of};
+ghost use Rattle.turn_scene.specs.Scene.{cave_of};
 ghost use Rattle.turn_things.specs.SpecialWords.{number_or_none, special};
 
 use turn_scene::{Class, Meaning, Rules, Word};

@@ -1,5 +1,5 @@
 ghost use Rattle.std.specs.Prelude.{◌≡◌};
-ghost use Rattle.turn_things.specs.Treasures.{is_known};
+ghost use Rattle.turn_things.specs.Reach.{is_known};
 
 use turn_scene::{Cave, Object};
 

@@ -4,8 +4,7 @@ use Rattle.std.proofs.Common.{sym, ap, ◌∙◌, refl, arith}
 use Rattle.std.specs.List.{filter, range_with_len}
 use Rattle.std.proofs.lemmas.List.{map-id, append-nil, length_push}
 use Rattle.std.proofs.lemmas.List.FromFn.{filter_of_map_range_with_len_more}
-use Rattle.world_objects.specs.Layout.{Layout}
-use Rattle.world_objects.specs.Objects.{is_carried, carried_up_to}
+use Rattle.world_objects.specs.Objects.{Layout, is_carried, carried_up_to}
 
 carried_more : (o : Layout) (n : ℕ)
     → carried_up_to o (n + 1) ≡ carried_up_to o n ++ cond (is_carried o (n + 1)) ((n + 1) ∷ []) []

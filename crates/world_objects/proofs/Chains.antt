@@ -10,8 +10,8 @@ use Rattle.world_objects.specs.declared.object.Half.{Half}
 use Rattle.world_objects.specs.declared.object.Half.TheVariants.{First, Second}
 use Rattle.world_objects.specs.declared.lists.PlacedHalf.{PlacedHalf}
 use Rattle.world_objects.specs.declared.lists.ObjectLists.TheInside.{Inside}
-use Rattle.world_objects.specs.Halves.{object_of, half_number, half_of}
-use Rattle.world_objects.specs.Lists.{halves_at, StartsAt, Lacks, AreLists}
+use Rattle.world_objects.specs.Lists.{object_of, half_number, half_of, halves_at, StartsAt, Lacks}
+use Rattle.world_objects.specs.Lists.{AreLists}
 use Rattle.world_objects.specs.Links.{first_half, next_half, table, value_at, links_of}
 use Rattle.world_objects.specs.Links.{halves_along, entries_of_places, entries_of, AreEntriesWithin}
 use Rattle.world_objects.specs.Links.{AreLinks}

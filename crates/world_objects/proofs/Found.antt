@@ -3,10 +3,8 @@ use Rattle.std.proofs.Common.{◌≡◌, ℕ, Bool, true, false, List, [], ◌�
 use Rattle.std.proofs.Common.{refl, sym, ap, ◌∙◌}
 use Rattle.std.proofs.lemmas.Bool.{false≢true}
 use Rattle.world_objects.specs.declared.lists.PlacedHalf.{PlacedHalf}
-use Rattle.world_objects.specs.Halves.{half_number}
-use Rattle.world_objects.specs.Layout.{is_listed}
-use Rattle.world_objects.specs.Lists.{halves_at, without, Lacks, IsOnlyAt, has_half}
-use Rattle.world_objects.specs.Spots.{is_place}
+use Rattle.world_objects.specs.Lists.{half_number, halves_at, without, Lacks, IsOnlyAt, has_half}
+use Rattle.world_objects.specs.Objects.{is_listed, is_place}
 use Rattle.world_objects.proofs.Tests.{equal, unequal, itself}
 
 -- an entry that isn't the one is kept

@@ -13,10 +13,9 @@ use Rattle.world_objects.specs.declared.spot.Spot.TheVariants as spot
 use Rattle.world_objects.specs.declared.spot.Anchor.{Anchor}
 use Rattle.world_objects.specs.declared.spot.Anchor.TheVariants as anchor
 use Rattle.world_objects.specs.declared.lists.PlacedHalf.{PlacedHalf}
-use Rattle.world_objects.specs.Halves.{half_number}
-use Rattle.world_objects.specs.Layout.{Layout, is_listed, IsLaid}
-use Rattle.world_objects.specs.Lists.{halves_at, others, listed_at, AreRelisted}
-use Rattle.world_objects.specs.Spots.{place_of_spot, place_of_anchor, is_place}
+use Rattle.world_objects.specs.Lists.{half_number, halves_at, others, listed_at, AreRelisted}
+use Rattle.world_objects.specs.Objects.{Layout, is_listed, IsLaid, place_of_spot, place_of_anchor}
+use Rattle.world_objects.specs.Objects.{is_place}
 
 gone : (b : Bool) → cond b false false ≡ false
 gone true = refl

@@ -4,8 +4,7 @@ use Rattle.std.proofs.Common.{refl, sym, ap, ◌∙◌, arith}
 use Rattle.std.proofs.lemmas.Bool.Decides.{nat_tests}
 use Rattle.world_objects.specs.declared.object.Half.{Half}
 use Rattle.world_objects.specs.declared.lists.PlacedHalf.{PlacedHalf}
-use Rattle.world_objects.specs.Halves.{object_of, half_number}
-use Rattle.world_objects.specs.Lists.{without, put_first, Lacks, AreLists}
+use Rattle.world_objects.specs.Lists.{object_of, half_number, without, put_first, Lacks, AreLists}
 use Rattle.world_objects.specs.Links.{first_half, next_half}
 use Rattle.world_objects.proofs.Tests.{equal, unequal, apart, itself}
 use Rattle.world_objects.proofs.Moves.{numbered}

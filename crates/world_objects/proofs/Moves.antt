@@ -10,8 +10,8 @@ use Rattle.std.proofs.lemmas.Map.Steps.{length-le_from_distinct_below}
 use Rattle.world_objects.specs.declared.lists.PlacedHalf.{PlacedHalf}
 use Rattle.world_objects.specs.declared.object.Half.{Half}
 use Rattle.world_objects.specs.declared.object.Half.TheVariants.{First, Second}
-use Rattle.world_objects.specs.Halves.{object_of, half_number}
-use Rattle.world_objects.specs.Lists.{without, put_first, Lacks, StartsAt, IsEntry, AreLists}
+use Rattle.world_objects.specs.Lists.{object_of, half_number, without, put_first, Lacks, StartsAt}
+use Rattle.world_objects.specs.Lists.{IsEntry, AreLists}
 
 -- what holds of both choices holds of the chosen one
 pub either : (P : List PlacedHalf → Type 0) (b : Bool) (x y : List PlacedHalf) → (b ≡ true → P x)

@@ -4,9 +4,8 @@ use Rattle.std.proofs.Common.{filter, nat_lt, eqb, Option, Some, None, refl, ap,
 use Rattle.std.proofs.lemmas.Bool.Decides.{nat_tests}
 use Rattle.world_objects.specs.declared.object.Half.{Half}
 use Rattle.world_objects.specs.declared.lists.PlacedHalf.{PlacedHalf}
-use Rattle.world_objects.specs.Halves.{half_number}
-use Rattle.world_objects.specs.Lists.{halves_at, without, put_first, after_relist, others}
-use Rattle.world_objects.specs.Lists.{listed_at}
+use Rattle.world_objects.specs.Lists.{half_number, halves_at, without, put_first, after_relist}
+use Rattle.world_objects.specs.Lists.{others, listed_at}
 
 one_more : (n q : ℕ) (e : PlacedHalf) (es kept : List PlacedHalf) (a b : Bool) → eqb e.place q ≡ a
     → not (eqb (half_number e.half) n) ≡ b

@@ -9,8 +9,8 @@ use Rattle.std.proofs.lemmas.Bool.Decides.{Decides-and, Decides-at, Decides-like
 use Rattle.world_objects.specs.declared.object.Half.{Half}
 use Rattle.world_objects.specs.declared.lists.PlacedHalf.{PlacedHalf}
 use Rattle.world_objects.specs.declared.lists.ObjectLists.TheInside.{Inside}
-use Rattle.world_objects.specs.Halves.{object_of, half_number}
-use Rattle.world_objects.specs.Lists.{halves_at, without, put_first, AreLists, IsNew}
+use Rattle.world_objects.specs.Lists.{object_of, half_number, halves_at, without, put_first}
+use Rattle.world_objects.specs.Lists.{AreLists, IsNew}
 use Rattle.world_objects.specs.Links.{first_half, next_half, value_at, links_of, entries_of}
 use Rattle.world_objects.specs.Links.{AreEntriesWithin, AreLinks}
 use Rattle.world_objects.proofs.Tests.{equal, unequal, itself}

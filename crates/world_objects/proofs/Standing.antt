@@ -4,8 +4,7 @@ use Rattle.std.specs.List.{All}
 use Rattle.std.proofs.lemmas.List.Elements.{All-nil, All-cons, All-filter, All-map}
 use Rattle.world_objects.specs.declared.object.Half.{Half}
 use Rattle.world_objects.specs.declared.lists.PlacedHalf.{PlacedHalf}
-use Rattle.world_objects.specs.Halves.{object_of}
-use Rattle.world_objects.specs.Lists.{halves_at, AreLists}
+use Rattle.world_objects.specs.Lists.{object_of, halves_at, AreLists}
 use Rattle.world_objects.specs.SameLists.{no_halves}
 
 abbrev IsOfObject : Half → Type 0

@@ -5,9 +5,8 @@ use Rattle.std.proofs.Common.{arith}
 use Rattle.world_objects.specs.declared.object.Half.{Half}
 use Rattle.world_objects.specs.declared.object.Half.TheVariants.{First, Second}
 use Rattle.world_objects.specs.declared.lists.PlacedHalf.{PlacedHalf}
-use Rattle.world_objects.specs.Halves.{object_of, half_number, half_of}
-use Rattle.world_objects.specs.Layout.{is_listed}
-use Rattle.world_objects.specs.Lists.{halves_at, AreLists}
+use Rattle.world_objects.specs.Lists.{object_of, half_number, half_of, halves_at, AreLists}
+use Rattle.world_objects.specs.Objects.{is_listed}
 use Rattle.world_objects.specs.Links.{first_half, next_half, halves_along, AreEntriesWithin}
 use Rattle.world_objects.proofs.Tests.{unequal}
 use Rattle.world_objects.proofs.Moves.{numbered}

@@ -6,8 +6,7 @@ use Rattle.std.specs.List.{range_with_len}
 use Rattle.world_objects.specs.declared.object.Half.{Half}
 use Rattle.world_objects.specs.declared.lists.PlacedHalf.{PlacedHalf}
 use Rattle.world_objects.specs.declared.lists.ObjectLists.TheInside.{Inside}
-use Rattle.world_objects.specs.Halves.{object_of, half_number, half_of, last_half}
-use Rattle.world_objects.specs.Lists.{AreLists}
+use Rattle.world_objects.specs.Lists.{object_of, half_number, half_of, last_half, AreLists}
 use Rattle.data_numbers.specs.Numbers.{LAST_PLACE, LAST_OBJECT}
 
 -- the number of the first half at a place

@@ -1,9 +1,30 @@
--- For each place the list of the halves that are there, latest first.
+-- The halves of objects, and for each place the list of those that are there, latest first.
 use Rattle.std.specs.Prelude.{◌≡◌, ℕ, ◌<◌, ◌≤◌, ◌==◌, Bool, not, nat_lt, if◌then◌else◌, List, []}
-use Rattle.std.specs.Prelude.{◌∷◌, map, filter, Option, Some, None}
+use Rattle.std.specs.Prelude.{◌∷◌, map, filter, Option, Some, None, ◌+◌, ◌-◌}
 use Rattle.world_objects.specs.declared.object.Half.{Half}
 use Rattle.world_objects.specs.declared.lists.PlacedHalf.{PlacedHalf}
-use Rattle.world_objects.specs.Halves.{object_of, half_number, last_half}
+use Rattle.world_objects.specs.declared.object.Half.TheVariants.{First, Second}
+use Rattle.data_numbers.specs.Numbers.{LAST_OBJECT}
+
+-- the last number of a half: two for each object
+abbrev pub last_half : ℕ
+last_half = 200
+
+-- the object that a half belongs to
+abbrev pub object_of : Half → ℕ
+object_of (First x) = x
+object_of (Second x) = x
+
+-- first halves have the numbers of their objects, second ones come after them
+abbrev pub half_number : Half → ℕ
+half_number (First x) = x
+half_number (Second x) = LAST_OBJECT + x
+
+abbrev pub half_of : ℕ → Half
+half_of number = if nat_lt LAST_OBJECT number then Second (number - LAST_OBJECT) else First number
+
+abbrev pub no_half : Half
+no_half = First 0
 
 -- the entries are in the order of their places, and those of one place are its list
 abbrev pub halves_at : ℕ → List PlacedHalf → List Half
@@ -19,7 +40,6 @@ put_first first [] = first ∷ []
 put_first first (e ∷ es) = if nat_lt e.place first.place then e ∷ put_first first es
     else first ∷ e ∷ es
 
--- a half at the front of the list of the place, or in no list
 abbrev pub with_half : Half → Option ℕ → List PlacedHalf → List PlacedHalf
 with_half half None lists = lists
 with_half half (Some place) lists = put_first (record { place = place; half = half }) lists
@@ -29,7 +49,6 @@ with_half half (Some place) lists = put_first (record { place = place; half = ha
 unfoldable pub after_relist : Half → Option ℕ → List PlacedHalf → List PlacedHalf
 after_relist half place lists = with_half half place (without (half_number half) lists)
 
--- the halves of a list except that of a number
 unfoldable pub others : ℕ → List Half → List Half
 others number halves = filter (λ h. not (half_number h == number)) halves
 
@@ -45,7 +64,6 @@ abbrev pub AreRelisted : List PlacedHalf → List PlacedHalf → Half → Option
 AreRelisted old new half place = (q : ℕ)
     → halves_at q new ≡ listed_at q half place (halves_at q old)
 
--- no entry has a half of this number
 abbrev pub Lacks : ℕ → List PlacedHalf → Type 0
 Lacks number [] = Unit {0}
 Lacks number (e ∷ es) = (half_number e.half ≡ number → ⊥) × Lacks number es
@@ -55,7 +73,6 @@ abbrev pub StartsAt : ℕ → List PlacedHalf → Type 0
 StartsAt place [] = Unit {0}
 StartsAt place (e ∷ es) = (place ≤ e.place) × StartsAt place es
 
--- an entry has a half of an object, and a place where it can be
 abbrev pub IsEntry : PlacedHalf → Type 0
 IsEntry e = (0 < object_of e.half) × (0 < e.place)
 
@@ -73,11 +90,9 @@ IsOnlyAt number from [] = Unit {0}
 IsOnlyAt number from (e ∷ es) = (half_number e.half ≡ number → from ≡ Some e.place)
     × IsOnlyAt number from es
 
--- a half of an object, which is nowhere
 abbrev pub IsNew : Half → List PlacedHalf → Type 0
 IsNew half es =
     (0 < object_of half) × ((half_number half ≤ last_half) × Lacks (half_number half) es)
 
--- the entry has the half of a number
 abbrev pub has_half : ℕ → PlacedHalf → Bool
 has_half number e = half_number e.half == number

@@ -1,18 +1,80 @@
--- What holds of objects, and what is done to them. Object 0 is no object: no test of it holds, and
--- nothing is done to it.
+-- Where objects are, what holds of them, and what is done to them. Object 0 is no object: no test
+-- of it holds, and nothing is done to it.
 use Rattle.std.specs.Prelude.{ℕ, ℤ, pos, ◌-◌, Bool, not, ◌==◌, ◌&&◌, ◌||◌, if◌then◌else◌, List, []}
-use Rattle.std.specs.Prelude.{filter, slice_index_or, slice_set, replicate}
-use Rattle.std.specs.List.{range_with_len}
+use Rattle.std.specs.Prelude.{filter, slice_index_or, slice_set, replicate, true, false, Option}
+use Rattle.std.specs.Prelude.{Some, None, ◌≡◌, ◌+◌, ◌<◌, length}
+use Rattle.std.specs.List.{range_with_len, list_any}
 use Rattle.world_objects.specs.declared.object.Half.TheVariants.{First, Second}
 use Rattle.world_objects.specs.declared.spot.Spot.{Spot}
 use Rattle.world_objects.specs.declared.spot.Spot.TheVariants as spot
 use Rattle.world_objects.specs.declared.spot.Anchor.{Anchor}
 use Rattle.world_objects.specs.declared.spot.Anchor.TheVariants as anchor
-use Rattle.world_objects.specs.Layout.{Layout}
-use Rattle.world_objects.specs.Lists.{after_relist}
-use Rattle.world_objects.specs.Spots.{spot_at, place_of_spot, is_carried_spot, is_away_spot}
-use Rattle.world_objects.specs.Spots.{place_of_anchor, is_place}
+use Rattle.world_objects.specs.Lists.{after_relist, halves_at, half_number}
 use Rattle.data_numbers.specs.Numbers.{LAST_OBJECT}
+use Rattle.world_objects.specs.declared.object.Half.{Half}
+use Rattle.world_objects.specs.declared.lists.PlacedHalf.{PlacedHalf}
+
+-- where something can be: at any place but 0
+abbrev pub site_at : ℕ → Option ℕ
+site_at place = if place == 0 then None else Some place
+
+-- the spot at a place; place 0 is away
+abbrev pub spot_at : ℕ → Spot
+spot_at place = if place == 0 then spot.Away else spot.At place
+
+-- the place where a first half is
+abbrev pub place_of_spot : Spot → Option ℕ
+place_of_spot spot.Away = None
+place_of_spot spot.Carried = None
+place_of_spot (spot.At place) = Some place
+
+abbrev pub is_carried_spot : Spot → Bool
+is_carried_spot spot.Away = false
+is_carried_spot spot.Carried = true
+is_carried_spot (spot.At place) = false
+
+abbrev pub is_away_spot : Spot → Bool
+is_away_spot spot.Away = true
+is_away_spot spot.Carried = false
+is_away_spot (spot.At place) = false
+
+-- the anchor of an object whose second half is at a place; at place 0 there is none
+abbrev pub anchor_at : ℕ → Anchor
+anchor_at place = if place == 0 then anchor.Loose else anchor.At place
+
+-- the place where a second half is
+abbrev pub place_of_anchor : Anchor → Option ℕ
+place_of_anchor anchor.Loose = None
+place_of_anchor anchor.Fixed = None
+place_of_anchor (anchor.At place) = Some place
+
+-- a place is the one that is given
+abbrev pub is_place : ℕ → Option ℕ → Bool
+is_place place None = false
+is_place place (Some p) = p == place
+
+-- object 1 is at index 0 of the first three lists
+pub record Layout : Type 0 where
+  pub first : List Spot
+  pub second : List Anchor
+  pub props : List ℤ
+  pub lists : List PlacedHalf
+
+-- the half of a number is in a list
+unfoldable pub is_listed : ℕ → List Half → Bool
+is_listed number halves = list_any (λ h. half_number h == number) halves
+
+-- the lists and the objects agree: a half is in the list of a place exactly where its object says
+-- so
+pub record IsLaid (l : Layout) : Type 0 where
+  pub firsts : (x q : ℕ) → x < LAST_OBJECT
+      → is_listed (1 + x) (halves_at q l.lists)
+      ≡ is_place q (place_of_spot (slice_index_or l.first x spot.Away))
+  pub seconds : (x q : ℕ) → x < LAST_OBJECT
+      → is_listed (101 + x) (halves_at q l.lists)
+      ≡ is_place q (place_of_anchor (slice_index_or l.second x anchor.Loose))
+  pub all_first : length l.first ≡ LAST_OBJECT
+  pub all_second : length l.second ≡ LAST_OBJECT
 
 -- where the first half of an object is
 unfoldable pub spot_of : Layout → ℕ → Spot
@@ -48,7 +110,6 @@ is_at_hand o place x = is_carried o x || is_first_at o place x
 unfoldable pub carried_up_to : Layout → ℕ → List ℕ
 carried_up_to o n = filter (is_carried o) (range_with_len 1 n)
 
--- the objects that are carried, ascending
 abbrev pub carried_objects : Layout → List ℕ
 carried_objects o = carried_up_to o LAST_OBJECT
 

@@ -19,7 +19,6 @@ begins_at : (e : PlacedHalf) (es : List PlacedHalf) (q : ℕ) → q ≡ e.place
     → halves_at q (e ∷ es) ≡ e.half ∷ halves_at q es
 begins_at e es q h = let here : eqb e.place q ≡ true = grind (arith, nat_tests) in rw here refl
 
--- nothing is there before the first place of the other lists
 not_before : (e f : PlacedHalf) (es fs : List PlacedHalf) → StartsAt f.place fs
     → halves_at e.place (e ∷ es) ≡ halves_at e.place (f ∷ fs) → e.place < f.place → ⊥
 not_before e f es fs s h before =

@@ -1,11 +1,10 @@
 ghost use Rattle.std.specs.Prelude.{◌≡◌, ◌≢◌, ℕ, ◌-◌, ◌≤◌, ◌<◌, ◌==◌, ◌↔◌, [], length, false, All};
 ghost use Rattle.std.specs.Prelude.{Some, MatchOption, IsTrue, slice_index, slice_set};
-ghost use Rattle.world_objects.specs.Layout.{is_listed};
+ghost use Rattle.world_objects.specs.Objects.{is_listed, is_place};
 ghost use Rattle.world_objects.specs.Links.{first_half, next_half, AreEntriesWithin};
 ghost use Rattle.world_objects.specs.Lists.{after_relist, AreRelisted, halves_at, without};
 ghost use Rattle.world_objects.specs.Lists.{put_first, with_half, AreLists, IsOnlyAt, IsNew};
-ghost use Rattle.world_objects.specs.Spots.{is_place};
-ghost use Rattle.world_objects.specs.Halves.{object_of, half_number, last_half};
+ghost use Rattle.world_objects.specs.Lists.{object_of, half_number, last_half};
 
 use crate::object::{Half, OBJECTS};
 use crate::place::{PLACES, Place};

@@ -1,5 +1,5 @@
 ghost use Rattle.std.specs.Prelude.{◌≡◌, ◌≤◌, ◌==◌};
-ghost use Rattle.world_objects.specs.Halves.{object_of, half_number, half_of, last_half};
+ghost use Rattle.world_objects.specs.Lists.{object_of, half_number, half_of, last_half};
 ghost use Rattle.data_numbers.specs.Numbers as defined;
 
 use data_numbers::LAST_OBJECT;
@@ -78,7 +78,7 @@ pub enum Half {
 }
 
 impl Default for Half {
-    ghost use Rattle.world_objects.specs.Halves.{no_half};
+    ghost use Rattle.world_objects.specs.Lists.{no_half};
 
     ghost is_default = { λ h. h ≡ no_half };
 

@@ -4,11 +4,10 @@ ghost use Rattle.world_objects.specs.Objects.{spot_of, anchor_of, prop_of, carri
 ghost use Rattle.world_objects.specs.Objects.{unplaced_objects, is_carried, is_gone, is_first_at};
 ghost use Rattle.world_objects.specs.Objects.{is_object_at, is_at_hand, with_spot, with_anchor};
 ghost use Rattle.world_objects.specs.Objects.{with_prop, after_move_to, after_carry, after_juggle};
-ghost use Rattle.world_objects.specs.Spots.{place_of_spot, place_of_anchor, spot_at, is_place};
-ghost use Rattle.world_objects.specs.Lists.{halves_at, AreLists, AreRelisted};
-ghost use Rattle.world_objects.specs.Layout.{is_listed};
+ghost use Rattle.world_objects.specs.Objects.{place_of_spot, place_of_anchor, spot_at, is_place};
+ghost use Rattle.world_objects.specs.Objects.{is_listed};
+ghost use Rattle.world_objects.specs.Lists.{halves_at, AreLists, AreRelisted, object_of};
 ghost use Rattle.world_objects.specs.Links.{AreEntriesWithin};
-ghost use Rattle.world_objects.specs.Halves.{object_of};
 ghost use Rattle.data_numbers.specs.Numbers.{LAST_OBJECT};
 
 use crate::lists::{HALVES, ObjectLists};
@@ -31,11 +30,9 @@ pub struct Objects {
 }
 
 impl Model for Objects {
-    ghost use Rattle.world_objects.specs.Layout.{Layout};
+    ghost use Rattle.world_objects.specs.Objects.{Layout, IsLaid};
 
     ghost Value = { Layout };
-
-    ghost use Rattle.world_objects.specs.Layout.{IsLaid};
 
     ghost view = { λ o. record {
       first = o.first;

@@ -1,5 +1,5 @@
 ghost use Rattle.std.specs.Prelude.{◌≡◌, ◌<◌};
-ghost use Rattle.world_objects.specs.Spots.{site_at};
+ghost use Rattle.world_objects.specs.Objects.{site_at};
 
 use crate::place::Place;
 use std::marker::Model;

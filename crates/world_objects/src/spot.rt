@@ -1,6 +1,6 @@
 ghost use Rattle.std.specs.Prelude.{◌≡◌, ◌≢◌, Some};
-ghost use Rattle.world_objects.specs.Spots.{place_of_spot, is_carried_spot, is_away_spot, spot_at};
-ghost use Rattle.world_objects.specs.Spots.{place_of_anchor, anchor_at};
+ghost use Rattle.world_objects.specs.Objects.{place_of_spot, is_carried_spot, is_away_spot};
+ghost use Rattle.world_objects.specs.Objects.{spot_at, place_of_anchor, anchor_at};
 
 use crate::place::Place;
 use crate::site::Site;

@@ -20,7 +20,6 @@ places_of_block = 30
 abbrev pub unvisited_block : List ℕ
 unvisited_block = replicate places_of_block 0
 
--- the state of which these are the fields
 abbrev pub state_of_fields : Fields → State
 state_of_fields fields = record {
   trail = fields.trail;

@@ -50,7 +50,6 @@ impl Model for PackedState {
     ghost invariant = { λ p. length p.fields.value.visits.items ≤ LAST_PLACE };
 }
 
-/// Whether objects are the same.
 fn are_same(objects: &Objects, others: &Objects) -> bool
     ensures { IsTrue result ↔ (objects.now ≡ others.now) }
 {

@@ -1,7 +1,7 @@
 ghost use Rattle.std.specs.Prelude.{◌≡◌, ℕ, ◌+◌, ◌-◌, ◌<◌, ◌≤◌, ◌^◌, ◌++◌, length, take, drop};
 ghost use Rattle.std.specs.Prelude.{slice_index};
 ghost use Rattle.replay_marks.specs.Marks.{IsBegunAt, next_place, places_met, states_met};
-ghost use Rattle.replay_marks.specs.Thinning.{IsThinned, IsRest, after_shift};
+ghost use Rattle.replay_marks.specs.Marks.{IsThinned, IsRest, after_shift};
 
 use super::Checkpoints;
 use crate::kept_state::KeptState;

@@ -1,7 +1,6 @@
 use Rattle.std.proofs.Common.{◌≡◌, Some, length, sym, subst, ap, ◌∙◌}
 use Rattle.world_packed.specs.replay_marks.Spacing.{IsSpaced}
-use Rattle.cave_replay.specs.replay_edits.Edit.{changes_of, apply_all}
-use Rattle.cave_replay.specs.replay_edits.Game.{Game}
+use Rattle.cave_replay.specs.replay_edits.Edit.{changes_of, apply_all, Game}
 use Rattle.cave_replay.specs.replay_edits.declared.fault.EditFault.TheVariants as cause
 use Rattle.replay_scripts.specs.Views.{applied_item}
 use Rattle.data_bindings.specs.cave_data.CaveView.{CaveView}

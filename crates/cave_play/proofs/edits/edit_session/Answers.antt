@@ -1,7 +1,7 @@
 use Rattle.std.proofs.Common.{[], ◌∷◌, ◌++◌, subst, ap, ◌∙◌}
 use Rattle.std.proofs.lemmas.Result.{err_from_is_err_and}
 use Rattle.data_bindings.specs.cave_data.CaveView.{CaveView}
-use Rattle.cave_replay.specs.replay_edits.Game.{Game}
+use Rattle.cave_replay.specs.replay_edits.Edit.{Game}
 use Rattle.replay_scripts.specs.Views.{items_of}
 use Rattle.cave_play.specs.Edits.{ReadsBack, text_at_end, text_of_item}
 use Rattle.cave_play.specs.Stages.{script_stage, strict_stage}

@@ -1,7 +1,7 @@
 use Rattle.std.proofs.Common.{◌++◌, ap, sym, ◌∙◌}
 use Rattle.std.proofs.lemmas.Result.{on_ok_weaker}
 use Rattle.cave_play.proofs.FinalStateLemmas.{begun_objects, final_state-shown}
-use Rattle.cave_play.specs.FinalState.{final_state_text}
+use Rattle.cave_play.specs.Output.{final_state_text}
 use Rattle.cave_play.specs.Transcript.{ticks}
 use Rattle.cave_turn.specs.turn_score.Score.{score_of}
 use Rattle.cave_play.proofs.final_state.push_final_state.Goals as goal

@@ -2,7 +2,7 @@ use Rattle.std.proofs.Common.{subst, sym}
 use Rattle.std.proofs.lemmas.Result.{err_from_is_err_and}
 use Rattle.std.proofs.KnownBytes.{Keeps-refl}
 use Rattle.cave_play.specs.Output.{IsChecked}
-use Rattle.cave_play.specs.Stage.{IsFoundIn}
+use Rattle.cave_play.specs.Run.{IsFoundIn}
 use Rattle.cave_play.specs.Stages.{cave_stages}
 use Rattle.cave_play.proofs.InputLemmas.{Says-some}
 use Rattle.cave_play.proofs.RunLemmas.{EndsBy-unwritten, Runs-written, unwritten_by_check}

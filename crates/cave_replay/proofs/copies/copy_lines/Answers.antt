@@ -1,7 +1,7 @@
 use Rattle.std.proofs.Common.{◌∷◌, [], ap, ◌∙◌, sym, ℕ, List}
 use Rattle.std.proofs.lemmas.List.{map-append}
 use Rattle.replay_edits.specs.LineText.{LineText}
-use Rattle.replay_edits.specs.Game.{log_of}
+use Rattle.replay_edits.specs.Edit.{log_of}
 use Rattle.replay_edits.proofs.Lines.{take-log_of_more}
 use Rattle.cave_replay.proofs.copies.copy_lines.Goals as goal
 

@@ -1,5 +1,5 @@
 use Rattle.std.proofs.Common.{◌≡◌, take}
-use Rattle.replay_edits.specs.Game.{log_of}
+use Rattle.replay_edits.specs.Edit.{log_of}
 use Rattle.cave_replay.proofs.copies.copy_lines.Given as goal
 
 abbrev pub invariant-loop-line : goal.invariant-loop-line

@@ -1,6 +1,6 @@
 use Rattle.std.proofs.Common.{◌≡◌, ◌+◌, ◌≤◌, ◌++◌, IfOk, length}
 use Rattle.std.specs.Str.Lines.{lines}
-use Rattle.replay_edits.specs.Game.{log_of}
+use Rattle.replay_edits.specs.Edit.{log_of}
 use Rattle.cave_replay.specs.Opening.{first_bad_line}
 use Rattle.cave_replay.proofs.log.copy_lines.Given as goal
 

@@ -1,7 +1,7 @@
 -- What was written, with the lines that are left, is the whole.
 use Rattle.std.proofs.Common.{◌≡◌, ◌++◌, drop}
 use Rattle.cave_replay.specs.LogText.{log_text}
-use Rattle.replay_edits.specs.Game.{log_of}
+use Rattle.replay_edits.specs.Edit.{log_of}
 use Rattle.cave_replay.proofs.log.push_lines.Given as goal
 
 abbrev pub invariant-loop-line : goal.invariant-loop-line

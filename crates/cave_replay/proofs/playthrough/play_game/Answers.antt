@@ -1,6 +1,5 @@
 use Rattle.std.proofs.Common.{◌≡◌, ◌+◌, ◌<◌, length, ap, ◌∙◌, sym, refl, arith}
-use Rattle.replay_edits.specs.Game.{log_of, game_of}
-use Rattle.replay_edits.specs.Edit.{line_at}
+use Rattle.replay_edits.specs.Edit.{log_of, game_of, line_at}
 use Rattle.cave_replay.specs.Agreement.{state_at}
 use Rattle.replay_edits.proofs.Lines.{length-log_of, line_at-log_of, is_line-read}
 use Rattle.cave_replay.proofs.Shifts.{state_at-more, texts_at-more, ticks_at-more}

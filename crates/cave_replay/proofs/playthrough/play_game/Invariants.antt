@@ -1,6 +1,6 @@
 use Rattle.std.proofs.Common.{◌≡◌, ◌+◌, map, length}
 use Rattle.std.specs.Prelude.{slice_index}
-use Rattle.replay_edits.specs.Game.{log_of, game_of}
+use Rattle.replay_edits.specs.Edit.{log_of, game_of}
 use Rattle.cave_replay.specs.Agreement.{state_at}
 use Rattle.cave_replay.specs.Replay.{texts_at, ticks_at, IsMarking}
 use Rattle.cave_replay.proofs.playthrough.play_game.Given as goal

@@ -4,10 +4,8 @@ use Rattle.replay_edits.specs.declared.fault.GroupFault.{GroupFault}
 use Rattle.replay_edits.specs.declared.margins.Margins.{Margins}
 use Rattle.replay_edits.specs.declared.plan.Plan.{Plan}
 use Rattle.cave_replay.specs.declared.ready_edits.ReadyEdits.{ReadyEdits}
-use Rattle.replay_edits.specs.Game.{log_of, game_of, IsGame}
-use Rattle.replay_edits.specs.Edit.{Change, changes_of, seed_after_all}
-use Rattle.replay_edits.specs.Faults.{group_fault, log_after_all}
-use Rattle.replay_edits.specs.Plan.{IsPlan}
+use Rattle.replay_edits.specs.Edit.{log_of, game_of, IsGame, Change, changes_of, seed_after_all}
+use Rattle.replay_edits.specs.Faults.{group_fault, log_after_all, IsPlan}
 use Rattle.cave_replay.specs.ReadyEdits.{AreEditsOf, IsReady}
 use Rattle.replay_edits.proofs.Inverses.{IsFree-from_none, game-apply_all, group_free, group_some}
 use Rattle.replay_edits.proofs.Lines.{length-log_of}

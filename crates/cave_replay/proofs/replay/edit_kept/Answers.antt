@@ -4,8 +4,7 @@ use Rattle.std.proofs.lemmas.List.{length-map}
 use Rattle.replay_edits.specs.LineText.{LineText}
 use Rattle.cave_replay.specs.declared.playthrough.Playthrough.{Playthrough}
 use Rattle.cave_replay.specs.declared.ready_edits.ReadyEdits.{ReadyEdits}
-use Rattle.replay_edits.specs.Game.{Game}
-use Rattle.replay_edits.specs.Edit.{Change, changes_of, apply_all, inverses_of}
+use Rattle.replay_edits.specs.Edit.{Game, Change, changes_of, apply_all, inverses_of}
 use Rattle.replay_edits.specs.Faults.{log_after_all}
 use Rattle.cave_replay.specs.Playthrough.{kept_game, KeepsAll}
 use Rattle.cave_replay.specs.ReadyEdits.{AreEditsOf}

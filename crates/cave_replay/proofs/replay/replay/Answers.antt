@@ -1,8 +1,6 @@
 use Rattle.std.proofs.Common.{◌≡◌, ℕ, ◌-◌, ◌^◌, ◌<◌, ◌≤◌, List, length, ◌∙◌, refl, arith}
 use Rattle.std.specs.Prelude.{slice_index}
-use Rattle.replay_edits.specs.Edit.{changes_of}
-use Rattle.replay_edits.specs.Margins.{margins_of}
-use Rattle.replay_edits.specs.Game.{log_of}
+use Rattle.replay_edits.specs.Edit.{changes_of, margins_of, log_of}
 use Rattle.cave_replay.specs.Replay.{states_of_new}
 use Rattle.cave_replay.proofs.Bounds.{near_last}
 use Rattle.cave_replay.proofs.Joins.{prefix_are}

@@ -1,7 +1,6 @@
 use Rattle.std.proofs.Common.{◌≡◌, ◌+◌, ◌<◌, length, ap, ◌∙◌, refl, arith}
 use Rattle.std.proofs.lemmas.List.{append-nil}
-use Rattle.replay_edits.specs.Edit.{line_at}
-use Rattle.replay_edits.specs.Game.{log_of}
+use Rattle.replay_edits.specs.Edit.{line_at, log_of}
 use Rattle.cave_replay.specs.ReadyEdits.{ready_revision, new_game}
 use Rattle.cave_replay.specs.Replay.{states_of_new}
 use Rattle.cave_replay.proofs.Bounds.{bounded_to, underway_none}

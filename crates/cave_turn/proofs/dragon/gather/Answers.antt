@@ -1,5 +1,5 @@
 use Rattle.std.proofs.Common.{rules, arith, ap, ◌∙◌}
-use Rattle.turn_begin.specs.turn_scene.Rules.{cave_of}
+use Rattle.turn_begin.specs.turn_scene.Scene.{cave_of}
 use Rattle.cave_turn.specs.Dragon.{after_gathering}
 use Rattle.cave_turn.proofs.dragon.gather.Goals as goal
 

@@ -1,6 +1,6 @@
 -- The objects so far are gathered.
 use Rattle.std.proofs.Common.{◌≡◌}
-use Rattle.turn_begin.specs.turn_scene.Rules.{cave_of}
+use Rattle.turn_begin.specs.turn_scene.Scene.{cave_of}
 use Rattle.cave_turn.specs.Dragon.{after_gathering}
 use Rattle.cave_turn.proofs.dragon.gather.Given as goal
 

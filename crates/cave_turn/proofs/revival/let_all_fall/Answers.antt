@@ -1,5 +1,5 @@
 use Rattle.std.proofs.Common.{rules, ◌≡◌, ◌+◌, ◌-◌, ap, sym, ◌∙◌, arith}
-use Rattle.turn_begin.specs.turn_scene.Rules.{cave_of}
+use Rattle.turn_begin.specs.turn_scene.Scene.{cave_of}
 use Rattle.cave_turn.specs.Revival.{layout_after_fall, layout_after_falls}
 use Rattle.cave_turn.proofs.Steps.{falling-one, fallen-none}
 use Rattle.cave_turn.proofs.revival.let_all_fall.Goals as goal

@@ -1,6 +1,6 @@
 -- Letting the rest fall from here is letting all fall.
 use Rattle.std.proofs.Common.{◌≡◌, ◌-◌}
-use Rattle.turn_begin.specs.turn_scene.Rules.{cave_of}
+use Rattle.turn_begin.specs.turn_scene.Scene.{cave_of}
 use Rattle.cave_turn.specs.Revival.{layout_after_falls}
 use Rattle.cave_turn.proofs.revival.let_all_fall.Given as goal
 

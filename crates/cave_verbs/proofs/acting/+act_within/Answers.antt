@@ -1,8 +1,7 @@
 use Rattle.std.proofs.Common.{◌≡◌, ℕ, ◌<◌, ◌≤◌, ◌-◌, suc, zero, arith, sym, ◌∙◌, ap, subst}
-use Rattle.verb_commands.specs.turn_scene.Scene.{scene_of}
-use Rattle.verb_commands.specs.turn_scene.Rules.{cave_of}
+use Rattle.verb_commands.specs.turn_scene.Scene.{scene_of, cave_of}
 use Rattle.cave_verbs.specs.Acting.{act_within, act_once}
-use Rattle.verb_commands.specs.Deeds.{Deed, Act, deed, act_of, going_on}
+use Rattle.verb_commands.specs.Rows.{Deed, Act, deed, act_of, going_on}
 use Rattle.verb_commands.specs.declared.next.Step.TheVariants.{Done, GoOn}
 use Rattle.verb_commands.specs.declared.verb.Verb.{Verb}
 use Rattle.cave_verbs.proofs.acting.+act_within.Goals as goal

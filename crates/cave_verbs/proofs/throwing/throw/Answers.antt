@@ -2,7 +2,7 @@
 use Rattle.std.proofs.Common.{◌≡◌, ℕ, ◌≤◌, suc, true, arith, rules}
 use Rattle.verb_commands.specs.cave_data.CaveView.{CaveView}
 use Rattle.verb_commands.specs.cave_words.declared.named.Named.TheVariants as name
-use Rattle.verb_commands.specs.turn_scene.Rules.{cave_of, thing, is_called}
+use Rattle.verb_commands.specs.turn_scene.Scene.{cave_of, thing, is_called}
 use Rattle.cave_verbs.specs.Ranks.{throw_rank}
 use Rattle.cave_verbs.proofs.Falls.{second-rod}
 use Rattle.cave_verbs.proofs.throwing.throw.Goals as goal

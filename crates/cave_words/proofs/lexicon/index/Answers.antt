@@ -2,10 +2,9 @@ use Rattle.std.proofs.Common.{◌≡◌, length, take, refl, ap, ◌∙◌, arit
 use Rattle.std.proofs.Math.Seq.{take-length}
 use Rattle.cave_data.specs.data_rows.RowViews.{word_entry}
 use Rattle.cave_words.proofs.Indexes.{index_more}
-use Rattle.cave_words.specs.Index.{meanings_in}
-use Rattle.cave_words.specs.Meaning.{meaning_of}
-use Rattle.cave_words.specs.Meanings.{meanings_of, with_meaning}
-use Rattle.cave_words.specs.Word.{word_of}
+use Rattle.cave_words.specs.Lexicon.{meanings_in}
+use Rattle.cave_words.specs.Meanings.{meaning_of, meanings_of, with_meaning}
+use Rattle.cave_words.specs.Words.{word_of}
 use Rattle.cave_words.proofs.lexicon.index.Goals as goal
 
 pub loop-i-init : goal.loop-i-init

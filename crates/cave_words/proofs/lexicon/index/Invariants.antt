@@ -1,5 +1,5 @@
 use Rattle.std.proofs.Common.{◌≡◌, ℕ, List, take}
-use Rattle.cave_words.specs.Index.{meanings_in}
+use Rattle.cave_words.specs.Lexicon.{meanings_in}
 use Rattle.cave_words.specs.Meanings.{meanings_of}
 use Rattle.cave_words.proofs.lexicon.index.Given as goal
 

@@ -1,8 +1,8 @@
 use Rattle.std.proofs.Common.{◌≡◌, length, map, take}
 use Rattle.cave_data.specs.CaveView.{CaveView}
-use Rattle.cave_words.specs.Index.{IsIndexOf}
+use Rattle.cave_words.specs.Lexicon.{IsIndexOf}
 use Rattle.cave_words.specs.Named.{object_named}
-use Rattle.cave_words.specs.Word.{NAME_LETTERS}
+use Rattle.cave_words.specs.Words.{NAME_LETTERS}
 use Rattle.cave_words.specs.declared.named.TheConstants.{EACH_NAME}
 use Rattle.cave_words.proofs.lexicon.objects_of_names.Given as goal
 

@@ -1,6 +1,6 @@
 use Rattle.std.proofs.Common.{◌≡◌, ◌++◌, take}
 use Rattle.std.specs.List.{flat_map}
-use Rattle.play_cover.specs.Marks.{is_marked}
+use Rattle.play_cover.specs.Texts.{is_marked}
 use Rattle.play_cover.specs.Missing.{missing_lines}
 use Rattle.play_cover.proofs.missing.push_kinds.Given as goal
 

@@ -1,6 +1,6 @@
 use Rattle.std.proofs.Common.{◌≡◌, ◌++◌, take}
 use Rattle.std.specs.List.{flat_map}
-use Rattle.play_cover.specs.Marks.{is_marked}
+use Rattle.play_cover.specs.Texts.{is_marked}
 use Rattle.play_cover.specs.Report.{line}
 use Rattle.play_cover.proofs.report.push_lines.Given as goal
 

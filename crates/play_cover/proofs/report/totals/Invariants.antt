@@ -1,9 +1,8 @@
 use Rattle.std.proofs.Common.{◌≡◌, ◌≤◌, ◌*◌, length, take}
 use Rattle.std.specs.List.{sum_by}
-use Rattle.play_cover.specs.Marks.{is_marked}
+use Rattle.play_cover.specs.Texts.{is_marked, end_of_numbers}
 use Rattle.play_cover.specs.Report.{present, numbers_said}
 use Rattle.play_cover.proofs.report.totals.Given as goal
-use Rattle.play_cover.specs.Texts.{end_of_numbers}
 
 abbrev pub invariant-loop-kind : goal.invariant-loop-kind
 invariant-loop-kind l =

@@ -1,5 +1,4 @@
-use Rattle.play_logs.specs.Faults.{first_stages}
-use Rattle.play_logs.specs.Noted.{IsReported}
+use Rattle.play_logs.specs.Faults.{first_stages, IsReported}
 use Rattle.play_cover.specs.Plays.{IsCovered, report_on_games}
 use Rattle.play_logs.proofs.FaultLemmas.{RunsLogs-also}
 use Rattle.play_cover.proofs.Telling.{covered-reported}

@@ -1,7 +1,6 @@
 use Rattle.std.proofs.Common.{take}
 use Rattle.std.specs.List.{flat_map}
-use Rattle.play_cover.specs.Marks.{Notes}
-use Rattle.play_cover.specs.Texts.{said_by_all}
+use Rattle.play_cover.specs.Texts.{Notes, said_by_all}
 use Rattle.play_cover.proofs.said.note_pieces.Given as goal
 
 abbrev pub invariant-loop-piece : goal.invariant-loop-piece

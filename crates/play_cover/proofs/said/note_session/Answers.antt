@@ -1,8 +1,7 @@
 use Rattle.std.proofs.Common.{ap, sym, subst, ◌∙◌}
 use Rattle.std.specs.List.{flat_map}
-use Rattle.play_cover.specs.Marks.{Notes}
+use Rattle.play_cover.specs.Texts.{Notes, said_by_all}
 use Rattle.play_cover.specs.Plays.{texts_said_in}
-use Rattle.play_cover.specs.Texts.{said_by_all}
 use Rattle.play_logs.specs.cave_data.CaveView.{CaveView}
 use Rattle.play_cover.proofs.PlayLemmas.{noted-played}
 use Rattle.play_cover.proofs.said.note_session.Goals as goal

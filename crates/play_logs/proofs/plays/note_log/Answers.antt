@@ -1,7 +1,7 @@
 use Rattle.std.proofs.Common.{inl, subst}
 use Rattle.std.proofs.lemmas.Result.{err_from_is_err_and}
 use Rattle.cave_play.specs.cave_data.CaveView.{CaveView}
-use Rattle.play_logs.specs.Noted.{NotesMore}
+use Rattle.play_logs.specs.Faults.{NotesMore}
 use Rattle.play_logs.proofs.plays.note_log.Goals as goal
 
 pub returns-in_err-session : goal.returns-in_err-session

@@ -5,8 +5,7 @@ use Rattle.cave_play.specs.Judge.{large_seed}
 use Rattle.cave_play.specs.Stages.{cave_stages}
 use Rattle.cave_play.proofs.InputLemmas.{Says-some}
 use Rattle.cave_play.proofs.StageLemmas.{first_decided-after}
-use Rattle.play_logs.specs.Faults.{first_stages}
-use Rattle.play_logs.specs.Noted.{IsReported}
+use Rattle.play_logs.specs.Faults.{first_stages, IsReported}
 use Rattle.play_logs.proofs.FaultLemmas.{AllSay-some, IsFoundInLogs-after}
 use Rattle.play_logs.proofs.run.run_logs.Goals as goal
 

@@ -1,7 +1,6 @@
 -- The lines so far are written.
 use Rattle.std.proofs.Common.{◌≡◌, ◌++◌}
-use Rattle.play_state_text.specs.Entries.{text_up_to}
-use Rattle.play_state_text.specs.Things.{hint_line}
+use Rattle.play_state_text.specs.Things.{text_up_to, hint_line}
 use Rattle.play_state_text.proofs.hints.push_hints.Given as goal
 
 abbrev pub invariant-loop-before : goal.invariant-loop-before

@@ -1,7 +1,6 @@
 -- The lines so far are written.
 use Rattle.std.proofs.Common.{◌≡◌, ◌++◌}
-use Rattle.play_state_text.specs.Entries.{text_up_to}
-use Rattle.play_state_text.specs.Things.{thing_line}
+use Rattle.play_state_text.specs.Things.{text_up_to, thing_line}
 use Rattle.play_state_text.proofs.objects.push_objects.Given as goal
 
 abbrev pub invariant-loop-before : goal.invariant-loop-before

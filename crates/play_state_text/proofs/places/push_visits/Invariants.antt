@@ -1,7 +1,6 @@
 -- The lines so far are written.
 use Rattle.std.proofs.Common.{◌≡◌, ◌++◌}
-use Rattle.play_state_text.specs.Entries.{text_up_to}
-use Rattle.play_state_text.specs.Things.{visits_line}
+use Rattle.play_state_text.specs.Things.{text_up_to, visits_line}
 use Rattle.play_state_text.proofs.places.push_visits.Given as goal
 
 abbrev pub invariant-loop-before : goal.invariant-loop-before

@@ -1,8 +1,7 @@
 -- Those so far are within.
 use Rattle.std.proofs.Common.{ℕ}
-use Rattle.play_state_text.specs.Numbers.{IsUpTo}
+use Rattle.play_state_text.specs.Within.{IsUpTo, IsDwarfWithin}
 use Rattle.play_state_text.specs.Things.{dwarf_numbered}
-use Rattle.play_state_text.specs.Within.{IsDwarfWithin}
 use Rattle.play_state_text.proofs.within.dwarves.Given as goal
 
 abbrev pub invariant-loop-before : goal.invariant-loop-before

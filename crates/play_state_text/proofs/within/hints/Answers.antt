@@ -1,5 +1,5 @@
 use Rattle.std.proofs.Common.{arith, refl, ◌+◌}
-use Rattle.play_state_text.specs.Numbers.{IsWide}
+use Rattle.play_state_text.specs.Within.{IsWide}
 use Rattle.cave_world.specs.State.{turns_in_area}
 use Rattle.play_state_text.proofs.WithinLemmas.{one_more}
 use Rattle.play_state_text.proofs.within.hints.Goals as goal

@@ -1,6 +1,6 @@
 -- Those so far are within.
 use Rattle.std.proofs.Common.{ℕ}
-use Rattle.play_state_text.specs.Numbers.{IsWide, IsUpTo}
+use Rattle.play_state_text.specs.Within.{IsWide, IsUpTo}
 use Rattle.cave_world.specs.State.{turns_in_area}
 use Rattle.play_state_text.proofs.within.hints.Given as goal
 

@@ -1,6 +1,6 @@
 use Rattle.std.proofs.Common.{arith}
 use Rattle.cave_world.specs.State.{visits_of}
-use Rattle.play_state_text.specs.Numbers.{IsWide}
+use Rattle.play_state_text.specs.Within.{IsWide}
 use Rattle.play_state_text.proofs.WithinLemmas.{one_more}
 use Rattle.play_state_text.proofs.within.visits.Goals as goal
 

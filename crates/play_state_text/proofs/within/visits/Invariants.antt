@@ -1,6 +1,6 @@
 -- Those so far are within.
 use Rattle.std.proofs.Common.{ℕ}
-use Rattle.play_state_text.specs.Numbers.{IsWide, IsUpTo}
+use Rattle.play_state_text.specs.Within.{IsWide, IsUpTo}
 use Rattle.cave_world.specs.State.{visits_of}
 use Rattle.play_state_text.proofs.within.visits.Given as goal
 

@@ -1,5 +1,5 @@
 use Rattle.std.proofs.Common.{ap}
-use Rattle.replay_edits.specs.Game.{game_of}
+use Rattle.replay_edits.specs.Edit.{game_of}
 use Rattle.replay_edits.proofs.Groups.{log_of-insert, log_of-remove, log_of-set}
 use Rattle.replay_edits.proofs.edit.make_edit.Goals as goal
 

@@ -1,8 +1,7 @@
 use Rattle.std.proofs.Common.{◌≡◌, ◌≤◌, ◌∙◌, length, reverse, ap, arith}
 use Rattle.std.proofs.Math.Seq.{take-length}
 use Rattle.std.proofs.lemmas.List.{append-nil, take_at}
-use Rattle.replay_edits.specs.Game.{log_of, game_of}
-use Rattle.replay_edits.specs.Edit.{changes_of}
+use Rattle.replay_edits.specs.Edit.{log_of, game_of, changes_of}
 use Rattle.replay_edits.proofs.Groups.{changes_of-drop_all, changes_of-reverse}
 use Rattle.replay_edits.proofs.Inverses.{IsFree-from_none}
 use Rattle.replay_edits.proofs.Makings.{IsMaking-start}

@@ -1,7 +1,6 @@
 use Rattle.std.proofs.Common.{◌+◌, ◌≤◌, take, drop}
 use Rattle.std.specs.Prelude.{vec_len, vec_capacity}
-use Rattle.replay_edits.specs.Game.{log_of, game_of}
-use Rattle.replay_edits.specs.Edit.{changes_of, lines_inserted_by_all}
+use Rattle.replay_edits.specs.Edit.{log_of, game_of, changes_of, lines_inserted_by_all}
 use Rattle.replay_edits.proofs.Makings.{IsMaking}
 use Rattle.replay_edits.proofs.edit.make_edits.Given as goal
 

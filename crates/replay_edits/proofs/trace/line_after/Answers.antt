@@ -1,6 +1,5 @@
 use Rattle.std.proofs.Common.{◌-◌, take, refl, sym, ◌∙◌, arith}
-use Rattle.replay_edits.specs.Game.{log_of}
-use Rattle.replay_edits.specs.Edit.{changes_of}
+use Rattle.replay_edits.specs.Edit.{log_of, changes_of}
 use Rattle.replay_edits.specs.Faults.{log_after_all}
 use Rattle.replay_edits.proofs.Inverses.{IsFree-from_none}
 use Rattle.replay_edits.proofs.Traces.{IsTraced-start, IsTraced-last}

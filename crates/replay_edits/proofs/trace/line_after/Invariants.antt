@@ -1,5 +1,5 @@
 use Rattle.std.proofs.Common.{◌+◌, ◌≤◌, length}
-use Rattle.replay_edits.specs.Game.{log_of}
+use Rattle.replay_edits.specs.Edit.{log_of}
 use Rattle.replay_edits.proofs.Traces.{IsTraced}
 use Rattle.replay_edits.proofs.trace.line_after.Given as goal
 

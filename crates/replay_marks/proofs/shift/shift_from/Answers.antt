@@ -1,6 +1,6 @@
 use Rattle.std.proofs.Common.{◌≡◌, ◌++◌, take, sym, ap, ◌∙◌, arith}
 use Rattle.std.proofs.lemmas.List.{take-append-drop}
-use Rattle.replay_marks.specs.Thinning.{after_shift}
+use Rattle.replay_marks.specs.Marks.{after_shift}
 use Rattle.replay_marks.proofs.Runs.{moved_same}
 use Rattle.replay_marks.proofs.shift.shift_from.Goals as goal
 

@@ -1,5 +1,5 @@
 use Rattle.turn_things.specs.world_objects.Lists.{halves_at}
-use Rattle.turn_things.specs.world_objects.Layout.{Layout}
+use Rattle.turn_things.specs.world_objects.Objects.{Layout}
 use Rattle.std.proofs.Common.{ap, ◌∙◌}
 use Rattle.turn_begin.proofs.Begun.{start_lists}
 use Rattle.turn_begin.proofs.begin.begun_state.Goals as goal

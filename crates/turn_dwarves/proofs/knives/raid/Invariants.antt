@@ -1,5 +1,5 @@
 use Rattle.std.proofs.Common.{◌≡◌, ◌≤◌}
-use Rattle.turn_things.specs.turn_scene.Rules.{cave_of}
+use Rattle.turn_things.specs.turn_scene.Scene.{cave_of}
 use Rattle.turn_dwarves.specs.Knives.{raid_of}
 use Rattle.turn_dwarves.proofs.knives.raid.Given as goal
 

@@ -1,6 +1,5 @@
 use Rattle.std.proofs.Common.{rules, ◌≡◌, sym, false}
-use Rattle.turn_ends.specs.turn_scene.Scene.{scene_of}
-use Rattle.turn_ends.specs.turn_scene.Rules.{cave_of}
+use Rattle.turn_ends.specs.turn_scene.Scene.{scene_of, cave_of}
 use Rattle.turn_hints.proofs.Quiet.{far_is_nothing}
 use Rattle.turn_hints.proofs.hints.consider.Goals as goal
 use Rattle.turn_hints.specs.Hints.{is_in_area}

@@ -1,7 +1,6 @@
 use Rattle.std.proofs.Common.{rules, ◌≡◌, ◌+◌, ◌<◌, ℕ, ap, sym, ◌∙◌, arith}
 use Rattle.turn_ends.specs.cave_data.CaveView.{cond_of}
-use Rattle.turn_ends.specs.turn_scene.Scene.{scene_of}
-use Rattle.turn_ends.specs.turn_scene.Rules.{cave_of}
+use Rattle.turn_ends.specs.turn_scene.Scene.{scene_of, cave_of}
 use Rattle.turn_hints.specs.Hints.{after_consider, after_hints_up_to, FIRST_HINT}
 use Rattle.turn_hints.proofs.Quiet.{quiet_hints}
 use Rattle.turn_hints.proofs.Steps.{after_consider-more, after_hints-all, few-asked}

@@ -2,8 +2,7 @@
 use Rattle.std.proofs.Common.{◌≡◌, false}
 use Rattle.turn_ends.specs.cave_data.CaveView.{cond_of}
 use Rattle.turn_ends.specs.turn_scene.Bounds.{SaysUpTo, parts_of_question}
-use Rattle.turn_ends.specs.turn_scene.Scene.{scene_of, GoesOn}
-use Rattle.turn_ends.specs.turn_scene.Rules.{cave_of}
+use Rattle.turn_ends.specs.turn_scene.Scene.{scene_of, GoesOn, cave_of}
 use Rattle.turn_hints.specs.Hints.{after_hints_up_to}
 use Rattle.turn_hints.proofs.hints.consider_all.Given as goal
 use Rattle.turn_ends.specs.cave_world.State.{takes_no_command}

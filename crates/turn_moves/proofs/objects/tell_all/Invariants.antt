@@ -1,8 +1,7 @@
 use Rattle.std.proofs.Common.{◌≡◌, ◌+◌, ◌≤◌, drop}
 use Rattle.arrayvec.specs.ArrayVec.{array_vec_len}
-use Rattle.turn_dwarves.specs.turn_scene.Rules.{cave_of}
+use Rattle.turn_dwarves.specs.turn_scene.Scene.{cave_of, scene_of, GoesOn}
 use Rattle.turn_moves.specs.Objects.{after_objects}
-use Rattle.turn_dwarves.specs.turn_scene.Scene.{scene_of, GoesOn}
 use Rattle.turn_moves.proofs.objects.tell_all.Given as goal
 
 -- describing the rest from here is describing all, and there is room for it

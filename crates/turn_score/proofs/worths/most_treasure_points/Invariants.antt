@@ -1,5 +1,5 @@
 use Rattle.std.proofs.Common.{◌≡◌, ◌+◌, ◌*◌, ◌≤◌}
-use Rattle.turn_things.specs.turn_scene.Rules.{cave_of}
+use Rattle.turn_things.specs.turn_scene.Scene.{cave_of}
 use Rattle.turn_score.specs.Treasures.{most_treasure_points}
 use Rattle.turn_score.proofs.Sums.{worth_from}
 use Rattle.turn_score.proofs.worths.most_treasure_points.Given as goal

@@ -1,5 +1,5 @@
 use Rattle.std.proofs.Common.{◌∙◌, arith}
-use Rattle.replay_edits.specs.Game.{log_of}
+use Rattle.replay_edits.specs.Edit.{log_of}
 use Rattle.replay_edits.proofs.Lines.{length-log_of}
 use Rattle.cave_replay.proofs.PlayedRows.{length-rows_from, rows-at}
 use Rattle.cave_replay.proofs.played_lines.PlayedLines.of.Goals as goal

@@ -1,5 +1,5 @@
 use Rattle.std.proofs.Common.{◌≡◌, ◌+◌, ◌-◌, ◌<◌, length, drop, ap, ◌∙◌, sym, arith}
-use Rattle.replay_edits.specs.Game.{log_of}
+use Rattle.replay_edits.specs.Edit.{log_of}
 use Rattle.cave_replay.specs.ReadyEdits.{log_after_edits}
 use Rattle.replay_edits.proofs.Lines.{length-log_of, line_at-log_of}
 use Rattle.replay_edits.proofs.LogAfterLemmas.{line_in_prefix, line_in_rest}

@@ -1,4 +1,4 @@
-use Rattle.replay_edits.specs.Game.{log_of}
+use Rattle.replay_edits.specs.Edit.{log_of}
 use Rattle.cave_replay.proofs.LogTextLemmas.{reads_back}
 use Rattle.cave_replay.proofs.session.Session.push_log.Goals as goal
 

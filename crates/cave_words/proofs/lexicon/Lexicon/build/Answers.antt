@@ -1,8 +1,8 @@
 use Rattle.std.proofs.Common.{◌≡◌, map, ◌∙◌, arith}
 use Rattle.cave_words.proofs.Lexicons.{lexicon_of}
-use Rattle.cave_words.specs.Index.{IsIndexOf}
+use Rattle.cave_words.specs.Lexicon.{IsIndexOf}
 use Rattle.cave_words.specs.Named.{object_named}
-use Rattle.cave_words.specs.Word.{NAME_LETTERS}
+use Rattle.cave_words.specs.Words.{NAME_LETTERS}
 use Rattle.cave_words.specs.declared.named.TheConstants.{EACH_NAME}
 use Rattle.cave_words.proofs.lexicon.Lexicon.build.Goals as goal
 use Rattle.cave_words.proofs.lexicon.Lexicon.build.Goals.{then-letters-eq-NAME_LETTERS}

@@ -1,8 +1,7 @@
 use Rattle.std.proofs.Common.{◌≡◌, ◌+◌, ◌-◌, ◌≤◌, ◌++◌, length, take, ap, sym, subst, refl, ◌∙◌}
 use Rattle.std.proofs.Common.{arith}
 use Rattle.std.specs.Prelude.{slice_index}
-use Rattle.replay_marks.specs.Thinning.{IsThinned, after_shift}
-use Rattle.replay_marks.specs.Marks.{CheckpointsView, next_place}
+use Rattle.replay_marks.specs.Marks.{IsThinned, after_shift, CheckpointsView, next_place}
 use Rattle.replay_marks.proofs.JoinLemmas.{IsJoinable, put_end, spliced_after, shifted}
 use Rattle.replay_marks.proofs.JoinLemmas.{rest_between, joined_spaced}
 use Rattle.replay_marks.proofs.checkpoints.Checkpoints.join.Goals as goal

@@ -1,7 +1,6 @@
 use Rattle.std.proofs.Common.{◌≡◌, ◌+◌, ◌-◌, subst, arith, sym}
 use Rattle.std.specs.Prelude.{slice_index}
-use Rattle.replay_marks.specs.Thinning.{IsRest}
-use Rattle.replay_marks.specs.Marks.{CheckpointsView}
+use Rattle.replay_marks.specs.Marks.{IsRest, CheckpointsView}
 use Rattle.replay_marks.proofs.Counts.{place_within}
 use Rattle.replay_marks.proofs.ThinningLemmas.{rest_behind}
 use Rattle.replay_marks.proofs.checkpoints.Checkpoints.next_place.Goals as goal

@@ -1,6 +1,6 @@
 use Rattle.std.proofs.Common.{ap, map, ◌∙◌}
 use Rattle.std.specs.List.{splice}
-use Rattle.replay_marks.specs.PlacedStates.{PlacedView}
+use Rattle.replay_marks.specs.Marks.{PlacedView}
 use Rattle.replay_marks.proofs.Contents.{map-splice}
 use Rattle.replay_marks.proofs.placed_states.PlacedStates.splice.Goals as goal
 

@@ -1,6 +1,5 @@
 use Rattle.std.proofs.Common.{refl, arith, rules}
-use Rattle.world_objects.specs.Halves.{half_of}
-use Rattle.world_objects.specs.Lists.{halves_at}
+use Rattle.world_objects.specs.Lists.{half_of, halves_at}
 use Rattle.world_objects.proofs.Chains.{length-halves_at}
 use Rattle.world_objects.proofs.Standing.{all_objects, none_nowhere}
 use Rattle.world_objects.proofs.Walks.{IsLeft-first_half, step, ended, longer, told_on, told_all}

@@ -1,6 +1,6 @@
 use Rattle.std.proofs.Common.{◌≡◌, ◌≢◌, List, length}
 use Rattle.world_objects.specs.declared.object.Half.{Half}
-use Rattle.world_objects.specs.Layout.{is_listed}
+use Rattle.world_objects.specs.Objects.{is_listed}
 use Rattle.world_objects.specs.Lists.{halves_at}
 use Rattle.world_objects.specs.Links.{next_half, halves_along}
 use Rattle.world_objects.proofs.Walks.{IsLeft}

@@ -1,5 +1,4 @@
-use Rattle.world_objects.specs.Lists.{after_relist}
-use Rattle.world_objects.specs.Halves.{half_number}
+use Rattle.world_objects.specs.Lists.{after_relist, half_number}
 use Rattle.world_objects.proofs.Found.{only_at}
 use Rattle.world_objects.proofs.Links.{low_number}
 use Rattle.world_objects.proofs.Moves.{Lacks-taken}

@@ -1,5 +1,5 @@
 use Rattle.std.proofs.Common.{◌∙◌}
-use Rattle.world_objects.specs.Layout.{Layout}
+use Rattle.world_objects.specs.Objects.{Layout}
 use Rattle.world_objects.proofs.Laid.{anchor_listed}
 use Rattle.world_objects.proofs.objects.Objects.anchor.Goals as goal
 

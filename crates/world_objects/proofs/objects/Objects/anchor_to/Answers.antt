@@ -1,6 +1,6 @@
 use Rattle.std.proofs.Common.{◌<◌, sym, ◌∙◌, arith}
 use Rattle.std.proofs.lemmas.Bool.Decides.{nat_tests}
-use Rattle.world_objects.specs.Layout.{Layout}
+use Rattle.world_objects.specs.Objects.{Layout}
 use Rattle.world_objects.proofs.Laid.{IsLaid-anchored}
 use Rattle.world_objects.proofs.objects.Objects.anchor_to.Goals as goal
 
