@@ -296,7 +296,7 @@ class Maker:
         if self.kind == "pirate":
             few, chest = few if "GOLD" in self.staged else 0, self.of.get("CHEST")
         known = set() if self.is_hasty or self.kind == "pirate" else {
-            self.of.get(name) for name in self.staged if self.often(0.7)}
+            self.of.get(name) for name in sorted(self.staged) if self.often(0.7)}
         for x in self.objects:
             if x not in known and (50 <= x != chest and not self.often(few) or self.often(0.05)):
                 continue
