@@ -34,11 +34,11 @@ use Rattle.cave_data.proofs.RightLemmas.{neither, some_less, first_fine}
 -- ---- what a line does
 
 -- At this position a line has no cause, leads to that one, and is these rows.
-record Does (position : Position) (line : List ℕ) (next : Position) (es : List Entry)
+pub record Does (position : Position) (line : List ℕ) (next : Position) (es : List Entry)
     : Type 0 where
-  shape : shape_cause position line ≡ None
-  leads : position_after_line position line ≡ next
-  adds : entry_at position line ≡ es
+  pub shape : shape_cause position line ≡ None
+  pub leads : position_after_line position line ≡ next
+  pub adds : entry_at position line ≡ es
 
 blank_does : (position : Position) (line : List ℕ) → IsTrue (is_all_blank line)
     → Does position line position []
@@ -213,17 +213,17 @@ rows_faultless position lines rows (database_ends {line = line} {lines = later} 
 -- ---- lines of which none is at fault
 
 -- the rows of lines from a position on; after the end there are none
-abbrev RowsFrom : Position → List (List ℕ) → List Entry → Type 0
+abbrev pub RowsFrom : Position → List (List ℕ) → List Entry → Type 0
 RowsFrom Outside lines rows = HasRows Outside lines rows
 RowsFrom (Inside s) lines rows = HasRows (Inside s) lines rows
 RowsFrom After lines rows = rows ≡ []
 
 -- What a line does, and what that adds to the rows of the lines that follow it.
-record Goes (position : Position) (line : List ℕ) : Type 0 where
-  next : Position
-  es : List Entry
-  does : Does position line next es
-  grows : (lines : List (List ℕ)) (rest : List Entry) → RowsFrom next lines rest
+pub record Goes (position : Position) (line : List ℕ) : Type 0 where
+  pub next : Position
+  pub es : List Entry
+  pub does : Does position line next es
+  pub grows : (lines : List (List ℕ)) (rest : List Entry) → RowsFrom next lines rest
       → RowsFrom position (line ∷ lines) (es ++ rest)
 
 blank_goes : (position : Position) (line : List ℕ) → IsTrue (is_all_blank line)
@@ -296,7 +296,7 @@ goes_here After line e = record {
   grows = λ lines rest has. has;
 }
 
-goes : (position : Position) (line : List ℕ) → shape_cause position line ≡ None
+pub goes : (position : Position) (line : List ℕ) → shape_cause position line ≡ None
     → Goes position line
 unfolding shape_cause
 goes position line e = at (is_all_blank line) refl e where

@@ -22,3 +22,5 @@ pub mod BindingRows
 pub mod ReadLemmas
 pub mod PartsRead
 pub mod LowestLemmas
+pub mod LineCauses
+pub mod FaultyLines

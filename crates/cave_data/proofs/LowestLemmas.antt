@@ -1,37 +1,27 @@
--- The cause that a line has is its lowest.
+-- The cause that a row has by reading is its lowest.
 use Rattle.std.proofs.Common.{◌≡◌, ◌⊎◌, inl, inr, ℕ, Bool, true, false, cond, List, [], ◌∷◌, length}
 use Rattle.std.proofs.Common.{Option, Some, None, Result, Ok, Err, refl, sym, subst}
-use Rattle.std.specs.Prelude.{nat_lt, IfErr, is_some, option_to_list}
-use Rattle.std.specs.Option.{ok_or, option_or}
-use Rattle.std.specs.Result.{is_ok, result_ok, result_err}
+use Rattle.std.specs.Prelude.{nat_lt, IfErr}
+use Rattle.std.specs.Option.{ok_or}
+use Rattle.std.specs.Result.{is_ok}
 use Rattle.data_rows.specs.declared.error.Cause.{Cause}
-use Rattle.data_rows.specs.declared.error.Cause.TheVariants.{BadSection, BadNumber, OutOfRange}
+use Rattle.data_rows.specs.declared.error.Cause.TheVariants.{BadNumber, OutOfRange}
 use Rattle.data_rows.specs.declared.error.Cause.TheVariants.{TooManyRows}
 use Rattle.data_rows.specs.declared.error.Section.{Section}
 use Rattle.data_rows.specs.declared.error.Section.TheVariants as section
 use Rattle.data_rows.specs.declared.number.Number.{Number}
 use Rattle.data_rows.specs.declared.number.Number.TheVariants.{Natural, Negative}
-use Rattle.data_rows.specs.declared.position.Position.{Position}
-use Rattle.data_rows.specs.declared.position.Position.TheVariants.{Outside, Inside, After}
-use Rattle.data_rows.specs.Rows.{Going, ◌>>=◌, Entry, LongLine, ShortLine, Way, Word, ObjectLine}
-use Rattle.data_rows.specs.Rows.{MessageLine, PlacementRow, DefaultRow, ConditionRow, ClassLine}
-use Rattle.data_rows.specs.Rows.{HintRow, MagicLine, number_or_cause, numbers_to_zero, list_in}
+use Rattle.data_rows.specs.Rows.{Going, ◌>>=◌}
+use Rattle.data_rows.specs.Rows.{number_or_cause, numbers_to_zero, list_in}
 use Rattle.data_rows.specs.Rows.{few_of, word_or_cause, word_number, number_or_zero, within}
 use Rattle.data_rows.specs.Rows.{all_within, text_or_cause, object_or_prop, second_place, text_line}
 use Rattle.data_rows.specs.Rows.{object_line, way_row, word_row, placement_row, default_row}
 use Rattle.data_rows.specs.Rows.{condition_row, hint_row, entry_in}
-use Rattle.data_rows.specs.base_lines.Bytes.{is_all_blank}
 use Rattle.data_rows.specs.Fields.{number_at, fields}
-use Rattle.data_rows.specs.Grammar.{position_after_heading, closes, position_after, entry_here}
-use Rattle.data_rows.specs.Grammar.{entry_at, entries}
-use Rattle.cave_data.specs.FirstFault.{shape_here, shape_cause, limit_cause, first_limit}
-use Rattle.cave_data.specs.FirstFault.{line_cause}
-use Rattle.cave_data.specs.LowestCause.{ReportsLowest}
-use Rattle.cave_data.proofs.PartsRead.{reads_parts, reads_in_range, IsLowestRead, IsLowestReadAt}
-use Rattle.cave_data.proofs.PartsRead.{lowest_read_at}
+use Rattle.cave_data.proofs.PartsRead.{reads_parts, reads_in_range, IsLowestRead}
 
 -- what reading a row says of its parts and ranges
-abbrev Judged : {X : Type 0} → Result X Cause → Bool → Bool → Type 0
+abbrev pub Judged : {X : Type 0} → Result X Cause → Bool → Bool → Type 0
 Judged (Ok x) parts ranges = (parts ≡ true) × (ranges ≡ true)
 Judged (Err cause) parts ranges = IsLowestRead cause parts ranges
 
@@ -96,8 +86,8 @@ second_only (Negative n) = chosen OutOfRange _ _
 lacks : (cause : Cause) (ranges : Bool) → cause ≡ BadNumber → IsLowestRead cause false ranges
 lacks cause ranges e = subst (λ (c : Cause). IsLowestRead c false ranges) (sym e) refl
 
-exceeds : (cause : Cause) (ranges : Bool) → cause ≡ OutOfRange → IsLowestRead cause true ranges
-exceeds cause ranges e = subst (λ (c : Cause). IsLowestRead c true ranges) (sym e) refl
+exceeds : (cause : Cause) → cause ≡ OutOfRange → IsLowestRead cause true false
+exceeds cause e = subst (λ (c : Cause). IsLowestRead c true false) (sym e) (refl, refl)
 
 is_long : (cause : Cause) → cause ≡ TooManyRows → IsLowestRead cause true true
 is_long cause e = subst (λ (c : Cause). IsLowestRead c true true) (sym e) (refl, refl)
@@ -136,12 +126,12 @@ in_ranges : {A B D : Type 0} (r : Result A Cause) (f : A → Result B Cause) (k 
     → OnlyErr OutOfRange r → ((a : A) → Judged (f a) true (is_ok (k a)))
     → Judged (r >>= f) true (is_ok (r >>= k))
 in_ranges (Ok a) f k h more = more a
-in_ranges (Err cause) f k h more = exceeds cause false h
+in_ranges (Err cause) f k h more = exceeds cause h
 
 last_range : {A B : Type 0} (r : Result A Cause) (f : A → Result B Cause) → OnlyErr OutOfRange r
     → ((a : A) → Judged (f a) true true) → Judged (r >>= f) true (is_ok r)
 last_range (Ok a) f h more = more a
-last_range (Err cause) f h more = exceeds cause false h
+last_range (Err cause) f h more = exceeds cause h
 
 short : {A B : Type 0} (r : Result A Cause) (f : A → B) → OnlyErr TooManyRows r
     → Judged (r >>= λ a. Ok (f a)) true true
@@ -157,7 +147,8 @@ judged : {A B : Type 0} (r : Result A Cause) (f : A → B) (parts : Bool) → Si
     → Judged (r >>= λ a. Ok (f a)) parts (is_ok (r >>= λ a. Ok (f a)))
 judged (Ok a) f parts h = (h, refl)
 judged (Err cause) f parts (inl h) = subst (λ (c : Cause). IsLowestRead c parts false) (sym h.0) h.1
-judged (Err cause) f parts (inr h) = subst (λ (c : Cause). IsLowestRead c parts false) (sym h.0) h.1
+judged (Err cause) f parts (inr h) =
+    subst (λ (c : Cause). IsLowestRead c parts false) (sym h.0) (h.1, refl)
 
 -- Rows.
 
@@ -192,7 +183,8 @@ word_judged line =
     last_part (word_or_cause n.1) _ (chosen BadNumber _ _)
     (λ word. ranged (word_number n.0) _ (word_only n.0) (λ number. refl)))
 
-placement_judged : (line : List ℕ) → Simple (placement_row line) (reads_parts section.Placements line)
+placement_judged : (line : List ℕ)
+    → Simple (placement_row line) (reads_parts section.Placements line)
 unfolding placement_row
 placement_judged line =
     part (number_or_cause line) _ _ (number_only line) (λ x.
@@ -260,7 +252,7 @@ way_judged line =
         last_range (all_within 1 999 list) _ (all_within_only 1 999 list)
         (λ all. short (few_of all) _ (chosen TooManyRows _ all))))
 
-row_judged : (s : Section) (line : List ℕ)
+pub row_judged : (s : Section) (line : List ℕ)
     → Judged (entry_in s line) (reads_parts s line) (reads_in_range s line)
 row_judged section.LongTexts line = judged (text_line 1 300 line) _ _ (text_judged 1 300 line)
 row_judged section.ShortTexts line = judged (text_line 1 300 line) _ _ (text_judged 1 300 line)
@@ -274,71 +266,3 @@ row_judged section.Conditions line = entered (condition_row line) _ _ _ (conditi
 row_judged section.Classes line = judged (text_line 0 9999 line) _ _ (text_judged 0 9999 line)
 row_judged section.Hints line = judged (hint_row line) _ _ (hint_judged line)
 row_judged section.Magic line = judged (text_line 1 499 line) _ _ (text_judged 1 499 line)
-
--- Limits, which are judged of a row that is there and in its ranges.
-
-missed : (b : Bool) (only cause : Cause) → cond b None (Some only) ≡ Some cause → cause ≡ only
-missed true only cause e = cc
-missed false only cause e = cc
-
-met : (b : Bool) (only cause : Cause) → cond b (Some only) None ≡ Some cause → cause ≡ only
-met true only cause e = cc
-met false only cause e = cc
-
-limit_lowest : (before : List Entry) (entry : Entry) (cause : Cause)
-    → limit_cause before entry ≡ Some cause → IsLowestRead cause true true
-limit_lowest before (LongLine line) cause e = cc
-limit_lowest before (ShortLine line) cause e = cc
-limit_lowest before (Way place going) cause e = is_long cause (missed _ TooManyRows cause e)
-limit_lowest before (Word word) cause e = is_long cause (missed _ TooManyRows cause e)
-limit_lowest before (ObjectLine line) cause e = exceeds cause true (met _ OutOfRange cause e)
-limit_lowest before (MessageLine line) cause e = cc
-limit_lowest before (PlacementRow object placement) cause e = cc
-limit_lowest before (DefaultRow action message) cause e = cc
-limit_lowest before (ConditionRow bit places) cause e = cc
-limit_lowest before (ClassLine line) cause e = is_long cause (missed _ TooManyRows cause e)
-limit_lowest before (HintRow number hint) cause e = cc
-limit_lowest before (MagicLine line) cause e = cc
-
--- Lines.
-
-row_lowest : (r : Result Entry Cause) (parts ranges : Bool) (rows : List Entry) (cause : Cause)
-    → Judged r parts ranges
-    → option_or (result_err r) (first_limit rows (option_to_list (result_ok r))) ≡ Some cause
-    → IsLowestRead cause parts ranges
-row_lowest (Ok entry) parts ranges rows cause judged e =
-    subst (λ p. IsLowestRead cause p ranges) (sym judged.0)
-    (subst (λ p. IsLowestRead cause true p) (sym judged.1) (limit_lowest rows entry cause e))
-row_lowest (Err other) parts ranges rows cause judged e =
-    let same : other ≡ cause = cc in subst (λ (c : Cause). IsLowestRead c parts ranges) same judged
-
-here_lowest : (position : Position) (line : List ℕ) (rows : List Entry) (cause : Cause)
-    → option_or (shape_here position line) (first_limit rows (entry_here position line))
-    ≡ Some cause → IsLowestReadAt position line cause
-here_lowest Outside line rows cause e = at (is_some (position_after_heading line)) e where
-  at : (b : Bool) → option_or (cond b None (Some BadSection)) None ≡ Some cause → cause ≡ BadSection
-  at true e = cc
-  at false e = cc
-here_lowest (Inside s) line rows cause e = at (closes line) e where
-  at : (b : Bool)
-      → option_or (cond b None (result_err (entry_in s line)))
-      (first_limit rows (cond b [] (option_to_list (result_ok (entry_in s line))))) ≡ Some cause
-      → IsLowestRead cause (reads_parts s line) (reads_in_range s line)
-  at true e = cc
-  at false e = row_lowest (entry_in s line) _ _ rows cause (row_judged s line) e
-here_lowest After line rows cause e = cc
-
-lowest_is_read : (before : List (List ℕ)) (line : List ℕ) (cause : Cause)
-    → line_cause before line ≡ Some cause → IsLowestReadAt (position_after before) line cause
-unfolding line_cause shape_cause entry_at
-lowest_is_read before line cause e = at (is_all_blank line) e where
-  at : (b : Bool)
-      → option_or (cond b None (shape_here (position_after before) line))
-      (first_limit (entries before) (cond b [] (entry_here (position_after before) line)))
-      ≡ Some cause → IsLowestReadAt (position_after before) line cause
-  at true e = cc
-  at false e = here_lowest (position_after before) line (entries before) cause e
-
-pub tells_lowest : ReportsLowest
-tells_lowest before line cause e =
-    lowest_read_at (position_after before) line cause (lowest_is_read before line cause e)

@@ -1,29 +1,29 @@
 -- The parts of a row are there, and in their ranges, exactly where they are read.
-use Rattle.std.proofs.Common.{◌≡◌, ℕ, ◌≤◌, Bool, true, false, List, [], ◌∷◌, length, map, Result, Ok}
-use Rattle.std.proofs.Common.{Err, refl, sym, ap, subst, ◌∙◌, arith}
+use Rattle.std.proofs.Common.{◌≡◌, ℕ, ◌≤◌, Bool, true, false, List, [], ◌∷◌, length, map, Result}
+use Rattle.std.proofs.Common.{Ok, Err, refl, sym, ap, subst, ◌∙◌, arith}
 use Rattle.std.proofs.lemmas.Bool.{false≢true}
 use Rattle.std.specs.Result.{is_ok}
 use Rattle.std.proofs.lemmas.List.{length-map}
 use Rattle.data_rows.specs.declared.error.Cause.{Cause}
-use Rattle.data_rows.specs.declared.error.Cause.TheVariants.{BadSection, BadNumber, OutOfRange}
+use Rattle.data_rows.specs.declared.error.Cause.TheVariants.{BadNumber, OutOfRange}
 use Rattle.data_rows.specs.declared.error.Cause.TheVariants.{TooManyRows}
 use Rattle.data_rows.specs.declared.error.Section.{Section}
 use Rattle.data_rows.specs.declared.error.Section.TheVariants as section
 use Rattle.data_rows.specs.declared.number.Number.{Number}
 use Rattle.data_rows.specs.declared.number.Number.TheVariants.{Natural}
-use Rattle.data_rows.specs.declared.position.Position.{Position}
-use Rattle.data_rows.specs.declared.position.Position.TheVariants.{Outside, Inside, After}
 use Rattle.data_rows.specs.Fields.{after_blanks, after_field}
 use Rattle.data_rows.specs.Rows.{◌>>=◌, number_or_cause, list_in, some_of, word_or_cause}
-use Rattle.data_rows.specs.Rows.{number_or_zero, within, all_within, entry_in}
+use Rattle.data_rows.specs.Rows.{number_or_zero, within, all_within, entry_in, Going}
 use Rattle.data_rows.specs.Rows.{LAST_MOTION, LAST_TARGET}
 use Rattle.data_rows.specs.RowParts.{BeginsWithNumber, BeginsWithNumbers, no_number, number_then}
 use Rattle.data_rows.specs.RowParts.{IsNumberList}
-use Rattle.data_rows.proofs.ReadParts.{number-read, read-number, read-within, may-read}
+use Rattle.data_rows.specs.RowGrammar.{IsWayRow}
+use Rattle.data_rows.proofs.ReadParts.{number-read, read-number, within-read, read-within}
+use Rattle.data_rows.proofs.ReadParts.{may-read, all-read}
 use Rattle.data_rows.proofs.ReadParts.{read-may, list-read, read-list, read-all, some-read}
 use Rattle.data_rows.proofs.ReadParts.{read-some, word-read, read-word}
-use Rattle.data_rows.proofs.RowLemmas.{read-entry}
-use Rattle.cave_data.specs.LowestCause.{HasParts, IsInRange, IsLowest, IsLowestAt}
+use Rattle.data_rows.proofs.RowLemmas.{entry-read, read-entry}
+use Rattle.cave_data.specs.LowestCause.{HasParts, IsInRange}
 use Rattle.data_rows.specs.data_numbers.Numbers.{LAST_PLACE, LAST_HINT}
 
 -- whether the numbers and words of a row of the section are read
@@ -55,18 +55,12 @@ reads_in_range section.Conditions line =
     >>= λ number. all_within 1 LAST_PLACE places)
 reads_in_range s line = is_ok (entry_in s line)
 
--- no cause below this one is there too, where the parts are read or not, and in their ranges or not
+-- by what is read, a row has this cause and no lower one
 abbrev pub IsLowestRead : Cause → Bool → Bool → Type 0
 IsLowestRead BadNumber parts ranges = parts ≡ false
-IsLowestRead OutOfRange parts ranges = parts ≡ true
+IsLowestRead OutOfRange parts ranges = (parts ≡ true) × (ranges ≡ false)
 IsLowestRead TooManyRows parts ranges = (parts ≡ true) × (ranges ≡ true)
 IsLowestRead cause parts ranges = ⊥
-
--- no lower cause than this one is at a line at that place, by what is read
-abbrev pub IsLowestReadAt : Position → List ℕ → Cause → Type 0
-IsLowestReadAt Outside line cause = cause ≡ BadSection
-IsLowestReadAt (Inside s) line cause = IsLowestRead cause (reads_parts s line) (reads_in_range s line)
-IsLowestReadAt After line cause = ⊥
 
 -- ---- what is read is there
 
@@ -86,7 +80,7 @@ read_first : (line : List ℕ) → is_ok (number_or_cause line) ≡ true
 read_first line e =
     let n = ok_found (number_or_cause line) e in (n.0.0, n.0.1, read-number line n.0 n.1)
 
-parts_found : (s : Section) (line : List ℕ) → reads_parts s line ≡ true → HasParts s line
+pub parts_found : (s : Section) (line : List ℕ) → reads_parts s line ≡ true → HasParts s line
 parts_found section.Travel line e =
     let x = ok_steps (number_or_cause line) _ e in
     let y = ok_steps (number_or_cause x.0.1) _ x.2 in
@@ -157,7 +151,7 @@ parts_found section.Messages line e = read_first line e
 parts_found section.Classes line e = read_first line e
 parts_found section.Magic line e = read_first line e
 
-range_found : (s : Section) (line : List ℕ) → reads_in_range s line ≡ true → IsInRange s line
+pub range_found : (s : Section) (line : List ℕ) → reads_in_range s line ≡ true → IsInRange s line
 range_found section.Travel line e =
     let x = ok_steps (number_or_cause line) _ e in
     let y = ok_steps (number_or_cause x.0.1) _ x.2 in
@@ -170,7 +164,8 @@ range_found section.Travel line e =
     let ry = read-within 0 999999 y.0.0 target.0 target.1 in
     let any = read-some list.0 some.0 some.1 in
     let each = read-all 1 999 some.0 motions.0 motions.1 in
-    let count : length (map Natural motions.0) ≡ length motions.0 = length-map motions.0 Natural in (
+    let count : length (map Natural motions.0) ≡ length motions.0 =
+    length-map motions.0 Natural in (
       place.0,
       record { target = target.0; motions = motions.0 },
       record {
@@ -213,10 +208,12 @@ hint_parts_read : (line : List ℕ) (ns : List Number) (last : List ℕ)
     → BeginsWithNumbers line ns last → length ns ≡ 5 → reads_parts section.Hints line ≡ true
 hint_parts_read line ns last no_number count = absurd (omega (arith, count))
 hint_parts_read line ns last (number_then a no_number) count = absurd (omega (arith, count))
-hint_parts_read line ns last (number_then a (number_then b no_number)) count = absurd (omega (arith, count))
+hint_parts_read line ns last (number_then a (number_then b no_number)) count =
+    absurd (omega (arith, count))
 hint_parts_read line ns last (number_then a (number_then b (number_then c no_number))) count =
     absurd (omega (arith, count))
-hint_parts_read line ns last (number_then a (number_then b (number_then c (number_then d no_number)))) count =
+hint_parts_read line ns last
+    (number_then a (number_then b (number_then c (number_then d no_number)))) count =
     absurd (omega (arith, count))
 hint_parts_read line ns last (number_then {number = h} {rest = r1} ph
     (number_then {number = t} {rest = r2} pt
@@ -272,20 +269,37 @@ parts_read section.Classes line (number, rest, begins) =
 parts_read section.Magic line (number, rest, begins) =
     ap is_ok (number-read line number rest begins)
 
-parts_missing : (s : Section) (line : List ℕ) → reads_parts s line ≡ false → ¬ HasParts s line
+pub parts_missing : (s : Section) (line : List ℕ) → reads_parts s line ≡ false
+    → ¬ HasParts s line
 parts_missing s line e parts = absurd (false≢true (sym e ∙ parts_read s line parts))
 
--- what is lowest by what is read is lowest by what is there
-pub lowest_read : (s : Section) (line : List ℕ) (cause : Cause)
-    → IsLowestRead cause (reads_parts s line) (reads_in_range s line)
-    → IsLowest cause (HasParts s line) (IsInRange s line)
-lowest_read s line BadNumber is = parts_missing s line is
-lowest_read s line OutOfRange is = parts_found s line is
-lowest_read s line TooManyRows is = (parts_found s line is.0, range_found s line is.1)
-lowest_read s line cause is = is
+way_range_read : (line : List ℕ) (place : ℕ) (going : Going) → IsWayRow line place going
+    → reads_in_range section.Travel line ≡ true
+way_range_read line place going is = at is.numbers where
+  at : BeginsWithNumbers line (Natural place ∷ Natural going.target ∷ []) is.rest
+      → reads_in_range section.Travel line ≡ true
+  at (number_then {rest = after_place} x (number_then y no_number)) =
+      let px = number-read line (Natural place) after_place x in
+      let py = number-read after_place (Natural going.target) is.rest y in
+      let list = list-read is.rest (map Natural going.motions) is.motions in
+      let count : length (map Natural going.motions) ≡ length going.motions =
+      length-map going.motions Natural in
+      let any = some-read (map Natural going.motions) (rw count is.some) in
+      let from = within-read 1 300 place is.place_in_range in
+      let to = within-read 0 999999 going.target is.target_in_range in
+      let all = all-read 1 999 going.motions is.motions_in_range in
+      rw (px, py, list, any, from, to, all) refl
 
-pub lowest_read_at : (position : Position) (line : List ℕ) (cause : Cause)
-    → IsLowestReadAt position line cause → IsLowestAt position line cause
-lowest_read_at Outside line cause is = is
-lowest_read_at (Inside s) line cause is = lowest_read s line cause is
-lowest_read_at After line cause is = is
+range_read : (s : Section) (line : List ℕ) → IsInRange s line → reads_in_range s line ≡ true
+range_read section.Travel line (place, going, is) = way_range_read line place going is
+range_read section.Conditions line (bit, places, is) =
+    let n = number-read line (Natural bit) is.rest is.number in
+    let list = list-read is.rest (map Natural places) is.has_places in
+    let range = within-read 0 20 bit is.bit_in_range in
+    let all = all-read 1 300 places is.places_in_range in
+    rw (n, list, range, all) refl
+range_read s line is = ap is_ok (entry-read s line is.0 is.1)
+
+pub range_missed : (s : Section) (line : List ℕ) → reads_in_range s line ≡ false
+    → ¬ IsInRange s line
+range_missed s line e range = absurd (false≢true (sym e ∙ range_read s line range))

@@ -36,7 +36,8 @@ use Rattle.data_rows.specs.Rows.{word_row, object_line, default_row, condition_r
 use Rattle.data_rows.specs.Grammar.{closes, position_after_line, entry_here, entry_at, entries_from}
 use Rattle.data_rows.specs.Grammar.{entries}
 use Rattle.data_rows.specs.base_lines.LogLine.{is_skipped}
-use Rattle.data_rows.specs.BindingLines.{two_fields, bound_within, position_of_name, role_binding}
+use Rattle.data_rows.specs.BindingLines.{two_fields, bound_within, role_binding}
+use Rattle.data_rows.specs.BindingGrammar.{position_of_name}
 use Rattle.data_rows.specs.BindingLines.{place_binding, letters_binding, binding_of, binding_row}
 use Rattle.data_rows.specs.BindingLines.{binding_at, bindings_of}
 use Rattle.cave_data.specs.BindingSteps.{bind, no_bindings, bindings_from}

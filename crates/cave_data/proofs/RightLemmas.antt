@@ -140,7 +140,8 @@ stays_object object line h = at (names_object line) refl where
   at true e = is_object line e
   at false e = h
 
-stay_object : (object : ℕ) (lines : List TextLine) → 1 ≤ object → 1 ≤ fold object_after object lines
+pub stay_object : (object : ℕ) (lines : List TextLine) → 1 ≤ object
+    → 1 ≤ fold object_after object lines
 stay_object object [] h = h
 stay_object object (line ∷ lines) h =
     stay_object (object_after object line) lines (stays_object object line h)

@@ -10,7 +10,8 @@ use Rattle.data_rows.specs.Rows.{WordEntry}
 use Rattle.cave_data.specs.CaveView.{ClassEntry}
 use Rattle.cave_data.specs.declared.span.TextSpan.{TextSpan}
 use Rattle.cave_data.specs.declared.span.NumberedSpan.{NumberedSpan}
-use Rattle.cave_data.specs.Spans.{text_of_span, IsSpanWithin, IsLast, IsFrom, RowWithin, word_of_span}
+use Rattle.cave_data.specs.Spans.{text_of_span, IsSpanWithin, IsLast, IsFrom, RowWithin}
+use Rattle.cave_data.specs.Spans.{word_of_span}
 use Rattle.cave_data.specs.Spans.{class_of_span}
 
 -- more bytes at the end leave a text as it was
@@ -41,7 +42,8 @@ text_of_span-new bytes more span from =
     let h : length bytes ≤ length (bytes ++ more) = omega (arith, length-append bytes more) in
     text_of_span-from (bytes ++ more) (length bytes) span h from ∙ drop-append_seam bytes more
 
-pub within_more : (old new : List ℕ) (span : TextSpan) → length old ≤ length new → IsSpanWithin old span
+pub within_more : (old new : List ℕ) (span : TextSpan) → length old ≤ length new
+    → IsSpanWithin old span
     → IsSpanWithin new span
 within_more old new span grows h = omega arith
 

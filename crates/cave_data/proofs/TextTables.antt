@@ -39,7 +39,8 @@ texts_put bytes old new number span put h last n = at (cases_eq n number) where
       subst (λ k. IfSome (slot new k) (IsSpanWithin bytes)) (sym same)
       (subst (λ (o : Option TextSpan). IfSome o (IsSpanWithin bytes)) (sym put.changed) ends)
   at (inr other) =
-      subst (λ (o : Option TextSpan). IfSome o (IsSpanWithin bytes)) (sym (put.others n other)) (h n)
+      subst (λ (o : Option TextSpan). IfSome o (IsSpanWithin bytes)) (sym (put.others n other))
+      (h n)
 
 pub last_put : (bytes : List ℕ) (old new : List (Option TextSpan)) (number : ℕ) (span : TextSpan)
     → ChangesSlot old new number (Some span) → IsLast bytes span → LastEnds bytes new (Some number)

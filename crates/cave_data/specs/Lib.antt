@@ -14,6 +14,7 @@ pub mod BindingFault
 pub mod BindingSteps
 pub mod Reads
 pub mod LowestCause
+pub mod FaultyLine
 pub mod Laws
 pub mod Cave
 pub mod Limits

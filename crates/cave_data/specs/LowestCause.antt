@@ -1,19 +1,26 @@
 -- Of several faults of one line the lowest is reported: what is missing, then what is out of its
 -- range, then what is too much.
-use Rattle.std.specs.Prelude.{◌≡◌, ℕ, ◌≤◌, List, [], ◌∷◌, length, Some}
+use Rattle.std.specs.Prelude.{◌≡◌, ◌⊎◌, ℕ, ◌<◌, ◌≤◌, List, [], ◌∷◌, length, Some, IsTrue}
+use Rattle.std.specs.List.{All, filter_map}
+use Rattle.data_rows.specs.base_lines.Bytes.{is_all_blank}
 use Rattle.data_rows.specs.declared.error.Cause.{Cause}
 use Rattle.data_rows.specs.declared.error.Cause.TheVariants.{BadSection, BadNumber, OutOfRange}
 use Rattle.data_rows.specs.declared.error.Cause.TheVariants.{TooManyRows}
 use Rattle.data_rows.specs.declared.error.Section.{Section}
 use Rattle.data_rows.specs.declared.error.Section.TheVariants as section
 use Rattle.data_rows.specs.declared.number.Number.{Number}
+use Rattle.data_rows.specs.declared.number.Number.TheVariants.{Natural, Negative}
 use Rattle.data_rows.specs.declared.position.Position.{Position}
-use Rattle.data_rows.specs.declared.position.Position.TheVariants.{Outside, Inside, After}
-use Rattle.data_rows.specs.Rows.{Entry, Going}
+use Rattle.data_rows.specs.declared.position.Position.TheVariants.{Outside, Inside}
+use Rattle.data_rows.specs.Rows.{Entry, Going, TextLine}
 use Rattle.data_rows.specs.RowParts.{BeginsWithField, BeginsWithNumber, BeginsWithNumbers}
 use Rattle.data_rows.specs.RowParts.{MayBeginWithNumber, IsNumberList}
-use Rattle.data_rows.specs.RowGrammar.{IsWayRow, IsConditionRow, IsRow}
-use Rattle.data_rows.specs.Grammar.{position_after}
+use Rattle.data_rows.specs.RowGrammar.{IsTextRow, IsWayRow, IsConditionRow, IsRow}
+use Rattle.data_rows.specs.RowGrammar.{IsOfObject, IsOfProp}
+use Rattle.data_rows.specs.DatabaseGrammar.{section_number, IsLineOfNumber}
+use Rattle.data_rows.specs.SectionRows.{way_of, word_entry_of, class_line_of, object_line_of}
+use Rattle.data_rows.specs.Grammar.{position_after, entries}
+use Rattle.cave_data.specs.Limits.{MAX_WAYS, MAX_WORDS, MAX_CLASSES}
 use Rattle.cave_data.specs.FirstFault.{line_cause}
 
 -- the numbers and words of a row of the section are there, whatever their ranges
@@ -48,21 +55,52 @@ IsInRange section.Conditions line =
     (bit : ℕ) × (places : List ℕ) × IsConditionRow line bit places
 IsInRange s line = (row : Entry) × IsRow s line row
 
--- no cause below this one is there too, where the parts are there or not, and in their ranges or
--- not
-abbrev pub IsLowest : Cause → Type 0 → Type 0 → Type 0
-IsLowest BadNumber parts ranges = ¬ parts
-IsLowest OutOfRange parts ranges = parts
-IsLowest TooManyRows parts ranges = parts × ranges
-IsLowest cause parts ranges = ⊥
+-- the line is of a prop, and none before it is of an object
+abbrev pub LacksObject : List Entry → Section → List ℕ → Type 0
+LacksObject before section.Objects line =
+    (row : TextLine) × IsTextRow IsOfProp line row
+    × All (λ earlier. ¬ IsOfObject earlier.number) (filter_map object_line_of before)
+LacksObject before s line = ⊥
 
--- no lower cause than this one is at a line at that place
-abbrev pub IsLowestAt : Position → List ℕ → Cause → Type 0
-IsLowestAt Outside line cause = cause ≡ BadSection
-IsLowestAt (Inside s) line cause = IsLowest cause (HasParts s line) (IsInRange s line)
-IsLowestAt After line cause = ⊥
+-- more than 40 motions or places are in the line
+abbrev pub HasLongList : Section → List ℕ → Type 0
+HasLongList section.Travel line =
+    (place : ℕ) × (going : Going) × IsWayRow line place going × (40 < length going.motions)
+HasLongList section.Conditions line =
+    (bit : ℕ) × (places : List ℕ) × IsConditionRow line bit places × (40 < length places)
+HasLongList s line = ⊥
+
+-- the rows before are as many of the section as there may be
+abbrev pub IsFull : List Entry → Section → Type 0
+IsFull before section.Travel = MAX_WAYS ≤ length (filter_map way_of before)
+IsFull before section.Words = MAX_WORDS ≤ length (filter_map word_entry_of before)
+IsFull before section.Classes = MAX_CLASSES ≤ length (filter_map class_line_of before)
+IsFull before s = ⊥
+
+-- this is wrong with the line inside the section after these rows, and no lower cause is
+abbrev pub IsLowest : List Entry → Section → List ℕ → Cause → Type 0
+IsLowest before s line BadNumber = ¬ HasParts s line
+IsLowest before s line OutOfRange =
+    HasParts s line × ((¬ IsInRange s line) ⊎ LacksObject before s line)
+IsLowest before s line TooManyRows =
+    HasParts s line × IsInRange s line × (HasLongList s line ⊎ IsFull before s)
+IsLowest before s line cause = ⊥
+
+-- the line opens no section, and doesn't end the database
+abbrev pub OpensNothing : List ℕ → Type 0
+OpensNothing line = ((s : Section) → ¬ IsLineOfNumber (Natural (section_number s)) line)
+    × (¬ IsLineOfNumber (Natural 0) line)
+
+-- this is wrong with the line at that place after these rows, and no lower cause is
+abbrev pub IsLowestAt : List Entry → Position → List ℕ → Cause → Type 0
+IsLowestAt before Outside line BadSection = (¬ IsTrue (is_all_blank line)) × OpensNothing line
+IsLowestAt before (Inside s) line cause =
+    (¬ IsTrue (is_all_blank line)) × (¬ IsLineOfNumber (Negative 1) line)
+    × IsLowest before s line cause
+IsLowestAt before position line cause = ⊥
 
 -- the cause of a line is its lowest
 abbrev pub ReportsLowest : Type 0
 ReportsLowest = (before : List (List ℕ)) (line : List ℕ) (cause : Cause)
-    → line_cause before line ≡ Some cause → IsLowestAt (position_after before) line cause
+    → line_cause before line ≡ Some cause
+    → IsLowestAt (entries before) (position_after before) line cause

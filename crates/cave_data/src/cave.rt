@@ -1,6 +1,7 @@
 //! A cave: the tables of a database and what its bindings say.
 ghost use Rattle.std.specs.Prelude.{◌≡◌, All, option_map, map, length, nat_lt, IfOk, IfErr, IfSome};
-ghost use Rattle.std.specs.Prelude.{MatchOption, MatchResult, None, unwrap_or};
+ghost use Rattle.std.specs.Prelude.{MatchOption, MatchResult, None, unwrap_or, []};
+ghost use Rattle.std.specs.Str.Lines.{lines};
 ghost use Rattle.std.specs.FinMap.{get};
 ghost use Rattle.data_rows.specs.base_limits.Limits.{MAX_INPUT_BYTES};
 ghost use Rattle.cave_data.specs.CaveView.{name_of, look_of, ways_from, cond_of, placement_of};
@@ -13,6 +14,8 @@ ghost use Rattle.cave_data.specs.Ranges.{IsLetters, IsMessage, IsPlace, IsPlacem
 ghost use Rattle.cave_data.specs.Ranges.{HasOnly, AreInRange};
 ghost use Rattle.cave_data.specs.Laws.{KeepsLaws};
 ghost use Rattle.cave_data.specs.LowestCause.{ReportsLowest};
+ghost use Rattle.cave_data.specs.FirstFault.{first_fault};
+ghost use Rattle.cave_data.specs.FaultyLine.{IsFirstFault};
 ghost use Rattle.cave_data.specs.Reads.{AreValidInputs, Reads, fault, size_fault};
 ghost use Rattle.cave_data.specs.Printing.{rating};
 ghost use Rattle.cave_data.specs.Tables.{IsAbove};
@@ -199,6 +202,9 @@ impl Cave {
         // Where a line of the database has several faults, the one with the lowest number is its
         // cause.
         ensures lowest { ReportsLowest }
+        // The lines before the first faulty one begin a database.
+        ensures first { IfSome (first_fault [] (lines database.now))
+            (IsFirstFault (lines database.now)) }
         // There is no fault exactly where the inputs are a database and bindings.
         ensures right { (AreValidInputs database.now bindings.now
             → fault database.now bindings.now ≡ None)

@@ -1,1 +1,4 @@
+mod CauseLemmas
+mod ExactCauses
+mod FirstFaults
 mod KeyLemmas

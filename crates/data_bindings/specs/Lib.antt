@@ -1,3 +1,4 @@
+pub mod BindingCauses
 pub mod Listing
 pub use Rattle.cave_data.specs.base_lines as base_lines
 pub use Rattle.cave_data.specs as cave_data

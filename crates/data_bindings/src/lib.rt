@@ -1,7 +1,9 @@
 //! What the bindings of a cave come to: each key with its number, and what that number is there.
+//! Also laws of what is wrong with bindings.
 #![tactic(auto)]
 
 mod keys;
+pub mod laws;
 pub mod listing;
 
 pub use cave_data::{

@@ -1,7 +1,8 @@
 -- A line is one of bindings exactly where it is read as one.
 use Rattle.std.proofs.Common.{◌≡◌, ℕ, ◌≤◌, Bool, true, false, cond, ◌&&◌, nat_eq, nat_le, List, []}
 use Rattle.std.proofs.Common.{◌∷◌}
-use Rattle.std.proofs.Common.{◌++◌, length, drop, codes, Option, Some, None, Result, Ok, Err, IsTrue}
+use Rattle.std.proofs.Common.{◌++◌, length, drop, codes, Option, Some, None, Result, Ok, Err}
+use Rattle.std.proofs.Common.{IsTrue}
 use Rattle.std.proofs.Common.{refl, sym, ap, subst, ◌∙◌, arith}
 use Rattle.std.specs.Option.{ok_or}
 use Rattle.std.specs.List.{starts_with}
@@ -20,7 +21,8 @@ use Rattle.data_rows.specs.declared.binding.Binding.{Binding}
 use Rattle.data_rows.specs.Fields.{fields, natural}
 use Rattle.data_rows.specs.Role.{ROLE_NAMES}
 use Rattle.data_rows.specs.PlaceRole.{PLACE_NAMES}
-use Rattle.data_rows.specs.BindingLines.{two_fields, bound_within, position_of_name, role_binding}
+use Rattle.data_rows.specs.BindingLines.{two_fields, bound_within, role_binding}
+use Rattle.data_rows.specs.BindingGrammar.{position_of_name}
 use Rattle.data_rows.specs.BindingLines.{place_binding, letters_binding, binding_of, binding_row}
 use Rattle.data_rows.specs.RowParts.{WritesNatural}
 use Rattle.data_rows.specs.RowGrammar.{IsBetween}
@@ -92,7 +94,8 @@ read-role : (name : List ℕ) (n : ℕ) (binding : Binding) → role_binding nam
     → IsReadAs (codes "msg." ++ name) n binding
 read-role name n binding is =
     let value = in_steps (bound_within 1 499 n) _ binding is in
-    let number = in_steps (ok_or (position_of_name ROLE_NAMES name) UnknownRole) _ binding value.2 in
+    let number =
+    in_steps (ok_or (position_of_name ROLE_NAMES name) UnknownRole) _ binding value.2 in
     let range = read-bound 1 499 n value.0 value.1 in
     let found : Binding = record { key = RoleKey number.0; value = value.0 } in
     subst (IsReadAs (codes "msg." ++ name) n) (same_ok found binding number.2)

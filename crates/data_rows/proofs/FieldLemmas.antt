@@ -4,9 +4,11 @@ use Rattle.std.proofs.Common.{◌∷◌, length, refl, sym, ap, subst, ◌∙◌
 use Rattle.std.specs.List.{onto_first}
 use Rattle.std.proofs.lemmas.Bool.{false≢true, eqb-true}
 use Rattle.base_lines.specs.Bytes.{is_blank, is_nonblank, prefix_while, after_prefix}
-use Rattle.data_rows.specs.Fields.{after_blanks, field, after_field, ends_field, fields}
+use Rattle.data_rows.specs.Fields.{after_blanks, field, after_field, fields}
+use Rattle.data_rows.specs.RowParts.{ends_field}
 
-pub blank_ahead : (b : ℕ) (bs : List ℕ) → is_blank b ≡ true → after_blanks (b ∷ bs) ≡ after_blanks bs
+pub blank_ahead : (b : ℕ) (bs : List ℕ) → is_blank b ≡ true
+    → after_blanks (b ∷ bs) ≡ after_blanks bs
 blank_ahead b bs e = ap (λ v. cond v (after_prefix is_blank bs) (b ∷ bs)) e
 
 pub none_ahead : (b : ℕ) (bs : List ℕ) → is_blank b ≡ false → after_blanks (b ∷ bs) ≡ b ∷ bs

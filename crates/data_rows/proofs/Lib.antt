@@ -2,7 +2,7 @@ pub mod BindingForms
 pub mod FieldLemmas
 pub mod LineLemmas
 pub mod ListLemmas
-pub mod MinusLemmas
+pub mod Minus
 pub mod NameLemmas
 pub mod PartLemmas
 pub mod ReadParts

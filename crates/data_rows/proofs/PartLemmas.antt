@@ -13,8 +13,9 @@ use Rattle.base_lines.specs.Prefixes.{prefix_while-append-after_prefix, list_all
 use Rattle.base_lines.specs.Prefixes.{after_prefix-append, prefix_while-append}
 use Rattle.data_rows.specs.declared.number.Number.{Number}
 use Rattle.data_rows.specs.declared.number.Number.TheVariants.{Natural}
-use Rattle.data_rows.specs.Fields.{after_blanks, field, after_field, ends_field, is_numeral}
-use Rattle.data_rows.specs.Fields.{natural, negative, number_of_field, number_at}
+use Rattle.data_rows.specs.Fields.{after_blanks, field, after_field, is_numeral}
+use Rattle.data_rows.specs.RowParts.{ends_field, negative}
+use Rattle.data_rows.specs.Fields.{natural, number_of_field, number_at}
 use Rattle.data_rows.specs.RowParts.{BeginsWithField, WritesNatural, WritesNumber, unsigned, signed}
 use Rattle.data_rows.specs.RowParts.{BeginsWithNumber}
 use Rattle.data_rows.proofs.FieldLemmas.{none_ahead, field-blank, after_field-blank}

@@ -1,8 +1,8 @@
 -- What the parts of a row are by their bytes is what reading them, or else their cause, gives.
 use Rattle.std.proofs.Common.{◌≡◌, ℕ, ◌≤◌, Bool, true, false, cond}
 use Rattle.std.proofs.Common.{◌==◌, ◌&&◌, nat_lt, nat_le, List, [], ◌∷◌, ◌++◌, length, map, drop}
-use Rattle.std.proofs.Common.{Option, Some, None, option_map, Result, Ok, Err, IsTrue, refl, sym, ap}
-use Rattle.std.proofs.Common.{subst, ◌∙◌, arith}
+use Rattle.std.proofs.Common.{Option, Some, None, option_map, Result, Ok, Err, IsTrue, refl, sym}
+use Rattle.std.proofs.Common.{ap, subst, ◌∙◌, arith}
 use Rattle.std.specs.Option.{ok_or}
 use Rattle.std.specs.List.{All}
 use Rattle.std.proofs.lemmas.Bool.{and_parts, eqb-true, ne_eqb, false≢true}
@@ -16,7 +16,8 @@ use Rattle.data_rows.specs.declared.error.Cause.{Cause}
 use Rattle.data_rows.specs.declared.error.Cause.TheVariants.{BadNumber, OutOfRange, TooManyRows}
 use Rattle.data_rows.specs.declared.number.Number.{Number}
 use Rattle.data_rows.specs.declared.number.Number.TheVariants.{Natural, Negative}
-use Rattle.data_rows.specs.Fields.{after_blanks, field, after_field, ends_field, fields}
+use Rattle.data_rows.specs.Fields.{after_blanks, field, after_field, fields}
+use Rattle.data_rows.specs.RowParts.{ends_field}
 use Rattle.data_rows.specs.Fields.{number_of_field, number_at}
 use Rattle.data_rows.specs.Rows.{◌>>=◌, number_or_cause, within, is_zero, before_zero, list_in}
 use Rattle.data_rows.specs.Rows.{numbers_to_zero, all_within, some_of, few_of, text_or_cause}
@@ -242,7 +243,8 @@ list-numbers (f ∷ fs) bytes ns is read =
     let here = ahead bytes (f ∷ fs) is in
     at (number_of_field f) refl here.0 read
     (λ more later. list-numbers fs (after_field (after_blanks bytes)) more here.1 later) where
-      going : (n : Number) → BeginsWithNumber bytes n (after_field (after_blanks bytes)) → (b : Bool)
+      going : (n : Number) → BeginsWithNumber bytes n (after_field (after_blanks bytes))
+          → (b : Bool)
           → is_zero n ≡ b
           → cond b (Some []) (option_map (λ more. n ∷ more) (numbers_to_zero fs)) ≡ Some ns
           → ((more : List Number) → numbers_to_zero fs ≡ Some more

@@ -125,7 +125,8 @@ pub word_number-read : (n : ℕ) → IsWordNumber n → word_number (Natural n) 
 word_number-read n is =
     ap (λ b. cond {A = Result ℕ Cause} b (Ok n) (Err OutOfRange)) (is_word_number-from n is)
 
-pub read-word_number : (x : Number) (n : ℕ) → word_number x ≡ Ok n → (x ≡ Natural n) × IsWordNumber n
+pub read-word_number : (x : Number) (n : ℕ) → word_number x ≡ Ok n
+    → (x ≡ Natural n) × IsWordNumber n
 read-word_number (Natural m) n is = at (is_word_number m) refl is where
   at : (b : Bool) → is_word_number m ≡ b
       → cond {A = Result ℕ Cause} b (Ok m) (Err OutOfRange) ≡ Ok n

@@ -14,7 +14,11 @@ use Rattle.data_rows.specs.RowGrammar.{IsRow}
 use Rattle.data_rows.specs.RowGrammar.{in_1, in_2, in_3, in_4, in_5, in_6, in_7, in_8, in_9, in_10}
 use Rattle.data_rows.specs.RowGrammar.{in_11, in_12}
 use Rattle.data_rows.proofs.ReadParts.{in_steps, same_ok}
-use Rattle.data_rows.proofs.SectionRows.{text_row-read, read-text_row, object_line-read, read-object_line, way-read, default-read, read-default, read-way, condition-read, read-condition, hint-read, read-hint, word-row-read, read-word-row, placement-read, read-placement}
+use Rattle.data_rows.proofs.SectionRows.{text_row-read, read-text_row, object_line-read}
+use Rattle.data_rows.proofs.SectionRows.{read-object_line, way-read, read-way, default-read}
+use Rattle.data_rows.proofs.SectionRows.{read-default, condition-read, read-condition, hint-read}
+use Rattle.data_rows.proofs.SectionRows.{read-hint, word-row-read, read-word-row, placement-read}
+use Rattle.data_rows.proofs.SectionRows.{read-placement}
 
 pub entry-read : (s : Section) (line : List ℕ) (entry : Entry) → IsRow s line entry
     → entry_in s line ≡ Ok entry

@@ -20,7 +20,8 @@ use Rattle.data_rows.specs.RowParts.{number_then, MayBeginWithNumber, IsNumberLi
 use Rattle.data_rows.specs.RowGrammar.{IsBetween, IsTextRow, IsWayRow, IsWordRow}
 use Rattle.data_rows.specs.RowGrammar.{IsObjectOrProp}
 use Rattle.data_rows.specs.RowGrammar.{IsPlacementRow, IsDefaultRow, IsConditionRow, IsHintRow}
-use Rattle.data_rows.proofs.ReadParts.{in_steps, same_ok, number-read, read-number, within-read, read-within}
+use Rattle.data_rows.proofs.ReadParts.{in_steps, same_ok, number-read, read-number}
+use Rattle.data_rows.proofs.ReadParts.{within-read, read-within}
 use Rattle.data_rows.proofs.ReadParts.{may-read, read-may, list-read, read-list, all-read, read-all}
 use Rattle.data_rows.proofs.ReadParts.{some-read, read-some, few-read, read-few, text-read}
 use Rattle.data_rows.proofs.ReadParts.{read-text, word-read, read-word}
@@ -38,7 +39,8 @@ text_row-read low high line row is =
     let text = text-read is.rest row.text is.text is.short in
     rw (n, range, text) refl
 
-pub read-text_row : (low high : ℕ) (line : List ℕ) (row : TextLine) → text_line low high line ≡ Ok row
+pub read-text_row : (low high : ℕ) (line : List ℕ) (row : TextLine)
+    → text_line low high line ≡ Ok row
     → IsTextRow (IsBetween low high) line row
 unfolding text_line
 read-text_row low high line row is =
@@ -246,7 +248,8 @@ hint-read line number hint is = at is.numbers where
       let rx = within-read 0 499 hint.text is.text_in_range in
       rw (ph, pt, pp, pq, px, rh, rt, rp, rq, rx) refl
 
-pub read-hint : (line : List ℕ) (row : ℕ × Hint) → hint_row line ≡ Ok row → IsHintRow line row.0 row.1
+pub read-hint : (line : List ℕ) (row : ℕ × Hint) → hint_row line ≡ Ok row
+    → IsHintRow line row.0 row.1
 unfolding hint_row
 read-hint line row is =
     let h = in_steps (number_or_cause line) _ row is in

@@ -1,16 +1,21 @@
 -- Which lines are those of bindings, and what they bind.
-use Rattle.std.specs.Prelude.{◌≡◌, ℕ, List, [], ◌∷◌, ◌++◌, Some, codes, IsTrue}
+use Rattle.std.specs.Prelude.{◌≡◌, ℕ, List, [], ◌∷◌, ◌++◌, Option, Some, codes, IsTrue}
+use Rattle.std.specs.List.{position_from}
+use Rattle.std.specs.Str.{bytes_eq}
 use Rattle.base_lines.specs.Bytes.{is_all_blank}
 use Rattle.base_lines.specs.LogLine.{is_skipped}
 use Rattle.data_rows.specs.declared.binding.Key.{Key}
 use Rattle.data_rows.specs.declared.binding.Key.TheVariants.{RoleKey, PlaceKey, LettersKey}
 use Rattle.data_rows.specs.declared.binding.Binding.{Binding}
-use Rattle.data_rows.specs.BindingLines.{position_of_name}
 use Rattle.data_rows.specs.Role.{ROLE_NAMES}
 use Rattle.data_rows.specs.PlaceRole.{PLACE_NAMES}
 use Rattle.data_rows.specs.RowParts.{BeginsWithField, WritesNatural}
 use Rattle.data_rows.specs.RowGrammar.{IsBetween}
 use Rattle.data_numbers.specs.Numbers.{LAST_PLACE, LAST_MESSAGE}
+
+-- the number of a name in a table of names
+abbrev pub position_of_name : List (List ℕ) → List ℕ → Option ℕ
+position_of_name names name = position_from (λ known. bytes_eq known name) 0 names
 
 -- the bytes of a key, which has the number of its name in the table of names
 pub data IsKey : List ℕ → Key → Type 0 where

@@ -1,9 +1,9 @@
 -- The lines of bindings, which give roles and places their numbers.
 use Rattle.std.specs.Prelude.{ℕ, ◌&&◌, nat_eq, nat_le, if◌then◌else◌, codes, List, [], ◌∷◌, ◌++◌}
-use Rattle.std.specs.Prelude.{drop, Option, option_to_list, Result, Ok, Err}
+use Rattle.std.specs.Prelude.{drop, option_to_list, Result, Ok, Err}
 use Rattle.std.specs.Option.{ok_or}
 use Rattle.std.specs.Result.{result_ok}
-use Rattle.std.specs.List.{starts_with, position_from}
+use Rattle.std.specs.List.{starts_with}
 use Rattle.std.specs.Str.{bytes_eq}
 use Rattle.data_rows.specs.declared.error.Cause.{Cause}
 use Rattle.data_rows.specs.declared.error.BindingFlaw.TheVariants.{Malformed, BadValue}
@@ -12,6 +12,7 @@ use Rattle.data_rows.specs.declared.binding.Key.TheVariants.{RoleKey, PlaceKey, 
 use Rattle.data_rows.specs.declared.binding.Binding.{Binding}
 use Rattle.base_lines.specs.LogLine.{is_skipped}
 use Rattle.data_rows.specs.Fields.{fields, natural}
+use Rattle.data_rows.specs.BindingGrammar.{position_of_name}
 use Rattle.data_rows.specs.Rows.{◌>>=◌}
 use Rattle.data_rows.specs.Role.{ROLE_NAMES}
 use Rattle.data_rows.specs.PlaceRole.{PLACE_NAMES}
@@ -24,10 +25,6 @@ two_fields others = Err (BadBinding Malformed)
 
 abbrev pub bound_within : ℕ → ℕ → ℕ → Result ℕ Cause
 bound_within low high n = if nat_le low n && nat_le n high then Ok n else Err (BadBinding BadValue)
-
--- the number of a name in a table of names
-abbrev pub position_of_name : List (List ℕ) → List ℕ → Option ℕ
-position_of_name names name = position_from (λ known. bytes_eq known name) 0 names
 
 abbrev pub role_binding : List ℕ → ℕ → Result Binding Cause
 role_binding name n =

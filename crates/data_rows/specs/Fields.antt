@@ -1,11 +1,12 @@
 -- The fields of a line, which are its runs of nonblanks, and the numbers that they spell.
-use Rattle.std.specs.Prelude.{ℕ, Bool, true, ◌&&◌, ◌==◌, nat_lt, nat_le, if◌then◌else◌, List, []}
+use Rattle.std.specs.Prelude.{ℕ, Bool, ◌&&◌, ◌==◌, nat_lt, nat_le, if◌then◌else◌, List, []}
 use Rattle.std.specs.Prelude.{◌∷◌, length, Option, Some, None, option_map}
 use Rattle.std.specs.List.{list_all, onto_first}
 use Rattle.base_lines.specs.Bytes.{is_blank, is_nonblank, is_digit, prefix_while, after_prefix}
 use Rattle.base_lines.specs.Bytes.{number_of}
 use Rattle.data_rows.specs.declared.number.Number.{Number}
-use Rattle.data_rows.specs.declared.number.Number.TheVariants.{Natural, Negative}
+use Rattle.data_rows.specs.declared.number.Number.TheVariants.{Natural}
+use Rattle.data_rows.specs.RowParts.{ends_field, negative}
 
 -- what follows the leading blanks
 abbrev pub after_blanks : List ℕ → List ℕ
@@ -18,11 +19,6 @@ field bytes = prefix_while is_nonblank bytes
 -- what follows the first field
 abbrev pub after_field : List ℕ → List ℕ
 after_field bytes = after_prefix is_nonblank bytes
-
--- whether a field that goes up to here ends here
-abbrev pub ends_field : List ℕ → Bool
-ends_field [] = true
-ends_field (b ∷ bytes) = is_blank b
 
 abbrev pub with_byte : ℕ → Bool → List (List ℕ) → List (List ℕ)
 with_byte b ends later = if is_blank b then later
@@ -39,9 +35,6 @@ is_numeral digits = nat_lt 0 (length digits) && nat_le (length digits) 9 && list
 -- the number that digits spell
 unfoldable pub natural : List ℕ → Option ℕ
 natural digits = if is_numeral digits then Some (number_of digits) else None
-
-abbrev pub negative : ℕ → Number
-negative n = if n == 0 then Natural 0 else Negative n
 
 -- the number that a field spells: digits, with a minus sign before them or without one
 unfoldable pub number_of_field : List ℕ → Option Number

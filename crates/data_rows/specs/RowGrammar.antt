@@ -1,5 +1,6 @@
 -- What a row of each section is, said of its bytes.
-use Rattle.std.specs.Prelude.{◌≡◌, ◌⊎◌, ℕ, ℤ, pos, negsuc, ◌+◌, ◌*◌, ◌≤◌, List, [], ◌∷◌, length, map}
+use Rattle.std.specs.Prelude.{◌≡◌, ◌⊎◌, ℕ, ℤ, pos, negsuc, ◌+◌, ◌*◌, ◌≤◌, List, [], ◌∷◌, length}
+use Rattle.std.specs.Prelude.{map}
 use Rattle.std.specs.List.{All}
 use Rattle.data_rows.specs.declared.error.Section.{Section}
 use Rattle.data_rows.specs.declared.error.Section.TheVariants as section
@@ -51,10 +52,16 @@ pub record IsWordRow (line : List ℕ) (entry : WordEntry) : Type 0 where
   pub word : BeginsWithField rest entry.word ignored
   pub number_in_range : IsWordNumber entry.number
 
--- an object, or a hundred times a prop
+-- the number of the line that names an object
+abbrev pub IsOfObject : ℕ → Type 0
+IsOfObject n = IsBetween 1 LAST_NAMED n
+
+-- the number of a line that describes an object at a prop: a hundred times the prop
+abbrev pub IsOfProp : ℕ → Type 0
+IsOfProp n = (prop : ℕ) × (prop ≤ LAST_PROP) × (n ≡ 100 * prop)
+
 abbrev pub IsObjectOrProp : ℕ → Type 0
-IsObjectOrProp n = IsBetween 1 LAST_NAMED n
-    ⊎ ((prop : ℕ) × (prop ≤ LAST_PROP) × (n ≡ 100 * prop))
+IsObjectOrProp n = IsOfObject n ⊎ IsOfProp n
 
 -- a second place, or 0, or -1
 pub data IsSecondPlace : Number → ℤ → Type 0 where

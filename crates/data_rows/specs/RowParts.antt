@@ -1,10 +1,15 @@
 -- The parts of a row, said of its bytes: fields, numbers, lists of numbers, and texts.
-use Rattle.std.specs.Prelude.{◌≡◌, ℕ, ◌≤◌, List, [], ◌∷◌, ◌++◌, length, IsTrue}
+use Rattle.std.specs.Prelude.{◌≡◌, ℕ, ◌≤◌, Bool, true, ◌==◌, if◌then◌else◌, List, []}
+use Rattle.std.specs.Prelude.{◌∷◌, ◌++◌, length, IsTrue}
 use Rattle.std.specs.List.{list_all}
 use Rattle.base_lines.specs.Bytes.{is_blank, is_nonblank, is_all_blank, is_digit, number_of}
 use Rattle.data_rows.specs.declared.number.Number.{Number}
-use Rattle.data_rows.specs.declared.number.Number.TheVariants.{Natural}
-use Rattle.data_rows.specs.Fields.{ends_field, negative}
+use Rattle.data_rows.specs.declared.number.Number.TheVariants.{Natural, Negative}
+
+-- whether a field that goes up to here ends here
+abbrev pub ends_field : List ℕ → Bool
+ends_field [] = true
+ends_field (b ∷ bytes) = is_blank b
 
 -- blanks or none, a field, which is a run of nonblanks, and the rest, which a blank begins or which
 -- is empty
@@ -22,6 +27,10 @@ pub record WritesNatural (digits : List ℕ) (number : ℕ) : Type 0 where
   pub few : length digits ≤ 9
   pub all_digits : IsTrue (list_all is_digit digits)
   pub value : number_of digits ≡ number
+
+-- the number that a minus sign and digits write; that of 0 is 0
+abbrev pub negative : ℕ → Number
+negative n = if n == 0 then Natural 0 else Negative n
 
 -- 1 to 9 digits, with a minus sign before them or without one
 pub data WritesNumber : List ℕ → Number → Type 0 where

@@ -1,6 +1,7 @@
 //! Fields of a line, and the numbers that they spell.
 ghost use Rattle.std.specs.Prelude.{◌≡◌, ◌<◌, ◌^◌, option_map, IfSome};
-ghost use Rattle.data_rows.specs.Fields.{natural, negative, number_of_field, number_at};
+ghost use Rattle.data_rows.specs.Fields.{natural, number_of_field, number_at};
+ghost use Rattle.data_rows.specs.RowParts.{negative};
 
 use base_lines::bytes::{skip_blanks, split_word};
 

@@ -47,7 +47,7 @@ pub fn after_heading(line: &[u8]) -> Option<Position>
 }
 
 /// Whether the line ends a section.
-#[tactic(auto, using(crate::proofs::MinusLemmas::closes_unsigned), unfolding(crate::specs::Grammar::closes))]
+#[tactic(auto, using(crate::proofs::Minus::unsigned), unfolding(crate::specs::Grammar::closes))]
 pub fn closes(line: &[u8]) -> bool
     ensures { result ≡ closes line.now }
 {

@@ -1,6 +1,7 @@
 //! Rows of a database.
 ghost use Rattle.std.specs.Prelude.{◌≡◌};
-ghost use Rattle.data_rows.specs.Targets.{condition_of, destination_of, IsConditionWithin, EndsWithin};
+ghost use Rattle.data_rows.specs.Targets.{condition_of, destination_of};
+ghost use Rattle.data_rows.specs.Targets.{IsConditionWithin, EndsWithin};
 
 use crate::targets::{Condition, Destination, condition_of, destination_of};
 use arrayvec::ArrayVec;

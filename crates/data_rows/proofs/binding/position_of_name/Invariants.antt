@@ -1,7 +1,7 @@
 use Rattle.std.proofs.Common.{◌≡◌, map, drop}
 use Rattle.std.specs.List.{position_from}
 use Rattle.std.specs.Str.{bytes_eq}
-use Rattle.data_rows.specs.BindingLines.{position_of_name}
+use Rattle.data_rows.specs.BindingGrammar.{position_of_name}
 use Rattle.data_rows.proofs.binding.position_of_name.Given as goal
 
 abbrev pub invariant-loop-number : goal.invariant-loop-number

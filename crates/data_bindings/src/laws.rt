@@ -1,0 +1,14 @@
+//! Laws of what is wrong with bindings. Each is the contract of a function that does nothing.
+ghost use Rattle.data_bindings.specs.BindingCauses.{CausesAreExact, FaultsAreFirst};
+
+/// A cause is reported of a line of bindings exactly where it is there, by the grammar, and none
+/// before it is.
+pub fn causes_are_exact()
+    ensures { CausesAreExact }
+{}
+
+/// A fault of bindings is of the first line at fault, by the grammar: the lines before it are
+/// bindings, and its cause is that of the line that comes after them.
+pub fn faults_are_first()
+    ensures { FaultsAreFirst }
+{}
