@@ -99,10 +99,10 @@ def labels_of(function):
 
 
 def is_clause(crate, function, label):
-    """Whether a function has such a clause, or the crate a fact of that name in its specs/."""
+    """Whether a function has such a clause, or the crate a fact of that name."""
     if any(label in [*labels, "invariant", ""] for labels in labels_of(function)):
         return True
-    facts = texts(crate, "specs/**/*.antt")
+    facts = texts(crate, "specs/**/*.antt") + texts(crate, "proofs/**/*.antt")
     return not label and any(re.search(rf"^(?:pub )?{function} :", it, re.M) for it in facts)
 
 

@@ -1,3 +1,4 @@
+-- A lexicon: what each word of a cave means, found by the word.
 use Rattle.std.specs.Prelude.{◌≡◌, ℕ, List, slice_index_or, Option, None, option_map}
 use Rattle.std.specs.Prelude.{option_and_then, bytes_eq}
 use Rattle.cave_data.specs.CaveView.{CaveView}

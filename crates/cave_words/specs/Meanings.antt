@@ -1,3 +1,4 @@
+-- What a word means in a cave: what its first row in the file says.
 use Rattle.std.specs.Prelude.{ℕ, List, Option, Some, None, fold, unwrap_or, if◌then◌else◌, ◌/◌, ◌%◌}
 use Rattle.std.specs.Prelude.{Bool, ◌==◌, ◌&&◌, bytes_eq, option_map, find}
 use Rattle.std.specs.Option.{option_or}

@@ -1,3 +1,4 @@
+-- The objects that rules name by a word of the cave.
 use Rattle.std.specs.Prelude.{ℕ, ◌+◌, Bool, true, false, nat_lt, if◌then◌else◌, List, [], ◌∷◌}
 use Rattle.std.specs.Prelude.{codes, slice_index_or, Option, Some, None, option_map}
 use Rattle.std.specs.Prelude.{option_and_then}

@@ -1,3 +1,4 @@
+-- The words of a line, and which letters of a word count.
 use Rattle.std.specs.Prelude.{ℕ, List, [], ◌∷◌, Option, Some, None, option_map, ◌-◌, Bool, bytes_eq}
 use Rattle.std.specs.Prelude.{◌++◌, map, take, length, replicate}
 use Rattle.cave_data.specs.base_lines.Bytes.{is_blank, is_nonblank, prefix_while, after_prefix}

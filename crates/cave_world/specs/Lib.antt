@@ -1,4 +1,3 @@
-pub mod Equality
 pub mod Limits
 pub mod Motions
 pub mod Part

@@ -1,5 +1,5 @@
 -- Light, and places with a forced motion.
-use Rattle.std.specs.Prelude.{ℕ, pos, ◌/◌, ◌%◌, ◌^◌, Bool, false, ◌==◌, ◌&&◌, not, List, [], ◌∷◌}
+use Rattle.std.specs.Prelude.{ℕ, ℤ, pos, ◌/◌, ◌%◌, ◌^◌, Bool, false, ◌==◌, ◌&&◌, not, List, [], ◌∷◌}
 use Rattle.std.specs.Ordering.{int_eq}
 use Rattle.cave_words.specs.data_rows.Rows.{Going}
 use Rattle.cave_words.specs.cave_data.CaveView.{CaveView, ways_from, cond_of}
@@ -28,8 +28,12 @@ leads_on (way ∷ ways) = starts_with_any way.motions
 unfoldable pub forced : CaveView → ℕ → Bool
 forced cave place = leads_on (ways_from cave place)
 
+-- the prop of a burning lamp
+abbrev pub LAMP_ON : ℤ
+LAMP_ON = pos 1
+
 -- the place has no light, and no burning lamp is at hand
 unfoldable pub dark : CaveView → ℕ → State → Bool
 dark cave lamp s =
     not (has_condition cave s.trail.here LIGHT_BIT)
-    && not (is_at_hand s.objects s.trail.here lamp && int_eq (prop_of s.objects lamp) (pos 1))
+    && not (is_at_hand s.objects s.trail.here lamp && int_eq (prop_of s.objects lamp) LAMP_ON)

@@ -32,7 +32,7 @@ pub use lamp::{Charge, LOW_CHARGE, Lamp};
 pub use magic::Magic;
 pub use motion::{Motion, NoNamedMotion};
 pub use part::{NumberLine, Out, Part, WordLine};
-pub use sight::{forced, has_condition};
+pub use sight::{LAMP_ON, forced, has_condition};
 pub use state::{LIVES, MAX_TREASURES, State, Tallies, Trail};
 pub use talk::{MAX_DETAILS, Talk};
 pub use travel_rows::{Outcome, travel};

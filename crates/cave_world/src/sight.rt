@@ -9,6 +9,9 @@ use world_objects::{Object, Place};
 /// The bit of the places that have light.
 pub const LIGHT_BIT: u8 = 0;
 
+/// The prop of a burning lamp.
+pub const LAMP_ON: i8 = 1;
+
 /// Whether a condition of the cave is set for a place.
 #[tactic(auto, unfolding(crate::specs::Sight::has_condition))]
 pub fn has_condition(cave: &Cave, place: Place, bit: u8) -> bool
@@ -37,6 +40,6 @@ impl State {
         ensures { result ≡ dark cave.now lamp self.now }
     {
         !has_condition(cave, self.trail.here, LIGHT_BIT)
-            && !(self.here(lamp) && self.objects.prop(lamp).value() == 1)
+            && !(self.here(lamp) && self.objects.prop(lamp).value() == LAMP_ON)
     }
 }

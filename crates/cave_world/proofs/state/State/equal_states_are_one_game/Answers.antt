@@ -1,4 +1,4 @@
-use Rattle.cave_world.specs.Equality.{same_game}
+use Rattle.cave_world.proofs.Equality.{same_game}
 use Rattle.cave_world.proofs.state.State.equal_states_are_one_game.Goals as goal
 
 pub returns : goal.returns
