@@ -113,7 +113,8 @@ words_done_by_action cave None number x word p = after_words (after_default cave
 -- as it then is
 abbrev pub words_done_by_request : CaveView → HalfCommand → Request → Scene → WordsDone
 words_done_by_request cave half request.Unknown p = after_words (after_puzzle p) (Some half)
-words_done_by_request cave half (request.Motion motion) p = after_words (after_travel cave motion p) None
+words_done_by_request cave half (request.Motion motion) p =
+    after_words (after_travel cave motion p) None
 words_done_by_request cave half (request.Tell told) p = after_words (after_telling told p) None
 words_done_by_request cave half request.Knives p = after_words (after_vanished_knives p) None
 words_done_by_request cave half (request.Act number x word) p =
@@ -156,7 +157,7 @@ after_clocks cave words clocks.GaveUp p = unread_scene (after_end cave Quit p)
 after_clocks cave words (clocks.Closed place) p = unread_scene (after_arrival cave place p)
 
 unfoldable pub clocks_scene : CaveView → Words → Scene → Scene
-clocks_scene cave words p = let t = run_clocks cave p in after_clocks cave words t.outcome
+clocks_scene cave words p = let t = run_clocks cave p in after_clocks cave words t.step
     t.scene
 
 -- a command begins, the clocks run, its words are done, and the turn ends

@@ -22,5 +22,6 @@ pub use Rattle.turn_begin.specs.turn_scene as turn_scene
 pub use Rattle.turn_moves.specs.turn_score as turn_score
 pub use Rattle.turn_text.specs as turn_text
 pub use Rattle.turn_begin.specs.turn_things as turn_things
+pub use Rattle.cave_verbs.specs.verb_commands.turn_rules as turn_rules
 pub use Rattle.cave_verbs.specs.verb_commands as verb_commands
 pub use Rattle.turn_text.specs.world_objects as world_objects

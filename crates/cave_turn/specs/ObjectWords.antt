@@ -2,7 +2,8 @@
 use Rattle.std.specs.Prelude.{ℕ, Bool, false, ◌==◌, ◌&&◌, ◌||◌, nat_le, if◌then◌else◌, List, []}
 use Rattle.std.specs.Prelude.{◌∷◌, Option, Some, None}
 use Rattle.turn_text.specs.cave_data.CaveView.{CaveView}
-use Rattle.turn_begin.specs.turn_things.Reach.{liquid_of, lake_of, is_liquid, is_in_hand, is_near}
+use Rattle.turn_begin.specs.turn_things.Reach.{is_in_hand, is_near}
+use Rattle.turn_begin.specs.turn_things.Liquids.{liquid_of, lake_of, is_liquid}
 use Rattle.turn_begin.specs.turn_things.Reach.{has_other_prop, is_dwarf_here}
 use Rattle.turn_begin.specs.turn_scene.Scene.{is_called, thing}
 use Rattle.turn_begin.specs.turn_things.Props.{PLANT_SMALL}

@@ -3,7 +3,7 @@ use Rattle.std.specs.Prelude.{ℕ, Bool, true, false, ◌==◌, ◌&&◌, ◌||�
 use Rattle.std.specs.Prelude.{Option, Some, None}
 use Rattle.turn_text.specs.cave_data.CaveView.{CaveView}
 use Rattle.turn_text.specs.data_rows.declared.role.Role.TheVariants as role
-use Rattle.turn_begin.specs.turn_things.Reach.{lake_of, is_liquid}
+use Rattle.turn_begin.specs.turn_things.Liquids.{lake_of, is_liquid}
 use Rattle.turn_begin.specs.turn_scene.Scene.{or_no_object, thing}
 use Rattle.cave_verbs.specs.verb_commands.Verbs.{verb_number}
 use Rattle.cave_verbs.specs.verb_commands.declared.verb.Verb.TheVariants as verb

@@ -34,8 +34,8 @@ abbrev pub fallen_place : CaveView → ℕ → ℕ → ℕ
 fallen_place cave place x = if is_called cave x name.Lamp then start_place cave else place
 
 unfoldable pub layout_after_fall : CaveView → ℕ → ℕ → Layout → Layout
-layout_after_fall cave place x o = if is_carried o x then after_move_to o x (fallen_place cave place x)
-    else o
+layout_after_fall cave place x o =
+    if is_carried o x then after_move_to o x (fallen_place cave place x) else o
 
 -- the objects up to a number fall, one after another, from the last down
 unfoldable pub layout_after_falls : CaveView → ℕ → ℕ → Layout → Layout

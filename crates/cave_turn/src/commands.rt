@@ -76,7 +76,8 @@ fn begin_command(state: &mut State)
 #[tactic(auto, unfolding(crate::specs::Commands::after_travel))]
 fn travel_by(rules: &Rules<'_>, motion: u16, scene: &mut Scene<'_>)
     requires { HasRoom (parts_of_arrival scene.old.left + parts_of_journey) scene.old }
-    ensures scene { scene_of scene.new ≡ after_travel (cave_of rules.now) motion (scene_of scene.old) }
+    ensures scene { scene_of scene.new
+        ≡ after_travel (cave_of rules.now) motion (scene_of scene.old) }
     ensures says { MovesOnSaying (parts_of_arrival scene.old.left + parts_of_journey) scene.old
         scene.new }
 {
@@ -121,7 +122,8 @@ fn tell_of_knives(scene: &mut Scene<'_>)
 /// Does what a verb left to the turn.
 fn do_next(rules: &Rules<'_>, next: &Next, scene: &mut Scene<'_>)
     requires { HasRoom (parts_of_arrival scene.old.left) scene.old }
-    ensures scene { scene_of scene.new ≡ next_scene (cave_of rules.now) next.now (scene_of scene.old) }
+    ensures scene { scene_of scene.new
+        ≡ next_scene (cave_of rules.now) next.now (scene_of scene.old) }
     ensures says { MovesOnSaying (parts_of_arrival scene.old.left) scene.old scene.new }
 {
     match next {
@@ -300,7 +302,8 @@ fn go_on_after_clocks(rules: &Rules<'_>, words: Words, clocks: Clocks, scene: &m
 #[tactic(auto, unfolding(crate::specs::Commands::clocks_scene))]
 fn do_by_clocks(rules: &Rules<'_>, words: Words, scene: &mut Scene<'_>)
     requires { HasRoom (room_of_timed_request scene.old.left) scene.old }
-    ensures scene { scene_of scene.new ≡ clocks_scene (cave_of rules.now) words (scene_of scene.old) }
+    ensures scene { scene_of scene.new
+        ≡ clocks_scene (cave_of rules.now) words (scene_of scene.old) }
     ensures says { MovesOnSaying (parts_of_timed_request scene.old.left) scene.old scene.new }
 {
     let clocks = run_clocks(rules, scene);

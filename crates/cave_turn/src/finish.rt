@@ -38,7 +38,8 @@ fn is_hidden_in_hand(objects: &Objects, object: Object) -> bool
 #[tactic(auto, unfolding(crate::specs::Finish::after_oyster_shows))]
 fn show_oyster(rules: &Rules<'_>, scene: &mut Scene<'_>)
     requires { HasRoom 1 scene.old }
-    ensures scene { scene_of scene.new ≡ after_oyster_shows (cave_of rules.now) (scene_of scene.old) }
+    ensures scene { scene_of scene.new
+        ≡ after_oyster_shows (cave_of rules.now) (scene_of scene.old) }
     ensures says { GoesOnSaying 1 scene.old scene.new }
 {
     let oyster = rules.thing(Named::Oyster);

@@ -12,5 +12,5 @@ pub mod turns;
 
 pub use turn_begin::{Rules, begun_state};
 pub use turn_moves::{max_score, score};
-pub use turn_text::{Cave, Meter, Object, Out, Part, State, render};
+pub use turn_text::{Cave, Lexicon, Meter, Object, Out, Part, State, render};
 pub use turns::{Turned, start, take_line, turn};

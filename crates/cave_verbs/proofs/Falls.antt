@@ -9,7 +9,8 @@ use Rattle.verb_commands.specs.cave_words.Named.{word_of_name}
 use Rattle.verb_commands.specs.cave_words.declared.named.Named.TheVariants as name
 use Rattle.verb_commands.specs.cave_world.declared.state.State.{State}
 use Rattle.verb_commands.specs.turn_scene.Scene.{or_no_object, thing, object_called, is_called}
-use Rattle.verb_commands.specs.turn_things.Reach.{is_in_hand, is_near, liquid_of, is_liquid}
+use Rattle.verb_commands.specs.turn_things.Reach.{is_in_hand, is_near}
+use Rattle.verb_commands.specs.turn_things.Liquids.{liquid_of, is_liquid}
 use Rattle.verb_commands.specs.world_objects.Objects.{is_carried, is_first_at, spot_of}
 use Rattle.cave_verbs.specs.Opening.{opens_or_locks}
 use Rattle.verb_commands.specs.declared.verb.Verb.{Verb}

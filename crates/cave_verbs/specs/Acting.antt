@@ -4,7 +4,8 @@ use Rattle.verb_commands.specs.cave_data.CaveView.{CaveView}
 use Rattle.verb_commands.specs.turn_scene.Scene.{Scene}
 use Rattle.cave_verbs.specs.Blasting.{blast_rows}
 use Rattle.cave_verbs.specs.Breaking.{break_rows, wake_rows}
-use Rattle.verb_commands.specs.Rows.{Deed, Act, deed, going_on, VerbRow, first_fitting}
+use Rattle.verb_commands.specs.Rows.{going_on, VerbRow, first_fitting}
+use Rattle.verb_commands.specs.turn_rules.Rows.{Deed, Act, deed}
 use Rattle.cave_verbs.specs.Dropping.{drop_rows}
 use Rattle.cave_verbs.specs.Feeding.{feed_rows, bare_eat_rows, eat_rows}
 use Rattle.cave_verbs.specs.Finding.{find_rows, bare_inventory_rows}
@@ -17,7 +18,7 @@ use Rattle.cave_verbs.specs.Reading.{bare_read_rows, read_rows}
 use Rattle.cave_verbs.specs.Small.{bare_rows, other_rows, nothing_rows, bare_quit_rows}
 use Rattle.cave_verbs.specs.Small.{bare_score_rows, bare_brief_rows}
 use Rattle.cave_verbs.specs.Taking.{bare_take_rows, take_rows}
-use Rattle.cave_verbs.specs.Throwing.{throw_act}
+use Rattle.cave_verbs.specs.Throwing.{throw_rows}
 use Rattle.cave_verbs.specs.Waving.{wave_rows, rub_rows}
 use Rattle.verb_commands.specs.declared.next.Next.{Next}
 use Rattle.verb_commands.specs.declared.next.Next.TheVariants.{Stay}
@@ -58,7 +59,7 @@ bare_rows_of verb.Read = bare_read_rows
 bare_rows_of verb.Break = bare_rows
 bare_rows_of verb.Wake = bare_rows
 
-abbrev pub object_act : Verb → Deed → Act
+abbrev pub object_act : Verb → Deed Command → Act Step
 object_act verb.Take d = first_fitting take_rows d
 object_act verb.Drop d = first_fitting drop_rows d
 object_act verb.Open d = first_fitting open_rows d
@@ -72,7 +73,7 @@ object_act verb.Pour d = first_fitting pour_rows d
 object_act verb.Eat d = first_fitting eat_rows d
 object_act verb.Drink d = first_fitting drink_rows d
 object_act verb.Rub d = first_fitting rub_rows d
-object_act verb.Throw d = throw_act d
+object_act verb.Throw d = first_fitting throw_rows d
 object_act verb.Find d = first_fitting find_rows d
 object_act verb.Inventory d = first_fitting find_rows d
 object_act verb.Feed d = first_fitting feed_rows d
@@ -83,24 +84,24 @@ object_act verb.Break d = first_fitting break_rows d
 object_act verb.Wake d = first_fitting wake_rows d
 object_act _ d = first_fitting other_rows d
 
-unfoldable pub act_bare : Deed → Act
-act_bare d = first_fitting (bare_rows_of d.command.verb) d
+unfoldable pub act_bare : Deed Command → Act Step
+act_bare d = first_fitting (bare_rows_of d.about.verb) d
 
-unfoldable pub act_on : Deed → Act
-act_on d = object_act d.command.verb d
+unfoldable pub act_on : Deed Command → Act Step
+act_on d = object_act d.about.verb d
 
 -- what a verb does by its own rules
-abbrev pub act_once : Deed → Act
-act_once d = if d.command.object == 0 then act_bare d else act_on d
+abbrev pub act_once : Deed Command → Act Step
+act_once d = if d.about.object == 0 then act_bare d else act_on d
 
 -- what a verb does with those that it goes on with, so many at most
-unfoldable pub act_within : ℕ → Deed → Act
+unfoldable pub act_within : ℕ → Deed Command → Act Step
 act_within zero d = act_once d
 act_within (suc left) d =
     let a = act_once d in
-    elim a.step as (λ _. Act) [
+    elim a.step as (λ _. Act Step) [
       | Done next ↦ a
-      | GoOn v x ↦ act_within left (deed d.cave (going_on d.command v x) a.scene)
+      | GoOn v x ↦ act_within left (deed d.cave (going_on d.about v x) a.scene)
     ]
 
 -- what follows in the end
@@ -109,5 +110,5 @@ next_of_step (Done next) = next
 next_of_step (GoOn v x) = Stay
 
 -- what is commanded is done; no verb goes on more than three times
-unfoldable pub act : CaveView → Command → Scene → Act
+unfoldable pub act : CaveView → Command → Scene → Act Step
 act cave command p = act_within 3 (deed cave command p)

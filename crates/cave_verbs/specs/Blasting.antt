@@ -1,19 +1,15 @@
 -- BLAST, with an object or without one.
-use Rattle.verb_commands.specs.world_objects.Objects.{is_place}
 use Rattle.std.specs.Prelude.{List, [], ◌∷◌}
-use Rattle.verb_commands.specs.data_rows.declared.place_role.PlaceRole.{PlaceRole}
 use Rattle.verb_commands.specs.data_rows.declared.place_role.PlaceRole.TheVariants as place
 use Rattle.verb_commands.specs.data_rows.declared.role.Role.TheVariants as role
 use Rattle.verb_commands.specs.cave_words.declared.named.Named.TheVariants as name
 use Rattle.verb_commands.specs.cave_world.declared.ending.Ending.TheVariants as ending
-use Rattle.verb_commands.specs.turn_things.Places.{place_named}
 use Rattle.verb_commands.specs.turn_things.Props.{UNSEEN}
-use Rattle.verb_commands.specs.Effects.{say, default}
-use Rattle.verb_commands.specs.Rows.{VerbRow, Test, row, row_then, ends}
-use Rattle.verb_commands.specs.Tests.{the, no, near, prop_up_to, cave_closed}
-
-abbrev pub player_at : PlaceRole → Test
-player_at role d = is_place d.scene.state.trail.here (place_named d.cave role)
+use Rattle.verb_commands.specs.Effects.{default}
+use Rattle.verb_commands.specs.turn_rules.Effects.{say}
+use Rattle.verb_commands.specs.Rows.{VerbRow, row, ends}
+use Rattle.verb_commands.specs.turn_rules.Rows.{row_then}
+use Rattle.verb_commands.specs.turn_rules.Tests.{the, no, near, prop_up_to, cave_closed, player_at}
 
 unfoldable pub blast_rows : List VerbRow
 blast_rows =

@@ -3,9 +3,12 @@ use Rattle.std.specs.Prelude.{List, [], ◌∷◌}
 use Rattle.verb_commands.specs.data_rows.declared.role.Role.TheVariants as role
 use Rattle.verb_commands.specs.cave_words.declared.named.Named.TheVariants as name
 use Rattle.verb_commands.specs.cave_world.declared.ending.Ending.TheVariants as ending
-use Rattle.verb_commands.specs.Effects.{say, default, fix, set_prop, lay_down}
-use Rattle.verb_commands.specs.Rows.{VerbRow, row, row_then, ends}
-use Rattle.verb_commands.specs.Tests.{x, is, prop, cave_closed}
+use Rattle.verb_commands.specs.Effects.{default}
+use Rattle.verb_commands.specs.turn_rules.Effects.{say, fix, set_prop, lay_down}
+use Rattle.verb_commands.specs.Rows.{VerbRow, row, ends}
+use Rattle.verb_commands.specs.turn_rules.Rows.{row_then}
+use Rattle.verb_commands.specs.Tests.{x, is}
+use Rattle.verb_commands.specs.turn_rules.Tests.{prop, cave_closed}
 use Rattle.verb_commands.specs.turn_things.Props.{VASE_BROKEN, VASE_WHOLE}
 
 unfoldable pub break_rows : List VerbRow

@@ -7,14 +7,18 @@ use Rattle.verb_commands.specs.turn_things.Homes.{is_home_elsewhere}
 use Rattle.verb_commands.specs.turn_things.Props.{BATTERIES_FRESH, BIRD_FREE, DRAGON_ALIVE}
 use Rattle.verb_commands.specs.turn_things.Props.{SNAKE_GONE, TROLL_FLED, VASE_BREAKING}
 use Rattle.verb_commands.specs.turn_things.Props.{VASE_BROKEN, VASE_ON_PILLOW, VASE_WHOLE}
-use Rattle.verb_commands.specs.Effects.{say, default, look, bring, destroy, fix, set_prop, put}
-use Rattle.verb_commands.specs.Effects.{troll_goes, lose_to_snake}
-use Rattle.verb_commands.specs.Rows.{VerbRow, Test, Thing, row, row_then, ends, goes_on}
+use Rattle.verb_commands.specs.Effects.{default}
+use Rattle.verb_commands.specs.turn_rules.Effects.{say, look, bring, destroy, fix, set_prop, put}
+use Rattle.verb_commands.specs.turn_rules.Effects.{troll_goes, lose_to_snake}
+use Rattle.verb_commands.specs.Rows.{VerbRow, row, ends, goes_on}
+use Rattle.verb_commands.specs.turn_rules.Rows.{Test, Thing, row_then}
 use Rattle.verb_commands.specs.declared.verb.Verb.TheVariants as verb
-use Rattle.verb_commands.specs.Tests.{x, the, no, is, in_hand, near, is_here, prop, cave_closed}
+use Rattle.verb_commands.specs.Tests.{x, is}
+use Rattle.verb_commands.specs.turn_rules.Tests.{the, no, in_hand, near, is_here, prop, cave_closed}
+use Rattle.verb_commands.specs.declared.command.Command.{Command}
 
 -- the player is elsewhere than where an object is at home
-abbrev pub from_home : Thing → Test
+abbrev pub from_home : Thing Command → Test Command
 from_home t d = is_home_elsewhere d.cave d.scene.state (t d)
 
 -- a vase that is put down elsewhere than where the pillow is at home

@@ -6,16 +6,21 @@ use Rattle.verb_commands.specs.cave_words.declared.named.Named.TheVariants as na
 use Rattle.verb_commands.specs.cave_world.Limits.{MAX_ANGER}
 use Rattle.verb_commands.specs.cave_world.declared.state.State.{State}
 use Rattle.verb_commands.specs.turn_scene.Scene.{is_one_of}
-use Rattle.verb_commands.specs.Effects.{in_state, say, default, ask_what, destroy, loosen, set_prop}
-use Rattle.verb_commands.specs.Effects.{lose_one}
-use Rattle.verb_commands.specs.Rows.{VerbRow, Test, Effect, row, row_then, keeps, goes_on}
+use Rattle.verb_commands.specs.Effects.{default, ask_what}
+use Rattle.verb_commands.specs.turn_rules.Effects.{in_state, say, destroy, loosen, set_prop}
+use Rattle.verb_commands.specs.turn_rules.Effects.{lose_one}
+use Rattle.verb_commands.specs.Rows.{VerbRow, row, keeps, goes_on}
+use Rattle.verb_commands.specs.turn_rules.Rows.{Test, Effect, row_then}
 use Rattle.verb_commands.specs.declared.verb.Verb.TheVariants as verb
-use Rattle.verb_commands.specs.Tests.{x, the, no, either, is, near, prop, other_prop, cave_closed}
+use Rattle.verb_commands.specs.Tests.{x, is}
+use Rattle.verb_commands.specs.turn_rules.Tests.{the, no, either, near, prop, other_prop}
+use Rattle.verb_commands.specs.turn_rules.Tests.{cave_closed}
 use Rattle.verb_commands.specs.turn_things.Props.{AXE_FREE, BEAR_DEAD, BEAR_FED, BEAR_WILD}
 use Rattle.verb_commands.specs.turn_things.Props.{BIRD_FREE, DRAGON_ALIVE}
+use Rattle.verb_commands.specs.declared.command.Command.{Command}
 
-abbrev pub is_any : List Named → Test
-is_any names d = is_one_of d.cave d.command.object names
+abbrev pub is_any : List Named → Test Command
+is_any names d = is_one_of d.cave d.about.object names
 
 -- the dwarves are angrier by one, up to the most
 abbrev pub with_more_anger : State → State
@@ -23,7 +28,7 @@ with_more_anger s =
     let dwarves = s.dwarves in
     record s { dwarves = record dwarves { anger = min (dwarves.anger + 1) MAX_ANGER } }
 
-abbrev pub anger : Effect
+abbrev pub anger : Effect Command
 anger d = in_state (with_more_anger d.scene.state) d
 
 -- food for the bear

@@ -10,10 +10,15 @@ use Rattle.verb_commands.specs.cave_world.declared.part.Part.TheVariants as part
 use Rattle.verb_commands.specs.cave_world.declared.state.State.{State}
 use Rattle.verb_commands.specs.turn_scene.Scene.{thing, is_called, Scene, after_saying}
 use Rattle.verb_commands.specs.turn_things.Reach.{is_in_hand}
-use Rattle.verb_commands.specs.Rows.{Deed, VerbRow, Test, Effect, row}
-use Rattle.verb_commands.specs.Effects.{in_scene, say, default}
-use Rattle.verb_commands.specs.Tests.{x, the, is, in_hand, is_here, dwarf, cave_closed, in_bottle}
-use Rattle.verb_commands.specs.Tests.{in_lake}
+use Rattle.verb_commands.specs.Rows.{VerbRow, row}
+use Rattle.verb_commands.specs.turn_rules.Rows.{Deed, Test, Effect}
+use Rattle.verb_commands.specs.Effects.{default}
+use Rattle.verb_commands.specs.turn_rules.Effects.{in_scene, say}
+use Rattle.verb_commands.specs.Tests.{x, is}
+use Rattle.verb_commands.specs.turn_rules.Tests.{the, in_hand, is_here, dwarf, cave_closed}
+use Rattle.verb_commands.specs.turn_rules.Tests.{in_bottle}
+use Rattle.verb_commands.specs.turn_rules.Tests.{in_lake}
+use Rattle.verb_commands.specs.declared.command.Command.{Command}
 
 -- FIND an object, and INVENTORY of one
 unfoldable pub find_rows : List VerbRow
@@ -36,16 +41,16 @@ unfoldable pub listed_up_to : CaveView → State → ℕ → List ℕ
 listed_up_to cave s n = filter (is_in_inventory cave s) (range_with_len 1 n)
 
 -- the objects that the inventory lists, ascending
-abbrev pub objects_listed : Deed → List ℕ
+abbrev pub objects_listed : Deed Command → List ℕ
 objects_listed d = listed_up_to d.cave d.scene.state LAST_OBJECT
 
-abbrev pub nothing_listed : Test
+abbrev pub nothing_listed : Test Command
 nothing_listed d = length (objects_listed d) == 0
 
 abbrev pub after_naming : List ℕ → Scene → Scene
 after_naming objects p = record p { parts = p.parts ++ map part.Name objects }
 
-abbrev pub name_them : Effect
+abbrev pub name_them : Effect Command
 name_them d = in_scene (after_naming (objects_listed d) d.scene) d
 
 -- it is said that the bear follows, if the player has it
@@ -53,7 +58,7 @@ abbrev pub after_telling_bear : CaveView → Scene → Scene
 after_telling_bear cave p =
     if is_in_hand cave p.state (thing cave name.Bear) then after_saying role.BearFollows p else p
 
-abbrev pub tell_bear : Effect
+abbrev pub tell_bear : Effect Command
 tell_bear d = in_scene (after_telling_bear d.cave d.scene) d
 
 unfoldable pub bare_inventory_rows : List VerbRow

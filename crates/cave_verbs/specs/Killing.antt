@@ -5,20 +5,25 @@ use Rattle.verb_commands.specs.cave_words.declared.named.Named.TheVariants as na
 use Rattle.verb_commands.specs.cave_world.declared.ending.Ending.TheVariants as ending
 use Rattle.verb_commands.specs.cave_world.declared.ending.Question.TheVariants as question
 use Rattle.verb_commands.specs.Choice.{candidate, objects_meant, several, first}
-use Rattle.verb_commands.specs.Rows.{Deed, VerbRow, Test, row, row_then, keeps, asks, ends, goes_on}
-use Rattle.verb_commands.specs.Effects.{say, default, ask_what, destroy, set_prop, lose_to_snake}
+use Rattle.verb_commands.specs.Rows.{VerbRow, row, keeps, asks, ends, goes_on}
+use Rattle.verb_commands.specs.turn_rules.Rows.{Deed, Test, row_then}
+use Rattle.verb_commands.specs.Effects.{default, ask_what}
+use Rattle.verb_commands.specs.turn_rules.Effects.{say, destroy, set_prop, lose_to_snake}
 use Rattle.verb_commands.specs.Verbs.{is_verb}
 use Rattle.verb_commands.specs.declared.verb.Verb.{Verb}
 use Rattle.verb_commands.specs.declared.verb.Verb.TheVariants as verb
-use Rattle.verb_commands.specs.Tests.{x, the, no, either, both, there_is, is, near, is_here, prop}
-use Rattle.verb_commands.specs.Tests.{dwarf, cave_closed}
+use Rattle.verb_commands.specs.Tests.{x, is}
+use Rattle.verb_commands.specs.turn_rules.Tests.{the, no, either, both, there_is, near, is_here}
+use Rattle.verb_commands.specs.turn_rules.Tests.{prop}
+use Rattle.verb_commands.specs.turn_rules.Tests.{dwarf, cave_closed}
 use Rattle.verb_commands.specs.turn_things.Props.{BEAR_DEAD, BEAR_WILD, BIRD_FREE, DRAGON_ALIVE}
+use Rattle.verb_commands.specs.declared.command.Command.{Command}
 
 -- the player's own verb, which may have gone on to this one
-abbrev pub is_typed : Verb → Test
-is_typed v d = is_verb d.command.commanded v
+abbrev pub is_typed : Verb → Test Command
+is_typed v d = is_verb d.about.commanded v
 
-abbrev pub foes : Deed → List ℕ
+abbrev pub foes : Deed Command → List ℕ
 foes = objects_meant
     (candidate name.Dwarf dwarf
     ∷ candidate name.Snake (near (the name.Snake))
@@ -28,7 +33,7 @@ foes = objects_meant
     ∷ [])
 
 -- what is killed where there is no foe
-abbrev pub prey : Deed → List ℕ
+abbrev pub prey : Deed Command → List ℕ
 prey = objects_meant
     (candidate name.Bird (both (near (the name.Bird)) (no (is_typed verb.Throw)))
     ∷ candidate name.Clam (either (near (the name.Clam)) (near (the name.Oyster)))

@@ -4,7 +4,7 @@ use Rattle.std.specs.Ordering.{int_eq}
 use Rattle.verb_commands.specs.cave_data.CaveView.{CaveView}
 use Rattle.verb_commands.specs.data_rows.declared.role.Role.TheVariants as role
 use Rattle.verb_commands.specs.cave_words.declared.named.Named.TheVariants as name
-use Rattle.verb_commands.specs.world_objects.Objects.{is_gone, after_move_to}
+use Rattle.verb_commands.specs.world_objects.Objects.{after_move_to}
 use Rattle.verb_commands.specs.cave_world.declared.state.State.{State}
 use Rattle.verb_commands.specs.turn_things.Effects.{with_objects}
 use Rattle.verb_commands.specs.turn_things.Homes.{home, is_at_home, is_home_here}
@@ -13,59 +13,57 @@ use Rattle.verb_commands.specs.turn_things.SpecialWords.{special}
 use Rattle.verb_commands.specs.turn_things.Props.{EGGS_APPEARING, EGGS_ELSEWHERE, EGGS_VANISHING}
 use Rattle.verb_commands.specs.turn_things.Props.{TROLL_CALM, TROLL_RETURNING}
 use Rattle.verb_commands.specs.turn_scene.Scene.{Scene, with_state, after_look_at}
-use Rattle.verb_commands.specs.Rows.{Deed, VerbRow, Test, Effect, Thing, row}
-use Rattle.verb_commands.specs.Effects.{in_scene, in_state, say, set_prop}
-use Rattle.verb_commands.specs.Tests.{the, no, either, there_is, in_hand, prop}
+use Rattle.verb_commands.specs.Rows.{VerbRow, row}
+use Rattle.verb_commands.specs.turn_rules.Rows.{Deed, Test, Effect, Thing}
+use Rattle.verb_commands.specs.turn_rules.Effects.{in_scene, in_state, say, set_prop}
+use Rattle.verb_commands.specs.turn_rules.Tests.{the, no, either, there_is, in_hand, prop, nowhere}
+use Rattle.verb_commands.specs.declared.command.Command.{Command}
 
 -- the number of the word that was just read among the special words; 0 if it is none of them
-abbrev pub k : Deed → ℕ
-k d = special d.cave d.command.word
+abbrev pub k : Deed Command → ℕ
+k d = special d.cave d.about.word
 
 -- how far the player has come with the magic words
-abbrev pub foo : Deed → ℤ
+abbrev pub foo : Deed Command → ℤ
 foo d = d.scene.state.talk.magic
 
 -- the word is no special one
-abbrev pub is_plain : Test
+abbrev pub is_plain : Test Command
 is_plain d = k d == 0
 
-abbrev pub is_out_of_turn : Test
+abbrev pub is_out_of_turn : Test Command
 is_out_of_turn d = not (int_eq (foo d) (pos 1 -ℤ pos (k d)))
 
 -- no magic word was said
-abbrev pub nothing_begun : Test
+abbrev pub nothing_begun : Test Command
 nothing_begun d = int_eq (foo d) (pos 0)
 
 -- it is the last of the magic words
-abbrev pub is_last : Test
+abbrev pub is_last : Test Command
 is_last d = k d == 4
 
-abbrev pub eggs : Thing
+abbrev pub eggs : Thing Command
 eggs = the name.Eggs
 
-abbrev pub troll : Thing
+abbrev pub troll : Thing Command
 troll = the name.Troll
 
 -- the first half of an object is at home
-abbrev pub at_home : Thing → Test
+abbrev pub at_home : Thing Command → Test Command
 at_home t d = is_at_home d.cave d.scene.state (t d)
 
 -- the player is where an object is at home
-abbrev pub home_here : Thing → Test
+abbrev pub home_here : Thing Command → Test Command
 home_here t d = is_home_here d.cave d.scene.state (t d)
-
--- the first half of an object is nowhere
-abbrev pub nowhere : Thing → Test
-nowhere t d = is_gone d.scene.state.objects (t d)
 
 abbrev pub with_magic : ℤ → State → State
 with_magic v s = let talk = s.talk in record s { talk = record talk { magic = v } }
 
 -- the word is remembered as the last that was said
-abbrev pub remember : Effect
+abbrev pub remember : Effect Command
 remember d = in_state (with_magic (pos (k d)) d.scene.state) d
 
-abbrev pub begin_anew : Effect
+abbrev pub begin_anew : Effect Command
 begin_anew d = in_state (with_magic (pos 0) d.scene.state) d
 
 -- which text is printed of an object that goes home: where it appears, where it vanishes, or
@@ -84,7 +82,7 @@ after_sending_home cave x p =
     let q = after_look_at x (homing_sight cave p.state x) p in
     with_state (with_object_at_home cave x q.state) q
 
-abbrev pub send_home : Thing → Effect
+abbrev pub send_home : Thing Command → Effect Command
 send_home t d = in_scene (after_sending_home d.cave (t d) d.scene) d
 
 unfoldable pub bare_foo_rows : List VerbRow

@@ -16,33 +16,37 @@ use Rattle.verb_commands.specs.turn_things.Props.{BEAR_DEAD, BEAR_FREE, BEAR_WIL
 use Rattle.verb_commands.specs.turn_things.Props.{CHAIN_UNLOCKED, DOOR_OILED, GRATE_LOCKED}
 use Rattle.verb_commands.specs.turn_things.Props.{GRATE_UNLOCKED}
 use Rattle.verb_commands.specs.turn_scene.Scene.{thing}
-use Rattle.verb_commands.specs.Rows.{Deed, VerbRow, Test, Effect, Thing, row, row_then, keeps}
-use Rattle.verb_commands.specs.Effects.{in_state, say, default, ask_what, bring, destroy, fix}
-use Rattle.verb_commands.specs.Effects.{loosen, set_prop, lay_down}
+use Rattle.verb_commands.specs.Rows.{VerbRow, row, keeps}
+use Rattle.verb_commands.specs.turn_rules.Rows.{Deed, Test, Effect, Thing, row_then}
+use Rattle.verb_commands.specs.Effects.{default, ask_what}
+use Rattle.verb_commands.specs.turn_rules.Effects.{in_state, say, bring, destroy, fix}
+use Rattle.verb_commands.specs.turn_rules.Effects.{loosen, set_prop, lay_down}
 use Rattle.verb_commands.specs.declared.verb.Verb.{Verb}
 use Rattle.verb_commands.specs.declared.verb.Verb.TheVariants as verb
-use Rattle.verb_commands.specs.Tests.{x, the, no, either, there_is, is, in_hand, near, prop}
-use Rattle.verb_commands.specs.Tests.{other_prop, cave_closing}
+use Rattle.verb_commands.specs.Tests.{x, is}
+use Rattle.verb_commands.specs.turn_rules.Tests.{the, no, either, there_is, in_hand, near, prop}
+use Rattle.verb_commands.specs.turn_rules.Tests.{other_prop, cave_closing}
 use Rattle.verb_commands.specs.Verbs.{is_verb}
 use Rattle.verb_commands.specs.declared.next.Step.{Step}
 use Rattle.verb_commands.specs.declared.next.Step.TheVariants.{GoOn}
+use Rattle.verb_commands.specs.declared.command.Command.{Command}
 
 abbrev pub opens_or_locks : Verb → Bool
 opens_or_locks verb.Open = true
 opens_or_locks verb.Lock = true
 opens_or_locks _ = false
 
-abbrev pub is_opening : Test
-is_opening d = is_verb d.command.verb verb.Open
+abbrev pub is_opening : Test Command
+is_opening d = is_verb d.about.verb verb.Open
 
-abbrev pub is_locking : Test
-is_locking d = is_verb d.command.verb verb.Lock
+abbrev pub is_locking : Test Command
+is_locking d = is_verb d.about.verb verb.Lock
 
-abbrev pub away_from_home : Test
-away_from_home d = is_home_elsewhere d.cave d.scene.state d.command.object
+abbrev pub away_from_home : Test Command
+away_from_home d = is_home_elsewhere d.cave d.scene.state d.about.object
 
 -- a player who tries to get out of a closing cave panics
-abbrev pub panic : Effect
+abbrev pub panic : Effect Command
 panic d = in_state (after_panic d.scene.state) d
 
 -- an object is moved to a place, if there is the place
@@ -50,12 +54,12 @@ abbrev pub after_sending : ℕ → Option ℕ → State → State
 after_sending x None s = s
 after_sending x (Some place) s = with_objects (after_move_to s.objects x place) s
 
-abbrev pub send : Thing → PlaceRole → Effect
+abbrev pub send : Thing Command → PlaceRole → Effect Command
 send t role d = in_state (after_sending (t d) (place_named d.cave role) d.scene.state) d
 
 -- it goes on with the same verb and an object
-abbrev pub goes_on_with : Thing → Deed → Step
-goes_on_with t d = GoOn d.command.verb (t d)
+abbrev pub goes_on_with : Thing Command → Deed Command → Step
+goes_on_with t d = GoOn d.about.verb (t d)
 
 -- what is meant where the command names nothing: the grate or the door that is here, the oyster or
 -- the clam at hand
@@ -66,7 +70,7 @@ lock_meant cave s =
     else (if is_near cave s (thing cave name.Oyster) then thing cave name.Oyster
     else (if is_near cave s (thing cave name.Clam) then thing cave name.Clam else 0)))
 
-abbrev pub the_lock : Thing
+abbrev pub the_lock : Thing Command
 the_lock d = lock_meant d.cave d.scene.state
 
 unfoldable pub bare_open_rows : List VerbRow

@@ -8,16 +8,20 @@ use Rattle.verb_commands.specs.cave_words.declared.named.Named.{Named}
 use Rattle.verb_commands.specs.cave_words.declared.named.Named.TheVariants as name
 use Rattle.verb_commands.specs.world_objects.Objects.{prop_of}
 use Rattle.verb_commands.specs.cave_world.declared.state.State.{State}
-use Rattle.verb_commands.specs.turn_things.Reach.{liquid_of}
+use Rattle.verb_commands.specs.turn_things.Liquids.{liquid_of}
 use Rattle.verb_commands.specs.turn_things.Props.{BOTTLE_EMPTY, BOTTLE_OF_OIL, BOTTLE_OF_WATER}
 use Rattle.verb_commands.specs.turn_things.Props.{DOOR_OILED, DOOR_RUSTY, VASE_BROKEN}
 use Rattle.verb_commands.specs.turn_scene.Scene.{is_called}
-use Rattle.verb_commands.specs.Effects.{say, default, ask_what, look, bring, fix, set_prop}
-use Rattle.verb_commands.specs.Rows.{VerbRow, Test, Effect, Thing, row, row_then, keeps, again}
+use Rattle.verb_commands.specs.Effects.{default, ask_what}
+use Rattle.verb_commands.specs.turn_rules.Effects.{say, look, bring, fix, set_prop}
+use Rattle.verb_commands.specs.Rows.{VerbRow, row, keeps, again}
+use Rattle.verb_commands.specs.turn_rules.Rows.{Test, Effect, Thing, row_then}
 use Rattle.verb_commands.specs.Rows.{goes_on}
 use Rattle.verb_commands.specs.declared.verb.Verb.TheVariants as verb
-use Rattle.verb_commands.specs.Tests.{x, the, bare, no, either, both, is, in_hand, near, is_here}
-use Rattle.verb_commands.specs.Tests.{in_bottle, bottle_full, in_lake, lake}
+use Rattle.verb_commands.specs.Tests.{x, bare, is}
+use Rattle.verb_commands.specs.turn_rules.Tests.{the, no, either, both, in_hand, near, is_here}
+use Rattle.verb_commands.specs.turn_rules.Tests.{in_bottle, bottle_full, in_lake, lake}
+use Rattle.verb_commands.specs.declared.command.Command.{Command}
 
 -- what is poured: what is in the bottle, where that or nothing is named; 0 for a liquid without a
 -- name
@@ -25,34 +29,34 @@ abbrev pub poured_of : CaveView → State → ℕ → ℕ
 poured_of cave s y =
     if y == 0 || is_called cave y name.Bottle then unwrap_or (liquid_of cave s) 0 else y
 
-abbrev pub what_is_poured : Thing
-what_is_poured d = poured_of d.cave d.scene.state d.command.object
+abbrev pub what_is_poured : Thing Command
+what_is_poured d = poured_of d.cave d.scene.state d.about.object
 
 -- what is poured has a name
-abbrev pub pours : Named → Test
+abbrev pub pours : Named → Test Command
 pours n d = is_called d.cave (what_is_poured d) n
 
-abbrev pub empty_bottle : Effect
+abbrev pub empty_bottle : Effect Command
 empty_bottle d = set_prop (the name.Bottle) BOTTLE_EMPTY d
 
-abbrev pub look_above : Thing → Effect
+abbrev pub look_above : Thing Command → Effect Command
 look_above t d = look t (prop_of d.scene.state.objects (t d) +ℤ pos 1) d
 
 -- a prop goes up by two, from 0 to 5 round and round
-abbrev pub grow : Thing → Effect
+abbrev pub grow : Thing Command → Effect Command
 grow t d = set_prop t (int_rem_euclid (prop_of d.scene.state.objects (t d) +ℤ pos 2) (pos 6)) d
 
 -- one object's prop becomes half of another's
-abbrev pub halve : Thing → Thing → Effect
+abbrev pub halve : Thing Command → Thing Command → Effect Command
 halve t of d = set_prop t (int_div (prop_of d.scene.state.objects (of d)) (pos 2)) d
 
 -- the plant and its upper part grow with the water
-abbrev pub plant_watered : List Effect
+abbrev pub plant_watered : List (Effect Command)
 plant_watered =
     look_above (the name.Plant) ∷ grow (the name.Plant)
     ∷ halve (the name.SecondPlant) (the name.Plant) ∷ []
 
-abbrev pub water_at_hand : Test
+abbrev pub water_at_hand : Test Command
 water_at_hand = both (in_bottle (the name.Water)) (near (the name.Bottle))
 
 unfoldable pub pour_rows : List VerbRow

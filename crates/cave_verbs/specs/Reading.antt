@@ -9,24 +9,28 @@ use Rattle.verb_commands.specs.cave_world.declared.part.Part.TheVariants as part
 use Rattle.verb_commands.specs.cave_world.declared.part.WordLine.TheVariants as line
 use Rattle.verb_commands.specs.turn_scene.Scene.{thing}
 use Rattle.verb_commands.specs.Choice.{candidate, objects_meant, only}
-use Rattle.verb_commands.specs.Rows.{Deed, VerbRow, Test, Effect, Thing, row, row_then, keeps, asks}
+use Rattle.verb_commands.specs.Rows.{VerbRow, row, keeps, asks}
+use Rattle.verb_commands.specs.turn_rules.Rows.{Deed, Test, Effect, Thing, row_then}
 use Rattle.verb_commands.specs.Rows.{goes_on}
-use Rattle.verb_commands.specs.Effects.{tell, say, default, ask_what}
+use Rattle.verb_commands.specs.Effects.{default, ask_what}
+use Rattle.verb_commands.specs.turn_rules.Effects.{tell, say}
 use Rattle.verb_commands.specs.declared.verb.Verb.TheVariants as verb
-use Rattle.verb_commands.specs.Tests.{x, the, no, there_is, is, in_hand, near, cave_closed}
+use Rattle.verb_commands.specs.Tests.{x, is}
+use Rattle.verb_commands.specs.turn_rules.Tests.{the, no, there_is, in_hand, near, cave_closed}
+use Rattle.verb_commands.specs.declared.command.Command.{Command}
 
 -- the player sees nothing
-abbrev pub in_the_dark : Test
+abbrev pub in_the_dark : Test Command
 in_the_dark d = dark d.cave (thing d.cave name.Lamp) d.scene.state
 
-abbrev pub hint_taken : ℕ → Test
+abbrev pub hint_taken : ℕ → Test Command
 hint_taken number d = is_hint_taken d.scene.state number
 
 -- it is said that the word that was just read isn't seen here
-abbrev pub not_seen : Effect
-not_seen d = tell (part.Word line.NotSeen d.command.word) d
+abbrev pub not_seen : Effect Command
+not_seen d = tell (part.Word line.NotSeen d.about.word) d
 
-abbrev pub papers : Deed → List ℕ
+abbrev pub papers : Deed Command → List ℕ
 papers = objects_meant
     (candidate name.Magazine (near (the name.Magazine))
     ∷ candidate name.Tablet (near (the name.Tablet))
@@ -35,7 +39,7 @@ papers = objects_meant
 
 -- what is read where no object is named:
 -- in the closed cave the oyster that is carried, else the only paper here
-abbrev pub what_to_read : Thing
+abbrev pub what_to_read : Thing Command
 what_to_read d =
     if cave_closed d && in_hand (the name.Oyster) d then thing d.cave name.Oyster else only papers d
 

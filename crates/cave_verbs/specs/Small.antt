@@ -3,8 +3,11 @@ use Rattle.std.specs.Prelude.{true, List, [], ◌∷◌}
 use Rattle.verb_commands.specs.data_rows.declared.role.Role.TheVariants as role
 use Rattle.verb_commands.specs.cave_world.declared.ending.Question.TheVariants as question
 use Rattle.verb_commands.specs.cave_world.declared.state.State.{State}
-use Rattle.verb_commands.specs.Effects.{in_state, say, default, ask_what}
-use Rattle.verb_commands.specs.Rows.{VerbRow, Effect, row, row_then, keeps, asks}
+use Rattle.verb_commands.specs.Effects.{default, ask_what}
+use Rattle.verb_commands.specs.turn_rules.Effects.{in_state, say}
+use Rattle.verb_commands.specs.Rows.{VerbRow, row, keeps, asks}
+use Rattle.verb_commands.specs.turn_rules.Rows.{Effect, row_then}
+use Rattle.verb_commands.specs.declared.command.Command.{Command}
 
 -- a verb that needs an object and has none
 unfoldable pub bare_rows : List VerbRow
@@ -28,7 +31,7 @@ brief s = let talk = s.talk in record s { talk = record talk { is_brief = true; 
 
 -- places are described briefly from now on, and it was said often enough that there are no more
 -- details
-abbrev pub be_brief : Effect
+abbrev pub be_brief : Effect Command
 be_brief d = in_state (brief d.scene.state) d
 
 unfoldable pub bare_brief_rows : List VerbRow

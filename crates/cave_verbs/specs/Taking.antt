@@ -4,20 +4,26 @@ use Rattle.verb_commands.specs.data_rows.declared.role.Role.TheVariants as role
 use Rattle.verb_commands.specs.cave_words.declared.named.Named.TheVariants as name
 use Rattle.verb_commands.specs.world_objects.Lists.{object_of, halves_at}
 use Rattle.verb_commands.specs.world_objects.declared.object.Half.{Half}
-use Rattle.verb_commands.specs.Effects.{say, default, ask_what, carry, set_prop}
-use Rattle.verb_commands.specs.Rows.{VerbRow, Thing, row, row_then, keeps, goes_on}
+use Rattle.verb_commands.specs.Effects.{default, ask_what}
+use Rattle.verb_commands.specs.turn_rules.Effects.{say, carry, set_prop}
+use Rattle.verb_commands.specs.Rows.{VerbRow, row, keeps, goes_on}
+use Rattle.verb_commands.specs.turn_rules.Rows.{Thing, row_then}
 use Rattle.verb_commands.specs.declared.verb.Verb.TheVariants as verb
-use Rattle.verb_commands.specs.Tests.{x, the, no, either, there_is, is, in_hand, near, fixed, prop}
-use Rattle.verb_commands.specs.Tests.{other_prop, prop_up_to, dwarf, in_bottle, full_hands}
+use Rattle.verb_commands.specs.Tests.{x, is}
+use Rattle.verb_commands.specs.turn_rules.Tests.{the, no, either, there_is, in_hand, near, fixed}
+use Rattle.verb_commands.specs.turn_rules.Tests.{prop}
+use Rattle.verb_commands.specs.turn_rules.Tests.{other_prop, prop_up_to, dwarf, in_bottle}
+use Rattle.verb_commands.specs.turn_rules.Tests.{full_hands}
 use Rattle.verb_commands.specs.turn_things.Props.{BEAR_FED, BEAR_WILD, BIRD_CAGED, BIRD_FREE}
 use Rattle.verb_commands.specs.turn_things.Props.{BOTTLE_EMPTY, PLANT_SMALL}
+use Rattle.verb_commands.specs.declared.command.Command.{Command}
 
 -- the object of which a half is here alone; 0 where there are more halves, or none
 abbrev pub lone_object : List Half → ℕ
 lone_object (half ∷ []) = object_of half
 lone_object _ = 0
 
-abbrev pub lone : Thing
+abbrev pub lone : Thing Command
 lone d = lone_object (halves_at d.scene.state.trail.here d.scene.state.objects.lists)
 
 unfoldable pub bare_take_rows : List VerbRow

@@ -3,16 +3,20 @@ use Rattle.std.specs.Prelude.{pos, ◌-ℤ◌, List, [], ◌∷◌}
 use Rattle.verb_commands.specs.data_rows.declared.role.Role.TheVariants as role
 use Rattle.verb_commands.specs.cave_words.declared.named.Named.TheVariants as name
 use Rattle.verb_commands.specs.world_objects.Objects.{prop_of}
-use Rattle.verb_commands.specs.Effects.{say, default, look, set_prop}
-use Rattle.verb_commands.specs.Rows.{VerbRow, Effect, Thing, row}
-use Rattle.verb_commands.specs.Tests.{x, the, no, both, is, in_hand, is_here, cave_closing}
+use Rattle.verb_commands.specs.Effects.{default}
+use Rattle.verb_commands.specs.turn_rules.Effects.{say, look, set_prop}
+use Rattle.verb_commands.specs.Rows.{VerbRow, row}
+use Rattle.verb_commands.specs.turn_rules.Rows.{Effect, Thing}
+use Rattle.verb_commands.specs.Tests.{x, is}
+use Rattle.verb_commands.specs.turn_rules.Tests.{the, no, both, in_hand, is_here, cave_closing}
+use Rattle.verb_commands.specs.declared.command.Command.{Command}
 
 -- a prop becomes 1 less what it was
-abbrev pub flip : Thing → Effect
+abbrev pub flip : Thing Command → Effect Command
 flip t d = set_prop t (pos 1 -ℤ prop_of d.scene.state.objects (t d)) d
 
 -- the text for 2 less the prop: of what was just flipped, the text for 1 more than its prop was
-abbrev pub look_at_flip : Thing → Effect
+abbrev pub look_at_flip : Thing Command → Effect Command
 look_at_flip t d = look t (pos 2 -ℤ prop_of d.scene.state.objects (t d)) d
 
 unfoldable pub wave_rows : List VerbRow

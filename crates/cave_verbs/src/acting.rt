@@ -4,7 +4,8 @@ ghost use Rattle.verb_commands.specs.turn_scene.Bounds.{parts_of_inventory, part
 ghost use Rattle.verb_commands.specs.turn_scene.Scene.{scene_of, cave_of};
 ghost use Rattle.verb_commands.specs.declared.next.Step.TheVariants.{Done};
 ghost use Rattle.cave_verbs.specs.Acting.{act, act_bare, act_on, act_once, act_within};
-ghost use Rattle.verb_commands.specs.Rows.{act_of, deed, ActsBy};
+ghost use Rattle.verb_commands.specs.Rows.{ActsBy};
+ghost use Rattle.verb_commands.specs.turn_rules.Rows.{act_of, deed};
 ghost use Rattle.cave_verbs.specs.Ranks.{rank, rank_of};
 ghost use Rattle.verb_commands.specs.Room.{parts_before};
 

@@ -70,7 +70,8 @@ fn name_all(objects: &[Object], scene: &mut Scene<'_>)
 /// It is said that the bear follows, if it does, and nothing more is done.
 fn tell_bear(rules: &Rules<'_>, scene: &mut Scene<'_>) -> Next
     requires { HasRoom 1 scene.old }
-    ensures scene { scene_of scene.new ≡ after_telling_bear (cave_of rules.now) (scene_of scene.old) }
+    ensures scene { scene_of scene.new
+        ≡ after_telling_bear (cave_of rules.now) (scene_of scene.old) }
     ensures says { GoesOnSaying 1 scene.old scene.new }
     ensures next { result ≡ Stay }
 {

@@ -1,7 +1,8 @@
 ghost use Rattle.std.specs.Prelude.{◌≡◌, ◌≤◌};
 ghost use Rattle.verb_commands.specs.turn_scene.Bounds.{HasRoom, parts_of_row};
 ghost use Rattle.verb_commands.specs.turn_scene.Scene.{scene_of, cave_of};
-ghost use Rattle.verb_commands.specs.Rows.{deed, ByRows, DoneByRows};
+ghost use Rattle.verb_commands.specs.Rows.{ByRows, DoneByRows};
+ghost use Rattle.verb_commands.specs.turn_rules.Rows.{deed};
 ghost use Rattle.cave_verbs.specs.Ranks.{rank_of};
 ghost use Rattle.cave_verbs.specs.Killing.{foes, prey, bare_kill_rows, kill_rows};
 

@@ -1,7 +1,8 @@
 ghost use Rattle.std.specs.Prelude.{◌≡◌, ◌+◌, ◌≤◌, ◌+ℤ◌, pos, int_div, []};
 ghost use Rattle.std.specs.Int.{int_rem_euclid};
 ghost use Rattle.verb_commands.specs.turn_scene.Bounds.{HasRoom, parts_of_row};
-ghost use Rattle.verb_commands.specs.Rows.{ByRows, DoneByRow, DoneByRows, row_then, again};
+ghost use Rattle.verb_commands.specs.Rows.{ByRows, DoneByRow, DoneByRows, again};
+ghost use Rattle.verb_commands.specs.turn_rules.Rows.{row_then};
 ghost use Rattle.verb_commands.specs.turn_scene.Scene.{cave_of};
 ghost use Rattle.cave_verbs.specs.Ranks.{rank_of};
 ghost use Rattle.cave_verbs.specs.Pouring.{poured_of, plant_watered, pour_rows, drink_rows};

@@ -1,14 +1,13 @@
-ghost use Rattle.std.specs.Prelude.{◌≡◌, ◌≤◌};
+ghost use Rattle.std.specs.Prelude.{◌≡◌, ◌≤◌, IsTrue};
 ghost use Rattle.std.specs.List.{position};
 ghost use Rattle.verb_commands.specs.turn_scene.Bounds.{HasRoom, parts_of_row};
-ghost use Rattle.verb_commands.specs.Rows.{ActsBy, ByRows, DoneBy, DoneByRows};
+ghost use Rattle.verb_commands.specs.Rows.{ByRows, DoneByRows};
 ghost use Rattle.verb_commands.specs.turn_scene.Scene.{cave_of};
-ghost use Rattle.verb_commands.specs.turn_things.Reach.{is_dwarf_at};
+ghost use Rattle.verb_commands.specs.turn_things.Reach.{is_dwarf_at, is_dwarf_here};
 ghost use Rattle.verb_commands.specs.turn_things.Effects.{put_here};
 ghost use Rattle.verb_commands.specs.declared.next.Next.TheVariants.{Arrive};
 ghost use Rattle.cave_verbs.specs.Ranks.{rank_of, throw_rank};
-ghost use Rattle.cave_verbs.specs.Throwing.{with_one_killed, hit_rows, axe_rows};
-ghost use Rattle.cave_verbs.specs.Throwing.{axe_thrown_at_dwarf, axe_act, throw_act};
+ghost use Rattle.cave_verbs.specs.Throwing.{with_one_killed, axe_rows, throw_rows};
 
 use verb_commands::{
     AXE_BY_BEAR, Anchor, BEAR_WILD, Command, DRAGON_ALIVE, Dwarf, Named, Next, Object, PIRATE,
@@ -47,11 +46,17 @@ fn put_here(axe: Object, state: &mut State) -> Next
     Next::Arrive(here)
 }
 
-#[tactic(auto, unfolding(crate::specs::Throwing::hit_rows))]
-fn hit_dwarf(rules: &Rules<'_>, command: Command, scene: &mut Scene<'_>) -> Next
-    requires { HasRoom parts_of_row scene.old }
-    ensures row { DoneByRows hit_rows rules.now command scene.old scene.new result }
+/// The axe is thrown at a dwarf: one number of three is drawn, and 0 is a miss.
+#[tactic(auto, unfolding(crate::specs::Throwing::axe_rows, verb_commands::specs::is_dwarf_here))]
+fn throw_axe_at_dwarf(rules: &Rules<'_>, command: Command, scene: &mut Scene<'_>) -> Next
+    requires room { HasRoom parts_of_row scene.old }
+    requires dwarf { IsTrue (is_dwarf_here scene.old.state.now) }
+    ensures row { DoneByRows axe_rows rules.now command scene.old scene.new result }
 {
+    if scene.state.stream.draw(3) == 0 {
+        scene.say(Role::AxeMiss);
+        return put_here(command.object, scene.state);
+    }
     if scene.state.dwarves.kills.number() == 0 {
         kill_one(scene.state);
         scene.say(Role::AxeFirst);
@@ -62,26 +67,15 @@ fn hit_dwarf(rules: &Rules<'_>, command: Command, scene: &mut Scene<'_>) -> Next
     put_here(command.object, scene.state)
 }
 
-/// The axe is thrown at a dwarf: one number of three is drawn, and 0 is a miss.
-#[tactic(auto, unfolding(crate::specs::Throwing::axe_thrown_at_dwarf, crate::specs::Throwing::miss_rows))]
-fn throw_at_dwarf(rules: &Rules<'_>, command: Command, scene: &mut Scene<'_>) -> Next
-    requires { HasRoom parts_of_row scene.old }
-    ensures row { DoneBy axe_thrown_at_dwarf rules.now command scene.old scene.new result }
-{
-    if scene.state.stream.draw(3) == 0 {
-        scene.say(Role::AxeMiss);
-        return put_here(command.object, scene.state);
-    }
-    hit_dwarf(rules, command, scene)
-}
-
-/// The axe is thrown where no dwarf is.
 #[tactic(auto, unfolding(crate::specs::Throwing::axe_rows))]
-fn throw_axe_at_beast(rules: &Rules<'_>, command: Command, scene: &mut Scene<'_>) -> Step
+fn throw_axe(rules: &Rules<'_>, command: Command, scene: &mut Scene<'_>) -> Step
     requires { HasRoom parts_of_row scene.old }
     ensures row { ByRows axe_rows rules.now command scene.old scene.new result }
     ensures ranks { rank_of (cave_of rules.now) result ≤ 2 }
 {
+    if is_dwarf_here(scene.state) {
+        return Step::Done(throw_axe_at_dwarf(rules, command, scene));
+    }
     let x = command.object;
     let dragon = rules.thing(Named::Dragon);
     let bear = rules.thing(Named::Bear);
@@ -104,23 +98,11 @@ fn throw_axe_at_beast(rules: &Rules<'_>, command: Command, scene: &mut Scene<'_>
     Step::GoOn(Verb::Kill, Object::none())
 }
 
-#[tactic(auto, unfolding(crate::specs::Throwing::axe_act))]
-fn throw_axe(rules: &Rules<'_>, command: Command, scene: &mut Scene<'_>) -> Step
-    requires { HasRoom parts_of_row scene.old }
-    ensures row { ActsBy axe_act rules.now command scene.old scene.new result }
-    ensures ranks { rank_of (cave_of rules.now) result ≤ 2 }
-{
-    if is_dwarf_here(scene.state) {
-        return Step::Done(throw_at_dwarf(rules, command, scene));
-    }
-    throw_axe_at_beast(rules, command, scene)
-}
-
 /// THROW an object.
-#[tactic(auto, unfolding(crate::specs::Throwing::throw_act, crate::specs::Throwing::throw_rows))]
+#[tactic(auto, unfolding(crate::specs::Throwing::throw_rows))]
 pub fn throw(rules: &Rules<'_>, command: Command, scene: &mut Scene<'_>) -> Step
     requires { HasRoom parts_of_row scene.old }
-    ensures row { ActsBy throw_act rules.now command scene.old scene.new result }
+    ensures row { ByRows throw_rows rules.now command scene.old scene.new result }
     ensures ranks { let cave = cave_of rules.now in
         rank_of cave result ≤ throw_rank cave command.object }
 {

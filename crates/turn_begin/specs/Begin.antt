@@ -18,7 +18,7 @@ use Rattle.turn_things.specs.world_objects.declared.spot.Anchor.TheVariants as a
 use Rattle.turn_things.specs.cave_world.declared.state.State.{State}
 use Rattle.turn_things.specs.Homes.{home, hold_of}
 use Rattle.turn_things.specs.Places.{place_named, start_place}
-use Rattle.turn_things.specs.Reach.{known_treasures}
+use Rattle.turn_things.specs.Treasures.{known_treasures}
 use Rattle.turn_things.specs.Props.{UNSEEN}
 use Rattle.turn_things.specs.data_numbers.Numbers.{LAST_OBJECT}
 

@@ -6,7 +6,7 @@ ghost use Rattle.turn_things.specs.Homes.{anchor_by};
 ghost use Rattle.turn_begin.specs.Begin.{is_placed_now, objects_due, starting_objects};
 ghost use Rattle.turn_begin.specs.Begin.{dwarf_by_role, starting_dwarves, start_list, begun_state};
 ghost use Rattle.turn_begin.specs.Begin.{after_placing_all, after_hiding_all};
-ghost use Rattle.turn_things.specs.Reach.{known_treasures};
+ghost use Rattle.turn_things.specs.Treasures.{known_treasures};
 ghost use Rattle.turn_things.specs.data_numbers.Numbers.{LAST_PLACE};
 
 use turn_things::homes::anchor_by;

@@ -1,21 +1,25 @@
 -- The second clock, and the repository into which the cave is closed where it runs out.
-use Rattle.std.specs.Prelude.{ℕ, ℤ, pos, negsuc, ◌-ℤ◌, int_le, Bool, true, ◌&&◌, not, if◌then◌else◌}
+use Rattle.std.specs.Prelude.{ℕ, ℤ, pos, negsuc, ◌-ℤ◌, int_le, true, ◌&&◌}
 use Rattle.std.specs.Prelude.{List, [], ◌∷◌, Option, Some, None}
 use Rattle.std.specs.Ordering.{int_eq}
-use Rattle.turn_things.specs.cave_data.CaveView.{CaveView}
-use Rattle.turn_things.specs.data_rows.declared.place_role.PlaceRole.TheVariants as place
-use Rattle.turn_things.specs.data_rows.declared.role.Role.TheVariants as role
-use Rattle.turn_things.specs.cave_words.declared.named.Named.{Named}
-use Rattle.turn_things.specs.cave_words.declared.named.Named.TheVariants as name
-use Rattle.turn_things.specs.world_objects.Objects.{Layout, after_move_to, with_anchor, with_prop}
-use Rattle.turn_things.specs.world_objects.Objects.{carried_objects, anchor_at}
-use Rattle.turn_things.specs.cave_world.declared.state.State.{State}
-use Rattle.turn_things.specs.cave_world.State.{with_player_from}
-use Rattle.turn_things.specs.Effects.{with_objects}
-use Rattle.turn_things.specs.Places.{place_named}
-use Rattle.turn_things.specs.Props.{BIRD_CAGED, BOTTLE_EMPTY, GRATE_LOCKED, LAMP_OFF, PLANT_SMALL}
-use Rattle.turn_things.specs.Props.{SEEN, SNAKE_GONE, UNSEEN}
-use Rattle.turn_things.specs.turn_scene.Scene.{Scene, after_saying, with_state, thing}
+use Rattle.turn_rules.specs.cave_data.CaveView.{CaveView}
+use Rattle.turn_rules.specs.data_rows.declared.place_role.PlaceRole.{PlaceRole}
+use Rattle.turn_rules.specs.data_rows.declared.place_role.PlaceRole.TheVariants as place
+use Rattle.turn_rules.specs.data_rows.declared.role.Role.TheVariants as role
+use Rattle.turn_rules.specs.cave_words.declared.named.Named.{Named}
+use Rattle.turn_rules.specs.cave_words.declared.named.Named.TheVariants as name
+use Rattle.turn_rules.specs.world_objects.Objects.{Layout, after_move_to, with_anchor, with_prop}
+use Rattle.turn_rules.specs.world_objects.Objects.{carried_objects, anchor_at}
+use Rattle.turn_rules.specs.cave_world.declared.state.State.{State}
+use Rattle.turn_rules.specs.cave_world.State.{with_player_from}
+use Rattle.turn_rules.specs.turn_things.Effects.{with_objects}
+use Rattle.turn_rules.specs.turn_things.Props.{BIRD_CAGED, BOTTLE_EMPTY, GRATE_LOCKED, LAMP_OFF, PLANT_SMALL}
+use Rattle.turn_rules.specs.turn_things.Props.{SEEN, SNAKE_GONE, UNSEEN}
+use Rattle.turn_rules.specs.turn_scene.Scene.{thing}
+use Rattle.turn_rules.specs.Rows.{Deed, Act, Test, Effect, Row, row_then, first_fitting_or}
+use Rattle.turn_rules.specs.Rows.{nothing_but}
+use Rattle.turn_rules.specs.Tests.{no, cave_closed, is_bound, bound}
+use Rattle.turn_rules.specs.Effects.{in_state, say}
 
 -- what is put into the repository, and the prop that it gets once the player has carried it there
 pub record Stored : Type 0 where
@@ -27,8 +31,8 @@ abbrev pub stored_thing : Named → ℤ → Stored
 stored_thing n v = record { name = n; prop = v }
 
 -- what is put at the northeast end
-unfoldable pub furnish_northeast : List Stored
-furnish_northeast =
+unfoldable pub northeast_things : List Stored
+northeast_things =
     stored_thing name.Bottle BOTTLE_EMPTY
     ∷ stored_thing name.Plant PLANT_SMALL
     ∷ stored_thing name.Oyster SEEN
@@ -38,8 +42,8 @@ furnish_northeast =
     ∷ []
 
 -- what is put at the southwest end
-unfoldable pub furnish_southwest : List Stored
-furnish_southwest =
+unfoldable pub southwest_things : List Stored
+southwest_things =
     stored_thing name.Grate GRATE_LOCKED
     ∷ stored_thing name.Snake SNAKE_GONE
     ∷ stored_thing name.Bird BIRD_CAGED
@@ -68,73 +72,90 @@ hang_mirror cave ne sw o =
     let at_one = with_stored cave ne (stored_thing name.Mirror SEEN) o in
     with_anchor at_one (thing cave name.Mirror) (anchor_at sw)
 
-unfoldable pub furnish_repository : CaveView → ℕ → ℕ → Layout → Layout
-furnish_repository cave ne sw o =
-    let northeast = with_all_stored cave ne furnish_northeast o in
-    hang_mirror cave ne sw (with_all_stored cave sw furnish_southwest northeast)
+-- things are put at the place of a role
+abbrev pub furnish : PlaceRole → List Stored → Effect (Unit {0})
+furnish role things d =
+    in_state (with_objects (with_all_stored d.cave (bound role d) things d.scene.state.objects)
+    d.scene.state) d
+
+abbrev pub hang : Effect (Unit {0})
+hang d =
+    in_state (with_objects (hang_mirror d.cave (bound place.Ne d) (bound place.Sw d)
+    d.scene.state.objects) d.scene.state) d
+
+-- the player is at the place of a role, and came from there
+abbrev pub put_player : PlaceRole → Effect (Unit {0})
+put_player role d = in_state (with_player_from (bound role d) d.scene.state) d
 
 -- objects are nowhere from now on
 abbrev pub without_all : List ℕ → Layout → Layout
 without_all [] o = o
 without_all (x ∷ xs) o = without_all xs (after_move_to o x 0)
 
--- the player carries nothing any more
-unfoldable pub empty_hands : State → State
-empty_hands s = with_objects (without_all (carried_objects s.objects) s.objects) s
+unfoldable pub with_empty_hands : State → State
+with_empty_hands s = with_objects (without_all (carried_objects s.objects) s.objects) s
 
--- the cave is closed from now on
+-- the player carries nothing any more
+abbrev pub empty_hands : Effect (Unit {0})
+empty_hands d = in_state (with_empty_hands d.scene.state) d
+
 abbrev pub with_cave_closed : State → State
 with_cave_closed s = let closing = s.closing in
     record s { closing = record closing { is_closed = true } }
 
+-- the cave is closed from now on
+abbrev pub set_closed : Effect (Unit {0})
+set_closed d = in_state (with_cave_closed d.scene.state) d
+
+-- the clock goes once the first has run out, down to -1
+abbrev pub second_clock_goes : Test (Unit {0})
+second_clock_goes d =
+    int_eq d.scene.state.closing.first_clock (negsuc 0)
+    && int_le (pos 0) d.scene.state.closing.second_clock
+
+-- its last turn goes
+abbrev pub second_clock_runs_out : Test (Unit {0})
+second_clock_runs_out d = int_eq (d.scene.state.closing.second_clock -ℤ pos 1) (pos 0)
+
+abbrev pub with_second_clock_down : State → State
+with_second_clock_down s = let closing = s.closing in
+    record s { closing = record closing { second_clock = closing.second_clock -ℤ pos 1 } }
+
+-- a turn less is left until the cave is closed
+abbrev pub second_clock_down : Effect (Unit {0})
+second_clock_down d = in_state (with_second_clock_down d.scene.state) d
+
 -- the cave is closed: the player is at the northeast end of the repository
-unfoldable pub close_cave : CaveView → ℕ → ℕ → Scene → Scene
-close_cave cave ne sw p =
-    let stores = with_objects (furnish_repository cave ne sw p.state.objects) p.state in
-    let left = empty_hands (with_player_from ne stores) in
-    let told = after_saying role.Repository (with_state left p) in
-    with_state (with_cave_closed told.state) told
+unfoldable pub close_cave : List (Effect (Unit {0}))
+close_cave =
+    furnish place.Ne northeast_things
+    ∷ furnish place.Sw southwest_things
+    ∷ hang
+    ∷ put_player place.Ne
+    ∷ empty_hands
+    ∷ say role.Repository
+    ∷ set_closed
+    ∷ []
 
--- what a turn of the second clock has come to, and where the player goes on if it closed the cave
-pub record Closure : Type 0 where
-  pub place : Option ℕ
-  pub scene : Scene
+-- where the player goes on, if the cave was closed in this turn
+abbrev pub goes_on_there : Deed (Unit {0}) → Option ℕ
+goes_on_there d = Some d.scene.state.trail.here
 
--- what it has come to
-abbrev pub closure : Option ℕ → Scene → Closure
-closure place p = record { place = place; scene = p }
+abbrev pub stays_open : Deed (Unit {0}) → Option ℕ
+stays_open d = None
+
+unfoldable pub second_clock_rows : List (Row (Unit {0}) (Option ℕ))
+second_clock_rows =
+    row_then (second_clock_goes ∷ second_clock_runs_out ∷ no cave_closed ∷ is_bound place.Ne
+    ∷ is_bound place.Sw ∷ []) (second_clock_down ∷ close_cave) goes_on_there
+    ∷ row_then (second_clock_goes ∷ []) (second_clock_down ∷ []) stays_open
+    ∷ []
+
+-- the second clock goes on by a turn, if it goes
+unfoldable pub second_clock : Deed (Unit {0}) → Act (Option ℕ)
+second_clock d = first_fitting_or second_clock_rows (nothing_but stays_open) d
 
 -- how many parts are said of it at most
 abbrev pub parts_of_closure : Option ℕ → ℕ
 parts_of_closure None = 0
 parts_of_closure (Some place) = 1
-
--- a cave is closed only where both ends of a repository are known
-abbrev pub closure_between : CaveView → Option ℕ → Option ℕ → Scene → Closure
-closure_between cave (Some ne) (Some sw) p = closure (Some ne) (close_cave cave ne sw p)
-closure_between cave (Some ne) None p = closure None p
-closure_between cave None southwest p = closure None p
-
--- the cave is closed in the turn in which the clock comes to 0
-unfoldable pub close_if_due : CaveView → Scene → Closure
-close_if_due cave p =
-    if int_eq p.state.closing.second_clock (pos 0) && not p.state.closing.is_closed
-    then closure_between cave (place_named cave place.Ne) (place_named cave place.Sw) p
-    else closure None p
-
--- the clock goes once the first has run out, down to -1
-abbrev pub is_second_clock_going : State → Bool
-is_second_clock_going s =
-    int_eq s.closing.first_clock (negsuc 0) && int_le (pos 0) s.closing.second_clock
-
--- a turn less is left until the cave is closed
-abbrev pub with_second_clock_down : State → State
-with_second_clock_down s = let closing = s.closing in
-    record s { closing = record closing { second_clock = closing.second_clock -ℤ pos 1 } }
-
--- the second clock goes on by a turn, if it goes
-unfoldable pub after_second_clock : CaveView → Scene → Closure
-after_second_clock cave p =
-    if is_second_clock_going p.state
-    then close_if_due cave (with_state (with_second_clock_down p.state) p)
-    else closure None p

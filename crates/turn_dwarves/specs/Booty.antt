@@ -12,7 +12,8 @@ use Rattle.turn_things.specs.Effects.{with_objects}
 use Rattle.turn_things.specs.Homes.{is_home_here}
 use Rattle.turn_things.specs.Places.{place_named}
 use Rattle.turn_things.specs.turn_scene.Scene.{is_called, thing}
-use Rattle.turn_things.specs.Reach.{is_in_hand, is_near, is_fixed, treasures}
+use Rattle.turn_things.specs.Reach.{is_in_hand, is_near, is_fixed}
+use Rattle.turn_things.specs.Treasures.{treasures}
 use Rattle.turn_dwarves.specs.Band.{dwarf_of, with_dwarf}
 use Rattle.turn_things.specs.cave_world.Limits.{PIRATE}
 

@@ -10,7 +10,7 @@ use Rattle.turn_things.specs.Places.{place_named}
 use Rattle.turn_things.specs.turn_scene.Scene.{Scene, with_state, after_saying, after_draw, happens}
 use Rattle.turn_things.specs.turn_scene.Scene.{thing}
 use Rattle.turn_things.specs.Reach.{is_near, has_prop}
-use Rattle.turn_things.specs.Props.{LAMP_ON}
+use Rattle.turn_things.specs.cave_world.Sight.{LAMP_ON}
 use Rattle.turn_dwarves.specs.Band.{dwarf_of}
 use Rattle.turn_dwarves.specs.Moving.{after_dwarf_move}
 use Rattle.turn_dwarves.specs.Booty.{carries_booty, is_treasure_near, rob, hide_chest}

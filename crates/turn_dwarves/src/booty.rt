@@ -6,7 +6,7 @@ ghost use Rattle.turn_dwarves.specs.Booty.{after_move_to_named, pirate_wants, is
 ghost use Rattle.turn_dwarves.specs.Booty.{is_booty, steal, after_thefts, carries_booty};
 ghost use Rattle.turn_dwarves.specs.Booty.{is_treasure_near, with_chest, with_chest_at_first};
 ghost use Rattle.turn_dwarves.specs.Booty.{with_message, with_pirate_home, rob, hide_chest};
-ghost use Rattle.turn_things.specs.Reach.{treasures};
+ghost use Rattle.turn_things.specs.Treasures.{treasures};
 
 use crate::band::{dwarf_of, set_dwarf};
 use turn_things::treasures::{FIRST_TREASURE, LAST_TREASURE};

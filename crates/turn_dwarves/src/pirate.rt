@@ -8,9 +8,9 @@ ghost use Rattle.turn_dwarves.specs.Pirate.{meet_if_after_player, after_pirate};
 use crate::band::dwarf_of;
 use crate::booty::{carries_booty, hide_chest, is_treasure_near, rob};
 use crate::moving::move_dwarf;
-use turn_things::props::LAMP_ON;
 use turn_things::{
-    Named, PIRATE, PlaceRole, Role, Rules, Scene, State, has_prop, is_near, is_place, place_named,
+    LAMP_ON, Named, PIRATE, PlaceRole, Role, Rules, Scene, State, has_prop, is_near, is_place,
+    place_named,
 };
 
 #[tactic(auto, unfolding(crate::specs::Pirate::is_chest_seen))]

@@ -19,7 +19,8 @@ pub fn count_death(state: &mut State)
 #[tactic(auto, unfolding(crate::specs::Endings::after_die_closing))]
 fn die_closing(rules: &Rules<'_>, scene: &mut Scene<'_>)
     requires { HasRoom parts_of_death scene.old }
-    ensures scene { scene_of scene.new ≡ after_die_closing (cave_of rules.now) (scene_of scene.old) }
+    ensures scene { scene_of scene.new
+        ≡ after_die_closing (cave_of rules.now) (scene_of scene.old) }
     ensures says { GoesOnSaying parts_of_death scene.old scene.new }
     ensures over { IsTrue (takes_no_command scene.new.state.now) }
 {

@@ -36,7 +36,8 @@ fn die_role(state: &State) -> Role
 
 fn offer_hint(cave: &Cave, hint: HintNumber, scene: &mut Scene<'_>)
     requires { HasRoom 1 scene.old }
-    ensures scene { scene_of scene.new ≡ after_offer (get cave.now.hints hint) (scene_of scene.old) }
+    ensures scene { scene_of scene.new
+        ≡ after_offer (get cave.now.hints hint) (scene_of scene.old) }
     ensures says { GoesOnSaying 1 scene.old scene.new }
 {
     if let Some(row) = cave.hint(u16::from(hint.number())) {

@@ -70,7 +70,8 @@ pub fn consider_all(rules: &Rules<'_>, scene: &mut Scene<'_>)
 /// How many of the hints that are offered come before the end of those that the cave has.
 fn count_hints(cave: &Cave) -> u8
     ensures few { result ≤ defined.OFFERED_HINTS }
-    ensures all { IsAbove (result + defined.FIRST_HINT) cave.now.hints ⊎ (result ≡ defined.OFFERED_HINTS) }
+    ensures all { IsAbove (result + defined.FIRST_HINT) cave.now.hints ⊎ (result
+        ≡ defined.OFFERED_HINTS) }
 {
     let count = cave.hint_end().saturating_sub(usize::from(FIRST_HINT));
     count.min(usize::from(OFFERED_HINTS)) as u8
@@ -87,7 +88,8 @@ fn turns_after(before: usize, state: &State) -> Count<MAX_TURNS_IN_AREA>
 /// Whether of so many hints no turn counts.
 fn counts_no_turn(count: u8, state: &State) -> bool
     requires { count ≤ defined.OFFERED_HINTS }
-    ensures { IsTrue result → (n : ℕ) → n < count → turns_in_area state.now (n + defined.FIRST_HINT) ≡ 0 }
+    ensures { IsTrue result → (n : ℕ) → n < count
+        → turns_in_area state.now (n + defined.FIRST_HINT) ≡ 0 }
 {
     for before in 0..usize::from(count) {
         if turns_after(before, state).number() != 0 {
@@ -101,7 +103,8 @@ fn counts_no_turn(count: u8, state: &State) -> bool
 #[tactic(auto, unfolding(crate::specs::Hints::price_scene))]
 pub fn price(rules: &Rules<'_>, number: HintNumber, scene: &mut Scene<'_>)
     requires { HasRoom (1 + parts_of_question) scene.old }
-    ensures scene { scene_of scene.new ≡ price_scene (cave_of rules.now) number (scene_of scene.old) }
+    ensures scene { scene_of scene.new
+        ≡ price_scene (cave_of rules.now) number (scene_of scene.old) }
     ensures says { GoesOnSaying (1 + parts_of_question) scene.old scene.new }
 {
     if let Some(hint) = rules.cave.hint(u16::from(number.number())) {
@@ -115,7 +118,8 @@ pub fn price(rules: &Rules<'_>, number: HintNumber, scene: &mut Scene<'_>)
 #[tactic(auto, unfolding(crate::specs::Hints::hint_scene))]
 pub fn give_hint(rules: &Rules<'_>, number: HintNumber, scene: &mut Scene<'_>)
     requires { HasRoom 1 scene.old }
-    ensures scene { scene_of scene.new ≡ hint_scene (cave_of rules.now) number (scene_of scene.old) }
+    ensures scene { scene_of scene.new
+        ≡ hint_scene (cave_of rules.now) number (scene_of scene.old) }
     ensures says { GoesOnSaying 1 scene.old scene.new }
 {
     if let Some(hint) = rules.cave.hint(u16::from(number.number())) {
@@ -266,7 +270,8 @@ fn offer(rules: &Rules<'_>, number: HintNumber, hint: &Hint, conditions: u32, sc
     ensures says { GoesOnSaying parts_of_question scene.old scene.new }
     ensures here { scene.new.state.now.trail ≡ scene.old.state.now.trail }
     ensures few_on { takes_no_command scene.new.state.now ≡ false → SaysUpTo 0 scene.old scene.new }
-    ensures few_over { takes_no_command scene.old.state.now ≡ true → SaysUpTo 0 scene.old scene.new }
+    ensures few_over { takes_no_command scene.old.state.now
+        ≡ true → SaysUpTo 0 scene.old scene.new }
     ensures stays { takes_no_command scene.new.state.now ≡ false
         → takes_no_command scene.old.state.now ≡ false }
 {
@@ -291,7 +296,8 @@ fn consider(rules: &Rules<'_>, number: HintNumber, conditions: u32, scene: &mut 
     ensures says { GoesOnSaying parts_of_question scene.old scene.new }
     ensures here { scene.new.state.now.trail ≡ scene.old.state.now.trail }
     ensures few_on { takes_no_command scene.new.state.now ≡ false → SaysUpTo 0 scene.old scene.new }
-    ensures few_over { takes_no_command scene.old.state.now ≡ true → SaysUpTo 0 scene.old scene.new }
+    ensures few_over { takes_no_command scene.old.state.now
+        ≡ true → SaysUpTo 0 scene.old scene.new }
     ensures stays { takes_no_command scene.new.state.now ≡ false
         → takes_no_command scene.old.state.now ≡ false }
 {

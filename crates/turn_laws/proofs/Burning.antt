@@ -18,7 +18,8 @@ use Rattle.cave_turn.specs.cave_world.declared.state.State.{State}
 use Rattle.cave_turn.specs.turn_things.Places.{building_place}
 use Rattle.cave_turn.specs.turn_scene.Scene.{Scene, with_state, thing}
 use Rattle.cave_turn.specs.turn_things.Reach.{has_prop}
-use Rattle.cave_turn.specs.turn_clocks.Lamp.{after_lamp, with_charge, burn, put_out}
+use Rattle.cave_turn.specs.turn_clocks.Lamp.{lamp, with_charge, burn}
+use Rattle.cave_turn.specs.turn_rules.Rows.{deed}
 use Rattle.cave_turn.specs.Answers.{answer_in, after_answer, answers, is_dragon, is_yes}
 use Rattle.cave_turn.specs.Answers.{without_question}
 use Rattle.cave_turn.specs.Commands.{command_scene}
@@ -131,7 +132,6 @@ one_burnt false c some left = refl
 lamp_ebbs : (cave : CaveView) (c : ℤ) (n : ℕ) → pos 1 ≤ℤ c → (o : Option Scene)
     → is_changed cave o ≡ false
     → Lights cave (Calm (Level c n)) (Calm (Ebb (charge_after (is_lit cave o) c) n)) o
-unfolding after_lamp put_out
 lamp_ebbs cave c n some None same = λ f h. ((h.0.1, inl h.0.0), h.1)
 lamp_ebbs cave c n some (Some p) same = λ h. cared h
   where
@@ -139,7 +139,7 @@ lamp_ebbs cave c n some (Some p) same = λ h. cared h
     lit = has_prop p.state (thing cave name.Lamp) (pos 1)
 
     cared : On (Calm (Level c n)) p.state
-        → On (Calm (Ebb (charge_after lit c) n)) (after_lamp cave p).scene.state
+        → On (Calm (Ebb (charge_after lit c) n)) (lamp (deed cave tt p)).scene.state
     cared h =
         let q = with_state (burn cave p.state) p in
         let b = burnt_level cave p.state c n h in

@@ -21,11 +21,14 @@ use Rattle.cave_turn.specs.cave_world.declared.state.State.{State}
 use Rattle.cave_turn.specs.turn_things.Homes.{home}
 use Rattle.cave_turn.specs.turn_begin.Begin.{begun_state, starting_objects, all_objects}
 use Rattle.cave_turn.specs.Turns.{start_of_game, turn_on_line}
-use Rattle.cave_turn.specs.verb_commands.Rows.{Deed, Act, VerbRow, fits, after_all, act_of_row}
-use Rattle.cave_turn.specs.verb_commands.Rows.{first_fitting}
+use Rattle.cave_turn.specs.turn_rules.Rows.{Deed, Act, nothing_but}
+use Rattle.cave_turn.specs.verb_commands.Rows.{stays, first_fitting}
+use Rattle.cave_turn.specs.verb_commands.declared.command.Command.{Command}
+use Rattle.cave_turn.specs.verb_commands.declared.next.Step.{Step}
 use Rattle.cave_turn.specs.cave_verbs.Taking.{take_freely_rows, take_rows}
 use Rattle.turn_laws.proofs.ThingsEffects.{default_kept}
-use Rattle.turn_laws.proofs.ThingsFrame.{Claim, On, IsMoved, IsKept, choose}
+use Rattle.turn_laws.proofs.GuardedRows.{Guarded, guarded}
+use Rattle.turn_laws.proofs.ThingsFrame.{Claim, On, IsMoved, IsKept}
 use Rattle.turn_laws.proofs.ThingsLines.{turned_kept}
 use Rattle.turn_laws.specs.ObjectLaws.{CarriesFew, FewCarried}
 
@@ -258,23 +261,9 @@ tame_fit o z v x y free =
     let most = carried_more (after_carry (with_prop o z v) x) y in
     omega (arith, few, same, more, most)
 
--- rows keep the claim where they fit and none before them does
-abbrev Guarded : Deed → List VerbRow → Type 0
-Guarded d [] = Unit {0}
-Guarded d (r ∷ rows) =
-    (fits r.tests d ≡ true → On Few (after_all r.effects d).scene.state)
-    × (fits r.tests d ≡ false → Guarded d rows)
-
-guarded_few : (d : Deed) (rows : List VerbRow) → On Few d.scene.state → Guarded d rows
-    → On Few (first_fitting rows d).scene.state
-guarded_few d [] h each = h
-guarded_few d (r ∷ rows) h each =
-    choose (λ (o : Act). On Few o.scene.state) (fits r.tests d) (act_of_row r d)
-    (first_fitting rows d) each.0 (λ other. guarded_few d rows h (each.1 other))
-
 -- an object is taken where there is room
-freely_taken : (d : Deed) → HasRoom d.scene.state.objects → On Few d.scene.state
-    → Guarded d take_freely_rows
+freely_taken : (d : Deed Command) → HasRoom d.scene.state.objects → On Few d.scene.state
+    → Guarded (λ (a : Act Step). On Few a.scene.state) (nothing_but stays) d take_freely_rows
 unfolding take_freely_rows
 freely_taken d free h = (
   (λ _. h),
@@ -286,7 +275,7 @@ freely_taken d free h = (
         (λ _. two_fit d.scene.state.objects _ _ free),
         λ _. (
           (λ _. two_fit d.scene.state.objects _ _ free),
-          λ _. ((λ _. one_fits d.scene.state.objects _ free), λ _. tt),
+          λ _. ((λ _. one_fits d.scene.state.objects _ free), λ _. h),
         ),
       ),
     ),
@@ -294,9 +283,9 @@ freely_taken d free h = (
 )
 
 -- an object that is taken is one of few
-taken_few : (d : Deed) → On Few d.scene.state → On Few (first_fitting take_rows d).scene.state
+taken_few : (d : Deed Command) → On Few d.scene.state → On Few (first_fitting take_rows d).scene.state
 unfolding take_rows
-taken_few d h = guarded_few d take_rows h (
+taken_few d h = guarded (λ (a : Act Step). On Few a.scene.state) (nothing_but stays) d take_rows (
   (λ _. default_kept Few d h),
   λ _. (
     (λ _. h),

@@ -30,5 +30,6 @@ pub mod ThingsMoves
 pub mod ThingsClocks
 pub mod ThingsTurns
 pub mod ThingsLines
+pub mod GuardedRows
 pub mod Hands
 pub mod Band

@@ -5,7 +5,7 @@ use Rattle.cave_turn.specs.cave_verbs.Reading.{bare_read_rows, read_rows}
 use Rattle.cave_turn.specs.cave_verbs.Small.{bare_rows, other_rows, nothing_rows, bare_quit_rows}
 use Rattle.cave_turn.specs.cave_verbs.Small.{bare_score_rows, bare_brief_rows}
 use Rattle.cave_turn.specs.cave_verbs.Taking.{bare_take_rows, take_rows, take_freely_rows}
-use Rattle.cave_turn.specs.cave_verbs.Throwing.{throw_rows, miss_rows, hit_rows, axe_rows}
+use Rattle.cave_turn.specs.cave_verbs.Throwing.{throw_rows, axe_rows}
 use Rattle.cave_turn.specs.cave_verbs.Waving.{wave_rows, rub_rows}
 use Rattle.turn_laws.proofs.Frame.{Claim}
 use Rattle.turn_laws.proofs.OrdinaryRows.{ordinary, rows_kept}
@@ -80,20 +80,8 @@ unfolding take_rows take_freely_rows
 take_rows_kept P = rows_kept P take_rows (search ordinary parts 60)
 
 pub throw_rows_kept : (P : Claim) → KeepsRows P throw_rows
-unfolding throw_rows
+unfolding throw_rows axe_rows
 throw_rows_kept P = rows_kept P throw_rows (search ordinary parts 60)
-
-pub miss_rows_kept : (P : Claim) → KeepsRows P miss_rows
-unfolding miss_rows
-miss_rows_kept P = rows_kept P miss_rows (search ordinary parts 60)
-
-pub hit_rows_kept : (P : Claim) → KeepsRows P hit_rows
-unfolding hit_rows
-hit_rows_kept P = rows_kept P hit_rows (search ordinary parts 60)
-
-pub axe_rows_kept : (P : Claim) → KeepsRows P axe_rows
-unfolding axe_rows
-axe_rows_kept P = rows_kept P axe_rows (search ordinary parts 60)
 
 pub wave_rows_kept : (P : Claim) → KeepsRows P wave_rows
 unfolding wave_rows

@@ -7,7 +7,9 @@ use Rattle.cave_turn.specs.cave_world.declared.state.State.{State}
 use Rattle.cave_turn.specs.turn_things.Effects.{put_down, let_go, without_troll}
 use Rattle.cave_turn.specs.turn_things.Effects.{after_loss_to_snake, with_one_more_lost}
 use Rattle.cave_turn.specs.turn_scene.Scene.{Scene}
-use Rattle.cave_turn.specs.verb_commands.Rows.{Deed, VerbRow}
+use Rattle.cave_turn.specs.verb_commands.Rows.{VerbRow}
+use Rattle.cave_turn.specs.verb_commands.declared.command.Command.{Command}
+use Rattle.cave_turn.specs.turn_rules.Rows.{Deed}
 use Rattle.cave_turn.specs.cave_verbs.Feeding.{with_more_anger}
 use Rattle.cave_turn.specs.cave_verbs.Opening.{after_sending}
 use Rattle.turn_laws.proofs.Frame.{Claim, Facts, On, choose, chosen}
@@ -26,10 +28,10 @@ Held P = record {
 }
 
 -- one of two deeds
-pub deed_held : (P : Claim) (b : Bool) (d e : Deed) → On (Held P) d.scene.state
+pub deed_held : (P : Claim) (b : Bool) (d e : Deed Command) → On (Held P) d.scene.state
     → On (Held P) e.scene.state → On (Held P) (if b then d else e).scene.state
 deed_held P b d e h k =
-    choose (λ (one : Deed). On (Held P) one.scene.state) b d e (λ _. h) (λ _. k)
+    choose (λ (one : Deed Command). On (Held P) one.scene.state) b d e (λ _. h) (λ _. k)
 
 -- one of two scenes
 pub scene_held : (P : Claim) (b : Bool) (p q : Scene) → On (Held P) p.state → On (Held P) q.state

@@ -15,7 +15,7 @@ use Rattle.cave_turn.specs.cave_world.declared.state.State.{State}
 use Rattle.cave_turn.specs.turn_things.Places.{place_named, deep_place}
 use Rattle.cave_turn.specs.turn_scene.Scene.{Scene, after_saying, with_state, after_draw, happens}
 use Rattle.cave_turn.specs.turn_scene.Scene.{here_of, thing}
-use Rattle.cave_turn.specs.turn_things.Reach.{treasures}
+use Rattle.cave_turn.specs.turn_things.Treasures.{treasures}
 use Rattle.cave_turn.specs.turn_dwarves.Band.{dwarf_of, with_dwarf, state_after_draw}
 use Rattle.cave_turn.specs.cave_world.Limits.{PIRATE}
 use Rattle.cave_turn.specs.turn_dwarves.Dwarves.{Encounter, without_hit, encounter_awake}

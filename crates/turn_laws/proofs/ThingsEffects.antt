@@ -16,27 +16,30 @@ use Rattle.cave_turn.specs.turn_things.Effects.{with_bird_in_cage, after_panic}
 use Rattle.cave_turn.specs.turn_things.Homes.{home, hold_of, is_at_home}
 use Rattle.cave_turn.specs.turn_scene.Scene.{is_called, thing, Scene, after_telling}
 use Rattle.cave_turn.specs.turn_things.Reach.{is_in_hand, has_other_prop}
-use Rattle.cave_turn.specs.verb_commands.Rows.{Deed, Act, Effect, VerbRow, first_fitting, fits}
-use Rattle.cave_turn.specs.verb_commands.Rows.{after_all, act_of_row}
-use Rattle.cave_turn.specs.verb_commands.Effects.{after_default, default, say}
+use Rattle.cave_turn.specs.turn_rules.Rows.{Deed, Act, Test, Effect, Row, all_hold, fits, after_drawing}
+use Rattle.cave_turn.specs.turn_rules.Rows.{after_trying_by, after_trying, after_all, act_of_row}
+use Rattle.cave_turn.specs.turn_rules.Rows.{first_fitting_or, nothing_but}
+use Rattle.cave_turn.specs.verb_commands.Rows.{VerbRow, stays, first_fitting}
+use Rattle.cave_turn.specs.verb_commands.declared.command.Command.{Command}
+use Rattle.cave_turn.specs.verb_commands.Effects.{after_default, default}
+use Rattle.cave_turn.specs.turn_rules.Effects.{say}
 use Rattle.cave_turn.specs.cave_verbs.Light.{say_dark}
 use Rattle.cave_turn.specs.cave_verbs.Opening.{after_sending}
 use Rattle.cave_turn.specs.verb_commands.Verbs.{verb_number}
-use Rattle.cave_turn.specs.cave_verbs.Throwing.{first_fitting_or}
 use Rattle.turn_laws.proofs.ThingsFrame.{Claim, On, IsMoved, Clocked, choose, chosen, chosen_scene}
 
 -- effects one after another keep a claim
-abbrev pub KeepsAll : Claim → List Effect → Type 0
-KeepsAll P effects = (d : Deed) → On P d.scene.state → On P (after_all effects d).scene.state
+abbrev pub KeepsAll : {C : Type 0} → Claim → List (Effect C) → Type 0
+KeepsAll {C} P effects = (d : Deed C) → On P d.scene.state → On P (after_all effects d).scene.state
 
 -- the effects of rows keep a claim
-abbrev pub KeepsRows : Claim → List VerbRow → Type 0
+abbrev pub KeepsRows : {C F : Type 0} → Claim → List (Row C F) → Type 0
 KeepsRows P [] = Unit {0}
 KeepsRows P (r ∷ rows) = KeepsAll P r.effects × KeepsRows P rows
 
 -- what comes of a deed keeps a claim
-abbrev pub KeepsAct : Claim → (Deed → Act) → Type 0
-KeepsAct P f = (d : Deed) → On P d.scene.state → On P (f d).scene.state
+abbrev pub KeepsAct : {C F : Type 0} → Claim → (Deed C → Act F) → Type 0
+KeepsAct {C} P f = (d : Deed C) → On P d.scene.state → On P (f d).scene.state
 
 -- a default message keeps a claim
 pub said_kept : (P : Claim) (cave : CaveView) (number : ℕ) (p : Scene) → On P p.state
@@ -45,13 +48,13 @@ said_kept P cave number p h =
     chosen_scene P (default_message cave number == 0) p
     (after_telling (part.Message (default_message cave number)) p) h h
 
-pub default_kept : (P : Claim) (d : Deed) → On P d.scene.state → On P (default d).scene.state
-default_kept P d h = said_kept P d.cave (verb_number d.command.verb) d.scene h
+pub default_kept : (P : Claim) (d : Deed Command) → On P d.scene.state → On P (default d).scene.state
+default_kept P d h = said_kept P d.cave (verb_number d.about.verb) d.scene h
 
 -- saying that it is dark keeps a claim
-pub say_dark_kept : (P : Claim) (d : Deed) → On P d.scene.state → On P (say_dark d).scene.state
+pub say_dark_kept : (P : Claim) (d : Deed Command) → On P d.scene.state → On P (say_dark d).scene.state
 say_dark_kept P d h =
-    choose (λ (e : Deed). On P e.scene.state) (dark d.cave (thing d.cave name.Lamp)
+    choose (λ (e : Deed Command). On P e.scene.state) (dark d.cave (thing d.cave name.Lamp)
     d.scene.state)
     (say role.Dark d) d (λ _. h) (λ _. h)
 
@@ -122,20 +125,28 @@ pub sent_kept : {P : Claim} (k : IsMoved P) (x : ℕ) (o : Option ℕ) (s : Stat
 sent_kept k x None s h = h
 sent_kept k x (Some place) s h = k.place _ _ _ _ x place h
 
+-- a row that is tried keeps a claim, whether a draw is made or not
+pub tried_kept : {C F : Type 0} (P : Claim) (r : Row C F) (d : Deed C) → On P d.scene.state
+    → On P (after_trying r d).scene.state
+tried_kept {C} P r d h = by_draw r.tests r.draw
+  where
+    by_draw : (tests : List (Test C)) (draw : Option (Test C))
+        → On P (after_trying_by tests draw d).scene.state
+    by_draw tests None = h
+    by_draw tests (Some draw) =
+        choose (λ (e : Deed C). On P e.scene.state) (all_hold tests d) (after_drawing d) d (λ _. h) (λ _. h)
+
+-- the first row that fits, or what comes of it if none does, keeps a claim
+pub first_or_kept : {C F : Type 0} (P : Claim) (rows : List (Row C F)) (f : Deed C → Act F)
+    → KeepsRows P rows → KeepsAct P f → KeepsAct P (first_fitting_or rows f)
+first_or_kept P [] f k other d h = other d h
+first_or_kept {C} {F} P (r ∷ rows) f k other d h =
+    let g = tried_kept P r d h in
+    choose (λ (o : Act F). On P o.scene.state) (fits r d) (act_of_row r (after_trying r d))
+    (first_fitting_or rows f (after_trying r d))
+    (λ _. k.0 (after_trying r d) g) (λ _. first_or_kept P rows f k.1 other (after_trying r d) g)
+
 -- the first row that fits keeps a claim
 pub first_kept : (P : Claim) (rows : List VerbRow) → KeepsRows P rows
     → KeepsAct P (first_fitting rows)
-first_kept P [] k d h = h
-first_kept P (r ∷ rows) k d h =
-    choose (λ (o : Act). On P o.scene.state) (fits r.tests d) (act_of_row r d)
-    (first_fitting rows d)
-    (λ _. k.0 d h) (λ _. first_kept P rows k.1 d h)
-
--- the first row that fits, or what comes of it if none does, keeps a claim
-pub first_or_kept : (P : Claim) (rows : List VerbRow) (f : Deed → Act) → KeepsRows P rows
-    → KeepsAct P f → KeepsAct P (first_fitting_or rows f)
-first_or_kept P [] f k other d h = other d h
-first_or_kept P (r ∷ rows) f k other d h =
-    choose (λ (o : Act). On P o.scene.state) (fits r.tests d) (act_of_row r d)
-    (first_fitting_or rows f d)
-    (λ _. k.0 d h) (λ _. first_or_kept P rows f k.1 other d h)
+first_kept P rows k d h = first_or_kept P rows (nothing_but stays) k (λ e g. g) d h

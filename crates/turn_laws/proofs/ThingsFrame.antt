@@ -16,7 +16,9 @@ use Rattle.cave_turn.specs.turn_scene.Scene.{Scene}
 use Rattle.cave_turn.specs.turn_things.Reach.{is_dwarf_at}
 use Rattle.cave_turn.specs.turn_clocks.FirstClock.{dismissed_dwarf}
 use Rattle.cave_turn.specs.turn_dwarves.Waking.{dwarf_apart}
-use Rattle.cave_turn.specs.verb_commands.Rows.{Deed, first_fitting}
+use Rattle.cave_turn.specs.verb_commands.Rows.{first_fitting}
+use Rattle.cave_turn.specs.verb_commands.declared.command.Command.{Command}
+use Rattle.cave_turn.specs.turn_rules.Rows.{Deed}
 use Rattle.cave_turn.specs.cave_verbs.Taking.{take_rows}
 use Rattle.cave_turn.specs.cave_verbs.Throwing.{without_first_at}
 use Rattle.turn_laws.proofs.Frame as frame
@@ -82,7 +84,7 @@ pub record IsPlayed (P : Claim) : Type 0 where
         each = without_first_at n w.each;
       }) c
   -- an object is taken
-  pub takes : (d : Deed) → On P d.scene.state → On P (first_fitting take_rows d).scene.state
+  pub takes : (d : Deed Command) → On P d.scene.state → On P (first_fitting take_rows d).scene.state
 
 -- a claim is kept by what happens in a game, where commands find the player at places of some kind
 pub record IsKept (Here : ℕ → Type 0) (P : Claim) : Type 0 where

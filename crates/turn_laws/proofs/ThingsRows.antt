@@ -12,7 +12,8 @@ use Rattle.cave_turn.specs.cave_world.declared.state.State.{State}
 use Rattle.cave_turn.specs.turn_things.Effects.{put_down, let_go, without_troll}
 use Rattle.cave_turn.specs.turn_things.Effects.{after_loss_to_snake, after_panic}
 use Rattle.cave_turn.specs.turn_scene.Scene.{Scene}
-use Rattle.cave_turn.specs.verb_commands.Rows.{Deed}
+use Rattle.cave_turn.specs.turn_rules.Rows.{Deed}
+use Rattle.cave_turn.specs.verb_commands.declared.command.Command.{Command}
 use Rattle.cave_turn.specs.verb_commands.Effects.{default}
 use Rattle.cave_turn.specs.cave_verbs.Light.{say_dark, on_rows, off_rows}
 use Rattle.cave_turn.specs.cave_verbs.Opening.{after_sending, bare_open_rows, chain_rows, lock_rows}
@@ -29,7 +30,6 @@ use Rattle.cave_turn.specs.cave_verbs.Reading.{bare_read_rows, read_rows}
 use Rattle.cave_turn.specs.cave_verbs.Small.{bare_rows, other_rows, nothing_rows, bare_quit_rows}
 use Rattle.cave_turn.specs.cave_verbs.Small.{bare_score_rows, bare_brief_rows}
 use Rattle.cave_turn.specs.cave_verbs.Taking.{bare_take_rows}
-use Rattle.cave_turn.specs.cave_verbs.Throwing.{throw_rows, miss_rows, axe_rows}
 use Rattle.cave_turn.specs.cave_verbs.Waving.{wave_rows, rub_rows}
 use Rattle.turn_laws.proofs.ThingsEffects as effect
 use Rattle.turn_laws.proofs.ThingsEffects.{KeepsRows}
@@ -74,14 +74,14 @@ module _ {P : Claim} (k : IsPlayed P) where
   send : (x : ℕ) (o : Option ℕ) (s : State) → On P s → On P (after_sending x o s)
   send = effect.sent_kept k.moved
 
-  say_default : (d : Deed) → On P d.scene.state → On P (default d).scene.state
+  say_default : (d : Deed Command) → On P d.scene.state → On P (default d).scene.state
   say_default = effect.default_kept P
 
   seen : (b : Bool) (p q : Scene) → On P p.state → On P q.state
       → On P (if b then p else q).state
   seen = chosen_scene P
 
-  tell_dark : (d : Deed) → On P d.scene.state → On P (say_dark d).scene.state
+  tell_dark : (d : Deed Command) → On P d.scene.state → On P (say_dark d).scene.state
   tell_dark = effect.say_dark_kept P
 
   ruleset effects = (
@@ -216,18 +216,6 @@ module _ {P : Claim} (k : IsPlayed P) where
   pub bare_take_rows_kept : KeepsRows P bare_take_rows
   unfolding bare_take_rows
   bare_take_rows_kept = search effects parts 40
-
-  pub throw_rows_kept : KeepsRows P throw_rows
-  unfolding throw_rows
-  throw_rows_kept = search effects parts 40
-
-  pub miss_rows_kept : KeepsRows P miss_rows
-  unfolding miss_rows
-  miss_rows_kept = search effects parts 40
-
-  pub axe_rows_kept : KeepsRows P axe_rows
-  unfolding axe_rows
-  axe_rows_kept = search effects parts 40
 
   pub wave_rows_kept : KeepsRows P wave_rows
   unfolding wave_rows

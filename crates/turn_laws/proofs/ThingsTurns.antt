@@ -274,7 +274,7 @@ timed_kept {Here} {P} k cave words p here h =
     let t = run_clocks cave p in
     let after = timing.clocks_kept (IsHere Here) (IsHere Here) (here_timed Here) cave p
     (here_lit Here cave (before_lamp cave p)) here in
-    after_clocks_kept k cave words after.0 t.outcome t.scene after.1 (clocks_kept k cave p h)
+    after_clocks_kept k cave words after.0 t.step t.scene after.1 (clocks_kept k cave p h)
 
 -- a command that finds the player at a place of the kind keeps a claim
 pub commanded_kept : {Here : ℕ → Type 0} {P : Claim} (k : IsKept Here P) (cave : CaveView)

@@ -1,15 +1,14 @@
 -- What verbs do keeps each claim that what happens in a game keeps.
-use Rattle.std.proofs.Common.{◌≡◌, ℕ, zero, suc, Bool, true, false, sym}
+use Rattle.std.proofs.Common.{◌≡◌, ℕ, zero, suc, Bool, true, false, refl, sym}
 use Rattle.std.proofs.lemmas.Bool.{true≢false}
-use Rattle.std.specs.Prelude.{◌==◌, ◌&&◌, nat_le, take}
-use Rattle.std.specs.List.{list_any}
+use Rattle.std.specs.Prelude.{◌==◌, ◌&&◌, nat_le, drop, if◌then◌else◌}
 use Rattle.cave_turn.specs.cave_data.CaveView.{CaveView}
-use Rattle.cave_turn.specs.cave_words.Stream.{number_drawn}
-use Rattle.cave_turn.specs.turn_things.Reach.{is_dwarf_at, is_dwarf_here}
+use Rattle.cave_turn.specs.turn_things.Reach.{is_dwarf_here}
 use Rattle.cave_turn.specs.turn_scene.Scene.{Scene}
 use Rattle.cave_turn.specs.cave_verbs.Acting.{bare_rows_of, object_act, act_bare, act_on, act_once}
 use Rattle.cave_turn.specs.cave_verbs.Acting.{act_within, act}
-use Rattle.cave_turn.specs.verb_commands.Rows.{Deed, Act, deed, going_on, first_fitting}
+use Rattle.cave_turn.specs.verb_commands.Rows.{stays, going_on, first_fitting}
+use Rattle.cave_turn.specs.turn_rules.Rows.{Deed, Act, deed, after_drawing, nothing_but}
 use Rattle.cave_turn.specs.cave_verbs.Blasting.{blast_rows}
 use Rattle.cave_turn.specs.cave_verbs.Breaking.{break_rows, wake_rows}
 use Rattle.cave_turn.specs.cave_verbs.Dropping.{drop_rows}
@@ -22,60 +21,84 @@ use Rattle.cave_turn.specs.cave_verbs.Pouring.{pour_rows, drink_rows, fill_rows}
 use Rattle.cave_turn.specs.cave_verbs.Reading.{read_rows}
 use Rattle.cave_turn.specs.cave_verbs.Small.{other_rows, nothing_rows}
 use Rattle.cave_turn.specs.cave_verbs.Waving.{wave_rows, rub_rows}
-use Rattle.cave_turn.specs.verb_commands.Tests.{dwarf}
+use Rattle.cave_turn.specs.turn_rules.Tests.{dwarf}
 use Rattle.cave_turn.specs.verb_commands.declared.next.Step.{Step}
 use Rattle.cave_turn.specs.verb_commands.declared.next.Step.TheVariants.{Done, GoOn}
 use Rattle.cave_turn.specs.verb_commands.declared.command.Command.{Command}
 use Rattle.cave_turn.specs.verb_commands.declared.verb.Verb.{Verb}
 use Rattle.cave_turn.specs.verb_commands.declared.verb.Verb.TheVariants as verb
-use Rattle.cave_turn.specs.cave_verbs.Throwing.{throw_rows, miss_rows, hit_rows, axe_rows}
-use Rattle.cave_turn.specs.cave_verbs.Throwing.{none_killed, axe_thrown_at_dwarf, axe_act}
-use Rattle.cave_turn.specs.cave_verbs.Throwing.{throw_act, after_one_draw}
+use Rattle.cave_turn.specs.cave_verbs.Throwing.{strike, axe_rows, throw_rows}
 use Rattle.turn_laws.proofs.ThingsFrame.{Claim, On, IsPlayed, choose}
-use Rattle.turn_laws.proofs.ThingsEffects.{KeepsAct, KeepsRows, first_kept, first_or_kept}
+use Rattle.turn_laws.proofs.ThingsEffects.{KeepsAct, KeepsRows, first_kept, default_kept}
+use Rattle.turn_laws.proofs.ThingsEffects.{without_troll_kept}
+use Rattle.turn_laws.proofs.GuardedRows.{Guarded, guarded}
 use Rattle.turn_laws.proofs.ThingsRows as rows
+
+-- the first of two tests that hold holds
+first_holds : (a b : Bool) → (a && b) ≡ true → a ≡ true
+first_holds true b both = refl
+first_holds false b both = absurd (true≢false (sym both))
 
 -- the second of two tests that hold holds
 second_holds : (a b : Bool) → (a && b) ≡ true → b ≡ true
 second_holds true b both = both
 second_holds false b both = absurd (true≢false (sym both))
 
--- the axe that hits a dwarf keeps a claim
-hit_kept : {P : Claim} (k : IsPlayed P) (d : Deed)
-    → list_any (is_dwarf_at d.scene.state.trail.here) (take 5 d.scene.state.dwarves.each) ≡ true
-    → On P d.scene.state → On P (first_fitting hit_rows d).scene.state
-unfolding hit_rows
-hit_kept {P} k d there h =
+-- a dwarf that is here is struck
+struck_kept : {P : Claim} (k : IsPlayed P) (d : Deed Command) (rest : Bool)
+    → (dwarf d && rest) ≡ true → On P d.scene.state → On P (strike d).scene.state
+unfolding is_dwarf_here
+struck_kept k d rest fit h =
     let s = d.scene.state in
-    let killed = k.struck s.trail.here s.objects s.dwarves s.closing there h in
-    choose (λ (o : Act). On P o.scene.state) (none_killed d && true) _ _
-    (λ _. k.moved.place _ _ _ _ _ _ killed) (λ _. k.moved.place _ _ _ _ _ _ killed)
+    k.struck s.trail.here s.objects s.dwarves s.closing
+    (second_holds (nat_le 2 s.dwarves.anger) _ (first_holds (dwarf d) rest fit)) h
 
--- an axe that is thrown at a dwarf keeps a claim
-at_dwarf_kept : {P : Claim} (k : IsPlayed P) (d : Deed)
-    → list_any (is_dwarf_at d.scene.state.trail.here) (take 5 d.scene.state.dwarves.each) ≡ true
-    → On P d.scene.state → On P (axe_thrown_at_dwarf d).scene.state
-unfolding axe_thrown_at_dwarf
-at_dwarf_kept {P} k d there h =
-    choose (λ (o : Act). On P o.scene.state) (number_drawn 3 d.scene.state.stream == 0)
-    (first_fitting miss_rows (after_one_draw d)) (first_fitting hit_rows (after_one_draw d))
-    (λ _. first_kept P miss_rows (rows.miss_rows_kept k) (after_one_draw d) h)
-    (λ _. hit_kept k (after_one_draw d) there h)
-
--- an axe that is thrown keeps a claim
-axe_kept : {P : Claim} (k : IsPlayed P) → KeepsAct P axe_act
-unfolding axe_act is_dwarf_here
-axe_kept {P} k d h =
-    choose (λ (o : Act). On P o.scene.state) (dwarf d) (axe_thrown_at_dwarf d)
-    (first_fitting axe_rows d)
-    (λ here. at_dwarf_kept k d (second_holds (nat_le 2 d.scene.state.dwarves.anger) _ here) h)
-    (λ _. first_kept P axe_rows (rows.axe_rows_kept k) d h)
+-- where the axe doesn't miss
+unmissed_kept : {P : Claim} (k : IsPlayed P) (d : Deed Command) → On P d.scene.state
+    → Guarded (λ (a : Act Step). On P a.scene.state) (nothing_but stays) d (drop 1 axe_rows)
+unfolding axe_rows
+unmissed_kept k d h = (
+  (λ fit. k.moved.place _ _ _ _ _ _ (struck_kept k d _ fit h)),
+  λ _. (
+    (λ fit. k.moved.place _ _ _ _ _ _ (struck_kept k d _ fit h)),
+    λ _. (
+      (λ _. k.moved.place _ _ _ _ _ _ h),
+      λ _. (
+        (λ _. k.moved.place _ _ _ _ _ _ h),
+        λ _. (
+          (λ _. k.moved.latest _ _ _ _ _ (k.moved.prop _ _ _ _ _ _
+              (k.moved.anchor _ _ _ _ _ _ (k.moved.place _ _ _ _ _ _ h)))),
+          λ _. ((λ _. h), λ _. h),
+        ),
+      ),
+    ),
+  ),
+)
 
 -- what is thrown keeps a claim
-thrown_kept : {P : Claim} (k : IsPlayed P) → KeepsAct P throw_act
-unfolding throw_act
+thrown_kept : {P : Claim} (k : IsPlayed P) → KeepsAct P (first_fitting throw_rows)
+unfolding throw_rows axe_rows
 thrown_kept {P} k d h =
-    first_or_kept P throw_rows axe_act (rows.throw_rows_kept k) (axe_kept k) d h
+    let e = if dwarf d && true then after_drawing d else d in
+    let held =
+    choose (λ (one : Deed Command). On P one.scene.state) (dwarf d && true) (after_drawing d) d (λ _. h)
+    (λ _. h) in
+    guarded (λ (a : Act Step). On P a.scene.state) (nothing_but stays) d throw_rows (
+      (λ _. h),
+      λ _. (
+        (λ _. default_kept P d h),
+        λ _. (
+          (λ _. without_troll_kept k.moved d.cave _ (k.moved.place _ _ _ _ _ _ h)),
+          λ _. (
+            (λ _. h),
+            λ _. (
+              (λ _. h),
+              λ _. ((λ _. k.moved.place _ _ _ _ _ _ held), λ _. unmissed_kept k e held),
+            ),
+          ),
+        ),
+      ),
+    )
 
 -- the rows of verbs without an object keep a claim
 bare_verb_kept : {P : Claim} (k : IsPlayed P) (v : Verb) → KeepsRows P (bare_rows_of v)
@@ -143,17 +166,17 @@ object_verb_kept {P} k verb.Brief d h = first_kept P other_rows (rows.other_rows
 bare_kept : {P : Claim} (k : IsPlayed P) → KeepsAct P act_bare
 unfolding act_bare
 bare_kept {P} k d h =
-    first_kept P (bare_rows_of d.command.verb) (bare_verb_kept k d.command.verb) d h
+    first_kept P (bare_rows_of d.about.verb) (bare_verb_kept k d.about.verb) d h
 
 -- a verb with an object keeps a claim
 object_kept : {P : Claim} (k : IsPlayed P) → KeepsAct P act_on
 unfolding act_on
-object_kept k d h = object_verb_kept k d.command.verb d h
+object_kept k d h = object_verb_kept k d.about.verb d h
 
 -- a verb keeps a claim by its own rules
 once_kept : {P : Claim} (k : IsPlayed P) → KeepsAct P act_once
 once_kept {P} k d h =
-    choose (λ (o : Act). On P o.scene.state) (d.command.object == 0) (act_bare d) (act_on d)
+    choose (λ (o : Act Step). On P o.scene.state) (d.about.object == 0) (act_bare d) (act_on d)
     (λ _. bare_kept k d h) (λ _. object_kept k d h)
 
 -- a verb keeps a claim with those that it goes on with
@@ -163,15 +186,15 @@ within_kept k zero d h = once_kept k d h
 within_kept {P} k (suc left) d h =
     stepped (act_once d) (act_once d).step (once_kept k d h)
     (λ v x. within_kept k left
-    (deed d.cave (going_on d.command v x) (act_once d).scene)
+    (deed d.cave (going_on d.about v x) (act_once d).scene)
     (once_kept k d h))
   where
-    stepped : (o : Act) (step : Step) → On P o.scene.state
+    stepped : (o : Act Step) (step : Step) → On P o.scene.state
         → ((v : Verb) (x : ℕ) → On P
-        (act_within left (deed d.cave (going_on d.command v x) o.scene)).scene.state)
-        → On P (elim step as (λ _. Act) [
+        (act_within left (deed d.cave (going_on d.about v x) o.scene)).scene.state)
+        → On P (elim step as (λ _. Act Step) [
           | Done next ↦ o
-          | GoOn v x ↦ act_within left (deed d.cave (going_on d.command v x) o.scene)
+          | GoOn v x ↦ act_within left (deed d.cave (going_on d.about v x) o.scene)
         ]).scene.state
     stepped o (Done next) here more = here
     stepped o (GoOn v x) here more = more v x

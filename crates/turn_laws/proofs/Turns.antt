@@ -258,7 +258,7 @@ unfolding clocks_scene
 timed_kept Q {P} cave k timed words p lamp h =
     let t = run_clocks cave p in
     let after = clocks_kept (Calm Q) (Calm P) timed cave p lamp h in
-    after_clocks_kept cave k words after.0 t.outcome t.scene after.1
+    after_clocks_kept cave k words after.0 t.step t.scene after.1
 
 pub commanded_kept : (Q : Claim) {P : Claim} (cave : CaveView) (k : IsKept cave P)
     (timed : IsTimed (Calm Q)) (line : List ℕ) (s : State)

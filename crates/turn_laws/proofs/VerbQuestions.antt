@@ -3,14 +3,13 @@ use Rattle.std.proofs.Common.{◌≡◌, ℕ, zero, suc, Bool, true, false, List
 use Rattle.std.proofs.lemmas.Bool.{true≢false}
 use Rattle.std.specs.Prelude.{◌==◌, ◌&&◌, not}
 use Rattle.cave_turn.specs.cave_data.CaveView.{CaveView}
-use Rattle.cave_turn.specs.cave_words.Stream.{number_drawn}
 use Rattle.cave_turn.specs.turn_scene.Scene.{Scene}
 use Rattle.cave_turn.specs.cave_verbs.Acting.{bare_rows_of, object_act, act_bare, act_on, act_once}
 use Rattle.cave_turn.specs.cave_verbs.Acting.{act_within, act, next_of_step}
 use Rattle.cave_turn.specs.cave_verbs.Blasting.{blast_rows}
 use Rattle.cave_turn.specs.cave_verbs.Breaking.{break_rows, wake_rows}
-use Rattle.cave_turn.specs.verb_commands.Rows.{Deed, Act, deed, going_on, VerbRow, after_all}
-use Rattle.cave_turn.specs.verb_commands.Rows.{first_fitting, fits, act_of_row}
+use Rattle.cave_turn.specs.turn_rules.Rows.{Deed, Act, deed, fits, after_trying, after_all, act_of_row}
+use Rattle.cave_turn.specs.verb_commands.Rows.{VerbRow, going_on, first_fitting}
 use Rattle.cave_turn.specs.cave_verbs.Dropping.{drop_rows}
 use Rattle.cave_turn.specs.cave_verbs.Feeding.{feed_rows, bare_eat_rows, eat_rows}
 use Rattle.cave_turn.specs.cave_verbs.Finding.{find_rows, bare_inventory_rows}
@@ -23,10 +22,7 @@ use Rattle.cave_turn.specs.cave_verbs.Reading.{bare_read_rows, read_rows}
 use Rattle.cave_turn.specs.cave_verbs.Small.{bare_rows, other_rows, nothing_rows, bare_quit_rows}
 use Rattle.cave_turn.specs.cave_verbs.Small.{bare_score_rows, bare_brief_rows}
 use Rattle.cave_turn.specs.cave_verbs.Taking.{bare_take_rows, take_rows, take_freely_rows}
-use Rattle.cave_turn.specs.verb_commands.Tests.{dwarf}
-use Rattle.cave_turn.specs.cave_verbs.Throwing.{throw_rows, miss_rows, hit_rows, axe_rows}
-use Rattle.cave_turn.specs.cave_verbs.Throwing.{first_fitting_or, after_one_draw}
-use Rattle.cave_turn.specs.cave_verbs.Throwing.{axe_thrown_at_dwarf, axe_act, throw_act}
+use Rattle.cave_turn.specs.cave_verbs.Throwing.{throw_rows, axe_rows}
 use Rattle.cave_turn.specs.cave_verbs.Waving.{wave_rows, rub_rows}
 use Rattle.cave_turn.specs.verb_commands.declared.next.Next.{Next}
 use Rattle.cave_turn.specs.verb_commands.declared.next.Next.TheVariants.{Stay, Keep, Describe}
@@ -48,11 +44,11 @@ is_asking_die (Ask q) = is_die q
 is_asking_die (End how) = false
 
 -- it isn't asked after an outcome
-abbrev Spares : (Deed → Act) → Type 0
-Spares f = (d : Deed) → is_asking_die (next_of_step (f d).step) ≡ false
+abbrev Spares : (Deed Command → Act Step) → Type 0
+Spares f = (d : Deed Command) → is_asking_die (next_of_step (f d).step) ≡ false
 
 -- none of the rows asks it
-abbrev spares : List VerbRow → Deed → Bool
+abbrev spares : List VerbRow → Deed Command → Bool
 spares [] d = true
 spares (r ∷ rows) d = not (is_asking_die (next_of_step (r.end d))) && spares rows d
 
@@ -64,27 +60,16 @@ rest_of : (a b : Bool) → (not a && b) ≡ true → b ≡ true
 rest_of true b h = absurd (true≢false (sym h))
 rest_of false b h = h
 
-first_or_spares : (rows : List VerbRow) (f : Deed → Act)
-    → ((d : Deed) → spares rows d ≡ true) → Spares f → Spares (first_fitting_or rows f)
-first_or_spares [] f all other d = other d
-first_or_spares (r ∷ rows) f all other d =
-    choose (λ (o : Act). is_asking_die (next_of_step o.step) ≡ false) (fits r.tests d)
-    (act_of_row r d) (first_fitting_or rows f d)
-    (λ _. let e = after_all r.effects d in
-    first_of (is_asking_die (next_of_step (r.end e))) (spares rows e) (all e))
-    (λ _. first_or_spares rows f
-    (λ e. rest_of (is_asking_die (next_of_step (r.end e))) (spares rows e) (all e)) other d)
-
-first_spares : (rows : List VerbRow) → ((d : Deed) → spares rows d ≡ true)
+first_spares : (rows : List VerbRow) → ((d : Deed Command) → spares rows d ≡ true)
     → Spares (first_fitting rows)
 first_spares [] all d = refl
 first_spares (r ∷ rows) all d =
-    choose (λ (o : Act). is_asking_die (next_of_step o.step) ≡ false) (fits r.tests d)
-    (act_of_row r d) (first_fitting rows d)
-    (λ _. let e = after_all r.effects d in
+    choose (λ (o : Act Step). is_asking_die (next_of_step o.step) ≡ false) (fits r d)
+    (act_of_row r (after_trying r d)) (first_fitting rows (after_trying r d))
+    (λ _. let e = after_all r.effects (after_trying r d) in
     first_of (is_asking_die (next_of_step (r.end e))) (spares rows e) (all e))
     (λ _. first_spares rows
-    (λ e. rest_of (is_asking_die (next_of_step (r.end e))) (spares rows e) (all e)) d)
+    (λ e. rest_of (is_asking_die (next_of_step (r.end e))) (spares rows e) (all e)) (after_trying r d))
 
 bare_spare : (v : Verb) → Spares (first_fitting (bare_rows_of v))
 unfolding bare_take_rows bare_rows bare_open_rows nothing_rows on_rows off_rows bare_kill_rows
@@ -119,26 +104,11 @@ bare_spare verb.Read = first_spares bare_read_rows (λ d. refl)
 bare_spare verb.Break = first_spares bare_rows (λ d. refl)
 bare_spare verb.Wake = first_spares bare_rows (λ d. refl)
 
-throw_spares : Spares throw_act
-unfolding throw_act axe_act axe_thrown_at_dwarf throw_rows axe_rows miss_rows hit_rows
-throw_spares = first_or_spares throw_rows axe_act (λ d. refl) axe
-  where
-    axe : Spares axe_act
-    axe d =
-        choose (λ (o : Act). is_asking_die (next_of_step o.step) ≡ false) (dwarf d)
-        (axe_thrown_at_dwarf d) (first_fitting axe_rows d)
-        (λ _. choose (λ (o : Act). is_asking_die (next_of_step o.step) ≡ false)
-        (number_drawn 3 d.scene.state.stream == 0) (first_fitting miss_rows (after_one_draw d))
-        (first_fitting hit_rows (after_one_draw d))
-        (λ _. first_spares miss_rows (λ e. refl) (after_one_draw d))
-        (λ _. first_spares hit_rows (λ e. refl) (after_one_draw d)))
-        (λ _. first_spares axe_rows (λ e. refl) d)
-
 object_spare : (v : Verb) → Spares (object_act v)
 unfolding other_rows take_rows take_freely_rows drop_rows open_rows lock_rows chain_rows nothing_rows
     on_rows off_rows wave_rows
     kill_rows pour_rows eat_rows drink_rows rub_rows find_rows feed_rows fill_rows blast_rows
-    read_rows break_rows wake_rows
+    read_rows break_rows wake_rows throw_rows axe_rows
 object_spare verb.Take d = first_spares take_rows (λ e. refl) d
 object_spare verb.Drop d = first_spares drop_rows (λ e. refl) d
 object_spare verb.Open d = first_spares open_rows (λ e. refl) d
@@ -152,7 +122,7 @@ object_spare verb.Pour d = first_spares pour_rows (λ e. refl) d
 object_spare verb.Eat d = first_spares eat_rows (λ e. refl) d
 object_spare verb.Drink d = first_spares drink_rows (λ e. refl) d
 object_spare verb.Rub d = first_spares rub_rows (λ e. refl) d
-object_spare verb.Throw d = throw_spares d
+object_spare verb.Throw d = first_spares throw_rows (λ e. refl) d
 object_spare verb.Find d = first_spares find_rows (λ e. refl) d
 object_spare verb.Inventory d = first_spares find_rows (λ e. refl) d
 object_spare verb.Feed d = first_spares feed_rows (λ e. refl) d
@@ -171,10 +141,10 @@ object_spare verb.Brief d = first_spares other_rows (λ e. refl) d
 once_spares : Spares act_once
 unfolding act_bare act_on
 once_spares d =
-    choose (λ (o : Act). is_asking_die (next_of_step o.step) ≡ false) (d.command.object == 0)
+    choose (λ (o : Act Step). is_asking_die (next_of_step o.step) ≡ false) (d.about.object == 0)
     (act_bare d) (act_on d)
-    (λ _. bare_spare d.command.verb d)
-    (λ _. object_spare d.command.verb d)
+    (λ _. bare_spare d.about.verb d)
+    (λ _. object_spare d.about.verb d)
 
 within_spares : (left : ℕ) → Spares (act_within left)
 unfolding act_within
@@ -182,15 +152,15 @@ within_spares zero d = once_spares d
 within_spares (suc left) d =
     stepped (act_once d) (act_once d).step refl (once_spares d)
     (λ v x. within_spares left
-    (deed d.cave (going_on d.command v x) (act_once d).scene))
+    (deed d.cave (going_on d.about v x) (act_once d).scene))
   where
-    stepped : (o : Act) (step : Step) → o.step ≡ step
+    stepped : (o : Act Step) (step : Step) → o.step ≡ step
         → is_asking_die (next_of_step o.step) ≡ false
         → ((v : Verb) (x : ℕ) → is_asking_die (next_of_step
-        (act_within left (deed d.cave (going_on d.command v x) o.scene)).step) ≡ false)
-        → is_asking_die (next_of_step (elim step as (λ _. Act) [
+        (act_within left (deed d.cave (going_on d.about v x) o.scene)).step) ≡ false)
+        → is_asking_die (next_of_step (elim step as (λ _. Act Step) [
           | Done next ↦ o
-          | GoOn v x ↦ act_within left (deed d.cave (going_on d.command v x) o.scene)
+          | GoOn v x ↦ act_within left (deed d.cave (going_on d.about v x) o.scene)
         ]).step) ≡ false
     stepped o (Done next) is spared more = spared
     stepped o (GoOn v x) is spared more = more v x

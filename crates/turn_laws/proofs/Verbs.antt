@@ -3,11 +3,11 @@
 use Rattle.std.proofs.Common.{ℕ, zero, suc}
 use Rattle.std.specs.Prelude.{◌==◌}
 use Rattle.cave_turn.specs.cave_data.CaveView.{CaveView}
-use Rattle.cave_turn.specs.cave_words.Stream.{number_drawn}
 use Rattle.cave_turn.specs.turn_scene.Scene.{Scene}
 use Rattle.cave_turn.specs.cave_verbs.Acting.{bare_rows_of, object_act, act_bare, act_on, act_once}
 use Rattle.cave_turn.specs.cave_verbs.Acting.{act_within, act}
-use Rattle.cave_turn.specs.verb_commands.Rows.{Act, deed, going_on, first_fitting}
+use Rattle.cave_turn.specs.verb_commands.Rows.{going_on}
+use Rattle.cave_turn.specs.turn_rules.Rows.{Act, deed}
 use Rattle.cave_turn.specs.cave_verbs.Blasting.{blast_rows}
 use Rattle.cave_turn.specs.cave_verbs.Breaking.{break_rows, wake_rows}
 use Rattle.cave_turn.specs.cave_verbs.Dropping.{drop_rows}
@@ -21,17 +21,14 @@ use Rattle.cave_turn.specs.cave_verbs.Reading.{read_rows}
 use Rattle.cave_turn.specs.cave_verbs.Small.{other_rows, nothing_rows}
 use Rattle.cave_turn.specs.cave_verbs.Taking.{take_rows}
 use Rattle.cave_turn.specs.cave_verbs.Waving.{wave_rows, rub_rows}
-use Rattle.cave_turn.specs.verb_commands.Tests.{dwarf}
 use Rattle.cave_turn.specs.verb_commands.declared.next.Step.{Step}
 use Rattle.cave_turn.specs.verb_commands.declared.next.Step.TheVariants.{Done, GoOn}
 use Rattle.cave_turn.specs.verb_commands.declared.command.Command.{Command}
 use Rattle.cave_turn.specs.verb_commands.declared.verb.Verb.{Verb}
 use Rattle.cave_turn.specs.verb_commands.declared.verb.Verb.TheVariants as verb
-use Rattle.cave_turn.specs.cave_verbs.Throwing.{throw_rows, miss_rows, hit_rows, axe_rows}
-use Rattle.cave_turn.specs.cave_verbs.Throwing.{axe_thrown_at_dwarf, axe_act, throw_act}
-use Rattle.cave_turn.specs.cave_verbs.Throwing.{after_one_draw}
+use Rattle.cave_turn.specs.cave_verbs.Throwing.{throw_rows}
 use Rattle.turn_laws.proofs.Frame.{Claim, On, choose}
-use Rattle.turn_laws.proofs.VerbEffects.{KeepsAct, KeepsRows, first_kept, first_or_kept}
+use Rattle.turn_laws.proofs.VerbEffects.{KeepsAct, KeepsRows, first_kept}
 use Rattle.turn_laws.proofs.VerbRows.{blast_rows_kept, break_rows_kept, wake_rows_kept}
 use Rattle.turn_laws.proofs.VerbRows.{drop_rows_kept, feed_rows_kept, bare_eat_rows_kept}
 use Rattle.turn_laws.proofs.VerbRows.{eat_rows_kept, find_rows_kept, bare_inventory_rows_kept}
@@ -43,30 +40,7 @@ use Rattle.turn_laws.proofs.MoreVerbRows.{bare_read_rows_kept, read_rows_kept, b
 use Rattle.turn_laws.proofs.MoreVerbRows.{other_rows_kept, nothing_rows_kept, bare_quit_rows_kept}
 use Rattle.turn_laws.proofs.MoreVerbRows.{bare_score_rows_kept, bare_brief_rows_kept}
 use Rattle.turn_laws.proofs.MoreVerbRows.{bare_take_rows_kept, take_rows_kept, throw_rows_kept}
-use Rattle.turn_laws.proofs.MoreVerbRows.{miss_rows_kept, hit_rows_kept, axe_rows_kept}
 use Rattle.turn_laws.proofs.MoreVerbRows.{wave_rows_kept, rub_rows_kept}
-
--- an axe that is thrown at a dwarf keeps a claim
-pub at_dwarf_kept : (P : Claim) → KeepsAct P axe_thrown_at_dwarf
-unfolding axe_thrown_at_dwarf
-at_dwarf_kept P d h =
-    choose (λ (o : Act). On P o.scene.state) (number_drawn 3 d.scene.state.stream == 0)
-    (first_fitting miss_rows (after_one_draw d)) (first_fitting hit_rows (after_one_draw d))
-    (λ _. first_kept P miss_rows (miss_rows_kept P) (after_one_draw d) h)
-    (λ _. first_kept P hit_rows (hit_rows_kept P) (after_one_draw d) h)
-
--- an axe that is thrown keeps a claim
-pub axe_kept : (P : Claim) → KeepsAct P axe_act
-unfolding axe_act
-axe_kept P d h =
-    choose (λ (o : Act). On P o.scene.state) (dwarf d) (axe_thrown_at_dwarf d)
-    (first_fitting axe_rows d)
-    (λ _. at_dwarf_kept P d h) (λ _. first_kept P axe_rows (axe_rows_kept P) d h)
-
--- what is thrown keeps a claim
-pub thrown_kept : (P : Claim) → KeepsAct P throw_act
-unfolding throw_act
-thrown_kept P d h = first_or_kept P throw_rows axe_act (throw_rows_kept P) (axe_kept P) d h
 
 -- the rows of verbs without an object keep a claim
 pub bare_verb_kept : (P : Claim) (v : Verb) → KeepsRows P (bare_rows_of v)
@@ -114,7 +88,7 @@ object_verb_kept P verb.Pour d h = first_kept P pour_rows (pour_rows_kept P) d h
 object_verb_kept P verb.Eat d h = first_kept P eat_rows (eat_rows_kept P) d h
 object_verb_kept P verb.Drink d h = first_kept P drink_rows (drink_rows_kept P) d h
 object_verb_kept P verb.Rub d h = first_kept P rub_rows (rub_rows_kept P) d h
-object_verb_kept P verb.Throw d h = thrown_kept P d h
+object_verb_kept P verb.Throw d h = first_kept P throw_rows (throw_rows_kept P) d h
 object_verb_kept P verb.Find d h = first_kept P find_rows (find_rows_kept P) d h
 object_verb_kept P verb.Inventory d h = first_kept P find_rows (find_rows_kept P) d h
 object_verb_kept P verb.Feed d h = first_kept P feed_rows (feed_rows_kept P) d h
@@ -134,17 +108,17 @@ object_verb_kept P verb.Brief d h = first_kept P other_rows (other_rows_kept P) 
 pub bare_kept : (P : Claim) → KeepsAct P act_bare
 unfolding act_bare
 bare_kept P d h =
-    first_kept P (bare_rows_of d.command.verb) (bare_verb_kept P d.command.verb) d h
+    first_kept P (bare_rows_of d.about.verb) (bare_verb_kept P d.about.verb) d h
 
 -- a verb with an object keeps a claim
 pub object_kept : (P : Claim) → KeepsAct P act_on
 unfolding act_on
-object_kept P d h = object_verb_kept P d.command.verb d h
+object_kept P d h = object_verb_kept P d.about.verb d h
 
 -- a verb keeps a claim by its own rules
 pub once_kept : (P : Claim) → KeepsAct P act_once
 once_kept P d h =
-    choose (λ (o : Act). On P o.scene.state) (d.command.object == 0) (act_bare d) (act_on d)
+    choose (λ (o : Act Step). On P o.scene.state) (d.about.object == 0) (act_bare d) (act_on d)
     (λ _. bare_kept P d h) (λ _. object_kept P d h)
 
 -- a verb keeps a claim with those that it goes on with
@@ -154,15 +128,15 @@ within_kept P zero d h = once_kept P d h
 within_kept P (suc left) d h =
     stepped (act_once d) (act_once d).step (once_kept P d h)
     (λ v x. within_kept P left
-    (deed d.cave (going_on d.command v x) (act_once d).scene)
+    (deed d.cave (going_on d.about v x) (act_once d).scene)
     (once_kept P d h))
   where
-    stepped : (o : Act) (step : Step) → On P o.scene.state
+    stepped : (o : Act Step) (step : Step) → On P o.scene.state
         → ((v : Verb) (x : ℕ) → On P
-        (act_within left (deed d.cave (going_on d.command v x) o.scene)).scene.state)
-        → On P (elim step as (λ _. Act) [
+        (act_within left (deed d.cave (going_on d.about v x) o.scene)).scene.state)
+        → On P (elim step as (λ _. Act Step) [
           | Done next ↦ o
-          | GoOn v x ↦ act_within left (deed d.cave (going_on d.command v x) o.scene)
+          | GoOn v x ↦ act_within left (deed d.cave (going_on d.about v x) o.scene)
         ]).scene.state
     stepped o (Done next) here more = here
     stepped o (GoOn v x) here more = more v x

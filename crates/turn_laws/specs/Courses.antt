@@ -12,7 +12,7 @@ use Rattle.cave_turn.specs.turn_things.Homes.{home, second_home}
 use Rattle.cave_turn.specs.turn_things.Places.{outside_place, place_named}
 use Rattle.cave_turn.specs.turn_scene.Scene.{Scene, thing}
 use Rattle.cave_turn.specs.turn_things.Reach.{has_prop}
-use Rattle.cave_turn.specs.turn_things.Props.{LAMP_ON}
+use Rattle.cave_turn.specs.cave_world.Sight.{LAMP_ON}
 use Rattle.cave_turn.specs.cave_world.State.{is_hint_taken, MAX_LOST}
 use Rattle.cave_turn.specs.turn_score.Score.{score_of, max_score_of}
 use Rattle.cave_turn.specs.Answers.{without_question}

@@ -12,9 +12,10 @@ use Rattle.cave_turn.specs.cave_world.declared.ending.Question.TheVariants as qu
 use Rattle.cave_turn.specs.cave_world.declared.state.State.{State}
 use Rattle.cave_turn.specs.turn_things.Places.{building_place, start_place}
 use Rattle.cave_turn.specs.turn_scene.Scene.{Scene, scene_at_start, thing}
-use Rattle.cave_turn.specs.turn_clocks.FirstClock.{after_first_clock}
-use Rattle.cave_turn.specs.turn_clocks.Lamp.{burn, can_change_batteries}
-use Rattle.cave_turn.specs.turn_clocks.Repository.{after_second_clock}
+use Rattle.cave_turn.specs.turn_clocks.FirstClock.{first_clock}
+use Rattle.cave_turn.specs.turn_clocks.Lamp.{burning, can_change_batteries}
+use Rattle.cave_turn.specs.turn_clocks.Repository.{second_clock}
+use Rattle.cave_turn.specs.turn_rules.Rows.{deed, all_hold}
 use Rattle.cave_turn.specs.Answers.{answer_in, without_question, is_dragon, is_yes}
 use Rattle.cave_turn.specs.Commands.{begin_command}
 use Rattle.cave_turn.specs.Turns.{Turn, turn_on_line, start_of_game, with_seed, silent_turn}
@@ -127,14 +128,14 @@ unless_closed (Some place) p = None
 -- to close, and else after the second
 abbrev pub before_lamp : CaveView → Scene → Option Scene
 before_lamp cave p =
-    let first = after_first_clock cave p in
-    let second = after_second_clock cave first.scene in
-    if first.has_begun then Some first.scene else unless_closed second.place second.scene
+    let first = first_clock (deed cave tt p) in
+    let second = second_clock (deed cave tt first.scene) in
+    if first.step then Some first.scene else unless_closed second.step second.scene
 
 -- the lamp is reached, and its batteries are changed: they can be, once a turn is burnt
 abbrev pub is_changed : CaveView → Option Scene → Bool
 is_changed cave None = false
-is_changed cave (Some p) = can_change_batteries cave (burn cave p.state)
+is_changed cave (Some p) = all_hold can_change_batteries (burning (deed cave tt p))
 
 -- the lamp gets new batteries in a command that begins in a state
 abbrev pub gets_batteries : CaveView → State → Bool

@@ -33,7 +33,8 @@ with_troll cave o =
     let troll = thing cave name.Troll in let second = thing cave name.SecondTroll in
     let free = with_prop o troll TROLL_CALM in
     let alone = with_anchor (after_move_to free second 0) second anchor.Loose in
-    let there = with_anchor (after_move_to alone troll (home cave troll)) troll (hold_of cave troll) in
+    let there =
+    with_anchor (after_move_to alone troll (home cave troll)) troll (hold_of cave troll) in
     after_juggle there (thing cave name.Chasm)
 
 -- the troll asks for a treasure once more

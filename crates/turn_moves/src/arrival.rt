@@ -26,7 +26,8 @@ use turn_ends::die;
 #[tactic(auto, unfolding(crate::specs::Arrival::after_forced_motions))]
 pub fn arrive(rules: &Rules<'_>, place: Place, scene: &mut Scene<'_>)
     requires { HasRoom (parts_of_arrival scene.old.left) scene.old }
-    ensures scene { scene_of scene.new ≡ after_arrival (cave_of rules.now) place (scene_of scene.old) }
+    ensures scene { scene_of scene.new
+        ≡ after_arrival (cave_of rules.now) place (scene_of scene.old) }
     ensures says { MovesOnSaying (parts_of_arrival scene.old.left) scene.old scene.new }
 {
     if stop_at(rules, place, scene) {

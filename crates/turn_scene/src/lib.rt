@@ -10,10 +10,10 @@ pub use cave_world::hints::HINTS;
 pub use cave_world::{
     Anchor, CLUE_HINT, Cave, Charge, Class, Condition, Count, DEFAULT_BUILDING, DEFAULT_DEEP,
     DEFAULT_OUTSIDE, DEFAULT_START, DWARVES, Destination, Dwarf, Ending, Half, Hint, HintNumber,
-    Knife, LIVES, LOW_CHARGE, MAX_DETAILS, MAX_TREASURES, MAX_TURNS_IN_AREA, Magic, Meaning,
-    Motion, Named, NumberLine, OBJECTS, Object, Objects, Outcome, PIRATE, Part, Place, PlaceRole,
-    Prop, Question, Rating, Role, Row, Special, Spot, State, Stream, Word, WordLine, forced,
-    has_condition, travel,
+    Knife, LAMP_ON, LIVES, LOW_CHARGE, Lexicon, MAX_DETAILS, MAX_TREASURES, MAX_TURNS_IN_AREA,
+    Magic, Meaning, Motion, Named, NumberLine, OBJECTS, Object, Objects, Out, Outcome, PIRATE,
+    Part, Place, PlaceRole, Prop, Question, Rating, Role, Row, Special, Spot, State, Stream, Word,
+    WordLine, forced, has_condition, travel,
 };
 pub use objects::or_no_object;
 pub use rules::Rules;

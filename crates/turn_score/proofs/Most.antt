@@ -5,7 +5,7 @@ use Rattle.turn_things.specs.cave_data.CaveView.{CaveView}
 use Rattle.turn_things.specs.cave_world.declared.ending.Ending.{Ending}
 use Rattle.turn_things.specs.cave_world.declared.ending.Ending.TheVariants as ending
 use Rattle.turn_things.specs.cave_world.declared.state.State.{State}
-use Rattle.turn_things.specs.Reach.{known_treasures}
+use Rattle.turn_things.specs.Treasures.{known_treasures}
 use Rattle.turn_score.specs.Treasures.{worth, is_seen, is_safe, points_of_treasure, treasure_points}
 use Rattle.turn_score.specs.Treasures.{most_treasure_points}
 use Rattle.turn_score.specs.Score.{life_points, ending_points, escape_points, dwarf_points}

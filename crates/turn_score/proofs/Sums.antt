@@ -5,7 +5,7 @@ use Rattle.std.specs.List.{filter, sum_by, range_with_len}
 use Rattle.std.proofs.lemmas.List.Sums.{sum_by-cons}
 use Rattle.turn_things.specs.cave_data.CaveView.{CaveView}
 use Rattle.turn_things.specs.cave_world.declared.state.State.{State}
-use Rattle.turn_things.specs.Reach.{is_known, treasures, known_treasures}
+use Rattle.turn_things.specs.Treasures.{is_known, treasures, known_treasures}
 use Rattle.turn_score.specs.Treasures.{worth, points_of_treasure, treasure_points}
 use Rattle.turn_score.specs.Treasures.{most_treasure_points}
 use Rattle.turn_score.specs.Score.{hints_taken, price_of, hint_costs}

@@ -8,7 +8,8 @@ use Rattle.turn_scene.specs.world_objects.declared.spot.Anchor.TheVariants as an
 use Rattle.turn_scene.specs.cave_world.State.{MAX_LOST}
 use Rattle.turn_scene.specs.cave_world.declared.state.State.{State}
 use Rattle.turn_scene.specs.Scene.{thing, is_called}
-use Rattle.turn_things.specs.Reach.{liquid_of, is_liquid, is_in_hand, has_other_prop}
+use Rattle.turn_things.specs.Reach.{is_in_hand, has_other_prop}
+use Rattle.turn_things.specs.Liquids.{liquid_of, is_liquid}
 use Rattle.turn_things.specs.Homes.{home, hold_of, is_at_home}
 use Rattle.turn_things.specs.Props.{BIRD_FREE}
 
@@ -54,8 +55,8 @@ unfoldable pub without_troll : CaveView → State → State
 without_troll cave s =
     let troll = thing cave name.Troll in let second = thing cave name.SecondTroll in
     let gone = with_anchor (after_move_to s.objects troll 0) troll anchor.Loose in
-    let there = with_anchor (after_move_to gone second (home cave troll)) second (hold_of cave troll)
-    in
+    let there =
+    with_anchor (after_move_to gone second (home cave troll)) second (hold_of cave troll) in
     with_objects (after_juggle there (thing cave name.Chasm)) s
 
 -- one treasure more is lost

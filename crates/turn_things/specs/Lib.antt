@@ -1,9 +1,11 @@
 pub mod Effects
 pub mod Homes
+pub mod Liquids
 pub mod Places
 pub mod Props
 pub mod Reach
 pub mod SpecialWords
+pub mod Treasures
 pub use Rattle.turn_scene.specs.cave_data as cave_data
 pub use Rattle.turn_scene.specs.cave_words as cave_words
 pub use Rattle.turn_scene.specs.cave_world as cave_world

@@ -106,12 +106,9 @@ GRATE_LOCKED = pos 0
 abbrev pub GRATE_UNLOCKED : ℤ
 GRATE_UNLOCKED = pos 1
 
--- the lamp
+-- the lamp that doesn't burn
 abbrev pub LAMP_OFF : ℤ
 LAMP_OFF = pos 0
-
-abbrev pub LAMP_ON : ℤ
-LAMP_ON = pos 1
 
 -- the text of the oyster that tells of the writing on it
 abbrev pub OYSTER_WRITTEN_ON : ℤ

@@ -21,14 +21,13 @@ pub use panicking::start_panic;
 pub use places::{building_place, deep_place, is_place, outside_place, place_named, start_place};
 pub use reach::{
     has_other_prop, has_prop, has_prop_up_to, is_dwarf_here, is_fixed, is_in_hand, is_near,
-    is_treasure,
 };
 pub use special_words::special;
-pub use treasures::is_known;
+pub use treasures::{is_known, is_treasure};
 pub use turn_scene::{
     Anchor, CLUE_HINT, Cave, Charge, Condition, Count, DWARVES, Destination, Dwarf, Ending, HINTS,
-    Half, Hint, HintNumber, Knife, LIVES, LOW_CHARGE, MAX_DETAILS, MAX_TREASURES,
-    MAX_TURNS_IN_AREA, Magic, Motion, Named, NumberLine, OBJECTS, Object, Objects, Outcome, PIRATE,
-    Part, Place, PlaceRole, Prop, Question, Rating, Role, Row, Rules, Scene, Special, State,
-    Stream, Word, WordLine, forced, or_no_object, travel,
+    Half, Hint, HintNumber, Knife, LAMP_ON, LIVES, LOW_CHARGE, Lexicon, MAX_DETAILS, MAX_TREASURES,
+    MAX_TURNS_IN_AREA, Magic, Motion, Named, NumberLine, OBJECTS, Object, Objects, Out, Outcome,
+    PIRATE, Part, Place, PlaceRole, Prop, Question, Rating, Role, Row, Rules, Scene, Special,
+    State, Stream, Word, WordLine, forced, or_no_object, travel,
 };

@@ -73,10 +73,8 @@ pub const GRATE_LOCKED: i8 = 0;
 /// The unlocked grate.
 pub const GRATE_UNLOCKED: i8 = 1;
 
-/// The lamp, off.
+/// The lamp that doesn't burn; one that burns has `LAMP_ON`, which light goes by.
 pub const LAMP_OFF: i8 = 0;
-/// The lamp, on.
-pub const LAMP_ON: i8 = 1;
 
 /// The text of the oyster that tells of the writing on it.
 pub const OYSTER_WRITTEN_ON: i8 = 1;

@@ -1,12 +1,11 @@
 ghost use Rattle.std.specs.Prelude.{◌≡◌};
 ghost use Rattle.std.specs.List.{list_any};
 ghost use Rattle.turn_scene.specs.Scene.{cave_of};
-ghost use Rattle.turn_things.specs.Reach.{is_in_hand, is_near, is_fixed, is_treasure, has_prop};
+ghost use Rattle.turn_things.specs.Reach.{is_in_hand, is_near, is_fixed, has_prop};
 ghost use Rattle.turn_things.specs.Reach.{has_other_prop, has_prop_up_to, is_dwarf_at};
 ghost use Rattle.turn_things.specs.Reach.{is_dwarf_here};
 
 use crate::liquids::{is_liquid, liquid};
-use crate::treasures::{FIRST_TREASURE, LAST_TREASURE};
 use turn_scene::{Anchor, Dwarf, Named, Object, PIRATE, Place, Rules, State};
 
 /// Whether an object is carried: a liquid where the bottle is carried and has it.
@@ -51,13 +50,6 @@ pub fn has_prop_up_to(state: &State, object: Object, most: i8) -> bool
     ensures { result ≡ has_prop_up_to state.now object most }
 {
     !object.is_none() && state.objects.prop(object).value() <= most
-}
-
-/// Whether an object is a treasure.
-pub fn is_treasure(object: Object) -> bool
-    ensures { result ≡ is_treasure object }
-{
-    FIRST_TREASURE <= object.number() && object.number() <= LAST_TREASURE
 }
 
 fn is_at(place: Place, dwarf: &Dwarf) -> bool

@@ -1,5 +1,5 @@
 ghost use Rattle.std.specs.Prelude.{◌≡◌};
-ghost use Rattle.turn_things.specs.Reach.{is_known};
+ghost use Rattle.turn_things.specs.Treasures.{is_known, is_treasure};
 
 use turn_scene::{Cave, Object};
 
@@ -14,4 +14,11 @@ pub fn is_known(cave: &Cave, object: Object) -> bool
     ensures { result ≡ is_known cave.now object }
 {
     cave.name(u16::from(object.number())).is_some()
+}
+
+/// Whether an object is a treasure.
+pub fn is_treasure(object: Object) -> bool
+    ensures { result ≡ is_treasure object }
+{
+    FIRST_TREASURE <= object.number() && object.number() <= LAST_TREASURE
 }

@@ -1,9 +1,10 @@
 -- What a verb without an object could be meant for.
 use Rattle.std.specs.Prelude.{ℕ, Bool, ◌==◌, ◌&&◌, not, nat_le, if◌then◌else◌, List, [], ◌∷◌, ◌++◌}
 use Rattle.std.specs.Prelude.{length}
-use Rattle.turn_things.specs.cave_words.declared.named.Named.{Named}
-use Rattle.verb_commands.specs.Rows.{Deed, Test, Thing}
-use Rattle.verb_commands.specs.Tests.{the}
+use Rattle.turn_rules.specs.cave_words.declared.named.Named.{Named}
+use Rattle.turn_rules.specs.Rows.{Deed, Test, Thing}
+use Rattle.turn_rules.specs.Tests.{the}
+use Rattle.verb_commands.specs.declared.command.Command.{Command}
 
 -- of how many objects a verb without an object could be meant for one
 abbrev pub MAX_MEANT : ℕ
@@ -11,22 +12,22 @@ MAX_MEANT = 5
 
 -- an object, and when the verb could be meant for it
 pub record Candidate : Type 0 where
-  pub object : Thing
-  pub test : Test
+  pub object : Thing Command
+  pub test : Test Command
 
-abbrev pub candidate : Named → Test → Candidate
+abbrev pub candidate : Named → Test Command → Candidate
 candidate n test = record { object = the n; test = test }
 
 -- an object more, if the cave has it and the verb could be meant for it
 unfoldable pub with_meant : Bool → ℕ → List ℕ → List ℕ
 with_meant could_be x xs = if could_be && not (x == 0) then xs ++ x ∷ [] else xs
 
-abbrev pub meant_after : List ℕ → List Candidate → Deed → List ℕ
+abbrev pub meant_after : List ℕ → List Candidate → Deed Command → List ℕ
 meant_after xs [] d = xs
 meant_after xs (c ∷ cs) d = meant_after (with_meant (c.test d) (c.object d) xs) cs d
 
 -- of candidates, the objects that the verb could be meant for
-abbrev pub objects_meant : List Candidate → Deed → List ℕ
+abbrev pub objects_meant : List Candidate → Deed Command → List ℕ
 objects_meant candidates d = meant_after [] candidates d
 
 abbrev pub first_or_none : List ℕ → ℕ
@@ -38,13 +39,13 @@ only_of (x ∷ []) = x
 only_of _ = 0
 
 -- two or more
-abbrev pub several : (Deed → List ℕ) → Test
+abbrev pub several : (Deed Command → List ℕ) → Test Command
 several xs d = nat_le 2 (length (xs d))
 
 -- the first; 0 where there is none
-abbrev pub first : (Deed → List ℕ) → Thing
+abbrev pub first : (Deed Command → List ℕ) → Thing Command
 first xs d = first_or_none (xs d)
 
 -- the only one; 0 where there are more, or none
-abbrev pub only : (Deed → List ℕ) → Thing
+abbrev pub only : (Deed Command → List ℕ) → Thing Command
 only xs d = only_of (xs d)

@@ -1,33 +1,13 @@
--- What rows of verbs do.
-use Rattle.std.specs.Prelude.{ℕ, ℤ, ◌==◌, if◌then◌else◌}
-use Rattle.turn_things.specs.cave_data.CaveView.{CaveView, default_message}
-use Rattle.turn_things.specs.data_rows.declared.role.Role.{Role}
-use Rattle.turn_things.specs.world_objects.Objects.{after_move_to, after_carry, with_anchor}
-use Rattle.turn_things.specs.world_objects.Objects.{after_juggle, with_prop}
-use Rattle.turn_things.specs.cave_world.declared.part.Part.{Part}
-use Rattle.turn_things.specs.cave_world.declared.part.Part.TheVariants as part
-use Rattle.turn_things.specs.cave_world.declared.part.WordLine.TheVariants as line
-use Rattle.turn_things.specs.world_objects.declared.spot.Anchor.TheVariants as anchor
-use Rattle.turn_things.specs.cave_world.declared.state.State.{State}
-use Rattle.turn_things.specs.Effects.{put_down, let_go, without_troll, after_loss_to_snake}
-use Rattle.turn_things.specs.Effects.{with_one_more_lost, with_objects}
-use Rattle.turn_things.specs.turn_scene.Scene.{Scene, with_state, after_telling, after_saying}
-use Rattle.turn_things.specs.turn_scene.Scene.{after_look_at}
-use Rattle.verb_commands.specs.Rows.{Deed, Effect, Thing}
+-- What rows of verbs say of a command.
+use Rattle.std.specs.Prelude.{ℕ, ◌==◌, if◌then◌else◌}
+use Rattle.turn_rules.specs.cave_data.CaveView.{CaveView, default_message}
+use Rattle.turn_rules.specs.cave_world.declared.part.Part.TheVariants as part
+use Rattle.turn_rules.specs.cave_world.declared.part.WordLine.TheVariants as line
+use Rattle.turn_rules.specs.turn_scene.Scene.{Scene, after_telling}
+use Rattle.turn_rules.specs.Rows.{Effect}
+use Rattle.turn_rules.specs.Effects.{in_scene, tell}
 use Rattle.verb_commands.specs.Verbs.{verb_number}
-
-abbrev pub in_scene : Scene → Deed → Deed
-in_scene p d = record d { scene = p }
-
-abbrev pub in_state : State → Deed → Deed
-in_state s d = in_scene (with_state s d.scene) d
-
-abbrev pub tell : Part → Effect
-tell told d = in_scene (after_telling told d.scene) d
-
--- a role's message is said
-abbrev pub say : Role → Effect
-say role d = in_scene (after_saying role d.scene) d
+use Rattle.verb_commands.specs.declared.command.Command.{Command}
 
 -- the message that the cave gives an action is said, if there is one
 abbrev pub after_default : CaveView → ℕ → Scene → Scene
@@ -36,59 +16,9 @@ after_default cave number p =
     else after_telling (part.Message (default_message cave number)) p
 
 -- the message that the cave gives the verb
-abbrev pub default : Effect
-default d = in_scene (after_default d.cave (verb_number d.command.verb) d.scene) d
+abbrev pub default : Effect Command
+default d = in_scene (after_default d.cave (verb_number d.about.verb) d.scene) d
 
 -- the word that was just read is asked back
-abbrev pub ask_what : Effect
-ask_what d = tell (part.Word line.What d.command.word) d
-
--- the text of an object for a prop, if there is the object
-abbrev pub look : Thing → ℤ → Effect
-look t v d = in_scene (after_look_at (t d) v d.scene) d
-
-abbrev pub carry : Thing → Effect
-carry t d = in_state (with_objects (after_carry d.scene.state.objects (t d)) d.scene.state) d
-
-abbrev pub bring : Thing → Effect
-bring t d =
-    in_state (with_objects (after_move_to d.scene.state.objects (t d) d.scene.state.trail.here)
-    d.scene.state) d
-
--- an object is nowhere from now on
-abbrev pub destroy : Thing → Effect
-destroy t d = in_state (with_objects (after_move_to d.scene.state.objects (t d) 0) d.scene.state) d
-
--- an object can't be moved any more, or can be moved again
-abbrev pub fix : Thing → Effect
-fix t d =
-    in_state (with_objects (with_anchor d.scene.state.objects (t d) anchor.Fixed) d.scene.state) d
-
-abbrev pub loosen : Thing → Effect
-loosen t d =
-    in_state (with_objects (with_anchor d.scene.state.objects (t d) anchor.Loose) d.scene.state) d
-
-abbrev pub juggle : Thing → Effect
-juggle t d = in_state (with_objects (after_juggle d.scene.state.objects (t d)) d.scene.state) d
-
-abbrev pub set_prop : Thing → ℤ → Effect
-set_prop t v d = in_state (with_objects (with_prop d.scene.state.objects (t d) v) d.scene.state) d
-
--- an object is put down where the player is
-abbrev pub put : Thing → Effect
-put t d = in_state (put_down d.cave (t d) d.scene.state) d
-
--- an object that is carried is put where the player is
-abbrev pub lay_down : Thing → Effect
-lay_down t d = in_state (let_go d.cave (t d) d.scene.state) d
-
--- the troll goes, who is paid or flees
-abbrev pub troll_goes : Effect
-troll_goes d = in_state (without_troll d.cave d.scene.state) d
-
--- one treasure more is lost, if the snake is at home
-abbrev pub lose_to_snake : Effect
-lose_to_snake d = in_state (after_loss_to_snake d.cave d.scene.state) d
-
-abbrev pub lose_one : Effect
-lose_one d = in_state (with_one_more_lost d.scene.state) d
+abbrev pub ask_what : Effect Command
+ask_what d = tell (part.Word line.What d.about.word) d

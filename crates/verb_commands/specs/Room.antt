@@ -1,6 +1,6 @@
 -- How many parts a verb says at most.
 use Rattle.std.specs.Prelude.{ℕ}
-use Rattle.turn_things.specs.turn_scene.Bounds.{parts_of_row, parts_of_inventory}
+use Rattle.turn_rules.specs.turn_scene.Bounds.{parts_of_row, parts_of_inventory}
 use Rattle.verb_commands.specs.declared.next.Next.{Next}
 use Rattle.verb_commands.specs.declared.next.Next.TheVariants.{Stay}
 use Rattle.verb_commands.specs.declared.next.Step.{Step}

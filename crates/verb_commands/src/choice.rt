@@ -4,7 +4,7 @@ ghost use Rattle.verb_commands.specs.Choice.{with_meant, first_or_none, only_of}
 ghost use Rattle.verb_commands.specs.Choice as defined;
 
 use arrayvec::ArrayVec;
-use turn_things::Object;
+use turn_rules::Object;
 
 /// Of how many objects a verb without an object could be meant for one.
 const MAX_MEANT: usize = 5;

@@ -1,12 +1,13 @@
 ghost use Rattle.std.specs.Prelude.{◌≡◌, [], ◌∷◌};
-ghost use Rattle.turn_things.specs.turn_scene.Bounds.{GoesOnSaying, HasRoom};
-ghost use Rattle.turn_things.specs.turn_scene.Scene.{scene_of, cave_of};
+ghost use Rattle.turn_rules.specs.turn_scene.Bounds.{GoesOnSaying, HasRoom};
+ghost use Rattle.turn_rules.specs.turn_scene.Scene.{scene_of, cave_of};
 ghost use Rattle.verb_commands.specs.Effects.{after_default, default, ask_what};
-ghost use Rattle.verb_commands.specs.Rows.{DoneByRow, keeps, row, row_then};
+ghost use Rattle.turn_rules.specs.Rows.{row_then};
+ghost use Rattle.verb_commands.specs.Rows.{DoneByRow, keeps, row};
 
 use crate::next::Next;
 use crate::verb::Verb;
-use turn_things::{Object, Part, Rules, Scene, Word, WordLine};
+use turn_rules::{Object, Part, Rules, Scene, Word, WordLine};
 
 /// What a verb is to do: what the player commands, or what a row goes on with.
 #[derive(Clone, Copy, Debug, PartialEq, Eq)]

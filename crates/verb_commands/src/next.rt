@@ -1,11 +1,11 @@
 ghost use Rattle.std.specs.Prelude.{◌≡◌};
-ghost use Rattle.turn_things.specs.data_rows.declared.role.Role.TheVariants.{Disturbed};
-ghost use Rattle.turn_things.specs.turn_scene.Bounds.{GoesOnSaying, HasRoom};
-ghost use Rattle.turn_things.specs.turn_scene.Scene.{scene_of, after_saying};
-ghost use Rattle.turn_things.specs.cave_world.declared.ending.Ending.TheVariants.{Killed};
+ghost use Rattle.turn_rules.specs.data_rows.declared.role.Role.TheVariants.{Disturbed};
+ghost use Rattle.turn_rules.specs.turn_scene.Bounds.{GoesOnSaying, HasRoom};
+ghost use Rattle.turn_rules.specs.turn_scene.Scene.{scene_of, after_saying};
+ghost use Rattle.turn_rules.specs.cave_world.declared.ending.Ending.TheVariants.{Killed};
 
 use crate::verb::Verb;
-use turn_things::{Ending, Object, Place, Question, Role, Scene};
+use turn_rules::{Ending, Object, Place, Question, Role, Scene};
 
 /// What follows what a verb did.
 #[derive(Clone, Copy, Debug, PartialEq, Eq)]

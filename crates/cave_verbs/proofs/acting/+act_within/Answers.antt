@@ -1,19 +1,22 @@
 use Rattle.std.proofs.Common.{◌≡◌, ℕ, ◌<◌, ◌≤◌, ◌-◌, suc, zero, arith, sym, ◌∙◌, ap, subst}
 use Rattle.verb_commands.specs.turn_scene.Scene.{scene_of, cave_of}
 use Rattle.cave_verbs.specs.Acting.{act_within, act_once}
-use Rattle.verb_commands.specs.Rows.{Deed, Act, deed, act_of, going_on}
+use Rattle.verb_commands.specs.Rows.{going_on}
+use Rattle.verb_commands.specs.turn_rules.Rows.{Deed, Act, deed, act_of}
 use Rattle.verb_commands.specs.declared.next.Step.TheVariants.{Done, GoOn}
 use Rattle.verb_commands.specs.declared.verb.Verb.{Verb}
 use Rattle.cave_verbs.proofs.acting.+act_within.Goals as goal
+use Rattle.verb_commands.specs.declared.command.Command.{Command}
+use Rattle.verb_commands.specs.declared.next.Step.{Step}
 
 -- what a greater rank doesn't exceed isn't 0
 above : (low high left : ℕ) → suc low ≤ high → high ≤ left → 0 < left
 above low high left greater fits = omega arith
 
 -- what goes on has one verb less left
-going_within : (left : ℕ) (d : Deed) (v : Verb) (x : ℕ) → 0 < left → (act_once d).step ≡ GoOn v x
+going_within : (left : ℕ) (d : Deed Command) (v : Verb) (x : ℕ) → 0 < left → (act_once d).step ≡ GoOn v x
     → act_within left d
-    ≡ act_within (left - 1) (deed d.cave (going_on d.command v x) (act_once d).scene)
+    ≡ act_within (left - 1) (deed d.cave (going_on d.about v x) (act_once d).scene)
 unfolding act_within
 going_within zero d v x some is = grind (arith, some)
 going_within (suc left) d v x some is = grind (arith, is)
@@ -23,9 +26,9 @@ returns-in-GoOn-clause-rules t c =
     let deed_now = deed (cave_of c.args.rules.now) c.args.command (scene_of c.args.scene.now) in
     let once = c.act_once.ensures.rules.0 in
     let some = above _ _ c.args.left c.in-GoOn.ensures.ranks c.requires.rank in
-    let step = sym (ap (λ (a : Act). a.step) once) ∙ c.in-GoOn.is in
+    let step = sym (ap (λ (a : Act Step). a.step) once) ∙ c.in-GoOn.is in
     let here =
-    λ (a : Act). act_of (scene_of c.act_within.new.scene) (Done c.act_within.result)
+    λ (a : Act Step). act_of (scene_of c.act_within.new.scene) (Done c.act_within.result)
     ≡ act_within (c.args.left - 1)
     (deed (cave_of c.args.rules.now)
     (going_on c.args.command c.in-GoOn.verb c.in-GoOn.object) a.scene) in

@@ -1,6 +1,6 @@
 use Rattle.std.proofs.Common.{◌≡◌}
 use Rattle.turn_things.specs.turn_scene.Scene.{cave_of}
-use Rattle.turn_things.specs.Reach.{treasures}
+use Rattle.turn_things.specs.Treasures.{treasures}
 use Rattle.turn_dwarves.specs.Booty.{after_thefts}
 use Rattle.turn_dwarves.proofs.Treasures.{treasures_from}
 use Rattle.turn_dwarves.proofs.booty.steal_all.Given as goal

@@ -1,0 +1,20 @@
+-- What holds of each row where it fits and none before it does holds of the row that applies.
+use Rattle.std.proofs.Common.{◌≡◌, true, false, List, [], ◌∷◌}
+use Rattle.cave_turn.specs.turn_rules.Rows.{Deed, Act, Row, fits, after_trying, act_of_row}
+use Rattle.cave_turn.specs.turn_rules.Rows.{first_fitting_or}
+use Rattle.turn_laws.proofs.Frame.{choose}
+
+-- it holds of each row there, and of what is done where none fits
+abbrev pub Guarded : {C F : Type 0} → (Act F → Type 0) → (Deed C → Act F) → Deed C
+    → List (Row C F) → Type 0
+Guarded Q otherwise d [] = Q (otherwise d)
+Guarded Q otherwise d (r ∷ rows) =
+    (fits r d ≡ true → Q (act_of_row r (after_trying r d)))
+    × (fits r d ≡ false → Guarded Q otherwise (after_trying r d) rows)
+
+pub guarded : {C F : Type 0} (Q : Act F → Type 0) (otherwise : Deed C → Act F) (d : Deed C)
+    (rows : List (Row C F)) → Guarded Q otherwise d rows → Q (first_fitting_or rows otherwise d)
+guarded Q otherwise d [] each = each
+guarded Q otherwise d (r ∷ rows) each =
+    choose Q (fits r d) (act_of_row r (after_trying r d)) (first_fitting_or rows otherwise (after_trying r d))
+    each.0 (λ other. guarded Q otherwise (after_trying r d) rows (each.1 other))

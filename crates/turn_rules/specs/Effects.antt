@@ -1,0 +1,84 @@
+-- What rows do to the scene that they are played in.
+use Rattle.std.specs.Prelude.{ℤ, if◌then◌else◌}
+use Rattle.turn_things.specs.data_rows.declared.role.Role.{Role}
+use Rattle.turn_things.specs.world_objects.Objects.{after_move_to, after_carry, with_anchor}
+use Rattle.turn_things.specs.world_objects.Objects.{after_juggle, with_prop}
+use Rattle.turn_things.specs.cave_world.declared.part.Part.{Part}
+use Rattle.turn_things.specs.world_objects.declared.spot.Anchor.TheVariants as anchor
+use Rattle.turn_things.specs.cave_world.declared.state.State.{State}
+use Rattle.turn_things.specs.Effects.{put_down, let_go, without_troll, after_loss_to_snake}
+use Rattle.turn_things.specs.Effects.{with_one_more_lost, with_objects}
+use Rattle.turn_things.specs.turn_scene.Scene.{Scene, with_state, after_telling, after_saying}
+use Rattle.turn_things.specs.turn_scene.Scene.{after_look_at}
+use Rattle.turn_rules.specs.Rows.{Deed, Test, Effect, Thing}
+
+-- what rows do, whatever they are about
+module _ {C : Type 0} where
+  abbrev pub in_scene : Scene → Deed C → Deed C
+  in_scene p d = record d { scene = p }
+
+  abbrev pub in_state : State → Deed C → Deed C
+  in_state s d = in_scene (with_state s d.scene) d
+
+  abbrev pub when : Test C → Effect C → Effect C
+  when test effect d = if test d then effect d else d
+
+  abbrev pub unless : Test C → Effect C → Effect C
+  unless test effect d = if test d then d else effect d
+
+  abbrev pub tell : Part → Effect C
+  tell told d = in_scene (after_telling told d.scene) d
+
+  -- a role's message is said
+  abbrev pub say : Role → Effect C
+  say role d = in_scene (after_saying role d.scene) d
+
+  -- the text of an object for a prop, if there is the object
+  abbrev pub look : Thing C → ℤ → Effect C
+  look t v d = in_scene (after_look_at (t d) v d.scene) d
+
+  abbrev pub carry : Thing C → Effect C
+  carry t d = in_state (with_objects (after_carry d.scene.state.objects (t d)) d.scene.state) d
+
+  abbrev pub bring : Thing C → Effect C
+  bring t d =
+      in_state (with_objects (after_move_to d.scene.state.objects (t d) d.scene.state.trail.here)
+      d.scene.state) d
+
+  -- an object is nowhere from now on
+  abbrev pub destroy : Thing C → Effect C
+  destroy t d = in_state (with_objects (after_move_to d.scene.state.objects (t d) 0) d.scene.state) d
+
+  -- an object can't be moved any more, or can be moved again
+  abbrev pub fix : Thing C → Effect C
+  fix t d =
+      in_state (with_objects (with_anchor d.scene.state.objects (t d) anchor.Fixed) d.scene.state) d
+
+  abbrev pub loosen : Thing C → Effect C
+  loosen t d =
+      in_state (with_objects (with_anchor d.scene.state.objects (t d) anchor.Loose) d.scene.state) d
+
+  abbrev pub juggle : Thing C → Effect C
+  juggle t d = in_state (with_objects (after_juggle d.scene.state.objects (t d)) d.scene.state) d
+
+  abbrev pub set_prop : Thing C → ℤ → Effect C
+  set_prop t v d = in_state (with_objects (with_prop d.scene.state.objects (t d) v) d.scene.state) d
+
+  -- an object is put down where the player is
+  abbrev pub put : Thing C → Effect C
+  put t d = in_state (put_down d.cave (t d) d.scene.state) d
+
+  -- an object that is carried is put where the player is
+  abbrev pub lay_down : Thing C → Effect C
+  lay_down t d = in_state (let_go d.cave (t d) d.scene.state) d
+
+  -- the troll goes, who is paid or flees
+  abbrev pub troll_goes : Effect C
+  troll_goes d = in_state (without_troll d.cave d.scene.state) d
+
+  -- one treasure more is lost, if the snake is at home
+  abbrev pub lose_to_snake : Effect C
+  lose_to_snake d = in_state (after_loss_to_snake d.cave d.scene.state) d
+
+  abbrev pub lose_one : Effect C
+  lose_one d = in_state (with_one_more_lost d.scene.state) d

@@ -1,0 +1,117 @@
+-- Rules as rows: the first row that fits applies, and its effects follow one another.
+use Rattle.std.specs.Prelude.{◌≡◌, ℕ, Bool, true, ◌&&◌, if◌then◌else◌, List, [], ◌∷◌}
+use Rattle.std.specs.Prelude.{Option, Some, None}
+use Rattle.turn_things.specs.cave_data.CaveView.{CaveView}
+use Rattle.turn_things.specs.turn_scene.Bounds.{GoesOnSaying}
+use Rattle.turn_things.specs.turn_scene.Scene.{Scene, scene_of, cave_of, after_draw}
+use Rattle.turn_things.specs.turn_scene.declared.scene.Scene.{Scene as OpenScene}
+use Rattle.turn_things.specs.turn_scene.declared.rules.Rules.{Rules}
+
+-- what a rule is about, as a command, in the scene that it is played in
+pub record Deed (C : Type 0) : Type 0 where
+  pub cave : CaveView
+  pub about : C
+  pub scene : Scene
+
+-- the scene after a rule, and what follows
+pub record Act (F : Type 0) : Type 0 where
+  pub scene : Scene
+  pub step : F
+
+abbrev pub Test : Type 0 → Type 0
+Test C = Deed C → Bool
+
+abbrev pub Effect : Type 0 → Type 0
+Effect C = Deed C → Deed C
+
+-- an object by what it is in a deed; 0 is none
+abbrev pub Thing : Type 0 → Type 0
+Thing C = Deed C → ℕ
+
+-- tests, a draw where there is one, effects, and what follows
+pub record Row (C F : Type 0) : Type 0 where
+  pub tests : List (Test C)
+  pub draw : Option (Test C)
+  pub effects : List (Effect C)
+  pub end : Deed C → F
+
+abbrev pub deed : {C : Type 0} → CaveView → C → Scene → Deed C
+deed cave about p = record { cave = cave; about = about; scene = p }
+
+abbrev pub act_of : {F : Type 0} → Scene → F → Act F
+act_of p step = record { scene = p; step = step }
+
+-- a row with what follows
+abbrev pub row_then : {C F : Type 0} → List (Test C) → List (Effect C) → (Deed C → F) → Row C F
+row_then tests effects end =
+    record { tests = tests; draw = None; effects = effects; end = end }
+
+-- a row with a draw, which is made where all tests hold: it decides whether the row applies
+abbrev pub row_by_draw : {C F : Type 0} → List (Test C) → Test C → List (Effect C) → (Deed C → F)
+    → Row C F
+row_by_draw tests draw effects end =
+    record { tests = tests; draw = Some draw; effects = effects; end = end }
+
+-- tests are made from the left, and none after one that fails
+abbrev pub all_hold : {C : Type 0} → List (Test C) → Test C
+all_hold [] d = true
+all_hold (test ∷ tests) d = test d && all_hold tests d
+
+abbrev pub fits_by : {C : Type 0} → List (Test C) → Option (Test C) → Test C
+fits_by tests None d = all_hold tests d
+fits_by tests (Some draw) d = all_hold tests d && draw d
+
+-- all tests of a row hold, and then its draw does
+abbrev pub fits : {C F : Type 0} → Row C F → Test C
+fits r d = fits_by r.tests r.draw d
+
+-- a draw moves the stream on, whatever comes of it
+abbrev pub after_drawing : {C : Type 0} → Effect C
+after_drawing d = record d { scene = after_draw d.scene }
+
+abbrev pub after_trying_by : {C : Type 0} → List (Test C) → Option (Test C) → Effect C
+after_trying_by tests None d = d
+after_trying_by tests (Some draw) d = if all_hold tests d then after_drawing d else d
+
+-- the deed once a row was tried
+abbrev pub after_trying : {C F : Type 0} → Row C F → Effect C
+after_trying r d = after_trying_by r.tests r.draw d
+
+abbrev pub after_all : {C : Type 0} → List (Effect C) → Effect C
+after_all [] d = d
+after_all (effect ∷ effects) d = after_all effects (effect d)
+
+abbrev pub act_of_row : {C F : Type 0} → Row C F → Deed C → Act F
+act_of_row r d = let e = after_all r.effects d in act_of e.scene (r.end e)
+
+-- what the first row that fits does, or what is done if none does
+abbrev pub first_fitting_or : {C F : Type 0} → List (Row C F) → (Deed C → Act F) → Deed C → Act F
+first_fitting_or [] otherwise d = otherwise d
+first_fitting_or (r ∷ rows) otherwise d =
+    if fits r d then act_of_row r (after_trying r d) else first_fitting_or rows otherwise (after_trying r d)
+
+-- nothing is done, whatever follows
+abbrev pub nothing_but : {C F : Type 0} → (Deed C → F) → Deed C → Act F
+nothing_but end d = act_of d.scene (end d)
+
+-- a row of effects alone
+abbrev pub plain_row : {C : Type 0} → List (Test C) → List (Effect C) → Row C (Unit {0})
+plain_row tests effects = row_then tests effects (λ d. tt)
+
+-- a table of effects as one effect
+abbrev pub by_table : {C : Type 0} → List (Row C (Unit {0})) → Effect C
+by_table rows d = record d { scene = (first_fitting_or rows (nothing_but (λ e. tt)) d).scene }
+
+-- the same turn has come to what a rule says, and so has what follows; it said so many parts at
+-- most
+abbrev pub PlaysBy : {C F : Type 0} → (Deed C → Act F) → ℕ → Rules → C → OpenScene → OpenScene → F
+    → Type 0
+PlaysBy f parts rules about old new step =
+    (act_of (scene_of new) step ≡ f (deed (cave_of rules) about (scene_of old)))
+    × GoesOnSaying parts old new
+
+-- effects are had one after another, and nothing follows
+abbrev pub Does : {C : Type 0} → List (Effect C) → ℕ → Rules → C → OpenScene → OpenScene → Type 0
+Does effects parts rules about old new =
+    (scene_of new ≡ (after_all effects (deed (cave_of rules) about (scene_of old))).scene)
+    × GoesOnSaying parts old new

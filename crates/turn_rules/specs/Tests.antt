@@ -1,0 +1,111 @@
+-- What rows ask of the scene that they are played in.
+use Rattle.std.specs.Prelude.{ℕ, ℤ, ◌==◌, ◌&&◌, ◌||◌, not, nat_le, length, is_some, unwrap_or, int_lt, pos}
+use Rattle.turn_things.specs.cave_words.Stream.{number_drawn}
+use Rattle.turn_things.specs.cave_words.declared.named.Named.{Named}
+use Rattle.turn_things.specs.data_rows.declared.place_role.PlaceRole.{PlaceRole}
+use Rattle.turn_things.specs.world_objects.Objects.{is_object_at, is_gone, is_place, carried_objects}
+use Rattle.turn_things.specs.turn_scene.Scene.{thing}
+use Rattle.turn_things.specs.Reach.{is_in_hand, is_near, has_prop, has_other_prop, has_prop_up_to}
+use Rattle.turn_things.specs.Reach.{is_dwarf_here, is_fixed}
+use Rattle.turn_things.specs.Places.{place_named}
+use Rattle.turn_things.specs.Liquids.{liquid_of, lake_of, is_liquid}
+use Rattle.turn_things.specs.Treasures.{is_treasure}
+use Rattle.turn_rules.specs.Rows.{Deed, Test, Thing}
+
+-- what rows ask, whatever they are about
+module _ {C : Type 0} where
+  -- the object of a name
+  abbrev pub the : Named → Thing C
+  the n d = thing d.cave n
+
+  abbrev pub no : Test C → Test C
+  no test d = not (test d)
+
+  abbrev pub either : Test C → Test C → Test C
+  either one other d = one d || other d
+
+  abbrev pub both : Test C → Test C → Test C
+  both one other d = one d && other d
+
+  abbrev pub there_is : Thing C → Test C
+  there_is t d = not (t d == 0)
+
+  -- an object is carried
+  abbrev pub in_hand : Thing C → Test C
+  in_hand t d = is_in_hand d.cave d.scene.state (t d)
+
+  -- an object is carried, or its first half is here
+  abbrev pub near : Thing C → Test C
+  near t d = is_near d.cave d.scene.state (t d)
+
+  -- a half of an object is here
+  abbrev pub is_here : Thing C → Test C
+  is_here t d = is_object_at d.scene.state.objects d.scene.state.trail.here (t d)
+
+  -- an object can't be moved
+  abbrev pub fixed : Thing C → Test C
+  fixed t d = is_fixed d.scene.state (t d)
+
+  abbrev pub prop : Thing C → ℤ → Test C
+  prop t v d = has_prop d.scene.state (t d) v
+
+  abbrev pub other_prop : Thing C → ℤ → Test C
+  other_prop t v d = has_other_prop d.scene.state (t d) v
+
+  abbrev pub prop_up_to : Thing C → ℤ → Test C
+  prop_up_to t v d = has_prop_up_to d.scene.state (t d) v
+
+  -- a dwarf is here
+  abbrev pub dwarf : Test C
+  dwarf d = is_dwarf_here d.scene.state
+
+  abbrev pub cave_closing : Test C
+  cave_closing d = d.scene.state.closing.is_closing
+
+  abbrev pub cave_closed : Test C
+  cave_closed d = d.scene.state.closing.is_closed
+
+  -- the object is what is in the bottle
+  abbrev pub in_bottle : Thing C → Test C
+  in_bottle t d = is_liquid (t d) (liquid_of d.cave d.scene.state)
+
+  -- the bottle has something in it
+  abbrev pub bottle_full : Test C
+  bottle_full d = is_some (liquid_of d.cave d.scene.state)
+
+  -- the object is what the lake is of
+  abbrev pub in_lake : Thing C → Test C
+  in_lake t d = is_liquid (t d) (lake_of d.cave d.scene.state)
+
+  abbrev pub lake : Test C
+  lake d = is_some (lake_of d.cave d.scene.state)
+
+  -- the player carries seven things or more
+  abbrev pub full_hands : Test C
+  full_hands d = nat_le 7 (length (carried_objects d.scene.state.objects))
+
+  abbrev pub treasure : Thing C → Test C
+  treasure t d = is_treasure (t d)
+
+  -- a draw: one case of so many
+  abbrev pub one_in : ℕ → Test C
+  one_in n d = number_drawn n d.scene.state.stream == 0
+
+  -- the first half of an object is nowhere
+  abbrev pub nowhere : Thing C → Test C
+  nowhere t d = is_gone d.scene.state.objects (t d)
+
+  -- the cave has a place of a role
+  abbrev pub is_bound : PlaceRole → Test C
+  is_bound role d = is_some (place_named d.cave role)
+
+  -- the place of a role, where it has one
+  abbrev pub bound : PlaceRole → Deed C → ℕ
+  bound role d = unwrap_or (place_named d.cave role) 0
+
+  abbrev pub player_at : PlaceRole → Test C
+  player_at role d = is_place d.scene.state.trail.here (place_named d.cave role)
+
+  -- the lamp went out
+  abbrev pub burnt_out : Test C
+  burnt_out d = int_lt d.scene.state.lamp.charge (pos 0)

@@ -1,0 +1,18 @@
+//! Laws of rows. Each is the contract of a function that does nothing.
+
+ghost use Rattle.turn_rules.specs.Laws.{FirstFittingApplies, NoneFittingDoesNothing, DrawsComeLast};
+
+/// A row that fits applies where none before it does, whatever rows come after it.
+pub fn first_fitting_applies<C, F>()
+    ensures { FirstFittingApplies C F }
+{}
+
+/// Where no row fits, nothing is done.
+pub fn none_fitting_does_nothing<C, F>()
+    ensures { NoneFittingDoesNothing C F }
+{}
+
+/// Where a test of a row fails, it doesn't apply, and no draw is made of it.
+pub fn draws_come_last<C, F>()
+    ensures { DrawsComeLast C F }
+{}
