@@ -1,0 +1,113 @@
+-- What a run over files leaves, and what the program tells of it.
+use Rattle.std.specs.Prelude.{◌≡◌, ◌⊎◌, ℕ, List, [], ◌∷◌, map, Option, None, Some, Result, Ok, Err}
+use Rattle.std.specs.Prelude.{IfErr}
+use Rattle.std.specs.List.{AllZip}
+use Rattle.cave_play.specs.Input.{InputTexts, Says}
+use Rattle.cave_play.specs.declared.fault.PlayFault.{PlayFault}
+use Rattle.cave_play.specs.declared.fault.PlayFault.TheVariants as fault
+use Rattle.play_command.specs.declared.line.Line.{Line}
+use Rattle.play_logs.specs.Faults.{at_none}
+use Rattle.play_logs.specs.declared.fault.LogsFault.{LogsFault}
+use Rattle.play_program.specs.Calls.{Call, and_then}
+use Rattle.play_program.specs.Calls.Call.{Puts, Tells}
+use Rattle.play_program.specs.Failures.{IsMessage, failure_status}
+use Rattle.play_program.specs.Names.{FileNames, files_in}
+use Rattle.play_program.specs.Opening.{Stops, bytes_named, opening}
+use Rattle.play_program.specs.Runs.{RunsLine}
+use Rattle.play_program.specs.declared.failure.Failure.{Failure}
+use Rattle.play_program.specs.declared.failure.Failure.TheVariants.{Unopened, Run, Unwritten}
+use Rattle.play_program.specs.declared.message.Message.{Message}
+
+-- the inputs are the bytes of the files of these names, where they are known
+pub record AreTextsIn (bytes_of : List ℕ → Option (List ℕ)) (names : FileNames)
+    (texts : InputTexts) (logs : List (List ℕ)) : Type 0 where
+  pub database : Says (bytes_of names.cave) texts.database
+  pub bindings : Says (bytes_named bytes_of names.bindings) texts.bindings
+  pub log : Says (bytes_named bytes_of names.log) texts.log
+  pub script : Says (bytes_named bytes_of names.script) texts.script
+  pub each_log : AllZip Says (map bytes_of names.logs) logs
+
+-- how a run ended whose files were opened
+abbrev pub ended_run : Result (Unit {0}) LogsFault → Result (Unit {0}) Failure
+ended_run (Ok done) = Ok done
+ended_run (Err found) = Err (Run found)
+
+-- all files of the run were opened, and what their bytes come to was done
+pub record RunsOpened (bytes_of : List ℕ → Option (List ℕ)) (asked : Line) (names : FileNames)
+    (calls called : Option (List Call)) (old new : Option (List ℕ))
+    (ended : Result (Unit {0}) Failure) : Type 0 where
+  pub opened : called ≡ and_then calls (opening (files_in names))
+  pub runs : (texts : InputTexts) × (logs : List (List ℕ)) × (found : Result (Unit {0}) LogsFault)
+      × AreTextsIn bytes_of names texts logs × RunsLine asked texts logs old new found
+      × (ended ≡ ended_run found)
+
+-- a file of the run couldn't be opened, and nothing was written
+pub record RunsUnopened (names : FileNames) (calls called : Option (List Call))
+    (old new : Option (List ℕ)) (ended : Result (Unit {0}) Failure) : Type 0 where
+  pub kept : new ≡ old
+  pub stops : (failure : Failure) × (ended ≡ Err failure)
+      × Stops (files_in names) calls called failure
+
+-- what a run over files leaves, whose output goes to a writer
+abbrev pub RunsFiles : (List ℕ → Option (List ℕ)) → Line → FileNames
+    → Option (List Call) → Option (List Call) → Option (List ℕ) → Option (List ℕ)
+    → Result (Unit {0}) Failure → Type 0
+RunsFiles bytes_of asked names calls called old new ended =
+    RunsOpened bytes_of asked names calls called old new ended
+    ⊎ RunsUnopened names calls called old new ended
+
+-- the file can't be written, or memory ran out
+abbrev pub IsUnput : List ℕ → Failure → Type 0
+IsUnput file (Unwritten name reason) = file ≡ name.now
+IsUnput file (Run found) = found ≡ at_none fault.Memory
+IsUnput file (Unopened from name reason) = ⊥
+
+-- a list of bytes takes each write, unless memory runs out
+abbrev pub list_fault : LogsFault → PlayFault → LogsFault
+list_fault found fault.Write = at_none fault.Memory
+list_fault found other = found
+
+abbrev pub in_list : Failure → Failure
+in_list (Run found) = Run (list_fault found found.fault)
+in_list failure = failure
+
+-- an output was put into the file where the run ended well, and else nothing was
+abbrev pub PutsEnd : List ℕ → List ℕ → Option (List Call) → Option (List Call)
+    → Result (Unit {0}) Failure → Result (Unit {0}) Failure → Type 0
+PutsEnd file output calls called (Ok done) ended =
+    (called ≡ and_then calls (Puts file output ∷ [])) × IfErr ended (IsUnput file)
+PutsEnd file output calls called (Err failure) ended =
+    (called ≡ calls) × (ended ≡ Err (in_list failure))
+
+-- what a run over files leaves, whose output is kept until it is whole and then goes into a file
+abbrev pub RunsIntoFile : (List ℕ → Option (List ℕ)) → Line → FileNames → List ℕ
+    → Option (List Call) → Option (List Call) → Result (Unit {0}) Failure → Type 0
+RunsIntoFile bytes_of asked names file calls called ended =
+    (output : List ℕ) × (opened : Option (List Call)) × (run : Result (Unit {0}) Failure)
+    × RunsFiles bytes_of asked names calls opened (Some []) (Some output) run
+    × PutsEnd file output opened called run ended
+
+-- what a run leaves, whose output goes where its line says
+abbrev pub RunsTo : Option (List ℕ) → (List ℕ → Option (List ℕ)) → Line → FileNames
+    → Option (List Call) → Option (List Call) → Option (List ℕ) → Option (List ℕ)
+    → Result (Unit {0}) Failure → Type 0
+RunsTo None bytes_of asked names calls called old new ended =
+    RunsFiles bytes_of asked names calls called old new ended
+RunsTo (Some file) bytes_of asked names calls called old new ended =
+    (new ≡ old) × RunsIntoFile bytes_of asked names file calls called ended
+
+-- a failure is told once, by its message, and its status is the program's; else nothing is told
+abbrev pub TellsEnd : FileNames → Option (List Call) → Option (List Call)
+    → Result (Unit {0}) Failure → ℕ → Type 0
+TellsEnd names calls called (Ok done) status = (called ≡ calls) × (status ≡ 0)
+TellsEnd names calls called (Err failure) status =
+    ((message : Message) × IsMessage names failure message
+    × (called ≡ and_then calls (Tells message ∷ []))) × (status ≡ failure_status failure)
+
+-- what the run of a line leaves, with what the program tells of it
+abbrev pub EndsRun : (List ℕ → Option (List ℕ)) → Line → FileNames
+    → Option (List Call) → Option (List Call) → Option (List ℕ) → Option (List ℕ) → ℕ → Type 0
+EndsRun bytes_of asked names calls called old new status =
+    (ran : Option (List Call)) × (ended : Result (Unit {0}) Failure)
+    × RunsTo names.output bytes_of asked names calls ran old new ended
+    × TellsEnd names ran called ended status

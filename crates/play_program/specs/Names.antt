@@ -1,0 +1,71 @@
+-- The files that a line of the command line names.
+use Rattle.std.specs.Prelude.{ℕ, List, [], ◌∷◌, ◌++◌, map, Option, None, Some, option_map}
+use Rattle.std.specs.List.{slice_get}
+use Rattle.play_command.specs.declared.line.Files.{Files}
+use Rattle.play_command.specs.declared.line.Line.{Line}
+use Rattle.play_command.specs.declared.line.Line.TheVariants.{Check, Play, Edit, Cover, Map, Text}
+use Rattle.cave_play.specs.declared.fault.Input.{Input}
+use Rattle.cave_play.specs.declared.fault.Input.TheVariants as input
+use Rattle.play_program.specs.declared.names.Names.{Names}
+
+-- the names of the files of a run
+pub record FileNames : Type 0 where
+  pub cave : List ℕ
+  pub bindings : Option (List ℕ)
+  pub output : Option (List ℕ)
+  pub log : Option (List ℕ)
+  pub logs : List (List ℕ)
+  pub script : Option (List ℕ)
+
+abbrev pub names_by : Files → Option (List ℕ) → List (List ℕ) → Option (List ℕ) → FileNames
+names_by files log logs script = record {
+  cave = files.cave.now;
+  bindings = option_map (λ s. s.now) files.bind;
+  output = option_map (λ s. s.now) files.output;
+  log = log;
+  logs = logs;
+  script = script;
+}
+
+abbrev pub names_in : Names → FileNames
+names_in names = names_by names.files (option_map (λ s. s.now) names.log)
+    (map (λ s. s.now) names.logs.now) (option_map (λ s. s.now) names.script)
+
+-- the files that a line names, where it asks for a run
+abbrev pub names_of : Line → Option FileNames
+names_of (Check files view) = Some (names_by files None [] None)
+names_of (Play files log seed view) = Some (names_by files (Some log.now) [] None)
+names_of (Edit files log script editing) =
+    Some (names_by files (Some log.now) [] (Some script.now))
+names_of (Cover files logs seed view) =
+    Some (names_by files None (map (λ s. s.now) logs.items) None)
+names_of (Map files logs seed) = Some (names_by files None (map (λ s. s.now) logs.items) None)
+names_of (Text error) = None
+
+-- a file that is read: of which input it is, and its name
+abbrev pub NamedFile : Type 0
+NamedFile = Input × List ℕ
+
+abbrev pub named : Input → Option (List ℕ) → List NamedFile
+named from None = []
+named from (Some name) = (from, name) ∷ []
+
+abbrev pub named_logs : List (List ℕ) → List NamedFile
+named_logs names = map (λ name. (input.Log, name)) names
+
+abbrev pub cave_files : List ℕ → Option (List ℕ) → List NamedFile
+cave_files cave bindings = (input.Cave, cave) ∷ named input.Bindings bindings
+
+-- the files that are read, in the order in which they are opened
+abbrev pub files_in : FileNames → List NamedFile
+files_in names =
+    cave_files names.cave names.bindings ++ (named input.Log names.log
+    ++ (named_logs names.logs ++ named input.Script names.script))
+
+-- the file of an input, where one is named; of several logs it is the one at a place
+abbrev pub file_at : FileNames → Input → Option ℕ → Option (List ℕ)
+file_at names input.Cave place = Some names.cave
+file_at names input.Bindings place = names.bindings
+file_at names input.Log (Some place) = slice_get names.logs place
+file_at names input.Log None = names.log
+file_at names input.Script place = names.script

@@ -1,0 +1,88 @@
+-- What the program asks of its system for its words, and with which status it ends.
+use Rattle.std.specs.Prelude.{◌≡◌, ◌⊎◌, ⊤, ℕ, List, [], ◌∷◌, Option, None, Some, Result, Ok, Err}
+use Rattle.std.specs.Prelude.{IfErr, IfOk}
+use Rattle.clap.specs.Words.{fault_of, subcommand_of}
+use Rattle.cave_play.specs.Fault.{status_of}
+use Rattle.cave_play.specs.declared.fault.PlayFault.{PlayFault}
+use Rattle.cave_play.specs.declared.fault.PlayFault.TheVariants as fault
+use Rattle.play_command.specs.App.{cave_app}
+use Rattle.play_command.specs.Line.{IsAsked, IsRefused, IsRun, status_of_command}
+use Rattle.play_command.specs.declared.fault.CommandFault.{CommandFault}
+use Rattle.play_command.specs.declared.line.Line.{Line}
+use Rattle.play_program.specs.Calls.{Call, and_then}
+use Rattle.play_program.specs.Calls.Call.{Tells}
+use Rattle.play_program.specs.Ends.{EndsRun}
+use Rattle.play_program.specs.Names.{FileNames, names_of}
+use Rattle.play_program.specs.declared.message.Message.{Message}
+use Rattle.play_program.specs.declared.message.Message.TheVariants as message
+
+-- one message is told, and nothing else is asked of the system
+abbrev pub TellsOne : (Message → Type 0) → Option (List Call) → Option (List Call) → Type 0
+TellsOne Is calls called =
+    (told : Message) × Is told × (called ≡ and_then calls (Tells told ∷ []))
+
+-- the message says the fault, and names no file
+abbrev pub IsOfNoFile : PlayFault → Message → Type 0
+IsOfNoFile found (message.Fault complaint) =
+    (complaint.fault ≡ found) × (complaint.file ≡ None)
+IsOfNoFile found _ = ⊥
+
+-- a fault that is of no file is told, with its status
+abbrev pub Fails : PlayFault → Option (List Call) → Option (List Call) → ℕ → Type 0
+Fails found calls called status =
+    TellsOne (IsOfNoFile found) calls called × (status ≡ status_of found)
+
+-- the message is the parser's, in two parts
+abbrev pub IsUsage : Message → Type 0
+IsUsage (message.Usage before after) = ⊤
+IsUsage _ = ⊥
+
+-- the message says that the words can't be read
+abbrev pub IsUnread : Message → Type 0
+IsUnread (message.Unread reason) = ⊤
+IsUnread _ = ⊥
+
+-- help or the version was printed, and nothing is asked of the system; or the writer failed
+abbrev pub EndsText : Option (List Call) → Option (List Call) → ℕ → Type 0
+EndsText calls called status =
+    ((called ≡ calls) × (status ≡ 0)) ⊎ Fails fault.Write calls called status
+
+-- what a line leaves that is refused: it is told why, unless memory runs out, and nothing else is
+-- asked of the system
+abbrev pub EndsRefused : CommandFault → Option (List Call) → Option (List Call) → ℕ → Type 0
+EndsRefused found calls called status =
+    (TellsOne IsUsage calls called × (status ≡ status_of_command found))
+    ⊎ Fails fault.Memory calls called status
+
+-- what a line leaves that names these files, or asks for no run
+abbrev pub EndsNamed : Option FileNames → (List ℕ → Option (List ℕ)) → Line
+    → Option (List Call) → Option (List Call) → Option (List ℕ) → Option (List ℕ) → ℕ → Type 0
+EndsNamed None bytes_of asked calls called old new status = EndsText calls called status
+EndsNamed (Some names) bytes_of asked calls called old new status =
+    EndsRun bytes_of asked names calls called old new status
+
+-- the line is what the words ask for, or the fault is why they ask for nothing
+pub record IsLineOf (words : List (List ℕ)) (line : Result Line CommandFault) : Type 0 where
+  pub found : IfOk line (IsRun (subcommand_of cave_app words))
+  pub asked : IfOk line (IsAsked (fault_of cave_app words))
+  pub refused : IfErr line
+      (IsRefused words (fault_of cave_app words) (subcommand_of cave_app words))
+
+-- what the program leaves for a command line
+abbrev pub EndsLine : Result Line CommandFault → (List ℕ → Option (List ℕ))
+    → Option (List Call) → Option (List Call) → Option (List ℕ) → Option (List ℕ) → ℕ → Type 0
+EndsLine (Ok asked) bytes_of calls called old new status =
+    EndsNamed (names_of asked) bytes_of asked calls called old new status
+EndsLine (Err found) bytes_of calls called old new status =
+    (new ≡ old) × EndsRefused found calls called status
+
+-- what the program leaves for these words
+abbrev pub EndsWords : List (List ℕ) → (List ℕ → Option (List ℕ))
+    → Option (List Call) → Option (List Call) → Option (List ℕ) → Option (List ℕ) → ℕ → Type 0
+EndsWords words bytes_of calls called old new status = (line : Result Line CommandFault)
+    × IsLineOf words line × EndsLine line bytes_of calls called old new status
+
+-- the words can't be read, which is told with status 2, or memory ran out
+abbrev pub EndsUnread : Option (List Call) → Option (List Call) → ℕ → Type 0
+EndsUnread calls called status =
+    (TellsOne IsUnread calls called × (status ≡ 2)) ⊎ Fails fault.Memory calls called status

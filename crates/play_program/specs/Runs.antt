@@ -1,0 +1,45 @@
+-- The run that a line of the command line asks for.
+use Rattle.std.specs.Prelude.{◌≡◌, ℕ, List, Option, Result, Ok, Err}
+use Rattle.cave_play.specs.Input.{InputTexts}
+use Rattle.cave_play.specs.Output.{IsChecked, IsPlayed}
+use Rattle.cave_play.specs.Run as one
+use Rattle.cave_play.specs.Stages.{Stage, cave_stages, play_stages, edit_stages}
+use Rattle.cave_play.specs.Views.{IsEdited}
+use Rattle.cave_play.specs.declared.fault.PlayFault.{PlayFault}
+use Rattle.map_run.specs.Plays.{IsMapped}
+use Rattle.play_cover.specs.Plays.{IsCovered}
+use Rattle.play_command.specs.declared.line.Line.{Line}
+use Rattle.play_command.specs.declared.line.Line.TheVariants.{Check, Play, Edit, Cover, Map, Text}
+use Rattle.play_logs.specs.Faults.{RunsLogs, at_none, first_stages}
+use Rattle.play_logs.specs.declared.fault.LogsFault.{LogsFault}
+
+-- how a run ended that plays one log at most
+abbrev pub ended_alone : Result (Unit {0}) PlayFault → Result (Unit {0}) LogsFault
+ended_alone (Ok done) = Ok done
+ended_alone (Err found) = Err (at_none found)
+
+-- what a run leaves that plays one log at most
+abbrev pub RunsAlone : List Stage → (List ℕ → Type 0)
+    → Option (List ℕ) → Option (List ℕ) → Result (Unit {0}) LogsFault → Type 0
+RunsAlone stages IsOutput old new ended = (alone : Result (Unit {0}) PlayFault)
+    × (ended ≡ ended_alone alone) × one.Runs stages IsOutput old new alone
+
+-- what the run leaves that a line asks for, over the bytes of its inputs
+abbrev pub RunsLine : Line → InputTexts → List (List ℕ)
+    → Option (List ℕ) → Option (List ℕ) → Result (Unit {0}) LogsFault → Type 0
+RunsLine (Check files view) texts logs old new ended =
+    RunsAlone (cave_stages texts.database texts.bindings)
+    (IsChecked view texts.database texts.bindings) old new ended
+RunsLine (Play files log seed view) texts logs old new ended =
+    RunsAlone (play_stages texts.database texts.bindings texts.log seed)
+    (IsPlayed texts.database texts.bindings texts.log seed view) old new ended
+RunsLine (Edit files log script editing) texts logs old new ended =
+    RunsAlone (edit_stages texts.database texts.bindings texts.log texts.script editing)
+    (IsEdited texts.database texts.bindings texts.log texts.script editing) old new ended
+RunsLine (Cover files log seed view) texts logs old new ended =
+    RunsLogs (first_stages texts.database texts.bindings seed) logs
+    (IsCovered texts.database texts.bindings logs seed view) old new ended
+RunsLine (Map files log seed) texts logs old new ended =
+    RunsLogs (first_stages texts.database texts.bindings seed) logs
+    (IsMapped texts.database texts.bindings logs seed) old new ended
+RunsLine (Text error) texts logs old new ended = (ended ≡ Ok tt) × (new ≡ old)

@@ -1,0 +1,53 @@
+//! The run that a command line asks for, over readers of its files.
+
+ghost use Rattle.std.specs.Prelude.{◌≡◌, ℕ, List, map};
+ghost use Rattle.std.specs.List.{AllZip};
+ghost use Rattle.cave_play.specs.Input.{AreTextsOf, InputTexts, Says, input_left};
+ghost use Rattle.play_program.specs.Runs.{RunsLine, ended_alone};
+
+use crate::readers::Readers;
+use map_run::run::run_map;
+use play_cover::run::run_cover;
+use play_cover::{Line, LogsFault, PlayFault, run_check, run_edit, run_play};
+use std::alloc::Global;
+use std::io::{Read, Write};
+
+/// How a run ended that plays one log at most.
+fn alone(ended: Result<(), PlayFault>) -> Result<(), LogsFault>
+    ensures { result ≡ ended_alone ended }
+{
+    match ended {
+        Ok(()) => Ok(()),
+        Err(fault) => Err(LogsFault::from(fault)),
+    }
+}
+
+/// Does the run that a command line asks for over readers of its files.
+pub fn run_command<F: Read, W: Write>(
+    alloc: Global,
+    asked: &Line<'_>,
+    readers: &mut Readers<F>,
+    output: &mut W,
+) -> Result<(), LogsFault>
+    ensures runs { (texts : InputTexts) × (logs : List (List ℕ))
+        × AreTextsOf F.remaining (input_left F.remaining) (input_left F.remaining)
+        (input_left F.remaining) readers.old.inputs texts
+        × AllZip Says (map F.remaining readers.old.logs.items) logs
+        × RunsLine asked.now texts logs (W.contents output.old) (W.contents output.new) result }
+{
+    let Readers { inputs, logs } = readers;
+    match asked {
+        Line::Check { view, .. } => alone(run_check(alloc, inputs, *view, output)),
+        Line::Play { seed, view, .. } => alone(run_play(alloc, inputs, *seed, *view, output)),
+        Line::Edit { editing, .. } => alone(run_edit(alloc, inputs, *editing, output)),
+        Line::Cover { seed, view, .. } => {
+            let logs = logs.as_mut_slice();
+            run_cover(alloc, &mut inputs.cave, logs, *seed, *view, output)
+        }
+        Line::Map { seed, .. } => {
+            let logs = logs.as_mut_slice();
+            run_map(alloc, &mut inputs.cave, logs, *seed, output)
+        }
+        Line::Text(_) => Ok(()),
+    }
+}

@@ -1,0 +1,59 @@
+//! Why a run wasn't done, and what the program says of it.
+
+ghost use Rattle.std.specs.Prelude.{◌≡◌};
+ghost use Rattle.play_logs.specs.Faults.{at_none};
+ghost use Rattle.cave_play.specs.declared.fault.PlayFault.TheVariants.{Memory};
+ghost use Rattle.play_program.specs.Failures.{IsMessage, failure_status};
+ghost use Rattle.play_program.specs.Names.{names_in};
+
+use crate::message::Message;
+use crate::names::Names;
+use play_cover::{Complaint, Input, LogsFault, PlayFault};
+use std::io;
+
+/// Why a run wasn't done.
+#[derive(Drop)]
+pub enum Failure<'a> {
+    /// The system can't open the file of the input, for this reason.
+    Unopened(Input, &'a str, io::Error),
+    Run(LogsFault),
+    /// The system can't write the file of the output, for this reason.
+    Unwritten(&'a str, io::Error),
+}
+
+impl<'a> Failure<'a> {
+    /// Memory ran out.
+    pub fn memory() -> Failure<'a>
+        ensures { result ≡ Failure.Run (at_none Memory) }
+    {
+        Failure::Run(LogsFault::from(PlayFault::Memory))
+    }
+
+    /// The status that goes with it.
+    pub fn status(&self) -> u8
+        ensures { result ≡ failure_status self.now }
+    {
+        match self {
+            Failure::Run(found) => found.fault.status(),
+            Failure::Unopened(input, _, _) => PlayFault::Read(*input).status(),
+            Failure::Unwritten(_, _) => PlayFault::Write.status(),
+        }
+    }
+
+    /// What the program says of it, where the run has these files.
+    pub fn message(self, names: Names<'a>) -> Message<'a>
+        ensures { IsMessage (names_in names.entry) self.entry result }
+    {
+        match self {
+            Failure::Run(LogsFault { fault, log }) => {
+                let file = match fault.input() {
+                    Some(input) => names.of(input, log),
+                    None => None,
+                };
+                Message::Fault(Complaint { fault, file })
+            }
+            Failure::Unopened(_, file, reason) => Message::Unopened(file, reason),
+            Failure::Unwritten(file, reason) => Message::Unwritten(file, reason),
+        }
+    }
+}

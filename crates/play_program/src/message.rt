@@ -1,0 +1,42 @@
+//! What the program says beside its output.
+
+use play_cover::{Complaint, PlayFault, Unopened};
+use std::{fmt, io};
+
+/// What the program says beside its output, in whole lines.
+#[derive(Drop)]
+pub enum Message<'a> {
+    /// A fault of a run, with the file that it is of.
+    Fault(Complaint<'a>),
+    /// The file can't be opened, for this reason.
+    Unopened(&'a str, io::Error),
+    /// The file of the output can't be written, for this reason.
+    Unwritten(&'a str, io::Error),
+    /// What the parser says of the words, in two parts.
+    Usage(&'a str, &'a str),
+    /// The words can't be read, for this reason.
+    Unread(io::Error),
+}
+
+impl fmt::Display for Message<'_> {
+    fn fmt<W: fmt::Write>(&self, f: &mut fmt::Formatter<W>) -> fmt::Result {
+        match self {
+            Message::Fault(complaint) => writeln!(f, "{complaint}"),
+            Message::Unopened(file, reason) => writeln!(
+                f,
+                "{}",
+                Unopened {
+                    file: *file,
+                    reason
+                }
+            ),
+            Message::Unwritten(file, reason) => {
+                writeln!(f, "cave: {file}: {}: {reason}", PlayFault::Write)
+            }
+            Message::Usage(before, after) => write!(f, "{before}{after}"),
+            Message::Unread(reason) => {
+                writeln!(f, "cave: the command line can't be read: {reason}")
+            }
+        }
+    }
+}

@@ -1,0 +1,122 @@
+//! The program, from its words to its status.
+
+ghost use Rattle.std.specs.Prelude.{◌≡◌, IfErr, IfOk, map, string_bytes};
+ghost use Rattle.cave_play.specs.Fault.{status_of};
+ghost use Rattle.play_program.specs.Names.{names_of};
+ghost use Rattle.play_program.specs.Program.{EndsNamed, EndsRefused, EndsText, EndsUnread};
+ghost use Rattle.play_program.specs.Program.{EndsWords, IsOfNoFile, TellsOne};
+
+use crate::message::Message;
+use crate::names::Names;
+use crate::run::run;
+use crate::system::System;
+use play_cover::{CommandFault, Complaint, Line, PlayFault, command_line};
+use std::alloc::Global;
+use std::io;
+use std::io::{ErrorKind, Write};
+
+/// The status of a program that printed what was asked for.
+const DONE: u8 = 0;
+
+/// The status of a program whose words can't be read.
+const WRONG_WORDS: u8 = 2;
+
+/// Says a fault that is of no file, and returns the status that goes with it.
+fn fail<S: System>(system: &mut S, fault: PlayFault) -> u8
+    ensures told { TellsOne (IsOfNoFile fault) (S.calls system.old) (S.calls system.new) }
+    ensures status { result ≡ status_of fault }
+{
+    system.tell(Message::Fault(Complaint { fault, file: None }));
+    fault.status()
+}
+
+/// Prints help or the version, where a command line asks for it.
+fn print<S: System, W: Write>(system: &mut S, asked: &Line<'_>, output: &mut W) -> u8
+    ensures ends { EndsText (S.calls system.old) (S.calls system.new) result }
+{
+    match asked {
+        Line::Text(text) => match write!(output, "{text}") {
+            Ok(()) => DONE,
+            Err(_) => fail(system, PlayFault::Write),
+        },
+        _ => DONE,
+    }
+}
+
+/// Does what a command line asks for: a run, or help or the version, which are printed.
+fn answer<S: System, W: Write>(
+    alloc: Global,
+    system: &mut S,
+    asked: &Line<'_>,
+    output: &mut W,
+) -> u8
+    ensures ends { EndsNamed (names_of asked.now) (S.bytes_of system.old) asked.now
+        (S.calls system.old) (S.calls system.new) (W.contents output.old) (W.contents output.new)
+        result }
+{
+    match Names::in_run(asked) {
+        Some(names) => run(alloc, system, asked, names, output),
+        None => print(system, asked, output),
+    }
+}
+
+/// A text without the parser's tip to put `--` before an option that isn't known, so that it would
+/// be taken for a file.
+fn without_tip(text: &str) -> (&str, &str) {
+    let Some((before, tip)) = text.split_once("\n  tip: to pass ") else {
+        return (text, "");
+    };
+    match tip.split_once('\n') {
+        Some((_, after)) => (before, after),
+        None => (before, ""),
+    }
+}
+
+/// Says what is wrong with a command line, and returns the status that goes with it.
+fn refuse<S: System>(alloc: Global, system: &mut S, fault: &CommandFault<'_>) -> u8
+    ensures ends { EndsRefused fault.now (S.calls system.old) (S.calls system.new) result }
+{
+    match format!(in alloc; "{fault}") {
+        Ok(text) => {
+            let parts = without_tip(&text);
+            system.tell(Message::Usage(parts.0, parts.1));
+            fault.status()
+        }
+        Err(_) => fail(system, PlayFault::Memory),
+    }
+}
+
+/// Does what words ask for.
+fn begin<S: System, W: Write>(alloc: Global, system: &mut S, words: &[String], output: &mut W) -> u8
+    ensures ends { EndsWords (map string_bytes words.now) (S.bytes_of system.old)
+        (S.calls system.old) (S.calls system.new) (W.contents output.old) (W.contents output.new)
+        result }
+{
+    match command_line(alloc, words) {
+        Ok(asked) => answer(alloc, system, &asked, output),
+        Err(fault) => refuse(alloc, system, &fault),
+    }
+}
+
+/// The program: does what its words ask for, where they could be read, and returns its status.
+pub fn run_program<S: System, W: Write>(
+    alloc: Global,
+    system: &mut S,
+    words: io::Result<Vec<String>>,
+    output: &mut W,
+) -> u8
+    ensures words { IfOk words (λ given. EndsWords (map string_bytes given.items)
+        (S.bytes_of system.old) (S.calls system.old) (S.calls system.new) (W.contents output.old)
+        (W.contents output.new) result) }
+    ensures unread { IfErr words (λ reason. (W.contents output.new ≡ W.contents output.old)
+        × EndsUnread (S.calls system.old) (S.calls system.new) result) }
+{
+    match words {
+        Ok(words) => begin(alloc, system, words.as_slice(), output),
+        Err(reason) if reason.kind() == ErrorKind::OutOfMemory => fail(system, PlayFault::Memory),
+        Err(reason) => {
+            system.tell(Message::Unread(reason));
+            WRONG_WORDS
+        }
+    }
+}

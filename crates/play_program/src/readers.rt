@@ -1,0 +1,119 @@
+//! Opening the files of a run, one after another.
+
+ghost use Rattle.std.specs.Prelude.{◌≡◌, [], ◌∷◌, IfOk, map, option_map};
+ghost use Rattle.cave_play.specs.Input.{input_left};
+ghost use Rattle.play_program.specs.Names.{cave_files, files_in, named, named_logs, names_in};
+ghost use Rattle.play_program.specs.Opening.{AreReadersOf, Opened, bytes_named};
+
+use crate::failure::Failure;
+use crate::names::Names;
+use crate::system::System;
+use play_cover::{CaveReaders, Files, Input, InputReader, Inputs};
+use std::alloc::Global;
+use std::io::{ErrorKind, Read};
+
+/// The readers of a run's files.
+#[derive(Drop)]
+pub struct Readers<F> {
+    pub inputs: Inputs<F, InputReader<F>, InputReader<F>, InputReader<F>>,
+    /// Those of several logs.
+    pub logs: Vec<F>,
+}
+
+/// Opens the file of an input.
+fn open<'a, S: System>(system: &mut S, input: Input, file: &'a str) -> Result<S::File, Failure<'a>>
+    ensures reads { IfOk result (λ opened.
+        S.File.remaining opened ≡ S.bytes_of system.old file.now) }
+    ensures kept { S.bytes_of system.new ≡ S.bytes_of system.old }
+    ensures opened { Opened ((input, file.now) ∷ []) (S.calls system.old) (S.calls system.new)
+        result }
+{
+    match system.open(file) {
+        Ok(opened) => Ok(opened),
+        Err(reason) if reason.kind() == ErrorKind::OutOfMemory => Err(Failure::memory()),
+        Err(reason) => Err(Failure::Unopened(input, file, reason)),
+    }
+}
+
+/// Opens the file of an input, where one is named.
+fn open_named<'a, S: System>(
+    system: &mut S,
+    input: Input,
+    file: Option<&'a str>,
+) -> Result<InputReader<S::File>, Failure<'a>>
+    ensures reads { IfOk result (λ reader. input_left S.File.remaining reader
+        ≡ bytes_named (S.bytes_of system.old) (option_map (λ s. s.now) file.entry)) }
+    ensures kept { S.bytes_of system.new ≡ S.bytes_of system.old }
+    ensures opened { Opened (named input (option_map (λ s. s.now) file.entry)) (S.calls system.old)
+        (S.calls system.new) result }
+{
+    match file {
+        Some(file) => match open(system, input, file) {
+            Ok(opened) => Ok(InputReader::Given(opened)),
+            Err(failure) => Err(failure),
+        },
+        None => Ok(InputReader::Absent),
+    }
+}
+
+/// Opens the files of a cave.
+fn open_cave<'a, S: System>(
+    system: &mut S,
+    files: Files<'a>,
+) -> Result<CaveReaders<S::File, InputReader<S::File>>, Failure<'a>>
+    ensures database { IfOk result (λ readers.
+        S.File.remaining readers.database ≡ S.bytes_of system.old files.entry.cave.now) }
+    ensures bindings { IfOk result (λ readers. input_left S.File.remaining readers.bindings
+        ≡ bytes_named (S.bytes_of system.old) (option_map (λ s. s.now) files.entry.bind)) }
+    ensures kept { S.bytes_of system.new ≡ S.bytes_of system.old }
+    ensures opened { Opened (cave_files files.entry.cave.now
+        (option_map (λ s. s.now) files.entry.bind)) (S.calls system.old) (S.calls system.new)
+        result }
+{
+    let database = open(system, Input::Cave, files.cave)?;
+    let bindings = open_named(system, Input::Bindings, files.bind)?;
+    Ok(CaveReaders { database, bindings })
+}
+
+/// Opens the files of several logs.
+fn open_logs<'a, S: System>(
+    alloc: Global,
+    system: &mut S,
+    files: &[&'a str],
+) -> Result<Vec<S::File>, Failure<'a>>
+    ensures reads { IfOk result (λ logs. map S.File.remaining logs.items
+        ≡ map (S.bytes_of system.old) (map (λ s. s.now) files.now)) }
+    ensures kept { S.bytes_of system.new ≡ S.bytes_of system.old }
+    ensures opened { Opened (named_logs (map (λ s. s.now) files.now)) (S.calls system.old)
+        (S.calls system.new) result }
+{
+    let mut logs = Vec::new(alloc);
+    for file in files {
+        let log = open(system, Input::Log, *file)?;
+        if logs.push(log).is_err() {
+            return Err(Failure::memory());
+        }
+    }
+    Ok(logs)
+}
+
+/// Opens the files of a run, one after another, and none after one that can't be opened.
+pub fn open_files<'a, S: System>(
+    alloc: Global,
+    system: &mut S,
+    names: Names<'a>,
+) -> Result<Readers<S::File>, Failure<'a>>
+    ensures reads { IfOk result (AreReadersOf S.File.remaining (S.bytes_of system.old)
+        (names_in names.entry)) }
+    ensures opened { Opened (files_in (names_in names.entry)) (S.calls system.old)
+        (S.calls system.new) result }
+{
+    let cave = open_cave(system, names.files)?;
+    let log = open_named(system, Input::Log, names.log)?;
+    let logs = open_logs(alloc, system, names.logs)?;
+    let script = open_named(system, Input::Script, names.script)?;
+    Ok(Readers {
+        inputs: Inputs { cave, log, script },
+        logs,
+    })
+}

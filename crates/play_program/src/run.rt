@@ -1,0 +1,140 @@
+//! A run over files: what it reads, and where its output goes.
+
+ghost use Rattle.std.specs.Prelude.{◌≡◌, [], ◌∷◌, IfErr, option_map};
+ghost use Rattle.play_program.specs.Calls.{and_then};
+ghost use Rattle.play_program.specs.Calls.Call.{Puts};
+ghost use Rattle.play_program.specs.Ends.{EndsRun, IsUnput, RunsFiles, RunsIntoFile, RunsTo};
+ghost use Rattle.play_program.specs.Ends.{ended_run, in_list};
+ghost use Rattle.play_program.specs.Names.{names_in};
+
+use crate::command::run_command;
+use crate::failure::Failure;
+use crate::names::Names;
+use crate::readers::open_files;
+use crate::system::System;
+use play_cover::{Line, LogsFault, PlayFault};
+use std::alloc::Global;
+use std::io::{ErrorKind, Write};
+
+/// The status of a run that is done.
+const DONE: u8 = 0;
+
+/// How a run ended whose files were opened.
+fn ended_run<'a>(ended: Result<(), LogsFault>) -> Result<(), Failure<'a>>
+    ensures { result ≡ ended_run ended }
+{
+    match ended {
+        Ok(()) => Ok(()),
+        Err(found) => Err(Failure::Run(found)),
+    }
+}
+
+/// Does a run, whose output goes to a writer.
+fn run_into<'a, S: System, W: Write>(
+    alloc: Global,
+    system: &mut S,
+    asked: &Line<'_>,
+    names: Names<'a>,
+    output: &mut W,
+) -> Result<(), Failure<'a>>
+    ensures runs { RunsFiles (S.bytes_of system.old) asked.now (names_in names.entry)
+        (S.calls system.old) (S.calls system.new) (W.contents output.old) (W.contents output.new)
+        result }
+{
+    match open_files(alloc, system, names) {
+        Ok(opened) => {
+            let mut readers = opened;
+            ended_run(run_command(alloc, asked, &mut readers, output))
+        }
+        Err(failure) => Err(failure),
+    }
+}
+
+/// Puts an output that is whole into a file.
+fn put<'a, S: System>(system: &mut S, file: &'a str, output: &[u8]) -> Result<(), Failure<'a>>
+    ensures call { S.calls system.new
+        ≡ and_then (S.calls system.old) (Puts file.now output.now ∷ []) }
+    ensures failed { IfErr result (IsUnput file.now) }
+{
+    match system.put(file, output) {
+        Ok(()) => Ok(()),
+        Err(reason) if reason.kind() == ErrorKind::OutOfMemory => Err(Failure::memory()),
+        Err(reason) => Err(Failure::Unwritten(file, reason)),
+    }
+}
+
+/// The failure of a run whose output is kept: a list of bytes takes each write, unless memory runs
+/// out.
+fn in_list<'a>(failure: Failure<'a>) -> Failure<'a>
+    ensures { result ≡ in_list failure.entry }
+{
+    match failure {
+        Failure::Run(
+            LogsFault {
+                fault: PlayFault::Write,
+                ..
+            },
+        ) => Failure::memory(),
+        failure => failure,
+    }
+}
+
+/// Does a run, whose output goes into a file: it is kept until it is whole, so that a file that the
+/// run reads can be the one that is written.
+fn run_into_file<'a, S: System>(
+    alloc: Global,
+    system: &mut S,
+    asked: &Line<'_>,
+    names: Names<'a>,
+    file: &'a str,
+) -> Result<(), Failure<'a>>
+    ensures runs { RunsIntoFile (S.bytes_of system.old) asked.now (names_in names.entry) file.now
+        (S.calls system.old) (S.calls system.new) result }
+{
+    let mut output = Vec::new(alloc);
+    match run_into(alloc, system, asked, names, &mut output) {
+        Ok(()) => put(system, file, &output),
+        Err(failure) => Err(in_list(failure)),
+    }
+}
+
+/// Does a run, whose output goes into a file, where one is named, and else to a writer.
+fn run_to<'a, S: System, W: Write>(
+    alloc: Global,
+    system: &mut S,
+    asked: &Line<'_>,
+    names: Names<'a>,
+    file: Option<&'a str>,
+    output: &mut W,
+) -> Result<(), Failure<'a>>
+    ensures runs { RunsTo (option_map (λ s. s.now) file.entry) (S.bytes_of system.old) asked.now
+        (names_in names.entry) (S.calls system.old) (S.calls system.new) (W.contents output.old)
+        (W.contents output.new) result }
+{
+    match file {
+        Some(file) => run_into_file(alloc, system, asked, names, file),
+        None => run_into(alloc, system, asked, names, output),
+    }
+}
+
+/// Does a run, says why it wasn't done where that is so, and returns the status.
+pub fn run<S: System, W: Write>(
+    alloc: Global,
+    system: &mut S,
+    asked: &Line<'_>,
+    names: Names<'_>,
+    output: &mut W,
+) -> u8
+    ensures ends { EndsRun (S.bytes_of system.old) asked.now (names_in names.entry)
+        (S.calls system.old) (S.calls system.new) (W.contents output.old) (W.contents output.new)
+        result }
+{
+    match run_to(alloc, system, asked, names, names.files.output, output) {
+        Ok(()) => DONE,
+        Err(failure) => {
+            let status = failure.status();
+            system.tell(failure.message(names));
+            status
+        }
+    }
+}
