@@ -29,7 +29,8 @@ use Rattle.cave_play.proofs.StageLemmas.{Judges-read}
 use Rattle.cave_play.specs.Judge.{large_seed, every_fault, too_large, input_size_fault}
 use Rattle.cave_play.specs.Judge.{inputs_fault, lines_fault, log_fault, script_fault}
 use Rattle.cave_play.specs.Judge.{first_malformed, script_refusal, or_too_many, opening_fault}
-use Rattle.cave_play.specs.Run.{Judges, reading_stage, judging_stage, first_decided, IsOutsideOf}
+use Rattle.cave_play.specs.Run.{Judges, IsOutsideOf}
+use Rattle.cave_play.specs.Stages.{reading_stage, judging_stage, first_decided}
 use Rattle.cave_play.specs.Run.{IsFoundAt, IsFoundIn}
 use Rattle.cave_play.specs.Stages.{cave_stages, log_stage, script_stage}
 use Rattle.cave_play.specs.declared.fault.Input.{Input}

@@ -27,7 +27,8 @@ use Rattle.cave_play.specs.Judge.{input_size_fault, log_fault, script_fault, fir
 use Rattle.cave_play.proofs.StageLemmas.{first_is_found}
 use Rattle.cave_play.specs.Laws.{IsDecided}
 use Rattle.cave_play.specs.Output.{play_text}
-use Rattle.cave_play.specs.Run.{EndsBy, Runs, Stage, first_decided, IsFoundIn}
+use Rattle.cave_play.specs.Run.{EndsBy, Runs, IsFoundIn}
+use Rattle.cave_play.specs.Stages.{Stage, first_decided}
 use Rattle.cave_play.specs.Stages.{cave_stages, log_stage, script_stage, strict_stage, play_stages}
 use Rattle.cave_play.specs.Stages.{edit_stages}
 use Rattle.cave_play.proofs.StrictLemmas.{unwritten_by_strict}

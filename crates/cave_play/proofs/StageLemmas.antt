@@ -4,7 +4,8 @@ use Rattle.std.proofs.Common.{refl}
 use Rattle.std.specs.Prelude.{Result}
 use Rattle.std.specs.Option.{option_or}
 use Rattle.std.specs.declared.option.Option.{Option}
-use Rattle.cave_play.specs.Run.{Stage, reading_stage, judging_stage, first_decided, IsOutsideOf}
+use Rattle.cave_play.specs.Run.{IsOutsideOf}
+use Rattle.cave_play.specs.Stages.{Stage, reading_stage, judging_stage, first_decided}
 use Rattle.cave_play.specs.Run.{IsFoundIn, Judges}
 use Rattle.cave_play.specs.Laws.{IsOutside, IsDecided}
 use Rattle.cave_play.specs.declared.fault.Input.{Input}

@@ -14,7 +14,8 @@ use Rattle.replay_scripts.specs.declared.script.Item.{Item}
 use Rattle.replay_scripts.specs.declared.fault.ScriptRefusal.{ScriptRefusal}
 use Rattle.cave_play.specs.Outcome.{IsOutcome, refusal_in}
 use Rattle.cave_play.specs.Output.{game_after_item, group_refusal}
-use Rattle.cave_play.specs.Run.{IsFoundIn, first_decided, judging_stage}
+use Rattle.cave_play.specs.Run.{IsFoundIn}
+use Rattle.cave_play.specs.Stages.{first_decided, judging_stage}
 use Rattle.cave_play.specs.Stages.{strict_stage}
 use Rattle.cave_play.specs.Strict.{fault_of_items, first_strict_fault, strict_fault}
 use Rattle.cave_play.specs.Strict.{strict_fault_by}

@@ -9,7 +9,8 @@ use Rattle.cave_replay.specs.replay_edits.declared.fault.EditFault.TheVariants.{
 use Rattle.cave_replay.specs.replay_edits.declared.fault.GroupFault.{GroupFault}
 use Rattle.cave_play.specs.Judge.{inputs_fault, large_seed, log_fault}
 use Rattle.cave_play.specs.Output.{game_after_items, group_refusal, IsChecked, IsPlayed}
-use Rattle.cave_play.specs.Run.{Stage, first_decided, IsFoundIn, AtMostOne}
+use Rattle.cave_play.specs.Run.{IsFoundIn, AtMostOne}
+use Rattle.cave_play.specs.Stages.{Stage, first_decided}
 use Rattle.cave_play.specs.Stages.{cave_stages}
 use Rattle.cave_play.specs.declared.fault.PlayFault.{PlayFault}
 use Rattle.cave_play.specs.declared.fault.PlayFault.TheVariants as fault

@@ -1,26 +1,11 @@
--- The stages of a run, what it leaves, and what its parts make of the inputs.
+-- What a run leaves, by its stages, and what its parts make of the inputs.
 use Rattle.std.specs.Prelude.{◌≡◌, ℕ, List, take, Option, None, Result, Ok, Err, ◌⊎◌, ⊤, [], ◌∷◌}
 use Rattle.std.specs.Prelude.{Some}
 use Rattle.std.specs.Io.KnownBytes.{Appends, Keeps}
 use Rattle.cave_play.specs.declared.fault.PlayFault.{PlayFault}
 use Rattle.cave_play.specs.declared.fault.PlayFault.TheVariants as fault
-use Rattle.std.specs.Option.{option_or}
 use Rattle.cave_play.specs.declared.fault.Input.{Input}
-
--- a stage of a run: the input that is read there, if one is, and the fault that is decided there
-pub record Stage : Type 0 where
-  pub reads : Option Input
-  pub decides : Option PlayFault
-
-abbrev pub reading_stage : Input → Option PlayFault → Stage
-reading_stage input decides = record { reads = Some input; decides = decides }
-
-abbrev pub judging_stage : Option PlayFault → Stage
-judging_stage decides = record { reads = None; decides = decides }
-
-abbrev pub first_decided : List Stage → Option PlayFault
-first_decided [] = None
-first_decided (stage ∷ stages) = option_or stage.decides (first_decided stages)
+use Rattle.cave_play.specs.Stages.{Stage, first_decided}
 
 -- no bytes decide the fault: the reading of the input failed, or memory was refused
 abbrev pub IsOutsideOf : Option Input → PlayFault → Type 0

@@ -1,5 +1,6 @@
--- The stages of each run, in their order.
-use Rattle.std.specs.Prelude.{ℕ, Bool, List, [], ◌∷◌, ◌++◌}
+-- What a stage of a run is, and the stages of each run, in their order.
+use Rattle.std.specs.Prelude.{ℕ, Bool, List, [], ◌∷◌, ◌++◌, Option, None, Some}
+use Rattle.std.specs.Option.{option_or}
 use Rattle.std.specs.Str.Lines.{lines}
 use Rattle.play_command.specs.play_options.declared.editing.Editing.{Editing}
 use Rattle.cave_replay.specs.replay_edits.Edit.{Game, game_of}
@@ -7,8 +8,24 @@ use Rattle.replay_scripts.specs.Script.{script_of}
 use Rattle.cave_play.specs.Judge.{large_seed, every_fault, input_size_fault, inputs_fault}
 use Rattle.cave_play.specs.Judge.{log_fault, script_fault}
 use Rattle.cave_play.specs.Strict.{fault_of_items}
-use Rattle.cave_play.specs.Run.{Stage, reading_stage, judging_stage}
+use Rattle.cave_play.specs.declared.fault.Input.{Input}
 use Rattle.cave_play.specs.declared.fault.Input.TheVariants as input
+use Rattle.cave_play.specs.declared.fault.PlayFault.{PlayFault}
+
+-- a stage of a run: the input that is read there, if one is, and the fault that is decided there
+pub record Stage : Type 0 where
+  pub reads : Option Input
+  pub decides : Option PlayFault
+
+abbrev pub reading_stage : Input → Option PlayFault → Stage
+reading_stage input decides = record { reads = Some input; decides = decides }
+
+abbrev pub judging_stage : Option PlayFault → Stage
+judging_stage decides = record { reads = None; decides = decides }
+
+abbrev pub first_decided : List Stage → Option PlayFault
+first_decided [] = None
+first_decided (stage ∷ stages) = option_or stage.decides (first_decided stages)
 
 -- the database is read, then its bindings, and then both are judged
 abbrev pub cave_stages : List ℕ → List ℕ → List Stage

@@ -12,7 +12,8 @@ ghost use Rattle.cave_play.specs.Input.{Says};
 ghost use Rattle.cave_play.specs.Judge.{large_seed, every_fault, lines_fault, script_refusal};
 ghost use Rattle.cave_play.specs.Judge.{opening_fault};
 ghost use Rattle.cave_play.specs.Edits.{HoldsGame};
-ghost use Rattle.cave_play.specs.Run.{Judges, judging_stage};
+ghost use Rattle.cave_play.specs.Run.{Judges};
+ghost use Rattle.cave_play.specs.Stages.{judging_stage};
 ghost use Rattle.cave_play.specs.Stages.{cave_stages, log_stage, script_stage};
 
 use crate::fault::{Input, LogFault, PlayFault, ScriptFault};

@@ -2,7 +2,7 @@
 
 ghost use Rattle.std.specs.Prelude.{◌≡◌, IfOk};
 ghost use Rattle.world_packed.specs.cave_words.Lexicon.{IsLexiconOf};
-ghost use Rattle.world_packed.specs.cave_world.Equality.{state_equality};
+ghost use Rattle.cave_world.proofs.Equality.{state_equality};
 ghost use Rattle.cave_turn.specs.turn_scene.Scene.{cave_of};
 ghost use Rattle.cave_turn.specs.turn_score.Score.{score_of, max_score_of};
 ghost use Rattle.cave_play.specs.Machine.{cave_rules};

@@ -20,7 +20,9 @@ mod workspace;
 pub use fault::OpenFault;
 pub use machine::{Machine, Started, Stepped};
 pub use played_lines::{PlayedLine, PlayedLines};
-pub use replay_edits::{Edit, EditFault, GroupFault, LineFlaw, LineText, Meter, Steps, number_of};
+pub use replay_edits::{
+    Edit, EditFault, GroupFault, LineFault, LineFlaw, LineText, Meter, Steps, check_line, number_of,
+};
 pub use replay_marks::{KeptState, Whole};
 pub use report::{GroupReport, Report};
 pub use session::Session;

@@ -30,6 +30,8 @@ abbrev pub condition_mark : CaveView → Condition → List ℕ
 condition_mark cave condition.Always = []
 condition_mark cave condition.NotForDwarves = []
 condition_mark cave (condition.Chance percent) = codes " (" ++ (decimal percent ++ codes " %)")
-condition_mark cave (condition.Carried object) = object_mark cave (codes " (with") object ++ codes ")"
-condition_mark cave (condition.AtHand object) = object_mark cave (codes " (near") object ++ codes ")"
+condition_mark cave (condition.Carried object) =
+    object_mark cave (codes " (with") object ++ codes ")"
+condition_mark cave (condition.AtHand object) =
+    object_mark cave (codes " (near") object ++ codes ")"
 condition_mark cave (condition.OtherProp object prop) = prop_mark cave object prop

@@ -2,19 +2,19 @@
 use Rattle.std.proofs.Common.{◌≡◌, ◌∙◌, ℕ, arith, Bool, true, false, List, [], ◌∷◌, length, map}
 use Rattle.std.proofs.Common.{None, Some, refl, sym, subst, ap}
 use Rattle.std.specs.Prelude.{bytes_eq, codes, if◌then◌else◌}
-use Rattle.play_command.specs.BelowZero.{first_word, if_below_zero, seed_below_zero}
+use Rattle.play_command.specs.BelowZero.{first_argument, if_below_zero, seed_below_zero}
 use Rattle.play_command.specs.BelowZero.{seed_of_command, takes_seed, word_of_seed}
 
 by_first : (word : List ℕ) (words : List (List ℕ)) (files seed : Bool)
     → bytes_eq word (codes "--") ≡ files → bytes_eq word (codes "--seed") ≡ seed
     → word_of_seed (word ∷ words)
-    ≡ (if files then None else (if seed then first_word words else word_of_seed words))
+    ≡ (if files then None else (if seed then first_argument words else word_of_seed words))
 unfolding word_of_seed
 by_first word words files seed files_is seed_is =
     ap (λ (it : Bool). if it then None
-    else (if bytes_eq word (codes "--seed") then first_word words else word_of_seed words)) files_is
+    else (if bytes_eq word (codes "--seed") then first_argument words else word_of_seed words)) files_is
     ∙ ap (λ (it : Bool). if files then None
-    else (if it then first_word words else word_of_seed words)) seed_is
+    else (if it then first_argument words else word_of_seed words)) seed_is
 
 pub in_none : {A : Type 0} (text : A → List ℕ) (words : List A) → length words ≡ 0
     → word_of_seed (map text words) ≡ None
@@ -33,7 +33,7 @@ in_files {A = A} text words first rest word is text_is files =
 pub in_next : {A : Type 0} (text : A → List ℕ) (words : List A) (first : A) (rest : List A)
     (word : List ℕ) → words ≡ first ∷ rest → word ≡ text first
     → bytes_eq word (codes "--") ≡ false → bytes_eq word (codes "--seed") ≡ true
-    → word_of_seed (map text words) ≡ first_word (map text rest)
+    → word_of_seed (map text words) ≡ first_argument (map text rest)
 in_next {A = A} text words first rest word is text_is files seed =
     ap (λ (it : List A). word_of_seed (map text it)) is
     ∙ by_first (text first) (map text rest) false true
@@ -51,15 +51,15 @@ in_rest {A = A} text words first rest word is text_is files seed =
     (subst (λ (it : List ℕ). bytes_eq it (codes "--seed") ≡ false) text_is seed)
 
 pub first_none : {A : Type 0} (text : A → List ℕ) (words : List A) → length words ≡ 0
-    → first_word (map text words) ≡ None
+    → first_argument (map text words) ≡ None
 first_none text [] none = refl
 first_none text (word ∷ words) none = absurd (omega arith)
 
 pub first_some : {A : Type 0} (text : A → List ℕ) (words : List A) (first : A) (rest : List A)
     (word : List ℕ) → words ≡ first ∷ rest → word ≡ text first
-    → first_word (map text words) ≡ Some word
+    → first_argument (map text words) ≡ Some word
 first_some {A = A} text words first rest word is text_is =
-    ap (λ (it : List A). first_word (map text it)) is ∙ ap Some (sym text_is)
+    ap (λ (it : List A). first_argument (map text it)) is ∙ ap Some (sym text_is)
 
 by_command : (command : List ℕ) (words : List (List ℕ)) (takes : Bool) → takes_seed command ≡ takes
     → seed_of_command (command ∷ words)

@@ -15,16 +15,16 @@ takes_seed command = bytes_eq command (codes "play") || bytes_eq command (codes 
     || bytes_eq command (codes "cover") || bytes_eq command (codes "map")
 
 -- the first word, if there is one
-abbrev pub first_word : List (List ℕ) → Option (List ℕ)
-first_word [] = None
-first_word (word ∷ words) = Some word
+abbrev pub first_argument : List (List ℕ) → Option (List ℕ)
+first_argument [] = None
+first_argument (word ∷ words) = Some word
 
 -- the word after the first `--seed`; after `--` each word is a file
 unfoldable pub word_of_seed : List (List ℕ) → Option (List ℕ)
 word_of_seed [] = None
 word_of_seed (word ∷ words) =
     if bytes_eq word (codes "--") then None
-    else (if bytes_eq word (codes "--seed") then first_word words else word_of_seed words)
+    else (if bytes_eq word (codes "--seed") then first_argument words else word_of_seed words)
 
 abbrev pub if_below_zero : Option (List ℕ) → Option (List ℕ)
 if_below_zero None = None

@@ -1,7 +1,7 @@
 //! A seed below zero, which the parser takes for an option that it doesn't know.
 
 ghost use Rattle.std.specs.Prelude.{◌≡◌, map, option_map};
-ghost use Rattle.play_command.specs.BelowZero.{first_word, if_below_zero, is_below_zero};
+ghost use Rattle.play_command.specs.BelowZero.{first_argument, if_below_zero, is_below_zero};
 ghost use Rattle.play_command.specs.BelowZero.{seed_below_zero, seed_of_command, takes_seed};
 ghost use Rattle.play_command.specs.BelowZero.{word_of_seed};
 
@@ -24,8 +24,8 @@ fn takes_seed(command: &str) -> bool
 }
 
 #[tactic(auto, using(crate::proofs::BelowZeroLemmas::first_words))]
-fn first_word<'a, S: AsStr>(words: &'a [S]) -> Option<&'a str>
-    ensures { option_map (λ text. text.now) result ≡ first_word (map S.text words.now) }
+fn first_argument<'a, S: AsStr>(words: &'a [S]) -> Option<&'a str>
+    ensures { option_map (λ text. text.now) result ≡ first_argument (map S.text words.now) }
 {
     match words.split_first() {
         Some((word, _)) => Some(word.as_str()),
@@ -45,7 +45,7 @@ fn word_of_seed<'a, S: AsStr>(words: &'a [S]) -> Option<&'a str>
             return None;
         }
         if word == "--seed" {
-            return first_word(after);
+            return first_argument(after);
         }
         rest = after;
     }

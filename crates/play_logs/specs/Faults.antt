@@ -3,7 +3,8 @@ use Rattle.std.specs.Prelude.{◌≡◌, ℕ, ◌+◌, ◌⊎◌, ⊤, List, [],
 use Rattle.std.specs.Prelude.{Err, ◌++◌, map}
 use Rattle.std.specs.Io.KnownBytes.{Appends, Keeps}
 use Rattle.cave_play.specs.Judge.{log_fault, large_seed}
-use Rattle.cave_play.specs.Run.{WritesPrefix, Stage, IsFoundAt, first_decided, judging_stage}
+use Rattle.cave_play.specs.Run.{WritesPrefix, IsFoundAt}
+use Rattle.cave_play.specs.Stages.{Stage, first_decided, judging_stage}
 use Rattle.cave_play.specs.Run as stage
 use Rattle.cave_play.specs.Stages.{cave_stages, log_stage}
 use Rattle.cave_play.specs.declared.fault.PlayFault.{PlayFault}

@@ -12,8 +12,8 @@ pub mod trace;
 
 pub use base_lines::bytes::{is_all_blank, is_blank, number_of, split_digits};
 pub use base_lines::{
-    LineFlaw, Meter, Steps, is_bad_every, is_large_seed, is_long_log, is_long_number, is_skipped,
-    split_line, split_log_line, with_digit,
+    LineFault, LineFlaw, Meter, Steps, check_line, is_bad_every, is_large_seed, is_long_log,
+    is_long_number, is_skipped, split_line, split_log_line, with_digit,
 };
 pub use edit::Edit;
 pub use fault::{EditFault, GroupFault};

@@ -6,7 +6,8 @@ use Rattle.data_bindings.specs.cave_data.CaveView.{CaveView}
 use Rattle.play_command.specs.play_options.declared.editing.Editing.{Editing}
 use Rattle.cave_replay.specs.replay_edits.Edit.{Game, game_of}
 use Rattle.cave_play.specs.Views.{IsEditOf}
-use Rattle.cave_play.specs.Run.{Judges, Stage}
+use Rattle.cave_play.specs.Run.{Judges}
+use Rattle.cave_play.specs.Stages.{Stage}
 use Rattle.cave_play.specs.Stages.{log_stage, script_stage, strict_stage}
 use Rattle.cave_play.proofs.InputLemmas.{Says-some}
 use Rattle.cave_play.proofs.StageLemmas.{IsFoundIn-first, IsFoundIn-memory, Judges-later}

@@ -5,7 +5,7 @@ use Rattle.std.proofs.KnownBytes.{Keeps-refl}
 use Rattle.play_command.specs.play_options.declared.editing.Editing.{Editing}
 use Rattle.cave_replay.specs.replay_edits.Edit.{game_of}
 use Rattle.cave_play.specs.Judge.{large_seed, every_fault}
-use Rattle.cave_play.specs.Run.{Stage, judging_stage}
+use Rattle.cave_play.specs.Stages.{Stage, judging_stage}
 use Rattle.cave_play.specs.Stages.{cave_stages, edit_stages, log_stage, script_stage, strict_stage}
 use Rattle.cave_play.specs.Views.{IsEdited}
 use Rattle.cave_play.proofs.InputLemmas.{Says-some}
