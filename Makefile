@@ -37,6 +37,8 @@ checks:
 	tools/check-names
 	tools/check-numbers
 	tools/check-pages
+	tools/check-rows
+	tools/counts --check
 	tools/check-checks
 	logs/tools/check-documents
 	logs/tools/check-runner
