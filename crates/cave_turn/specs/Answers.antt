@@ -1,23 +1,28 @@
 -- What an answer to an open question does.
-use Rattle.std.specs.Prelude.{ℕ, pos, Bool, true, false, ◌||◌, not, if◌then◌else◌, List, Option}
-use Rattle.std.specs.Prelude.{Some, None, codes}
+use Rattle.std.specs.Prelude.{ℕ, ℤ, pos, Bool, true, false, ◌||◌, not, if◌then◌else◌, List, [], ◌∷◌}
+use Rattle.std.specs.Prelude.{Option, Some, None, codes}
 use Rattle.turn_text.specs.cave_data.CaveView.{CaveView}
 use Rattle.turn_text.specs.data_rows.declared.role.Role.TheVariants as role
 use Rattle.turn_moves.specs.Arrival.{after_arrival}
 use Rattle.turn_begin.specs.turn_scene.Scene.{Scene, scene_at_start, after_saying, with_state}
+use Rattle.cave_verbs.specs.verb_commands.turn_rules.Rows.{Effect, Row, deed, plain_row, by_table}
+use Rattle.cave_verbs.specs.verb_commands.turn_rules.Tests.{either}
+use Rattle.cave_verbs.specs.verb_commands.turn_rules.Effects.{in_scene, in_state, say}
 use Rattle.turn_begin.specs.turn_things.Places.{start_place}
 use Rattle.turn_text.specs.cave_words.Words.{is_written, words_of}
 use Rattle.turn_text.specs.cave_world.State.{CLUE_HINT, INSTRUCTIONS_HINT, with_hint_taken}
 use Rattle.turn_text.specs.cave_world.declared.ending.Ending.TheVariants as ending_is
 use Rattle.turn_text.specs.cave_world.declared.ending.Question.{Question}
-use Rattle.turn_text.specs.cave_world.declared.ending.Question.TheVariants as question
 use Rattle.turn_text.specs.cave_world.declared.state.State.{State}
 use Rattle.cave_turn.specs.Dragon.{after_fight}
-use Rattle.turn_moves.specs.turn_ends.Endings.{after_end}
-use Rattle.turn_moves.specs.turn_ends.Questions.{after_question}
+use Rattle.turn_moves.specs.turn_ends.Endings.{end_as}
+use Rattle.turn_moves.specs.turn_ends.Questions.{is_welcome, is_quit, is_score_quit, is_die}
+use Rattle.turn_moves.specs.turn_ends.Questions.{is_hint, is_take, is_oyster, is_dragon, asks}
+use Rattle.turn_moves.specs.turn_ends.Questions.{hint_number, after_question}
 use Rattle.cave_turn.specs.Finish.{end_of_turn}
-use Rattle.turn_hints.specs.Hints.{price_scene, hint_scene}
-use Rattle.cave_turn.specs.Revival.{after_come_back, after_bury}
+use Rattle.turn_clocks.specs.Lamp.{with_charge}
+use Rattle.turn_hints.specs.Hints.{price_rows, give_rows}
+use Rattle.cave_turn.specs.Revival.{come_back, bury}
 use Rattle.cave_turn.specs.declared.answers.Answer.{Answer}
 use Rattle.cave_turn.specs.declared.answers.Answer.TheVariants.{Yes, No, Neither}
 
@@ -39,41 +44,64 @@ answer_in cave line = answer_by (words_of cave.letters line).first
 abbrev pub without_question : State → State
 without_question s = record s { question = None }
 
--- the instructions count as a hint, which costs points, and the lamp burns 1,000 turns
-abbrev pub after_instructions : State → State
-after_instructions s =
-    let t = with_hint_taken INSTRUCTIONS_HINT s in let lamp = t.lamp in
-    record t { lamp = record lamp { charge = pos 1000 } }
+abbrev pub take_hint : ℕ → Effect Question
+take_hint h d = in_state (with_hint_taken h d.scene.state) d
+
+-- the lamp burns so many turns from now on
+abbrev pub set_charge : ℤ → Effect Question
+set_charge turns d = in_state (with_charge turns d.scene.state) d
 
 -- the game begins at its first place
 unfoldable pub after_enter : CaveView → Scene → Scene
 after_enter cave p = after_arrival cave (start_place cave) p
 
-abbrev pub after_quit : CaveView → Scene → Scene
-after_quit cave p = after_end cave ending_is.Quit (after_saying role.Ok p)
+abbrev pub enter : Effect Question
+enter d = in_scene (after_enter d.cave d.scene) d
+
+-- the dragon is fought
+abbrev pub fight : Effect Question
+fight d = in_scene (after_fight d.cave d.scene) d
+
+-- what is done about the hint of the question
+abbrev pub by_hint : List (Row ℕ (Unit {0})) → Effect Question
+by_hint rows d =
+    in_scene (by_table rows (deed d.cave (hint_number d.about) d.scene)).scene d
+
+unfoldable pub give_instructions : List (Effect Question)
+give_instructions =
+    say role.Instructions ∷ take_hint INSTRUCTIONS_HINT ∷ set_charge (pos 1000) ∷ enter ∷ []
+
+unfoldable pub quit : List (Effect Question)
+quit = say role.Ok ∷ end_as ending_is.Quit ∷ []
+
+unfoldable pub yes_rows : List (Row Question (Unit {0}))
+yes_rows =
+    plain_row (asks is_welcome ∷ []) give_instructions
+    ∷ plain_row (either (asks is_quit) (asks is_score_quit) ∷ []) quit
+    ∷ plain_row (asks is_die ∷ []) come_back
+    ∷ plain_row (asks is_hint ∷ []) (by_hint price_rows ∷ [])
+    ∷ plain_row (asks is_take ∷ []) (by_hint give_rows ∷ [])
+    ∷ plain_row (asks is_oyster ∷ []) (say role.OysterHint ∷ take_hint CLUE_HINT ∷ [])
+    ∷ plain_row (asks is_dragon ∷ []) (fight ∷ [])
+    ∷ []
+
+-- a player who doesn't fight the dragon commands something else
+unfoldable pub no_rows : List (Row Question (Unit {0}))
+no_rows =
+    plain_row (asks is_welcome ∷ []) (enter ∷ [])
+    ∷ plain_row (either (asks is_quit) (asks is_score_quit) ∷ []) (say role.Ok ∷ [])
+    ∷ plain_row (asks is_die ∷ []) bury
+    ∷ plain_row (asks is_hint ∷ []) (say role.Ok ∷ [])
+    ∷ plain_row (asks is_take ∷ []) (say role.Ok ∷ [])
+    ∷ plain_row (asks is_oyster ∷ []) (say role.Ok ∷ [])
+    ∷ plain_row (asks is_dragon ∷ []) []
+    ∷ []
 
 abbrev pub after_yes : CaveView → Question → Scene → Scene
-after_yes cave question.Welcome p =
-    after_enter cave (with_state (after_instructions p.state) (after_saying role.Instructions p))
-after_yes cave question.Quit p = after_quit cave p
-after_yes cave question.ScoreQuit p = after_quit cave p
-after_yes cave question.Die p = after_come_back cave p
-after_yes cave (question.Hint h) p = price_scene cave h p
-after_yes cave (question.Take h) p = hint_scene cave h p
-after_yes cave question.Oyster p =
-    with_state (with_hint_taken CLUE_HINT p.state) (after_saying role.OysterHint p)
-after_yes cave question.Dragon p = after_fight cave p
+after_yes cave q p = (by_table yes_rows (deed cave q p)).scene
 
--- no; a player who doesn't fight the dragon commands something else
 abbrev pub after_no : CaveView → Question → Scene → Scene
-after_no cave question.Welcome p = after_enter cave p
-after_no cave question.Quit p = after_saying role.Ok p
-after_no cave question.ScoreQuit p = after_saying role.Ok p
-after_no cave question.Die p = after_bury cave p
-after_no cave (question.Hint h) p = after_saying role.Ok p
-after_no cave (question.Take h) p = after_saying role.Ok p
-after_no cave question.Oyster p = after_saying role.Ok p
-after_no cave question.Dragon p = p
+after_no cave q p = (by_table no_rows (deed cave q p)).scene
 
 -- what is neither leaves the question open, and its message is said again
 abbrev pub reply_scene : CaveView → Question → Answer → Scene → Scene
@@ -83,9 +111,7 @@ reply_scene cave q Neither p = after_question cave q (after_saying role.Answer p
 
 -- a hint that is offered, or its price
 abbrev pub is_of_hint : Question → Bool
-is_of_hint (question.Hint h) = true
-is_of_hint (question.Take h) = true
-is_of_hint _ = false
+is_of_hint q = is_hint q || is_take q
 
 -- an answer about a hint doesn't end the turn as other answers do
 abbrev pub end_of_answer : CaveView → Question → Scene → Scene
@@ -94,10 +120,6 @@ end_of_answer cave q p = if is_of_hint q then p else end_of_turn cave p
 unfoldable pub after_answer : CaveView → Question → List ℕ → State → Scene
 after_answer cave q line s =
     end_of_answer cave q (reply_scene cave q (answer_in cave line) (scene_at_start false s))
-
-abbrev pub is_dragon : Question → Bool
-is_dragon question.Dragon = true
-is_dragon _ = false
 
 abbrev pub is_yes : Answer → Bool
 is_yes Yes = true

@@ -1,26 +1,32 @@
 -- How a player comes back from death.
-use Rattle.std.specs.Prelude.{ℕ, ◌==◌, nat_le, if◌then◌else◌, suc, zero}
+use Rattle.std.specs.Prelude.{ℕ, nat_le, if◌then◌else◌, suc, zero, List, [], ◌∷◌}
 use Rattle.turn_text.specs.data_numbers.Numbers.{LAST_OBJECT}
 use Rattle.turn_text.specs.cave_data.CaveView.{CaveView}
-use Rattle.turn_text.specs.data_rows.declared.role.Role.{Role}
 use Rattle.turn_text.specs.data_rows.declared.role.Role.TheVariants as role
 use Rattle.turn_moves.specs.Arrival.{description_anew}
-use Rattle.turn_moves.specs.turn_ends.Endings.{with_one_death, after_end}
+use Rattle.turn_moves.specs.turn_ends.Endings.{count_death, end_as}
+use Rattle.turn_moves.specs.turn_ends.Questions.{deaths}
+use Rattle.cave_verbs.specs.verb_commands.turn_rules.Rows.{Test, Effect, Row, plain_row, by_table}
+use Rattle.cave_verbs.specs.verb_commands.turn_rules.Effects.{in_scene, in_state, say}
 use Rattle.turn_begin.specs.turn_things.Effects.{with_objects}
 use Rattle.turn_begin.specs.turn_things.Places.{building_place, start_place}
-use Rattle.turn_begin.specs.turn_scene.Scene.{Scene, after_saying, with_state, is_called, thing}
+use Rattle.turn_begin.specs.turn_scene.Scene.{is_called, thing}
 use Rattle.turn_begin.specs.turn_things.Reach.{is_in_hand}
 use Rattle.turn_begin.specs.turn_things.Props.{LAMP_OFF}
 use Rattle.turn_text.specs.cave_words.declared.named.Named.TheVariants as name
 use Rattle.turn_text.specs.world_objects.Objects.{Layout, is_carried, after_move_to, with_prop}
 use Rattle.turn_text.specs.cave_world.declared.ending.Ending.TheVariants.{Killed}
+use Rattle.turn_text.specs.cave_world.declared.ending.Question.{Question}
 use Rattle.turn_text.specs.cave_world.declared.state.State.{State}
 use Rattle.turn_text.specs.cave_world.State.{LIVES, with_player_from}
 
 -- what is said of a first, a second, a third revival
-abbrev pub revival_role : ℕ → Role
-revival_role deaths =
-    if deaths == 0 then role.Reborn1 else (if deaths == 1 then role.Reborn2 else role.Reborn3)
+unfoldable pub reborn_rows : List (Row Question (Unit {0}))
+reborn_rows =
+    plain_row (deaths 0 ∷ []) (say role.Reborn1 ∷ [])
+    ∷ plain_row (deaths 1 ∷ []) (say role.Reborn2 ∷ [])
+    ∷ plain_row [] (say role.Reborn3 ∷ [])
+    ∷ []
 
 -- a lamp that the player carries is put out
 unfoldable pub layout_with_lamp_out : CaveView → State → Layout
@@ -49,21 +55,32 @@ unfoldable pub without_belongings : CaveView → State → State
 without_belongings cave s =
     with_objects (layout_after_falls cave s.trail.older LAST_OBJECT (layout_with_lamp_out cave s)) s
 
--- the player is back, without what was carried
-unfoldable pub after_revive : CaveView → Scene → Scene
-after_revive cave p =
-    description_anew cave
-    (with_state (with_player_from (building_place cave) (without_belongings cave p.state)) p)
+abbrev pub leave_belongings : Effect Question
+leave_belongings d = in_state (without_belongings d.cave d.scene.state) d
 
--- a player who wants to come back does so twice; the third death is the last
-unfoldable pub after_come_back : CaveView → Scene → Scene
-after_come_back cave p =
-    let q = after_saying (revival_role p.state.tallies.deaths) p in
-    let r = with_state (with_one_death q.state) q in
-    if nat_le LIVES r.state.tallies.deaths then after_end cave Killed r else after_revive cave r
+abbrev pub put_in_building : Effect Question
+put_in_building d = in_state (with_player_from (building_place d.cave) d.scene.state) d
 
--- a player who doesn't is dead
-unfoldable pub after_bury : CaveView → Scene → Scene
-after_bury cave p =
-    let q = after_saying role.Ok p in
-    after_end cave Killed (with_state (with_one_death q.state) q)
+abbrev pub describe : Effect Question
+describe d = in_scene (description_anew d.cave d.scene) d
+
+unfoldable pub revive : List (Effect Question)
+revive = leave_belongings ∷ put_in_building ∷ describe ∷ []
+
+abbrev pub dead_for_good : Test Question
+dead_for_good d = nat_le LIVES d.scene.state.tallies.deaths
+
+-- the third death is the last
+unfoldable pub revival_rows : List (Row Question (Unit {0}))
+revival_rows =
+    plain_row (dead_for_good ∷ []) (end_as Killed ∷ [])
+    ∷ plain_row [] revive
+    ∷ []
+
+-- the player wants to come back
+unfoldable pub come_back : List (Effect Question)
+come_back = by_table reborn_rows ∷ count_death ∷ by_table revival_rows ∷ []
+
+-- the player doesn't, and is dead
+unfoldable pub bury : List (Effect Question)
+bury = say role.Ok ∷ count_death ∷ end_as Killed ∷ []

@@ -1,14 +1,18 @@
-ghost use Rattle.std.specs.Prelude.{◌≡◌, ◌+◌, ◌<◌, ◌≤◌, []};
+ghost use Rattle.std.specs.Prelude.{◌≡◌, ◌+◌, ◌<◌, ◌≤◌, [], pos};
 ghost use Rattle.arrayvec.specs.ArrayVec.{array_vec_len};
 ghost use Rattle.turn_begin.specs.turn_scene.Bounds.{GoesOnSaying, HasRoom, MovesOnSaying};
 ghost use Rattle.turn_begin.specs.turn_scene.Bounds.{parts_of_arrival, parts_of_end};
 ghost use Rattle.turn_begin.specs.turn_scene.Bounds.{parts_of_finish, parts_of_question};
 ghost use Rattle.turn_begin.specs.turn_scene.Bounds.{parts_of_answer};
 ghost use Rattle.turn_begin.specs.turn_scene.Scene.{scene_of, cave_of};
-ghost use Rattle.cave_turn.specs.Answers.{answer_of, answer_in, after_instructions, after_enter};
-ghost use Rattle.cave_turn.specs.Answers.{after_quit, after_yes, after_no, reply_scene, is_of_hint};
+ghost use Rattle.turn_text.specs.cave_world.State as defined_state;
+ghost use Rattle.turn_moves.specs.turn_ends.Questions.{is_dragon};
+ghost use Rattle.cave_verbs.specs.verb_commands.turn_rules.Rows.{Does};
+ghost use Rattle.turn_clocks.specs.Lamp.{with_charge};
+ghost use Rattle.cave_turn.specs.Answers.{answer_of, answer_in, after_enter, quit};
+ghost use Rattle.cave_turn.specs.Answers.{after_yes, after_no, reply_scene, is_of_hint};
 ghost use Rattle.cave_turn.specs.Answers.{end_of_answer, after_answer, answers, without_question};
-ghost use Rattle.cave_turn.specs.Answers.{is_dragon, is_yes};
+ghost use Rattle.cave_turn.specs.Answers.{is_yes};
 
 use crate::dragon::fight;
 use crate::finish::end_turn;
@@ -76,9 +80,10 @@ pub fn answer_in(rules: &Rules<'_>, line: &[u8]) -> Answer
     }
 }
 
-/// The instructions were given.
+/// The instructions count as a hint, which costs points, and the lamp burns 1,000 turns.
 fn instruct(state: &mut State)
-    ensures { state.new ≡ after_instructions state.old }
+    ensures { state.new ≡ with_charge (pos 1000)
+        (defined_state.with_hint_taken defined_state.INSTRUCTIONS_HINT state.old) }
 {
     state.take_hint(HintNumber::new(INSTRUCTIONS_HINT));
     state.lamp.charge = Charge::new(INSTRUCTED_CHARGE);
@@ -101,15 +106,16 @@ fn enter(rules: &Rules<'_>, scene: &mut Scene<'_>)
     arrive(rules, start_place(rules.cave), scene);
 }
 
-fn quit(rules: &Rules<'_>, scene: &mut Scene<'_>)
+#[tactic(auto, unfolding(crate::specs::Answers::quit))]
+fn quit(rules: &Rules<'_>, question: &Question, scene: &mut Scene<'_>)
     requires { HasRoom (1 + parts_of_end) scene.old }
-    ensures scene { scene_of scene.new ≡ after_quit (cave_of rules.now) (scene_of scene.old) }
-    ensures says { GoesOnSaying (1 + parts_of_end) scene.old scene.new }
+    ensures rows { Does quit (1 + parts_of_end) rules.now question.now scene.old scene.new }
 {
     scene.say(Role::Ok);
     end(rules, Ending::Quit, scene);
 }
 
+#[tactic(auto, unfolding(crate::specs::Answers::yes_rows, crate::specs::Answers::give_instructions))]
 fn say_yes(rules: &Rules<'_>, question: &Question, scene: &mut Scene<'_>)
     requires { HasRoom (parts_of_arrival scene.old.left + 1) scene.old }
     ensures scene { scene_of scene.new
@@ -122,7 +128,7 @@ fn say_yes(rules: &Rules<'_>, question: &Question, scene: &mut Scene<'_>)
             instruct(scene.state);
             enter(rules, scene)
         }
-        Question::Quit | Question::ScoreQuit => quit(rules, scene),
+        Question::Quit | Question::ScoreQuit => quit(rules, question, scene),
         Question::Die => come_back(rules, scene),
         Question::Hint(number) => price(rules, *number, scene),
         Question::Take(number) => give_hint(rules, *number, scene),
@@ -134,6 +140,7 @@ fn say_yes(rules: &Rules<'_>, question: &Question, scene: &mut Scene<'_>)
     }
 }
 
+#[tactic(auto, unfolding(crate::specs::Answers::no_rows))]
 fn say_no(rules: &Rules<'_>, question: &Question, scene: &mut Scene<'_>)
     requires { HasRoom (parts_of_arrival scene.old.left + 1) scene.old }
     ensures scene { scene_of scene.new

@@ -1,26 +1,32 @@
 //! How a player comes back from death.
 
-ghost use Rattle.std.specs.Prelude.{◌≡◌, ◌+◌};
+ghost use Rattle.std.specs.Prelude.{◌≡◌, ◌+◌, [], ◌∷◌};
 ghost use Rattle.turn_text.specs.data_numbers.Numbers.{LAST_OBJECT};
-ghost use Rattle.turn_begin.specs.turn_scene.Bounds.{GoesOnSaying, HasRoom, MovesOnSaying};
+ghost use Rattle.turn_begin.specs.turn_scene.Bounds.{HasRoom, MovesOnSaying};
 ghost use Rattle.turn_begin.specs.turn_scene.Bounds.{parts_of_arrival, parts_of_end};
 ghost use Rattle.turn_begin.specs.turn_scene.Scene.{scene_of, cave_of};
-ghost use Rattle.cave_turn.specs.Revival.{revival_role, layout_with_lamp_out, fallen_place};
+ghost use Rattle.turn_text.specs.cave_world.declared.ending.Question.TheVariants as question_is;
+ghost use Rattle.cave_verbs.specs.verb_commands.turn_rules.Rows.{Does, after_all, by_table, deed};
+ghost use Rattle.cave_turn.specs.Revival.{reborn_rows, layout_with_lamp_out, fallen_place};
 ghost use Rattle.cave_turn.specs.Revival.{layout_after_fall, layout_after_falls};
-ghost use Rattle.cave_turn.specs.Revival.{without_belongings, after_revive, after_come_back};
-ghost use Rattle.cave_turn.specs.Revival.{after_bury};
+ghost use Rattle.cave_turn.specs.Revival.{without_belongings, revive, revival_rows, come_back};
+ghost use Rattle.cave_turn.specs.Revival.{bury};
 
 use turn_begin::{LAMP_OFF, Rules, Scene, building_place, is_in_hand, start_place};
 use turn_moves::{count_death, describe_here, end};
 use turn_text::{Ending, LIVES, Named, OBJECTS, Object, Objects, Place, Prop, Role, State};
 
-fn revival_role(deaths: u16) -> Role
-    ensures { result ≡ revival_role deaths }
+/// What is said of a first, a second, a third revival.
+#[tactic(auto, unfolding(crate::specs::Revival::reborn_rows))]
+fn tell_reborn(rules: &Rules<'_>, scene: &mut Scene<'_>)
+    requires { HasRoom 1 scene.old }
+    ensures rows { Does (by_table reborn_rows ∷ []) 1 rules.now question_is.Die scene.old
+        scene.new }
 {
-    match deaths {
-        0 => Role::Reborn1,
-        1 => Role::Reborn2,
-        _ => Role::Reborn3,
+    match scene.state.tallies.deaths.number() {
+        0 => scene.say(Role::Reborn1),
+        1 => scene.say(Role::Reborn2),
+        _ => scene.say(Role::Reborn3),
     }
 }
 
@@ -77,10 +83,11 @@ fn leave_belongings(rules: &Rules<'_>, state: &mut State)
 }
 
 /// The player is back, without what was carried.
-#[tactic(auto, unfolding(crate::specs::Revival::after_revive))]
+#[tactic(auto, unfolding(crate::specs::Revival::revive))]
 fn revive(rules: &Rules<'_>, scene: &mut Scene<'_>)
     requires { HasRoom (parts_of_arrival scene.old.left) scene.old }
-    ensures scene { scene_of scene.new ≡ after_revive (cave_of rules.now) (scene_of scene.old) }
+    ensures scene { scene_of scene.new
+        ≡ (after_all revive (deed (cave_of rules.now) question_is.Die (scene_of scene.old))).scene }
     ensures says { MovesOnSaying (parts_of_arrival scene.old.left) scene.old scene.new }
 {
     leave_belongings(rules, scene.state);
@@ -88,16 +95,14 @@ fn revive(rules: &Rules<'_>, scene: &mut Scene<'_>)
     describe_here(rules, scene);
 }
 
-/// A player who wants to come back does so twice; the third death is the last.
-#[tactic(auto, unfolding(crate::specs::Revival::after_come_back))]
-pub fn come_back(rules: &Rules<'_>, scene: &mut Scene<'_>)
-    requires { HasRoom (parts_of_arrival scene.old.left + 1) scene.old }
-    ensures scene { scene_of scene.new ≡ after_come_back (cave_of rules.now) (scene_of scene.old) }
-    ensures says { MovesOnSaying (parts_of_arrival scene.old.left + 1) scene.old scene.new }
+/// The third death is the last, and after another the player is back.
+#[tactic(auto, unfolding(crate::specs::Revival::revival_rows))]
+fn decide_revival(rules: &Rules<'_>, scene: &mut Scene<'_>)
+    requires { HasRoom (parts_of_arrival scene.old.left) scene.old }
+    ensures scene { scene_of scene.new ≡ (by_table revival_rows
+        (deed (cave_of rules.now) question_is.Die (scene_of scene.old))).scene }
+    ensures says { MovesOnSaying (parts_of_arrival scene.old.left) scene.old scene.new }
 {
-    let deaths = scene.state.tallies.deaths.number();
-    scene.say(revival_role(deaths));
-    count_death(scene.state);
     if LIVES <= scene.state.tallies.deaths.number() {
         end(rules, Ending::Killed, scene);
         return;
@@ -105,12 +110,24 @@ pub fn come_back(rules: &Rules<'_>, scene: &mut Scene<'_>)
     revive(rules, scene);
 }
 
+/// The player wants to come back.
+#[tactic(auto, unfolding(crate::specs::Revival::come_back))]
+pub fn come_back(rules: &Rules<'_>, scene: &mut Scene<'_>)
+    requires { HasRoom (parts_of_arrival scene.old.left + 1) scene.old }
+    ensures scene { scene_of scene.new ≡ (after_all come_back
+        (deed (cave_of rules.now) question_is.Die (scene_of scene.old))).scene }
+    ensures says { MovesOnSaying (parts_of_arrival scene.old.left + 1) scene.old scene.new }
+{
+    tell_reborn(rules, scene);
+    count_death(scene.state);
+    decide_revival(rules, scene);
+}
+
 /// A player who doesn't want to come back is dead.
-#[tactic(auto, unfolding(crate::specs::Revival::after_bury))]
+#[tactic(auto, unfolding(crate::specs::Revival::bury))]
 pub fn bury(rules: &Rules<'_>, scene: &mut Scene<'_>)
     requires { HasRoom (1 + parts_of_end) scene.old }
-    ensures scene { scene_of scene.new ≡ after_bury (cave_of rules.now) (scene_of scene.old) }
-    ensures says { GoesOnSaying (1 + parts_of_end) scene.old scene.new }
+    ensures rows { Does bury (1 + parts_of_end) rules.now question_is.Die scene.old scene.new }
 {
     scene.say(Role::Ok);
     count_death(scene.state);

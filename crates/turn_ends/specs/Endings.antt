@@ -1,40 +1,72 @@
--- How a game ends.
-use Rattle.std.specs.Prelude.{ℕ, ◌+◌, ◌-◌, if◌then◌else◌, Option, Some, None, min}
+-- How a game ends, and what a death does.
+use Rattle.std.specs.Prelude.{ℕ, ◌+◌, ◌-◌, Bool, false, List, [], ◌∷◌, Option, Some, None, min}
+use Rattle.std.specs.Prelude.{is_some}
 use Rattle.turn_score.specs.cave_data.CaveView.{CaveView, Rated, class_of}
 use Rattle.turn_score.specs.data_rows.declared.role.Role.TheVariants as role
 use Rattle.turn_score.specs.cave_world.declared.ending.Ending.{Ending}
+use Rattle.turn_score.specs.cave_world.declared.ending.Ending.TheVariants as ending
+use Rattle.turn_score.specs.cave_world.declared.ending.Question.TheVariants as question
 use Rattle.turn_score.specs.cave_world.declared.part.NumberLine.TheVariants as line
 use Rattle.turn_score.specs.cave_world.declared.part.Part.TheVariants as part
 use Rattle.turn_score.specs.cave_world.declared.state.State.{State}
-use Rattle.turn_score.specs.turn_scene.Scene.{Scene, after_telling, after_saying, with_state}
+use Rattle.turn_score.specs.turn_scene.Scene.{Scene, with_state}
 use Rattle.turn_score.specs.Score.{score_of, max_score_of}
-use Rattle.turn_score.specs.cave_world.declared.ending.Ending.TheVariants as ending
-use Rattle.turn_score.specs.cave_world.declared.ending.Question.TheVariants as question
-use Rattle.turn_ends.specs.Questions.{after_ask}
+use Rattle.turn_rules.specs.Rows.{Deed, Test, Effect, Row, deed, plain_row, by_table, after_all}
+use Rattle.turn_rules.specs.Tests.{cave_closing}
+use Rattle.turn_rules.specs.Effects.{in_scene, in_state, say, tell}
+use Rattle.turn_ends.specs.Questions.{ask}
+
+abbrev pub score_now : Deed (Unit {0}) → ℕ
+score_now d = score_of d.cave d.scene.state
+
+-- the first class whose bound isn't below the score
+abbrev pub class_now : Deed (Unit {0}) → Option Rated
+class_now d = class_of d.cave (score_now d)
+
+abbrev pub is_class_followed : Option Rated → Bool
+is_class_followed None = false
+is_class_followed (Some rated) = rated.is_followed
+
+-- the points that are missing to pass the bound of a class
+abbrev pub points_wanted : ℕ → Option Rated → ℕ
+points_wanted score None = 0
+points_wanted score (Some rated) = rated.bound + 1 - score
+
+abbrev pub has_class : Test (Unit {0})
+has_class d = is_some (class_now d)
+
+-- another class comes after that of the score
+abbrev pub has_next_class : Test (Unit {0})
+has_next_class d = is_class_followed (class_now d)
+
+-- the line of the score, of the greatest one, and of the turns
+abbrev pub tell_turns : Effect (Unit {0})
+tell_turns d = tell (part.Turns (score_now d) (max_score_of d.cave)) d
+
+abbrev pub tell_class : Effect (Unit {0})
+tell_class d = tell (part.Class (score_now d)) d
+
+abbrev pub tell_points_wanted : Effect (Unit {0})
+tell_points_wanted d =
+    tell (part.Number line.PointsWanted (points_wanted (score_now d) (class_now d)) 0) d
+
+unfoldable pub class_rows : List (Row (Unit {0}) (Unit {0}))
+class_rows =
+    plain_row (has_next_class ∷ []) (tell_class ∷ tell_points_wanted ∷ [])
+    ∷ plain_row (has_class ∷ []) (tell_class ∷ say role.TopClass ∷ [])
+    ∷ plain_row [] (say role.OffScale ∷ [])
+    ∷ []
+
+unfoldable pub tell_score : List (Effect (Unit {0}))
+tell_score = tell_turns ∷ by_table class_rows ∷ []
 
 abbrev pub with_ending : Ending → State → State
 with_ending how s = record s { ending = Some how }
 
--- the line of the next class: the points that are missing for it, or that there is none
-abbrev pub after_next_class : ℕ → Rated → Scene → Scene
-after_next_class score rated p =
-    if rated.is_followed
-    then after_telling (part.Number line.PointsWanted (rated.bound + 1 - score) 0) p
-    else after_saying role.TopClass p
-
-abbrev pub after_class : ℕ → Option Rated → Scene → Scene
-after_class score None p = after_saying role.OffScale p
-after_class score (Some rated) p = after_next_class score rated (after_telling (part.Class score) p)
-
-unfoldable pub after_score : CaveView → Scene → Scene
-after_score cave p =
-    let score = score_of cave p.state in
-    after_class score (class_of cave score)
-    (after_telling (part.Turns score (max_score_of cave)) p)
-
--- the game ends, and then the score is printed
+-- the game ends, and then the score is told
 unfoldable pub after_end : CaveView → Ending → Scene → Scene
-after_end cave how p = after_score cave (with_state (with_ending how p.state) p)
+after_end cave how p =
+    (after_all tell_score (deed cave tt (with_state (with_ending how p.state) p))).scene
 
 -- one death more, up to 3
 abbrev pub with_one_death : State → State
@@ -42,14 +74,21 @@ with_one_death s =
     let tallies = s.tallies in
     record s { tallies = record tallies { deaths = min (tallies.deaths + 1) 3 } }
 
--- a player who dies in a closing cave is dead for good
-unfoldable pub after_die_closing : CaveView → Scene → Scene
-after_die_closing cave p =
-    let told = after_saying role.KilledClosing p in
-    after_end cave ending.Killed (with_state (with_one_death told.state) told)
+module _ {C : Type 0} where
+  abbrev pub end_as : Ending → Effect C
+  end_as how d = in_scene (after_end d.cave how d.scene) d
 
--- a player who dies elsewhere is asked whether to come back
+  abbrev pub count_death : Effect C
+  count_death d = in_state (with_one_death d.scene.state) d
+
+-- a death in a closing cave is the last; after another the player is asked whether to come back
+unfoldable pub death_rows : List (Row (Unit {0}) (Unit {0}))
+death_rows =
+    plain_row (cave_closing ∷ [])
+    (say role.KilledClosing ∷ count_death ∷ end_as ending.Killed ∷ [])
+    ∷ plain_row [] (ask question.Die ∷ [])
+    ∷ []
+
+-- the player dies
 unfoldable pub after_die : CaveView → Scene → Scene
-after_die cave p =
-    if p.state.closing.is_closing then after_die_closing cave p else after_ask cave
-    question.Die p
+after_die cave p = (by_table death_rows (deed cave tt p)).scene

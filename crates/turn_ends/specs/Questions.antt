@@ -1,8 +1,7 @@
 -- What questions ask.
-use Rattle.std.specs.Prelude.{ℕ, ◌==◌, if◌then◌else◌, Option, Some, None}
+use Rattle.std.specs.Prelude.{ℕ, Bool, true, false, ◌==◌, List, [], ◌∷◌, Option, Some, None}
 use Rattle.std.specs.FinMap as map
 use Rattle.turn_score.specs.cave_data.CaveView.{CaveView}
-use Rattle.turn_score.specs.data_rows.declared.role.Role.{Role}
 use Rattle.turn_score.specs.data_rows.declared.role.Role.TheVariants as role
 use Rattle.turn_score.specs.data_rows.declared.rows.Hint.{Hint}
 use Rattle.turn_score.specs.cave_world.declared.ending.Question.{Question}
@@ -10,43 +9,118 @@ use Rattle.turn_score.specs.cave_world.declared.ending.Question.TheVariants as q
 use Rattle.turn_score.specs.cave_world.declared.part.NumberLine.TheVariants as line
 use Rattle.turn_score.specs.cave_world.declared.part.Part.TheVariants as part
 use Rattle.turn_score.specs.cave_world.declared.state.State.{State}
-use Rattle.turn_score.specs.turn_scene.Scene.{Scene, after_telling, after_saying, with_state}
+use Rattle.turn_score.specs.turn_scene.Scene.{Scene, after_telling}
 use Rattle.turn_score.specs.Score.{score_of, max_score_of}
+use Rattle.turn_rules.specs.Rows.{Test, Effect, Row, deed, plain_row, by_table, after_all}
+use Rattle.turn_rules.specs.Effects.{in_scene, in_state, say}
 
--- the message that asks a player who has died so often whether to come back
-abbrev pub die_role : ℕ → Role
-die_role deaths = if deaths == 0 then role.Die1 else (if deaths == 1 then role.Die2 else role.Die3)
+abbrev pub is_welcome : Question → Bool
+is_welcome question.Welcome = true
+is_welcome _ = false
+
+abbrev pub is_quit : Question → Bool
+is_quit question.Quit = true
+is_quit _ = false
+
+abbrev pub is_score_quit : Question → Bool
+is_score_quit question.ScoreQuit = true
+is_score_quit _ = false
+
+abbrev pub is_die : Question → Bool
+is_die question.Die = true
+is_die _ = false
+
+abbrev pub is_hint : Question → Bool
+is_hint (question.Hint h) = true
+is_hint _ = false
+
+abbrev pub is_take : Question → Bool
+is_take (question.Take h) = true
+is_take _ = false
+
+abbrev pub is_oyster : Question → Bool
+is_oyster question.Oyster = true
+is_oyster _ = false
+
+abbrev pub is_dragon : Question → Bool
+is_dragon question.Dragon = true
+is_dragon _ = false
+
+-- the question is of a kind
+abbrev pub asks : (Question → Bool) → Test Question
+asks kind d = kind d.about
+
+-- the number of the hint that a question is about, 0 for none
+abbrev pub hint_number : Question → ℕ
+hint_number (question.Hint h) = h
+hint_number (question.Take h) = h
+hint_number _ = 0
+
+-- so many deaths are counted
+abbrev pub deaths : ℕ → Test Question
+deaths n d = d.scene.state.tallies.deaths == n
+
+-- how a player who dies is asked whether to come back
+unfoldable pub die_rows : List (Row Question (Unit {0}))
+die_rows =
+    plain_row (deaths 0 ∷ []) (say role.Die1 ∷ [])
+    ∷ plain_row (deaths 1 ∷ []) (say role.Die2 ∷ [])
+    ∷ plain_row [] (say role.Die3 ∷ [])
+    ∷ []
 
 abbrev pub after_offer : Option Hint → Scene → Scene
 after_offer None p = p
 after_offer (Some hint) p = after_telling (part.Message hint.question) p
 
--- the message of a question
+-- the question of the row of a hint, if the cave has it
+abbrev pub tell_offer : Effect Question
+tell_offer d = in_scene (after_offer (map.get d.cave.hints (hint_number d.about)) d.scene) d
+
+-- the messages of questions
+unfoldable pub question_rows : List (Row Question (Unit {0}))
+question_rows =
+    plain_row (asks is_welcome ∷ []) (say role.Welcome ∷ [])
+    ∷ plain_row (asks is_quit ∷ []) (say role.Quit ∷ [])
+    ∷ plain_row (asks is_score_quit ∷ []) (say role.ScoreQuit ∷ [])
+    ∷ plain_row (asks is_die ∷ []) (by_table die_rows ∷ [])
+    ∷ plain_row (asks is_hint ∷ []) (tell_offer ∷ [])
+    ∷ plain_row (asks is_take ∷ []) (say role.HintTake ∷ [])
+    ∷ plain_row (asks is_oyster ∷ []) (say role.OysterAsk ∷ [])
+    ∷ plain_row (asks is_dragon ∷ []) (say role.WithWhat ∷ [])
+    ∷ []
+
+-- the message of a question is said
 unfoldable pub after_question : CaveView → Question → Scene → Scene
-after_question cave question.Welcome p = after_saying role.Welcome p
-after_question cave question.Quit p = after_saying role.Quit p
-after_question cave question.ScoreQuit p = after_saying role.ScoreQuit p
-after_question cave question.Die p = after_saying (die_role p.state.tallies.deaths) p
-after_question cave (question.Hint hint) p = after_offer (map.get cave.hints hint) p
-after_question cave (question.Take hint) p = after_saying role.HintTake p
-after_question cave question.Oyster p = after_saying role.OysterAsk p
-after_question cave question.Dragon p = after_saying role.WithWhat p
+after_question cave asked p = (by_table question_rows (deed cave asked p)).scene
 
--- the score up to now is printed, with the greatest that there is
-abbrev pub after_score_now : CaveView → Scene → Scene
-after_score_now cave p =
-    after_telling (part.Number line.ScoreNow (score_of cave p.state) (max_score_of cave)) p
+-- the score up to now, and the greatest that there is
+abbrev pub tell_score_now : Effect Question
+tell_score_now d =
+    in_scene
+    (after_telling (part.Number line.ScoreNow (score_of d.cave d.scene.state) (max_score_of d.cave))
+    d.scene) d
 
--- what is printed before a question's message: the score where the question is about it
-abbrev pub after_preface : CaveView → Question → Scene → Scene
-after_preface cave question.ScoreQuit p = after_score_now cave p
-after_preface cave _ p = p
+abbrev pub tell_question : Effect Question
+tell_question d = in_scene (after_question d.cave d.about d.scene) d
 
 abbrev pub with_question : Question → State → State
 with_question asked s = record s { question = Some asked }
 
--- a question is asked, and the next line answers it
+-- the next line answers the question
+abbrev pub open_question : Effect Question
+open_question d = in_state (with_question d.about d.scene.state) d
+
+-- the score comes before the question that is about it
+unfoldable pub preface_rows : List (Row Question (Unit {0}))
+preface_rows = plain_row (asks is_score_quit ∷ []) (tell_score_now ∷ []) ∷ []
+
+unfoldable pub ask_question : List (Effect Question)
+ask_question = by_table preface_rows ∷ tell_question ∷ open_question ∷ []
+
+-- a question is asked
 unfoldable pub after_ask : CaveView → Question → Scene → Scene
-after_ask cave asked p =
-    let told = after_question cave asked (after_preface cave asked p) in
-    with_state (with_question asked told.state) told
+after_ask cave asked p = (after_all ask_question (deed cave asked p)).scene
+
+module _ {C : Type 0} where
+  abbrev pub ask : Question → Effect C
+  ask asked d = in_scene (after_ask d.cave asked d.scene) d

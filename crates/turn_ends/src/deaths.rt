@@ -2,7 +2,7 @@ ghost use Rattle.std.specs.Prelude.{◌≡◌, IsTrue};
 ghost use Rattle.turn_score.specs.cave_world.State.{takes_no_command};
 ghost use Rattle.turn_score.specs.turn_scene.Bounds.{GoesOnSaying, HasRoom, parts_of_death};
 ghost use Rattle.turn_score.specs.turn_scene.Scene.{scene_of, cave_of};
-ghost use Rattle.turn_ends.specs.Endings.{with_one_death, after_die_closing, after_die};
+ghost use Rattle.turn_ends.specs.Endings.{with_one_death, after_die};
 
 use crate::endings::end;
 use crate::questions::ask;
@@ -15,22 +15,8 @@ pub fn count_death(state: &mut State)
     state.tallies.deaths = state.tallies.deaths.up();
 }
 
-/// The player dies in a closing cave, where nobody is brought back to life.
-#[tactic(auto, unfolding(crate::specs::Endings::after_die_closing))]
-fn die_closing(rules: &Rules<'_>, scene: &mut Scene<'_>)
-    requires { HasRoom parts_of_death scene.old }
-    ensures scene { scene_of scene.new
-        ≡ after_die_closing (cave_of rules.now) (scene_of scene.old) }
-    ensures says { GoesOnSaying parts_of_death scene.old scene.new }
-    ensures over { IsTrue (takes_no_command scene.new.state.now) }
-{
-    scene.say(Role::KilledClosing);
-    count_death(scene.state);
-    end(rules, Ending::Killed, scene);
-}
-
 /// The player dies, and is asked whether to come back unless the cave is closing.
-#[tactic(auto, unfolding(crate::specs::Endings::after_die))]
+#[tactic(auto, unfolding(crate::specs::Endings::after_die, crate::specs::Endings::death_rows))]
 pub fn die(rules: &Rules<'_>, scene: &mut Scene<'_>)
     requires { HasRoom parts_of_death scene.old }
     ensures scene { scene_of scene.new ≡ after_die (cave_of rules.now) (scene_of scene.old) }
@@ -38,8 +24,10 @@ pub fn die(rules: &Rules<'_>, scene: &mut Scene<'_>)
     ensures over { IsTrue (takes_no_command scene.new.state.now) }
 {
     if scene.state.closing.is_closing {
-        die_closing(rules, scene);
-    } else {
-        ask(rules, &Question::Die, scene);
+        scene.say(Role::KilledClosing);
+        count_death(scene.state);
+        end(rules, Ending::Killed, scene);
+        return;
     }
+    ask(rules, &Question::Die, scene);
 }

@@ -1,9 +1,12 @@
-ghost use Rattle.std.specs.Prelude.{◌≡◌, ◌≤◌, IsTrue};
+ghost use Rattle.std.specs.Prelude.{◌≡◌, ◌≤◌, [], ◌∷◌, IsTrue, Some};
 ghost use Rattle.turn_score.specs.cave_data.Printing.{rating};
 ghost use Rattle.turn_score.specs.cave_world.State.{takes_no_command};
 ghost use Rattle.turn_score.specs.turn_scene.Bounds.{GoesOnSaying, HasRoom, parts_of_end};
 ghost use Rattle.turn_score.specs.turn_scene.Scene.{scene_of, cave_of};
-ghost use Rattle.turn_ends.specs.Endings.{with_ending, after_next_class, after_score, after_end};
+ghost use Rattle.turn_score.specs.Score.{score_of};
+ghost use Rattle.turn_rules.specs.Rows.{Does, by_table};
+ghost use Rattle.turn_ends.specs.Endings.{points_wanted, class_rows, tell_score, with_ending};
+ghost use Rattle.turn_ends.specs.Endings.{after_end};
 
 use turn_score::scores::{max_score, score};
 use turn_score::{Ending, NumberLine, Part, Rating, Role, Rules, Scene, State};
@@ -20,40 +23,46 @@ pub fn end(rules: &Rules<'_>, ending: Ending, scene: &mut Scene<'_>)
     tell_score(rules, scene);
 }
 
-/// Prints how many points are missing for the next class, or that there is none.
-fn tell_next_class(score: u32, class: &Rating<'_>, scene: &mut Scene<'_>)
-    requires room { HasRoom 1 scene.old }
-    requires reached { score ≤ class.now.bound }
-    ensures scene { scene_of scene.new
-        ≡ after_next_class score (rating class.now) (scene_of scene.old) }
-    ensures says { GoesOnSaying 1 scene.old scene.new }
-    ensures state { scene.new.state.now ≡ scene.old.state.now }
-{
-    if class.is_followed {
-        let wanted = u32::from(class.bound) + 1 - score;
-        scene.tell(Part::Number(NumberLine::PointsWanted, wanted, 0));
-    } else {
-        scene.say(Role::TopClass);
-    }
-}
-
-/// Prints the score and its class.
-#[tactic(auto, using(crate::proofs::Reach::classes), unfolding(crate::specs::Endings::after_score))]
+/// Prints the score.
+#[tactic(auto, unfolding(crate::specs::Endings::tell_score))]
 fn tell_score(rules: &Rules<'_>, scene: &mut Scene<'_>)
     requires { HasRoom parts_of_end scene.old }
-    ensures scene { scene_of scene.new ≡ after_score (cave_of rules.now) (scene_of scene.old) }
-    ensures says { GoesOnSaying parts_of_end scene.old scene.new }
+    ensures scene { Does tell_score parts_of_end rules.now tt scene.old scene.new }
     ensures state { scene.new.state.now ≡ scene.old.state.now }
 {
     let score = score(rules, scene.state);
     scene.tell(Part::Turns(score, max_score(rules)));
+    tell_class(rules, score, scene);
+}
+
+/// Prints the class of a score, and how many points are missing for the next one.
+#[tactic(auto, using(crate::proofs::Reach::classes), unfolding(crate::specs::Endings::class_rows))]
+fn tell_class(rules: &Rules<'_>, score: u32, scene: &mut Scene<'_>)
+    requires room { HasRoom 2 scene.old }
+    requires score { score ≡ score_of (cave_of rules.now) scene.old.state.now }
+    ensures rows { Does (by_table class_rows ∷ []) 2 rules.now tt scene.old scene.new }
+    ensures state { scene.new.state.now ≡ scene.old.state.now }
+{
     match rules.cave.class_of(score) {
         Some(class) => {
             scene.tell(Part::Class(score));
-            tell_next_class(score, &class, scene);
+            if class.is_followed {
+                let wanted = points_wanted(score, &class);
+                scene.tell(Part::Number(NumberLine::PointsWanted, wanted, 0));
+                return;
+            }
+            scene.say(Role::TopClass);
         }
         None => scene.say(Role::OffScale),
     }
+}
+
+/// How many points are missing to pass the bound of a class.
+fn points_wanted(score: u32, class: &Rating<'_>) -> u32
+    requires { score ≤ class.now.bound }
+    ensures { result ≡ points_wanted score (Some (rating class.now)) }
+{
+    u32::from(class.bound) + 1 - score
 }
 
 #[tactic(auto, using(crate::proofs::Over::over))]

@@ -1,16 +1,18 @@
-ghost use Rattle.std.specs.Prelude.{◌≡◌, IsTrue};
+ghost use Rattle.std.specs.Prelude.{◌≡◌, [], ◌∷◌, IsTrue};
 ghost use Rattle.std.specs.FinMap.{get};
 ghost use Rattle.turn_score.specs.cave_world.State.{takes_no_command};
+ghost use Rattle.turn_score.specs.cave_world.declared.ending.Question.TheVariants as question_is;
 ghost use Rattle.turn_score.specs.turn_scene.Bounds.{GoesOnSaying, HasRoom, parts_of_question};
 ghost use Rattle.turn_score.specs.turn_scene.Scene.{scene_of, cave_of};
-ghost use Rattle.turn_ends.specs.Questions.{die_role, after_offer, after_question, after_preface};
+ghost use Rattle.turn_rules.specs.Rows.{Does, by_table};
+ghost use Rattle.turn_ends.specs.Questions.{die_rows, after_offer, after_question, preface_rows};
 ghost use Rattle.turn_ends.specs.Questions.{with_question, after_ask};
 
 use turn_score::scores::{max_score, score};
 use turn_score::{Cave, HintNumber, NumberLine, Part, Question, Role, Rules, Scene, State};
 
 /// A question is asked, and the next line answers it.
-#[tactic(auto, unfolding(crate::specs::Questions::after_ask, turn_score::specs::takes_no_command))]
+#[tactic(auto, unfolding(crate::specs::Questions::after_ask, crate::specs::Questions::ask_question, turn_score::specs::takes_no_command))]
 pub fn ask(rules: &Rules<'_>, question: &Question, scene: &mut Scene<'_>)
     requires { HasRoom parts_of_question scene.old }
     ensures scene { scene_of scene.new
@@ -23,14 +25,16 @@ pub fn ask(rules: &Rules<'_>, question: &Question, scene: &mut Scene<'_>)
     set_question(question, scene.state);
 }
 
-/// The message that asks a player who has died whether to come back.
-fn die_role(state: &State) -> Role
-    ensures { result ≡ die_role state.now.tallies.deaths }
+/// A player who has died is asked whether to come back.
+#[tactic(auto, unfolding(crate::specs::Questions::die_rows))]
+fn tell_die(rules: &Rules<'_>, scene: &mut Scene<'_>)
+    requires { HasRoom 1 scene.old }
+    ensures rows { Does (by_table die_rows ∷ []) 1 rules.now question_is.Die scene.old scene.new }
 {
-    match state.tallies.deaths.number() {
-        0 => Role::Die1,
-        1 => Role::Die2,
-        _ => Role::Die3,
+    match scene.state.tallies.deaths.number() {
+        0 => scene.say(Role::Die1),
+        1 => scene.say(Role::Die2),
+        _ => scene.say(Role::Die3),
     }
 }
 
@@ -46,7 +50,7 @@ fn offer_hint(cave: &Cave, hint: HintNumber, scene: &mut Scene<'_>)
 }
 
 /// The message of a question is printed.
-#[tactic(auto, unfolding(crate::specs::Questions::after_question))]
+#[tactic(auto, unfolding(crate::specs::Questions::after_question, crate::specs::Questions::question_rows))]
 pub fn tell_question(rules: &Rules<'_>, question: &Question, scene: &mut Scene<'_>)
     requires { HasRoom 1 scene.old }
     ensures scene { scene_of scene.new
@@ -57,10 +61,7 @@ pub fn tell_question(rules: &Rules<'_>, question: &Question, scene: &mut Scene<'
         Question::Welcome => scene.say(Role::Welcome),
         Question::Quit => scene.say(Role::Quit),
         Question::ScoreQuit => scene.say(Role::ScoreQuit),
-        Question::Die => {
-            let role = die_role(scene.state);
-            scene.say(role);
-        }
+        Question::Die => tell_die(rules, scene),
         Question::Hint(hint) => offer_hint(rules.cave, *hint, scene),
         Question::Take(_) => scene.say(Role::HintTake),
         Question::Oyster => scene.say(Role::OysterAsk),
@@ -69,11 +70,10 @@ pub fn tell_question(rules: &Rules<'_>, question: &Question, scene: &mut Scene<'
 }
 
 /// Before the question that is about the score, the score is printed.
+#[tactic(auto, unfolding(crate::specs::Questions::preface_rows))]
 fn tell_preface(rules: &Rules<'_>, question: &Question, scene: &mut Scene<'_>)
     requires { HasRoom 1 scene.old }
-    ensures scene { scene_of scene.new
-        ≡ after_preface (cave_of rules.now) question.now (scene_of scene.old) }
-    ensures says { GoesOnSaying 1 scene.old scene.new }
+    ensures rows { Does (by_table preface_rows ∷ []) 1 rules.now question.now scene.old scene.new }
 {
     if let Question::ScoreQuit = question {
         let score = score(rules, scene.state);

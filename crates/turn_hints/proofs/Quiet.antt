@@ -1,17 +1,19 @@
 -- Where the player is in the area of no hint, and no turn counts, the hints change nothing.
-use Rattle.std.proofs.Common.{◌≡◌, ℕ, zero, suc, ◌+◌, ◌-◌, ◌<◌, ◌≤◌, ◌^◌, Bool, true, false, Option}
-use Rattle.std.proofs.Common.{Some, None, if◌then◌else◌, refl, sym, ap, ◌∙◌, arith, slice_set}
+use Rattle.std.proofs.Common.{◌≡◌, ℕ, zero, suc, ◌+◌, ◌-◌, ◌<◌, ◌≤◌, ◌^◌, Bool, true, false}
+use Rattle.std.proofs.Common.{[], ◌∷◌, if◌then◌else◌, refl, sym, ap, ◌∙◌, arith, slice_set}
 use Rattle.std.proofs.Math.Nat.{div-eq_of_lt, pow-le-pow_right}
+use Rattle.std.proofs.lemmas.Bool.{true≢false}
 use Rattle.std.proofs.lemmas.List.{set-get_or}
-use Rattle.std.specs.FinMap as map
+use Rattle.std.specs.Prelude.{◌&&◌}
 use Rattle.turn_ends.specs.cave_data.CaveView.{CaveView, cond_of}
-use Rattle.turn_hints.specs.Hints.{is_in_area, is_due, after_wait, offer_scene, with_turns_in_area}
-use Rattle.turn_hints.specs.Hints.{after_consider, after_considering_if, after_hints_up_to}
-use Rattle.turn_hints.specs.Hints.{FIRST_HINT}
-use Rattle.turn_ends.specs.data_rows.declared.rows.Hint.{Hint}
+use Rattle.turn_ends.specs.turn_rules.Rows.{Act, deed, act_of, after_all, by_table}
+use Rattle.turn_ends.specs.turn_rules.Tests.{no}
+use Rattle.turn_hints.specs.Hints.{FIRST_HINT, in_cave, was_taken, is_in_area, in_area}
+use Rattle.turn_hints.specs.Hints.{with_turns_in_area, restart, count_turn, offer_rows, turn_rows}
+use Rattle.turn_hints.specs.Hints.{after_consider, after_hints_up_to}
 use Rattle.turn_ends.specs.turn_scene.Scene.{Scene, with_state}
 use Rattle.turn_ends.specs.cave_world.Sight.{has_condition}
-use Rattle.turn_ends.specs.cave_world.State.{turns_in_area, is_hint_taken}
+use Rattle.turn_ends.specs.cave_world.State.{turns_in_area}
 use Rattle.turn_ends.specs.cave_world.declared.state.State.{State}
 
 -- no turn is counted where none was
@@ -21,42 +23,25 @@ turns_as_they_are h s none =
     ap (λ turns. record s { hints = record hints { turns = turns } })
     (ap (λ n. slice_set hints.turns (h - 1) n) (sym none) ∙ set-get_or hints.turns (h - 1) 0)
 
-turn_far : (cave : CaveView) (h : ℕ) (s : State) → is_in_area cave h s ≡ false
-    → turns_in_area s h ≡ 0 → after_wait cave h s ≡ s
-unfolding after_wait
-turn_far cave h s far none = rw far (turns_as_they_are h s none)
-
-not_due : (cave : CaveView) (h : ℕ) (hint : Hint) (s : State) → is_in_area cave h s ≡ false
-    → is_due cave h hint s ≡ false
-unfolding is_due
-not_due cave h hint s far = rw far refl
-
-no_offer : (cave : CaveView) (h : ℕ) (hint : Hint) (p : Scene)
-    → is_in_area cave h p.state ≡ false → offer_scene cave h hint p ≡ p
-unfolding offer_scene
-no_offer cave h hint p far = rw (not_due cave h hint p.state far) refl
-
-if_either : {A : Type 0} (is : Bool) (a : A) → (if is then a else a) ≡ a
-if_either true a = refl
-if_either false a = refl
-
-considered_far : (cave : CaveView) (h : ℕ) (hint : Option Hint) (p : Scene)
-    → is_in_area cave h p.state ≡ false → turns_in_area p.state h ≡ 0
-    → after_considering_if cave h hint p ≡ p
-considered_far cave h None p far none = refl
-considered_far cave h (Some hint) p far none =
-    let same : with_state (after_wait cave h p.state) p ≡ p =
-    ap (λ s. with_state s p) (turn_far cave h p.state far none) in
-    let quiet : offer_scene cave h hint (with_state (after_wait cave h p.state) p) ≡ p =
-    ap (λ q. offer_scene cave h hint q) same ∙ no_offer cave h hint p far in
-    ap (λ q. if is_hint_taken p.state h then p else q) quiet
-    ∙ if_either (is_hint_taken p.state h) p
+-- where the player is outside, nothing is done but in the second of two rows
+quiet_outside : (a b c : Bool) (x y z : Act (Unit {0})) (p : Scene) → c ≡ false → y.scene ≡ p
+    → z.scene ≡ p
+    → (if a && (b && (c && true)) then x else (if a && (b && true) then y else z)).scene ≡ p
+quiet_outside true true true x y z p far one none = absurd (true≢false far)
+quiet_outside true true false x y z p far one none = one
+quiet_outside true false c x y z p far one none = none
+quiet_outside false b c x y z p far one none = none
 
 -- a hint whose area is elsewhere, and whose turns don't count, changes nothing
 pub far_is_nothing : (cave : CaveView) (h : ℕ) (p : Scene) → is_in_area cave h p.state ≡ false
     → turns_in_area p.state h ≡ 0 → after_consider cave h p ≡ p
-unfolding after_consider
-far_is_nothing cave h p far none = considered_far cave h (map.get cave.hints h) p far none
+unfolding after_consider turn_rows
+far_is_nothing cave h p far none =
+    let d = deed cave h p in
+    let waits : Act (Unit {0}) =
+    act_of (after_all (count_turn ∷ by_table offer_rows ∷ []) d).scene tt in
+    quiet_outside (in_cave d) (no was_taken d) (in_area d) waits (act_of (restart d).scene tt)
+    (act_of p tt) p far (ap (λ s. with_state s p) (turns_as_they_are h p.state none)) refl
 
 -- conditions below 16 have no bit of a hint
 outside : (cave : CaveView) (n : ℕ) (s : State) → cond_of cave s.trail.here < 16

@@ -1,18 +1,16 @@
 -- Hints: one is offered to a player who stays for long where it helps, and who needs it.
-use Rattle.std.specs.Prelude.{ℕ, pos, ◌+◌, ◌-◌, ◌*◌, ◌+ℤ◌, Bool, true, ◌==◌, ◌&&◌, not, nat_le}
-use Rattle.std.specs.Prelude.{nat_lt, int_lt, min, if◌then◌else◌, length, Option, Some, None}
-use Rattle.std.specs.Prelude.{slice_set, suc, zero}
+use Rattle.std.specs.Prelude.{ℕ, pos, ◌+◌, ◌-◌, ◌*◌, ◌+ℤ◌, Bool, true, ◌==◌, nat_le, nat_lt}
+use Rattle.std.specs.Prelude.{int_lt, min, length, List, [], ◌∷◌, is_some}
+use Rattle.std.specs.Prelude.{unwrap_or, slice_set, suc, zero}
 use Rattle.std.specs.FinMap as map
 use Rattle.std.specs.Int.{int_min}
 use Rattle.turn_ends.specs.cave_data.CaveView.{CaveView}
 use Rattle.turn_ends.specs.data_rows.declared.rows.Hint.{Hint}
-use Rattle.turn_ends.specs.Questions.{after_ask}
-use Rattle.turn_ends.specs.turn_scene.Scene.{Scene, after_telling, with_state, is_called, thing}
-use Rattle.turn_ends.specs.turn_things.Reach.{is_near, is_in_hand, has_prop, has_other_prop}
-use Rattle.turn_ends.specs.turn_things.Props.{GRATE_LOCKED, UNSEEN}
+use Rattle.turn_ends.specs.cave_words.declared.named.Named.{Named}
 use Rattle.turn_ends.specs.cave_words.declared.named.Named.TheVariants as name
 use Rattle.turn_ends.specs.world_objects.Lists.{halves_at}
 use Rattle.turn_ends.specs.world_objects.Objects.{carried_objects}
+use Rattle.turn_ends.specs.cave_world.Limits.{LOW_CHARGE, MAX_LAMP_TURNS}
 use Rattle.turn_ends.specs.cave_world.Sight.{has_condition}
 use Rattle.turn_ends.specs.cave_world.State.{takes_no_command, turns_in_area, is_hint_taken}
 use Rattle.turn_ends.specs.cave_world.State.{with_hint_taken, MAX_TURNS_IN_AREA}
@@ -20,7 +18,13 @@ use Rattle.turn_ends.specs.cave_world.declared.ending.Question.TheVariants as qu
 use Rattle.turn_ends.specs.cave_world.declared.part.NumberLine.TheVariants.{HintCosts}
 use Rattle.turn_ends.specs.cave_world.declared.part.Part.TheVariants as part
 use Rattle.turn_ends.specs.cave_world.declared.state.State.{State}
-use Rattle.turn_ends.specs.cave_world.Limits.{LOW_CHARGE, MAX_LAMP_TURNS}
+use Rattle.turn_ends.specs.turn_scene.Scene.{Scene, is_called}
+use Rattle.turn_ends.specs.turn_things.Props.{GRATE_LOCKED, UNSEEN}
+use Rattle.turn_ends.specs.turn_rules.Rows.{Deed, Test, Effect, Row, deed, row_then, plain_row}
+use Rattle.turn_ends.specs.turn_rules.Rows.{all_hold, by_table, first_fitting_or, nothing_but}
+use Rattle.turn_ends.specs.turn_rules.Tests.{the, no, in_hand, near, prop, other_prop}
+use Rattle.turn_ends.specs.turn_rules.Effects.{in_state, when, tell}
+use Rattle.turn_ends.specs.Questions.{ask}
 
 -- the hints that are offered begin with this one
 abbrev pub FIRST_HINT : ℕ
@@ -49,88 +53,118 @@ MAZE_HINT = 7
 abbrev pub PYRAMID_HINT : ℕ
 PYRAMID_HINT = 8
 
-abbrev pub with_turns_in_area : ℕ → ℕ → State → State
-with_turns_in_area h n s =
-    let hints = s.hints in
-    record s { hints = record hints { turns = slice_set hints.turns (h - 1) n } }
+-- the hint is that of a number
+abbrev pub is_hint : ℕ → Test ℕ
+is_hint h d = d.about == h
+
+-- stands for a hint that the cave lacks
+abbrev pub no_hint : Hint
+no_hint = record { turns = 0; points = 0; question = 0; text = 0 }
+
+-- the row of a hint
+abbrev pub row_of : Deed ℕ → Hint
+row_of d = unwrap_or (map.get d.cave.hints d.about) no_hint
+
+abbrev pub in_cave : Test ℕ
+in_cave d = is_some (map.get d.cave.hints d.about)
+
+abbrev pub was_taken : Test ℕ
+was_taken d = is_hint_taken d.scene.state d.about
 
 -- a place is in the area of a hint by the bit of the hint's number
 abbrev pub is_in_area : CaveView → ℕ → State → Bool
 is_in_area cave h s = has_condition cave s.trail.here h
 
--- one turn more in the area, or none outside it
-unfoldable pub after_wait : CaveView → ℕ → State → State
-after_wait cave h s =
-    if is_in_area cave h s
-    then with_turns_in_area h (min (turns_in_area s h + 1) MAX_TURNS_IN_AREA) s
-    else with_turns_in_area h 0 s
+abbrev pub in_area : Test ℕ
+in_area d = is_in_area d.cave d.about d.scene.state
 
--- the player has stayed for long enough, and no question is open
-unfoldable pub is_due : CaveView → ℕ → Hint → State → Bool
-is_due cave h hint s =
-    is_in_area cave h s && nat_le hint.turns (turns_in_area s h) && not (takes_no_command s)
+-- the player has stayed for as long as the row of the hint says
+abbrev pub has_stayed : Test ℕ
+has_stayed d = nat_le (row_of d).turns (turns_in_area d.scene.state d.about)
 
--- the grate is locked, and the keys aren't at hand
-unfoldable pub is_locked_out : CaveView → State → Bool
-is_locked_out cave s =
-    has_prop s (thing cave name.Grate) GRATE_LOCKED && not (is_near cave s (thing cave name.Keys))
+-- a question is open, or the game has ended
+abbrev pub over : Test ℕ
+over d = takes_no_command d.scene.state
 
--- the bird is at hand, which flees from the rod that the player carries, and it was the last object
-unfoldable pub is_after_bird : CaveView → State → Bool
-is_after_bird cave s =
-    is_near cave s (thing cave name.Bird) && is_in_hand cave s (thing cave name.Rod)
-    && is_called cave s.talk.last name.Bird
+abbrev pub last_object : Named → Test ℕ
+last_object n d = is_called d.cave d.scene.state.talk.last n
 
-unfoldable pub is_held_by_snake : CaveView → State → Bool
-is_held_by_snake cave s =
-    is_near cave s (thing cave name.Snake) && not (is_near cave s (thing cave name.Bird))
+-- the last three places of the player
+abbrev pub here : State → ℕ
+here s = s.trail.here
 
-abbrev pub is_bare : State → ℕ → Bool
-is_bare s place = length (halves_at place s.objects.lists) == 0
+abbrev pub last : State → ℕ
+last s = s.trail.last
 
--- nothing marks the last three places, and the player has what could mark them
-unfoldable pub is_lost_in_maze : State → Bool
-is_lost_in_maze s =
-    is_bare s s.trail.here && is_bare s s.trail.last && is_bare s s.trail.older
-    && nat_lt 1 (length (carried_objects s.objects))
+abbrev pub older : State → ℕ
+older s = s.trail.older
 
--- the emerald was found, and the pyramid wasn't
-unfoldable pub is_short_of_pyramid : CaveView → State → Bool
-is_short_of_pyramid cave s =
-    has_other_prop s (thing cave name.Emerald) UNSEEN
-    && has_prop s (thing cave name.Pyramid) UNSEEN
+-- nothing is at a place
+abbrev pub bare : (State → ℕ) → Test ℕ
+bare place d = let s = d.scene.state in length (halves_at (place s) s.objects.lists) == 0
 
--- five hints ask whether the player needs them, and the others help any player who stays
-abbrev pub is_needed : CaveView → ℕ → State → Bool
-is_needed cave h s =
-    if h == GRATE_HINT then is_locked_out cave s
-    else (if h == BIRD_HINT then is_after_bird cave s
-    else (if h == SNAKE_HINT then is_held_by_snake cave s
-    else (if h == MAZE_HINT then is_lost_in_maze s
-    else (if h == PYRAMID_HINT then is_short_of_pyramid cave s else true))))
+abbrev pub two_in_hand : Test ℕ
+two_in_hand d = nat_lt 1 (length (carried_objects d.scene.state.objects))
 
--- the turns of a hint that isn't needed are counted from 0 again, except those of the bird's hint
-abbrev pub after_putting_off : ℕ → State → State
-after_putting_off h s = if h == BIRD_HINT then s else with_turns_in_area h 0 s
+abbrev pub always : Test ℕ
+always d = true
 
--- a hint that is due is offered to a player who needs it
-unfoldable pub offer_scene : CaveView → ℕ → Hint → Scene → Scene
-offer_scene cave h hint p =
-    if is_due cave h hint p.state
-    then (if is_needed cave h p.state
-    then after_ask cave (question.Hint h) (with_state (with_turns_in_area h 0 p.state) p)
-    else with_state (after_putting_off h p.state) p)
-    else p
+-- what the guard of a hint asks
+abbrev pub guard_row : ℕ → List (Test ℕ) → Row ℕ Bool
+guard_row h tests = row_then (is_hint h ∷ []) [] (all_hold tests)
+
+unfoldable pub guard_rows : List (Row ℕ Bool)
+guard_rows =
+    guard_row GRATE_HINT (prop (the name.Grate) GRATE_LOCKED ∷ no (near (the name.Keys)) ∷ [])
+    ∷ guard_row BIRD_HINT
+    (near (the name.Bird) ∷ in_hand (the name.Rod) ∷ last_object name.Bird ∷ [])
+    ∷ guard_row SNAKE_HINT (near (the name.Snake) ∷ no (near (the name.Bird)) ∷ [])
+    ∷ guard_row MAZE_HINT (bare here ∷ bare last ∷ bare older ∷ two_in_hand ∷ [])
+    ∷ guard_row PYRAMID_HINT
+    (other_prop (the name.Emerald) UNSEEN ∷ prop (the name.Pyramid) UNSEEN ∷ [])
+    ∷ row_then [] [] always
+    ∷ []
+
+-- the guard of the hint holds
+unfoldable pub helpful : Test ℕ
+helpful d = (first_fitting_or guard_rows (nothing_but always) d).step
+
+abbrev pub with_turns_in_area : ℕ → ℕ → State → State
+with_turns_in_area h n s =
+    let hints = s.hints in
+    record s { hints = record hints { turns = slice_set hints.turns (h - 1) n } }
+
+abbrev pub with_one_turn_more : ℕ → State → State
+with_one_turn_more h s =
+    with_turns_in_area h (min (turns_in_area s h + 1) MAX_TURNS_IN_AREA) s
+
+-- the turns in the area of the hint are counted from 0 again
+abbrev pub restart : Effect ℕ
+restart d = in_state (with_turns_in_area d.about 0 d.scene.state) d
+
+abbrev pub count_turn : Effect ℕ
+count_turn d = in_state (with_one_turn_more d.about d.scene.state) d
+
+abbrev pub offer : Effect ℕ
+offer d = ask (question.Hint d.about) d
+
+-- a hint is offered, or put off; the bird's hint goes on waiting
+unfoldable pub offer_rows : List (Row ℕ (Unit {0}))
+offer_rows =
+    plain_row (has_stayed ∷ no over ∷ helpful ∷ []) (restart ∷ offer ∷ [])
+    ∷ plain_row (has_stayed ∷ no over ∷ no (is_hint BIRD_HINT) ∷ []) (restart ∷ [])
+    ∷ []
 
 -- a hint that the cave has and that wasn't taken counts its turns, and is offered
-abbrev pub after_considering_if : CaveView → ℕ → Option Hint → Scene → Scene
-after_considering_if cave h None p = p
-after_considering_if cave h (Some hint) p =
-    if is_hint_taken p.state h then p
-    else offer_scene cave h hint (with_state (after_wait cave h p.state) p)
+unfoldable pub turn_rows : List (Row ℕ (Unit {0}))
+turn_rows =
+    plain_row (in_cave ∷ no was_taken ∷ in_area ∷ []) (count_turn ∷ by_table offer_rows ∷ [])
+    ∷ plain_row (in_cave ∷ no was_taken ∷ []) (restart ∷ [])
+    ∷ []
 
+-- what a turn makes of a hint
 unfoldable pub after_consider : CaveView → ℕ → Scene → Scene
-after_consider cave h p = after_considering_if cave h (map.get cave.hints h) p
+after_consider cave h p = (by_table turn_rows (deed cave h p)).scene
 
 -- so many hints from the fourth on are considered, one after another
 unfoldable pub after_hints_up_to : CaveView → ℕ → Scene → Scene
@@ -142,34 +176,36 @@ after_hints_up_to cave (suc n) p =
 abbrev pub after_hints : CaveView → Scene → Scene
 after_hints cave p = after_hints_up_to cave OFFERED_HINTS p
 
--- what a hint costs is said, and whether it is worth that is asked
-abbrev pub price_scene_if : CaveView → ℕ → Option Hint → Scene → Scene
-price_scene_if cave h None p = p
-price_scene_if cave h (Some hint) p =
-    after_ask cave (question.Take h) (after_telling (part.Number HintCosts hint.points 0) p)
+abbrev pub tell_price : Effect ℕ
+tell_price d = tell (part.Number HintCosts (row_of d).points 0) d
 
-unfoldable pub price_scene : CaveView → ℕ → Scene → Scene
-price_scene cave h p = price_scene_if cave h (map.get cave.hints h) p
+abbrev pub ask_take : Effect ℕ
+ask_take d = ask (question.Take d.about) d
 
--- a hint lets a lamp that isn't low burn 30 turns more for each point that it costs,
--- up to the most
-abbrev pub after_reward : ℕ → State → State
-after_reward points s =
+-- what a hint costs, and whether it is worth that
+unfoldable pub price_rows : List (Row ℕ (Unit {0}))
+price_rows = plain_row (in_cave ∷ []) (tell_price ∷ ask_take ∷ []) ∷ []
+
+abbrev pub tell_hint : Effect ℕ
+tell_hint d = tell (part.Message (row_of d).text) d
+
+abbrev pub take : Effect ℕ
+take d = in_state (with_hint_taken d.about d.scene.state) d
+
+-- the lamp isn't low
+abbrev pub bright : Test ℕ
+bright d = int_lt (pos LOW_CHARGE) d.scene.state.lamp.charge
+
+abbrev pub with_more_charge : ℕ → State → State
+with_more_charge points s =
     let lamp = s.lamp in
-    if int_lt (pos LOW_CHARGE) lamp.charge
-    then record s {
-      lamp = record lamp {
-        charge = int_min (lamp.charge +ℤ pos (30 * points)) (pos MAX_LAMP_TURNS);
-      };
-    }
-    else s
+    let charge = int_min (lamp.charge +ℤ pos (30 * points)) (pos MAX_LAMP_TURNS) in
+    record s { lamp = record lamp { charge = charge } }
 
--- a hint is given
-abbrev pub hint_scene_if : ℕ → Option Hint → Scene → Scene
-hint_scene_if h None p = p
-hint_scene_if h (Some hint) p =
-    let q = after_telling (part.Message hint.text) p in
-    with_state (after_reward hint.points (with_hint_taken h q.state)) q
+-- the lamp burns 30 turns more for each point that the hint costs, up to the most
+abbrev pub prolong : Effect ℕ
+prolong d = in_state (with_more_charge (row_of d).points d.scene.state) d
 
-unfoldable pub hint_scene : CaveView → ℕ → Scene → Scene
-hint_scene cave h p = hint_scene_if h (map.get cave.hints h) p
+-- what a player gets who takes a hint
+unfoldable pub give_rows : List (Row ℕ (Unit {0}))
+give_rows = plain_row (in_cave ∷ []) (tell_hint ∷ take ∷ when bright prolong ∷ []) ∷ []

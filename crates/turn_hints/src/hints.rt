@@ -1,18 +1,24 @@
 //! Hints: one is offered to a player who stays for long where it helps, and who needs it.
 
 ghost use Rattle.std.specs.Prelude.{◌≡◌, ◌<◌, ◌≤◌, ◌+◌, ◌*◌, ◌⊎◌, ℕ, IsTrue, false, true};
+ghost use Rattle.std.specs.Prelude.{[], ◌∷◌, Some};
+ghost use Rattle.std.specs.FinMap.{get};
 ghost use Rattle.turn_ends.specs.cave_data.CaveView.{CaveView, cond_of};
 ghost use Rattle.turn_ends.specs.cave_data.Tables.{IsAbove};
+ghost use Rattle.turn_ends.specs.cave_world.State.{takes_no_command, turns_in_area};
+ghost use Rattle.turn_ends.specs.cave_words.declared.named.Named.TheVariants as name;
 ghost use Rattle.turn_ends.specs.turn_scene.Bounds.{GoesOnSaying, HasRoom, SaysUpTo};
 ghost use Rattle.turn_ends.specs.turn_scene.Bounds.{parts_of_question};
 ghost use Rattle.turn_ends.specs.turn_scene.Scene.{scene_of, cave_of};
-ghost use Rattle.turn_hints.specs.Hints.{with_turns_in_area, is_in_area};
+ghost use Rattle.turn_ends.specs.turn_things.Props as defined_props;
+ghost use Rattle.turn_ends.specs.turn_rules.Rows.{Does, all_hold, by_table, deed};
+ghost use Rattle.turn_ends.specs.turn_rules.Tests.{the, no, in_hand, near, prop, other_prop};
 ghost use Rattle.turn_hints.specs.Hints as defined;
-ghost use Rattle.turn_hints.specs.Hints.{after_wait, is_due, is_locked_out, is_after_bird};
-ghost use Rattle.turn_hints.specs.Hints.{is_held_by_snake, is_lost_in_maze, is_short_of_pyramid};
-ghost use Rattle.turn_hints.specs.Hints.{is_needed, after_putting_off, offer_scene, after_consider};
-ghost use Rattle.turn_hints.specs.Hints.{after_hints, price_scene, after_reward, hint_scene};
-ghost use Rattle.turn_ends.specs.cave_world.State.{takes_no_command, turns_in_area};
+ghost use Rattle.turn_hints.specs.Hints.{is_in_area, has_stayed, over, last_object, bare};
+ghost use Rattle.turn_hints.specs.Hints.{here, last, older, two_in_hand, helpful};
+ghost use Rattle.turn_hints.specs.Hints.{with_turns_in_area, with_one_turn_more, offer_rows};
+ghost use Rattle.turn_hints.specs.Hints.{after_consider, after_hints, price_rows};
+ghost use Rattle.turn_hints.specs.Hints.{with_more_charge, give_rows};
 
 use turn_ends::{
     Cave, Charge, Count, GRATE_LOCKED, Hint, HintNumber, LOW_CHARGE, MAX_TURNS_IN_AREA, Named,
@@ -100,12 +106,11 @@ fn counts_no_turn(count: u8, state: &State) -> bool
 }
 
 /// What a hint costs is said, and whether it is worth that is asked.
-#[tactic(auto, unfolding(crate::specs::Hints::price_scene))]
+#[tactic(auto, unfolding(crate::specs::Hints::price_rows))]
 pub fn price(rules: &Rules<'_>, number: HintNumber, scene: &mut Scene<'_>)
     requires { HasRoom (1 + parts_of_question) scene.old }
-    ensures scene { scene_of scene.new
-        ≡ price_scene (cave_of rules.now) number (scene_of scene.old) }
-    ensures says { GoesOnSaying (1 + parts_of_question) scene.old scene.new }
+    ensures rows { Does (by_table price_rows ∷ []) (1 + parts_of_question) rules.now number
+        scene.old scene.new }
 {
     if let Some(hint) = rules.cave.hint(u16::from(number.number())) {
         let points = u32::from(hint.points);
@@ -114,18 +119,18 @@ pub fn price(rules: &Rules<'_>, number: HintNumber, scene: &mut Scene<'_>)
     }
 }
 
-/// A hint is given.
-#[tactic(auto, unfolding(crate::specs::Hints::hint_scene))]
+/// A hint is given. It lets a lamp that isn't low burn for longer.
+#[tactic(auto, unfolding(crate::specs::Hints::give_rows))]
 pub fn give_hint(rules: &Rules<'_>, number: HintNumber, scene: &mut Scene<'_>)
     requires { HasRoom 1 scene.old }
-    ensures scene { scene_of scene.new
-        ≡ hint_scene (cave_of rules.now) number (scene_of scene.old) }
-    ensures says { GoesOnSaying 1 scene.old scene.new }
+    ensures rows { Does (by_table give_rows ∷ []) 1 rules.now number scene.old scene.new }
 {
     if let Some(hint) = rules.cave.hint(u16::from(number.number())) {
         scene.tell(Part::Message(hint.text));
         scene.state.take_hint(number);
-        reward(hint.points, scene.state);
+        if LOW_CHARGE < scene.state.lamp.charge.turns() {
+            prolong(hint.points, scene.state);
+        }
     }
 }
 
@@ -162,112 +167,110 @@ fn is_far(hint: HintNumber, conditions: u32, state: &State) -> bool
     turns_in_area(hint, state).number() == 0 && !is_in_area(hint, conditions)
 }
 
-/// One turn more in the area of a hint, or none outside it. Returns whether the player is in it.
-#[tactic(auto, unfolding(crate::specs::Hints::after_wait, turn_ends::specs::takes_no_command))]
-fn wait(hint: HintNumber, conditions: u32, state: &mut State) -> bool
-    ensures state { (cave : CaveView) → conditions ≡ cond_of cave state.old.trail.here
-        → state.new ≡ after_wait cave hint state.old }
-    ensures area { (cave : CaveView) → conditions ≡ cond_of cave state.old.trail.here
-        → result ≡ is_in_area cave hint state.new }
+/// One turn more in the area of a hint.
+#[tactic(auto, unfolding(turn_ends::specs::takes_no_command))]
+fn count_turn(hint: HintNumber, state: &mut State)
+    ensures state { state.new ≡ with_one_turn_more hint state.old }
     ensures here { state.new.trail ≡ state.old.trail }
     ensures over { takes_no_command state.new ≡ takes_no_command state.old }
 {
-    let is_near = is_in_area(hint, conditions);
-    let turns = if is_near {
-        turns_in_area(hint, state).up()
-    } else {
-        Count::new(0)
-    };
-    set_turns_in_area(hint, turns, state);
-    is_near
+    set_turns_in_area(hint, turns_in_area(hint, state).up(), state);
+}
+
+/// The turns in the area of a hint are counted from 0 again.
+#[tactic(auto, unfolding(turn_ends::specs::takes_no_command))]
+fn restart(hint: HintNumber, state: &mut State)
+    ensures state { state.new ≡ with_turns_in_area hint 0 state.old }
+    ensures here { state.new.trail ≡ state.old.trail }
+    ensures over { takes_no_command state.new ≡ takes_no_command state.old }
+{
+    set_turns_in_area(hint, Count::new(0), state);
 }
 
 /// Whether the player has stayed for long enough, and no question is open.
-#[tactic(auto, unfolding(crate::specs::Hints::is_due))]
-fn is_due(number: HintNumber, hint: &Hint, conditions: u32, state: &State) -> bool
-    ensures { (cave : CaveView) → conditions ≡ cond_of cave state.now.trail.here
-        → result ≡ is_due cave number hint.now state.now }
+fn is_due(rules: &Rules<'_>, number: HintNumber, hint: &Hint, scene: &Scene<'_>) -> bool
+    requires { get (cave_of rules.now).hints number ≡ Some hint.now }
+    ensures { result ≡ all_hold (has_stayed ∷ no over ∷ [])
+        (deed (cave_of rules.now) number (scene_of scene.now)) }
 {
-    is_in_area(number, conditions)
-        && hint.turns <= turns_in_area(number, state).number()
-        && !state.takes_no_command()
+    hint.turns <= turns_in_area(number, scene.state).number() && !scene.state.takes_no_command()
 }
 
-#[tactic(auto, unfolding(crate::specs::Hints::is_locked_out))]
-fn is_locked_out(rules: &Rules<'_>, state: &State) -> bool
-    ensures { result ≡ is_locked_out (cave_of rules.now) state.now }
+/// The grate is locked, and the keys aren't at hand.
+fn is_locked_out(rules: &Rules<'_>, number: HintNumber, scene: &Scene<'_>) -> bool
+    ensures { result ≡ all_hold
+        (prop (the name.Grate) defined_props.GRATE_LOCKED ∷ no (near (the name.Keys)) ∷ [])
+        (deed (cave_of rules.now) number (scene_of scene.now)) }
 {
-    has_prop(state, rules.thing(Named::Grate), GRATE_LOCKED)
-        && !is_near(rules, state, rules.thing(Named::Keys))
+    has_prop(scene.state, rules.thing(Named::Grate), GRATE_LOCKED)
+        && !is_near(rules, scene.state, rules.thing(Named::Keys))
 }
 
-#[tactic(auto, unfolding(crate::specs::Hints::is_after_bird))]
-fn is_after_bird(rules: &Rules<'_>, state: &State) -> bool
-    ensures { result ≡ is_after_bird (cave_of rules.now) state.now }
+/// The bird is at hand, which flees from the rod that the player carries, and it was the last
+/// object.
+fn is_after_bird(rules: &Rules<'_>, number: HintNumber, scene: &Scene<'_>) -> bool
+    ensures { result ≡ all_hold
+        (near (the name.Bird) ∷ in_hand (the name.Rod) ∷ last_object name.Bird ∷ [])
+        (deed (cave_of rules.now) number (scene_of scene.now)) }
 {
-    is_near(rules, state, rules.thing(Named::Bird))
-        && is_in_hand(rules, state, rules.thing(Named::Rod))
-        && rules.is(state.talk.last, Named::Bird)
+    is_near(rules, scene.state, rules.thing(Named::Bird))
+        && is_in_hand(rules, scene.state, rules.thing(Named::Rod))
+        && rules.is(scene.state.talk.last, Named::Bird)
 }
 
-#[tactic(auto, unfolding(crate::specs::Hints::is_held_by_snake))]
-fn is_held_by_snake(rules: &Rules<'_>, state: &State) -> bool
-    ensures { result ≡ is_held_by_snake (cave_of rules.now) state.now }
+fn is_held_by_snake(rules: &Rules<'_>, number: HintNumber, scene: &Scene<'_>) -> bool
+    ensures { result ≡ all_hold (near (the name.Snake) ∷ no (near (the name.Bird)) ∷ [])
+        (deed (cave_of rules.now) number (scene_of scene.now)) }
 {
-    is_near(rules, state, rules.thing(Named::Snake))
-        && !is_near(rules, state, rules.thing(Named::Bird))
+    is_near(rules, scene.state, rules.thing(Named::Snake))
+        && !is_near(rules, scene.state, rules.thing(Named::Bird))
 }
 
-#[tactic(auto, unfolding(crate::specs::Hints::is_lost_in_maze))]
-fn is_lost_in_maze(state: &State) -> bool
-    ensures { result ≡ is_lost_in_maze state.now }
+/// Nothing marks the last three places, and the player has what could mark them.
+fn is_lost_in_maze(rules: &Rules<'_>, number: HintNumber, scene: &Scene<'_>) -> bool
+    ensures { result ≡ all_hold (bare here ∷ bare last ∷ bare older ∷ two_in_hand ∷ [])
+        (deed (cave_of rules.now) number (scene_of scene.now)) }
 {
+    let state = &*scene.state;
     state.is_bare(state.trail.here)
         && state.is_bare(state.trail.last)
         && state.is_bare(state.trail.older)
         && 1 < state.holding()
 }
 
-#[tactic(auto, unfolding(crate::specs::Hints::is_short_of_pyramid))]
-fn is_short_of_pyramid(rules: &Rules<'_>, state: &State) -> bool
-    ensures { result ≡ is_short_of_pyramid (cave_of rules.now) state.now }
+/// The emerald was found, and the pyramid wasn't.
+fn is_short_of_pyramid(rules: &Rules<'_>, number: HintNumber, scene: &Scene<'_>) -> bool
+    ensures { result ≡ all_hold
+        (other_prop (the name.Emerald) defined_props.UNSEEN
+        ∷ prop (the name.Pyramid) defined_props.UNSEEN ∷ [])
+        (deed (cave_of rules.now) number (scene_of scene.now)) }
 {
-    has_other_prop(state, rules.thing(Named::Emerald), UNSEEN)
-        && has_prop(state, rules.thing(Named::Pyramid), UNSEEN)
+    has_other_prop(scene.state, rules.thing(Named::Emerald), UNSEEN)
+        && has_prop(scene.state, rules.thing(Named::Pyramid), UNSEEN)
 }
 
-fn is_needed(rules: &Rules<'_>, hint: HintNumber, state: &State) -> bool
-    ensures { result ≡ is_needed (cave_of rules.now) hint state.now }
+/// Whether the guard of a hint holds. Five hints have one.
+#[tactic(auto, unfolding(crate::specs::Hints::helpful, crate::specs::Hints::guard_rows))]
+fn is_helpful(rules: &Rules<'_>, hint: HintNumber, scene: &Scene<'_>) -> bool
+    ensures { result ≡ helpful (deed (cave_of rules.now) hint (scene_of scene.now)) }
 {
     match hint.number() {
-        GRATE_HINT => is_locked_out(rules, state),
-        BIRD_HINT => is_after_bird(rules, state),
-        SNAKE_HINT => is_held_by_snake(rules, state),
-        MAZE_HINT => is_lost_in_maze(state),
-        PYRAMID_HINT => is_short_of_pyramid(rules, state),
+        GRATE_HINT => is_locked_out(rules, hint, scene),
+        BIRD_HINT => is_after_bird(rules, hint, scene),
+        SNAKE_HINT => is_held_by_snake(rules, hint, scene),
+        MAZE_HINT => is_lost_in_maze(rules, hint, scene),
+        PYRAMID_HINT => is_short_of_pyramid(rules, hint, scene),
         _ => true,
     }
 }
 
-#[tactic(auto, unfolding(turn_ends::specs::takes_no_command))]
-fn put_off(hint: HintNumber, state: &mut State)
-    ensures state { state.new ≡ after_putting_off hint state.old }
-    ensures here { state.new.trail ≡ state.old.trail }
-    ensures over { takes_no_command state.new ≡ takes_no_command state.old }
-{
-    if hint.number() != BIRD_HINT {
-        set_turns_in_area(hint, Count::new(0), state);
-    }
-}
-
-/// A hint that is due is offered to a player who needs it.
-#[tactic(auto, using(crate::proofs::Trails::trail_asked), unfolding(crate::specs::Hints::offer_scene, crate::specs::Hints::is_due))]
-fn offer(rules: &Rules<'_>, number: HintNumber, hint: &Hint, conditions: u32, scene: &mut Scene<'_>)
+/// A hint that is due is offered to a player whom it helps, and is put off else.
+#[tactic(auto, using(crate::proofs::Trails::trail_asked), unfolding(crate::specs::Hints::offer_rows))]
+fn offer(rules: &Rules<'_>, number: HintNumber, hint: &Hint, scene: &mut Scene<'_>)
     requires room { HasRoom parts_of_question scene.old }
-    requires here { conditions ≡ cond_of (cave_of rules.now) scene.old.state.now.trail.here }
-    ensures scene { scene_of scene.new
-        ≡ offer_scene (cave_of rules.now) number hint.now (scene_of scene.old) }
-    ensures says { GoesOnSaying parts_of_question scene.old scene.new }
+    requires hint { get (cave_of rules.now).hints number ≡ Some hint.now }
+    ensures rows { Does (by_table offer_rows ∷ []) parts_of_question rules.now number
+        scene.old scene.new }
     ensures here { scene.new.state.now.trail ≡ scene.old.state.now.trail }
     ensures few_on { takes_no_command scene.new.state.now ≡ false → SaysUpTo 0 scene.old scene.new }
     ensures few_over { takes_no_command scene.old.state.now
@@ -275,19 +278,22 @@ fn offer(rules: &Rules<'_>, number: HintNumber, hint: &Hint, conditions: u32, sc
     ensures stays { takes_no_command scene.new.state.now ≡ false
         → takes_no_command scene.old.state.now ≡ false }
 {
-    if !is_due(number, hint, conditions, scene.state) {
+    if !is_due(rules, number, hint, scene) {
         return;
     }
-    if is_needed(rules, number, scene.state) {
-        set_turns_in_area(number, Count::new(0), scene.state);
+    if is_helpful(rules, number, scene) {
+        restart(number, scene.state);
         ask(rules, &Question::Hint(number), scene);
         return;
     }
-    put_off(number, scene.state);
+    if number.number() == BIRD_HINT {
+        return;
+    }
+    restart(number, scene.state);
 }
 
 /// A hint that the cave has and that wasn't taken counts its turns, and is offered.
-#[tactic(auto, unfolding(crate::specs::Hints::after_consider, crate::specs::Hints::offer_scene, crate::specs::Hints::is_due))]
+#[tactic(auto, unfolding(crate::specs::Hints::after_consider, crate::specs::Hints::turn_rows))]
 fn consider(rules: &Rules<'_>, number: HintNumber, conditions: u32, scene: &mut Scene<'_>)
     requires room { HasRoom parts_of_question scene.old }
     requires here { conditions ≡ cond_of (cave_of rules.now) scene.old.state.now.trail.here }
@@ -308,19 +314,20 @@ fn consider(rules: &Rules<'_>, number: HintNumber, conditions: u32, scene: &mut 
         if scene.state.is_hint_taken(number) {
             return;
         }
-        if wait(number, conditions, scene.state) {
-            offer(rules, number, &hint, conditions, scene);
+        if !is_in_area(number, conditions) {
+            restart(number, scene.state);
+            return;
         }
+        count_turn(number, scene.state);
+        offer(rules, number, &hint, scene);
     }
 }
 
-/// A hint lets a lamp that isn't low burn for longer.
-fn reward(points: u16, state: &mut State)
-    ensures { state.new ≡ after_reward points state.old }
+/// The lamp burns for longer, by the points of a hint.
+fn prolong(points: u16, state: &mut State)
+    ensures { state.new ≡ with_more_charge points state.old }
 {
     let turns = state.lamp.charge.turns();
-    if LOW_CHARGE < turns {
-        let more = TURNS_A_POINT * i32::from(points);
-        state.lamp.charge = Charge::capped(turns + more);
-    }
+    let more = TURNS_A_POINT * i32::from(points);
+    state.lamp.charge = Charge::capped(turns + more);
 }

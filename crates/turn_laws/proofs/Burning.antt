@@ -20,7 +20,8 @@ use Rattle.cave_turn.specs.turn_scene.Scene.{Scene, with_state, thing}
 use Rattle.cave_turn.specs.turn_things.Reach.{has_prop}
 use Rattle.cave_turn.specs.turn_clocks.Lamp.{lamp, with_charge, burn}
 use Rattle.cave_turn.specs.turn_rules.Rows.{deed}
-use Rattle.cave_turn.specs.Answers.{answer_in, after_answer, answers, is_dragon, is_yes}
+use Rattle.cave_turn.specs.turn_ends.Questions.{is_dragon}
+use Rattle.cave_turn.specs.Answers.{answer_in, after_answer, answers, is_yes}
 use Rattle.cave_turn.specs.Answers.{without_question}
 use Rattle.cave_turn.specs.Commands.{command_scene}
 use Rattle.cave_turn.specs.Turns.{Turn, turn_of, turn_of_input, turn_on_line, turn_on_log_line}

@@ -1,67 +1,76 @@
 -- What a line makes of a claim.
-use Rattle.std.proofs.Common.{Bool, ◌≡◌, inr, ℕ, ◌*◌, ◌-◌, pos, false, true, List, refl, sym, ap}
+use Rattle.std.proofs.Common.{Bool, ◌≡◌, inr, ℕ, ◌-◌, pos, false, true, List, refl, sym, ap}
 use Rattle.std.proofs.Common.{subst}
 use Rattle.std.proofs.lemmas.Bool.{true≢false}
-use Rattle.std.specs.Prelude.{◌||◌, ◌&&◌, not, int_lt, ◌+ℤ◌, Option, None, Some, is_some}
-use Rattle.std.specs.Int.{int_min}
-use Rattle.std.specs.FinMap as map
+use Rattle.std.specs.Prelude.{◌||◌, ◌&&◌, not, Option, None, Some, is_some}
 use Rattle.cave_turn.specs.cave_data.CaveView.{CaveView}
 use Rattle.cave_turn.specs.data_rows.declared.role.Role.TheVariants as role
-use Rattle.cave_turn.specs.data_rows.declared.rows.Hint.{Hint}
 use Rattle.cave_turn.specs.base_lines.LogLine.{log_line}
 use Rattle.cave_turn.specs.base_lines.declared.log_line.LogLine.{LogLine}
 use Rattle.cave_turn.specs.base_lines.declared.log_line.LogLine.TheVariants as kind
 use Rattle.cave_turn.specs.cave_words.declared.named.Named.TheVariants as name
-use Rattle.cave_turn.specs.cave_world.State.{CLUE_HINT, state_with_player_at, with_hint_taken}
+use Rattle.cave_turn.specs.cave_world.State.{CLUE_HINT, INSTRUCTIONS_HINT, state_with_player_at}
+use Rattle.cave_turn.specs.cave_world.State.{with_hint_taken}
 use Rattle.cave_turn.specs.cave_world.declared.ending.Ending.{Ending}
 use Rattle.cave_turn.specs.cave_world.declared.ending.Ending.TheVariants as ending_is
 use Rattle.cave_turn.specs.cave_world.declared.ending.Question.{Question}
 use Rattle.cave_turn.specs.cave_world.declared.ending.Question.TheVariants as question
-use Rattle.cave_turn.specs.cave_world.declared.part.Part.TheVariants as part
-use Rattle.cave_turn.specs.cave_world.declared.part.NumberLine.TheVariants.{HintCosts}
 use Rattle.cave_turn.specs.cave_world.declared.state.State.{State}
 use Rattle.cave_turn.specs.turn_things.Places.{building_place, start_place}
-use Rattle.cave_turn.specs.turn_scene.Scene.{Scene, scene_at_start, after_telling, after_saying}
+use Rattle.cave_turn.specs.turn_scene.Scene.{Scene, scene_at_start, after_saying}
 use Rattle.cave_turn.specs.turn_scene.Scene.{after_look_at, with_state, scene_at_place, thing}
 use Rattle.cave_turn.specs.turn_ends.Endings.{with_one_death}
-use Rattle.cave_turn.specs.turn_hints.Hints.{price_scene_if, price_scene, hint_scene_if, hint_scene}
-use Rattle.cave_turn.specs.Answers.{answer_in, is_dragon, is_yes, without_question, after_enter}
-use Rattle.cave_turn.specs.Answers.{after_instructions, after_yes, after_no, reply_scene}
+use Rattle.cave_turn.specs.turn_ends.Questions.{is_dragon}
+use Rattle.cave_turn.specs.turn_clocks.Lamp.{with_charge}
+use Rattle.cave_turn.specs.turn_hints.Hints.{tell_price, price_rows, tell_hint, take, bright}
+use Rattle.cave_turn.specs.turn_hints.Hints.{prolong, give_rows}
+use Rattle.cave_turn.specs.turn_rules.Rows.{Deed, Act, deed, by_table, nothing_but}
+use Rattle.cave_turn.specs.Answers.{answer_in, is_yes, without_question, after_enter}
+use Rattle.cave_turn.specs.Answers.{give_instructions, quit, yes_rows, no_rows}
+use Rattle.cave_turn.specs.Answers.{after_yes, after_no, reply_scene}
 use Rattle.cave_turn.specs.Answers.{is_of_hint, after_answer, answers}
 use Rattle.cave_turn.specs.Commands.{command_scene}
 use Rattle.cave_turn.specs.Dragon.{lair, after_clear, after_fight}
 use Rattle.cave_turn.specs.Finish.{end_of_turn}
-use Rattle.cave_turn.specs.Revival.{after_bury}
+use Rattle.cave_turn.specs.Revival.{bury}
 use Rattle.cave_turn.specs.Turns.{Turn, turn_of, turn_on_line, turn_on_log_line, turn_of_input}
 use Rattle.cave_turn.specs.declared.answers.Answer.{Answer}
 use Rattle.cave_turn.specs.declared.answers.Answer.TheVariants.{Yes, No, Neither}
 use Rattle.turn_laws.specs.Laws.{is_command, is_input_kind, is_no_answer, is_priced, pays}
 use Rattle.turn_laws.proofs.Frame.{Claim, Facts, On, Calm, There, Charges, IsBegun, IsKept, IsTimed}
-use Rattle.turn_laws.proofs.Frame.{is_die, choose, chosen, chosen_scene, course, facts}
+use Rattle.turn_laws.proofs.GuardedRows.{guarded}
+use Rattle.turn_laws.proofs.Frame.{is_die, choose, chosen_scene, course, facts}
 use Rattle.turn_laws.proofs.Later.{later_by_hint}
 use Rattle.turn_laws.proofs.Moves.{looking_kept, arriving_kept, arriving_open}
 use Rattle.turn_laws.proofs.Scores.{ended_kept, asking_kept, question_kept}
 use Rattle.turn_laws.proofs.Turns.{finished_kept, command_kept, reborn_kept}
 
 -- the price of a hint is said
-priced_kept : {P : Claim} (cave : CaveView) (k : IsKept cave P) (i : ℕ) (o : Option Hint)
-    (p : Scene)
-    → On (Calm P) p.state → On P (price_scene_if cave i o p).state
-priced_kept cave k i None p h = h.0
-priced_kept {P} cave k i (Some hint) p h =
-    asking_kept P cave (question.Take i) (after_telling (part.Number HintCosts hint.points 0) p)
-    (k.asks (question.Take i) (facts p.state) refl h.1 h.0)
+priced_kept : {P : Claim} (cave : CaveView) (k : IsKept cave P) (i : ℕ) (p : Scene)
+    → On (Calm P) p.state → On P (by_table price_rows (deed cave i p)).scene.state
+unfolding price_rows
+priced_kept {P} cave k i p h =
+    let d = deed cave i p in
+    guarded (λ (a : Act (Unit {0})). On P a.scene.state) (nothing_but (λ e. tt)) d price_rows (
+      (λ _. asking_kept P cave (question.Take i) (tell_price d).scene
+          (k.asks (question.Take i) (facts p.state) refl h.1 h.0)),
+      λ _. h.0,
+    )
 
-given_kept : (P : Claim) (pay : Charges P) (i : ℕ) (o : Option Hint) (p : Scene) → On P p.state
-    → On P (hint_scene_if i o p).state
-given_kept P pay i None p h = h
-given_kept P pay i (Some hint) p h =
-    let s = with_hint_taken i p.state in let lamp = s.lamp in
-    let charge = int_min (lamp.charge +ℤ pos (30 * hint.points)) (pos 100000) in
-    let taken : On P s =
+given_kept : (P : Claim) (pay : Charges P) (cave : CaveView) (i : ℕ) (p : Scene) → On P p.state
+    → On P (by_table give_rows (deed cave i p)).scene.state
+unfolding give_rows
+given_kept P pay cave i p h =
+    let d = deed cave i p in
+    let e = take (tell_hint d) in
+    let s = e.scene.state in
+    let got : On P s =
     P.goes_on (facts p.state) (course s) (later_by_hint (course p.state) (i - 1)) h in
-    chosen P (int_lt (pos 30) lamp.charge) (record s { lamp = record lamp { charge = charge } }) s
-    (pay (facts s) charge taken) taken
+    guarded (λ (a : Act (Unit {0})). On P a.scene.state) (nothing_but (λ e. tt)) d give_rows (
+      (λ _. choose (λ (e : Deed ℕ). On P e.scene.state) (bright e) (prolong e) e
+          (λ _. pay (facts s) (prolong e).scene.state.lamp.charge got) (λ _. got)),
+      λ _. h,
+    )
 
 fought_kept : {P : Claim} (cave : CaveView) (k : IsKept cave P) (p : Scene)
     → On (Calm P) p.state → On P (after_fight cave p).state
@@ -88,9 +97,10 @@ agreed_kept : {Q P : Claim} (cave : CaveView) (k : IsKept cave P)
     → (is_priced q ≡ true → Charges P) → p.state.question ≡ Some q → p.state.ending ≡ None
     → On Q p.state
     → On P (after_yes cave q (with_state (without_question p.state) p)).state
-unfolding after_enter price_scene hint_scene
+unfolding after_enter yes_rows give_instructions quit
 agreed_kept {Q} {P} cave k b question.Welcome p pay asked goes h =
-    let s = without_question p.state in let t = after_instructions s in
+    let s = without_question p.state in
+    let t = with_charge (pos 1000) (with_hint_taken INSTRUCTIONS_HINT s) in
     let free = closed_kept _ b question.Welcome p.state refl asked goes h in
     let taken = P.goes_on (facts s) (course t) (later_by_hint (course s) 2) free.0 in
     arriving_kept cave k (start_place cave)
@@ -106,12 +116,11 @@ agreed_kept {Q} {P} cave k b question.ScoreQuit p pay asked goes h =
     ended_kept P cave ending_is.Quit q (k.ends ending_is.Quit (facts q.state) free.0)
 agreed_kept cave k b question.Die p pay asked goes h = reborn_kept cave k b p asked goes h
 agreed_kept cave k b (question.Hint i) p pay asked goes h =
-    priced_kept cave k i (map.get cave.hints i) (with_state (without_question p.state) p)
+    priced_kept cave k i (with_state (without_question p.state) p)
     (closed_kept _ b (question.Hint i) p.state refl asked goes h)
 agreed_kept {Q} {P} cave k b (question.Take i) p pay asked goes h =
     let free = closed_kept _ b (question.Take i) p.state refl asked goes h in
-    given_kept P (pay refl) i (map.get cave.hints i) (with_state (without_question p.state) p)
-    free.0
+    given_kept P (pay refl) cave i (with_state (without_question p.state) p) free.0
 agreed_kept {Q} {P} cave k b question.Oyster p pay asked goes h =
     let s = without_question p.state in let t = with_hint_taken CLUE_HINT s in
     let free = closed_kept _ b question.Oyster p.state refl asked goes h in
@@ -125,7 +134,7 @@ declined_kept : {Q P : Claim} (cave : CaveView) (k : IsKept cave P)
     (b : IsBegun (building_place cave) Q P) (q : Question) (p : Scene)
     → p.state.question ≡ Some q → p.state.ending ≡ None → On Q p.state
     → On P (after_no cave q (with_state (without_question p.state) p)).state
-unfolding after_enter after_bury
+unfolding after_enter no_rows bury
 declined_kept cave k b question.Welcome p asked goes h =
     arriving_kept cave k (start_place cave) (with_state (without_question p.state) p)
     (closed_kept _ b question.Welcome p.state refl asked goes h).0

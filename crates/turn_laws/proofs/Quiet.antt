@@ -10,7 +10,8 @@ use Rattle.cave_turn.specs.base_lines.declared.log_line.LogLine.TheVariants as k
 use Rattle.cave_turn.specs.cave_world.declared.ending.Ending.{Ending}
 use Rattle.cave_turn.specs.cave_world.declared.ending.Question.{Question}
 use Rattle.cave_turn.specs.cave_world.declared.state.State.{State}
-use Rattle.cave_turn.specs.Answers.{answer_in, is_dragon, is_yes, answers}
+use Rattle.cave_turn.specs.turn_ends.Questions.{is_dragon}
+use Rattle.cave_turn.specs.Answers.{answer_in, is_yes, answers}
 use Rattle.cave_turn.specs.Turns.{Turn, turn_on_line, turn_on_log_line, turn_of_input, with_seed}
 use Rattle.cave_turn.specs.Turns.{silent_turn}
 use Rattle.turn_laws.specs.Laws.{HasEnded, IsQuiet, is_command, is_input_kind, is_no_answer}

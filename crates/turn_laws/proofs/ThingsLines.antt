@@ -1,68 +1,69 @@
 -- What a line makes of a claim that what happens in a game keeps.
-use Rattle.std.proofs.Common.{◌≡◌, ℕ, ◌*◌, zero, suc, pos, Bool, false, true, List, refl}
+use Rattle.std.proofs.Common.{◌≡◌, ℕ, zero, suc, pos, Bool, false, true, List, refl}
 use Rattle.std.proofs.lemmas.Bool.{true≢false}
-use Rattle.std.specs.Prelude.{◌&&◌, ◌||◌, not, int_lt, ◌+ℤ◌, Option, None, Some, is_some}
-use Rattle.std.specs.Int.{int_min}
-use Rattle.std.specs.FinMap as map
+use Rattle.std.specs.Prelude.{◌&&◌, ◌||◌, not, Option, None, Some, is_some}
 use Rattle.cave_turn.specs.cave_data.CaveView.{CaveView}
 use Rattle.cave_turn.specs.data_rows.declared.role.Role.TheVariants as role
-use Rattle.cave_turn.specs.data_rows.declared.rows.Hint.{Hint}
 use Rattle.cave_turn.specs.base_lines.LogLine.{log_line}
 use Rattle.cave_turn.specs.base_lines.declared.log_line.LogLine.{LogLine}
 use Rattle.cave_turn.specs.base_lines.declared.log_line.LogLine.TheVariants as kind
 use Rattle.cave_turn.specs.cave_words.declared.named.Named.TheVariants as name
 use Rattle.cave_turn.specs.world_objects.Objects.{Layout, after_move_to, with_anchor, with_prop}
 use Rattle.cave_turn.specs.world_objects.declared.spot.Anchor.TheVariants as anchor
-use Rattle.cave_turn.specs.cave_world.State.{state_with_player_at, with_hint_taken}
+use Rattle.cave_turn.specs.cave_world.State.{state_with_player_at}
 use Rattle.cave_turn.specs.cave_world.declared.closing.Closing.{Closing}
 use Rattle.cave_turn.specs.cave_world.declared.dwarves.Dwarves.{Dwarves}
 use Rattle.cave_turn.specs.cave_world.declared.ending.Ending.{Ending}
 use Rattle.cave_turn.specs.cave_world.declared.ending.Ending.TheVariants as ending_is
 use Rattle.cave_turn.specs.cave_world.declared.ending.Question.{Question}
 use Rattle.cave_turn.specs.cave_world.declared.ending.Question.TheVariants as question
-use Rattle.cave_turn.specs.cave_world.declared.part.NumberLine.TheVariants.{HintCosts}
-use Rattle.cave_turn.specs.cave_world.declared.part.Part.TheVariants as part
 use Rattle.cave_turn.specs.cave_world.declared.state.State.{State}
 use Rattle.cave_turn.specs.turn_things.Places.{start_place}
-use Rattle.cave_turn.specs.turn_scene.Scene.{Scene, scene_at_start, scene_at_place, after_telling}
+use Rattle.cave_turn.specs.turn_scene.Scene.{Scene, scene_at_start, scene_at_place}
 use Rattle.cave_turn.specs.turn_scene.Scene.{after_saying, after_look_at, with_state, thing}
 use Rattle.cave_turn.specs.turn_ends.Endings.{with_one_death}
-use Rattle.cave_turn.specs.turn_hints.Hints.{price_scene_if, price_scene, hint_scene_if, hint_scene}
-use Rattle.cave_turn.specs.Answers.{answer_in, without_question, after_enter, after_yes, after_no}
-use Rattle.cave_turn.specs.Answers.{reply_scene, is_of_hint, is_dragon, is_yes, after_answer}
-use Rattle.cave_turn.specs.Answers.{answers}
+use Rattle.cave_turn.specs.turn_ends.Questions.{is_dragon}
+use Rattle.cave_turn.specs.turn_hints.Hints.{tell_price, price_rows, tell_hint, take, bright}
+use Rattle.cave_turn.specs.turn_hints.Hints.{prolong, give_rows}
+use Rattle.cave_turn.specs.turn_rules.Rows.{Deed, Act, deed, by_table, nothing_but}
+use Rattle.cave_turn.specs.Answers.{answer_in, without_question, after_enter, give_instructions}
+use Rattle.cave_turn.specs.Answers.{quit, yes_rows, no_rows, after_yes, after_no}
+use Rattle.cave_turn.specs.Answers.{reply_scene, is_of_hint, is_yes, after_answer, answers}
 use Rattle.cave_turn.specs.Commands.{command_scene}
 use Rattle.cave_turn.specs.Dragon.{lair, is_by_dragon, after_gathering, after_slay, after_clear}
 use Rattle.cave_turn.specs.Dragon.{after_fight}
 use Rattle.cave_turn.specs.Finish.{end_of_turn}
-use Rattle.cave_turn.specs.Revival.{after_bury}
+use Rattle.cave_turn.specs.Revival.{bury}
 use Rattle.cave_turn.specs.Turns.{Turn, turn_of, turn_on_line, turn_on_log_line, turn_of_input}
 use Rattle.cave_turn.specs.declared.answers.Answer.{Answer}
 use Rattle.cave_turn.specs.declared.answers.Answer.TheVariants.{Yes, No, Neither}
 use Rattle.turn_laws.specs.Laws.{is_command, is_input_kind, is_no_answer}
-use Rattle.turn_laws.proofs.ThingsFrame.{Claim, On, IsMoved, IsKept, choose, chosen, chosen_scene}
+use Rattle.turn_laws.proofs.GuardedRows.{guarded}
+use Rattle.turn_laws.proofs.ThingsFrame.{Claim, On, IsMoved, IsKept, choose, chosen_scene}
 use Rattle.turn_laws.proofs.ThingsMoves.{looking_kept, arriving_kept}
 use Rattle.turn_laws.proofs.ThingsScores.{ended_kept, asking_kept, question_kept}
 use Rattle.turn_laws.proofs.ThingsTurns.{finished_kept, commanded_kept, reborn_kept}
 
 -- the price of a hint is said
-priced_kept : (P : Claim) (cave : CaveView) (i : ℕ) (o : Option Hint) (p : Scene) → On P p.state
-    → On P (price_scene_if cave i o p).state
-priced_kept P cave i None p h = h
-priced_kept P cave i (Some hint) p h =
-    asking_kept P cave (question.Take i) (after_telling (part.Number HintCosts hint.points 0) p) h
+priced_kept : (P : Claim) (cave : CaveView) (i : ℕ) (p : Scene) → On P p.state
+    → On P (by_table price_rows (deed cave i p)).scene.state
+unfolding price_rows
+priced_kept P cave i p h =
+    let d = deed cave i p in
+    guarded (λ (a : Act (Unit {0})). On P a.scene.state) (nothing_but (λ e. tt)) d price_rows
+    ((λ _. asking_kept P cave (question.Take i) (tell_price d).scene h), λ _. h)
 
-given_kept : (P : Claim) (i : ℕ) (o : Option Hint) (p : Scene) → On P p.state
-    → On P (hint_scene_if i o p).state
-given_kept P i None p h = h
-given_kept P i (Some hint) p h =
-    let s = with_hint_taken i p.state in let lamp = s.lamp in
-    chosen P (int_lt (pos 30) lamp.charge)
-    (record s {
-      lamp =
-          record lamp { charge = int_min (lamp.charge +ℤ pos (30 * hint.points)) (pos 100000) };
-    })
-    s h h
+given_kept : (P : Claim) (cave : CaveView) (i : ℕ) (p : Scene) → On P p.state
+    → On P (by_table give_rows (deed cave i p)).scene.state
+unfolding give_rows
+given_kept P cave i p h =
+    let d = deed cave i p in
+    let e = take (tell_hint d) in
+    guarded (λ (a : Act (Unit {0})). On P a.scene.state) (nothing_but (λ e. tt)) d give_rows (
+      (λ _. choose (λ (e : Deed ℕ). On P e.scene.state) (bright e) (prolong e) e
+          (λ _. h) (λ _. h)),
+      λ _. h,
+    )
 
 -- what was by the dragon is brought to one place
 gathered_kept : {P : Claim} (k : IsMoved P) (cave : CaveView) (place m n : ℕ) (o : Layout)
@@ -107,7 +108,7 @@ fought_kept {Here} {P} k cave p h =
 -- yes is said to a question
 agreed_kept : {Here : ℕ → Type 0} {P : Claim} (k : IsKept Here P) (cave : CaveView) (q : Question)
     (p : Scene) → On P p.state → On P (after_yes cave q p).state
-unfolding after_enter price_scene hint_scene
+unfolding after_enter yes_rows give_instructions quit
 agreed_kept k cave question.Welcome p h = arriving_kept k cave (start_place cave) _ h
 agreed_kept {Here} {P} k cave question.Quit p h =
     ended_kept P cave ending_is.Quit (after_saying role.Ok p) h
@@ -115,15 +116,15 @@ agreed_kept {Here} {P} k cave question.ScoreQuit p h =
     ended_kept P cave ending_is.Quit (after_saying role.Ok p) h
 agreed_kept k cave question.Die p h = reborn_kept k cave p h
 agreed_kept {Here} {P} k cave (question.Hint i) p h =
-    priced_kept P cave i (map.get cave.hints i) p h
-agreed_kept {Here} {P} k cave (question.Take i) p h = given_kept P i (map.get cave.hints i) p h
+    priced_kept P cave i p h
+agreed_kept {Here} {P} k cave (question.Take i) p h = given_kept P cave i p h
 agreed_kept k cave question.Oyster p h = h
 agreed_kept k cave question.Dragon p h = fought_kept k cave p h
 
 -- no is said to a question
 declined_kept : {Here : ℕ → Type 0} {P : Claim} (k : IsKept Here P) (cave : CaveView)
     (q : Question) (p : Scene) → On P p.state → On P (after_no cave q p).state
-unfolding after_enter after_bury
+unfolding after_enter no_rows bury
 declined_kept k cave question.Welcome p h = arriving_kept k cave (start_place cave) p h
 declined_kept k cave question.Quit p h = h
 declined_kept k cave question.ScoreQuit p h = h

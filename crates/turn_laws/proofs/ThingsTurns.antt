@@ -1,25 +1,24 @@
 -- What a turn makes of a claim that what happens in a game keeps.
-use Rattle.std.proofs.Common.{ℕ, zero, suc, ◌+◌, pos, negsuc, List}
-use Rattle.std.specs.Prelude.{◌==◌, nat_le, min, Option, None, Some, if◌then◌else◌, ◌-ℤ◌}
-use Rattle.std.specs.FinMap as map
+use Rattle.std.proofs.Common.{◌≡◌, ℕ, zero, suc, ◌+◌, pos, negsuc, List, refl, sym, subst}
+use Rattle.std.specs.Prelude.{Option, None, Some, ◌-ℤ◌}
 use Rattle.cave_turn.specs.cave_data.CaveView.{CaveView}
-use Rattle.cave_turn.specs.data_rows.declared.rows.Hint.{Hint}
 use Rattle.cave_turn.specs.cave_words.Words.{words_of}
 use Rattle.cave_turn.specs.cave_words.declared.named.Named.TheVariants as name
 use Rattle.cave_turn.specs.cave_words.declared.words.Words.{Words}
 use Rattle.cave_turn.specs.world_objects.Objects.{Layout, is_carried, prop_of, after_move_to}
 use Rattle.cave_turn.specs.world_objects.Objects.{with_prop}
-use Rattle.cave_turn.specs.cave_world.State.{takes_no_command, turns_in_area, MAX_TURNS_IN_AREA}
-use Rattle.cave_turn.specs.cave_world.State.{is_hint_taken, with_player_from}
+use Rattle.cave_turn.specs.cave_world.State.{takes_no_command}
+use Rattle.cave_turn.specs.cave_world.State.{with_player_from}
 use Rattle.cave_turn.specs.cave_world.declared.closing.Closing.{Closing}
 use Rattle.cave_turn.specs.cave_world.declared.dwarves.Dwarves.{Dwarves}
 use Rattle.cave_turn.specs.cave_world.declared.dwarves.Knife.TheVariants as knife
 use Rattle.cave_turn.specs.cave_world.declared.ending.Ending.TheVariants as ending_is
+use Rattle.cave_turn.specs.cave_world.declared.ending.Question.{Question}
 use Rattle.cave_turn.specs.cave_world.declared.ending.Question.TheVariants as question
 use Rattle.cave_turn.specs.cave_world.declared.state.State.{State}
 use Rattle.cave_turn.specs.turn_things.Effects.{with_objects}
 use Rattle.cave_turn.specs.turn_things.Places.{building_place}
-use Rattle.cave_turn.specs.turn_scene.Scene.{Scene, after_saying, after_look_at, with_state, thing}
+use Rattle.cave_turn.specs.turn_scene.Scene.{Scene, after_look_at, with_state, thing}
 use Rattle.cave_turn.specs.turn_things.Reach.{is_in_hand}
 use Rattle.cave_turn.specs.cave_verbs.Acting.{act, next_of_step}
 use Rattle.cave_turn.specs.verb_commands.Rows.{command_of}
@@ -31,12 +30,10 @@ use Rattle.cave_turn.specs.verb_commands.declared.verb.Verb.{Verb}
 use Rattle.cave_turn.specs.turn_clocks.Clocks.{run_clocks}
 use Rattle.cave_turn.specs.turn_clocks.declared.clocks.Clocks.{Clocks}
 use Rattle.cave_turn.specs.turn_clocks.declared.clocks.Clocks.TheVariants as clocks
-use Rattle.cave_turn.specs.turn_ends.Endings.{with_one_death, after_end}
-use Rattle.cave_turn.specs.turn_ends.Questions.{after_ask}
-use Rattle.cave_turn.specs.turn_hints.Hints.{with_turns_in_area, is_in_area, BIRD_HINT, after_wait}
-use Rattle.cave_turn.specs.turn_hints.Hints.{after_consider, is_due, is_needed, after_putting_off}
-use Rattle.cave_turn.specs.turn_hints.Hints.{offer_scene, after_considering_if, after_hints_up_to}
-use Rattle.cave_turn.specs.turn_hints.Hints.{after_hints}
+use Rattle.cave_turn.specs.turn_rules.Rows.{Deed, Act, deed, after_all, by_table, nothing_but}
+use Rattle.cave_turn.specs.turn_ends.Endings.{count_death}
+use Rattle.cave_turn.specs.turn_hints.Hints.{restart, count_turn, offer_rows, turn_rows}
+use Rattle.cave_turn.specs.turn_hints.Hints.{after_consider, after_hints_up_to, after_hints}
 use Rattle.cave_turn.specs.turn_moves.Journeys.{journey_by_request}
 use Rattle.cave_turn.specs.Commands.{begin_command, after_travel, after_puzzle, next_scene}
 use Rattle.cave_turn.specs.Commands.{WordsDone, words_done_by_verb, words_done_by_request}
@@ -46,9 +43,9 @@ use Rattle.cave_turn.specs.Commands.{clocks_scene, command_scene}
 use Rattle.cave_turn.specs.Finish.{is_hidden_in_hand, after_oyster_shows, layout_with_object_shown}
 use Rattle.cave_turn.specs.Finish.{layout_with_shown_up_to, after_hands_show, end_of_turn}
 use Rattle.cave_turn.specs.Request.{read_words, half_command_of}
-use Rattle.cave_turn.specs.Revival.{revival_role, without_belongings, after_revive, after_come_back}
-use Rattle.cave_turn.specs.Revival.{layout_with_lamp_out, layout_after_fall, layout_after_falls}
-use Rattle.cave_turn.specs.Revival.{fallen_place}
+use Rattle.cave_turn.specs.Revival.{reborn_rows, layout_with_lamp_out, fallen_place}
+use Rattle.cave_turn.specs.Revival.{layout_after_fall, layout_after_falls, without_belongings}
+use Rattle.cave_turn.specs.Revival.{revive, revival_rows, come_back}
 use Rattle.cave_turn.specs.declared.request.HalfCommand.{HalfCommand}
 use Rattle.cave_turn.specs.declared.request.Request.{Request}
 use Rattle.cave_turn.specs.declared.request.Request.TheVariants as request
@@ -56,56 +53,40 @@ use Rattle.cave_turn.specs.declared.request.Understood.{Understood}
 use Rattle.turn_laws.specs.Laws.{before_clocks, before_lamp}
 use Rattle.turn_laws.proofs.Clocks as timing
 use Rattle.turn_laws.proofs.Frame as frame
-use Rattle.turn_laws.proofs.ThingsFrame.{Claim, On, IsMoved, IsKept, choose, chosen, chosen_scene}
+use Rattle.turn_laws.proofs.GuardedRows.{guarded}
+use Rattle.turn_laws.proofs.ThingsFrame.{Claim, On, IsMoved, IsKept, choose, chosen_scene}
 use Rattle.turn_laws.proofs.ThingsClocks.{clocks_kept}
 use Rattle.turn_laws.proofs.ThingsMoves.{looking_kept, arriving_kept, describing_kept, motion_kept}
 use Rattle.turn_laws.proofs.ThingsScores.{ended_kept, asking_kept}
 use Rattle.turn_laws.proofs.ThingsEffects.{said_kept}
 use Rattle.turn_laws.proofs.ThingsVerbs.{acted_kept}
 
-waited_kept : (P : Claim) (cave : CaveView) (n : ℕ) (s : State) → On P s
-    → On P (after_wait cave n s)
-unfolding after_wait
-waited_kept P cave n s h =
-    chosen P (is_in_area cave n s)
-    (with_turns_in_area n (min (turns_in_area s n + 1) MAX_TURNS_IN_AREA) s)
-    (with_turns_in_area n 0 s) h h
+offered_kept : (P : Claim) (cave : CaveView) (i : ℕ) (p : Scene) → On P p.state
+    → On P (by_table offer_rows (deed cave i p)).scene.state
+unfolding offer_rows
+offered_kept P cave i p h =
+    let d = deed cave i p in
+    guarded (λ (a : Act (Unit {0})). On P a.scene.state) (nothing_but (λ e. tt)) d offer_rows (
+      (λ _. asking_kept P cave (question.Hint i) (restart d).scene h),
+      λ _. ((λ _. h), λ _. h),
+    )
 
-put_off_kept : (P : Claim) (n : ℕ) (s : State) → On P s → On P (after_putting_off n s)
-put_off_kept P n s h = chosen P (n == BIRD_HINT) s (with_turns_in_area n 0 s) h h
+considered_kept : (P : Claim) (cave : CaveView) (i : ℕ) (p : Scene) → On P p.state
+    → On P (after_consider cave i p).state
+unfolding after_consider turn_rows
+considered_kept P cave i p h =
+    let d = deed cave i p in
+    guarded (λ (a : Act (Unit {0})). On P a.scene.state) (nothing_but (λ e. tt)) d turn_rows (
+      (λ _. offered_kept P cave i (count_turn d).scene h),
+      λ _. ((λ _. h), λ _. h),
+    )
 
-offered_kept : (P : Claim) (cave : CaveView) (i : ℕ) (hint : Hint)
-    (p : Scene)
-    → On P p.state → On P (offer_scene cave i hint p).state
-unfolding offer_scene
-offered_kept P cave i hint p h =
-    let asks = after_ask cave (question.Hint i)
-    (with_state (with_turns_in_area i 0 p.state) p) in
-    let off = with_state (after_putting_off i p.state) p in
-    choose (λ (r : Scene). On P r.state) (is_due cave i hint p.state)
-    (if is_needed cave i p.state then asks else off) p
-    (λ _. choose (λ (r : Scene). On P r.state) (is_needed cave i p.state) asks off
-    (λ _. asking_kept P cave (question.Hint i) (with_state (with_turns_in_area i 0 p.state) p) h)
-    (λ _. put_off_kept P i p.state h))
-    (λ _. h)
-
--- a hint that the cave may have is considered
-considered_if_kept : (P : Claim) (cave : CaveView) (i : ℕ)
-    (o : Option Hint)
-    (p : Scene) → On P p.state → On P (after_considering_if cave i o p).state
-considered_if_kept P cave i None p h = h
-considered_if_kept P cave i (Some hint) p h =
-    let q = with_state (after_wait cave i p.state) p in
-    chosen_scene P (is_hint_taken p.state i) p (offer_scene cave i hint q) h
-    (offered_kept P cave i hint q (waited_kept P cave i p.state h))
-
-considered_kept : (P : Claim) (cave : CaveView) (i : ℕ) (p : Scene)
-    → On P p.state → On P (after_hints_up_to cave i p).state
-unfolding after_hints_up_to after_consider
-considered_kept P cave zero p h = h
-considered_kept P cave (suc i) p h =
-    considered_if_kept P cave (i + 4) (map.get cave.hints (i + 4)) (after_hints_up_to cave i p)
-    (considered_kept P cave i p h)
+hints_kept : (P : Claim) (cave : CaveView) (n : ℕ) (p : Scene) → On P p.state
+    → On P (after_hints_up_to cave n p).state
+unfolding after_hints_up_to
+hints_kept P cave zero p h = h
+hints_kept P cave (suc n) p h =
+    considered_kept P cave (n + 4) (after_hints_up_to cave n p) (hints_kept P cave n p h)
 
 oyster_kept : (P : Claim) (cave : CaveView) (p : Scene) → On P p.state
     → On P (after_oyster_shows cave p).state
@@ -148,7 +129,7 @@ pub finished_kept : {Here : ℕ → Type 0} {P : Claim} (k : IsKept Here P) (cav
 unfolding end_of_turn
 finished_kept {Here} {P} k cave p h =
     chosen_scene P (takes_no_command p.state) p (after_hints cave (after_hands_show cave p)) h
-    (considered_kept P cave 17 (after_hands_show cave p) (hands_kept k.moved cave p h))
+    (hints_kept P cave 17 (after_hands_show cave p) (hands_kept k.moved cave p h))
 
 -- what follows what a verb did
 following_kept : {Here : ℕ → Type 0} {P : Claim} (k : IsKept Here P) (cave : CaveView)
@@ -310,17 +291,36 @@ left_kept {P} k cave s h =
     (choose (λ (l : Layout). P n l w c) (is_in_hand cave s lamp) (with_prop s.objects lamp (pos 0))
     s.objects (λ _. k.prop n s.objects w c lamp (pos 0) h) (λ _. h))
 
+-- what is said of a revival changes nothing
+reborn_same : (d : Deed Question) → (by_table reborn_rows d).scene.state ≡ d.scene.state
+unfolding reborn_rows
+reborn_same d =
+    guarded (λ (a : Act (Unit {0})). a.scene.state ≡ d.scene.state) (nothing_but (λ e. tt)) d
+    reborn_rows ((λ _. refl), λ _. ((λ _. refl), λ _. ((λ _. refl), λ _. refl)))
+
+-- a player who died comes back, or not
+revived_kept : {Here : ℕ → Type 0} {P : Claim} (k : IsKept Here P) (cave : CaveView)
+    (p : Scene) → On P p.state
+    → On P (by_table revival_rows (deed cave question.Die p)).scene.state
+unfolding revival_rows revive
+revived_kept {Here} {P} k cave p h =
+    let t = without_belongings cave p.state in
+    guarded (λ (a : Act (Unit {0})). On P a.scene.state) (nothing_but (λ e. tt))
+    (deed cave question.Die p) revival_rows (
+      (λ _. ended_kept P cave ending_is.Killed p h),
+      λ _. (
+        (λ _. describing_kept k cave
+            (with_state (with_player_from (building_place cave) t) p)
+            (k.anywhere _ (building_place cave) _ _ _ (left_kept k.moved cave p.state h))),
+        λ _. h,
+      ),
+    )
+
 pub reborn_kept : {Here : ℕ → Type 0} {P : Claim} (k : IsKept Here P) (cave : CaveView)
-    (p : Scene) → On P p.state → On P (after_come_back cave p).state
-unfolding after_come_back after_revive
+    (p : Scene) → On P p.state
+    → On P (after_all come_back (deed cave question.Die p)).scene.state
+unfolding come_back
 reborn_kept {Here} {P} k cave p h =
-    let s = p.state in
-    let q = after_saying (revival_role s.tallies.deaths) p in
-    let r = with_state (with_one_death q.state) q in
-    let t = without_belongings cave r.state in
-    choose (λ (u : Scene). On P u.state) (nat_le 3 r.state.tallies.deaths)
-    (after_end cave ending_is.Killed r)
-    (after_revive cave r)
-    (λ _. ended_kept P cave ending_is.Killed r h)
-    (λ _. describing_kept k cave (with_state (with_player_from (building_place cave) t) r)
-    (k.anywhere _ (building_place cave) _ _ _ (left_kept k.moved cave r.state h)))
+    let d = deed cave question.Die p in
+    let e = count_death (by_table reborn_rows d) in
+    revived_kept k cave e.scene (subst (λ (s : State). On P s) (sym (reborn_same d)) h)

@@ -1,21 +1,21 @@
 -- What a turn makes of a claim.
 use Rattle.std.proofs.Common.{◌≡◌, inl, ℕ, zero, suc, ◌+◌, pos, Bool, false, true, List, refl, sym}
+use Rattle.std.proofs.Common.{[], ◌∷◌, ap, ◌∙◌, subst}
 use Rattle.std.proofs.lemmas.Bool.{true≢false}
-use Rattle.std.specs.Prelude.{◌==◌, ◌&&◌, nat_le, min, Option, None, Some, if◌then◌else◌}
-use Rattle.std.specs.FinMap as map
+use Rattle.std.specs.Prelude.{◌&&◌, nat_le, Option, None, Some}
 use Rattle.cave_turn.specs.cave_data.CaveView.{CaveView}
-use Rattle.cave_turn.specs.data_rows.declared.rows.Hint.{Hint}
 use Rattle.cave_turn.specs.cave_words.Words.{words_of}
 use Rattle.cave_turn.specs.cave_words.declared.named.Named.TheVariants as name
 use Rattle.cave_turn.specs.cave_words.declared.words.Words.{Words}
-use Rattle.cave_turn.specs.cave_world.State.{takes_no_command, turns_in_area, MAX_TURNS_IN_AREA}
-use Rattle.cave_turn.specs.cave_world.State.{is_hint_taken, with_player_from}
+use Rattle.cave_turn.specs.cave_world.State.{takes_no_command}
+use Rattle.cave_turn.specs.cave_world.State.{with_player_from}
 use Rattle.cave_turn.specs.cave_world.declared.ending.Ending.TheVariants as ending_is
+use Rattle.cave_turn.specs.cave_world.declared.ending.Question.{Question}
 use Rattle.cave_turn.specs.cave_world.declared.ending.Question.TheVariants as question
 use Rattle.cave_turn.specs.cave_world.declared.state.State.{State}
 use Rattle.cave_turn.specs.turn_things.Effects.{with_objects}
 use Rattle.cave_turn.specs.turn_things.Places.{building_place}
-use Rattle.cave_turn.specs.turn_scene.Scene.{Scene, after_saying, after_look_at, with_state, thing}
+use Rattle.cave_turn.specs.turn_scene.Scene.{Scene, after_look_at, with_state, thing}
 use Rattle.cave_turn.specs.cave_verbs.Acting.{act, next_of_step}
 use Rattle.cave_turn.specs.verb_commands.Rows.{command_of}
 use Rattle.cave_turn.specs.verb_commands.Verbs.{verb_of}
@@ -26,11 +26,12 @@ use Rattle.cave_turn.specs.verb_commands.declared.verb.Verb.{Verb}
 use Rattle.cave_turn.specs.turn_clocks.Clocks.{run_clocks}
 use Rattle.cave_turn.specs.turn_clocks.declared.clocks.Clocks.{Clocks}
 use Rattle.cave_turn.specs.turn_clocks.declared.clocks.Clocks.TheVariants as clocks
-use Rattle.cave_turn.specs.turn_ends.Endings.{with_one_death, after_end}
-use Rattle.cave_turn.specs.turn_ends.Questions.{after_ask}
-use Rattle.cave_turn.specs.turn_hints.Hints.{with_turns_in_area, is_in_area, BIRD_HINT, after_wait}
-use Rattle.cave_turn.specs.turn_hints.Hints.{is_due, is_needed, after_putting_off, offer_scene}
-use Rattle.cave_turn.specs.turn_hints.Hints.{after_considering_if, after_consider}
+use Rattle.cave_turn.specs.turn_rules.Rows.{Deed, Act, deed, all_hold, after_all, by_table}
+use Rattle.cave_turn.specs.turn_rules.Rows.{nothing_but}
+use Rattle.cave_turn.specs.turn_rules.Tests.{no}
+use Rattle.cave_turn.specs.turn_ends.Endings.{with_ending, with_one_death, count_death}
+use Rattle.cave_turn.specs.turn_hints.Hints.{has_stayed, over, helpful, restart, count_turn}
+use Rattle.cave_turn.specs.turn_hints.Hints.{offer_rows, turn_rows, after_consider}
 use Rattle.cave_turn.specs.turn_hints.Hints.{after_hints_up_to, after_hints}
 use Rattle.cave_turn.specs.turn_moves.Journeys.{journey_by_request}
 use Rattle.cave_turn.specs.Answers.{without_question}
@@ -42,14 +43,16 @@ use Rattle.cave_turn.specs.Commands.{clocks_scene, command_scene}
 use Rattle.cave_turn.specs.Finish.{is_hidden_in_hand, after_oyster_shows, layout_with_shown_up_to}
 use Rattle.cave_turn.specs.Finish.{after_hands_show, end_of_turn}
 use Rattle.cave_turn.specs.Request.{read_words, half_command_of}
-use Rattle.cave_turn.specs.Revival.{revival_role, without_belongings, after_revive, after_come_back}
+use Rattle.cave_turn.specs.Revival.{reborn_rows, without_belongings, revive, revival_rows}
+use Rattle.cave_turn.specs.Revival.{come_back}
 use Rattle.cave_turn.specs.declared.request.HalfCommand.{HalfCommand}
 use Rattle.cave_turn.specs.declared.request.Request.{Request}
 use Rattle.cave_turn.specs.declared.request.Request.TheVariants as request
 use Rattle.cave_turn.specs.declared.request.Understood.{Understood}
 use Rattle.turn_laws.specs.Laws.{before_clocks, before_lamp}
 use Rattle.turn_laws.proofs.Frame.{Claim, Facts, On, Calm, Charges, IsBegun, IsKept, IsTimed, Leads}
-use Rattle.turn_laws.proofs.Frame.{choose, chosen, chosen_scene, facts}
+use Rattle.turn_laws.proofs.GuardedRows.{fails_alone, guarded}
+use Rattle.turn_laws.proofs.Frame.{chosen_scene, facts}
 use Rattle.turn_laws.proofs.Clocks.{After, Lights, clocks_kept, lamp_kept}
 use Rattle.turn_laws.proofs.Moves.{looking_kept, arriving_kept, arriving_open, describing_kept}
 use Rattle.turn_laws.proofs.Moves.{motion_kept}
@@ -59,64 +62,47 @@ use Rattle.turn_laws.proofs.VerbEffects.{said_kept}
 use Rattle.turn_laws.proofs.VerbQuestions.{order_spares, is_asking_die}
 use Rattle.turn_laws.proofs.Verbs.{acted_kept}
 
--- the last of three tests that hold holds
-last_holds : (a b c : Bool) → (a && b && c) ≡ true → c ≡ true
-last_holds true true c h = h
-last_holds true false c h = absurd (true≢false (sym h))
-last_holds false b c h = absurd (true≢false (sym h))
+-- the second of three tests that hold holds
+second_holds : (a b c : Bool) → (a && (b && c)) ≡ true → b ≡ true
+second_holds true true c h = refl
+second_holds true false c h = absurd (true≢false (sym h))
+second_holds false b c h = absurd (true≢false (sym h))
 
--- a hint is due only where nothing is over
-due_calm : (cave : CaveView) (n : ℕ) (hint : Hint) (s : State) → is_due cave n hint s ≡ true
-    → (s.question ≡ None) × (s.ending ≡ None)
-unfolding is_due takes_no_command
-due_calm cave n hint s h =
-    none_over s.question s.ending
-    (last_holds (is_in_area cave n s) (nat_le hint.turns (turns_in_area s n)) _ h)
+-- a hint is offered only where nothing is over
+offer_calm : (d : Deed ℕ) → all_hold (has_stayed ∷ no over ∷ helpful ∷ []) d ≡ true
+    → (d.scene.state.question ≡ None) × (d.scene.state.ending ≡ None)
+unfolding takes_no_command
+offer_calm d due =
+    none_over d.scene.state.question d.scene.state.ending
+    (second_holds (has_stayed d) (no over d) _ due)
 
-waited_kept : (P : Claim) (cave : CaveView) (n : ℕ) (s : State) → On P s
-    → On P (after_wait cave n s)
-unfolding after_wait
-waited_kept P cave n s h =
-    chosen P (is_in_area cave n s)
-    (with_turns_in_area n (min (turns_in_area s n + 1) MAX_TURNS_IN_AREA) s)
-    (with_turns_in_area n 0 s) h h
-
-put_off_kept : (P : Claim) (n : ℕ) (s : State) → On P s → On P (after_putting_off n s)
-put_off_kept P n s h = chosen P (n == BIRD_HINT) s (with_turns_in_area n 0 s) h h
-
-offered_kept : {P : Claim} (cave : CaveView) (k : IsKept cave P) (i : ℕ) (hint : Hint)
-    (p : Scene)
-    → On P p.state → On P (offer_scene cave i hint p).state
-unfolding offer_scene
-offered_kept {P} cave k i hint p h =
-    let asks = after_ask cave (question.Hint i)
-    (with_state (with_turns_in_area i 0 p.state) p) in
-    let off = with_state (after_putting_off i p.state) p in
-    choose (λ (r : Scene). On P r.state) (is_due cave i hint p.state)
-    (if is_needed cave i p.state then asks else off) p
-    (λ due. choose (λ (r : Scene). On P r.state) (is_needed cave i p.state) asks off
-    (λ _. asking_kept P cave (question.Hint i) (with_state (with_turns_in_area i 0 p.state) p)
-    (k.asks (question.Hint i) (facts p.state) refl (due_calm cave i hint p.state due) h))
-    (λ _. put_off_kept P i p.state h))
-    (λ _. h)
-
--- a hint that the cave may have is considered
-considered_if_kept : {P : Claim} (cave : CaveView) (k : IsKept cave P) (i : ℕ)
-    (o : Option Hint)
-    (p : Scene) → On P p.state → On P (after_considering_if cave i o p).state
-considered_if_kept cave k i None p h = h
-considered_if_kept {P} cave k i (Some hint) p h =
-    let q = with_state (after_wait cave i p.state) p in
-    chosen_scene P (is_hint_taken p.state i) p (offer_scene cave i hint q) h
-    (offered_kept cave k i hint q (waited_kept P cave i p.state h))
+offered_kept : {P : Claim} (cave : CaveView) (k : IsKept cave P) (i : ℕ) (p : Scene)
+    → On P p.state → On P (by_table offer_rows (deed cave i p)).scene.state
+unfolding offer_rows
+offered_kept {P} cave k i p h =
+    let d = deed cave i p in
+    guarded (λ (a : Act (Unit {0})). On P a.scene.state) (nothing_but (λ e. tt)) d offer_rows (
+      (λ due. asking_kept P cave (question.Hint i) (restart d).scene
+          (k.asks (question.Hint i) (facts p.state) refl (offer_calm d due) h)),
+      λ _. ((λ _. h), λ _. h),
+    )
 
 considered_kept : {P : Claim} (cave : CaveView) (k : IsKept cave P) (i : ℕ) (p : Scene)
-    → On P p.state → On P (after_hints_up_to cave i p).state
-unfolding after_hints_up_to after_consider
-considered_kept cave k zero p h = h
-considered_kept cave k (suc i) p h =
-    considered_if_kept cave k (i + 4) (map.get cave.hints (i + 4)) (after_hints_up_to cave i p)
-    (considered_kept cave k i p h)
+    → On P p.state → On P (after_consider cave i p).state
+unfolding after_consider turn_rows
+considered_kept {P} cave k i p h =
+    let d = deed cave i p in
+    guarded (λ (a : Act (Unit {0})). On P a.scene.state) (nothing_but (λ e. tt)) d turn_rows (
+      (λ _. offered_kept cave k i (count_turn d).scene h),
+      λ _. ((λ _. h), λ _. h),
+    )
+
+hints_kept : {P : Claim} (cave : CaveView) (k : IsKept cave P) (n : ℕ) (p : Scene)
+    → On P p.state → On P (after_hints_up_to cave n p).state
+unfolding after_hints_up_to
+hints_kept cave k zero p h = h
+hints_kept cave k (suc n) p h =
+    considered_kept cave k (n + 4) (after_hints_up_to cave n p) (hints_kept cave k n p h)
 
 oyster_kept : (P : Claim) (cave : CaveView) (p : Scene) → On P p.state
     → On P (after_oyster_shows cave p).state
@@ -142,7 +128,7 @@ pub finished_kept : {P : Claim} (cave : CaveView) (k : IsKept cave P) (p : Scene
 unfolding end_of_turn
 finished_kept {P} cave k p h =
     chosen_scene P (takes_no_command p.state) p (after_hints cave (after_hands_show cave p)) h
-    (considered_kept cave k 17 (after_hands_show cave p) (hands_kept P cave p h))
+    (hints_kept cave k 17 (after_hands_show cave p) (hands_kept P cave p h))
 
 -- what follows what a verb did
 following_kept : {P : Claim} (cave : CaveView) (k : IsKept cave P) (next : Next) (p : Scene)
@@ -286,21 +272,48 @@ command_kept Q {P} cave k timed leads charges line s h =
     commanded_kept Q cave k timed line s
     (lit_kept Q P leads charges cave (before_lamp cave (before_clocks cave s))) h
 
+-- what is said of a revival changes nothing
+reborn_same : (d : Deed Question) → (by_table reborn_rows d).scene.state ≡ d.scene.state
+unfolding reborn_rows
+reborn_same d =
+    guarded (λ (a : Act (Unit {0})). a.scene.state ≡ d.scene.state) (nothing_but (λ e. tt)) d
+    reborn_rows ((λ _. refl), λ _. ((λ _. refl), λ _. ((λ _. refl), λ _. refl)))
+
 -- a player who died comes back, or not
+revived_kept : {Q P : Claim} (cave : CaveView) (k : IsKept cave P)
+    → IsBegun (building_place cave) Q P
+    → (p r : Scene) → p.state.question ≡ Some question.Die → p.state.ending ≡ None → On Q p.state
+    → r.state ≡ with_one_death (without_question p.state)
+    → On P (by_table revival_rows (deed cave question.Die r)).scene.state
+unfolding revival_rows revive without_belongings
+revived_kept {Q} {P} cave k b p r asked goes h same =
+    guarded (λ (a : Act (Unit {0})). On P a.scene.state) (nothing_but (λ e. tt))
+    (deed cave question.Die r) revival_rows (
+      (λ _. ended_kept P cave ending_is.Killed r
+          (subst (λ (s : State). On P (with_ending ending_is.Killed s)) (sym same)
+          (b.buries ending_is.Killed (facts p.state) asked goes h))),
+      λ others.
+          let few = sym (ap (λ (s : State). nat_le 3 s.tallies.deaths) same)
+          ∙ fails_alone (nat_le 3 r.state.tallies.deaths) others in (
+            (λ _. describing_kept cave k
+                (with_state
+                (with_player_from (building_place cave) (without_belongings cave r.state)) r)
+                (subst
+                (λ (s : State). On (Calm P)
+                (with_player_from (building_place cave) (without_belongings cave s))) (sym same)
+                (b.revives (facts p.state) few asked goes h, (refl, goes)))),
+            λ never. absurd (true≢false never),
+          ),
+    )
+
 pub reborn_kept : {Q P : Claim} (cave : CaveView) (k : IsKept cave P)
     → IsBegun (building_place cave) Q P
     → (p : Scene) → p.state.question ≡ Some question.Die → p.state.ending ≡ None → On Q p.state
-    → On P (after_come_back cave (with_state (without_question p.state) p)).state
-unfolding after_come_back after_revive without_belongings
+    → (let q = with_state (without_question p.state) p in
+    On P (after_all come_back (deed cave question.Die q)).scene.state)
+unfolding come_back
 reborn_kept {Q} {P} cave k b p asked goes h =
-    let q = with_state (without_question p.state) p in
-    let told = after_saying (revival_role q.state.tallies.deaths) q in
-    let r = with_state (with_one_death told.state) told in
-    choose (λ (t : Scene). On P t.state) (nat_le 3 r.state.tallies.deaths)
-    (after_end cave ending_is.Killed r)
-    (after_revive cave r)
-    (λ _. ended_kept P cave ending_is.Killed r
-    (b.buries ending_is.Killed (facts p.state) asked goes h))
-    (λ few. describing_kept cave k
-    (with_state (with_player_from (building_place cave) (without_belongings cave r.state)) r)
-    (b.revives (facts p.state) few asked goes h, (refl, goes)))
+    let d = deed cave question.Die (with_state (without_question p.state) p) in
+    let e = count_death (by_table reborn_rows d) in
+    revived_kept cave k b p e.scene asked goes h
+    (ap (λ (s : State). with_one_death s) (reborn_same d))

@@ -16,7 +16,8 @@ use Rattle.cave_turn.specs.turn_clocks.FirstClock.{first_clock}
 use Rattle.cave_turn.specs.turn_clocks.Lamp.{burning, can_change_batteries}
 use Rattle.cave_turn.specs.turn_clocks.Repository.{second_clock}
 use Rattle.cave_turn.specs.turn_rules.Rows.{deed, all_hold}
-use Rattle.cave_turn.specs.Answers.{answer_in, without_question, is_dragon, is_yes}
+use Rattle.cave_turn.specs.turn_ends.Questions.{is_dragon}
+use Rattle.cave_turn.specs.Answers.{answer_in, without_question, is_yes}
 use Rattle.cave_turn.specs.Commands.{begin_command}
 use Rattle.cave_turn.specs.Turns.{Turn, turn_on_line, start_of_game, with_seed, silent_turn}
 
