@@ -1,26 +1,24 @@
 -- What an answer to an open question does.
-use Rattle.std.specs.Prelude.{ℕ, ℤ, pos, Bool, true, false, ◌||◌, not, if◌then◌else◌, List, [], ◌∷◌}
+use Rattle.std.specs.Prelude.{ℕ, pos, Bool, true, false, ◌||◌, not, if◌then◌else◌, List, [], ◌∷◌}
 use Rattle.std.specs.Prelude.{Option, Some, None, codes}
 use Rattle.turn_text.specs.cave_data.CaveView.{CaveView}
 use Rattle.turn_text.specs.data_rows.declared.role.Role.TheVariants as role
-use Rattle.turn_moves.specs.Arrival.{after_arrival}
 use Rattle.turn_begin.specs.turn_scene.Scene.{Scene, scene_at_start, after_saying, with_state}
 use Rattle.cave_verbs.specs.verb_commands.turn_rules.Rows.{Effect, Row, deed, plain_row, by_table}
-use Rattle.cave_verbs.specs.verb_commands.turn_rules.Tests.{either}
-use Rattle.cave_verbs.specs.verb_commands.turn_rules.Effects.{in_scene, in_state, say}
-use Rattle.turn_begin.specs.turn_things.Places.{start_place}
+use Rattle.cave_verbs.specs.verb_commands.turn_rules.Tests.{either, start}
+use Rattle.cave_verbs.specs.verb_commands.turn_rules.Effects.{in_scene, say, take_hint, set_charge}
 use Rattle.turn_text.specs.cave_words.Words.{is_written, words_of}
-use Rattle.turn_text.specs.cave_world.State.{CLUE_HINT, INSTRUCTIONS_HINT, with_hint_taken}
+use Rattle.turn_text.specs.cave_world.State.{CLUE_HINT, INSTRUCTIONS_HINT}
 use Rattle.turn_text.specs.cave_world.declared.ending.Ending.TheVariants as ending_is
 use Rattle.turn_text.specs.cave_world.declared.ending.Question.{Question}
 use Rattle.turn_text.specs.cave_world.declared.state.State.{State}
-use Rattle.cave_turn.specs.Dragon.{after_fight}
+use Rattle.cave_turn.specs.Dragon.{fight}
+use Rattle.cave_turn.specs.Effects.{arrive}
 use Rattle.turn_moves.specs.turn_ends.Endings.{end_as}
 use Rattle.turn_moves.specs.turn_ends.Questions.{is_welcome, is_quit, is_score_quit, is_die}
 use Rattle.turn_moves.specs.turn_ends.Questions.{is_hint, is_take, is_oyster, is_dragon, asks}
 use Rattle.turn_moves.specs.turn_ends.Questions.{hint_number, after_question}
 use Rattle.cave_turn.specs.Finish.{end_of_turn}
-use Rattle.turn_clocks.specs.Lamp.{with_charge}
 use Rattle.turn_hints.specs.Hints.{price_rows, give_rows}
 use Rattle.cave_turn.specs.Revival.{come_back, bury}
 use Rattle.cave_turn.specs.declared.answers.Answer.{Answer}
@@ -44,24 +42,6 @@ answer_in cave line = answer_by (words_of cave.letters line).first
 abbrev pub without_question : State → State
 without_question s = record s { question = None }
 
-abbrev pub take_hint : ℕ → Effect Question
-take_hint h d = in_state (with_hint_taken h d.scene.state) d
-
--- the lamp burns so many turns from now on
-abbrev pub set_charge : ℤ → Effect Question
-set_charge turns d = in_state (with_charge turns d.scene.state) d
-
--- the game begins at its first place
-unfoldable pub after_enter : CaveView → Scene → Scene
-after_enter cave p = after_arrival cave (start_place cave) p
-
-abbrev pub enter : Effect Question
-enter d = in_scene (after_enter d.cave d.scene) d
-
--- the dragon is fought
-abbrev pub fight : Effect Question
-fight d = in_scene (after_fight d.cave d.scene) d
-
 -- what is done about the hint of the question
 abbrev pub by_hint : List (Row ℕ (Unit {0})) → Effect Question
 by_hint rows d =
@@ -69,7 +49,8 @@ by_hint rows d =
 
 unfoldable pub give_instructions : List (Effect Question)
 give_instructions =
-    say role.Instructions ∷ take_hint INSTRUCTIONS_HINT ∷ set_charge (pos 1000) ∷ enter ∷ []
+    say role.Instructions ∷ take_hint INSTRUCTIONS_HINT ∷ set_charge (pos 1000) ∷ arrive start
+    ∷ []
 
 unfoldable pub quit : List (Effect Question)
 quit = say role.Ok ∷ end_as ending_is.Quit ∷ []
@@ -82,13 +63,13 @@ yes_rows =
     ∷ plain_row (asks is_hint ∷ []) (by_hint price_rows ∷ [])
     ∷ plain_row (asks is_take ∷ []) (by_hint give_rows ∷ [])
     ∷ plain_row (asks is_oyster ∷ []) (say role.OysterHint ∷ take_hint CLUE_HINT ∷ [])
-    ∷ plain_row (asks is_dragon ∷ []) (fight ∷ [])
+    ∷ plain_row (asks is_dragon ∷ []) fight
     ∷ []
 
 -- a player who doesn't fight the dragon commands something else
 unfoldable pub no_rows : List (Row Question (Unit {0}))
 no_rows =
-    plain_row (asks is_welcome ∷ []) (enter ∷ [])
+    plain_row (asks is_welcome ∷ []) (arrive start ∷ [])
     ∷ plain_row (either (asks is_quit) (asks is_score_quit) ∷ []) (say role.Ok ∷ [])
     ∷ plain_row (asks is_die ∷ []) bury
     ∷ plain_row (asks is_hint ∷ []) (say role.Ok ∷ [])

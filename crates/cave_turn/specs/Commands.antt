@@ -1,8 +1,8 @@
 -- What a command does.
-use Rattle.std.specs.Prelude.{ℕ, pos, ◌-ℤ◌, Bool, ◌==◌, if◌then◌else◌, List, Option, Some, None}
+use Rattle.std.specs.Prelude.{ℕ, pos, ◌-ℤ◌, Bool, ◌==◌, if◌then◌else◌, List, [], ◌∷◌, Option, Some}
+use Rattle.std.specs.Prelude.{None}
 use Rattle.std.specs.Int.{int_min}
 use Rattle.turn_text.specs.cave_data.CaveView.{CaveView}
-use Rattle.turn_text.specs.data_rows.declared.role.Role.{Role}
 use Rattle.turn_text.specs.data_rows.declared.role.Role.TheVariants as role
 use Rattle.turn_moves.specs.Arrival.{after_arrival, description_anew}
 use Rattle.turn_moves.specs.Journeys.{journey_by_request}
@@ -10,6 +10,9 @@ use Rattle.turn_begin.specs.turn_scene.Scene.{Scene, scene_at_start, after_telli
 use Rattle.turn_begin.specs.turn_scene.Scene.{with_state, after_draw, happens, thing}
 use Rattle.cave_verbs.specs.Acting.{act, next_of_step}
 use Rattle.cave_verbs.specs.verb_commands.Rows.{command_of}
+use Rattle.cave_verbs.specs.verb_commands.turn_rules.Rows.{Act, Test, Row, act_of, deed, plain_row}
+use Rattle.cave_verbs.specs.verb_commands.turn_rules.Rows.{by_table}
+use Rattle.cave_verbs.specs.verb_commands.turn_rules.Effects.{say}
 use Rattle.cave_verbs.specs.verb_commands.Effects.{after_default}
 use Rattle.cave_verbs.specs.verb_commands.Verbs.{verb_number, verb_of}
 use Rattle.cave_verbs.specs.verb_commands.declared.next.Next.{Next}
@@ -30,7 +33,7 @@ use Rattle.turn_moves.specs.turn_ends.Endings.{after_end}
 use Rattle.turn_moves.specs.turn_ends.Questions.{after_ask}
 use Rattle.cave_turn.specs.Finish.{end_of_turn}
 use Rattle.turn_text.specs.cave_world.declared.ending.Ending.TheVariants.{Quit}
-use Rattle.cave_turn.specs.Request.{read_words, half_command_of}
+use Rattle.cave_turn.specs.Request.{read_words}
 use Rattle.turn_text.specs.cave_world.declared.part.Part.TheVariants as part
 use Rattle.turn_text.specs.cave_world.declared.part.WordLine.TheVariants as line
 use Rattle.cave_turn.specs.declared.request.HalfCommand.{HalfCommand}
@@ -59,17 +62,33 @@ begin_command s =
 
 unfoldable pub after_travel : CaveView → ℕ → Scene → Scene
 after_travel cave motion p =
-    let j = journey_by_request cave motion p in after_arrival cave j.place j.scene
+    let j = journey_by_request cave motion p in after_arrival cave j.step j.scene
 
--- what is said of a word that the cave doesn't have, by two draws: the second decides first
-abbrev pub puzzlement : Bool → Bool → Role
-puzzlement first second =
-    if second then role.NoWord3 else (if first then role.NoWord2 else role.NoWord)
+-- what came of two draws
+pub record Draws : Type 0 where
+  pub first : Bool
+  pub second : Bool
 
-unfoldable pub after_puzzle : Scene → Scene
-after_puzzle p =
-    let once = after_draw p in let twice = after_draw once in
-    after_saying (puzzlement (happens 20 p) (happens 20 once)) twice
+abbrev pub first_happens : Test Draws
+first_happens d = d.about.first
+
+abbrev pub second_happens : Test Draws
+second_happens d = d.about.second
+
+-- what is said of a word that the cave doesn't have
+unfoldable pub puzzle_rows : List (Row Draws (Unit {0}))
+puzzle_rows =
+    plain_row (second_happens ∷ []) (say role.NoWord3 ∷ [])
+    ∷ plain_row (first_happens ∷ []) (say role.NoWord2 ∷ [])
+    ∷ plain_row [] (say role.NoWord ∷ [])
+    ∷ []
+
+-- both draws are made, whatever comes of the first
+unfoldable pub after_puzzle : CaveView → Scene → Scene
+after_puzzle cave p =
+    let once = after_draw p in
+    let about : Draws = record { first = happens 20 p; second = happens 20 once } in
+    (by_table puzzle_rows (deed cave about (after_draw once))).scene
 
 abbrev pub after_vanished_knives : Scene → Scene
 after_vanished_knives p = after_saying role.Knife (with_state (with_knife knife.Vanished p.state) p)
@@ -83,13 +102,9 @@ next_scene cave (next_is.Arrive place) p = after_arrival cave place p
 next_scene cave (next_is.Ask question) p = after_ask cave question p
 next_scene cave (next_is.End how) p = after_end cave how p
 
--- what a line has done, and the half command that it leaves for the next one
-pub record WordsDone : Type 0 where
-  pub scene : Scene
-  pub kept : Option HalfCommand
-
-abbrev pub after_words : Scene → Option HalfCommand → WordsDone
-after_words p kept = record { scene = p; kept = kept }
+-- what a line has done; what follows is the half command that it leaves for the next one
+abbrev pub WordsDone : Type 0
+WordsDone = Act (Option HalfCommand)
 
 -- a verb that asks what it is to be done to is kept alone
 abbrev pub half_command_kept : Next → ℕ → Option HalfCommand
@@ -101,26 +116,26 @@ unfoldable pub words_done_by_verb : CaveView → Command → Scene → WordsDone
 words_done_by_verb cave command p =
     let a = act cave command p in
     let next = next_of_step a.step in
-    after_words (next_scene cave next a.scene) (half_command_kept next (verb_number command.verb))
+    act_of (next_scene cave next a.scene) (half_command_kept next (verb_number command.verb))
 
 -- an action that has rules is done by them; of another it is said what the cave says of it
 abbrev pub words_done_by_action : CaveView → Option Verb → ℕ → ℕ → List ℕ → Scene → WordsDone
 words_done_by_action cave (Some v) number x word p =
     words_done_by_verb cave (command_of v x word) p
-words_done_by_action cave None number x word p = after_words (after_default cave number p) None
+words_done_by_action cave None number x word p = act_of (after_default cave number p) None
 
 -- what was read is done. After an unknown word, or where a verb is missing, the half command stays
 -- as it then is
 abbrev pub words_done_by_request : CaveView → HalfCommand → Request → Scene → WordsDone
-words_done_by_request cave half request.Unknown p = after_words (after_puzzle p) (Some half)
+words_done_by_request cave half request.Unknown p = act_of (after_puzzle cave p) (Some half)
 words_done_by_request cave half (request.Motion motion) p =
-    after_words (after_travel cave motion p) None
-words_done_by_request cave half (request.Tell told) p = after_words (after_telling told p) None
-words_done_by_request cave half request.Knives p = after_words (after_vanished_knives p) None
+    act_of (after_travel cave motion p) None
+words_done_by_request cave half (request.Tell told) p = act_of (after_telling told p) None
+words_done_by_request cave half request.Knives p = act_of (after_vanished_knives p) None
 words_done_by_request cave half (request.Act number x word) p =
     words_done_by_action cave (verb_of number) number x word p
 words_done_by_request cave half (request.WhatToDo word) p =
-    after_words (after_telling (part.Word line.WhatToDo word) p) (Some half)
+    act_of (after_telling (part.Word line.WhatToDo word) p) (Some half)
 
 -- what is kept is remembered; where nothing is, the object that was read is the last one
 abbrev pub after_remembering : Option HalfCommand → ℕ → State → State
@@ -130,7 +145,7 @@ after_remembering (Some half) x s =
     let talk = s.talk in record s { talk = record talk { verb = half.verb; object = half.object } }
 
 unfoldable pub kept_scene : ℕ → WordsDone → Scene
-kept_scene x d = with_state (after_remembering d.kept x d.scene.state) d.scene
+kept_scene x d = with_state (after_remembering d.step x d.scene.state) d.scene
 
 unfoldable pub scene_of_understood : CaveView → Understood → Scene → Scene
 scene_of_understood cave u p =
@@ -141,13 +156,12 @@ abbrev pub scene_of_words : CaveView → Words → Scene → Scene
 scene_of_words cave words p =
     elim words.first as (λ _. Scene) [
       | None ↦ p
-      | Some word ↦ scene_of_understood cave
-          (read_words cave p.state (half_command_of p.state.talk) word words.second) p
+      | Some word ↦ scene_of_understood cave (read_words cave word words.second p) p
     ]
 
 -- a command that isn't read leaves nothing for the next line
 abbrev pub unread_scene : Scene → Scene
-unread_scene p = kept_scene 0 (after_words p None)
+unread_scene p = kept_scene 0 (act_of p None)
 
 -- what the clocks leave of a command: it is read, or the player gave up, or is where the cave
 -- closed

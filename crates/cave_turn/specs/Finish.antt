@@ -1,24 +1,26 @@
 -- How a turn ends that leaves no question open.
-use Rattle.std.specs.Prelude.{ℕ, pos, ◌-ℤ◌, Bool, ◌&&◌, if◌then◌else◌, int_lt, suc, zero}
+use Rattle.std.specs.Prelude.{ℕ, pos, ◌-ℤ◌, Bool, ◌&&◌, if◌then◌else◌, int_lt, suc, zero, List, []}
+use Rattle.std.specs.Prelude.{◌∷◌}
 use Rattle.turn_text.specs.data_numbers.Numbers.{LAST_OBJECT}
 use Rattle.turn_text.specs.cave_data.CaveView.{CaveView}
 use Rattle.turn_begin.specs.turn_things.Effects.{with_objects}
 use Rattle.turn_begin.specs.turn_things.Props.{OYSTER_WRITTEN_ON, UNSEEN}
-use Rattle.turn_begin.specs.turn_scene.Scene.{Scene, after_look_at, with_state, thing}
+use Rattle.turn_begin.specs.turn_scene.Scene.{Scene}
 use Rattle.turn_hints.specs.Hints.{after_hints}
+use Rattle.cave_verbs.specs.verb_commands.turn_rules.Rows.{Test, Effect, Thing, Row, deed}
+use Rattle.cave_verbs.specs.verb_commands.turn_rules.Rows.{plain_row, by_table}
+use Rattle.cave_verbs.specs.verb_commands.turn_rules.Tests.{the, no, cave_closed, over}
+use Rattle.cave_verbs.specs.verb_commands.turn_rules.Effects.{look, change, follow}
 use Rattle.turn_text.specs.cave_words.declared.named.Named.TheVariants as name
 use Rattle.turn_text.specs.world_objects.Objects.{Layout, is_carried, prop_of, with_prop}
-use Rattle.turn_text.specs.cave_world.State.{takes_no_command}
+use Rattle.turn_text.specs.cave_world.declared.state.State.{State}
 
 -- an object that is carried and shows nothing yet
 abbrev pub is_hidden_in_hand : Layout → ℕ → Bool
 is_hidden_in_hand o x = is_carried o x && int_lt (prop_of o x) (pos 0)
 
--- the oyster that a player takes in a closed cave shows what is written under it
-unfoldable pub after_oyster_shows : CaveView → Scene → Scene
-after_oyster_shows cave p =
-    let oyster = thing cave name.Oyster in
-    if is_hidden_in_hand p.state.objects oyster then after_look_at oyster OYSTER_WRITTEN_ON p else p
+abbrev pub hidden_in_hand : Thing (Unit {0}) → Test (Unit {0})
+hidden_in_hand t d = is_hidden_in_hand d.scene.state.objects (t d)
 
 -- an object in the hand shows what it is: prop v below 0 becomes -1 - v
 unfoldable pub layout_with_object_shown : ℕ → Layout → Layout
@@ -30,15 +32,25 @@ unfoldable pub layout_with_shown_up_to : ℕ → Layout → Layout
 layout_with_shown_up_to zero o = o
 layout_with_shown_up_to (suc n) o = layout_with_object_shown (suc n) (layout_with_shown_up_to n o)
 
--- in a closed cave all that is carried shows itself
-unfoldable pub after_hands_show : CaveView → Scene → Scene
-after_hands_show cave p =
-    if p.state.closing.is_closed
-    then (let q = after_oyster_shows cave p in
-    with_state (with_objects (layout_with_shown_up_to LAST_OBJECT q.state.objects) q.state) q)
-    else p
+-- all that is carried shows itself
+abbrev pub with_objects_shown : State → State
+with_objects_shown s = with_objects (layout_with_shown_up_to LAST_OBJECT s.objects) s
 
--- a turn ends: after a question or the end of the game nothing more is done
+abbrev pub show_objects : Effect (Unit {0})
+show_objects d = change with_objects_shown d
+
+-- in a closed cave all that is carried shows itself, the oyster first what is written under it
+unfoldable pub hands_rows : List (Row (Unit {0}) (Unit {0}))
+hands_rows =
+    plain_row (cave_closed ∷ hidden_in_hand (the name.Oyster) ∷ [])
+    (look (the name.Oyster) OYSTER_WRITTEN_ON ∷ show_objects ∷ [])
+    ∷ plain_row (cave_closed ∷ []) (show_objects ∷ [])
+    ∷ []
+
+-- after a question or the end of the game nothing more is done
+unfoldable pub end_rows : List (Row (Unit {0}) (Unit {0}))
+end_rows = plain_row (no over ∷ []) (by_table hands_rows ∷ follow after_hints ∷ []) ∷ []
+
+-- a turn ends
 unfoldable pub end_of_turn : CaveView → Scene → Scene
-end_of_turn cave p =
-    if takes_no_command p.state then p else after_hints cave (after_hands_show cave p)
+end_of_turn cave p = (by_table end_rows (deed cave tt p)).scene

@@ -1,6 +1,8 @@
+pub mod Answering
 pub mod Answers
 pub mod Commands
 pub mod Dragon
+pub mod Effects
 pub mod Finish
 pub mod ObjectWords
 pub mod Request
@@ -25,3 +27,4 @@ pub use Rattle.turn_begin.specs.turn_things as turn_things
 pub use Rattle.cave_verbs.specs.verb_commands.turn_rules as turn_rules
 pub use Rattle.cave_verbs.specs.verb_commands as verb_commands
 pub use Rattle.turn_text.specs.world_objects as world_objects
+pub use Rattle.turn_text.specs.cave_world.State.{state_with_player_at}

@@ -1,156 +1,113 @@
 -- What the words of a line say, with what was said before.
-use Rattle.std.specs.Prelude.{ℕ, Bool, true, false, ◌==◌, ◌&&◌, ◌||◌, codes, if◌then◌else◌, List}
-use Rattle.std.specs.Prelude.{Option, Some, None}
+use Rattle.std.specs.Prelude.{ℕ, Bool, true, false, ◌==◌, codes, List, [], ◌∷◌, Option, Some}
+use Rattle.std.specs.Prelude.{None, is_some, unwrap_or}
 use Rattle.turn_text.specs.cave_data.CaveView.{CaveView}
+use Rattle.turn_text.specs.data_rows.declared.role.Role.{Role}
 use Rattle.turn_text.specs.data_rows.declared.role.Role.TheVariants as role
-use Rattle.turn_begin.specs.turn_things.Liquids.{lake_of, is_liquid}
-use Rattle.turn_begin.specs.turn_scene.Scene.{or_no_object, thing}
+use Rattle.turn_begin.specs.turn_scene.Scene.{Scene, or_no_object}
 use Rattle.cave_verbs.specs.verb_commands.Verbs.{verb_number}
+use Rattle.cave_verbs.specs.verb_commands.declared.verb.Verb.{Verb}
 use Rattle.cave_verbs.specs.verb_commands.declared.verb.Verb.TheVariants as verb
-use Rattle.turn_text.specs.cave_words.Meanings.{meaning}
+use Rattle.cave_verbs.specs.verb_commands.turn_rules.Rows.{Deed, Test, Effect, Row, deed, row_then}
+use Rattle.cave_verbs.specs.verb_commands.turn_rules.Tests.{the, no, either, both, is_here, in_lake}
+use Rattle.turn_text.specs.cave_words.Meanings.{meaning, same_class}
 use Rattle.turn_text.specs.cave_words.Words.{is_written, word_of}
 use Rattle.turn_text.specs.cave_words.declared.meaning.Class.{Class}
 use Rattle.turn_text.specs.cave_words.declared.meaning.Class.TheVariants as class
 use Rattle.turn_text.specs.cave_words.declared.meaning.Meaning.{Meaning}
 use Rattle.turn_text.specs.cave_words.declared.named.Named.TheVariants as name
-use Rattle.turn_text.specs.world_objects.Objects.{is_object_at}
-use Rattle.turn_text.specs.cave_world.Motions.{motion_of}
+use Rattle.turn_text.specs.cave_world.Motions.{motion_number}
 use Rattle.turn_text.specs.cave_world.declared.motion.Motion.{Motion as NamedMotion}
 use Rattle.turn_text.specs.cave_world.declared.motion.Motion.TheVariants as motion
 use Rattle.turn_text.specs.cave_world.declared.part.Part.TheVariants as part
 use Rattle.turn_text.specs.cave_world.declared.part.WordLine.TheVariants as line
-use Rattle.turn_text.specs.cave_world.declared.state.State.{State}
 use Rattle.turn_text.specs.cave_world.declared.talk.Talk.{Talk}
-use Rattle.cave_turn.specs.ObjectWords.{object_word}
+use Rattle.cave_turn.specs.Answering.{answer_by_rows}
+use Rattle.cave_turn.specs.ObjectWords.{named_object, is_verb_of, object_word}
 use Rattle.cave_turn.specs.declared.object_words.ObjectWord.{ObjectWord}
 use Rattle.cave_turn.specs.declared.object_words.ObjectWord.TheVariants as object
 use Rattle.cave_turn.specs.declared.request.HalfCommand.{HalfCommand}
-use Rattle.cave_turn.specs.declared.request.Request.TheVariants.{Unknown, Motion, Tell, Knives, Act}
-use Rattle.cave_turn.specs.declared.request.Request.TheVariants.{WhatToDo}
+use Rattle.cave_turn.specs.declared.request.Request.TheVariants as request
 use Rattle.cave_turn.specs.declared.request.SaidWord.{SaidWord}
 use Rattle.cave_turn.specs.declared.request.Understood.{Understood}
 use Rattle.cave_turn.specs.declared.request.Request.{Request}
 
--- what is understood of a line, with the half command as the line leaves it
-abbrev pub understanding : HalfCommand → Request → Understood
-understanding half request = record { half = half; request = request }
+-- the words that are read, and the half command before them
+pub record Said : Type 0 where
+  pub half : HalfCommand
+  pub word : SaidWord
+  pub next : Option SaidWord
 
-abbrev pub with_verb : Option ℕ → HalfCommand → HalfCommand
-with_verb v half = record { verb = v; object = half.object }
+abbrev pub said : HalfCommand → SaidWord → Option SaidWord → Said
+said half word next = record { half = half; word = word; next = next }
 
-abbrev pub with_object : ℕ → HalfCommand → HalfCommand
-with_object x half = record { verb = half.verb; object = x }
+-- the half command that the game remembers
+abbrev pub half_command_of : Talk → HalfCommand
+half_command_of talk = record { verb = talk.verb; object = talk.object }
 
 abbrev pub said_word : CaveView → List ℕ → SaidWord
 said_word cave word = record { word = word; meaning = meaning cave word }
 
--- an object is done to what the verb says, or the player is asked what to do with it
-abbrev pub act_or_ask : Option ℕ → ℕ → HalfCommand → List ℕ → Understood
-act_or_ask None x half word = understanding (with_object x half) (WhatToDo word)
-act_or_ask (Some v) x half word = understanding (with_object x half) (Act v x word)
+-- a word follows
+abbrev pub followed : Test Said
+followed d = is_some d.about.next
 
-abbrev pub object_alone : ObjectWord → HalfCommand → List ℕ → Understood
-object_alone (object.Is x) half word = act_or_ask half.verb x half word
-object_alone (object.Leads motion) half word = understanding half (Motion motion)
-object_alone object.Knives half word = understanding half Knives
-object_alone object.Unseen half word = understanding half (Tell (part.Word line.NotSeen word))
+-- SAY was said before
+abbrev pub saying : Test Said
+saying d = is_verb_of verb.Say d.about.half.verb
 
--- SAY alone is done to no object, also where one was named before
-abbrev pub action_alone : ℕ → HalfCommand → List ℕ → Understood
-action_alone v half word =
-    if v == verb_number verb.Say then understanding half (Act v 0 word)
-    else understanding (with_verb (Some v) half) (Act v half.object word)
+-- the word is written so
+abbrev pub written : List ℕ → Test Said
+written letters d = is_written letters d.about.word.word
 
-abbrev pub class_alone : CaveView → State → HalfCommand → List ℕ → Class → ℕ → Understood
-class_alone cave s half word class.Motion n = understanding half (Motion n)
-class_alone cave s half word class.Object n =
-    object_alone (object_word cave s half.verb true (or_no_object (Some n))) half word
-class_alone cave s half word class.Action n = action_alone n half word
-class_alone cave s half word class.Special n = understanding half (Tell (part.Message n))
+-- and so is the word after it
+abbrev pub next_written : List ℕ → Test Said
+next_written letters d = is_written letters (unwrap_or d.about.next d.about.word).word
 
--- a word that no other follows
-abbrev pub meaning_alone : CaveView → State → HalfCommand → List ℕ → Option Meaning → Understood
-meaning_alone cave s half word None = understanding half Unknown
-meaning_alone cave s half word (Some m) = class_alone cave s half word m.class m.number
+-- the cave has the word
+abbrev pub known : Test Said
+known d = is_some d.about.word.meaning
 
-unfoldable pub word_alone : CaveView → State → HalfCommand → SaidWord → Understood
-word_alone cave s half w = meaning_alone cave s half w.word w.meaning
+abbrev pub is_of_class : Class → Option Meaning → Bool
+is_of_class c None = false
+is_of_class c (Some m) = same_class m.class c
 
--- three motions are done where they are said aloud
-abbrev pub is_magic_motion : Option NamedMotion → Bool
-is_magic_motion (Some motion.Xyzzy) = true
-is_magic_motion (Some motion.Plugh) = true
-is_magic_motion (Some motion.Plover) = true
-is_magic_motion _ = false
+abbrev pub means : Class → Test Said
+means c d = is_of_class c d.about.word.meaning
 
--- and so are the magic words
-abbrev pub is_magic_by : Class → ℕ → Bool
-is_magic_by class.Motion n = is_magic_motion (motion_of n)
-is_magic_by class.Object n = false
-is_magic_by class.Action n = n == verb_number verb.Foo
-is_magic_by class.Special n = false
+abbrev pub number_meant : Option Meaning → ℕ
+number_meant None = 0
+number_meant (Some m) = m.number
 
-abbrev pub is_magic : Option Meaning → Bool
-is_magic None = false
-is_magic (Some m) = is_magic_by m.class m.number
+-- the number of the word in its class
+abbrev pub number : Deed Said → ℕ
+number d = number_meant d.about.word.meaning
 
-unfoldable pub word_aloud : CaveView → State → HalfCommand → SaidWord → Understood
-word_aloud cave s half w =
-    if is_magic w.meaning then word_alone cave s half w
-    else understanding half (Tell (part.Word line.Okay w.word))
+abbrev pub of_motion : NamedMotion → Test Said
+of_motion m d = number d == motion_number m
 
-abbrev pub object_before : CaveView → State → ObjectWord → HalfCommand → List ℕ → SaidWord
-    → Understood
-object_before cave s (object.Is x) half word next = word_alone cave s (with_object x half) next
-object_before cave s (object.Leads motion) half word next = understanding half (Motion motion)
-object_before cave s object.Knives half word next = understanding half Knives
-object_before cave s object.Unseen half word next =
-    understanding half (Tell (part.Word line.NotSeen word))
+abbrev pub of_action : Verb → Test Said
+of_action v d = number d == verb_number v
 
-abbrev pub action_before : CaveView → State → ℕ → HalfCommand → SaidWord → Understood
-action_before cave s v half next =
-    if v == verb_number verb.Say then word_aloud cave s half next
-    else word_alone cave s (with_verb (Some v) half) next
+abbrev pub in_half : HalfCommand → Effect Said
+in_half half d = record d { about = record (d.about) { half = half } }
 
-abbrev pub class_before : CaveView → State → HalfCommand → List ℕ → Class → ℕ → SaidWord
-    → Understood
-class_before cave s half word class.Motion n next = understanding half (Motion n)
-class_before cave s half word class.Object n next =
-    object_before cave s (object_word cave s half.verb false (or_no_object (Some n))) half word next
-class_before cave s half word class.Action n next = action_before cave s n half next
-class_before cave s half word class.Special n next = understanding half (Tell (part.Message n))
+-- the verb that was said before is forgotten
+abbrev pub forget_verb : Effect Said
+forget_verb d = in_half (record (d.about.half) { verb = None }) d
 
-abbrev pub meaning_before : CaveView → State → HalfCommand → List ℕ → Option Meaning → SaidWord
-    → Understood
-meaning_before cave s half word None next = understanding half Unknown
-meaning_before cave s half word (Some m) next = class_before cave s half word m.class m.number next
+-- the word is the verb
+abbrev pub take_verb : Effect Said
+take_verb d = in_half (record (d.about.half) { verb = Some (number d) }) d
 
--- a word that another follows
-unfoldable pub before : CaveView → State → HalfCommand → SaidWord → SaidWord → Understood
-before cave s half w next = meaning_before cave s half w.word w.meaning next
+-- an object is that of the command
+abbrev pub take_object : ℕ → Effect Said
+take_object x d = in_half (record (d.about.half) { object = x }) d
 
--- a player who enters a stream gets wet feet if there is water
-abbrev pub enter_stream : CaveView → State → HalfCommand → Understood
-enter_stream cave s half =
-    if is_liquid (thing cave name.Water) (lake_of cave s)
-    then understanding half (Tell (part.Role role.FeetWet))
-    else understanding half (Tell (part.Role role.Where))
-
--- entering anything else is that word alone
-unfoldable pub enter_into_word : CaveView → State → HalfCommand → List ℕ → Understood
-enter_into_word cave s half word =
-    if is_written (codes "STREA") word || is_written (codes "WATER") word
-    then enter_stream cave s half
-    else word_alone cave s half (said_word cave word)
-
--- water or oil is poured over a plant or a door that is here
-unfoldable pub is_pouring : CaveView → State → List ℕ → List ℕ → Bool
-is_pouring cave s word next =
-    (is_written (codes "WATER") word || is_written (codes "OIL") word)
-    && ((is_written (codes "PLANT") next
-    && is_object_at s.objects s.trail.here (thing cave name.Plant))
-    || (is_written (codes "DOOR") next && is_object_at s.objects s.trail.here
-    (thing cave name.Door)))
+-- the next word is read in place of the word
+abbrev pub read_next : Effect Said
+read_next d =
+    record d { about = said d.about.half (unwrap_or d.about.next d.about.word) None }
 
 -- POUR, whatever the cave's words say
 abbrev pub pour_in : CaveView → SaidWord
@@ -160,26 +117,160 @@ pour_in cave =
       meaning = Some (record { class = class.Action; number = verb_number verb.Pour });
     }
 
-unfoldable pub two_words : CaveView → State → HalfCommand → List ℕ → List ℕ → Understood
-two_words cave s half word next =
-    if is_written (codes "ENTER") word then enter_into_word cave s half next
-    else (if is_pouring cave s word next
-    then before cave s half (said_word cave word) (pour_in cave)
-    else before cave s half (said_word cave word) (said_word cave next))
+-- the next word is POUR
+abbrev pub put_pour : Effect Said
+put_pour d = record d { about = record (d.about) { next = Some (pour_in d.cave) } }
 
-abbrev pub is_saying : Option ℕ → Bool
-is_saying None = false
-is_saying (Some v) = v == verb_number verb.Say
+-- what is asked for, with the half command as it is then
+abbrev pub asks_for : Request → Deed Said → Understood
+asks_for asked d = record { half = d.about.half; request = asked }
+
+abbrev pub puzzles : Deed Said → Understood
+puzzles d = asks_for request.Unknown d
+
+abbrev pub travels : Deed Said → Understood
+travels d = asks_for (request.Motion (number d)) d
+
+abbrev pub says : Role → Deed Said → Understood
+says r d = asks_for (request.Tell (part.Role r)) d
+
+abbrev pub tells_message : Deed Said → Understood
+tells_message d = asks_for (request.Tell (part.Message (number d))) d
+
+-- the word is said aloud
+abbrev pub echoes : Deed Said → Understood
+echoes d = asks_for (request.Tell (part.Word line.Okay d.about.word.word)) d
+
+-- a verb is done to an object, or to none
+abbrev pub acts : ℕ → ℕ → Deed Said → Understood
+acts v x d = asks_for (request.Act v x d.about.word.word) d
+
+-- the verb is done to no object
+abbrev pub acts_alone : Deed Said → Understood
+acts_alone d = acts (number d) 0 d
+
+-- the verb is done to the object, if there is one; without a verb the player is asked what to do
+abbrev pub acts_by : Option ℕ → Deed Said → Understood
+acts_by (Some v) d = acts v d.about.half.object d
+acts_by None d = asks_for (request.WhatToDo d.about.word.word) d
+
+abbrev pub acts_by_verb : Deed Said → Understood
+acts_by_verb d = acts_by d.about.half.verb d
+
+-- what the word of an object comes to
+abbrev pub object_comes_to : Bool → Deed Said → ObjectWord
+object_comes_to is_alone d =
+    object_word (deed d.cave (named_object (or_no_object (Some (number d))) d.about.half.verb
+    is_alone) d.scene)
+
+abbrev pub by_object_alone : ObjectWord → Deed Said → Understood
+by_object_alone (object.Is x) d = acts_by_verb (take_object x d)
+by_object_alone (object.Leads motion) d = asks_for (request.Motion motion) d
+by_object_alone object.Knives d = asks_for request.Knives d
+by_object_alone object.Unseen d =
+    asks_for (request.Tell (part.Word line.NotSeen d.about.word.word)) d
+
+abbrev pub object_alone : Deed Said → Understood
+object_alone d = by_object_alone (object_comes_to true d) d
+
+-- a word that no other follows
+unfoldable pub alone_rows : List (Row Said Understood)
+alone_rows =
+    row_then (no known ∷ []) [] puzzles
+    ∷ row_then (means class.Motion ∷ []) [] travels
+    ∷ row_then (means class.Special ∷ []) [] tells_message
+    ∷ row_then (means class.Object ∷ []) [] object_alone
+    ∷ row_then (means class.Action ∷ of_action verb.Say ∷ []) [] acts_alone
+    ∷ row_then (means class.Action ∷ []) (take_verb ∷ []) acts_by_verb
+    ∷ []
+
+abbrev pub word_alone : Deed Said → Understood
+word_alone d = answer_by_rows alone_rows puzzles d
+
+-- a word that is said aloud
+unfoldable pub aloud_rows : List (Row Said Understood)
+aloud_rows =
+    row_then (means class.Motion ∷ either (of_motion motion.Xyzzy)
+    (either (of_motion motion.Plugh) (of_motion motion.Plover)) ∷ []) [] word_alone
+    ∷ row_then (means class.Action ∷ of_action verb.Foo ∷ []) [] word_alone
+    ∷ row_then [] [] echoes
+    ∷ []
+
+abbrev pub word_aloud : Deed Said → Understood
+word_aloud d = answer_by_rows aloud_rows echoes d
+
+abbrev pub by_object_before : ObjectWord → Deed Said → Understood
+by_object_before (object.Is x) d = word_alone (read_next (take_object x d))
+by_object_before word d = by_object_alone word d
+
+abbrev pub object_before : Deed Said → Understood
+object_before d = by_object_before (object_comes_to false d) d
+
+-- a word that another follows
+unfoldable pub before_rows : List (Row Said Understood)
+before_rows =
+    row_then (no known ∷ []) [] puzzles
+    ∷ row_then (means class.Motion ∷ []) [] travels
+    ∷ row_then (means class.Special ∷ []) [] tells_message
+    ∷ row_then (means class.Object ∷ []) [] object_before
+    ∷ row_then (means class.Action ∷ of_action verb.Say ∷ []) (read_next ∷ []) word_aloud
+    ∷ row_then (means class.Action ∷ []) (take_verb ∷ read_next ∷ []) word_alone
+    ∷ []
+
+abbrev pub word_before : Deed Said → Understood
+word_before d = answer_by_rows before_rows puzzles d
+
+-- into water
+abbrev pub into_water : Test Said
+into_water = either (next_written (codes "STREA")) (next_written (codes "WATER"))
+
+-- water or oil is poured over a plant or a door that is here
+unfoldable pub pours_over : Test Said
+pours_over d =
+    both (either (written (codes "WATER")) (written (codes "OIL")))
+    (either (both (next_written (codes "PLANT")) (is_here (the name.Plant)))
+    (both (next_written (codes "DOOR")) (is_here (the name.Door)))) d
+
+-- the word after ENTER
+unfoldable pub enter_rows : List (Row Said Understood)
+enter_rows =
+    row_then (into_water ∷ in_lake (the name.Water) ∷ []) [] (says role.FeetWet)
+    ∷ row_then (into_water ∷ []) [] (says role.Where)
+    ∷ row_then [] (read_next ∷ []) word_alone
+    ∷ []
+
+abbrev pub word_entered : Deed Said → Understood
+word_entered d = answer_by_rows enter_rows puzzles d
+
+-- two words that are put together
+unfoldable pub two_word_rows : List (Row Said Understood)
+two_word_rows =
+    row_then (written (codes "ENTER") ∷ []) [] word_entered
+    ∷ row_then (pours_over ∷ []) (put_pour ∷ []) word_before
+    ∷ row_then [] [] word_before
+    ∷ []
+
+abbrev pub two_words : Deed Said → Understood
+two_words d = answer_by_rows two_word_rows word_before d
 
 -- after SAY alone a word is said, and of two words SAY is forgotten
-abbrev pub read_words : CaveView → State → HalfCommand → List ℕ → Option (List ℕ) → Understood
-read_words cave s half word None =
-    if is_saying half.verb then word_aloud cave s half (said_word cave word)
-    else word_alone cave s half (said_word cave word)
-read_words cave s half word (Some next) =
-    if is_saying half.verb then two_words cave s (with_verb None half) word next
-    else two_words cave s half word next
+unfoldable pub line_rows : List (Row Said Understood)
+line_rows =
+    row_then (saying ∷ followed ∷ []) (forget_verb ∷ []) two_words
+    ∷ row_then (saying ∷ []) [] word_aloud
+    ∷ row_then (followed ∷ []) [] two_words
+    ∷ row_then [] [] word_alone
+    ∷ []
 
--- the half command that the game remembers
-abbrev pub half_command_of : Talk → HalfCommand
-half_command_of talk = record { verb = talk.verb; object = talk.object }
+abbrev pub words_read : Deed Said → Understood
+words_read d = answer_by_rows line_rows word_alone d
+
+abbrev pub said_next : CaveView → Option (List ℕ) → Option SaidWord
+said_next cave None = None
+said_next cave (Some word) = Some (said_word cave word)
+
+-- the words of a line, with the half command that the game remembers
+abbrev pub read_words : CaveView → List ℕ → Option (List ℕ) → Scene → Understood
+read_words cave word next p =
+    words_read (deed cave (said (half_command_of p.state.talk) (said_word cave word)
+    (said_next cave next)) p)

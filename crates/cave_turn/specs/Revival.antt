@@ -3,13 +3,13 @@ use Rattle.std.specs.Prelude.{ℕ, nat_le, if◌then◌else◌, suc, zero, List,
 use Rattle.turn_text.specs.data_numbers.Numbers.{LAST_OBJECT}
 use Rattle.turn_text.specs.cave_data.CaveView.{CaveView}
 use Rattle.turn_text.specs.data_rows.declared.role.Role.TheVariants as role
-use Rattle.turn_moves.specs.Arrival.{description_anew}
 use Rattle.turn_moves.specs.turn_ends.Endings.{count_death, end_as}
-use Rattle.turn_moves.specs.turn_ends.Questions.{deaths}
 use Rattle.cave_verbs.specs.verb_commands.turn_rules.Rows.{Test, Effect, Row, plain_row, by_table}
-use Rattle.cave_verbs.specs.verb_commands.turn_rules.Effects.{in_scene, in_state, say}
+use Rattle.cave_verbs.specs.verb_commands.turn_rules.Tests.{deaths, building}
+use Rattle.cave_verbs.specs.verb_commands.turn_rules.Effects.{in_state, put_player, say}
+use Rattle.cave_turn.specs.Effects.{describe}
 use Rattle.turn_begin.specs.turn_things.Effects.{with_objects}
-use Rattle.turn_begin.specs.turn_things.Places.{building_place, start_place}
+use Rattle.turn_begin.specs.turn_things.Places.{start_place}
 use Rattle.turn_begin.specs.turn_scene.Scene.{is_called, thing}
 use Rattle.turn_begin.specs.turn_things.Reach.{is_in_hand}
 use Rattle.turn_begin.specs.turn_things.Props.{LAMP_OFF}
@@ -18,7 +18,7 @@ use Rattle.turn_text.specs.world_objects.Objects.{Layout, is_carried, after_move
 use Rattle.turn_text.specs.cave_world.declared.ending.Ending.TheVariants.{Killed}
 use Rattle.turn_text.specs.cave_world.declared.ending.Question.{Question}
 use Rattle.turn_text.specs.cave_world.declared.state.State.{State}
-use Rattle.turn_text.specs.cave_world.State.{LIVES, with_player_from}
+use Rattle.turn_text.specs.cave_world.State.{LIVES}
 
 -- what is said of a first, a second, a third revival
 unfoldable pub reborn_rows : List (Row Question (Unit {0}))
@@ -58,14 +58,8 @@ without_belongings cave s =
 abbrev pub leave_belongings : Effect Question
 leave_belongings d = in_state (without_belongings d.cave d.scene.state) d
 
-abbrev pub put_in_building : Effect Question
-put_in_building d = in_state (with_player_from (building_place d.cave) d.scene.state) d
-
-abbrev pub describe : Effect Question
-describe d = in_scene (description_anew d.cave d.scene) d
-
 unfoldable pub revive : List (Effect Question)
-revive = leave_belongings ∷ put_in_building ∷ describe ∷ []
+revive = leave_belongings ∷ put_player building ∷ describe ∷ []
 
 abbrev pub dead_for_good : Test Question
 dead_for_good d = nat_le LIVES d.scene.state.tallies.deaths

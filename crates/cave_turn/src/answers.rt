@@ -8,8 +8,8 @@ ghost use Rattle.turn_begin.specs.turn_scene.Scene.{scene_of, cave_of};
 ghost use Rattle.turn_text.specs.cave_world.State as defined_state;
 ghost use Rattle.turn_moves.specs.turn_ends.Questions.{is_dragon};
 ghost use Rattle.cave_verbs.specs.verb_commands.turn_rules.Rows.{Does};
-ghost use Rattle.turn_clocks.specs.Lamp.{with_charge};
-ghost use Rattle.cave_turn.specs.Answers.{answer_of, answer_in, after_enter, quit};
+ghost use Rattle.cave_verbs.specs.verb_commands.turn_rules.Effects.{with_charge};
+ghost use Rattle.cave_turn.specs.Answers.{answer_of, answer_in, quit};
 ghost use Rattle.cave_turn.specs.Answers.{after_yes, after_no, reply_scene, is_of_hint};
 ghost use Rattle.cave_turn.specs.Answers.{end_of_answer, after_answer, answers, without_question};
 ghost use Rattle.cave_turn.specs.Answers.{is_yes};
@@ -96,16 +96,6 @@ pub fn close_question(state: &mut State)
     state.question = None;
 }
 
-/// The game begins at its first place.
-#[tactic(auto, unfolding(crate::specs::Answers::after_enter))]
-fn enter(rules: &Rules<'_>, scene: &mut Scene<'_>)
-    requires { HasRoom (parts_of_arrival scene.old.left) scene.old }
-    ensures scene { scene_of scene.new ≡ after_enter (cave_of rules.now) (scene_of scene.old) }
-    ensures says { MovesOnSaying (parts_of_arrival scene.old.left) scene.old scene.new }
-{
-    arrive(rules, start_place(rules.cave), scene);
-}
-
 #[tactic(auto, unfolding(crate::specs::Answers::quit))]
 fn quit(rules: &Rules<'_>, question: &Question, scene: &mut Scene<'_>)
     requires { HasRoom (1 + parts_of_end) scene.old }
@@ -126,7 +116,7 @@ fn say_yes(rules: &Rules<'_>, question: &Question, scene: &mut Scene<'_>)
         Question::Welcome => {
             scene.say(Role::Instructions);
             instruct(scene.state);
-            enter(rules, scene)
+            arrive(rules, start_place(rules.cave), scene)
         }
         Question::Quit | Question::ScoreQuit => quit(rules, question, scene),
         Question::Die => come_back(rules, scene),
@@ -148,7 +138,7 @@ fn say_no(rules: &Rules<'_>, question: &Question, scene: &mut Scene<'_>)
     ensures says { MovesOnSaying (parts_of_arrival scene.old.left + 1) scene.old scene.new }
 {
     match question {
-        Question::Welcome => enter(rules, scene),
+        Question::Welcome => arrive(rules, start_place(rules.cave), scene),
         Question::Die => bury(rules, scene),
         Question::Dragon => {}
         Question::Quit

@@ -7,13 +7,14 @@ ghost use Rattle.turn_begin.specs.turn_scene.Bounds.{parts_of_request, parts_of_
 ghost use Rattle.turn_begin.specs.turn_scene.Bounds.{room_of_timed_request};
 ghost use Rattle.turn_begin.specs.turn_scene.Scene.{scene_of, cave_of};
 ghost use Rattle.cave_turn.specs.Commands.{with_magic_waiting, knife_here, begin_command};
-ghost use Rattle.cave_turn.specs.Commands.{after_travel, puzzlement, after_puzzle};
+ghost use Rattle.cave_turn.specs.Commands.{after_travel, after_puzzle};
 ghost use Rattle.cave_turn.specs.Commands.{after_vanished_knives, next_scene, half_command_kept};
-ghost use Rattle.cave_turn.specs.Commands.{after_words, words_done_by_verb, words_done_by_request};
+ghost use Rattle.cave_turn.specs.Commands.{words_done_by_verb, words_done_by_request};
 ghost use Rattle.cave_turn.specs.Commands.{after_remembering, kept_scene, scene_of_understood};
 ghost use Rattle.cave_turn.specs.Commands.{scene_of_words, unread_scene, after_clocks};
 ghost use Rattle.cave_turn.specs.Commands.{clocks_scene, command_scene, words_done_by_action};
 ghost use Rattle.cave_verbs.specs.verb_commands.Verbs.{verb_of};
+ghost use Rattle.cave_verbs.specs.verb_commands.turn_rules.Rows.{act_of};
 
 use crate::finish::end_turn;
 use crate::request::{HalfCommand, Request, Understood, read_words};
@@ -85,28 +86,24 @@ fn travel_by(rules: &Rules<'_>, motion: u16, scene: &mut Scene<'_>)
     arrive(rules, place, scene);
 }
 
-fn puzzlement(first: bool, second: bool) -> Role
-    ensures { result ≡ puzzlement first second }
-{
-    if second {
-        Role::NoWord3
-    } else if first {
-        Role::NoWord2
-    } else {
-        Role::NoWord
-    }
-}
-
 /// The cave doesn't have the word.
-#[tactic(auto, unfolding(crate::specs::Commands::after_puzzle))]
-fn puzzle(scene: &mut Scene<'_>)
+#[tactic(auto, unfolding(crate::specs::Commands::after_puzzle, crate::specs::Commands::puzzle_rows))]
+fn puzzle(rules: &Rules<'_>, scene: &mut Scene<'_>)
     requires { HasRoom 1 scene.old }
-    ensures scene { scene_of scene.new ≡ after_puzzle (scene_of scene.old) }
+    ensures scene { scene_of scene.new ≡ after_puzzle (cave_of rules.now) (scene_of scene.old) }
     ensures says { GoesOnSaying 1 scene.old scene.new }
 {
     let first = scene.happens(20);
     let second = scene.happens(20);
-    scene.say(puzzlement(first, second));
+    if second {
+        scene.say(Role::NoWord3);
+        return;
+    }
+    if first {
+        scene.say(Role::NoWord2);
+        return;
+    }
+    scene.say(Role::NoWord);
 }
 
 /// It is said that the knives vanished.
@@ -152,7 +149,7 @@ fn half_command_kept(next: &Next, verb: u16) -> Option<HalfCommand>
 #[tactic(auto, unfolding(crate::specs::Commands::words_done_by_verb))]
 fn do_verb(rules: &Rules<'_>, command: Command, scene: &mut Scene<'_>) -> Option<HalfCommand>
     requires { HasRoom (room_of_request scene.old.left) scene.old }
-    ensures scene { after_words (scene_of scene.new) result
+    ensures scene { act_of (scene_of scene.new) result
         ≡ words_done_by_verb (cave_of rules.now) command (scene_of scene.old) }
     ensures says { MovesOnSaying (parts_of_request scene.old.left) scene.old scene.new }
 {
@@ -171,7 +168,7 @@ fn do_action(
     scene: &mut Scene<'_>,
 ) -> Option<HalfCommand>
     requires { HasRoom (room_of_request scene.old.left) scene.old }
-    ensures scene { after_words (scene_of scene.new) result
+    ensures scene { act_of (scene_of scene.new) result
         ≡ words_done_by_action (cave_of rules.now) (verb_of number) number object word
         (scene_of scene.old) }
     ensures says { MovesOnSaying (parts_of_request scene.old.left) scene.old scene.new }
@@ -192,7 +189,7 @@ fn do_request(
     scene: &mut Scene<'_>,
 ) -> Option<HalfCommand>
     requires { HasRoom (room_of_request scene.old.left) scene.old }
-    ensures scene { after_words (scene_of scene.new) result
+    ensures scene { act_of (scene_of scene.new) result
         ≡ words_done_by_request (cave_of rules.now) understood.now.half understood.now.request
         (scene_of scene.old) }
     ensures says { MovesOnSaying (parts_of_request scene.old.left) scene.old scene.new }
@@ -200,7 +197,7 @@ fn do_request(
     let half = understood.half;
     match &understood.request {
         Request::Unknown => {
-            puzzle(scene);
+            puzzle(rules, scene);
             Some(half)
         }
         Request::Motion(motion) => {
@@ -262,8 +259,7 @@ fn do_words(rules: &Rules<'_>, words: Words, scene: &mut Scene<'_>)
     match words.first {
         None => {}
         Some(word) => {
-            let half = HalfCommand::of(scene.state.talk);
-            let understood = read_words(rules, scene.state, half, word, words.second);
+            let understood = read_words(rules, word, words.second, scene);
             do_understood(rules, &understood, scene);
         }
     }

@@ -2,12 +2,13 @@ ghost use Rattle.std.specs.Prelude.{◌≡◌, ◌+◌, ◌<◌};
 ghost use Rattle.turn_text.specs.data_numbers.Numbers.{LAST_OBJECT};
 ghost use Rattle.turn_begin.specs.turn_scene.Bounds.{HasRoom, MovesOnSaying, parts_of_arrival};
 ghost use Rattle.turn_begin.specs.turn_scene.Scene.{scene_of, cave_of};
-ghost use Rattle.cave_turn.specs.Dragon.{between, lair, is_by_dragon, after_gathering, after_slay};
-ghost use Rattle.cave_turn.specs.Dragon.{after_clear, after_fight};
+ghost use Rattle.turn_text.specs.cave_world.declared.ending.Question.TheVariants as question_is;
+ghost use Rattle.cave_verbs.specs.verb_commands.turn_rules.Rows.{after_all, deed};
+ghost use Rattle.cave_turn.specs.Dragon.{between, lair_from, is_by_dragon, after_gathering, fight};
 
 use turn_begin::{DRAGON_DEAD, DRAGON_DYING, RUG_FREE, Rules, Scene, home, second_home};
 use turn_moves::arrive;
-use turn_text::{Anchor, Named, OBJECTS, Object, Objects, Place, Prop, State};
+use turn_text::{Anchor, Named, OBJECTS, Object, Objects, Place, Prop};
 
 fn between(one: Place, other: Place, here: Place) -> Place
     ensures { result ≡ between one other here }
@@ -21,16 +22,12 @@ fn between(one: Place, other: Place, here: Place) -> Place
 }
 
 /// Where the dragon is once it is dead.
-#[tactic(auto, unfolding(crate::specs::Dragon::lair))]
-fn lair(rules: &Rules<'_>, state: &State) -> Place
-    ensures { result ≡ lair (cave_of rules.now) state.now }
+#[tactic(auto, unfolding(crate::specs::Dragon::lair_from))]
+fn lair_from(rules: &Rules<'_>, here: Place) -> Place
+    ensures { result ≡ lair_from (cave_of rules.now) here }
 {
     let dragon = rules.thing(Named::Dragon);
-    between(
-        home(rules, dragon),
-        second_home(rules, dragon),
-        state.trail.here,
-    )
+    between(home(rules, dragon), second_home(rules, dragon), here)
 }
 
 #[tactic(auto, unfolding(crate::specs::Dragon::is_by_dragon))]
@@ -56,40 +53,25 @@ fn gather(rules: &Rules<'_>, place: Place, objects: &mut Objects)
     }
 }
 
-/// The dragon is dead, and its rug is loose beside it.
-#[tactic(auto, unfolding(crate::specs::Dragon::after_slay))]
-fn slay(rules: &Rules<'_>, place: Place, objects: &mut Objects)
-    ensures { objects.new ≡ after_slay (cave_of rules.now) place objects.old }
+/// The player fights the dragon with bare hands, and wins.
+#[tactic(auto, unfolding(crate::specs::Dragon::fight, crate::specs::state_with_player_at))]
+pub fn fight(rules: &Rules<'_>, scene: &mut Scene<'_>)
+    requires { HasRoom (parts_of_arrival scene.old.left + 1) scene.old }
+    ensures scene { scene_of scene.new ≡ (after_all fight
+        (deed (cave_of rules.now) question_is.Dragon (scene_of scene.old))).scene }
+    ensures says { MovesOnSaying (parts_of_arrival scene.old.left + 1) scene.old scene.new }
 {
     let dragon = rules.thing(Named::Dragon);
     let rug = rules.thing(Named::Rug);
-    objects.set_prop(dragon, Prop::new(DRAGON_DEAD));
-    objects.set_prop(rug, Prop::new(RUG_FREE));
-    objects.anchor_to(dragon, Anchor::Fixed);
-    objects.anchor_to(rug, Anchor::Loose);
-    objects.move_to(dragon, place);
-    objects.move_to(rug, place);
-}
-
-/// The dragon is dead, and all that was by it is at one place.
-#[tactic(auto, unfolding(crate::specs::Dragon::after_clear))]
-fn clear(rules: &Rules<'_>, place: Place, state: &mut State)
-    ensures { state.new ≡ after_clear (cave_of rules.now) place state.old }
-{
-    slay(rules, place, &mut state.objects);
-    gather(rules, place, &mut state.objects);
-}
-
-/// The player fights the dragon with bare hands, and wins.
-#[tactic(auto, unfolding(crate::specs::Dragon::after_fight))]
-pub fn fight(rules: &Rules<'_>, scene: &mut Scene<'_>)
-    requires { HasRoom (parts_of_arrival scene.old.left + 1) scene.old }
-    ensures scene { scene_of scene.new ≡ after_fight (cave_of rules.now) (scene_of scene.old) }
-    ensures says { MovesOnSaying (parts_of_arrival scene.old.left + 1) scene.old scene.new }
-{
-    let place = lair(rules, scene.state);
-    scene.look(rules.thing(Named::Dragon), DRAGON_DYING);
-    clear(rules, place, scene.state);
+    scene.look(dragon, DRAGON_DYING);
+    scene.state.objects.set_prop(dragon, Prop::new(DRAGON_DEAD));
+    scene.state.objects.set_prop(rug, Prop::new(RUG_FREE));
+    let place = lair_from(rules, scene.state.trail.here);
+    scene.state.objects.anchor_to(dragon, Anchor::Fixed);
+    scene.state.objects.anchor_to(rug, Anchor::Loose);
+    scene.state.objects.move_to(dragon, place);
+    scene.state.objects.move_to(rug, place);
+    gather(rules, place, &mut scene.state.objects);
     scene.put_player_at(place);
     arrive(rules, place, scene);
 }

@@ -1,20 +1,20 @@
 //! How a turn ends that leaves no question open.
 
-ghost use Rattle.std.specs.Prelude.{◌≡◌, ◌+◌};
+ghost use Rattle.std.specs.Prelude.{◌≡◌, ◌+◌, [], ◌∷◌};
 ghost use Rattle.turn_text.specs.data_numbers.Numbers.{LAST_OBJECT};
 ghost use Rattle.turn_begin.specs.turn_scene.Bounds.{GoesOnSaying, HasRoom, parts_of_finish};
 ghost use Rattle.turn_begin.specs.turn_scene.Bounds.{parts_of_question};
 ghost use Rattle.turn_begin.specs.turn_scene.Scene.{scene_of, cave_of};
-ghost use Rattle.cave_turn.specs.Finish.{is_hidden_in_hand, after_oyster_shows};
-ghost use Rattle.cave_turn.specs.Finish.{layout_with_object_shown, layout_with_shown_up_to};
-ghost use Rattle.cave_turn.specs.Finish.{after_hands_show, end_of_turn};
+ghost use Rattle.cave_verbs.specs.verb_commands.turn_rules.Rows.{Does, by_table};
+ghost use Rattle.cave_turn.specs.Finish.{is_hidden_in_hand, layout_with_object_shown};
+ghost use Rattle.cave_turn.specs.Finish.{layout_with_shown_up_to, hands_rows, end_of_turn};
 
 use turn_begin::{OYSTER_WRITTEN_ON, Rules, Scene, UNSEEN};
 use turn_hints::consider_all;
 use turn_text::{Named, OBJECTS, Object, Objects, Prop};
 
 /// A turn ends; after a question or the end of the game nothing more is done.
-#[tactic(auto, unfolding(crate::specs::Finish::end_of_turn))]
+#[tactic(auto, unfolding(crate::specs::Finish::end_of_turn, crate::specs::Finish::end_rows))]
 pub fn end_turn(rules: &Rules<'_>, scene: &mut Scene<'_>)
     requires { HasRoom (parts_of_finish + parts_of_question) scene.old }
     ensures scene { scene_of scene.new ≡ end_of_turn (cave_of rules.now) (scene_of scene.old) }
@@ -32,20 +32,6 @@ fn is_hidden_in_hand(objects: &Objects, object: Object) -> bool
     ensures { result ≡ is_hidden_in_hand objects.now object }
 {
     objects.is_carried(object) && objects.prop(object).value() < 0
-}
-
-/// The oyster that a player takes in a closed cave shows what is written under it.
-#[tactic(auto, unfolding(crate::specs::Finish::after_oyster_shows))]
-fn show_oyster(rules: &Rules<'_>, scene: &mut Scene<'_>)
-    requires { HasRoom 1 scene.old }
-    ensures scene { scene_of scene.new
-        ≡ after_oyster_shows (cave_of rules.now) (scene_of scene.old) }
-    ensures says { GoesOnSaying 1 scene.old scene.new }
-{
-    let oyster = rules.thing(Named::Oyster);
-    if is_hidden_in_hand(&scene.state.objects, oyster) {
-        scene.look(oyster, OYSTER_WRITTEN_ON);
-    }
 }
 
 #[tactic(auto, unfolding(crate::specs::Finish::layout_with_object_shown))]
@@ -67,15 +53,20 @@ fn show_objects(objects: &mut Objects)
     }
 }
 
-/// In a closed cave all that is carried shows itself.
-#[tactic(auto, unfolding(crate::specs::Finish::after_hands_show))]
+/// In a closed cave all that is carried shows itself, the oyster first what is written under it.
+#[tactic(auto, unfolding(crate::specs::Finish::hands_rows))]
 fn show_hands(rules: &Rules<'_>, scene: &mut Scene<'_>)
     requires { HasRoom 1 scene.old }
-    ensures scene { scene_of scene.new ≡ after_hands_show (cave_of rules.now) (scene_of scene.old) }
-    ensures says { GoesOnSaying 1 scene.old scene.new }
+    ensures rows { Does (by_table hands_rows ∷ []) 1 rules.now tt scene.old scene.new }
 {
-    if scene.state.closing.is_closed {
-        show_oyster(rules, scene);
-        show_objects(&mut scene.state.objects);
+    if !scene.state.closing.is_closed {
+        return;
     }
+    let oyster = rules.thing(Named::Oyster);
+    if is_hidden_in_hand(&scene.state.objects, oyster) {
+        scene.look(oyster, OYSTER_WRITTEN_ON);
+        show_objects(&mut scene.state.objects);
+        return;
+    }
+    show_objects(&mut scene.state.objects);
 }

@@ -1,14 +1,21 @@
-ghost use Rattle.std.specs.Prelude.{◌≡◌};
-ghost use Rattle.turn_begin.specs.turn_scene.Scene.{cave_of};
-ghost use Rattle.cave_turn.specs.ObjectWords.{is_there, is_liquid_here, is_grown_plant};
-ghost use Rattle.cave_turn.specs.ObjectWords.{is_knife_at, is_sought, is_above_grate};
-ghost use Rattle.cave_turn.specs.ObjectWords.{is_below_grate, object_word};
+ghost use Rattle.std.specs.Prelude.{◌≡◌, ◌==◌, ◌∷◌, [], pos};
+ghost use Rattle.turn_begin.specs.turn_scene.Scene.{cave_of, scene_of};
+ghost use Rattle.turn_text.specs.cave_words.declared.named.Named.TheVariants as name;
+ghost use Rattle.cave_verbs.specs.verb_commands.declared.verb.Verb.TheVariants as verb_is;
+ghost use Rattle.cave_verbs.specs.verb_commands.turn_rules.Rows.{all_hold, deed};
+ghost use Rattle.cave_verbs.specs.verb_commands.turn_rules.Tests.{the, either, both, in_hand, near};
+ghost use Rattle.cave_verbs.specs.verb_commands.turn_rules.Tests.{is_here, other_prop, dwarf};
+ghost use Rattle.cave_verbs.specs.verb_commands.turn_rules.Tests.{in_bottle, in_lake};
+ghost use Rattle.cave_turn.specs.ObjectWords.{named, called, at_one_of, at_from_to, is_knife_at};
+ghost use Rattle.cave_turn.specs.ObjectWords.{thrown_here, is_verb_of, by_verb, alone};
+ghost use Rattle.cave_turn.specs.ObjectWords.{object_word};
 
 use cave_verbs::Verb;
 use turn_begin::{
-    PLANT_SMALL, Rules, has_other_prop, is_dwarf_here, is_in_hand, is_liquid, is_near, lake, liquid,
+    PLANT_SMALL, Rules, Scene, has_other_prop, is_dwarf_here, is_in_hand, is_liquid, is_near, lake,
+    liquid,
 };
-use turn_text::{Knife, Motion, Named, Object, Place, State};
+use turn_text::{Knife, Motion, Named, Object, Place};
 
 /// What a word says that names an object.
 #[derive(Clone, Copy, Debug, PartialEq, Eq)]
@@ -23,72 +30,102 @@ pub enum ObjectWord {
     Unseen,
 }
 
-/// What the word of an object says, with the verb that was said before it.
-#[tactic(auto, unfolding(crate::specs::ObjectWords::object_word))]
-pub fn object_word(
-    rules: &Rules<'_>,
-    state: &State,
-    verb: Option<u16>,
-    is_alone: bool,
-    object: Object,
-) -> ObjectWord
-    ensures { result ≡ object_word (cave_of rules.now) state.now verb is_alone object }
+/// An object whose word was read.
+#[derive(Clone, Copy, Debug, PartialEq, Eq)]
+pub struct NamedObject {
+    pub object: Object,
+    /// The number of the action that was said before.
+    pub verb: Option<u16>,
+    /// Whether no word comes after.
+    pub is_alone: bool,
+}
+
+/// What the word of an object says.
+#[tactic(auto, unfolding(crate::specs::ObjectWords::object_word_rows))]
+pub fn object_word(rules: &Rules<'_>, about: &NamedObject, scene: &Scene<'_>) -> ObjectWord
+    ensures { result ≡ object_word (deed (cave_of rules.now) about.now (scene_of scene.now)) }
 {
-    let here = state.trail.here;
-    if is_there(rules, state, object) {
-        return ObjectWord::Is(object);
+    if is_there(rules, about, scene) {
+        return ObjectWord::Is(about.object);
     }
-    if rules.is(object, Named::Grate) && is_above_grate(here) {
+    if is_above_grate(rules, about, scene) {
         return ObjectWord::Leads(Motion::Depression.number());
     }
-    if rules.is(object, Named::Grate) && is_below_grate(here) {
+    if is_below_grate(rules, about, scene) {
         return ObjectWord::Leads(Motion::Entrance.number());
     }
-    if rules.is(object, Named::Dwarf) && is_dwarf_here(state) {
-        return ObjectWord::Is(object);
+    if is_dwarf(rules, about, scene) {
+        return ObjectWord::Is(about.object);
     }
-    if is_liquid_here(rules, state, object) {
-        return ObjectWord::Is(object);
+    if is_liquid_here(rules, about, scene) {
+        return ObjectWord::Is(about.object);
     }
-    if is_grown_plant(rules, state, object) {
+    if is_grown_plant(rules, about, scene) {
         return ObjectWord::Is(rules.thing(Named::SecondPlant));
     }
-    if rules.is(object, Named::Knife) && is_knife_at(here, state.dwarves.knife) {
+    if is_knife_here(rules, about, scene) {
         return ObjectWord::Knives;
     }
-    let second_rod = rules.thing(Named::SecondRod);
-    if rules.is(object, Named::Rod) && is_near(rules, state, second_rod) {
-        return ObjectWord::Is(second_rod);
+    if is_second_rod(rules, about, scene) {
+        return ObjectWord::Is(rules.thing(Named::SecondRod));
     }
-    if is_alone && is_sought(verb) {
-        return ObjectWord::Is(object);
+    if is_sought(rules, about, scene) {
+        return ObjectWord::Is(about.object);
     }
     ObjectWord::Unseen
 }
 
-#[tactic(auto, unfolding(crate::specs::ObjectWords::is_there))]
-fn is_there(rules: &Rules<'_>, state: &State, object: Object) -> bool
-    ensures { result ≡ is_there (cave_of rules.now) state.now object }
+fn is_there(rules: &Rules<'_>, about: &NamedObject, scene: &Scene<'_>) -> bool
+    ensures { result ≡ either (is_here named) (in_hand named)
+        (deed (cave_of rules.now) about.now (scene_of scene.now)) }
 {
-    state.at(object) || is_in_hand(rules, state, object)
+    scene.state.at(about.object) || is_in_hand(rules, scene.state, about.object)
+}
+
+/// On the way to the cave the grate's word leads to it. The places are those before the building,
+/// in the valley and at the slit. No role names them, since nothing else is asked of them.
+fn is_above_grate(rules: &Rules<'_>, about: &NamedObject, scene: &Scene<'_>) -> bool
+    ensures { result ≡ all_hold (called name.Grate ∷ at_one_of (1 ∷ 4 ∷ 7 ∷ []) ∷ [])
+        (deed (cave_of rules.now) about.now (scene_of scene.now)) }
+{
+    rules.is(about.object, Named::Grate) && matches!(scene.state.trail.here.number(), 1 | 4 | 7)
+}
+
+/// And in the first halls of the cave back to it.
+fn is_below_grate(rules: &Rules<'_>, about: &NamedObject, scene: &Scene<'_>) -> bool
+    ensures { result ≡ all_hold (called name.Grate ∷ at_from_to 10 14 ∷ [])
+        (deed (cave_of rules.now) about.now (scene_of scene.now)) }
+{
+    rules.is(about.object, Named::Grate)
+        && (10 <= scene.state.trail.here.number() && scene.state.trail.here.number() <= 14)
+}
+
+fn is_dwarf(rules: &Rules<'_>, about: &NamedObject, scene: &Scene<'_>) -> bool
+    ensures { result ≡ all_hold (called name.Dwarf ∷ dwarf ∷ [])
+        (deed (cave_of rules.now) about.now (scene_of scene.now)) }
+{
+    rules.is(about.object, Named::Dwarf) && is_dwarf_here(scene.state)
 }
 
 /// Whether an object is what a bottle at hand has in it, or what the lake is of.
-#[tactic(auto, unfolding(crate::specs::ObjectWords::is_liquid_here))]
-fn is_liquid_here(rules: &Rules<'_>, state: &State, object: Object) -> bool
-    ensures { result ≡ is_liquid_here (cave_of rules.now) state.now object }
+fn is_liquid_here(rules: &Rules<'_>, about: &NamedObject, scene: &Scene<'_>) -> bool
+    ensures { result ≡ either (both (in_bottle named) (near (the name.Bottle))) (in_lake named)
+        (deed (cave_of rules.now) about.now (scene_of scene.now)) }
 {
-    (is_liquid(object, liquid(rules, state)) && is_near(rules, state, rules.thing(Named::Bottle)))
-        || is_liquid(object, lake(rules, state))
+    (is_liquid(about.object, liquid(rules, scene.state))
+        && is_near(rules, scene.state, rules.thing(Named::Bottle)))
+        || is_liquid(about.object, lake(rules, scene.state))
 }
 
 /// Whether the plant that grew is taken for an object.
-#[tactic(auto, unfolding(crate::specs::ObjectWords::is_grown_plant))]
-fn is_grown_plant(rules: &Rules<'_>, state: &State, object: Object) -> bool
-    ensures { result ≡ is_grown_plant (cave_of rules.now) state.now object }
+fn is_grown_plant(rules: &Rules<'_>, about: &NamedObject, scene: &Scene<'_>) -> bool
+    ensures { result ≡ all_hold (called name.Plant ∷ is_here (the name.SecondPlant)
+        ∷ other_prop (the name.SecondPlant) (pos 0) ∷ [])
+        (deed (cave_of rules.now) about.now (scene_of scene.now)) }
 {
     let grown = rules.thing(Named::SecondPlant);
-    rules.is(object, Named::Plant) && state.at(grown) && has_other_prop(state, grown, PLANT_SMALL)
+    rules.is(about.object, Named::Plant)
+        && (scene.state.at(grown) && has_other_prop(scene.state, grown, PLANT_SMALL))
 }
 
 fn is_knife_at(here: Place, knife: Knife) -> bool
@@ -100,25 +137,37 @@ fn is_knife_at(here: Place, knife: Knife) -> bool
     }
 }
 
-fn is_sought(verb: Option<u16>) -> bool
-    ensures { result ≡ is_sought verb }
+fn is_knife_here(rules: &Rules<'_>, about: &NamedObject, scene: &Scene<'_>) -> bool
+    ensures { result ≡ all_hold (called name.Knife ∷ thrown_here ∷ [])
+        (deed (cave_of rules.now) about.now (scene_of scene.now)) }
 {
-    match verb {
-        Some(verb) => verb == Verb::Find.number() || verb == Verb::Inventory.number(),
+    rules.is(about.object, Named::Knife)
+        && is_knife_at(scene.state.trail.here, scene.state.dwarves.knife)
+}
+
+fn is_second_rod(rules: &Rules<'_>, about: &NamedObject, scene: &Scene<'_>) -> bool
+    ensures { result ≡ all_hold (called name.Rod ∷ near (the name.SecondRod) ∷ [])
+        (deed (cave_of rules.now) about.now (scene_of scene.now)) }
+{
+    rules.is(about.object, Named::Rod) && is_near(rules, scene.state, rules.thing(Named::SecondRod))
+}
+
+/// Whether a number is that of a verb.
+pub fn is_verb_of(verb: Verb, number: Option<u16>) -> bool
+    ensures { result ≡ is_verb_of verb number }
+{
+    match number {
+        Some(number) => number == verb.number(),
         None => false,
     }
 }
 
-/// The place before the building, the valley and the slit. No role names them, since nothing else
-/// is asked of them than the way to the grate.
-fn is_above_grate(here: Place) -> bool
-    ensures { result ≡ is_above_grate here }
+/// What isn't here can still be sought.
+fn is_sought(rules: &Rules<'_>, about: &NamedObject, scene: &Scene<'_>) -> bool
+    ensures { result ≡ all_hold
+        (either (by_verb verb_is.Find) (by_verb verb_is.Inventory) ∷ alone ∷ [])
+        (deed (cave_of rules.now) about.now (scene_of scene.now)) }
 {
-    matches!(here.number(), 1 | 4 | 7)
-}
-
-fn is_below_grate(here: Place) -> bool
-    ensures { result ≡ is_below_grate here }
-{
-    10 <= here.number() && here.number() <= 14
+    (is_verb_of(Verb::Find, about.verb) || is_verb_of(Verb::Inventory, about.verb))
+        && about.is_alone
 }

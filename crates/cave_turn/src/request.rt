@@ -1,17 +1,16 @@
-ghost use Rattle.std.specs.Prelude.{◌≡◌};
-ghost use Rattle.turn_begin.specs.turn_scene.Scene.{cave_of};
-ghost use Rattle.turn_text.specs.cave_world.Motions.{motion_of};
-ghost use Rattle.cave_turn.specs.Request.{with_verb, with_object, said_word, object_alone};
-ghost use Rattle.cave_turn.specs.Request.{action_alone, word_alone, is_magic, is_magic_motion};
-ghost use Rattle.cave_turn.specs.Request.{word_aloud, object_before, action_before, before};
-ghost use Rattle.cave_turn.specs.Request.{enter_stream, enter_into_word, is_pouring, pour_in};
-ghost use Rattle.cave_turn.specs.Request.{two_words, is_saying, read_words, half_command_of};
-ghost use Rattle.cave_turn.specs.Request.{understanding};
+ghost use Rattle.std.specs.Prelude.{◌≡◌, ◌==◌, ◌||◌, Some, None};
+ghost use Rattle.turn_begin.specs.turn_scene.Scene.{cave_of, scene_of};
+ghost use Rattle.turn_text.specs.cave_world.declared.motion.Motion.TheVariants as motion_is;
+ghost use Rattle.turn_text.specs.cave_world.Motions.{motion_number};
+ghost use Rattle.cave_verbs.specs.verb_commands.turn_rules.Rows.{deed};
+ghost use Rattle.cave_turn.specs.Request.{half_command_of, said, said_word, by_object_alone};
+ghost use Rattle.cave_turn.specs.Request.{word_alone, word_aloud, by_object_before, word_before};
+ghost use Rattle.cave_turn.specs.Request.{pours_over, pour_in, word_entered, two_words, read_words};
 
-use crate::object_words::{ObjectWord, object_word};
+use crate::object_words::{NamedObject, ObjectWord, is_verb_of, object_word};
 use cave_verbs::Verb;
-use turn_begin::{Rules, is_liquid, lake, or_no_object};
-use turn_text::{Class, Meaning, Motion, Named, Object, Part, Role, State, Talk, Word, WordLine};
+use turn_begin::{Rules, Scene, is_liquid, lake, or_no_object};
+use turn_text::{Class, Meaning, Motion, Named, Object, Part, Role, Talk, Word, WordLine};
 
 /// Half a command: what was said of it before its other half.
 #[derive(Clone, Copy, Debug, PartialEq, Eq)]
@@ -65,7 +64,7 @@ impl HalfCommand {
     }
 
     fn with_verb(self, verb: Option<u16>) -> HalfCommand
-        ensures { result ≡ with_verb verb self }
+        ensures { result ≡ record self { verb = verb } }
     {
         HalfCommand {
             verb,
@@ -74,7 +73,7 @@ impl HalfCommand {
     }
 
     fn with_object(self, object: Object) -> HalfCommand
-        ensures { result ≡ with_object object self }
+        ensures { result ≡ record self { object = object } }
     {
         HalfCommand {
             verb: self.verb,
@@ -83,7 +82,7 @@ impl HalfCommand {
     }
 
     fn asks(self, request: Request) -> Understood
-        ensures { result ≡ understanding self request }
+        ensures { result ≡ record { half = self; request = request } }
     {
         Understood {
             half: self,
@@ -93,30 +92,30 @@ impl HalfCommand {
 }
 
 /// What the words of a line say, with what was said before.
+#[tactic(auto, unfolding(crate::specs::Request::line_rows))]
 pub fn read_words(
     rules: &Rules<'_>,
-    state: &State,
-    half: HalfCommand,
     word: Word,
     next: Option<Word>,
+    scene: &Scene<'_>,
 ) -> Understood
-    ensures { result ≡ read_words (cave_of rules.now) state.now half word next }
+    ensures { result ≡ read_words (cave_of rules.now) word next (scene_of scene.now) }
 {
+    let half = HalfCommand::of(scene.state.talk);
+    let is_saying = is_verb_of(Verb::Say, half.verb);
     match next {
         None => {
             let said = said_word(rules, word);
-            if is_saying(half.verb) {
-                word_aloud(rules, state, half, said)
-            } else {
-                alone(rules, state, half, said)
+            if is_saying {
+                return word_aloud(rules, half, said, scene);
             }
+            word_alone(rules, half, said, scene)
         }
         Some(next) => {
-            if is_saying(half.verb) {
-                two_words(rules, state, half.with_verb(None), word, next)
-            } else {
-                two_words(rules, state, half, word, next)
+            if is_saying {
+                return two_words(rules, half.with_verb(None), word, next, scene);
             }
+            two_words(rules, half, word, next, scene)
         }
     }
 }
@@ -130,181 +129,169 @@ fn said_word(rules: &Rules<'_>, word: Word) -> SaidWord
     }
 }
 
-fn object_alone(found: ObjectWord, half: HalfCommand, word: Word) -> Understood
-    ensures { result ≡ object_alone found half word }
+/// What an object asks for that no other word follows.
+fn object_alone(
+    rules: &Rules<'_>,
+    found: ObjectWord,
+    half: HalfCommand,
+    word: SaidWord,
+    scene: &Scene<'_>,
+) -> Understood
+    ensures { result ≡ by_object_alone found
+        (deed (cave_of rules.now) (said half word None) (scene_of scene.now)) }
 {
     match found {
         ObjectWord::Is(object) => match half.verb {
             Some(verb) => half
                 .with_object(object)
-                .asks(Request::Act(verb, object, word)),
-            None => half.with_object(object).asks(Request::WhatToDo(word)),
+                .asks(Request::Act(verb, object, word.word)),
+            None => half.with_object(object).asks(Request::WhatToDo(word.word)),
         },
         ObjectWord::Leads(motion) => half.asks(Request::Motion(motion)),
         ObjectWord::Knives => half.asks(Request::Knives),
-        ObjectWord::Unseen => half.asks(Request::Tell(Part::Word(WordLine::NotSeen, word))),
-    }
-}
-
-fn action_alone(verb: u16, half: HalfCommand, word: Word) -> Understood
-    ensures { result ≡ action_alone verb half word }
-{
-    let object = half.object;
-    if verb == Verb::Say.number() {
-        half.asks(Request::Act(verb, Object::none(), word))
-    } else {
-        half.with_verb(Some(verb))
-            .asks(Request::Act(verb, object, word))
+        ObjectWord::Unseen => half.asks(Request::Tell(Part::Word(WordLine::NotSeen, word.word))),
     }
 }
 
 /// What a word says that no other follows.
-#[tactic(auto, unfolding(crate::specs::Request::word_alone))]
-fn alone(rules: &Rules<'_>, state: &State, half: HalfCommand, said: SaidWord) -> Understood
-    ensures { result ≡ word_alone (cave_of rules.now) state.now half said }
+#[tactic(auto, unfolding(crate::specs::Request::alone_rows))]
+fn word_alone(rules: &Rules<'_>, half: HalfCommand, word: SaidWord, scene: &Scene<'_>) -> Understood
+    ensures { result ≡ word_alone
+        (deed (cave_of rules.now) (said half word None) (scene_of scene.now)) }
 {
-    let word = said.word;
-    match said.meaning {
+    match word.meaning {
         None => half.asks(Request::Unknown),
         Some(meaning) => match meaning.class {
             Class::Motion => half.asks(Request::Motion(meaning.number)),
-            Class::Object => {
-                let object = or_no_object(Some(meaning.number));
-                object_alone(
-                    object_word(rules, state, half.verb, true, object),
-                    half,
-                    word,
-                )
-            }
-            Class::Action => action_alone(meaning.number, half, word),
             Class::Special => half.asks(Request::Tell(Part::Message(meaning.number))),
+            Class::Object => {
+                let named = NamedObject {
+                    object: or_no_object(Some(meaning.number)),
+                    verb: half.verb,
+                    is_alone: true,
+                };
+                object_alone(rules, object_word(rules, &named, scene), half, word, scene)
+            }
+            Class::Action => {
+                let object = half.object;
+                if meaning.number == Verb::Say.number() {
+                    return half.asks(Request::Act(meaning.number, Object::none(), word.word));
+                }
+                half.with_verb(Some(meaning.number))
+                    .asks(Request::Act(meaning.number, object, word.word))
+            }
         },
     }
 }
 
 /// Whether a motion is done where it is said aloud.
 fn is_magic_motion(number: u16) -> bool
-    ensures { result ≡ is_magic_motion (motion_of number) }
+    ensures { result ≡ (number == motion_number motion_is.Xyzzy
+        || (number == motion_number motion_is.Plugh || number == motion_number motion_is.Plover)) }
 {
-    matches!(
-        Motion::try_from(number),
-        Ok(Motion::Xyzzy | Motion::Plugh | Motion::Plover)
-    )
+    number == Motion::Xyzzy.number()
+        || (number == Motion::Plugh.number() || number == Motion::Plover.number())
 }
 
-fn is_magic(meaning: Option<Meaning>) -> bool
-    ensures { result ≡ is_magic meaning }
+/// What is done where a word is said aloud.
+#[tactic(auto, unfolding(crate::specs::Request::aloud_rows))]
+fn word_aloud(rules: &Rules<'_>, half: HalfCommand, word: SaidWord, scene: &Scene<'_>) -> Understood
+    ensures { result ≡ word_aloud
+        (deed (cave_of rules.now) (said half word None) (scene_of scene.now)) }
 {
-    match meaning {
-        None => false,
+    let echo = Part::Word(WordLine::Okay, word.word);
+    match word.meaning {
+        None => half.asks(Request::Tell(echo)),
         Some(meaning) => match meaning.class {
-            Class::Motion => is_magic_motion(meaning.number),
-            Class::Action => meaning.number == Verb::Foo.number(),
-            Class::Object | Class::Special => false,
+            Class::Motion => {
+                if is_magic_motion(meaning.number) {
+                    return word_alone(rules, half, word, scene);
+                }
+                half.asks(Request::Tell(echo))
+            }
+            Class::Action => {
+                if meaning.number == Verb::Foo.number() {
+                    return word_alone(rules, half, word, scene);
+                }
+                half.asks(Request::Tell(echo))
+            }
+            Class::Object | Class::Special => half.asks(Request::Tell(echo)),
         },
     }
 }
 
-/// What is done where a word is said aloud.
-#[tactic(auto, unfolding(crate::specs::Request::word_aloud))]
-fn word_aloud(rules: &Rules<'_>, state: &State, half: HalfCommand, said: SaidWord) -> Understood
-    ensures { result ≡ word_aloud (cave_of rules.now) state.now half said }
-{
-    if is_magic(said.meaning) {
-        return alone(rules, state, half, said);
-    }
-    half.asks(Request::Tell(Part::Word(WordLine::Okay, said.word)))
-}
-
+/// What an object asks for that another word follows.
 fn object_before(
     rules: &Rules<'_>,
-    state: &State,
     found: ObjectWord,
     half: HalfCommand,
-    word: Word,
+    word: SaidWord,
     next: SaidWord,
+    scene: &Scene<'_>,
 ) -> Understood
-    ensures { result ≡ object_before (cave_of rules.now) state.now found half word next }
+    ensures { result ≡ by_object_before found
+        (deed (cave_of rules.now) (said half word (Some next)) (scene_of scene.now)) }
 {
     match found {
-        ObjectWord::Is(object) => alone(rules, state, half.with_object(object), next),
-        ObjectWord::Leads(_) | ObjectWord::Knives | ObjectWord::Unseen => {
-            object_alone(found, half, word)
-        }
-    }
-}
-
-fn action_before(
-    rules: &Rules<'_>,
-    state: &State,
-    verb: u16,
-    half: HalfCommand,
-    next: SaidWord,
-) -> Understood
-    ensures { result ≡ action_before (cave_of rules.now) state.now verb half next }
-{
-    if verb == Verb::Say.number() {
-        word_aloud(rules, state, half, next)
-    } else {
-        alone(rules, state, half.with_verb(Some(verb)), next)
+        ObjectWord::Is(object) => { word_alone(rules, half.with_object(object), next, scene) }
+        ObjectWord::Leads(motion) => half.asks(Request::Motion(motion)),
+        ObjectWord::Knives => half.asks(Request::Knives),
+        ObjectWord::Unseen => half.asks(Request::Tell(Part::Word(WordLine::NotSeen, word.word))),
     }
 }
 
 /// What a word says that another follows.
-#[tactic(auto, unfolding(crate::specs::Request::before))]
-fn before(
+#[tactic(auto, unfolding(crate::specs::Request::before_rows))]
+fn word_before(
     rules: &Rules<'_>,
-    state: &State,
     half: HalfCommand,
-    said: SaidWord,
+    word: SaidWord,
     next: SaidWord,
+    scene: &Scene<'_>,
 ) -> Understood
-    ensures { result ≡ before (cave_of rules.now) state.now half said next }
+    ensures { result ≡ word_before
+        (deed (cave_of rules.now) (said half word (Some next)) (scene_of scene.now)) }
 {
-    match said.meaning {
+    match word.meaning {
         None => half.asks(Request::Unknown),
         Some(meaning) => match meaning.class {
             Class::Motion => half.asks(Request::Motion(meaning.number)),
-            Class::Object => {
-                let object = or_no_object(Some(meaning.number));
-                let found = object_word(rules, state, half.verb, false, object);
-                object_before(rules, state, found, half, said.word, next)
-            }
-            Class::Action => action_before(rules, state, meaning.number, half, next),
             Class::Special => half.asks(Request::Tell(Part::Message(meaning.number))),
+            Class::Object => {
+                let named = NamedObject {
+                    object: or_no_object(Some(meaning.number)),
+                    verb: half.verb,
+                    is_alone: false,
+                };
+                object_before(
+                    rules,
+                    object_word(rules, &named, scene),
+                    half,
+                    word,
+                    next,
+                    scene,
+                )
+            }
+            Class::Action => {
+                if meaning.number == Verb::Say.number() {
+                    return word_aloud(rules, half, next, scene);
+                }
+                word_alone(rules, half.with_verb(Some(meaning.number)), next, scene)
+            }
         },
     }
 }
 
-fn enter_stream(rules: &Rules<'_>, state: &State, half: HalfCommand) -> Understood
-    ensures { result ≡ enter_stream (cave_of rules.now) state.now half }
-{
-    if is_liquid(rules.thing(Named::Water), lake(rules, state)) {
-        half.asks(Request::Tell(Part::Role(Role::FeetWet)))
-    } else {
-        half.asks(Request::Tell(Part::Role(Role::Where)))
-    }
-}
-
-/// What it says to enter what a word names.
-#[tactic(auto, unfolding(crate::specs::Request::enter_into_word))]
-fn enter_into(rules: &Rules<'_>, state: &State, half: HalfCommand, word: Word) -> Understood
-    ensures { result ≡ enter_into_word (cave_of rules.now) state.now half word }
-{
-    if word.is(b"STREA") || word.is(b"WATER") {
-        return enter_stream(rules, state, half);
-    }
-    alone(rules, state, half, said_word(rules, word))
-}
-
 /// Whether two words pour a liquid over what is where the player is.
-#[tactic(auto, unfolding(crate::specs::Request::is_pouring))]
-fn is_pouring(rules: &Rules<'_>, state: &State, word: Word, next: Word) -> bool
-    ensures { result ≡ is_pouring (cave_of rules.now) state.now word next }
+#[tactic(auto, unfolding(crate::specs::Request::pours_over))]
+fn pours_over(rules: &Rules<'_>, word: Word, next: Word, scene: &Scene<'_>) -> bool
+    ensures { (half : HalfCommand) → result ≡ pours_over (deed (cave_of rules.now)
+        (said half (said_word (cave_of rules.now) word) (Some (said_word (cave_of rules.now) next)))
+        (scene_of scene.now)) }
 {
     (word.is(b"WATER") || word.is(b"OIL"))
-        && ((next.is(b"PLANT") && state.at(rules.thing(Named::Plant)))
-            || (next.is(b"DOOR") && state.at(rules.thing(Named::Door))))
+        && ((next.is(b"PLANT") && scene.state.at(rules.thing(Named::Plant)))
+            || (next.is(b"DOOR") && scene.state.at(rules.thing(Named::Door))))
 }
 
 fn pour_in(rules: &Rules<'_>) -> SaidWord
@@ -319,31 +306,40 @@ fn pour_in(rules: &Rules<'_>) -> SaidWord
     }
 }
 
-#[tactic(auto, unfolding(crate::specs::Request::two_words))]
+/// What a word says that follows ENTER.
+#[tactic(auto, unfolding(crate::specs::Request::enter_rows))]
+fn word_entered(rules: &Rules<'_>, half: HalfCommand, next: Word, scene: &Scene<'_>) -> Understood
+    ensures { (word : SaidWord) → result ≡ word_entered (deed (cave_of rules.now)
+        (said half word (Some (said_word (cave_of rules.now) next))) (scene_of scene.now)) }
+{
+    if next.is(b"STREA") || next.is(b"WATER") {
+        if is_liquid(rules.thing(Named::Water), lake(rules, scene.state)) {
+            return half.asks(Request::Tell(Part::Role(Role::FeetWet)));
+        }
+        return half.asks(Request::Tell(Part::Role(Role::Where)));
+    }
+    word_alone(rules, half, said_word(rules, next), scene)
+}
+
+/// What two words say. They are looked up as far as they are read.
+#[tactic(auto, unfolding(crate::specs::Request::two_word_rows))]
 fn two_words(
     rules: &Rules<'_>,
-    state: &State,
     half: HalfCommand,
     word: Word,
     next: Word,
+    scene: &Scene<'_>,
 ) -> Understood
-    ensures { result ≡ two_words (cave_of rules.now) state.now half word next }
+    ensures { result ≡ two_words (deed (cave_of rules.now)
+        (said half (said_word (cave_of rules.now) word) (Some (said_word (cave_of rules.now) next)))
+        (scene_of scene.now)) }
 {
     if word.is(b"ENTER") {
-        return enter_into(rules, state, half, next);
+        return word_entered(rules, half, next, scene);
     }
-    let said = said_word(rules, word);
-    if is_pouring(rules, state, word, next) {
-        return before(rules, state, half, said, pour_in(rules));
+    let first = said_word(rules, word);
+    if pours_over(rules, word, next, scene) {
+        return word_before(rules, half, first, pour_in(rules), scene);
     }
-    before(rules, state, half, said, said_word(rules, next))
-}
-
-fn is_saying(verb: Option<u16>) -> bool
-    ensures { result ≡ is_saying verb }
-{
-    match verb {
-        Some(verb) => verb == Verb::Say.number(),
-        None => false,
-    }
+    word_before(rules, half, first, said_word(rules, next), scene)
 }

@@ -1,5 +1,5 @@
 -- The first clock, and how the cave begins to close where it runs out.
-use Rattle.std.specs.Prelude.{ℕ, pos, negsuc, ◌-ℤ◌, nat_le, int_lt, map, Bool, true, false}
+use Rattle.std.specs.Prelude.{ℕ, pos, negsuc, ◌-ℤ◌, int_lt, map, Bool, true, false}
 use Rattle.std.specs.Prelude.{◌==◌, if◌then◌else◌, List, [], ◌∷◌}
 use Rattle.std.specs.Ordering.{int_eq}
 use Rattle.turn_rules.specs.data_rows.declared.place_role.PlaceRole.TheVariants as place
@@ -7,20 +7,16 @@ use Rattle.turn_rules.specs.data_rows.declared.role.Role.TheVariants as role
 use Rattle.turn_rules.specs.cave_words.declared.named.Named.TheVariants as name
 use Rattle.turn_rules.specs.cave_world.declared.dwarves.Dwarf.{Dwarf}
 use Rattle.turn_rules.specs.cave_world.declared.state.State.{State}
-use Rattle.turn_rules.specs.turn_things.Places.{deep_place}
 use Rattle.turn_rules.specs.turn_things.Props.{AXE_FREE, BEAR_DEAD, CHAIN_UNLOCKED, FISSURE_OPEN}
 use Rattle.turn_rules.specs.turn_things.Props.{GRATE_LOCKED}
 use Rattle.turn_rules.specs.Rows.{Deed, Act, Test, Effect, Row, row_then, all_hold}
 use Rattle.turn_rules.specs.Rows.{first_fitting_or, nothing_but}
-use Rattle.turn_rules.specs.Tests.{the, no, prop, player_at}
-use Rattle.turn_rules.specs.Effects.{in_state, unless, say, destroy, loosen, set_prop, troll_goes}
+use Rattle.turn_rules.specs.Tests.{the, no, prop, player_at, in_the_depths}
+use Rattle.turn_rules.specs.Effects.{change, unless, say, destroy, loosen, set_prop, troll_goes}
 
 -- no treasure counts as unseen
 abbrev pub all_seen : Test (Unit {0})
 all_seen d = d.scene.state.tallies.unseen == 0
-
-abbrev pub in_the_depths : Test (Unit {0})
-in_the_depths d = nat_le (deep_place d.cave) d.scene.state.trail.here
 
 abbrev pub some_turns_left : Test (Unit {0})
 some_turns_left d = int_lt (pos 0) d.scene.state.closing.first_clock
@@ -34,40 +30,31 @@ first_clock_goes =
 abbrev pub first_clock_runs_out : Test (Unit {0})
 first_clock_runs_out d = int_eq (d.scene.state.closing.first_clock -ℤ pos 1) (pos 0)
 
+-- a turn less is left until the cave begins to close
 abbrev pub with_first_clock_down : State → State
 with_first_clock_down s = let closing = s.closing in
     record s { closing = record closing { first_clock = closing.first_clock -ℤ pos 1 } }
-
--- a turn less is left until the cave begins to close
-abbrev pub first_clock_down : Effect (Unit {0})
-first_clock_down d = in_state (with_first_clock_down d.scene.state) d
 
 -- a dwarf is nowhere and hasn't seen the player; where it was before is kept
 abbrev pub dismissed_dwarf : Dwarf → Dwarf
 dismissed_dwarf dwarf = record dwarf { place = 0; has_seen = false }
 
+-- all six dwarves are nowhere, the pirate too
 abbrev pub without_dwarves : State → State
 without_dwarves s = let dwarves = s.dwarves in
     record s { dwarves = record dwarves { each = map dismissed_dwarf dwarves.each } }
 
--- all six dwarves are nowhere, the pirate too
-abbrev pub dismiss_dwarves : Effect (Unit {0})
-dismiss_dwarves d = in_state (without_dwarves d.scene.state) d
-
+-- the first clock stops for good, and the cave is closing
 abbrev pub with_closing_begun : State → State
 with_closing_begun s = let closing = s.closing in
     record s { closing = record closing { first_clock = negsuc 0; is_closing = true } }
-
--- the first clock stops for good, and the cave is closing
-abbrev pub set_closing : Effect (Unit {0})
-set_closing d = in_state (with_closing_begun d.scene.state) d
 
 -- the cave begins to close
 unfoldable pub begin_closing : List (Effect (Unit {0}))
 begin_closing =
     set_prop (the name.Grate) GRATE_LOCKED
     ∷ set_prop (the name.Fissure) FISSURE_OPEN
-    ∷ dismiss_dwarves
+    ∷ change without_dwarves
     ∷ troll_goes
     ∷ unless (prop (the name.Bear) BEAR_DEAD) (destroy (the name.Bear))
     ∷ set_prop (the name.Chain) CHAIN_UNLOCKED
@@ -75,7 +62,7 @@ begin_closing =
     ∷ set_prop (the name.Axe) AXE_FREE
     ∷ loosen (the name.Axe)
     ∷ say role.Closing
-    ∷ set_closing
+    ∷ change with_closing_begun
     ∷ []
 
 -- whether the cave begins to close in this turn
@@ -88,7 +75,7 @@ runs_on d = false
 unfoldable pub first_clock_rows : List (Row (Unit {0}) Bool)
 first_clock_rows =
     row_then (first_clock_goes ∷ first_clock_runs_out ∷ []) begin_closing begins
-    ∷ row_then (first_clock_goes ∷ []) (first_clock_down ∷ []) runs_on
+    ∷ row_then (first_clock_goes ∷ []) (change with_first_clock_down ∷ []) runs_on
     ∷ []
 
 -- the first clock goes on by a turn, if it goes

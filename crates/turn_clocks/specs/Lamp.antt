@@ -1,37 +1,30 @@
 -- The lamp: it burns down, gets new batteries, goes out, and its player is warned or gives up.
-use Rattle.std.specs.Prelude.{ℤ, pos, negsuc, ◌+ℤ◌, ◌-ℤ◌, nat_le, int_le, true, false}
-use Rattle.std.specs.Prelude.{if◌then◌else◌, List, [], ◌∷◌}
+use Rattle.std.specs.Prelude.{pos, negsuc, ◌+ℤ◌, ◌-ℤ◌, int_le, true, false, List, [], ◌∷◌}
 use Rattle.std.specs.Int.{int_min, int_max}
 use Rattle.std.specs.Ordering.{int_eq}
-use Rattle.turn_rules.specs.cave_data.CaveView.{CaveView}
 use Rattle.turn_rules.specs.data_rows.declared.role.Role.TheVariants as role
 use Rattle.turn_rules.specs.cave_words.declared.named.Named.TheVariants as name
 use Rattle.turn_rules.specs.cave_world.declared.state.State.{State}
-use Rattle.turn_rules.specs.turn_things.Places.{outside_place}
-use Rattle.turn_rules.specs.turn_scene.Scene.{thing}
-use Rattle.turn_rules.specs.turn_things.Reach.{has_prop}
 use Rattle.turn_rules.specs.turn_things.Props.{BATTERIES_FRESH, BATTERIES_USED, LAMP_OFF}
 use Rattle.turn_rules.specs.cave_world.Sight.{LAMP_ON}
 use Rattle.turn_rules.specs.cave_world.Limits.{LOW_CHARGE, MAX_LAMP_TURNS}
 use Rattle.turn_rules.specs.Rows.{Deed, Act, Test, Effect, Row, row_then, plain_row, by_table}
 use Rattle.turn_rules.specs.Rows.{first_fitting_or, nothing_but}
-use Rattle.turn_rules.specs.Tests.{the, no, near, prop, nowhere, burnt_out}
-use Rattle.turn_rules.specs.Effects.{in_state, when, say, lay_down, set_prop}
+use Rattle.turn_rules.specs.Tests.{the, no, near, prop, nowhere, burnt_out, here, outside}
+use Rattle.turn_rules.specs.Effects.{with_charge, change, when, say, lay_down, set_prop, set_charge}
 use Rattle.turn_clocks.specs.declared.clocks.Clocks.{Clocks}
 use Rattle.turn_clocks.specs.declared.clocks.Clocks.TheVariants.{GoOn, GaveUp}
 
-abbrev pub with_charge : ℤ → State → State
-with_charge turns s = let lamp = s.lamp in record s { lamp = record lamp { charge = turns } }
+-- a turn is burnt, down to -1
+abbrev pub with_turn_burnt : State → State
+with_turn_burnt s = with_charge (int_max (s.lamp.charge -ℤ pos 1) (negsuc 0)) s
 
--- a lamp that is lit burns a turn, down to -1
-unfoldable pub burn : CaveView → State → State
-burn cave s =
-    if has_prop s (thing cave name.Lamp) LAMP_ON
-    then with_charge (int_max (s.lamp.charge -ℤ pos 1) (negsuc 0)) s
-    else s
+-- a lamp that is lit burns
+unfoldable pub burning_rows : List (Row (Unit {0}) (Unit {0}))
+burning_rows = plain_row (prop (the name.Lamp) LAMP_ON ∷ []) (change with_turn_burnt ∷ []) ∷ []
 
-abbrev pub burning : Effect (Unit {0})
-burning d = in_state (burn d.cave d.scene.state) d
+abbrev pub burn : Effect (Unit {0})
+burn d = by_table burning_rows d
 
 abbrev pub low : Test (Unit {0})
 low d = int_le d.scene.state.lamp.charge (pos LOW_CHARGE)
@@ -39,10 +32,6 @@ low d = int_le d.scene.state.lamp.charge (pos LOW_CHARGE)
 -- the lamp has no turn left
 abbrev pub burnt_down : Test (Unit {0})
 burnt_down d = int_eq d.scene.state.lamp.charge (pos 0)
-
--- the player is outside the cave
-abbrev pub outside : Test (Unit {0})
-outside d = nat_le d.scene.state.trail.here (outside_place d.cave)
 
 abbrev pub warned : Test (Unit {0})
 warned d = d.scene.state.lamp.is_warned
@@ -53,24 +42,18 @@ can_change_batteries =
     low ∷ near (the name.Batteries) ∷ prop (the name.Batteries) BATTERIES_FRESH
     ∷ near (the name.Lamp) ∷ []
 
+-- the lamp has gone out, and the player is outside the cave
+abbrev pub stranded : List (Test (Unit {0}))
+stranded = burnt_out ∷ outside here ∷ []
+
+-- the lamp burns 2,500 turns more, up to the most, and the player isn't warned yet
 abbrev pub with_new_charge : State → State
 with_new_charge s = let lamp = s.lamp in
     let charge = int_min (lamp.charge +ℤ pos 2500) (pos MAX_LAMP_TURNS) in
     record s { lamp = record lamp { charge = charge; is_warned = false } }
 
--- the lamp burns 2,500 turns more, up to the most, and the player isn't warned yet
-abbrev pub renew_charge : Effect (Unit {0})
-renew_charge d = in_state (with_new_charge d.scene.state) d
-
--- it can't be lit again
-abbrev pub lose_charge : Effect (Unit {0})
-lose_charge d = in_state (with_charge (negsuc 0) d.scene.state) d
-
 abbrev pub with_warning : State → State
 with_warning s = let lamp = s.lamp in record s { lamp = record lamp { is_warned = true } }
-
-abbrev pub set_warned : Effect (Unit {0})
-set_warned d = in_state (with_warning d.scene.state) d
 
 -- new batteries
 unfoldable pub change_batteries : List (Effect (Unit {0}))
@@ -78,13 +61,13 @@ change_batteries =
     say role.Replaced
     ∷ set_prop (the name.Batteries) BATTERIES_USED
     ∷ lay_down (the name.Batteries)
-    ∷ renew_charge
+    ∷ change with_new_charge
     ∷ []
 
--- the lamp has gone out
+-- the lamp has gone out, and can't be lit again
 unfoldable pub go_out : List (Effect (Unit {0}))
 go_out =
-    lose_charge
+    set_charge (negsuc 0)
     ∷ set_prop (the name.Lamp) LAMP_OFF
     ∷ when (near (the name.Lamp)) (say role.LampDead)
     ∷ []
@@ -98,7 +81,7 @@ warning_rows =
     ∷ []
 
 unfoldable pub warn : List (Effect (Unit {0}))
-warn = set_warned ∷ by_table warning_rows ∷ []
+warn = change with_warning ∷ by_table warning_rows ∷ []
 
 -- the command is read
 abbrev pub goes_on : Deed (Unit {0}) → Clocks
@@ -111,7 +94,7 @@ unfoldable pub lamp_rows : List (Row (Unit {0}) Clocks)
 lamp_rows =
     row_then can_change_batteries change_batteries goes_on
     ∷ row_then (burnt_down ∷ []) go_out goes_on
-    ∷ row_then (burnt_out ∷ outside ∷ []) (say role.GiveUp ∷ []) gives_up
+    ∷ row_then stranded (say role.GiveUp ∷ []) gives_up
     ∷ row_then (low ∷ no warned ∷ near (the name.Lamp) ∷ []) warn goes_on
     ∷ []
 
@@ -121,4 +104,4 @@ care_for_lamp d = first_fitting_or lamp_rows (nothing_but goes_on) d
 
 -- the lamp burns a turn, if it is lit, and what comes of it
 abbrev pub lamp : Deed (Unit {0}) → Act Clocks
-lamp d = care_for_lamp (burning d)
+lamp d = care_for_lamp (burn d)

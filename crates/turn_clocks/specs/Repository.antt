@@ -11,7 +11,6 @@ use Rattle.turn_rules.specs.cave_words.declared.named.Named.TheVariants as name
 use Rattle.turn_rules.specs.world_objects.Objects.{Layout, after_move_to, with_anchor, with_prop}
 use Rattle.turn_rules.specs.world_objects.Objects.{carried_objects, anchor_at}
 use Rattle.turn_rules.specs.cave_world.declared.state.State.{State}
-use Rattle.turn_rules.specs.cave_world.State.{with_player_from}
 use Rattle.turn_rules.specs.turn_things.Effects.{with_objects}
 use Rattle.turn_rules.specs.turn_things.Props.{BIRD_CAGED, BOTTLE_EMPTY, GRATE_LOCKED, LAMP_OFF, PLANT_SMALL}
 use Rattle.turn_rules.specs.turn_things.Props.{SEEN, SNAKE_GONE, UNSEEN}
@@ -19,7 +18,7 @@ use Rattle.turn_rules.specs.turn_scene.Scene.{thing}
 use Rattle.turn_rules.specs.Rows.{Deed, Act, Test, Effect, Row, row_then, first_fitting_or}
 use Rattle.turn_rules.specs.Rows.{nothing_but}
 use Rattle.turn_rules.specs.Tests.{no, cave_closed, is_bound, bound}
-use Rattle.turn_rules.specs.Effects.{in_state, say}
+use Rattle.turn_rules.specs.Effects.{in_state, change, put_player, say}
 
 -- what is put into the repository, and the prop that it gets once the player has carried it there
 pub record Stored : Type 0 where
@@ -83,29 +82,19 @@ hang d =
     in_state (with_objects (hang_mirror d.cave (bound place.Ne d) (bound place.Sw d)
     d.scene.state.objects) d.scene.state) d
 
--- the player is at the place of a role, and came from there
-abbrev pub put_player : PlaceRole → Effect (Unit {0})
-put_player role d = in_state (with_player_from (bound role d) d.scene.state) d
-
 -- objects are nowhere from now on
 abbrev pub without_all : List ℕ → Layout → Layout
 without_all [] o = o
 without_all (x ∷ xs) o = without_all xs (after_move_to o x 0)
 
+-- the player carries nothing any more
 unfoldable pub with_empty_hands : State → State
 with_empty_hands s = with_objects (without_all (carried_objects s.objects) s.objects) s
 
--- the player carries nothing any more
-abbrev pub empty_hands : Effect (Unit {0})
-empty_hands d = in_state (with_empty_hands d.scene.state) d
-
+-- the cave is closed from now on
 abbrev pub with_cave_closed : State → State
 with_cave_closed s = let closing = s.closing in
     record s { closing = record closing { is_closed = true } }
-
--- the cave is closed from now on
-abbrev pub set_closed : Effect (Unit {0})
-set_closed d = in_state (with_cave_closed d.scene.state) d
 
 -- the clock goes once the first has run out, down to -1
 abbrev pub second_clock_goes : Test (Unit {0})
@@ -117,13 +106,10 @@ second_clock_goes d =
 abbrev pub second_clock_runs_out : Test (Unit {0})
 second_clock_runs_out d = int_eq (d.scene.state.closing.second_clock -ℤ pos 1) (pos 0)
 
+-- a turn less is left until the cave is closed
 abbrev pub with_second_clock_down : State → State
 with_second_clock_down s = let closing = s.closing in
     record s { closing = record closing { second_clock = closing.second_clock -ℤ pos 1 } }
-
--- a turn less is left until the cave is closed
-abbrev pub second_clock_down : Effect (Unit {0})
-second_clock_down d = in_state (with_second_clock_down d.scene.state) d
 
 -- the cave is closed: the player is at the northeast end of the repository
 unfoldable pub close_cave : List (Effect (Unit {0}))
@@ -131,10 +117,10 @@ close_cave =
     furnish place.Ne northeast_things
     ∷ furnish place.Sw southwest_things
     ∷ hang
-    ∷ put_player place.Ne
-    ∷ empty_hands
+    ∷ put_player (bound place.Ne)
+    ∷ change with_empty_hands
     ∷ say role.Repository
-    ∷ set_closed
+    ∷ change with_cave_closed
     ∷ []
 
 -- where the player goes on, if the cave was closed in this turn
@@ -147,8 +133,8 @@ stays_open d = None
 unfoldable pub second_clock_rows : List (Row (Unit {0}) (Option ℕ))
 second_clock_rows =
     row_then (second_clock_goes ∷ second_clock_runs_out ∷ no cave_closed ∷ is_bound place.Ne
-    ∷ is_bound place.Sw ∷ []) (second_clock_down ∷ close_cave) goes_on_there
-    ∷ row_then (second_clock_goes ∷ []) (second_clock_down ∷ []) stays_open
+    ∷ is_bound place.Sw ∷ []) (change with_second_clock_down ∷ close_cave) goes_on_there
+    ∷ row_then (second_clock_goes ∷ []) (change with_second_clock_down ∷ []) stays_open
     ∷ []
 
 -- the second clock goes on by a turn, if it goes

@@ -3,9 +3,9 @@ ghost use Rattle.turn_rules.specs.cave_words.declared.named.Named.TheVariants as
 ghost use Rattle.turn_rules.specs.turn_scene.Scene.{cave_of, scene_of};
 ghost use Rattle.turn_rules.specs.turn_scene.Bounds.{HasRoom};
 ghost use Rattle.turn_rules.specs.Rows.{all_hold, deed, Does, PlaysBy};
-ghost use Rattle.turn_rules.specs.Tests.{burnt_out, near, no, the};
+ghost use Rattle.turn_rules.specs.Tests.{near, no, the};
 ghost use Rattle.turn_clocks.specs.Lamp.{burn, can_change_batteries, with_new_charge, warn, low};
-ghost use Rattle.turn_clocks.specs.Lamp.{change_batteries, go_out, outside, warned, care_for_lamp};
+ghost use Rattle.turn_clocks.specs.Lamp.{change_batteries, go_out, stranded, warned, care_for_lamp};
 ghost use Rattle.turn_clocks.specs.Lamp.{lamp};
 
 use crate::clocks::Clocks;
@@ -17,13 +17,13 @@ use turn_rules::{
 const BATTERY_TURNS: i32 = 2500;
 
 /// A lamp that is lit burns a turn.
-#[tactic(auto, unfolding(crate::specs::Lamp::burn))]
-fn burn(rules: &Rules<'_>, state: &mut State)
-    ensures { state.new ≡ burn (cave_of rules.now) state.old }
+#[tactic(auto, unfolding(crate::specs::Lamp::burning_rows))]
+fn burn(rules: &Rules<'_>, scene: &mut Scene<'_>)
+    ensures rows { Does (burn ∷ []) 0 rules.now tt scene.old scene.new }
 {
-    if has_prop(state, rules.thing(Named::Lamp), LAMP_ON) {
-        let turns = state.lamp.charge.turns();
-        state.lamp.charge = Charge::new((turns - 1).max(-1));
+    if has_prop(scene.state, rules.thing(Named::Lamp), LAMP_ON) {
+        let turns = scene.state.lamp.charge.turns();
+        scene.state.lamp.charge = Charge::new((turns - 1).max(-1));
     }
 }
 
@@ -76,7 +76,7 @@ fn go_out(rules: &Rules<'_>, scene: &mut Scene<'_>)
 
 /// Whether the lamp has gone out, and the player is outside the cave.
 fn is_stranded(rules: &Rules<'_>, scene: &Scene<'_>) -> bool
-    ensures { result ≡ all_hold (burnt_out ∷ outside ∷ [])
+    ensures { result ≡ all_hold stranded
         (deed (cave_of rules.now) tt (scene_of scene.now)) }
 {
     scene.state.lamp.charge.turns() < 0
@@ -140,6 +140,6 @@ pub fn run_lamp(rules: &Rules<'_>, scene: &mut Scene<'_>) -> Clocks
     requires { HasRoom 1 scene.old }
     ensures row { PlaysBy lamp 1 rules.now tt scene.old scene.new result }
 {
-    burn(rules, scene.state);
+    burn(rules, scene);
     care_for_lamp(rules, scene)
 }

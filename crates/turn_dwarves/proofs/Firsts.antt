@@ -3,9 +3,9 @@ use Rattle.std.proofs.Common.{◌≡◌, ℕ, ◌≤◌, List, ◌++◌, Option,
 use Rattle.std.proofs.Common.{◌∙◌}
 use Rattle.std.proofs.lemmas.List.{take_at, take_all, drop_all, append-nil}
 use Rattle.std.specs.List.{filter_map}
-use Rattle.turn_things.specs.data_rows.Rows.{Going}
-use Rattle.turn_things.specs.data_rows.RowViews.{going}
-use Rattle.turn_things.specs.data_rows.declared.rows.Row.{Row}
+use Rattle.turn_rules.specs.data_rows.Rows.{Going}
+use Rattle.turn_rules.specs.data_rows.RowViews.{going}
+use Rattle.turn_rules.specs.data_rows.declared.rows.Row.{Row}
 use Rattle.turn_dwarves.specs.Candidates.{without_repeats}
 
 -- where 19 were found, they are the first

@@ -1,10 +1,10 @@
--- The six dwarves by their numbers from 0. The last is the pirate.
-use Rattle.std.specs.Prelude.{ℕ, slice_index_or, slice_set}
-use Rattle.turn_things.specs.cave_words.Stream.{next}
-use Rattle.turn_things.specs.cave_world.State.{no_dwarf}
-use Rattle.turn_things.specs.cave_world.declared.dwarves.Dwarf.{Dwarf}
-use Rattle.turn_things.specs.cave_world.declared.dwarves.Dwarves.{Dwarves}
-use Rattle.turn_things.specs.cave_world.declared.state.State.{State}
+-- The six dwarves by their numbers from 0, and how angry they are. The last is the pirate.
+use Rattle.std.specs.Prelude.{ℕ, ◌==◌, slice_index_or, slice_set}
+use Rattle.turn_rules.specs.cave_world.State.{no_dwarf}
+use Rattle.turn_rules.specs.cave_world.declared.dwarves.Dwarf.{Dwarf}
+use Rattle.turn_rules.specs.cave_world.declared.dwarves.Dwarves.{Dwarves}
+use Rattle.turn_rules.specs.cave_world.declared.state.State.{State}
+use Rattle.turn_rules.specs.Rows.{Test}
 
 unfoldable pub dwarf_of : State → ℕ → Dwarf
 dwarf_of s number = slice_index_or s.dwarves.each number no_dwarf
@@ -17,5 +17,10 @@ with_dwarf number dwarf s =
     let dwarves = s.dwarves in
     with_dwarves (record dwarves { each = slice_set dwarves.each number dwarf }) s
 
-abbrev pub state_after_draw : State → State
-state_after_draw s = record s { stream = next s.stream }
+abbrev pub with_anger : ℕ → State → State
+with_anger n s = let dwarves = s.dwarves in with_dwarves (record dwarves { anger = n }) s
+
+module _ {C : Type 0} where
+  -- the dwarves are so angry
+  abbrev pub anger : ℕ → Test C
+  anger n d = d.scene.state.dwarves.anger == n

@@ -1,90 +1,122 @@
 -- What the pirate does to the treasures.
-use Rattle.std.specs.Prelude.{ℕ, Bool, false, ◌&&◌, ◌||◌, not, if◌then◌else◌, unwrap_or, List, []}
-use Rattle.std.specs.Prelude.{◌∷◌, Option, None, Some}
+use Rattle.std.specs.Prelude.{ℕ, Bool, List, [], ◌∷◌, Option, None, Some, unwrap_or, false}
 use Rattle.std.specs.List.{list_any}
-use Rattle.turn_things.specs.cave_data.CaveView.{CaveView}
-use Rattle.turn_things.specs.data_rows.declared.place_role.PlaceRole.TheVariants as landmark
-use Rattle.turn_things.specs.cave_words.declared.named.Named.TheVariants as name
-use Rattle.turn_things.specs.world_objects.Objects.{is_object_at, after_move_to, is_gone}
-use Rattle.turn_things.specs.cave_world.declared.dwarves.Dwarf.{Dwarf}
-use Rattle.turn_things.specs.cave_world.declared.state.State.{State}
-use Rattle.turn_things.specs.Effects.{with_objects}
-use Rattle.turn_things.specs.Homes.{is_home_here}
-use Rattle.turn_things.specs.Places.{place_named}
-use Rattle.turn_things.specs.turn_scene.Scene.{is_called, thing}
-use Rattle.turn_things.specs.Reach.{is_in_hand, is_near, is_fixed}
-use Rattle.turn_things.specs.Treasures.{treasures}
+use Rattle.turn_rules.specs.cave_data.CaveView.{CaveView}
+use Rattle.turn_rules.specs.data_rows.declared.place_role.PlaceRole.{PlaceRole}
+use Rattle.turn_rules.specs.data_rows.declared.place_role.PlaceRole.TheVariants as place
+use Rattle.turn_rules.specs.data_rows.declared.role.Role.TheVariants as role
+use Rattle.turn_rules.specs.cave_words.declared.named.Named.{Named}
+use Rattle.turn_rules.specs.cave_words.declared.named.Named.TheVariants as name
+use Rattle.turn_rules.specs.world_objects.Objects.{after_move_to}
+use Rattle.turn_rules.specs.cave_world.Limits.{PIRATE}
+use Rattle.turn_rules.specs.cave_world.declared.dwarves.Dwarf.{Dwarf}
+use Rattle.turn_rules.specs.cave_world.declared.state.State.{State}
+use Rattle.turn_rules.specs.turn_scene.Scene.{Scene, is_called}
+use Rattle.turn_rules.specs.turn_things.Effects.{with_objects}
+use Rattle.turn_rules.specs.turn_things.Homes.{is_home_here}
+use Rattle.turn_rules.specs.turn_things.Places.{place_named}
+use Rattle.turn_rules.specs.turn_things.Reach.{is_near}
+use Rattle.turn_rules.specs.turn_things.Treasures.{treasures}
+use Rattle.turn_rules.specs.Rows.{Test, Effect, Thing, Row, deed, plain_row, by_table, all_hold}
+use Rattle.turn_rules.specs.Tests.{the, no, either, both, in_hand, is_here, fixed, nowhere}
+use Rattle.turn_rules.specs.Effects.{in_state, follow, say}
 use Rattle.turn_dwarves.specs.Band.{dwarf_of, with_dwarf}
-use Rattle.turn_things.specs.cave_world.Limits.{PIRATE}
 
--- an object is moved to the place that is named, if one is
-unfoldable pub after_move_to_named : ℕ → Option ℕ → State → State
-after_move_to_named x None s = s
-after_move_to_named x (Some place) s = with_objects (after_move_to s.objects x place) s
+-- an object is moved to a place, if there is the place
+abbrev pub after_sending : ℕ → Option ℕ → State → State
+after_sending x None s = s
+after_sending x (Some place) s = with_objects (after_move_to s.objects x place) s
 
--- the pirate takes any treasure, but not the pyramid where the pyramid or the emerald is at home
-unfoldable pub pirate_wants : CaveView → State → ℕ → Bool
-pirate_wants cave s x =
-    let pyramid = thing cave name.Pyramid in let emerald = thing cave name.Emerald in
-    not (is_called cave x name.Pyramid
-    && (is_home_here cave s pyramid || is_home_here cave s emerald))
+module _ {C : Type 0} where
+  -- an object is moved to the place of a role, if there is the place
+  abbrev pub send : Thing C → PlaceRole → Effect C
+  send t role d = in_state (after_sending (t d) (place_named d.cave role) d.scene.state) d
 
--- the player carries an object that the pirate takes
-unfoldable pub is_carried_booty : CaveView → State → ℕ → Bool
-is_carried_booty cave s x = pirate_wants cave s x && is_in_hand cave s x
+  -- the player is where an object is at home
+  abbrev pub home_here : Thing C → Test C
+  home_here t d = is_home_here d.cave d.scene.state (t d)
 
--- an object that the pirate takes is carried, or is here and loose
-unfoldable pub is_booty : CaveView → State → ℕ → Bool
-is_booty cave s x =
-    pirate_wants cave s x
-    && (is_in_hand cave s x || (is_object_at s.objects s.trail.here x && not (is_fixed s x)))
+-- the treasure that the pirate may take
+abbrev pub it : Thing ℕ
+it d = d.about
 
--- the pirate brings what it takes to its chest
-unfoldable pub steal : CaveView → ℕ → State → State
-steal cave x s =
-    if is_booty cave s x then after_move_to_named x (place_named cave landmark.Chest) s else s
+abbrev pub is_it : Named → Test ℕ
+is_it n d = is_called d.cave d.about n
 
--- the treasures of a list are stolen one after another
-abbrev pub after_thefts : CaveView → List ℕ → State → State
-after_thefts cave [] s = s
-after_thefts cave (x ∷ xs) s = after_thefts cave xs (steal cave x s)
+-- all treasures are fair to the pirate, but not the pyramid where it or the emerald is at home
+unfoldable pub fair : Test ℕ
+fair d =
+    no (both (is_it name.Pyramid) (either (home_here (the name.Pyramid))
+    (home_here (the name.Emerald)))) d
 
--- the player carries a treasure that the pirate takes
-unfoldable pub carries_booty : CaveView → State → Bool
-carries_booty cave s = list_any (is_carried_booty cave s) treasures
+-- the player carries a fair treasure
+unfoldable pub is_carried_booty : CaveView → Scene → ℕ → Bool
+is_carried_booty cave p x = all_hold (fair ∷ in_hand it ∷ []) (deed cave x p)
+
+unfoldable pub carries_booty : Test (Unit {0})
+carries_booty d = list_any (is_carried_booty d.cave d.scene) treasures
 
 -- a treasure is at hand
 unfoldable pub is_treasure_near : CaveView → State → Bool
 is_treasure_near cave s = list_any (is_near cave s) treasures
 
-unfoldable pub with_chest : CaveView → State → State
-with_chest cave s = after_move_to_named (thing cave name.Chest) (place_named cave landmark.Chest) s
+abbrev pub treasure_near : Test (Unit {0})
+treasure_near d = is_treasure_near d.cave d.scene.state
 
--- it is put there if the pirate left no message yet
-unfoldable pub with_chest_at_first : CaveView → State → State
-with_chest_at_first cave s =
-    if is_gone s.objects (thing cave name.Message) then with_chest cave s else s
+-- a fair treasure that is carried, or is here and loose, is brought to the pirate's chest
+unfoldable pub steal_rows : List (Row ℕ (Unit {0}))
+steal_rows =
+    plain_row (fair ∷ either (in_hand it) (both (is_here it) (no (fixed it))) ∷ [])
+    (send it place.Chest ∷ [])
+    ∷ []
 
-unfoldable pub with_message : CaveView → State → State
-with_message cave s = after_move_to_named (thing cave name.Message)
-    (place_named cave landmark.Message) s
+unfoldable pub steal : CaveView → ℕ → Scene → Scene
+steal cave x p = (by_table steal_rows (deed cave x p)).scene
 
--- the pirate goes home to its chest, and no longer sees the player
+-- the treasures of a list are stolen one after another
+abbrev pub after_thefts : CaveView → List ℕ → Scene → Scene
+after_thefts cave [] p = p
+after_thefts cave (x ∷ xs) p = after_thefts cave xs (steal cave x p)
+
+-- all treasures are
+abbrev pub steal_all : Effect (Unit {0})
+steal_all d = follow (λ cave. after_thefts cave treasures) d
+
+-- the pirate is at its chest, came from there, and no longer sees the player
+abbrev pub dwarf_at_home : Option ℕ → Dwarf → Dwarf
+dwarf_at_home chest dwarf = record {
+  place = unwrap_or chest dwarf.place;
+  last = unwrap_or chest dwarf.last;
+  has_seen = false;
+}
+
 unfoldable pub with_pirate_home : CaveView → State → State
 with_pirate_home cave s =
-    let chest = place_named cave landmark.Chest in let one = dwarf_of s PIRATE in
-    let home : Dwarf = record {
-      place = unwrap_or chest one.place;
-      last = unwrap_or chest one.last;
-      has_seen = false;
-    } in
-    with_dwarf PIRATE home s
+    with_dwarf PIRATE (dwarf_at_home (place_named cave place.Chest) (dwarf_of s PIRATE)) s
+
+abbrev pub go_home : Effect (Unit {0})
+go_home d = in_state (with_pirate_home d.cave d.scene.state) d
+
+-- the chest is put there first, if the pirate left no message yet
+unfoldable pub chest_rows : List (Row (Unit {0}) (Unit {0}))
+chest_rows =
+    plain_row (nowhere (the name.Message) ∷ []) (send (the name.Chest) place.Chest ∷ [])
+    ∷ []
 
 -- the pirate takes all that it can get
-unfoldable pub rob : CaveView → State → State
-rob cave s =
-    let marked = with_message cave (with_chest_at_first cave s) in
-    with_pirate_home cave (after_thefts cave treasures marked)
+unfoldable pub rob : List (Effect (Unit {0}))
+rob =
+    say role.Booty
+    ∷ by_table chest_rows
+    ∷ send (the name.Message) place.Message
+    ∷ steal_all
+    ∷ go_home
+    ∷ []
 
-unfoldable pub hide_chest : CaveView → State → State
-hide_chest cave s = with_pirate_home cave (with_message cave (with_chest cave s))
+unfoldable pub hide_chest : List (Effect (Unit {0}))
+hide_chest =
+    say role.ChestHid
+    ∷ send (the name.Chest) place.Chest
+    ∷ send (the name.Message) place.Message
+    ∷ go_home
+    ∷ []

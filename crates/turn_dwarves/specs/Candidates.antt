@@ -1,20 +1,20 @@
 -- The ways that a dwarf may go.
-use Rattle.turn_things.specs.world_objects.Objects.{is_place}
+use Rattle.turn_rules.specs.world_objects.Objects.{is_place}
 use Rattle.std.specs.Prelude.{ℕ, Bool, ◌==◌, ◌&&◌, not, nat_le, if◌then◌else◌, List, [], ◌∷◌, take}
 use Rattle.std.specs.Prelude.{Option, None, Some}
 use Rattle.std.specs.List.{filter_map}
-use Rattle.turn_things.specs.data_rows.Rows.{Going}
-use Rattle.turn_things.specs.data_rows.declared.targets.Condition.{Condition}
-use Rattle.turn_things.specs.data_rows.declared.targets.Condition.TheVariants.{NotForDwarves}
-use Rattle.turn_things.specs.data_rows.declared.targets.Destination.{Destination}
-use Rattle.turn_things.specs.data_rows.declared.targets.Destination.TheVariants.{Place}
-use Rattle.turn_things.specs.cave_data.CaveView.{CaveView, ways_from}
-use Rattle.turn_things.specs.cave_world.Sight.{forced}
-use Rattle.turn_things.specs.cave_world.Travel.{row_condition, row_destination}
-use Rattle.turn_things.specs.cave_world.declared.dwarves.Dwarf.{Dwarf}
-use Rattle.turn_things.specs.Places.{has_condition_of}
-use Rattle.turn_things.specs.declared.conditions.PlaceCondition.TheVariants as condition
-use Rattle.turn_things.specs.data_numbers.Numbers.{LAST_PLACE}
+use Rattle.turn_rules.specs.data_rows.Rows.{Going}
+use Rattle.turn_rules.specs.data_rows.declared.targets.Condition.{Condition}
+use Rattle.turn_rules.specs.data_rows.declared.targets.Condition.TheVariants.{NotForDwarves}
+use Rattle.turn_rules.specs.data_rows.declared.targets.Destination.{Destination}
+use Rattle.turn_rules.specs.data_rows.declared.targets.Destination.TheVariants.{Place}
+use Rattle.turn_rules.specs.cave_data.CaveView.{CaveView, ways_from}
+use Rattle.turn_rules.specs.cave_world.Sight.{forced}
+use Rattle.turn_rules.specs.cave_world.Travel.{row_condition, row_destination}
+use Rattle.turn_rules.specs.cave_world.declared.dwarves.Dwarf.{Dwarf}
+use Rattle.turn_rules.specs.turn_things.Places.{has_condition_of}
+use Rattle.turn_rules.specs.turn_things.declared.conditions.PlaceCondition.TheVariants as condition
+use Rattle.turn_rules.specs.data_numbers.Numbers.{LAST_PLACE}
 
 -- the first of the places where dwarves go
 abbrev pub FIRST_HAUNT : ℕ

@@ -1,32 +1,44 @@
 -- What the dwarves do where the player arrives.
-use Rattle.std.specs.Prelude.{Bool, false, ◌==◌, not, if◌then◌else◌}
-use Rattle.turn_things.specs.cave_data.CaveView.{CaveView}
-use Rattle.turn_things.specs.turn_scene.Scene.{Scene, with_state}
-use Rattle.turn_dwarves.specs.Knives.{raid_of}
-use Rattle.turn_dwarves.specs.Lines.{after_attack}
+use Rattle.std.specs.Prelude.{Bool, false, not, ◌==◌, List, [], ◌∷◌}
+use Rattle.turn_rules.specs.cave_data.CaveView.{CaveView}
+use Rattle.turn_rules.specs.turn_scene.Scene.{Scene}
+use Rattle.turn_rules.specs.Rows.{Deed, Effect, Row, deed, row_then, by_table}
+use Rattle.turn_rules.specs.Rows.{first_fitting_or, nothing_but}
+use Rattle.turn_rules.specs.Tests.{in_the_depths}
+use Rattle.turn_rules.specs.Effects.{change, follow, when}
+use Rattle.turn_dwarves.specs.Band.{anger, with_anger}
+use Rattle.turn_dwarves.specs.Knives.{no_attack, raid}
+use Rattle.turn_dwarves.specs.Lines.{tell_attack}
 use Rattle.turn_dwarves.specs.Pirate.{after_pirate}
-use Rattle.turn_dwarves.specs.Waking.{stir, perhaps_wake}
-use Rattle.turn_things.specs.cave_world.Limits.{PIRATE}
+use Rattle.turn_dwarves.specs.Waking.{waking_rows}
+use Rattle.turn_dwarves.specs.declared.knives.Attack.{Attack}
+
+-- the player is left alone
+abbrev pub is_missed : Deed Attack → Bool
+is_missed d = false
+
+-- a knife hit the player, or more of them did
+abbrev pub is_struck : Deed Attack → Bool
+is_struck d = not (d.about.hits == 0)
+
+-- the five act, and then the pirate; then it is said what the five did
+unfoldable pub awake : List (Effect Attack)
+awake = raid ∷ follow after_pirate ∷ tell_attack
+
+-- by their anger the dwarves sleep, stir, or are awake
+unfoldable pub anger_rows : List (Row Attack Bool)
+anger_rows =
+    row_then (anger 0 ∷ []) (when in_the_depths (change (with_anger 1)) ∷ []) is_missed
+    ∷ row_then (anger 1 ∷ []) (by_table waking_rows ∷ []) is_missed
+    ∷ row_then [] awake is_struck
+    ∷ []
 
 -- whether a knife hit the player, and the scene after that
 pub record Encounter : Type 0 where
   pub is_hit : Bool
   pub scene : Scene
 
--- the player is left alone
-abbrev pub without_hit : Scene → Encounter
-without_hit p = record { is_hit = false; scene = p }
-
--- the dwarves before the pirate act, and then the pirate; then the lines of the dwarves are printed
-unfoldable pub encounter_awake : CaveView → Scene → Encounter
-encounter_awake cave p =
-    let raid = raid_of cave PIRATE p.state in
-    let q = after_pirate cave (with_state raid.state p) in
-    record { is_hit = not (raid.attack.hits == 0); scene = after_attack raid.attack q }
-
--- the dwarves sleep, stir, or are awake, by their anger
 unfoldable pub encounter_dwarves : CaveView → Scene → Encounter
 encounter_dwarves cave p =
-    if p.state.dwarves.anger == 0 then without_hit (with_state (stir cave p.state) p)
-    else (if p.state.dwarves.anger == 1 then without_hit (perhaps_wake cave p)
-    else encounter_awake cave p)
+    let met = first_fitting_or anger_rows (nothing_but is_missed) (deed cave no_attack p) in
+    record { is_hit = met.step; scene = met.scene }

@@ -1,19 +1,22 @@
 -- What the five dwarves do, one after another.
-use Rattle.std.specs.Prelude.{ℕ, zero, suc, ◌+◌, ◌-◌, ◌*◌, ◌==◌, not, nat_lt, if◌then◌else◌}
-use Rattle.turn_things.specs.cave_data.CaveView.{CaveView}
-use Rattle.turn_things.specs.cave_words.Stream.{number_drawn}
-use Rattle.turn_things.specs.cave_world.declared.dwarves.Knife.{Knife}
-use Rattle.turn_things.specs.cave_world.declared.dwarves.Knife.TheVariants as knife
-use Rattle.turn_things.specs.cave_world.declared.state.State.{State}
-use Rattle.turn_dwarves.specs.Band.{dwarf_of, with_dwarves, state_after_draw}
-use Rattle.turn_dwarves.specs.Moving.{after_dwarf_move}
+use Rattle.std.specs.Prelude.{ℕ, zero, suc, ◌+◌, ◌-◌, ◌*◌, ◌==◌, nat_lt, if◌then◌else◌}
+use Rattle.std.specs.Prelude.{List, [], ◌∷◌}
+use Rattle.turn_rules.specs.cave_data.CaveView.{CaveView}
+use Rattle.turn_rules.specs.cave_words.Stream.{number_drawn}
+use Rattle.turn_rules.specs.cave_world.declared.dwarves.Dwarf.{Dwarf}
+use Rattle.turn_rules.specs.cave_world.declared.dwarves.Knife.{Knife}
+use Rattle.turn_rules.specs.cave_world.declared.dwarves.Knife.TheVariants as knife
+use Rattle.turn_rules.specs.cave_world.declared.state.State.{State}
+use Rattle.turn_rules.specs.turn_scene.Scene.{Scene}
+use Rattle.turn_rules.specs.Rows.{Deed, Act, Test, Effect, Row, act_of, row_then, row_by_draw}
+use Rattle.turn_rules.specs.Rows.{first_fitting_or, nothing_but}
+use Rattle.turn_rules.specs.Tests.{no}
+use Rattle.turn_rules.specs.Effects.{change}
+use Rattle.turn_dwarves.specs.Band.{dwarf_of, with_dwarves}
+use Rattle.turn_dwarves.specs.Moving.{dwarf_moved, sees_player, was_with_player}
 use Rattle.turn_dwarves.specs.declared.knives.Threat.{Threat}
 use Rattle.turn_dwarves.specs.declared.knives.Threat.TheVariants as threat
 use Rattle.turn_dwarves.specs.declared.knives.Attack.{Attack}
-
-pub record DwarfStep : Type 0 where
-  pub threat : Threat
-  pub state : State
 
 -- the knife once one was thrown here; one that vanished stays so
 abbrev pub fallen_knife : ℕ → Knife → Knife
@@ -27,28 +30,32 @@ with_knife_here s =
     let dwarves = s.dwarves in
     with_dwarves (record dwarves { knife = fallen_knife s.trail.here dwarves.knife }) s
 
--- of 1000 numbers one is drawn: a knife hits by 95 of them for each degree of anger over 2
-unfoldable pub knife_step : State → DwarfStep
-knife_step s = record {
-  threat =
-      if nat_lt (number_drawn 1000 s.stream) (95 * (s.dwarves.anger - 2)) then threat.Hits
-      else threat.Misses;
-  state = with_knife_here (state_after_draw s);
-}
+-- a draw: one of 1000 numbers is below 95 for each degree of anger over 2
+abbrev pub knife_hits : Test Dwarf
+knife_hits d = let s = d.scene.state in
+    nat_lt (number_drawn 1000 s.stream) (95 * (s.dwarves.anger - 2))
 
--- a dwarf that sees the player is here, and if it was here before, it throws a knife
-unfoldable pub threaten : ℕ → State → DwarfStep
-threaten number s =
-    let dwarf = dwarf_of s number in
-    if not dwarf.has_seen then record { threat = threat.Nothing; state = s }
-    else (if dwarf.last == s.trail.here then knife_step s
-    else record { threat = threat.Waits; state = s })
+-- what a dwarf does to the player
+abbrev pub threat_as : Threat → Deed Dwarf → Threat
+threat_as t d = t
 
--- a dwarf moves and then threatens the player; one that is gone does nothing
-unfoldable pub step_of_dwarf : CaveView → ℕ → State → DwarfStep
-step_of_dwarf cave number s =
-    if (dwarf_of s number).place == 0 then record { threat = threat.Nothing; state = s }
-    else threaten number (after_dwarf_move cave number s)
+-- what a dwarf does once it moved: one that was with the player before throws a knife
+unfoldable pub threat_rows : List (Row Dwarf Threat)
+threat_rows =
+    row_then (no sees_player ∷ []) [] (threat_as threat.Nothing)
+    ∷ row_then (no was_with_player ∷ []) [] (threat_as threat.Waits)
+    ∷ row_by_draw [] knife_hits (change with_knife_here ∷ []) (threat_as threat.Hits)
+    ∷ row_then [] (change with_knife_here ∷ []) (threat_as threat.Misses)
+    ∷ []
+
+unfoldable pub threaten : Deed Dwarf → Act Threat
+threaten d = first_fitting_or threat_rows (nothing_but (threat_as threat.Nothing)) d
+
+-- a dwarf that is gone does nothing; any other moves, and may threaten the player
+unfoldable pub dwarf_turn : CaveView → ℕ → Scene → Act Threat
+dwarf_turn cave number p =
+    if (dwarf_of p.state number).place == 0 then act_of p threat.Nothing
+    else threaten (dwarf_moved cave number p)
 
 -- what a dwarf did is counted
 abbrev pub with_threat : Threat → Attack → Attack
@@ -62,18 +69,13 @@ with_threat threat.Hits a =
 abbrev pub no_attack : Attack
 no_attack = record { dwarves = 0; knives = 0; hits = 0 }
 
--- what dwarves did together, and what the state is then
-pub record Raid : Type 0 where
-  pub attack : Attack
-  pub state : State
+-- so many dwarves act, one after another, and what they do is counted
+unfoldable pub raid_of : CaveView → ℕ → Scene → Act Attack
+raid_of cave zero p = act_of p no_attack
+raid_of cave (suc number) p =
+    let before = raid_of cave number p in let one = dwarf_turn cave number before.scene in
+    act_of one.scene (with_threat one.step before.step)
 
--- what one more dwarf did is added to what the others did
-abbrev pub with_step : DwarfStep → Attack → Raid
-with_step act attack = record { attack = with_threat act.threat attack; state = act.state }
-
--- so many dwarves act, one after another
-unfoldable pub raid_of : CaveView → ℕ → State → Raid
-raid_of cave zero s = record { attack = no_attack; state = s }
-raid_of cave (suc number) s =
-    let before = raid_of cave number s in
-    with_step (step_of_dwarf cave number before.state) before.attack
+-- the five act
+abbrev pub raid : Effect Attack
+raid d = let r = raid_of d.cave 5 d.scene in record d { about = r.step; scene = r.scene }

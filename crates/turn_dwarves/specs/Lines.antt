@@ -1,50 +1,61 @@
--- What is printed of the dwarves.
-use Rattle.std.specs.Prelude.{ℕ, ◌==◌, if◌then◌else◌}
-use Rattle.turn_things.specs.data_rows.declared.role.Role.TheVariants as role
-use Rattle.turn_things.specs.cave_world.declared.part.NumberLine.{NumberLine}
-use Rattle.turn_things.specs.cave_world.declared.part.NumberLine.TheVariants as line
-use Rattle.turn_things.specs.cave_world.declared.part.Part.TheVariants as part
-use Rattle.turn_things.specs.cave_world.declared.state.State.{State}
-use Rattle.turn_things.specs.turn_scene.Scene.{Scene, with_state, after_saying, after_telling}
-use Rattle.turn_dwarves.specs.Waking.{with_anger}
+-- What is printed of the dwarves and their knives.
+use Rattle.std.specs.Prelude.{ℕ, ◌==◌, List, [], ◌∷◌}
+use Rattle.turn_rules.specs.data_rows.declared.role.Role.TheVariants as role
+use Rattle.turn_rules.specs.cave_world.declared.part.NumberLine.TheVariants as line
+use Rattle.turn_rules.specs.cave_world.declared.part.Part.TheVariants as part
+use Rattle.turn_rules.specs.Rows.{Test, Effect, Row, plain_row, by_table}
+use Rattle.turn_rules.specs.Tests.{no}
+use Rattle.turn_rules.specs.Effects.{change, say, tell}
+use Rattle.turn_dwarves.specs.Band.{anger, with_anger}
 use Rattle.turn_dwarves.specs.declared.knives.Attack.{Attack}
 
--- a line of the game's own with a number
-abbrev pub telling_number : NumberLine → ℕ → Scene → Scene
-telling_number line n p = after_telling (part.Number line n 0) p
+-- so many dwarves see the player
+abbrev pub dwarves : ℕ → Test Attack
+dwarves n d = d.about.dwarves == n
 
--- how many dwarves are here
-unfoldable pub tell_dwarves : ℕ → Scene → Scene
-tell_dwarves dwarves p =
-    if dwarves == 0 then p
-    else (if dwarves == 1 then after_saying role.DwarfOne p
-    else telling_number line.DwarvesHere dwarves p)
+-- so many knives were thrown
+abbrev pub knives : ℕ → Test Attack
+knives n d = d.about.knives == n
 
--- one knife, and whether it hit
-unfoldable pub after_one_knife : ℕ → Scene → Scene
-after_one_knife hits p =
-    let q = after_saying role.KnifeOne p in
-    if hits == 0 then after_saying role.MissOne q else after_saying role.HitOne q
+-- so many of them hit
+abbrev pub hits : ℕ → Test Attack
+hits n d = d.about.hits == n
 
--- several knives, and how many hit
-unfoldable pub after_some_knives : ℕ → ℕ → Scene → Scene
-after_some_knives knives hits p =
-    let q = telling_number line.KnivesThrown knives p in
-    if hits == 0 then after_saying role.MissAll q
-    else (if hits == 1 then after_saying role.HitMany q else telling_number line.KnivesHit hits q)
+-- lines of the game's own
+abbrev pub count_dwarves : Effect Attack
+count_dwarves d = tell (part.Number line.DwarvesHere d.about.dwarves 0) d
+
+abbrev pub count_knives : Effect Attack
+count_knives d = tell (part.Number line.KnivesThrown d.about.knives 0) d
+
+abbrev pub count_hits : Effect Attack
+count_hits d = tell (part.Number line.KnivesHit d.about.hits 0) d
+
+-- how many dwarves are said to be here
+unfoldable pub dwarf_rows : List (Row Attack (Unit {0}))
+dwarf_rows =
+    plain_row (dwarves 0 ∷ []) []
+    ∷ plain_row (dwarves 1 ∷ []) (say role.DwarfOne ∷ [])
+    ∷ plain_row [] (count_dwarves ∷ [])
+    ∷ []
 
 -- dwarves that threw knives for the first time are angrier from then on
-unfoldable pub after_first_knives : State → State
-after_first_knives s = if s.dwarves.anger == 2 then with_anger 3 s else s
+unfoldable pub first_knife_rows : List (Row Attack (Unit {0}))
+first_knife_rows =
+    plain_row (no (knives 0) ∷ anger 2 ∷ []) (change (with_anger 3) ∷ [])
+    ∷ []
 
--- the knives, if any were thrown
-unfoldable pub after_throws : Attack → Scene → Scene
-after_throws attack p =
-    if attack.knives == 0 then p
-    else (let q = with_state (after_first_knives p.state) p in
-    if attack.knives == 1 then after_one_knife attack.hits q
-    else after_some_knives attack.knives attack.hits q)
+-- what is said of the knives, and how many hit
+unfoldable pub knife_rows : List (Row Attack (Unit {0}))
+knife_rows =
+    plain_row (knives 0 ∷ []) []
+    ∷ plain_row (knives 1 ∷ no (hits 0) ∷ []) (say role.KnifeOne ∷ say role.HitOne ∷ [])
+    ∷ plain_row (knives 1 ∷ []) (say role.KnifeOne ∷ say role.MissOne ∷ [])
+    ∷ plain_row (hits 0 ∷ []) (count_knives ∷ say role.MissAll ∷ [])
+    ∷ plain_row (hits 1 ∷ []) (count_knives ∷ say role.HitMany ∷ [])
+    ∷ plain_row [] (count_knives ∷ count_hits ∷ [])
+    ∷ []
 
 -- the dwarves, and then their knives
-unfoldable pub after_attack : Attack → Scene → Scene
-after_attack attack p = after_throws attack (tell_dwarves attack.dwarves p)
+unfoldable pub tell_attack : List (Effect Attack)
+tell_attack = by_table dwarf_rows ∷ by_table first_knife_rows ∷ by_table knife_rows ∷ []

@@ -1,14 +1,14 @@
--- How a dwarf moves.
-use Rattle.std.specs.Prelude.{ℕ, Bool, ◌==◌, ◌&&◌, ◌||◌, nat_le, if◌then◌else◌, length}
-use Rattle.std.specs.Prelude.{slice_index_or}
-use Rattle.turn_things.specs.cave_data.CaveView.{CaveView}
-use Rattle.turn_things.specs.cave_words.Stream.{number_drawn}
-use Rattle.turn_things.specs.cave_world.declared.dwarves.Dwarf.{Dwarf}
-use Rattle.turn_things.specs.cave_world.declared.state.State.{State}
-use Rattle.turn_things.specs.Places.{deep_place}
-use Rattle.turn_dwarves.specs.Band.{dwarf_of, with_dwarf, state_after_draw}
+-- How a dwarf moves, and whether it sees the player then.
+use Rattle.std.specs.Prelude.{ℕ, Bool, true, false, ◌==◌, List, [], ◌∷◌, length, slice_index_or}
+use Rattle.turn_rules.specs.cave_data.CaveView.{CaveView}
+use Rattle.turn_rules.specs.cave_words.Stream.{number_drawn}
+use Rattle.turn_rules.specs.cave_world.Limits.{PIRATE}
+use Rattle.turn_rules.specs.cave_world.declared.dwarves.Dwarf.{Dwarf}
+use Rattle.turn_rules.specs.turn_scene.Scene.{Scene, with_state, after_draw}
+use Rattle.turn_rules.specs.Rows.{Deed, Test, Row, deed, row_then, first_fitting_or, nothing_but}
+use Rattle.turn_rules.specs.Tests.{here, in_the_depths}
+use Rattle.turn_dwarves.specs.Band.{dwarf_of, with_dwarf}
 use Rattle.turn_dwarves.specs.Candidates.{ways_of_dwarf}
-use Rattle.turn_things.specs.cave_world.Limits.{PIRATE}
 
 -- one of the ways is drawn, also where there is but one
 unfoldable pub chosen_way : CaveView → Bool → Dwarf → ℕ → ℕ
@@ -16,22 +16,45 @@ chosen_way cave is_pirate dwarf x =
     let ways = ways_of_dwarf cave is_pirate dwarf in
     slice_index_or ways (number_drawn (length ways) x) dwarf.last
 
--- a dwarf that goes to a place sees the player who is there or where the dwarf comes from,
--- and keeps in sight a player who stays in the depths
-abbrev pub sees : CaveView → ℕ → Dwarf → ℕ → Bool
-sees cave here dwarf place =
-    (dwarf.has_seen && nat_le (deep_place cave) here) || place == here || dwarf.place == here
+-- the dwarf has seen the player
+abbrev pub sees_player : Test Dwarf
+sees_player d = d.about.has_seen
 
--- a dwarf that goes to a place; one that sees the player goes to the player
-unfoldable pub moved_dwarf : CaveView → ℕ → Dwarf → ℕ → Dwarf
-moved_dwarf cave here dwarf place = record {
-  place = if sees cave here dwarf place then here else place;
-  last = dwarf.place;
-  has_seen = sees cave here dwarf place;
-}
+-- it is where the player is
+abbrev pub is_with_player : Test Dwarf
+is_with_player d = d.about.place == here d
 
-unfoldable pub after_dwarf_move : CaveView → ℕ → State → State
-after_dwarf_move cave number s =
-    let dwarf = dwarf_of s number in
-    let place = chosen_way cave (number == PIRATE) dwarf s.stream in
-    with_dwarf number (moved_dwarf cave s.trail.here dwarf place) (state_after_draw s)
+-- it was there before it moved
+abbrev pub was_with_player : Test Dwarf
+was_with_player d = d.about.last == here d
+
+-- a dwarf that sees the player comes to the player
+abbrev pub comes : Deed Dwarf → Dwarf
+comes d = record d.about { place = here d; has_seen = true }
+
+abbrev pub loses_sight : Deed Dwarf → Dwarf
+loses_sight d = record d.about { has_seen = false }
+
+-- what becomes of a dwarf once it has gone to another place
+unfoldable pub sight_rows : List (Row Dwarf Dwarf)
+sight_rows =
+    row_then (sees_player ∷ in_the_depths ∷ []) [] comes
+    ∷ row_then (is_with_player ∷ []) [] comes
+    ∷ row_then (was_with_player ∷ []) [] comes
+    ∷ row_then [] [] loses_sight
+    ∷ []
+
+unfoldable pub dwarf_in_sight : Deed Dwarf → Dwarf
+dwarf_in_sight d = (first_fitting_or sight_rows (nothing_but loses_sight) d).step
+
+-- a dwarf goes a way
+abbrev pub dwarf_on_way : ℕ → Dwarf → Dwarf
+dwarf_on_way place dwarf = record dwarf { place = place; last = dwarf.place }
+
+-- the dwarf of a number goes one of its ways and looks about, and it is the one of the deed then
+unfoldable pub dwarf_moved : CaveView → ℕ → Scene → Deed Dwarf
+dwarf_moved cave number p =
+    let dwarf = dwarf_of p.state number in let q = after_draw p in
+    let way = chosen_way cave (number == PIRATE) dwarf p.state.stream in
+    let moved = dwarf_in_sight (deed cave (dwarf_on_way way dwarf) q) in
+    deed cave moved (with_state (with_dwarf number moved q.state) q)

@@ -1,35 +1,31 @@
 -- How the dwarves wake.
-use Rattle.std.specs.Prelude.{ℕ, zero, suc, ◌==◌, nat_lt, nat_le, if◌then◌else◌, unwrap_or}
-use Rattle.turn_things.specs.cave_data.CaveView.{CaveView}
-use Rattle.turn_things.specs.data_rows.declared.place_role.PlaceRole.TheVariants as landmark
-use Rattle.turn_things.specs.data_rows.declared.role.Role.TheVariants as role
-use Rattle.turn_things.specs.cave_words.Stream.{number_drawn, pct}
-use Rattle.turn_things.specs.cave_words.declared.named.Named.TheVariants as name
-use Rattle.turn_things.specs.cave_world.declared.dwarves.Dwarf.{Dwarf}
-use Rattle.turn_things.specs.cave_world.declared.state.State.{State}
-use Rattle.turn_things.specs.Effects.{put_here}
-use Rattle.turn_things.specs.Places.{place_named, deep_place}
-use Rattle.turn_things.specs.turn_scene.Scene.{Scene, with_state, here_of, after_saying, after_draw}
-use Rattle.turn_things.specs.turn_scene.Scene.{happens, thing}
-use Rattle.turn_dwarves.specs.Band.{dwarf_of, with_dwarf, with_dwarves, state_after_draw}
-use Rattle.turn_things.specs.cave_world.Limits.{PIRATE}
+use Rattle.std.specs.Prelude.{ℕ, zero, suc, ◌==◌, if◌then◌else◌, unwrap_or, List, [], ◌∷◌}
+use Rattle.turn_rules.specs.cave_data.CaveView.{CaveView}
+use Rattle.turn_rules.specs.data_rows.declared.place_role.PlaceRole.TheVariants as landmark
+use Rattle.turn_rules.specs.data_rows.declared.role.Role.TheVariants as role
+use Rattle.turn_rules.specs.cave_words.Stream.{next, number_drawn, pct}
+use Rattle.turn_rules.specs.cave_words.declared.named.Named.TheVariants as name
+use Rattle.turn_rules.specs.cave_world.declared.dwarves.Dwarf.{Dwarf}
+use Rattle.turn_rules.specs.cave_world.declared.state.State.{State}
+use Rattle.turn_rules.specs.turn_things.Places.{place_named}
+use Rattle.turn_rules.specs.Rows.{Effect, Row, plain_row, row_by_draw}
+use Rattle.turn_rules.specs.Tests.{the, no, in_the_depths, percent}
+use Rattle.turn_rules.specs.Effects.{in_state, change, say, bring}
+use Rattle.turn_dwarves.specs.Band.{dwarf_of, with_dwarf, with_anger}
+use Rattle.turn_dwarves.specs.declared.knives.Attack.{Attack}
 
-abbrev pub with_anger : ℕ → State → State
-with_anger anger s = let dwarves = s.dwarves in with_dwarves (record dwarves { anger = anger }) s
-
--- the dwarves stir once the player comes to the depths
-unfoldable pub stir : CaveView → State → State
-stir cave s = if nat_le (deep_place cave) s.trail.here then with_anger 1 s else s
+abbrev pub state_after_draw : State → State
+state_after_draw s = record s { stream = next s.stream }
 
 -- a dwarf goes nowhere
 unfoldable pub without_dwarf : ℕ → State → State
 without_dwarf number s =
     let dwarf = dwarf_of s number in with_dwarf number (record dwarf { place = 0 }) s
 
--- one of those before the pirate is drawn, and in half of the cases it is gone
+-- one of five is drawn, and in 50 of 100 cases it is gone
 unfoldable pub perhaps_without_one : State → State
 perhaps_without_one s =
-    let one = number_drawn PIRATE s.stream in let t = state_after_draw s in
+    let one = number_drawn 5 s.stream in let t = state_after_draw s in
     if pct 50 t.stream then without_dwarf one (state_after_draw t)
     else state_after_draw t
 
@@ -50,19 +46,25 @@ with_dwarves_apart cave (suc number) s =
     let before = with_dwarves_apart cave number s in
     with_dwarf number (dwarf_apart cave before.trail.here (dwarf_of before number)) before
 
--- the dwarves are awake, and two of them may be gone
-unfoldable pub wake_dwarves : CaveView → State → State
-wake_dwarves cave s =
-    with_dwarves_apart cave PIRATE (perhaps_without_one (perhaps_without_one (with_anger 2 s)))
+-- the five are
+abbrev pub keep_apart : Effect Attack
+keep_apart d = in_state (with_dwarves_apart d.cave 5 d.scene.state) d
 
--- a dwarf throws its axe, which stays at the player's place
-unfoldable pub axe_scene : CaveView → Scene → Scene
-axe_scene cave p =
-    let q = after_saying role.AxeThrown (with_state (wake_dwarves cave p.state) p) in
-    with_state (put_here (thing cave name.Axe) q.state) q
+-- the dwarves are awake, two of them may be gone, and one throws its axe, which stays here
+unfoldable pub wake : List (Effect Attack)
+wake =
+    change (with_anger 2)
+    ∷ change perhaps_without_one
+    ∷ change perhaps_without_one
+    ∷ keep_apart
+    ∷ say role.AxeThrown
+    ∷ bring (the name.Axe)
+    ∷ []
 
--- in the depths dwarves that stir wake in 5 of 100 cases
-unfoldable pub perhaps_wake : CaveView → Scene → Scene
-perhaps_wake cave p =
-    if nat_lt (here_of p) (deep_place cave) then p
-    else (if happens 95 p then after_draw p else axe_scene cave (after_draw p))
+-- dwarves that stir wake in the depths, in 5 of 100 cases
+unfoldable pub waking_rows : List (Row Attack (Unit {0}))
+waking_rows =
+    plain_row (no in_the_depths ∷ []) []
+    ∷ row_by_draw [] (percent 95) [] (λ d. tt)
+    ∷ plain_row [] wake
+    ∷ []

@@ -2,7 +2,7 @@
 
 ghost use Rattle.std.specs.Prelude.{◌≡◌, ◌<◌};
 ghost use Rattle.turn_dwarves.specs.Band.{dwarf_of, with_dwarf};
-ghost use Rattle.turn_things.specs.cave_world.Limits.{dwarf_count};
+ghost use Rattle.turn_rules.specs.cave_world.Limits.{dwarf_count};
 
 use turn_things::{Dwarf, State};
 
@@ -17,9 +17,9 @@ pub fn dwarf_of(state: &State, number: usize) -> Dwarf
 
 /// Changes the dwarf of a number.
 #[tactic(auto, unfolding(crate::specs::Band::with_dwarf))]
-pub fn set_dwarf(number: usize, dwarf: Dwarf, state: &mut State)
+pub fn set_dwarf(number: usize, dwarf: &Dwarf, state: &mut State)
     requires { number < dwarf_count }
-    ensures { state.new ≡ with_dwarf number dwarf state.old }
+    ensures { state.new ≡ with_dwarf number dwarf.now state.old }
 {
-    state.dwarves.each[number] = dwarf;
+    state.dwarves.each[number] = *dwarf;
 }

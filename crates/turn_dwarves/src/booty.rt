@@ -1,84 +1,58 @@
 //! What the pirate does to the treasures.
 
-ghost use Rattle.std.specs.Prelude.{◌≡◌};
-ghost use Rattle.turn_things.specs.turn_scene.Scene.{cave_of};
-ghost use Rattle.turn_dwarves.specs.Booty.{after_move_to_named, pirate_wants, is_carried_booty};
-ghost use Rattle.turn_dwarves.specs.Booty.{is_booty, steal, after_thefts, carries_booty};
-ghost use Rattle.turn_dwarves.specs.Booty.{is_treasure_near, with_chest, with_chest_at_first};
-ghost use Rattle.turn_dwarves.specs.Booty.{with_message, with_pirate_home, rob, hide_chest};
-ghost use Rattle.turn_things.specs.Treasures.{treasures};
+ghost use Rattle.std.specs.Prelude.{◌≡◌, [], ◌∷◌};
+ghost use Rattle.turn_rules.specs.turn_scene.Bounds.{GoesOnSaying, HasRoom};
+ghost use Rattle.turn_rules.specs.turn_scene.Scene.{cave_of, scene_of, thing};
+ghost use Rattle.turn_rules.specs.turn_things.Places.{place_named};
+ghost use Rattle.turn_rules.specs.cave_words.declared.named.Named.TheVariants as name;
+ghost use Rattle.turn_rules.specs.data_rows.declared.place_role.PlaceRole.TheVariants as role;
+ghost use Rattle.turn_rules.specs.turn_things.Treasures.{treasures};
+ghost use Rattle.turn_rules.specs.Rows.{Does, by_table, deed};
+ghost use Rattle.turn_dwarves.specs.Booty.{after_sending, fair, is_carried_booty, carries_booty};
+ghost use Rattle.turn_dwarves.specs.Booty.{is_treasure_near, steal, after_thefts};
+ghost use Rattle.turn_dwarves.specs.Booty.{with_pirate_home, chest_rows, rob, hide_chest};
 
 use crate::band::{dwarf_of, set_dwarf};
 use turn_things::treasures::{FIRST_TREASURE, LAST_TREASURE};
 use turn_things::{
-    Dwarf, Named, Object, PIRATE, Place, PlaceRole, Rules, State, is_fixed, is_home_here,
-    is_in_hand, is_near, place_named,
+    Dwarf, Named, Object, PIRATE, Place, PlaceRole, Role, Rules, Scene, State, is_fixed,
+    is_home_here, is_in_hand, is_near, place_named,
 };
 
-#[tactic(auto, unfolding(crate::specs::Booty::after_move_to_named))]
-fn move_to_named(object: Object, named: Option<Place>, state: &mut State)
-    ensures { state.new ≡ after_move_to_named object named state.old }
+/// An object is moved to a place, if there is the place.
+fn send(object: Object, place: Option<Place>, state: &mut State)
+    ensures { state.new ≡ after_sending object place state.old }
 {
-    if let Some(place) = named {
+    if let Some(place) = place {
         state.move_to(object, place);
     }
 }
 
-/// Whether the pirate takes a treasure: any but the pyramid where it or the emerald is at home.
-#[tactic(auto, unfolding(crate::specs::Booty::pirate_wants))]
-fn pirate_wants(rules: &Rules<'_>, state: &State, object: Object) -> bool
-    ensures { result ≡ pirate_wants (cave_of rules.now) state.now object }
+/// Whether a treasure is fair: any but the pyramid where it or the emerald is at home.
+#[tactic(auto, unfolding(crate::specs::Booty::fair))]
+fn is_fair(rules: &Rules<'_>, object: Object, scene: &Scene<'_>) -> bool
+    ensures { result ≡ fair (deed (cave_of rules.now) object (scene_of scene.now)) }
 {
     !(rules.is(object, Named::Pyramid)
-        && (is_home_here(rules, state, rules.thing(Named::Pyramid))
-            || is_home_here(rules, state, rules.thing(Named::Emerald))))
+        && (is_home_here(rules, scene.state, rules.thing(Named::Pyramid))
+            || is_home_here(rules, scene.state, rules.thing(Named::Emerald))))
 }
 
-/// Whether the player carries a treasure that the pirate takes.
+/// Whether the player carries a treasure that is fair.
 #[tactic(auto, unfolding(crate::specs::Booty::is_carried_booty))]
-fn is_carried_booty(rules: &Rules<'_>, state: &State, object: Object) -> bool
-    ensures { result ≡ is_carried_booty (cave_of rules.now) state.now object }
+fn is_carried_booty(rules: &Rules<'_>, object: Object, scene: &Scene<'_>) -> bool
+    ensures { result ≡ is_carried_booty (cave_of rules.now) (scene_of scene.now) object }
 {
-    pirate_wants(rules, state, object) && is_in_hand(rules, state, object)
-}
-
-/// Whether the pirate takes a treasure that is carried, or is here and loose.
-#[tactic(auto, unfolding(crate::specs::Booty::is_booty))]
-fn is_booty(rules: &Rules<'_>, state: &State, object: Object) -> bool
-    ensures { result ≡ is_booty (cave_of rules.now) state.now object }
-{
-    pirate_wants(rules, state, object)
-        && (is_in_hand(rules, state, object) || (state.at(object) && !is_fixed(state, object)))
-}
-
-/// The pirate brings a treasure to its chest, if it takes it.
-#[tactic(auto, unfolding(crate::specs::Booty::steal))]
-fn steal(rules: &Rules<'_>, object: Object, state: &mut State)
-    ensures { state.new ≡ steal (cave_of rules.now) object state.old }
-{
-    if is_booty(rules, state, object) {
-        let chest = place_named(rules.cave, PlaceRole::Chest);
-        move_to_named(object, chest, state);
-    }
-}
-
-/// The pirate takes all that it can get, one treasure after another.
-#[tactic(auto, using(crate::proofs::Treasures::walking))]
-fn steal_all(rules: &Rules<'_>, state: &mut State)
-    ensures { state.new ≡ after_thefts (cave_of rules.now) treasures state.old }
-{
-    for number in FIRST_TREASURE..LAST_TREASURE + 1 {
-        steal(rules, Object::new(number), state);
-    }
+    is_fair(rules, object, scene) && is_in_hand(rules, scene.state, object)
 }
 
 /// Whether the player carries something that the pirate takes.
 #[tactic(auto, using(crate::proofs::Treasures::walking), unfolding(crate::specs::Booty::carries_booty))]
-pub fn carries_booty(rules: &Rules<'_>, state: &State) -> bool
-    ensures { result ≡ carries_booty (cave_of rules.now) state.now }
+pub fn carries_booty(rules: &Rules<'_>, scene: &Scene<'_>) -> bool
+    ensures { result ≡ carries_booty (deed (cave_of rules.now) tt (scene_of scene.now)) }
 {
     for number in FIRST_TREASURE..LAST_TREASURE + 1 {
-        if is_carried_booty(rules, state, Object::new(number)) {
+        if is_carried_booty(rules, Object::new(number), scene) {
             return true;
         }
     }
@@ -98,30 +72,58 @@ pub fn is_treasure_near(rules: &Rules<'_>, state: &State) -> bool
     false
 }
 
-#[tactic(auto, unfolding(crate::specs::Booty::with_chest))]
-fn put_chest(rules: &Rules<'_>, state: &mut State)
-    ensures { state.new ≡ with_chest (cave_of rules.now) state.old }
+/// A fair treasure that is carried, or is here and loose, is brought to the pirate's chest.
+#[tactic(auto, unfolding(crate::specs::Booty::steal, crate::specs::Booty::steal_rows))]
+fn steal(rules: &Rules<'_>, object: Object, scene: &mut Scene<'_>)
+    ensures scene { scene_of scene.new
+        ≡ steal (cave_of rules.now) object (scene_of scene.old) }
+    ensures says { GoesOnSaying 0 scene.old scene.new }
 {
-    let chest = place_named(rules.cave, PlaceRole::Chest);
-    move_to_named(rules.thing(Named::Chest), chest, state);
-}
-
-/// The chest is put there if the pirate left no message yet.
-#[tactic(auto, unfolding(crate::specs::Booty::with_chest_at_first))]
-fn put_chest_at_first(rules: &Rules<'_>, state: &mut State)
-    ensures { state.new ≡ with_chest_at_first (cave_of rules.now) state.old }
-{
-    if state.is_gone(rules.thing(Named::Message)) {
-        put_chest(rules, state);
+    if is_fair(rules, object, scene)
+        && (is_in_hand(rules, scene.state, object)
+            || (scene.state.at(object) && !is_fixed(scene.state, object)))
+    {
+        let chest = place_named(rules.cave, PlaceRole::Chest);
+        send(object, chest, scene.state);
     }
 }
 
-#[tactic(auto, unfolding(crate::specs::Booty::with_message))]
+/// The pirate takes all that it can get, one treasure after another.
+#[tactic(auto, using(crate::proofs::Treasures::walking))]
+fn steal_all(rules: &Rules<'_>, scene: &mut Scene<'_>)
+    ensures scene { scene_of scene.new
+        ≡ after_thefts (cave_of rules.now) treasures (scene_of scene.old) }
+    ensures says { GoesOnSaying 0 scene.old scene.new }
+{
+    for number in FIRST_TREASURE..LAST_TREASURE + 1 {
+        steal(rules, Object::new(number), scene);
+    }
+}
+
+fn put_chest(rules: &Rules<'_>, state: &mut State)
+    ensures { state.new ≡ after_sending (thing (cave_of rules.now) name.Chest)
+        (place_named (cave_of rules.now) role.Chest) state.old }
+{
+    let chest = place_named(rules.cave, PlaceRole::Chest);
+    send(rules.thing(Named::Chest), chest, state);
+}
+
+/// The chest is put there first, if the pirate left no message yet.
+#[tactic(auto, unfolding(crate::specs::Booty::chest_rows))]
+fn put_chest_at_first(rules: &Rules<'_>, scene: &mut Scene<'_>)
+    ensures rows { Does (by_table chest_rows ∷ []) 0 rules.now tt scene.old scene.new }
+{
+    if scene.state.is_gone(rules.thing(Named::Message)) {
+        put_chest(rules, scene.state);
+    }
+}
+
 fn leave_message(rules: &Rules<'_>, state: &mut State)
-    ensures { state.new ≡ with_message (cave_of rules.now) state.old }
+    ensures { state.new ≡ after_sending (thing (cave_of rules.now) name.Message)
+        (place_named (cave_of rules.now) role.Message) state.old }
 {
     let place = place_named(rules.cave, PlaceRole::Message);
-    move_to_named(rules.thing(Named::Message), place, state);
+    send(rules.thing(Named::Message), place, state);
 }
 
 /// The pirate goes home to its chest, and no longer sees the player.
@@ -135,26 +137,30 @@ fn send_pirate_home(rules: &Rules<'_>, state: &mut State)
         last: place_named(rules.cave, PlaceRole::Chest).unwrap_or(pirate.last),
         has_seen: false,
     };
-    set_dwarf(PIRATE, pirate, state);
+    set_dwarf(PIRATE, &pirate, state);
 }
 
 /// The pirate robs the player, and goes home with what it took.
 #[tactic(auto, unfolding(crate::specs::Booty::rob))]
-pub fn rob(rules: &Rules<'_>, state: &mut State)
-    ensures { state.new ≡ rob (cave_of rules.now) state.old }
+pub fn rob(rules: &Rules<'_>, scene: &mut Scene<'_>)
+    requires { HasRoom 1 scene.old }
+    ensures effects { Does rob 1 rules.now tt scene.old scene.new }
 {
-    put_chest_at_first(rules, state);
-    leave_message(rules, state);
-    steal_all(rules, state);
-    send_pirate_home(rules, state);
+    scene.say(Role::Booty);
+    put_chest_at_first(rules, scene);
+    leave_message(rules, scene.state);
+    steal_all(rules, scene);
+    send_pirate_home(rules, scene.state);
 }
 
 /// The pirate hides its chest, and goes home.
 #[tactic(auto, unfolding(crate::specs::Booty::hide_chest))]
-pub fn hide_chest(rules: &Rules<'_>, state: &mut State)
-    ensures { state.new ≡ hide_chest (cave_of rules.now) state.old }
+pub fn hide_chest(rules: &Rules<'_>, scene: &mut Scene<'_>)
+    requires { HasRoom 1 scene.old }
+    ensures effects { Does hide_chest 1 rules.now tt scene.old scene.new }
 {
-    put_chest(rules, state);
-    leave_message(rules, state);
-    send_pirate_home(rules, state);
+    scene.say(Role::ChestHid);
+    put_chest(rules, scene.state);
+    leave_message(rules, scene.state);
+    send_pirate_home(rules, scene.state);
 }

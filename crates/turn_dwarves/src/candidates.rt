@@ -1,7 +1,7 @@
 ghost use Rattle.std.specs.Prelude.{◌≡◌};
-ghost use Rattle.turn_things.specs.data_rows.RowViews.{going};
-ghost use Rattle.turn_things.specs.turn_scene.Scene.{cave_of};
-ghost use Rattle.turn_things.specs.data_rows.Targets.{EndsWithin};
+ghost use Rattle.turn_rules.specs.data_rows.RowViews.{going};
+ghost use Rattle.turn_rules.specs.turn_scene.Scene.{cave_of};
+ghost use Rattle.turn_rules.specs.data_rows.Targets.{EndsWithin};
 ghost use Rattle.turn_dwarves.specs.Candidates.{is_haunt, haunt_ahead, place_ahead, candidates};
 
 use crate::haunt::Haunt;

@@ -1,17 +1,19 @@
 ghost use Rattle.std.specs.Prelude.{◌≡◌};
-ghost use Rattle.turn_things.specs.turn_scene.Bounds.{GoesOnSaying, HasRoom, parts_of_dwarves};
-ghost use Rattle.turn_things.specs.turn_scene.Scene.{scene_of, cave_of};
-ghost use Rattle.turn_dwarves.specs.Dwarves.{encounter_awake, encounter_dwarves};
+ghost use Rattle.turn_rules.specs.turn_scene.Bounds.{GoesOnSaying, HasRoom, parts_of_dwarves};
+ghost use Rattle.turn_rules.specs.turn_scene.Scene.{scene_of, cave_of};
+ghost use Rattle.turn_rules.specs.Rows.{act_of, after_all, deed, nothing_but};
+ghost use Rattle.turn_dwarves.specs.Dwarves.{is_struck, awake, encounter_dwarves};
+ghost use Rattle.turn_dwarves.specs.Knives.{no_attack};
 
 use crate::knives::raid;
 use crate::lines::tell_attack;
 use crate::pirate::send_pirate;
-use crate::waking::{perhaps_wake, stir};
+use crate::waking::{is_in_depths, set_anger, try_waking};
 use turn_things::{Rules, Scene};
 
 /// The dwarves sleep, stir, or are awake, where the player arrives. Returns whether a knife hit the
 /// player.
-#[tactic(auto, unfolding(crate::specs::Dwarves::encounter_dwarves))]
+#[tactic(auto, unfolding(crate::specs::Dwarves::encounter_dwarves, crate::specs::Dwarves::anger_rows))]
 pub fn encounter_dwarves(rules: &Rules<'_>, scene: &mut Scene<'_>) -> bool
     requires { HasRoom parts_of_dwarves scene.old }
     ensures moves { record { is_hit = result; scene = scene_of scene.new }
@@ -20,27 +22,31 @@ pub fn encounter_dwarves(rules: &Rules<'_>, scene: &mut Scene<'_>) -> bool
 {
     match scene.state.dwarves.anger.number() {
         0 => {
-            stir(rules, scene.state);
+            if is_in_depths(rules, scene.state) {
+                set_anger(1, scene.state);
+            }
             false
         }
         1 => {
-            perhaps_wake(rules, scene);
+            try_waking(rules, scene);
             false
         }
         _ => encounter_awake(rules, scene),
     }
 }
 
-/// Dwarves that are awake act, and then the pirate. Returns whether a knife hit the player.
-#[tactic(auto, unfolding(crate::specs::Dwarves::encounter_awake))]
+/// The five act, and then the pirate, and it is said what the five did. Returns whether a knife hit
+/// the player.
+#[tactic(auto, unfolding(crate::specs::Dwarves::awake, crate::specs::Lines::tell_attack))]
 fn encounter_awake(rules: &Rules<'_>, scene: &mut Scene<'_>) -> bool
     requires { HasRoom parts_of_dwarves scene.old }
-    ensures moves { record { is_hit = result; scene = scene_of scene.new }
-        ≡ encounter_awake (cave_of rules.now) (scene_of scene.old) }
+    ensures acts { act_of (scene_of scene.new) result
+        ≡ nothing_but is_struck
+        (after_all awake (deed (cave_of rules.now) no_attack (scene_of scene.old))) }
     ensures says { GoesOnSaying parts_of_dwarves scene.old scene.new }
 {
-    let attack = raid(rules, scene.state);
+    let attack = raid(rules, scene);
     send_pirate(rules, scene);
-    tell_attack(attack, scene);
+    tell_attack(rules, attack, scene);
     attack.hits != 0
 }

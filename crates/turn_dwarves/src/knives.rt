@@ -1,13 +1,15 @@
 ghost use Rattle.std.specs.Prelude.{◌≡◌, ◌≤◌, ◌<◌, ◌+◌};
-ghost use Rattle.turn_things.specs.turn_scene.Scene.{cave_of};
-ghost use Rattle.turn_dwarves.specs.Knives.{fallen_knife, with_knife_here, knife_step, threaten};
-ghost use Rattle.turn_dwarves.specs.Knives.{step_of_dwarf, with_threat, no_attack, raid_of};
-ghost use Rattle.turn_things.specs.cave_world.Limits.{dwarf_count};
-ghost use Rattle.turn_things.specs.cave_world.Limits as defined;
+ghost use Rattle.turn_rules.specs.turn_scene.Bounds.{GoesOnSaying};
+ghost use Rattle.turn_rules.specs.turn_scene.Scene.{cave_of, scene_of};
+ghost use Rattle.turn_rules.specs.cave_world.Limits.{dwarf_count};
+ghost use Rattle.turn_rules.specs.cave_world.Limits as defined;
+ghost use Rattle.turn_rules.specs.Rows.{PlaysBy, act_of};
+ghost use Rattle.turn_dwarves.specs.Knives.{fallen_knife, with_knife_here, threaten, dwarf_turn};
+ghost use Rattle.turn_dwarves.specs.Knives.{with_threat, no_attack, raid_of};
 
 use crate::band::dwarf_of;
 use crate::moving::move_dwarf;
-use turn_things::{Knife, PIRATE, Place, Rules, State};
+use turn_things::{Dwarf, Knife, PIRATE, Place, Rules, Scene, State};
 
 /// What a dwarf does to the player.
 #[derive(Clone, Copy, Debug, PartialEq, Eq)]
@@ -86,58 +88,54 @@ fn drop_knife(state: &mut State)
     state.dwarves.knife = fallen_knife(state.trail.here, state.dwarves.knife);
 }
 
-/// A knife is thrown at the player. It hits the more often the angrier the dwarves are.
-#[tactic(auto, unfolding(crate::specs::Knives::knife_step))]
-fn throw_knife(state: &mut State) -> Threat
-    ensures { record { threat = result; state = state.new } ≡ knife_step state.old }
+/// What a dwarf does once it moved: one that sees the player and was here before throws a knife. It
+/// hits the more often the angrier the dwarves are.
+#[tactic(auto, unfolding(crate::specs::Knives::threaten, crate::specs::Knives::threat_rows))]
+fn threaten(rules: &Rules<'_>, dwarf: Dwarf, scene: &mut Scene<'_>) -> Threat
+    ensures rows { PlaysBy threaten 0 rules.now dwarf scene.old scene.new result }
 {
-    let chances = 95 * u32::from(state.dwarves.anger.number().saturating_sub(2));
-    let is_hit = state.stream.draw(1000) < chances;
-    drop_knife(state);
-    if is_hit { Threat::Hits } else { Threat::Misses }
-}
-
-/// A dwarf that sees the player is here, and throws a knife if it was here before.
-#[tactic(auto, unfolding(crate::specs::Knives::threaten))]
-fn threaten(number: usize, state: &mut State) -> Threat
-    requires { number < dwarf_count }
-    ensures { record { threat = result; state = state.new } ≡ threaten number state.old }
-{
-    let dwarf = dwarf_of(state, number);
     if !dwarf.has_seen {
         return Threat::Nothing;
     }
-    if dwarf.last == state.trail.here {
-        return throw_knife(state);
+    if dwarf.last != scene.state.trail.here {
+        return Threat::Waits;
     }
-    Threat::Waits
+    let chances = 95 * u32::from(scene.state.dwarves.anger.number().saturating_sub(2));
+    if scene.state.stream.draw(1000) < chances {
+        drop_knife(scene.state);
+        return Threat::Hits;
+    }
+    drop_knife(scene.state);
+    Threat::Misses
 }
 
-/// A dwarf moves and then threatens the player. One that is gone does nothing.
-#[tactic(auto, unfolding(crate::specs::Knives::step_of_dwarf))]
-fn step(rules: &Rules<'_>, number: usize, state: &mut State) -> Threat
+/// A dwarf moves and then may threaten the player. One that is gone does nothing.
+#[tactic(auto, unfolding(crate::specs::Knives::dwarf_turn))]
+fn take_dwarf_turn(rules: &Rules<'_>, number: usize, scene: &mut Scene<'_>) -> Threat
     requires { number < dwarf_count }
-    ensures { record { threat = result; state = state.new }
-        ≡ step_of_dwarf (cave_of rules.now) number state.old }
+    ensures turn { act_of (scene_of scene.new) result
+        ≡ dwarf_turn (cave_of rules.now) number (scene_of scene.old) }
+    ensures says { GoesOnSaying 0 scene.old scene.new }
 {
-    if dwarf_of(state, number).place.number() == 0 {
+    if dwarf_of(scene.state, number).place.number() == 0 {
         return Threat::Nothing;
     }
-    move_dwarf(rules, number, state);
-    threaten(number, state)
+    let dwarf = move_dwarf(rules, number, scene);
+    threaten(rules, dwarf, scene)
 }
 
 /// The dwarves before the pirate act, one after another.
-pub fn raid(rules: &Rules<'_>, state: &mut State) -> Attack
-    ensures raid { record { attack = result; state = state.new }
-        ≡ raid_of (cave_of rules.now) defined.PIRATE state.old }
+pub fn raid(rules: &Rules<'_>, scene: &mut Scene<'_>) -> Attack
+    ensures raid { act_of (scene_of scene.new) result
+        ≡ raid_of (cave_of rules.now) defined.PIRATE (scene_of scene.old) }
+    ensures says { GoesOnSaying 0 scene.old scene.new }
     ensures dwarves { result.dwarves ≤ defined.PIRATE }
     ensures knives { result.knives ≤ defined.PIRATE }
     ensures hits { result.hits ≤ defined.PIRATE }
 {
     let mut attack = Attack::none();
     for number in 0..PIRATE {
-        attack = attack.with(step(rules, number, state));
+        attack = attack.with(take_dwarf_turn(rules, number, scene));
     }
     attack
 }

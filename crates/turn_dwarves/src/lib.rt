@@ -19,8 +19,8 @@ pub use turn_things::props::{
     TROLL_RETURNING, UNSEEN,
 };
 pub use turn_things::{
-    Anchor, Charge, Destination, Dwarf, Half, MAX_DETAILS, Motion, Named, Object, Objects, Outcome,
-    PIRATE, Part, Place, PlaceCondition, PlaceRole, Prop, Role, Row, Rules, Scene, Special, State,
-    forced, has_condition_of, has_prop, has_prop_up_to, hold, home, is_in_hand, lose_one,
-    second_home, start_panic, travel,
+    Anchor, Charge, Destination, Dwarf, Half, MAX_DETAILS, Motion, Named, Object, Outcome, PIRATE,
+    Part, Place, PlaceCondition, PlaceRole, Prop, Role, Row, Rules, Scene, Special, State, forced,
+    has_condition_of, has_prop, has_prop_up_to, hold, home, is_in_hand, lose_one, second_home,
+    start_panic, travel,
 };

@@ -1,12 +1,15 @@
 ghost use Rattle.std.specs.Prelude.{◌≡◌, ◌<◌, ◌==◌};
-ghost use Rattle.turn_things.specs.cave_words.Stream.{next};
-ghost use Rattle.turn_things.specs.turn_scene.Scene.{cave_of};
-ghost use Rattle.turn_dwarves.specs.Moving.{chosen_way, sees, moved_dwarf, after_dwarf_move};
-ghost use Rattle.turn_things.specs.cave_world.Limits.{dwarf_count};
+ghost use Rattle.turn_rules.specs.cave_words.Stream.{next};
+ghost use Rattle.turn_rules.specs.turn_scene.Bounds.{GoesOnSaying};
+ghost use Rattle.turn_rules.specs.turn_scene.Scene.{cave_of, scene_of};
+ghost use Rattle.turn_rules.specs.cave_world.Limits.{dwarf_count};
+ghost use Rattle.turn_rules.specs.Rows.{deed};
+ghost use Rattle.turn_dwarves.specs.Moving.{chosen_way, dwarf_in_sight, dwarf_moved};
 
 use crate::band::{dwarf_of, set_dwarf};
 use crate::candidates::candidates;
-use turn_things::{Dwarf, PIRATE, Place, Rules, State, Stream, deep_place};
+use crate::waking::is_in_depths;
+use turn_things::{Dwarf, PIRATE, Place, Rules, Scene, Stream};
 
 /// Draws one of the ways of a dwarf, also where there is but one.
 #[tactic(auto, unfolding(crate::specs::Moving::chosen_way, crate::specs::Candidates::ways_of_dwarf))]
@@ -23,35 +26,38 @@ fn choose_way(rules: &Rules<'_>, is_pirate: bool, dwarf: &Dwarf, stream: &mut St
     candidates[drawn as usize].place()
 }
 
-fn sees(rules: &Rules<'_>, here: Place, dwarf: &Dwarf, place: Place) -> bool
-    ensures { result ≡ sees (cave_of rules.now) here dwarf.now place }
+/// A dwarf that has moved comes to the player whom it sees, or forgets the player.
+#[tactic(auto, unfolding(crate::specs::Moving::dwarf_in_sight, crate::specs::Moving::sight_rows))]
+fn dwarf_in_sight(rules: &Rules<'_>, dwarf: Dwarf, scene: &Scene<'_>) -> Dwarf
+    ensures { result ≡ dwarf_in_sight (deed (cave_of rules.now) dwarf (scene_of scene.now)) }
 {
-    (dwarf.has_seen && deep_place(rules.cave).number() <= here.number())
-        || place == here
+    let here = scene.state.trail.here;
+    let sees = (dwarf.has_seen && is_in_depths(rules, scene.state))
         || dwarf.place == here
-}
-
-/// A dwarf that goes to a place, or to the player whom it sees.
-#[tactic(auto, unfolding(crate::specs::Moving::moved_dwarf))]
-fn moved_dwarf(rules: &Rules<'_>, here: Place, dwarf: &Dwarf, place: Place) -> Dwarf
-    ensures { result ≡ moved_dwarf (cave_of rules.now) here dwarf.now place }
-{
-    let sees = sees(rules, here, dwarf, place);
+        || dwarf.last == here;
     Dwarf {
-        place: if sees { here } else { place },
-        last: dwarf.place,
+        place: if sees { here } else { dwarf.place },
+        last: dwarf.last,
         has_seen: sees,
     }
 }
 
-/// The dwarf of a number moves.
-#[tactic(auto, unfolding(crate::specs::Moving::after_dwarf_move))]
-pub fn move_dwarf(rules: &Rules<'_>, number: usize, state: &mut State)
+/// The dwarf of a number moves, and is returned.
+#[tactic(auto, unfolding(crate::specs::Moving::dwarf_moved))]
+pub fn move_dwarf(rules: &Rules<'_>, number: usize, scene: &mut Scene<'_>) -> Dwarf
     requires { number < dwarf_count }
-    ensures { state.new ≡ after_dwarf_move (cave_of rules.now) number state.old }
+    ensures dwarf { deed (cave_of rules.now) result (scene_of scene.new)
+        ≡ dwarf_moved (cave_of rules.now) number (scene_of scene.old) }
+    ensures says { GoesOnSaying 0 scene.old scene.new }
 {
-    let dwarf = dwarf_of(state, number);
-    let place = choose_way(rules, number == PIRATE, &dwarf, &mut state.stream);
-    let dwarf = moved_dwarf(rules, state.trail.here, &dwarf, place);
-    set_dwarf(number, dwarf, state);
+    let dwarf = dwarf_of(scene.state, number);
+    let place = choose_way(rules, number == PIRATE, &dwarf, &mut scene.state.stream);
+    let on_way = Dwarf {
+        place,
+        last: dwarf.place,
+        has_seen: dwarf.has_seen,
+    };
+    let moved = dwarf_in_sight(rules, on_way, scene);
+    set_dwarf(number, &moved, scene.state);
+    moved
 }

@@ -1,9 +1,17 @@
-ghost use Rattle.std.specs.Prelude.{◌≡◌};
-ghost use Rattle.turn_things.specs.turn_scene.Bounds.{GoesOnSaying, HasRoom};
-ghost use Rattle.turn_things.specs.turn_scene.Scene.{scene_of, cave_of};
-ghost use Rattle.turn_dwarves.specs.Pirate.{is_chest_seen, is_after_player, hides_chest};
-ghost use Rattle.turn_dwarves.specs.Pirate.{is_pirate_new, after_rustle, pirate_scene};
-ghost use Rattle.turn_dwarves.specs.Pirate.{meet_if_after_player, after_pirate};
+ghost use Rattle.std.specs.Prelude.{◌≡◌, [], ◌∷◌, pos, not, ◌==◌, ◌&&◌, int_le};
+ghost use Rattle.turn_rules.specs.cave_world.Limits as limit;
+ghost use Rattle.turn_dwarves.specs.Band as band;
+ghost use Rattle.turn_rules.specs.turn_scene.Bounds.{GoesOnSaying, HasRoom};
+ghost use Rattle.turn_rules.specs.turn_scene.Scene.{scene_of, cave_of, thing};
+ghost use Rattle.turn_rules.specs.world_objects.Objects.{prop_of};
+ghost use Rattle.turn_rules.specs.cave_words.declared.named.Named.TheVariants as name;
+ghost use Rattle.turn_rules.specs.data_rows.declared.place_role.PlaceRole.TheVariants as place;
+ghost use Rattle.turn_rules.specs.cave_world.Sight as defined;
+ghost use Rattle.turn_rules.specs.Rows.{Does, all_hold, by_table, deed};
+ghost use Rattle.turn_rules.specs.Tests.{the, no, near, prop, nowhere, player_at};
+ghost use Rattle.turn_dwarves.specs.Booty.{treasure_near};
+ghost use Rattle.turn_dwarves.specs.Pirate.{prop_from, pirate_sees, one_left};
+ghost use Rattle.turn_dwarves.specs.Pirate.{pirate_rows, chase_rows, after_pirate};
 
 use crate::band::dwarf_of;
 use crate::booty::{carries_booty, hide_chest, is_treasure_near, rob};
@@ -13,54 +21,67 @@ use turn_things::{
     place_named,
 };
 
-#[tactic(auto, unfolding(crate::specs::Pirate::is_chest_seen))]
+/// Whether the chest was seen.
 fn is_chest_seen(rules: &Rules<'_>, state: &State) -> bool
-    ensures { result ≡ is_chest_seen (cave_of rules.now) state.now }
+    ensures { let chest = thing (cave_of rules.now) name.Chest in
+        result ≡ (not (chest == 0) && int_le (pos 0) (prop_of state.now.objects chest)) }
 {
     let chest = rules.thing(Named::Chest);
     !chest.is_none() && 0 <= state.objects.prop(chest).value()
 }
 
 /// Whether the pirate sees the player, away from its chest, which wasn't seen yet.
-#[tactic(auto, unfolding(crate::specs::Pirate::is_after_player))]
-fn is_after_player(rules: &Rules<'_>, state: &State) -> bool
-    ensures { result ≡ is_after_player (cave_of rules.now) state.now }
+fn is_after_player(rules: &Rules<'_>, scene: &Scene<'_>) -> bool
+    ensures { result ≡ all_hold (pirate_sees ∷ no (player_at place.Chest)
+        ∷ no (prop_from (the name.Chest) (pos 0)) ∷ [])
+        (deed (cave_of rules.now) tt (scene_of scene.now)) }
 {
-    dwarf_of(state, PIRATE).has_seen
-        && !is_place(state.trail.here, place_named(rules.cave, PlaceRole::Chest))
-        && !is_chest_seen(rules, state)
+    dwarf_of(scene.state, PIRATE).has_seen
+        && !is_place(
+            scene.state.trail.here,
+            place_named(rules.cave, PlaceRole::Chest),
+        )
+        && !is_chest_seen(rules, scene.state)
 }
 
 /// Whether the pirate hides its chest, which is nowhere yet: no treasure is at hand, one more
 /// counts as unseen than count as lost, and the player has light.
-#[tactic(auto, unfolding(crate::specs::Pirate::hides_chest))]
-fn hides_chest(rules: &Rules<'_>, state: &State) -> bool
-    ensures { result ≡ hides_chest (cave_of rules.now) state.now }
+fn hides_chest(rules: &Rules<'_>, scene: &Scene<'_>) -> bool
+    ensures { result ≡ all_hold (no treasure_near ∷ one_left ∷ nowhere (the name.Chest)
+        ∷ near (the name.Lamp) ∷ prop (the name.Lamp) defined.LAMP_ON ∷ [])
+        (deed (cave_of rules.now) tt (scene_of scene.now)) }
 {
     let lamp = rules.thing(Named::Lamp);
-    !is_treasure_near(rules, state)
-        && u32::from(state.tallies.unseen.number()) == u32::from(state.tallies.lost.number()) + 1
-        && state.is_gone(rules.thing(Named::Chest))
-        && is_near(rules, state, lamp)
-        && has_prop(state, lamp, LAMP_ON)
+    let tallies = &scene.state.tallies;
+    !is_treasure_near(rules, scene.state)
+        && u32::from(tallies.unseen.number()) == u32::from(tallies.lost.number()) + 1
+        && scene.state.is_gone(rules.thing(Named::Chest))
+        && is_near(rules, scene.state, lamp)
+        && has_prop(scene.state, lamp, LAMP_ON)
 }
 
 /// Whether the pirate came just now.
-#[tactic(auto, unfolding(crate::specs::Pirate::is_pirate_new))]
 fn is_pirate_new(state: &State) -> bool
-    ensures { result ≡ is_pirate_new state.now }
+    ensures { let one = band.dwarf_of state.now limit.PIRATE in result ≡ not (one.last == one.place) }
 {
     let pirate = dwarf_of(state, PIRATE);
     pirate.last != pirate.place
 }
 
-/// The player may hear the pirate who follows.
-#[tactic(auto, unfolding(crate::specs::Pirate::after_rustle))]
-fn rustle(scene: &mut Scene<'_>)
+/// The pirate who is after the player robs, or hides its chest, or may be heard.
+#[tactic(auto, unfolding(crate::specs::Pirate::pirate_rows))]
+fn meet_pirate(rules: &Rules<'_>, scene: &mut Scene<'_>)
     requires { HasRoom 1 scene.old }
-    ensures scene { scene_of scene.new ≡ after_rustle (scene_of scene.old) }
-    ensures says { GoesOnSaying 1 scene.old scene.new }
+    ensures rows { Does (by_table pirate_rows ∷ []) 1 rules.now tt scene.old scene.new }
 {
+    if carries_booty(rules, scene) {
+        rob(rules, scene);
+        return;
+    }
+    if hides_chest(rules, scene) {
+        hide_chest(rules, scene);
+        return;
+    }
     if !is_pirate_new(scene.state) {
         return;
     }
@@ -69,39 +90,18 @@ fn rustle(scene: &mut Scene<'_>)
     }
 }
 
-/// The pirate who is after the player robs, or hides its chest, or follows.
-#[tactic(auto, unfolding(crate::specs::Pirate::pirate_scene))]
-fn meet_pirate(rules: &Rules<'_>, scene: &mut Scene<'_>)
+/// The pirate may be after the player.
+#[tactic(auto, unfolding(crate::specs::Pirate::chase_rows))]
+fn chase(rules: &Rules<'_>, scene: &mut Scene<'_>)
     requires { HasRoom 1 scene.old }
-    ensures scene { scene_of scene.new ≡ pirate_scene (cave_of rules.now) (scene_of scene.old) }
-    ensures says { GoesOnSaying 1 scene.old scene.new }
+    ensures rows { Does (by_table chase_rows ∷ []) 1 rules.now tt scene.old scene.new }
 {
-    if carries_booty(rules, scene.state) {
-        scene.say(Role::Booty);
-        rob(rules, scene.state);
-        return;
-    }
-    if hides_chest(rules, scene.state) {
-        scene.say(Role::ChestHid);
-        hide_chest(rules, scene.state);
-        return;
-    }
-    rustle(scene);
-}
-
-#[tactic(auto, unfolding(crate::specs::Pirate::meet_if_after_player))]
-fn meet_if_after_player(rules: &Rules<'_>, scene: &mut Scene<'_>)
-    requires { HasRoom 1 scene.old }
-    ensures scene { scene_of scene.new
-        ≡ meet_if_after_player (cave_of rules.now) (scene_of scene.old) }
-    ensures says { GoesOnSaying 1 scene.old scene.new }
-{
-    if is_after_player(rules, scene.state) {
+    if is_after_player(rules, scene) {
         meet_pirate(rules, scene);
     }
 }
 
-/// The pirate moves like a dwarf, and may meet the player.
+/// The pirate moves like a dwarf, and may be after the player.
 #[tactic(auto, unfolding(crate::specs::Pirate::after_pirate))]
 pub fn send_pirate(rules: &Rules<'_>, scene: &mut Scene<'_>)
     requires { HasRoom 1 scene.old }
@@ -111,6 +111,6 @@ pub fn send_pirate(rules: &Rules<'_>, scene: &mut Scene<'_>)
     if dwarf_of(scene.state, PIRATE).place.number() == 0 {
         return;
     }
-    move_dwarf(rules, PIRATE, scene.state);
-    meet_if_after_player(rules, scene);
+    move_dwarf(rules, PIRATE, scene);
+    chase(rules, scene);
 }

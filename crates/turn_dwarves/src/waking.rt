@@ -1,11 +1,14 @@
-ghost use Rattle.std.specs.Prelude.{◌≡◌, ◌<◌, ◌≤◌};
-ghost use Rattle.turn_things.specs.turn_scene.Bounds.{GoesOnSaying, HasRoom};
-ghost use Rattle.turn_things.specs.turn_scene.Scene.{scene_of, cave_of};
-ghost use Rattle.turn_dwarves.specs.Waking.{with_anger, stir, without_dwarf, perhaps_without_one};
-ghost use Rattle.turn_dwarves.specs.Waking.{place_apart, dwarf_apart, with_dwarves_apart};
-ghost use Rattle.turn_dwarves.specs.Waking.{wake_dwarves, axe_scene, perhaps_wake};
-ghost use Rattle.turn_things.specs.cave_world.Limits.{MAX_ANGER};
-ghost use Rattle.turn_things.specs.cave_world.Limits as defined;
+ghost use Rattle.std.specs.Prelude.{◌≡◌, ◌<◌, ◌≤◌, nat_le, [], ◌∷◌};
+ghost use Rattle.turn_rules.specs.turn_scene.Bounds.{HasRoom};
+ghost use Rattle.turn_rules.specs.turn_scene.Scene.{cave_of};
+ghost use Rattle.turn_rules.specs.turn_things.Places.{deep_place};
+ghost use Rattle.turn_rules.specs.cave_world.Limits.{MAX_ANGER};
+ghost use Rattle.turn_rules.specs.cave_world.Limits as defined;
+ghost use Rattle.turn_rules.specs.Rows.{Does, by_table};
+ghost use Rattle.turn_dwarves.specs.Band.{with_anger};
+ghost use Rattle.turn_dwarves.specs.Knives.{no_attack};
+ghost use Rattle.turn_dwarves.specs.Waking.{without_dwarf, perhaps_without_one, place_apart};
+ghost use Rattle.turn_dwarves.specs.Waking.{dwarf_apart, with_dwarves_apart, wake, waking_rows};
 
 use crate::band::{dwarf_of, set_dwarf};
 use turn_things::{
@@ -21,14 +24,11 @@ pub fn set_anger(degree: u16, state: &mut State)
     state.dwarves.anger = Count::new(degree);
 }
 
-/// The dwarves stir once the player comes to the depths.
-#[tactic(auto, unfolding(crate::specs::Waking::stir))]
-pub fn stir(rules: &Rules<'_>, state: &mut State)
-    ensures { state.new ≡ stir (cave_of rules.now) state.old }
+/// Whether the player is in the depths of the cave.
+pub fn is_in_depths(rules: &Rules<'_>, state: &State) -> bool
+    ensures { result ≡ nat_le (deep_place (cave_of rules.now)) state.now.trail.here }
 {
-    if deep_place(rules.cave).number() <= state.trail.here.number() {
-        set_anger(1, state);
-    }
+    deep_place(rules.cave).number() <= state.trail.here.number()
 }
 
 /// A dwarf goes nowhere.
@@ -43,7 +43,7 @@ fn remove_dwarf(number: usize, state: &mut State)
         last: dwarf.last,
         has_seen: dwarf.has_seen,
     };
-    set_dwarf(number, gone, state);
+    set_dwarf(number, &gone, state);
 }
 
 /// One of those before the pirate is drawn, and in half of the cases it is gone.
@@ -87,46 +87,36 @@ fn keep_apart(rules: &Rules<'_>, state: &mut State)
     for number in 0..PIRATE {
         let dwarf = dwarf_of(state, number);
         let dwarf = dwarf_apart(rules, state.trail.here, &dwarf);
-        set_dwarf(number, dwarf, state);
+        set_dwarf(number, &dwarf, state);
     }
 }
 
-/// The dwarves are awake, and two of them may be gone.
-#[tactic(auto, unfolding(crate::specs::Waking::wake_dwarves))]
-fn wake_dwarves(rules: &Rules<'_>, state: &mut State)
-    ensures { state.new ≡ wake_dwarves (cave_of rules.now) state.old }
-{
-    set_anger(2, state);
-    perhaps_remove_one(state);
-    perhaps_remove_one(state);
-    keep_apart(rules, state);
-}
-
 /// The dwarves wake, and one throws its axe, which stays at the player's place.
-#[tactic(auto, unfolding(crate::specs::Waking::axe_scene))]
-fn throw_first_axe(rules: &Rules<'_>, scene: &mut Scene<'_>)
+#[tactic(auto, unfolding(crate::specs::Waking::wake))]
+fn wake(rules: &Rules<'_>, scene: &mut Scene<'_>)
     requires { HasRoom 1 scene.old }
-    ensures scene { scene_of scene.new ≡ axe_scene (cave_of rules.now) (scene_of scene.old) }
-    ensures says { GoesOnSaying 1 scene.old scene.new }
+    ensures scene { Does wake 1 rules.now no_attack scene.old scene.new }
 {
-    wake_dwarves(rules, scene.state);
+    set_anger(2, scene.state);
+    perhaps_remove_one(scene.state);
+    perhaps_remove_one(scene.state);
+    keep_apart(rules, scene.state);
     scene.say(Role::AxeThrown);
     let here = scene.state.trail.here;
     scene.state.move_to(rules.thing(Named::Axe), here);
 }
 
 /// In the depths, dwarves that stir may wake.
-#[tactic(auto, unfolding(crate::specs::Waking::perhaps_wake))]
-pub fn perhaps_wake(rules: &Rules<'_>, scene: &mut Scene<'_>)
+#[tactic(auto, unfolding(crate::specs::Waking::waking_rows))]
+pub fn try_waking(rules: &Rules<'_>, scene: &mut Scene<'_>)
     requires { HasRoom 1 scene.old }
-    ensures scene { scene_of scene.new ≡ perhaps_wake (cave_of rules.now) (scene_of scene.old) }
-    ensures says { GoesOnSaying 1 scene.old scene.new }
+    ensures rows { Does (by_table waking_rows ∷ []) 1 rules.now no_attack scene.old scene.new }
 {
-    if scene.state.trail.here.number() < deep_place(rules.cave).number() {
+    if !is_in_depths(rules, scene.state) {
         return;
     }
     if scene.happens(95) {
         return;
     }
-    throw_first_axe(rules, scene);
+    wake(rules, scene);
 }

@@ -13,7 +13,7 @@ use Rattle.turn_score.specs.turn_scene.Scene.{Scene, with_state}
 use Rattle.turn_score.specs.Score.{score_of, max_score_of}
 use Rattle.turn_rules.specs.Rows.{Deed, Test, Effect, Row, deed, plain_row, by_table, after_all}
 use Rattle.turn_rules.specs.Tests.{cave_closing}
-use Rattle.turn_rules.specs.Effects.{in_scene, in_state, say, tell}
+use Rattle.turn_rules.specs.Effects.{in_scene, change, say, tell}
 use Rattle.turn_ends.specs.Questions.{ask}
 
 abbrev pub score_now : Deed (Unit {0}) → ℕ
@@ -79,7 +79,7 @@ module _ {C : Type 0} where
   end_as how d = in_scene (after_end d.cave how d.scene) d
 
   abbrev pub count_death : Effect C
-  count_death d = in_state (with_one_death d.scene.state) d
+  count_death d = change with_one_death d
 
 -- a death in a closing cave is the last; after another the player is asked whether to come back
 unfoldable pub death_rows : List (Row (Unit {0}) (Unit {0}))

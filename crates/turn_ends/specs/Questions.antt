@@ -1,5 +1,5 @@
 -- What questions ask.
-use Rattle.std.specs.Prelude.{ℕ, Bool, true, false, ◌==◌, List, [], ◌∷◌, Option, Some, None}
+use Rattle.std.specs.Prelude.{ℕ, Bool, true, false, List, [], ◌∷◌, Option, Some, None}
 use Rattle.std.specs.FinMap as map
 use Rattle.turn_score.specs.cave_data.CaveView.{CaveView}
 use Rattle.turn_score.specs.data_rows.declared.role.Role.TheVariants as role
@@ -12,7 +12,8 @@ use Rattle.turn_score.specs.cave_world.declared.state.State.{State}
 use Rattle.turn_score.specs.turn_scene.Scene.{Scene, after_telling}
 use Rattle.turn_score.specs.Score.{score_of, max_score_of}
 use Rattle.turn_rules.specs.Rows.{Test, Effect, Row, deed, plain_row, by_table, after_all}
-use Rattle.turn_rules.specs.Effects.{in_scene, in_state, say}
+use Rattle.turn_rules.specs.Tests.{deaths}
+use Rattle.turn_rules.specs.Effects.{in_scene, in_state, say, tell}
 
 abbrev pub is_welcome : Question → Bool
 is_welcome question.Welcome = true
@@ -56,10 +57,6 @@ hint_number (question.Hint h) = h
 hint_number (question.Take h) = h
 hint_number _ = 0
 
--- so many deaths are counted
-abbrev pub deaths : ℕ → Test Question
-deaths n d = d.scene.state.tallies.deaths == n
-
 -- how a player who dies is asked whether to come back
 unfoldable pub die_rows : List (Row Question (Unit {0}))
 die_rows =
@@ -96,9 +93,7 @@ after_question cave asked p = (by_table question_rows (deed cave asked p)).scene
 -- the score up to now, and the greatest that there is
 abbrev pub tell_score_now : Effect Question
 tell_score_now d =
-    in_scene
-    (after_telling (part.Number line.ScoreNow (score_of d.cave d.scene.state) (max_score_of d.cave))
-    d.scene) d
+    tell (part.Number line.ScoreNow (score_of d.cave d.scene.state) (max_score_of d.cave)) d
 
 abbrev pub tell_question : Effect Question
 tell_question d = in_scene (after_question d.cave d.about d.scene) d

@@ -6,24 +6,24 @@ use Rattle.std.specs.FinMap as map
 use Rattle.std.specs.Int.{int_min}
 use Rattle.turn_ends.specs.cave_data.CaveView.{CaveView}
 use Rattle.turn_ends.specs.data_rows.declared.rows.Hint.{Hint}
-use Rattle.turn_ends.specs.cave_words.declared.named.Named.{Named}
 use Rattle.turn_ends.specs.cave_words.declared.named.Named.TheVariants as name
 use Rattle.turn_ends.specs.world_objects.Lists.{halves_at}
 use Rattle.turn_ends.specs.world_objects.Objects.{carried_objects}
 use Rattle.turn_ends.specs.cave_world.Limits.{LOW_CHARGE, MAX_LAMP_TURNS}
 use Rattle.turn_ends.specs.cave_world.Sight.{has_condition}
-use Rattle.turn_ends.specs.cave_world.State.{takes_no_command, turns_in_area, is_hint_taken}
-use Rattle.turn_ends.specs.cave_world.State.{with_hint_taken, MAX_TURNS_IN_AREA}
+use Rattle.turn_ends.specs.cave_world.State.{turns_in_area, is_hint_taken, MAX_TURNS_IN_AREA}
 use Rattle.turn_ends.specs.cave_world.declared.ending.Question.TheVariants as question
 use Rattle.turn_ends.specs.cave_world.declared.part.NumberLine.TheVariants.{HintCosts}
 use Rattle.turn_ends.specs.cave_world.declared.part.Part.TheVariants as part
 use Rattle.turn_ends.specs.cave_world.declared.state.State.{State}
-use Rattle.turn_ends.specs.turn_scene.Scene.{Scene, is_called}
+use Rattle.turn_ends.specs.turn_scene.Scene.{Scene}
 use Rattle.turn_ends.specs.turn_things.Props.{GRATE_LOCKED, UNSEEN}
 use Rattle.turn_ends.specs.turn_rules.Rows.{Deed, Test, Effect, Row, deed, row_then, plain_row}
 use Rattle.turn_ends.specs.turn_rules.Rows.{all_hold, by_table, first_fitting_or, nothing_but}
-use Rattle.turn_ends.specs.turn_rules.Tests.{the, no, in_hand, near, prop, other_prop}
-use Rattle.turn_ends.specs.turn_rules.Effects.{in_state, when, tell}
+use Rattle.turn_ends.specs.turn_rules.Tests.{the, no, in_hand, near, prop, other_prop, over}
+use Rattle.turn_ends.specs.turn_rules.Tests.{last_object, here, last, older}
+use Rattle.turn_ends.specs.turn_rules.Effects.{with_charge, in_state, when, tell, tell_message}
+use Rattle.turn_ends.specs.turn_rules.Effects.{take_hint}
 use Rattle.turn_ends.specs.Questions.{ask}
 
 -- the hints that are offered begin with this one
@@ -82,26 +82,9 @@ in_area d = is_in_area d.cave d.about d.scene.state
 abbrev pub has_stayed : Test ℕ
 has_stayed d = nat_le (row_of d).turns (turns_in_area d.scene.state d.about)
 
--- a question is open, or the game has ended
-abbrev pub over : Test ℕ
-over d = takes_no_command d.scene.state
-
-abbrev pub last_object : Named → Test ℕ
-last_object n d = is_called d.cave d.scene.state.talk.last n
-
--- the last three places of the player
-abbrev pub here : State → ℕ
-here s = s.trail.here
-
-abbrev pub last : State → ℕ
-last s = s.trail.last
-
-abbrev pub older : State → ℕ
-older s = s.trail.older
-
 -- nothing is at a place
-abbrev pub bare : (State → ℕ) → Test ℕ
-bare place d = let s = d.scene.state in length (halves_at (place s) s.objects.lists) == 0
+abbrev pub bare : (Deed ℕ → ℕ) → Test ℕ
+bare place d = length (halves_at (place d) d.scene.state.objects.lists) == 0
 
 abbrev pub two_in_hand : Test ℕ
 two_in_hand d = nat_lt 1 (length (carried_objects d.scene.state.objects))
@@ -186,11 +169,12 @@ ask_take d = ask (question.Take d.about) d
 unfoldable pub price_rows : List (Row ℕ (Unit {0}))
 price_rows = plain_row (in_cave ∷ []) (tell_price ∷ ask_take ∷ []) ∷ []
 
-abbrev pub tell_hint : Effect ℕ
-tell_hint d = tell (part.Message (row_of d).text) d
+-- the text of the hint's row
+abbrev pub hint_text : Deed ℕ → ℕ
+hint_text d = (row_of d).text
 
 abbrev pub take : Effect ℕ
-take d = in_state (with_hint_taken d.about d.scene.state) d
+take d = take_hint d.about d
 
 -- the lamp isn't low
 abbrev pub bright : Test ℕ
@@ -198,9 +182,7 @@ bright d = int_lt (pos LOW_CHARGE) d.scene.state.lamp.charge
 
 abbrev pub with_more_charge : ℕ → State → State
 with_more_charge points s =
-    let lamp = s.lamp in
-    let charge = int_min (lamp.charge +ℤ pos (30 * points)) (pos MAX_LAMP_TURNS) in
-    record s { lamp = record lamp { charge = charge } }
+    with_charge (int_min (s.lamp.charge +ℤ pos (30 * points)) (pos MAX_LAMP_TURNS)) s
 
 -- the lamp burns 30 turns more for each point that the hint costs, up to the most
 abbrev pub prolong : Effect ℕ
@@ -208,4 +190,4 @@ prolong d = in_state (with_more_charge (row_of d).points d.scene.state) d
 
 -- what a player gets who takes a hint
 unfoldable pub give_rows : List (Row ℕ (Unit {0}))
-give_rows = plain_row (in_cave ∷ []) (tell_hint ∷ take ∷ when bright prolong ∷ []) ∷ []
+give_rows = plain_row (in_cave ∷ []) (tell_message hint_text ∷ take ∷ when bright prolong ∷ []) ∷ []

@@ -1,94 +1,104 @@
 -- What happens where a player arrives.
-use Rattle.std.specs.Prelude.{ℕ, Bool, true, false, ◌==◌, ◌&&◌, not, nat_le, if◌then◌else◌, take}
+use Rattle.std.specs.Prelude.{ℕ, Bool, false, ◌==◌, ◌&&◌, nat_le, if◌then◌else◌, take, List, [], ◌∷◌}
 use Rattle.std.specs.Prelude.{suc, zero}
 use Rattle.std.specs.List.{list_any}
 use Rattle.turn_dwarves.specs.cave_data.CaveView.{CaveView}
 use Rattle.turn_dwarves.specs.data_rows.declared.role.Role.TheVariants as role
+use Rattle.turn_dwarves.specs.cave_world.Limits.{PIRATE}
 use Rattle.turn_dwarves.specs.cave_world.Motions.{any_motion}
-use Rattle.turn_dwarves.specs.cave_world.Sight.{forced}
 use Rattle.turn_dwarves.specs.cave_world.State.{takes_no_command}
 use Rattle.turn_dwarves.specs.cave_world.declared.dwarves.Dwarf.{Dwarf}
-use Rattle.turn_dwarves.specs.cave_world.declared.state.State.{State}
-use Rattle.turn_dwarves.specs.turn_things.Places.{has_condition_of, outside_place}
-use Rattle.turn_dwarves.specs.turn_things.Effects.{after_panic}
+use Rattle.turn_dwarves.specs.turn_scene.Scene.{Scene, after_saying, with_left, scene_at_place}
 use Rattle.turn_dwarves.specs.turn_things.declared.conditions.PlaceCondition.TheVariants.{NoPirate}
 use Rattle.turn_dwarves.specs.Dwarves.{Encounter, encounter_dwarves}
 use Rattle.turn_ends.specs.Endings.{after_die}
-use Rattle.turn_moves.specs.Description.{Halt, after_describe, stop_here, after_text}
-use Rattle.turn_moves.specs.Falling.{falling_here}
+use Rattle.turn_ends.specs.turn_rules.Rows.{Deed, Act, Test, Row, deed, act_of, row_then}
+use Rattle.turn_ends.specs.turn_rules.Rows.{first_fitting_or, nothing_but}
+use Rattle.turn_ends.specs.turn_rules.Tests.{no, same, here, outside, cave_closing, forced_at}
+use Rattle.turn_ends.specs.turn_rules.Tests.{condition_of}
+use Rattle.turn_ends.specs.turn_rules.Effects.{say, follow}
+use Rattle.turn_moves.specs.Description.{moved_on, left_there, tell_place, after_describe}
+use Rattle.turn_moves.specs.Description.{stop_here}
 use Rattle.turn_moves.specs.Journeys.{set_forth}
-use Rattle.turn_moves.specs.Ways.{Journey, journey_here}
-use Rattle.turn_dwarves.specs.turn_scene.Scene.{Scene, after_saying, with_state, with_left}
-use Rattle.turn_dwarves.specs.turn_scene.Scene.{scene_at_place, here_of}
-use Rattle.turn_dwarves.specs.cave_world.Limits.{PIRATE}
+use Rattle.turn_moves.specs.Ways.{panic, fall}
 
--- a cave that is closing has no way out
-unfoldable pub is_shut : CaveView → ℕ → State → Bool
-is_shut cave new s = s.closing.is_closing && nat_le 1 new && nat_le new (outside_place cave)
+-- the place where the player is about to arrive
+abbrev pub new : Deed ℕ → ℕ
+new d = d.about
 
-unfoldable pub journey_unless_shut_in : CaveView → ℕ → Scene → Journey
-journey_unless_shut_in cave new p =
-    if is_shut cave new p.state
-    then journey_here (after_saying role.ClosingExit (with_state (after_panic p.state) p))
-    else record { place = new; scene = p }
+-- a place is a place, and not 0
+abbrev pub a_place : (Deed ℕ → ℕ) → Test ℕ
+a_place place d = nat_le 1 (place d)
 
 -- a dwarf that has seen the player comes from the place
 abbrev pub comes_from : ℕ → Dwarf → Bool
-comes_from new dwarf = dwarf.has_seen && dwarf.last == new
+comes_from place dwarf = dwarf.has_seen && dwarf.last == place
 
--- a dwarf, and not the pirate, bars the way to another place
-unfoldable pub is_barred : CaveView → ℕ → State → Bool
-is_barred cave new s =
-    not (new == s.trail.here) && not (forced cave s.trail.here)
-    && not (has_condition_of cave s.trail.here NoPirate)
-    && list_any (comes_from new) (take PIRATE s.dwarves.each)
+-- one of the dwarves before the pirate comes from a place
+abbrev pub dwarf_from : (Deed ℕ → ℕ) → Test ℕ
+dwarf_from place d = list_any (comes_from (place d)) (take PIRATE d.scene.state.dwarves.each)
 
-unfoldable pub journey_unless_way_is_barred : CaveView → ℕ → Scene → Journey
-journey_unless_way_is_barred cave new p =
-    if is_barred cave new p.state then journey_here (after_saying role.Blocked p)
-    else record { place = new; scene = p }
+-- a closing cave has no way out, and a dwarf bars the way to the place that it came from
+unfoldable pub blocking_rows : List (Row ℕ ℕ)
+blocking_rows =
+    row_then (cave_closing ∷ a_place new ∷ outside new ∷ []) (say role.ClosingExit ∷ panic ∷ []) here
+    ∷ row_then (no (same new here) ∷ no (forced_at here) ∷ no (condition_of NoPirate here)
+    ∷ dwarf_from new ∷ []) (say role.Blocked ∷ []) here
+    ∷ []
 
--- a dwarf's knife kills, and else the place is described
-abbrev pub after_dwarves : CaveView → Encounter → Scene
-after_dwarves cave h = if h.is_hit then falling_here cave h.scene
-    else after_describe cave h.scene
+-- where the player arrives
+unfoldable pub block : Deed ℕ → Act ℕ
+block d = first_fitting_or blocking_rows (nothing_but new) d
 
--- the dwarves move before a place is described, except at one to which the pirate doesn't come
-unfoldable pub after_meet : CaveView → Scene → Scene
-after_meet cave p =
-    if has_condition_of cave (here_of p) NoPirate then after_describe cave p
-    else after_dwarves cave (encounter_dwarves cave p)
+-- what dwarves leave: a knife kills, and else the place is described
+unfoldable pub hit_rows : List (Row Bool Bool)
+hit_rows =
+    row_then ((λ d. d.about) ∷ []) (fall here ∷ []) left_there
+    ∷ row_then [] (follow after_describe ∷ []) left_there
+    ∷ []
 
--- the player comes to a place: 0 is death, of a place of forced motion the text alone is printed,
--- and at any other there may be dwarves
-unfoldable pub come_to : CaveView → ℕ → Scene → Halt
-come_to cave new p =
-    let q = scene_at_place new p in
-    if new == 0 then record { is_moved_on = false; scene = after_die cave q }
-    else (if forced cave new then record { is_moved_on = true; scene = after_text cave q }
-    else record { is_moved_on = false; scene = after_meet cave q })
+abbrev pub after_dwarves : CaveView → Encounter → Act Bool
+after_dwarves cave h = first_fitting_or hit_rows (nothing_but left_there) (deed cave h.is_hit h.scene)
+
+-- the dwarves move, and the place is described
+unfoldable pub meet : Deed (Unit {0}) → Act Bool
+meet d = after_dwarves d.cave (encounter_dwarves d.cave d.scene)
+
+-- the player is nowhere
+abbrev pub at_no_place : Test (Unit {0})
+at_no_place d = here d == 0
+
+-- 0 is death, of a place of forced motion the text alone is printed, and dwarves don't move where
+-- the pirate doesn't come
+unfoldable pub place_rows : List (Row (Unit {0}) Bool)
+place_rows =
+    row_then (at_no_place ∷ []) (follow after_die ∷ []) left_there
+    ∷ row_then (forced_at here ∷ []) tell_place moved_on
+    ∷ row_then (condition_of NoPirate here ∷ []) (follow after_describe ∷ []) left_there
+    ∷ []
+
+-- the player comes to a place
+unfoldable pub come_to : CaveView → ℕ → Scene → Act Bool
+come_to cave place p = first_fitting_or place_rows meet (deed cave tt (scene_at_place place p))
 
 -- the player arrives at a place, if nothing is in the way; after a death on the way no one arrives
-unfoldable pub stop_at : CaveView → ℕ → Scene → Halt
-stop_at cave new p =
-    if takes_no_command p.state then record { is_moved_on = false; scene = p }
-    else (let once = journey_unless_shut_in cave new p in
-    let twice = journey_unless_way_is_barred cave once.place once.scene in
-    come_to cave twice.place twice.scene)
+unfoldable pub stop_at : CaveView → ℕ → Scene → Act Bool
+stop_at cave place p =
+    if takes_no_command p.state then act_of p false
+    else (let held = block (deed cave place p) in come_to cave held.step held.scene)
 
 -- a player who is moved on by a forced motion sets out by any motion and is shown the next place,
 -- while forced motions are left
-unfoldable pub after_forced_motions : ℕ → CaveView → Halt → Scene
-after_forced_motions zero cave s =
-    if s.is_moved_on then after_saying role.ForcedLimit s.scene else s.scene
+unfoldable pub after_forced_motions : ℕ → CaveView → Act Bool → Scene
+after_forced_motions zero cave s = if s.step then after_saying role.ForcedLimit s.scene else s.scene
 after_forced_motions (suc left) cave s =
     let j = set_forth cave any_motion (with_left left s.scene) in
-    if s.is_moved_on then after_forced_motions left cave (stop_at cave j.place j.scene) else s.scene
+    if s.step then after_forced_motions left cave (stop_at cave j.step j.scene) else s.scene
 
 -- the player arrives at a place; the forced motions that are left are those of the whole turn
 abbrev pub after_arrival : CaveView → ℕ → Scene → Scene
-after_arrival cave new p = after_forced_motions p.left cave (stop_at cave new p)
+after_arrival cave place p = after_forced_motions p.left cave (stop_at cave place p)
 
 -- the player's place is described anew, without an arrival
 abbrev pub description_anew : CaveView → Scene → Scene
-description_anew cave p = after_forced_motions p.left cave (stop_here cave p)
+description_anew cave p = after_forced_motions p.left cave (stop_here (deed cave tt p))

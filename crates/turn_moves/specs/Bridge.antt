@@ -1,21 +1,20 @@
 -- The bridge that a troll guards.
-use Rattle.std.specs.Prelude.{ℕ, ◌==◌, if◌then◌else◌, Option, Some, None}
+use Rattle.std.specs.Prelude.{ℕ, ◌==◌, if◌then◌else◌, List, [], ◌∷◌, Option, Some, None}
 use Rattle.turn_dwarves.specs.cave_data.CaveView.{CaveView}
+use Rattle.turn_dwarves.specs.cave_words.declared.named.Named.TheVariants as name
 use Rattle.turn_dwarves.specs.data_rows.declared.role.Role.TheVariants as role
-use Rattle.turn_moves.specs.Falling.{fall_at}
-use Rattle.turn_moves.specs.Ways.{Journey, journey_here, other_end}
-use Rattle.turn_dwarves.specs.turn_things.Effects.{with_objects, with_one_more_lost}
+use Rattle.turn_dwarves.specs.turn_scene.Scene.{thing}
+use Rattle.turn_dwarves.specs.turn_things.Effects.{with_objects}
 use Rattle.turn_dwarves.specs.turn_things.Homes.{home, hold_of, second_home}
-use Rattle.turn_dwarves.specs.turn_scene.Scene.{Scene, after_saying, after_look_at, with_state}
-use Rattle.turn_dwarves.specs.turn_scene.Scene.{here_of, thing}
-use Rattle.turn_dwarves.specs.turn_things.Reach.{is_in_hand, has_prop, has_prop_up_to}
 use Rattle.turn_dwarves.specs.turn_things.Props.{BEAR_DEAD, CHASM_UNBRIDGED, TROLL_CALM, TROLL_FLED}
 use Rattle.turn_dwarves.specs.turn_things.Props.{TROLL_RETURNING, UNSEEN}
-use Rattle.turn_dwarves.specs.cave_words.declared.named.Named.TheVariants as name
-use Rattle.turn_dwarves.specs.world_objects.Objects.{Layout, after_move_to, with_anchor}
-use Rattle.turn_dwarves.specs.world_objects.Objects.{after_juggle, with_prop}
-use Rattle.turn_dwarves.specs.world_objects.declared.spot.Anchor.TheVariants as anchor
-use Rattle.turn_dwarves.specs.cave_world.declared.state.State.{State}
+use Rattle.turn_dwarves.specs.world_objects.Objects.{with_anchor}
+use Rattle.turn_ends.specs.turn_rules.Rows.{Deed, Act, Effect, Row, Thing, deed, row_then}
+use Rattle.turn_ends.specs.turn_rules.Rows.{plain_row, by_table, first_fitting_or, nothing_but}
+use Rattle.turn_ends.specs.turn_rules.Tests.{the, no, in_hand, prop, prop_up_to, here}
+use Rattle.turn_ends.specs.turn_rules.Effects.{in_state, say, look, move, destroy, fix, loosen}
+use Rattle.turn_ends.specs.turn_rules.Effects.{juggle, set_prop, lose_one}
+use Rattle.turn_moves.specs.Ways.{Passage, other_end, passable, end_of, fall}
 
 -- an end of a bridge is a place of the cave, and 0 is none
 abbrev pub bridgehead : ℕ → Option ℕ
@@ -27,70 +26,77 @@ bridge_end cave here =
     let troll = thing cave name.Troll in if troll == 0 then None
     else other_end here (bridgehead (home cave troll)) (bridgehead (second_home cave troll))
 
--- the troll is at both ends of the bridge again, and its second self is gone
-unfoldable pub with_troll : CaveView → Layout → Layout
-with_troll cave o =
-    let troll = thing cave name.Troll in let second = thing cave name.SecondTroll in
-    let free = with_prop o troll TROLL_CALM in
-    let alone = with_anchor (after_move_to free second 0) second anchor.Loose in
-    let there =
-    with_anchor (after_move_to alone troll (home cave troll)) troll (hold_of cave troll) in
-    after_juggle there (thing cave name.Chasm)
+abbrev pub bridge : Passage (Unit {0})
+bridge d = bridge_end d.cave (here d)
 
--- the troll asks for a treasure once more
-unfoldable pub toll_scene : CaveView → Scene → Scene
-toll_scene cave p =
-    let q = after_look_at (thing cave name.Troll) TROLL_RETURNING p in
-    with_state (with_objects (with_troll cave q.state.objects) q.state) q
+-- the end of the bridge to which the player crosses
+abbrev pub far_end : Deed ℕ → ℕ
+far_end d = d.about
+
+-- where an object is at home
+abbrev pub home_of : Thing (Unit {0}) → Deed (Unit {0}) → ℕ
+home_of t d = home d.cave (t d)
+
+-- an object is held where it is at home as a game begins
+abbrev pub hold_at_home : Thing (Unit {0}) → Effect (Unit {0})
+hold_at_home t d =
+    in_state (with_objects (with_anchor d.scene.state.objects (t d) (hold_of d.cave (t d)))
+    d.scene.state) d
+
+-- the troll asks for a treasure once more, at both ends of the bridge
+unfoldable pub demand_toll : List (Effect (Unit {0}))
+demand_toll =
+    look (the name.Troll) TROLL_RETURNING
+    ∷ set_prop (the name.Troll) TROLL_CALM
+    ∷ destroy (the name.SecondTroll)
+    ∷ loosen (the name.SecondTroll)
+    ∷ move (the name.Troll) (home_of (the name.Troll))
+    ∷ hold_at_home (the name.Troll)
+    ∷ juggle (the name.Chasm)
+    ∷ []
 
 -- a player whom the troll lets pass is stopped the next time
-unfoldable pub let_pass : CaveView → State → State
-let_pass cave s =
-    let troll = thing cave name.Troll in
-    if has_prop s troll TROLL_CALM
-    then with_objects (with_prop s.objects troll TROLL_RETURNING) s
-    else s
-
--- the bridge is broken, the troll is gone for good, and the bear is dead at the other end
-unfoldable pub without_bridge : CaveView → ℕ → Layout → Layout
-without_bridge cave end o =
-    let bear = thing cave name.Bear in
-    let broken = with_prop o (thing cave name.Chasm) CHASM_UNBRIDGED in
-    let free = with_prop broken (thing cave name.Troll) TROLL_FLED in
-    let fallen = with_anchor (after_move_to free bear end) bear anchor.Fixed in
-    with_prop fallen bear BEAR_DEAD
+unfoldable pub pass_rows : List (Row ℕ (Unit {0}))
+pass_rows =
+    plain_row (prop (the name.Troll) TROLL_CALM ∷ []) (set_prop (the name.Troll) TROLL_RETURNING ∷ [])
+    ∷ []
 
 -- the spices can't be found any more, if they weren't seen yet
-abbrev pub without_spices : CaveView → State → State
-without_spices cave s =
-    if has_prop_up_to s (thing cave name.Spices) UNSEEN then with_one_more_lost s else s
-
-unfoldable pub with_broken_bridge : CaveView → ℕ → State → State
-with_broken_bridge cave end s =
-    without_spices cave (with_objects (without_bridge cave end s.objects) s)
+unfoldable pub spices_rows : List (Row ℕ (Unit {0}))
+spices_rows = plain_row (prop_up_to (the name.Spices) UNSEEN ∷ []) (lose_one ∷ []) ∷ []
 
 -- the bridge breaks under the bear and the player
-unfoldable pub after_break_through : CaveView → ℕ → Scene → Scene
-after_break_through cave end p =
-    let q = after_saying role.BridgeFalls p in
-    fall_at cave end (with_state (with_broken_bridge cave end q.state) q)
+unfoldable pub break_bridge : List (Effect ℕ)
+break_bridge =
+    say role.BridgeFalls
+    ∷ set_prop (the name.Chasm) CHASM_UNBRIDGED
+    ∷ set_prop (the name.Troll) TROLL_FLED
+    ∷ move (the name.Bear) far_end
+    ∷ fix (the name.Bear)
+    ∷ set_prop (the name.Bear) BEAR_DEAD
+    ∷ by_table spices_rows
+    ∷ fall far_end
+    ∷ []
 
--- a player who crosses with the bear breaks the bridge
-unfoldable pub cross_to : CaveView → ℕ → Scene → Journey
-cross_to cave end p =
-    let q = with_state (let_pass cave p.state) p in
-    if is_in_hand cave q.state (thing cave name.Bear)
-    then journey_here (after_break_through cave end q)
-    else record { place = end; scene = q }
+-- no way, or the troll, holds the player back
+unfoldable pub bridge_rows : List (Row (Unit {0}) ℕ)
+bridge_rows =
+    row_then (no (passable bridge) ∷ []) (say role.NoWay ∷ []) here
+    ∷ row_then (prop (the name.Troll) TROLL_RETURNING ∷ []) demand_toll here
+    ∷ []
 
--- the troll stops a player whom it let pass before
-abbrev pub journey_over_bridge : CaveView → Option ℕ → Scene → Journey
-journey_over_bridge cave None p = journey_here (after_saying role.NoWay p)
-journey_over_bridge cave (Some end) p =
-    if has_prop p.state (thing cave name.Troll) TROLL_RETURNING
-    then journey_here (toll_scene cave p)
-    else cross_to cave end p
+-- the bridge bears the player, but not the bear too
+unfoldable pub cross_rows : List (Row ℕ ℕ)
+cross_rows =
+    row_then (no (in_hand (the name.Bear)) ∷ []) [] far_end
+    ∷ row_then [] break_bridge here
+    ∷ []
 
--- where the bridge leads a player at one of its ends
-unfoldable pub journey_by_bridge : CaveView → Scene → Journey
-journey_by_bridge cave p = journey_over_bridge cave (bridge_end cave (here_of p)) p
+-- a player whom the troll lets pass crosses
+unfoldable pub cross : Deed ℕ → Act ℕ
+cross d = first_fitting_or cross_rows (nothing_but here) (by_table pass_rows d)
+
+-- where the bridge leads
+unfoldable pub cross_bridge : Deed (Unit {0}) → Act ℕ
+cross_bridge d =
+    first_fitting_or bridge_rows (λ e. cross (deed e.cave (end_of bridge e) e.scene)) d

@@ -1,90 +1,121 @@
 -- How the player's place is described.
-use Rattle.turn_dwarves.specs.world_objects.Objects.{is_place, is_carried}
-use Rattle.std.specs.Prelude.{ℕ, ◌%◌, Bool, true, false, ◌==◌, ◌&&◌, ◌||◌, not, is_none}
-use Rattle.std.specs.Prelude.{if◌then◌else◌}
+use Rattle.std.specs.Prelude.{◌%◌, Bool, true, false, ◌==◌, List, [], ◌∷◌, is_some}
 use Rattle.std.specs.FinMap as map
 use Rattle.turn_dwarves.specs.cave_data.CaveView.{CaveView}
 use Rattle.turn_dwarves.specs.data_rows.declared.place_role.PlaceRole.TheVariants as place
 use Rattle.turn_dwarves.specs.data_rows.declared.role.Role.TheVariants as role
 use Rattle.turn_dwarves.specs.cave_words.declared.named.Named.TheVariants as name
 use Rattle.turn_dwarves.specs.world_objects.Lists.{halves_at}
-use Rattle.turn_dwarves.specs.cave_world.Sight.{dark, forced}
+use Rattle.turn_dwarves.specs.cave_world.Sight.{dark}
 use Rattle.turn_dwarves.specs.cave_world.State.{visits_of, with_visit}
-use Rattle.turn_dwarves.specs.cave_world.declared.part.Part.{Part}
 use Rattle.turn_dwarves.specs.cave_world.declared.part.Part.TheVariants as part
 use Rattle.turn_dwarves.specs.cave_world.declared.state.State.{State}
-use Rattle.turn_dwarves.specs.turn_things.Places.{place_named}
-use Rattle.turn_dwarves.specs.turn_scene.Scene.{thing, Scene, after_telling, after_saying}
-use Rattle.turn_dwarves.specs.turn_scene.Scene.{with_state, here_of, after_draw, happens}
-use Rattle.turn_moves.specs.Falling.{falling_here}
+use Rattle.turn_dwarves.specs.turn_scene.Scene.{thing, Scene}
+use Rattle.turn_ends.specs.turn_rules.Rows.{Deed, Act, Test, Effect, Row, deed, row_then, plain_row}
+use Rattle.turn_ends.specs.turn_rules.Rows.{row_by_draw, by_table, first_fitting_or, nothing_but}
+use Rattle.turn_ends.specs.turn_rules.Tests.{the, no, percent, player_at, cave_closing, here}
+use Rattle.turn_ends.specs.turn_rules.Tests.{forced_at}
+use Rattle.turn_ends.specs.turn_rules.Effects.{say, tell, change, follow}
 use Rattle.turn_moves.specs.Objects.{after_objects}
-
--- the long text is printed at each fifth visit, or at the first alone where the player wants it
--- brief, and at each visit of a place with no short one
-abbrev pub is_described_at_length : CaveView → State → ℕ → Bool
-is_described_at_length cave s place =
-    (if s.talk.is_brief then visits_of s place == 0 else visits_of s place % 5 == 0)
-    || is_none (map.get cave.short place)
-
-unfoldable pub place_text : CaveView → State → ℕ → Part
-place_text cave s place =
-    if is_described_at_length cave s place then part.Long place else part.Short place
+use Rattle.turn_moves.specs.Ways.{carried, fall}
 
 -- a bear that is carried is mentioned before the text
-abbrev pub after_bear : CaveView → Scene → Scene
-after_bear cave p =
-    if is_carried p.state.objects (thing cave name.Bear) then after_saying role.BearFollows p else p
+unfoldable pub bear_rows : List (Row (Unit {0}) (Unit {0}))
+bear_rows = plain_row (carried (the name.Bear) ∷ []) (say role.BearFollows ∷ []) ∷ []
 
--- the text of the place, after that of the bear
-unfoldable pub after_text : CaveView → Scene → Scene
-after_text cave p =
-    let q = after_bear cave p in after_telling (place_text cave q.state (here_of q)) q
+abbrev pub brief : Test (Unit {0})
+brief d = d.scene.state.talk.is_brief
+
+-- the visits of the place are 0, or a multiple of 5
+abbrev pub first_visit : Test (Unit {0})
+first_visit d = visits_of d.scene.state (here d) == 0
+
+abbrev pub fifth_visit : Test (Unit {0})
+fifth_visit d = visits_of d.scene.state (here d) % 5 == 0
+
+abbrev pub short_text : Test (Unit {0})
+short_text d = is_some (map.get d.cave.short (here d))
+
+abbrev pub tell_long : Effect (Unit {0})
+tell_long d = tell (part.Long (here d)) d
+
+abbrev pub tell_short : Effect (Unit {0})
+tell_short d = tell (part.Short (here d)) d
+
+-- the text of the place, long or short
+unfoldable pub text_rows : List (Row (Unit {0}) (Unit {0}))
+text_rows =
+    plain_row (brief ∷ first_visit ∷ []) (tell_long ∷ [])
+    ∷ plain_row (no brief ∷ fifth_visit ∷ []) (tell_long ∷ [])
+    ∷ plain_row (no short_text ∷ []) (tell_long ∷ [])
+    ∷ plain_row [] (tell_short ∷ [])
+    ∷ []
 
 -- at one place something hollow is heard, by chance, until the cave is closing
-unfoldable pub is_hollow : CaveView → Scene → Bool
-is_hollow cave p =
-    is_place (here_of p) (place_named cave place.Y2) && not p.state.closing.is_closing
+unfoldable pub hollow_rows : List (Row (Unit {0}) (Unit {0}))
+hollow_rows =
+    row_by_draw (player_at place.Y2 ∷ no cave_closing ∷ []) (percent 25) (say role.Hollow ∷ [])
+    (λ d. tt)
+    ∷ []
 
-unfoldable pub after_hollow : CaveView → Scene → Scene
-after_hollow cave p =
-    if is_hollow cave p then (if happens 25 p then after_saying role.Hollow (after_draw p)
-    else after_draw p) else p
+-- the player sees nothing
+abbrev pub darkness : Test (Unit {0})
+darkness d = dark d.cave (thing d.cave name.Lamp) d.scene.state
 
-abbrev pub after_pit : CaveView → Scene → Scene
-after_pit cave p = falling_here cave (after_saying role.Pit p)
+-- it was dark as the turn began
+abbrev pub was_dark : Test (Unit {0})
+was_dark d = d.scene.was_dark
 
--- what is printed of a place where the player sees nothing
-abbrev pub after_darkness : CaveView → Scene → Scene
-after_darkness cave p = after_hollow cave (after_saying role.Dark (after_bear cave p))
+abbrev pub with_visit_here : State → State
+with_visit_here s = with_visit s s.trail.here
+
+abbrev pub after_objects_here : CaveView → Scene → Scene
+after_objects_here cave p =
+    after_objects cave (halves_at p.state.trail.here p.state.objects.lists) p
+
+-- of a place of forced motion the text alone is printed
+unfoldable pub tell_place : List (Effect (Unit {0}))
+tell_place = by_table bear_rows ∷ by_table text_rows ∷ []
+
+-- any other place is described, with the objects there
+unfoldable pub see_place : List (Effect (Unit {0}))
+see_place =
+    by_table bear_rows
+    ∷ by_table text_rows
+    ∷ by_table hollow_rows
+    ∷ change with_visit_here
+    ∷ follow after_objects_here
+    ∷ []
+
+unfoldable pub feel_place : List (Effect (Unit {0}))
+feel_place = by_table bear_rows ∷ say role.Dark ∷ by_table hollow_rows ∷ []
 
 -- a player who goes on in the dark may fall into a pit
-unfoldable pub dark_scene : CaveView → Scene → Scene
-dark_scene cave p =
-    if p.was_dark
-    then (let q = after_draw p in if happens 35 p then after_pit cave q else after_darkness cave q)
-    else after_darkness cave p
-
--- what is printed of a place that the player sees: its text, and the objects there
-unfoldable pub sight_scene : CaveView → Scene → Scene
-sight_scene cave p =
-    let q = after_hollow cave (after_text cave p) in
-    let r = with_state (with_visit q.state (here_of q)) q in
-    after_objects cave (halves_at (here_of r) r.state.objects.lists) r
+unfoldable pub description_rows : List (Row (Unit {0}) (Unit {0}))
+description_rows =
+    plain_row (no darkness ∷ []) see_place
+    ∷ row_by_draw (was_dark ∷ []) (percent 35) (say role.Pit ∷ fall here ∷ []) (λ d. tt)
+    ∷ plain_row [] feel_place
+    ∷ []
 
 -- a place without forced motion is described
 unfoldable pub after_describe : CaveView → Scene → Scene
-after_describe cave p =
-    if dark cave (thing cave name.Lamp) p.state then dark_scene cave p
-    else sight_scene cave p
+after_describe cave p = (by_table description_rows (deed cave tt p)).scene
 
--- whether a forced motion moves the player on from a place, and what was printed there
-pub record Halt : Type 0 where
-  pub is_moved_on : Bool
-  pub scene : Scene
+-- a forced motion moves the player on, or none does
+module _ {C : Type 0} where
+  abbrev pub moved_on : Deed C → Bool
+  moved_on d = true
 
--- what is seen where the player is: of a place of forced motion the text alone is printed, and any
--- other is described
-unfoldable pub stop_here : CaveView → Scene → Halt
-stop_here cave p =
-    if forced cave (here_of p) then record { is_moved_on = true; scene = after_text cave p }
-    else record { is_moved_on = false; scene = after_describe cave p }
+  abbrev pub left_there : Deed C → Bool
+  left_there d = false
+
+-- what is seen where the player is
+unfoldable pub stop_rows : List (Row (Unit {0}) Bool)
+stop_rows =
+    row_then (forced_at here ∷ []) tell_place moved_on
+    ∷ row_then [] (follow after_describe ∷ []) left_there
+    ∷ []
+
+unfoldable pub stop_here : Deed (Unit {0}) → Act Bool
+stop_here d = first_fitting_or stop_rows (nothing_but left_there) d

@@ -1,184 +1,170 @@
 -- Where a motion leads a player.
-use Rattle.std.specs.Option.{option_or}
-use Rattle.std.specs.Prelude.{ℕ, ◌+◌, Bool, false, ◌==◌, ◌&&◌, ◌||◌, nat_lt, if◌then◌else◌, List}
-use Rattle.std.specs.Prelude.{[], ◌∷◌, length, Option, Some, None, option_map, slice_index}
-use Rattle.turn_dwarves.specs.data_rows.Rows.{Going}
-use Rattle.turn_dwarves.specs.data_rows.Targets.{leads_to_place}
-use Rattle.turn_dwarves.specs.data_rows.declared.targets.Destination.{Destination}
-use Rattle.turn_dwarves.specs.data_rows.declared.targets.Destination.TheVariants.{Place}
-use Rattle.turn_dwarves.specs.cave_data.CaveView.{CaveView, ways_from}
-use Rattle.turn_dwarves.specs.data_rows.declared.place_role.PlaceRole.TheVariants as place
-use Rattle.turn_dwarves.specs.data_rows.declared.role.Role.{Role}
+use Rattle.std.specs.List.{list_any}
+use Rattle.std.specs.Prelude.{ℕ, ◌+◌, Bool, false, ◌==◌, nat_lt, List, [], ◌∷◌, Option, Some, None}
+use Rattle.std.specs.Prelude.{is_some}
+use Rattle.turn_dwarves.specs.cave_data.CaveView.{CaveView}
 use Rattle.turn_dwarves.specs.data_rows.declared.role.Role.TheVariants as role
 use Rattle.turn_dwarves.specs.cave_words.declared.named.Named.TheVariants as name
-use Rattle.turn_dwarves.specs.world_objects.Objects.{is_carried, carried_objects}
-use Rattle.turn_dwarves.specs.cave_world.Motions.{motion_of}
+use Rattle.turn_dwarves.specs.cave_world.Motions.{motion_number}
 use Rattle.turn_dwarves.specs.cave_world.declared.motion.Motion.{Motion}
 use Rattle.turn_dwarves.specs.cave_world.declared.motion.Motion.TheVariants as motion
-use Rattle.turn_dwarves.specs.cave_world.Sight.{forced}
 use Rattle.turn_dwarves.specs.cave_world.State.{without_visits}
-use Rattle.turn_dwarves.specs.cave_world.Travel.{travel, row_destination}
+use Rattle.turn_dwarves.specs.cave_world.Travel.{travel}
 use Rattle.turn_dwarves.specs.cave_world.declared.part.Part.TheVariants as part
+use Rattle.turn_dwarves.specs.cave_world.declared.state.State.{State}
 use Rattle.turn_dwarves.specs.cave_world.declared.travel_rows.Outcome.{Outcome}
 use Rattle.turn_dwarves.specs.cave_world.declared.travel_rows.Outcome.TheVariants as outcome
 use Rattle.turn_dwarves.specs.data_rows.declared.targets.Special.{Special}
 use Rattle.turn_dwarves.specs.data_rows.declared.targets.Special.TheVariants.{Squeeze, Bridge}
-use Rattle.turn_dwarves.specs.cave_world.declared.state.State.{State}
-use Rattle.turn_moves.specs.Bridge.{journey_by_bridge}
-use Rattle.turn_moves.specs.Ways.{Journey, journey_here, other_end}
-use Rattle.turn_dwarves.specs.turn_things.Places.{place_named, outside_place}
-use Rattle.turn_dwarves.specs.turn_scene.Scene.{thing, Scene, after_telling, after_saying}
-use Rattle.turn_dwarves.specs.turn_scene.Scene.{with_state, here_of, after_setting_out}
+use Rattle.turn_dwarves.specs.turn_scene.Scene.{Scene, thing, with_state, after_telling}
+use Rattle.turn_dwarves.specs.turn_scene.Scene.{after_saying, after_setting_out}
+use Rattle.turn_dwarves.specs.turn_things.Places.{outside_place}
+use Rattle.turn_ends.specs.turn_rules.Rows.{Deed, Act, Test, Effect, Row, deed, act_of, row_then}
+use Rattle.turn_ends.specs.turn_rules.Rows.{plain_row, by_table, first_fitting_or, nothing_but}
+use Rattle.turn_ends.specs.turn_rules.Tests.{here, same}
+use Rattle.turn_ends.specs.turn_rules.Effects.{in_scene, say, change}
+use Rattle.turn_moves.specs.Back.{back_place, motion_between}
+use Rattle.turn_moves.specs.Bridge.{cross_bridge}
+use Rattle.turn_moves.specs.Squeeze.{squeeze_through}
+use Rattle.turn_moves.specs.Ways.{set_out, staying}
 
--- what is said of a motion that no row lists: of a direction, of facing one, of in and out, of a
--- magic word, of crawling, and of the rest
-abbrev pub refusal_role : Option Motion → Role
-refusal_role (Some motion.Up) = role.NoDir
-refusal_role (Some motion.Down) = role.NoDir
-refusal_role (Some motion.East) = role.NoDir
-refusal_role (Some motion.West) = role.NoDir
-refusal_role (Some motion.North) = role.NoDir
-refusal_role (Some motion.South) = role.NoDir
-refusal_role (Some motion.Northeast) = role.NoDir
-refusal_role (Some motion.Southeast) = role.NoDir
-refusal_role (Some motion.Southwest) = role.NoDir
-refusal_role (Some motion.Northwest) = role.NoDir
-refusal_role (Some motion.Forward) = role.Facing
-refusal_role (Some motion.Left) = role.Facing
-refusal_role (Some motion.Right) = role.Facing
-refusal_role (Some motion.Out) = role.Inout
-refusal_role (Some motion.Inside) = role.Inout
-refusal_role (Some motion.Xyzzy) = role.Magic
-refusal_role (Some motion.Plugh) = role.Magic
-refusal_role (Some motion.Crawl) = role.Crawl
-refusal_role _ = role.NoMotion
+-- the motion is the one of a name
+abbrev pub is_motion : Motion → Test ℕ
+is_motion m d = d.about == motion_number m
 
--- the other end of the narrow passage
-unfoldable pub squeeze_end : CaveView → ℕ → Option ℕ
-squeeze_end cave here =
-    other_end here (place_named cave place.Alcove) (place_named cave place.Plover)
+abbrev pub is_among : List Motion → ℕ → Bool
+is_among motions number = list_any (λ m. motion_number m == number) motions
 
-unfoldable pub is_slim : CaveView → State → Bool
-is_slim cave s =
-    let carried = length (carried_objects s.objects) in
-    carried == 0 || (carried == 1 && is_carried s.objects (thing cave name.Emerald))
+-- the motion is one of those
+abbrev pub is_motion_of : List Motion → Test ℕ
+is_motion_of motions d = is_among motions d.about
 
--- through a narrow passage, in which nothing but the emerald may be carried
-abbrev pub journey_through_squeeze : CaveView → Option ℕ → Scene → Journey
-journey_through_squeeze cave None p = journey_here (after_saying role.NoWay p)
-journey_through_squeeze cave (Some end) p =
-    if is_slim cave p.state then record { place = end; scene = p }
-    else journey_here (after_saying role.TooTight p)
+abbrev pub directions : List Motion
+directions =
+    motion.Up ∷ motion.Down ∷ motion.East ∷ motion.West ∷ motion.North ∷ motion.South
+    ∷ motion.Northeast ∷ motion.Southeast ∷ motion.Southwest ∷ motion.Northwest ∷ []
 
-unfoldable pub journey_by_squeeze : CaveView → Scene → Journey
-journey_by_squeeze cave p = journey_through_squeeze cave (squeeze_end cave (here_of p)) p
+-- what is said of a motion that no row lists
+unfoldable pub refusal_rows : List (Row ℕ (Unit {0}))
+refusal_rows =
+    plain_row (is_motion_of directions ∷ []) (say role.NoDir ∷ [])
+    ∷ plain_row (is_motion_of (motion.Forward ∷ motion.Left ∷ motion.Right ∷ []) ∷ [])
+    (say role.Facing ∷ [])
+    ∷ plain_row (is_motion_of (motion.Out ∷ motion.Inside ∷ []) ∷ []) (say role.Inout ∷ [])
+    ∷ plain_row (is_motion_of (motion.Xyzzy ∷ motion.Plugh ∷ []) ∷ []) (say role.Magic ∷ [])
+    ∷ plain_row (is_motion motion.Crawl ∷ []) (say role.Crawl ∷ [])
+    ∷ plain_row [] (say role.NoMotion ∷ [])
+    ∷ []
+
+abbrev pub after_refusal : CaveView → ℕ → Scene → Scene
+after_refusal cave number p = (by_table refusal_rows (deed cave number p)).scene
 
 -- a way with rules of its own
-abbrev pub journey_by_special : CaveView → Special → Scene → Journey
-journey_by_special cave Squeeze p = journey_by_squeeze cave p
-journey_by_special cave Bridge p = journey_by_bridge cave p
+abbrev pub journey_by_special : Special → Deed (Unit {0}) → Act ℕ
+journey_by_special Squeeze d = squeeze_through d
+journey_by_special Bridge d = cross_bridge d
 
 -- where the outcome of a motion leads
-abbrev pub journey_of_outcome : CaveView → ℕ → Outcome → Scene → Journey
-journey_of_outcome cave motion (outcome.Go place) p = record { place = place; scene = p }
-journey_of_outcome cave motion (outcome.Special special) p = journey_by_special cave special p
+abbrev pub journey_of_outcome : CaveView → ℕ → Outcome → Scene → Act ℕ
+journey_of_outcome cave motion (outcome.Go place) p = act_of p place
 journey_of_outcome cave motion (outcome.Say message) p =
-    journey_here (after_telling (part.Message message) p)
-journey_of_outcome cave motion outcome.NoMotion p =
-    journey_here (after_saying (refusal_role (motion_of motion)) p)
-journey_of_outcome cave motion outcome.NoWay p = journey_here (after_saying role.NoWay p)
+    staying (after_telling (part.Message message) p)
+journey_of_outcome cave motion (outcome.Special special) p =
+    journey_by_special special (deed cave tt p)
+journey_of_outcome cave motion outcome.NoWay p = staying (after_saying role.NoWay p)
+journey_of_outcome cave motion outcome.NoMotion p = staying (after_refusal cave motion p)
 
 -- where the rows of the place lead by a motion
-unfoldable pub journey_by_rows : CaveView → ℕ → Scene → Journey
+unfoldable pub journey_by_rows : CaveView → ℕ → Scene → Act ℕ
 journey_by_rows cave motion p =
     let j = travel cave (thing cave name.Emerald) motion p.state in
     journey_of_outcome cave motion j.outcome (with_state j.state p)
 
-unfoldable pub set_forth : CaveView → ℕ → Scene → Journey
+-- the player sets out, and travels by a motion
+unfoldable pub set_forth : CaveView → ℕ → Scene → Act ℕ
 set_forth cave motion p = journey_by_rows cave motion (after_setting_out p)
 
--- it is said that there are no more details, three times at most
-abbrev pub after_enough : Scene → Scene
-after_enough p =
-    let s = p.state in let talk = s.talk in
-    if nat_lt talk.details 3
-    then after_saying role.Enough
-    (with_state (record s { talk = record talk { details = talk.details + 1 } }) p) else p
+-- it was said less than three times that there are no more details
+abbrev pub details_left : Test ℕ
+details_left d = nat_lt d.scene.state.talk.details 3
 
-abbrev pub without_visits_here : Scene → Scene
-without_visits_here p =
-    let q = with_state (without_visits p.state (here_of p)) p in record q { was_dark = false }
+abbrev pub with_one_detail : State → State
+with_one_detail s = let talk = s.talk in
+    record s { talk = record talk { details = talk.details + 1 } }
 
--- the player looks round: the place is described at length
-unfoldable pub journey_of_look : Scene → Journey
-journey_of_look p = journey_here (without_visits_here (after_enough p))
+unfoldable pub enough_rows : List (Row ℕ (Unit {0}))
+enough_rows = plain_row (details_left ∷ []) (say role.Enough ∷ change with_one_detail ∷ []) ∷ []
 
--- the message of where the cave is depends on whether the player is before the last place outside
--- it
-unfoldable pub journey_of_seeking_cave : CaveView → Scene → Journey
-journey_of_seeking_cave cave p =
-    if nat_lt (here_of p) (outside_place cave) then journey_here (after_saying role.CaveOut p)
-    else journey_here (after_saying role.CaveIn p)
+abbrev pub without_visits_here : State → State
+without_visits_here s = without_visits s s.trail.here
 
--- where a player who goes back goes: where the player came from, or, if that was a place of forced
--- motion, where the player was before that
-abbrev pub back_place : CaveView → State → ℕ
-back_place cave s = if forced cave s.trail.last then s.trail.older else s.trail.last
+-- it counts as light before
+abbrev pub forget_darkness : Effect ℕ
+forget_darkness d = let p = d.scene in in_scene (record p { was_dark = false }) d
 
--- the first row leads to the place that is sought
-abbrev pub leads_at_once : ℕ → List Going → Bool
-leads_at_once sought [] = false
-leads_at_once sought (row ∷ rows) = leads_to_place sought (row_destination row)
+-- the place will be described at length
+unfoldable pub look_round : List (Effect ℕ)
+look_round =
+    by_table enough_rows ∷ forget_darkness ∷ change without_visits_here ∷ []
 
--- the destination is a place whose forced motion leads to the place that is sought
-abbrev pub forces_to : CaveView → ℕ → Destination → Bool
-forces_to cave sought (Place place) =
-    forced cave place && leads_at_once sought (ways_from cave place)
-forces_to cave sought _ = false
+-- the player is before the last place outside the cave
+abbrev pub before_cave : Test ℕ
+before_cave d = nat_lt (here d) (outside_place d.cave)
 
--- the row leads to the place that is sought through a place of forced motion
-abbrev pub leads_through : CaveView → ℕ → Going → Bool
-leads_through cave sought row = forces_to cave sought (row_destination row)
+-- where a player who goes back wants to go
+abbrev pub sought : Deed ℕ → ℕ
+sought d = back_place d.cave d.scene.state
 
--- the first row that leads to the place that is sought
-abbrev pub direct_row : ℕ → List Going → Option Going
-direct_row sought [] = None
-direct_row sought (row ∷ rows) =
-    if leads_to_place sought (row_destination row) then Some row else direct_row sought rows
+-- by which motion the player travels then, if by any
+abbrev pub no_motion : Deed ℕ → Option ℕ
+no_motion d = None
 
--- the last row that leads to it through a place of forced motion
-abbrev pub indirect_row : CaveView → ℕ → List Going → Option Going
-indirect_row cave sought [] = None
-indirect_row cave sought (row ∷ rows) =
-    option_or (indirect_row cave sought rows) (if leads_through cave sought row then Some row
-    else None)
+abbrev pub that_motion : Deed ℕ → Option ℕ
+that_motion d = Some d.about
 
-unfoldable pub row_back : CaveView → ℕ → List Going → Option Going
-row_back cave sought rows = option_or (direct_row sought rows) (indirect_row cave sought rows)
+abbrev pub motion_back : Deed ℕ → Option ℕ
+motion_back d = motion_between d.cave (here d) (sought d)
 
-abbrev pub first_motion : Going → ℕ
-first_motion row = slice_index row.motions 0
+abbrev pub leads_back : Test ℕ
+leads_back d = is_some (motion_back d)
 
--- a motion that leads back is travelled
-abbrev pub journey_by_motion_back : CaveView → Option ℕ → Scene → Journey
-journey_by_motion_back cave None p = journey_here (after_saying role.BackNo p)
-journey_by_motion_back cave (Some motion) p = journey_by_rows cave motion p
+-- the motions with rules of their own
+unfoldable pub own_motion_rows : List (Row ℕ (Option ℕ))
+own_motion_rows =
+    row_then (is_motion motion.Nowhere ∷ []) [] no_motion
+    ∷ row_then (is_motion motion.Look ∷ []) look_round no_motion
+    ∷ row_then (is_motion motion.Cave ∷ before_cave ∷ []) (say role.CaveOut ∷ []) no_motion
+    ∷ row_then (is_motion motion.Cave ∷ []) (say role.CaveIn ∷ []) no_motion
+    ∷ []
 
-unfoldable pub journey_back : CaveView → Scene → Journey
-journey_back cave p =
-    let sought = back_place cave p.state in let here = here_of p in let q = after_setting_out p in
-    if sought == here then journey_here (after_saying role.BackNone q)
-    else journey_by_motion_back cave
-    (option_map first_motion (row_back cave sought (ways_from cave here))) q
+-- the motion back, and any other
+unfoldable pub back_rows : List (Row ℕ (Option ℕ))
+back_rows =
+    row_then (is_motion motion.Back ∷ same sought here ∷ []) (set_out ∷ say role.BackNone ∷ [])
+    no_motion
+    ∷ row_then (is_motion motion.Back ∷ leads_back ∷ []) [] motion_back
+    ∷ row_then (is_motion motion.Back ∷ []) (set_out ∷ say role.BackNo ∷ []) no_motion
+    ∷ row_then [] [] that_motion
+    ∷ []
 
--- where a motion leads by rules of its own, or else by those of the place
-abbrev pub journey_by_named : CaveView → Option Motion → ℕ → Scene → Journey
-journey_by_named cave (Some motion.Nowhere) number p = journey_here p
-journey_by_named cave (Some motion.Look) number p = journey_of_look p
-journey_by_named cave (Some motion.Cave) number p = journey_of_seeking_cave cave p
-journey_by_named cave (Some motion.Back) number p = journey_back cave p
-journey_by_named cave _ number p = set_forth cave number p
+unfoldable pub go_back : Deed ℕ → Act (Option ℕ)
+go_back d = first_fitting_or back_rows (nothing_but that_motion) d
+
+-- what a motion comes to that the player asks for
+unfoldable pub own_motion : Deed ℕ → Act (Option ℕ)
+own_motion d = first_fitting_or own_motion_rows go_back d
+
+-- how many parts are said of it at most: one where the player doesn't travel
+abbrev pub parts_of_own_motion : Option ℕ → ℕ
+parts_of_own_motion None = 1
+parts_of_own_motion (Some motion) = 0
+
+-- the player travels by a motion, or arrives where the player is
+abbrev pub journey_by : CaveView → Option ℕ → Scene → Act ℕ
+journey_by cave None p = staying p
+journey_by cave (Some motion) p = set_forth cave motion p
 
 -- where a motion that the player asks for leads
-unfoldable pub journey_by_request : CaveView → ℕ → Scene → Journey
-journey_by_request cave number p = journey_by_named cave (motion_of number) number p
+unfoldable pub journey_by_request : CaveView → ℕ → Scene → Act ℕ
+journey_by_request cave number p =
+    let own = own_motion (deed cave number p) in journey_by cave own.step own.scene

@@ -3,6 +3,8 @@ pub mod Objects
 pub mod Description
 pub mod Ways
 pub mod Bridge
+pub mod Squeeze
+pub mod Back
 pub mod Journeys
 pub mod Arrival
 pub use Rattle.turn_dwarves.specs as turn_dwarves

@@ -1,73 +1,90 @@
 -- How the objects at a place are described.
-use Rattle.std.specs.Prelude.{ℕ, ℤ, pos, ◌-◌, Bool, ◌==◌, ◌&&◌, ◌||◌, not, int_lt, if◌then◌else◌}
-use Rattle.std.specs.Prelude.{List, [], ◌∷◌}
+use Rattle.std.specs.Prelude.{ℕ, ℤ, pos, ◌-◌, ◌==◌, ◌&&◌, not, int_lt, List, [], ◌∷◌}
 use Rattle.std.specs.Int.{int_min}
 use Rattle.turn_dwarves.specs.cave_data.CaveView.{CaveView}
 use Rattle.turn_dwarves.specs.cave_words.declared.named.Named.TheVariants as name
 use Rattle.turn_dwarves.specs.world_objects.Lists.{object_of}
-use Rattle.turn_dwarves.specs.world_objects.Objects.{is_carried, prop_of, anchor_of, with_prop}
-use Rattle.turn_dwarves.specs.world_objects.Objects.{place_of_anchor, is_place}
+use Rattle.turn_dwarves.specs.world_objects.Objects.{prop_of, anchor_of, place_of_anchor, is_place}
 use Rattle.turn_dwarves.specs.world_objects.declared.object.Half.{Half}
 use Rattle.turn_dwarves.specs.cave_world.declared.part.Part.TheVariants as part
 use Rattle.turn_dwarves.specs.cave_world.declared.state.State.{State}
-use Rattle.turn_dwarves.specs.turn_scene.Scene.{thing, Scene, after_telling, with_state}
+use Rattle.turn_dwarves.specs.turn_scene.Scene.{Scene}
 use Rattle.turn_dwarves.specs.turn_things.Props.{SEEN, SEEN_FASTENED, STEPS_FROM_ABOVE}
+use Rattle.turn_ends.specs.turn_rules.Rows.{Test, Effect, Row, Thing, deed, plain_row}
+use Rattle.turn_ends.specs.turn_rules.Rows.{by_table}
+use Rattle.turn_ends.specs.turn_rules.Tests.{the, either, same, cave_closed, here}
+use Rattle.turn_ends.specs.turn_rules.Effects.{tell, set_prop, change}
+use Rattle.turn_moves.specs.Ways.{carried}
+
+-- the object that is described
+abbrev pub it : Thing ℕ
+it d = d.about
 
 -- an object with a prop below 0 counts as unseen
-abbrev pub is_unseen : State → ℕ → Bool
-is_unseen s x = int_lt (prop_of s.objects x) (pos 0)
+abbrev pub unseen : Test ℕ
+unseen d = int_lt (prop_of d.scene.state.objects (it d)) (pos 0)
 
--- the steps aren't described to a player who carries the gold, nor is a treasure that a closed cave
--- hides
-unfoldable pub is_kept_back : CaveView → State → ℕ → Bool
-is_kept_back cave s x =
-    (x == thing cave name.Steps && is_carried s.objects (thing cave name.Gold))
-    || (is_unseen s x && s.closing.is_closed)
-
--- the prop of a treasure once it is seen: the rug and the chain are held fast
-abbrev pub first_prop : CaveView → ℕ → ℤ
-first_prop cave x =
-    if x == thing cave name.Rug || x == thing cave name.Chain then SEEN_FASTENED else SEEN
+-- the second half of the object is here
+abbrev pub second_half_here : Test ℕ
+second_half_here d = is_place (here d) (place_of_anchor (anchor_of d.scene.state.objects (it d)))
 
 -- one treasure less counts as unseen
-abbrev pub one_less_unseen : State → State
-one_less_unseen s =
+abbrev pub with_one_less_unseen : State → State
+with_one_less_unseen s =
     let tallies = s.tallies in record s { tallies = record tallies { unseen = tallies.unseen - 1 } }
 
--- where as many count as lost as count as unseen, and some do, the lamp burns 35 turns more at most
-abbrev pub is_rest_lost : State → Bool
-is_rest_lost s = s.tallies.unseen == s.tallies.lost && not (s.tallies.unseen == 0)
+-- as many count as lost as count as unseen, and some do
+abbrev pub rest_lost : Test ℕ
+rest_lost d =
+    let tallies = d.scene.state.tallies in
+    tallies.unseen == tallies.lost && not (tallies.unseen == 0)
 
+-- the lamp burns 35 turns more at most
 abbrev pub with_short_lamp : State → State
 with_short_lamp s =
     let lamp = s.lamp in record s { lamp = record lamp { charge = int_min lamp.charge (pos 35) } }
 
-abbrev pub with_lamp_of_rest_lost : State → State
-with_lamp_of_rest_lost s = if is_rest_lost s then with_short_lamp s else s
+unfoldable pub rest_rows : List (Row ℕ (Unit {0}))
+rest_rows = plain_row (rest_lost ∷ []) (change with_short_lamp ∷ []) ∷ []
+
+-- the text of the object for a prop, or for the one that it has
+abbrev pub tell_its_text_for : ℤ → Effect ℕ
+tell_its_text_for v d = tell (part.Object (it d) v) d
+
+abbrev pub tell_its_text : Effect ℕ
+tell_its_text d = tell_its_text_for (prop_of d.scene.state.objects (it d)) d
+
+-- the steps are seen from above at their second place
+unfoldable pub object_text_rows : List (Row ℕ (Unit {0}))
+object_text_rows =
+    plain_row (same it (the name.Steps) ∷ second_half_here ∷ []) (tell_its_text_for STEPS_FROM_ABOVE ∷ [])
+    ∷ plain_row [] (tell_its_text ∷ [])
+    ∷ []
 
 -- a treasure is seen for the first time
-unfoldable pub after_find : CaveView → ℕ → State → State
-after_find cave x s =
-    let t = record s { objects = with_prop s.objects x (first_prop cave x) } in
-    with_lamp_of_rest_lost (one_less_unseen t)
+unfoldable pub find_treasure : ℤ → List (Effect ℕ)
+find_treasure v =
+    set_prop it v
+    ∷ change with_one_less_unseen
+    ∷ by_table rest_rows
+    ∷ by_table object_text_rows
+    ∷ []
 
-abbrev pub after_find_if_unseen : CaveView → ℕ → State → State
-after_find_if_unseen cave x s = if is_unseen s x then after_find cave x s else s
+-- the steps aren't described to a player who carries the gold, nor is a treasure that a closed cave
+-- hides; the rug and the chain are held fast once they are seen
+unfoldable pub object_rows : List (Row ℕ (Unit {0}))
+object_rows =
+    plain_row (same it (the name.Steps) ∷ carried (the name.Gold) ∷ []) []
+    ∷ plain_row (unseen ∷ cave_closed ∷ []) []
+    ∷ plain_row (unseen ∷ either (same it (the name.Rug)) (same it (the name.Chain)) ∷ [])
+    (find_treasure SEEN_FASTENED)
+    ∷ plain_row (unseen ∷ []) (find_treasure SEEN)
+    ∷ plain_row [] (by_table object_text_rows ∷ [])
+    ∷ []
 
--- the prop for which an object is described: that of the steps at their second place is the one
--- seen from above
-unfoldable pub described_prop : CaveView → State → ℕ → ℤ
-described_prop cave s x =
-    if x == thing cave name.Steps
-    && is_place s.trail.here (place_of_anchor (anchor_of s.objects x)) then STEPS_FROM_ABOVE
-    else prop_of s.objects x
-
--- an object is described, and is found if it wasn't seen before
+-- an object is described
 unfoldable pub after_object : CaveView → ℕ → Scene → Scene
-after_object cave x p =
-    if is_kept_back cave p.state x then p
-    else (let s = after_find_if_unseen cave x p.state in
-    after_telling (part.Object x (described_prop cave s x)) (with_state s p))
+after_object cave x p = (by_table object_rows (deed cave x p)).scene
 
 -- the objects of a list are described one after another
 abbrev pub after_objects : CaveView → List Half → Scene → Scene

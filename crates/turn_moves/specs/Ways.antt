@@ -1,15 +1,15 @@
--- Ways that a player goes.
-use Rattle.std.specs.Prelude.{ℕ, ◌==◌, if◌then◌else◌, Option, Some, None}
-use Rattle.turn_dwarves.specs.turn_scene.Scene.{Scene, here_of}
+-- Words of the rules about ways and places: what they ask, do, and where a player goes by them.
+use Rattle.std.specs.Prelude.{ℕ, ◌==◌, if◌then◌else◌, Option, Some, None, is_some, unwrap_or}
+use Rattle.turn_ends.specs.turn_rules.Rows.{Deed, Act, Test, Effect, Thing, act_of}
+use Rattle.turn_ends.specs.turn_rules.Effects.{in_scene, in_state}
+use Rattle.turn_dwarves.specs.turn_scene.Scene.{Scene, after_setting_out, here_of}
+use Rattle.turn_dwarves.specs.turn_things.Effects.{after_panic}
+use Rattle.turn_dwarves.specs.world_objects.Objects.{is_carried}
+use Rattle.turn_moves.specs.Falling.{fall_at}
 
--- a scene, and the place where the player arrives next
-pub record Journey : Type 0 where
-  pub place : ℕ
-  pub scene : Scene
-
--- the player arrives at the place where the player is
-abbrev pub journey_here : Scene → Journey
-journey_here p = record { place = here_of p; scene = p }
+-- a passage by the other of its two ends, if the player is at one of them
+abbrev pub Passage : Type 0 → Type 0
+Passage C = Deed C → Option ℕ
 
 -- the other end of a passage between two places
 abbrev pub other_end : ℕ → Option ℕ → Option ℕ → Option ℕ
@@ -17,3 +17,31 @@ other_end here None b = None
 other_end here (Some a) None = None
 other_end here (Some a) (Some b) =
     if here == a then Some b else (if here == b then Some a else None)
+
+-- the player arrives where the player is
+abbrev pub staying : Scene → Act ℕ
+staying p = act_of p (here_of p)
+
+module _ {C : Type 0} where
+  -- a passage leads on from where the player is
+  abbrev pub passable : Passage C → Test C
+  passable passage d = is_some (passage d)
+
+  abbrev pub end_of : Passage C → Deed C → ℕ
+  end_of passage d = unwrap_or (passage d) 0
+
+  -- the first half of an object is carried
+  abbrev pub carried : Thing C → Test C
+  carried t d = is_carried d.scene.state.objects (t d)
+
+  -- the player's place becomes the one that the player came from
+  abbrev pub set_out : Effect C
+  set_out d = in_scene (after_setting_out d.scene) d
+
+  -- a player who tries to get out of a closing cave has 15 turns left
+  abbrev pub panic : Effect C
+  panic d = in_state (after_panic d.scene.state) d
+
+  -- the player dies, and what is carried will be at a place
+  abbrev pub fall : (Deed C → ℕ) → Effect C
+  fall place d = in_scene (fall_at d.cave (place d) d.scene) d

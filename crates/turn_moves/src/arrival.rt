@@ -1,10 +1,13 @@
-ghost use Rattle.std.specs.Prelude.{◌≡◌, ◌+◌, true, false, IsTrue};
+ghost use Rattle.std.specs.Prelude.{◌≡◌, ◌+◌, true, false, [], ◌∷◌, IsTrue};
 ghost use Rattle.std.specs.List.{list_any};
 ghost use Rattle.turn_dwarves.specs.turn_scene.Scene.{cave_of, scene_of};
 ghost use Rattle.turn_dwarves.specs.cave_world.State.{takes_no_command};
-ghost use Rattle.turn_moves.specs.Arrival.{is_shut, journey_unless_shut_in, comes_from, is_barred};
-ghost use Rattle.turn_moves.specs.Arrival.{after_meet, journey_unless_way_is_barred, come_to};
-ghost use Rattle.turn_moves.specs.Arrival.{stop_at, after_forced_motions, after_arrival};
+ghost use Rattle.turn_dwarves.specs.turn_things.declared.conditions.PlaceCondition.TheVariants.{NoPirate};
+ghost use Rattle.turn_ends.specs.turn_rules.Rows.{PlaysBy, act_of, all_hold, deed};
+ghost use Rattle.turn_ends.specs.turn_rules.Tests.{no, same, here, outside, cave_closing};
+ghost use Rattle.turn_ends.specs.turn_rules.Tests.{forced_at, condition_of};
+ghost use Rattle.turn_moves.specs.Arrival.{a_place, new, comes_from, dwarf_from, block, meet};
+ghost use Rattle.turn_moves.specs.Arrival.{come_to, stop_at, after_forced_motions, after_arrival};
 ghost use Rattle.turn_moves.specs.Arrival.{description_anew};
 ghost use Rattle.turn_dwarves.specs.turn_scene.Bounds.{GoesOnSaying, HasRoom, MovesOnSaying};
 ghost use Rattle.turn_dwarves.specs.turn_scene.Bounds.{SaysUpTo, parts_of_dwarves, parts_of_place};
@@ -12,13 +15,13 @@ ghost use Rattle.turn_dwarves.specs.turn_scene.Bounds.{parts_of_passing, parts_o
 ghost use Rattle.turn_dwarves.specs.turn_scene.Bounds.{parts_of_text, parts_of_forced_motions};
 ghost use Rattle.turn_dwarves.specs.turn_scene.Bounds.{parts_of_arrival};
 
-use crate::description::{describe, stop_here, tell_text};
+use crate::description::{describe, stop_here, tell_place};
 use crate::falling::fall_here;
 use crate::journeys::set_forth;
 use crate::ways::stay;
 use turn_dwarves::{
-    Dwarf, Motion, PIRATE, Place, PlaceCondition, Role, Rules, Scene, State, encounter_dwarves,
-    forced, has_condition_of, outside_place, start_panic,
+    Dwarf, Motion, PIRATE, Place, PlaceCondition, Role, Rules, Scene, encounter_dwarves, forced,
+    has_condition_of, outside_place, start_panic,
 };
 use turn_ends::die;
 
@@ -36,27 +39,13 @@ pub fn arrive(rules: &Rules<'_>, place: Place, scene: &mut Scene<'_>)
 }
 
 /// Whether a cave that is closing keeps the player from a place.
-#[tactic(auto, unfolding(crate::specs::Arrival::is_shut))]
-fn is_shut(rules: &Rules<'_>, place: Place, state: &State) -> bool
-    ensures { result ≡ is_shut (cave_of rules.now) place state.now }
+fn is_shut(rules: &Rules<'_>, place: Place, scene: &Scene<'_>) -> bool
+    ensures { result ≡ all_hold (cave_closing ∷ a_place new ∷ outside new ∷ [])
+        (deed (cave_of rules.now) place (scene_of scene.now)) }
 {
-    state.closing.is_closing
+    scene.state.closing.is_closing
         && 1 <= place.number()
         && place.number() <= outside_place(rules.cave).number()
-}
-
-#[tactic(auto, unfolding(crate::specs::Arrival::journey_unless_shut_in))]
-fn shut_in(rules: &Rules<'_>, place: Place, scene: &mut Scene<'_>) -> Place
-    requires { HasRoom 1 scene.old }
-    ensures journey { record { place = result; scene = scene_of scene.new }
-        ≡ journey_unless_shut_in (cave_of rules.now) place (scene_of scene.old) }
-    ensures says { GoesOnSaying 1 scene.old scene.new }
-{
-    if !is_shut(rules, place, scene.state) {
-        return place;
-    }
-    start_panic(scene.state);
-    stay(scene, Role::ClosingExit)
 }
 
 fn comes_from(place: Place, dwarf: &Dwarf) -> bool
@@ -72,69 +61,75 @@ fn some_comes_from(place: Place, dwarves: &[Dwarf]) -> bool
 }
 
 /// Whether a dwarf bars the way to a place.
-#[tactic(auto, unfolding(crate::specs::Arrival::is_barred))]
-fn is_barred(rules: &Rules<'_>, place: Place, state: &State) -> bool
-    ensures { result ≡ is_barred (cave_of rules.now) place state.now }
+fn is_barred(rules: &Rules<'_>, place: Place, scene: &Scene<'_>) -> bool
+    ensures { result ≡ all_hold (no (same new here) ∷ no (forced_at here)
+        ∷ no (condition_of NoPirate here) ∷ dwarf_from new ∷ [])
+        (deed (cave_of rules.now) place (scene_of scene.now)) }
 {
-    let here = state.trail.here;
+    let here = scene.state.trail.here;
     place != here
         && !forced(rules.cave, here)
         && !has_condition_of(rules, here, PlaceCondition::NoPirate)
-        && some_comes_from(place, &state.dwarves.each[..PIRATE])
+        && some_comes_from(place, &scene.state.dwarves.each[..PIRATE])
 }
 
-#[tactic(auto, unfolding(crate::specs::Arrival::journey_unless_way_is_barred))]
-fn bar_way(rules: &Rules<'_>, place: Place, scene: &mut Scene<'_>) -> Place
+/// Where the player arrives: a closing cave and a dwarf block the way.
+#[tactic(auto, unfolding(crate::specs::Arrival::block, crate::specs::Arrival::blocking_rows))]
+fn block(rules: &Rules<'_>, place: Place, scene: &mut Scene<'_>) -> Place
     requires { HasRoom 1 scene.old }
-    ensures journey { record { place = result; scene = scene_of scene.new }
-        ≡ journey_unless_way_is_barred (cave_of rules.now) place (scene_of scene.old) }
-    ensures says { GoesOnSaying 1 scene.old scene.new }
+    ensures row { PlaysBy block 1 rules.now place scene.old scene.new result }
 {
-    if is_barred(rules, place, scene.state) {
+    if is_shut(rules, place, scene) {
+        scene.say(Role::ClosingExit);
+        start_panic(scene.state);
+        return scene.state.trail.here;
+    }
+    if is_barred(rules, place, scene) {
         return stay(scene, Role::Blocked);
     }
     place
 }
 
-/// The dwarves move, except where the pirate doesn't come, and a player who survives them sees the
-/// place.
-#[tactic(auto, unfolding(crate::specs::Arrival::after_meet))]
-fn meet(rules: &Rules<'_>, scene: &mut Scene<'_>)
+/// The dwarves move, and a player who survives them sees the place.
+#[tactic(auto, unfolding(crate::specs::Arrival::meet, crate::specs::Arrival::hit_rows))]
+fn meet(rules: &Rules<'_>, scene: &mut Scene<'_>) -> bool
     requires { HasRoom (parts_of_dwarves + parts_of_place) scene.old }
-    ensures scene { scene_of scene.new ≡ after_meet (cave_of rules.now) (scene_of scene.old) }
-    ensures says { GoesOnSaying (parts_of_dwarves + parts_of_place) scene.old scene.new }
+    ensures row { PlaysBy meet (parts_of_dwarves + parts_of_place) rules.now tt scene.old scene.new
+        result }
+    ensures still { result ≡ false }
 {
-    if has_condition_of(rules, scene.state.trail.here, PlaceCondition::NoPirate) {
-        describe(rules, scene);
-        return;
-    }
     if encounter_dwarves(rules, scene) {
         fall_here(rules, scene);
-    } else {
-        describe(rules, scene);
+        return false;
     }
+    describe(rules, scene);
+    false
 }
 
 /// The player comes to a place. Returns whether a forced motion moves the player on from there.
-#[tactic(auto, unfolding(crate::specs::Arrival::come_to))]
+#[tactic(auto, unfolding(crate::specs::Arrival::come_to, crate::specs::Arrival::place_rows))]
 fn come_to(rules: &Rules<'_>, place: Place, scene: &mut Scene<'_>) -> bool
     requires { HasRoom (parts_of_dwarves + parts_of_place) scene.old }
-    ensures stop { record { is_moved_on = result; scene = scene_of scene.new }
+    ensures stop { act_of (scene_of scene.new) result
         ≡ come_to (cave_of rules.now) place (scene_of scene.old) }
     ensures says { GoesOnSaying (parts_of_dwarves + parts_of_place) scene.old scene.new }
     ensures few_on { IsTrue result → SaysUpTo parts_of_text scene.old scene.new }
 {
     scene.put_player_at(place);
-    if place.number() == 0 {
+    let here = scene.state.trail.here;
+    if here.number() == 0 {
         die(rules, scene);
         return false;
     }
-    if forced(rules.cave, place) {
-        tell_text(rules, scene);
+    if forced(rules.cave, here) {
+        tell_place(rules, scene);
         return true;
     }
-    meet(rules, scene);
-    false
+    if has_condition_of(rules, here, PlaceCondition::NoPirate) {
+        describe(rules, scene);
+        return false;
+    }
+    meet(rules, scene)
 }
 
 /// The player arrives at a place, if nothing is in the way. Returns whether a forced motion moves
@@ -142,7 +137,7 @@ fn come_to(rules: &Rules<'_>, place: Place, scene: &mut Scene<'_>) -> bool
 #[tactic(auto, unfolding(crate::specs::Arrival::stop_at))]
 fn stop_at(rules: &Rules<'_>, place: Place, scene: &mut Scene<'_>) -> bool
     requires { HasRoom parts_of_stop scene.old }
-    ensures stop { record { is_moved_on = result; scene = scene_of scene.new }
+    ensures stop { act_of (scene_of scene.new) result
         ≡ stop_at (cave_of rules.now) place (scene_of scene.old) }
     ensures says { GoesOnSaying parts_of_stop scene.old scene.new }
     ensures few_on { IsTrue result → SaysUpTo parts_of_passing scene.old scene.new }
@@ -151,8 +146,7 @@ fn stop_at(rules: &Rules<'_>, place: Place, scene: &mut Scene<'_>) -> bool
     if scene.state.takes_no_command() {
         return false;
     }
-    let place = shut_in(rules, place, scene);
-    let place = bar_way(rules, place, scene);
+    let place = block(rules, place, scene);
     come_to(rules, place, scene)
 }
 
@@ -161,7 +155,7 @@ fn stop_at(rules: &Rules<'_>, place: Place, scene: &mut Scene<'_>) -> bool
 fn follow_forced_motions(rules: &Rules<'_>, scene: &mut Scene<'_>)
     requires { HasRoom (parts_of_forced_motions scene.old.left) scene.old }
     ensures scene { scene_of scene.new ≡ after_forced_motions scene.old.left (cave_of rules.now)
-        (record { is_moved_on = true; scene = scene_of scene.old }) }
+        (act_of (scene_of scene.old) true) }
     ensures says { MovesOnSaying (parts_of_forced_motions scene.old.left) scene.old scene.new }
 {
     if scene.left == 0 {

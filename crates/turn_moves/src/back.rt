@@ -1,16 +1,13 @@
-ghost use Rattle.std.specs.Prelude.{◌≡◌, false, map, option_map};
-ghost use Rattle.turn_dwarves.specs.cave_data.CaveView.{ways_from};
+ghost use Rattle.std.specs.Prelude.{◌≡◌, map, option_map};
 ghost use Rattle.turn_dwarves.specs.data_rows.RowViews.{going};
-ghost use Rattle.turn_dwarves.specs.turn_scene.Scene.{cave_of, scene_of};
-ghost use Rattle.turn_dwarves.specs.cave_world.State.{takes_no_command};
-ghost use Rattle.turn_moves.specs.Journeys.{back_place, leads_through, direct_row, indirect_row};
-ghost use Rattle.turn_moves.specs.Journeys.{row_back, first_motion, leads_at_once, journey_back};
-ghost use Rattle.turn_dwarves.specs.turn_scene.Bounds.{GoesOnSaying, HasRoom, SaysUpTo};
-ghost use Rattle.turn_dwarves.specs.turn_scene.Bounds.{parts_of_journey};
+ghost use Rattle.turn_dwarves.specs.turn_scene.Scene.{cave_of};
+ghost use Rattle.turn_ends.specs.turn_rules.Rows.{PlaysBy};
+ghost use Rattle.turn_moves.specs.Back.{back_place, leads_through, direct_row, indirect_row};
+ghost use Rattle.turn_moves.specs.Back.{row_back, leads_at_once, motion_between};
+ghost use Rattle.turn_moves.specs.Journeys.{go_back, parts_of_own_motion};
+ghost use Rattle.turn_dwarves.specs.turn_scene.Bounds.{HasRoom};
 
-use crate::journeys::journey_by_rows;
-use crate::ways::stay;
-use turn_dwarves::{Destination, Place, Role, Row, Rules, Scene, State, forced};
+use turn_dwarves::{Destination, Motion, Place, Role, Row, Rules, Scene, State, forced};
 
 /// Where a player who goes back goes.
 fn back_place(rules: &Rules<'_>, state: &State) -> Place
@@ -69,7 +66,7 @@ fn indirect_row<'a>(rules: &Rules<'_>, sought: Place, rows: &'a [Row]) -> Option
 }
 
 /// The row that leads back, at once or through a place of forced motion.
-#[tactic(auto, unfolding(crate::specs::Journeys::row_back))]
+#[tactic(auto, unfolding(crate::specs::Back::row_back))]
 fn row_back<'a>(rules: &Rules<'_>, sought: Place, rows: &'a [Row]) -> Option<&'a Row>
     ensures { option_map (λ row. going row.now) result
         ≡ row_back (cave_of rules.now) sought (map going rows.now) }
@@ -80,31 +77,38 @@ fn row_back<'a>(rules: &Rules<'_>, sought: Place, rows: &'a [Row]) -> Option<&'a
     }
 }
 
-fn motion_back(rules: &Rules<'_>, sought: Place, here: Place) -> Option<u16>
-    ensures { let cave = cave_of rules.now in
-        result ≡ option_map first_motion (row_back cave sought (ways_from cave here)) }
+/// The first motion of the row that leads back from one place to another.
+#[tactic(auto, unfolding(crate::specs::Back::motion_between))]
+fn motion_between(rules: &Rules<'_>, here: Place, sought: Place) -> Option<u16>
+    ensures { result ≡ motion_between (cave_of rules.now) here sought }
 {
     let row = row_back(rules, sought, rules.cave.travel(here.number()))?;
     Some(row.motions.first().copied().unwrap_or(0))
 }
 
-/// The player goes back.
-#[tactic(auto, unfolding(crate::specs::Journeys::journey_back))]
-pub fn go_back(rules: &Rules<'_>, scene: &mut Scene<'_>) -> Place
-    requires { HasRoom parts_of_journey scene.old }
-    ensures journey { record { place = result; scene = scene_of scene.new }
-        ≡ journey_back (cave_of rules.now) (scene_of scene.old) }
-    ensures says { GoesOnSaying parts_of_journey scene.old scene.new }
-    ensures few_on { takes_no_command scene.new.state.now ≡ false → SaysUpTo 1 scene.old scene.new }
+/// The motion by which the player travels who goes back, or by any other motion.
+#[tactic(auto, unfolding(crate::specs::Journeys::go_back, crate::specs::Journeys::back_rows))]
+pub fn go_back(rules: &Rules<'_>, motion: u16, scene: &mut Scene<'_>) -> Option<u16>
+    requires { HasRoom 1 scene.old }
+    ensures row { PlaysBy go_back (parts_of_own_motion result) rules.now motion scene.old scene.new
+        result }
 {
+    if motion != Motion::Back.number() {
+        return Some(motion);
+    }
     let sought = back_place(rules, scene.state);
     let here = scene.state.trail.here;
-    scene.set_out();
     if sought == here {
-        return stay(scene, Role::BackNone);
+        scene.set_out();
+        scene.say(Role::BackNone);
+        return None;
     }
-    match motion_back(rules, sought, here) {
-        Some(motion) => journey_by_rows(rules, motion, scene),
-        None => stay(scene, Role::BackNo),
+    match motion_between(rules, here, sought) {
+        Some(back) => Some(back),
+        None => {
+            scene.set_out();
+            scene.say(Role::BackNo);
+            None
+        }
     }
 }

@@ -1,29 +1,27 @@
 //! The bridge that a troll guards.
 
-ghost use Rattle.std.specs.Prelude.{◌≡◌, false, IsTrue};
-ghost use Rattle.turn_moves.specs.Bridge.{bridgehead, bridge_end, with_troll, toll_scene, let_pass};
-ghost use Rattle.turn_moves.specs.Bridge.{without_bridge, without_spices, with_broken_bridge};
-ghost use Rattle.turn_moves.specs.Bridge.{after_break_through, cross_to, journey_by_bridge};
-ghost use Rattle.turn_dwarves.specs.turn_scene.Bounds.{GoesOnSaying, HasRoom, SaysUpTo};
+ghost use Rattle.std.specs.Prelude.{◌≡◌, [], ◌∷◌, false, IsTrue};
+ghost use Rattle.turn_moves.specs.Bridge.{bridgehead, bridge_end, demand_toll, pass_rows};
+ghost use Rattle.turn_moves.specs.Bridge.{spices_rows, break_bridge, cross, cross_bridge};
+ghost use Rattle.turn_ends.specs.turn_rules.Rows.{Does, PlaysBy, by_table};
+ghost use Rattle.turn_dwarves.specs.turn_scene.Bounds.{HasRoom, SaysUpTo};
 ghost use Rattle.turn_dwarves.specs.turn_scene.Bounds.{parts_of_journey};
-ghost use Rattle.turn_dwarves.specs.turn_scene.Scene.{scene_of, cave_of};
+ghost use Rattle.turn_dwarves.specs.turn_scene.Scene.{cave_of};
 ghost use Rattle.turn_dwarves.specs.cave_world.State.{takes_no_command};
 
 use crate::falling::fall_at;
 use crate::ways::{other_end, stay};
 use turn_dwarves::{
-    Anchor, BEAR_DEAD, CHASM_UNBRIDGED, Named, Objects, Place, Prop, Role, Rules, Scene, State,
-    TROLL_CALM, TROLL_FLED, TROLL_RETURNING, UNSEEN, has_prop, has_prop_up_to, hold, home,
-    is_in_hand, lose_one, second_home,
+    Anchor, BEAR_DEAD, CHASM_UNBRIDGED, Named, Place, Prop, Role, Rules, Scene, TROLL_CALM,
+    TROLL_FLED, TROLL_RETURNING, UNSEEN, has_prop, has_prop_up_to, hold, home, is_in_hand,
+    lose_one, second_home,
 };
 
 /// Where the bridge leads a player at one of its ends.
-#[tactic(auto, unfolding(crate::specs::Bridge::journey_by_bridge))]
+#[tactic(auto, unfolding(crate::specs::Bridge::cross_bridge, crate::specs::Bridge::bridge_rows))]
 pub fn cross_bridge(rules: &Rules<'_>, scene: &mut Scene<'_>) -> Place
     requires { HasRoom parts_of_journey scene.old }
-    ensures journey { record { place = result; scene = scene_of scene.new }
-        ≡ journey_by_bridge (cave_of rules.now) (scene_of scene.old) }
-    ensures says { GoesOnSaying parts_of_journey scene.old scene.new }
+    ensures row { PlaysBy cross_bridge parts_of_journey rules.now tt scene.old scene.new result }
     ensures few_on { takes_no_command scene.new.state.now ≡ false → SaysUpTo 1 scene.old scene.new }
 {
     match bridge_end(rules, scene.state.trail.here) {
@@ -33,7 +31,7 @@ pub fn cross_bridge(rules: &Rules<'_>, scene: &mut Scene<'_>) -> Place
                 demand_toll(rules, scene);
                 return scene.state.trail.here;
             }
-            cross_to(rules, end, scene)
+            cross(rules, end, scene)
         }
     }
 }
@@ -61,98 +59,80 @@ fn bridge_end(rules: &Rules<'_>, here: Place) -> Option<Place>
     )
 }
 
-/// The troll is at both ends of the bridge again, and its second self is gone.
-#[tactic(auto, unfolding(crate::specs::Bridge::with_troll))]
-fn move_troll_home(rules: &Rules<'_>, objects: &mut Objects)
-    ensures { objects.new ≡ with_troll (cave_of rules.now) objects.old }
+/// The troll asks for a treasure once more, at both ends of the bridge.
+#[tactic(auto, unfolding(crate::specs::Bridge::demand_toll))]
+fn demand_toll(rules: &Rules<'_>, scene: &mut Scene<'_>)
+    requires { HasRoom 1 scene.old }
+    ensures scene { Does demand_toll 1 rules.now tt scene.old scene.new }
 {
     let troll = rules.thing(Named::Troll);
     let second = rules.thing(Named::SecondTroll);
-    objects.set_prop(troll, Prop::new(TROLL_CALM));
-    objects.move_to(second, Place::new(0));
-    objects.anchor_to(second, Anchor::Loose);
-    objects.move_to(troll, home(rules, troll));
-    objects.anchor_to(troll, hold(rules, troll));
-    objects.juggle(rules.thing(Named::Chasm));
-}
-
-/// The troll asks for a treasure once more.
-#[tactic(auto, unfolding(crate::specs::Bridge::toll_scene))]
-fn demand_toll(rules: &Rules<'_>, scene: &mut Scene<'_>)
-    requires { HasRoom 1 scene.old }
-    ensures scene { scene_of scene.new ≡ toll_scene (cave_of rules.now) (scene_of scene.old) }
-    ensures says { GoesOnSaying 1 scene.old scene.new }
-{
-    scene.look(rules.thing(Named::Troll), TROLL_RETURNING);
-    move_troll_home(rules, &mut scene.state.objects);
+    scene.look(troll, TROLL_RETURNING);
+    scene.state.objects.set_prop(troll, Prop::new(TROLL_CALM));
+    scene.state.objects.move_to(second, Place::new(0));
+    scene.state.objects.anchor_to(second, Anchor::Loose);
+    scene.state.objects.move_to(troll, home(rules, troll));
+    scene.state.objects.anchor_to(troll, hold(rules, troll));
+    scene.state.objects.juggle(rules.thing(Named::Chasm));
 }
 
 /// A player whom the troll lets pass is stopped the next time.
-#[tactic(auto, unfolding(crate::specs::Bridge::let_pass))]
-fn let_pass(rules: &Rules<'_>, state: &mut State)
-    ensures { state.new ≡ let_pass (cave_of rules.now) state.old }
+#[tactic(auto, unfolding(crate::specs::Bridge::pass_rows))]
+fn pass(rules: &Rules<'_>, end: Place, scene: &mut Scene<'_>)
+    ensures scene { Does (by_table pass_rows ∷ []) 0 rules.now end scene.old scene.new }
 {
     let troll = rules.thing(Named::Troll);
-    if has_prop(state, troll, TROLL_CALM) {
-        state.objects.set_prop(troll, Prop::new(TROLL_RETURNING));
+    if has_prop(scene.state, troll, TROLL_CALM) {
+        scene
+            .state
+            .objects
+            .set_prop(troll, Prop::new(TROLL_RETURNING));
     }
 }
 
-/// The bridge is broken, the troll is gone for good, and the bear is dead at the other end.
-#[tactic(auto, unfolding(crate::specs::Bridge::without_bridge))]
-fn remove_bridge(rules: &Rules<'_>, end: Place, objects: &mut Objects)
-    ensures { objects.new ≡ without_bridge (cave_of rules.now) end objects.old }
+#[tactic(auto, unfolding(crate::specs::Bridge::spices_rows))]
+fn lose_spices(rules: &Rules<'_>, end: Place, scene: &mut Scene<'_>)
+    ensures scene { Does (by_table spices_rows ∷ []) 0 rules.now end scene.old scene.new }
 {
-    let bear = rules.thing(Named::Bear);
-    objects.set_prop(rules.thing(Named::Chasm), Prop::new(CHASM_UNBRIDGED));
-    objects.set_prop(rules.thing(Named::Troll), Prop::new(TROLL_FLED));
-    objects.move_to(bear, end);
-    objects.anchor_to(bear, Anchor::Fixed);
-    objects.set_prop(bear, Prop::new(BEAR_DEAD));
-}
-
-fn lose_spices(rules: &Rules<'_>, state: &mut State)
-    ensures { state.new ≡ without_spices (cave_of rules.now) state.old }
-{
-    if has_prop_up_to(state, rules.thing(Named::Spices), UNSEEN) {
-        lose_one(state);
+    if has_prop_up_to(scene.state, rules.thing(Named::Spices), UNSEEN) {
+        lose_one(scene.state);
     }
-}
-
-#[tactic(auto, unfolding(crate::specs::Bridge::with_broken_bridge))]
-fn break_bridge(rules: &Rules<'_>, end: Place, state: &mut State)
-    ensures { state.new ≡ with_broken_bridge (cave_of rules.now) end state.old }
-{
-    remove_bridge(rules, end, &mut state.objects);
-    lose_spices(rules, state);
 }
 
 /// The bridge breaks under the bear and the player.
-#[tactic(auto, unfolding(crate::specs::Bridge::after_break_through))]
-fn break_through(rules: &Rules<'_>, end: Place, scene: &mut Scene<'_>)
+#[tactic(auto, unfolding(crate::specs::Bridge::break_bridge))]
+fn break_bridge(rules: &Rules<'_>, end: Place, scene: &mut Scene<'_>)
     requires { HasRoom parts_of_journey scene.old }
-    ensures scene { scene_of scene.new
-        ≡ after_break_through (cave_of rules.now) end (scene_of scene.old) }
-    ensures says { GoesOnSaying parts_of_journey scene.old scene.new }
+    ensures scene { Does break_bridge parts_of_journey rules.now end scene.old scene.new }
     ensures over { IsTrue (takes_no_command scene.new.state.now) }
 {
+    let bear = rules.thing(Named::Bear);
     scene.say(Role::BridgeFalls);
-    break_bridge(rules, end, scene.state);
+    scene
+        .state
+        .objects
+        .set_prop(rules.thing(Named::Chasm), Prop::new(CHASM_UNBRIDGED));
+    scene
+        .state
+        .objects
+        .set_prop(rules.thing(Named::Troll), Prop::new(TROLL_FLED));
+    scene.state.objects.move_to(bear, end);
+    scene.state.objects.anchor_to(bear, Anchor::Fixed);
+    scene.state.objects.set_prop(bear, Prop::new(BEAR_DEAD));
+    lose_spices(rules, end, scene);
     fall_at(rules, end, scene);
 }
 
-/// A player who crosses with the bear breaks the bridge.
-#[tactic(auto, unfolding(crate::specs::Bridge::cross_to))]
-fn cross_to(rules: &Rules<'_>, end: Place, scene: &mut Scene<'_>) -> Place
+/// A player whom the troll lets pass crosses, and breaks the bridge with the bear.
+#[tactic(auto, unfolding(crate::specs::Bridge::cross, crate::specs::Bridge::cross_rows))]
+fn cross(rules: &Rules<'_>, end: Place, scene: &mut Scene<'_>) -> Place
     requires { HasRoom parts_of_journey scene.old }
-    ensures journey { record { place = result; scene = scene_of scene.new }
-        ≡ cross_to (cave_of rules.now) end (scene_of scene.old) }
-    ensures says { GoesOnSaying parts_of_journey scene.old scene.new }
+    ensures row { PlaysBy cross parts_of_journey rules.now end scene.old scene.new result }
     ensures few_on { takes_no_command scene.new.state.now ≡ false → SaysUpTo 1 scene.old scene.new }
 {
-    let_pass(rules, scene.state);
+    pass(rules, end, scene);
     if is_in_hand(rules, scene.state, rules.thing(Named::Bear)) {
-        break_through(rules, end, scene);
+        break_bridge(rules, end, scene);
         return scene.state.trail.here;
     }
     end

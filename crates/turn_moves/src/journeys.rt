@@ -1,112 +1,146 @@
-ghost use Rattle.std.specs.Prelude.{◌≡◌, false};
-ghost use Rattle.turn_dwarves.specs.turn_scene.Scene.{cave_of, scene_of, GoesOn};
-ghost use Rattle.turn_dwarves.specs.cave_world.Motions.{motion_of};
+ghost use Rattle.std.specs.Prelude.{◌≡◌, [], ◌∷◌, false};
+ghost use Rattle.turn_dwarves.specs.turn_scene.Scene.{cave_of, scene_of};
 ghost use Rattle.turn_dwarves.specs.cave_world.State.{takes_no_command};
 ghost use Rattle.turn_dwarves.specs.turn_scene.Bounds.{GoesOnSaying, HasRoom, SaysUpTo};
 ghost use Rattle.turn_dwarves.specs.turn_scene.Bounds.{parts_of_journey};
-ghost use Rattle.turn_moves.specs.Journeys.{refusal_role, squeeze_end, is_slim, journey_by_squeeze};
-ghost use Rattle.turn_moves.specs.Journeys.{journey_by_special, journey_of_outcome};
-ghost use Rattle.turn_moves.specs.Journeys.{journey_by_rows, set_forth, after_enough};
-ghost use Rattle.turn_moves.specs.Journeys.{without_visits_here, journey_of_look};
-ghost use Rattle.turn_moves.specs.Journeys.{journey_of_seeking_cave, journey_by_request};
+ghost use Rattle.turn_ends.specs.turn_rules.Rows.{Does, PlaysBy, act_of, by_table};
+ghost use Rattle.turn_moves.specs.Journeys.{is_among, after_refusal, journey_by_special};
+ghost use Rattle.turn_moves.specs.Journeys.{journey_of_outcome, journey_by_rows, set_forth};
+ghost use Rattle.turn_moves.specs.Journeys.{enough_rows, look_round, own_motion};
+ghost use Rattle.turn_moves.specs.Journeys.{parts_of_own_motion, journey_by_request};
 
 use crate::back::go_back;
 use crate::bridge::cross_bridge;
-use crate::ways::{other_end, stay};
+use crate::squeeze::squeeze_through;
+use crate::ways::stay;
 use turn_dwarves::{
-    MAX_DETAILS, Motion, Named, Outcome, Part, Place, PlaceRole, Role, Rules, Scene, Special,
-    State, outside_place, place_named, travel,
+    MAX_DETAILS, Motion, Named, Outcome, Part, Place, Role, Rules, Scene, Special, outside_place,
+    travel,
 };
 
 /// Where a motion that the player asks for leads.
 #[tactic(auto, unfolding(crate::specs::Journeys::journey_by_request))]
 pub fn journey_by_request(rules: &Rules<'_>, motion: u16, scene: &mut Scene<'_>) -> Place
     requires { HasRoom parts_of_journey scene.old }
-    ensures journey { record { place = result; scene = scene_of scene.new }
+    ensures journey { act_of (scene_of scene.new) result
         ≡ journey_by_request (cave_of rules.now) motion (scene_of scene.old) }
     ensures says { GoesOnSaying parts_of_journey scene.old scene.new }
     ensures few_on { takes_no_command scene.new.state.now ≡ false → SaysUpTo 1 scene.old scene.new }
 {
-    match Motion::try_from(motion) {
-        Ok(Motion::Nowhere) => scene.state.trail.here,
-        Ok(Motion::Look) => look(scene),
-        Ok(Motion::Cave) => seek_cave(rules, scene),
-        Ok(Motion::Back) => go_back(rules, scene),
-        _ => set_forth(rules, motion, scene),
+    let travelled = own_motion(rules, motion, scene);
+    match travelled {
+        Some(motion) => set_forth(rules, motion, scene),
+        None => scene.state.trail.here,
     }
+}
+
+/// What a motion comes to that the player asks for. Returns the motion by which the player travels,
+/// if by any.
+#[tactic(auto, unfolding(crate::specs::Journeys::own_motion, crate::specs::Journeys::own_motion_rows))]
+fn own_motion(rules: &Rules<'_>, motion: u16, scene: &mut Scene<'_>) -> Option<u16>
+    requires { HasRoom 1 scene.old }
+    ensures row { PlaysBy own_motion (parts_of_own_motion result) rules.now motion scene.old
+        scene.new result }
+{
+    if motion == Motion::Nowhere.number() {
+        return None;
+    }
+    if motion == Motion::Look.number() {
+        look_round(rules, motion, scene);
+        return None;
+    }
+    if motion == Motion::Cave.number() {
+        if scene.state.trail.here.number() < outside_place(rules.cave).number() {
+            scene.say(Role::CaveOut);
+            return None;
+        }
+        scene.say(Role::CaveIn);
+        return None;
+    }
+    go_back(rules, motion, scene)
+}
+
+#[tactic(auto, unfolding(crate::specs::Journeys::enough_rows))]
+fn say_enough(rules: &Rules<'_>, motion: u16, scene: &mut Scene<'_>)
+    requires { HasRoom 1 scene.old }
+    ensures rows { Does (by_table enough_rows ∷ []) 1 rules.now motion scene.old scene.new }
+{
+    if scene.state.talk.details.number() < MAX_DETAILS {
+        scene.say(Role::Enough);
+        scene.state.talk.details = scene.state.talk.details.up();
+    }
+}
+
+/// The player looks round, and the place will be described at length.
+#[tactic(auto, unfolding(crate::specs::Journeys::look_round))]
+fn look_round(rules: &Rules<'_>, motion: u16, scene: &mut Scene<'_>)
+    requires { HasRoom 1 scene.old }
+    ensures does { Does look_round 1 rules.now motion scene.old scene.new }
+{
+    say_enough(rules, motion, scene);
+    scene.was_dark = false;
+    let here = scene.state.trail.here;
+    scene.state.forget_visits(here);
+}
+
+/// Whether a motion is one of those.
+fn is_among(motions: &[Motion], number: u16) -> bool
+    ensures { result ≡ is_among motions.now number }
+{
+    motions.iter().any(|motion| motion.number() == number)
 }
 
 /// What is said of a motion that no row lists.
-fn refusal_role(motion: u16) -> Role
-    ensures { result ≡ refusal_role (motion_of motion) }
-{
-    match Motion::try_from(motion) {
-        Ok(
-            Motion::Up
-            | Motion::Down
-            | Motion::East
-            | Motion::West
-            | Motion::North
-            | Motion::South
-            | Motion::Northeast
-            | Motion::Southeast
-            | Motion::Southwest
-            | Motion::Northwest,
-        ) => Role::NoDir,
-        Ok(Motion::Forward | Motion::Left | Motion::Right) => Role::Facing,
-        Ok(Motion::Out | Motion::Inside) => Role::Inout,
-        Ok(Motion::Xyzzy | Motion::Plugh) => Role::Magic,
-        Ok(Motion::Crawl) => Role::Crawl,
-        _ => Role::NoMotion,
-    }
-}
-
-/// The other end of the narrow passage, where the player is at one end.
-#[tactic(auto, unfolding(crate::specs::Journeys::squeeze_end))]
-fn squeeze_end(rules: &Rules<'_>, here: Place) -> Option<Place>
-    ensures { result ≡ squeeze_end (cave_of rules.now) here }
-{
-    let alcove = place_named(rules.cave, PlaceRole::Alcove);
-    let plover = place_named(rules.cave, PlaceRole::Plover);
-    other_end(here, alcove, plover)
-}
-
-#[tactic(auto, unfolding(crate::specs::Journeys::is_slim))]
-fn is_slim(rules: &Rules<'_>, state: &State) -> bool
-    ensures { result ≡ is_slim (cave_of rules.now) state.now }
-{
-    let carried = state.holding();
-    carried == 0 || (carried == 1 && state.toting(rules.thing(Named::Emerald)))
-}
-
-/// Through the narrow passage, in which nothing but the emerald may be carried.
-#[tactic(auto, unfolding(crate::specs::Journeys::journey_by_squeeze))]
-fn squeeze(rules: &Rules<'_>, scene: &mut Scene<'_>) -> Place
+#[tactic(auto, unfolding(crate::specs::Journeys::refusal_rows))]
+fn refuse(rules: &Rules<'_>, motion: u16, scene: &mut Scene<'_>)
     requires { HasRoom 1 scene.old }
-    ensures journey { record { place = result; scene = scene_of scene.new }
-        ≡ journey_by_squeeze (cave_of rules.now) (scene_of scene.old) }
+    ensures scene { scene_of scene.new
+        ≡ after_refusal (cave_of rules.now) motion (scene_of scene.old) }
     ensures says { GoesOnSaying 1 scene.old scene.new }
 {
-    match squeeze_end(rules, scene.state.trail.here) {
-        None => stay(scene, Role::NoWay),
-        Some(end) => {
-            if is_slim(rules, scene.state) {
-                return end;
-            }
-            stay(scene, Role::TooTight)
-        }
+    let directions = [
+        Motion::Up,
+        Motion::Down,
+        Motion::East,
+        Motion::West,
+        Motion::North,
+        Motion::South,
+        Motion::Northeast,
+        Motion::Southeast,
+        Motion::Southwest,
+        Motion::Northwest,
+    ];
+    if is_among(&directions, motion) {
+        scene.say(Role::NoDir);
+        return;
     }
+    if is_among(&[Motion::Forward, Motion::Left, Motion::Right], motion) {
+        scene.say(Role::Facing);
+        return;
+    }
+    if is_among(&[Motion::Out, Motion::Inside], motion) {
+        scene.say(Role::Inout);
+        return;
+    }
+    if is_among(&[Motion::Xyzzy, Motion::Plugh], motion) {
+        scene.say(Role::Magic);
+        return;
+    }
+    if motion == Motion::Crawl.number() {
+        scene.say(Role::Crawl);
+        return;
+    }
+    scene.say(Role::NoMotion);
 }
 
 fn journey_by_special(rules: &Rules<'_>, special: Special, scene: &mut Scene<'_>) -> Place
     requires { HasRoom parts_of_journey scene.old }
-    ensures journey { record { place = result; scene = scene_of scene.new }
-        ≡ journey_by_special (cave_of rules.now) special (scene_of scene.old) }
-    ensures says { GoesOnSaying parts_of_journey scene.old scene.new }
+    ensures journey { PlaysBy (journey_by_special special) parts_of_journey rules.now tt scene.old
+        scene.new result }
     ensures few_on { takes_no_command scene.new.state.now ≡ false → SaysUpTo 1 scene.old scene.new }
 {
     match special {
-        Special::Squeeze => squeeze(rules, scene),
+        Special::Squeeze => squeeze_through(rules, scene),
         Special::Bridge => cross_bridge(rules, scene),
     }
 }
@@ -119,7 +153,7 @@ fn journey_of_outcome(
     scene: &mut Scene<'_>,
 ) -> Place
     requires { HasRoom parts_of_journey scene.old }
-    ensures journey { record { place = result; scene = scene_of scene.new }
+    ensures journey { act_of (scene_of scene.new) result
         ≡ journey_of_outcome (cave_of rules.now) motion outcome (scene_of scene.old) }
     ensures says { GoesOnSaying parts_of_journey scene.old scene.new }
     ensures few_on { takes_no_command scene.new.state.now ≡ false → SaysUpTo 1 scene.old scene.new }
@@ -131,16 +165,19 @@ fn journey_of_outcome(
             scene.tell(Part::Message(message));
             scene.state.trail.here
         }
-        Outcome::NoMotion => stay(scene, refusal_role(motion)),
+        Outcome::NoMotion => {
+            refuse(rules, motion, scene);
+            scene.state.trail.here
+        }
         Outcome::NoWay => stay(scene, Role::NoWay),
     }
 }
 
 /// Where the rows of the place lead by a motion.
 #[tactic(auto, unfolding(crate::specs::Journeys::journey_by_rows))]
-pub fn journey_by_rows(rules: &Rules<'_>, motion: u16, scene: &mut Scene<'_>) -> Place
+fn journey_by_rows(rules: &Rules<'_>, motion: u16, scene: &mut Scene<'_>) -> Place
     requires { HasRoom parts_of_journey scene.old }
-    ensures journey { record { place = result; scene = scene_of scene.new }
+    ensures journey { act_of (scene_of scene.new) result
         ≡ journey_by_rows (cave_of rules.now) motion (scene_of scene.old) }
     ensures says { GoesOnSaying parts_of_journey scene.old scene.new }
     ensures few_on { takes_no_command scene.new.state.now ≡ false → SaysUpTo 1 scene.old scene.new }
@@ -153,59 +190,11 @@ pub fn journey_by_rows(rules: &Rules<'_>, motion: u16, scene: &mut Scene<'_>) ->
 #[tactic(auto, unfolding(crate::specs::Journeys::set_forth))]
 pub fn set_forth(rules: &Rules<'_>, motion: u16, scene: &mut Scene<'_>) -> Place
     requires { HasRoom parts_of_journey scene.old }
-    ensures journey { record { place = result; scene = scene_of scene.new }
+    ensures journey { act_of (scene_of scene.new) result
         ≡ set_forth (cave_of rules.now) motion (scene_of scene.old) }
     ensures says { GoesOnSaying parts_of_journey scene.old scene.new }
     ensures few_on { takes_no_command scene.new.state.now ≡ false → SaysUpTo 1 scene.old scene.new }
 {
     scene.set_out();
     journey_by_rows(rules, motion, scene)
-}
-
-fn say_enough(scene: &mut Scene<'_>)
-    requires { HasRoom 1 scene.old }
-    ensures scene { scene_of scene.new ≡ after_enough (scene_of scene.old) }
-    ensures says { GoesOnSaying 1 scene.old scene.new }
-{
-    if scene.state.talk.details.number() < MAX_DETAILS {
-        scene.state.talk.details = scene.state.talk.details.up();
-        scene.say(Role::Enough);
-    }
-}
-
-fn forget_visits(scene: &mut Scene<'_>)
-    ensures scene { scene_of scene.new ≡ without_visits_here (scene_of scene.old) }
-    ensures same { GoesOn scene.old scene.new }
-{
-    let here = scene.state.trail.here;
-    scene.state.forget_visits(here);
-    scene.was_dark = false;
-}
-
-/// The player looks round, and the place is described at length.
-#[tactic(auto, unfolding(crate::specs::Journeys::journey_of_look))]
-fn look(scene: &mut Scene<'_>) -> Place
-    requires { HasRoom 1 scene.old }
-    ensures journey { record { place = result; scene = scene_of scene.new }
-        ≡ journey_of_look (scene_of scene.old) }
-    ensures says { GoesOnSaying 1 scene.old scene.new }
-{
-    say_enough(scene);
-    forget_visits(scene);
-    scene.state.trail.here
-}
-
-/// The player asks where the cave is.
-#[tactic(auto, unfolding(crate::specs::Journeys::journey_of_seeking_cave))]
-fn seek_cave(rules: &Rules<'_>, scene: &mut Scene<'_>) -> Place
-    requires { HasRoom 1 scene.old }
-    ensures journey { record { place = result; scene = scene_of scene.new }
-        ≡ journey_of_seeking_cave (cave_of rules.now) (scene_of scene.old) }
-    ensures says { GoesOnSaying 1 scene.old scene.new }
-{
-    if scene.state.trail.here.number() < outside_place(rules.cave).number() {
-        stay(scene, Role::CaveOut)
-    } else {
-        stay(scene, Role::CaveIn)
-    }
 }

@@ -8,6 +8,7 @@ pub mod description;
 pub mod falling;
 pub mod journeys;
 pub mod objects;
+pub mod squeeze;
 pub mod ways;
 
 pub use arrival::{arrive, describe_here};

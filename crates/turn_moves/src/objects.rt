@@ -1,12 +1,11 @@
-ghost use Rattle.std.specs.Prelude.{◌≡◌, ◌<◌, length};
+ghost use Rattle.std.specs.Prelude.{◌≡◌, [], ◌∷◌, length};
 ghost use Rattle.turn_dwarves.specs.world_objects.Lists.{halves_at, last_half};
-ghost use Rattle.turn_dwarves.specs.world_objects.Objects.{anchor_of, place_of_anchor, is_place};
 ghost use Rattle.turn_dwarves.specs.turn_scene.Scene.{cave_of, scene_of};
-ghost use Rattle.turn_moves.specs.Objects.{is_unseen, is_kept_back, first_prop, one_less_unseen};
-ghost use Rattle.turn_moves.specs.Objects.{with_lamp_of_rest_lost, after_find};
-ghost use Rattle.turn_moves.specs.Objects.{after_find_if_unseen, described_prop, after_object};
-ghost use Rattle.turn_moves.specs.Objects.{after_objects};
 ghost use Rattle.turn_dwarves.specs.turn_scene.Bounds.{GoesOnSaying, HasRoom};
+ghost use Rattle.turn_ends.specs.turn_rules.Rows.{Does, by_table, deed};
+ghost use Rattle.turn_moves.specs.Objects.{unseen, second_half_here, with_one_less_unseen};
+ghost use Rattle.turn_moves.specs.Objects.{rest_rows, object_text_rows, find_treasure};
+ghost use Rattle.turn_moves.specs.Objects.{after_object, after_objects};
 
 use turn_dwarves::{
     Charge, Half, Named, Object, Part, Prop, Rules, SEEN, SEEN_FASTENED, STEPS_FROM_ABOVE, Scene,
@@ -16,101 +15,89 @@ use turn_dwarves::{
 /// The most turns for which the lamp burns once as many treasures count as lost as count as unseen.
 const SHORT_LAMP: i32 = 35;
 
-fn is_unseen(state: &State, object: Object) -> bool
-    ensures { result ≡ is_unseen state.now object }
+fn is_unseen(rules: &Rules<'_>, object: Object, scene: &Scene<'_>) -> bool
+    ensures { result ≡ unseen (deed (cave_of rules.now) object (scene_of scene.now)) }
 {
-    state.objects.prop(object).value() < 0
-}
-
-/// Whether an object isn't described though it is there.
-#[tactic(auto, unfolding(crate::specs::Objects::is_kept_back))]
-fn is_kept_back(rules: &Rules<'_>, state: &State, object: Object) -> bool
-    ensures { result ≡ is_kept_back (cave_of rules.now) state.now object }
-{
-    (object == rules.thing(Named::Steps) && state.toting(rules.thing(Named::Gold)))
-        || (is_unseen(state, object) && state.closing.is_closed)
-}
-
-fn first_prop(rules: &Rules<'_>, object: Object) -> Prop
-    ensures { result ≡ first_prop (cave_of rules.now) object }
-{
-    if object == rules.thing(Named::Rug) || object == rules.thing(Named::Chain) {
-        Prop::new(SEEN_FASTENED)
-    } else {
-        Prop::new(SEEN)
-    }
+    scene.state.objects.prop(object).value() < 0
 }
 
 fn count_one_less(state: &mut State)
-    ensures { state.new ≡ one_less_unseen state.old }
+    ensures { state.new ≡ with_one_less_unseen state.old }
 {
     state.tallies.unseen = state.tallies.unseen.down();
 }
 
-fn shorten_lamp(state: &mut State)
-    ensures { state.new ≡ with_lamp_of_rest_lost state.old }
+/// Where as many treasures count as lost as count as unseen, the lamp doesn't burn for long.
+#[tactic(auto, unfolding(crate::specs::Objects::rest_rows))]
+fn leave_rest(rules: &Rules<'_>, object: Object, scene: &mut Scene<'_>)
+    ensures rows { Does (by_table rest_rows ∷ []) 0 rules.now object scene.old scene.new }
 {
-    let unseen = state.tallies.unseen.number();
-    let lost = state.tallies.lost.number();
+    let unseen = scene.state.tallies.unseen.number();
+    let lost = scene.state.tallies.lost.number();
     if unseen == lost && unseen != 0 {
-        let turns = state.lamp.charge.turns();
-        state.lamp.charge = Charge::new(turns.min(SHORT_LAMP));
+        let turns = scene.state.lamp.charge.turns();
+        scene.state.lamp.charge = Charge::new(turns.min(SHORT_LAMP));
     }
 }
 
-/// A treasure is seen for the first time.
-#[tactic(auto, unfolding(crate::specs::Objects::after_find))]
-fn find(rules: &Rules<'_>, object: Object, state: &mut State)
-    ensures { state.new ≡ after_find (cave_of rules.now) object state.old }
+fn is_second_here(rules: &Rules<'_>, object: Object, scene: &Scene<'_>) -> bool
+    ensures { result ≡ second_half_here (deed (cave_of rules.now) object (scene_of scene.now)) }
 {
-    state.objects.set_prop(object, first_prop(rules, object));
-    count_one_less(state);
-    shorten_lamp(state);
-}
-
-fn find_if_unseen(rules: &Rules<'_>, object: Object, state: &mut State)
-    ensures { state.new ≡ after_find_if_unseen (cave_of rules.now) object state.old }
-{
-    if is_unseen(state, object) {
-        find(rules, object, state);
-    }
-}
-
-#[tactic(auto, unfolding(crate::specs::Objects::described_prop))]
-fn described_prop(rules: &Rules<'_>, state: &State, object: Object) -> Prop
-    ensures { result ≡ described_prop (cave_of rules.now) state.now object }
-{
-    if object == rules.thing(Named::Steps) && is_second_here(state, object) {
-        Prop::new(STEPS_FROM_ABOVE)
-    } else {
-        state.objects.prop(object)
-    }
-}
-
-fn is_second_here(state: &State, object: Object) -> bool
-    ensures { result
-        ≡ is_place state.now.trail.here (place_of_anchor (anchor_of state.now.objects object)) }
-{
-    match state.objects.anchor(object).place() {
-        Some(place) => place == state.trail.here,
+    match scene.state.objects.anchor(object).place() {
+        Some(place) => place == scene.state.trail.here,
         None => false,
     }
 }
 
+/// The text of an object is printed.
+#[tactic(auto, unfolding(crate::specs::Objects::object_text_rows))]
+fn tell_object_text(rules: &Rules<'_>, object: Object, scene: &mut Scene<'_>)
+    requires { HasRoom 1 scene.old }
+    ensures rows { Does (by_table object_text_rows ∷ []) 1 rules.now object scene.old scene.new }
+{
+    if object == rules.thing(Named::Steps) && is_second_here(rules, object, scene) {
+        scene.tell(Part::Object(object, STEPS_FROM_ABOVE));
+        return;
+    }
+    let prop = scene.state.objects.prop(object);
+    scene.tell(Part::Object(object, prop.value()));
+}
+
+/// A treasure is seen for the first time.
+#[tactic(auto, unfolding(crate::specs::Objects::find_treasure))]
+fn find_treasure(rules: &Rules<'_>, object: Object, prop: Prop, scene: &mut Scene<'_>)
+    requires { HasRoom 1 scene.old }
+    ensures does { Does (find_treasure prop) 1 rules.now object scene.old scene.new }
+{
+    scene.state.objects.set_prop(object, prop);
+    count_one_less(scene.state);
+    leave_rest(rules, object, scene);
+    tell_object_text(rules, object, scene);
+}
+
 /// An object is described, and is found if it wasn't seen before.
-#[tactic(auto, unfolding(crate::specs::Objects::after_object))]
+#[tactic(auto, unfolding(crate::specs::Objects::after_object, crate::specs::Objects::object_rows))]
 fn tell_object(rules: &Rules<'_>, object: Object, scene: &mut Scene<'_>)
     requires { HasRoom 1 scene.old }
     ensures scene { scene_of scene.new
         ≡ after_object (cave_of rules.now) object (scene_of scene.old) }
     ensures says { GoesOnSaying 1 scene.old scene.new }
 {
-    if is_kept_back(rules, scene.state, object) {
+    if object == rules.thing(Named::Steps) && scene.state.toting(rules.thing(Named::Gold)) {
         return;
     }
-    find_if_unseen(rules, object, scene.state);
-    let prop = described_prop(rules, scene.state, object);
-    scene.tell(Part::Object(object, prop.value()));
+    if !is_unseen(rules, object, scene) {
+        tell_object_text(rules, object, scene);
+        return;
+    }
+    if scene.state.closing.is_closed {
+        return;
+    }
+    if object == rules.thing(Named::Rug) || object == rules.thing(Named::Chain) {
+        find_treasure(rules, object, Prop::new(SEEN_FASTENED), scene);
+        return;
+    }
+    find_treasure(rules, object, Prop::new(SEEN), scene);
 }
 
 fn tell_all(rules: &Rules<'_>, halves: &[Half], scene: &mut Scene<'_>)

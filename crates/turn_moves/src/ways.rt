@@ -1,5 +1,6 @@
 ghost use Rattle.std.specs.Prelude.{◌≡◌};
-ghost use Rattle.turn_moves.specs.Ways.{journey_here, other_end};
+ghost use Rattle.turn_moves.specs.Ways.{other_end, staying};
+ghost use Rattle.turn_ends.specs.turn_rules.Rows.{act_of};
 ghost use Rattle.turn_dwarves.specs.turn_scene.Bounds.{GoesOnSaying, HasRoom};
 ghost use Rattle.turn_dwarves.specs.turn_scene.Scene.{after_saying, scene_of};
 
@@ -20,8 +21,8 @@ pub fn other_end(here: Place, one: Option<Place>, other: Option<Place>) -> Optio
 /// The player stays, and a role's message is said.
 pub fn stay(scene: &mut Scene<'_>, role: Role) -> Place
     requires { HasRoom 1 scene.old }
-    ensures journey { record { place = result; scene = scene_of scene.new }
-        ≡ journey_here (after_saying role (scene_of scene.old)) }
+    ensures journey { act_of (scene_of scene.new) result
+        ≡ staying (after_saying role (scene_of scene.old)) }
     ensures says { GoesOnSaying 1 scene.old scene.new }
 {
     scene.say(role);

@@ -1,9 +1,12 @@
 -- What rows do to the scene that they are played in.
-use Rattle.std.specs.Prelude.{ℤ, if◌then◌else◌}
+use Rattle.std.specs.Prelude.{ℕ, ℤ, if◌then◌else◌}
 use Rattle.turn_things.specs.data_rows.declared.role.Role.{Role}
 use Rattle.turn_things.specs.world_objects.Objects.{after_move_to, after_carry, with_anchor}
 use Rattle.turn_things.specs.world_objects.Objects.{after_juggle, with_prop}
+use Rattle.turn_things.specs.cave_data.CaveView.{CaveView}
+use Rattle.turn_things.specs.cave_world.State.{with_player_from, with_hint_taken}
 use Rattle.turn_things.specs.cave_world.declared.part.Part.{Part}
+use Rattle.turn_things.specs.cave_world.declared.part.Part.TheVariants as part
 use Rattle.turn_things.specs.world_objects.declared.spot.Anchor.TheVariants as anchor
 use Rattle.turn_things.specs.cave_world.declared.state.State.{State}
 use Rattle.turn_things.specs.Effects.{put_down, let_go, without_troll, after_loss_to_snake}
@@ -11,6 +14,9 @@ use Rattle.turn_things.specs.Effects.{with_one_more_lost, with_objects}
 use Rattle.turn_things.specs.turn_scene.Scene.{Scene, with_state, after_telling, after_saying}
 use Rattle.turn_things.specs.turn_scene.Scene.{after_look_at}
 use Rattle.turn_rules.specs.Rows.{Deed, Test, Effect, Thing}
+
+abbrev pub with_charge : ℤ → State → State
+with_charge turns s = let lamp = s.lamp in record s { lamp = record lamp { charge = turns } }
 
 -- what rows do, whatever they are about
 module _ {C : Type 0} where
@@ -82,3 +88,31 @@ module _ {C : Type 0} where
 
   abbrev pub lose_one : Effect C
   lose_one d = in_state (with_one_more_lost d.scene.state) d
+
+  -- what is told of states
+  abbrev pub change : (State → State) → Effect C
+  change f d = in_state (f d.scene.state) d
+
+  -- what is told of scenes
+  abbrev pub follow : (CaveView → Scene → Scene) → Effect C
+  follow f d = in_scene (f d.cave d.scene) d
+
+  -- an object is put at a place
+  abbrev pub move : Thing C → (Deed C → ℕ) → Effect C
+  move t place d =
+      in_state (with_objects (after_move_to d.scene.state.objects (t d) (place d)) d.scene.state) d
+
+  -- a message of the cave is said
+  abbrev pub tell_message : (Deed C → ℕ) → Effect C
+  tell_message message d = tell (part.Message (message d)) d
+
+  -- the player is at a place, and came from there
+  abbrev pub put_player : (Deed C → ℕ) → Effect C
+  put_player place d = in_state (with_player_from (place d) d.scene.state) d
+
+  abbrev pub take_hint : ℕ → Effect C
+  take_hint h d = in_state (with_hint_taken h d.scene.state) d
+
+  -- the lamp burns so many turns from now on
+  abbrev pub set_charge : ℤ → Effect C
+  set_charge turns d = in_state (with_charge turns d.scene.state) d

@@ -4,10 +4,14 @@ use Rattle.turn_things.specs.cave_words.Stream.{number_drawn}
 use Rattle.turn_things.specs.cave_words.declared.named.Named.{Named}
 use Rattle.turn_things.specs.data_rows.declared.place_role.PlaceRole.{PlaceRole}
 use Rattle.turn_things.specs.world_objects.Objects.{is_object_at, is_gone, is_place, carried_objects}
-use Rattle.turn_things.specs.turn_scene.Scene.{thing}
+use Rattle.turn_things.specs.cave_world.Sight.{forced}
+use Rattle.turn_things.specs.cave_world.State.{takes_no_command}
+use Rattle.turn_things.specs.turn_scene.Scene.{thing, happens, is_called}
 use Rattle.turn_things.specs.Reach.{is_in_hand, is_near, has_prop, has_other_prop, has_prop_up_to}
 use Rattle.turn_things.specs.Reach.{is_dwarf_here, is_fixed}
-use Rattle.turn_things.specs.Places.{place_named}
+use Rattle.turn_things.specs.Places.{place_named, has_condition_of, outside_place, deep_place}
+use Rattle.turn_things.specs.Places.{building_place, start_place}
+use Rattle.turn_things.specs.declared.conditions.PlaceCondition.{PlaceCondition}
 use Rattle.turn_things.specs.Liquids.{liquid_of, lake_of, is_liquid}
 use Rattle.turn_things.specs.Treasures.{is_treasure}
 use Rattle.turn_rules.specs.Rows.{Deed, Test, Thing}
@@ -91,6 +95,10 @@ module _ {C : Type 0} where
   abbrev pub one_in : ℕ → Test C
   one_in n d = number_drawn n d.scene.state.stream == 0
 
+  -- a draw: so many of 100 cases
+  abbrev pub percent : ℕ → Test C
+  percent p d = happens p d.scene
+
   -- the first half of an object is nowhere
   abbrev pub nowhere : Thing C → Test C
   nowhere t d = is_gone d.scene.state.objects (t d)
@@ -109,3 +117,53 @@ module _ {C : Type 0} where
   -- the lamp went out
   abbrev pub burnt_out : Test C
   burnt_out d = int_lt d.scene.state.lamp.charge (pos 0)
+
+  -- where the player is
+  abbrev pub here : Deed C → ℕ
+  here d = d.scene.state.trail.here
+
+  -- where the player came from, and where the player was before that
+  abbrev pub last : Deed C → ℕ
+  last d = d.scene.state.trail.last
+
+  abbrev pub older : Deed C → ℕ
+  older d = d.scene.state.trail.older
+
+  -- the places that a cave has without a binding too
+  abbrev pub start : Deed C → ℕ
+  start d = start_place d.cave
+
+  abbrev pub building : Deed C → ℕ
+  building d = building_place d.cave
+
+  -- the player is in the depths of the cave
+  abbrev pub in_the_depths : Test C
+  in_the_depths d = nat_le (deep_place d.cave) d.scene.state.trail.here
+
+  -- a place is one of those outside the cave, or above the last of them
+  abbrev pub outside : (Deed C → ℕ) → Test C
+  outside place d = nat_le (place d) (outside_place d.cave)
+
+  -- a place has a condition
+  abbrev pub condition_of : PlaceCondition → (Deed C → ℕ) → Test C
+  condition_of c place d = has_condition_of d.cave (place d) c
+
+  -- from a place the player is moved on at once
+  abbrev pub forced_at : (Deed C → ℕ) → Test C
+  forced_at place d = forced d.cave (place d)
+
+  -- two places or objects are the same
+  abbrev pub same : (Deed C → ℕ) → (Deed C → ℕ) → Test C
+  same one other d = one d == other d
+
+  -- so many deaths are counted
+  abbrev pub deaths : ℕ → Test C
+  deaths n d = d.scene.state.tallies.deaths == n
+
+  -- a question is open, or the game has ended
+  abbrev pub over : Test C
+  over d = takes_no_command d.scene.state
+
+  -- the last object that was named is the one of a name
+  abbrev pub last_object : Named → Test C
+  last_object n d = is_called d.cave d.scene.state.talk.last n

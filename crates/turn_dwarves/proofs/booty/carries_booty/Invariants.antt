@@ -1,7 +1,7 @@
 use Rattle.std.proofs.Common.{◌≡◌}
 use Rattle.std.specs.List.{list_any}
-use Rattle.turn_things.specs.turn_scene.Scene.{cave_of}
-use Rattle.turn_things.specs.Treasures.{treasures}
+use Rattle.turn_rules.specs.turn_scene.Scene.{cave_of, scene_of}
+use Rattle.turn_rules.specs.turn_things.Treasures.{treasures}
 use Rattle.turn_dwarves.specs.Booty.{is_carried_booty}
 use Rattle.turn_dwarves.proofs.Treasures.{treasures_from}
 use Rattle.turn_dwarves.proofs.booty.carries_booty.Given as goal
@@ -9,5 +9,5 @@ use Rattle.turn_dwarves.proofs.booty.carries_booty.Given as goal
 -- none of the treasures before this one is carried booty
 abbrev pub invariant-loop-number : goal.invariant-loop-number
 invariant-loop-number l =
-    list_any (is_carried_booty (cave_of l.rules) l.state) (treasures_from l.number)
-    ≡ list_any (is_carried_booty (cave_of l.rules) l.state) treasures
+    list_any (is_carried_booty (cave_of l.rules) (scene_of l.scene)) (treasures_from l.number)
+    ≡ list_any (is_carried_booty (cave_of l.rules) (scene_of l.scene)) treasures

@@ -1,7 +1,7 @@
 use Rattle.std.proofs.Common.{rules, ap, ◌∙◌, arith, take, None}
 use Rattle.std.specs.List.{filter_map}
-use Rattle.turn_things.specs.cave_data.CaveView.{ways_from}
-use Rattle.turn_things.specs.turn_scene.Scene.{cave_of}
+use Rattle.turn_rules.specs.cave_data.CaveView.{ways_from}
+use Rattle.turn_rules.specs.turn_scene.Scene.{cave_of}
 use Rattle.turn_dwarves.specs.Candidates.{place_ahead, without_repeats, candidates}
 use Rattle.turn_dwarves.proofs.Firsts.{full, short}
 use Rattle.turn_dwarves.proofs.candidates.candidates.Goals as goal

@@ -1,7 +1,7 @@
 use Rattle.std.proofs.Common.{◌≡◌, ◌++◌, ◌≤◌, None, map, drop, take, length}
 use Rattle.std.specs.List.{filter_map}
-use Rattle.turn_things.specs.data_rows.RowViews.{going}
-use Rattle.turn_things.specs.turn_scene.Scene.{cave_of}
+use Rattle.turn_rules.specs.data_rows.RowViews.{going}
+use Rattle.turn_rules.specs.turn_scene.Scene.{cave_of}
 use Rattle.turn_dwarves.specs.Candidates.{place_ahead, without_repeats}
 use Rattle.turn_dwarves.proofs.candidates.candidates.Given as goal
 

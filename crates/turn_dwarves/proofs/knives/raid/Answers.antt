@@ -6,6 +6,7 @@ pub loop-number-init : goal.loop-number-init
 unfolding raid_of
 loop-number-init c = record {
   raid = search rules;
+  says = search rules;
   dwarves = search rules;
   knives = search rules;
   hits = search rules;
@@ -15,6 +16,7 @@ pub loop-number-preserved : goal.loop-number-preserved
 unfolding raid_of
 loop-number-preserved c = record {
   raid = search rules;
+  says = search rules;
   dwarves = omega (arith, c.loop-number.invariant.dwarves, c.with-attack.ensures.dwarf);
   knives = omega (arith, c.loop-number.invariant.knives, c.with-attack.ensures.knife);
   hits = omega (arith, c.loop-number.invariant.hits, c.with-attack.ensures.hit);

@@ -1,5 +1,5 @@
 use Rattle.std.proofs.Common.{rules, arith, ap, ◌∙◌}
-use Rattle.turn_things.specs.turn_scene.Scene.{cave_of}
+use Rattle.turn_rules.specs.turn_scene.Scene.{cave_of}
 use Rattle.turn_dwarves.specs.Waking.{with_dwarves_apart}
 use Rattle.turn_dwarves.proofs.waking.keep_apart.Goals as goal
 

@@ -1,6 +1,6 @@
 use Rattle.std.proofs.Common.{◌≡◌, map, drop}
 use Rattle.turn_dwarves.specs.data_rows.RowViews.{going}
-use Rattle.turn_moves.specs.Journeys.{direct_row}
+use Rattle.turn_moves.specs.Back.{direct_row}
 use Rattle.turn_moves.proofs.back.direct_row.Given as goal
 
 -- no row before this one leads there

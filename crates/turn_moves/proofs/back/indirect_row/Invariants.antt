@@ -2,7 +2,7 @@ use Rattle.std.specs.Option.{option_or}
 use Rattle.std.proofs.Common.{◌≡◌, map, drop, option_map}
 use Rattle.turn_dwarves.specs.data_rows.RowViews.{going}
 use Rattle.turn_dwarves.specs.turn_scene.Scene.{cave_of}
-use Rattle.turn_moves.specs.Journeys.{indirect_row}
+use Rattle.turn_moves.specs.Back.{indirect_row}
 use Rattle.turn_moves.proofs.back.indirect_row.Given as goal
 
 -- the row so far, unless a later one leads through too

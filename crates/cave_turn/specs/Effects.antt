@@ -1,0 +1,19 @@
+-- What rows do to the scene by moves.
+use Rattle.std.specs.Prelude.{ℕ}
+use Rattle.turn_begin.specs.turn_scene.Scene.{scene_at_place}
+use Rattle.turn_moves.specs.Arrival.{after_arrival, description_anew}
+use Rattle.cave_verbs.specs.verb_commands.turn_rules.Rows.{Deed, Effect}
+use Rattle.cave_verbs.specs.verb_commands.turn_rules.Effects.{in_scene, follow}
+
+module _ {C : Type 0} where
+  -- the player arrives at a place
+  abbrev pub arrive : (Deed C → ℕ) → Effect C
+  arrive place d = in_scene (after_arrival d.cave (place d) d.scene) d
+
+  -- the player is at a place, and came from where it was
+  abbrev pub stand : (Deed C → ℕ) → Effect C
+  stand place d = in_scene (scene_at_place (place d) d.scene) d
+
+  -- the place is described anew
+  abbrev pub describe : Effect C
+  describe d = follow description_anew d
