@@ -1,43 +1,25 @@
--- How many dwarves there are.
-use Rattle.std.proofs.Common.{◌≡◌, ◌⊎◌, inl, inr, ℕ, ℤ, zero, suc, ◌+◌, ◌≤◌, ◌<◌, Bool, false, true}
+-- What becomes of the dwarves.
+use Rattle.std.proofs.Common.{◌≡◌, ◌⊎◌, inl, inr, ℕ, zero, suc, ◌+◌, ◌≤◌, ◌<◌, Bool, false, true}
 use Rattle.std.proofs.Common.{List, [], ◌∷◌, length, set, get_or, refl, sym, ap, ◌∙◌, arith}
 use Rattle.std.proofs.lemmas.Bool.{true≢false, false≢true, cases_lt}
 use Rattle.std.proofs.lemmas.List.{get_or-set_other}
 use Rattle.std.proofs.lemmas.Bool.Decides.{nat_tests}
 use Rattle.std.proofs.lemmas.Grind.{common_steps}
 use Rattle.std.proofs.lemmas.List.Quantifiers.{position-Some}
-use Rattle.std.specs.Prelude.{◌==◌, ◌||◌, ◌&&◌, not, is_some, filter, map, min, take, Option, None}
-use Rattle.std.specs.Prelude.{Some, if◌then◌else◌, unwrap_or}
+use Rattle.std.specs.Prelude.{◌==◌, ◌||◌, not, filter, map, min, take, Option, None, Some}
+use Rattle.std.specs.Prelude.{if◌then◌else◌, unwrap_or}
 use Rattle.std.specs.List.{list_any, position, prefix_len}
-use Rattle.cave_turn.specs.cave_world.State.{no_dwarf, asleep, far_closing, starting_state}
-use Rattle.cave_turn.specs.cave_world.declared.closing.Closing.{Closing}
-use Rattle.cave_turn.specs.cave_world.declared.dwarves.Dwarf.{Dwarf}
-use Rattle.cave_turn.specs.cave_world.declared.dwarves.Dwarves.{Dwarves}
-use Rattle.cave_turn.specs.cave_world.declared.dwarves.Knife.{Knife}
-use Rattle.cave_turn.specs.turn_things.Reach.{is_dwarf_at}
-use Rattle.cave_turn.specs.turn_clocks.FirstClock.{dismissed_dwarf}
-use Rattle.cave_turn.specs.cave_verbs.Throwing.{killed_dwarf, without_one, without_first_at}
 use Rattle.cave_turn.specs.cave_data.CaveView.{CaveView}
 use Rattle.cave_turn.specs.data_rows.declared.place_role.PlaceRole.TheVariants as landmark
-use Rattle.cave_turn.specs.cave_world.declared.ending.Ending.{Ending}
-use Rattle.cave_turn.specs.cave_world.declared.ending.Question.{Question}
-use Rattle.cave_turn.specs.cave_world.declared.ending.Question.TheVariants as question
-use Rattle.cave_turn.specs.cave_world.declared.state.State.{State}
+use Rattle.cave_turn.specs.cave_world.State.{no_dwarf}
+use Rattle.cave_turn.specs.cave_world.declared.dwarves.Dwarf.{Dwarf}
 use Rattle.cave_turn.specs.turn_things.Places.{place_named}
-use Rattle.cave_turn.specs.turn_begin.Begin.{begun_state}
-use Rattle.cave_turn.specs.turn_dwarves.Band.{dwarf_of}
+use Rattle.cave_turn.specs.turn_things.Reach.{is_dwarf_at}
+use Rattle.cave_turn.specs.turn_clocks.FirstClock.{dismissed_dwarf}
 use Rattle.cave_turn.specs.turn_dwarves.Waking.{dwarf_apart}
-use Rattle.cave_turn.specs.Turns.{start_of_game, turn_on_line}
-use Rattle.cave_turn.specs.cave_verbs.Taking.{take_rows, take_freely_rows}
-use Rattle.turn_laws.specs.DwarfLaws.{is_living, HasFewDwarves, FewDwarves, GoneForGood}
-use Rattle.turn_laws.specs.Laws.{IsSomewhere, is_command, is_input, is_no_answer}
-use Rattle.turn_laws.proofs.ThingsEffects.{KeepsRows, default_kept, first_kept}
-use Rattle.turn_laws.proofs.ThingsFrame.{Claim, IsKept, Sure}
-use Rattle.turn_laws.proofs.ThingsLines.{turned_kept}
-
--- so many of a list of dwarves live
-abbrev living : ℕ → List Dwarf → ℕ
-living n xs = length (filter is_living (take n xs))
+use Rattle.cave_turn.specs.cave_verbs.Throwing.{killed_dwarf, without_one, without_first_at}
+use Rattle.turn_laws.specs.DwarfLaws.{is_living}
+use Rattle.turn_laws.proofs.View.{Band, IsBandAfter, living}
 
 -- where one condition follows from another, and one count is at most another, so it is with one
 -- more of each
@@ -104,7 +86,7 @@ killed_living (suc n) (suc i) (x ∷ xs) low lived =
     (killed_living n i xs (omega (arith, low)) lived)
 
 -- dwarves that are dismissed don't live
-dismissed_living : (n : ℕ) (xs : List Dwarf) → living n (map dismissed_dwarf xs) ≡ 0
+pub dismissed_living : (n : ℕ) (xs : List Dwarf) → living n (map dismissed_dwarf xs) ≡ 0
 dismissed_living zero xs = refl
 dismissed_living (suc n) [] = refl
 dismissed_living (suc n) (x ∷ xs) = dismissed_living n xs
@@ -144,46 +126,6 @@ struck_living n m xs some there = by_first (position (is_dwarf_at n) (take m xs)
         killed_living m i xs found.0
         (stands (get_or (take m xs) i no_dwarf).place found.1)
 
--- the player isn't at place 0
-abbrev At : ℕ → Type 0
-At n = 1 ≤ n
-
--- a claim about the dwarves and the closing of the cave alone
-abbrev OfBand : (Dwarves → Closing → Type 0) → Claim
-OfBand Q = λ n o w c. Q w c
-
--- what happens to dwarves keeps it
-record IsBandKept (Q : Dwarves → Closing → Type 0) : Type 0 where
-  temper : (w : Dwarves) (c : Closing) (anger : ℕ) (knife : Knife)
-      → Q w c → Q (record w { anger = anger; knife = knife }) c
-  dwarf : (w : Dwarves) (c : Closing) (i : ℕ) (d : Dwarf)
-      → (i < 5 → (get_or w.each i no_dwarf).place ≡ 0 → d.place ≡ 0)
-      → Q w c → Q (record w { each = set w.each i d }) c
-  struck : (n : ℕ) (w : Dwarves) (c : Closing) → 1 ≤ n
-      → list_any (is_dwarf_at n) (take 5 w.each) ≡ true
-      → Q w c
-      → Q (record w {
-        kills = min (w.kills + 1) 60000;
-        each = without_first_at n w.each;
-      }) c
-  clocks : (w : Dwarves) (c : Closing) (first second : ℤ) (closed panicking : Bool)
-      → Q w c
-      → Q w (record c {
-        first_clock = first;
-        second_clock = second;
-        is_closed = closed;
-        is_panicking = panicking;
-      })
-  begins : (w : Dwarves) (c : Closing) (first : ℤ)
-      → Q w c
-      → Q (record w { each = map dismissed_dwarf w.each })
-      (record c { first_clock = first; is_closing = true })
-
--- to take an object does nothing to dwarves
-taken_kept : (Q : Dwarves → Closing → Type 0) → KeepsRows (Sure At (OfBand Q)) take_rows
-unfolding take_rows take_freely_rows
-taken_kept Q = search (default_kept (Sure At (OfBand Q))) parts 40
-
 -- a dwarf that is gone stays so where it is kept apart from a player who is somewhere
 apart_gone : (cave : CaveView) (n : ℕ) (d : Dwarf) → 1 ≤ n → d.place ≡ 0
     → (dwarf_apart cave n d).place ≡ 0
@@ -197,71 +139,6 @@ apart_gone cave n d some gone = by_test (d.place == n) refl
         → (if b then unwrap_or (place_named cave landmark.Dwarfalt) d.place else d.place) ≡ 0
     by_test true same = absurd (here same)
     by_test false other = gone
-
--- a place that isn't 0 is 1 at least
-from_one : (n : ℕ) → (n == 0) ≡ false → 1 ≤ n
-from_one n some = grind (arith, nat_tests)
-
--- what happens in a game keeps it
-band_kept : {Q : Dwarves → Closing → Type 0} → IsBandKept Q → IsKept At (OfBand Q)
-band_kept {Q} k = record {
-  moved = record {
-    place = λ n o w c x place h. h;
-    anchor = λ n o w c x a h. h;
-    prop = λ n o w c x v h. h;
-    latest = λ n o w c x h. h;
-  };
-  played = record {
-    moved = record {
-      place = λ n o w c x place h. h;
-      anchor = λ n o w c x a h. h;
-      prop = λ n o w c x v h. h;
-      latest = λ n o w c x h. h;
-    };
-    clocks = λ n o w c first second closed panicking h.
-        (h.0, k.clocks w c first second closed panicking h.1);
-    temper = λ n o w c anger knife h. (h.0, k.temper w c anger knife h.1);
-    dwarf = λ n o w c i d gone h. (h.0, k.dwarf w c i d gone h.1);
-    apart = λ cave n o w c i h. (
-      h.0,
-      k.dwarf w c i (dwarf_apart cave n (get_or w.each i no_dwarf))
-          (λ _ gone. apart_gone cave n (get_or w.each i no_dwarf) h.0 gone) h.1,
-    );
-    struck = λ n o w c there h. (h.0, k.struck n w c h.0 there h.1);
-    takes = λ d h. first_kept (Sure At (OfBand Q)) take_rows (taken_kept Q) d h;
-  };
-  clocks = λ n o w c first second closed panicking h. k.clocks w c first second closed panicking h;
-  anywhere = λ n m o w c h. h;
-  arrives = from_one;
-  begins = λ n o w c first h. k.begins w c first h;
-}
-
--- the dwarves that were killed and those that live are five at most, and none lives in a closing
--- cave
-abbrev Few : Dwarves → Closing → Type 0
-Few w c = (w.kills + living 5 w.each ≤ 5) × (c.is_closing ≡ true → living 5 w.each ≡ 0)
-
-none_more : (m n : ℕ) → n ≤ m → m ≡ 0 → n ≡ 0
-none_more m n less none = omega (arith, less, none)
-
-few_kept : IsBandKept Few
-unfolding without_first_at
-few_kept = record {
-  temper = λ w c anger knife h. h;
-  dwarf = λ w c i d gone h.
-      let less = changed_living 5 i w.each d gone in
-      (omega (arith, less, h.0), λ closes. none_more _ _ less (h.1 closes));
-  struck = λ n w c some there h.
-      let less = struck_living n 5 w.each some there in
-      (omega (arith, less, h.0), λ closes. none_more _ _ (omega (arith, less)) (h.1 closes));
-  clocks = λ w c first second closed panicking h. h;
-  begins = λ w c first h.
-      let none = dismissed_living 5 w.each in (omega (arith, none, h.0), λ _. none);
-}
-
--- a dwarf of a number is gone
-abbrev Gone : ℕ → Dwarves → Closing → Type 0
-Gone i w c = (get_or w.each i no_dwarf).place ≡ 0
 
 -- a dwarf of a list, once one of them is another that is gone if it was
 at_set : (xs : List Dwarf) (j i : ℕ) (d : Dwarf)
@@ -286,7 +163,7 @@ low_set xs j i d low gone was = by_number (cases_lt j 5)
         get_or-set_other xs j i d no_dwarf (λ is. omega (arith, low, more, is)) in
         ap (λ (x : Dwarf). x.place) same ∙ was
 
-dismissed_gone : (xs : List Dwarf) (i : ℕ)
+pub dismissed_gone : (xs : List Dwarf) (i : ℕ)
     → (get_or (map dismissed_dwarf xs) i no_dwarf).place ≡ 0
 dismissed_gone [] i = refl
 dismissed_gone (x ∷ xs) zero = refl
@@ -298,54 +175,8 @@ killed_gone : (xs : List Dwarf) (o : Option ℕ) (i : ℕ) → (get_or xs i no_d
 killed_gone xs None i was = was
 killed_gone xs (Some j) i was = at_set xs j i _ (λ _. refl) was
 
-gone_kept : (i : ℕ) → i < 5 → IsBandKept (Gone i)
-unfolding without_first_at
-gone_kept i low = record {
-  temper = λ w c anger knife h. h;
-  dwarf = λ w c j d gone h. low_set w.each j i d low gone h;
-  struck = λ n w c some there h. killed_gone w.each (position (is_dwarf_at n) (take 5 w.each)) i h;
-  clocks = λ w c first second closed panicking h. h;
-  begins = λ w c first h. dismissed_gone w.each i;
-}
-
--- a command finds the player somewhere else than at place 0
-commands_at : (cave : CaveView) (s : State) (line : List ℕ) → IsSomewhere s
-    → is_command cave s line ≡ true → At s.trail.here
-commands_at cave s line somewhere command = by_place (s.trail.here == 0) refl
-  where
-    going : (a b c : Bool) → (a && b && c) ≡ true → (b ≡ true) × (c ≡ true)
-    going true true c h = (refl, h)
-    going true false c h = absurd (false≢true h)
-    going false b c h = absurd (false≢true h)
-
-    zero_place : (s.trail.here == 0) ≡ true → s.trail.here ≡ 0
-    zero_place is = grind (arith, nat_tests)
-
-    ended : (e : Option Ending) → not (is_some e) ≡ true → is_some e ≡ true → ⊥
-    ended None goes over = false≢true over
-    ended (Some how) goes over = false≢true goes
-
-    asked : (q : Option Question) → is_no_answer cave line q ≡ true → q ≡ Some question.Die → ⊥
-    asked q left die =
-        false≢true (sym (ap (λ (o : Option Question). is_no_answer cave line o) die) ∙ left)
-
-    nowhere : (is_some s.ending ≡ true) ⊎ (s.question ≡ Some question.Die) → ⊥
-    nowhere (inl over) = ended s.ending (going (is_input line) _ _ command).0 over
-    nowhere (inr die) = asked s.question (going (is_input line) _ _ command).1 die
-
-    by_place : (b : Bool) → (s.trail.here == 0) ≡ b → At s.trail.here
-    by_place true none = absurd (nowhere (somewhere (zero_place none)))
-    by_place false some = from_one s.trail.here some
-
-few_after : (cave : CaveView) (s : State) (line : List ℕ) → IsSomewhere s → HasFewDwarves s
-    → HasFewDwarves (turn_on_line cave s line).state
-few_after cave s line somewhere h =
-    let t = turned_kept (band_kept few_kept) cave s line (commands_at cave s line somewhere)
-    (h.at_most, h.none_left) in
-    record { at_most = t.0; none_left = t.1 }
-
 -- of five at most five live
-five_at_most : (n : ℕ) (xs : List Dwarf) → living n xs ≤ n
+pub five_at_most : (n : ℕ) (xs : List Dwarf) → living n xs ≤ n
 five_at_most zero xs = omega arith
 five_at_most (suc n) [] = omega arith
 five_at_most (suc n) (x ∷ xs) = one_more (is_living x) (five_at_most n xs)
@@ -356,19 +187,56 @@ five_at_most (suc n) (x ∷ xs) = one_more (is_living x) (five_at_most n xs)
     one_more true less = omega (arith, less)
     one_more false less = omega (arith, less)
 
-few_first : (cave : CaveView) (seed : ℕ) → HasFewDwarves (start_of_game cave seed).state
-unfolding start_of_game begun_state starting_state asleep far_closing
-few_first cave seed =
-    let most = five_at_most 5 (start_of_game cave seed).state.dwarves.each in
-    record { at_most = omega (arith, most); none_left = λ closes. absurd (false≢true closes) }
+-- dwarves that are angrier
+pub angrier : (here : ℕ) (a : Band) (n : ℕ) → min a.anger 13 ≤ n
+    → IsBandAfter here a (record a { anger = n })
+angrier here a n more = record {
+  anger = more;
+  gone = λ some i low was. was;
+  alive = λ some. omega arith;
+  few = λ some. omega arith;
+}
 
--- there are few dwarves at first, and they become fewer
-pub few_dwarves : FewDwarves
-few_dwarves = record { start = few_first; kept = few_after }
+-- a dwarf changes; one of the five that is gone stays gone
+pub changed : (here : ℕ) (a : Band) (i : ℕ) (d : Dwarf)
+    → (1 ≤ here → i < 5 → (get_or a.each i no_dwarf).place ≡ 0 → d.place ≡ 0)
+    → IsBandAfter here a (record a { each = set a.each i d })
+changed here a i d gone = record {
+  anger = omega arith;
+  gone = λ some j low was. low_set a.each i j d low (gone some) was;
+  alive = λ some. changed_living 5 i a.each d (gone some);
+  few = λ some. let less = changed_living 5 i a.each d (gone some) in omega (arith, less);
+}
 
--- a dwarf that is gone stays gone
-pub gone_for_good : GoneForGood
-unfolding dwarf_of
-gone_for_good cave s line number somewhere low gone =
-    turned_kept (band_kept (gone_kept number low)) cave s line (commands_at cave s line somewhere)
-    gone
+-- a dwarf is kept apart from the player
+pub apart : (cave : CaveView) (here : ℕ) (a : Band) (i : ℕ)
+    → IsBandAfter here a (record a {
+      each = set a.each i (dwarf_apart cave here (get_or a.each i no_dwarf));
+    })
+apart cave here a i =
+    changed here a i (dwarf_apart cave here (get_or a.each i no_dwarf))
+    (λ some low gone. apart_gone cave here (get_or a.each i no_dwarf) some gone)
+
+-- a dwarf that is where the player is is killed
+pub struck : (here : ℕ) (a : Band) → list_any (is_dwarf_at here) (take 5 a.each) ≡ true
+    → IsBandAfter here a (record a {
+      kills = min (a.kills + 1) 60000;
+      each = without_first_at here a.each;
+    })
+unfolding without_first_at
+struck here a there = record {
+  anger = omega arith;
+  gone = λ some i low was. killed_gone a.each (position (is_dwarf_at here) (take 5 a.each)) i was;
+  alive = λ some. let less = struck_living here 5 a.each some there in omega (arith, less);
+  few = λ some. let less = struck_living here 5 a.each some there in omega (arith, less);
+}
+
+-- what becomes of what has become
+pub after_both : (here : ℕ) (a b c : Band) → IsBandAfter here a b → IsBandAfter here b c
+    → IsBandAfter here a c
+after_both here a b c one two = record {
+  anger = let i = one.anger in let j = two.anger in omega arith;
+  gone = λ some i low was. two.gone some i low (one.gone some i low was);
+  alive = λ some. let i = one.alive some in let j = two.alive some in omega arith;
+  few = λ some. let i = one.few some in let j = two.few some in omega arith;
+}

@@ -18,45 +18,32 @@ use Rattle.cave_turn.specs.cave_world.declared.state.State.{State}
 use Rattle.cave_turn.specs.turn_things.Places.{building_place}
 use Rattle.cave_turn.specs.turn_scene.Scene.{Scene, with_state, thing}
 use Rattle.cave_turn.specs.turn_things.Reach.{has_prop}
-use Rattle.cave_turn.specs.turn_clocks.Lamp.{lamp, with_charge, burn}
-use Rattle.cave_turn.specs.turn_rules.Rows.{deed}
+use Rattle.cave_turn.specs.turn_clocks.Lamp.{with_turn_burnt, burning_rows, burn}
+use Rattle.cave_turn.specs.turn_rules.Rows.{Act, deed, act_of}
 use Rattle.cave_turn.specs.turn_ends.Questions.{is_dragon}
-use Rattle.cave_turn.specs.Answers.{answer_in, after_answer, answers, is_yes}
-use Rattle.cave_turn.specs.Answers.{without_question}
+use Rattle.cave_turn.specs.Answers.{answer_in, after_answer, answers, is_yes, without_question}
 use Rattle.cave_turn.specs.Commands.{command_scene}
 use Rattle.cave_turn.specs.Turns.{Turn, turn_of, turn_of_input, turn_on_line, turn_on_log_line}
 use Rattle.turn_laws.specs.Courses.{LampBurnsByOne, charge_after, is_lit}
 use Rattle.turn_laws.specs.Laws.{before_clocks, before_lamp, is_changed, is_command, is_input_kind}
 use Rattle.turn_laws.specs.Laws.{is_no_answer}
+use Rattle.cave_turn.specs.turn_rules.Effects.{change}
 use Rattle.turn_laws.proofs.Charge.{second_fails}
-use Rattle.turn_laws.proofs.Clocks.{Lights, care_kept}
-use Rattle.turn_laws.proofs.Frame.{Calm, Claim, IsBegun, IsKept, IsTimed, On, choose}
+use Rattle.turn_laws.proofs.Clocks.{ready_timed}
+use Rattle.turn_laws.proofs.Lamp.{Lights, care_kept}
 use Rattle.turn_laws.proofs.Lines.{closed_same, line_kept}
 use Rattle.turn_laws.proofs.Turns.{commanded_kept}
+use Rattle.turn_laws.proofs.Rest.{IsRested, OfRest, Rest, rest_kept, rest_timed}
+use Rattle.turn_laws.proofs.View.{Anywhere, IsBegun, IsCalm, IsTimed, On, Ready, choose}
 
 -- the lamp has a charge, and no more treasures are unseen than were
-abbrev Level : ℤ → ℕ → Claim
-Level c n = record {
-  holds = λ f. (f.charge ≡ c) × (f.course.unseen ≤ n);
-  goes_on = λ f later is h. let i = is.unseen in let j = h.1 in (h.0, omega (arith, i, j));
-}
+abbrev Level : ℤ → ℕ → Rest → Type 0
+Level c n r = (r.charge ≡ c) × (r.unseen ≤ n)
 
 -- the lamp has a charge, or 35 at most once a treasure was found
-abbrev Ebb : ℤ → ℕ → Claim
-Ebb c n = record {
-  holds = λ f.
-      (f.course.unseen ≤ n)
-      × ((f.charge ≡ c) ⊎ ((f.charge ≡ int_min c (pos 35)) × (f.course.unseen < n)));
-  goes_on = λ f later is h. gone_on f.course.unseen later.unseen f.charge is.unseen h;
-}
-  where
-    gone_on :
-        (a b : ℕ) (charge : ℤ) → b ≤ a
-        → (a ≤ n) × ((charge ≡ c) ⊎ ((charge ≡ int_min c (pos 35)) × (a < n)))
-        → (b ≤ n) × ((charge ≡ c) ⊎ ((charge ≡ int_min c (pos 35)) × (b < n)))
-    gone_on a b charge fewer (few, inl same) = (omega (arith, few, fewer), inl same)
-    gone_on a b charge fewer (few, inr (short, found)) =
-        (omega (arith, few, fewer), inr (short, omega (arith, found, fewer)))
+abbrev Ebb : ℤ → ℕ → Rest → Type 0
+Ebb c n r =
+    (r.unseen ≤ n) × ((r.charge ≡ c) ⊎ ((r.charge ≡ int_min c (pos 35)) × (r.unseen < n)))
 
 -- 35 at most of 35 at most is that
 once_short : (c : ℤ) → int_min (int_min c (pos 35)) (pos 35) ≡ int_min c (pos 35)
@@ -79,42 +66,72 @@ ebb_short c n a charge more (few, inr (short, found)) = (
   ),
 )
 
-ebb_kept : (cave : CaveView) (c : ℤ) (n : ℕ) → IsKept cave (Ebb c n)
-ebb_kept cave c n = record {
-  ends = λ how f h. h;
-  kills = λ how place f calm closing at h. h;
-  dies = λ place f calm free h. h;
-  asks = λ a f other calm h. h;
-  comes = λ place f some free h. h;
-  puts = λ place f some put h. h;
-  shortens = λ f more h. ebb_short c n f.course.unseen f.charge more h;
+ebb_kept : (c : ℤ) (n : ℕ) → IsRested Anywhere (Ebb c n)
+ebb_kept c n = record {
+  arrives = λ place some. tt;
+  objects = λ r c h. h;
+  takes = λ r xs few room h. h;
+  band = λ r here w at after h. h;
+  loses = λ r h. h;
+  finds = λ r h. found r.unseen r.charge h;
+  shortens = λ r more h. ebb_short c n r.unseen r.charge more h;
+  hints = λ r i h. h;
+  panics = λ r second how h. h;
+  counts = λ r going h. h;
+  begins = λ r h. h;
+  ticks = λ r some h. h;
+  shuts = λ r stopped h. h;
+}
+  where
+    found : (a : ℕ) (charge : ℤ)
+        → (a ≤ n) × ((charge ≡ c) ⊎ ((charge ≡ int_min c (pos 35)) × (a < n)))
+        → (a - 1 ≤ n) × ((charge ≡ c) ⊎ ((charge ≡ int_min c (pos 35)) × (a - 1 < n)))
+    found a charge (few, inl same) = (omega (arith, few), inl same)
+    found a charge (few, inr (short, less)) =
+        (omega (arith, few), inr (short, omega (arith, less)))
+
+level_timed : (c : ℤ) (n : ℕ) → IsTimed IsCalm (OfRest (Level c n))
+level_timed c n = record {
+  objects = λ v c h. h;
+  counts = λ v going h. h;
+  begins = λ v calm h. h;
+  ticks = λ v some h. h;
+  shuts = λ v stopped h. h;
 }
 
-level_timed : (c : ℤ) (n : ℕ) → IsTimed (Calm (Level c n))
-level_timed c n =
-    record { counts = λ f going h. h; begins = λ f h. h; shuts = λ f stopped h. h }
-
-level_begun : (home : ℕ) (c : ℤ) (n : ℕ) → IsBegun home (Level c n) (Ebb c n)
+level_begun : (home : ℕ) (c : ℤ) (n : ℕ) → IsBegun home (OfRest (Level c n)) (OfRest (Ebb c n))
 level_begun home c n = record {
-  leads = λ f h. (h.1, inl h.0);
-  closes = λ a f other asked goes h. h;
-  buries = λ how f asked goes h. (h.1, inl h.0);
-  revives = λ f few asked goes h. (h.1, inl h.0);
+  leads = λ v h. (h.1, inl h.0);
+  closes = λ a v other asked goes h. h;
+  buries = λ how v asked goes h. (h.1, inl h.0);
+  revives = λ v few asked goes h. (h.1, inl h.0);
 }
 
 -- what a turn burns of a charge
 abbrev burnt : Bool → ℤ → ℤ
 burnt lit c = if lit then int_max (c -ℤ pos 1) (negsuc 0) else c
 
-burnt_level : (cave : CaveView) (s : State) (c : ℤ) (n : ℕ) → On (Calm (Level c n)) s
-    → On (Calm (Level (burnt (has_prop s (thing cave name.Lamp) (pos 1)) c) n))
-    (burn cave s)
-unfolding burn
-burnt_level cave s c n h = by (has_prop s (thing cave name.Lamp) (pos 1))
+burnt_level : (cave : CaveView) (p : Scene) (c : ℤ) (n : ℕ)
+    → On (Ready Anywhere (OfRest (Level c n))) p.state
+    → On (Ready Anywhere (OfRest (Level (burnt (has_prop p.state (thing cave name.Lamp)
+    (pos 1)) c) n)))
+    (burn (deed cave tt p)).scene.state
+unfolding burning_rows
+burnt_level cave p c n h = by (has_prop p.state (thing cave name.Lamp) (pos 1))
   where
-    by : (lit : Bool) → On (Calm (Level (burnt lit c) n))
-        (if lit then with_charge (int_max (s.lamp.charge -ℤ pos 1) (negsuc 0)) s else s)
-    by true = ((ap (λ (x : ℤ). int_max (x -ℤ pos 1) (negsuc 0)) h.0.0, h.0.1), h.1)
+    burns : Act (Unit {0})
+    burns = act_of (with_state (with_turn_burnt p.state) p) tt
+
+    rests : Act (Unit {0})
+    rests = act_of p tt
+
+    by : (lit : Bool) → On (Ready Anywhere (OfRest (Level (burnt lit c) n)))
+        (if lit && true then burns else rests).scene.state
+    by true = record {
+      holds = (ap (λ (x : ℤ). int_max (x -ℤ pos 1) (negsuc 0)) h.holds.0, h.holds.1);
+      calm = h.calm;
+      at = tt;
+    }
     by false = h
 
 -- a lamp that has burnt its last turn goes out
@@ -132,35 +149,34 @@ one_burnt false c some left = refl
 -- the lamp burns a turn where it is lit
 lamp_ebbs : (cave : CaveView) (c : ℤ) (n : ℕ) → pos 1 ≤ℤ c → (o : Option Scene)
     → is_changed cave o ≡ false
-    → Lights cave (Calm (Level c n)) (Calm (Ebb (charge_after (is_lit cave o) c) n)) o
-lamp_ebbs cave c n some None same = λ f h. ((h.0.1, inl h.0.0), h.1)
-lamp_ebbs cave c n some (Some p) same = λ h. cared h
-  where
-    lit : Bool
-    lit = has_prop p.state (thing cave name.Lamp) (pos 1)
-
-    cared : On (Calm (Level c n)) p.state
-        → On (Calm (Ebb (charge_after lit c) n)) (lamp (deed cave tt p)).scene.state
-    cared h =
-        let q = with_state (burn cave p.state) p in
-        let b = burnt_level cave p.state c n h in
-        care_kept (Calm (Ebb (charge_after lit c) n)) cave q
-        (λ change. absurd (true≢false (sym change ∙ same)))
-        (λ none. (
-          (
-            b.0.1,
-            inl (last_burnt lit c some (sym (ap (λ (x : ℤ). int_eq x (pos 0)) b.0.0) ∙ none)),
-          ),
-          b.1,
-        ))
-        (λ left. (
-          (
-            b.0.1,
-            inl (b.0.0
-                ∙ one_burnt lit c some (sym (ap (λ (x : ℤ). int_eq x (pos 0)) b.0.0) ∙ left)),
-          ),
-          b.1,
-        ))
+    → Lights cave (Ready Anywhere (OfRest (Level c n)))
+    (Ready Anywhere (OfRest (Ebb (charge_after (is_lit cave o) c) n))) o
+lamp_ebbs cave c n some None same = λ v r.
+    record { holds = (r.holds.1, inl r.holds.0); calm = r.calm; at = tt }
+lamp_ebbs cave c n some (Some p) same = λ r.
+    let lit = has_prop p.state (thing cave name.Lamp) (pos 1) in
+    let b = burnt_level cave p c n r in
+    let e = charge_after lit c in
+    care_kept {P = Ready Anywhere (OfRest (Ebb e n))} (ready_timed (rest_timed (ebb_kept e n)))
+    (burn (deed cave tt p))
+    (λ change. absurd (true≢false (sym change ∙ same)))
+    (λ none. record {
+      holds = (
+        b.holds.1,
+        inl (last_burnt lit c some (sym (ap (λ (x : ℤ). int_eq x (pos 0)) b.holds.0) ∙ none)),
+      );
+      calm = b.calm;
+      at = tt;
+    })
+    (λ left. record {
+      holds = (
+        b.holds.1,
+        inl (b.holds.0
+            ∙ one_burnt lit c some (sym (ap (λ (x : ℤ). int_eq x (pos 0)) b.holds.0) ∙ left)),
+      );
+      calm = b.calm;
+      at = tt;
+    })
 
 -- a line that leaves a question doesn't answer it
 left_open : (a b : Bool) → (a && not b) ≡ true → (not a || b) ≡ false
@@ -211,7 +227,7 @@ command_goes cave s line command = by s.ending _ _ command
     by (Some how) false b h = absurd (true≢false (sym h))
 
 -- what the law says of the charge
-ebbed : (c : ℤ) (n : ℕ) (t : State) → On (Ebb c n) t
+ebbed : (c : ℤ) (n : ℕ) (t : State) → On (OfRest (Ebb c n)) t
     → (t.lamp.charge ≡ c) ⊎ ((t.lamp.charge ≡ int_min c (pos 35)) × (t.tallies.unseen < n))
 ebbed c n t h = h.1
 
@@ -236,15 +252,21 @@ lamp_burns_by_one cave s line some free same = by (is_command cave s line) refl
     by true command =
         let charge = charge_after (is_lit cave o) c in
         let changed = second_fails (is_command cave s line) (is_changed cave o) command same in
-        let done : On (Ebb charge n) (command_scene cave line (without_question s)).state =
-        commanded_kept (Level c n) cave (ebb_kept cave charge n) (level_timed c n) line
-        (without_question s) (lamp_ebbs cave c n some o changed)
-        ((refl, omega arith), (refl, command_goes cave s line command)) in
+        let done : On (OfRest (Ebb charge n)) (command_scene cave line (without_question s)).state =
+        commanded_kept (rest_kept (ebb_kept charge n) cave)
+        (level_timed c n) line (without_question s)
+        (lamp_ebbs cave c n some o changed) (record {
+          holds = (refl, omega arith);
+          calm = (refl, command_goes cave s line command);
+          at = tt;
+        }) in
         rw command
         (rw (command_done cave s line command)
         (ebbed charge n (command_scene cave line (without_question s)).state done))
     by false other =
-        let none = line_kept cave (ebb_kept cave c n) (level_begun (building_place cave) c n) s line
+        let none = line_kept {Q = OfRest (Level c n)} {P = OfRest (Ebb c n)} cave
+        (rest_kept (ebb_kept c n) cave)
+        (level_begun (building_place cave) c n) s line
         (λ command. absurd (true≢false (sym command ∙ other)))
         (λ paid. absurd (true≢false (sym paid ∙ free))) (refl, omega arith) in
         rw other (ebbed c n (turn_on_line cave s line).state none)

@@ -1,5 +1,5 @@
 -- The lamp's charge falls.
-use Rattle.std.proofs.Common.{◌≡◌, inl, inr, ℕ, ℤ, pos, negsuc, ◌≤ℤ◌, Bool, true, false, sym, ◌∙◌}
+use Rattle.std.proofs.Common.{◌≡◌, inl, inr, ℤ, pos, negsuc, ◌≤ℤ◌, Bool, true, false, sym, ◌∙◌}
 use Rattle.std.proofs.Common.{arith}
 use Rattle.std.proofs.lemmas.Bool.{true≢false}
 use Rattle.std.proofs.lemmas.Int.{ints}
@@ -11,14 +11,17 @@ use Rattle.cave_turn.specs.turn_scene.Scene.{Scene}
 use Rattle.cave_turn.specs.Answers.{without_question}
 use Rattle.turn_laws.specs.Laws.{LampBurnsDown, before_clocks, before_lamp, gets_batteries}
 use Rattle.turn_laws.specs.Laws.{is_changed, is_command}
-use Rattle.turn_laws.proofs.Clocks.{Lights, unchanged_kept}
-use Rattle.turn_laws.proofs.Frame.{Claim, Calm, Falls, IsBegun, IsKept, IsTimed}
+use Rattle.cave_turn.specs.turn_rules.Rows.{deed}
+use Rattle.turn_laws.proofs.Clocks.{ready_timed}
+use Rattle.turn_laws.proofs.Lamp.{Falls, Lights, falls_burning, lamp_kept}
 use Rattle.turn_laws.proofs.Lines.{line_kept}
-use Rattle.turn_laws.proofs.Turns.{calm_timed, commanded_kept}
+use Rattle.turn_laws.proofs.Turns.{commanded_kept}
+use Rattle.turn_laws.proofs.Rest.{IsRested, OfRest, Rest, rest_begun, rest_kept, rest_timed}
+use Rattle.turn_laws.proofs.View.{Anywhere, Ready}
 
 -- the charge is at most what it was
-abbrev Least : ℤ → Claim
-Least b = record { holds = λ f. f.charge ≤ℤ b; goes_on = λ f c later h. h }
+abbrev Least : ℤ → Rest → Type 0
+Least b r = r.charge ≤ℤ b
 
 -- a charge that falls is at most what it was
 falls_least : (a b c : ℤ) → negsuc 0 ≤ℤ a → Falls b c → b ≤ℤ a → c ≤ℤ a
@@ -29,37 +32,36 @@ falls_least a b c low (inr none) h = omega (arith, ints, none, low)
 min_falls : (b c : ℤ) → Falls b (int_min b c)
 min_falls b c = let less : int_min b c ≤ℤ b = grind (arith, ints) in inl less
 
--- what happens in a game keeps that
-least_kept : (cave : CaveView) (a : ℤ) → negsuc 0 ≤ℤ a → IsKept cave (Least a)
-least_kept cave a low = record {
-  ends = λ how f h. h;
-  kills = λ how place f calm closing at h. h;
-  dies = λ place f calm free h. h;
-  asks = λ b f other calm h. h;
-  comes = λ place f some free h. h;
-  puts = λ place f some put h. h;
-  shortens = λ f more h. falls_least a f.charge _ low (min_falls f.charge (pos 35)) h;
-}
-
-least_timed : (a : ℤ) → IsTimed (Least a)
-least_timed a =
-    record { counts = λ f going h. h; begins = λ f h. h; shuts = λ f stopped h. h }
-
-least_begun : (home : ℕ) (a : ℤ) → IsBegun home (Least a) (Least a)
-least_begun home a = record {
-  leads = λ f h. h;
-  closes = λ b f other asked goes h. h;
-  buries = λ how f asked goes h. h;
-  revives = λ f few asked goes h. h;
+least_kept : (a : ℤ) → negsuc 0 ≤ℤ a → IsRested Anywhere (Least a)
+least_kept a low = record {
+  arrives = λ place some. tt;
+  objects = λ r c h. h;
+  takes = λ r xs few room h. h;
+  band = λ r here w at after h. h;
+  loses = λ r h. h;
+  finds = λ r h. h;
+  shortens = λ r more h. falls_least a r.charge _ low (min_falls r.charge (pos 35)) h;
+  hints = λ r i h. h;
+  panics = λ r second how h. h;
+  counts = λ r going h. h;
+  begins = λ r h. h;
+  ticks = λ r some h. h;
+  shuts = λ r stopped h. h;
 }
 
 -- the lamp burns down in a scene in which its batteries aren't changed
 lamp_falls : (cave : CaveView) (a : ℤ) → negsuc 0 ≤ℤ a → (o : Option Scene)
-    → is_changed cave o ≡ false → Lights cave (Calm (Least a)) (Calm (Least a)) o
-lamp_falls cave a low None same = λ f h. h
-lamp_falls cave a low (Some p) same =
-    unchanged_kept (Calm (Least a))
-    (λ f c falls x. (falls_least a f.charge c low falls x.0, x.1)) cave p same
+    → is_changed cave o ≡ false
+    → Lights cave (Ready Anywhere (OfRest (Least a))) (Ready Anywhere (OfRest (Least a))) o
+lamp_falls cave a low None same = λ v r. r
+lamp_falls cave a low (Some p) same = λ r.
+    lamp_kept {P = Ready Anywhere (OfRest (Least a))} (ready_timed (rest_timed
+    (least_kept a low))) falls_burning
+    (λ v c falls x. record {
+      holds = falls_least a v.charge c low falls x.holds;
+      calm = x.calm;
+      at = x.at;
+    }) (deed cave tt p) (λ change. absurd (true≢false (sym change ∙ same))) r
 
 -- where not both of two tests hold, and the first does, the second doesn't
 pub second_fails : (a b : Bool) → a ≡ true → (a && b) ≡ false → b ≡ false
@@ -70,12 +72,11 @@ second_fails false b one both = absurd (true≢false (sym one))
 pub lamp_burns_down : LampBurnsDown
 lamp_burns_down cave s line low free same =
     let a = s.lamp.charge in
-    let k = least_kept cave a low in
-    let b = least_begun (building_place cave) a in
-    line_kept cave k b s line
-    (λ command h. commanded_kept (Least a) cave k (calm_timed (Least a) (least_timed a)) line
-    (without_question s)
+    let k = least_kept a low in
+    line_kept {Q = OfRest (Least a)} {P = OfRest (Least a)} cave (rest_kept k cave)
+    (rest_begun k (building_place cave)) s line
+    (λ command r. commanded_kept (rest_kept k cave) (rest_timed k) line (without_question s)
     (lamp_falls cave a low (before_lamp cave (before_clocks cave (without_question s)))
     (second_fails (is_command cave s line) (gets_batteries cave (without_question s)) command same))
-    h)
+    r)
     (λ paid. absurd (true≢false (sym paid ∙ free))) (omega (arith, ints))

@@ -1,297 +1,221 @@
--- What the dwarves do keeps each claim.
-use Rattle.std.proofs.Common.{◌≡◌, ℕ, ◌≤◌, zero, suc, true, List, [], ◌∷◌, arith}
-use Rattle.std.specs.Prelude.{◌==◌, not, nat_lt, nat_le, min, Option, None, Some, if◌then◌else◌}
+-- What the dwarves do keeps each claim that what happens while the player stays keeps.
+use Rattle.std.proofs.Common.{◌≡◌, ℕ, zero, suc, ◌≤◌, ◌<◌, Bool, true, false, List, [], ◌∷◌, refl}
+use Rattle.std.proofs.Common.{sym, ap, ◌∙◌, arith}
+use Rattle.std.proofs.lemmas.Bool.{true≢false}
+use Rattle.std.specs.Prelude.{◌==◌, min}
 use Rattle.cave_turn.specs.cave_data.CaveView.{CaveView}
 use Rattle.cave_turn.specs.data_rows.declared.place_role.PlaceRole.TheVariants as landmark
 use Rattle.cave_turn.specs.data_rows.declared.role.Role.TheVariants as role
 use Rattle.cave_turn.specs.cave_words.Stream.{number_drawn, pct}
 use Rattle.cave_turn.specs.cave_words.declared.named.Named.TheVariants as name
-use Rattle.cave_turn.specs.world_objects.Objects.{is_gone}
-use Rattle.cave_turn.specs.cave_world.declared.dwarves.Dwarf.{Dwarf}
-use Rattle.cave_turn.specs.cave_world.declared.part.NumberLine.TheVariants as line
-use Rattle.cave_turn.specs.cave_world.declared.state.State.{State}
-use Rattle.cave_turn.specs.turn_things.Places.{place_named, deep_place}
-use Rattle.cave_turn.specs.turn_scene.Scene.{Scene, after_saying, with_state, after_draw, happens}
-use Rattle.cave_turn.specs.turn_scene.Scene.{here_of, thing}
-use Rattle.cave_turn.specs.turn_things.Treasures.{treasures}
-use Rattle.cave_turn.specs.turn_dwarves.Band.{dwarf_of, with_dwarf, state_after_draw}
 use Rattle.cave_turn.specs.cave_world.Limits.{PIRATE}
-use Rattle.cave_turn.specs.turn_dwarves.Dwarves.{Encounter, without_hit, encounter_awake}
-use Rattle.cave_turn.specs.turn_dwarves.Dwarves.{encounter_dwarves}
-use Rattle.cave_turn.specs.turn_dwarves.Knives.{DwarfStep, knife_step, with_knife_here, threaten}
-use Rattle.cave_turn.specs.turn_dwarves.Knives.{step_of_dwarf, raid_of}
-use Rattle.cave_turn.specs.turn_dwarves.Lines.{telling_number, tell_dwarves, after_one_knife}
-use Rattle.cave_turn.specs.turn_dwarves.Lines.{after_some_knives, after_first_knives, after_throws}
-use Rattle.cave_turn.specs.turn_dwarves.Lines.{after_attack}
-use Rattle.cave_turn.specs.turn_dwarves.Moving.{after_dwarf_move}
-use Rattle.cave_turn.specs.turn_dwarves.Pirate.{is_after_player, hides_chest, is_pirate_new}
-use Rattle.cave_turn.specs.turn_dwarves.Pirate.{after_rustle, pirate_scene, meet_if_after_player}
-use Rattle.cave_turn.specs.turn_dwarves.Pirate.{after_pirate}
-use Rattle.cave_turn.specs.turn_dwarves.Booty.{after_move_to_named, is_booty, steal, after_thefts}
-use Rattle.cave_turn.specs.turn_dwarves.Booty.{carries_booty, with_chest, with_chest_at_first}
-use Rattle.cave_turn.specs.turn_dwarves.Booty.{with_message, with_pirate_home, rob, hide_chest}
-use Rattle.cave_turn.specs.turn_dwarves.Waking.{with_anger, stir, without_dwarf}
-use Rattle.cave_turn.specs.turn_dwarves.Waking.{perhaps_without_one, with_dwarves_apart}
-use Rattle.cave_turn.specs.turn_dwarves.Waking.{wake_dwarves, axe_scene, perhaps_wake}
+use Rattle.cave_turn.specs.cave_world.declared.dwarves.Dwarf.{Dwarf}
+use Rattle.cave_turn.specs.cave_world.declared.state.State.{State}
+use Rattle.cave_turn.specs.turn_things.Places.{place_named}
+use Rattle.cave_turn.specs.turn_things.Treasures.{treasures}
+use Rattle.cave_turn.specs.turn_scene.Scene.{Scene, after_draw, thing}
+use Rattle.cave_turn.specs.turn_rules.Rows.{Deed, Act, act_of, deed, after_all, after_drawing}
+use Rattle.cave_turn.specs.turn_rules.Rows.{by_table, nothing_but}
+use Rattle.cave_turn.specs.turn_rules.Tests.{in_the_depths, no, the}
+use Rattle.cave_turn.specs.turn_rules.Effects.{change, say}
+use Rattle.cave_turn.specs.turn_dwarves.Band.{dwarf_of, with_anger, with_dwarf}
+use Rattle.cave_turn.specs.turn_dwarves.Booty.{steal, steal_rows, after_thefts, with_pirate_home}
+use Rattle.cave_turn.specs.turn_dwarves.Booty.{chest_rows, rob, hide_chest, send}
+use Rattle.cave_turn.specs.turn_dwarves.Dwarves.{anger_rows, awake, encounter_dwarves, is_missed}
+use Rattle.cave_turn.specs.turn_dwarves.Knives.{dwarf_turn, no_attack, raid, raid_of, threat_as}
+use Rattle.cave_turn.specs.turn_dwarves.Knives.{threat_rows, threaten, with_knife_here}
+use Rattle.cave_turn.specs.turn_dwarves.Lines.{dwarf_rows, first_knife_rows, knife_rows, knives}
+use Rattle.cave_turn.specs.turn_dwarves.Lines.{tell_attack}
+use Rattle.cave_turn.specs.turn_dwarves.Moving.{dwarf_moved}
+use Rattle.cave_turn.specs.turn_dwarves.Pirate.{after_pirate, chase_rows, pirate_rows}
+use Rattle.cave_turn.specs.turn_dwarves.Waking.{perhaps_without_one, state_after_draw, wake}
+use Rattle.cave_turn.specs.turn_dwarves.Waking.{waking_rows, with_dwarves_apart, without_dwarf}
 use Rattle.cave_turn.specs.turn_dwarves.declared.knives.Attack.{Attack}
+use Rattle.cave_turn.specs.turn_dwarves.declared.knives.Threat.{Threat}
 use Rattle.cave_turn.specs.turn_dwarves.declared.knives.Threat.TheVariants as threat
-use Rattle.turn_laws.proofs.Frame.{Claim, On, choose, chosen, chosen_scene, course, facts}
-use Rattle.turn_laws.proofs.Later.{later_by_anger}
+use Rattle.turn_laws.proofs.Band.{angrier, apart, changed}
+use Rattle.turn_laws.proofs.Effects.{banded, chosen, place, send_booty}
+use Rattle.turn_laws.proofs.Rows.{Any, first_leads, guarded, holds_alone, second_holds, table_leads}
+use Rattle.turn_laws.proofs.View.{Claim, IsPlayed, On, Ready, choose, view}
 
-dwarf_kept : (P : Claim) (n : ℕ) (dwarf : Dwarf) (s : State) → On P s → On P (with_dwarf n dwarf s)
-unfolding with_dwarf
-dwarf_kept P n dwarf s h = h
+-- some place is not place 0
+some_place : (i : ℕ) → (i == 0) ≡ false → i ≡ 0 → ⊥
+some_place i some none = true≢false (sym (ap (λ (j : ℕ). j == 0) none) ∙ some)
 
--- the dwarves are angrier than they were
-angry_kept : (P : Claim) (was anger : ℕ) (s : State) → (s.dwarves.anger == was) ≡ true
-    → was ≤ anger → On P s → On P (with_anger anger s)
-angry_kept P was anger s so more h =
-    let least : min s.dwarves.anger 13 ≤ anger = grind (arith, so, more) in
-    P.goes_on (facts s) (course (with_anger anger s)) (later_by_anger (course s) anger least) h
+-- the pirate is none of the five dwarves
+not_low : 5 < 5 → ⊥
+not_low low = omega (arith, low)
 
-stirred_kept : (P : Claim) (cave : CaveView) (s : State) → (s.dwarves.anger == 0) ≡ true → On P s
-    → On P (stir cave s)
-unfolding stir
-stirred_kept P cave s calm h =
-    chosen P (nat_le (deep_place cave) s.trail.here) (with_anger 1 s) s
-    (angry_kept P 0 1 s calm (omega arith) h) h
+module _ {Here : ℕ → Type 0} {P : Claim} (k : IsPlayed Here P) where
+  abbrev R : Claim
+  R = Ready Here P
 
-gone_kept : (P : Claim) (n : ℕ) (s : State) → On P s → On P (without_dwarf n s)
-unfolding without_dwarf
-gone_kept P n s h = dwarf_kept P n _ s h
+  still : {C : Type 0} (d : Deed C) → On R d.scene.state → On R d.scene.state × Unit {0}
+  still d h = (h, tt)
 
-perhaps_kept : (P : Claim) (s : State) → On P s → On P (perhaps_without_one s)
-unfolding perhaps_without_one
-perhaps_kept P s h =
-    let one = number_drawn 5 s.stream in let t = state_after_draw s in
-    chosen P (pct 50 t.stream) (without_dwarf one (state_after_draw t))
-    (state_after_draw t)
-    (gone_kept P one (state_after_draw t) h) h
+  dwarf_kept : (n : ℕ) (d : Dwarf) (s : State)
+      → (n < 5 → (dwarf_of s n).place ≡ 0 → d.place ≡ 0) → On R s → On R (with_dwarf n d s)
+  unfolding with_dwarf dwarf_of
+  dwarf_kept n d s gone h =
+      banded k (view s) _ (changed s.trail.here (view s).band n d (λ _. gone)) h
 
-apart_kept : (P : Claim) (cave : CaveView) (n : ℕ) (s : State) → On P s
-    → On P (with_dwarves_apart cave n s)
-unfolding with_dwarves_apart
-apart_kept P cave zero s h = h
-apart_kept P cave (suc n) s h =
-    dwarf_kept P n _ (with_dwarves_apart cave n s) (apart_kept P cave n s h)
+  -- the dwarves are angrier than they were
+  angry_kept : (was n : ℕ) (s : State) → (s.dwarves.anger == was) ≡ true → was ≤ n → On R s
+      → On R (with_anger n s)
+  angry_kept was n s so more h =
+      let least : min s.dwarves.anger 13 ≤ n = grind (arith, so, more) in
+      banded k (view s) _ (angrier s.trail.here (view s).band n least) h
 
-woken_kept : (P : Claim) (cave : CaveView) (s : State) → (s.dwarves.anger == 1) ≡ true → On P s
-    → On P (wake_dwarves cave s)
-unfolding wake_dwarves
-woken_kept P cave s stirs h =
-    apart_kept P cave 5 (perhaps_without_one (perhaps_without_one (with_anger 2 s)))
-    (perhaps_kept P (perhaps_without_one (with_anger 2 s))
-    (perhaps_kept P (with_anger 2 s) (angry_kept P 1 2 s stirs (omega arith) h)))
+  gone_kept : (n : ℕ) (s : State) → On R s → On R (without_dwarf n s)
+  unfolding without_dwarf
+  gone_kept n s h = dwarf_kept n _ s (λ _ _. refl) h
 
-axe_kept : (P : Claim) (cave : CaveView) (p : Scene) → (p.state.dwarves.anger == 1) ≡ true
-    → On P p.state → On P (axe_scene cave p).state
-unfolding axe_scene
-axe_kept P cave p stirs h = woken_kept P cave p.state stirs h
+  perhaps_kept : (s : State) → On R s → On R (perhaps_without_one s)
+  unfolding perhaps_without_one
+  perhaps_kept s h =
+      let one = number_drawn 5 s.stream in let t = state_after_draw s in
+      chosen R (pct 50 t.stream) (without_dwarf one (state_after_draw t)) (state_after_draw t)
+      (gone_kept one (state_after_draw t) h) h
 
-awoken_kept : (P : Claim) (cave : CaveView) (p : Scene) → (p.state.dwarves.anger == 1) ≡ true
-    → On P p.state → On P (perhaps_wake cave p).state
-unfolding perhaps_wake
-awoken_kept P cave p stirs h =
-    chosen_scene P (nat_lt (here_of p) (deep_place cave)) p
-    (if happens 95 p then after_draw p else axe_scene cave (after_draw p)) h
-    (chosen_scene P (happens 95 p) (after_draw p) (axe_scene cave (after_draw p)) h
-    (axe_kept P cave (after_draw p) stirs h))
+  apart_kept : (cave : CaveView) (n : ℕ) (s : State) → On R s → On R (with_dwarves_apart cave n s)
+  unfolding with_dwarves_apart with_dwarf dwarf_of
+  apart_kept cave zero s h = h
+  apart_kept cave (suc n) s h =
+      let t = with_dwarves_apart cave n s in
+      banded k (view t) _ (apart cave t.trail.here (view t).band n) (apart_kept cave n s h)
 
-moved_kept : (P : Claim) (cave : CaveView) (n : ℕ) (s : State) → On P s
-    → On P (after_dwarf_move cave n s)
-unfolding after_dwarf_move
-moved_kept P cave n s h = dwarf_kept P n _ (state_after_draw s) h
+  woken_kept : (d : Deed Attack) → (d.scene.state.dwarves.anger == 1) ≡ true
+      → On R d.scene.state → On R (after_all wake d).scene.state
+  unfolding wake
+  woken_kept d stirs h =
+      let s = with_anger 2 d.scene.state in
+      place k (view (with_dwarves_apart d.cave 5 (perhaps_without_one (perhaps_without_one s)))) _ _
+      (apart_kept d.cave 5 (perhaps_without_one (perhaps_without_one s))
+      (perhaps_kept (perhaps_without_one s)
+      (perhaps_kept s (angry_kept 1 2 d.scene.state stirs (omega arith) h))))
 
-knife_kept : (P : Claim) (s : State) → On P s → On P (with_knife_here s)
-unfolding with_knife_here
-knife_kept P s h = h
+  waking_kept : (d : Deed Attack) → (d.scene.state.dwarves.anger == 1) ≡ true
+      → On R d.scene.state → On R (by_table waking_rows d).scene.state
+  unfolding waking_rows
+  waking_kept d stirs h =
+      guarded (λ (a : Act (Unit {0})). On R a.scene.state) (nothing_but (λ e. tt)) d waking_rows (
+        (λ _. h),
+        λ _. ((λ _. h), λ _. ((λ _. woken_kept (after_drawing d) stirs h), λ _. h)),
+      )
 
-thrown_kept : (P : Claim) (s : State) → On P s → On P (knife_step s).state
-unfolding knife_step
-thrown_kept P s h = knife_kept P (state_after_draw s) h
+  moved_kept : (cave : CaveView) (n : ℕ) (p : Scene)
+      → (n < 5 → (dwarf_of p.state n).place ≡ 0 → ⊥) → On R p.state
+      → On R (dwarf_moved cave n p).scene.state
+  unfolding dwarf_moved dwarf_of
+  moved_kept cave n p living h =
+      dwarf_kept n _ (after_draw p).state (λ low gone. absurd (living low gone)) h
 
-threatened_kept : (P : Claim) (n : ℕ) (s : State) → On P s → On P (threaten n s).state
-unfolding threaten
-threatened_kept P n s h =
-    let dwarf = dwarf_of s n in
-    let still : DwarfStep = record { threat = threat.Waits; state = s } in
-    choose (λ (a : DwarfStep). On P a.state) (not dwarf.has_seen)
-    (record { threat = threat.Nothing; state = s })
-    (if dwarf.last == s.trail.here then knife_step s else still) (λ _. h)
-    (λ _. choose (λ (a : DwarfStep). On P a.state) (dwarf.last == s.trail.here) (knife_step s) still
-    (λ _. thrown_kept P s h) (λ _. h))
+  threatened_kept : (d : Deed Dwarf) → On R d.scene.state → On R (threaten d).scene.state
+  unfolding threaten threat_rows with_knife_here
+  threatened_kept d h =
+      (first_leads R R Any threat_rows (nothing_but (threat_as threat.Nothing))
+      (still, (still, (still, (still, tt)))) still d h).0
 
-acted_kept : (P : Claim) (cave : CaveView) (n : ℕ) (s : State) → On P s
-    → On P (step_of_dwarf cave n s).state
-unfolding step_of_dwarf
-acted_kept P cave n s h =
-    choose (λ (a : DwarfStep). On P a.state) ((dwarf_of s n).place == 0)
-    (record { threat = threat.Nothing; state = s })
-    (threaten n (after_dwarf_move cave n s)) (λ _. h)
-    (λ _. threatened_kept P n (after_dwarf_move cave n s) (moved_kept P cave n s h))
+  turn_kept : (cave : CaveView) (n : ℕ) (p : Scene) → On R p.state
+      → On R (dwarf_turn cave n p).scene.state
+  unfolding dwarf_turn
+  turn_kept cave n p h =
+      choose (λ (a : Act Threat). On R a.scene.state) ((dwarf_of p.state n).place == 0)
+      (act_of p threat.Nothing) (threaten (dwarf_moved cave n p)) (λ _. h)
+      (λ some. threatened_kept (dwarf_moved cave n p)
+      (moved_kept cave n p (λ _ gone. some_place _ some gone) h))
 
-raided_kept : (P : Claim) (cave : CaveView) (n : ℕ) (s : State) → On P s
-    → On P (raid_of cave n s).state
-unfolding raid_of
-raided_kept P cave zero s h = h
-raided_kept P cave (suc n) s h =
-    acted_kept P cave n (raid_of cave n s).state (raided_kept P cave n s h)
+  raided_kept : (cave : CaveView) (n : ℕ) (p : Scene) → On R p.state
+      → On R (raid_of cave n p).scene.state
+  unfolding raid_of
+  raided_kept cave zero p h = h
+  raided_kept cave (suc n) p h =
+      turn_kept cave n (raid_of cave n p).scene (raided_kept cave n p h)
 
--- the line of the dwarves is printed
-dwarves_told_kept : (P : Claim) (n : ℕ) (p : Scene) → On P p.state
-    → On P (tell_dwarves n p).state
-unfolding tell_dwarves
-dwarves_told_kept P n p h =
-    chosen_scene P (n == 0) p
-    (if n == 1 then after_saying role.DwarfOne p else telling_number line.DwarvesHere n p) h
-    (chosen_scene P (n == 1) (after_saying role.DwarfOne p) (telling_number line.DwarvesHere n p) h
-    h)
+  -- what is printed, and the anger of dwarves who throw knives for the first time
+  told_kept : (d : Deed Attack) → On R d.scene.state → On R (after_all tell_attack d).scene.state
+  unfolding tell_attack dwarf_rows first_knife_rows knife_rows
+  told_kept d h =
+      let one = by_table dwarf_rows d in
+      let first = table_leads R R dwarf_rows (still, (still, (still, tt))) (λ e g. g) d h in
+      table_leads R R knife_rows (still, (still, (still, (still, (still, (still, tt)))))) (λ e g. g)
+      (by_table first_knife_rows one)
+      (guarded (λ (a : Act (Unit {0})). On R a.scene.state) (nothing_but (λ e. tt)) one
+      first_knife_rows (
+        (λ fit. angry_kept 2 3 one.scene.state
+            (holds_alone _ (second_holds (no (knives 0) one) _ fit)) (omega arith) first),
+        λ _. first,
+      ))
 
--- the line of one knife is printed
-knife_told_kept : (P : Claim) (hits : ℕ) (p : Scene) → On P p.state
-    → On P (after_one_knife hits p).state
-unfolding after_one_knife
-knife_told_kept P hits p h =
-    let q = after_saying role.KnifeOne p in
-    chosen_scene P (hits == 0) (after_saying role.MissOne q) (after_saying role.HitOne q) h h
+  stolen_kept : (cave : CaveView) (x : ℕ) (p : Scene) → On R p.state → On R (steal cave x p).state
+  unfolding steal steal_rows
+  stolen_kept cave x p h =
+      table_leads R R steal_rows ((λ e g. (send_booty k _ _ _ g, tt)), tt) (λ e g. g)
+      (deed cave x p) h
 
--- the line of several knives is printed
-knives_told_kept : (P : Claim) (knives hits : ℕ) (p : Scene) → On P p.state
-    → On P (after_some_knives knives hits p).state
-unfolding after_some_knives
-knives_told_kept P knives hits p h =
-    let q = telling_number line.KnivesThrown knives p in
-    chosen_scene P (hits == 0) (after_saying role.MissAll q)
-    (if hits == 1 then after_saying role.HitMany q else telling_number line.KnivesHit hits q) h
-    (chosen_scene P (hits == 1) (after_saying role.HitMany q) (telling_number line.KnivesHit hits q)
-    h h)
+  all_stolen_kept : (cave : CaveView) (xs : List ℕ) (p : Scene) → On R p.state
+      → On R (after_thefts cave xs p).state
+  all_stolen_kept cave [] p h = h
+  all_stolen_kept cave (x ∷ xs) p h =
+      all_stolen_kept cave xs (steal cave x p) (stolen_kept cave x p h)
 
-enraged_kept : (P : Claim) (s : State) → On P s → On P (after_first_knives s)
-unfolding after_first_knives
-enraged_kept P s h =
-    choose (λ (t : State). On P t) (s.dwarves.anger == 2) (with_anger 3 s) s
-    (λ awake. angry_kept P 2 3 s awake (omega arith) h) (λ _. h)
+  home_kept : (cave : CaveView) (s : State) → On R s → On R (with_pirate_home cave s)
+  unfolding with_pirate_home
+  home_kept cave s h = dwarf_kept PIRATE _ s (λ low _. absurd (not_low low)) h
 
-throws_kept : (P : Claim) (a : Attack) (p : Scene) → On P p.state → On P (after_throws a p).state
-unfolding after_throws
-throws_kept P a p h =
-    let q = with_state (after_first_knives p.state) p in
-    let k = enraged_kept P p.state h in
-    chosen_scene P (a.knives == 0) p
-    (if a.knives == 1 then after_one_knife a.hits q else after_some_knives a.knives a.hits q) h
-    (chosen_scene P (a.knives == 1) (after_one_knife a.hits q) (after_some_knives a.knives a.hits q)
-    (knife_told_kept P a.hits q k) (knives_told_kept P a.knives a.hits q k))
+  robbed_kept : (d : Deed (Unit {0})) → On R d.scene.state → On R (after_all rob d).scene.state
+  unfolding rob chest_rows
+  robbed_kept d h =
+      let e = by_table chest_rows (say role.Booty d) in
+      let f = send (the name.Message) landmark.Message e in
+      home_kept d.cave (after_thefts d.cave treasures f.scene).state
+      (all_stolen_kept d.cave treasures f.scene
+      (send_booty k (thing d.cave name.Message) (place_named d.cave landmark.Message) e.scene.state
+      (table_leads R R chest_rows ((λ e g. (send_booty k _ _ _ g, tt)), tt) (λ e g. g)
+      (say role.Booty d) h)))
 
-attack_kept : (P : Claim) (a : Attack) (p : Scene) → On P p.state → On P (after_attack a p).state
-unfolding after_attack
-attack_kept P a p h =
-    throws_kept P a (tell_dwarves a.dwarves p) (dwarves_told_kept P a.dwarves p h)
+  hidden_kept : (d : Deed (Unit {0})) → On R d.scene.state
+      → On R (after_all hide_chest d).scene.state
+  unfolding hide_chest
+  hidden_kept d h =
+      let e = send (the name.Chest) landmark.Chest (say role.ChestHid d) in
+      let f = send (the name.Message) landmark.Message e in
+      home_kept d.cave f.scene.state
+      (send_booty k (thing d.cave name.Message) (place_named d.cave landmark.Message) e.scene.state
+      (send_booty k (thing d.cave name.Chest) (place_named d.cave landmark.Chest) d.scene.state h))
 
--- an object is moved to a place that may be named
-named_kept : (P : Claim) (x : ℕ) (o : Option ℕ) (s : State) → On P s
-    → On P (after_move_to_named x o s)
-unfolding after_move_to_named
-named_kept P x None s h = h
-named_kept P x (Some place) s h = h
+  pirate_kept : (cave : CaveView) (p : Scene) → On R p.state → On R (after_pirate cave p).state
+  unfolding after_pirate chase_rows pirate_rows
+  pirate_kept cave p h =
+      choose (λ (q : Scene). On R q.state) ((dwarf_of p.state PIRATE).place == 0) p
+      (by_table chase_rows (deed cave tt (dwarf_moved cave PIRATE p).scene)).scene (λ _. h)
+      (λ _. table_leads R R chase_rows ((λ e g. (met e g, tt)), tt) (λ e g. g)
+      (deed cave tt (dwarf_moved cave PIRATE p).scene)
+      (moved_kept cave PIRATE p (λ low _. not_low low) h))
+    where
+      met : (d : Deed (Unit {0})) → On R d.scene.state → On R (by_table pirate_rows d).scene.state
+      met d h =
+          table_leads R R pirate_rows
+          ((λ e g. (robbed_kept e g, tt)), ((λ e g. (hidden_kept e g, tt)), (still, tt)))
+          (λ e g. g) d h
 
-stolen_kept : (P : Claim) (cave : CaveView) (x : ℕ) (s : State) → On P s
-    → On P (steal cave x s)
-unfolding steal
-stolen_kept P cave x s h =
-    chosen P (is_booty cave s x) (after_move_to_named x (place_named cave landmark.Chest) s) s
-    (named_kept P x (place_named cave landmark.Chest) s h) h
-
-all_stolen_kept : (P : Claim) (cave : CaveView) (xs : List ℕ) (s : State) → On P s
-    → On P (after_thefts cave xs s)
-all_stolen_kept P cave [] s h = h
-all_stolen_kept P cave (x ∷ xs) s h =
-    all_stolen_kept P cave xs (steal cave x s) (stolen_kept P cave x s h)
-
-chest_kept : (P : Claim) (cave : CaveView) (s : State) → On P s → On P (with_chest cave s)
-unfolding with_chest
-chest_kept P cave s h = named_kept P _ _ s h
-
--- the chest may be put down
-first_chest_kept : (P : Claim) (cave : CaveView) (s : State) → On P s
-    → On P (with_chest_at_first cave s)
-unfolding with_chest_at_first
-first_chest_kept P cave s h =
-    chosen P (is_gone s.objects (thing cave name.Message)) (with_chest cave s) s
-    (chest_kept P cave s h) h
-
-message_kept : (P : Claim) (cave : CaveView) (s : State) → On P s → On P (with_message cave s)
-unfolding with_message
-message_kept P cave s h = named_kept P _ _ s h
-
-home_kept : (P : Claim) (cave : CaveView) (s : State) → On P s → On P (with_pirate_home cave s)
-unfolding with_pirate_home
-home_kept P cave s h = dwarf_kept P PIRATE _ s h
-
-robbed_kept : (P : Claim) (cave : CaveView) (s : State) → On P s → On P (rob cave s)
-unfolding rob
-robbed_kept P cave s h =
-    let marked = with_message cave (with_chest_at_first cave s) in
-    home_kept P cave (after_thefts cave treasures marked) (all_stolen_kept P cave treasures marked
-    (message_kept P cave (with_chest_at_first cave s) (first_chest_kept P cave s h)))
-
-hidden_kept : (P : Claim) (cave : CaveView) (s : State) → On P s → On P (hide_chest cave s)
-unfolding hide_chest
-hidden_kept P cave s h =
-    home_kept P cave (with_message cave (with_chest cave s))
-    (message_kept P cave (with_chest cave s) (chest_kept P cave s h))
-
-rustled_kept : (P : Claim) (p : Scene) → On P p.state → On P (after_rustle p).state
-unfolding after_rustle
-rustled_kept P p h =
-    chosen_scene P (not (is_pirate_new p.state)) p
-    (if happens 20 p then after_saying role.Rustle (after_draw p) else after_draw p) h
-    (chosen_scene P (happens 20 p) (after_saying role.Rustle (after_draw p)) (after_draw p) h h)
-
-met_kept : (P : Claim) (cave : CaveView) (p : Scene) → On P p.state
-    → On P (pirate_scene cave p).state
-unfolding pirate_scene
-met_kept P cave p h =
-    let s = p.state in let hiding =
-    with_state (hide_chest cave s) (after_saying role.ChestHid p) in
-    chosen_scene P (carries_booty cave s)
-    (with_state (rob cave s) (after_saying role.Booty p))
-    (if hides_chest cave s then hiding else after_rustle p) (robbed_kept P cave s h)
-    (chosen_scene P (hides_chest cave s) hiding (after_rustle p) (hidden_kept P cave s h)
-    (rustled_kept P p h))
-
--- the pirate may meet the player
-may_meet_kept : (P : Claim) (cave : CaveView) (p : Scene) → On P p.state
-    → On P (meet_if_after_player cave p).state
-unfolding meet_if_after_player
-may_meet_kept P cave p h =
-    chosen_scene P (is_after_player cave p.state) (pirate_scene cave p) p (met_kept P cave p h) h
-
-pirate_kept : (P : Claim) (cave : CaveView) (p : Scene) → On P p.state
-    → On P (after_pirate cave p).state
-unfolding after_pirate
-pirate_kept P cave p h =
-    let q = with_state (after_dwarf_move cave PIRATE p.state) p in
-    chosen_scene P ((dwarf_of p.state PIRATE).place == 0) p (meet_if_after_player cave q) h
-    (may_meet_kept P cave q (moved_kept P cave PIRATE p.state h))
-
-harried_kept : (P : Claim) (cave : CaveView) (p : Scene) → On P p.state
-    → On P (encounter_awake cave p).scene.state
-unfolding encounter_awake
-harried_kept P cave p h =
-    let raid = raid_of cave 5 p.state in
-    let q = with_state raid.state p in
-    attack_kept P raid.attack (after_pirate cave q)
-    (pirate_kept P cave q (raided_kept P cave 5 p.state h))
-
-pub dwarves_kept : (P : Claim) (cave : CaveView) (p : Scene) → On P p.state
-    → On P (encounter_dwarves cave p).scene.state
-unfolding encounter_dwarves
-dwarves_kept P cave p h =
-    choose (λ (r : Encounter). On P r.scene.state) (p.state.dwarves.anger == 0)
-    (without_hit (with_state (stir cave p.state) p))
-    (if p.state.dwarves.anger == 1 then without_hit (perhaps_wake cave p)
-    else encounter_awake cave p)
-    (λ asleep. stirred_kept P cave p.state asleep h)
-    (λ _. choose (λ (r : Encounter). On P r.scene.state) (p.state.dwarves.anger == 1)
-    (without_hit (perhaps_wake cave p)) (encounter_awake cave p)
-    (λ stirs. awoken_kept P cave p stirs h) (λ _. harried_kept P cave p h))
+  -- the dwarves sleep, stir, or act
+  pub dwarves_kept : (cave : CaveView) (p : Scene) → On R p.state
+      → On R (encounter_dwarves cave p).scene.state
+  unfolding encounter_dwarves anger_rows awake tell_attack
+  dwarves_kept cave p h =
+      let d = deed cave no_attack p in
+      guarded (λ (a : Act Bool). On R a.scene.state) (nothing_but is_missed) d anger_rows (
+        (λ asleep. choose (λ (e : Deed Attack). On R e.scene.state) (in_the_depths d)
+            (change (with_anger 1) d) d
+            (λ _. angry_kept 0 1 p.state (holds_alone _ asleep) (omega arith) h) (λ _. h)),
+        λ _. (
+          (λ stirs. waking_kept d (holds_alone _ stirs) h),
+          λ _. (
+            (λ _. let r = raid d in
+                told_kept (record r { scene = after_pirate cave r.scene })
+                (pirate_kept cave r.scene (raided_kept cave 5 p h))),
+            λ _. h,
+          ),
+        ),
+      )

@@ -15,13 +15,13 @@ use Rattle.cave_turn.specs.cave_world.State.{far_closing, starting_state}
 use Rattle.cave_turn.specs.turn_things.Homes.{home, second_home}
 use Rattle.cave_turn.specs.turn_things.Places.{building_place, outside_place}
 use Rattle.cave_turn.specs.turn_scene.Scene.{thing}
-use Rattle.cave_turn.specs.Dragon.{between}
 use Rattle.cave_turn.specs.Turns.{start_of_game, turn_on_line}
 use Rattle.turn_laws.specs.Courses.{DeathsComeOneByOne, IsOutsideCave, NobodyGetsOut, AskedInTime}
 use Rattle.turn_laws.specs.Courses.{IsAskedInTime, PutsInside}
-use Rattle.turn_laws.proofs.Frame.{Calm, Claim, Facts, IsBegun, IsKept, IsPut, IsTimed, choose}
-use Rattle.turn_laws.proofs.Frame.{is_die}
-use Rattle.turn_laws.proofs.Lines.{turned_kept}
+use Rattle.cave_turn.specs.Dragon.{between, lair_from}
+use Rattle.cave_turn.specs.turn_ends.Questions.{is_die}
+use Rattle.turn_laws.proofs.Life.{IsBorn, IsLived, Life, lived}
+use Rattle.turn_laws.proofs.View.{IsPut, View, choose}
 
 -- nobody is asked in a closing cave whether to come back
 abbrev InTime : Option Question → Bool → Type 0
@@ -31,36 +31,28 @@ InTime q closing = q ≡ Some question.Die → closing ≡ false
 unasked : (q : Option Question) (closing : Bool) → q ≡ None → InTime q closing
 unasked q closing none asked = absurd (true≢false (sym (ap is_some asked) ∙ ap is_some none))
 
--- nobody is asked so
-abbrev Timely : Claim
-Timely = record { holds = λ f. InTime f.question f.is_closing; goes_on = λ f c later h. h }
+abbrev Timely : Life → Type 0
+Timely f = InTime f.question f.is_closing
 
 -- another question is open than whether to come back
 asked_other : (a : Question) (closing : Bool) → is_die a ≡ false → InTime (Some a) closing
 asked_other a closing other asked =
     let same : a ≡ question.Die = cc in absurd (true≢false (sym (ap is_die same) ∙ other))
 
-timely_kept : (cave : CaveView) → IsKept cave Timely
-timely_kept cave = record {
-  ends = λ how f h. h;
-  kills = λ how place f calm closing at h. h;
-  dies = λ place f calm free h asked. free;
-  asks = λ a f other calm h. asked_other a f.is_closing other;
-  comes = λ place f some free h. h;
-  puts = λ place f some put h. h;
-  shortens = λ f more h. h;
+timely_lived : (cave : CaveView) → IsLived cave Timely
+timely_lived cave = record {
+  ends = λ how f free h. h;
+  kills = λ how place f free closing at h. h;
+  dies = λ place f free quiet h asked. quiet;
+  asks = λ a f other free h. asked_other a f.is_closing other;
+  comes = λ place v some free h. h;
+  puts = λ place v some put h. h;
 }
 
-timely_timed : IsTimed (Calm Timely)
-timely_timed = record {
-  counts = λ f going h. h;
-  begins = λ f h. (unasked f.question true h.1.0, h.1);
-  shuts = λ f stopped h. h;
-}
-
-timely_begun : (home : ℕ) → IsBegun home Timely Timely
-timely_begun home = record {
+timely_born : (home : ℕ) → IsBorn home Timely Timely
+timely_born home = record {
   leads = λ f h. h;
+  begins = λ f free h. unasked f.question true free.0;
   closes = λ a f other asked goes h. unasked None f.is_closing refl;
   buries = λ how f asked goes h. unasked None f.is_closing refl;
   revives = λ f few asked goes h. unasked None f.is_closing refl;
@@ -69,23 +61,19 @@ timely_begun home = record {
 timely_after : (cave : CaveView) (s : State) (line : List ℕ) → IsAskedInTime s
     → IsAskedInTime (turn_on_line cave s line).state
 timely_after cave s line h =
-    turned_kept cave (timely_kept cave) (timely_begun (building_place cave)) timely_timed
-    (λ f c x. x) (λ f c x. x) s line h
+    lived {R = Timely} {Q = Timely} cave (timely_lived cave) (timely_born (building_place cave)) s
+    line h
 
 timely_first : (cave : CaveView) (seed : ℕ) → IsAskedInTime (start_of_game cave seed).state
 unfolding start_of_game begun_state starting_state far_closing
 timely_first cave seed asked = refl
 
--- nobody is asked in a closing cave whether to come back
 pub asked_in_time : AskedInTime
 asked_in_time = record { start = timely_first; kept = timely_after }
 
 -- as many deaths as there were, at the start of a line
-abbrev AsMany : ℕ → Claim
-AsMany n = record {
-  holds = λ f. (f.deaths ≡ n) × InTime f.question f.is_closing;
-  goes_on = λ f c later h. h;
-}
+abbrev AsMany : ℕ → Life → Type 0
+AsMany n f = (f.deaths ≡ n) × InTime f.question f.is_closing
 
 -- as many deaths as there were, or a death more, and the game has ended or the cave isn't closing
 abbrev WithOneMore : ℕ → ℕ → Option Ending → Bool → Type 0
@@ -93,11 +81,8 @@ WithOneMore n deaths e closing =
     (deaths ≡ n)
     ⊎ ((n ≤ 3 → n ≤ deaths) × (deaths ≤ n + 1) × ((is_some e ≡ true) ⊎ (closing ≡ false)))
 
-abbrev OneMore : ℕ → Claim
-OneMore n = record {
-  holds = λ f. WithOneMore n f.deaths f.ending f.is_closing;
-  goes_on = λ f c later h. h;
-}
+abbrev OneMore : ℕ → Life → Type 0
+OneMore n f = WithOneMore n f.deaths f.ending f.is_closing
 
 -- a death in a closing cave is the first of a line
 first_death : (n d : ℕ) (e : Option Ending) (closing : Bool) → e ≡ None → closing ≡ true
@@ -121,29 +106,22 @@ after_death : (n d : ℕ) (e : Option Ending) (closing : Bool) → d ≡ n
 after_death n d e closing same how =
     inr ((λ few. omega (arith, same, few)), omega (arith, same), how)
 
-one_more_kept : (cave : CaveView) (n : ℕ) → IsKept cave (OneMore n)
-one_more_kept cave n = record {
-  ends = λ how f h. ended_more n f.deaths how f.ending f.is_closing h;
-  kills = λ how place f calm closing at h.
+one_more_lived : (cave : CaveView) (n : ℕ) → IsLived cave (OneMore n)
+one_more_lived cave n = record {
+  ends = λ how f free h. ended_more n f.deaths how f.ending f.is_closing h;
+  kills = λ how place f free closing at h.
       after_death n f.deaths (Some how) f.is_closing
-      (first_death n f.deaths f.ending f.is_closing calm.1 closing h) (inl refl);
-  dies = λ place f calm free h. h;
-  asks = λ a f other calm h. h;
-  comes = λ place f some free h. h;
-  puts = λ place f some put h. h;
-  shortens = λ f more h. h;
+      (first_death n f.deaths f.ending f.is_closing free.1 closing h) (inl refl);
+  dies = λ place f free quiet h. h;
+  asks = λ a f other free h. h;
+  comes = λ place v some free h. h;
+  puts = λ place v some put h. h;
 }
 
-as_many_timed : (n : ℕ) → IsTimed (Calm (AsMany n))
-as_many_timed n = record {
-  counts = λ f going h. h;
-  begins = λ f h. ((h.0.0, unasked f.question true h.1.0), h.1);
-  shuts = λ f stopped h. h;
-}
-
-as_many_begun : (home : ℕ) (n : ℕ) → IsBegun home (AsMany n) (OneMore n)
-as_many_begun home n = record {
+as_many_born : (home : ℕ) (n : ℕ) → IsBorn home (AsMany n) (OneMore n)
+as_many_born home n = record {
   leads = λ f h. inl h.0;
+  begins = λ f free h. (h.0, unasked f.question true free.0);
   closes = λ a f other asked goes h. (h.0, unasked None f.is_closing refl);
   buries = λ how f asked goes h.
       after_death n f.deaths (Some how) f.is_closing h.0 (inl refl);
@@ -157,29 +135,22 @@ deaths_of : (n d : ℕ) (e : Option Ending) (closing : Bool) → WithOneMore n d
 deaths_of n d e closing (inl same) = ((λ few. omega (arith, same)), omega (arith, same))
 deaths_of n d e closing (inr (no_fewer, one_more, how)) = (no_fewer, one_more)
 
--- deaths come one by one
 pub deaths_come_one_by_one : DeathsComeOneByOne
 deaths_come_one_by_one cave s line in_time =
     let n = s.tallies.deaths in
-    let t = turned_kept cave (one_more_kept cave n) (as_many_begun (building_place cave) n)
-    (as_many_timed n) (λ f c h. h) (λ f c h. h) s line (refl, in_time) in
+    let t = lived {R = AsMany n} {Q = OneMore n} cave (one_more_lived cave n)
+    (as_many_born (building_place cave) n) s line (refl, in_time) in
     let after = (turn_on_line cave s line).state in
     let d = deaths_of n after.tallies.deaths after.ending after.closing.is_closing t in
     record { no_fewer = d.0; one_more = d.1 }
 
 -- the player is where the player was at the start of a line
-abbrev Here : ℕ → Claim
-Here place = record {
-  holds = λ f. (f.here ≡ place) × InTime f.question f.is_closing;
-  goes_on = λ f c later h. h;
-}
+abbrev Here : ℕ → Life → Type 0
+Here place f = (f.here ≡ place) × InTime f.question f.is_closing
 
 -- in a closing cave the player is outside only where the player was
-abbrev Inside : CaveView → ℕ → Claim
-Inside cave place = record {
-  holds = λ f. f.is_closing ≡ true → IsOutsideCave cave f.here → f.here ≡ place;
-  goes_on = λ f c later h. h;
-}
+abbrev Inside : CaveView → ℕ → Life → Type 0
+Inside cave place f = f.is_closing ≡ true → IsOutsideCave cave f.here → f.here ≡ place
 
 -- a place that is shut off is one outside
 shut_off : (a : Bool) (place last : ℕ) → a ≡ true → 1 ≤ place → place ≤ last
@@ -210,53 +181,40 @@ half_way a b here last one other =
     far first second out = let least = out.1 in omega (arith, first, second, least)
 
 -- where the player is put is inside
-put_inside : (cave : CaveView) (place : ℕ) (f : Facts) → PutsInside cave → IsPut cave place f
+put_inside : (cave : CaveView) (place : ℕ) (f : View) → PutsInside cave → IsPut cave place f
     → IsOutsideCave cave place → place ≡ f.here
+unfolding lair_from
 put_inside cave place f inside (inl is) out = absurd (inside.repository place is out)
 put_inside cave place f inside (inr is) out =
     is ∙ half_way (home cave (thing cave name.Dragon)) (second_home cave (thing cave name.Dragon))
     f.here (outside_place cave) inside.dragon inside.second
     (subst (λ (p : ℕ). IsOutsideCave cave p) is out)
 
-inside_kept : (cave : CaveView) (before : ℕ) → PutsInside cave → IsKept cave (Inside cave before)
-inside_kept cave before inside = record {
-  ends = λ how f h. h;
-  kills = λ how place f calm closing at h. killed place f at h;
-  dies = λ place f calm free h closing out. absurd (true≢false (sym closing ∙ free));
-  asks = λ a f other calm h. h;
-  comes = λ place f some free h closing out.
-      absurd (true≢false (sym (shut_off f.is_closing place (outside_place cave) closing out.0 out.1)
-      ∙ free));
-  puts = λ place f some is h closing out. put place f is h closing out;
-  shortens = λ f more h. h;
+inside_lived : (cave : CaveView) (before : ℕ) → PutsInside cave
+    → IsLived cave (Inside cave before)
+inside_lived cave before inside = record {
+  ends = λ how f free h. h;
+  kills = λ how place f free closing at h. killed place f at h;
+  dies = λ place f free quiet h closing out. absurd (true≢false (sym closing ∙ quiet));
+  asks = λ a f other free h. h;
+  comes = λ place v some free h closing out. absurd (true≢false
+      (sym (shut_off v.closing.is_closing place (outside_place cave) closing out.0 out.1) ∙ free));
+  puts = λ place v some is h closing out.
+      let same = put_inside cave place v inside is out in
+      same ∙ h closing (subst (λ (p : ℕ). IsOutsideCave cave p) same out);
 }
   where
     killed :
-        (place : ℕ) (f : Facts) → (place ≡ f.here) ⊎ (place ≡ 0)
-        → (f.is_closing ≡ true → IsOutsideCave cave f.here → f.here ≡ before)
+        (place : ℕ) (f : Life) → (place ≡ f.here) ⊎ (place ≡ 0) → Inside cave before f
         → f.is_closing ≡ true → IsOutsideCave cave place → place ≡ before
     killed place f (inl same) h closing out =
         same ∙ h closing (subst (λ (p : ℕ). IsOutsideCave cave p) same out)
     killed place f (inr none) h closing out = absurd (omega (arith, none, out.0))
 
-    put :
-        (place : ℕ) (f : Facts) → IsPut cave place f
-        → (f.is_closing ≡ true → IsOutsideCave cave f.here → f.here ≡ before)
-        → f.is_closing ≡ true → IsOutsideCave cave place → place ≡ before
-    put place f is h closing out =
-        let same = put_inside cave place f inside is out in
-        same ∙ h closing (subst (λ (p : ℕ). IsOutsideCave cave p) same out)
-
-here_timed : (place : ℕ) → IsTimed (Calm (Here place))
-here_timed place = record {
-  counts = λ f going h. h;
-  begins = λ f h. ((h.0.0, unasked f.question true h.1.0), h.1);
-  shuts = λ f stopped h. h;
-}
-
-here_begun : (cave : CaveView) (home place : ℕ) → IsBegun home (Here place) (Inside cave place)
-here_begun cave home place = record {
+here_born : (cave : CaveView) (home place : ℕ) → IsBorn home (Here place) (Inside cave place)
+here_born cave home place = record {
   leads = λ f h closing out. h.0;
+  begins = λ f free h. (h.0, unasked f.question true free.0);
   closes = λ a f other asked goes h. (h.0, unasked None f.is_closing refl);
   buries = λ how f asked goes h closing out. h.0;
   revives = λ f few asked goes h closing out. absurd (true≢false (sym closing ∙ h.1 asked));
@@ -266,5 +224,5 @@ here_begun cave home place = record {
 pub nobody_gets_out : NobodyGetsOut
 nobody_gets_out cave s line inside in_time =
     let here = s.trail.here in
-    turned_kept cave (inside_kept cave here inside) (here_begun cave (building_place cave) here)
-    (here_timed here) (λ f c h. h) (λ f c h. h) s line (refl, in_time)
+    lived {R = Here here} {Q = Inside cave here} cave (inside_lived cave here inside)
+    (here_born cave (building_place cave) here) s line (refl, in_time)

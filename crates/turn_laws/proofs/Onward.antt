@@ -1,184 +1,162 @@
--- What only ever goes one way in a game.
-use Rattle.std.proofs.Common.{◌≡◌, ℕ, ℤ, negsuc, pos, true, List, refl, sym, arith}
+-- What only ever goes one way in a game, and in which order the cave closes.
+use Rattle.std.proofs.Common.{◌≡◌, ℕ, ◌≤◌, ℤ, negsuc, pos, zero, suc, Bool, false, true, List, []}
+use Rattle.std.proofs.Common.{◌∷◌, refl, sym, arith}
 use Rattle.std.proofs.lemmas.Bool.{true≢false}
-use Rattle.std.specs.Prelude.{◌-◌, int_lt, ◌-ℤ◌}
-use Rattle.std.specs.Int.{int_min}
-use Rattle.std.specs.Ordering.{int_eq}
 use Rattle.std.proofs.lemmas.Int.{ints}
+use Rattle.std.specs.Prelude.{◌-◌, int_lt, ◌-ℤ◌, min, slice_index_or, slice_set}
+use Rattle.std.specs.Ordering.{int_eq}
 use Rattle.cave_turn.specs.cave_data.CaveView.{CaveView}
 use Rattle.cave_turn.specs.cave_world.State.{starting_state, far_closing}
 use Rattle.cave_turn.specs.cave_world.declared.state.State.{State}
 use Rattle.cave_turn.specs.turn_begin.Begin.{begun_state}
-use Rattle.cave_turn.specs.turn_things.Places.{building_place}
 use Rattle.cave_turn.specs.Turns.{start_of_game, turn_on_line}
 use Rattle.turn_laws.specs.Courses.{NothingGoesBack, ClosesInOrder, ClosedIsClosing}
 use Rattle.turn_laws.specs.Courses.{TreasuresGoOneWay}
-use Rattle.turn_laws.proofs.Frame.{Claim, Course, Facts, IsBegun, IsKept, IsLater, IsTimed, facts}
-use Rattle.turn_laws.proofs.Later.{later_by_sight}
-use Rattle.turn_laws.proofs.Lines.{turned_kept}
-use Rattle.turn_laws.proofs.Turns.{calm_timed}
+use Rattle.turn_laws.proofs.Rest.{IsRested, Rest, rest, rested}
+use Rattle.turn_laws.proofs.View.{Anywhere, view}
 
--- nothing was taken back since the state of some facts
-pub record IsOnward (a b : Facts) : Type 0 where
-  pub closing : a.is_closing ≡ true → b.is_closing ≡ true
-  pub closed : a.is_closed ≡ true → b.is_closed ≡ true
-  pub course : IsLater a.course b.course
+-- what only ever goes one way
+record Course : Type 0 where
+  hints : List Bool
+  unseen : ℕ
+  lost : ℕ
+  anger : ℕ
 
--- a course that has gone on twice has gone on
-later_later : (a b c : Course) → IsLater a b → IsLater b c → IsLater a c
-later_later a b c one two = record {
-  hints = λ h taken. two.hints h (one.hints h taken);
-  unseen = let i = one.unseen in let j = two.unseen in omega arith;
-  lost = let i = one.lost in let j = two.lost in omega arith;
-  anger = let i = one.anger in let j = two.anger in omega arith;
-}
+-- a course has gone on: hints stay taken, no more treasures are unseen, no fewer lost, and the
+-- dwarves are as angry, but for what passes the most that is counted
+record IsLater (a b : Course) : Type 0 where
+  hints : (h : ℕ) → slice_index_or a.hints h false ≡ true → slice_index_or b.hints h false ≡ true
+  unseen : b.unseen ≤ a.unseen
+  lost : min a.lost 60000 ≤ b.lost
+  anger : min a.anger 13 ≤ b.anger
 
--- a course has gone on to itself
-later_same : (a : Course) → IsLater a a
-later_same a = record {
-  hints = λ h taken. taken;
-  unseen = omega arith;
-  lost = omega arith;
-  anger = omega arith;
-}
+abbrev course : Rest → Course
+course r =
+    record { hints = r.hints; unseen = r.unseen; lost = r.lost; anger = r.band.anger }
 
--- nothing was taken back since some facts
-abbrev Onward : Facts → Claim
-Onward a = record {
-  holds = λ f. IsOnward a f;
-  goes_on = λ f c later h.
-      record {
-        closing = h.closing;
-        closed = h.closed;
-        course = later_later a.course f.course c h.course later;
-      };
-}
+-- a hint stays taken where another is
+still_taken : (xs : List Bool) (h i : ℕ) → slice_index_or xs h false ≡ true
+    → slice_index_or (slice_set xs i true) h false ≡ true
+still_taken [] h i taken = taken
+still_taken (x ∷ xs) zero zero taken = refl
+still_taken (x ∷ xs) zero (suc i) taken = taken
+still_taken (x ∷ xs) (suc h) zero taken = taken
+still_taken (x ∷ xs) (suc h) (suc i) taken = still_taken xs h i taken
 
--- what changes nothing of it takes nothing back
-same_onward : (a f g : Facts) → IsOnward a f → (f.is_closing ≡ true → g.is_closing ≡ true)
-    → (f.is_closed ≡ true → g.is_closed ≡ true) → f.course ≡ g.course → IsOnward a g
-same_onward a f g h closing closed same =
+-- a course goes on
+on : (a b : Course) → IsLater a b → (u l n : ℕ) → u ≤ b.unseen → min b.lost 60000 ≤ l
+    → min b.anger 13 ≤ n → IsLater a (record { hints = b.hints; unseen = u; lost = l; anger = n })
+on a b h u l n seen lost angry =
+    let one = h.unseen in let two = h.lost in let three = h.anger in
     record {
-      closing = λ was. closing (h.closing was);
-      closed = λ was. closed (h.closed was);
-      course = rw (sym same) h.course;
+      hints = h.hints;
+      unseen = omega (arith, one, seen);
+      lost = omega (arith, two, lost);
+      anger = omega (arith, three, angry);
     }
 
--- what is found takes nothing back
-found_onward : (a f : Facts) → IsOnward a f
-    → IsOnward a (record f {
-      charge = int_min f.charge (pos 35);
-      course = record f.course { unseen = f.course.unseen - 1 };
-    })
-found_onward a f h =
-    record {
-      closing = h.closing;
-      closed = h.closed;
-      course = later_later a.course f.course _ h.course (later_by_sight f.course);
-    }
-
--- what happens in a game takes nothing back
-onward_kept : (cave : CaveView) (a : Facts) → IsKept cave (Onward a)
-onward_kept cave a = record {
-  ends = λ how f h. same_onward a f _ h (λ x. x) (λ x. x) refl;
-  kills = λ how place f calm closing at h. same_onward a f _ h (λ x. x) (λ x. x) refl;
-  dies = λ place f calm free h. same_onward a f _ h (λ x. x) (λ x. x) refl;
-  asks = λ b f other calm h. same_onward a f _ h (λ x. x) (λ x. x) refl;
-  comes = λ place f some free h. same_onward a f _ h (λ x. x) (λ x. x) refl;
-  puts = λ place f some put h. same_onward a f _ h (λ x. x) (λ x. x) refl;
-  shortens = λ f more h. found_onward a f h;
+taken : (a b : Course) (i : ℕ) → IsLater a b
+    → IsLater a (record b { hints = slice_set b.hints i true })
+taken a b i h = record {
+  hints = λ j was. still_taken b.hints j i (h.hints j was);
+  unseen = h.unseen;
+  lost = h.lost;
+  anger = h.anger;
 }
 
-onward_timed : (a : Facts) → IsTimed (Onward a)
-onward_timed a = record {
-  counts = λ f going h. same_onward a f _ h (λ x. x) (λ x. x) refl;
-  begins = λ f h. same_onward a f _ h (λ x. refl) (λ x. x) refl;
-  shuts = λ f stopped h. same_onward a f _ h (λ x. x) (λ x. refl) refl;
-}
+-- nothing was taken back
+abbrev Onward : Rest → Rest → Type 0
+Onward a r =
+    (a.closing.is_closing ≡ true → r.closing.is_closing ≡ true)
+    × (a.closing.is_closed ≡ true → r.closing.is_closed ≡ true)
+    × IsLater (course a) (course r)
 
-onward_begun : (home : ℕ) (a : Facts) → IsBegun home (Onward a) (Onward a)
-onward_begun home a = record {
-  leads = λ f h. h;
-  closes = λ b f other asked goes h. same_onward a f _ h (λ x. x) (λ x. x) refl;
-  buries = λ how f asked goes h. same_onward a f _ h (λ x. x) (λ x. x) refl;
-  revives = λ f few asked goes h. same_onward a f _ h (λ x. x) (λ x. x) refl;
+onward_kept : (a : Rest) → IsRested Anywhere (Onward a)
+onward_kept a = record {
+  arrives = λ place some. tt;
+  objects = λ r c h. h;
+  takes = λ r xs few room h. h;
+  band = λ r here w at after h.
+      (h.0, h.1, on (course a) (course r) h.2 _ _ w.anger (omega arith) (omega arith) after.anger);
+  loses = λ r h.
+      (h.0, h.1, on (course a) (course r) h.2 _ _ _ (omega arith) (omega arith) (omega arith));
+  finds = λ r h.
+      (h.0, h.1, on (course a) (course r) h.2 _ _ _ (omega arith) (omega arith) (omega arith));
+  shortens = λ r more h.
+      (h.0, h.1, on (course a) (course r) h.2 _ _ _ (omega arith) (omega arith) (omega arith));
+  hints = λ r i h. (h.0, h.1, taken (course a) (course r) i h.2);
+  panics = λ r second how h. h;
+  counts = λ r going h. h;
+  begins = λ r h. ((λ _. refl), h.1, h.2);
+  ticks = λ r some h. h;
+  shuts = λ r stopped h. (h.0, (λ _. refl), h.2);
 }
 
 -- a line takes nothing back
 onward_after : (cave : CaveView) (s : State) (line : List ℕ)
-    → IsOnward (facts s) (facts (turn_on_line cave s line).state)
+    → Onward (rest (view s)) (rest (view (turn_on_line cave s line).state))
 onward_after cave s line =
-    let a = facts s in
-    let same : IsOnward a a =
-    record { closing = λ x. x; closed = λ x. x; course = later_same a.course } in
-    turned_kept cave (onward_kept cave a) (onward_begun (building_place cave) a)
-    (calm_timed (Onward a) (onward_timed a))
-    (λ f c h. same_onward a f _ h (λ x. x) (λ x. x) refl)
-    (λ f c h. same_onward a f _ h (λ x. x) (λ x. x) refl) s line same
+    rested (onward_kept (rest (view s))) (λ v c is h. h) cave s line (λ _. tt) (
+      (λ x. x),
+      (λ x. x),
+      record {
+        hints = λ h was. was;
+        unseen = omega arith;
+        lost = omega arith;
+        anger = omega arith;
+      },
+    )
 
 pub nothing_goes_back : NothingGoesBack
 nothing_goes_back cave s line =
-    let h = onward_after cave s line in let anger = h.course.anger in
+    let h = onward_after cave s line in let anger = h.2.anger in
     record {
-      closing = h.closing;
-      closed = h.closed;
-      hints = λ hint. h.course.hints (hint - 1);
+      closing = h.0;
+      closed = h.1;
+      hints = λ hint. h.2.hints (hint - 1);
       awake = λ awake. omega (arith, awake, anger);
     }
 
 pub treasures_go_one_way : TreasuresGoOneWay
 treasures_go_one_way cave s line =
-    let h = onward_after cave s line in let lost = h.course.lost in
-    record { unseen = h.course.unseen; lost = λ few. omega (arith, few, lost) }
+    let h = onward_after cave s line in let lost = h.2.lost in
+    record { unseen = h.2.unseen; lost = λ few. omega (arith, few, lost) }
 
 -- a closed cave, or one whose first clock has stopped, is closing
-abbrev InOrder : Claim
-InOrder = record {
-  holds = λ f.
-      (f.is_closed ≡ true → f.is_closing ≡ true)
-      × (f.first_clock ≡ negsuc 0 → f.is_closing ≡ true);
-  goes_on = λ f c later h. h;
-}
-
-order_kept : (cave : CaveView) → IsKept cave InOrder
-order_kept cave = record {
-  ends = λ how f h. h;
-  kills = λ how place f calm closing at h. h;
-  dies = λ place f calm free h. h;
-  asks = λ a f other calm h. h;
-  comes = λ place f some free h. h;
-  puts = λ place f some put h. h;
-  shortens = λ f more h. h;
-}
+abbrev InOrder : Rest → Type 0
+InOrder r =
+    (r.closing.is_closed ≡ true → r.closing.is_closing ≡ true)
+    × (r.closing.first_clock ≡ negsuc 0 → r.closing.is_closing ≡ true)
 
 -- a clock that was above 0 doesn't stop by going down
 not_stopped : (n : ℤ) → int_lt (pos 0) n ≡ true → n -ℤ pos 1 ≡ negsuc 0 → ⊥
 not_stopped n above stopped = omega (arith, ints, above, stopped)
 
-order_timed : IsTimed InOrder
-order_timed = record {
-  counts = λ f going h. (h.0, λ stopped. absurd (not_stopped f.first_clock going stopped));
-  begins = λ f h. ((λ _. refl), λ _. refl);
-  shuts = λ f stopped h. ((λ _. h.1 (int_same f.first_clock stopped)), h.1);
+order_kept : IsRested Anywhere InOrder
+order_kept = record {
+  arrives = λ place some. tt;
+  objects = λ r c h. h;
+  takes = λ r xs few room h. h;
+  band = λ r here w at after h. h;
+  loses = λ r h. h;
+  finds = λ r h. h;
+  shortens = λ r more h. h;
+  hints = λ r i h. h;
+  panics = λ r second how h. h;
+  counts = λ r going h.
+      (h.0, λ stopped. absurd (not_stopped r.closing.first_clock going stopped));
+  begins = λ r h. ((λ _. refl), λ _. refl);
+  ticks = λ r some h. h;
+  shuts = λ r stopped h. ((λ _. h.1 (int_same r.closing.first_clock stopped)), h.1);
 }
   where
     int_same : (n : ℤ) → int_eq n (negsuc 0) ≡ true → n ≡ negsuc 0
     int_same n is = grind (arith, ints, is)
 
-order_begun : (home : ℕ) → IsBegun home InOrder InOrder
-order_begun home = record {
-  leads = λ f h. h;
-  closes = λ a f other asked goes h. h;
-  buries = λ how f asked goes h. h;
-  revives = λ f few asked goes h. h;
-}
-
 order_after : (cave : CaveView) (s : State) (line : List ℕ) → ClosesInOrder s
     → ClosesInOrder (turn_on_line cave s line).state
 order_after cave s line h =
-    let t = turned_kept cave (order_kept cave) (order_begun (building_place cave))
-    (calm_timed InOrder order_timed)
-    (λ f c x. x) (λ f c x. x) s line (h.closed, h.stopped) in
+    let t = rested order_kept (λ v c is h. h) cave s line (λ _. tt) (h.closed, h.stopped) in
     record { closed = t.0; stopped = t.1 }
 
 order_first : (cave : CaveView) (seed : ℕ) → ClosesInOrder (start_of_game cave seed).state

@@ -1,181 +1,120 @@
--- What a turn makes of a claim.
+-- What a command makes of a claim.
 use Rattle.std.proofs.Common.{◌≡◌, inl, ℕ, zero, suc, ◌+◌, pos, Bool, false, true, List, refl, sym}
 use Rattle.std.proofs.Common.{[], ◌∷◌, ap, ◌∙◌, subst}
 use Rattle.std.proofs.lemmas.Bool.{true≢false}
-use Rattle.std.specs.Prelude.{◌&&◌, nat_le, Option, None, Some}
-use Rattle.cave_turn.specs.cave_data.CaveView.{CaveView}
+use Rattle.std.specs.Prelude.{◌==◌, ◌-ℤ◌, not, nat_le, Option, None, Some, if◌then◌else◌}
+use Rattle.cave_turn.specs.cave_data.CaveView.{CaveView, default_message}
 use Rattle.cave_turn.specs.cave_words.Words.{words_of}
 use Rattle.cave_turn.specs.cave_words.declared.named.Named.TheVariants as name
 use Rattle.cave_turn.specs.cave_words.declared.words.Words.{Words}
-use Rattle.cave_turn.specs.cave_world.State.{takes_no_command}
-use Rattle.cave_turn.specs.cave_world.State.{with_player_from}
+use Rattle.cave_turn.specs.cave_world.State.{takes_no_command, with_player_from}
 use Rattle.cave_turn.specs.cave_world.declared.ending.Ending.TheVariants as ending_is
-use Rattle.cave_turn.specs.cave_world.declared.ending.Question.{Question}
 use Rattle.cave_turn.specs.cave_world.declared.ending.Question.TheVariants as question
 use Rattle.cave_turn.specs.cave_world.declared.state.State.{State}
-use Rattle.cave_turn.specs.turn_things.Effects.{with_objects}
 use Rattle.cave_turn.specs.turn_things.Places.{building_place}
-use Rattle.cave_turn.specs.turn_scene.Scene.{Scene, after_look_at, with_state, thing}
+use Rattle.cave_turn.specs.turn_scene.Scene.{Scene, after_draw, happens, with_state, thing}
+use Rattle.cave_turn.specs.turn_scene.Scene.{after_telling}
 use Rattle.cave_turn.specs.cave_verbs.Acting.{act, next_of_step}
 use Rattle.cave_turn.specs.verb_commands.Rows.{command_of}
 use Rattle.cave_turn.specs.verb_commands.Verbs.{verb_of}
 use Rattle.cave_turn.specs.verb_commands.declared.next.Next.{Next}
 use Rattle.cave_turn.specs.verb_commands.declared.next.Next.TheVariants as next_is
-use Rattle.cave_turn.specs.verb_commands.declared.command.Command.{Command}
 use Rattle.cave_turn.specs.verb_commands.declared.verb.Verb.{Verb}
 use Rattle.cave_turn.specs.turn_clocks.Clocks.{run_clocks}
 use Rattle.cave_turn.specs.turn_clocks.declared.clocks.Clocks.{Clocks}
 use Rattle.cave_turn.specs.turn_clocks.declared.clocks.Clocks.TheVariants as clocks
 use Rattle.cave_turn.specs.turn_rules.Rows.{Deed, Act, deed, all_hold, after_all, by_table}
 use Rattle.cave_turn.specs.turn_rules.Rows.{nothing_but}
-use Rattle.cave_turn.specs.turn_rules.Tests.{no}
+use Rattle.cave_turn.specs.turn_rules.Tests.{no, over}
 use Rattle.cave_turn.specs.turn_ends.Endings.{with_ending, with_one_death, count_death}
-use Rattle.cave_turn.specs.turn_hints.Hints.{has_stayed, over, helpful, restart, count_turn}
-use Rattle.cave_turn.specs.turn_hints.Hints.{offer_rows, turn_rows, after_consider}
-use Rattle.cave_turn.specs.turn_hints.Hints.{after_hints_up_to, after_hints}
+use Rattle.cave_turn.specs.turn_hints.Hints.{has_stayed, helpful, restart, count_turn, offer_rows}
+use Rattle.cave_turn.specs.turn_hints.Hints.{turn_rows, after_consider, after_hints_up_to}
 use Rattle.cave_turn.specs.turn_moves.Journeys.{journey_by_request}
 use Rattle.cave_turn.specs.Answers.{without_question}
-use Rattle.cave_turn.specs.Commands.{begin_command, after_travel, after_puzzle, next_scene}
-use Rattle.cave_turn.specs.Commands.{WordsDone, words_done_by_action, words_done_by_verb}
-use Rattle.cave_turn.specs.Commands.{words_done_by_request, after_remembering, kept_scene}
-use Rattle.cave_turn.specs.Commands.{scene_of_understood, scene_of_words, after_clocks}
+use Rattle.cave_turn.specs.Commands.{begin_command, after_travel, Draws, puzzle_rows, after_puzzle}
+use Rattle.cave_turn.specs.Commands.{next_scene, WordsDone, words_done_by_action}
+use Rattle.cave_turn.specs.Commands.{words_done_by_verb, words_done_by_request, after_remembering}
+use Rattle.cave_turn.specs.Commands.{kept_scene, scene_of_understood, scene_of_words, after_clocks}
 use Rattle.cave_turn.specs.Commands.{clocks_scene, command_scene}
-use Rattle.cave_turn.specs.Finish.{is_hidden_in_hand, after_oyster_shows, layout_with_shown_up_to}
-use Rattle.cave_turn.specs.Finish.{after_hands_show, end_of_turn}
-use Rattle.cave_turn.specs.Request.{read_words, half_command_of}
+use Rattle.cave_turn.specs.Finish.{hands_rows, end_rows, end_of_turn, layout_with_object_shown}
+use Rattle.cave_turn.specs.Finish.{layout_with_shown_up_to, is_hidden_in_hand}
+use Rattle.cave_turn.specs.Request.{read_words}
 use Rattle.cave_turn.specs.Revival.{reborn_rows, without_belongings, revive, revival_rows}
-use Rattle.cave_turn.specs.Revival.{come_back}
+use Rattle.cave_turn.specs.Revival.{come_back, fallen_place, layout_after_fall, layout_after_falls}
+use Rattle.cave_turn.specs.Revival.{layout_with_lamp_out}
 use Rattle.cave_turn.specs.declared.request.HalfCommand.{HalfCommand}
 use Rattle.cave_turn.specs.declared.request.Request.{Request}
 use Rattle.cave_turn.specs.declared.request.Request.TheVariants as request
 use Rattle.cave_turn.specs.declared.request.Understood.{Understood}
 use Rattle.turn_laws.specs.Laws.{before_clocks, before_lamp}
-use Rattle.turn_laws.proofs.Frame.{Claim, Facts, On, Calm, Charges, IsBegun, IsKept, IsTimed, Leads}
-use Rattle.turn_laws.proofs.GuardedRows.{fails_alone, guarded}
-use Rattle.turn_laws.proofs.Frame.{chosen_scene, facts}
-use Rattle.turn_laws.proofs.Clocks.{After, Lights, clocks_kept, lamp_kept}
-use Rattle.turn_laws.proofs.Moves.{looking_kept, arriving_kept, arriving_open, describing_kept}
-use Rattle.turn_laws.proofs.Moves.{motion_kept}
-use Rattle.turn_laws.proofs.Scores.{ended_kept, asking_kept}
-use Rattle.turn_laws.proofs.Stop.{none_over}
-use Rattle.turn_laws.proofs.VerbEffects.{said_kept}
-use Rattle.turn_laws.proofs.VerbQuestions.{order_spares, is_asking_die}
-use Rattle.turn_laws.proofs.Verbs.{acted_kept}
+use Rattle.cave_turn.specs.world_objects.Objects.{Layout, after_move_to, is_carried, with_prop}
+use Rattle.cave_turn.specs.world_objects.Objects.{prop_of}
+use Rattle.cave_turn.specs.turn_things.Props.{LAMP_OFF, UNSEEN}
+use Rattle.cave_turn.specs.turn_things.Reach.{is_in_hand}
+use Rattle.cave_turn.specs.turn_things.Effects.{with_objects}
+use Rattle.cave_turn.specs.cave_world.declared.part.Part.TheVariants as part
+use Rattle.turn_laws.proofs.Clocks.{ready_timed}
+use Rattle.turn_laws.proofs.Endings.{ended_kept, ending_kept, asking_kept}
+use Rattle.turn_laws.proofs.Lamp.{After, Lights, clocks_kept}
+use Rattle.turn_laws.proofs.Moves.{arriving_kept, arriving_open, describing_kept, motion_kept}
+use Rattle.turn_laws.proofs.Places.{none_over}
+use Rattle.turn_laws.proofs.Rows.{fails_alone, first_holds, guarded, second_holds, table_leads}
+use Rattle.turn_laws.proofs.Verbs.{acted_kept, is_asking_die}
+use Rattle.turn_laws.proofs.View.{Anywhere, Claim, IsBegun, IsCalm, IsKept, IsTimed, Moves, On}
+use Rattle.turn_laws.proofs.View.{Place, Prop, Ready, View, anywhere, choose, view}
 
--- the second of three tests that hold holds
-second_holds : (a b c : Bool) → (a && (b && c)) ≡ true → b ≡ true
-second_holds true true c h = refl
-second_holds true false c h = absurd (true≢false (sym h))
-second_holds false b c h = absurd (true≢false (sym h))
+-- what doesn't hold not doesn't hold
+not_so : (b : Bool) → not b ≡ true → b ≡ false
+not_so true h = absurd (true≢false (sym h))
+not_so false h = refl
 
--- a hint is offered only where nothing is over
-offer_calm : (d : Deed ℕ) → all_hold (has_stayed ∷ no over ∷ helpful ∷ []) d ≡ true
-    → (d.scene.state.question ≡ None) × (d.scene.state.ending ≡ None)
-unfolding takes_no_command
-offer_calm d due =
-    none_over d.scene.state.question d.scene.state.ending
-    (second_holds (has_stayed d) (no over d) _ due)
+-- objects that are shown, or that fall, one after another
+module _ (P : Claim) (moves : Moves P) where
+  pub shown_up_to_kept : (m : ℕ) (v : View) → P v
+      → P (record v { objects = layout_with_shown_up_to m v.objects })
+  unfolding layout_with_shown_up_to layout_with_object_shown
+  shown_up_to_kept zero v h = h
+  shown_up_to_kept (suc m) v h =
+      let o = layout_with_shown_up_to m v.objects in
+      let w : View = record v { objects = o } in
+      let x = suc m in
+      choose (λ (l : Layout). P (record v { objects = l })) (is_hidden_in_hand o x)
+      (with_prop o x (UNSEEN -ℤ prop_of o x)) o
+      (λ _. moves w (Prop x (UNSEEN -ℤ prop_of o x)) (shown_up_to_kept m v h))
+      (λ _. shown_up_to_kept m v h)
 
-offered_kept : {P : Claim} (cave : CaveView) (k : IsKept cave P) (i : ℕ) (p : Scene)
-    → On P p.state → On P (by_table offer_rows (deed cave i p)).scene.state
-unfolding offer_rows
-offered_kept {P} cave k i p h =
-    let d = deed cave i p in
-    guarded (λ (a : Act (Unit {0})). On P a.scene.state) (nothing_but (λ e. tt)) d offer_rows (
-      (λ due. asking_kept P cave (question.Hint i) (restart d).scene
-          (k.asks (question.Hint i) (facts p.state) refl (offer_calm d due) h)),
-      λ _. ((λ _. h), λ _. h),
-    )
+  fallen_kept : (cave : CaveView) (place m : ℕ) (v : View) → P v
+      → P (record v { objects = layout_after_falls cave place m v.objects })
+  unfolding layout_after_falls layout_after_fall
+  fallen_kept cave place zero v h = h
+  fallen_kept cave place (suc m) v h =
+      let x = suc m in let o = v.objects in
+      let to = fallen_place cave place x in
+      let l = if is_carried o x then after_move_to o x to else o in
+      fallen_kept cave place m (record v { objects = l })
+      (choose (λ (l : Layout). P (record v { objects = l })) (is_carried o x)
+      (after_move_to o x to) o (λ _. moves v (Place x to) h) (λ _. h))
 
-considered_kept : {P : Claim} (cave : CaveView) (k : IsKept cave P) (i : ℕ) (p : Scene)
-    → On P p.state → On P (after_consider cave i p).state
-unfolding after_consider turn_rows
-considered_kept {P} cave k i p h =
-    let d = deed cave i p in
-    guarded (λ (a : Act (Unit {0})). On P a.scene.state) (nothing_but (λ e. tt)) d turn_rows (
-      (λ _. offered_kept cave k i (count_turn d).scene h),
-      λ _. ((λ _. h), λ _. h),
-    )
+  pub left_kept : (cave : CaveView) (s : State) (v : View) → v.objects ≡ s.objects → P v
+      → P (record v { objects = (without_belongings cave s).objects })
+  unfolding without_belongings layout_with_lamp_out
+  left_kept cave s v same h =
+      let x = thing cave name.Lamp in
+      let l = if is_in_hand cave s x then with_prop s.objects x LAMP_OFF else s.objects in
+      fallen_kept cave s.trail.older 100 (record v { objects = l })
+      (choose (λ (l : Layout). P (record v { objects = l })) (is_in_hand cave s x)
+      (with_prop s.objects x LAMP_OFF) s.objects
+      (λ _. rw (sym same) (moves v (Prop x LAMP_OFF) h)) (λ _. rw (sym same) h))
 
-hints_kept : {P : Claim} (cave : CaveView) (k : IsKept cave P) (n : ℕ) (p : Scene)
-    → On P p.state → On P (after_hints_up_to cave n p).state
-unfolding after_hints_up_to
-hints_kept cave k zero p h = h
-hints_kept cave k (suc n) p h =
-    considered_kept cave k (n + 4) (after_hints_up_to cave n p) (hints_kept cave k n p h)
-
-oyster_kept : (P : Claim) (cave : CaveView) (p : Scene) → On P p.state
-    → On P (after_oyster_shows cave p).state
-unfolding after_oyster_shows
-oyster_kept P cave p h =
-    let oyster = thing cave name.Oyster in
-    chosen_scene P (is_hidden_in_hand p.state.objects oyster) (after_look_at oyster (pos 1) p) p
-    (looking_kept P oyster (pos 1) p h) h
-
--- what is in the hands is shown
-hands_kept : (P : Claim) (cave : CaveView) (p : Scene) → On P p.state
-    → On P (after_hands_show cave p).state
-unfolding after_hands_show
-hands_kept P cave p h =
-    let q = after_oyster_shows cave p in
-    chosen_scene P p.state.closing.is_closed
-    (with_state (with_objects (layout_with_shown_up_to 100 q.state.objects) q.state) q) p
-    (oyster_kept P cave p h) h
-
-pub finished_kept : {P : Claim} (cave : CaveView) (k : IsKept cave P) (p : Scene)
-    → On P p.state
-    → On P (end_of_turn cave p).state
-unfolding end_of_turn
-finished_kept {P} cave k p h =
-    chosen_scene P (takes_no_command p.state) p (after_hints cave (after_hands_show cave p)) h
-    (hints_kept cave k 17 (after_hands_show cave p) (hands_kept P cave p h))
-
--- what follows what a verb did
-following_kept : {P : Claim} (cave : CaveView) (k : IsKept cave P) (next : Next) (p : Scene)
-    → is_asking_die next ≡ false → On (Calm P) p.state → On P (next_scene cave next p).state
-following_kept cave k next_is.Stay p other h = h.0
-following_kept cave k next_is.Keep p other h = h.0
-following_kept cave k next_is.Describe p other h = describing_kept cave k p h
-following_kept cave k (next_is.Arrive place) p other h = arriving_kept cave k place p h.0
-following_kept {P} cave k (next_is.Ask q) p other h =
-    asking_kept P cave q p (k.asks q (facts p.state) other h.1 h.0)
-following_kept {P} cave k (next_is.End how) p other h =
-    ended_kept P cave how p (k.ends how (facts p.state) h.0)
-
-acting_kept : {P : Claim} (cave : CaveView) (k : IsKept cave P) (command : Command) (p : Scene)
-    → On (Calm P) p.state → On P (words_done_by_verb cave command p).scene.state
-unfolding words_done_by_verb
-acting_kept {P} cave k command p h =
-    let a = act cave command p in
-    following_kept cave k (next_of_step a.step) a.scene (order_spares cave command p)
-    (acted_kept (Calm P) cave command p h)
-
-travelling_kept : {P : Claim} (cave : CaveView) (k : IsKept cave P) (motion : ℕ) (p : Scene)
-    → On (Calm P) p.state → On P (after_travel cave motion p).state
-unfolding after_travel
-travelling_kept cave k motion p h =
-    let j = journey_by_request cave motion p in
-    arriving_kept cave k j.place j.scene (motion_kept cave k motion p h)
-
--- an action is done, or what the cave says of it is said
-acting_if_kept : {P : Claim} (cave : CaveView) (k : IsKept cave P) (o : Option Verb)
-    (number x : ℕ) (word : List ℕ) (p : Scene)
-    → On (Calm P) p.state → On P (words_done_by_action cave o number x word p).scene.state
-acting_if_kept cave k (Some v) number x word p h = acting_kept cave k (command_of v x word) p h
-acting_if_kept {P} cave k None number x word p h = said_kept P cave number p h.0
-
-done_kept : {P : Claim} (cave : CaveView) (k : IsKept cave P) (half : HalfCommand)
-    (r : Request)
-    (p : Scene)
-    → On (Calm P) p.state → On P (words_done_by_request cave half r p).scene.state
-unfolding after_puzzle
-done_kept cave k half request.Unknown p h = h.0
-done_kept cave k half (request.Motion motion) p h = travelling_kept cave k motion p h
-done_kept cave k half (request.Tell told) p h = h.0
-done_kept cave k half request.Knives p h = h.0
-done_kept cave k half (request.Act number x word) p h =
-    acting_if_kept cave k (verb_of number) number x word p h
-done_kept cave k half (request.WhatToDo word) p h = h.0
+-- what is said of a word that the cave doesn't have
+puzzled_kept : (P : Claim) (cave : CaveView) (p : Scene) → On P p.state
+    → On P (after_puzzle cave p).state
+unfolding after_puzzle puzzle_rows
+puzzled_kept P cave p h =
+    let once = after_draw p in
+    let about : Draws = record { first = happens 20 p; second = happens 20 once } in
+    table_leads P P puzzle_rows ((λ e g. (g, tt)), ((λ e g. (g, tt)), ((λ e g. (g, tt)), tt)))
+    (λ e g. g) (deed cave about (after_draw once)) h
 
 remembering_kept : (P : Claim) (o : Option HalfCommand) (x : ℕ) (s : State) → On P s
     → On P (after_remembering o x s)
@@ -185,135 +124,183 @@ remembering_kept P (Some half) x s h = h
 settled_kept : (P : Claim) (x : ℕ) (d : WordsDone) → On P d.scene.state
     → On P (kept_scene x d).state
 unfolding kept_scene
-settled_kept P x d h = remembering_kept P d.kept x d.scene.state h
+settled_kept P x d h = remembering_kept P d.step x d.scene.state h
 
--- what was understood is carried out
-carried_out_kept : {P : Claim} (cave : CaveView) (k : IsKept cave P) (u : Understood)
-    (p : Scene)
-    → On (Calm P) p.state → On P (scene_of_understood cave u p).state
-unfolding scene_of_understood
-carried_out_kept {P} cave k u p h =
-    settled_kept P u.half.object (words_done_by_request cave u.half u.request p)
-    (done_kept cave k u.half u.request p h)
+module _ {cave : CaveView} {Here : ℕ → Type 0} {P : Claim} (k : IsKept cave Here P) where
+  -- a hint is offered only where nothing is over
+  offered_kept : (i : ℕ) (p : Scene) → On P p.state
+      → On P (by_table offer_rows (deed cave i p)).scene.state
+  unfolding offer_rows takes_no_command
+  offered_kept i p h =
+      let d = deed cave i p in
+      guarded (λ (a : Act (Unit {0})). On P a.scene.state) (nothing_but (λ e. tt)) d offer_rows (
+        (λ due. asking_kept P cave (question.Hint i) (restart d).scene
+            (k.asks (question.Hint i) (view p.state) refl (calm d due) h)),
+        λ _. ((λ _. h), λ _. h),
+      )
+    where
+      calm : (d : Deed ℕ) → all_hold (has_stayed ∷ no over ∷ helpful ∷ []) d ≡ true
+          → (d.scene.state.question ≡ None) × (d.scene.state.ending ≡ None)
+      calm d due =
+          none_over d.scene.state.question d.scene.state.ending
+          (not_so _ (first_holds (no over d) _ (second_holds (has_stayed d) _ due)))
 
--- the words of a line are done
-done_for_kept : {P : Claim} (cave : CaveView) (k : IsKept cave P) (words : Words) (p : Scene)
-    → On (Calm P) p.state → On P (scene_of_words cave words p).state
-done_for_kept {P} cave k words p h = by_first words.first
-  where
-    by_first : (o : Option (List ℕ))
-        → On P (elim o as (λ _. Scene) [
-          | None ↦ p
-          | Some word ↦ scene_of_understood cave
-              (read_words cave p.state (half_command_of p.state.talk) word words.second) p
-        ]).state
-    by_first None = h.0
-    by_first (Some word) =
-        carried_out_kept cave k
-        (read_words cave p.state (half_command_of p.state.talk) word words.second) p
-        h
+  hints_kept : (n : ℕ) (p : Scene) → On P p.state → On P (after_hints_up_to cave n p).state
+  unfolding after_hints_up_to after_consider turn_rows
+  hints_kept zero p h = h
+  hints_kept (suc n) p h =
+      let d = deed cave (n + 4) (after_hints_up_to cave n p) in
+      let before = hints_kept n p h in
+      guarded (λ (a : Act (Unit {0})). On P a.scene.state) (nothing_but (λ e. tt)) d turn_rows (
+        (λ _. offered_kept (n + 4) (count_turn d).scene before),
+        λ _. ((λ _. before), λ _. before),
+      )
 
--- what the clocks leave of a command
-after_clocks_kept : {P : Claim} (cave : CaveView) (k : IsKept cave P) (words : Words)
-    (before : ℕ)
-    (o : Clocks) (p : Scene) → After (Calm P) cave before o p.state
-    → On P (after_clocks cave words o p).state
-unfolding kept_scene
-after_clocks_kept cave k words before clocks.GoOn p h = done_for_kept cave k words p h
-after_clocks_kept {P} cave k words before clocks.GaveUp p h =
-    ended_kept P cave ending_is.Quit p (k.ends ending_is.Quit (facts p.state) h.0)
-after_clocks_kept {P} cave k words before (clocks.Closed place) p h =
-    let f : Facts = record (facts p.state) { here = before } in
-    arriving_open cave k before place p h.0
-    (λ some. k.puts p.state.trail.here f some (inl h.1) h.0.0)
+  -- what is in the hands is shown
+  hands_kept : (p : Scene) → On P p.state → On P (by_table hands_rows (deed cave tt p)).scene.state
+  unfolding hands_rows
+  hands_kept p h =
+      let o = thing cave name.Oyster in
+      guarded (λ (a : Act (Unit {0})). On P a.scene.state) (nothing_but (λ e. tt)) (deed cave tt p)
+      hands_rows (
+        (λ _. choose (λ (q : Scene). On P (with_objects
+            (layout_with_shown_up_to 100 q.state.objects)
+            q.state)) (o == 0) p (after_telling (part.Object o (pos 1)) p)
+            (λ _. shown_up_to_kept P k.played.objects 100 (view p.state) h)
+            (λ _. shown_up_to_kept P k.played.objects 100 (view p.state) h)),
+        λ _. ((λ _. shown_up_to_kept P k.played.objects 100 (view p.state) h), λ _. h),
+      )
 
--- the clocks keep a claim, and that commands can follow
-pub calm_timed : (Q : Claim) → IsTimed Q → IsTimed (Calm Q)
-calm_timed Q timed = record {
-  counts = λ f going h. (timed.counts f going h.0, h.1);
-  begins = λ f h. (timed.begins f h.0, h.1);
-  shuts = λ f stopped h. (timed.shuts f stopped h.0, h.1);
-}
+  pub finished_kept : (p : Scene) → On P p.state → On P (end_of_turn cave p).state
+  unfolding end_of_turn end_rows
+  finished_kept p h =
+      let d = deed cave tt p in
+      guarded (λ (a : Act (Unit {0})). On P a.scene.state) (nothing_but (λ e. tt)) d end_rows
+      ((λ _. hints_kept 17 (by_table hands_rows d).scene (hands_kept p h)), λ _. h)
 
--- the clocks run, and what they leave is done
-timed_kept : (Q : Claim) {P : Claim} (cave : CaveView) (k : IsKept cave P)
-    (timed : IsTimed (Calm Q)) (words : Words) (p : Scene)
-    → Lights cave (Calm Q) (Calm P) (before_lamp cave p) → On (Calm Q) p.state
-    → On P (clocks_scene cave words p).state
-unfolding clocks_scene
-timed_kept Q {P} cave k timed words p lamp h =
-    let t = run_clocks cave p in
-    let after = clocks_kept (Calm Q) (Calm P) timed cave p lamp h in
-    after_clocks_kept cave k words after.0 t.step t.scene after.1
+  -- what follows what a verb did
+  following_kept : (next : Next) (p : Scene) → is_asking_die next ≡ false
+      → On (Ready Here P) p.state → On P (next_scene cave next p).state
+  following_kept next_is.Stay p other h = h.holds
+  following_kept next_is.Keep p other h = h.holds
+  following_kept next_is.Describe p other h = describing_kept k p (anywhere h)
+  following_kept (next_is.Arrive place) p other h = arriving_kept k place p h.holds
+  following_kept (next_is.Ask q) p other h =
+      asking_kept P cave q p (k.asks q (view p.state) other h.calm h.holds)
+  following_kept (next_is.End how) p other h = ending_kept k how p h
 
-pub commanded_kept : (Q : Claim) {P : Claim} (cave : CaveView) (k : IsKept cave P)
-    (timed : IsTimed (Calm Q)) (line : List ℕ) (s : State)
-    → Lights cave (Calm Q) (Calm P) (before_lamp cave (before_clocks cave s)) → On (Calm Q) s
-    → On P (command_scene cave line s).state
-unfolding command_scene begin_command
-commanded_kept Q cave k timed line s lamp h =
-    let p = before_clocks cave s in
-    finished_kept cave k (clocks_scene cave (words_of cave.letters line) p)
-    (timed_kept Q cave k timed (words_of cave.letters line) p lamp h)
+  -- an action is done, or what the cave says of it is said
+  acting_kept : (o : Option Verb) (number x : ℕ) (word : List ℕ) (p : Scene)
+      → On (Ready Here P) p.state → On P (words_done_by_action cave o number x word p).scene.state
+  unfolding words_done_by_verb
+  acting_kept (Some v) number x word p h =
+      let a = act cave (command_of v x word) p in
+      let acted = acted_kept k.played cave (command_of v x word) p h in
+      following_kept (next_of_step a.step) a.scene acted.1 acted.0
+  acting_kept None number x word p h =
+      choose (λ (q : Scene). On P q.state) (default_message cave number == 0) p
+      (after_telling (part.Message (default_message cave number)) p) (λ _. h.holds) (λ _. h.holds)
 
--- the lamp keeps a claim that any charge keeps
-lit_kept : (Q P : Claim) → Leads Q P → Charges Q → (cave : CaveView) (o : Option Scene)
-    → Lights cave (Calm Q) (Calm P) o
-lit_kept Q P leads charges cave None = λ f h. (leads f h.0, h.1)
-lit_kept Q P leads charges cave (Some p) =
-    let calm : Charges (Calm Q) = λ f c x. (charges f c x.0, x.1) in
-    λ h. let lit = lamp_kept (Calm Q) calm cave p h in (leads _ lit.0, lit.1)
+  done_kept : (half : HalfCommand) (r : Request) (p : Scene) → On (Ready Here P) p.state
+      → On P (words_done_by_request cave half r p).scene.state
+  unfolding after_travel
+  done_kept half request.Unknown p h = puzzled_kept P cave p h.holds
+  done_kept half (request.Motion motion) p h =
+      let j = journey_by_request cave motion p in
+      arriving_kept k j.step j.scene (motion_kept k motion p (anywhere h))
+  done_kept half (request.Tell told) p h = h.holds
+  done_kept half request.Knives p h = h.holds
+  done_kept half (request.Act number x word) p h = acting_kept (verb_of number) number x word p h
+  done_kept half (request.WhatToDo word) p h = h.holds
 
--- a command is done where any charge keeps a claim
-pub command_kept : (Q : Claim) {P : Claim} (cave : CaveView) (k : IsKept cave P)
-    (timed : IsTimed (Calm Q)) → Leads Q P → Charges Q
-    → (line : List ℕ) (s : State) → On (Calm Q) s → On P (command_scene cave line s).state
-command_kept Q {P} cave k timed leads charges line s h =
-    commanded_kept Q cave k timed line s
-    (lit_kept Q P leads charges cave (before_lamp cave (before_clocks cave s))) h
+  -- what was understood is carried out
+  carried_out_kept : (u : Understood) (p : Scene) → On (Ready Here P) p.state
+      → On P (scene_of_understood cave u p).state
+  unfolding scene_of_understood
+  carried_out_kept u p h =
+      settled_kept P u.half.object (words_done_by_request cave u.half u.request p)
+      (done_kept u.half u.request p h)
 
--- what is said of a revival changes nothing
-reborn_same : (d : Deed Question) → (by_table reborn_rows d).scene.state ≡ d.scene.state
-unfolding reborn_rows
-reborn_same d =
-    guarded (λ (a : Act (Unit {0})). a.scene.state ≡ d.scene.state) (nothing_but (λ e. tt)) d
-    reborn_rows ((λ _. refl), λ _. ((λ _. refl), λ _. ((λ _. refl), λ _. refl)))
+  -- the words of a line are done
+  done_for_kept : (words : Words) (p : Scene) → On (Ready Here P) p.state
+      → On P (scene_of_words cave words p).state
+  done_for_kept words p h = by_first words.first
+    where
+      by_first : (o : Option (List ℕ))
+          → On P (elim o as (λ _. Scene) [
+            | None ↦ p
+            | Some word ↦ scene_of_understood cave (read_words cave word words.second p) p
+          ]).state
+      by_first None = h.holds
+      by_first (Some word) = carried_out_kept (read_words cave word words.second p) p h
 
--- a player who died comes back, or not
-revived_kept : {Q P : Claim} (cave : CaveView) (k : IsKept cave P)
-    → IsBegun (building_place cave) Q P
-    → (p r : Scene) → p.state.question ≡ Some question.Die → p.state.ending ≡ None → On Q p.state
-    → r.state ≡ with_one_death (without_question p.state)
-    → On P (by_table revival_rows (deed cave question.Die r)).scene.state
-unfolding revival_rows revive without_belongings
-revived_kept {Q} {P} cave k b p r asked goes h same =
-    guarded (λ (a : Act (Unit {0})). On P a.scene.state) (nothing_but (λ e. tt))
-    (deed cave question.Die r) revival_rows (
-      (λ _. ended_kept P cave ending_is.Killed r
-          (subst (λ (s : State). On P (with_ending ending_is.Killed s)) (sym same)
-          (b.buries ending_is.Killed (facts p.state) asked goes h))),
-      λ others.
-          let few = sym (ap (λ (s : State). nat_le 3 s.tallies.deaths) same)
-          ∙ fails_alone (nat_le 3 r.state.tallies.deaths) others in (
-            (λ _. describing_kept cave k
-                (with_state
-                (with_player_from (building_place cave) (without_belongings cave r.state)) r)
-                (subst
-                (λ (s : State). On (Calm P)
-                (with_player_from (building_place cave) (without_belongings cave s))) (sym same)
-                (b.revives (facts p.state) few asked goes h, (refl, goes)))),
-            λ never. absurd (true≢false never),
-          ),
-    )
+  -- what the clocks leave of a command
+  after_clocks_kept : (words : Words) (before : ℕ) (o : Clocks) (p : Scene)
+      → After (Ready Here P) cave before o p.state → On P (after_clocks cave words o p).state
+  unfolding kept_scene
+  after_clocks_kept words before clocks.GoOn p h = done_for_kept words p h
+  after_clocks_kept words before clocks.GaveUp p h = ending_kept k ending_is.Quit p h
+  after_clocks_kept words before (clocks.Closed place) p h =
+      let v : View = record (view p.state) { here = before } in
+      arriving_open k before place p h.0.holds h.0.calm
+      (λ some. k.puts p.state.trail.here v some (inl h.1) h.0.holds)
 
-pub reborn_kept : {Q P : Claim} (cave : CaveView) (k : IsKept cave P)
-    → IsBegun (building_place cave) Q P
-    → (p : Scene) → p.state.question ≡ Some question.Die → p.state.ending ≡ None → On Q p.state
-    → (let q = with_state (without_question p.state) p in
-    On P (after_all come_back (deed cave question.Die q)).scene.state)
-unfolding come_back
-reborn_kept {Q} {P} cave k b p asked goes h =
-    let d = deed cave question.Die (with_state (without_question p.state) p) in
-    let e = count_death (by_table reborn_rows d) in
-    revived_kept cave k b p e.scene asked goes h
-    (ap (λ (s : State). with_one_death s) (reborn_same d))
+  -- the clocks run, and what they leave is done
+  pub commanded_kept : {Q : Claim} → IsTimed IsCalm Q → (line : List ℕ) (s : State)
+      → Lights cave (Ready Here Q) (Ready Here P) (before_lamp cave (before_clocks cave s))
+      → On (Ready Here Q) s → On P (command_scene cave line s).state
+  unfolding command_scene begin_command clocks_scene
+  commanded_kept {Q} timed line s light h =
+      let p = before_clocks cave s in
+      let words = words_of cave.letters line in
+      let t = run_clocks cave p in
+      let after =
+      clocks_kept (Ready Here P) (ready_timed {Here = Here} {P = Q} timed) cave p light h in
+      finished_kept (clocks_scene cave words p)
+      (after_clocks_kept words after.0 t.step t.scene after.1)
+
+  -- a player who died comes back, or not
+  revived_kept : {Q : Claim} → IsBegun (building_place cave) Q P
+      → (p r : Scene) → p.state.question ≡ Some question.Die → p.state.ending ≡ None
+      → On Q p.state → r.state ≡ with_one_death (without_question p.state)
+      → On P (by_table revival_rows (deed cave question.Die r)).scene.state
+  unfolding revival_rows revive without_belongings
+  revived_kept {Q} b p r asked goes h same =
+      guarded (λ (a : Act (Unit {0})). On P a.scene.state) (nothing_but (λ e. tt))
+      (deed cave question.Die r) revival_rows (
+        (λ _. ended_kept P cave ending_is.Killed r
+            (subst (λ (s : State). On P (with_ending ending_is.Killed s)) (sym same)
+            (b.buries ending_is.Killed (view p.state) asked goes h))),
+        λ others.
+            let few = sym (ap (λ (s : State). nat_le 3 s.tallies.deaths) same)
+            ∙ fails_alone (nat_le 3 r.state.tallies.deaths) others in (
+              (λ _. describing_kept k
+                  (with_state
+                  (with_player_from (building_place cave) (without_belongings cave r.state)) r)
+                  (subst
+                  (λ (s : State). On (Ready Anywhere P)
+                  (with_player_from (building_place cave) (without_belongings cave s))) (sym same)
+                  (record {
+                    holds = left_kept P k.played.objects cave
+                        (with_one_death (without_question p.state)) _ refl
+                        (b.revives (view p.state) few asked goes h);
+                    calm = (refl, goes);
+                    at = tt;
+                  }))),
+              λ never. absurd (true≢false never),
+            ),
+      )
+
+  pub reborn_kept : {Q : Claim} → IsBegun (building_place cave) Q P
+      → (p : Scene) → p.state.question ≡ Some question.Die → p.state.ending ≡ None
+      → On Q p.state
+      → (let q = with_state (without_question p.state) p in
+      On P (after_all come_back (deed cave question.Die q)).scene.state)
+  unfolding come_back reborn_rows
+  reborn_kept {Q} b p asked goes h =
+      let d = deed cave question.Die (with_state (without_question p.state) p) in
+      let e = count_death (by_table reborn_rows d) in
+      let same : (by_table reborn_rows d).scene.state ≡ d.scene.state =
+      guarded (λ (a : Act (Unit {0})). a.scene.state ≡ d.scene.state) (nothing_but (λ e. tt)) d
+      reborn_rows ((λ _. refl), λ _. ((λ _. refl), λ _. ((λ _. refl), λ _. refl))) in
+      revived_kept b p e.scene asked goes h (ap (λ (s : State). with_one_death s) same)

@@ -1,6 +1,7 @@
 -- Laws of what only ever goes one way in a game.
 use Rattle.std.specs.Prelude.{◌≡◌, ◌≤◌, ◌<◌, ◌+◌, ◌⊎◌, ℕ, ℤ, pos, negsuc, ◌≤ℤ◌, ◌-ℤ◌, Bool, true}
 use Rattle.std.specs.Prelude.{false, ◌&&◌, if◌then◌else◌, List, Option, Some, None}
+use Rattle.std.specs.Prelude.{length, filter}
 use Rattle.std.specs.Int.{int_min}
 use Rattle.std.specs.Ordering.{int_eq}
 use Rattle.cave_turn.specs.cave_data.CaveView.{CaveView}
@@ -35,6 +36,16 @@ pub record IsAfter (s t : State) : Type 0 where
 abbrev pub NothingGoesBack : Type 0
 NothingGoesBack =
     (cave : CaveView) (s : State) (line : List ℕ) → IsAfter s (turn_on_line cave s line).state
+
+-- so many hints were taken
+abbrev pub taken_hints : List Bool → ℕ
+taken_hints is_taken = length (filter (λ taken. taken) is_taken)
+
+-- no line makes them fewer
+abbrev pub HintsNeverFall : Type 0
+HintsNeverFall =
+    (cave : CaveView) (s : State) (line : List ℕ)
+    → taken_hints s.hints.is_taken ≤ taken_hints (turn_on_line cave s line).state.hints.is_taken
 
 -- a closed cave is a closing one, and so is one whose first clock has stopped
 pub record ClosesInOrder (s : State) : Type 0 where

@@ -13,7 +13,7 @@ use Rattle.cave_turn.specs.cave_world.declared.state.State.{State}
 use Rattle.cave_turn.specs.turn_things.Places.{building_place, start_place}
 use Rattle.cave_turn.specs.turn_scene.Scene.{Scene, scene_at_start, thing}
 use Rattle.cave_turn.specs.turn_clocks.FirstClock.{first_clock}
-use Rattle.cave_turn.specs.turn_clocks.Lamp.{burning, can_change_batteries}
+use Rattle.cave_turn.specs.turn_clocks.Lamp.{burn, can_change_batteries}
 use Rattle.cave_turn.specs.turn_clocks.Repository.{second_clock}
 use Rattle.cave_turn.specs.turn_rules.Rows.{deed, all_hold}
 use Rattle.cave_turn.specs.turn_ends.Questions.{is_dragon}
@@ -136,7 +136,7 @@ before_lamp cave p =
 -- the lamp is reached, and its batteries are changed: they can be, once a turn is burnt
 abbrev pub is_changed : CaveView → Option Scene → Bool
 is_changed cave None = false
-is_changed cave (Some p) = all_hold can_change_batteries (burning (deed cave tt p))
+is_changed cave (Some p) = all_hold can_change_batteries (burn (deed cave tt p))
 
 -- the lamp gets new batteries in a command that begins in a state
 abbrev pub gets_batteries : CaveView → State → Bool

@@ -2,3 +2,4 @@ pub mod Laws
 pub mod Courses
 pub mod DwarfLaws
 pub mod ObjectLaws
+pub mod Reachable

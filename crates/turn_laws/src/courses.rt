@@ -1,5 +1,6 @@
 //! Laws of what only ever goes one way in a game.
 ghost use Rattle.turn_laws.specs.Courses.{AskedInTime, ClosedIsClosing, DeathsComeOneByOne};
+ghost use Rattle.turn_laws.specs.Courses.{HintsNeverFall};
 ghost use Rattle.turn_laws.specs.Courses.{LampBurnsByOne, NoScoreIsGreater, NobodyGetsOut};
 ghost use Rattle.turn_laws.specs.Courses.{NothingGoesBack, TreasuresGoOneWay};
 
@@ -44,4 +45,9 @@ pub fn nobody_gets_out()
 /// no other line, but to 35 at most where a treasure is found.
 pub fn lamp_burns_by_one()
     ensures { LampBurnsByOne }
+{}
+
+/// No line makes the hints fewer that were taken.
+pub fn hints_never_fall()
+    ensures { HintsNeverFall }
 {}

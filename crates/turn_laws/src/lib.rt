@@ -5,6 +5,7 @@ pub mod carrying;
 pub mod courses;
 pub mod dwarf_laws;
 pub mod object_laws;
+pub mod reachable;
 
 ghost use Rattle.turn_laws.specs.Laws.{CommandsTick, EndIsQuiet, FewDeaths, LampBurnsDown};
 ghost use Rattle.turn_laws.specs.Laws.{PlayerIsSomewhere, SeedsAlone};

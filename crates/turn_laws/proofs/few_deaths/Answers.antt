@@ -1,4 +1,4 @@
-use Rattle.turn_laws.proofs.Claims.{few_deaths}
+use Rattle.turn_laws.proofs.Deaths.{few_deaths}
 use Rattle.turn_laws.proofs.few_deaths.Goals as goal
 
 pub returns : goal.returns

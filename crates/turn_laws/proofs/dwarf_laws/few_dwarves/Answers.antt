@@ -1,4 +1,4 @@
-use Rattle.turn_laws.proofs.Band.{few_dwarves}
+use Rattle.turn_laws.proofs.Counts.{few_dwarves}
 use Rattle.turn_laws.proofs.dwarf_laws.few_dwarves.Goals as goal
 
 pub returns : goal.returns

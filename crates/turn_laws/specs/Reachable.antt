@@ -1,0 +1,73 @@
+-- What holds of each state that a game comes to.
+use Rattle.std.specs.Prelude.{◌≡◌, ◌≤◌, ◌⊎◌, ℕ, ℤ, pos, negsuc, ◌≤ℤ◌, List, [], ◌∷◌, None}
+use Rattle.cave_turn.specs.cave_data.CaveView.{CaveView}
+use Rattle.cave_turn.specs.cave_world.declared.state.State.{State}
+use Rattle.cave_turn.specs.turn_things.Places.{building_place, start_place}
+use Rattle.cave_turn.specs.turn_score.Score.{score_of, max_score_of}
+use Rattle.cave_turn.specs.Turns.{turn_on_line, start_of_game}
+use Rattle.turn_laws.specs.Courses.{ClosesInOrder, IsAskedInTime}
+use Rattle.turn_laws.specs.DwarfLaws.{HasFewDwarves}
+use Rattle.turn_laws.specs.Laws.{HasFewDeaths, IsSomewhere}
+use Rattle.turn_laws.specs.ObjectLaws.{CarriesFew}
+
+-- the state that lines of a log lead to, one after another
+abbrev pub after_lines : CaveView → State → List (List ℕ) → State
+after_lines cave s [] = s
+after_lines cave s (line ∷ lines) = after_lines cave (turn_on_line cave s line).state lines
+
+-- a state is one that a game comes to: a start of some seed, and then lines, lead to it
+pub record IsReachable (cave : CaveView) (s : State) : Type 0 where
+  pub seed : ℕ
+  pub lines : List (List ℕ)
+  pub leads : after_lines cave (start_of_game cave seed).state lines ≡ s
+
+-- the clocks, the lamp and the counts of treasures, unseen and lost, stay within their bounds
+pub record IsWithin (first second charge : ℤ) (unseen lost : ℕ) : Type 0 where
+  pub first_clock : (negsuc 0 ≤ℤ first) × (first ≤ℤ pos 30)
+  pub second_clock : (negsuc 0 ≤ℤ second) × (second ≤ℤ pos 50)
+  pub lamp : (negsuc 0 ≤ℤ charge) × (charge ≤ℤ pos 100000)
+  pub seen : unseen ≤ 30
+  pub gone : lost ≤ 60000
+
+abbrev pub IsBounded : State → Type 0
+IsBounded s =
+    IsWithin s.closing.first_clock s.closing.second_clock s.lamp.charge s.tallies.unseen
+    s.tallies.lost
+
+-- a game begins so, and each line keeps it so
+pub record StaysBounded : Type 0 where
+  pub start : (cave : CaveView) (seed : ℕ) → IsBounded (start_of_game cave seed).state
+  pub kept :
+      (cave : CaveView) (s : State) (line : List ℕ) → IsBounded s
+      → IsBounded (turn_on_line cave s line).state
+
+-- a question is open or the game has ended, or neither: never both
+abbrev pub AsksOrEnds : State → Type 0
+AsksOrEnds s = (s.question ≡ None) ⊎ (s.ending ≡ None)
+
+-- a game begins so, and each line keeps it so
+pub record NeverBoth : Type 0 where
+  pub start : (cave : CaveView) (seed : ℕ) → AsksOrEnds (start_of_game cave seed).state
+  pub kept :
+      (cave : CaveView) (s : State) (line : List ℕ) → AsksOrEnds s
+      → AsksOrEnds (turn_on_line cave s line).state
+
+-- neither the place where a game begins nor that where the dead come back is place 0
+abbrev pub HasPlaces : CaveView → Type 0
+HasPlaces cave = (1 ≤ start_place cave) × (1 ≤ building_place cave)
+
+-- what holds of a state of a game
+pub record IsLawful (cave : CaveView) (s : State) : Type 0 where
+  pub deaths : HasFewDeaths s
+  pub hands : CarriesFew s
+  pub closing : ClosesInOrder s
+  pub asked : IsAskedInTime s
+  pub either : AsksOrEnds s
+  pub bounds : IsBounded s
+  pub score : score_of cave s ≤ max_score_of cave
+  pub place : HasPlaces cave → IsSomewhere s
+  pub dwarves : HasPlaces cave → HasFewDwarves s
+
+-- it holds of each state that a game comes to
+abbrev pub ReachableIsLawful : Type 0
+ReachableIsLawful = (cave : CaveView) (s : State) → IsReachable cave s → IsLawful cave s
