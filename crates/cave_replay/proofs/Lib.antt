@@ -11,5 +11,6 @@ pub mod ReadyLemmas
 pub mod Revisions
 pub mod Shifts
 pub mod TableLemmas
+pub mod Tails
 pub mod TakeoverLemmas
 pub mod Underways

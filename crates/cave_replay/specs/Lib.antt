@@ -10,6 +10,7 @@ pub mod Replay
 pub mod Report
 pub mod Session
 pub mod Table
+pub mod Tails
 pub mod Takeover
 pub use Rattle.replay_edits.specs.base_lines as base_lines
 pub use Rattle.replay_edits.specs as replay_edits

@@ -1,7 +1,11 @@
 //! Laws of edits and replays. Each is the contract of a function that does nothing.
 
+ghost use Rattle.std.specs.Prelude.{IsTrue};
 ghost use Rattle.cave_replay.specs.Agreement.{BoundedByFirst};
 ghost use Rattle.cave_replay.specs.Table.{ByTable};
+ghost use Rattle.cave_replay.specs.Tails.{AgreedTails, HaveEqualTails};
+
+use crate::machine::Machine;
 
 /// What a group of one edit leaves alone is what the table of its kind says.
 pub fn by_table()
@@ -12,4 +16,25 @@ pub fn by_table()
 /// and by the end where there is none.
 pub fn bounded_by_first<S, T>()
     ensures { BoundedByFirst S T }
+{}
+
+/// Whether two states of a machine are equal. From equal states any lines lead to equal states, are
+/// said the same and tick alike.
+pub fn equal_states_have_equal_tails<M: Machine>(
+    machine: &M,
+    one: &M::State,
+    other: &M::State,
+) -> bool
+    requires one { M.is_state one.now }
+    requires other { M.is_state other.now }
+    ensures tails { IsTrue result
+        → HaveEqualTails (M.rules machine.now) (M.meaning one.now) (M.meaning other.now) }
+{
+    *one == *other
+}
+
+/// Where the plays of two games agree, they have equal tails, however many turns passed before in
+/// each.
+pub fn agreed_tails<S, T>()
+    ensures { AgreedTails S T }
 {}
