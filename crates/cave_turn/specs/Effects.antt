@@ -10,7 +10,7 @@ module _ {C : Type 0} where
   abbrev pub arrive : (Deed C → ℕ) → Effect C
   arrive place d = in_scene (after_arrival d.cave (place d) d.scene) d
 
-  -- the player is at a place, and came from where it was
+  -- the player is at a place; where the player came from stays as it is
   abbrev pub stand : (Deed C → ℕ) → Effect C
   stand place d = in_scene (scene_at_place (place d) d.scene) d
 
