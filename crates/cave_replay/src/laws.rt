@@ -1,6 +1,6 @@
 //! Laws of edits and replays. Each is the contract of a function that does nothing.
 
-ghost use Rattle.std.specs.Prelude.{IsTrue};
+ghost use Rattle.std.specs.Prelude.{◌≡◌, ◌↔◌, IsTrue};
 ghost use Rattle.cave_replay.specs.Agreement.{BoundedByFirst};
 ghost use Rattle.cave_replay.specs.Table.{ByTable};
 ghost use Rattle.cave_replay.specs.Tails.{AgreedTails, HaveEqualTails};
@@ -27,6 +27,7 @@ pub fn equal_states_have_equal_tails<M: Machine>(
 ) -> bool
     requires one { M.is_state one.now }
     requires other { M.is_state other.now }
+    ensures same { IsTrue result ↔ (M.meaning one.now ≡ M.meaning other.now) }
     ensures tails { IsTrue result
         → HaveEqualTails (M.rules machine.now) (M.meaning one.now) (M.meaning other.now) }
 {
