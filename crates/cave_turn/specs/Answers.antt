@@ -1,12 +1,13 @@
 -- What an answer to an open question does.
 use Rattle.std.specs.Prelude.{ℕ, pos, Bool, true, false, ◌||◌, not, if◌then◌else◌, List, [], ◌∷◌}
-use Rattle.std.specs.Prelude.{Option, Some, None, codes}
+use Rattle.std.specs.Prelude.{None, option_map, unwrap_or, codes}
 use Rattle.turn_text.specs.cave_data.CaveView.{CaveView}
 use Rattle.turn_text.specs.data_rows.declared.role.Role.TheVariants as role
 use Rattle.turn_begin.specs.turn_scene.Scene.{Scene, scene_at_start, after_saying, with_state}
 use Rattle.cave_verbs.specs.verb_commands.turn_rules.Rows.{Effect, Row, deed, plain_row, by_table}
+use Rattle.cave_verbs.specs.verb_commands.turn_rules.Rows.{by_table_about}
 use Rattle.cave_verbs.specs.verb_commands.turn_rules.Tests.{either, start}
-use Rattle.cave_verbs.specs.verb_commands.turn_rules.Effects.{in_scene, say, take_hint, set_charge}
+use Rattle.cave_verbs.specs.verb_commands.turn_rules.Effects.{say, take_hint, set_charge}
 use Rattle.turn_text.specs.cave_words.Words.{is_written, words_of}
 use Rattle.turn_text.specs.cave_world.State.{CLUE_HINT, INSTRUCTIONS_HINT}
 use Rattle.turn_text.specs.cave_world.declared.ending.Ending.TheVariants as ending_is
@@ -30,13 +31,10 @@ answer_of word =
     if is_written (codes "Y") word || is_written (codes "YES") word then Yes
     else (if is_written (codes "N") word || is_written (codes "NO") word then No else Neither)
 
-abbrev pub answer_by : Option (List ℕ) → Answer
-answer_by None = Neither
-answer_by (Some word) = answer_of word
-
 -- the first word of a line alone is the answer
 unfoldable pub answer_in : CaveView → List ℕ → Answer
-answer_in cave line = answer_by (words_of cave.letters line).first
+answer_in cave line =
+    unwrap_or (option_map answer_of (words_of cave.letters line).first) Neither
 
 -- the question is answered
 abbrev pub without_question : State → State
@@ -44,8 +42,7 @@ without_question s = record s { question = None }
 
 -- what is done about the hint of the question
 abbrev pub by_hint : List (Row ℕ (Unit {0})) → Effect Question
-by_hint rows d =
-    in_scene (by_table rows (deed d.cave (hint_number d.about) d.scene)).scene d
+by_hint = by_table_about (λ d. hint_number d.about)
 
 unfoldable pub give_instructions : List (Effect Question)
 give_instructions =

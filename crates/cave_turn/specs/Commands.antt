@@ -11,7 +11,8 @@ use Rattle.turn_begin.specs.turn_scene.Scene.{with_state, after_draw, happens, t
 use Rattle.cave_verbs.specs.Acting.{act, next_of_step}
 use Rattle.cave_verbs.specs.verb_commands.Rows.{command_of}
 use Rattle.cave_verbs.specs.verb_commands.turn_rules.Rows.{Act, Test, Row, act_of, deed, plain_row}
-use Rattle.cave_verbs.specs.verb_commands.turn_rules.Rows.{by_table}
+use Rattle.cave_verbs.specs.verb_commands.turn_rules.Rows.{chance_row, by_table}
+use Rattle.cave_verbs.specs.verb_commands.turn_rules.Tests.{percent}
 use Rattle.cave_verbs.specs.verb_commands.turn_rules.Effects.{say}
 use Rattle.cave_verbs.specs.verb_commands.Effects.{after_default}
 use Rattle.cave_verbs.specs.verb_commands.Verbs.{verb_number, verb_of}
@@ -64,31 +65,21 @@ unfoldable pub after_travel : CaveView → ℕ → Scene → Scene
 after_travel cave motion p =
     let j = journey_by_request cave motion p in after_arrival cave j.step j.scene
 
--- what came of two draws
-pub record Draws : Type 0 where
-  pub first : Bool
-  pub second : Bool
-
-abbrev pub first_happens : Test Draws
-first_happens d = d.about.first
-
-abbrev pub second_happens : Test Draws
-second_happens d = d.about.second
+-- what came of the draw before
+abbrev pub first_happens : Test Bool
+first_happens d = d.about
 
 -- what is said of a word that the cave doesn't have
-unfoldable pub puzzle_rows : List (Row Draws (Unit {0}))
+unfoldable pub puzzle_rows : List (Row Bool (Unit {0}))
 puzzle_rows =
-    plain_row (second_happens ∷ []) (say role.NoWord3 ∷ [])
+    chance_row [] (percent 20) (say role.NoWord3 ∷ [])
     ∷ plain_row (first_happens ∷ []) (say role.NoWord2 ∷ [])
     ∷ plain_row [] (say role.NoWord ∷ [])
     ∷ []
 
--- both draws are made, whatever comes of the first
+-- a draw is made before, whatever comes of it
 unfoldable pub after_puzzle : CaveView → Scene → Scene
-after_puzzle cave p =
-    let once = after_draw p in
-    let about : Draws = record { first = happens 20 p; second = happens 20 once } in
-    (by_table puzzle_rows (deed cave about (after_draw once))).scene
+after_puzzle cave p = (by_table puzzle_rows (deed cave (happens 20 p) (after_draw p))).scene
 
 abbrev pub after_vanished_knives : Scene → Scene
 after_vanished_knives p = after_saying role.Knife (with_state (with_knife knife.Vanished p.state) p)
@@ -171,8 +162,7 @@ after_clocks cave words clocks.GaveUp p = unread_scene (after_end cave Quit p)
 after_clocks cave words (clocks.Closed place) p = unread_scene (after_arrival cave place p)
 
 unfoldable pub clocks_scene : CaveView → Words → Scene → Scene
-clocks_scene cave words p = let t = run_clocks cave p in after_clocks cave words t.step
-    t.scene
+clocks_scene cave words p = let t = run_clocks cave p in after_clocks cave words t.step t.scene
 
 -- a command begins, the clocks run, its words are done, and the turn ends
 unfoldable pub command_scene : CaveView → List ℕ → State → Scene

@@ -1,16 +1,15 @@
 -- What a word says that names an object.
-use Rattle.std.specs.Prelude.{ℕ, Bool, false, ◌==◌, ◌&&◌, nat_le, List, [], ◌∷◌, Option, Some}
-use Rattle.std.specs.Prelude.{None}
-use Rattle.std.specs.List.{list_any}
+use Rattle.std.specs.Prelude.{ℕ, Bool, false, ◌==◌, List, [], ◌∷◌, Option, Some, None}
 use Rattle.turn_begin.specs.turn_scene.Scene.{is_called}
 use Rattle.turn_begin.specs.turn_things.Props.{PLANT_SMALL}
 use Rattle.cave_verbs.specs.verb_commands.Verbs.{verb_number}
 use Rattle.cave_verbs.specs.verb_commands.declared.verb.Verb.{Verb}
 use Rattle.cave_verbs.specs.verb_commands.declared.verb.Verb.TheVariants as verb
-use Rattle.cave_verbs.specs.verb_commands.turn_rules.Rows.{Deed, Test, Thing, Row, row_then}
+use Rattle.cave_verbs.specs.verb_commands.turn_rules.Rows.{Deed, Test, Thing, Row, answer_row}
+use Rattle.cave_verbs.specs.verb_commands.turn_rules.Rows.{answer_by_rows}
 use Rattle.cave_verbs.specs.verb_commands.turn_rules.Tests.{the, either, both, in_hand, near}
 use Rattle.cave_verbs.specs.verb_commands.turn_rules.Tests.{is_here, other_prop, dwarf, in_bottle}
-use Rattle.cave_verbs.specs.verb_commands.turn_rules.Tests.{in_lake, here}
+use Rattle.cave_verbs.specs.verb_commands.turn_rules.Tests.{in_lake, at_one_of, at_from_to}
 use Rattle.turn_text.specs.cave_words.declared.named.Named.{Named}
 use Rattle.turn_text.specs.cave_words.declared.named.Named.TheVariants as name
 use Rattle.turn_text.specs.cave_world.Motions.{motion_number}
@@ -18,7 +17,6 @@ use Rattle.turn_text.specs.cave_world.declared.motion.Motion.{Motion}
 use Rattle.turn_text.specs.cave_world.declared.motion.Motion.TheVariants as motion
 use Rattle.turn_text.specs.cave_world.declared.dwarves.Knife.{Knife}
 use Rattle.turn_text.specs.cave_world.declared.dwarves.Knife.TheVariants as knife
-use Rattle.cave_turn.specs.Answering.{answer_by_rows}
 use Rattle.cave_turn.specs.declared.object_words.NamedObject.{NamedObject}
 use Rattle.cave_turn.specs.declared.object_words.ObjectWord.{ObjectWord}
 use Rattle.cave_turn.specs.declared.object_words.ObjectWord.TheVariants.{Is, Leads, Knives, Unseen}
@@ -27,19 +25,11 @@ abbrev pub named_object : ℕ → Option ℕ → Bool → NamedObject
 named_object x v is_alone = record { object = x; verb = v; is_alone = is_alone }
 
 -- the object
-abbrev pub named : Thing NamedObject
-named d = d.about.object
+abbrev pub it : Thing NamedObject
+it d = d.about.object
 
-abbrev pub called : Named → Test NamedObject
-called n d = is_called d.cave d.about.object n
-
--- the player is at one of the places
-abbrev pub at_one_of : List ℕ → Test NamedObject
-at_one_of places d = list_any (λ place. here d == place) places
-
--- the player is at one of the places from one to another
-abbrev pub at_from_to : ℕ → ℕ → Test NamedObject
-at_from_to first end d = nat_le first (here d) && nat_le (here d) end
+abbrev pub is_it : Named → Test NamedObject
+is_it n d = is_called d.cave d.about.object n
 
 abbrev pub is_knife_at : ℕ → Knife → Bool
 is_knife_at here knife.Unthrown = false
@@ -70,33 +60,29 @@ stands_for t d = Is (t d)
 abbrev pub leads : Motion → Deed NamedObject → ObjectWord
 leads m d = Leads (motion_number m)
 
-abbrev pub knives : Deed NamedObject → ObjectWord
-knives d = Knives
+abbrev pub stands_for_knives : Deed NamedObject → ObjectWord
+stands_for_knives d = Knives
 
-abbrev pub unseen : Deed NamedObject → ObjectWord
-unseen d = Unseen
-
-abbrev pub comes_row : List (Test NamedObject) → (Deed NamedObject → ObjectWord)
-    → Row NamedObject ObjectWord
-comes_row tests word = row_then tests [] word
+abbrev pub stands_for_nothing : Deed NamedObject → ObjectWord
+stands_for_nothing d = Unseen
 
 -- what the word of an object says
 unfoldable pub object_word_rows : List (Row NamedObject ObjectWord)
 object_word_rows =
-    comes_row (either (is_here named) (in_hand named) ∷ []) (stands_for named)
-    ∷ comes_row (called name.Grate ∷ at_one_of (1 ∷ 4 ∷ 7 ∷ []) ∷ []) (leads motion.Depression)
-    ∷ comes_row (called name.Grate ∷ at_from_to 10 14 ∷ []) (leads motion.Entrance)
-    ∷ comes_row (called name.Dwarf ∷ dwarf ∷ []) (stands_for named)
-    ∷ comes_row (either (both (in_bottle named) (near (the name.Bottle))) (in_lake named) ∷ [])
-    (stands_for named)
-    ∷ comes_row (called name.Plant ∷ is_here (the name.SecondPlant)
+    answer_row (either (is_here it) (in_hand it) ∷ []) (stands_for it)
+    ∷ answer_row (is_it name.Grate ∷ at_one_of (1 ∷ 4 ∷ 7 ∷ []) ∷ []) (leads motion.Depression)
+    ∷ answer_row (is_it name.Grate ∷ at_from_to 10 14 ∷ []) (leads motion.Entrance)
+    ∷ answer_row (is_it name.Dwarf ∷ dwarf ∷ []) (stands_for it)
+    ∷ answer_row (either (both (in_bottle it) (near (the name.Bottle))) (in_lake it) ∷ [])
+    (stands_for it)
+    ∷ answer_row (is_it name.Plant ∷ is_here (the name.SecondPlant)
     ∷ other_prop (the name.SecondPlant) PLANT_SMALL ∷ []) (stands_for (the name.SecondPlant))
-    ∷ comes_row (called name.Knife ∷ thrown_here ∷ []) knives
-    ∷ comes_row (called name.Rod ∷ near (the name.SecondRod) ∷ []) (stands_for (the name.SecondRod))
-    ∷ comes_row (either (by_verb verb.Find) (by_verb verb.Inventory) ∷ alone ∷ [])
-    (stands_for named)
-    ∷ comes_row [] unseen
+    ∷ answer_row (is_it name.Knife ∷ thrown_here ∷ []) stands_for_knives
+    ∷ answer_row (is_it name.Rod ∷ near (the name.SecondRod) ∷ []) (stands_for (the name.SecondRod))
+    ∷ answer_row (either (by_verb verb.Find) (by_verb verb.Inventory) ∷ alone ∷ [])
+    (stands_for it)
+    ∷ answer_row [] stands_for_nothing
     ∷ []
 
 abbrev pub object_word : Deed NamedObject → ObjectWord
-object_word d = answer_by_rows object_word_rows unseen d
+object_word d = answer_by_rows object_word_rows stands_for_nothing d

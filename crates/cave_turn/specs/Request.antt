@@ -1,6 +1,6 @@
 -- What the words of a line say, with what was said before.
 use Rattle.std.specs.Prelude.{ℕ, Bool, true, false, ◌==◌, codes, List, [], ◌∷◌, Option, Some}
-use Rattle.std.specs.Prelude.{None, is_some, unwrap_or}
+use Rattle.std.specs.Prelude.{None, is_some, option_map, unwrap_or}
 use Rattle.turn_text.specs.cave_data.CaveView.{CaveView}
 use Rattle.turn_text.specs.data_rows.declared.role.Role.{Role}
 use Rattle.turn_text.specs.data_rows.declared.role.Role.TheVariants as role
@@ -9,6 +9,7 @@ use Rattle.cave_verbs.specs.verb_commands.Verbs.{verb_number}
 use Rattle.cave_verbs.specs.verb_commands.declared.verb.Verb.{Verb}
 use Rattle.cave_verbs.specs.verb_commands.declared.verb.Verb.TheVariants as verb
 use Rattle.cave_verbs.specs.verb_commands.turn_rules.Rows.{Deed, Test, Effect, Row, deed, row_then}
+use Rattle.cave_verbs.specs.verb_commands.turn_rules.Rows.{answer_row, answer_by_rows}
 use Rattle.cave_verbs.specs.verb_commands.turn_rules.Tests.{the, no, either, both, is_here, in_lake}
 use Rattle.turn_text.specs.cave_words.Meanings.{meaning, same_class}
 use Rattle.turn_text.specs.cave_words.Words.{is_written, word_of}
@@ -22,7 +23,6 @@ use Rattle.turn_text.specs.cave_world.declared.motion.Motion.TheVariants as moti
 use Rattle.turn_text.specs.cave_world.declared.part.Part.TheVariants as part
 use Rattle.turn_text.specs.cave_world.declared.part.WordLine.TheVariants as line
 use Rattle.turn_text.specs.cave_world.declared.talk.Talk.{Talk}
-use Rattle.cave_turn.specs.Answering.{answer_by_rows}
 use Rattle.cave_turn.specs.ObjectWords.{named_object, is_verb_of, object_word}
 use Rattle.cave_turn.specs.declared.object_words.ObjectWord.{ObjectWord}
 use Rattle.cave_turn.specs.declared.object_words.ObjectWord.TheVariants as object
@@ -33,13 +33,13 @@ use Rattle.cave_turn.specs.declared.request.Understood.{Understood}
 use Rattle.cave_turn.specs.declared.request.Request.{Request}
 
 -- the words that are read, and the half command before them
-pub record Said : Type 0 where
+pub record Phrase : Type 0 where
   pub half : HalfCommand
   pub word : SaidWord
   pub next : Option SaidWord
 
-abbrev pub said : HalfCommand → SaidWord → Option SaidWord → Said
-said half word next = record { half = half; word = word; next = next }
+abbrev pub phrase : HalfCommand → SaidWord → Option SaidWord → Phrase
+phrase half word next = record { half = half; word = word; next = next }
 
 -- the half command that the game remembers
 abbrev pub half_command_of : Talk → HalfCommand
@@ -49,65 +49,59 @@ abbrev pub said_word : CaveView → List ℕ → SaidWord
 said_word cave word = record { word = word; meaning = meaning cave word }
 
 -- a word follows
-abbrev pub followed : Test Said
-followed d = is_some d.about.next
+abbrev pub has_next : Test Phrase
+has_next d = is_some d.about.next
 
 -- SAY was said before
-abbrev pub saying : Test Said
-saying d = is_verb_of verb.Say d.about.half.verb
+abbrev pub after_say : Test Phrase
+after_say d = is_verb_of verb.Say d.about.half.verb
 
--- the word is written so
-abbrev pub written : List ℕ → Test Said
-written letters d = is_written letters d.about.word.word
+-- the word is this one
+abbrev pub word_is : List ℕ → Test Phrase
+word_is letters d = is_written letters d.about.word.word
 
--- and so is the word after it
-abbrev pub next_written : List ℕ → Test Said
-next_written letters d = is_written letters (unwrap_or d.about.next d.about.word).word
+-- the word after it is this one
+abbrev pub next_word_is : List ℕ → Test Phrase
+next_word_is letters d = is_written letters (unwrap_or d.about.next d.about.word).word
 
 -- the cave has the word
-abbrev pub known : Test Said
-known d = is_some d.about.word.meaning
+abbrev pub has_meaning : Test Phrase
+has_meaning d = is_some d.about.word.meaning
 
-abbrev pub is_of_class : Class → Option Meaning → Bool
-is_of_class c None = false
-is_of_class c (Some m) = same_class m.class c
-
-abbrev pub means : Class → Test Said
-means c d = is_of_class c d.about.word.meaning
-
-abbrev pub number_meant : Option Meaning → ℕ
-number_meant None = 0
-number_meant (Some m) = m.number
+-- the word is of a class
+abbrev pub means : Class → Test Phrase
+means c d =
+    unwrap_or (option_map (λ (m : Meaning). same_class m.class c) d.about.word.meaning) false
 
 -- the number of the word in its class
-abbrev pub number : Deed Said → ℕ
-number d = number_meant d.about.word.meaning
+abbrev pub number : Deed Phrase → ℕ
+number d = unwrap_or (option_map (λ (m : Meaning). m.number) d.about.word.meaning) 0
 
-abbrev pub of_motion : NamedMotion → Test Said
+abbrev pub of_motion : NamedMotion → Test Phrase
 of_motion m d = number d == motion_number m
 
-abbrev pub of_action : Verb → Test Said
+abbrev pub of_action : Verb → Test Phrase
 of_action v d = number d == verb_number v
 
-abbrev pub in_half : HalfCommand → Effect Said
+abbrev pub in_half : HalfCommand → Effect Phrase
 in_half half d = record d { about = record (d.about) { half = half } }
 
 -- the verb that was said before is forgotten
-abbrev pub forget_verb : Effect Said
+abbrev pub forget_verb : Effect Phrase
 forget_verb d = in_half (record (d.about.half) { verb = None }) d
 
 -- the word is the verb
-abbrev pub take_verb : Effect Said
+abbrev pub take_verb : Effect Phrase
 take_verb d = in_half (record (d.about.half) { verb = Some (number d) }) d
 
 -- an object is that of the command
-abbrev pub take_object : ℕ → Effect Said
+abbrev pub take_object : ℕ → Effect Phrase
 take_object x d = in_half (record (d.about.half) { object = x }) d
 
 -- the next word is read in place of the word
-abbrev pub read_next : Effect Said
+abbrev pub read_next : Effect Phrase
 read_next d =
-    record d { about = said d.about.half (unwrap_or d.about.next d.about.word) None }
+    record d { about = phrase d.about.half (unwrap_or d.about.next d.about.word) None }
 
 -- POUR, whatever the cave's words say
 abbrev pub pour_in : CaveView → SaidWord
@@ -118,159 +112,155 @@ pour_in cave =
     }
 
 -- the next word is POUR
-abbrev pub put_pour : Effect Said
+abbrev pub put_pour : Effect Phrase
 put_pour d = record d { about = record (d.about) { next = Some (pour_in d.cave) } }
 
 -- what is asked for, with the half command as it is then
-abbrev pub asks_for : Request → Deed Said → Understood
+abbrev pub asks_for : Request → Deed Phrase → Understood
 asks_for asked d = record { half = d.about.half; request = asked }
 
-abbrev pub puzzles : Deed Said → Understood
+abbrev pub puzzles : Deed Phrase → Understood
 puzzles d = asks_for request.Unknown d
 
-abbrev pub travels : Deed Said → Understood
+abbrev pub travels : Deed Phrase → Understood
 travels d = asks_for (request.Motion (number d)) d
 
-abbrev pub says : Role → Deed Said → Understood
+abbrev pub says : Role → Deed Phrase → Understood
 says r d = asks_for (request.Tell (part.Role r)) d
 
-abbrev pub tells_message : Deed Said → Understood
+abbrev pub tells_message : Deed Phrase → Understood
 tells_message d = asks_for (request.Tell (part.Message (number d))) d
 
 -- the word is said aloud
-abbrev pub echoes : Deed Said → Understood
+abbrev pub echoes : Deed Phrase → Understood
 echoes d = asks_for (request.Tell (part.Word line.Okay d.about.word.word)) d
 
 -- a verb is done to an object, or to none
-abbrev pub acts : ℕ → ℕ → Deed Said → Understood
+abbrev pub acts : ℕ → ℕ → Deed Phrase → Understood
 acts v x d = asks_for (request.Act v x d.about.word.word) d
 
 -- the verb is done to no object
-abbrev pub acts_alone : Deed Said → Understood
+abbrev pub acts_alone : Deed Phrase → Understood
 acts_alone d = acts (number d) 0 d
 
 -- the verb is done to the object, if there is one; without a verb the player is asked what to do
-abbrev pub acts_by : Option ℕ → Deed Said → Understood
+abbrev pub acts_by : Option ℕ → Deed Phrase → Understood
 acts_by (Some v) d = acts v d.about.half.object d
 acts_by None d = asks_for (request.WhatToDo d.about.word.word) d
 
-abbrev pub acts_by_verb : Deed Said → Understood
+abbrev pub acts_by_verb : Deed Phrase → Understood
 acts_by_verb d = acts_by d.about.half.verb d
 
 -- what the word of an object comes to
-abbrev pub object_comes_to : Bool → Deed Said → ObjectWord
+abbrev pub object_comes_to : Bool → Deed Phrase → ObjectWord
 object_comes_to is_alone d =
     object_word (deed d.cave (named_object (or_no_object (Some (number d))) d.about.half.verb
     is_alone) d.scene)
 
-abbrev pub by_object_alone : ObjectWord → Deed Said → Understood
+abbrev pub by_object_alone : ObjectWord → Deed Phrase → Understood
 by_object_alone (object.Is x) d = acts_by_verb (take_object x d)
 by_object_alone (object.Leads motion) d = asks_for (request.Motion motion) d
 by_object_alone object.Knives d = asks_for request.Knives d
 by_object_alone object.Unseen d =
     asks_for (request.Tell (part.Word line.NotSeen d.about.word.word)) d
 
-abbrev pub object_alone : Deed Said → Understood
+abbrev pub object_alone : Deed Phrase → Understood
 object_alone d = by_object_alone (object_comes_to true d) d
 
 -- a word that no other follows
-unfoldable pub alone_rows : List (Row Said Understood)
+unfoldable pub alone_rows : List (Row Phrase Understood)
 alone_rows =
-    row_then (no known ∷ []) [] puzzles
-    ∷ row_then (means class.Motion ∷ []) [] travels
-    ∷ row_then (means class.Special ∷ []) [] tells_message
-    ∷ row_then (means class.Object ∷ []) [] object_alone
-    ∷ row_then (means class.Action ∷ of_action verb.Say ∷ []) [] acts_alone
+    answer_row (no has_meaning ∷ []) puzzles
+    ∷ answer_row (means class.Motion ∷ []) travels
+    ∷ answer_row (means class.Special ∷ []) tells_message
+    ∷ answer_row (means class.Object ∷ []) object_alone
+    ∷ answer_row (means class.Action ∷ of_action verb.Say ∷ []) acts_alone
     ∷ row_then (means class.Action ∷ []) (take_verb ∷ []) acts_by_verb
     ∷ []
 
-abbrev pub word_alone : Deed Said → Understood
+abbrev pub word_alone : Deed Phrase → Understood
 word_alone d = answer_by_rows alone_rows puzzles d
 
 -- a word that is said aloud
-unfoldable pub aloud_rows : List (Row Said Understood)
+unfoldable pub aloud_rows : List (Row Phrase Understood)
 aloud_rows =
-    row_then (means class.Motion ∷ either (of_motion motion.Xyzzy)
-    (either (of_motion motion.Plugh) (of_motion motion.Plover)) ∷ []) [] word_alone
-    ∷ row_then (means class.Action ∷ of_action verb.Foo ∷ []) [] word_alone
-    ∷ row_then [] [] echoes
+    answer_row (means class.Motion ∷ either (of_motion motion.Xyzzy)
+    (either (of_motion motion.Plugh) (of_motion motion.Plover)) ∷ []) word_alone
+    ∷ answer_row (means class.Action ∷ of_action verb.Foo ∷ []) word_alone
+    ∷ answer_row [] echoes
     ∷ []
 
-abbrev pub word_aloud : Deed Said → Understood
+abbrev pub word_aloud : Deed Phrase → Understood
 word_aloud d = answer_by_rows aloud_rows echoes d
 
-abbrev pub by_object_before : ObjectWord → Deed Said → Understood
+abbrev pub by_object_before : ObjectWord → Deed Phrase → Understood
 by_object_before (object.Is x) d = word_alone (read_next (take_object x d))
 by_object_before word d = by_object_alone word d
 
-abbrev pub object_before : Deed Said → Understood
+abbrev pub object_before : Deed Phrase → Understood
 object_before d = by_object_before (object_comes_to false d) d
 
 -- a word that another follows
-unfoldable pub before_rows : List (Row Said Understood)
+unfoldable pub before_rows : List (Row Phrase Understood)
 before_rows =
-    row_then (no known ∷ []) [] puzzles
-    ∷ row_then (means class.Motion ∷ []) [] travels
-    ∷ row_then (means class.Special ∷ []) [] tells_message
-    ∷ row_then (means class.Object ∷ []) [] object_before
+    answer_row (no has_meaning ∷ []) puzzles
+    ∷ answer_row (means class.Motion ∷ []) travels
+    ∷ answer_row (means class.Special ∷ []) tells_message
+    ∷ answer_row (means class.Object ∷ []) object_before
     ∷ row_then (means class.Action ∷ of_action verb.Say ∷ []) (read_next ∷ []) word_aloud
     ∷ row_then (means class.Action ∷ []) (take_verb ∷ read_next ∷ []) word_alone
     ∷ []
 
-abbrev pub word_before : Deed Said → Understood
+abbrev pub word_before : Deed Phrase → Understood
 word_before d = answer_by_rows before_rows puzzles d
 
 -- into water
-abbrev pub into_water : Test Said
-into_water = either (next_written (codes "STREA")) (next_written (codes "WATER"))
+abbrev pub into_water : Test Phrase
+into_water = either (next_word_is (codes "STREA")) (next_word_is (codes "WATER"))
 
 -- water or oil is poured over a plant or a door that is here
-unfoldable pub pours_over : Test Said
+unfoldable pub pours_over : Test Phrase
 pours_over d =
-    both (either (written (codes "WATER")) (written (codes "OIL")))
-    (either (both (next_written (codes "PLANT")) (is_here (the name.Plant)))
-    (both (next_written (codes "DOOR")) (is_here (the name.Door)))) d
+    both (either (word_is (codes "WATER")) (word_is (codes "OIL")))
+    (either (both (next_word_is (codes "PLANT")) (is_here (the name.Plant)))
+    (both (next_word_is (codes "DOOR")) (is_here (the name.Door)))) d
 
 -- the word after ENTER
-unfoldable pub enter_rows : List (Row Said Understood)
+unfoldable pub enter_rows : List (Row Phrase Understood)
 enter_rows =
-    row_then (into_water ∷ in_lake (the name.Water) ∷ []) [] (says role.FeetWet)
-    ∷ row_then (into_water ∷ []) [] (says role.Where)
+    answer_row (into_water ∷ in_lake (the name.Water) ∷ []) (says role.FeetWet)
+    ∷ answer_row (into_water ∷ []) (says role.Where)
     ∷ row_then [] (read_next ∷ []) word_alone
     ∷ []
 
-abbrev pub word_entered : Deed Said → Understood
+abbrev pub word_entered : Deed Phrase → Understood
 word_entered d = answer_by_rows enter_rows puzzles d
 
 -- two words that are put together
-unfoldable pub two_word_rows : List (Row Said Understood)
+unfoldable pub two_word_rows : List (Row Phrase Understood)
 two_word_rows =
-    row_then (written (codes "ENTER") ∷ []) [] word_entered
+    answer_row (word_is (codes "ENTER") ∷ []) word_entered
     ∷ row_then (pours_over ∷ []) (put_pour ∷ []) word_before
-    ∷ row_then [] [] word_before
+    ∷ answer_row [] word_before
     ∷ []
 
-abbrev pub two_words : Deed Said → Understood
+abbrev pub two_words : Deed Phrase → Understood
 two_words d = answer_by_rows two_word_rows word_before d
 
 -- after SAY alone a word is said, and of two words SAY is forgotten
-unfoldable pub line_rows : List (Row Said Understood)
+unfoldable pub line_rows : List (Row Phrase Understood)
 line_rows =
-    row_then (saying ∷ followed ∷ []) (forget_verb ∷ []) two_words
-    ∷ row_then (saying ∷ []) [] word_aloud
-    ∷ row_then (followed ∷ []) [] two_words
-    ∷ row_then [] [] word_alone
+    row_then (after_say ∷ has_next ∷ []) (forget_verb ∷ []) two_words
+    ∷ answer_row (after_say ∷ []) word_aloud
+    ∷ answer_row (has_next ∷ []) two_words
+    ∷ answer_row [] word_alone
     ∷ []
 
-abbrev pub words_read : Deed Said → Understood
+abbrev pub words_read : Deed Phrase → Understood
 words_read d = answer_by_rows line_rows word_alone d
-
-abbrev pub said_next : CaveView → Option (List ℕ) → Option SaidWord
-said_next cave None = None
-said_next cave (Some word) = Some (said_word cave word)
 
 -- the words of a line, with the half command that the game remembers
 abbrev pub read_words : CaveView → List ℕ → Option (List ℕ) → Scene → Understood
 read_words cave word next p =
-    words_read (deed cave (said (half_command_of p.state.talk) (said_word cave word)
-    (said_next cave next)) p)
+    words_read (deed cave (phrase (half_command_of p.state.talk) (said_word cave word)
+    (option_map (said_word cave) next)) p)

@@ -5,16 +5,16 @@ use Rattle.turn_text.specs.cave_data.CaveView.{CaveView}
 use Rattle.turn_text.specs.data_rows.declared.role.Role.TheVariants as role
 use Rattle.turn_moves.specs.turn_ends.Endings.{count_death, end_as}
 use Rattle.cave_verbs.specs.verb_commands.turn_rules.Rows.{Test, Effect, Row, plain_row, by_table}
-use Rattle.cave_verbs.specs.verb_commands.turn_rules.Tests.{deaths, building}
-use Rattle.cave_verbs.specs.verb_commands.turn_rules.Effects.{in_state, put_player, say}
+use Rattle.cave_verbs.specs.verb_commands.turn_rules.Tests.{the, in_hand, deaths, building}
+use Rattle.cave_verbs.specs.verb_commands.turn_rules.Effects.{in_state, put_player, say, set_prop}
+use Rattle.cave_verbs.specs.verb_commands.turn_rules.Effects.{when}
 use Rattle.cave_turn.specs.Effects.{describe}
 use Rattle.turn_begin.specs.turn_things.Effects.{with_objects}
 use Rattle.turn_begin.specs.turn_things.Places.{start_place}
-use Rattle.turn_begin.specs.turn_scene.Scene.{is_called, thing}
-use Rattle.turn_begin.specs.turn_things.Reach.{is_in_hand}
+use Rattle.turn_begin.specs.turn_scene.Scene.{is_called}
 use Rattle.turn_begin.specs.turn_things.Props.{LAMP_OFF}
 use Rattle.turn_text.specs.cave_words.declared.named.Named.TheVariants as name
-use Rattle.turn_text.specs.world_objects.Objects.{Layout, is_carried, after_move_to, with_prop}
+use Rattle.turn_text.specs.world_objects.Objects.{Layout, is_carried, after_move_to}
 use Rattle.turn_text.specs.cave_world.declared.ending.Ending.TheVariants.{Killed}
 use Rattle.turn_text.specs.cave_world.declared.ending.Question.{Question}
 use Rattle.turn_text.specs.cave_world.declared.state.State.{State}
@@ -29,11 +29,8 @@ reborn_rows =
     ∷ []
 
 -- a lamp that the player carries is put out
-unfoldable pub layout_with_lamp_out : CaveView → State → Layout
-layout_with_lamp_out cave s =
-    if is_in_hand cave s (thing cave name.Lamp)
-    then with_prop s.objects (thing cave name.Lamp) LAMP_OFF
-    else s.objects
+abbrev pub put_lamp_out : Effect Question
+put_lamp_out = when (in_hand (the name.Lamp)) (set_prop (the name.Lamp) LAMP_OFF)
 
 -- where an object falls that a dead player carried: the lamp falls where the game begins
 abbrev pub fallen_place : CaveView → ℕ → ℕ → ℕ
@@ -53,13 +50,13 @@ layout_after_falls cave place (suc n) o =
 -- it leaves things, except a death at place 0
 unfoldable pub without_belongings : CaveView → State → State
 without_belongings cave s =
-    with_objects (layout_after_falls cave s.trail.older LAST_OBJECT (layout_with_lamp_out cave s)) s
+    with_objects (layout_after_falls cave s.trail.older LAST_OBJECT s.objects) s
 
 abbrev pub leave_belongings : Effect Question
 leave_belongings d = in_state (without_belongings d.cave d.scene.state) d
 
 unfoldable pub revive : List (Effect Question)
-revive = leave_belongings ∷ put_player building ∷ describe ∷ []
+revive = put_lamp_out ∷ leave_belongings ∷ put_player building ∷ describe ∷ []
 
 abbrev pub dead_for_good : Test Question
 dead_for_good d = nat_le LIVES d.scene.state.tallies.deaths

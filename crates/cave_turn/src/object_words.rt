@@ -5,10 +5,10 @@ ghost use Rattle.cave_verbs.specs.verb_commands.declared.verb.Verb.TheVariants a
 ghost use Rattle.cave_verbs.specs.verb_commands.turn_rules.Rows.{all_hold, deed};
 ghost use Rattle.cave_verbs.specs.verb_commands.turn_rules.Tests.{the, either, both, in_hand, near};
 ghost use Rattle.cave_verbs.specs.verb_commands.turn_rules.Tests.{is_here, other_prop, dwarf};
-ghost use Rattle.cave_verbs.specs.verb_commands.turn_rules.Tests.{in_bottle, in_lake};
-ghost use Rattle.cave_turn.specs.ObjectWords.{named, called, at_one_of, at_from_to, is_knife_at};
-ghost use Rattle.cave_turn.specs.ObjectWords.{thrown_here, is_verb_of, by_verb, alone};
-ghost use Rattle.cave_turn.specs.ObjectWords.{object_word};
+ghost use Rattle.cave_verbs.specs.verb_commands.turn_rules.Tests.{in_bottle, in_lake, at_one_of};
+ghost use Rattle.cave_verbs.specs.verb_commands.turn_rules.Tests.{at_from_to};
+ghost use Rattle.cave_turn.specs.ObjectWords.{it, is_it, is_knife_at, thrown_here, is_verb_of};
+ghost use Rattle.cave_turn.specs.ObjectWords.{by_verb, alone, object_word};
 
 use cave_verbs::Verb;
 use turn_begin::{
@@ -76,7 +76,7 @@ pub fn object_word(rules: &Rules<'_>, about: &NamedObject, scene: &Scene<'_>) ->
 }
 
 fn is_there(rules: &Rules<'_>, about: &NamedObject, scene: &Scene<'_>) -> bool
-    ensures { result ≡ either (is_here named) (in_hand named)
+    ensures { result ≡ either (is_here it) (in_hand it)
         (deed (cave_of rules.now) about.now (scene_of scene.now)) }
 {
     scene.state.at(about.object) || is_in_hand(rules, scene.state, about.object)
@@ -85,7 +85,7 @@ fn is_there(rules: &Rules<'_>, about: &NamedObject, scene: &Scene<'_>) -> bool
 /// On the way to the cave the grate's word leads to it. The places are those before the building,
 /// in the valley and at the slit. No role names them, since nothing else is asked of them.
 fn is_above_grate(rules: &Rules<'_>, about: &NamedObject, scene: &Scene<'_>) -> bool
-    ensures { result ≡ all_hold (called name.Grate ∷ at_one_of (1 ∷ 4 ∷ 7 ∷ []) ∷ [])
+    ensures { result ≡ all_hold (is_it name.Grate ∷ at_one_of (1 ∷ 4 ∷ 7 ∷ []) ∷ [])
         (deed (cave_of rules.now) about.now (scene_of scene.now)) }
 {
     rules.is(about.object, Named::Grate) && matches!(scene.state.trail.here.number(), 1 | 4 | 7)
@@ -93,7 +93,7 @@ fn is_above_grate(rules: &Rules<'_>, about: &NamedObject, scene: &Scene<'_>) -> 
 
 /// And in the first halls of the cave back to it.
 fn is_below_grate(rules: &Rules<'_>, about: &NamedObject, scene: &Scene<'_>) -> bool
-    ensures { result ≡ all_hold (called name.Grate ∷ at_from_to 10 14 ∷ [])
+    ensures { result ≡ all_hold (is_it name.Grate ∷ at_from_to 10 14 ∷ [])
         (deed (cave_of rules.now) about.now (scene_of scene.now)) }
 {
     rules.is(about.object, Named::Grate)
@@ -101,7 +101,7 @@ fn is_below_grate(rules: &Rules<'_>, about: &NamedObject, scene: &Scene<'_>) -> 
 }
 
 fn is_dwarf(rules: &Rules<'_>, about: &NamedObject, scene: &Scene<'_>) -> bool
-    ensures { result ≡ all_hold (called name.Dwarf ∷ dwarf ∷ [])
+    ensures { result ≡ all_hold (is_it name.Dwarf ∷ dwarf ∷ [])
         (deed (cave_of rules.now) about.now (scene_of scene.now)) }
 {
     rules.is(about.object, Named::Dwarf) && is_dwarf_here(scene.state)
@@ -109,7 +109,7 @@ fn is_dwarf(rules: &Rules<'_>, about: &NamedObject, scene: &Scene<'_>) -> bool
 
 /// Whether an object is what a bottle at hand has in it, or what the lake is of.
 fn is_liquid_here(rules: &Rules<'_>, about: &NamedObject, scene: &Scene<'_>) -> bool
-    ensures { result ≡ either (both (in_bottle named) (near (the name.Bottle))) (in_lake named)
+    ensures { result ≡ either (both (in_bottle it) (near (the name.Bottle))) (in_lake it)
         (deed (cave_of rules.now) about.now (scene_of scene.now)) }
 {
     (is_liquid(about.object, liquid(rules, scene.state))
@@ -119,7 +119,7 @@ fn is_liquid_here(rules: &Rules<'_>, about: &NamedObject, scene: &Scene<'_>) -> 
 
 /// Whether the plant that grew is taken for an object.
 fn is_grown_plant(rules: &Rules<'_>, about: &NamedObject, scene: &Scene<'_>) -> bool
-    ensures { result ≡ all_hold (called name.Plant ∷ is_here (the name.SecondPlant)
+    ensures { result ≡ all_hold (is_it name.Plant ∷ is_here (the name.SecondPlant)
         ∷ other_prop (the name.SecondPlant) (pos 0) ∷ [])
         (deed (cave_of rules.now) about.now (scene_of scene.now)) }
 {
@@ -138,7 +138,7 @@ fn is_knife_at(here: Place, knife: Knife) -> bool
 }
 
 fn is_knife_here(rules: &Rules<'_>, about: &NamedObject, scene: &Scene<'_>) -> bool
-    ensures { result ≡ all_hold (called name.Knife ∷ thrown_here ∷ [])
+    ensures { result ≡ all_hold (is_it name.Knife ∷ thrown_here ∷ [])
         (deed (cave_of rules.now) about.now (scene_of scene.now)) }
 {
     rules.is(about.object, Named::Knife)
@@ -146,7 +146,7 @@ fn is_knife_here(rules: &Rules<'_>, about: &NamedObject, scene: &Scene<'_>) -> b
 }
 
 fn is_second_rod(rules: &Rules<'_>, about: &NamedObject, scene: &Scene<'_>) -> bool
-    ensures { result ≡ all_hold (called name.Rod ∷ near (the name.SecondRod) ∷ [])
+    ensures { result ≡ all_hold (is_it name.Rod ∷ near (the name.SecondRod) ∷ [])
         (deed (cave_of rules.now) about.now (scene_of scene.now)) }
 {
     rules.is(about.object, Named::Rod) && is_near(rules, scene.state, rules.thing(Named::SecondRod))

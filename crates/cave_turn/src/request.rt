@@ -3,7 +3,7 @@ ghost use Rattle.turn_begin.specs.turn_scene.Scene.{cave_of, scene_of};
 ghost use Rattle.turn_text.specs.cave_world.declared.motion.Motion.TheVariants as motion_is;
 ghost use Rattle.turn_text.specs.cave_world.Motions.{motion_number};
 ghost use Rattle.cave_verbs.specs.verb_commands.turn_rules.Rows.{deed};
-ghost use Rattle.cave_turn.specs.Request.{half_command_of, said, said_word, by_object_alone};
+ghost use Rattle.cave_turn.specs.Request.{half_command_of, phrase, said_word, by_object_alone};
 ghost use Rattle.cave_turn.specs.Request.{word_alone, word_aloud, by_object_before, word_before};
 ghost use Rattle.cave_turn.specs.Request.{pours_over, pour_in, word_entered, two_words, read_words};
 
@@ -138,7 +138,7 @@ fn object_alone(
     scene: &Scene<'_>,
 ) -> Understood
     ensures { result ≡ by_object_alone found
-        (deed (cave_of rules.now) (said half word None) (scene_of scene.now)) }
+        (deed (cave_of rules.now) (phrase half word None) (scene_of scene.now)) }
 {
     match found {
         ObjectWord::Is(object) => match half.verb {
@@ -157,7 +157,7 @@ fn object_alone(
 #[tactic(auto, unfolding(crate::specs::Request::alone_rows))]
 fn word_alone(rules: &Rules<'_>, half: HalfCommand, word: SaidWord, scene: &Scene<'_>) -> Understood
     ensures { result ≡ word_alone
-        (deed (cave_of rules.now) (said half word None) (scene_of scene.now)) }
+        (deed (cave_of rules.now) (phrase half word None) (scene_of scene.now)) }
 {
     match word.meaning {
         None => half.asks(Request::Unknown),
@@ -197,7 +197,7 @@ fn is_magic_motion(number: u16) -> bool
 #[tactic(auto, unfolding(crate::specs::Request::aloud_rows))]
 fn word_aloud(rules: &Rules<'_>, half: HalfCommand, word: SaidWord, scene: &Scene<'_>) -> Understood
     ensures { result ≡ word_aloud
-        (deed (cave_of rules.now) (said half word None) (scene_of scene.now)) }
+        (deed (cave_of rules.now) (phrase half word None) (scene_of scene.now)) }
 {
     let echo = Part::Word(WordLine::Okay, word.word);
     match word.meaning {
@@ -230,7 +230,7 @@ fn object_before(
     scene: &Scene<'_>,
 ) -> Understood
     ensures { result ≡ by_object_before found
-        (deed (cave_of rules.now) (said half word (Some next)) (scene_of scene.now)) }
+        (deed (cave_of rules.now) (phrase half word (Some next)) (scene_of scene.now)) }
 {
     match found {
         ObjectWord::Is(object) => { word_alone(rules, half.with_object(object), next, scene) }
@@ -250,7 +250,7 @@ fn word_before(
     scene: &Scene<'_>,
 ) -> Understood
     ensures { result ≡ word_before
-        (deed (cave_of rules.now) (said half word (Some next)) (scene_of scene.now)) }
+        (deed (cave_of rules.now) (phrase half word (Some next)) (scene_of scene.now)) }
 {
     match word.meaning {
         None => half.asks(Request::Unknown),
@@ -286,8 +286,8 @@ fn word_before(
 #[tactic(auto, unfolding(crate::specs::Request::pours_over))]
 fn pours_over(rules: &Rules<'_>, word: Word, next: Word, scene: &Scene<'_>) -> bool
     ensures { (half : HalfCommand) → result ≡ pours_over (deed (cave_of rules.now)
-        (said half (said_word (cave_of rules.now) word) (Some (said_word (cave_of rules.now) next)))
-        (scene_of scene.now)) }
+        (phrase half (said_word (cave_of rules.now) word)
+        (Some (said_word (cave_of rules.now) next))) (scene_of scene.now)) }
 {
     (word.is(b"WATER") || word.is(b"OIL"))
         && ((next.is(b"PLANT") && scene.state.at(rules.thing(Named::Plant)))
@@ -310,7 +310,7 @@ fn pour_in(rules: &Rules<'_>) -> SaidWord
 #[tactic(auto, unfolding(crate::specs::Request::enter_rows))]
 fn word_entered(rules: &Rules<'_>, half: HalfCommand, next: Word, scene: &Scene<'_>) -> Understood
     ensures { (word : SaidWord) → result ≡ word_entered (deed (cave_of rules.now)
-        (said half word (Some (said_word (cave_of rules.now) next))) (scene_of scene.now)) }
+        (phrase half word (Some (said_word (cave_of rules.now) next))) (scene_of scene.now)) }
 {
     if next.is(b"STREA") || next.is(b"WATER") {
         if is_liquid(rules.thing(Named::Water), lake(rules, scene.state)) {
@@ -331,8 +331,8 @@ fn two_words(
     scene: &Scene<'_>,
 ) -> Understood
     ensures { result ≡ two_words (deed (cave_of rules.now)
-        (said half (said_word (cave_of rules.now) word) (Some (said_word (cave_of rules.now) next)))
-        (scene_of scene.now)) }
+        (phrase half (said_word (cave_of rules.now) word)
+        (Some (said_word (cave_of rules.now) next))) (scene_of scene.now)) }
 {
     if word.is(b"ENTER") {
         return word_entered(rules, half, next, scene);

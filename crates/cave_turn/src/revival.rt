@@ -7,8 +7,8 @@ ghost use Rattle.turn_begin.specs.turn_scene.Bounds.{parts_of_arrival, parts_of_
 ghost use Rattle.turn_begin.specs.turn_scene.Scene.{scene_of, cave_of};
 ghost use Rattle.turn_text.specs.cave_world.declared.ending.Question.TheVariants as question_is;
 ghost use Rattle.cave_verbs.specs.verb_commands.turn_rules.Rows.{Does, after_all, by_table, deed};
-ghost use Rattle.cave_turn.specs.Revival.{reborn_rows, layout_with_lamp_out, fallen_place};
-ghost use Rattle.cave_turn.specs.Revival.{layout_after_fall, layout_after_falls};
+ghost use Rattle.cave_turn.specs.Revival.{reborn_rows, fallen_place, layout_after_fall};
+ghost use Rattle.cave_turn.specs.Revival.{layout_after_falls};
 ghost use Rattle.cave_turn.specs.Revival.{without_belongings, revive, revival_rows, come_back};
 ghost use Rattle.cave_turn.specs.Revival.{bury};
 
@@ -27,18 +27,6 @@ fn tell_reborn(rules: &Rules<'_>, scene: &mut Scene<'_>)
         0 => scene.say(Role::Reborn1),
         1 => scene.say(Role::Reborn2),
         _ => scene.say(Role::Reborn3),
-    }
-}
-
-/// A lamp that the player carries is put out.
-#[tactic(auto, unfolding(crate::specs::Revival::layout_with_lamp_out))]
-fn put_lamp_out(rules: &Rules<'_>, state: &mut State)
-    ensures { state.new
-        ≡ record state.old { objects = layout_with_lamp_out (cave_of rules.now) state.old } }
-{
-    let lamp = rules.thing(Named::Lamp);
-    if is_in_hand(rules, state, lamp) {
-        state.objects.set_prop(lamp, Prop::new(LAMP_OFF));
     }
 }
 
@@ -77,12 +65,11 @@ fn let_all_fall(rules: &Rules<'_>, place: Place, objects: &mut Objects)
 fn leave_belongings(rules: &Rules<'_>, state: &mut State)
     ensures { state.new ≡ without_belongings (cave_of rules.now) state.old }
 {
-    put_lamp_out(rules, state);
     let older = state.trail.older;
     let_all_fall(rules, older, &mut state.objects);
 }
 
-/// The player is back, without what was carried.
+/// The player is back, without what was carried, and a lamp that was carried is out.
 #[tactic(auto, unfolding(crate::specs::Revival::revive))]
 fn revive(rules: &Rules<'_>, scene: &mut Scene<'_>)
     requires { HasRoom (parts_of_arrival scene.old.left) scene.old }
@@ -90,6 +77,10 @@ fn revive(rules: &Rules<'_>, scene: &mut Scene<'_>)
         ≡ (after_all revive (deed (cave_of rules.now) question_is.Die (scene_of scene.old))).scene }
     ensures says { MovesOnSaying (parts_of_arrival scene.old.left) scene.old scene.new }
 {
+    let lamp = rules.thing(Named::Lamp);
+    if is_in_hand(rules, scene.state, lamp) {
+        scene.state.objects.set_prop(lamp, Prop::new(LAMP_OFF));
+    }
     leave_belongings(rules, scene.state);
     scene.state.put_player_from(building_place(rules.cave));
     describe_here(rules, scene);

@@ -7,10 +7,10 @@ use Rattle.verb_commands.specs.cave_world.Limits.{MAX_ANGER}
 use Rattle.verb_commands.specs.cave_world.declared.state.State.{State}
 use Rattle.verb_commands.specs.turn_scene.Scene.{is_one_of}
 use Rattle.verb_commands.specs.Effects.{default, ask_what}
-use Rattle.verb_commands.specs.turn_rules.Effects.{in_state, say, destroy, loosen, set_prop}
+use Rattle.verb_commands.specs.turn_rules.Effects.{change, say, destroy, loosen, set_prop}
 use Rattle.verb_commands.specs.turn_rules.Effects.{lose_one}
-use Rattle.verb_commands.specs.Rows.{VerbRow, row, keeps, goes_on}
-use Rattle.verb_commands.specs.turn_rules.Rows.{Test, Effect, row_then}
+use Rattle.verb_commands.specs.Rows.{VerbRow, row, keeps, does}
+use Rattle.verb_commands.specs.turn_rules.Rows.{Test, row_then}
 use Rattle.verb_commands.specs.declared.verb.Verb.TheVariants as verb
 use Rattle.verb_commands.specs.Tests.{x, is}
 use Rattle.verb_commands.specs.turn_rules.Tests.{the, no, either, near, prop, other_prop}
@@ -27,9 +27,6 @@ abbrev pub with_more_anger : State → State
 with_more_anger s =
     let dwarves = s.dwarves in
     record s { dwarves = record dwarves { anger = min (dwarves.anger + 1) MAX_ANGER } }
-
-abbrev pub anger : Effect Command
-anger d = in_state (with_more_anger d.scene.state) d
 
 -- food for the bear
 abbrev pub feed_bear_rows : List VerbRow
@@ -51,13 +48,14 @@ feed_rows =
     ∷ row (is name.Dragon ∷ other_prop x DRAGON_ALIVE ∷ []) (say role.Ridiculous ∷ [])
     ∷ row (either (is name.Snake) (is name.Dragon) ∷ []) (say role.NotHungry ∷ [])
     ∷ row (is name.Troll ∷ []) (say role.TrollFeed ∷ [])
-    ∷ row (is name.Dwarf ∷ near (the name.Food) ∷ []) (anger ∷ say role.DwarfFeed ∷ [])
+    ∷ row (is name.Dwarf ∷ near (the name.Food) ∷ []) (change with_more_anger
+    ∷ say role.DwarfFeed ∷ [])
     ∷ row (is name.Dwarf ∷ []) (default ∷ [])
     ∷ (feed_bear_rows ++ row [] (say role.FeedWhat ∷ []) ∷ [])
 
 unfoldable pub bare_eat_rows : List VerbRow
 bare_eat_rows =
-    row_then (near (the name.Food) ∷ []) [] (goes_on verb.Eat (the name.Food))
+    row_then (near (the name.Food) ∷ []) [] (does verb.Eat (the name.Food))
     ∷ row_then [] (ask_what ∷ []) keeps
     ∷ []
 

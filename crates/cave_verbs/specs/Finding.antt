@@ -1,6 +1,5 @@
 -- FIND and INVENTORY.
-use Rattle.std.specs.Prelude.{ℕ, Bool, ◌==◌, ◌&&◌, not, if◌then◌else◌, List, [], ◌∷◌, ◌++◌, length}
-use Rattle.std.specs.Prelude.{map, filter}
+use Rattle.std.specs.Prelude.{ℕ, Bool, ◌==◌, ◌&&◌, not, List, [], ◌∷◌, ◌++◌, length, map, filter}
 use Rattle.std.specs.List.{range_with_len}
 use Rattle.verb_commands.specs.data_numbers.Numbers.{LAST_OBJECT}
 use Rattle.verb_commands.specs.cave_data.CaveView.{CaveView}
@@ -8,16 +7,15 @@ use Rattle.verb_commands.specs.data_rows.declared.role.Role.TheVariants as role
 use Rattle.verb_commands.specs.cave_words.declared.named.Named.TheVariants as name
 use Rattle.verb_commands.specs.cave_world.declared.part.Part.TheVariants as part
 use Rattle.verb_commands.specs.cave_world.declared.state.State.{State}
-use Rattle.verb_commands.specs.turn_scene.Scene.{thing, is_called, Scene, after_saying}
+use Rattle.verb_commands.specs.turn_scene.Scene.{is_called, Scene}
 use Rattle.verb_commands.specs.turn_things.Reach.{is_in_hand}
 use Rattle.verb_commands.specs.Rows.{VerbRow, row}
 use Rattle.verb_commands.specs.turn_rules.Rows.{Deed, Test, Effect}
 use Rattle.verb_commands.specs.Effects.{default}
-use Rattle.verb_commands.specs.turn_rules.Effects.{in_scene, say}
+use Rattle.verb_commands.specs.turn_rules.Effects.{in_scene, say, when}
 use Rattle.verb_commands.specs.Tests.{x, is}
 use Rattle.verb_commands.specs.turn_rules.Tests.{the, in_hand, is_here, dwarf, cave_closed}
-use Rattle.verb_commands.specs.turn_rules.Tests.{in_bottle}
-use Rattle.verb_commands.specs.turn_rules.Tests.{in_lake}
+use Rattle.verb_commands.specs.turn_rules.Tests.{in_bottle, in_lake}
 use Rattle.verb_commands.specs.declared.command.Command.{Command}
 
 -- FIND an object, and INVENTORY of one
@@ -54,12 +52,8 @@ abbrev pub name_them : Effect Command
 name_them d = in_scene (after_naming (objects_listed d) d.scene) d
 
 -- it is said that the bear follows, if the player has it
-abbrev pub after_telling_bear : CaveView → Scene → Scene
-after_telling_bear cave p =
-    if is_in_hand cave p.state (thing cave name.Bear) then after_saying role.BearFollows p else p
-
 abbrev pub tell_bear : Effect Command
-tell_bear d = in_scene (after_telling_bear d.cave d.scene) d
+tell_bear = when (in_hand (the name.Bear)) (say role.BearFollows)
 
 unfoldable pub bare_inventory_rows : List VerbRow
 bare_inventory_rows =

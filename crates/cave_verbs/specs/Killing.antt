@@ -5,7 +5,7 @@ use Rattle.verb_commands.specs.cave_words.declared.named.Named.TheVariants as na
 use Rattle.verb_commands.specs.cave_world.declared.ending.Ending.TheVariants as ending
 use Rattle.verb_commands.specs.cave_world.declared.ending.Question.TheVariants as question
 use Rattle.verb_commands.specs.Choice.{candidate, objects_meant, several, first}
-use Rattle.verb_commands.specs.Rows.{VerbRow, row, keeps, asks, ends, goes_on}
+use Rattle.verb_commands.specs.Rows.{VerbRow, row, keeps, poses, ends, does}
 use Rattle.verb_commands.specs.turn_rules.Rows.{Deed, Test, row_then}
 use Rattle.verb_commands.specs.Effects.{default, ask_what}
 use Rattle.verb_commands.specs.turn_rules.Effects.{say, destroy, set_prop, lose_to_snake}
@@ -42,9 +42,9 @@ prey = objects_meant
 unfoldable pub bare_kill_rows : List VerbRow
 bare_kill_rows =
     row_then (several foes ∷ []) (ask_what ∷ []) keeps
-    ∷ row_then (there_is (first foes) ∷ []) [] (goes_on verb.Kill (first foes))
+    ∷ row_then (there_is (first foes) ∷ []) [] (does verb.Kill (first foes))
     ∷ row_then (several prey ∷ []) (ask_what ∷ []) keeps
-    ∷ row_then (there_is (first prey) ∷ []) [] (goes_on verb.Kill (first prey))
+    ∷ row_then (there_is (first prey) ∷ []) [] (does verb.Kill (first prey))
     ∷ row [] (say role.NoneToKill ∷ [])
     ∷ []
 
@@ -57,7 +57,7 @@ kill_rows =
     ∷ row (is name.Snake ∷ []) (say role.SnakeNo ∷ [])
     ∷ row_then (is name.Dwarf ∷ cave_closed ∷ []) (say role.Disturbed ∷ []) (ends ending.Killed)
     ∷ row (is name.Dwarf ∷ []) (say role.WithWhat ∷ [])
-    ∷ row_then (is name.Dragon ∷ prop x DRAGON_ALIVE ∷ []) [] (asks question.Dragon)
+    ∷ row_then (is name.Dragon ∷ prop x DRAGON_ALIVE ∷ []) [] (poses question.Dragon)
     ∷ row (is name.Dragon ∷ []) (say role.DeadAlready ∷ [])
     ∷ row (is name.Troll ∷ []) (say role.TrollNo ∷ [])
     ∷ row (is name.Bear ∷ prop x BEAR_WILD ∷ []) (say role.BearFight ∷ [])

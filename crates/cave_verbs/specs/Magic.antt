@@ -17,6 +17,7 @@ use Rattle.verb_commands.specs.Rows.{VerbRow, row}
 use Rattle.verb_commands.specs.turn_rules.Rows.{Deed, Test, Effect, Thing}
 use Rattle.verb_commands.specs.turn_rules.Effects.{in_scene, in_state, say, set_prop}
 use Rattle.verb_commands.specs.turn_rules.Tests.{the, no, either, there_is, in_hand, prop, nowhere}
+use Rattle.verb_commands.specs.turn_rules.Tests.{home_here}
 use Rattle.verb_commands.specs.declared.command.Command.{Command}
 
 -- the number of the word that was just read among the special words; 0 if it is none of them
@@ -51,10 +52,6 @@ troll = the name.Troll
 -- the first half of an object is at home
 abbrev pub at_home : Thing Command → Test Command
 at_home t d = is_at_home d.cave d.scene.state (t d)
-
--- the player is where an object is at home
-abbrev pub home_here : Thing Command → Test Command
-home_here t d = is_home_here d.cave d.scene.state (t d)
 
 abbrev pub with_magic : ℤ → State → State
 with_magic v s = let talk = s.talk in record s { talk = record talk { magic = v } }

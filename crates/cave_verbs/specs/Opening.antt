@@ -1,31 +1,22 @@
 -- OPEN and LOCK.
-use Rattle.std.specs.Prelude.{ℕ, Bool, true, false, List, [], ◌∷◌, if◌then◌else◌, Option, Some}
-use Rattle.std.specs.Prelude.{None}
-use Rattle.verb_commands.specs.cave_data.CaveView.{CaveView}
-use Rattle.verb_commands.specs.data_rows.declared.place_role.PlaceRole.{PlaceRole}
+use Rattle.std.specs.Prelude.{ℕ, Bool, true, false, List, [], ◌∷◌}
 use Rattle.verb_commands.specs.data_rows.declared.place_role.PlaceRole.TheVariants as place
 use Rattle.verb_commands.specs.data_rows.declared.role.Role.TheVariants as role
 use Rattle.verb_commands.specs.cave_words.declared.named.Named.TheVariants as name
-use Rattle.verb_commands.specs.world_objects.Objects.{after_move_to, is_object_at}
-use Rattle.verb_commands.specs.cave_world.declared.state.State.{State}
-use Rattle.verb_commands.specs.turn_things.Effects.{with_objects, after_panic}
-use Rattle.verb_commands.specs.turn_things.Homes.{is_home_elsewhere}
-use Rattle.verb_commands.specs.turn_things.Places.{place_named}
-use Rattle.verb_commands.specs.turn_things.Reach.{is_near}
 use Rattle.verb_commands.specs.turn_things.Props.{BEAR_DEAD, BEAR_FREE, BEAR_WILD, CHAIN_LOCKED}
 use Rattle.verb_commands.specs.turn_things.Props.{CHAIN_UNLOCKED, DOOR_OILED, GRATE_LOCKED}
 use Rattle.verb_commands.specs.turn_things.Props.{GRATE_UNLOCKED}
-use Rattle.verb_commands.specs.turn_scene.Scene.{thing}
+use Rattle.verb_commands.specs.Choice.{candidate, objects_meant, first}
 use Rattle.verb_commands.specs.Rows.{VerbRow, row, keeps}
-use Rattle.verb_commands.specs.turn_rules.Rows.{Deed, Test, Effect, Thing, row_then}
+use Rattle.verb_commands.specs.turn_rules.Rows.{Deed, Test, Thing, row_then}
 use Rattle.verb_commands.specs.Effects.{default, ask_what}
-use Rattle.verb_commands.specs.turn_rules.Effects.{in_state, say, bring, destroy, fix}
-use Rattle.verb_commands.specs.turn_rules.Effects.{loosen, set_prop, lay_down}
+use Rattle.verb_commands.specs.turn_rules.Effects.{say, bring, destroy, fix, loosen, set_prop}
+use Rattle.verb_commands.specs.turn_rules.Effects.{lay_down, send, panic}
 use Rattle.verb_commands.specs.declared.verb.Verb.{Verb}
 use Rattle.verb_commands.specs.declared.verb.Verb.TheVariants as verb
 use Rattle.verb_commands.specs.Tests.{x, is}
-use Rattle.verb_commands.specs.turn_rules.Tests.{the, no, either, there_is, in_hand, near, prop}
-use Rattle.verb_commands.specs.turn_rules.Tests.{other_prop, cave_closing}
+use Rattle.verb_commands.specs.turn_rules.Tests.{the, no, either, there_is, in_hand, near, is_here}
+use Rattle.verb_commands.specs.turn_rules.Tests.{prop, other_prop, cave_closing, away_from_home}
 use Rattle.verb_commands.specs.Verbs.{is_verb}
 use Rattle.verb_commands.specs.declared.next.Step.{Step}
 use Rattle.verb_commands.specs.declared.next.Step.TheVariants.{GoOn}
@@ -42,42 +33,25 @@ is_opening d = is_verb d.about.verb verb.Open
 abbrev pub is_locking : Test Command
 is_locking d = is_verb d.about.verb verb.Lock
 
-abbrev pub away_from_home : Test Command
-away_from_home d = is_home_elsewhere d.cave d.scene.state d.about.object
-
--- a player who tries to get out of a closing cave panics
-abbrev pub panic : Effect Command
-panic d = in_state (after_panic d.scene.state) d
-
--- an object is moved to a place, if there is the place
-abbrev pub after_sending : ℕ → Option ℕ → State → State
-after_sending x None s = s
-after_sending x (Some place) s = with_objects (after_move_to s.objects x place) s
-
-abbrev pub send : Thing Command → PlaceRole → Effect Command
-send t role d = in_state (after_sending (t d) (place_named d.cave role) d.scene.state) d
-
 -- it goes on with the same verb and an object
-abbrev pub goes_on_with : Thing Command → Deed Command → Step
-goes_on_with t d = GoOn d.about.verb (t d)
+abbrev pub does_it_to : Thing Command → Deed Command → Step
+does_it_to t d = GoOn d.about.verb (t d)
 
--- what is meant where the command names nothing: the grate or the door that is here, the oyster or
--- the clam at hand
-unfoldable pub lock_meant : CaveView → State → ℕ
-lock_meant cave s =
-    if is_object_at s.objects s.trail.here (thing cave name.Grate) then thing cave name.Grate
-    else (if is_object_at s.objects s.trail.here (thing cave name.Door) then thing cave name.Door
-    else (if is_near cave s (thing cave name.Oyster) then thing cave name.Oyster
-    else (if is_near cave s (thing cave name.Clam) then thing cave name.Clam else 0)))
-
-abbrev pub the_lock : Thing Command
-the_lock d = lock_meant d.cave d.scene.state
+-- what could be meant where the command names nothing, of which the first is: the grate or the door
+-- that is here, the oyster or the clam at hand
+abbrev pub locks : Deed Command → List ℕ
+locks = objects_meant
+    (candidate name.Grate (is_here (the name.Grate))
+    ∷ candidate name.Door (is_here (the name.Door))
+    ∷ candidate name.Oyster (near (the name.Oyster))
+    ∷ candidate name.Clam (near (the name.Clam))
+    ∷ [])
 
 unfoldable pub bare_open_rows : List VerbRow
 bare_open_rows =
-    row_then (there_is the_lock ∷ near (the name.Chain) ∷ []) (ask_what ∷ []) keeps
-    ∷ row_then (there_is the_lock ∷ []) [] (goes_on_with the_lock)
-    ∷ row_then (near (the name.Chain) ∷ []) [] (goes_on_with (the name.Chain))
+    row_then (there_is (first locks) ∷ near (the name.Chain) ∷ []) (ask_what ∷ []) keeps
+    ∷ row_then (there_is (first locks) ∷ []) [] (does_it_to (first locks))
+    ∷ row_then (near (the name.Chain) ∷ []) [] (does_it_to (the name.Chain))
     ∷ row [] (say role.NoLock ∷ [])
     ∷ []
 
@@ -93,7 +67,7 @@ chain_rows =
     (set_prop x CHAIN_UNLOCKED ∷ loosen x ∷ set_prop (the name.Bear) BEAR_FREE
     ∷ loosen (the name.Bear)
     ∷ say role.ChainFree ∷ [])
-    ∷ row (is name.Chain ∷ away_from_home ∷ []) (say role.NoLockHere ∷ [])
+    ∷ row (is name.Chain ∷ away_from_home x ∷ []) (say role.NoLockHere ∷ [])
     ∷ row (is name.Chain ∷ other_prop x CHAIN_UNLOCKED ∷ []) (say role.WasLocked ∷ [])
     ∷ row (is name.Chain ∷ [])
     (lay_down x ∷ set_prop x CHAIN_LOCKED ∷ fix x ∷ say role.ChainLock ∷ [])

@@ -14,11 +14,10 @@ use Rattle.verb_commands.specs.turn_things.Props.{DOOR_OILED, DOOR_RUSTY, VASE_B
 use Rattle.verb_commands.specs.turn_scene.Scene.{is_called}
 use Rattle.verb_commands.specs.Effects.{default, ask_what}
 use Rattle.verb_commands.specs.turn_rules.Effects.{say, look, bring, fix, set_prop}
-use Rattle.verb_commands.specs.Rows.{VerbRow, row, keeps, again}
+use Rattle.verb_commands.specs.Rows.{VerbRow, row, keeps, again, does}
 use Rattle.verb_commands.specs.turn_rules.Rows.{Test, Effect, Thing, row_then}
-use Rattle.verb_commands.specs.Rows.{goes_on}
 use Rattle.verb_commands.specs.declared.verb.Verb.TheVariants as verb
-use Rattle.verb_commands.specs.Tests.{x, bare, is}
+use Rattle.verb_commands.specs.Tests.{x, no_object, is}
 use Rattle.verb_commands.specs.turn_rules.Tests.{the, no, either, both, in_hand, near, is_here}
 use Rattle.verb_commands.specs.turn_rules.Tests.{in_bottle, bottle_full, in_lake, lake}
 use Rattle.verb_commands.specs.declared.command.Command.{Command}
@@ -61,7 +60,7 @@ water_at_hand = both (in_bottle (the name.Water)) (near (the name.Bottle))
 
 unfoldable pub pour_rows : List VerbRow
 pour_rows =
-    row_then (either bare (is name.Bottle) ∷ no bottle_full ∷ []) (ask_what ∷ []) keeps
+    row_then (either no_object (is name.Bottle) ∷ no bottle_full ∷ []) (ask_what ∷ []) keeps
     ∷ row (no (in_hand what_is_poured) ∷ []) (default ∷ [])
     ∷ row (no (pours name.Water) ∷ no (pours name.Oil) ∷ []) (say role.CantPour ∷ [])
     ∷ row (is_here (the name.Door) ∷ pours name.Oil ∷ [])
@@ -76,15 +75,16 @@ pour_rows =
 
 unfoldable pub drink_rows : List VerbRow
 drink_rows =
-    row_then (bare ∷ no (in_lake (the name.Water)) ∷ no water_at_hand ∷ []) (ask_what ∷ []) keeps
-    ∷ row (no bare ∷ no (is name.Water) ∷ []) (say role.Ridiculous ∷ [])
+    row_then (no_object ∷ no (in_lake (the name.Water)) ∷ no water_at_hand ∷ [])
+    (ask_what ∷ []) keeps
+    ∷ row (no no_object ∷ no (is name.Water) ∷ []) (say role.Ridiculous ∷ [])
     ∷ row (water_at_hand ∷ []) (empty_bottle ∷ say role.Drunk ∷ [])
     ∷ row [] (default ∷ [])
     ∷ []
 
 unfoldable pub bare_fill_rows : List VerbRow
 bare_fill_rows =
-    row_then (near (the name.Bottle) ∷ []) [] (goes_on verb.Fill (the name.Bottle))
+    row_then (near (the name.Bottle) ∷ []) [] (does verb.Fill (the name.Bottle))
     ∷ row_then [] (ask_what ∷ []) keeps
     ∷ []
 

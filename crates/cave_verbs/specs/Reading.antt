@@ -2,26 +2,21 @@
 use Rattle.std.specs.Prelude.{ℕ, ◌&&◌, if◌then◌else◌, List, [], ◌∷◌}
 use Rattle.verb_commands.specs.data_rows.declared.role.Role.TheVariants as role
 use Rattle.verb_commands.specs.cave_words.declared.named.Named.TheVariants as name
-use Rattle.verb_commands.specs.cave_world.Sight.{dark}
 use Rattle.verb_commands.specs.cave_world.State.{CLUE_HINT, is_hint_taken}
 use Rattle.verb_commands.specs.cave_world.declared.ending.Question.TheVariants as question
 use Rattle.verb_commands.specs.cave_world.declared.part.Part.TheVariants as part
 use Rattle.verb_commands.specs.cave_world.declared.part.WordLine.TheVariants as line
 use Rattle.verb_commands.specs.turn_scene.Scene.{thing}
 use Rattle.verb_commands.specs.Choice.{candidate, objects_meant, only}
-use Rattle.verb_commands.specs.Rows.{VerbRow, row, keeps, asks}
+use Rattle.verb_commands.specs.Rows.{VerbRow, row, keeps, poses, does}
 use Rattle.verb_commands.specs.turn_rules.Rows.{Deed, Test, Effect, Thing, row_then}
-use Rattle.verb_commands.specs.Rows.{goes_on}
 use Rattle.verb_commands.specs.Effects.{default, ask_what}
 use Rattle.verb_commands.specs.turn_rules.Effects.{tell, say}
 use Rattle.verb_commands.specs.declared.verb.Verb.TheVariants as verb
 use Rattle.verb_commands.specs.Tests.{x, is}
 use Rattle.verb_commands.specs.turn_rules.Tests.{the, no, there_is, in_hand, near, cave_closed}
+use Rattle.verb_commands.specs.turn_rules.Tests.{in_the_dark}
 use Rattle.verb_commands.specs.declared.command.Command.{Command}
-
--- the player sees nothing
-abbrev pub in_the_dark : Test Command
-in_the_dark d = dark d.cave (thing d.cave name.Lamp) d.scene.state
 
 abbrev pub hint_taken : ℕ → Test Command
 hint_taken number d = is_hint_taken d.scene.state number
@@ -45,7 +40,7 @@ what_to_read d =
 
 unfoldable pub bare_read_rows : List VerbRow
 bare_read_rows =
-    row_then (there_is what_to_read ∷ no in_the_dark ∷ []) [] (goes_on verb.Read what_to_read)
+    row_then (there_is what_to_read ∷ no in_the_dark ∷ []) [] (does verb.Read what_to_read)
     ∷ row_then [] (ask_what ∷ []) keeps
     ∷ []
 
@@ -56,6 +51,6 @@ read_rows =
     ∷ row (is name.Tablet ∷ []) (say role.ReadTablet ∷ [])
     ∷ row (is name.Message ∷ []) (say role.ReadMessage ∷ [])
     ∷ row (is name.Oyster ∷ in_hand x ∷ hint_taken CLUE_HINT ∷ []) (say role.ReadOyster ∷ [])
-    ∷ row_then (is name.Oyster ∷ in_hand x ∷ cave_closed ∷ []) [] (asks question.Oyster)
+    ∷ row_then (is name.Oyster ∷ in_hand x ∷ cave_closed ∷ []) [] (poses question.Oyster)
     ∷ row [] (default ∷ [])
     ∷ []

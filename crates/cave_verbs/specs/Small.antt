@@ -4,10 +4,9 @@ use Rattle.verb_commands.specs.data_rows.declared.role.Role.TheVariants as role
 use Rattle.verb_commands.specs.cave_world.declared.ending.Question.TheVariants as question
 use Rattle.verb_commands.specs.cave_world.declared.state.State.{State}
 use Rattle.verb_commands.specs.Effects.{default, ask_what}
-use Rattle.verb_commands.specs.turn_rules.Effects.{in_state, say}
-use Rattle.verb_commands.specs.Rows.{VerbRow, row, keeps, asks}
-use Rattle.verb_commands.specs.turn_rules.Rows.{Effect, row_then}
-use Rattle.verb_commands.specs.declared.command.Command.{Command}
+use Rattle.verb_commands.specs.turn_rules.Effects.{change, say}
+use Rattle.verb_commands.specs.Rows.{VerbRow, row, keeps, poses}
+use Rattle.verb_commands.specs.turn_rules.Rows.{row_then}
 
 -- a verb that needs an object and has none
 unfoldable pub bare_rows : List VerbRow
@@ -21,18 +20,16 @@ unfoldable pub nothing_rows : List VerbRow
 nothing_rows = row [] (say role.Ok ∷ []) ∷ []
 
 unfoldable pub bare_quit_rows : List VerbRow
-bare_quit_rows = row_then [] [] (asks question.Quit) ∷ []
+bare_quit_rows = row_then [] [] (poses question.Quit) ∷ []
 
 unfoldable pub bare_score_rows : List VerbRow
-bare_score_rows = row_then [] [] (asks question.ScoreQuit) ∷ []
-
-abbrev pub brief : State → State
-brief s = let talk = s.talk in record s { talk = record talk { is_brief = true; details = 3 } }
+bare_score_rows = row_then [] [] (poses question.ScoreQuit) ∷ []
 
 -- places are described briefly from now on, and it was said often enough that there are no more
 -- details
-abbrev pub be_brief : Effect Command
-be_brief d = in_state (brief d.scene.state) d
+abbrev pub with_brevity : State → State
+with_brevity s =
+    let talk = s.talk in record s { talk = record talk { is_brief = true; details = 3 } }
 
 unfoldable pub bare_brief_rows : List VerbRow
-bare_brief_rows = row [] (be_brief ∷ say role.Brief ∷ []) ∷ []
+bare_brief_rows = row [] (change with_brevity ∷ say role.Brief ∷ []) ∷ []

@@ -6,7 +6,7 @@ use Rattle.verb_commands.specs.world_objects.Lists.{object_of, halves_at}
 use Rattle.verb_commands.specs.world_objects.declared.object.Half.{Half}
 use Rattle.verb_commands.specs.Effects.{default, ask_what}
 use Rattle.verb_commands.specs.turn_rules.Effects.{say, carry, set_prop}
-use Rattle.verb_commands.specs.Rows.{VerbRow, row, keeps, goes_on}
+use Rattle.verb_commands.specs.Rows.{VerbRow, row, keeps, does}
 use Rattle.verb_commands.specs.turn_rules.Rows.{Thing, row_then}
 use Rattle.verb_commands.specs.declared.verb.Verb.TheVariants as verb
 use Rattle.verb_commands.specs.Tests.{x, is}
@@ -28,7 +28,7 @@ lone d = lone_object (halves_at d.scene.state.trail.here d.scene.state.objects.l
 
 unfoldable pub bare_take_rows : List VerbRow
 bare_take_rows =
-    row_then (there_is lone ∷ no dwarf ∷ []) [] (goes_on verb.Take lone)
+    row_then (there_is lone ∷ no dwarf ∷ []) [] (does verb.Take lone)
     ∷ row_then [] (ask_what ∷ []) keeps
     ∷ []
 
@@ -54,9 +54,9 @@ take_rows =
     ∷ row (fixed x ∷ is name.Chain ∷ other_prop (the name.Bear) BEAR_WILD ∷ [])
     (say role.ChainLocked ∷ [])
     ∷ row (fixed x ∷ []) (say role.Immovable ∷ [])
-    ∷ row_then (in_bottle x ∷ near (the name.Bottle) ∷ []) [] (goes_on verb.Take (the name.Bottle))
+    ∷ row_then (in_bottle x ∷ near (the name.Bottle) ∷ []) [] (does verb.Take (the name.Bottle))
     ∷ row_then (either (is name.Water) (is name.Oil) ∷ in_hand (the name.Bottle)
-    ∷ prop (the name.Bottle) BOTTLE_EMPTY ∷ []) [] (goes_on verb.Fill (the name.Bottle))
+    ∷ prop (the name.Bottle) BOTTLE_EMPTY ∷ []) [] (does verb.Fill (the name.Bottle))
     ∷ row (either (is name.Water) (is name.Oil) ∷ in_hand (the name.Bottle) ∷ [])
     (say role.BottleFull ∷ [])
     ∷ row (either (is name.Water) (is name.Oil) ∷ []) (say role.NoBottle ∷ [])

@@ -10,7 +10,7 @@ use Rattle.verb_commands.specs.cave_world.declared.dwarves.Dwarf.{Dwarf}
 use Rattle.verb_commands.specs.cave_world.declared.state.State.{State}
 use Rattle.verb_commands.specs.turn_things.Reach.{is_dwarf_at}
 use Rattle.verb_commands.specs.turn_things.Props.{AXE_BY_BEAR, BEAR_WILD, DRAGON_ALIVE}
-use Rattle.verb_commands.specs.Rows.{VerbRow, row, again, goes_on}
+use Rattle.verb_commands.specs.Rows.{VerbRow, row, again, does}
 use Rattle.verb_commands.specs.turn_rules.Rows.{Test, Effect, Thing, row_then, row_by_draw}
 use Rattle.verb_commands.specs.Effects.{default}
 use Rattle.verb_commands.specs.turn_rules.Effects.{in_state, say, bring, destroy, fix, juggle}
@@ -65,16 +65,16 @@ axe_rows =
     ∷ row_then (is_here (the name.Troll) ∷ []) (say role.AxeTroll ∷ bring x ∷ []) again
     ∷ row (near (the name.Bear) ∷ prop (the name.Bear) BEAR_WILD ∷ [])
     (bring x ∷ fix x ∷ set_prop x AXE_BY_BEAR ∷ juggle (the name.Bear) ∷ say role.AxeBear ∷ [])
-    ∷ row_then [] [] (goes_on verb.Kill no_thing)
+    ∷ row_then [] [] (does verb.Kill no_thing)
     ∷ []
 
 unfoldable pub throw_rows : List VerbRow
 throw_rows =
     row_then (is name.Rod ∷ no (in_hand x) ∷ in_hand (the name.SecondRod) ∷ [])
-    [] (goes_on verb.Throw (the name.SecondRod))
+    [] (does verb.Throw (the name.SecondRod))
     ∷ row (no (in_hand x) ∷ []) (default ∷ [])
     ∷ row (treasure x ∷ is_here (the name.Troll) ∷ [])
     (destroy x ∷ troll_goes ∷ say role.TrollPaid ∷ [])
-    ∷ row_then (is name.Food ∷ near (the name.Bear) ∷ []) [] (goes_on verb.Feed (the name.Bear))
-    ∷ row_then (no (is name.Axe) ∷ []) [] (goes_on verb.Drop x)
+    ∷ row_then (is name.Food ∷ near (the name.Bear) ∷ []) [] (does verb.Feed (the name.Bear))
+    ∷ row_then (no (is name.Axe) ∷ []) [] (does verb.Drop x)
     ∷ axe_rows

@@ -134,7 +134,8 @@ fn act_within(rules: &Rules<'_>, left: u8, command: Command, scene: &mut Scene<'
     requires room { HasRoom (parts_of_goings_on left + parts_of_inventory) scene.old }
     ensures rules { act_of (scene_of scene.new) (Done result)
         ≡ act_within left (deed (cave_of rules.now) command (scene_of scene.old)) }
-    ensures says { GoesOnSaying (parts_of_goings_on left + parts_before result) scene.old scene.new }
+    ensures says { GoesOnSaying (parts_of_goings_on left + parts_before result) scene.old
+        scene.new }
 {
     let Command {
         commanded,

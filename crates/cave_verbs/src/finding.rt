@@ -1,11 +1,10 @@
-ghost use Rattle.std.specs.Prelude.{◌≡◌, ◌+◌, length};
+ghost use Rattle.std.specs.Prelude.{◌≡◌, ◌+◌, [], ◌∷◌, length};
 ghost use Rattle.verb_commands.specs.data_numbers.Numbers.{LAST_OBJECT};
 ghost use Rattle.verb_commands.specs.turn_scene.Bounds.{GoesOnSaying, HasRoom, parts_of_inventory};
 ghost use Rattle.verb_commands.specs.turn_scene.Scene.{scene_of, cave_of};
-ghost use Rattle.verb_commands.specs.declared.next.Next.TheVariants.{Stay};
 ghost use Rattle.cave_verbs.specs.Finding.{find_rows, bare_inventory_rows, is_in_inventory};
-ghost use Rattle.cave_verbs.specs.Finding.{listed_up_to, after_naming, after_telling_bear};
-ghost use Rattle.verb_commands.specs.Rows.{DoneByRows};
+ghost use Rattle.cave_verbs.specs.Finding.{listed_up_to, after_naming, tell_bear};
+ghost use Rattle.verb_commands.specs.Rows.{DoneByRow, DoneByRows, row};
 
 use arrayvec::ArrayVec;
 use verb_commands::{
@@ -68,12 +67,10 @@ fn name_all(objects: &[Object], scene: &mut Scene<'_>)
 }
 
 /// It is said that the bear follows, if it does, and nothing more is done.
-fn tell_bear(rules: &Rules<'_>, scene: &mut Scene<'_>) -> Next
+fn tell_bear(rules: &Rules<'_>, command: Command, scene: &mut Scene<'_>) -> Next
     requires { HasRoom 1 scene.old }
-    ensures scene { scene_of scene.new
-        ≡ after_telling_bear (cave_of rules.now) (scene_of scene.old) }
-    ensures says { GoesOnSaying 1 scene.old scene.new }
-    ensures next { result ≡ Stay }
+    ensures row { DoneByRow (row [] (tell_bear ∷ [])) rules.now command scene.old scene.new
+        result }
 {
     if is_in_hand(rules, scene.state, rules.thing(Named::Bear)) {
         scene.say(Role::BearFollows);
@@ -90,9 +87,9 @@ pub fn inventory(rules: &Rules<'_>, command: Command, scene: &mut Scene<'_>) -> 
     let listed = listed(rules, scene.state);
     if listed.is_empty() {
         scene.say(Role::Empty);
-        return tell_bear(rules, scene);
+        return tell_bear(rules, command, scene);
     }
     scene.say(Role::Holding);
     name_all(listed.as_slice(), scene);
-    tell_bear(rules, scene)
+    tell_bear(rules, command, scene)
 }

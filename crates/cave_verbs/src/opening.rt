@@ -1,12 +1,16 @@
 ghost use Rattle.std.specs.Prelude.{◌≡◌, ◌≤◌, ◌||◌, IsTrue};
 ghost use Rattle.verb_commands.specs.cave_words.declared.named.Named.TheVariants as name;
-ghost use Rattle.verb_commands.specs.turn_scene.Scene.{is_called, cave_of};
+ghost use Rattle.verb_commands.specs.turn_scene.Scene.{is_called, cave_of, scene_of};
 ghost use Rattle.verb_commands.specs.turn_scene.Bounds.{HasRoom, parts_of_row};
 ghost use Rattle.verb_commands.specs.Rows.{ByRows, DoneByRows};
 ghost use Rattle.cave_verbs.specs.Ranks.{rank_of};
-ghost use Rattle.cave_verbs.specs.Opening.{after_sending, bare_open_rows, chain_rows, lock_meant};
-ghost use Rattle.cave_verbs.specs.Opening.{lock_rows, open_rows, opens_or_locks};
+ghost use Rattle.verb_commands.specs.turn_rules.Effects.{after_sending};
+ghost use Rattle.verb_commands.specs.turn_rules.Rows.{deed};
+ghost use Rattle.cave_verbs.specs.Opening.{bare_open_rows, chain_rows, lock_rows, locks};
+ghost use Rattle.cave_verbs.specs.Opening.{open_rows, opens_or_locks};
 
+use arrayvec::ArrayVec;
+use verb_commands::choice::{Meant, add_meant, first};
 use verb_commands::{
     Anchor, BEAR_DEAD, BEAR_FREE, BEAR_WILD, CHAIN_LOCKED, CHAIN_UNLOCKED, Command, DOOR_OILED,
     GRATE_LOCKED, GRATE_UNLOCKED, Named, Next, Object, Place, PlaceRole, Prop, Role, Rules, Scene,
@@ -14,29 +18,21 @@ use verb_commands::{
     place_named, start_panic,
 };
 
-/// What is meant where the command names nothing: the grate or the door that is here, the oyster or
+/// What the player could mean who names nothing: the grate or the door that is here, the oyster or
 /// the clam at hand.
-#[tactic(auto, unfolding(crate::specs::Opening::lock_meant))]
-fn lock_meant(rules: &Rules<'_>, state: &State) -> Object
-    ensures { result ≡ lock_meant (cave_of rules.now) state.now }
+fn locks(rules: &Rules<'_>, command: &Command, scene: &Scene<'_>) -> Meant
+    ensures { result.items ≡ locks (deed (cave_of rules.now) command.now (scene_of scene.now)) }
 {
     let grate = rules.thing(Named::Grate);
-    if state.at(grate) {
-        return grate;
-    }
     let door = rules.thing(Named::Door);
-    if state.at(door) {
-        return door;
-    }
     let oyster = rules.thing(Named::Oyster);
-    if is_near(rules, state, oyster) {
-        return oyster;
-    }
     let clam = rules.thing(Named::Clam);
-    if is_near(rules, state, clam) {
-        return clam;
-    }
-    Object::none()
+    let mut locks = ArrayVec::new();
+    add_meant(scene.state.at(grate), grate, &mut locks);
+    add_meant(scene.state.at(door), door, &mut locks);
+    add_meant(is_near(rules, scene.state, oyster), oyster, &mut locks);
+    add_meant(is_near(rules, scene.state, clam), clam, &mut locks);
+    locks
 }
 
 /// OPEN or LOCK without an object.
@@ -47,7 +43,7 @@ pub fn open_what_is_here(rules: &Rules<'_>, command: Command, scene: &mut Scene<
     ensures row { ByRows bare_open_rows rules.now command scene.old scene.new result }
     ensures ranks { rank_of (cave_of rules.now) result ≤ 1 }
 {
-    let meant = lock_meant(rules, scene.state);
+    let meant = first(locks(rules, &command, scene).as_slice());
     let chain = rules.thing(Named::Chain);
     let is_chain_near = is_near(rules, scene.state, chain);
     if !meant.is_none() && is_chain_near {

@@ -1,27 +1,52 @@
 -- The clocks and the lamp, which go on before a command is read.
-use Rattle.std.specs.Prelude.{ℕ, if◌then◌else◌, Option, Some, None}
+use Rattle.std.specs.Prelude.{Bool, true, false, List, [], ◌∷◌}
 use Rattle.turn_rules.specs.cave_data.CaveView.{CaveView}
+use Rattle.turn_rules.specs.data_rows.declared.place_role.PlaceRole.TheVariants as place
 use Rattle.turn_rules.specs.turn_scene.Scene.{Scene}
-use Rattle.turn_rules.specs.Rows.{Act, deed, act_of}
+use Rattle.turn_rules.specs.Rows.{Deed, Act, Test, Row, deed, row_then, first_fitting_or}
+use Rattle.turn_rules.specs.Rows.{nothing_but}
+use Rattle.turn_rules.specs.Tests.{no, cave_closed, is_bound, here}
+use Rattle.turn_rules.specs.Effects.{change}
 use Rattle.turn_clocks.specs.declared.clocks.Clocks.{Clocks}
 use Rattle.turn_clocks.specs.declared.clocks.Clocks.TheVariants.{Closed}
-use Rattle.turn_clocks.specs.FirstClock.{first_clock}
+use Rattle.turn_clocks.specs.FirstClock.{first_clock_goes, first_clock_runs_out}
+use Rattle.turn_clocks.specs.FirstClock.{with_first_clock_down, begin_closing}
 use Rattle.turn_clocks.specs.Lamp.{lamp}
-use Rattle.turn_clocks.specs.Repository.{second_clock}
+use Rattle.turn_clocks.specs.Repository.{second_clock_goes, second_clock_runs_out}
+use Rattle.turn_clocks.specs.Repository.{with_second_clock_down, close_cave}
 
--- where the cave was closed the lamp is passed over
-abbrev pub lamp_unless_closed : CaveView → Option ℕ → Scene → Act Clocks
-lamp_unless_closed cave None p = lamp (deed cave tt p)
-lamp_unless_closed cave (Some place) p = act_of p (Closed place)
+-- whether the cave is closed in this turn
+abbrev pub closes : Deed (Unit {0}) → Bool
+closes d = true
 
--- the second clock, and then the lamp
-unfoldable pub second_clock_and_lamp : CaveView → Scene → Act Clocks
-second_clock_and_lamp cave p =
-    let second = second_clock (deed cave tt p) in lamp_unless_closed cave second.step second.scene
+abbrev pub stays_open : Deed (Unit {0}) → Bool
+stays_open d = false
 
--- the first clock, the second, and the lamp; the second doesn't go in the turn in which the cave
--- begins to close
+unfoldable pub clock_rows : List (Row (Unit {0}) Bool)
+clock_rows =
+    row_then (first_clock_goes ∷ first_clock_runs_out ∷ []) begin_closing stays_open
+    ∷ row_then (first_clock_goes ∷ []) (change with_first_clock_down ∷ []) stays_open
+    ∷ row_then (second_clock_goes ∷ second_clock_runs_out ∷ no cave_closed ∷ is_bound place.Ne
+    ∷ is_bound place.Sw ∷ []) (change with_second_clock_down ∷ close_cave) closes
+    ∷ row_then (second_clock_goes ∷ []) (change with_second_clock_down ∷ []) stays_open
+    ∷ []
+
+-- one of the clocks goes on by a turn, if one goes
+unfoldable pub both_clocks : Deed (Unit {0}) → Act Bool
+both_clocks d = first_fitting_or clock_rows (nothing_but stays_open) d
+
+abbrev pub closed_just_now : Test Bool
+closed_just_now d = d.about
+
+abbrev pub arrives_here : Deed Bool → Clocks
+arrives_here d = Closed (here d)
+
+-- where the cave was closed just now the lamp is passed over
+unfoldable pub passing_rows : List (Row Bool Clocks)
+passing_rows = row_then (closed_just_now ∷ []) [] arrives_here ∷ []
+
+-- the clocks go on, and then the lamp
 unfoldable pub run_clocks : CaveView → Scene → Act Clocks
 run_clocks cave p =
-    let first = first_clock (deed cave tt p) in
-    if first.step then lamp (deed cave tt first.scene) else second_clock_and_lamp cave first.scene
+    let a = both_clocks (deed cave tt p) in
+    first_fitting_or passing_rows (λ d. lamp (deed cave tt d.scene)) (deed cave a.step a.scene)

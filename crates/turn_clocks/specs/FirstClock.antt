@@ -1,6 +1,5 @@
 -- The first clock, and how the cave begins to close where it runs out.
-use Rattle.std.specs.Prelude.{ℕ, pos, negsuc, ◌-ℤ◌, int_lt, map, Bool, true, false}
-use Rattle.std.specs.Prelude.{◌==◌, if◌then◌else◌, List, [], ◌∷◌}
+use Rattle.std.specs.Prelude.{pos, negsuc, ◌-ℤ◌, int_lt, map, true, false, ◌==◌, List, [], ◌∷◌}
 use Rattle.std.specs.Ordering.{int_eq}
 use Rattle.turn_rules.specs.data_rows.declared.place_role.PlaceRole.TheVariants as place
 use Rattle.turn_rules.specs.data_rows.declared.role.Role.TheVariants as role
@@ -9,8 +8,7 @@ use Rattle.turn_rules.specs.cave_world.declared.dwarves.Dwarf.{Dwarf}
 use Rattle.turn_rules.specs.cave_world.declared.state.State.{State}
 use Rattle.turn_rules.specs.turn_things.Props.{AXE_FREE, BEAR_DEAD, CHAIN_UNLOCKED, FISSURE_OPEN}
 use Rattle.turn_rules.specs.turn_things.Props.{GRATE_LOCKED}
-use Rattle.turn_rules.specs.Rows.{Deed, Act, Test, Effect, Row, row_then, all_hold}
-use Rattle.turn_rules.specs.Rows.{first_fitting_or, nothing_but}
+use Rattle.turn_rules.specs.Rows.{Test, Effect, all_hold}
 use Rattle.turn_rules.specs.Tests.{the, no, prop, player_at, in_the_depths}
 use Rattle.turn_rules.specs.Effects.{change, unless, say, destroy, loosen, set_prop, troll_goes}
 
@@ -64,24 +62,3 @@ begin_closing =
     ∷ say role.Closing
     ∷ change with_closing_begun
     ∷ []
-
--- whether the cave begins to close in this turn
-abbrev pub begins : Deed (Unit {0}) → Bool
-begins d = true
-
-abbrev pub runs_on : Deed (Unit {0}) → Bool
-runs_on d = false
-
-unfoldable pub first_clock_rows : List (Row (Unit {0}) Bool)
-first_clock_rows =
-    row_then (first_clock_goes ∷ first_clock_runs_out ∷ []) begin_closing begins
-    ∷ row_then (first_clock_goes ∷ []) (change with_first_clock_down ∷ []) runs_on
-    ∷ []
-
--- the first clock goes on by a turn, if it goes
-unfoldable pub first_clock : Deed (Unit {0}) → Act Bool
-first_clock d = first_fitting_or first_clock_rows (nothing_but runs_on) d
-
--- how many parts are said of it at most
-abbrev pub parts_of_beginning : Bool → ℕ
-parts_of_beginning begun = if begun then 1 else 0

@@ -1,5 +1,5 @@
 -- The lamp: it burns down, gets new batteries, goes out, and its player is warned or gives up.
-use Rattle.std.specs.Prelude.{pos, negsuc, ◌+ℤ◌, ◌-ℤ◌, int_le, true, false, List, [], ◌∷◌}
+use Rattle.std.specs.Prelude.{ℤ, pos, negsuc, ◌+ℤ◌, ◌-ℤ◌, int_le, true, false, List, [], ◌∷◌}
 use Rattle.std.specs.Int.{int_min, int_max}
 use Rattle.std.specs.Ordering.{int_eq}
 use Rattle.turn_rules.specs.data_rows.declared.role.Role.TheVariants as role
@@ -26,25 +26,23 @@ burning_rows = plain_row (prop (the name.Lamp) LAMP_ON ∷ []) (change with_turn
 abbrev pub burn : Effect (Unit {0})
 burn d = by_table burning_rows d
 
-abbrev pub low : Test (Unit {0})
-low d = int_le d.scene.state.lamp.charge (pos LOW_CHARGE)
+-- the lamp has so many turns left
+abbrev pub turns_left : ℤ → Test (Unit {0})
+turns_left turns d = int_eq d.scene.state.lamp.charge turns
 
--- the lamp has no turn left
-abbrev pub burnt_down : Test (Unit {0})
-burnt_down d = int_eq d.scene.state.lamp.charge (pos 0)
+-- the lamp has so many turns left at most
+abbrev pub turns_left_up_to : ℤ → Test (Unit {0})
+turns_left_up_to turns d = int_le d.scene.state.lamp.charge turns
 
-abbrev pub warned : Test (Unit {0})
-warned d = d.scene.state.lamp.is_warned
+-- the player was told that the lamp is low
+abbrev pub warning_given : Test (Unit {0})
+warning_given d = d.scene.state.lamp.is_warned
 
 -- the lamp is low, and both it and new batteries are at hand
 abbrev pub can_change_batteries : List (Test (Unit {0}))
 can_change_batteries =
-    low ∷ near (the name.Batteries) ∷ prop (the name.Batteries) BATTERIES_FRESH
-    ∷ near (the name.Lamp) ∷ []
-
--- the lamp has gone out, and the player is outside the cave
-abbrev pub stranded : List (Test (Unit {0}))
-stranded = burnt_out ∷ outside here ∷ []
+    turns_left_up_to (pos LOW_CHARGE) ∷ near (the name.Batteries)
+    ∷ prop (the name.Batteries) BATTERIES_FRESH ∷ near (the name.Lamp) ∷ []
 
 -- the lamp burns 2,500 turns more, up to the most, and the player isn't warned yet
 abbrev pub with_new_charge : State → State
@@ -93,9 +91,10 @@ gives_up d = GaveUp
 unfoldable pub lamp_rows : List (Row (Unit {0}) Clocks)
 lamp_rows =
     row_then can_change_batteries change_batteries goes_on
-    ∷ row_then (burnt_down ∷ []) go_out goes_on
-    ∷ row_then stranded (say role.GiveUp ∷ []) gives_up
-    ∷ row_then (low ∷ no warned ∷ near (the name.Lamp) ∷ []) warn goes_on
+    ∷ row_then (turns_left (pos 0) ∷ []) go_out goes_on
+    ∷ row_then (burnt_out ∷ outside here ∷ []) (say role.GiveUp ∷ []) gives_up
+    ∷ row_then (turns_left_up_to (pos LOW_CHARGE) ∷ no warning_given ∷ near (the name.Lamp) ∷ [])
+    warn goes_on
     ∷ []
 
 -- what comes of the lamp once it has burnt

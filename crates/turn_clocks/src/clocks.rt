@@ -1,13 +1,13 @@
 ghost use Rattle.std.specs.Prelude.{◌≡◌};
 ghost use Rattle.turn_rules.specs.turn_scene.Scene.{cave_of, scene_of};
 ghost use Rattle.turn_rules.specs.turn_scene.Bounds.{GoesOnSaying, HasRoom, parts_of_clocks};
-ghost use Rattle.turn_rules.specs.Rows.{act_of};
-ghost use Rattle.turn_clocks.specs.Clocks.{second_clock_and_lamp, run_clocks};
+ghost use Rattle.turn_rules.specs.Rows.{act_of, PlaysBy};
+ghost use Rattle.turn_clocks.specs.Clocks.{both_clocks, run_clocks};
 
-use crate::first_clock::run_first_clock;
+use crate::first_clock::{begin_closing, first_clock_goes};
 use crate::lamp::run_lamp;
-use crate::repository::run_second_clock;
-use turn_rules::{Place, Rules, Scene};
+use crate::repository::close_cave;
+use turn_rules::{Place, PlaceRole, Rules, Scene, place_named};
 
 /// What follows once the clocks and the lamp have gone on by a turn.
 #[derive(Clone, Copy, Debug, PartialEq, Eq)]
@@ -21,29 +21,46 @@ pub enum Clocks {
 }
 
 /// The clocks and the lamp go on by a turn. Returns what follows.
-#[tactic(auto, unfolding(crate::specs::Clocks::run_clocks))]
+#[tactic(auto, unfolding(crate::specs::Clocks::run_clocks, crate::specs::Clocks::passing_rows))]
 pub fn run_clocks(rules: &Rules<'_>, scene: &mut Scene<'_>) -> Clocks
     requires { HasRoom parts_of_clocks scene.old }
     ensures clocks { act_of (scene_of scene.new) result
         ≡ run_clocks (cave_of rules.now) (scene_of scene.old) }
     ensures says { GoesOnSaying parts_of_clocks scene.old scene.new }
 {
-    if run_first_clock(rules, scene) {
-        return run_lamp(rules, scene);
+    if run_both_clocks(rules, scene) {
+        return Clocks::Closed(scene.state.trail.here);
     }
-    run_second_clock_and_lamp(rules, scene)
+    run_lamp(rules, scene)
 }
 
-/// The second clock goes on, and then the lamp, unless the cave was closed.
-#[tactic(auto, unfolding(crate::specs::Clocks::second_clock_and_lamp))]
-fn run_second_clock_and_lamp(rules: &Rules<'_>, scene: &mut Scene<'_>) -> Clocks
+/// One of the clocks goes on by a turn, if one goes. Returns whether that closed the cave.
+#[tactic(auto, unfolding(crate::specs::Clocks::both_clocks, crate::specs::Clocks::clock_rows))]
+fn run_both_clocks(rules: &Rules<'_>, scene: &mut Scene<'_>) -> bool
     requires { HasRoom 1 scene.old }
-    ensures clocks { act_of (scene_of scene.new) result
-        ≡ second_clock_and_lamp (cave_of rules.now) (scene_of scene.old) }
-    ensures says { GoesOnSaying 1 scene.old scene.new }
+    ensures clock { PlaysBy both_clocks 1 rules.now tt scene.old scene.new result }
 {
-    match run_second_clock(rules, scene) {
-        Some(place) => Clocks::Closed(place),
-        None => run_lamp(rules, scene),
+    if first_clock_goes(rules, scene) {
+        if scene.state.closing.first_clock - 1 == 0 {
+            begin_closing(rules, scene);
+            return false;
+        }
+        scene.state.closing.first_clock -= 1;
+        return false;
     }
+    if scene.state.closing.first_clock != -1 || scene.state.closing.second_clock < 0 {
+        return false;
+    }
+    scene.state.closing.second_clock -= 1;
+    if scene.state.closing.second_clock != 0 || scene.state.closing.is_closed {
+        return false;
+    }
+    let Some(northeast) = place_named(rules.cave, PlaceRole::Ne) else {
+        return false;
+    };
+    let Some(southwest) = place_named(rules.cave, PlaceRole::Sw) else {
+        return false;
+    };
+    close_cave(rules, northeast, southwest, scene);
+    true
 }

@@ -1,9 +1,8 @@
 ghost use Rattle.std.specs.Prelude.{◌≡◌, ◌≤ℤ◌, pos, IsTrue, map};
 ghost use Rattle.turn_rules.specs.turn_scene.Scene.{cave_of, scene_of};
 ghost use Rattle.turn_rules.specs.turn_scene.Bounds.{HasRoom};
-ghost use Rattle.turn_rules.specs.Rows.{deed, Does, PlaysBy};
+ghost use Rattle.turn_rules.specs.Rows.{deed, Does};
 ghost use Rattle.turn_clocks.specs.FirstClock.{first_clock_goes, dismissed_dwarf, begin_closing};
-ghost use Rattle.turn_clocks.specs.FirstClock.{first_clock, parts_of_beginning};
 
 use turn_rules::{
     AXE_FREE, Anchor, BEAR_DEAD, CHAIN_UNLOCKED, Dwarf, FISSURE_OPEN, GRATE_LOCKED, Named, Place,
@@ -12,7 +11,7 @@ use turn_rules::{
 
 /// Whether the first clock goes. It doesn't go at y2.
 #[tactic(auto, unfolding(crate::specs::FirstClock::first_clock_goes))]
-fn first_clock_goes(rules: &Rules<'_>, scene: &Scene<'_>) -> bool
+pub fn first_clock_goes(rules: &Rules<'_>, scene: &Scene<'_>) -> bool
     ensures value { result ≡ first_clock_goes (deed (cave_of rules.now) tt (scene_of scene.now)) }
     ensures left { IsTrue result → pos 1 ≤ℤ scene.now.state.now.closing.first_clock }
 {
@@ -41,7 +40,7 @@ fn dismiss_all(dwarves: &mut [Dwarf])
 
 /// The ways are barred, dwarves, troll and bear are gone, and nothing holds the chain and the axe.
 #[tactic(auto, unfolding(crate::specs::FirstClock::begin_closing))]
-fn begin_closing(rules: &Rules<'_>, scene: &mut Scene<'_>)
+pub fn begin_closing(rules: &Rules<'_>, scene: &mut Scene<'_>)
     requires { HasRoom 1 scene.old }
     ensures scene { Does begin_closing 1 rules.now tt scene.old scene.new }
 {
@@ -71,22 +70,4 @@ fn begin_closing(rules: &Rules<'_>, scene: &mut Scene<'_>)
     scene.say(Role::Closing);
     scene.state.closing.first_clock = -1;
     scene.state.closing.is_closing = true;
-}
-
-/// The first clock goes on by a turn, if it goes. Returns whether the cave began to close in it.
-#[tactic(auto, unfolding(crate::specs::FirstClock::first_clock, crate::specs::FirstClock::first_clock_rows))]
-pub fn run_first_clock(rules: &Rules<'_>, scene: &mut Scene<'_>) -> bool
-    requires { HasRoom 1 scene.old }
-    ensures clock { PlaysBy first_clock (parts_of_beginning result) rules.now tt scene.old scene.new
-        result }
-{
-    if !first_clock_goes(rules, scene) {
-        return false;
-    }
-    if scene.state.closing.first_clock - 1 == 0 {
-        begin_closing(rules, scene);
-        return true;
-    }
-    scene.state.closing.first_clock -= 1;
-    false
 }

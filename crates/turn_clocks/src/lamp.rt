@@ -1,12 +1,13 @@
-ghost use Rattle.std.specs.Prelude.{◌≡◌, [], ◌∷◌};
+ghost use Rattle.std.specs.Prelude.{◌≡◌, [], ◌∷◌, pos};
 ghost use Rattle.turn_rules.specs.cave_words.declared.named.Named.TheVariants as name;
 ghost use Rattle.turn_rules.specs.turn_scene.Scene.{cave_of, scene_of};
 ghost use Rattle.turn_rules.specs.turn_scene.Bounds.{HasRoom};
 ghost use Rattle.turn_rules.specs.Rows.{all_hold, deed, Does, PlaysBy};
-ghost use Rattle.turn_rules.specs.Tests.{near, no, the};
-ghost use Rattle.turn_clocks.specs.Lamp.{burn, can_change_batteries, with_new_charge, warn, low};
-ghost use Rattle.turn_clocks.specs.Lamp.{change_batteries, go_out, stranded, warned, care_for_lamp};
-ghost use Rattle.turn_clocks.specs.Lamp.{lamp};
+ghost use Rattle.turn_rules.specs.Tests.{burnt_out, here, near, no, outside, the};
+ghost use Rattle.turn_rules.specs.cave_world.Limits as defined;
+ghost use Rattle.turn_clocks.specs.Lamp.{burn, turns_left_up_to, warning_given, with_new_charge};
+ghost use Rattle.turn_clocks.specs.Lamp.{can_change_batteries, change_batteries, go_out, warn};
+ghost use Rattle.turn_clocks.specs.Lamp.{care_for_lamp, lamp};
 
 use crate::clocks::Clocks;
 use turn_rules::{
@@ -37,7 +38,8 @@ fn renew_charge(state: &mut State)
 
 /// Whether the lamp is low, and both it and new batteries are at hand.
 fn can_change_batteries(rules: &Rules<'_>, scene: &Scene<'_>) -> bool
-    ensures { result ≡ all_hold can_change_batteries (deed (cave_of rules.now) tt (scene_of scene.now)) }
+    ensures { result
+        ≡ all_hold can_change_batteries (deed (cave_of rules.now) tt (scene_of scene.now)) }
 {
     let batteries = rules.thing(Named::Batteries);
     scene.state.lamp.charge.turns() <= LOW_CHARGE
@@ -76,8 +78,8 @@ fn go_out(rules: &Rules<'_>, scene: &mut Scene<'_>)
 
 /// Whether the lamp has gone out, and the player is outside the cave.
 fn is_stranded(rules: &Rules<'_>, scene: &Scene<'_>) -> bool
-    ensures { result ≡ all_hold stranded
-        (deed (cave_of rules.now) tt (scene_of scene.now)) }
+    ensures { result ≡ all_hold (burnt_out ∷ outside here ∷ [])
+        (deed (cave_of rules.now) (tt {0}) (scene_of scene.now)) }
 {
     scene.state.lamp.charge.turns() < 0
         && scene.state.trail.here.number() <= outside_place(rules.cave).number()
@@ -85,7 +87,8 @@ fn is_stranded(rules: &Rules<'_>, scene: &Scene<'_>) -> bool
 
 /// Whether the lamp is low and at hand, and the player wasn't warned.
 fn is_warning_due(rules: &Rules<'_>, scene: &Scene<'_>) -> bool
-    ensures { result ≡ all_hold (low ∷ no warned ∷ near (the name.Lamp) ∷ [])
+    ensures { result ≡ all_hold
+        (turns_left_up_to (pos defined.LOW_CHARGE) ∷ no warning_given ∷ near (the name.Lamp) ∷ [])
         (deed (cave_of rules.now) tt (scene_of scene.now)) }
 {
     scene.state.lamp.charge.turns() <= LOW_CHARGE

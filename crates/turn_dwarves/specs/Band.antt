@@ -1,10 +1,9 @@
 -- The six dwarves by their numbers from 0, and how angry they are. The last is the pirate.
-use Rattle.std.specs.Prelude.{ℕ, ◌==◌, slice_index_or, slice_set}
+use Rattle.std.specs.Prelude.{ℕ, slice_index_or, slice_set}
 use Rattle.turn_rules.specs.cave_world.State.{no_dwarf}
 use Rattle.turn_rules.specs.cave_world.declared.dwarves.Dwarf.{Dwarf}
 use Rattle.turn_rules.specs.cave_world.declared.dwarves.Dwarves.{Dwarves}
 use Rattle.turn_rules.specs.cave_world.declared.state.State.{State}
-use Rattle.turn_rules.specs.Rows.{Test}
 
 unfoldable pub dwarf_of : State → ℕ → Dwarf
 dwarf_of s number = slice_index_or s.dwarves.each number no_dwarf
@@ -19,8 +18,3 @@ with_dwarf number dwarf s =
 
 abbrev pub with_anger : ℕ → State → State
 with_anger n s = let dwarves = s.dwarves in with_dwarves (record dwarves { anger = n }) s
-
-module _ {C : Type 0} where
-  -- the dwarves are so angry
-  abbrev pub anger : ℕ → Test C
-  anger n d = d.scene.state.dwarves.anger == n

@@ -1,47 +1,22 @@
 -- What the pirate does to the treasures.
-use Rattle.std.specs.Prelude.{ℕ, Bool, List, [], ◌∷◌, Option, None, Some, unwrap_or, false}
+use Rattle.std.specs.Prelude.{ℕ, Bool, List, [], ◌∷◌, Option, unwrap_or, false}
 use Rattle.std.specs.List.{list_any}
 use Rattle.turn_rules.specs.cave_data.CaveView.{CaveView}
-use Rattle.turn_rules.specs.data_rows.declared.place_role.PlaceRole.{PlaceRole}
 use Rattle.turn_rules.specs.data_rows.declared.place_role.PlaceRole.TheVariants as place
 use Rattle.turn_rules.specs.data_rows.declared.role.Role.TheVariants as role
-use Rattle.turn_rules.specs.cave_words.declared.named.Named.{Named}
 use Rattle.turn_rules.specs.cave_words.declared.named.Named.TheVariants as name
-use Rattle.turn_rules.specs.world_objects.Objects.{after_move_to}
 use Rattle.turn_rules.specs.cave_world.Limits.{PIRATE}
 use Rattle.turn_rules.specs.cave_world.declared.dwarves.Dwarf.{Dwarf}
 use Rattle.turn_rules.specs.cave_world.declared.state.State.{State}
-use Rattle.turn_rules.specs.turn_scene.Scene.{Scene, is_called}
-use Rattle.turn_rules.specs.turn_things.Effects.{with_objects}
-use Rattle.turn_rules.specs.turn_things.Homes.{is_home_here}
+use Rattle.turn_rules.specs.turn_scene.Scene.{Scene}
 use Rattle.turn_rules.specs.turn_things.Places.{place_named}
 use Rattle.turn_rules.specs.turn_things.Reach.{is_near}
 use Rattle.turn_rules.specs.turn_things.Treasures.{treasures}
-use Rattle.turn_rules.specs.Rows.{Test, Effect, Thing, Row, deed, plain_row, by_table, all_hold}
-use Rattle.turn_rules.specs.Tests.{the, no, either, both, in_hand, is_here, fixed, nowhere}
-use Rattle.turn_rules.specs.Effects.{in_state, follow, say}
+use Rattle.turn_rules.specs.Rows.{Test, Effect, Row, deed, plain_row, by_table, all_hold}
+use Rattle.turn_rules.specs.Tests.{the, no, either, both, it, is_it, in_hand, is_here, fixed}
+use Rattle.turn_rules.specs.Tests.{nowhere, home_here}
+use Rattle.turn_rules.specs.Effects.{in_state, follow, say, send, when}
 use Rattle.turn_dwarves.specs.Band.{dwarf_of, with_dwarf}
-
--- an object is moved to a place, if there is the place
-abbrev pub after_sending : ℕ → Option ℕ → State → State
-after_sending x None s = s
-after_sending x (Some place) s = with_objects (after_move_to s.objects x place) s
-
-module _ {C : Type 0} where
-  -- an object is moved to the place of a role, if there is the place
-  abbrev pub send : Thing C → PlaceRole → Effect C
-  send t role d = in_state (after_sending (t d) (place_named d.cave role) d.scene.state) d
-
-  -- the player is where an object is at home
-  abbrev pub home_here : Thing C → Test C
-  home_here t d = is_home_here d.cave d.scene.state (t d)
-
--- the treasure that the pirate may take
-abbrev pub it : Thing ℕ
-it d = d.about
-
-abbrev pub is_it : Named → Test ℕ
-is_it n d = is_called d.cave d.about n
 
 -- all treasures are fair to the pirate, but not the pyramid where it or the emerald is at home
 unfoldable pub fair : Test ℕ
@@ -57,11 +32,8 @@ unfoldable pub carries_booty : Test (Unit {0})
 carries_booty d = list_any (is_carried_booty d.cave d.scene) treasures
 
 -- a treasure is at hand
-unfoldable pub is_treasure_near : CaveView → State → Bool
-is_treasure_near cave s = list_any (is_near cave s) treasures
-
-abbrev pub treasure_near : Test (Unit {0})
-treasure_near d = is_treasure_near d.cave d.scene.state
+unfoldable pub treasure_near : Test (Unit {0})
+treasure_near d = list_any (is_near d.cave d.scene.state) treasures
 
 -- a fair treasure that is carried, or is here and loose, is brought to the pirate's chest
 unfoldable pub steal_rows : List (Row ℕ (Unit {0}))
@@ -97,17 +69,11 @@ with_pirate_home cave s =
 abbrev pub go_home : Effect (Unit {0})
 go_home d = in_state (with_pirate_home d.cave d.scene.state) d
 
--- the chest is put there first, if the pirate left no message yet
-unfoldable pub chest_rows : List (Row (Unit {0}) (Unit {0}))
-chest_rows =
-    plain_row (nowhere (the name.Message) ∷ []) (send (the name.Chest) place.Chest ∷ [])
-    ∷ []
-
--- the pirate takes all that it can get
+-- the pirate takes all that it can get; its chest is there first, if it left no message yet
 unfoldable pub rob : List (Effect (Unit {0}))
 rob =
     say role.Booty
-    ∷ by_table chest_rows
+    ∷ when (nowhere (the name.Message)) (send (the name.Chest) place.Chest)
     ∷ send (the name.Message) place.Message
     ∷ steal_all
     ∷ go_home

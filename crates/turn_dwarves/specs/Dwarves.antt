@@ -2,11 +2,11 @@
 use Rattle.std.specs.Prelude.{Bool, false, not, ◌==◌, List, [], ◌∷◌}
 use Rattle.turn_rules.specs.cave_data.CaveView.{CaveView}
 use Rattle.turn_rules.specs.turn_scene.Scene.{Scene}
-use Rattle.turn_rules.specs.Rows.{Deed, Effect, Row, deed, row_then, by_table}
+use Rattle.turn_rules.specs.Rows.{Deed, Act, Effect, Row, deed, row_then, by_table}
 use Rattle.turn_rules.specs.Rows.{first_fitting_or, nothing_but}
-use Rattle.turn_rules.specs.Tests.{in_the_depths}
+use Rattle.turn_rules.specs.Tests.{in_the_depths, anger}
 use Rattle.turn_rules.specs.Effects.{change, follow, when}
-use Rattle.turn_dwarves.specs.Band.{anger, with_anger}
+use Rattle.turn_dwarves.specs.Band.{with_anger}
 use Rattle.turn_dwarves.specs.Knives.{no_attack, raid}
 use Rattle.turn_dwarves.specs.Lines.{tell_attack}
 use Rattle.turn_dwarves.specs.Pirate.{after_pirate}
@@ -33,12 +33,7 @@ anger_rows =
     ∷ row_then [] awake is_struck
     ∷ []
 
--- whether a knife hit the player, and the scene after that
-pub record Encounter : Type 0 where
-  pub is_hit : Bool
-  pub scene : Scene
-
-unfoldable pub encounter_dwarves : CaveView → Scene → Encounter
+-- what follows is whether a knife hit the player
+unfoldable pub encounter_dwarves : CaveView → Scene → Act Bool
 encounter_dwarves cave p =
-    let met = first_fitting_or anger_rows (nothing_but is_missed) (deed cave no_attack p) in
-    record { is_hit = met.step; scene = met.scene }
+    first_fitting_or anger_rows (nothing_but is_missed) (deed cave no_attack p)

@@ -1,6 +1,5 @@
 -- What the five dwarves do, one after another.
-use Rattle.std.specs.Prelude.{ℕ, zero, suc, ◌+◌, ◌-◌, ◌*◌, ◌==◌, nat_lt, if◌then◌else◌}
-use Rattle.std.specs.Prelude.{List, [], ◌∷◌}
+use Rattle.std.specs.Prelude.{ℕ, zero, suc, ◌+◌, ◌-◌, ◌*◌, ◌==◌, nat_lt, List, [], ◌∷◌}
 use Rattle.turn_rules.specs.cave_data.CaveView.{CaveView}
 use Rattle.turn_rules.specs.cave_words.Stream.{number_drawn}
 use Rattle.turn_rules.specs.cave_world.declared.dwarves.Dwarf.{Dwarf}
@@ -8,8 +7,8 @@ use Rattle.turn_rules.specs.cave_world.declared.dwarves.Knife.{Knife}
 use Rattle.turn_rules.specs.cave_world.declared.dwarves.Knife.TheVariants as knife
 use Rattle.turn_rules.specs.cave_world.declared.state.State.{State}
 use Rattle.turn_rules.specs.turn_scene.Scene.{Scene}
-use Rattle.turn_rules.specs.Rows.{Deed, Act, Test, Effect, Row, act_of, row_then, row_by_draw}
-use Rattle.turn_rules.specs.Rows.{first_fitting_or, nothing_but}
+use Rattle.turn_rules.specs.Rows.{Deed, Act, Test, Effect, Row, deed, act_of, row_then, answer_row}
+use Rattle.turn_rules.specs.Rows.{row_by_draw, first_fitting_or, nothing_but}
 use Rattle.turn_rules.specs.Tests.{no}
 use Rattle.turn_rules.specs.Effects.{change}
 use Rattle.turn_dwarves.specs.Band.{dwarf_of, with_dwarves}
@@ -36,14 +35,14 @@ knife_hits d = let s = d.scene.state in
     nat_lt (number_drawn 1000 s.stream) (95 * (s.dwarves.anger - 2))
 
 -- what a dwarf does to the player
-abbrev pub threat_as : Threat → Deed Dwarf → Threat
+abbrev pub threat_as : {C : Type 0} → Threat → Deed C → Threat
 threat_as t d = t
 
 -- what a dwarf does once it moved: one that was with the player before throws a knife
 unfoldable pub threat_rows : List (Row Dwarf Threat)
 threat_rows =
-    row_then (no sees_player ∷ []) [] (threat_as threat.Nothing)
-    ∷ row_then (no was_with_player ∷ []) [] (threat_as threat.Waits)
+    answer_row (no sees_player ∷ []) (threat_as threat.Nothing)
+    ∷ answer_row (no was_with_player ∷ []) (threat_as threat.Waits)
     ∷ row_by_draw [] knife_hits (change with_knife_here ∷ []) (threat_as threat.Hits)
     ∷ row_then [] (change with_knife_here ∷ []) (threat_as threat.Misses)
     ∷ []
@@ -51,11 +50,20 @@ threat_rows =
 unfoldable pub threaten : Deed Dwarf → Act Threat
 threaten d = first_fitting_or threat_rows (nothing_but (threat_as threat.Nothing)) d
 
--- a dwarf that is gone does nothing; any other moves, and may threaten the player
-unfoldable pub dwarf_turn : CaveView → ℕ → Scene → Act Threat
-dwarf_turn cave number p =
-    if (dwarf_of p.state number).place == 0 then act_of p threat.Nothing
-    else threaten (dwarf_moved cave number p)
+-- the dwarf of the number is nowhere
+abbrev pub dwarf_gone : Test ℕ
+dwarf_gone d = (dwarf_of d.scene.state d.about).place == 0
+
+-- a dwarf that is gone does nothing
+unfoldable pub gone_rows : List (Row ℕ Threat)
+gone_rows = answer_row (dwarf_gone ∷ []) (threat_as threat.Nothing) ∷ []
+
+-- any other moves, and may threaten the player then
+abbrev pub move_and_threaten : Deed ℕ → Act Threat
+move_and_threaten d = threaten (dwarf_moved d.cave d.about d.scene)
+
+unfoldable pub dwarf_turn : Deed ℕ → Act Threat
+dwarf_turn d = first_fitting_or gone_rows move_and_threaten d
 
 -- what a dwarf did is counted
 abbrev pub with_threat : Threat → Attack → Attack
@@ -73,7 +81,7 @@ no_attack = record { dwarves = 0; knives = 0; hits = 0 }
 unfoldable pub raid_of : CaveView → ℕ → Scene → Act Attack
 raid_of cave zero p = act_of p no_attack
 raid_of cave (suc number) p =
-    let before = raid_of cave number p in let one = dwarf_turn cave number before.scene in
+    let before = raid_of cave number p in let one = dwarf_turn (deed cave number before.scene) in
     act_of one.scene (with_threat one.step before.step)
 
 -- the five act

@@ -4,9 +4,9 @@ use Rattle.turn_rules.specs.data_rows.declared.role.Role.TheVariants as role
 use Rattle.turn_rules.specs.cave_world.declared.part.NumberLine.TheVariants as line
 use Rattle.turn_rules.specs.cave_world.declared.part.Part.TheVariants as part
 use Rattle.turn_rules.specs.Rows.{Test, Effect, Row, plain_row, by_table}
-use Rattle.turn_rules.specs.Tests.{no}
-use Rattle.turn_rules.specs.Effects.{change, say, tell}
-use Rattle.turn_dwarves.specs.Band.{anger, with_anger}
+use Rattle.turn_rules.specs.Tests.{no, both, anger}
+use Rattle.turn_rules.specs.Effects.{change, say, tell, when}
+use Rattle.turn_dwarves.specs.Band.{with_anger}
 use Rattle.turn_dwarves.specs.declared.knives.Attack.{Attack}
 
 -- so many dwarves see the player
@@ -39,12 +39,6 @@ dwarf_rows =
     ∷ plain_row [] (count_dwarves ∷ [])
     ∷ []
 
--- dwarves that threw knives for the first time are angrier from then on
-unfoldable pub first_knife_rows : List (Row Attack (Unit {0}))
-first_knife_rows =
-    plain_row (no (knives 0) ∷ anger 2 ∷ []) (change (with_anger 3) ∷ [])
-    ∷ []
-
 -- what is said of the knives, and how many hit
 unfoldable pub knife_rows : List (Row Attack (Unit {0}))
 knife_rows =
@@ -56,6 +50,11 @@ knife_rows =
     ∷ plain_row [] (count_knives ∷ count_hits ∷ [])
     ∷ []
 
--- the dwarves, and then their knives
+-- the dwarves, and then their knives; dwarves that threw some for the first time are angrier from
+-- then on
 unfoldable pub tell_attack : List (Effect Attack)
-tell_attack = by_table dwarf_rows ∷ by_table first_knife_rows ∷ by_table knife_rows ∷ []
+tell_attack =
+    by_table dwarf_rows
+    ∷ when (both (no (knives 0)) (anger 2)) (change (with_anger 3))
+    ∷ by_table knife_rows
+    ∷ []

@@ -5,7 +5,7 @@ use Rattle.turn_rules.specs.cave_words.Stream.{number_drawn}
 use Rattle.turn_rules.specs.cave_world.Limits.{PIRATE}
 use Rattle.turn_rules.specs.cave_world.declared.dwarves.Dwarf.{Dwarf}
 use Rattle.turn_rules.specs.turn_scene.Scene.{Scene, with_state, after_draw}
-use Rattle.turn_rules.specs.Rows.{Deed, Test, Row, deed, row_then, first_fitting_or, nothing_but}
+use Rattle.turn_rules.specs.Rows.{Deed, Test, Row, deed, answer_row, answer_by_rows}
 use Rattle.turn_rules.specs.Tests.{here, in_the_depths}
 use Rattle.turn_dwarves.specs.Band.{dwarf_of, with_dwarf}
 use Rattle.turn_dwarves.specs.Candidates.{ways_of_dwarf}
@@ -38,14 +38,14 @@ loses_sight d = record d.about { has_seen = false }
 -- what becomes of a dwarf once it has gone to another place
 unfoldable pub sight_rows : List (Row Dwarf Dwarf)
 sight_rows =
-    row_then (sees_player ∷ in_the_depths ∷ []) [] comes
-    ∷ row_then (is_with_player ∷ []) [] comes
-    ∷ row_then (was_with_player ∷ []) [] comes
-    ∷ row_then [] [] loses_sight
+    answer_row (sees_player ∷ in_the_depths ∷ []) comes
+    ∷ answer_row (is_with_player ∷ []) comes
+    ∷ answer_row (was_with_player ∷ []) comes
+    ∷ answer_row [] loses_sight
     ∷ []
 
 unfoldable pub dwarf_in_sight : Deed Dwarf → Dwarf
-dwarf_in_sight d = (first_fitting_or sight_rows (nothing_but loses_sight) d).step
+dwarf_in_sight d = answer_by_rows sight_rows loses_sight d
 
 -- a dwarf goes a way
 abbrev pub dwarf_on_way : ℕ → Dwarf → Dwarf

@@ -1,24 +1,22 @@
 -- What the pirate does.
-use Rattle.std.specs.Prelude.{ℤ, pos, ◌+◌, ◌==◌, ◌&&◌, not, int_le, if◌then◌else◌, List, [], ◌∷◌}
+use Rattle.std.specs.Prelude.{pos, ◌+◌, ◌==◌, not, List, [], ◌∷◌}
 use Rattle.turn_rules.specs.cave_data.CaveView.{CaveView}
 use Rattle.turn_rules.specs.data_rows.declared.place_role.PlaceRole.TheVariants as place
 use Rattle.turn_rules.specs.data_rows.declared.role.Role.TheVariants as role
 use Rattle.turn_rules.specs.cave_words.declared.named.Named.TheVariants as name
-use Rattle.turn_rules.specs.world_objects.Objects.{prop_of}
 use Rattle.turn_rules.specs.cave_world.Limits.{PIRATE}
 use Rattle.turn_rules.specs.cave_world.Sight.{LAMP_ON}
 use Rattle.turn_rules.specs.turn_scene.Scene.{Scene}
-use Rattle.turn_rules.specs.Rows.{Test, Thing, Row, deed, plain_row, row_by_draw, by_table}
-use Rattle.turn_rules.specs.Tests.{the, no, there_is, near, prop, nowhere, player_at, percent}
-use Rattle.turn_rules.specs.Effects.{say}
+use Rattle.turn_rules.specs.Rows.{Test, Effect, Row, deed, plain_row, chance_row, by_table}
+use Rattle.turn_rules.specs.Tests.{the, no, near, prop, prop_from, nowhere, player_at, percent}
+use Rattle.turn_rules.specs.Effects.{in_scene, say}
 use Rattle.turn_dwarves.specs.Band.{dwarf_of}
 use Rattle.turn_dwarves.specs.Booty.{carries_booty, treasure_near, rob, hide_chest}
 use Rattle.turn_dwarves.specs.Moving.{dwarf_moved}
 
-module _ {C : Type 0} where
-  -- an object has a prop from a number up
-  abbrev pub prop_from : Thing C → ℤ → Test C
-  prop_from t v d = there_is t d && int_le v (prop_of d.scene.state.objects (t d))
+-- the pirate is nowhere
+abbrev pub pirate_gone : Test (Unit {0})
+pirate_gone d = (dwarf_of d.scene.state PIRATE).place == 0
 
 -- the pirate sees the player
 abbrev pub pirate_sees : Test (Unit {0})
@@ -38,7 +36,7 @@ pirate_rows =
     plain_row (carries_booty ∷ []) rob
     ∷ plain_row (no treasure_near ∷ one_left ∷ nowhere (the name.Chest) ∷ near (the name.Lamp)
     ∷ prop (the name.Lamp) LAMP_ON ∷ []) hide_chest
-    ∷ row_by_draw (pirate_came ∷ []) (percent 20) (say role.Rustle ∷ []) (λ d. tt)
+    ∷ chance_row (pirate_came ∷ []) (percent 20) (say role.Rustle ∷ [])
     ∷ []
 
 -- the pirate is after the player whom it sees away from its chest, which wasn't seen yet
@@ -48,8 +46,12 @@ chase_rows =
     ∷ []) (by_table pirate_rows ∷ [])
     ∷ []
 
--- a pirate who is gone does nothing; else it moves like a dwarf, and may be after the player
+abbrev pub move_pirate : Effect (Unit {0})
+move_pirate d = in_scene (dwarf_moved d.cave PIRATE d.scene).scene d
+
+-- a pirate who isn't gone moves like a dwarf, and may be after the player then
+unfoldable pub move_rows : List (Row (Unit {0}) (Unit {0}))
+move_rows = plain_row (no pirate_gone ∷ []) (move_pirate ∷ by_table chase_rows ∷ []) ∷ []
+
 unfoldable pub after_pirate : CaveView → Scene → Scene
-after_pirate cave p =
-    if (dwarf_of p.state PIRATE).place == 0 then p
-    else (by_table chase_rows (deed cave tt (dwarf_moved cave PIRATE p).scene)).scene
+after_pirate cave p = (by_table move_rows (deed cave tt p)).scene

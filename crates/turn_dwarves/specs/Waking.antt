@@ -3,31 +3,33 @@ use Rattle.std.specs.Prelude.{ℕ, zero, suc, ◌==◌, if◌then◌else◌, unw
 use Rattle.turn_rules.specs.cave_data.CaveView.{CaveView}
 use Rattle.turn_rules.specs.data_rows.declared.place_role.PlaceRole.TheVariants as landmark
 use Rattle.turn_rules.specs.data_rows.declared.role.Role.TheVariants as role
-use Rattle.turn_rules.specs.cave_words.Stream.{next, number_drawn, pct}
+use Rattle.turn_rules.specs.cave_words.Stream.{number_drawn}
 use Rattle.turn_rules.specs.cave_words.declared.named.Named.TheVariants as name
 use Rattle.turn_rules.specs.cave_world.declared.dwarves.Dwarf.{Dwarf}
 use Rattle.turn_rules.specs.cave_world.declared.state.State.{State}
 use Rattle.turn_rules.specs.turn_things.Places.{place_named}
-use Rattle.turn_rules.specs.Rows.{Effect, Row, plain_row, row_by_draw}
+use Rattle.turn_rules.specs.Rows.{Effect, Row, plain_row, chance_row, by_table_about, after_drawing}
 use Rattle.turn_rules.specs.Tests.{the, no, in_the_depths, percent}
 use Rattle.turn_rules.specs.Effects.{in_state, change, say, bring}
 use Rattle.turn_dwarves.specs.Band.{dwarf_of, with_dwarf, with_anger}
 use Rattle.turn_dwarves.specs.declared.knives.Attack.{Attack}
-
-abbrev pub state_after_draw : State → State
-state_after_draw s = record s { stream = next s.stream }
 
 -- a dwarf goes nowhere
 unfoldable pub without_dwarf : ℕ → State → State
 without_dwarf number s =
     let dwarf = dwarf_of s number in with_dwarf number (record dwarf { place = 0 }) s
 
--- one of five is drawn, and in 50 of 100 cases it is gone
-unfoldable pub perhaps_without_one : State → State
-perhaps_without_one s =
-    let one = number_drawn 5 s.stream in let t = state_after_draw s in
-    if pct 50 t.stream then without_dwarf one (state_after_draw t)
-    else state_after_draw t
+abbrev pub remove : Effect ℕ
+remove d = in_state (without_dwarf d.about d.scene.state) d
+
+-- one of the five is gone in 50 of 100 cases
+unfoldable pub leaving_rows : List (Row ℕ (Unit {0}))
+leaving_rows = chance_row [] (percent 50) (remove ∷ []) ∷ []
+
+-- it is drawn which
+abbrev pub let_one_leave : Effect Attack
+let_one_leave d =
+    by_table_about (λ e. number_drawn 5 d.scene.state.stream) leaving_rows (after_drawing d)
 
 -- a dwarf that is where the player is goes to another place, if one is named for it
 abbrev pub place_apart : CaveView → ℕ → ℕ → ℕ
@@ -54,8 +56,8 @@ keep_apart d = in_state (with_dwarves_apart d.cave 5 d.scene.state) d
 unfoldable pub wake : List (Effect Attack)
 wake =
     change (with_anger 2)
-    ∷ change perhaps_without_one
-    ∷ change perhaps_without_one
+    ∷ let_one_leave
+    ∷ let_one_leave
     ∷ keep_apart
     ∷ say role.AxeThrown
     ∷ bring (the name.Axe)
@@ -65,6 +67,6 @@ wake =
 unfoldable pub waking_rows : List (Row Attack (Unit {0}))
 waking_rows =
     plain_row (no in_the_depths ∷ []) []
-    ∷ row_by_draw [] (percent 95) [] (λ d. tt)
+    ∷ chance_row [] (percent 95) []
     ∷ plain_row [] wake
     ∷ []

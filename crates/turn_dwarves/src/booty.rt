@@ -1,16 +1,17 @@
 //! What the pirate does to the treasures.
 
-ghost use Rattle.std.specs.Prelude.{◌≡◌, [], ◌∷◌};
+ghost use Rattle.std.specs.Prelude.{◌≡◌};
 ghost use Rattle.turn_rules.specs.turn_scene.Bounds.{GoesOnSaying, HasRoom};
 ghost use Rattle.turn_rules.specs.turn_scene.Scene.{cave_of, scene_of, thing};
 ghost use Rattle.turn_rules.specs.turn_things.Places.{place_named};
 ghost use Rattle.turn_rules.specs.cave_words.declared.named.Named.TheVariants as name;
 ghost use Rattle.turn_rules.specs.data_rows.declared.place_role.PlaceRole.TheVariants as role;
 ghost use Rattle.turn_rules.specs.turn_things.Treasures.{treasures};
-ghost use Rattle.turn_rules.specs.Rows.{Does, by_table, deed};
-ghost use Rattle.turn_dwarves.specs.Booty.{after_sending, fair, is_carried_booty, carries_booty};
-ghost use Rattle.turn_dwarves.specs.Booty.{is_treasure_near, steal, after_thefts};
-ghost use Rattle.turn_dwarves.specs.Booty.{with_pirate_home, chest_rows, rob, hide_chest};
+ghost use Rattle.turn_rules.specs.Effects.{after_sending};
+ghost use Rattle.turn_rules.specs.Rows.{Does, deed};
+ghost use Rattle.turn_dwarves.specs.Booty.{fair, is_carried_booty, carries_booty, treasure_near};
+ghost use Rattle.turn_dwarves.specs.Booty.{steal, after_thefts};
+ghost use Rattle.turn_dwarves.specs.Booty.{with_pirate_home, rob, hide_chest};
 
 use crate::band::{dwarf_of, set_dwarf};
 use turn_things::treasures::{FIRST_TREASURE, LAST_TREASURE};
@@ -60,12 +61,12 @@ pub fn carries_booty(rules: &Rules<'_>, scene: &Scene<'_>) -> bool
 }
 
 /// Whether a treasure is at hand.
-#[tactic(auto, using(crate::proofs::Treasures::walking), unfolding(crate::specs::Booty::is_treasure_near))]
-pub fn is_treasure_near(rules: &Rules<'_>, state: &State) -> bool
-    ensures { result ≡ is_treasure_near (cave_of rules.now) state.now }
+#[tactic(auto, using(crate::proofs::Treasures::walking), unfolding(crate::specs::Booty::treasure_near))]
+pub fn is_treasure_near(rules: &Rules<'_>, scene: &Scene<'_>) -> bool
+    ensures { result ≡ treasure_near (deed (cave_of rules.now) tt (scene_of scene.now)) }
 {
     for number in FIRST_TREASURE..LAST_TREASURE + 1 {
-        if is_near(rules, state, Object::new(number)) {
+        if is_near(rules, scene.state, Object::new(number)) {
             return true;
         }
     }
@@ -108,16 +109,6 @@ fn put_chest(rules: &Rules<'_>, state: &mut State)
     send(rules.thing(Named::Chest), chest, state);
 }
 
-/// The chest is put there first, if the pirate left no message yet.
-#[tactic(auto, unfolding(crate::specs::Booty::chest_rows))]
-fn put_chest_at_first(rules: &Rules<'_>, scene: &mut Scene<'_>)
-    ensures rows { Does (by_table chest_rows ∷ []) 0 rules.now tt scene.old scene.new }
-{
-    if scene.state.is_gone(rules.thing(Named::Message)) {
-        put_chest(rules, scene.state);
-    }
-}
-
 fn leave_message(rules: &Rules<'_>, state: &mut State)
     ensures { state.new ≡ after_sending (thing (cave_of rules.now) name.Message)
         (place_named (cave_of rules.now) role.Message) state.old }
@@ -147,7 +138,9 @@ pub fn rob(rules: &Rules<'_>, scene: &mut Scene<'_>)
     ensures effects { Does rob 1 rules.now tt scene.old scene.new }
 {
     scene.say(Role::Booty);
-    put_chest_at_first(rules, scene);
+    if scene.state.is_gone(rules.thing(Named::Message)) {
+        put_chest(rules, scene.state);
+    }
     leave_message(rules, scene.state);
     steal_all(rules, scene);
     send_pirate_home(rules, scene.state);

@@ -16,7 +16,7 @@ use turn_things::{Rules, Scene};
 #[tactic(auto, unfolding(crate::specs::Dwarves::encounter_dwarves, crate::specs::Dwarves::anger_rows))]
 pub fn encounter_dwarves(rules: &Rules<'_>, scene: &mut Scene<'_>) -> bool
     requires { HasRoom parts_of_dwarves scene.old }
-    ensures moves { record { is_hit = result; scene = scene_of scene.new }
+    ensures moves { act_of (scene_of scene.new) result
         ≡ encounter_dwarves (cave_of rules.now) (scene_of scene.old) }
     ensures says { GoesOnSaying parts_of_dwarves scene.old scene.new }
 {

@@ -110,12 +110,10 @@ fn threaten(rules: &Rules<'_>, dwarf: Dwarf, scene: &mut Scene<'_>) -> Threat
 }
 
 /// A dwarf moves and then may threaten the player. One that is gone does nothing.
-#[tactic(auto, unfolding(crate::specs::Knives::dwarf_turn))]
+#[tactic(auto, unfolding(crate::specs::Knives::dwarf_turn, crate::specs::Knives::gone_rows))]
 fn take_dwarf_turn(rules: &Rules<'_>, number: usize, scene: &mut Scene<'_>) -> Threat
     requires { number < dwarf_count }
-    ensures turn { act_of (scene_of scene.new) result
-        ≡ dwarf_turn (cave_of rules.now) number (scene_of scene.old) }
-    ensures says { GoesOnSaying 0 scene.old scene.new }
+    ensures rows { PlaysBy dwarf_turn 0 rules.now number scene.old scene.new result }
 {
     if dwarf_of(scene.state, number).place.number() == 0 {
         return Threat::Nothing;

@@ -4,7 +4,7 @@ ghost use Rattle.turn_rules.specs.turn_scene.Bounds.{parts_of_throws};
 ghost use Rattle.turn_rules.specs.turn_scene.Scene.{after_telling, scene_of};
 ghost use Rattle.turn_rules.specs.cave_world.declared.part.Part.TheVariants as part;
 ghost use Rattle.turn_rules.specs.Rows.{Does, by_table};
-ghost use Rattle.turn_dwarves.specs.Lines.{dwarf_rows, first_knife_rows, knife_rows, tell_attack};
+ghost use Rattle.turn_dwarves.specs.Lines.{dwarf_rows, knife_rows, tell_attack};
 
 use crate::knives::Attack;
 use crate::waking::set_anger;
@@ -30,16 +30,6 @@ fn tell_dwarf_lines(rules: &Rules<'_>, attack: Attack, scene: &mut Scene<'_>)
         0 => (),
         1 => scene.say(Role::DwarfOne),
         dwarves => tell_number(NumberLine::DwarvesHere, dwarves, scene),
-    }
-}
-
-/// Dwarves that threw knives for the first time are angrier from then on.
-#[tactic(auto, unfolding(crate::specs::Lines::first_knife_rows))]
-fn note_first_knife(rules: &Rules<'_>, attack: Attack, scene: &mut Scene<'_>)
-    ensures rows { Does (by_table first_knife_rows ∷ []) 0 rules.now attack scene.old scene.new }
-{
-    if attack.knives != 0 && scene.state.dwarves.anger.number() == 2 {
-        set_anger(3, scene.state);
     }
 }
 
@@ -70,13 +60,16 @@ fn tell_knife_lines(rules: &Rules<'_>, attack: Attack, scene: &mut Scene<'_>)
     }
 }
 
-/// The line of the dwarves is printed, and then those of their knives.
+/// The line of the dwarves is printed, and then those of their knives. Dwarves that threw some for
+/// the first time are angrier from then on.
 #[tactic(auto, unfolding(crate::specs::Lines::tell_attack))]
 pub fn tell_attack(rules: &Rules<'_>, attack: Attack, scene: &mut Scene<'_>)
     requires { HasRoom parts_of_attack scene.old }
     ensures lines { Does tell_attack parts_of_attack rules.now attack scene.old scene.new }
 {
     tell_dwarf_lines(rules, attack, scene);
-    note_first_knife(rules, attack, scene);
+    if attack.knives != 0 && scene.state.dwarves.anger.number() == 2 {
+        set_anger(3, scene.state);
+    }
     tell_knife_lines(rules, attack, scene);
 }

@@ -8,10 +8,10 @@ ghost use Rattle.turn_rules.specs.cave_words.declared.named.Named.TheVariants as
 ghost use Rattle.turn_rules.specs.data_rows.declared.place_role.PlaceRole.TheVariants as place;
 ghost use Rattle.turn_rules.specs.cave_world.Sight as defined;
 ghost use Rattle.turn_rules.specs.Rows.{Does, all_hold, by_table, deed};
-ghost use Rattle.turn_rules.specs.Tests.{the, no, near, prop, nowhere, player_at};
+ghost use Rattle.turn_rules.specs.Tests.{the, no, near, prop, prop_from, nowhere, player_at};
 ghost use Rattle.turn_dwarves.specs.Booty.{treasure_near};
-ghost use Rattle.turn_dwarves.specs.Pirate.{prop_from, pirate_sees, one_left};
-ghost use Rattle.turn_dwarves.specs.Pirate.{pirate_rows, chase_rows, after_pirate};
+ghost use Rattle.turn_dwarves.specs.Pirate.{pirate_sees, one_left, pirate_rows, chase_rows};
+ghost use Rattle.turn_dwarves.specs.Pirate.{after_pirate};
 
 use crate::band::dwarf_of;
 use crate::booty::{carries_booty, hide_chest, is_treasure_near, rob};
@@ -53,7 +53,7 @@ fn hides_chest(rules: &Rules<'_>, scene: &Scene<'_>) -> bool
 {
     let lamp = rules.thing(Named::Lamp);
     let tallies = &scene.state.tallies;
-    !is_treasure_near(rules, scene.state)
+    !is_treasure_near(rules, scene)
         && u32::from(tallies.unseen.number()) == u32::from(tallies.lost.number()) + 1
         && scene.state.is_gone(rules.thing(Named::Chest))
         && is_near(rules, scene.state, lamp)
@@ -62,7 +62,8 @@ fn hides_chest(rules: &Rules<'_>, scene: &Scene<'_>) -> bool
 
 /// Whether the pirate came just now.
 fn is_pirate_new(state: &State) -> bool
-    ensures { let one = band.dwarf_of state.now limit.PIRATE in result ≡ not (one.last == one.place) }
+    ensures { let one = band.dwarf_of state.now limit.PIRATE in
+        result ≡ not (one.last == one.place) }
 {
     let pirate = dwarf_of(state, PIRATE);
     pirate.last != pirate.place
@@ -102,7 +103,7 @@ fn chase(rules: &Rules<'_>, scene: &mut Scene<'_>)
 }
 
 /// The pirate moves like a dwarf, and may be after the player.
-#[tactic(auto, unfolding(crate::specs::Pirate::after_pirate))]
+#[tactic(auto, unfolding(crate::specs::Pirate::after_pirate, crate::specs::Pirate::move_rows))]
 pub fn send_pirate(rules: &Rules<'_>, scene: &mut Scene<'_>)
     requires { HasRoom 1 scene.old }
     ensures scene { scene_of scene.new ≡ after_pirate (cave_of rules.now) (scene_of scene.old) }

@@ -7,7 +7,7 @@ ghost use Rattle.turn_rules.specs.cave_world.Limits as defined;
 ghost use Rattle.turn_rules.specs.Rows.{Does, by_table};
 ghost use Rattle.turn_dwarves.specs.Band.{with_anger};
 ghost use Rattle.turn_dwarves.specs.Knives.{no_attack};
-ghost use Rattle.turn_dwarves.specs.Waking.{without_dwarf, perhaps_without_one, place_apart};
+ghost use Rattle.turn_dwarves.specs.Waking.{without_dwarf, let_one_leave, place_apart};
 ghost use Rattle.turn_dwarves.specs.Waking.{dwarf_apart, with_dwarves_apart, wake, waking_rows};
 
 use crate::band::{dwarf_of, set_dwarf};
@@ -47,13 +47,13 @@ fn remove_dwarf(number: usize, state: &mut State)
 }
 
 /// One of those before the pirate is drawn, and in half of the cases it is gone.
-#[tactic(auto, unfolding(crate::specs::Waking::perhaps_without_one))]
-fn perhaps_remove_one(state: &mut State)
-    ensures { state.new ≡ perhaps_without_one state.old }
+#[tactic(auto, unfolding(crate::specs::Waking::leaving_rows))]
+fn let_one_leave(rules: &Rules<'_>, scene: &mut Scene<'_>)
+    ensures rows { Does (let_one_leave ∷ []) 0 rules.now no_attack scene.old scene.new }
 {
-    let number = state.stream.draw(PIRATE as u32);
-    if state.stream.pct(50) {
-        remove_dwarf(number as usize, state);
+    let number = scene.state.stream.draw(PIRATE as u32);
+    if scene.happens(50) {
+        remove_dwarf(number as usize, scene.state);
     }
 }
 
@@ -98,8 +98,8 @@ fn wake(rules: &Rules<'_>, scene: &mut Scene<'_>)
     ensures scene { Does wake 1 rules.now no_attack scene.old scene.new }
 {
     set_anger(2, scene.state);
-    perhaps_remove_one(scene.state);
-    perhaps_remove_one(scene.state);
+    let_one_leave(rules, scene);
+    let_one_leave(rules, scene);
     keep_apart(rules, scene.state);
     scene.say(Role::AxeThrown);
     let here = scene.state.trail.here;

@@ -13,7 +13,7 @@ use Rattle.turn_score.specs.turn_scene.Scene.{Scene, after_telling}
 use Rattle.turn_score.specs.Score.{score_of, max_score_of}
 use Rattle.turn_rules.specs.Rows.{Test, Effect, Row, deed, plain_row, by_table, after_all}
 use Rattle.turn_rules.specs.Tests.{deaths}
-use Rattle.turn_rules.specs.Effects.{in_scene, in_state, say, tell}
+use Rattle.turn_rules.specs.Effects.{in_scene, in_state, when, say, tell}
 
 abbrev pub is_welcome : Question → Bool
 is_welcome question.Welcome = true
@@ -87,16 +87,13 @@ question_rows =
     ∷ []
 
 -- the message of a question is said
-unfoldable pub after_question : CaveView → Question → Scene → Scene
+abbrev pub after_question : CaveView → Question → Scene → Scene
 after_question cave asked p = (by_table question_rows (deed cave asked p)).scene
 
 -- the score up to now, and the greatest that there is
 abbrev pub tell_score_now : Effect Question
 tell_score_now d =
     tell (part.Number line.ScoreNow (score_of d.cave d.scene.state) (max_score_of d.cave)) d
-
-abbrev pub tell_question : Effect Question
-tell_question d = in_scene (after_question d.cave d.about d.scene) d
 
 abbrev pub with_question : Question → State → State
 with_question asked s = record s { question = Some asked }
@@ -106,11 +103,9 @@ abbrev pub open_question : Effect Question
 open_question d = in_state (with_question d.about d.scene.state) d
 
 -- the score comes before the question that is about it
-unfoldable pub preface_rows : List (Row Question (Unit {0}))
-preface_rows = plain_row (asks is_score_quit ∷ []) (tell_score_now ∷ []) ∷ []
-
 unfoldable pub ask_question : List (Effect Question)
-ask_question = by_table preface_rows ∷ tell_question ∷ open_question ∷ []
+ask_question =
+    when (asks is_score_quit) tell_score_now ∷ by_table question_rows ∷ open_question ∷ []
 
 -- a question is asked
 unfoldable pub after_ask : CaveView → Question → Scene → Scene

@@ -5,8 +5,10 @@ ghost use Rattle.turn_score.specs.cave_world.declared.ending.Question.TheVariant
 ghost use Rattle.turn_score.specs.turn_scene.Bounds.{GoesOnSaying, HasRoom, parts_of_question};
 ghost use Rattle.turn_score.specs.turn_scene.Scene.{scene_of, cave_of};
 ghost use Rattle.turn_rules.specs.Rows.{Does, by_table};
-ghost use Rattle.turn_ends.specs.Questions.{die_rows, after_offer, after_question, preface_rows};
-ghost use Rattle.turn_ends.specs.Questions.{with_question, after_ask};
+ghost use Rattle.turn_rules.specs.Effects.{when};
+ghost use Rattle.turn_ends.specs.Questions.{is_score_quit, asks, die_rows, after_offer};
+ghost use Rattle.turn_ends.specs.Questions.{after_question, tell_score_now, with_question};
+ghost use Rattle.turn_ends.specs.Questions.{after_ask};
 
 use turn_score::scores::{max_score, score};
 use turn_score::{Cave, HintNumber, NumberLine, Part, Question, Role, Rules, Scene, State};
@@ -50,7 +52,7 @@ fn offer_hint(cave: &Cave, hint: HintNumber, scene: &mut Scene<'_>)
 }
 
 /// The message of a question is printed.
-#[tactic(auto, unfolding(crate::specs::Questions::after_question, crate::specs::Questions::question_rows))]
+#[tactic(auto, unfolding(crate::specs::Questions::question_rows))]
 pub fn tell_question(rules: &Rules<'_>, question: &Question, scene: &mut Scene<'_>)
     requires { HasRoom 1 scene.old }
     ensures scene { scene_of scene.new
@@ -70,10 +72,10 @@ pub fn tell_question(rules: &Rules<'_>, question: &Question, scene: &mut Scene<'
 }
 
 /// Before the question that is about the score, the score is printed.
-#[tactic(auto, unfolding(crate::specs::Questions::preface_rows))]
 fn tell_preface(rules: &Rules<'_>, question: &Question, scene: &mut Scene<'_>)
     requires { HasRoom 1 scene.old }
-    ensures rows { Does (by_table preface_rows ∷ []) 1 rules.now question.now scene.old scene.new }
+    ensures score { Does (when (asks is_score_quit) tell_score_now ∷ []) 1 rules.now question.now
+        scene.old scene.new }
 {
     if let Question::ScoreQuit = question {
         let score = score(rules, scene.state);

@@ -8,8 +8,8 @@ use Rattle.std.specs.Prelude.{◌&&◌}
 use Rattle.turn_ends.specs.cave_data.CaveView.{CaveView, cond_of}
 use Rattle.turn_ends.specs.turn_rules.Rows.{Act, deed, act_of, after_all, by_table}
 use Rattle.turn_ends.specs.turn_rules.Tests.{no}
-use Rattle.turn_hints.specs.Hints.{FIRST_HINT, in_cave, was_taken, is_in_area, in_area}
-use Rattle.turn_hints.specs.Hints.{with_turns_in_area, restart, count_turn, offer_rows, turn_rows}
+use Rattle.turn_hints.specs.Hints.{FIRST_HINT, in_cave, was_taken, in_area}
+use Rattle.turn_hints.specs.Hints.{with_turns_in_area, restart, count_turn, offer_rows, hint_rows}
 use Rattle.turn_hints.specs.Hints.{after_consider, after_hints_up_to}
 use Rattle.turn_ends.specs.turn_scene.Scene.{Scene, with_state}
 use Rattle.turn_ends.specs.cave_world.Sight.{has_condition}
@@ -33,9 +33,10 @@ quiet_outside true false c x y z p far one none = none
 quiet_outside false b c x y z p far one none = none
 
 -- a hint whose area is elsewhere, and whose turns don't count, changes nothing
-pub far_is_nothing : (cave : CaveView) (h : ℕ) (p : Scene) → is_in_area cave h p.state ≡ false
+pub far_is_nothing : (cave : CaveView) (h : ℕ) (p : Scene)
+    → has_condition cave p.state.trail.here h ≡ false
     → turns_in_area p.state h ≡ 0 → after_consider cave h p ≡ p
-unfolding after_consider turn_rows
+unfolding after_consider hint_rows
 far_is_nothing cave h p far none =
     let d = deed cave h p in
     let waits : Act (Unit {0}) =
@@ -45,7 +46,7 @@ far_is_nothing cave h p far none =
 
 -- conditions below 16 have no bit of a hint
 outside : (cave : CaveView) (n : ℕ) (s : State) → cond_of cave s.trail.here < 16
-    → is_in_area cave (n + FIRST_HINT) s ≡ false
+    → has_condition cave s.trail.here (n + FIRST_HINT) ≡ false
 unfolding has_condition
 outside cave n s low =
     let least : 2 ^ 4 ≤ 2 ^ (n + 4) =

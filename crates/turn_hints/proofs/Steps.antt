@@ -9,7 +9,7 @@ use Rattle.turn_ends.specs.cave_data.Tables.{IsAbove}
 use Rattle.turn_ends.specs.turn_rules.Rows.{Act, deed, act_of, after_all, by_table}
 use Rattle.turn_ends.specs.turn_rules.Tests.{no}
 use Rattle.turn_hints.specs.Hints.{in_cave, was_taken, in_area, restart, count_turn, offer_rows}
-use Rattle.turn_hints.specs.Hints.{turn_rows, after_consider}
+use Rattle.turn_hints.specs.Hints.{hint_rows, after_consider}
 use Rattle.turn_hints.specs.Hints.{after_hints_up_to, FIRST_HINT, OFFERED_HINTS}
 use Rattle.turn_ends.specs.turn_scene.Scene.{Scene}
 
@@ -29,7 +29,7 @@ no_row false b c x y z fails = refl
 -- a hint that the cave doesn't have changes nothing
 after_consider-none : (cave : CaveView) (h : ℕ) (p : Scene) → map.get cave.hints h ≡ None
     → after_consider cave h p ≡ p
-unfolding after_consider turn_rows
+unfolding after_consider hint_rows
 after_consider-none cave h p none =
     let d = deed cave h p in
     let waits : Act (Unit {0}) =

@@ -1,5 +1,5 @@
 -- Hints: one is offered to a player who stays for long where it helps, and who needs it.
-use Rattle.std.specs.Prelude.{ℕ, pos, ◌+◌, ◌-◌, ◌*◌, ◌+ℤ◌, Bool, true, ◌==◌, nat_le, nat_lt}
+use Rattle.std.specs.Prelude.{ℕ, ℤ, pos, ◌+◌, ◌-◌, ◌*◌, ◌+ℤ◌, Bool, true, ◌==◌, nat_le, nat_lt}
 use Rattle.std.specs.Prelude.{int_lt, min, length, List, [], ◌∷◌, is_some}
 use Rattle.std.specs.Prelude.{unwrap_or, slice_set, suc, zero}
 use Rattle.std.specs.FinMap as map
@@ -18,12 +18,12 @@ use Rattle.turn_ends.specs.cave_world.declared.part.Part.TheVariants as part
 use Rattle.turn_ends.specs.cave_world.declared.state.State.{State}
 use Rattle.turn_ends.specs.turn_scene.Scene.{Scene}
 use Rattle.turn_ends.specs.turn_things.Props.{GRATE_LOCKED, UNSEEN}
-use Rattle.turn_ends.specs.turn_rules.Rows.{Deed, Test, Effect, Row, deed, row_then, plain_row}
-use Rattle.turn_ends.specs.turn_rules.Rows.{all_hold, by_table, first_fitting_or, nothing_but}
+use Rattle.turn_ends.specs.turn_rules.Rows.{Deed, Test, Effect, Row, deed, plain_row, answer_row}
+use Rattle.turn_ends.specs.turn_rules.Rows.{all_hold, by_table, answer_by_rows}
 use Rattle.turn_ends.specs.turn_rules.Tests.{the, no, in_hand, near, prop, other_prop, over}
 use Rattle.turn_ends.specs.turn_rules.Tests.{last_object, here, last, older}
-use Rattle.turn_ends.specs.turn_rules.Effects.{with_charge, in_state, when, tell, tell_message}
-use Rattle.turn_ends.specs.turn_rules.Effects.{take_hint}
+use Rattle.turn_ends.specs.turn_rules.Effects.{in_state, when, tell, tell_message, take_hint}
+use Rattle.turn_ends.specs.turn_rules.Effects.{set_charge}
 use Rattle.turn_ends.specs.Questions.{ask}
 
 -- the hints that are offered begin with this one
@@ -33,29 +33,25 @@ FIRST_HINT = 4
 abbrev pub OFFERED_HINTS : ℕ
 OFFERED_HINTS = 17
 
--- asks how to come through the grate
+-- those that are offered only where they help
 abbrev pub GRATE_HINT : ℕ
 GRATE_HINT = 4
 
--- asks how to catch the bird
 abbrev pub BIRD_HINT : ℕ
 BIRD_HINT = 5
 
--- asks how to pass the snake
 abbrev pub SNAKE_HINT : ℕ
 SNAKE_HINT = 6
 
--- asks how to leave the maze
 abbrev pub MAZE_HINT : ℕ
 MAZE_HINT = 7
 
--- asks how to take the pyramid out
 abbrev pub PYRAMID_HINT : ℕ
 PYRAMID_HINT = 8
 
 -- the hint is that of a number
-abbrev pub is_hint : ℕ → Test ℕ
-is_hint h d = d.about == h
+abbrev pub hint_is : ℕ → Test ℕ
+hint_is h d = d.about == h
 
 -- stands for a hint that the cave lacks
 abbrev pub no_hint : Hint
@@ -72,11 +68,8 @@ abbrev pub was_taken : Test ℕ
 was_taken d = is_hint_taken d.scene.state d.about
 
 -- a place is in the area of a hint by the bit of the hint's number
-abbrev pub is_in_area : CaveView → ℕ → State → Bool
-is_in_area cave h s = has_condition cave s.trail.here h
-
 abbrev pub in_area : Test ℕ
-in_area d = is_in_area d.cave d.about d.scene.state
+in_area d = has_condition d.cave (here d) d.about
 
 -- the player has stayed for as long as the row of the hint says
 abbrev pub has_stayed : Test ℕ
@@ -94,7 +87,7 @@ always d = true
 
 -- what the guard of a hint asks
 abbrev pub guard_row : ℕ → List (Test ℕ) → Row ℕ Bool
-guard_row h tests = row_then (is_hint h ∷ []) [] (all_hold tests)
+guard_row h tests = answer_row (hint_is h ∷ []) (all_hold tests)
 
 unfoldable pub guard_rows : List (Row ℕ Bool)
 guard_rows =
@@ -105,28 +98,28 @@ guard_rows =
     ∷ guard_row MAZE_HINT (bare here ∷ bare last ∷ bare older ∷ two_in_hand ∷ [])
     ∷ guard_row PYRAMID_HINT
     (other_prop (the name.Emerald) UNSEEN ∷ prop (the name.Pyramid) UNSEEN ∷ [])
-    ∷ row_then [] [] always
+    ∷ answer_row [] always
     ∷ []
 
 -- the guard of the hint holds
 unfoldable pub helpful : Test ℕ
-helpful d = (first_fitting_or guard_rows (nothing_but always) d).step
+helpful d = answer_by_rows guard_rows always d
 
 abbrev pub with_turns_in_area : ℕ → ℕ → State → State
 with_turns_in_area h n s =
     let hints = s.hints in
     record s { hints = record hints { turns = slice_set hints.turns (h - 1) n } }
 
-abbrev pub with_one_turn_more : ℕ → State → State
-with_one_turn_more h s =
-    with_turns_in_area h (min (turns_in_area s h + 1) MAX_TURNS_IN_AREA) s
-
 -- the turns in the area of the hint are counted from 0 again
 abbrev pub restart : Effect ℕ
 restart d = in_state (with_turns_in_area d.about 0 d.scene.state) d
 
+-- one turn more
 abbrev pub count_turn : Effect ℕ
-count_turn d = in_state (with_one_turn_more d.about d.scene.state) d
+count_turn d =
+    let s = d.scene.state in
+    let turns = min (turns_in_area s d.about + 1) MAX_TURNS_IN_AREA in
+    in_state (with_turns_in_area d.about turns s) d
 
 abbrev pub offer : Effect ℕ
 offer d = ask (question.Hint d.about) d
@@ -135,19 +128,19 @@ offer d = ask (question.Hint d.about) d
 unfoldable pub offer_rows : List (Row ℕ (Unit {0}))
 offer_rows =
     plain_row (has_stayed ∷ no over ∷ helpful ∷ []) (restart ∷ offer ∷ [])
-    ∷ plain_row (has_stayed ∷ no over ∷ no (is_hint BIRD_HINT) ∷ []) (restart ∷ [])
+    ∷ plain_row (has_stayed ∷ no over ∷ no (hint_is BIRD_HINT) ∷ []) (restart ∷ [])
     ∷ []
 
 -- a hint that the cave has and that wasn't taken counts its turns, and is offered
-unfoldable pub turn_rows : List (Row ℕ (Unit {0}))
-turn_rows =
+unfoldable pub hint_rows : List (Row ℕ (Unit {0}))
+hint_rows =
     plain_row (in_cave ∷ no was_taken ∷ in_area ∷ []) (count_turn ∷ by_table offer_rows ∷ [])
     ∷ plain_row (in_cave ∷ no was_taken ∷ []) (restart ∷ [])
     ∷ []
 
 -- what a turn makes of a hint
 unfoldable pub after_consider : CaveView → ℕ → Scene → Scene
-after_consider cave h p = (by_table turn_rows (deed cave h p)).scene
+after_consider cave h p = (by_table hint_rows (deed cave h p)).scene
 
 -- so many hints from the fourth on are considered, one after another
 unfoldable pub after_hints_up_to : CaveView → ℕ → Scene → Scene
@@ -180,13 +173,13 @@ take d = take_hint d.about d
 abbrev pub bright : Test ℕ
 bright d = int_lt (pos LOW_CHARGE) d.scene.state.lamp.charge
 
-abbrev pub with_more_charge : ℕ → State → State
-with_more_charge points s =
-    with_charge (int_min (s.lamp.charge +ℤ pos (30 * points)) (pos MAX_LAMP_TURNS)) s
+-- a charge with 30 turns more for each point, up to the most
+abbrev pub longer_charge : ℕ → ℤ → ℤ
+longer_charge points charge = int_min (charge +ℤ pos (30 * points)) (pos MAX_LAMP_TURNS)
 
--- the lamp burns 30 turns more for each point that the hint costs, up to the most
+-- the lamp burns longer by what the hint costs
 abbrev pub prolong : Effect ℕ
-prolong d = in_state (with_more_charge (row_of d).points d.scene.state) d
+prolong d = set_charge (longer_charge (row_of d).points d.scene.state.lamp.charge) d
 
 -- what a player gets who takes a hint
 unfoldable pub give_rows : List (Row ℕ (Unit {0}))

@@ -1,10 +1,12 @@
 //! Hints: one is offered to a player who stays for long where it helps, and who needs it.
 
 ghost use Rattle.std.specs.Prelude.{◌≡◌, ◌<◌, ◌≤◌, ◌+◌, ◌*◌, ◌⊎◌, ℕ, IsTrue, false, true};
-ghost use Rattle.std.specs.Prelude.{[], ◌∷◌, Some};
+ghost use Rattle.std.specs.Prelude.{[], ◌∷◌, Some, min};
 ghost use Rattle.std.specs.FinMap.{get};
 ghost use Rattle.turn_ends.specs.cave_data.CaveView.{CaveView, cond_of};
 ghost use Rattle.turn_ends.specs.cave_data.Tables.{IsAbove};
+ghost use Rattle.turn_ends.specs.cave_world.Sight.{has_condition};
+ghost use Rattle.turn_ends.specs.cave_world.State as defined_state;
 ghost use Rattle.turn_ends.specs.cave_world.State.{takes_no_command, turns_in_area};
 ghost use Rattle.turn_ends.specs.cave_words.declared.named.Named.TheVariants as name;
 ghost use Rattle.turn_ends.specs.turn_scene.Bounds.{GoesOnSaying, HasRoom, SaysUpTo};
@@ -14,11 +16,11 @@ ghost use Rattle.turn_ends.specs.turn_things.Props as defined_props;
 ghost use Rattle.turn_ends.specs.turn_rules.Rows.{Does, all_hold, by_table, deed};
 ghost use Rattle.turn_ends.specs.turn_rules.Tests.{the, no, in_hand, near, prop, other_prop};
 ghost use Rattle.turn_ends.specs.turn_rules.Tests.{over, last_object, here, last, older};
+ghost use Rattle.turn_ends.specs.turn_rules.Effects.{with_charge};
 ghost use Rattle.turn_hints.specs.Hints as defined;
-ghost use Rattle.turn_hints.specs.Hints.{is_in_area, has_stayed, bare, two_in_hand, helpful};
-ghost use Rattle.turn_hints.specs.Hints.{with_turns_in_area, with_one_turn_more, offer_rows};
-ghost use Rattle.turn_hints.specs.Hints.{after_consider, after_hints, price_rows};
-ghost use Rattle.turn_hints.specs.Hints.{with_more_charge, give_rows};
+ghost use Rattle.turn_hints.specs.Hints.{has_stayed, bare, two_in_hand, helpful, longer_charge};
+ghost use Rattle.turn_hints.specs.Hints.{with_turns_in_area, offer_rows, after_consider};
+ghost use Rattle.turn_hints.specs.Hints.{after_hints, price_rows, give_rows};
 
 use turn_ends::{
     Cave, Charge, Count, GRATE_LOCKED, Hint, HintNumber, LOW_CHARGE, MAX_TURNS_IN_AREA, Named,
@@ -152,7 +154,7 @@ fn set_turns_in_area(hint: HintNumber, turns: Count<MAX_TURNS_IN_AREA>, state: &
 #[tactic(auto, unfolding(turn_ends::specs::has_condition))]
 fn is_in_area(hint: HintNumber, conditions: u32) -> bool
     ensures { (cave : CaveView) (s : State) → conditions ≡ cond_of cave s.trail.here
-        → result ≡ is_in_area cave hint s }
+        → result ≡ has_condition cave s.trail.here hint }
 {
     (conditions >> hint.number()) % 2 == 1
 }
@@ -161,7 +163,7 @@ fn is_in_area(hint: HintNumber, conditions: u32) -> bool
 fn is_far(hint: HintNumber, conditions: u32, state: &State) -> bool
     ensures area { IsTrue result → (cave : CaveView)
         → conditions ≡ cond_of cave state.now.trail.here
-        → is_in_area cave hint state.now ≡ false }
+        → has_condition cave state.now.trail.here hint ≡ false }
     ensures turns { IsTrue result → turns_in_area state.now hint ≡ 0 }
 {
     turns_in_area(hint, state).number() == 0 && !is_in_area(hint, conditions)
@@ -170,7 +172,8 @@ fn is_far(hint: HintNumber, conditions: u32, state: &State) -> bool
 /// One turn more in the area of a hint.
 #[tactic(auto, unfolding(turn_ends::specs::takes_no_command))]
 fn count_turn(hint: HintNumber, state: &mut State)
-    ensures state { state.new ≡ with_one_turn_more hint state.old }
+    ensures state { state.new ≡ with_turns_in_area hint
+        (min (turns_in_area state.old hint + 1) defined_state.MAX_TURNS_IN_AREA) state.old }
     ensures here { state.new.trail ≡ state.old.trail }
     ensures over { takes_no_command state.new ≡ takes_no_command state.old }
 {
@@ -293,7 +296,7 @@ fn offer(rules: &Rules<'_>, number: HintNumber, hint: &Hint, scene: &mut Scene<'
 }
 
 /// A hint that the cave has and that wasn't taken counts its turns, and is offered.
-#[tactic(auto, unfolding(crate::specs::Hints::after_consider, crate::specs::Hints::turn_rows))]
+#[tactic(auto, unfolding(crate::specs::Hints::after_consider, crate::specs::Hints::hint_rows))]
 fn consider(rules: &Rules<'_>, number: HintNumber, conditions: u32, scene: &mut Scene<'_>)
     requires room { HasRoom parts_of_question scene.old }
     requires here { conditions ≡ cond_of (cave_of rules.now) scene.old.state.now.trail.here }
@@ -325,7 +328,8 @@ fn consider(rules: &Rules<'_>, number: HintNumber, conditions: u32, scene: &mut 
 
 /// The lamp burns for longer, by the points of a hint.
 fn prolong(points: u16, state: &mut State)
-    ensures { state.new ≡ with_more_charge points state.old }
+    ensures { state.new
+        ≡ with_charge (longer_charge points state.old.lamp.charge) state.old }
 {
     let turns = state.lamp.charge.turns();
     let more = TURNS_A_POINT * i32::from(points);

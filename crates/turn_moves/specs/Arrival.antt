@@ -1,26 +1,25 @@
 -- What happens where a player arrives.
-use Rattle.std.specs.Prelude.{ℕ, Bool, false, ◌==◌, ◌&&◌, nat_le, if◌then◌else◌, take, List, [], ◌∷◌}
-use Rattle.std.specs.Prelude.{suc, zero}
+use Rattle.std.specs.Prelude.{ℕ, zero, suc, Bool, ◌==◌, ◌&&◌, nat_le, if◌then◌else◌, List, [], ◌∷◌}
+use Rattle.std.specs.Prelude.{take}
 use Rattle.std.specs.List.{list_any}
 use Rattle.turn_dwarves.specs.cave_data.CaveView.{CaveView}
 use Rattle.turn_dwarves.specs.data_rows.declared.role.Role.TheVariants as role
 use Rattle.turn_dwarves.specs.cave_world.Limits.{PIRATE}
 use Rattle.turn_dwarves.specs.cave_world.Motions.{any_motion}
-use Rattle.turn_dwarves.specs.cave_world.State.{takes_no_command}
 use Rattle.turn_dwarves.specs.cave_world.declared.dwarves.Dwarf.{Dwarf}
 use Rattle.turn_dwarves.specs.turn_scene.Scene.{Scene, after_saying, with_left, scene_at_place}
 use Rattle.turn_dwarves.specs.turn_things.declared.conditions.PlaceCondition.TheVariants.{NoPirate}
-use Rattle.turn_dwarves.specs.Dwarves.{Encounter, encounter_dwarves}
+use Rattle.turn_dwarves.specs.Dwarves.{encounter_dwarves}
 use Rattle.turn_ends.specs.Endings.{after_die}
-use Rattle.turn_ends.specs.turn_rules.Rows.{Deed, Act, Test, Row, deed, act_of, row_then}
+use Rattle.turn_ends.specs.turn_rules.Rows.{Deed, Act, Test, Row, deed, row_then, answer_row}
 use Rattle.turn_ends.specs.turn_rules.Rows.{first_fitting_or, nothing_but}
 use Rattle.turn_ends.specs.turn_rules.Tests.{no, same, here, outside, cave_closing, forced_at}
-use Rattle.turn_ends.specs.turn_rules.Tests.{condition_of}
-use Rattle.turn_ends.specs.turn_rules.Effects.{say, follow}
+use Rattle.turn_ends.specs.turn_rules.Tests.{place_has, over}
+use Rattle.turn_ends.specs.turn_rules.Effects.{say, follow, panic}
 use Rattle.turn_moves.specs.Description.{moved_on, left_there, tell_place, after_describe}
 use Rattle.turn_moves.specs.Description.{stop_here}
 use Rattle.turn_moves.specs.Journeys.{set_forth}
-use Rattle.turn_moves.specs.Ways.{panic, fall}
+use Rattle.turn_moves.specs.Ways.{fall}
 
 -- the place where the player is about to arrive
 abbrev pub new : Deed ℕ → ℕ
@@ -41,8 +40,9 @@ dwarf_from place d = list_any (comes_from (place d)) (take PIRATE d.scene.state.
 -- a closing cave has no way out, and a dwarf bars the way to the place that it came from
 unfoldable pub blocking_rows : List (Row ℕ ℕ)
 blocking_rows =
-    row_then (cave_closing ∷ a_place new ∷ outside new ∷ []) (say role.ClosingExit ∷ panic ∷ []) here
-    ∷ row_then (no (same new here) ∷ no (forced_at here) ∷ no (condition_of NoPirate here)
+    row_then (cave_closing ∷ a_place new ∷ outside new ∷ [])
+    (say role.ClosingExit ∷ panic ∷ []) here
+    ∷ row_then (no (same new here) ∷ no (forced_at here) ∷ no (place_has NoPirate here)
     ∷ dwarf_from new ∷ []) (say role.Blocked ∷ []) here
     ∷ []
 
@@ -57,12 +57,11 @@ hit_rows =
     ∷ row_then [] (follow after_describe ∷ []) left_there
     ∷ []
 
-abbrev pub after_dwarves : CaveView → Encounter → Act Bool
-after_dwarves cave h = first_fitting_or hit_rows (nothing_but left_there) (deed cave h.is_hit h.scene)
-
 -- the dwarves move, and the place is described
 unfoldable pub meet : Deed (Unit {0}) → Act Bool
-meet d = after_dwarves d.cave (encounter_dwarves d.cave d.scene)
+meet d =
+    let met = encounter_dwarves d.cave d.scene in
+    first_fitting_or hit_rows (nothing_but left_there) (deed d.cave met.step met.scene)
 
 -- the player is nowhere
 abbrev pub at_no_place : Test (Unit {0})
@@ -74,18 +73,23 @@ unfoldable pub place_rows : List (Row (Unit {0}) Bool)
 place_rows =
     row_then (at_no_place ∷ []) (follow after_die ∷ []) left_there
     ∷ row_then (forced_at here ∷ []) tell_place moved_on
-    ∷ row_then (condition_of NoPirate here ∷ []) (follow after_describe ∷ []) left_there
+    ∷ row_then (place_has NoPirate here ∷ []) (follow after_describe ∷ []) left_there
     ∷ []
 
 -- the player comes to a place
 unfoldable pub come_to : CaveView → ℕ → Scene → Act Bool
 come_to cave place p = first_fitting_or place_rows meet (deed cave tt (scene_at_place place p))
 
--- the player arrives at a place, if nothing is in the way; after a death on the way no one arrives
+-- after a death on the way no one arrives
+unfoldable pub over_rows : List (Row ℕ Bool)
+over_rows = answer_row (over ∷ []) left_there ∷ []
+
+-- else the player arrives at the place, if nothing is in the way
+abbrev pub come_on : Deed ℕ → Act Bool
+come_on d = let held = block d in come_to d.cave held.step held.scene
+
 unfoldable pub stop_at : CaveView → ℕ → Scene → Act Bool
-stop_at cave place p =
-    if takes_no_command p.state then act_of p false
-    else (let held = block (deed cave place p) in come_to cave held.step held.scene)
+stop_at cave place p = first_fitting_or over_rows come_on (deed cave place p)
 
 -- a player who is moved on by a forced motion sets out by any motion and is shown the next place,
 -- while forced motions are left

@@ -1,19 +1,18 @@
 -- The bridge that a troll guards.
 use Rattle.std.specs.Prelude.{ℕ, ◌==◌, if◌then◌else◌, List, [], ◌∷◌, Option, Some, None}
-use Rattle.turn_dwarves.specs.cave_data.CaveView.{CaveView}
 use Rattle.turn_dwarves.specs.cave_words.declared.named.Named.TheVariants as name
 use Rattle.turn_dwarves.specs.data_rows.declared.role.Role.TheVariants as role
-use Rattle.turn_dwarves.specs.turn_scene.Scene.{thing}
 use Rattle.turn_dwarves.specs.turn_things.Effects.{with_objects}
-use Rattle.turn_dwarves.specs.turn_things.Homes.{home, hold_of, second_home}
+use Rattle.turn_dwarves.specs.turn_things.Homes.{hold_of}
 use Rattle.turn_dwarves.specs.turn_things.Props.{BEAR_DEAD, CHASM_UNBRIDGED, TROLL_CALM, TROLL_FLED}
 use Rattle.turn_dwarves.specs.turn_things.Props.{TROLL_RETURNING, UNSEEN}
 use Rattle.turn_dwarves.specs.world_objects.Objects.{with_anchor}
 use Rattle.turn_ends.specs.turn_rules.Rows.{Deed, Act, Effect, Row, Thing, deed, row_then}
-use Rattle.turn_ends.specs.turn_rules.Rows.{plain_row, by_table, first_fitting_or, nothing_but}
-use Rattle.turn_ends.specs.turn_rules.Tests.{the, no, in_hand, prop, prop_up_to, here}
+use Rattle.turn_ends.specs.turn_rules.Rows.{first_fitting_or, nothing_but}
+use Rattle.turn_ends.specs.turn_rules.Tests.{the, no, in_hand, prop, prop_up_to, here, home_of}
+use Rattle.turn_ends.specs.turn_rules.Tests.{second_home_of, there_is}
 use Rattle.turn_ends.specs.turn_rules.Effects.{in_state, say, look, move, destroy, fix, loosen}
-use Rattle.turn_ends.specs.turn_rules.Effects.{juggle, set_prop, lose_one}
+use Rattle.turn_ends.specs.turn_rules.Effects.{juggle, set_prop, lose_one, when}
 use Rattle.turn_moves.specs.Ways.{Passage, other_end, passable, end_of, fall}
 
 -- an end of a bridge is a place of the cave, and 0 is none
@@ -21,21 +20,16 @@ abbrev pub bridgehead : ℕ → Option ℕ
 bridgehead place = if place == 0 then None else Some place
 
 -- the bridge leads from one of the two places where the troll is at home to the other
-unfoldable pub bridge_end : CaveView → ℕ → Option ℕ
-bridge_end cave here =
-    let troll = thing cave name.Troll in if troll == 0 then None
-    else other_end here (bridgehead (home cave troll)) (bridgehead (second_home cave troll))
-
-abbrev pub bridge : Passage (Unit {0})
-bridge d = bridge_end d.cave (here d)
+unfoldable pub bridge : Passage (Unit {0})
+bridge d =
+    if there_is (the name.Troll) d
+    then other_end (here d) (bridgehead (home_of (the name.Troll) d))
+    (bridgehead (second_home_of (the name.Troll) d))
+    else None
 
 -- the end of the bridge to which the player crosses
 abbrev pub far_end : Deed ℕ → ℕ
 far_end d = d.about
-
--- where an object is at home
-abbrev pub home_of : Thing (Unit {0}) → Deed (Unit {0}) → ℕ
-home_of t d = home d.cave (t d)
 
 -- an object is held where it is at home as a game begins
 abbrev pub hold_at_home : Thing (Unit {0}) → Effect (Unit {0})
@@ -56,16 +50,10 @@ demand_toll =
     ∷ []
 
 -- a player whom the troll lets pass is stopped the next time
-unfoldable pub pass_rows : List (Row ℕ (Unit {0}))
-pass_rows =
-    plain_row (prop (the name.Troll) TROLL_CALM ∷ []) (set_prop (the name.Troll) TROLL_RETURNING ∷ [])
-    ∷ []
+abbrev pub pass_troll : Effect ℕ
+pass_troll = when (prop (the name.Troll) TROLL_CALM) (set_prop (the name.Troll) TROLL_RETURNING)
 
--- the spices can't be found any more, if they weren't seen yet
-unfoldable pub spices_rows : List (Row ℕ (Unit {0}))
-spices_rows = plain_row (prop_up_to (the name.Spices) UNSEEN ∷ []) (lose_one ∷ []) ∷ []
-
--- the bridge breaks under the bear and the player
+-- the bridge breaks under the bear and the player, and spices that weren't seen yet are lost
 unfoldable pub break_bridge : List (Effect ℕ)
 break_bridge =
     say role.BridgeFalls
@@ -74,7 +62,7 @@ break_bridge =
     ∷ move (the name.Bear) far_end
     ∷ fix (the name.Bear)
     ∷ set_prop (the name.Bear) BEAR_DEAD
-    ∷ by_table spices_rows
+    ∷ when (prop_up_to (the name.Spices) UNSEEN) lose_one
     ∷ fall far_end
     ∷ []
 
@@ -94,7 +82,7 @@ cross_rows =
 
 -- a player whom the troll lets pass crosses
 unfoldable pub cross : Deed ℕ → Act ℕ
-cross d = first_fitting_or cross_rows (nothing_but here) (by_table pass_rows d)
+cross d = first_fitting_or cross_rows (nothing_but here) (pass_troll d)
 
 -- where the bridge leads
 unfoldable pub cross_bridge : Deed (Unit {0}) → Act ℕ

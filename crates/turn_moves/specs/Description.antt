@@ -6,18 +6,17 @@ use Rattle.turn_dwarves.specs.data_rows.declared.place_role.PlaceRole.TheVariant
 use Rattle.turn_dwarves.specs.data_rows.declared.role.Role.TheVariants as role
 use Rattle.turn_dwarves.specs.cave_words.declared.named.Named.TheVariants as name
 use Rattle.turn_dwarves.specs.world_objects.Lists.{halves_at}
-use Rattle.turn_dwarves.specs.cave_world.Sight.{dark}
 use Rattle.turn_dwarves.specs.cave_world.State.{visits_of, with_visit}
 use Rattle.turn_dwarves.specs.cave_world.declared.part.Part.TheVariants as part
 use Rattle.turn_dwarves.specs.cave_world.declared.state.State.{State}
-use Rattle.turn_dwarves.specs.turn_scene.Scene.{thing, Scene}
+use Rattle.turn_dwarves.specs.turn_scene.Scene.{Scene}
 use Rattle.turn_ends.specs.turn_rules.Rows.{Deed, Act, Test, Effect, Row, deed, row_then, plain_row}
-use Rattle.turn_ends.specs.turn_rules.Rows.{row_by_draw, by_table, first_fitting_or, nothing_but}
-use Rattle.turn_ends.specs.turn_rules.Tests.{the, no, percent, player_at, cave_closing, here}
-use Rattle.turn_ends.specs.turn_rules.Tests.{forced_at}
+use Rattle.turn_ends.specs.turn_rules.Rows.{chance_row, by_table, first_fitting_or, nothing_but}
+use Rattle.turn_ends.specs.turn_rules.Tests.{the, no, carried, percent, player_at, cave_closing}
+use Rattle.turn_ends.specs.turn_rules.Tests.{here, forced_at, in_the_dark, was_dark}
 use Rattle.turn_ends.specs.turn_rules.Effects.{say, tell, change, follow}
 use Rattle.turn_moves.specs.Objects.{after_objects}
-use Rattle.turn_moves.specs.Ways.{carried, fall}
+use Rattle.turn_moves.specs.Ways.{fall}
 
 -- a bear that is carried is mentioned before the text
 unfoldable pub bear_rows : List (Row (Unit {0}) (Unit {0}))
@@ -54,17 +53,8 @@ text_rows =
 -- at one place something hollow is heard, by chance, until the cave is closing
 unfoldable pub hollow_rows : List (Row (Unit {0}) (Unit {0}))
 hollow_rows =
-    row_by_draw (player_at place.Y2 ∷ no cave_closing ∷ []) (percent 25) (say role.Hollow ∷ [])
-    (λ d. tt)
+    chance_row (player_at place.Y2 ∷ no cave_closing ∷ []) (percent 25) (say role.Hollow ∷ [])
     ∷ []
-
--- the player sees nothing
-abbrev pub darkness : Test (Unit {0})
-darkness d = dark d.cave (thing d.cave name.Lamp) d.scene.state
-
--- it was dark as the turn began
-abbrev pub was_dark : Test (Unit {0})
-was_dark d = d.scene.was_dark
 
 abbrev pub with_visit_here : State → State
 with_visit_here s = with_visit s s.trail.here
@@ -93,8 +83,8 @@ feel_place = by_table bear_rows ∷ say role.Dark ∷ by_table hollow_rows ∷ [
 -- a player who goes on in the dark may fall into a pit
 unfoldable pub description_rows : List (Row (Unit {0}) (Unit {0}))
 description_rows =
-    plain_row (no darkness ∷ []) see_place
-    ∷ row_by_draw (was_dark ∷ []) (percent 35) (say role.Pit ∷ fall here ∷ []) (λ d. tt)
+    plain_row (no in_the_dark ∷ []) see_place
+    ∷ chance_row (was_dark ∷ []) (percent 35) (say role.Pit ∷ fall here ∷ [])
     ∷ plain_row [] feel_place
     ∷ []
 

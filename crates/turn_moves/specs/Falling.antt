@@ -13,6 +13,3 @@ with_all_left_at place s =
 -- the player dies, and what is carried will be put at the place
 unfoldable pub fall_at : CaveView → ℕ → Scene → Scene
 fall_at cave place p = after_die cave (with_state (with_all_left_at place p.state) p)
-
-abbrev pub falling_here : CaveView → Scene → Scene
-falling_here cave p = fall_at cave p.state.trail.here p

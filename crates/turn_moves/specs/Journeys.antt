@@ -22,11 +22,11 @@ use Rattle.turn_dwarves.specs.turn_things.Places.{outside_place}
 use Rattle.turn_ends.specs.turn_rules.Rows.{Deed, Act, Test, Effect, Row, deed, act_of, row_then}
 use Rattle.turn_ends.specs.turn_rules.Rows.{plain_row, by_table, first_fitting_or, nothing_but}
 use Rattle.turn_ends.specs.turn_rules.Tests.{here, same}
-use Rattle.turn_ends.specs.turn_rules.Effects.{in_scene, say, change}
+use Rattle.turn_ends.specs.turn_rules.Effects.{in_scene, say, change, set_out}
 use Rattle.turn_moves.specs.Back.{back_place, motion_between}
 use Rattle.turn_moves.specs.Bridge.{cross_bridge}
 use Rattle.turn_moves.specs.Squeeze.{squeeze_through}
-use Rattle.turn_moves.specs.Ways.{set_out, staying}
+use Rattle.turn_moves.specs.Ways.{staying}
 
 -- the motion is the one of a name
 abbrev pub is_motion : Motion → Test ℕ
@@ -112,8 +112,8 @@ abbrev pub before_cave : Test ℕ
 before_cave d = nat_lt (here d) (outside_place d.cave)
 
 -- where a player who goes back wants to go
-abbrev pub sought : Deed ℕ → ℕ
-sought d = back_place d.cave d.scene.state
+abbrev pub place_back : Deed ℕ → ℕ
+place_back d = back_place d.cave d.scene.state
 
 -- by which motion the player travels then, if by any
 abbrev pub no_motion : Deed ℕ → Option ℕ
@@ -123,7 +123,7 @@ abbrev pub that_motion : Deed ℕ → Option ℕ
 that_motion d = Some d.about
 
 abbrev pub motion_back : Deed ℕ → Option ℕ
-motion_back d = motion_between d.cave (here d) (sought d)
+motion_back d = motion_between d.cave (here d) (place_back d)
 
 abbrev pub leads_back : Test ℕ
 leads_back d = is_some (motion_back d)
@@ -140,7 +140,7 @@ own_motion_rows =
 -- the motion back, and any other
 unfoldable pub back_rows : List (Row ℕ (Option ℕ))
 back_rows =
-    row_then (is_motion motion.Back ∷ same sought here ∷ []) (set_out ∷ say role.BackNone ∷ [])
+    row_then (is_motion motion.Back ∷ same place_back here ∷ []) (set_out ∷ say role.BackNone ∷ [])
     no_motion
     ∷ row_then (is_motion motion.Back ∷ leads_back ∷ []) [] motion_back
     ∷ row_then (is_motion motion.Back ∷ []) (set_out ∷ say role.BackNo ∷ []) no_motion

@@ -10,15 +10,9 @@ use Rattle.turn_dwarves.specs.cave_world.declared.part.Part.TheVariants as part
 use Rattle.turn_dwarves.specs.cave_world.declared.state.State.{State}
 use Rattle.turn_dwarves.specs.turn_scene.Scene.{Scene}
 use Rattle.turn_dwarves.specs.turn_things.Props.{SEEN, SEEN_FASTENED, STEPS_FROM_ABOVE}
-use Rattle.turn_ends.specs.turn_rules.Rows.{Test, Effect, Row, Thing, deed, plain_row}
-use Rattle.turn_ends.specs.turn_rules.Rows.{by_table}
-use Rattle.turn_ends.specs.turn_rules.Tests.{the, either, same, cave_closed, here}
-use Rattle.turn_ends.specs.turn_rules.Effects.{tell, set_prop, change}
-use Rattle.turn_moves.specs.Ways.{carried}
-
--- the object that is described
-abbrev pub it : Thing ℕ
-it d = d.about
+use Rattle.turn_ends.specs.turn_rules.Rows.{Test, Effect, Row, deed, plain_row, by_table}
+use Rattle.turn_ends.specs.turn_rules.Tests.{the, either, it, same, carried, cave_closed, here}
+use Rattle.turn_ends.specs.turn_rules.Effects.{tell, set_prop, change, when}
 
 -- an object with a prop below 0 counts as unseen
 abbrev pub unseen : Test ℕ
@@ -44,9 +38,6 @@ abbrev pub with_short_lamp : State → State
 with_short_lamp s =
     let lamp = s.lamp in record s { lamp = record lamp { charge = int_min lamp.charge (pos 35) } }
 
-unfoldable pub rest_rows : List (Row ℕ (Unit {0}))
-rest_rows = plain_row (rest_lost ∷ []) (change with_short_lamp ∷ []) ∷ []
-
 -- the text of the object for a prop, or for the one that it has
 abbrev pub tell_its_text_for : ℤ → Effect ℕ
 tell_its_text_for v d = tell (part.Object (it d) v) d
@@ -57,7 +48,8 @@ tell_its_text d = tell_its_text_for (prop_of d.scene.state.objects (it d)) d
 -- the steps are seen from above at their second place
 unfoldable pub object_text_rows : List (Row ℕ (Unit {0}))
 object_text_rows =
-    plain_row (same it (the name.Steps) ∷ second_half_here ∷ []) (tell_its_text_for STEPS_FROM_ABOVE ∷ [])
+    plain_row (same it (the name.Steps) ∷ second_half_here ∷ [])
+    (tell_its_text_for STEPS_FROM_ABOVE ∷ [])
     ∷ plain_row [] (tell_its_text ∷ [])
     ∷ []
 
@@ -66,7 +58,7 @@ unfoldable pub find_treasure : ℤ → List (Effect ℕ)
 find_treasure v =
     set_prop it v
     ∷ change with_one_less_unseen
-    ∷ by_table rest_rows
+    ∷ when rest_lost (change with_short_lamp)
     ∷ by_table object_text_rows
     ∷ []
 

@@ -1,6 +1,5 @@
 -- The narrow passage.
-use Rattle.std.specs.Prelude.{ℕ, ◌==◌, length, List, [], ◌∷◌, Option}
-use Rattle.turn_dwarves.specs.cave_data.CaveView.{CaveView}
+use Rattle.std.specs.Prelude.{ℕ, ◌==◌, length, List, [], ◌∷◌}
 use Rattle.turn_dwarves.specs.cave_words.declared.named.Named.TheVariants as name
 use Rattle.turn_dwarves.specs.data_rows.declared.place_role.PlaceRole.TheVariants as place
 use Rattle.turn_dwarves.specs.data_rows.declared.role.Role.TheVariants as role
@@ -8,16 +7,13 @@ use Rattle.turn_dwarves.specs.turn_things.Places.{place_named}
 use Rattle.turn_dwarves.specs.world_objects.Objects.{carried_objects}
 use Rattle.turn_ends.specs.turn_rules.Rows.{Deed, Act, Test, Row, row_then}
 use Rattle.turn_ends.specs.turn_rules.Rows.{first_fitting_or, nothing_but}
-use Rattle.turn_ends.specs.turn_rules.Tests.{the, no, either, both, here}
+use Rattle.turn_ends.specs.turn_rules.Tests.{the, no, either, both, carried, here}
 use Rattle.turn_ends.specs.turn_rules.Effects.{say}
-use Rattle.turn_moves.specs.Ways.{Passage, other_end, passable, end_of, carried}
+use Rattle.turn_moves.specs.Ways.{Passage, other_end, passable, end_of}
 
-unfoldable pub squeeze_end : CaveView → ℕ → Option ℕ
-squeeze_end cave here =
-    other_end here (place_named cave place.Alcove) (place_named cave place.Plover)
-
-abbrev pub squeeze : Passage (Unit {0})
-squeeze d = squeeze_end d.cave (here d)
+unfoldable pub squeeze : Passage (Unit {0})
+squeeze d =
+    other_end (here d) (place_named d.cave place.Alcove) (place_named d.cave place.Plover)
 
 -- so many objects are carried
 abbrev pub carries : ℕ → Test (Unit {0})

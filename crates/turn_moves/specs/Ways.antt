@@ -1,10 +1,8 @@
 -- Words of the rules about ways and places: what they ask, do, and where a player goes by them.
 use Rattle.std.specs.Prelude.{ℕ, ◌==◌, if◌then◌else◌, Option, Some, None, is_some, unwrap_or}
-use Rattle.turn_ends.specs.turn_rules.Rows.{Deed, Act, Test, Effect, Thing, act_of}
-use Rattle.turn_ends.specs.turn_rules.Effects.{in_scene, in_state}
-use Rattle.turn_dwarves.specs.turn_scene.Scene.{Scene, after_setting_out, here_of}
-use Rattle.turn_dwarves.specs.turn_things.Effects.{after_panic}
-use Rattle.turn_dwarves.specs.world_objects.Objects.{is_carried}
+use Rattle.turn_ends.specs.turn_rules.Rows.{Deed, Act, Test, Effect, act_of}
+use Rattle.turn_ends.specs.turn_rules.Effects.{in_scene}
+use Rattle.turn_dwarves.specs.turn_scene.Scene.{Scene, here_of}
 use Rattle.turn_moves.specs.Falling.{fall_at}
 
 -- a passage by the other of its two ends, if the player is at one of them
@@ -29,18 +27,6 @@ module _ {C : Type 0} where
 
   abbrev pub end_of : Passage C → Deed C → ℕ
   end_of passage d = unwrap_or (passage d) 0
-
-  -- the first half of an object is carried
-  abbrev pub carried : Thing C → Test C
-  carried t d = is_carried d.scene.state.objects (t d)
-
-  -- the player's place becomes the one that the player came from
-  abbrev pub set_out : Effect C
-  set_out d = in_scene (after_setting_out d.scene) d
-
-  -- a player who tries to get out of a closing cave has 15 turns left
-  abbrev pub panic : Effect C
-  panic d = in_state (after_panic d.scene.state) d
 
   -- the player dies, and what is carried will be at a place
   abbrev pub fall : (Deed C → ℕ) → Effect C

@@ -5,7 +5,7 @@ ghost use Rattle.turn_dwarves.specs.cave_world.State.{takes_no_command};
 ghost use Rattle.turn_dwarves.specs.turn_things.declared.conditions.PlaceCondition.TheVariants.{NoPirate};
 ghost use Rattle.turn_ends.specs.turn_rules.Rows.{PlaysBy, act_of, all_hold, deed};
 ghost use Rattle.turn_ends.specs.turn_rules.Tests.{no, same, here, outside, cave_closing};
-ghost use Rattle.turn_ends.specs.turn_rules.Tests.{forced_at, condition_of};
+ghost use Rattle.turn_ends.specs.turn_rules.Tests.{forced_at, place_has};
 ghost use Rattle.turn_moves.specs.Arrival.{a_place, new, comes_from, dwarf_from, block, meet};
 ghost use Rattle.turn_moves.specs.Arrival.{come_to, stop_at, after_forced_motions, after_arrival};
 ghost use Rattle.turn_moves.specs.Arrival.{description_anew};
@@ -16,7 +16,7 @@ ghost use Rattle.turn_dwarves.specs.turn_scene.Bounds.{parts_of_text, parts_of_f
 ghost use Rattle.turn_dwarves.specs.turn_scene.Bounds.{parts_of_arrival};
 
 use crate::description::{describe, stop_here, tell_place};
-use crate::falling::fall_here;
+use crate::falling::fall_at;
 use crate::journeys::set_forth;
 use crate::ways::stay;
 use turn_dwarves::{
@@ -63,7 +63,7 @@ fn some_comes_from(place: Place, dwarves: &[Dwarf]) -> bool
 /// Whether a dwarf bars the way to a place.
 fn is_barred(rules: &Rules<'_>, place: Place, scene: &Scene<'_>) -> bool
     ensures { result ≡ all_hold (no (same new here) ∷ no (forced_at here)
-        ∷ no (condition_of NoPirate here) ∷ dwarf_from new ∷ [])
+        ∷ no (place_has NoPirate here) ∷ dwarf_from new ∷ [])
         (deed (cave_of rules.now) place (scene_of scene.now)) }
 {
     let here = scene.state.trail.here;
@@ -99,7 +99,8 @@ fn meet(rules: &Rules<'_>, scene: &mut Scene<'_>) -> bool
     ensures still { result ≡ false }
 {
     if encounter_dwarves(rules, scene) {
-        fall_here(rules, scene);
+        let here = scene.state.trail.here;
+        fall_at(rules, here, scene);
         return false;
     }
     describe(rules, scene);
@@ -134,7 +135,7 @@ fn come_to(rules: &Rules<'_>, place: Place, scene: &mut Scene<'_>) -> bool
 
 /// The player arrives at a place, if nothing is in the way. Returns whether a forced motion moves
 /// the player on.
-#[tactic(auto, unfolding(crate::specs::Arrival::stop_at))]
+#[tactic(auto, unfolding(crate::specs::Arrival::stop_at, crate::specs::Arrival::over_rows))]
 fn stop_at(rules: &Rules<'_>, place: Place, scene: &mut Scene<'_>) -> bool
     requires { HasRoom parts_of_stop scene.old }
     ensures stop { act_of (scene_of scene.new) result

@@ -1,12 +1,12 @@
 //! The bridge that a troll guards.
 
-ghost use Rattle.std.specs.Prelude.{◌≡◌, [], ◌∷◌, false, IsTrue};
-ghost use Rattle.turn_moves.specs.Bridge.{bridgehead, bridge_end, demand_toll, pass_rows};
-ghost use Rattle.turn_moves.specs.Bridge.{spices_rows, break_bridge, cross, cross_bridge};
-ghost use Rattle.turn_ends.specs.turn_rules.Rows.{Does, PlaysBy, by_table};
+ghost use Rattle.std.specs.Prelude.{◌≡◌, false, IsTrue};
+ghost use Rattle.turn_moves.specs.Bridge.{bridgehead, bridge, demand_toll, break_bridge};
+ghost use Rattle.turn_moves.specs.Bridge.{cross, cross_bridge};
+ghost use Rattle.turn_ends.specs.turn_rules.Rows.{Does, PlaysBy, deed};
 ghost use Rattle.turn_dwarves.specs.turn_scene.Bounds.{HasRoom, SaysUpTo};
 ghost use Rattle.turn_dwarves.specs.turn_scene.Bounds.{parts_of_journey};
-ghost use Rattle.turn_dwarves.specs.turn_scene.Scene.{cave_of};
+ghost use Rattle.turn_dwarves.specs.turn_scene.Scene.{cave_of, scene_of};
 ghost use Rattle.turn_dwarves.specs.cave_world.State.{takes_no_command};
 
 use crate::falling::fall_at;
@@ -24,7 +24,7 @@ pub fn cross_bridge(rules: &Rules<'_>, scene: &mut Scene<'_>) -> Place
     ensures row { PlaysBy cross_bridge parts_of_journey rules.now tt scene.old scene.new result }
     ensures few_on { takes_no_command scene.new.state.now ≡ false → SaysUpTo 1 scene.old scene.new }
 {
-    match bridge_end(rules, scene.state.trail.here) {
+    match bridge(rules, scene) {
         None => stay(scene, Role::NoWay),
         Some(end) => {
             if has_prop(scene.state, rules.thing(Named::Troll), TROLL_RETURNING) {
@@ -44,16 +44,16 @@ fn bridgehead(place: Place) -> Option<Place>
 }
 
 /// The other end of the bridge, if the player is at one of its ends.
-#[tactic(auto, unfolding(crate::specs::Bridge::bridge_end))]
-fn bridge_end(rules: &Rules<'_>, here: Place) -> Option<Place>
-    ensures { result ≡ bridge_end (cave_of rules.now) here }
+#[tactic(auto, unfolding(crate::specs::Bridge::bridge))]
+fn bridge(rules: &Rules<'_>, scene: &Scene<'_>) -> Option<Place>
+    ensures { result ≡ bridge (deed (cave_of rules.now) tt (scene_of scene.now)) }
 {
     let troll = rules.thing(Named::Troll);
     if troll.is_none() {
         return None;
     }
     other_end(
-        here,
+        scene.state.trail.here,
         bridgehead(home(rules, troll)),
         bridgehead(second_home(rules, troll)),
     )
@@ -76,30 +76,7 @@ fn demand_toll(rules: &Rules<'_>, scene: &mut Scene<'_>)
     scene.state.objects.juggle(rules.thing(Named::Chasm));
 }
 
-/// A player whom the troll lets pass is stopped the next time.
-#[tactic(auto, unfolding(crate::specs::Bridge::pass_rows))]
-fn pass(rules: &Rules<'_>, end: Place, scene: &mut Scene<'_>)
-    ensures scene { Does (by_table pass_rows ∷ []) 0 rules.now end scene.old scene.new }
-{
-    let troll = rules.thing(Named::Troll);
-    if has_prop(scene.state, troll, TROLL_CALM) {
-        scene
-            .state
-            .objects
-            .set_prop(troll, Prop::new(TROLL_RETURNING));
-    }
-}
-
-#[tactic(auto, unfolding(crate::specs::Bridge::spices_rows))]
-fn lose_spices(rules: &Rules<'_>, end: Place, scene: &mut Scene<'_>)
-    ensures scene { Does (by_table spices_rows ∷ []) 0 rules.now end scene.old scene.new }
-{
-    if has_prop_up_to(scene.state, rules.thing(Named::Spices), UNSEEN) {
-        lose_one(scene.state);
-    }
-}
-
-/// The bridge breaks under the bear and the player.
+/// The bridge breaks under the bear and the player, and spices that weren't seen yet are lost.
 #[tactic(auto, unfolding(crate::specs::Bridge::break_bridge))]
 fn break_bridge(rules: &Rules<'_>, end: Place, scene: &mut Scene<'_>)
     requires { HasRoom parts_of_journey scene.old }
@@ -119,18 +96,27 @@ fn break_bridge(rules: &Rules<'_>, end: Place, scene: &mut Scene<'_>)
     scene.state.objects.move_to(bear, end);
     scene.state.objects.anchor_to(bear, Anchor::Fixed);
     scene.state.objects.set_prop(bear, Prop::new(BEAR_DEAD));
-    lose_spices(rules, end, scene);
+    if has_prop_up_to(scene.state, rules.thing(Named::Spices), UNSEEN) {
+        lose_one(scene.state);
+    }
     fall_at(rules, end, scene);
 }
 
-/// A player whom the troll lets pass crosses, and breaks the bridge with the bear.
+/// A player whom the troll lets pass, and stops the next time, crosses, and breaks the bridge with
+/// the bear.
 #[tactic(auto, unfolding(crate::specs::Bridge::cross, crate::specs::Bridge::cross_rows))]
 fn cross(rules: &Rules<'_>, end: Place, scene: &mut Scene<'_>) -> Place
     requires { HasRoom parts_of_journey scene.old }
     ensures row { PlaysBy cross parts_of_journey rules.now end scene.old scene.new result }
     ensures few_on { takes_no_command scene.new.state.now ≡ false → SaysUpTo 1 scene.old scene.new }
 {
-    pass(rules, end, scene);
+    let troll = rules.thing(Named::Troll);
+    if has_prop(scene.state, troll, TROLL_CALM) {
+        scene
+            .state
+            .objects
+            .set_prop(troll, Prop::new(TROLL_RETURNING));
+    }
     if is_in_hand(rules, scene.state, rules.thing(Named::Bear)) {
         break_bridge(rules, end, scene);
         return scene.state.trail.here;

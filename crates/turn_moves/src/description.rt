@@ -9,7 +9,7 @@ ghost use Rattle.turn_dwarves.specs.data_rows.declared.place_role.PlaceRole.TheV
 ghost use Rattle.turn_moves.specs.Description.{bear_rows, text_rows, hollow_rows, tell_place};
 ghost use Rattle.turn_moves.specs.Description.{see_place, feel_place, after_describe, stop_here};
 
-use crate::falling::fall_here;
+use crate::falling::fall_at;
 use crate::objects::tell_objects;
 use turn_dwarves::{Named, Part, PlaceRole, Role, Rules, Scene, forced, is_place, place_named};
 
@@ -121,7 +121,8 @@ pub fn describe(rules: &Rules<'_>, scene: &mut Scene<'_>)
     }
     if scene.happens(35) {
         scene.say(Role::Pit);
-        fall_here(rules, scene);
+        let here = scene.state.trail.here;
+        fall_at(rules, here, scene);
         return;
     }
     feel_place(rules, scene);

@@ -1,5 +1,5 @@
 ghost use Rattle.std.specs.Prelude.{◌≡◌, IsTrue};
-ghost use Rattle.turn_moves.specs.Falling.{with_all_left_at, fall_at, falling_here};
+ghost use Rattle.turn_moves.specs.Falling.{with_all_left_at, fall_at};
 ghost use Rattle.turn_dwarves.specs.turn_scene.Bounds.{GoesOnSaying, HasRoom, parts_of_death};
 ghost use Rattle.turn_dwarves.specs.turn_scene.Scene.{scene_of, cave_of};
 ghost use Rattle.turn_dwarves.specs.cave_world.State.{takes_no_command};
@@ -23,14 +23,4 @@ pub fn fall_at(rules: &Rules<'_>, place: Place, scene: &mut Scene<'_>)
 {
     leave_all_at(place, scene.state);
     die(rules, scene);
-}
-
-/// The player dies here.
-pub fn fall_here(rules: &Rules<'_>, scene: &mut Scene<'_>)
-    requires { HasRoom parts_of_death scene.old }
-    ensures scene { scene_of scene.new ≡ falling_here (cave_of rules.now) (scene_of scene.old) }
-    ensures says { GoesOnSaying parts_of_death scene.old scene.new }
-{
-    let here = scene.state.trail.here;
-    fall_at(rules, here, scene);
 }

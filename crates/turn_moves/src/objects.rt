@@ -4,8 +4,8 @@ ghost use Rattle.turn_dwarves.specs.turn_scene.Scene.{cave_of, scene_of};
 ghost use Rattle.turn_dwarves.specs.turn_scene.Bounds.{GoesOnSaying, HasRoom};
 ghost use Rattle.turn_ends.specs.turn_rules.Rows.{Does, by_table, deed};
 ghost use Rattle.turn_moves.specs.Objects.{unseen, second_half_here, with_one_less_unseen};
-ghost use Rattle.turn_moves.specs.Objects.{rest_rows, object_text_rows, find_treasure};
-ghost use Rattle.turn_moves.specs.Objects.{after_object, after_objects};
+ghost use Rattle.turn_moves.specs.Objects.{rest_lost, with_short_lamp, object_text_rows};
+ghost use Rattle.turn_moves.specs.Objects.{find_treasure, after_object, after_objects};
 
 use turn_dwarves::{
     Charge, Half, Named, Object, Part, Prop, Rules, SEEN, SEEN_FASTENED, STEPS_FROM_ABOVE, Scene,
@@ -27,17 +27,20 @@ fn count_one_less(state: &mut State)
     state.tallies.unseen = state.tallies.unseen.down();
 }
 
-/// Where as many treasures count as lost as count as unseen, the lamp doesn't burn for long.
-#[tactic(auto, unfolding(crate::specs::Objects::rest_rows))]
-fn leave_rest(rules: &Rules<'_>, object: Object, scene: &mut Scene<'_>)
-    ensures rows { Does (by_table rest_rows ∷ []) 0 rules.now object scene.old scene.new }
+/// The lamp doesn't burn for long any more.
+fn shorten_lamp(state: &mut State)
+    ensures { state.new ≡ with_short_lamp state.old }
 {
-    let unseen = scene.state.tallies.unseen.number();
-    let lost = scene.state.tallies.lost.number();
-    if unseen == lost && unseen != 0 {
-        let turns = scene.state.lamp.charge.turns();
-        scene.state.lamp.charge = Charge::new(turns.min(SHORT_LAMP));
-    }
+    let turns = state.lamp.charge.turns();
+    state.lamp.charge = Charge::new(turns.min(SHORT_LAMP));
+}
+
+/// Whether as many treasures count as lost as count as unseen, and some do.
+fn is_rest_lost(rules: &Rules<'_>, object: Object, scene: &Scene<'_>) -> bool
+    ensures { result ≡ rest_lost (deed (cave_of rules.now) object (scene_of scene.now)) }
+{
+    let tallies = &scene.state.tallies;
+    tallies.unseen.number() == tallies.lost.number() && tallies.unseen.number() != 0
 }
 
 fn is_second_here(rules: &Rules<'_>, object: Object, scene: &Scene<'_>) -> bool
@@ -71,7 +74,9 @@ fn find_treasure(rules: &Rules<'_>, object: Object, prop: Prop, scene: &mut Scen
 {
     scene.state.objects.set_prop(object, prop);
     count_one_less(scene.state);
-    leave_rest(rules, object, scene);
+    if is_rest_lost(rules, object, scene) {
+        shorten_lamp(scene.state);
+    }
     tell_object_text(rules, object, scene);
 }
 

@@ -1,7 +1,7 @@
 //! The narrow passage.
 
 ghost use Rattle.std.specs.Prelude.{◌≡◌, [], ◌∷◌};
-ghost use Rattle.turn_moves.specs.Squeeze.{squeeze_end, slim, squeeze_through};
+ghost use Rattle.turn_moves.specs.Squeeze.{squeeze, slim, squeeze_through};
 ghost use Rattle.turn_ends.specs.turn_rules.Rows.{PlaysBy, all_hold, deed};
 ghost use Rattle.turn_dwarves.specs.turn_scene.Bounds.{HasRoom};
 ghost use Rattle.turn_dwarves.specs.turn_scene.Scene.{scene_of, cave_of};
@@ -10,13 +10,13 @@ use crate::ways::{other_end, stay};
 use turn_dwarves::{Named, Place, PlaceRole, Role, Rules, Scene, place_named};
 
 /// The other end of the narrow passage, where the player is at one end.
-#[tactic(auto, unfolding(crate::specs::Squeeze::squeeze_end))]
-fn squeeze_end(rules: &Rules<'_>, here: Place) -> Option<Place>
-    ensures { result ≡ squeeze_end (cave_of rules.now) here }
+#[tactic(auto, unfolding(crate::specs::Squeeze::squeeze))]
+fn squeeze(rules: &Rules<'_>, scene: &Scene<'_>) -> Option<Place>
+    ensures { result ≡ squeeze (deed (cave_of rules.now) tt (scene_of scene.now)) }
 {
     let alcove = place_named(rules.cave, PlaceRole::Alcove);
     let plover = place_named(rules.cave, PlaceRole::Plover);
-    other_end(here, alcove, plover)
+    other_end(scene.state.trail.here, alcove, plover)
 }
 
 /// Whether nothing is carried, or the emerald alone.
@@ -33,7 +33,7 @@ pub fn squeeze_through(rules: &Rules<'_>, scene: &mut Scene<'_>) -> Place
     requires { HasRoom 1 scene.old }
     ensures row { PlaysBy squeeze_through 1 rules.now tt scene.old scene.new result }
 {
-    match squeeze_end(rules, scene.state.trail.here) {
+    match squeeze(rules, scene) {
         None => stay(scene, Role::NoWay),
         Some(end) => {
             if is_slim(rules, scene) {

@@ -1,5 +1,6 @@
 -- What rows do to the scene that they are played in.
-use Rattle.std.specs.Prelude.{ℕ, ℤ, if◌then◌else◌}
+use Rattle.std.specs.Prelude.{ℕ, ℤ, if◌then◌else◌, Option, Some, None}
+use Rattle.turn_things.specs.data_rows.declared.place_role.PlaceRole.{PlaceRole}
 use Rattle.turn_things.specs.data_rows.declared.role.Role.{Role}
 use Rattle.turn_things.specs.world_objects.Objects.{after_move_to, after_carry, with_anchor}
 use Rattle.turn_things.specs.world_objects.Objects.{after_juggle, with_prop}
@@ -10,13 +11,19 @@ use Rattle.turn_things.specs.cave_world.declared.part.Part.TheVariants as part
 use Rattle.turn_things.specs.world_objects.declared.spot.Anchor.TheVariants as anchor
 use Rattle.turn_things.specs.cave_world.declared.state.State.{State}
 use Rattle.turn_things.specs.Effects.{put_down, let_go, without_troll, after_loss_to_snake}
-use Rattle.turn_things.specs.Effects.{with_one_more_lost, with_objects}
+use Rattle.turn_things.specs.Effects.{with_one_more_lost, with_objects, after_panic}
+use Rattle.turn_things.specs.Places.{place_named}
 use Rattle.turn_things.specs.turn_scene.Scene.{Scene, with_state, after_telling, after_saying}
-use Rattle.turn_things.specs.turn_scene.Scene.{after_look_at}
+use Rattle.turn_things.specs.turn_scene.Scene.{after_look_at, after_setting_out}
 use Rattle.turn_rules.specs.Rows.{Deed, Test, Effect, Thing}
 
 abbrev pub with_charge : ℤ → State → State
 with_charge turns s = let lamp = s.lamp in record s { lamp = record lamp { charge = turns } }
+
+-- an object is moved to a place, if there is the place
+abbrev pub after_sending : ℕ → Option ℕ → State → State
+after_sending x None s = s
+after_sending x (Some place) s = with_objects (after_move_to s.objects x place) s
 
 -- what rows do, whatever they are about
 module _ {C : Type 0} where
@@ -53,7 +60,8 @@ module _ {C : Type 0} where
 
   -- an object is nowhere from now on
   abbrev pub destroy : Thing C → Effect C
-  destroy t d = in_state (with_objects (after_move_to d.scene.state.objects (t d) 0) d.scene.state) d
+  destroy t d =
+      in_state (with_objects (after_move_to d.scene.state.objects (t d) 0) d.scene.state) d
 
   -- an object can't be moved any more, or can be moved again
   abbrev pub fix : Thing C → Effect C
@@ -102,6 +110,10 @@ module _ {C : Type 0} where
   move t place d =
       in_state (with_objects (after_move_to d.scene.state.objects (t d) (place d)) d.scene.state) d
 
+  -- an object is moved to the place of a role, if there is the place
+  abbrev pub send : Thing C → PlaceRole → Effect C
+  send t role d = in_state (after_sending (t d) (place_named d.cave role) d.scene.state) d
+
   -- a message of the cave is said
   abbrev pub tell_message : (Deed C → ℕ) → Effect C
   tell_message message d = tell (part.Message (message d)) d
@@ -109,6 +121,14 @@ module _ {C : Type 0} where
   -- the player is at a place, and came from there
   abbrev pub put_player : (Deed C → ℕ) → Effect C
   put_player place d = in_state (with_player_from (place d) d.scene.state) d
+
+  -- the player's place becomes the one that the player came from
+  abbrev pub set_out : Effect C
+  set_out d = in_scene (after_setting_out d.scene) d
+
+  -- a player who tries to get out of a closing cave panics
+  abbrev pub panic : Effect C
+  panic d = in_state (after_panic d.scene.state) d
 
   abbrev pub take_hint : ℕ → Effect C
   take_hint h d = in_state (with_hint_taken h d.scene.state) d

@@ -88,19 +88,38 @@ act_of_row r d = let e = after_all r.effects d in act_of e.scene (r.end e)
 abbrev pub first_fitting_or : {C F : Type 0} → List (Row C F) → (Deed C → Act F) → Deed C → Act F
 first_fitting_or [] otherwise d = otherwise d
 first_fitting_or (r ∷ rows) otherwise d =
-    if fits r d then act_of_row r (after_trying r d) else first_fitting_or rows otherwise (after_trying r d)
+    if fits r d then act_of_row r (after_trying r d)
+    else first_fitting_or rows otherwise (after_trying r d)
 
 -- nothing is done, whatever follows
 abbrev pub nothing_but : {C F : Type 0} → (Deed C → F) → Deed C → Act F
 nothing_but end d = act_of d.scene (end d)
 
+-- a row that does nothing, and says what follows
+abbrev pub answer_row : {C F : Type 0} → List (Test C) → (Deed C → F) → Row C F
+answer_row tests end = row_then tests [] end
+
+-- what follows by the first such row that fits, or else
+abbrev pub answer_by_rows : {C F : Type 0} → List (Row C F) → (Deed C → F) → Deed C → F
+answer_by_rows rows otherwise d = (first_fitting_or rows (nothing_but otherwise) d).step
+
 -- a row of effects alone
 abbrev pub plain_row : {C : Type 0} → List (Test C) → List (Effect C) → Row C (Unit {0})
 plain_row tests effects = row_then tests effects (λ d. tt)
 
+-- a row of effects alone, with a draw
+abbrev pub chance_row : {C : Type 0} → List (Test C) → Test C → List (Effect C)
+    → Row C (Unit {0})
+chance_row tests draw effects = row_by_draw tests draw effects (λ d. tt)
+
 -- a table of effects as one effect
 abbrev pub by_table : {C : Type 0} → List (Row C (Unit {0})) → Effect C
 by_table rows d = record d { scene = (first_fitting_or rows (nothing_but (λ e. tt)) d).scene }
+
+-- a table about something else as one effect
+abbrev pub by_table_about : {C D : Type 0} → (Deed C → D) → List (Row D (Unit {0})) → Effect C
+by_table_about what rows d =
+    record d { scene = (by_table rows (deed d.cave (what d) d.scene)).scene }
 
 -- the same turn has come to what a rule says, and so has what follows; it said so many parts at
 -- most

@@ -1,14 +1,19 @@
 -- What rows ask of the scene that they are played in.
-use Rattle.std.specs.Prelude.{ℕ, ℤ, ◌==◌, ◌&&◌, ◌||◌, not, nat_le, length, is_some, unwrap_or, int_lt, pos}
+use Rattle.std.specs.Prelude.{ℕ, ℤ, pos, ◌==◌, ◌&&◌, ◌||◌, not, nat_le, int_le, int_lt, List}
+use Rattle.std.specs.Prelude.{length, is_some, unwrap_or}
+use Rattle.std.specs.List.{list_any}
 use Rattle.turn_things.specs.cave_words.Stream.{number_drawn}
 use Rattle.turn_things.specs.cave_words.declared.named.Named.{Named}
+use Rattle.turn_things.specs.cave_words.declared.named.Named.TheVariants as name
 use Rattle.turn_things.specs.data_rows.declared.place_role.PlaceRole.{PlaceRole}
-use Rattle.turn_things.specs.world_objects.Objects.{is_object_at, is_gone, is_place, carried_objects}
-use Rattle.turn_things.specs.cave_world.Sight.{forced}
+use Rattle.turn_things.specs.world_objects.Objects.{is_object_at, is_gone, is_place, is_carried}
+use Rattle.turn_things.specs.world_objects.Objects.{carried_objects, prop_of}
+use Rattle.turn_things.specs.cave_world.Sight.{dark, forced}
 use Rattle.turn_things.specs.cave_world.State.{takes_no_command}
 use Rattle.turn_things.specs.turn_scene.Scene.{thing, happens, is_called}
 use Rattle.turn_things.specs.Reach.{is_in_hand, is_near, has_prop, has_other_prop, has_prop_up_to}
 use Rattle.turn_things.specs.Reach.{is_dwarf_here, is_fixed}
+use Rattle.turn_things.specs.Homes.{home, second_home, is_home_here, is_home_elsewhere}
 use Rattle.turn_things.specs.Places.{place_named, has_condition_of, outside_place, deep_place}
 use Rattle.turn_things.specs.Places.{building_place, start_place}
 use Rattle.turn_things.specs.declared.conditions.PlaceCondition.{PlaceCondition}
@@ -34,9 +39,13 @@ module _ {C : Type 0} where
   abbrev pub there_is : Thing C → Test C
   there_is t d = not (t d == 0)
 
-  -- an object is carried
+  -- an object is carried, a liquid in the bottle
   abbrev pub in_hand : Thing C → Test C
   in_hand t d = is_in_hand d.cave d.scene.state (t d)
+
+  -- the first half of an object is carried
+  abbrev pub carried : Thing C → Test C
+  carried t d = is_carried d.scene.state.objects (t d)
 
   -- an object is carried, or its first half is here
   abbrev pub near : Thing C → Test C
@@ -59,9 +68,16 @@ module _ {C : Type 0} where
   abbrev pub prop_up_to : Thing C → ℤ → Test C
   prop_up_to t v d = has_prop_up_to d.scene.state (t d) v
 
+  abbrev pub prop_from : Thing C → ℤ → Test C
+  prop_from t v d = there_is t d && int_le v (prop_of d.scene.state.objects (t d))
+
   -- a dwarf is here
   abbrev pub dwarf : Test C
   dwarf d = is_dwarf_here d.scene.state
+
+  -- the dwarves are so angry
+  abbrev pub anger : ℕ → Test C
+  anger n d = d.scene.state.dwarves.anger == n
 
   abbrev pub cave_closing : Test C
   cave_closing d = d.scene.state.closing.is_closing
@@ -103,6 +119,20 @@ module _ {C : Type 0} where
   abbrev pub nowhere : Thing C → Test C
   nowhere t d = is_gone d.scene.state.objects (t d)
 
+  -- the player is where an object is at home, or elsewhere
+  abbrev pub home_here : Thing C → Test C
+  home_here t d = is_home_here d.cave d.scene.state (t d)
+
+  abbrev pub away_from_home : Thing C → Test C
+  away_from_home t d = is_home_elsewhere d.cave d.scene.state (t d)
+
+  -- where the halves of an object are at home; 0 is no place
+  abbrev pub home_of : Thing C → Deed C → ℕ
+  home_of t d = home d.cave (t d)
+
+  abbrev pub second_home_of : Thing C → Deed C → ℕ
+  second_home_of t d = second_home d.cave (t d)
+
   -- the cave has a place of a role
   abbrev pub is_bound : PlaceRole → Test C
   is_bound role d = is_some (place_named d.cave role)
@@ -118,9 +148,25 @@ module _ {C : Type 0} where
   abbrev pub burnt_out : Test C
   burnt_out d = int_lt d.scene.state.lamp.charge (pos 0)
 
+  -- the player sees nothing
+  abbrev pub in_the_dark : Test C
+  in_the_dark d = dark d.cave (thing d.cave name.Lamp) d.scene.state
+
+  -- it was dark as the turn began
+  abbrev pub was_dark : Test C
+  was_dark d = d.scene.was_dark
+
   -- where the player is
   abbrev pub here : Deed C → ℕ
   here d = d.scene.state.trail.here
+
+  -- the player is at one of the places
+  abbrev pub at_one_of : List ℕ → Test C
+  at_one_of places d = list_any (λ place. here d == place) places
+
+  -- the player is at one of the places from one to another
+  abbrev pub at_from_to : ℕ → ℕ → Test C
+  at_from_to first end d = nat_le first (here d) && nat_le (here d) end
 
   -- where the player came from, and where the player was before that
   abbrev pub last : Deed C → ℕ
@@ -145,8 +191,8 @@ module _ {C : Type 0} where
   outside place d = nat_le (place d) (outside_place d.cave)
 
   -- a place has a condition
-  abbrev pub condition_of : PlaceCondition → (Deed C → ℕ) → Test C
-  condition_of c place d = has_condition_of d.cave (place d) c
+  abbrev pub place_has : PlaceCondition → (Deed C → ℕ) → Test C
+  place_has c place d = has_condition_of d.cave (place d) c
 
   -- from a place the player is moved on at once
   abbrev pub forced_at : (Deed C → ℕ) → Test C
@@ -167,3 +213,10 @@ module _ {C : Type 0} where
   -- the last object that was named is the one of a name
   abbrev pub last_object : Named → Test C
   last_object n d = is_called d.cave d.scene.state.talk.last n
+
+-- what rows ask that are about an object
+abbrev pub it : Thing ℕ
+it d = d.about
+
+abbrev pub is_it : Named → Test ℕ
+is_it n d = is_called d.cave d.about n

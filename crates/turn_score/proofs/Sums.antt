@@ -6,8 +6,8 @@ use Rattle.std.proofs.lemmas.List.Sums.{sum_by-cons}
 use Rattle.turn_things.specs.cave_data.CaveView.{CaveView}
 use Rattle.turn_things.specs.cave_world.declared.state.State.{State}
 use Rattle.turn_things.specs.Treasures.{is_known, treasures, known_treasures}
-use Rattle.turn_score.specs.Treasures.{worth, points_of_treasure, treasure_points}
-use Rattle.turn_score.specs.Treasures.{most_treasure_points}
+use Rattle.turn_score.specs.Counting.{points_by, most_by}
+use Rattle.turn_score.specs.Treasures.{treasure_rows, treasures_row}
 use Rattle.turn_score.specs.Score.{hints_taken, price_of, hint_costs}
 use Rattle.turn_things.specs.cave_world.State.{is_hint_taken}
 
@@ -28,40 +28,50 @@ sum_more holds f n end h =
 sum_none : (holds : ℕ → Bool) (f : ℕ → ℕ) (n end : ℕ) → end ≤ n → sum_from holds f n end ≡ 0
 sum_none holds f n end h = let none : end - n ≡ 0 = omega arith in rw none refl
 
+-- what a treasure counts
+abbrev points_of_one : CaveView → State → ℕ → ℕ
+points_of_one cave s x = points_by (treasure_rows cave x) s
+
+-- the most that it can
+abbrev most_of_one : CaveView → ℕ → ℕ
+most_of_one cave x = most_by (treasure_rows cave x)
+
 -- what the known treasures from a number on count
 unfoldable pub points_from : CaveView → State → ℕ → ℕ
-points_from cave s n = sum_from (is_known cave) (points_of_treasure cave s) n 80
+points_from cave s n = sum_from (is_known cave) (points_of_one cave s) n 80
 
-pub points_all : (cave : CaveView) (s : State) → points_from cave s 50 ≡ treasure_points cave s
+pub points_all : (cave : CaveView) (s : State)
+    → points_from cave s 50 ≡ (treasures_row cave).points s
 unfolding points_from known_treasures treasures
 points_all cave s = refl
 
 pub points_none : (cave : CaveView) (s : State) (n : ℕ) → 80 ≤ n → points_from cave s n ≡ 0
 unfolding points_from
-points_none cave s n h = sum_none (is_known cave) (points_of_treasure cave s) n 80 h
+points_none cave s n h = sum_none (is_known cave) (points_of_one cave s) n 80 h
 
 pub points_more : (cave : CaveView) (s : State) (n : ℕ) → n < 80
     → points_from cave s n
-    ≡ cond (is_known cave n) (points_of_treasure cave s n) 0 + points_from cave s (n + 1)
+    ≡ cond (is_known cave n) (points_by (treasure_rows cave n) s) 0 + points_from cave s (n + 1)
 unfolding points_from
-points_more cave s n h = sum_more (is_known cave) (points_of_treasure cave s) n 80 h
+points_more cave s n h = sum_more (is_known cave) (points_of_one cave s) n 80 h
 
--- what they are worth
+-- the most that they can
 unfoldable pub worth_from : CaveView → ℕ → ℕ
-worth_from cave n = sum_from (is_known cave) (worth cave) n 80
+worth_from cave n = sum_from (is_known cave) (most_of_one cave) n 80
 
-pub worth_all : (cave : CaveView) → worth_from cave 50 ≡ most_treasure_points cave
+pub worth_all : (cave : CaveView) → worth_from cave 50 ≡ (treasures_row cave).most
 unfolding worth_from known_treasures treasures
 worth_all cave = refl
 
 pub worth_none : (cave : CaveView) (n : ℕ) → 80 ≤ n → worth_from cave n ≡ 0
 unfolding worth_from
-worth_none cave n h = sum_none (is_known cave) (worth cave) n 80 h
+worth_none cave n h = sum_none (is_known cave) (most_of_one cave) n 80 h
 
 pub worth_more : (cave : CaveView) (n : ℕ) → n < 80
-    → worth_from cave n ≡ cond (is_known cave n) (worth cave n) 0 + worth_from cave (n + 1)
+    → worth_from cave n
+    ≡ cond (is_known cave n) (most_by (treasure_rows cave n)) 0 + worth_from cave (n + 1)
 unfolding worth_from
-worth_more cave n h = sum_more (is_known cave) (worth cave) n 80 h
+worth_more cave n h = sum_more (is_known cave) (most_of_one cave) n 80 h
 
 -- what the hints from a number on cost that were taken
 unfoldable pub costs_from : CaveView → State → ℕ → ℕ

@@ -1,3 +1,4 @@
+pub mod Counting
 pub mod Score
 pub mod Treasures
 pub use Rattle.turn_things.specs.cave_data as cave_data

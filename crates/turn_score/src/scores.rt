@@ -1,11 +1,10 @@
-ghost use Rattle.std.specs.Prelude.{◌≡◌, ◌≤◌, ◌<◌, ◌*◌};
+ghost use Rattle.std.specs.Prelude.{◌≡◌, ◌≤◌, ◌<◌};
 ghost use Rattle.turn_things.specs.turn_scene.Scene.{cave_of};
-ghost use Rattle.turn_things.specs.cave_world.State as defined_state;
-ghost use Rattle.turn_score.specs.Score.{life_points, ending_points, dwarf_points, closing_points};
-ghost use Rattle.turn_score.specs.Score.{escape_points, closed_points, lies_at, magazine_points};
-ghost use Rattle.turn_score.specs.Score.{points_of, price_of, hint_costs, score_of, max_score_of};
-ghost use Rattle.turn_score.specs.Score as defined;
-ghost use Rattle.turn_score.specs.Score.{END_OF_SCORES, MAX_POINTS, MAX_PRICE};
+ghost use Rattle.turn_score.specs.Counting.{points_by, score_row};
+ghost use Rattle.turn_score.specs.Score.{life_points, has_other_end, has_dwarves_up, is_closing};
+ghost use Rattle.turn_score.specs.Score.{escape_points, closed_points, lies_at};
+ghost use Rattle.turn_score.specs.Score.{has_magazine_there, score_rows, price_of, hint_costs};
+ghost use Rattle.turn_score.specs.Score.{score_of, max_score_of, END_OF_SCORES};
 
 use crate::treasures::treasure_points;
 use crate::worths::most_treasure_points;
@@ -15,19 +14,19 @@ use turn_things::{
 };
 
 /// What each life that is left counts.
-const POINTS_OF_LIFE: u32 = 10;
+pub const POINTS_OF_LIFE: u32 = 10;
 
 /// What it counts that a game ended in another way than by quitting.
-const POINTS_OF_ENDING: u32 = 4;
+pub const POINTS_OF_ENDING: u32 = 4;
 
 /// What it counts that the dwarves are awake.
-const POINTS_OF_DWARVES: u32 = 25;
+pub const POINTS_OF_DWARVES: u32 = 25;
 
 /// What it counts that the cave is closing.
-const POINTS_OF_CLOSING: u32 = 25;
+pub const POINTS_OF_CLOSING: u32 = 25;
 
 /// What it counts at most that the cave closed.
-const POINTS_OF_SUCCESS: u32 = 45;
+pub const POINTS_OF_SUCCESS: u32 = 45;
 
 /// What it counts that the player got out of the closed cave the wrong way.
 const POINTS_OF_WRONG_WAY: u32 = 30;
@@ -39,24 +38,25 @@ const POINTS_OF_KLUTZ: u32 = 25;
 const POINTS_OF_CLOSED: u32 = 10;
 
 /// What it counts that the magazine is at its place.
-const POINTS_OF_MAGAZINE: u32 = 1;
+pub const POINTS_OF_MAGAZINE: u32 = 1;
 
 /// What each game counts.
-const POINTS_OF_PLAYING: u32 = 2;
+pub const POINTS_OF_PLAYING: u32 = 2;
 
-fn life_points(state: &State) -> u32
+/// What the lives count that are left.
+pub fn life_points(state: &State) -> u32
     ensures value { result ≡ life_points state.now }
-    ensures most { result ≤ defined_state.LIVES * defined.POINTS_OF_LIFE }
+    ensures most { result ≤ 30 }
 {
     POINTS_OF_LIFE * u32::from(LIVES - state.tallies.deaths.number())
 }
 
 /// What a game counts that has ended in another way than by quitting.
-fn ending_points(ending: Option<Ending>) -> u32
-    ensures value { result ≡ ending_points ending }
-    ensures most { result ≤ defined.POINTS_OF_ENDING }
+pub fn ending_points(state: &State) -> u32
+    ensures value { result ≡ (score_row 4 has_other_end).points state.now }
+    ensures most { result ≤ 4 }
 {
-    match ending {
+    match state.ending {
         None | Some(Ending::Quit) => 0,
         Some(Ending::Killed | Ending::Klutz | Ending::WrongWay | Ending::Success) => {
             POINTS_OF_ENDING
@@ -64,9 +64,10 @@ fn ending_points(ending: Option<Ending>) -> u32
     }
 }
 
-fn dwarf_points(state: &State) -> u32
-    ensures value { result ≡ dwarf_points state.now }
-    ensures most { result ≤ defined.POINTS_OF_DWARVES }
+/// What it counts that the dwarves aren't asleep.
+pub fn dwarf_points(state: &State) -> u32
+    ensures value { result ≡ (score_row 25 has_dwarves_up).points state.now }
+    ensures most { result ≤ 25 }
 {
     if state.dwarves.anger.number() == 0 {
         0
@@ -75,9 +76,10 @@ fn dwarf_points(state: &State) -> u32
     }
 }
 
-fn closing_points(state: &State) -> u32
-    ensures value { result ≡ closing_points state.now }
-    ensures most { result ≤ defined.POINTS_OF_CLOSING }
+/// What it counts that the cave is closing.
+pub fn closing_points(state: &State) -> u32
+    ensures value { result ≡ (score_row 25 is_closing).points state.now }
+    ensures most { result ≤ 25 }
 {
     if state.closing.is_closing {
         POINTS_OF_CLOSING
@@ -89,7 +91,7 @@ fn closing_points(state: &State) -> u32
 /// What it counts to have got out of the closed cave, or to be in it.
 fn escape_points(ending: Option<Ending>) -> u32
     ensures value { result ≡ escape_points ending }
-    ensures most { result ≤ defined.POINTS_OF_SUCCESS }
+    ensures most { result ≤ 45 }
 {
     match ending {
         Some(Ending::Success) => POINTS_OF_SUCCESS,
@@ -99,9 +101,10 @@ fn escape_points(ending: Option<Ending>) -> u32
     }
 }
 
-fn closed_points(state: &State) -> u32
+/// What it counts that the cave is closed.
+pub fn closed_points(state: &State) -> u32
     ensures value { result ≡ closed_points state.now }
-    ensures most { result ≤ defined.POINTS_OF_SUCCESS }
+    ensures most { result ≤ 45 }
 {
     if state.closing.is_closed {
         escape_points(state.ending)
@@ -119,9 +122,11 @@ fn lies_at(state: &State, object: Object, place: Option<Place>) -> bool
     }
 }
 
-fn magazine_points(rules: &Rules<'_>, state: &State) -> u32
-    ensures value { result ≡ magazine_points (cave_of rules.now) state.now }
-    ensures most { result ≤ defined.POINTS_OF_MAGAZINE }
+/// What it counts that the magazine is at its place.
+pub fn magazine_points(rules: &Rules<'_>, state: &State) -> u32
+    ensures value { result
+        ≡ (score_row 1 (has_magazine_there (cave_of rules.now))).points state.now }
+    ensures most { result ≤ 1 }
 {
     let witt = place_named(rules.cave, PlaceRole::Witt);
     if lies_at(state, rules.thing(Named::Magazine), witt) {
@@ -132,14 +137,14 @@ fn magazine_points(rules: &Rules<'_>, state: &State) -> u32
 }
 
 /// What a state counts before hints are paid for.
-#[tactic(auto, unfolding(crate::specs::Score::points_of))]
-fn points(rules: &Rules<'_>, state: &State) -> u32
-    ensures value { result ≡ points_of (cave_of rules.now) state.now }
-    ensures most { result ≤ MAX_POINTS }
+#[tactic(auto, unfolding(crate::specs::Score::score_rows))]
+fn score_points(rules: &Rules<'_>, state: &State) -> u32
+    ensures value { result ≡ points_by (score_rows (cave_of rules.now)) state.now }
+    ensures most { result ≤ 612 }
 {
     treasure_points(rules, state)
         + life_points(state)
-        + ending_points(state.ending)
+        + ending_points(state)
         + dwarf_points(state)
         + closing_points(state)
         + closed_points(state)
@@ -147,10 +152,11 @@ fn points(rules: &Rules<'_>, state: &State) -> u32
         + POINTS_OF_PLAYING
 }
 
+/// What a hint costs.
 #[tactic(auto, unfolding(crate::specs::Score::price_of))]
-fn price_of(cave: &Cave, hint: u16) -> u32
+pub fn price_of(cave: &Cave, hint: u16) -> u32
     ensures value { result ≡ price_of cave.now hint }
-    ensures most { result ≤ MAX_PRICE }
+    ensures most { result ≤ 65535 }
 {
     match cave.hint(hint) {
         Some(row) => u32::from(row.points),
@@ -178,11 +184,11 @@ pub fn score(rules: &Rules<'_>, state: &State) -> u32
     ensures most { result ≤ max_score_of (cave_of rules.now) }
     ensures small { result < END_OF_SCORES }
 {
-    points(rules, state).saturating_sub(hint_costs(rules.cave, state))
+    score_points(rules, state).saturating_sub(hint_costs(rules.cave, state))
 }
 
 /// The greatest score that a game of a cave can have.
-#[tactic(auto, unfolding(crate::specs::Score::max_score_of))]
+#[tactic(auto, unfolding(crate::specs::Score::max_score_of, crate::specs::Score::score_rows))]
 pub fn max_score(rules: &Rules<'_>) -> u32
     ensures value { result ≡ max_score_of (cave_of rules.now) }
     ensures small { result < END_OF_SCORES }

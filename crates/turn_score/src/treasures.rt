@@ -1,7 +1,7 @@
 ghost use Rattle.std.specs.Prelude.{◌≡◌, ◌≤◌};
 ghost use Rattle.turn_things.specs.turn_scene.Scene.{cave_of};
-ghost use Rattle.turn_score.specs.Treasures.{is_seen, is_safe, points_of_treasure, treasure_points};
-ghost use Rattle.turn_score.specs.Treasures.{MAX_TREASURE_POINTS, WORTH_AFTER_CHEST};
+ghost use Rattle.turn_score.specs.Counting.{points_by};
+ghost use Rattle.turn_score.specs.Treasures.{is_seen, is_safe, treasure_rows, treasures_row};
 
 use crate::worths::worth;
 use turn_things::props::SEEN;
@@ -9,25 +9,29 @@ use turn_things::treasures::{FIRST_TREASURE, LAST_TREASURE};
 use turn_things::{Object, Rules, State, building_place, has_prop, is_known};
 
 /// What a treasure counts that was seen.
-const POINTS_OF_SEEING: u32 = 2;
+pub const POINTS_OF_SEEING: u32 = 2;
 
-fn is_seen(state: &State, treasure: Object) -> bool
-    ensures { result ≡ is_seen state.now treasure }
+/// Whether a treasure was seen.
+pub fn is_seen(state: &State, treasure: Object) -> bool
+    ensures { result ≡ is_seen treasure state.now }
 {
     state.objects.prop(treasure).value() >= 0
 }
 
-fn is_safe(rules: &Rules<'_>, state: &State, treasure: Object) -> bool
-    ensures { result ≡ is_safe (cave_of rules.now) state.now treasure }
+/// Whether a treasure is in the building, as whole as it was found.
+pub fn is_safe(rules: &Rules<'_>, state: &State, treasure: Object) -> bool
+    ensures { result ≡ is_safe (cave_of rules.now) treasure state.now }
 {
     let building = building_place(rules.cave);
     state.objects.is_first_at(building, treasure) && has_prop(state, treasure, SEEN)
 }
 
-#[tactic(auto, unfolding(crate::specs::Treasures::points_of_treasure))]
+/// What a treasure counts.
+#[tactic(auto, unfolding(crate::specs::Treasures::treasure_rows))]
 fn points_of_treasure(rules: &Rules<'_>, state: &State, treasure: Object) -> u32
-    ensures value { result ≡ points_of_treasure (cave_of rules.now) state.now treasure }
-    ensures most { result ≤ WORTH_AFTER_CHEST }
+    ensures value { result
+        ≡ points_by (treasure_rows (cave_of rules.now) treasure) state.now }
+    ensures most { result ≤ 16 }
 {
     let seen = if is_seen(state, treasure) {
         POINTS_OF_SEEING
@@ -45,8 +49,8 @@ fn points_of_treasure(rules: &Rules<'_>, state: &State, treasure: Object) -> u32
 /// What the treasures count that the cave knows.
 #[tactic(auto, using(crate::proofs::Sums::points))]
 pub fn treasure_points(rules: &Rules<'_>, state: &State) -> u32
-    ensures value { result ≡ treasure_points (cave_of rules.now) state.now }
-    ensures most { result ≤ MAX_TREASURE_POINTS }
+    ensures value { result ≡ (treasures_row (cave_of rules.now)).points state.now }
+    ensures most { result ≤ 480 }
 {
     let mut points = 0;
     for number in FIRST_TREASURE..LAST_TREASURE + 1 {

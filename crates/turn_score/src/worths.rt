@@ -1,7 +1,7 @@
 ghost use Rattle.std.specs.Prelude.{◌≡◌, ◌≤◌};
 ghost use Rattle.turn_things.specs.turn_scene.Scene.{cave_of};
-ghost use Rattle.turn_score.specs.Treasures.{worth, most_treasure_points, MAX_TREASURE_POINTS};
-ghost use Rattle.turn_score.specs.Treasures as defined;
+ghost use Rattle.turn_score.specs.Counting.{most_by};
+ghost use Rattle.turn_score.specs.Treasures.{worth, treasure_rows, treasures_row};
 
 use turn_things::treasures::{FIRST_TREASURE, LAST_TREASURE};
 use turn_things::{Named, Object, Rules, is_known};
@@ -16,11 +16,12 @@ const WORTH_OF_CHEST: u32 = 14;
 const WORTH_AFTER_CHEST: u32 = 16;
 
 /// What a treasure is worth: more than the chest after it, less before it.
-#[tactic(auto, unfolding(crate::specs::Treasures::worth))]
+#[tactic(auto, unfolding(crate::specs::Treasures::worth, crate::specs::Treasures::treasure_rows))]
 pub fn worth(rules: &Rules<'_>, treasure: Object) -> u32
     ensures value { result ≡ worth (cave_of rules.now) treasure }
-    ensures least { defined.WORTH_BEFORE_CHEST ≤ result }
-    ensures most { result ≤ defined.WORTH_AFTER_CHEST }
+    ensures whole { most_by (treasure_rows (cave_of rules.now) treasure) ≡ result }
+    ensures least { 12 ≤ result }
+    ensures most { result ≤ 16 }
 {
     let chest = rules.thing(Named::Chest);
     if chest.is_none() || treasure.number() < chest.number() {
@@ -35,8 +36,8 @@ pub fn worth(rules: &Rules<'_>, treasure: Object) -> u32
 /// The most that the treasures of a cave can count.
 #[tactic(auto, using(crate::proofs::Sums::worths))]
 pub fn most_treasure_points(rules: &Rules<'_>) -> u32
-    ensures value { result ≡ most_treasure_points (cave_of rules.now) }
-    ensures most { result ≤ MAX_TREASURE_POINTS }
+    ensures value { result ≡ (treasures_row (cave_of rules.now)).most }
+    ensures most { result ≤ 480 }
 {
     let mut points = 0;
     for number in FIRST_TREASURE..LAST_TREASURE + 1 {

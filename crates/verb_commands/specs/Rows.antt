@@ -41,15 +41,15 @@ describes d = Done next_is.Describe
 abbrev pub again : Deed Command → Step
 again d = Done (next_is.Arrive d.scene.state.trail.here)
 
-abbrev pub asks : Question → Deed Command → Step
-asks question d = Done (next_is.Ask question)
+abbrev pub poses : Question → Deed Command → Step
+poses question d = Done (next_is.Ask question)
 
 abbrev pub ends : Ending → Deed Command → Step
 ends how d = Done (next_is.End how)
 
 -- it goes on with a verb and an object
-abbrev pub goes_on : Verb → Thing Command → Deed Command → Step
-goes_on verb x d = GoOn verb (x d)
+abbrev pub does : Verb → Thing Command → Deed Command → Step
+does verb x d = GoOn verb (x d)
 
 -- a row after which nothing follows
 abbrev pub row : List (Test Command) → List (Effect Command) → VerbRow

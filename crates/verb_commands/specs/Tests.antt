@@ -10,8 +10,8 @@ abbrev pub x : Thing Command
 x d = d.about.object
 
 -- there is no object in the command
-abbrev pub bare : Test Command
-bare d = d.about.object == 0
+abbrev pub no_object : Test Command
+no_object d = d.about.object == 0
 
 -- the command's object has a name
 abbrev pub is : Named → Test Command

@@ -14,7 +14,8 @@ above : (low high left : ℕ) → suc low ≤ high → high ≤ left → 0 < lef
 above low high left greater fits = omega arith
 
 -- what goes on has one verb less left
-going_within : (left : ℕ) (d : Deed Command) (v : Verb) (x : ℕ) → 0 < left → (act_once d).step ≡ GoOn v x
+going_within : (left : ℕ) (d : Deed Command) (v : Verb) (x : ℕ) → 0 < left
+    → (act_once d).step ≡ GoOn v x
     → act_within left d
     ≡ act_within (left - 1) (deed d.cave (going_on d.about v x) (act_once d).scene)
 unfolding act_within

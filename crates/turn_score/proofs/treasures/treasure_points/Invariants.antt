@@ -1,6 +1,6 @@
 use Rattle.std.proofs.Common.{◌≡◌, ◌+◌, ◌*◌, ◌≤◌}
 use Rattle.turn_things.specs.turn_scene.Scene.{cave_of}
-use Rattle.turn_score.specs.Treasures.{treasure_points}
+use Rattle.turn_score.specs.Treasures.{treasures_row}
 use Rattle.turn_score.proofs.Sums.{points_from}
 use Rattle.turn_score.proofs.treasures.treasure_points.Given as goal
 
@@ -8,6 +8,6 @@ use Rattle.turn_score.proofs.treasures.treasure_points.Given as goal
 abbrev pub invariant-loop-number : goal.invariant-loop-number
 invariant-loop-number l = record {
   counted : l.points + points_from (cave_of l.rules) l.state l.number
-      ≡ treasure_points (cave_of l.rules) l.state;
+      ≡ (treasures_row (cave_of l.rules)).points l.state;
   few : l.points + 800 ≤ 16 * l.number;
 }

@@ -1,6 +1,6 @@
 use Rattle.std.proofs.Common.{◌≡◌, ◌+◌, ◌*◌, ◌≤◌}
 use Rattle.turn_things.specs.turn_scene.Scene.{cave_of}
-use Rattle.turn_score.specs.Treasures.{most_treasure_points}
+use Rattle.turn_score.specs.Treasures.{treasures_row}
 use Rattle.turn_score.proofs.Sums.{worth_from}
 use Rattle.turn_score.proofs.worths.most_treasure_points.Given as goal
 
@@ -8,6 +8,6 @@ use Rattle.turn_score.proofs.worths.most_treasure_points.Given as goal
 abbrev pub invariant-loop-number : goal.invariant-loop-number
 invariant-loop-number l = record {
   counted : l.points + worth_from (cave_of l.rules) l.number
-      ≡ most_treasure_points (cave_of l.rules);
+      ≡ (treasures_row (cave_of l.rules)).most;
   few : l.points + 800 ≤ 16 * l.number;
 }
