@@ -1,35 +1,24 @@
 -- What becomes of the dwarves.
-use Rattle.std.proofs.Common.{◌≡◌, ◌⊎◌, inl, inr, ℕ, zero, suc, ◌+◌, ◌≤◌, ◌<◌, Bool, false, true}
-use Rattle.std.proofs.Common.{List, [], ◌∷◌, length, set, get_or, refl, sym, ap, ◌∙◌, arith}
-use Rattle.std.proofs.lemmas.Bool.{true≢false, false≢true, cases_lt}
-use Rattle.std.proofs.lemmas.List.{get_or-set_other}
-use Rattle.std.proofs.lemmas.Bool.Decides.{nat_tests}
+use Rattle.std.proofs.Common.{cond}
+use Rattle.std.proofs.Math.Seq.{take-set-lt}
 use Rattle.std.proofs.lemmas.Grind.{common_steps}
+use Rattle.std.proofs.lemmas.List.{length-take}
 use Rattle.std.proofs.lemmas.List.Quantifiers.{position-Some}
-use Rattle.std.specs.Prelude.{◌==◌, ◌||◌, not, filter, map, min, take, Option, None, Some}
-use Rattle.std.specs.Prelude.{if◌then◌else◌, unwrap_or}
+use Rattle.std.proofs.lemmas.List.Sums.{sum_by-set}
 use Rattle.std.specs.List.{list_any, position, prefix_len}
-use Rattle.cave_turn.specs.cave_data.CaveView.{CaveView}
-use Rattle.cave_turn.specs.data_rows.declared.place_role.PlaceRole.TheVariants as landmark
-use Rattle.cave_turn.specs.cave_world.State.{no_dwarf}
-use Rattle.cave_turn.specs.cave_world.declared.dwarves.Dwarf.{Dwarf}
-use Rattle.cave_turn.specs.turn_things.Places.{place_named}
-use Rattle.cave_turn.specs.turn_things.Reach.{is_dwarf_at}
-use Rattle.cave_turn.specs.turn_clocks.FirstClock.{dismissed_dwarf}
+use Rattle.cave_turn.specs.cave_verbs.Throwing.{killed_dwarf, without_first_at, without_one}
 use Rattle.cave_turn.specs.turn_dwarves.Waking.{dwarf_apart}
-use Rattle.cave_turn.specs.cave_verbs.Throwing.{killed_dwarf, without_one, without_first_at}
+use Rattle.cave_turn.specs.turn_things.Reach.{is_dwarf_at}
+use Rattle.cave_turn.specs.data_rows.declared.place_role.PlaceRole.TheVariants as landmark
 use Rattle.turn_laws.specs.DwarfLaws.{is_living}
+use Rattle.turn_laws.proofs.Hands.{head_fewer}
 use Rattle.turn_laws.proofs.View.{Band, IsBandAfter, living}
-
--- where one condition follows from another, and one count is at most another, so it is with one
--- more of each
-head_fewer : (p q : Bool) (x y : Dwarf) (xs ys : List Dwarf) → (q ≡ true → p ≡ true)
-    → length ys ≤ length xs
-    → length (if q then y ∷ ys else ys) ≤ length (if p then x ∷ xs else xs)
-head_fewer true true x y xs ys each less = omega (arith, less)
-head_fewer true false x y xs ys each less = omega (arith, less)
-head_fewer false true x y xs ys each less = absurd (false≢true (each refl))
-head_fewer false false x y xs ys each less = less
+use Rattle.turn_laws.proofs.Words.{Bool, CaveView, Dwarf, List, None, Option, Some, [], anger, ap}
+use Rattle.turn_laws.proofs.Words.{arith, count_by-le-length, dismissed_dwarf, false, false≢true}
+use Rattle.turn_laws.proofs.Words.{filter, get_or, if◌then◌else◌, length, length-filter, map, min}
+use Rattle.turn_laws.proofs.Words.{nat_tests, no_dwarf, not, place_named, refl, set, suc, sym, take}
+use Rattle.turn_laws.proofs.Words.{true, true≢false, unwrap_or, zero, ℕ, ◌+◌, ◌<◌, ◌==◌, ◌||◌, ◌∙◌}
+use Rattle.turn_laws.proofs.Words.{◌∷◌, ◌≡◌, ◌≤◌}
 
 -- where a place isn't 0
 some_place : (i : ℕ) → not (i == 0) ≡ true → i ≡ 0 → ⊥
@@ -61,29 +50,23 @@ changed_living (suc n) (suc i) (x ∷ xs) d gone =
     (filter is_living (take n (set xs i d))) (λ now. now)
     (changed_living n i xs d (λ low. gone (omega (arith, low))))
 
--- one dwarf more on both lists
-head_less : (p : Bool) (x : Dwarf) (xs ys : List Dwarf) → length ys + 1 ≤ length xs
-    → length (if p then x ∷ ys else ys) + 1 ≤ length (if p then x ∷ xs else xs)
-head_less true x xs ys less = omega (arith, less)
-head_less false x xs ys less = less
-
-head_one : (p : Bool) (x : Dwarf) (xs : List Dwarf) → p ≡ true
-    → length xs + 1 ≤ length (if p then x ∷ xs else xs)
-head_one true x xs is = omega arith
-head_one false x xs is = absurd (false≢true is)
+-- a dwarf that lives counts once
+abbrev once : Bool → ℕ
+once b = cond b 1 0
 
 -- a dwarf that lived and is killed is one less alive
 killed_living : (n i : ℕ) (xs : List Dwarf) → i < length (take n xs)
     → is_living (get_or (take n xs) i no_dwarf) ≡ true
     → living n (set xs i (killed_dwarf (get_or xs i no_dwarf))) + 1 ≤ living n xs
-killed_living zero i xs low lived = absurd (omega (arith, low))
-killed_living (suc n) i [] low lived = absurd (omega (arith, low))
-killed_living (suc n) zero (x ∷ xs) low lived =
-    head_one (is_living x) x (filter is_living (take n xs)) lived
-killed_living (suc n) (suc i) (x ∷ xs) low lived =
-    head_less (is_living x) x (filter is_living (take n xs))
-    (filter is_living (take n (set xs i (killed_dwarf (get_or xs i no_dwarf)))))
-    (killed_living n i xs (omega (arith, low)) lived)
+killed_living n i xs low lived =
+    let d = killed_dwarf (get_or xs i no_dwarf) in
+    let long = length-take n xs in
+    let before = length-filter is_living (take n xs) in
+    let after = length-filter is_living (set (take n xs) i d) in
+    let one = sum_by-set (λ x. once (is_living x)) (take n xs) i d no_dwarf low in
+    let counted = ap once lived in
+    rw (take-set-lt n xs i d (omega (arith, long, low)))
+    (omega (arith, before, after, one, counted))
 
 -- dwarves that are dismissed don't live
 pub dismissed_living : (n : ℕ) (xs : List Dwarf) → living n (map dismissed_dwarf xs) ≡ 0
@@ -142,26 +125,13 @@ apart_gone cave n d some gone = by_test (d.place == n) refl
 
 -- a dwarf of a list, once one of them is another that is gone if it was
 at_set : (xs : List Dwarf) (j i : ℕ) (d : Dwarf)
-    → ((get_or xs j no_dwarf).place ≡ 0 → d.place ≡ 0)
+    → (j ≡ i → (get_or xs j no_dwarf).place ≡ 0 → d.place ≡ 0)
     → (get_or xs i no_dwarf).place ≡ 0 → (get_or (set xs j d) i no_dwarf).place ≡ 0
 at_set [] j i d gone was = was
-at_set (x ∷ xs) zero zero d gone was = gone was
+at_set (x ∷ xs) zero zero d gone was = gone refl was
 at_set (x ∷ xs) zero (suc i) d gone was = was
 at_set (x ∷ xs) (suc j) zero d gone was = was
-at_set (x ∷ xs) (suc j) (suc i) d gone was = at_set xs j i d gone was
-
--- the same of one of the first five, where that is known of those alone
-low_set : (xs : List Dwarf) (j i : ℕ) (d : Dwarf) → i < 5
-    → (j < 5 → (get_or xs j no_dwarf).place ≡ 0 → d.place ≡ 0)
-    → (get_or xs i no_dwarf).place ≡ 0 → (get_or (set xs j d) i no_dwarf).place ≡ 0
-low_set xs j i d low gone was = by_number (cases_lt j 5)
-  where
-    by_number : (j < 5) ⊎ (5 ≤ j) → (get_or (set xs j d) i no_dwarf).place ≡ 0
-    by_number (inl less) = at_set xs j i d (gone less) was
-    by_number (inr more) =
-        let same : get_or (set xs j d) i no_dwarf ≡ get_or xs i no_dwarf =
-        get_or-set_other xs j i d no_dwarf (λ is. omega (arith, low, more, is)) in
-        ap (λ (x : Dwarf). x.place) same ∙ was
+at_set (x ∷ xs) (suc j) (suc i) d gone was = at_set xs j i d (λ same. gone (ap suc same)) was
 
 pub dismissed_gone : (xs : List Dwarf) (i : ℕ)
     → (get_or (map dismissed_dwarf xs) i no_dwarf).place ≡ 0
@@ -173,19 +143,14 @@ dismissed_gone (x ∷ xs) (suc i) = dismissed_gone xs i
 killed_gone : (xs : List Dwarf) (o : Option ℕ) (i : ℕ) → (get_or xs i no_dwarf).place ≡ 0
     → (get_or (without_one xs o) i no_dwarf).place ≡ 0
 killed_gone xs None i was = was
-killed_gone xs (Some j) i was = at_set xs j i _ (λ _. refl) was
+killed_gone xs (Some j) i was = at_set xs j i _ (λ _ _. refl) was
 
 -- of five at most five live
 pub five_at_most : (n : ℕ) (xs : List Dwarf) → living n xs ≤ n
-five_at_most zero xs = omega arith
-five_at_most (suc n) [] = omega arith
-five_at_most (suc n) (x ∷ xs) = one_more (is_living x) (five_at_most n xs)
-  where
-    one_more : (b : Bool) → living n xs ≤ n
-        → length (if b then x ∷ filter is_living (take n xs) else filter is_living (take n xs))
-        ≤ suc n
-    one_more true less = omega (arith, less)
-    one_more false less = omega (arith, less)
+five_at_most n xs =
+    let found = length-filter is_living (take n xs) in
+    let most = count_by-le-length is_living (take n xs) in
+    let long = length-take n xs in omega (arith, found, most, long)
 
 -- dwarves that are angrier
 pub angrier : (here : ℕ) (a : Band) (n : ℕ) → min a.anger 13 ≤ n
@@ -203,7 +168,7 @@ pub changed : (here : ℕ) (a : Band) (i : ℕ) (d : Dwarf)
     → IsBandAfter here a (record a { each = set a.each i d })
 changed here a i d gone = record {
   anger = omega arith;
-  gone = λ some j low was. low_set a.each i j d low (gone some) was;
+  gone = λ some j low was. at_set a.each i j d (λ same. gone some (omega (arith, same, low))) was;
   alive = λ some. changed_living 5 i a.each d (gone some);
   few = λ some. let less = changed_living 5 i a.each d (gone some) in omega (arith, less);
 }

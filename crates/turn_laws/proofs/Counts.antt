@@ -1,56 +1,42 @@
 -- How many objects are carried, and how many dwarves there are.
-use Rattle.std.proofs.Common.{◌≡◌, ◌⊎◌, inl, inr, ℕ, zero, suc, ◌+◌, ◌≤◌, Bool, false, true, List}
-use Rattle.std.proofs.Common.{[], ◌∷◌, length, get_or, refl, sym, ap, ◌∙◌, arith}
-use Rattle.std.proofs.lemmas.Bool.{false≢true}
-use Rattle.std.proofs.lemmas.Bool.Decides.{nat_tests}
-use Rattle.std.specs.Prelude.{◌==◌, ◌-◌, ◌&&◌, not, is_some, map, Option, None, Some, if◌then◌else◌}
-use Rattle.cave_turn.specs.world_objects.Objects.{carried_objects, carried_up_to, is_carried}
-use Rattle.cave_turn.specs.world_objects.Objects.{is_carried_spot, spot_at, spot_of}
-use Rattle.cave_turn.specs.world_objects.declared.spot.Spot.TheVariants as spot
-use Rattle.cave_turn.specs.cave_data.CaveView.{CaveView}
-use Rattle.cave_turn.specs.cave_world.State.{asleep, far_closing, no_dwarf, starting_state}
-use Rattle.cave_turn.specs.cave_world.declared.ending.Ending.{Ending}
-use Rattle.cave_turn.specs.cave_world.declared.ending.Question.{Question}
-use Rattle.cave_turn.specs.cave_world.declared.ending.Question.TheVariants as question
-use Rattle.cave_turn.specs.cave_world.declared.state.State.{State}
-use Rattle.cave_turn.specs.turn_things.Homes.{home}
-use Rattle.cave_turn.specs.turn_begin.Begin.{begun_state, starting_objects, all_objects}
-use Rattle.cave_turn.specs.turn_clocks.FirstClock.{dismissed_dwarf}
+use Rattle.cave_turn.specs.Turns.{start_of_game}
+use Rattle.cave_turn.specs.cave_world.State.{asleep, far_closing, starting_state}
+use Rattle.cave_turn.specs.turn_begin.Begin.{all_objects, begun_state, starting_objects}
 use Rattle.cave_turn.specs.turn_dwarves.Band.{dwarf_of}
-use Rattle.cave_turn.specs.Turns.{start_of_game, turn_on_line}
-use Rattle.turn_laws.specs.DwarfLaws.{HasFewDwarves, FewDwarves, GoneForGood}
-use Rattle.turn_laws.specs.Laws.{IsSomewhere, is_command, is_input, is_no_answer}
+use Rattle.cave_turn.specs.world_objects.Objects.{carried_up_to, is_carried, spot_of}
+use Rattle.cave_turn.specs.cave_world.declared.ending.Question.TheVariants as question
+use Rattle.cave_turn.specs.world_objects.declared.spot.Spot.TheVariants as spot
+use Rattle.turn_laws.specs.DwarfLaws.{FewDwarves, GoneForGood, HasFewDwarves}
+use Rattle.turn_laws.specs.Laws.{IsSomewhere, is_input, is_no_answer}
 use Rattle.turn_laws.specs.ObjectLaws.{CarriesFew, FewCarried}
 use Rattle.turn_laws.proofs.Band.{dismissed_gone, dismissed_living, five_at_most}
-use Rattle.turn_laws.proofs.Hands.{change_holds, fewer, held_fewer, no_hand, taken_more}
-use Rattle.turn_laws.proofs.Rest.{IsRested, Rest, rested}
-use Rattle.turn_laws.proofs.View.{Anywhere, Band, IsBandAfter, living, view}
+use Rattle.turn_laws.proofs.Hands.{change_holds, fewer, held_fewer, no_hand, room, taken_more}
+use Rattle.turn_laws.proofs.Lines.{lasting, turned}
+use Rattle.turn_laws.proofs.Places.{none_of}
+use Rattle.turn_laws.proofs.View.{Bands, Begins, Change, Claim, IsFound, Keeps, Line, Moves, Shifts}
+use Rattle.turn_laws.proofs.View.{Takes, after_change, from_one, line_of, living}
+use Rattle.turn_laws.proofs.Words.{Bool, CaveView, Ending, Layout, List, None, Option, Question}
+use Rattle.turn_laws.proofs.Words.{Some, State, [], ap, arith, carried_objects, false, false≢true}
+use Rattle.turn_laws.proofs.Words.{get_or, home, if◌then◌else◌, inl, inr, is_carried_spot, is_some}
+use Rattle.turn_laws.proofs.Words.{length, map, no_dwarf, not, nowhere, refl, spot_at, suc, sym}
+use Rattle.turn_laws.proofs.Words.{true, zero, ℕ, ◌&&◌, ◌+◌, ◌-◌, ◌<◌, ◌==◌, ◌∙◌, ◌∷◌, ◌≡◌, ◌≤◌}
+use Rattle.turn_laws.proofs.Words.{◌⊎◌}
 
 -- at most eight objects are carried
-abbrev Few : Rest → Type 0
-Few r = length (carried_objects r.objects) ≤ 8
+abbrev Few : Claim
+Few v = length (carried_objects v.objects) ≤ 8
 
-few_kept : IsRested Anywhere Few
-few_kept = record {
-  arrives = λ place some. tt;
-  objects = λ r c h.
-      let less = held_fewer r.objects _ (change_holds c r.objects) in omega (arith, less, h);
-  takes = λ r xs few room h. let most = taken_more xs r.objects in omega (arith, few, room, most);
-  band = λ r here w at after h. h;
-  loses = λ r h. h;
-  finds = λ r h. h;
-  shortens = λ r more h. h;
-  hints = λ r i h. h;
-  panics = λ r second how h. h;
-  counts = λ r going h. h;
-  begins = λ r h. h;
-  ticks = λ r some h. h;
-  shuts = λ r stopped h. h;
-}
+few_moved : (c : Change) (o : Layout) → length (carried_objects o) ≤ 8
+    → length (carried_objects (after_change c o)) ≤ 8
+few_moved c o h = let less = held_fewer o _ (change_holds c o) in omega (arith, less, h)
 
-few_after : (cave : CaveView) (s : State) (line : List ℕ) → CarriesFew s
-    → CarriesFew (turn_on_line cave s line).state
-few_after cave s line h = rested few_kept (λ v c is h. h) cave s line (λ _. tt) h
+few_kept : (cave : CaveView) (l : Line) → Keeps cave l Few Few
+few_kept cave l (Shifts c) v is h = few_moved c v.objects h
+few_kept cave l (Moves c) v is h = few_moved c v.objects h
+few_kept cave l (Takes xs) v is h =
+    let most = taken_more xs v.objects in let few = is.0 in let room = is.1 in
+    omega (arith, few, room, most)
+few_kept cave l _ v is h = h
 
 -- a placed object isn't carried
 none_first : (f : ℕ → ℕ) (xs : List ℕ) (y : ℕ)
@@ -80,27 +66,17 @@ few_first cave seed =
     omega (arith, none)
 
 pub few_carried : FewCarried
-few_carried = record { start = few_first; kept = few_after }
-
--- the player isn't at place 0
-abbrev At : ℕ → Type 0
-At n = 1 ≤ n
-
-from_one : (n : ℕ) → (n == 0) ≡ false → 1 ≤ n
-from_one n some = grind (arith, nat_tests)
+few_carried = record { start = few_first; kept = lasting Few few_kept }
 
 -- a command finds the player somewhere else than at place 0
-commands_at : (cave : CaveView) (s : State) (line : List ℕ) → IsSomewhere s
-    → is_command cave s line ≡ true → 1 ≤ s.trail.here
-commands_at cave s line somewhere command = by_place (s.trail.here == 0) refl
+found : (cave : CaveView) (s : State) (line : List ℕ) → IsSomewhere s
+    → IsFound (line_of cave s line)
+found cave s line somewhere command = by_place (s.trail.here == 0) refl
   where
     going : (a b c : Bool) → (a && b && c) ≡ true → (b ≡ true) × (c ≡ true)
     going true true c h = (refl, h)
     going true false c h = absurd (false≢true h)
     going false b c h = absurd (false≢true h)
-
-    zero_place : (s.trail.here == 0) ≡ true → s.trail.here ≡ 0
-    zero_place is = grind (arith, nat_tests)
 
     ended : (e : Option Ending) → not (is_some e) ≡ true → is_some e ≡ true → ⊥
     ended None goes over = false≢true over
@@ -115,53 +91,27 @@ commands_at cave s line somewhere command = by_place (s.trail.here == 0) refl
     nowhere (inr die) = asked s.question (going (is_input line) _ _ command).1 die
 
     by_place : (b : Bool) → (s.trail.here == 0) ≡ b → 1 ≤ s.trail.here
-    by_place true none = absurd (nowhere (somewhere (zero_place none)))
+    by_place true none = absurd (nowhere (somewhere (none_of s.trail.here none)))
     by_place false some = from_one s.trail.here some
-
--- what happens to dwarves keeps it
-band_after : {Q : Band → Bool → Type 0}
-    → ((n : ℕ) (a b : Band) (closing : Bool) → 1 ≤ n → IsBandAfter n a b → Q a closing
-    → Q b closing)
-    → ((a : Band) (closing : Bool) → Q a closing
-    → Q (record a { each = map dismissed_dwarf a.each }) true)
-    → (cave : CaveView) (s : State) (line : List ℕ) → IsSomewhere s
-    → Q (view s).band s.closing.is_closing
-    → (let t = (turn_on_line cave s line).state in Q (view t).band t.closing.is_closing)
-band_after {Q} after gone cave s line somewhere h =
-    rested {Here = At} {Q = λ r. Q r.band r.closing.is_closing} (record {
-      arrives = λ place some. from_one place some;
-      objects = λ r c h. h;
-      takes = λ r xs few room h. h;
-      band = λ r here w at is h. after here r.band w r.closing.is_closing at is h;
-      loses = λ r h. h;
-      finds = λ r h. h;
-      shortens = λ r more h. h;
-      hints = λ r i h. h;
-      panics = λ r second how h. h;
-      counts = λ r going h. h;
-      begins = λ r h. gone r.band r.closing.is_closing h;
-      ticks = λ r some h. h;
-      shuts = λ r stopped h. h;
-    }) (λ v c is h. h) cave s line (commands_at cave s line somewhere) h
 
 -- the dwarves that were killed and those that live are five at most, and none lives in a closing
 -- cave
-abbrev FewBand : Band → Bool → Type 0
-FewBand w closing = (w.kills + living 5 w.each ≤ 5) × (closing ≡ true → living 5 w.each ≡ 0)
+abbrev FewBand : Claim
+FewBand v =
+    (v.band.kills + living 5 v.band.each ≤ 5)
+    × (v.closing.is_closing ≡ true → living 5 v.band.each ≡ 0)
 
 none_more : (m n : ℕ) → n ≤ m → m ≡ 0 → n ≡ 0
 none_more m n less none = omega (arith, less, none)
 
-dwarves_after : (cave : CaveView) (s : State) (line : List ℕ) → IsSomewhere s → HasFewDwarves s
-    → HasFewDwarves (turn_on_line cave s line).state
-dwarves_after cave s line somewhere h =
-    let t = band_after {Q = FewBand} (λ n a b closing some is h.
-    let few = is.few some in let one = h.0 in
-    (omega (arith, few, one), λ closes. none_more _ _ (is.alive some) (h.1 closes)))
-    (λ a closing h.
-    let none = dismissed_living 5 a.each in let one = h.0 in
-    (omega (arith, none, one), λ _. none)) cave s line somewhere (h.at_most, h.none_left) in
-    record { at_most = t.0; none_left = t.1 }
+band_kept : (cave : CaveView) (l : Line) → IsFound l → Keeps cave l FewBand FewBand
+band_kept cave l at (Bands w) v is h =
+    let few = is.1.few (is.0 at) in let one = h.0 in
+    (omega (arith, few, one), λ closes. none_more _ _ (is.1.alive (is.0 at)) (h.1 closes))
+band_kept cave l at Begins v is h =
+    let none = dismissed_living 5 v.band.each in let one = h.0 in
+    (omega (arith, none, one), λ _. none)
+band_kept cave l at _ v is h = h
 
 dwarves_first : (cave : CaveView) (seed : ℕ) → HasFewDwarves (start_of_game cave seed).state
 unfolding start_of_game begun_state starting_state asleep far_closing
@@ -170,12 +120,27 @@ dwarves_first cave seed =
     record { at_most = omega (arith, most); none_left = λ closes. absurd (false≢true closes) }
 
 pub few_dwarves : FewDwarves
-few_dwarves = record { start = dwarves_first; kept = dwarves_after }
+few_dwarves = record {
+  start = dwarves_first;
+  kept = λ cave s line somewhere h.
+      let t = turned cave FewBand FewBand s line
+      (band_kept cave (line_of cave s line) (found cave s line somewhere))
+      (h.at_most, h.none_left) in
+      record { at_most = t.0; none_left = t.1 };
+}
 
 -- a dwarf that is gone stays gone
+abbrev Gone : ℕ → Claim
+Gone number v = (get_or v.band.each number no_dwarf).place ≡ 0
+
+gone_kept : (number : ℕ) → number < 5 → (cave : CaveView) (l : Line) → IsFound l
+    → Keeps cave l (Gone number) (Gone number)
+gone_kept number low cave l at (Bands w) v is h = is.1.gone (is.0 at) number low h
+gone_kept number low cave l at Begins v is h = dismissed_gone v.band.each number
+gone_kept number low cave l at _ v is h = h
+
 pub gone_for_good : GoneForGood
 unfolding dwarf_of
 gone_for_good cave s line number somewhere low gone =
-    band_after {Q = λ w closing. (get_or w.each number no_dwarf).place ≡ 0}
-    (λ n a b closing some is h. is.gone some number low h)
-    (λ a closing h. dismissed_gone a.each number) cave s line somewhere gone
+    turned cave (Gone number) (Gone number) s line
+    (gone_kept number low cave (line_of cave s line) (found cave s line somewhere)) gone

@@ -1,54 +1,47 @@
 -- What the dwarves do keeps each claim that what happens while the player stays keeps.
-use Rattle.std.proofs.Common.{◌≡◌, ℕ, zero, suc, ◌≤◌, ◌<◌, Bool, true, false, List, [], ◌∷◌, refl}
-use Rattle.std.proofs.Common.{sym, ap, ◌∙◌, arith}
-use Rattle.std.proofs.lemmas.Bool.{true≢false}
-use Rattle.std.specs.Prelude.{◌==◌, min}
-use Rattle.cave_turn.specs.cave_data.CaveView.{CaveView}
-use Rattle.cave_turn.specs.data_rows.declared.place_role.PlaceRole.TheVariants as landmark
-use Rattle.cave_turn.specs.data_rows.declared.role.Role.TheVariants as role
-use Rattle.cave_turn.specs.cave_words.Stream.{number_drawn, pct}
-use Rattle.cave_turn.specs.cave_words.declared.named.Named.TheVariants as name
+use Rattle.cave_turn.specs.cave_words.Stream.{number_drawn}
 use Rattle.cave_turn.specs.cave_world.Limits.{PIRATE}
-use Rattle.cave_turn.specs.cave_world.declared.dwarves.Dwarf.{Dwarf}
-use Rattle.cave_turn.specs.cave_world.declared.state.State.{State}
-use Rattle.cave_turn.specs.turn_things.Places.{place_named}
-use Rattle.cave_turn.specs.turn_things.Treasures.{treasures}
-use Rattle.cave_turn.specs.turn_scene.Scene.{Scene, after_draw, thing}
-use Rattle.cave_turn.specs.turn_rules.Rows.{Deed, Act, act_of, deed, after_all, after_drawing}
-use Rattle.cave_turn.specs.turn_rules.Rows.{by_table, nothing_but}
-use Rattle.cave_turn.specs.turn_rules.Tests.{in_the_depths, no, the}
-use Rattle.cave_turn.specs.turn_rules.Effects.{change, say}
 use Rattle.cave_turn.specs.turn_dwarves.Band.{dwarf_of, with_anger, with_dwarf}
-use Rattle.cave_turn.specs.turn_dwarves.Booty.{steal, steal_rows, after_thefts, with_pirate_home}
-use Rattle.cave_turn.specs.turn_dwarves.Booty.{chest_rows, rob, hide_chest, send}
+use Rattle.cave_turn.specs.turn_dwarves.Booty.{after_thefts, hide_chest, rob, steal, steal_rows}
+use Rattle.cave_turn.specs.turn_dwarves.Booty.{with_pirate_home}
 use Rattle.cave_turn.specs.turn_dwarves.Dwarves.{anger_rows, awake, encounter_dwarves, is_missed}
-use Rattle.cave_turn.specs.turn_dwarves.Knives.{dwarf_turn, no_attack, raid, raid_of, threat_as}
-use Rattle.cave_turn.specs.turn_dwarves.Knives.{threat_rows, threaten, with_knife_here}
-use Rattle.cave_turn.specs.turn_dwarves.Lines.{dwarf_rows, first_knife_rows, knife_rows, knives}
-use Rattle.cave_turn.specs.turn_dwarves.Lines.{tell_attack}
+use Rattle.cave_turn.specs.turn_dwarves.Knives.{dwarf_turn, gone_rows, move_and_threaten, no_attack}
+use Rattle.cave_turn.specs.turn_dwarves.Knives.{raid, raid_of, threat_as, threat_rows, threaten}
+use Rattle.cave_turn.specs.turn_dwarves.Knives.{with_knife_here}
+use Rattle.cave_turn.specs.turn_dwarves.Lines.{dwarf_rows, knife_rows, knives, tell_attack}
 use Rattle.cave_turn.specs.turn_dwarves.Moving.{dwarf_moved}
-use Rattle.cave_turn.specs.turn_dwarves.Pirate.{after_pirate, chase_rows, pirate_rows}
-use Rattle.cave_turn.specs.turn_dwarves.Waking.{perhaps_without_one, state_after_draw, wake}
-use Rattle.cave_turn.specs.turn_dwarves.Waking.{waking_rows, with_dwarves_apart, without_dwarf}
+use Rattle.cave_turn.specs.turn_dwarves.Pirate.{after_pirate, chase_rows, move_pirate, move_rows}
+use Rattle.cave_turn.specs.turn_dwarves.Pirate.{pirate_rows}
+use Rattle.cave_turn.specs.turn_dwarves.Waking.{leaving_rows, let_one_leave, wake, waking_rows}
+use Rattle.cave_turn.specs.turn_dwarves.Waking.{with_dwarves_apart, without_dwarf}
 use Rattle.cave_turn.specs.turn_dwarves.declared.knives.Attack.{Attack}
 use Rattle.cave_turn.specs.turn_dwarves.declared.knives.Threat.{Threat}
+use Rattle.cave_turn.specs.turn_rules.Effects.{send}
+use Rattle.cave_turn.specs.turn_rules.Tests.{both}
+use Rattle.cave_turn.specs.turn_things.Treasures.{treasures}
+use Rattle.cave_turn.specs.data_rows.declared.place_role.PlaceRole.TheVariants as landmark
+use Rattle.cave_turn.specs.cave_words.declared.named.Named.TheVariants as name
+use Rattle.cave_turn.specs.data_rows.declared.role.Role.TheVariants as role
 use Rattle.cave_turn.specs.turn_dwarves.declared.knives.Threat.TheVariants as threat
 use Rattle.turn_laws.proofs.Band.{angrier, apart, changed}
-use Rattle.turn_laws.proofs.Effects.{banded, chosen, place, send_booty}
-use Rattle.turn_laws.proofs.Rows.{Any, first_leads, guarded, holds_alone, second_holds, table_leads}
-use Rattle.turn_laws.proofs.View.{Claim, IsPlayed, On, Ready, choose, view}
-
--- some place is not place 0
-some_place : (i : ℕ) → (i == 0) ≡ false → i ≡ 0 → ⊥
-some_place i some none = true≢false (sym (ap (λ (j : ℕ). j == 0) none) ∙ some)
+use Rattle.turn_laws.proofs.Effects.{banded, deed_chosen, effects, placed, sent}
+use Rattle.turn_laws.proofs.Rows.{Any, by_guarded, fails_alone, first_leads, guarded, holds_alone}
+use Rattle.turn_laws.proofs.Rows.{quiet, second_holds}
+use Rattle.turn_laws.proofs.View.{Claim, IsKept, Line, On, Ready, Somewhere, choose, some_place}
+use Rattle.turn_laws.proofs.View.{view}
+use Rattle.turn_laws.proofs.Words.{Act, Bool, CaveView, Deed, Dwarf, List, Scene, State, []}
+use Rattle.turn_laws.proofs.Words.{after_all, after_draw, after_drawing, anger, arith, by_table}
+use Rattle.turn_laws.proofs.Words.{change, deed, in_the_depths, min, no, nothing_but, nowhere}
+use Rattle.turn_laws.proofs.Words.{place_named, refl, say, suc, the, thing, true, when, zero, ℕ}
+use Rattle.turn_laws.proofs.Words.{◌<◌, ◌==◌, ◌∷◌, ◌≡◌, ◌≤◌}
 
 -- the pirate is none of the five dwarves
 not_low : 5 < 5 → ⊥
 not_low low = omega (arith, low)
 
-module _ {Here : ℕ → Type 0} {P : Claim} (k : IsPlayed Here P) where
+module _ {game : CaveView} {l : Line} {Q P : Claim} (k : IsKept game l Q P) where
   abbrev R : Claim
-  R = Ready Here P
+  R = Ready (Somewhere l) P
 
   still : {C : Type 0} (d : Deed C) → On R d.scene.state → On R d.scene.state × Unit {0}
   still d h = (h, tt)
@@ -70,12 +63,11 @@ module _ {Here : ℕ → Type 0} {P : Claim} (k : IsPlayed Here P) where
   unfolding without_dwarf
   gone_kept n s h = dwarf_kept n _ s (λ _ _. refl) h
 
-  perhaps_kept : (s : State) → On R s → On R (perhaps_without_one s)
-  unfolding perhaps_without_one
-  perhaps_kept s h =
-      let one = number_drawn 5 s.stream in let t = state_after_draw s in
-      chosen R (pct 50 t.stream) (without_dwarf one (state_after_draw t)) (state_after_draw t)
-      (gone_kept one (state_after_draw t) h) h
+  leaving_kept : (d : Deed Attack) → On R d.scene.state → On R (let_one_leave d).scene.state
+  unfolding leaving_rows
+  leaving_kept d h =
+      quiet R leaving_rows ((λ e g. (gone_kept e.about e.scene.state g, tt)), tt)
+      (deed d.cave (number_drawn 5 d.scene.state.stream) (after_drawing d).scene) h
 
   apart_kept : (cave : CaveView) (n : ℕ) (s : State) → On R s → On R (with_dwarves_apart cave n s)
   unfolding with_dwarves_apart with_dwarf dwarf_of
@@ -88,17 +80,15 @@ module _ {Here : ℕ → Type 0} {P : Claim} (k : IsPlayed Here P) where
       → On R d.scene.state → On R (after_all wake d).scene.state
   unfolding wake
   woken_kept d stirs h =
-      let s = with_anger 2 d.scene.state in
-      place k (view (with_dwarves_apart d.cave 5 (perhaps_without_one (perhaps_without_one s)))) _ _
-      (apart_kept d.cave 5 (perhaps_without_one (perhaps_without_one s))
-      (perhaps_kept (perhaps_without_one s)
-      (perhaps_kept s (angry_kept 1 2 d.scene.state stirs (omega arith) h))))
+      let e = change (with_anger 2) d in let f = let_one_leave (let_one_leave e) in
+      placed k _ _ (apart_kept d.cave 5 f.scene.state (leaving_kept (let_one_leave e)
+      (leaving_kept e (angry_kept 1 2 d.scene.state stirs (omega arith) h))))
 
   waking_kept : (d : Deed Attack) → (d.scene.state.dwarves.anger == 1) ≡ true
       → On R d.scene.state → On R (by_table waking_rows d).scene.state
   unfolding waking_rows
   waking_kept d stirs h =
-      guarded (λ (a : Act (Unit {0})). On R a.scene.state) (nothing_but (λ e. tt)) d waking_rows (
+      by_guarded R d waking_rows (
         (λ _. h),
         λ _. ((λ _. h), λ _. ((λ _. woken_kept (after_drawing d) stirs h), λ _. h)),
       )
@@ -113,17 +103,19 @@ module _ {Here : ℕ → Type 0} {P : Claim} (k : IsPlayed Here P) where
   threatened_kept : (d : Deed Dwarf) → On R d.scene.state → On R (threaten d).scene.state
   unfolding threaten threat_rows with_knife_here
   threatened_kept d h =
-      (first_leads R R Any threat_rows (nothing_but (threat_as threat.Nothing))
-      (still, (still, (still, (still, tt)))) still d h).0
+      (first_leads R R Any threat_rows (nothing_but (threat_as threat.Nothing)) (search parts 20)
+      still d h).0
 
   turn_kept : (cave : CaveView) (n : ℕ) (p : Scene) → On R p.state
-      → On R (dwarf_turn cave n p).scene.state
-  unfolding dwarf_turn
+      → On R (dwarf_turn (deed cave n p)).scene.state
+  unfolding dwarf_turn gone_rows
   turn_kept cave n p h =
-      choose (λ (a : Act Threat). On R a.scene.state) ((dwarf_of p.state n).place == 0)
-      (act_of p threat.Nothing) (threaten (dwarf_moved cave n p)) (λ _. h)
-      (λ some. threatened_kept (dwarf_moved cave n p)
-      (moved_kept cave n p (λ _ gone. some_place _ some gone) h))
+      guarded (λ (a : Act Threat). On R a.scene.state) move_and_threaten (deed cave n p) gone_rows (
+        (λ _. h),
+        λ some. threatened_kept (dwarf_moved cave n p)
+            (moved_kept cave n p
+            (λ _ gone. some_place _ (fails_alone ((dwarf_of p.state n).place == 0) some) gone) h),
+      )
 
   raided_kept : (cave : CaveView) (n : ℕ) (p : Scene) → On R p.state
       → On R (raid_of cave n p).scene.state
@@ -134,24 +126,21 @@ module _ {Here : ℕ → Type 0} {P : Claim} (k : IsPlayed Here P) where
 
   -- what is printed, and the anger of dwarves who throw knives for the first time
   told_kept : (d : Deed Attack) → On R d.scene.state → On R (after_all tell_attack d).scene.state
-  unfolding tell_attack dwarf_rows first_knife_rows knife_rows
+  unfolding tell_attack dwarf_rows knife_rows
   told_kept d h =
       let one = by_table dwarf_rows d in
-      let first = table_leads R R dwarf_rows (still, (still, (still, tt))) (λ e g. g) d h in
-      table_leads R R knife_rows (still, (still, (still, (still, (still, (still, tt)))))) (λ e g. g)
-      (by_table first_knife_rows one)
-      (guarded (λ (a : Act (Unit {0})). On R a.scene.state) (nothing_but (λ e. tt)) one
-      first_knife_rows (
-        (λ fit. angry_kept 2 3 one.scene.state
-            (holds_alone _ (second_holds (no (knives 0) one) _ fit)) (omega arith) first),
-        λ _. first,
-      ))
+      let first = quiet R dwarf_rows (search parts 20) d h in
+      quiet R knife_rows (search parts 20)
+      (when (both (no (knives 0)) (anger 2)) (change (with_anger 3)) one)
+      (choose (λ (e : Deed Attack). On R e.scene.state) (both (no (knives 0)) (anger 2) one)
+      (change (with_anger 3) one) one
+      (λ fit. angry_kept 2 3 one.scene.state (second_holds (no (knives 0) one) _ fit) (omega arith)
+      first) (λ _. first))
 
   stolen_kept : (cave : CaveView) (x : ℕ) (p : Scene) → On R p.state → On R (steal cave x p).state
   unfolding steal steal_rows
   stolen_kept cave x p h =
-      table_leads R R steal_rows ((λ e g. (send_booty k _ _ _ g, tt)), tt) (λ e g. g)
-      (deed cave x p) h
+      quiet R steal_rows (search effects parts 20) (deed cave x p) h
 
   all_stolen_kept : (cave : CaveView) (xs : List ℕ) (p : Scene) → On R p.state
       → On R (after_thefts cave xs p).state
@@ -164,40 +153,34 @@ module _ {Here : ℕ → Type 0} {P : Claim} (k : IsPlayed Here P) where
   home_kept cave s h = dwarf_kept PIRATE _ s (λ low _. absurd (not_low low)) h
 
   robbed_kept : (d : Deed (Unit {0})) → On R d.scene.state → On R (after_all rob d).scene.state
-  unfolding rob chest_rows
+  unfolding rob
   robbed_kept d h =
-      let e = by_table chest_rows (say role.Booty d) in
+      let b = say role.Booty d in
+      let e = when (nowhere (the name.Message)) (send (the name.Chest) landmark.Chest) b in
       let f = send (the name.Message) landmark.Message e in
-      home_kept d.cave (after_thefts d.cave treasures f.scene).state
-      (all_stolen_kept d.cave treasures f.scene
-      (send_booty k (thing d.cave name.Message) (place_named d.cave landmark.Message) e.scene.state
-      (table_leads R R chest_rows ((λ e g. (send_booty k _ _ _ g, tt)), tt) (λ e g. g)
-      (say role.Booty d) h)))
+      home_kept e.cave (after_thefts e.cave treasures f.scene).state
+      (all_stolen_kept e.cave treasures f.scene
+      (sent k (thing e.cave name.Message) (place_named e.cave landmark.Message) e.scene.state
+      (deed_chosen k (nowhere (the name.Message) b) (send (the name.Chest) landmark.Chest b) b
+      (sent k _ _ _ h) h)))
 
   hidden_kept : (d : Deed (Unit {0})) → On R d.scene.state
       → On R (after_all hide_chest d).scene.state
   unfolding hide_chest
-  hidden_kept d h =
-      let e = send (the name.Chest) landmark.Chest (say role.ChestHid d) in
-      let f = send (the name.Message) landmark.Message e in
-      home_kept d.cave f.scene.state
-      (send_booty k (thing d.cave name.Message) (place_named d.cave landmark.Message) e.scene.state
-      (send_booty k (thing d.cave name.Chest) (place_named d.cave landmark.Chest) d.scene.state h))
+  hidden_kept d h = home_kept d.cave _ (search effects)
 
   pirate_kept : (cave : CaveView) (p : Scene) → On R p.state → On R (after_pirate cave p).state
-  unfolding after_pirate chase_rows pirate_rows
-  pirate_kept cave p h =
-      choose (λ (q : Scene). On R q.state) ((dwarf_of p.state PIRATE).place == 0) p
-      (by_table chase_rows (deed cave tt (dwarf_moved cave PIRATE p).scene)).scene (λ _. h)
-      (λ _. table_leads R R chase_rows ((λ e g. (met e g, tt)), tt) (λ e g. g)
-      (deed cave tt (dwarf_moved cave PIRATE p).scene)
-      (moved_kept cave PIRATE p (λ low _. not_low low) h))
+  unfolding after_pirate move_rows chase_rows pirate_rows
+  pirate_kept cave p h = quiet R move_rows (search moved parts 20) (deed cave tt p) h
     where
       met : (d : Deed (Unit {0})) → On R d.scene.state → On R (by_table pirate_rows d).scene.state
-      met d h =
-          table_leads R R pirate_rows
-          ((λ e g. (robbed_kept e g, tt)), ((λ e g. (hidden_kept e g, tt)), (still, tt)))
-          (λ e g. g) d h
+      met d h = quiet R pirate_rows (search (robbed_kept, hidden_kept) parts 20) d h
+
+      moved : (d : Deed (Unit {0})) → On R d.scene.state
+          → On R (by_table chase_rows (move_pirate d)).scene.state
+      moved d h =
+          quiet R chase_rows (search met parts 20) (move_pirate d)
+          (moved_kept d.cave PIRATE d.scene (λ low _. not_low low) h)
 
   -- the dwarves sleep, stir, or act
   pub dwarves_kept : (cave : CaveView) (p : Scene) → On R p.state

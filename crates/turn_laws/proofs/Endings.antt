@@ -1,37 +1,28 @@
 -- What the score, the questions and a death make of a claim.
-use Rattle.std.proofs.Common.{◌≡◌, ◌⊎◌, inl, ℕ, refl}
-use Rattle.std.proofs.lemmas.Bool.{true≢false}
-use Rattle.std.specs.Prelude.{Option, None, Some}
-use Rattle.std.specs.FinMap as map
-use Rattle.cave_turn.specs.cave_data.CaveView.{CaveView}
-use Rattle.cave_turn.specs.data_rows.declared.role.Role.TheVariants as role
 use Rattle.cave_turn.specs.data_rows.declared.rows.Hint.{Hint}
-use Rattle.cave_turn.specs.cave_world.declared.ending.Ending.{Ending}
-use Rattle.cave_turn.specs.cave_world.declared.ending.Ending.TheVariants as ending_is
-use Rattle.cave_turn.specs.cave_world.declared.ending.Question.{Question}
-use Rattle.cave_turn.specs.cave_world.declared.ending.Question.TheVariants as question
-use Rattle.cave_turn.specs.turn_scene.Scene.{Scene, after_saying, with_state}
-use Rattle.cave_turn.specs.turn_rules.Rows.{Deed, Act, deed, after_all, by_table, nothing_but}
-use Rattle.cave_turn.specs.turn_ends.Endings.{tell_turns, class_rows, tell_score, with_ending}
-use Rattle.cave_turn.specs.turn_ends.Endings.{after_end, with_one_death, death_rows, after_die}
-use Rattle.cave_turn.specs.turn_ends.Questions.{die_rows, after_offer, question_rows, hint_number}
-use Rattle.cave_turn.specs.turn_ends.Questions.{after_question, preface_rows, with_question}
-use Rattle.cave_turn.specs.turn_ends.Questions.{ask_question, after_ask}
+use Rattle.cave_turn.specs.turn_ends.Endings.{after_die, after_end, class_rows, death_rows}
+use Rattle.cave_turn.specs.turn_ends.Endings.{tell_score, tell_turns}
+use Rattle.cave_turn.specs.turn_ends.Questions.{after_ask, after_offer, after_question}
+use Rattle.cave_turn.specs.turn_ends.Questions.{ask_question, die_rows, is_score_quit}
+use Rattle.cave_turn.specs.turn_ends.Questions.{open_question, question_rows, tell_score_now}
+use Rattle.cave_turn.specs.turn_ends.Questions.{with_question}
 use Rattle.cave_turn.specs.turn_moves.Falling.{fall_at, with_all_left_at}
-use Rattle.turn_laws.proofs.Rows.{fails_alone, guarded, holds_alone, table_leads}
-use Rattle.turn_laws.proofs.View.{Claim, IsCalm, IsKept, On, Ready, There, View, view}
-
-score_kept : (P : Claim) (d : Deed (Unit {0})) → On P d.scene.state
-    → On P (after_all tell_score d).scene.state
-unfolding tell_score class_rows
-score_kept P d h =
-    table_leads P P class_rows
-    ((λ e g. (g, tt)), ((λ e g. (g, tt)), ((λ e g. (g, tt)), tt))) (λ e g. g) (tell_turns d) h
+use Rattle.cave_turn.specs.cave_world.declared.ending.Ending.TheVariants as ending_is
+use Rattle.cave_turn.specs.cave_world.declared.ending.Question.TheVariants as question
+use Rattle.cave_turn.specs.data_rows.declared.role.Role.TheVariants as role
+use Rattle.turn_laws.proofs.Rows.{by_guarded, fails_alone, holds_alone, quiet}
+use Rattle.turn_laws.proofs.View.{Claim, Dies, Ends, IsCalm, IsKept, Kills, Line, On, Ready, There}
+use Rattle.turn_laws.proofs.View.{View, choose, view}
+use Rattle.turn_laws.proofs.Words.{CaveView, Deed, Ending, None, Option, Question, Scene, Some}
+use Rattle.turn_laws.proofs.Words.{after_saying, by_table, deed, inl, refl, true≢false, with_ending}
+use Rattle.turn_laws.proofs.Words.{with_one_death, with_state, ℕ, ◌≡◌, ◌⊎◌}
 
 pub ended_kept : (P : Claim) (cave : CaveView) (how : Ending) (p : Scene)
     → On P (with_ending how p.state) → On P (after_end cave how p).state
-unfolding after_end
-ended_kept P cave how p h = score_kept P (deed cave tt (with_state (with_ending how p.state) p)) h
+unfolding after_end tell_score class_rows
+ended_kept P cave how p h =
+    quiet P class_rows (search parts 20)
+    (tell_turns (deed cave tt (with_state (with_ending how p.state) p))) h
 
 offer_kept : (P : Claim) (o : Option Hint) (p : Scene) → On P p.state
     → On P (after_offer o p).state
@@ -41,53 +32,30 @@ offer_kept P (Some hint) p h = h
 die_kept : (P : Claim) (d : Deed Question) → On P d.scene.state
     → On P (by_table die_rows d).scene.state
 unfolding die_rows
-die_kept P d h =
-    table_leads P P die_rows
-    ((λ e g. (g, tt)), ((λ e g. (g, tt)), ((λ e g. (g, tt)), tt))) (λ e g. g) d h
-
-said : (P : Claim) (d : Deed Question) → On P d.scene.state → On P d.scene.state × Unit {0}
-said P d h = (h, tt)
+die_kept P d h = quiet P die_rows (search parts 20) d h
 
 pub question_kept : (P : Claim) (cave : CaveView) (q : Question) (p : Scene) → On P p.state
     → On P (after_question cave q p).state
-unfolding after_question question_rows
+unfolding question_rows
 question_kept P cave q p h =
-    let still = said P in
-    table_leads P P question_rows (
-      still,
-      (
-        still,
-        (
-          still,
-          (
-            (λ e g. (die_kept P e g, tt)),
-            (
-              (λ e g. (offer_kept P (map.get e.cave.hints (hint_number e.about)) e.scene g, tt)),
-              (still, (still, (still, tt))),
-            ),
-          ),
-        ),
-      ),
-    ) (λ e g. g) (deed cave q p) h
-
-preface_kept : (P : Claim) (cave : CaveView) (q : Question) (p : Scene) → On P p.state
-    → On P (by_table preface_rows (deed cave q p)).scene.state
-unfolding preface_rows
-preface_kept P cave q p h =
-    table_leads P P preface_rows ((λ e g. (g, tt)), tt) (λ e g. g) (deed cave q p) h
+    quiet P question_rows (search (die_kept P, offer_kept P) parts 20) (deed cave q p) h
 
 -- a claim would hold if a question were asked
 abbrev Asked : Claim → Question → Claim
 Asked P q v = P (record v { question = Some q })
 
+-- the score may be told before the question
 pub asking_kept : (P : Claim) (cave : CaveView) (q : Question) (p : Scene)
     → On P (with_question q p.state) → On P (after_ask cave q p).state
 unfolding after_ask ask_question
 asking_kept P cave q p h =
-    question_kept (Asked P q) cave q (by_table preface_rows (deed cave q p)).scene
-    (preface_kept (Asked P q) cave q p h)
+    let d = deed cave q p in
+    choose (λ (e : Deed Question). On P (open_question (by_table question_rows e)).scene.state)
+    (is_score_quit q) (tell_score_now d) d
+    (λ _. question_kept (Asked P q) cave q (tell_score_now d).scene h)
+    (λ _. question_kept (Asked P q) cave q p h)
 
-module _ {cave : CaveView} {Here : ℕ → Type 0} {P : Claim} (k : IsKept cave Here P) where
+module _ {cave : CaveView} {l : Line} {Q P : Claim} (k : IsKept cave l Q P) where
   -- the player dies where the player now is, and was there before, or is nowhere now
   pub dying_kept : (before : ℕ) (p : Scene)
       → (p.state.trail.here ≡ before) ⊎ (p.state.trail.here ≡ 0)
@@ -97,15 +65,14 @@ module _ {cave : CaveView} {Here : ℕ → Type 0} {P : Claim} (k : IsKept cave 
       let told = after_saying role.KilledClosing p in
       let here = p.state.trail.here in
       let v : View = record (view p.state) { here = before } in
-      guarded (λ (a : Act (Unit {0})). On P a.scene.state) (nothing_but (λ e. tt))
-      (deed cave tt p) death_rows (
+      by_guarded P (deed cave tt p) death_rows (
         (λ closing. ended_kept P cave ending_is.Killed
             (with_state (with_one_death told.state) told)
-            (k.kills ending_is.Killed here v calm
-            (holds_alone p.state.closing.is_closing closing) same h)),
+            (k.keeps (Kills ending_is.Killed here) v
+            (calm, holds_alone p.state.closing.is_closing closing, same) h)),
         λ free. (
           (λ _. asking_kept P cave question.Die p
-              (k.dies here v calm (fails_alone p.state.closing.is_closing free) h)),
+              (k.keeps (Dies here) v (calm, fails_alone p.state.closing.is_closing free) h)),
           λ never. absurd (true≢false never),
         ),
       )
@@ -121,4 +88,4 @@ module _ {cave : CaveView} {Here : ℕ → Type 0} {P : Claim} (k : IsKept cave 
   -- the game ends, or a question is asked
   pub ending_kept : {Other : ℕ → Type 0} (how : Ending) (p : Scene) → On (Ready Other P) p.state
       → On P (after_end cave how p).state
-  ending_kept how p h = ended_kept P cave how p (k.ends how (view p.state) h.calm h.holds)
+  ending_kept how p h = ended_kept P cave how p (k.keeps (Ends how) (view p.state) h.calm h.holds)

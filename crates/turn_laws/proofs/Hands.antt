@@ -1,30 +1,30 @@
 -- What is carried once objects are moved or taken.
-use Rattle.std.proofs.Common.{◌≡◌, ◌⊎◌, inl, inr, ℕ, ℤ, zero, suc, ◌+◌, ◌-◌, ◌≤◌, Bool, false, true}
-use Rattle.std.proofs.Common.{List, [], ◌∷◌, length, set, get_or, refl, sym, ap, ◌∙◌, arith}
-use Rattle.std.proofs.lemmas.Bool.{true≢false, false≢true}
-use Rattle.std.proofs.lemmas.Bool.Decides.{nat_tests}
-use Rattle.std.specs.Prelude.{◌==◌, ◌&&◌, nat_le, filter, if◌then◌else◌}
 use Rattle.std.specs.List.{range_with_len}
-use Rattle.cave_turn.specs.world_objects.Objects.{Layout, spot_of, anchor_of, is_carried}
-use Rattle.cave_turn.specs.world_objects.Objects.{carried_up_to, carried_objects, with_spot}
-use Rattle.cave_turn.specs.world_objects.Objects.{with_anchor, with_prop, after_move_to}
-use Rattle.cave_turn.specs.world_objects.Objects.{after_carry, after_juggle, is_carried_spot}
-use Rattle.cave_turn.specs.world_objects.Objects.{spot_at, place_of_spot}
 use Rattle.cave_turn.specs.world_objects.Lists.{after_relist}
+use Rattle.cave_turn.specs.world_objects.Objects.{after_carry, after_juggle, after_move_to}
+use Rattle.cave_turn.specs.world_objects.Objects.{anchor_of, carried_up_to, is_carried}
+use Rattle.cave_turn.specs.world_objects.Objects.{place_of_spot, spot_of, with_anchor, with_prop}
+use Rattle.cave_turn.specs.world_objects.Objects.{with_spot}
 use Rattle.cave_turn.specs.world_objects.declared.object.Half.TheVariants.{First}
 use Rattle.cave_turn.specs.world_objects.declared.spot.Spot.{Spot}
 use Rattle.cave_turn.specs.world_objects.declared.spot.Spot.TheVariants as spot
-use Rattle.cave_turn.specs.world_objects.declared.spot.Anchor.{Anchor}
 use Rattle.turn_laws.proofs.View.{Change, HasRoom, Hold, Juggle, Place, Prop, after_change}
 use Rattle.turn_laws.proofs.View.{after_taking, choose}
+use Rattle.turn_laws.proofs.Words.{Anchor, Bool, Layout, List, [], ap, arith, carried_objects}
+use Rattle.turn_laws.proofs.Words.{false, false≢true, filter, get_or, if◌then◌else◌, inl, inr}
+use Rattle.turn_laws.proofs.Words.{is_carried_spot, length, nat_le, nat_tests, refl, set, spot_at}
+use Rattle.turn_laws.proofs.Words.{suc, sym, true, true≢false, zero, ℕ, ℤ, ◌&&◌, ◌+◌, ◌-◌, ◌==◌}
+use Rattle.turn_laws.proofs.Words.{◌∙◌, ◌∷◌, ◌≡◌, ◌≤◌, ◌⊎◌}
 
--- a number more on both lists, or on the longer one alone
-head_fewer : (p q : Bool) (a : ℕ) (xs ys : List ℕ) → (q ≡ true → p ≡ true) → length ys ≤ length xs
-    → length (if q then a ∷ ys else ys) ≤ length (if p then a ∷ xs else xs)
-head_fewer true true a xs ys each less = omega (arith, less)
-head_fewer true false a xs ys each less = omega (arith, less)
-head_fewer false true a xs ys each less = absurd (false≢true (each refl))
-head_fewer false false a xs ys each less = less
+-- where one condition follows from another, and one count is at most another, so it is with one
+-- more of each
+pub head_fewer : {X : Type 0} (p q : Bool) (x y : X) (xs ys : List X) → (q ≡ true → p ≡ true)
+    → length ys ≤ length xs
+    → length (if q then y ∷ ys else ys) ≤ length (if p then x ∷ xs else xs)
+head_fewer true true x y xs ys each less = omega (arith, less)
+head_fewer true false x y xs ys each less = omega (arith, less)
+head_fewer false true x y xs ys each less = absurd (false≢true (each refl))
+head_fewer false false x y xs ys each less = less
 
 -- of the numbers of a range, those with one property are as many as those with another at most, if
 -- each of them has that too
@@ -32,7 +32,7 @@ pub fewer : (f g : ℕ → Bool) (a n : ℕ) → ((y : ℕ) → a ≤ y → g y 
     → length (filter g (range_with_len a n)) ≤ length (filter f (range_with_len a n))
 fewer f g a zero each = omega arith
 fewer f g a (suc n) each =
-    head_fewer (f a) (g a) a (filter f (range_with_len (a + 1) n))
+    head_fewer (f a) (g a) a a (filter f (range_with_len (a + 1) n))
     (filter g (range_with_len (a + 1) n)) (each a (omega arith))
     (fewer f g (a + 1) n (λ y low. each y (omega (arith, low))))
 

@@ -1,3 +1,4 @@
+pub mod Words
 pub mod View
 pub mod Rows
 pub mod Band
@@ -12,15 +13,9 @@ pub mod Clocks
 pub mod Lamp
 pub mod Turns
 pub mod Lines
-pub mod Life
-pub mod Rest
 pub mod Deaths
-pub mod Dying
 pub mod Onward
 pub mod HintCount
 pub mod Counts
-pub mod Charge
-pub mod Bounds
-pub mod Burning
 pub mod Quiet
 pub mod Reaching

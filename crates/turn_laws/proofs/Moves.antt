@@ -1,49 +1,50 @@
 -- What motions and places make of a claim.
-use Rattle.std.proofs.Common.{ℕ, zero, suc, ◌-◌, Bool, List, [], ◌∷◌}
-use Rattle.std.proofs.lemmas.Bool.{true≢false}
-use Rattle.std.specs.Prelude.{◌==◌, Option, None, Some, length, slice_set}
+use Rattle.cave_turn.specs.cave_data.CaveView.{ways_from}
+use Rattle.cave_turn.specs.cave_world.State.{state_after_set_out, without_visits}
+use Rattle.cave_turn.specs.cave_world.Travel.{TravelResult, after_condition, after_go, after_row}
+use Rattle.cave_turn.specs.cave_world.Travel.{first_way, from_listed, holds, outcome_or}
+use Rattle.cave_turn.specs.cave_world.Travel.{row_condition, row_destination, row_outcome}
+use Rattle.cave_turn.specs.cave_world.Travel.{rows_to_try, travel, travel_by_rows}
+use Rattle.cave_turn.specs.cave_world.declared.travel_rows.Outcome.{Outcome}
 use Rattle.cave_turn.specs.data_rows.Rows.{Going}
-use Rattle.cave_turn.specs.cave_data.CaveView.{CaveView, ways_from}
-use Rattle.cave_turn.specs.data_rows.declared.role.Role.TheVariants as role
-use Rattle.cave_turn.specs.cave_words.declared.named.Named.TheVariants as name
-use Rattle.cave_turn.specs.cave_world.State.{without_visits, state_after_set_out}
-use Rattle.cave_turn.specs.cave_world.Travel.{TravelResult, travel, travel_by_rows, first_way}
-use Rattle.cave_turn.specs.cave_world.Travel.{outcome_or, rows_to_try, from_listed, after_row}
-use Rattle.cave_turn.specs.cave_world.Travel.{after_condition, row_outcome, holds, row_condition}
-use Rattle.cave_turn.specs.cave_world.Travel.{row_destination, after_go}
 use Rattle.cave_turn.specs.data_rows.declared.targets.Condition.{Condition}
 use Rattle.cave_turn.specs.data_rows.declared.targets.Condition.TheVariants.{Chance}
 use Rattle.cave_turn.specs.data_rows.declared.targets.Destination.{Destination}
 use Rattle.cave_turn.specs.data_rows.declared.targets.Destination.TheVariants.{PutsEmeraldDown}
-use Rattle.cave_turn.specs.cave_world.declared.travel_rows.Outcome.{Outcome}
-use Rattle.cave_turn.specs.cave_world.declared.travel_rows.Outcome.TheVariants as outcome
-use Rattle.cave_turn.specs.data_rows.declared.targets.Special.TheVariants.{Squeeze, Bridge}
-use Rattle.cave_turn.specs.cave_world.declared.state.State.{State}
-use Rattle.cave_turn.specs.turn_scene.Scene.{Scene, after_saying, with_state, with_left}
-use Rattle.cave_turn.specs.turn_scene.Scene.{after_setting_out, thing}
-use Rattle.cave_turn.specs.turn_things.Props.{BEAR_DEAD, CHASM_UNBRIDGED, TROLL_FLED}
-use Rattle.cave_turn.specs.turn_moves.Arrival.{stop_at, after_forced_motions, after_arrival}
-use Rattle.cave_turn.specs.turn_moves.Arrival.{description_anew}
-use Rattle.cave_turn.specs.turn_moves.Bridge.{bridge, far_end, demand_toll, pass_rows, spices_rows}
-use Rattle.cave_turn.specs.turn_moves.Bridge.{break_bridge, bridge_rows, cross_rows, cross}
-use Rattle.cave_turn.specs.turn_moves.Bridge.{cross_bridge}
+use Rattle.cave_turn.specs.data_rows.declared.targets.Special.TheVariants.{Bridge, Squeeze}
+use Rattle.cave_turn.specs.turn_moves.Arrival.{after_arrival, after_forced_motions}
+use Rattle.cave_turn.specs.turn_moves.Arrival.{description_anew, stop_at}
+use Rattle.cave_turn.specs.turn_moves.Bridge.{break_bridge, bridge, bridge_rows, cross}
+use Rattle.cave_turn.specs.turn_moves.Bridge.{cross_bridge, cross_rows, demand_toll, far_end}
 use Rattle.cave_turn.specs.turn_moves.Description.{stop_here}
-use Rattle.cave_turn.specs.turn_moves.Journeys.{refusal_rows, after_refusal, journey_of_outcome}
-use Rattle.cave_turn.specs.turn_moves.Journeys.{journey_by_rows, set_forth, enough_rows, look_round}
-use Rattle.cave_turn.specs.turn_moves.Journeys.{that_motion, own_motion_rows, back_rows, go_back}
-use Rattle.cave_turn.specs.turn_moves.Journeys.{own_motion, journey_by, journey_by_request}
+use Rattle.cave_turn.specs.turn_moves.Journeys.{after_refusal, back_rows, enough_rows, go_back}
+use Rattle.cave_turn.specs.turn_moves.Journeys.{journey_by, journey_by_request, journey_by_rows}
+use Rattle.cave_turn.specs.turn_moves.Journeys.{journey_of_outcome, look_round, own_motion}
+use Rattle.cave_turn.specs.turn_moves.Journeys.{own_motion_rows, refusal_rows, set_forth}
+use Rattle.cave_turn.specs.turn_moves.Journeys.{that_motion}
 use Rattle.cave_turn.specs.turn_moves.Squeeze.{squeeze_rows, squeeze_through}
 use Rattle.cave_turn.specs.turn_moves.Ways.{end_of}
-use Rattle.cave_turn.specs.turn_rules.Rows.{Deed, Act, deed, after_all, by_table, nothing_but}
-use Rattle.cave_turn.specs.turn_rules.Tests.{the, here}
-use Rattle.cave_turn.specs.turn_rules.Effects.{say, set_prop, move, fix}
-use Rattle.turn_laws.proofs.Effects.{chosen, hold, latest, look, loses, place, prop}
+use Rattle.cave_turn.specs.turn_rules.Effects.{fix, lose_one, move}
+use Rattle.cave_turn.specs.turn_scene.Scene.{after_setting_out, with_left}
+use Rattle.cave_turn.specs.turn_things.Props.{CHASM_UNBRIDGED, TROLL_CALM, TROLL_FLED}
+use Rattle.cave_turn.specs.turn_things.Props.{TROLL_RETURNING}
+use Rattle.cave_turn.specs.turn_things.Reach.{has_prop_up_to}
+use Rattle.cave_turn.specs.cave_words.declared.named.Named.TheVariants as name
+use Rattle.cave_turn.specs.cave_world.declared.travel_rows.Outcome.TheVariants as outcome
+use Rattle.cave_turn.specs.data_rows.declared.role.Role.TheVariants as role
+use Rattle.turn_laws.proofs.Effects.{effects, placed, propped, state_chosen}
 use Rattle.turn_laws.proofs.Endings.{falling_kept}
 use Rattle.turn_laws.proofs.Places.{OnStop, Reaches, seen_kept, shown_kept, shown_open}
-use Rattle.turn_laws.proofs.Rows.{Any, first_leads, guarded, table_leads}
-use Rattle.turn_laws.proofs.View.{Anywhere, Claim, IsCalm, IsKept, On, Ready, There, choose, view}
+use Rattle.turn_laws.proofs.Rows.{Any, first_leads, guarded, quiet}
+use Rattle.turn_laws.proofs.View.{Anywhere, Claim, IsCalm, IsKept, Line, On, Ready, There, choose}
+use Rattle.turn_laws.proofs.View.{view}
+use Rattle.turn_laws.proofs.Words.{Act, BEAR_DEAD, Bool, CaveView, Deed, List, None, Option, Scene}
+use Rattle.turn_laws.proofs.Words.{Some, State, UNSEEN, [], after_all, after_saying, by_table, deed}
+use Rattle.turn_laws.proofs.Words.{fall, first_fitting_or, has_prop, here, length, nothing_but, say}
+use Rattle.turn_laws.proofs.Words.{set_prop, slice_set, suc, the, thing, true≢false, with_state}
+use Rattle.turn_laws.proofs.Words.{zero, ℕ, ◌-◌, ◌==◌, ◌∷◌}
 
-module _ {cave : CaveView} {Here : ℕ → Type 0} {P : Claim} (k : IsKept cave Here P) where
+module _ {cave : CaveView} {l : Line} {Q P : Claim} (k : IsKept cave l Q P) where
   abbrev R : Claim
   R = Ready Anywhere P
 
@@ -56,7 +57,7 @@ module _ {cave : CaveView} {Here : ℕ → Type 0} {P : Claim} (k : IsKept cave 
   drawn_kept _ s h = h
 
   gone_kept : (emerald : ℕ) (d : Destination) (s : State) → On R s → On R (after_go emerald d s)
-  gone_kept emerald PutsEmeraldDown s h = place k.played (view s) emerald s.trail.here h
+  gone_kept emerald PutsEmeraldDown s h = placed k emerald s.trail.here h
   gone_kept emerald _ s h = h
 
   row_kept : (emerald : ℕ) (s : State) (row : Going) → On R s → On R (after_row emerald s row)
@@ -64,7 +65,7 @@ module _ {cave : CaveView} {Here : ℕ → Type 0} {P : Claim} (k : IsKept cave 
   row_kept emerald s row h =
       let m = row_condition row in let d = row_destination row in let t = after_condition m s in
       let g = drawn_kept m s h in
-      chosen R (holds m s) (after_go emerald d t) t (gone_kept emerald d t g) g
+      state_chosen k (holds m s) (after_go emerald d t) t (gone_kept emerald d t g) g
 
   -- a journey that ends or goes on
   ends_kept : (o : Option Outcome) (s : State) (j : TravelResult) → On R s → On R j.state
@@ -93,47 +94,47 @@ module _ {cave : CaveView} {Here : ℕ → Type 0} {P : Claim} (k : IsKept cave 
   squeezed_kept : (d : Deed (Unit {0})) → On R d.scene.state → On R (squeeze_through d).scene.state
   unfolding squeeze_through squeeze_rows
   squeezed_kept d h =
-      (first_leads R R Any squeeze_rows (nothing_but here)
-      (still, (still, (still, tt))) still d h).0
+      (first_leads R R Any squeeze_rows (nothing_but here) (search parts 20) still d h).0
 
   -- the troll asks for a treasure
   toll_kept : (d : Deed (Unit {0})) → On R d.scene.state
       → On R (after_all demand_toll d).scene.state
   unfolding demand_toll
-  toll_kept d h =
-      let p = k.played in
-      latest p _ _ (hold p _ _ _ (place p _ _ _ (hold p _ _ _ (place p _ _ _
-      (prop p _ _ _ (look p _ _ d.scene h))))))
-
-  spices_kept : (d : Deed ℕ) → On R d.scene.state → On R (by_table spices_rows d).scene.state
-  unfolding spices_rows
-  spices_kept d h =
-      table_leads R R spices_rows ((λ e g. (loses k.played (view e.scene.state) g, tt)), tt)
-      (λ e g. g) d h
+  toll_kept d h = search effects depth 12
 
   -- the bridge breaks
   broken_kept : (end : ℕ) (p : Scene) → On R p.state
       → On P (after_all break_bridge (deed cave end p)).scene.state
   unfolding break_bridge
   broken_kept end p h =
-      let w = k.played in let bear = the name.Bear in
+      let bear = the name.Bear in
       let e = set_prop bear BEAR_DEAD (fix bear (move bear far_end
       (set_prop (the name.Troll) TROLL_FLED
       (set_prop (the name.Chasm) CHASM_UNBRIDGED (say role.BridgeFalls (deed cave end p)))))) in
-      falling_kept k end (by_table spices_rows e).scene
-      (spices_kept e (prop w _ _ _ (hold w _ _ _ (place w _ _ _ (prop w _ _ _ (prop w _ _ _ h))))))
+      let g : On R e.scene.state = search effects depth 9 in
+      let l : On R (lose_one e).scene.state = search effects in
+      choose (λ (f : Deed ℕ). On P (fall far_end f).scene.state)
+      (has_prop_up_to e.scene.state (thing cave name.Spices) UNSEEN) (lose_one e) e
+      (λ _. falling_kept k end (lose_one e).scene l) (λ _. falling_kept k end e.scene g)
+
+  -- a player whom the troll lets pass crosses
+  over_kept : (end : ℕ) (p : Scene) → On R p.state
+      → On P (first_fitting_or cross_rows (nothing_but here) (deed cave end p)).scene.state
+  unfolding cross_rows
+  over_kept end p h =
+      guarded (λ (a : Act ℕ). On P a.scene.state) (nothing_but here) (deed cave end p) cross_rows (
+        (λ _. h.holds),
+        λ _. ((λ _. broken_kept end p h), λ never. absurd (true≢false never)),
+      )
 
   crossed_kept : (end : ℕ) (p : Scene) → On R p.state → On P (cross (deed cave end p)).scene.state
-  unfolding cross cross_rows pass_rows
+  unfolding cross
   crossed_kept end p h =
-      let e = by_table pass_rows (deed cave end p) in
-      let passed =
-      table_leads R R pass_rows ((λ f g. (prop k.played _ _ _ g, tt)), tt) (λ f g. g)
-      (deed cave end p) h in
-      guarded (λ (a : Act ℕ). On P a.scene.state) (nothing_but here) e cross_rows (
-        (λ _. passed.holds),
-        λ _. ((λ _. broken_kept end e.scene passed), λ never. absurd (true≢false never)),
-      )
+      let d = deed cave end p in let e = set_prop (the name.Troll) TROLL_RETURNING d in
+      choose
+      (λ (f : Deed ℕ). On P (first_fitting_or cross_rows (nothing_but here) f).scene.state)
+      (has_prop p.state (thing cave name.Troll) TROLL_CALM) e d
+      (λ _. over_kept end e.scene (propped k _ _ h)) (λ _. over_kept end p h)
 
   bridged_kept : (p : Scene) → On R p.state → On P (cross_bridge (deed cave tt p)).scene.state
   unfolding cross_bridge bridge_rows
@@ -148,10 +149,7 @@ module _ {cave : CaveView} {Here : ℕ → Type 0} {P : Claim} (k : IsKept cave 
   refused_kept : (motion : ℕ) (p : Scene) → On R p.state
       → On R (after_refusal cave motion p).state
   unfolding refusal_rows
-  refused_kept motion p h =
-      table_leads R R refusal_rows (still, (still, (still, (still, (still, (still, tt))))))
-      (λ e g. g)
-      (deed cave motion p) h
+  refused_kept motion p h = quiet R refusal_rows (search parts 20) (deed cave motion p) h
 
   led_kept : (motion : ℕ) (o : Outcome) (p : Scene) → On R p.state
       → On P (journey_of_outcome cave motion o p).scene.state
@@ -206,16 +204,15 @@ module _ {cave : CaveView} {Here : ℕ → Type 0} {P : Claim} (k : IsKept cave 
   looking_round_kept d h =
       let e = by_table enough_rows d in
       let s = e.scene.state in let place = s.trail.here in
-      let g = table_leads R R enough_rows (still, tt) (λ f g. g) d h in
-      chosen R (place == 0) s (record s { visits = slice_set s.visits (place - 1) 0 }) g g
+      let g = quiet R enough_rows (search parts 20) d h in
+      state_chosen k (place == 0) s (record s { visits = slice_set s.visits (place - 1) 0 }) g g
 
   own_kept : (d : Deed ℕ) → On R d.scene.state → On R (own_motion d).scene.state
   unfolding own_motion own_motion_rows go_back back_rows state_after_set_out
   own_kept d h =
-      (first_leads R R Any own_motion_rows go_back
-      (still, ((λ e g. (looking_round_kept e g, tt)), (still, (still, tt))))
-      (λ e g. first_leads R R Any back_rows (nothing_but that_motion)
-      (still, (still, (still, (still, tt)))) still e g) d h).0
+      (first_leads R R Any own_motion_rows go_back (search looking_round_kept parts 20)
+      (λ e g. first_leads R R Any back_rows (nothing_but that_motion) (search parts 20) still e g)
+      d h).0
 
   -- the player travels by a motion, or arrives again
   gone_by_kept : (o : Option ℕ) (p : Scene) → On R p.state

@@ -1,40 +1,41 @@
--- What only ever goes one way in a game, and in which order the cave closes.
-use Rattle.std.proofs.Common.{◌≡◌, ℕ, ◌≤◌, ℤ, negsuc, pos, zero, suc, Bool, false, true, List, []}
-use Rattle.std.proofs.Common.{◌∷◌, refl, sym, arith}
-use Rattle.std.proofs.lemmas.Bool.{true≢false}
-use Rattle.std.proofs.lemmas.Int.{ints}
-use Rattle.std.specs.Prelude.{◌-◌, int_lt, ◌-ℤ◌, min, slice_index_or, slice_set}
-use Rattle.std.specs.Ordering.{int_eq}
-use Rattle.cave_turn.specs.cave_data.CaveView.{CaveView}
-use Rattle.cave_turn.specs.cave_world.State.{starting_state, far_closing}
-use Rattle.cave_turn.specs.cave_world.declared.state.State.{State}
-use Rattle.cave_turn.specs.turn_begin.Begin.{begun_state}
+-- What only ever goes one way, in which order the cave closes, how the lamp's charge goes down, and
+-- what stays within bounds.
 use Rattle.cave_turn.specs.Turns.{start_of_game, turn_on_line}
-use Rattle.turn_laws.specs.Courses.{NothingGoesBack, ClosesInOrder, ClosedIsClosing}
-use Rattle.turn_laws.specs.Courses.{TreasuresGoOneWay}
-use Rattle.turn_laws.proofs.Rest.{IsRested, Rest, rest, rested}
-use Rattle.turn_laws.proofs.View.{Anywhere, view}
+use Rattle.cave_turn.specs.cave_world.State.{MAX_LOST, far_closing, full_lamp, starting_state}
+use Rattle.cave_turn.specs.turn_begin.Begin.{begun_state}
+use Rattle.cave_turn.specs.turn_things.Treasures.{is_known, known_treasures, treasures}
+use Rattle.turn_laws.specs.Courses.{ClosedIsClosing, ClosesInOrder, LampBurnsByOne, NothingGoesBack}
+use Rattle.turn_laws.specs.Courses.{TreasuresGoOneWay, burns, charge_after}
+use Rattle.turn_laws.specs.Laws.{LampBurnsDown}
+use Rattle.turn_laws.specs.Reachable.{IsBounded, StaysBounded}
+use Rattle.turn_laws.proofs.Lines.{lasting, turned}
+use Rattle.turn_laws.proofs.View.{Bands, Begins, Buries, Burns, Claim, Counts, Finds, Hints}
+use Rattle.turn_laws.proofs.View.{IsChargeAfter, Keeps, Leaves, Line, Loses, Panics, Passes, Pays}
+use Rattle.turn_laws.proofs.View.{Revives, Shortens, Shuts, Ticks, burnt, left_of, line_of}
+use Rattle.turn_laws.proofs.Words.{Bool, CaveView, List, State, [], ap, arith, count_by-le-length}
+use Rattle.turn_laws.proofs.Words.{false, inl, inr, int_eq, int_lt, int_min, ints, length}
+use Rattle.turn_laws.proofs.Words.{length-filter, negsuc, pos, refl, slice_index_or, slice_set}
+use Rattle.turn_laws.proofs.Words.{subst, suc, sym, true, true≢false, zero, ℕ, ℤ, ◌-ℤ◌, ◌-◌, ◌<◌}
+use Rattle.turn_laws.proofs.Words.{◌∙◌, ◌∷◌, ◌≡◌, ◌≤ℤ◌, ◌≤◌, ◌⊎◌}
 
--- what only ever goes one way
-record Course : Type 0 where
-  hints : List Bool
-  unseen : ℕ
-  lost : ℕ
-  anger : ℕ
+-- a cave that is closing or closed stays so, and so does a hint that was taken
+abbrev Closing : Claim
+Closing v = v.closing.is_closing ≡ true
 
--- a course has gone on: hints stay taken, no more treasures are unseen, no fewer lost, and the
--- dwarves are as angry, but for what passes the most that is counted
-record IsLater (a b : Course) : Type 0 where
-  hints : (h : ℕ) → slice_index_or a.hints h false ≡ true → slice_index_or b.hints h false ≡ true
-  unseen : b.unseen ≤ a.unseen
-  lost : min a.lost 60000 ≤ b.lost
-  anger : min a.anger 13 ≤ b.anger
+closing_kept : (cave : CaveView) (l : Line) → Keeps cave l Closing Closing
+closing_kept cave l Begins v is h = refl
+closing_kept cave l _ v is h = h
 
-abbrev course : Rest → Course
-course r =
-    record { hints = r.hints; unseen = r.unseen; lost = r.lost; anger = r.band.anger }
+abbrev Closed : Claim
+Closed v = v.closing.is_closed ≡ true
 
--- a hint stays taken where another is
+closed_kept : (cave : CaveView) (l : Line) → Keeps cave l Closed Closed
+closed_kept cave l Shuts v is h = refl
+closed_kept cave l _ v is h = h
+
+abbrev Taken : ℕ → Claim
+Taken hint v = slice_index_or v.hints hint false ≡ true
+
 still_taken : (xs : List Bool) (h i : ℕ) → slice_index_or xs h false ≡ true
     → slice_index_or (slice_set xs i true) h false ≡ true
 still_taken [] h i taken = taken
@@ -43,121 +44,67 @@ still_taken (x ∷ xs) zero (suc i) taken = taken
 still_taken (x ∷ xs) (suc h) zero taken = taken
 still_taken (x ∷ xs) (suc h) (suc i) taken = still_taken xs h i taken
 
--- a course goes on
-on : (a b : Course) → IsLater a b → (u l n : ℕ) → u ≤ b.unseen → min b.lost 60000 ≤ l
-    → min b.anger 13 ≤ n → IsLater a (record { hints = b.hints; unseen = u; lost = l; anger = n })
-on a b h u l n seen lost angry =
-    let one = h.unseen in let two = h.lost in let three = h.anger in
-    record {
-      hints = h.hints;
-      unseen = omega (arith, one, seen);
-      lost = omega (arith, two, lost);
-      anger = omega (arith, three, angry);
-    }
+taken_kept : (hint : ℕ) (cave : CaveView) (l : Line) → Keeps cave l (Taken hint) (Taken hint)
+taken_kept hint cave l (Hints i) v is h = still_taken v.hints hint i h
+taken_kept hint cave l _ v is h = h
 
-taken : (a b : Course) (i : ℕ) → IsLater a b
-    → IsLater a (record b { hints = slice_set b.hints i true })
-taken a b i h = record {
-  hints = λ j was. still_taken b.hints j i (h.hints j was);
-  unseen = h.unseen;
-  lost = h.lost;
-  anger = h.anger;
-}
+-- dwarves that are awake stay so
+abbrev Awake : Claim
+Awake v = 2 ≤ v.band.anger
 
--- nothing was taken back
-abbrev Onward : Rest → Rest → Type 0
-Onward a r =
-    (a.closing.is_closing ≡ true → r.closing.is_closing ≡ true)
-    × (a.closing.is_closed ≡ true → r.closing.is_closed ≡ true)
-    × IsLater (course a) (course r)
-
-onward_kept : (a : Rest) → IsRested Anywhere (Onward a)
-onward_kept a = record {
-  arrives = λ place some. tt;
-  objects = λ r c h. h;
-  takes = λ r xs few room h. h;
-  band = λ r here w at after h.
-      (h.0, h.1, on (course a) (course r) h.2 _ _ w.anger (omega arith) (omega arith) after.anger);
-  loses = λ r h.
-      (h.0, h.1, on (course a) (course r) h.2 _ _ _ (omega arith) (omega arith) (omega arith));
-  finds = λ r h.
-      (h.0, h.1, on (course a) (course r) h.2 _ _ _ (omega arith) (omega arith) (omega arith));
-  shortens = λ r more h.
-      (h.0, h.1, on (course a) (course r) h.2 _ _ _ (omega arith) (omega arith) (omega arith));
-  hints = λ r i h. (h.0, h.1, taken (course a) (course r) i h.2);
-  panics = λ r second how h. h;
-  counts = λ r going h. h;
-  begins = λ r h. ((λ _. refl), h.1, h.2);
-  ticks = λ r some h. h;
-  shuts = λ r stopped h. (h.0, (λ _. refl), h.2);
-}
-
--- a line takes nothing back
-onward_after : (cave : CaveView) (s : State) (line : List ℕ)
-    → Onward (rest (view s)) (rest (view (turn_on_line cave s line).state))
-onward_after cave s line =
-    rested (onward_kept (rest (view s))) (λ v c is h. h) cave s line (λ _. tt) (
-      (λ x. x),
-      (λ x. x),
-      record {
-        hints = λ h was. was;
-        unseen = omega arith;
-        lost = omega arith;
-        anger = omega arith;
-      },
-    )
+awake_kept : (cave : CaveView) (l : Line) → Keeps cave l Awake Awake
+awake_kept cave l (Bands w) v is h = let more = is.1.anger in omega (arith, h, more)
+awake_kept cave l _ v is h = h
 
 pub nothing_goes_back : NothingGoesBack
-nothing_goes_back cave s line =
-    let h = onward_after cave s line in let anger = h.2.anger in
-    record {
-      closing = h.0;
-      closed = h.1;
-      hints = λ hint. h.2.hints (hint - 1);
-      awake = λ awake. omega (arith, awake, anger);
-    }
+nothing_goes_back cave s line = record {
+  closing = lasting Closing closing_kept cave s line;
+  closed = lasting Closed closed_kept cave s line;
+  hints = λ hint. lasting (Taken (hint - 1)) (taken_kept (hint - 1)) cave s line;
+  awake = lasting Awake awake_kept cave s line;
+}
+
+-- so many treasures are unseen at most, and so many are lost at least
+abbrev Unseen : ℕ → Claim
+Unseen n v = v.tallies.unseen ≤ n
+
+unseen_kept : (n : ℕ) (cave : CaveView) (l : Line) → Keeps cave l (Unseen n) (Unseen n)
+unseen_kept n cave l Finds v is h = omega (arith, h)
+unseen_kept n cave l Shortens v is h = omega (arith, h)
+unseen_kept n cave l _ v is h = h
+
+abbrev Lost : ℕ → Claim
+Lost n v = n ≤ v.tallies.lost
+
+lost_kept : (n : ℕ) → n ≤ MAX_LOST → (cave : CaveView) (l : Line) → Keeps cave l (Lost n) (Lost n)
+lost_kept n few cave l Loses v is h = omega (arith, few, h)
+lost_kept n few cave l _ v is h = h
 
 pub treasures_go_one_way : TreasuresGoOneWay
 treasures_go_one_way cave s line =
-    let h = onward_after cave s line in let lost = h.2.lost in
-    record { unseen = h.2.unseen; lost = λ few. omega (arith, few, lost) }
+    let unseen = s.tallies.unseen in let lost = s.tallies.lost in
+    record {
+      unseen = lasting (Unseen unseen) (unseen_kept unseen) cave s line (omega arith);
+      lost = λ few. lasting (Lost lost) (lost_kept lost few) cave s line (omega arith);
+    }
 
 -- a closed cave, or one whose first clock has stopped, is closing
-abbrev InOrder : Rest → Type 0
-InOrder r =
-    (r.closing.is_closed ≡ true → r.closing.is_closing ≡ true)
-    × (r.closing.first_clock ≡ negsuc 0 → r.closing.is_closing ≡ true)
+abbrev InOrder : Claim
+InOrder v = (Closed v → Closing v) × (v.closing.first_clock ≡ negsuc 0 → Closing v)
 
 -- a clock that was above 0 doesn't stop by going down
 not_stopped : (n : ℤ) → int_lt (pos 0) n ≡ true → n -ℤ pos 1 ≡ negsuc 0 → ⊥
 not_stopped n above stopped = omega (arith, ints, above, stopped)
 
-order_kept : IsRested Anywhere InOrder
-order_kept = record {
-  arrives = λ place some. tt;
-  objects = λ r c h. h;
-  takes = λ r xs few room h. h;
-  band = λ r here w at after h. h;
-  loses = λ r h. h;
-  finds = λ r h. h;
-  shortens = λ r more h. h;
-  hints = λ r i h. h;
-  panics = λ r second how h. h;
-  counts = λ r going h.
-      (h.0, λ stopped. absurd (not_stopped r.closing.first_clock going stopped));
-  begins = λ r h. ((λ _. refl), λ _. refl);
-  ticks = λ r some h. h;
-  shuts = λ r stopped h. ((λ _. h.1 (int_same r.closing.first_clock stopped)), h.1);
-}
-  where
-    int_same : (n : ℤ) → int_eq n (negsuc 0) ≡ true → n ≡ negsuc 0
-    int_same n is = grind (arith, ints, is)
+int_same : (n : ℤ) → int_eq n (negsuc 0) ≡ true → n ≡ negsuc 0
+int_same n is = grind (arith, ints, is)
 
-order_after : (cave : CaveView) (s : State) (line : List ℕ) → ClosesInOrder s
-    → ClosesInOrder (turn_on_line cave s line).state
-order_after cave s line h =
-    let t = rested order_kept (λ v c is h. h) cave s line (λ _. tt) (h.closed, h.stopped) in
-    record { closed = t.0; stopped = t.1 }
+order_kept : (cave : CaveView) (l : Line) → Keeps cave l InOrder InOrder
+order_kept cave l Counts v is h =
+    (h.0, λ stopped. absurd (not_stopped v.closing.first_clock is stopped))
+order_kept cave l Begins v is h = ((λ _. refl), λ _. refl)
+order_kept cave l Shuts v is h = ((λ _. h.1 (int_same v.closing.first_clock is)), h.1)
+order_kept cave l _ v is h = h
 
 order_first : (cave : CaveView) (seed : ℕ) → ClosesInOrder (start_of_game cave seed).state
 unfolding start_of_game begun_state starting_state far_closing
@@ -168,4 +115,204 @@ order_first cave seed =
     }
 
 pub closed_is_closing : ClosedIsClosing
-closed_is_closing = record { start = order_first; kept = order_after }
+closed_is_closing = record {
+  start = order_first;
+  kept = λ cave s line h.
+      let t = lasting InOrder order_kept cave s line (h.closed, h.stopped) in
+      record { closed = t.0; stopped = t.1 };
+}
+
+-- what the lamp leaves of a charge is within its bounds
+burnt_after : (lit : Bool) (b : ℤ) → IsChargeAfter b (burnt lit b)
+burnt_after true b = record { least = grind (arith, ints); most = grind (arith, ints) }
+burnt_after false b = record { least = grind (arith, ints); most = grind (arith, ints) }
+
+out_after : (b : ℤ) → IsChargeAfter b (left_of b)
+out_after b = record { least = grind (arith, ints); most = grind (arith, ints) }
+
+both_after : (a b c : ℤ) → IsChargeAfter a b → IsChargeAfter b c → IsChargeAfter a c
+both_after a b c one two =
+    let least = one.least in let most = one.most in let low = two.least in let high = two.most in
+    record { least = grind (arith, ints); most = grind (arith, ints) }
+
+pub left_after : (l : Line) (b c : ℤ) → Leaves l (burnt l.is_lit b) c → IsChargeAfter b c
+left_after l b c (inl new) = both_after b (burnt l.is_lit b) c (burnt_after l.is_lit b) new.1
+left_after l b c (inr same) =
+    both_after b (burnt l.is_lit b) c (burnt_after l.is_lit b)
+    (subst (λ (x : ℤ). IsChargeAfter (burnt l.is_lit b) x) (sym same)
+    (out_after (burnt l.is_lit b)))
+
+-- the charge is at most what it was
+abbrev Least : ℤ → Claim
+Least a v = v.charge ≤ℤ a
+
+burns_least : (lit : Bool) (a b c : ℤ) → negsuc 0 ≤ℤ a → b ≤ℤ a → c ≡ left_of (burnt lit b)
+    → c ≤ℤ a
+burns_least true a b c low h is = grind (arith, ints, is, low, h)
+burns_least false a b c low h is = grind (arith, ints, is, low, h)
+
+least_kept : (a : ℤ) → negsuc 0 ≤ℤ a → (cave : CaveView) (l : Line) → l.is_paid ≡ false
+    → l.is_changed ≡ false → Keeps cave l (Least a) (Least a)
+least_kept a low cave l free same (Burns c) v (inl new) h = absurd (true≢false (sym new.0 ∙ same))
+least_kept a low cave l free same (Burns c) v (inr is) h =
+    burns_least l.is_lit a v.charge c low h is
+least_kept a low cave l free same (Pays c) v is h = absurd (true≢false (sym is.0 ∙ free))
+least_kept a low cave l free same Shortens v is h = grind (arith, ints, h)
+least_kept a low cave l free same _ v is h = h
+
+pub lamp_burns_down : LampBurnsDown
+lamp_burns_down cave s line low free same =
+    let a = s.lamp.charge in
+    turned cave (Least a) (Least a) s line
+    (least_kept a low cave (line_of cave s line) free same) (omega (arith, ints))
+
+-- the lamp has a charge, and no more treasures are unseen than were
+abbrev Level : ℤ → ℕ → Claim
+Level c n v = (v.charge ≡ c) × (v.tallies.unseen ≤ n)
+
+-- the lamp has a charge, or 35 at most once a treasure was found
+abbrev Ebbs : ℤ → ℕ → ℤ → ℕ → Type 0
+Ebbs c n charge unseen =
+    (unseen ≤ n) × ((charge ≡ c) ⊎ ((charge ≡ int_min c (pos 35)) × (unseen < n)))
+
+abbrev Ebb : ℤ → ℕ → Claim
+Ebb c n v = Ebbs c n v.charge v.tallies.unseen
+
+-- a treasure is found, and the charge may be 35 at most then
+ebb_found : (c : ℤ) (n a : ℕ) (charge : ℤ) → Ebbs c n charge a → Ebbs c n charge (a - 1)
+ebb_found c n a charge (few, inl same) = (omega (arith, few), inl same)
+ebb_found c n a charge (few, inr (short, less)) =
+    (omega (arith, few), inr (short, omega (arith, less)))
+
+ebb_short : (c : ℤ) (n a : ℕ) (charge : ℤ) → 2 ≤ a → Ebbs c n charge a
+    → Ebbs c n (int_min charge (pos 35)) (a - 1)
+ebb_short c n a charge more (few, inl same) = (
+  omega (arith, few, more),
+  inr (ap (λ (x : ℤ). int_min x (pos 35)) same, omega (arith, few, more)),
+)
+ebb_short c n a charge more (few, inr (short, found)) = (
+  omega (arith, few, more),
+  inr (
+    ap (λ (x : ℤ). int_min x (pos 35)) short ∙ once_short,
+    omega (arith, few, more),
+  ),
+)
+  where
+    once_short : int_min (int_min c (pos 35)) (pos 35) ≡ int_min c (pos 35)
+    once_short = grind (arith, ints)
+
+-- a turn is burnt of a charge above 0, or none is
+burnt_one : (lit : Bool) (b c : ℤ) → pos 1 ≤ℤ b → c ≡ left_of (burnt lit b)
+    → c ≡ charge_after lit b
+burnt_one true b c some is = grind (arith, ints, some, is)
+burnt_one false b c some is = grind (arith, ints, some, is)
+
+unburnt : (lit : Bool) (b : ℤ) → lit ≡ false → b ≡ charge_after lit b
+unburnt true b wrong = absurd (true≢false wrong)
+unburnt false b none = refl
+
+ebb_kept : (b : ℤ) (n : ℕ) → pos 1 ≤ℤ b → (cave : CaveView) (l : Line) → l.is_paid ≡ false
+    → l.is_changed ≡ false → Keeps cave l (Level b n) (Ebb (charge_after l.is_lit b) n)
+ebb_kept b n some cave l free same Passes v is h = (h.1, inl (h.0 ∙ unburnt l.is_lit b is))
+ebb_kept b n some cave l free same (Burns c) v (inl new) h =
+    absurd (true≢false (sym new.0 ∙ same))
+ebb_kept b n some cave l free same (Burns c) v (inr is) h = (
+  h.1,
+  inl (burnt_one l.is_lit b c some
+      (is ∙ ap (λ (x : ℤ). left_of (burnt l.is_lit x)) h.0)),
+)
+ebb_kept b n some cave l free same Revives v is h = (h.1, inl (h.0 ∙ unburnt l.is_lit b is.3))
+ebb_kept b n some cave l free same (Buries how) v is h =
+    (h.1, inl (h.0 ∙ unburnt l.is_lit b is.2))
+ebb_kept b n some cave l free same (Pays c) v is h = absurd (true≢false (sym is.0 ∙ free))
+ebb_kept b n some cave l free same Finds v is h =
+    ebb_found (charge_after l.is_lit b) n v.tallies.unseen v.charge h
+ebb_kept b n some cave l free same Shortens v is h =
+    ebb_short (charge_after l.is_lit b) n v.tallies.unseen v.charge is h
+ebb_kept b n some cave l free same _ v is h = h
+
+pub lamp_burns_by_one : LampBurnsByOne
+lamp_burns_by_one cave s line some free same =
+    let b = s.lamp.charge in let n = s.tallies.unseen in
+    (turned cave (Level b n) (Ebb (charge_after (burns cave s line) b) n) s line
+    (ebb_kept b n some cave (line_of cave s line) free same) (refl, omega arith)).1
+
+abbrev First : Claim
+First v = (negsuc 0 ≤ℤ v.closing.first_clock) × (v.closing.first_clock ≤ℤ pos 30)
+
+first_kept : (cave : CaveView) (l : Line) → Keeps cave l First First
+first_kept cave l Counts v is h =
+    let most = h.1 in (grind (arith, ints, is), omega (arith, ints, most))
+first_kept cave l Begins v is h = (omega (arith, ints), omega (arith, ints))
+first_kept cave l _ v is h = h
+
+abbrev Second : Claim
+Second v = (negsuc 0 ≤ℤ v.closing.second_clock) × (v.closing.second_clock ≤ℤ pos 50)
+
+second_kept : (cave : CaveView) (l : Line) → Keeps cave l Second Second
+second_kept cave l Ticks v is h =
+    let most = h.1 in (grind (arith, ints, is), omega (arith, ints, most))
+second_kept cave l (Panics second) v (inl same) h =
+    let least = h.0 in let most = h.1 in
+    (omega (arith, ints, same, least), omega (arith, ints, same, most))
+second_kept cave l (Panics second) v (inr new) h =
+    (omega (arith, ints, new), omega (arith, ints, new))
+second_kept cave l _ v is h = h
+
+abbrev Charged : Claim
+Charged v = (negsuc 0 ≤ℤ v.charge) × (v.charge ≤ℤ pos 100000)
+
+charged_as : (b c : ℤ) → IsChargeAfter b c → (negsuc 0 ≤ℤ b) × (b ≤ℤ pos 100000)
+    → (negsuc 0 ≤ℤ c) × (c ≤ℤ pos 100000)
+charged_as b c is h =
+    let least = is.least in let most = is.most in let old = h.0 in let high = h.1 in
+    (grind (arith, ints, least, old), grind (arith, ints, most, high))
+
+charged_kept : (cave : CaveView) (l : Line) → Keeps cave l Charged Charged
+charged_kept cave l (Burns c) v is h = charged_as v.charge c (left_after l v.charge c is) h
+charged_kept cave l (Pays c) v is h = charged_as v.charge c is.1 h
+charged_kept cave l Shortens v is h =
+    let least = h.0 in let most = h.1 in
+    (grind (arith, ints, least), grind (arith, ints, most))
+charged_kept cave l _ v is h = h
+
+abbrev Counted : Claim
+Counted v = (v.tallies.unseen ≤ 30) × (v.tallies.lost ≤ 60000)
+
+counted_kept : (cave : CaveView) (l : Line) → Keeps cave l Counted Counted
+counted_kept cave l Loses v is h = (h.0, omega arith)
+counted_kept cave l Finds v is h = let few = h.0 in (omega (arith, few), h.1)
+counted_kept cave l Shortens v is h = let few = h.0 in (omega (arith, few), h.1)
+counted_kept cave l _ v is h = h
+
+within_after : (cave : CaveView) (s : State) (line : List ℕ) → IsBounded s
+    → IsBounded (turn_on_line cave s line).state
+within_after cave s line h =
+    let counts = lasting Counted counted_kept cave s line (h.seen, h.gone) in
+    record {
+      first_clock = lasting First first_kept cave s line h.first_clock;
+      second_clock = lasting Second second_kept cave s line h.second_clock;
+      lamp = lasting Charged charged_kept cave s line h.lamp;
+      seen = counts.0;
+      gone = counts.1;
+    }
+
+-- no more treasures are known than there are
+known_few : (cave : CaveView) → length (known_treasures cave) ≤ 30
+unfolding known_treasures treasures
+known_few cave =
+    let known = length-filter (is_known cave) treasures in
+    let most = count_by-le-length (is_known cave) treasures in omega (arith, known, most)
+
+within_first : (cave : CaveView) (seed : ℕ) → IsBounded (start_of_game cave seed).state
+unfolding start_of_game begun_state starting_state far_closing full_lamp
+within_first cave seed = record {
+  first_clock = (omega (arith, ints), omega (arith, ints));
+  second_clock = (omega (arith, ints), omega (arith, ints));
+  lamp = (omega (arith, ints), omega (arith, ints));
+  seen = known_few cave;
+  gone = omega arith;
+}
+
+pub stays_bounded : StaysBounded
+stays_bounded = record { start = within_first; kept = within_after }

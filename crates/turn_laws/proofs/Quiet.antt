@@ -1,20 +1,14 @@
 -- Lines that change nothing, and lines that are turns.
-use Rattle.std.proofs.Common.{◌≡◌, ℕ, Bool, false, true, List, refl, sym, ap, ◌∙◌}
-use Rattle.std.proofs.lemmas.Bool.{true≢false}
-use Rattle.std.specs.Prelude.{◌&&◌, ◌||◌, not, Option, None, Some, is_some, if◌then◌else◌}
-use Rattle.cave_turn.specs.cave_data.CaveView.{CaveView}
-use Rattle.cave_turn.specs.base_lines.LogLine.{IsSeedLine, IsLogLine, log_line}
 use Rattle.base_lines.proofs.LogLines.{IsLogLine-log_line, log_line-only}
-use Rattle.cave_turn.specs.base_lines.declared.log_line.LogLine.{LogLine}
+use Rattle.cave_turn.specs.Turns.{silent_turn, turn_on_line, with_seed}
+use Rattle.cave_turn.specs.base_lines.LogLine.{IsLogLine, IsSeedLine}
 use Rattle.cave_turn.specs.base_lines.declared.log_line.LogLine.TheVariants as kind
-use Rattle.cave_turn.specs.cave_world.declared.ending.Ending.{Ending}
-use Rattle.cave_turn.specs.cave_world.declared.ending.Question.{Question}
-use Rattle.cave_turn.specs.cave_world.declared.state.State.{State}
-use Rattle.cave_turn.specs.turn_ends.Questions.{is_dragon}
-use Rattle.cave_turn.specs.Answers.{answer_in, is_yes, answers}
-use Rattle.cave_turn.specs.Turns.{Turn, turn_on_line, turn_on_log_line, turn_of_input, with_seed}
-use Rattle.cave_turn.specs.Turns.{silent_turn}
 use Rattle.turn_laws.specs.Laws.{HasEnded, IsQuiet, is_command, is_input_kind, is_no_answer}
+use Rattle.turn_laws.proofs.Lines.{leaves_is}
+use Rattle.turn_laws.proofs.Words.{Bool, CaveView, Ending, List, LogLine, None, Option, Question}
+use Rattle.turn_laws.proofs.Words.{Some, State, Turn, answer_in, answers, ap, false, if◌then◌else◌}
+use Rattle.turn_laws.proofs.Words.{is_dragon, is_some, is_yes, log_line, not, refl, sym, true}
+use Rattle.turn_laws.proofs.Words.{true≢false, turn_of_input, turn_on_log_line, ℕ, ◌&&◌, ◌∙◌, ◌≡◌}
 
 -- after the end input is quiet
 quiet_played : (cave : CaveView) (line : List ℕ) (e : Option Ending) (q : Option Question)
@@ -36,8 +30,7 @@ quiet_as cave line (kind.Seed seed) s h is =
       says_nothing = refl;
       no_turn = refl;
       same = refl;
-      same_stream =
-          λ no. absurd (no seed is);
+      same_stream = λ no. absurd (no seed is);
     }
 quiet_as cave line kind.Input s h is = quiet_played cave line s.ending s.question s h
 
@@ -59,11 +52,6 @@ ticks_if : (b : Bool) (x y : Turn) → x.ticked ≡ false → y.ticked ≡ true
     → (if b then x else y).ticked ≡ not b
 ticks_if true x y silence turn = silence
 ticks_if false x y silence turn = turn
-
--- what answers a question is what doesn't leave it
-leaves_is : (a b : Bool) → not (not a || b) ≡ a && not b
-leaves_is true b = refl
-leaves_is false b = refl
 
 -- input is a turn where it is a command
 ticks_played : (cave : CaveView) (line : List ℕ) (e : Option Ending) (q : Option Question)

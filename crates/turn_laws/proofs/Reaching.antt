@@ -1,20 +1,17 @@
 -- What holds as a game begins and is kept by each line holds of each state that a game comes to.
-use Rattle.std.proofs.Common.{ℕ, List, [], ◌∷◌, subst}
-use Rattle.cave_turn.specs.cave_data.CaveView.{CaveView}
-use Rattle.cave_turn.specs.cave_world.declared.state.State.{State}
 use Rattle.cave_turn.specs.Turns.{start_of_game, turn_on_line}
 use Rattle.turn_score.proofs.Most.{score_within}
-use Rattle.turn_laws.specs.DwarfLaws.{HasFewDwarves}
 use Rattle.turn_laws.specs.Courses.{ClosesInOrder, IsAskedInTime}
+use Rattle.turn_laws.specs.DwarfLaws.{HasFewDwarves}
 use Rattle.turn_laws.specs.Laws.{HasFewDeaths, IsSomewhere}
 use Rattle.turn_laws.specs.ObjectLaws.{CarriesFew}
-use Rattle.turn_laws.specs.Reachable.{AsksOrEnds, HasPlaces, IsBounded, IsReachable}
+use Rattle.turn_laws.specs.Reachable.{AsksOrEnds, HasPlaces, IsBounded, IsOpenKnown, IsReachable}
 use Rattle.turn_laws.specs.Reachable.{ReachableIsLawful, after_lines}
-use Rattle.turn_laws.proofs.Bounds.{stays_bounded}
 use Rattle.turn_laws.proofs.Counts.{few_carried, few_dwarves}
-use Rattle.turn_laws.proofs.Deaths.{few_deaths, never_both, player_is_somewhere}
-use Rattle.turn_laws.proofs.Dying.{asked_in_time}
-use Rattle.turn_laws.proofs.Onward.{closed_is_closing}
+use Rattle.turn_laws.proofs.Deaths.{asked_in_time, few_deaths, hints_are_known, never_both}
+use Rattle.turn_laws.proofs.Deaths.{player_is_somewhere}
+use Rattle.turn_laws.proofs.Onward.{closed_is_closing, stays_bounded}
+use Rattle.turn_laws.proofs.Words.{CaveView, List, State, [], subst, ℕ, ◌∷◌}
 
 -- it holds after lines, one after another
 led : (cave : CaveView) (Q : State → Type 0)
@@ -51,6 +48,8 @@ reachable_is_lawful cave s is = record {
       (closed_is_closing.kept cave) s is;
   asked = reached cave IsAskedInTime (asked_in_time.start cave) (asked_in_time.kept cave) s is;
   either = reached cave AsksOrEnds (never_both.start cave) (never_both.kept cave) s is;
+  hint = reached cave (λ t. IsOpenKnown cave t.question) (hints_are_known.start cave)
+      (hints_are_known.kept cave) s is;
   bounds = reached cave IsBounded (stays_bounded.start cave) (stays_bounded.kept cave) s is;
   score = score_within cave s;
   place = λ places. (placed cave s is places).0;

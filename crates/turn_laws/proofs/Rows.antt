@@ -1,11 +1,10 @@
 -- What rows make of a claim, by what their effects make of it.
-use Rattle.std.proofs.Common.{◌≡◌, Bool, true, false, List, [], ◌∷◌, refl, sym}
-use Rattle.std.proofs.lemmas.Bool.{true≢false}
-use Rattle.std.specs.Prelude.{◌&&◌, Option, None, Some}
-use Rattle.cave_turn.specs.turn_rules.Rows.{Deed, Act, Test, Row, all_hold, fits, after_drawing}
-use Rattle.cave_turn.specs.turn_rules.Rows.{after_trying_by, after_trying, after_all, act_of_row}
-use Rattle.cave_turn.specs.turn_rules.Rows.{first_fitting_or, by_table, nothing_but}
+use Rattle.cave_turn.specs.turn_rules.Rows.{Row, Test, act_of_row, after_trying, after_trying_by}
+use Rattle.cave_turn.specs.turn_rules.Rows.{fits}
 use Rattle.turn_laws.proofs.View.{Claim, On, choose}
+use Rattle.turn_laws.proofs.Words.{Act, Bool, Deed, List, None, Option, Some, [], after_all}
+use Rattle.turn_laws.proofs.Words.{after_drawing, all_hold, by_table, false, first_fitting_or}
+use Rattle.turn_laws.proofs.Words.{nothing_but, refl, sym, true, true≢false, ◌&&◌, ◌∷◌, ◌≡◌}
 
 -- a claim holds after an act, and what follows is of some kind
 abbrev pub Left : {F : Type 0} → Claim → (F → Type 0) → Act F → Type 0
@@ -58,6 +57,11 @@ pub table_leads : {C : Type 0} (Q P : Claim) (rows : List (Row C (Unit {0})))
 table_leads Q P rows k none d h =
     (first_leads Q P Any rows (nothing_but (λ e. tt)) k (λ e g. (none e g, tt)) d h).0
 
+-- a table after which a claim still holds
+pub quiet : {C : Type 0} (P : Claim) (rows : List (Row C (Unit {0}))) → LeadRows P P Any rows
+    → (d : Deed C) → On P d.scene.state → On P (by_table rows d).scene.state
+quiet P rows k d h = table_leads P P rows k (λ e g. g) d h
+
 -- it holds of each row where it fits and none before it does, and of what is done where none fits
 abbrev pub Guarded : {C F : Type 0} → (Act F → Type 0) → (Deed C → Act F) → Deed C
     → List (Row C F) → Type 0
@@ -73,6 +77,12 @@ guarded Q otherwise d (r ∷ rows) each =
     choose Q (fits r d) (act_of_row r (after_trying r d))
     (first_fitting_or rows otherwise (after_trying r d))
     each.0 (λ other. guarded Q otherwise (after_trying r d) rows (each.1 other))
+
+-- the same of a table of effects, and a claim
+pub by_guarded : {C : Type 0} (P : Claim) (d : Deed C) (rows : List (Row C (Unit {0})))
+    → Guarded (λ a. On P a.scene.state) (nothing_but (λ e. tt)) d rows
+    → On P (by_table rows d).scene.state
+by_guarded P d rows each = guarded (λ a. On P a.scene.state) (nothing_but (λ e. tt)) d rows each
 
 -- a test that is the only one of a row holds, or fails, as the row does
 pub holds_alone : (a : Bool) → (a && true) ≡ true → a ≡ true

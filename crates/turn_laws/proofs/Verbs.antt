@@ -1,56 +1,70 @@
--- What verbs do keeps each claim that what happens while the player stays keeps, and no verb asks
--- whether to come back from death.
-use Rattle.std.proofs.Common.{◌≡◌, ℕ, zero, suc, ◌≤◌, ℤ, Bool, true, false, List, [], ◌∷◌, refl}
-use Rattle.std.proofs.Common.{arith}
-use Rattle.std.specs.Prelude.{◌==◌, ◌&&◌, nat_le, drop, if◌then◌else◌, length}
-use Rattle.cave_turn.specs.cave_data.CaveView.{CaveView}
-use Rattle.cave_turn.specs.world_objects.Objects.{carried_objects, with_prop}
-use Rattle.cave_turn.specs.turn_things.Reach.{is_dwarf_here}
-use Rattle.cave_turn.specs.turn_scene.Scene.{Scene}
-use Rattle.cave_turn.specs.turn_rules.Rows.{Deed, Act, deed, after_drawing, nothing_but}
-use Rattle.cave_turn.specs.turn_rules.Tests.{dwarf}
-use Rattle.cave_turn.specs.verb_commands.Rows.{stays, going_on, first_fitting, VerbRow}
-use Rattle.cave_turn.specs.verb_commands.declared.next.Step.{Step}
-use Rattle.cave_turn.specs.verb_commands.declared.next.Step.TheVariants.{Done, GoOn}
-use Rattle.cave_turn.specs.verb_commands.declared.command.Command.{Command}
-use Rattle.cave_turn.specs.verb_commands.declared.verb.Verb.{Verb}
-use Rattle.cave_turn.specs.verb_commands.declared.verb.Verb.TheVariants as verb
-use Rattle.cave_turn.specs.cave_verbs.Acting.{bare_rows_of, object_act, act_bare, act_on, act_once}
-use Rattle.cave_turn.specs.cave_verbs.Acting.{act_within, act, next_of_step}
-use Rattle.cave_turn.specs.cave_verbs.Taking.{take_rows, take_freely_rows, bare_take_rows}
-use Rattle.cave_turn.specs.cave_verbs.Throwing.{strike, axe_rows, throw_rows}
+-- What verbs do keeps each claim that what happens in a game keeps, and no verb asks whether to
+-- come back from death, or about a hint.
+use Rattle.std.specs.Prelude.{take as first_of}
+use Rattle.cave_turn.specs.cave_verbs.Acting.{act, act_bare, act_on, act_once, act_within}
+use Rattle.cave_turn.specs.cave_verbs.Acting.{bare_rows_of, object_act}
 use Rattle.cave_turn.specs.cave_verbs.Blasting.{blast_rows}
 use Rattle.cave_turn.specs.cave_verbs.Breaking.{break_rows, wake_rows}
 use Rattle.cave_turn.specs.cave_verbs.Dropping.{drop_rows}
-use Rattle.cave_turn.specs.cave_verbs.Feeding.{feed_rows, eat_rows, bare_eat_rows}
-use Rattle.cave_turn.specs.cave_verbs.Finding.{find_rows, bare_inventory_rows}
-use Rattle.cave_turn.specs.cave_verbs.Killing.{kill_rows, bare_kill_rows}
-use Rattle.cave_turn.specs.cave_verbs.Light.{on_rows, off_rows}
-use Rattle.cave_turn.specs.cave_verbs.Opening.{open_rows, bare_open_rows, lock_rows, chain_rows}
-use Rattle.cave_turn.specs.cave_verbs.Pouring.{pour_rows, drink_rows, fill_rows, bare_fill_rows}
-use Rattle.cave_turn.specs.cave_verbs.Reading.{read_rows, bare_read_rows}
-use Rattle.cave_turn.specs.cave_verbs.Small.{other_rows, nothing_rows, bare_rows, bare_quit_rows}
-use Rattle.cave_turn.specs.cave_verbs.Small.{bare_score_rows, bare_brief_rows}
-use Rattle.cave_turn.specs.cave_verbs.Waving.{wave_rows, rub_rows}
+use Rattle.cave_turn.specs.cave_verbs.Feeding.{bare_eat_rows, eat_rows, feed_rows}
+use Rattle.cave_turn.specs.cave_verbs.Finding.{bare_inventory_rows, find_rows}
+use Rattle.cave_turn.specs.cave_verbs.Killing.{bare_kill_rows, kill_rows}
+use Rattle.cave_turn.specs.cave_verbs.Light.{off_rows, on_rows}
+use Rattle.cave_turn.specs.cave_verbs.Magic.{bare_foo_rows}
+use Rattle.cave_turn.specs.cave_verbs.Opening.{bare_open_rows, chain_rows, lock_rows, open_rows}
+use Rattle.cave_turn.specs.cave_verbs.Pouring.{bare_fill_rows, drink_rows, fill_rows, pour_rows}
+use Rattle.cave_turn.specs.cave_verbs.Reading.{bare_read_rows, read_rows}
+use Rattle.cave_turn.specs.cave_verbs.Small.{bare_brief_rows, bare_quit_rows, bare_rows}
+use Rattle.cave_turn.specs.cave_verbs.Small.{bare_score_rows, nothing_rows, other_rows}
+use Rattle.cave_turn.specs.cave_verbs.Taking.{bare_take_rows, take_freely_rows, take_rows}
+use Rattle.cave_turn.specs.cave_verbs.Throwing.{axe_rows, strike, throw_rows}
+use Rattle.cave_turn.specs.cave_verbs.Waving.{rub_rows, wave_rows}
+use Rattle.cave_turn.specs.turn_rules.Tests.{dwarf}
+use Rattle.cave_turn.specs.turn_things.Reach.{is_dwarf_here}
+use Rattle.cave_turn.specs.verb_commands.Rows.{VerbRow, first_fitting, going_on, stays}
+use Rattle.cave_turn.specs.verb_commands.declared.command.Command.{Command}
+use Rattle.cave_turn.specs.verb_commands.declared.next.Next.TheVariants.{Ask}
+use Rattle.cave_turn.specs.verb_commands.declared.next.Step.{Step}
+use Rattle.cave_turn.specs.verb_commands.declared.next.Step.TheVariants.{Done, GoOn}
+use Rattle.cave_turn.specs.world_objects.Objects.{after_carry, with_prop}
+use Rattle.cave_turn.specs.cave_world.declared.ending.Question.TheVariants as question
+use Rattle.cave_turn.specs.verb_commands.declared.verb.Verb.TheVariants as verb
+use Rattle.turn_laws.specs.Reachable.{IsKnown}
 use Rattle.turn_laws.proofs.Band.{struck}
-use Rattle.turn_laws.proofs.Effects.{banded, latest, hold, place, prop, say_default, troll_goes}
-use Rattle.turn_laws.proofs.Effects.{effects}
+use Rattle.turn_laws.proofs.Effects.{banded, effects, held, juggled, placed, propped, say_default}
+use Rattle.turn_laws.proofs.Effects.{shown, troll_goes}
 use Rattle.turn_laws.proofs.Hands.{room, room_still}
 use Rattle.turn_laws.proofs.Rows.{Guarded, LeadRows, Leads, Left, first_holds, first_leads, guarded}
 use Rattle.turn_laws.proofs.Rows.{second_holds}
-use Rattle.turn_laws.proofs.View.{Claim, IsPlayed, On, Ready, View, after_taking, choose, view}
-use Rattle.cave_turn.specs.cave_verbs.Magic.{bare_foo_rows}
-use Rattle.cave_turn.specs.turn_ends.Questions.{is_die}
-use Rattle.cave_turn.specs.verb_commands.declared.next.Next.{Next}
-use Rattle.cave_turn.specs.verb_commands.declared.next.Next.TheVariants.{Ask}
+use Rattle.turn_laws.proofs.View.{Band, Claim, HasRoom, IsKept, Line, On, Ready, Somewhere, Takes}
+use Rattle.turn_laws.proofs.View.{View, after_taking, choose, view}
+use Rattle.turn_laws.proofs.Words.{Act, Bool, CaveView, Closing, Deed, Ending, Layout, List, Next}
+use Rattle.turn_laws.proofs.Words.{Option, Question, Scene, Tallies, Verb, [], after_drawing, arith}
+use Rattle.turn_laws.proofs.Words.{carried_objects, deed, drop, false, if◌then◌else◌, is_die}
+use Rattle.turn_laws.proofs.Words.{length, nat_le, next_of_step, nothing_but, refl, suc, true}
+use Rattle.turn_laws.proofs.Words.{true≢false, zero, ℕ, ℤ, ◌&&◌, ◌==◌, ◌∷◌, ◌≡◌, ◌≤◌}
 
--- it is asked next whether to come back
-abbrev pub is_asking_die : Next → Bool
-is_asking_die (Ask q) = is_die q
-is_asking_die _ = false
+-- a question is whether to come back, or about a hint
+abbrev pub is_apart : Question → Bool
+is_apart question.Die = true
+is_apart (question.Hint hint) = true
+is_apart (question.Take hint) = true
+is_apart _ = false
+
+-- any other isn't, and asks nothing of the cave
+pub known : (cave : CaveView) (q : Question) → is_apart q ≡ false
+    → (is_die q ≡ false) × IsKnown cave q
+known cave question.Die other = absurd (true≢false other)
+known cave (question.Hint hint) other = absurd (true≢false other)
+known cave (question.Take hint) other = absurd (true≢false other)
+known cave _ other = (refl, tt)
+
+abbrev pub is_asking_apart : Next → Bool
+is_asking_apart (Ask q) = is_apart q
+is_asking_apart _ = false
 
 abbrev pub Spared : Step → Type 0
-Spared step = is_asking_die (next_of_step step) ≡ false
+Spared step = is_asking_apart (next_of_step step) ≡ false
 
 -- rows keep a claim while commands can follow
 abbrev pub KeepRows : (ℕ → Type 0) → Claim → List VerbRow → Type 0
@@ -58,7 +72,10 @@ KeepRows Here P rows = LeadRows (Ready Here P) (Ready Here P) Spared rows
 
 ruleset tables = (effects, refl)
 
-module _ {Here : ℕ → Type 0} {P : Claim} (k : IsPlayed Here P) where
+module _ {game : CaveView} {l : Line} {Q P : Claim} (k : IsKept game l Q P) where
+  abbrev Here : ℕ → Type 0
+  Here = Somewhere l
+
   abbrev Keep : (Deed Command → Act Step) → Type 0
   Keep f = Leads (Ready Here P) (Ready Here P) Spared f
 
@@ -67,83 +84,39 @@ module _ {Here : ℕ → Type 0} {P : Claim} (k : IsPlayed Here P) where
       first_leads (Ready Here P) (Ready Here P) Spared rows (nothing_but stays) each
       (λ e g. (g, refl)) d h
 
-  -- objects are taken where there is room for them
-  taken : (v : View) (xs : List ℕ) → length xs ≤ 2
-      → (nat_le 7 (length (carried_objects v.objects)) && true) ≡ false → Ready Here P v
-      → Ready Here P (record v { objects = after_taking xs v.objects })
-  taken v xs few free r =
-      record { holds = k.takes v xs few (room _ free) r.holds; calm = r.calm; at = r.at }
+  -- objects are taken where there is room for them, the cage by its bird that is tamed
+  abbrev Free : Layout → Type 0
+  Free o = (nat_le 7 (length (carried_objects o)) && true) ≡ false
 
-  freely_taken : (d : Deed Command)
-      → (nat_le 7 (length (carried_objects d.scene.state.objects)) && true) ≡ false
-      → On (Ready Here P) d.scene.state
-      → Guarded (Left (Ready Here P) Spared) (nothing_but stays) d take_freely_rows
-  unfolding take_freely_rows
-  freely_taken d free h =
-      let v = view d.scene.state in (
-        (λ _. (h, refl)),
-        λ _. (
-          (λ _. (h, refl)),
-          λ _. (
-            (λ _. (tamed v _ _ _ _ free h, refl)),
-            λ _. (
-              (λ _. (taken v (_ ∷ _ ∷ []) (omega arith) free h, refl)),
-              λ _. (
-                (λ _. (taken v (_ ∷ _ ∷ []) (omega arith) free h, refl)),
-                λ _. ((λ _. (taken v (_ ∷ []) (omega arith) free h, refl)), λ _. (h, refl)),
-              ),
-            ),
-          ),
-        ),
-      )
-    where
-      tamed : (v : View) (z x y : ℕ) (w : ℤ)
-          → (nat_le 7 (length (carried_objects v.objects)) && true) ≡ false → Ready Here P v
-          → Ready Here P (record v {
-            objects = after_taking (x ∷ y ∷ [])
-                (with_prop v.objects z w);
-          })
-      tamed v z x y w free r =
-          let u = record v { objects = with_prop v.objects z w } in
-          let t = prop k v z w r in
-          record {
-            holds = k.takes u (x ∷ y ∷ []) (omega arith)
-                (room_still v.objects z w (room _ free)) t.holds;
-            calm = r.calm;
-            at = r.at;
-          }
+  taken : (v : View) (xs : List ℕ) → length xs ≤ 2 → HasRoom v.objects → Ready Here P v
+      → Ready Here P (record v { objects = after_taking xs v.objects })
+  taken v xs few room r =
+      record { holds = k.keeps (Takes xs) v (few, room) r.holds; calm = r.calm; at = r.at }
+
+  module _ {n : ℕ} {o : Layout} {q : ℤ} {c : Closing} {t : Tallies} {b : Band} {h : List Bool}
+      {a : Option Question} {e : Option Ending} where
+    took : (x : ℕ) → Free o → Ready Here P (shown n o q c t b h a e)
+        → Ready Here P (shown n (after_carry o x) q c t b h a e)
+    took x free r = taken (shown n o q c t b h a e) (x ∷ []) (omega arith) (room _ free) r
+
+    took_both : (x y : ℕ) → Free o → Ready Here P (shown n o q c t b h a e)
+        → Ready Here P (shown n (after_carry (after_carry o x) y) q c t b h a e)
+    took_both x y free r =
+        taken (shown n o q c t b h a e) (x ∷ y ∷ []) (omega arith) (room _ free) r
+
+    tamed : (x y z : ℕ) (w : ℤ) → Free o → Ready Here P (shown n o q c t b h a e)
+        → Ready Here P (shown n (after_carry (after_carry (with_prop o z w) x) y) q c t b h a e)
+    tamed x y z w free r =
+        taken (shown n (with_prop o z w) q c t b h a e) (x ∷ y ∷ []) (omega arith)
+        (room_still o z w (room _ free)) (propped k z w r)
 
   taken_kept : Keep (first_fitting take_rows)
-  unfolding take_rows
+  unfolding take_rows take_freely_rows
   taken_kept d h =
-      guarded (Left (Ready Here P) Spared) (nothing_but stays) d take_rows (
-        (λ _. (say_default k d.cave _ d.scene h, refl)),
-        λ _. (
-          (λ _. (h, refl)),
-          λ _. (
-            (λ _. (h, refl)),
-            λ _. (
-              (λ _. (h, refl)),
-              λ _. (
-                (λ _. (h, refl)),
-                λ _. (
-                  (λ _. (h, refl)),
-                  λ _. (
-                    (λ _. (h, refl)),
-                    λ _. (
-                      (λ _. (h, refl)),
-                      λ _. (
-                        (λ _. (h, refl)),
-                        λ _. ((λ _. (h, refl)), λ free. freely_taken d free h),
-                      ),
-                    ),
-                  ),
-                ),
-              ),
-            ),
-          ),
-        ),
-      )
+      first_leads (Ready Here P) (Ready Here P) Spared (first_of 9 take_rows)
+      (first_fitting (drop 9 take_rows)) (search tables parts 60)
+      (λ e g. guarded (Left (Ready Here P) Spared) (nothing_but stays) e (drop 9 take_rows)
+      (search (tables, took, took_both, tamed) depth 30)) d h
 
   -- a dwarf that is here is struck
   struck_kept : (d : Deed Command) (rest : Bool) → (dwarf d && rest) ≡ true
@@ -160,15 +133,15 @@ module _ {Here : ℕ → Type 0} {P : Claim} (k : IsPlayed Here P) where
       → Guarded (Left (Ready Here P) Spared) (nothing_but stays) d (drop 1 axe_rows)
   unfolding axe_rows
   unmissed_kept d h = (
-    (λ fit. (place k _ _ _ (struck_kept d _ fit h), refl)),
+    (λ fit. (placed k _ _ (struck_kept d _ fit h), refl)),
     λ _. (
-      (λ fit. (place k _ _ _ (struck_kept d _ fit h), refl)),
+      (λ fit. (placed k _ _ (struck_kept d _ fit h), refl)),
       λ _. (
-        (λ _. (place k _ _ _ h, refl)),
+        (λ _. (placed k _ _ h, refl)),
         λ _. (
-          (λ _. (place k _ _ _ h, refl)),
+          (λ _. (placed k _ _ h, refl)),
           λ _. (
-            (λ _. (latest k _ _ (prop k _ _ _ (hold k _ _ _ (place k _ _ _ h))), refl)),
+            (λ _. (juggled k _ (propped k _ _ (held k _ _ (placed k _ _ h))), refl)),
             λ _. ((λ _. (h, refl)), λ _. (h, refl)),
           ),
         ),
@@ -188,12 +161,12 @@ module _ {Here : ℕ → Type 0} {P : Claim} (k : IsPlayed Here P) where
         λ _. (
           (λ _. (say_default k d.cave _ d.scene h, refl)),
           λ _. (
-            (λ _. (troll_goes k d.cave _ (place k _ _ _ h), refl)),
+            (λ _. (troll_goes k d.cave _ (placed k _ _ h), refl)),
             λ _. (
               (λ _. (h, refl)),
               λ _. (
                 (λ _. (h, refl)),
-                λ _. ((λ _. (place k _ _ _ held, refl)), λ _. unmissed_kept e held),
+                λ _. ((λ _. (placed k _ _ held, refl)), λ _. unmissed_kept e held),
               ),
             ),
           ),
@@ -206,33 +179,7 @@ module _ {Here : ℕ → Type 0} {P : Claim} (k : IsPlayed Here P) where
       bare_kill_rows bare_open_rows bare_quit_rows bare_read_rows bare_rows bare_score_rows
       bare_take_rows blast_rows drink_rows nothing_rows off_rows on_rows pour_rows
   bare_kept verb.Take = search tables parts 60
-  bare_kept verb.Drop = search tables parts 60
-  bare_kept verb.Open = search tables parts 60
-  bare_kept verb.Nothing = search tables parts 60
-  bare_kept verb.Lock = search tables parts 60
-  bare_kept verb.On = search tables parts 60
-  bare_kept verb.Off = search tables parts 60
-  bare_kept verb.Wave = search tables parts 60
-  bare_kept verb.Kill = search tables parts 60
-  bare_kept verb.Pour = search tables parts 60
-  bare_kept verb.Eat = search tables parts 60
-  bare_kept verb.Drink = search tables parts 60
-  bare_kept verb.Rub = search tables parts 60
-  bare_kept verb.Throw = search tables parts 60
-  bare_kept verb.Find = search tables parts 60
-  bare_kept verb.Inventory = search tables parts 60
-  bare_kept verb.Feed = search tables parts 60
-  bare_kept verb.Fill = search tables parts 60
-  bare_kept verb.Blast = search tables parts 60
-  bare_kept verb.Read = search tables parts 60
-  bare_kept verb.Break = search tables parts 60
-  bare_kept verb.Wake = search tables parts 60
-  bare_kept verb.Say = search tables parts 60
-  bare_kept verb.Calm = search tables parts 60
-  bare_kept verb.Quit = search tables parts 60
-  bare_kept verb.Score = search tables parts 60
-  bare_kept verb.Foo = search tables parts 60
-  bare_kept verb.Brief = search tables parts 60
+  bare_kept _ = search tables parts 60
 
   -- what verbs do to an object
   object_kept : (v : Verb) → Keep (object_act v)
@@ -261,12 +208,7 @@ module _ {Here : ℕ → Type 0} {P : Claim} (k : IsPlayed Here P) where
   object_kept verb.Read d h = by_rows read_rows (search tables parts 60) d h
   object_kept verb.Break d h = by_rows break_rows (search tables parts 60) d h
   object_kept verb.Wake d h = by_rows wake_rows (search tables parts 60) d h
-  object_kept verb.Say d h = by_rows other_rows (search tables parts 60) d h
-  object_kept verb.Calm d h = by_rows other_rows (search tables parts 60) d h
-  object_kept verb.Quit d h = by_rows other_rows (search tables parts 60) d h
-  object_kept verb.Score d h = by_rows other_rows (search tables parts 60) d h
-  object_kept verb.Foo d h = by_rows other_rows (search tables parts 60) d h
-  object_kept verb.Brief d h = by_rows other_rows (search tables parts 60) d h
+  object_kept _ d h = by_rows other_rows (search tables parts 60) d h
 
   -- a verb by its own rules
   once_kept : Keep act_once

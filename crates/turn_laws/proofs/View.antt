@@ -1,32 +1,24 @@
--- What laws speak of in a state, and what they allow to happen to it.
-use Rattle.std.proofs.Common.{◌≡◌, ℕ, ◌+◌, ◌<◌, ◌≤◌, ◌⊎◌, ℤ, pos, negsuc, ◌≤ℤ◌, Bool, false, true}
-use Rattle.std.proofs.Common.{List, [], ◌∷◌, refl}
-use Rattle.std.specs.Prelude.{◌==◌, ◌-◌, ◌-ℤ◌, ◌&&◌, Option, None, Some, int_lt, int_le, min}
-use Rattle.std.specs.Prelude.{nat_le, if◌then◌else◌, filter, length, map, slice_index_or, slice_set}
-use Rattle.std.specs.Prelude.{take}
-use Rattle.std.specs.Int.{int_max, int_min}
-use Rattle.std.specs.Ordering.{int_eq}
-use Rattle.cave_turn.specs.cave_data.CaveView.{CaveView}
-use Rattle.cave_turn.specs.data_rows.declared.place_role.PlaceRole.TheVariants as landmark
-use Rattle.cave_turn.specs.world_objects.Objects.{Layout, after_carry, after_juggle, after_move_to}
-use Rattle.cave_turn.specs.world_objects.Objects.{carried_objects, with_anchor, with_prop}
-use Rattle.cave_turn.specs.world_objects.declared.spot.Anchor.{Anchor}
-use Rattle.cave_turn.specs.cave_world.State.{no_dwarf}
-use Rattle.cave_turn.specs.cave_world.Limits.{MAX_LAMP_TURNS}
-use Rattle.cave_turn.specs.cave_world.declared.closing.Closing.{Closing}
-use Rattle.cave_turn.specs.cave_world.declared.dwarves.Dwarf.{Dwarf}
-use Rattle.cave_turn.specs.cave_world.declared.dwarves.Dwarves.{Dwarves}
-use Rattle.cave_turn.specs.cave_world.declared.ending.Ending.{Ending}
-use Rattle.cave_turn.specs.cave_world.declared.ending.Question.{Question}
-use Rattle.cave_turn.specs.cave_world.declared.ending.Question.TheVariants as question
-use Rattle.cave_turn.specs.cave_world.declared.state.State.{State}
-use Rattle.cave_turn.specs.cave_world.declared.state.Tallies.{Tallies}
-use Rattle.cave_turn.specs.turn_things.Homes.{home}
-use Rattle.cave_turn.specs.turn_things.Places.{outside_place, place_named}
-use Rattle.cave_turn.specs.turn_clocks.FirstClock.{dismissed_dwarf}
-use Rattle.cave_turn.specs.turn_ends.Questions.{is_die}
+-- What laws speak of in a state, and what happens to it in a game.
+use Rattle.std.specs.Int.{int_max}
+use Rattle.std.specs.Prelude.{int_le}
 use Rattle.cave_turn.specs.Dragon.{lair_from}
+use Rattle.cave_turn.specs.cave_world.declared.dwarves.Dwarves.{Dwarves}
+use Rattle.cave_turn.specs.world_objects.Objects.{after_carry, after_juggle, after_move_to}
+use Rattle.cave_turn.specs.world_objects.Objects.{with_anchor, with_prop}
+use Rattle.cave_turn.specs.data_rows.declared.place_role.PlaceRole.TheVariants as landmark
+use Rattle.cave_turn.specs.cave_world.declared.ending.Question.TheVariants as question
+use Rattle.turn_laws.specs.Courses.{burns}
 use Rattle.turn_laws.specs.DwarfLaws.{is_living}
+use Rattle.turn_laws.specs.Laws.{brings_batteries, is_command, pays}
+use Rattle.turn_laws.specs.Reachable.{IsKnown}
+use Rattle.turn_laws.proofs.Words.{Anchor, Bool, CaveView, Closing, Dwarf, Ending, Layout, List}
+use Rattle.turn_laws.proofs.Words.{MAX_LAMP_TURNS, None, Option, Question, Some, State, Tallies, []}
+use Rattle.turn_laws.proofs.Words.{ap, arith, building_place, carried_objects, dismissed_dwarf}
+use Rattle.turn_laws.proofs.Words.{false, filter, if◌then◌else◌, int_eq, int_lt, int_min, is_die}
+use Rattle.turn_laws.proofs.Words.{is_some, length, map, min, nat_le, nat_tests, negsuc, no_dwarf}
+use Rattle.turn_laws.proofs.Words.{outside_place, place_named, pos, refl, slice_index_or, slice_set}
+use Rattle.turn_laws.proofs.Words.{sym, take, true, true≢false, ℕ, ℤ, ◌&&◌, ◌+◌, ◌-ℤ◌, ◌-◌, ◌<◌}
+use Rattle.turn_laws.proofs.Words.{◌==◌, ◌∙◌, ◌∷◌, ◌≡◌, ◌≤ℤ◌, ◌≤◌, ◌⊎◌}
 
 -- the dwarves without their knife
 pub record Band : Type 0 where
@@ -84,9 +76,6 @@ pub record Ready (Here : ℕ → Type 0) (P : Claim) (v : View) : Type 0 where
   pub calm : IsCalm v
   pub at : Here v.here
 
-abbrev pub Always : View → Type 0
-Always v = Unit {0}
-
 -- at any place
 abbrev pub Anywhere : ℕ → Type 0
 Anywhere n = Unit {0}
@@ -134,6 +123,13 @@ pub record IsChargeAfter (a b : ℤ) : Type 0 where
   pub least : int_min a (negsuc 0) ≤ℤ b
   pub most : b ≤ℤ int_max a (pos MAX_LAMP_TURNS)
 
+-- what a turn burns of a charge, and a lamp that has burnt its last turn goes out
+abbrev pub burnt : Bool → ℤ → ℤ
+burnt lit c = if lit then int_max (c -ℤ pos 1) (negsuc 0) else c
+
+abbrev pub left_of : ℤ → ℤ
+left_of c = if int_eq c (pos 0) then negsuc 0 else c
+
 -- a place is one that a closing cave keeps the player from
 abbrev pub is_shut_off : CaveView → ℕ → View → Bool
 is_shut_off cave place v =
@@ -144,112 +140,216 @@ abbrev pub IsPut : CaveView → ℕ → View → Type 0
 IsPut cave place v =
     (place_named cave landmark.Ne ≡ Some place) ⊎ (place ≡ lair_from cave v.here)
 
--- a claim is kept where objects change
-abbrev pub Moves : Claim → Type 0
-Moves P = (v : View) (c : Change) → P v → P (record v { objects = after_change c v.objects })
+-- a line, as laws see it: where it finds the player, whether it is a command, and whether it pays a
+-- price, burns the lamp and brings batteries
+pub record Line : Type 0 where
+  pub here : ℕ
+  pub is_command : Bool
+  pub is_paid : Bool
+  pub is_lit : Bool
+  pub is_changed : Bool
 
--- a claim is kept by what happens while the player stays at a place
-pub record IsPlayed (Here : ℕ → Type 0) (P : Claim) : Type 0 where
-  pub objects : Moves P
-  -- two objects at most are taken
-  pub takes : (v : View) (xs : List ℕ) → length xs ≤ 2 → HasRoom v.objects → P v
-      → P (record v { objects = after_taking xs v.objects })
-  pub band : (v : View) (w : Band) → Here v.here → IsBandAfter v.here v.band w → P v
-      → P (record v { band = w })
-  -- one treasure more counts as lost
-  pub loses : (v : View) → P v
-      → P (record v { tallies = record v.tallies { lost = min (v.tallies.lost + 1) 60000 } })
+abbrev pub line_of : CaveView → State → List ℕ → Line
+line_of cave s line =
+    record {
+      here = s.trail.here;
+      is_command = is_command cave s line;
+      is_paid = pays cave line s.question;
+      is_lit = burns cave s line;
+      is_changed = brings_batteries cave s line;
+    }
+
+-- a command finds the player somewhere
+abbrev pub IsFound : Line → Type 0
+IsFound l = l.is_command ≡ true → 1 ≤ l.here
+
+-- the player is somewhere, if a command finds the player somewhere
+abbrev pub Somewhere : Line → ℕ → Type 0
+Somewhere l n = IsFound l → 1 ≤ n
+
+-- what the lamp leaves of a charge that has burnt: new batteries have more
+abbrev pub Leaves : Line → ℤ → ℤ → Type 0
+Leaves l b c = ((l.is_changed ≡ true) × IsChargeAfter b c) ⊎ (c ≡ left_of b)
+
+-- what happens, one thing after another
+pub data Event : Type 0 where
+  -- as a line begins: a question is answered, the clocks change objects, the first clock goes on,
+  -- the cave begins to close and the dwarves are gone, the second clock goes on, the cave is closed
+  Closes : Question → Event
+  Shifts : Change → Event
+  Counts Begins Ticks Shuts : Event
+  -- then, once: the lamp is passed over, or has a charge; or a player who died comes back, or not
+  Passes : Event
+  Burns : ℤ → Event
+  Revives : Event
+  Buries : Ending → Event
+  -- and then: objects change, two at most are taken, the dwarves act, a price is paid for a charge,
   -- a player who tries to get out panics
-  pub panics : (v : View) (second : ℤ) → (second ≡ v.closing.second_clock) ⊎ (second ≡ pos 15) → P v
-      → P (record v { closing = record v.closing { second_clock = second; is_panicking = true } })
+  Moves : Change → Event
+  Takes : List ℕ → Event
+  Bands : Band → Event
+  Pays Panics : ℤ → Event
+  -- one treasure more counts as lost; one is found; one is, and those that are left can't all be,
+  -- so that the lamp burns 35 turns more at most; a hint is taken
+  Loses Finds Shortens : Event
+  Hints : ℕ → Event
+  -- the game ends; the player dies for good, at the same place or at none; is asked whether to come
+  -- back, or something else; comes to a place; is put at a place
+  Ends : Ending → Event
+  Kills : Ending → ℕ → Event
+  Dies : ℕ → Event
+  Asks : Question → Event
+  Comes Puts : ℕ → Event
 
--- a claim is kept by what happens in a game of a cave, where commands find the player at places of
--- some kind
-pub record IsKept (cave : CaveView) (Here : ℕ → Type 0) (P : Claim) : Type 0 where
-  pub played : IsPlayed Here P
-  -- the player comes to a place other than 0
-  pub arrives : (place : ℕ) → (place == 0) ≡ false → Here place
-  -- the game ends
-  pub ends : (how : Ending) (v : View) → IsCalm v → P v → P (record v { ending = Some how })
-  -- the player dies for good, at the same place or at none
-  pub kills : (how : Ending) (place : ℕ) (v : View) → IsCalm v → v.closing.is_closing ≡ true
-      → (place ≡ v.here) ⊎ (place ≡ 0) → P v
-      → P (record v {
-        here = place;
-        tallies = record v.tallies { deaths = min (v.tallies.deaths + 1) 3 };
-        ending = Some how;
-      })
-  -- the player is asked whether to come back
-  pub dies : (place : ℕ) (v : View) → IsCalm v → v.closing.is_closing ≡ false → P v
-      → P (record v { here = place; question = Some question.Die })
-  -- the player is asked something, but not whether to come back
-  pub asks : (a : Question) (v : View) → is_die a ≡ false → IsCalm v → P v
-      → P (record v { question = Some a })
-  -- the player comes to a place
-  pub comes : (place : ℕ) (v : View) → (place == 0) ≡ false → is_shut_off cave place v ≡ false
-      → P v → P (record v { here = place })
-  -- the player is put at a place
-  pub puts : (place : ℕ) (v : View) → (place == 0) ≡ false → IsPut cave place v → P v
-      → P (record v { here = place })
-  -- a treasure is found
-  pub finds : (v : View) → P v
-      → P (record v { tallies = record v.tallies { unseen = v.tallies.unseen - 1 } })
-  -- and those that are left can't all be: the lamp burns 35 turns more at most
-  pub shortens : (v : View) → 2 ≤ v.tallies.unseen → P v
-      → P (record v {
-        charge = int_min v.charge (pos 35);
-        tallies = record v.tallies { unseen = v.tallies.unseen - 1 };
-      })
-  -- a hint is taken
-  pub hints : (v : View) (i : ℕ) → P v → P (record v { hints = slice_set v.hints i true })
+abbrev pub after : CaveView → Event → View → View
+after cave (Closes a) v = record v { question = None }
+after cave (Shifts c) v = record v { objects = after_change c v.objects }
+after cave Counts v =
+    record v { closing = record v.closing { first_clock = v.closing.first_clock -ℤ pos 1 } }
+after cave Begins v =
+    record v {
+      closing = record v.closing { first_clock = negsuc 0; is_closing = true };
+      band = record v.band { each = map dismissed_dwarf v.band.each };
+    }
+after cave Ticks v =
+    record v { closing = record v.closing { second_clock = v.closing.second_clock -ℤ pos 1 } }
+after cave Shuts v = record v { closing = record v.closing { is_closed = true } }
+after cave Passes v = v
+after cave (Burns c) v = record v { charge = c }
+after cave Revives v =
+    record v {
+      here = building_place cave;
+      tallies = record v.tallies { deaths = min (v.tallies.deaths + 1) 3 };
+      question = None;
+    }
+after cave (Buries how) v =
+    record v {
+      tallies = record v.tallies { deaths = min (v.tallies.deaths + 1) 3 };
+      question = None;
+      ending = Some how;
+    }
+after cave (Moves c) v = record v { objects = after_change c v.objects }
+after cave (Takes xs) v = record v { objects = after_taking xs v.objects }
+after cave (Bands w) v = record v { band = w }
+after cave (Pays c) v = record v { charge = c }
+after cave (Panics second) v =
+    record v { closing = record v.closing { second_clock = second; is_panicking = true } }
+after cave Loses v =
+    record v { tallies = record v.tallies { lost = min (v.tallies.lost + 1) 60000 } }
+after cave Finds v = record v { tallies = record v.tallies { unseen = v.tallies.unseen - 1 } }
+after cave Shortens v =
+    record v {
+      charge = int_min v.charge (pos 35);
+      tallies = record v.tallies { unseen = v.tallies.unseen - 1 };
+    }
+after cave (Hints i) v = record v { hints = slice_set v.hints i true }
+after cave (Ends how) v = record v { ending = Some how }
+after cave (Kills how place) v =
+    record v {
+      here = place;
+      tallies = record v.tallies { deaths = min (v.tallies.deaths + 1) 3 };
+      ending = Some how;
+    }
+after cave (Dies place) v = record v { here = place; question = Some question.Die }
+after cave (Asks a) v = record v { question = Some a }
+after cave (Comes place) v = record v { here = place }
+after cave (Puts place) v = record v { here = place }
 
--- a claim is kept by the clocks, which go where commands can follow
-pub record IsTimed (When : View → Type 0) (P : Claim) : Type 0 where
-  pub objects : Moves P
-  -- the first clock goes on
+-- where something happens in a line
+abbrev pub Can : CaveView → Line → Event → View → Type 0
+Can cave l (Closes a) v = (is_die a ≡ false) × (v.question ≡ Some a) × (v.ending ≡ None)
+Can cave l Counts v = int_lt (pos 0) v.closing.first_clock ≡ true
+Can cave l Begins v = IsCalm v
+Can cave l Ticks v = int_le (pos 0) v.closing.second_clock ≡ true
+Can cave l Shuts v = int_eq v.closing.first_clock (negsuc 0) ≡ true
+Can cave l Passes v = l.is_lit ≡ false
+Can cave l (Burns c) v = Leaves l (burnt l.is_lit v.charge) c
+Can cave l Revives v =
+    (nat_le 3 (min (v.tallies.deaths + 1) 3) ≡ false) × (v.question ≡ Some question.Die)
+    × (v.ending ≡ None) × (l.is_lit ≡ false)
+Can cave l (Buries how) v =
+    (v.question ≡ Some question.Die) × (v.ending ≡ None) × (l.is_lit ≡ false)
+Can cave l (Takes xs) v = (length xs ≤ 2) × HasRoom v.objects
+Can cave l (Bands w) v = Somewhere l v.here × IsBandAfter v.here v.band w
+Can cave l (Pays c) v = (l.is_paid ≡ true) × IsChargeAfter v.charge c
+Can cave l (Panics second) v = (second ≡ v.closing.second_clock) ⊎ (second ≡ pos 15)
+Can cave l Shortens v = 2 ≤ v.tallies.unseen
+Can cave l (Ends how) v = IsCalm v
+Can cave l (Kills how place) v =
+    IsCalm v × (v.closing.is_closing ≡ true) × ((place ≡ v.here) ⊎ (place ≡ 0))
+Can cave l (Dies place) v = IsCalm v × (v.closing.is_closing ≡ false)
+Can cave l (Asks a) v = (is_die a ≡ false) × IsCalm v × IsKnown cave a
+Can cave l (Comes place) v = ((place == 0) ≡ false) × (is_shut_off cave place v ≡ false)
+Can cave l (Puts place) v = ((place == 0) ≡ false) × IsPut cave place v
+Can cave l _ v = Unit {0}
+
+-- of two claims the one that holds before something happens, and the one that holds then: the first
+-- as a line begins, and the second once the lamp was passed
+abbrev pub claim_before : Claim → Claim → Event → Claim
+claim_before Q P (Closes a) = Q
+claim_before Q P (Shifts c) = Q
+claim_before Q P Counts = Q
+claim_before Q P Begins = Q
+claim_before Q P Ticks = Q
+claim_before Q P Shuts = Q
+claim_before Q P Passes = Q
+claim_before Q P (Burns c) = Q
+claim_before Q P Revives = Q
+claim_before Q P (Buries how) = Q
+claim_before Q P _ = P
+
+abbrev pub claim_after : Claim → Claim → Event → Claim
+claim_after Q P (Closes a) = Q
+claim_after Q P (Shifts c) = Q
+claim_after Q P Counts = Q
+claim_after Q P Begins = Q
+claim_after Q P Ticks = Q
+claim_after Q P Shuts = Q
+claim_after Q P _ = P
+
+-- whatever happens in a line leads from one claim to the other
+abbrev pub Keeps : CaveView → Line → Claim → Claim → Type 0
+Keeps cave l Q P =
+    (e : Event) (v : View) → Can cave l e v → claim_before Q P e v
+    → claim_after Q P e (after cave e v)
+
+pub record IsKept (cave : CaveView) (l : Line) (Q P : Claim) : Type 0 where
+  pub keeps : Keeps cave l Q P
+
+-- a claim is kept where objects change
+abbrev pub IsMoved : Claim → Type 0
+IsMoved P = (v : View) (c : Change) → P v → P (record v { objects = after_change c v.objects })
+
+-- it is kept by the clocks
+pub record IsTimed (P : Claim) : Type 0 where
+  pub objects : IsMoved P
   pub counts : (v : View) → int_lt (pos 0) v.closing.first_clock ≡ true → P v
       → P (record v { closing = record v.closing { first_clock = v.closing.first_clock -ℤ pos 1 } })
-  -- the cave begins to close, and the dwarves are gone
-  pub begins : (v : View) → When v → P v
+  pub begins : (v : View) → P v
       → P (record v {
         closing = record v.closing { first_clock = negsuc 0; is_closing = true };
         band = record v.band { each = map dismissed_dwarf v.band.each };
       })
-  -- the second clock goes on
   pub ticks : (v : View) → int_le (pos 0) v.closing.second_clock ≡ true → P v
       → P (record v {
         closing = record v.closing { second_clock = v.closing.second_clock -ℤ pos 1 };
       })
-  -- the cave is closed
   pub shuts : (v : View) → int_eq v.closing.first_clock (negsuc 0) ≡ true → P v
       → P (record v { closing = record v.closing { is_closed = true } })
 
--- a claim is kept by any charge that the lamp comes to have
-abbrev pub Charges : Claim → Type 0
-Charges P = (v : View) (c : ℤ) → IsChargeAfter v.charge c → P v → P (record v { charge = c })
+module _ {cave : CaveView} {l : Line} {Q P : Claim} (k : IsKept cave l Q P) where
+  pub timed : {Here : ℕ → Type 0} → IsTimed (Ready Here Q)
+  timed = record {
+    objects = λ v c r. record { holds = k.keeps (Shifts c) v tt r.holds; calm = r.calm; at = r.at };
+    counts = λ v is r. record { holds = k.keeps Counts v is r.holds; calm = r.calm; at = r.at };
+    begins = λ v r. record { holds = k.keeps Begins v r.calm r.holds; calm = r.calm; at = r.at };
+    ticks = λ v is r. record { holds = k.keeps Ticks v is r.holds; calm = r.calm; at = r.at };
+    shuts = λ v is r. record { holds = k.keeps Shuts v is r.holds; calm = r.calm; at = r.at };
+  }
 
--- where one claim holds at the start of a line, another is reached as the line begins
-pub record IsBegun (home : ℕ) (Q P : Claim) : Type 0 where
-  -- the other holds
-  pub leads : (v : View) → Q v → P v
-  -- a question is answered
-  pub closes : (a : Question) (v : View) → is_die a ≡ false → v.question ≡ Some a
-      → v.ending ≡ None → Q v → Q (record v { question = None })
-  -- the player is dead for good
-  pub buries : (how : Ending) (v : View) → v.question ≡ Some question.Die → v.ending ≡ None → Q v
-      → P (record v {
-        tallies = record v.tallies { deaths = min (v.tallies.deaths + 1) 3 };
-        question = None;
-        ending = Some how;
-      })
-  -- the player comes back
-  pub revives : (v : View) → nat_le 3 (min (v.tallies.deaths + 1) 3) ≡ false
-      → v.question ≡ Some question.Die → v.ending ≡ None → Q v
-      → P (record v {
-        here = home;
-        tallies = record v.tallies { deaths = min (v.tallies.deaths + 1) 3 };
-        question = None;
-      })
+  -- the lamp is passed over
+  pub led : {Here : ℕ → Type 0} (v : View) → l.is_lit ≡ false → Ready Here Q v → Ready Here P v
+  led v unlit r = record { holds = k.keeps Passes v unlit r.holds; calm = r.calm; at = r.at }
 
 -- what holds of either of two holds of the one that is chosen
 pub choose : {A : Type 0} (Q : A → Type 0) (b : Bool) (x y : A) → (b ≡ true → Q x)
@@ -257,3 +357,18 @@ pub choose : {A : Type 0} (Q : A → Type 0) (b : Bool) (x y : A) → (b ≡ tru
     → Q (if b then x else y)
 choose Q true x y f g = f refl
 choose Q false x y f g = g refl
+
+-- a place that isn't 0
+pub from_one : (n : ℕ) → (n == 0) ≡ false → 1 ≤ n
+from_one n some = grind (arith, nat_tests)
+
+pub some_place : (n : ℕ) → (n == 0) ≡ false → n ≡ 0 → ⊥
+some_place n some none = let more = from_one n some in omega (arith, more, none)
+
+-- no player is asked whether to come back where nothing is asked, or something else
+pub not_asked : {q : Option Question} → q ≡ None → q ≡ Some question.Die → ⊥
+not_asked none asked = true≢false (sym (ap is_some asked) ∙ ap is_some none)
+
+pub not_die : (a : Question) → is_die a ≡ false → Some a ≡ Some question.Die → ⊥
+not_die a other asked =
+    let same : a ≡ question.Die = cc in true≢false (sym (ap is_die same) ∙ other)

@@ -12,12 +12,11 @@ use Rattle.cave_turn.specs.cave_world.declared.ending.Question.TheVariants as qu
 use Rattle.cave_turn.specs.cave_world.declared.state.State.{State}
 use Rattle.cave_turn.specs.turn_things.Places.{building_place, start_place}
 use Rattle.cave_turn.specs.turn_scene.Scene.{Scene, scene_at_start, thing}
-use Rattle.cave_turn.specs.turn_clocks.FirstClock.{first_clock}
+use Rattle.cave_turn.specs.turn_clocks.Clocks.{both_clocks}
 use Rattle.cave_turn.specs.turn_clocks.Lamp.{burn, can_change_batteries}
-use Rattle.cave_turn.specs.turn_clocks.Repository.{second_clock}
 use Rattle.cave_turn.specs.turn_rules.Rows.{deed, all_hold}
 use Rattle.cave_turn.specs.turn_ends.Questions.{is_dragon}
-use Rattle.cave_turn.specs.Answers.{answer_in, without_question, is_yes}
+use Rattle.cave_turn.specs.Answers.{answer_in, answers, without_question, is_yes}
 use Rattle.cave_turn.specs.Commands.{begin_command}
 use Rattle.cave_turn.specs.Turns.{Turn, turn_on_line, start_of_game, with_seed, silent_turn}
 
@@ -71,6 +70,12 @@ abbrev pub is_command : CaveView → State → List ℕ → Bool
 is_command cave s line =
     is_input line && not (is_some s.ending) && is_no_answer cave line s.question
 
+-- a line answers the question about the dragon only by yes: any other is a command
+abbrev pub DragonIsFoughtOrLeft : Type 0
+DragonIsFoughtOrLeft =
+    (cave : CaveView) (line : List ℕ)
+    → answers cave line question.Dragon ≡ is_yes (answer_in cave line)
+
 -- turns are counted for commands, and for nothing else
 abbrev pub CommandsTick : Type 0
 CommandsTick =
@@ -120,18 +125,13 @@ abbrev pub before_clocks : CaveView → State → Scene
 before_clocks cave s =
     let t = begin_command s in scene_at_start (dark cave (thing cave name.Lamp) t) t
 
--- the lamp isn't reached where the second clock closed the cave
-abbrev pub unless_closed : Option ℕ → Scene → Option Scene
-unless_closed None p = Some p
-unless_closed (Some place) p = None
+-- the lamp isn't reached where the clocks closed the cave
+abbrev pub unless_closed : Bool → Scene → Option Scene
+unless_closed closed p = if closed then None else Some p
 
--- the scene that the clocks leave to the lamp: after the first clock where it has the cave begin
--- to close, and else after the second
+-- the scene that the clocks leave to the lamp
 abbrev pub before_lamp : CaveView → Scene → Option Scene
-before_lamp cave p =
-    let first = first_clock (deed cave tt p) in
-    let second = second_clock (deed cave tt first.scene) in
-    if first.step then Some first.scene else unless_closed second.step second.scene
+before_lamp cave p = let a = both_clocks (deed cave tt p) in unless_closed a.step a.scene
 
 -- the lamp is reached, and its batteries are changed: they can be, once a turn is burnt
 abbrev pub is_changed : CaveView → Option Scene → Bool

@@ -1,6 +1,10 @@
 -- What holds of each state that a game comes to.
-use Rattle.std.specs.Prelude.{◌≡◌, ◌≤◌, ◌⊎◌, ℕ, ℤ, pos, negsuc, ◌≤ℤ◌, List, [], ◌∷◌, None}
+use Rattle.std.specs.Prelude.{◌≡◌, ◌≤◌, ◌⊎◌, ℕ, ℤ, pos, negsuc, ◌≤ℤ◌, true, List, [], ◌∷◌}
+use Rattle.std.specs.Prelude.{Option, None, Some, is_some}
+use Rattle.std.specs.FinMap as map
 use Rattle.cave_turn.specs.cave_data.CaveView.{CaveView}
+use Rattle.cave_turn.specs.cave_world.declared.ending.Question.{Question}
+use Rattle.cave_turn.specs.cave_world.declared.ending.Question.TheVariants as question
 use Rattle.cave_turn.specs.cave_world.declared.state.State.{State}
 use Rattle.cave_turn.specs.turn_things.Places.{building_place, start_place}
 use Rattle.cave_turn.specs.turn_score.Score.{score_of, max_score_of}
@@ -52,6 +56,24 @@ pub record NeverBoth : Type 0 where
       (cave : CaveView) (s : State) (line : List ℕ) → AsksOrEnds s
       → AsksOrEnds (turn_on_line cave s line).state
 
+-- a hint that a question is about is one that the cave has
+abbrev pub IsKnown : CaveView → Question → Type 0
+IsKnown cave (question.Hint hint) = is_some (map.get cave.hints hint) ≡ true
+IsKnown cave (question.Take hint) = is_some (map.get cave.hints hint) ≡ true
+IsKnown cave _ = Unit {0}
+
+abbrev pub IsOpenKnown : CaveView → Option Question → Type 0
+IsOpenKnown cave None = Unit {0}
+IsOpenKnown cave (Some asked) = IsKnown cave asked
+
+-- a game begins so, and each line keeps it so
+pub record HintsAreKnown : Type 0 where
+  pub start :
+      (cave : CaveView) (seed : ℕ) → IsOpenKnown cave (start_of_game cave seed).state.question
+  pub kept :
+      (cave : CaveView) (s : State) (line : List ℕ) → IsOpenKnown cave s.question
+      → IsOpenKnown cave (turn_on_line cave s line).state.question
+
 -- neither the place where a game begins nor that where the dead come back is place 0
 abbrev pub HasPlaces : CaveView → Type 0
 HasPlaces cave = (1 ≤ start_place cave) × (1 ≤ building_place cave)
@@ -63,6 +85,7 @@ pub record IsLawful (cave : CaveView) (s : State) : Type 0 where
   pub closing : ClosesInOrder s
   pub asked : IsAskedInTime s
   pub either : AsksOrEnds s
+  pub hint : IsOpenKnown cave s.question
   pub bounds : IsBounded s
   pub score : score_of cave s ≤ max_score_of cave
   pub place : HasPlaces cave → IsSomewhere s

@@ -7,38 +7,49 @@ pub mod dwarf_laws;
 pub mod object_laws;
 pub mod reachable;
 
-ghost use Rattle.turn_laws.specs.Laws.{CommandsTick, EndIsQuiet, FewDeaths, LampBurnsDown};
-ghost use Rattle.turn_laws.specs.Laws.{PlayerIsSomewhere, SeedsAlone};
+ghost use Rattle.turn_laws.specs.Laws.{CommandsTick, DragonIsFoughtOrLeft, EndIsQuiet, FewDeaths};
+ghost use Rattle.turn_laws.specs.Laws.{LampBurnsDown, PlayerIsSomewhere, SeedsAlone};
 
 /// After the end nothing is said, no turn passes, and nothing changes but the random stream at a
 /// seed line.
+#[tactic(auto, using(crate::proofs::Quiet::end_is_quiet))]
 pub fn end_is_quiet()
     ensures { EndIsQuiet }
 {}
 
 /// A seed line changes the random stream alone, says nothing and is no turn.
+#[tactic(auto, using(crate::proofs::Quiet::seeds_alone))]
 pub fn seeds_alone()
     ensures { SeedsAlone }
 {}
 
 /// A line is a turn exactly where it is a command.
+#[tactic(auto, using(crate::proofs::Quiet::commands_tick))]
 pub fn commands_tick()
     ensures { CommandsTick }
 {}
 
+/// A line answers the question about the dragon only by yes: any other is a command.
+pub fn dragon_is_fought_or_left()
+    ensures { DragonIsFoughtOrLeft }
+{}
+
 /// There are at most three deaths, and after the third the game has ended.
+#[tactic(auto, using(crate::proofs::Deaths::few_deaths))]
 pub fn few_deaths()
     ensures { FewDeaths }
 {}
 
 /// The player is at place 0 only where the game has ended, or where the player died and is asked
 /// whether to come back.
+#[tactic(auto, using(crate::proofs::Deaths::player_is_somewhere))]
 pub fn player_is_somewhere()
     ensures { PlayerIsSomewhere }
 {}
 
 /// A charge of at least -1 that the lamp has rises by nothing but the instructions, a hint and, in
 /// a command, new batteries.
+#[tactic(auto, using(crate::proofs::Onward::lamp_burns_down))]
 pub fn lamp_burns_down()
     ensures { LampBurnsDown }
 {}
