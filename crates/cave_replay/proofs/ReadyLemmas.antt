@@ -116,7 +116,7 @@ met_at_end revision checkpoints None next end end' same m =
 met_at_end revision checkpoints (Some index) next end end' same m = m
 
 abbrev full_meter : GroupFault
-full_meter = record { cause = MeterFull; number = 0 }
+full_meter = record { cause = MeterFull; at = 0 }
 
 alone_full : {S T : Type 0} (rules : MachineRules S T) (changes : List Change) (old : Game)
     (every before after : ℕ) (b : Bool)

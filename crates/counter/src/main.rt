@@ -23,7 +23,7 @@ fn edit(rt: &HostRuntime, session: &mut Session<Counter>, script: &Script) -> Re
                 println!(rt; "line {line}: from {from}, played {played}")?;
             }
             Err(fault) => {
-                let (line, cause) = (item.line_of(fault.number), fault.cause);
+                let (line, cause) = (item.line_of(fault.at), fault.cause);
                 println!(rt; "line {line}: {cause}")?;
             }
         }

@@ -67,7 +67,7 @@ pub IsReached-fault : (all : List Change) (log : List (List ℕ)) (change : Chan
     (rest : List Change) (number before : ℕ) (margins : Margins) (fault : EditFault)
     → (reached : IsReached all log (change ∷ rest) number before margins)
     → fault_of change reached.now ≡ Some fault
-    → fault_of_all all log 0 ≡ Some (record { cause = fault; number = number })
+    → fault_of_all all log 0 ≡ Some (record { cause = fault; at = number })
 IsReached-fault all log change rest number before margins fault reached found =
     sym reached.faults
     ∙ ap (λ f.

@@ -23,7 +23,7 @@ use Rattle.replay_edits.specs.Faults.{or_group_meter_full, group_fault, log_afte
 use Rattle.replay_edits.proofs.Groups.{first_is_free}
 
 abbrev full_meter : GroupFault
-full_meter = record { cause = MeterFull; number = 0 }
+full_meter = record { cause = MeterFull; at = 0 }
 
 -- where a choice gives no fault, the test failed and the rest gives none
 free_choice : (b : Bool) (fault : EditFault) (rest : Option EditFault)

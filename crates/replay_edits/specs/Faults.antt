@@ -33,7 +33,7 @@ fault_of (reseeds seed) log = if nat_lt MAX_SEED seed then Some BadSeed else Non
 
 -- a fault, with the number of the change that met it, or else the fault of a later one
 abbrev pub first_of_two : Option EditFault → ℕ → Option GroupFault → Option GroupFault
-first_of_two (Some cause) number later = Some (record { cause = cause; number = number })
+first_of_two (Some cause) number later = Some (record { cause = cause; at = number })
 first_of_two None number later = later
 
 -- the first fault that one of several changes meets in the log as those before it left it; they are
@@ -52,11 +52,11 @@ log_after_all (change ∷ changes) log = log_after_all changes (log_after change
 abbrev pub or_group_meter_full : Option GroupFault → List (List ℕ) → ℕ → Option GroupFault
 or_group_meter_full (Some fault) log left = Some fault
 or_group_meter_full None log left =
-    if nat_lt left (length log) then Some (record { cause = MeterFull; number = 0 }) else None
+    if nat_lt left (length log) then Some (record { cause = MeterFull; at = 0 }) else None
 
 -- the fault of a group of changes of a log where the meter has so many steps left, memory aside
 abbrev pub group_fault : List Change → List (List ℕ) → ℕ → Option GroupFault
-group_fault [] log left = Some (record { cause = EmptyGroup; number = 0 })
+group_fault [] log left = Some (record { cause = EmptyGroup; at = 0 })
 group_fault (change ∷ changes) log left =
     or_group_meter_full (fault_of_all (change ∷ changes) log 0)
     (log_after_all (change ∷ changes) log)
@@ -69,7 +69,7 @@ IsFaultOr memory fault result =
 
 -- a group of edits is refused for this fault, if there is one
 abbrev pub IsAnswerTo : {A : Type 0} → Option GroupFault → Result A GroupFault → Type 0
-IsAnswerTo fault result = IsFaultOr (record { cause = Memory; number = 0 }) fault result
+IsAnswerTo fault result = IsFaultOr (record { cause = Memory; at = 0 }) fault result
 
 -- Changes take others back that were made in the game `old`: they are the inverses of these, meet
 -- no fault in the game `new`, and give the old one.

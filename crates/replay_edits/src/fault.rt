@@ -24,20 +24,20 @@ pub enum EditFault {
     EmptyGroup,
 }
 
-/// Why a group of edits was refused, and which of its edits, from 0, met that. The number is 0
-/// where none is to blame.
+/// Why a group of edits was refused, and at which of its edits, counted from 0; 0 where none is to
+/// blame.
 #[derive(Clone, Copy, Debug, Drop, PartialEq, Eq)]
 pub struct GroupFault {
     pub cause: EditFault,
-    pub number: usize,
+    pub at: usize,
 }
 
 impl fmt::Display for GroupFault {
     fn fmt<W: fmt::Write>(&self, f: &mut fmt::Formatter<W>) -> fmt::Result {
-        let GroupFault { cause, number } = *self;
+        let GroupFault { cause, at } = *self;
         match cause {
             EditFault::NoSuchPlace | EditFault::BadLine | EditFault::LogFull | EditFault::BadSeed =>
-                write!(f, "edit {number} of the group, counted from 0: {cause}"),
+                write!(f, "edit {at} of the group, counted from 0: {cause}"),
             EditFault::MeterFull | EditFault::Memory | EditFault::EmptyGroup => {
                 write!(f, "{cause}")
             }
@@ -50,12 +50,12 @@ impl std::error::Error for GroupFault {}
 impl From<AllocError> for GroupFault {
     ghost use Rattle.replay_edits.specs.declared.fault.EditFault.TheVariants.{Memory};
 
-    ghost from_gives = { λ _ fault. fault ≡ record { cause = Memory; number = 0 } };
+    ghost from_gives = { λ _ fault. fault ≡ record { cause = Memory; at = 0 } };
 
     fn from(_: AllocError) -> GroupFault {
         GroupFault {
             cause: EditFault::Memory,
-            number: 0,
+            at: 0,
         }
     }
 }

@@ -25,14 +25,14 @@ pub fn plan_group(edits: &[Edit], lines: usize, left: u64) -> Result<Plan, Group
     if edits.is_empty() {
         return Err(GroupFault {
             cause: EditFault::EmptyGroup,
-            number: 0,
+            at: 0,
         });
     }
     let plan = plan_edits(edits, lines)?;
     if left < plan.lines as u64 {
         return Err(GroupFault {
             cause: EditFault::MeterFull,
-            number: 0,
+            at: 0,
         });
     }
     Ok(plan)
@@ -56,7 +56,7 @@ fn plan_edits(edits: &[Edit], lines: usize) -> Result<Plan, GroupFault>
                 after = more;
             }
             Err(cause) => {
-                return Err(GroupFault { cause, number });
+                return Err(GroupFault { cause, at: number });
             }
         }
     }

@@ -25,7 +25,7 @@ fn expect_refused(rt: &impl Abort, session: &mut Counting<'_>, edit: &Edit, left
     assert_eq!(rt; fault, Some(EditFault::MeterFull), "{edit:?}");
     let full = GroupFault {
         cause: EditFault::MeterFull,
-        number: 0,
+        at: 0,
     };
     let group = session.edit_group(slice::from_ref(edit), &mut meter);
     assert_eq!(rt; group.err(), Some(full), "{edit:?}");

@@ -106,7 +106,7 @@ fn edit_group(
         return Ok(());
     };
     assert_eq!(rt; fault.cause, EditFault::Memory);
-    assert_eq!(rt; fault.number, 0);
+    assert_eq!(rt; fault.at, 0);
     assert!(rt; show_the_same(session, untouched));
     let later = group_shown(alloc, &session.edit_group(edits, &mut Meter::new())?)?;
     let wanted = group_shown(alloc, &untouched.edit_group(edits, &mut Meter::new())?)?;

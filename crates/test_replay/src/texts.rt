@@ -61,7 +61,7 @@ const TEXTS: [(EditFault, &str, &str); 7] = [
 fn faults_of_an_edit_and_of_a_group_say_what_is_wrong(rt: HostRuntime) -> Result<(), Fail> {
     for (cause, before, text) in TEXTS {
         assert_eq!(rt; format!(in rt.alloc(); "{cause}")?.as_str(), text);
-        let fault = GroupFault { cause, number: 3 };
+        let fault = GroupFault { cause, at: 3 };
         let shown = format!(in rt.alloc(); "{fault}")?;
         assert!(rt;
             shown.as_str().strip_prefix(before) == Some(text),
