@@ -189,8 +189,7 @@ class Cave:
             self.travel.setdefault(place, []).append((target, motions))
         self.words = [(it // 1000, it % 1000, folded(word, self.letters))
                       for it, word in sections[4]]
-        self.first_words = {it - 1000: word for it, word in reversed(sections[4])
-                            if 1000 < it <= 1100}
+        self.first_words = dict(reversed(sections[4]))
         self.homes = {row[0]: (*row[1:], 0, 0)[:2] for row in sections[7]}
         self.defaults = dict(sections[8])
         self.bits = {}

@@ -1,6 +1,6 @@
 """The program `cave` (docs/PROGRAM.md): its words, files, output, messages and statuses.
 
-What is left out: `cover`, `map`, `--output`, `--help`, and what `edit --print reports` says with a
+What is left out: `map`, `--output`, `--help`, and what `edit --print reports` says with a
 distance of checkpoints above 1, for which the pages leave room.
 """
 
@@ -9,15 +9,20 @@ from functools import lru_cache
 from itertools import takewhile
 from re import fullmatch
 
+import cover
 import edits
+import scores
 from database import KEYS, PLACES, ROLES, Cave, bindings_of, sections_of
 from lines import GREATEST_SEED, MOST_BYTES, Fault, log_of
 
-FILES = {"check": ["<CAVE>"], "play": ["<CAVE>", "<LOG>"], "edit": ["<CAVE>", "<LOG>", "<SCRIPT>"]}
-PRINTS = {"check": ["maximum", "bindings"], "play": ["transcript", "state"],
-          "edit": ["transcript", "play", "log", "reports", "state"]}
+FILES = {"check": ["<CAVE>"], "play": ["<CAVE>", "<LOG>"], "edit": ["<CAVE>", "<LOG>", "<SCRIPT>"],
+         "cover": ["<CAVE>", "<LOG>..."]}
+PRINTS = {"check": ["maximum", "bindings"], "play": ["transcript", "steps", "score", "state"],
+          "edit": ["transcript", "play", "log", "reports", "steps", "score", "state"],
+          "cover": ["counts", "texts"]}
 OPTIONS = {"--bind": "FILE", "--seed": "N", "--every": "K", "--print": "WHAT", "--strict": None}
-KNOWN = {"check": ["--bind", "--print"], "play": ["--bind", "--seed", "--print"], "edit": OPTIONS}
+KNOWN = {"check": ["--bind", "--print"], "play": ["--bind", "--seed", "--print"], "edit": OPTIONS,
+         "cover": ["--bind", "--seed", "--print"]}
 
 class Stop(Exception):
     """The end of a run: its status, and what is said on standard error."""
@@ -45,7 +50,7 @@ def words_of(words):
         name, has_value, value = word.partition("=")
         if only_files or not word.startswith("-") or word == "-":
             files.append(word)
-            if len(files) > len(FILES[command]):
+            if len(files) > len(FILES[command]) and command != "cover":
                 raise unexpected(word, below_zero, with_options)
         elif word == "--":
             only_files = True
@@ -202,9 +207,20 @@ def run_edit(cave, file, log, script, options):
         seed, log = new_seed, new_log
     if replays:
         return [*reports, f"played {played} lines; from the start it would have been {wanted}"]
+    if options["print"] == "steps":
+        return edits.steps(cave, seed, log)
     ended = edits.play(cave, seed, log)
-    return {"log": log, "state": ended.game.state_lines(), "play": ended.transcript,
+    return {"log": log, "score": scores.table(ended.game), "state": ended.game.state_lines(),
+            "play": ended.transcript,
             "transcript": [*reports, *ended.transcript]}[options["print"]]
+
+def run_cover(cave, names, files, options):
+    """Plays logs, and gives what is printed of the texts that none of them says, as lines."""
+    said = set()
+    for name, file in zip(names, files):
+        log = judged_as(3, name, log_of, text_of(file))
+        said |= edits.play(cave, options["seed"], log).game.said
+    return cover.report(cave, said, len(names), options["print"])
 
 def run_words(words):
     """What a run prints, as lines; a fault of it ends it by `Stop`."""
@@ -222,12 +238,17 @@ def run_words(words):
         return bindings_lines(cave)
     if command == "check":
         return [f"cave ok, maximum {cave.greatest_score()}"]
+    if command == "cover":
+        return run_cover(cave, names[1:], files[2:], options)
     log = judged_as(3, names[1], log_of, text_of(files[2]))
     if command == "edit":
         script = judged_as(4, names[2], edits.script_of, text_of(files[3]))
         return run_edit(cave, names[2], log, script, options)
+    if options["print"] == "steps":
+        return edits.steps(cave, options["seed"], log)
     played = edits.play(cave, options["seed"], log)
-    return played.game.state_lines() if options["print"] == "state" else played.transcript
+    return {"score": scores.table(played.game), "state": played.game.state_lines(),
+            "transcript": played.transcript}[options["print"]]
 
 def run(words):
     """The status, the output and what is said on standard error, as bytes."""

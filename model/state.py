@@ -3,11 +3,11 @@
 docs/PLAY.md, What a state keeps; docs/VERBS.md, Terms; docs/TURN.md, The score, Questions, Death.
 """
 
+import scores
 from tables import TABLES, rule
 
 CARRIED, NATURE = -1, -1
 DWARVES, PIRATE = range(5), 5
-ENDINGS = {"success": 45, "wrong way": 30, "klutz": 25}
 ASKED_BY_ROLE = {"welcome": "welcome", "quit": "quit", "score quit": "score-quit",
                  "take hint": "hint-take", "oyster": "oyster-ask", "dragon": "with-what"}
 
@@ -36,6 +36,7 @@ class Game:
         self.waited, self.taken = {}, set()
         self.question, self.hint, self.ended = None, 0, None
         self.stream = seed % 1_048_576
+        self.said = set()  # the texts of the cave that were said, for `cover`
         # What belongs to a line alone.
         self.was_dark, self.forced_left = False, 20
         self.word, self.verb, self.player_verb = "", 0, 0
@@ -176,12 +177,18 @@ class Game:
 
     def say(self, role):
         number = self.cave.bound.get(f"msg.{role}")
-        self.show([f"[{role}]"] if number is None else self.cave.messages.get(number))
+        self.said.add(("role", role))
+        if number is None:
+            self.show([f"[{role}]"])
+        else:
+            self.message(number)
 
     def message(self, number):
+        self.said.add(("message", number))
         self.show(self.cave.messages.get(number))
 
     def object_text(self, x, prop):
+        self.said.add(("inventory text", x) if prop is None else ("object text", (x, prop)))
         self.show(self.cave.object_texts.get((x, prop)))
 
     # ---- Questions, deaths and ends
@@ -221,6 +228,7 @@ class Game:
             rule("end: off the scale")
             self.say("off-scale")
             return
+        self.said.add(("class", classes[at][0]))
         self.show([classes[at][1]])
         if at == len(classes) - 1:
             rule("end: top class")
@@ -233,19 +241,14 @@ class Game:
 
     def score(self):
         """The score of the state as it is."""
-        cave, of_magazine = self.cave, self.thing("MAGAZINE")
-        seen = [it for it in cave.treasures if self.prop[it] >= 0]
-        safe = [it for it in seen
-                if self.prop[it] == 0 and self.where[it] == cave.place("building")]
-        costs = [cave.hints[it][1] for it in self.taken if it in cave.hints]
-        at_witt = of_magazine and self.where[of_magazine] == cave.place("witt")
-        points = [2 * len(seen), sum(cave.worth(it) - 2 for it in safe), 10 * (3 - self.deaths),
-                  4 * (self.ended not in (None, "quit")), 25 * (self.anger > 0), 25 * self.closing,
-                  ENDINGS.get(self.ended, 10) if self.closed else 0, 1 if at_witt else 0, 2,
-                  -sum(costs)]
-        return max(sum(points), 0)
+        return scores.score(self)
 
     # ---- A state as a text
+
+    def named(self, number, after=1000):
+        """A number with the first word of it beside it, where the cave has one."""
+        word = self.cave.first_words.get(after + number)
+        return f"{number} {word}" if word else f"{number}"
 
     def state_lines(self):
         """The state, one fact a line (docs/PLAY.md, A state as a text)."""
@@ -265,14 +268,16 @@ class Game:
             if now != tuple(part[x] for part in self.first[:3]):
                 where = "away" if place == 0 else "carried" if place == CARRIED else f"at {place}"
                 by = ", fixed" if held == NATURE else f", also at {held}" if held else ""
-                yield f"object {x}: {self.cave.first_words.get(x, '-')} {where}{by}, prop {prop}"
-        yield f"half verb {self.half_verb}" if self.half_verb else "half command none"
-        yield from [f"half object {self.half_object}", f"last object {self.last_object}",
+                yield f"object {self.named(x)}: {where}{by}, prop {prop}"
+        verb = self.named(self.half_verb, 2000)
+        yield f"half verb {verb}" if self.half_verb else "half command none"
+        yield from [f"half object {self.named(self.half_object)}",
+                    f"last object {self.named(self.last_object)}",
                     f"brief {yes[self.brief]}", f"details {self.details}", f"magic {self.magic}"]
         for place in range(1, 301):
             if (halves := self.lists.get(place, [])) != self.first[3].get(place, []):
-                shown = [str(it) if it > 0 else f"also {-it}" for it in halves]
-                yield f"place {place}: {' '.join(shown) or 'nothing'}"
+                shown = [("also " if it < 0 else "") + self.named(abs(it)) for it in halves]
+                yield f"place {place}: {', '.join(shown) or 'nothing'}"
         yield from [f"anger {self.anger}", f"kills {self.kills}"]
         for it, (at, was, saw) in enumerate(zip(self.dwarf_at, self.dwarf_was, self.dwarf_saw), 1):
             yield f"dwarf {it}: at {at}, was at {was}, has seen the player {yes[saw]}"

@@ -112,9 +112,11 @@ def the_text_of_the_place(game):
     visits = game.visits.get(game.here, 0)
     if (visits if game.brief else visits % 5) == 0 or short is None:
         rule("place: its long text")
+        game.said.add(("long text", game.here))
         game.show(long)
     else:
         rule("place: its short text")
+        game.said.add(("short text", game.here))
         game.show(short)
 
 def the_objects(game):

@@ -192,7 +192,7 @@ group_refusal-fresh changes same log used is none = rw (is, none) refl
 -- a group that was accepted has no fault
 pub accepted_without : {R : Type 0} (decided : Option GroupFault) (report : R)
     (r : Result R GroupFault) → r ≡ Ok report
-    → MatchOption decided (IfErr r (λ f. f ≡ record { cause = cause.Memory; number = 0 }))
+    → MatchOption decided (IfErr r (λ f. f ≡ record { cause = cause.Memory; at = 0 }))
     (λ f. r ≡ Err f) → decided ≡ None
 accepted_without None report r is h = refl
 accepted_without (Some fault) report r is h = cc
@@ -200,12 +200,12 @@ accepted_without (Some fault) report r is h = cc
 -- a group that was refused, and not because memory ran out, was refused for its fault
 pub refused_by : {R : Type 0} (decided : Option GroupFault) (fault : GroupFault)
     (r : Result R GroupFault) → r ≡ Err fault → (fault.cause ≡ cause.Memory → ⊥)
-    → MatchOption decided (IfErr r (λ f. f ≡ record { cause = cause.Memory; number = 0 }))
+    → MatchOption decided (IfErr r (λ f. f ≡ record { cause = cause.Memory; at = 0 }))
     (λ f. r ≡ Err f) → decided ≡ Some fault
 refused_by None fault r is other h =
     absurd (other
     (ap (λ (f : GroupFault). f.cause)
-    (IfErr-at_err (λ f. f ≡ record { cause = cause.Memory; number = 0 }) is h)))
+    (IfErr-at_err (λ f. f ≡ record { cause = cause.Memory; at = 0 }) is h)))
 refused_by (Some first) fault r is other h = cc
 
 pub game_after_item-accepted : (item : Applied) (game : Game)

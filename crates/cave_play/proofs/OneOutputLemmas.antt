@@ -6,6 +6,7 @@ use Rattle.cave_data.proofs.ReadLemmas.{same_cave}
 use Rattle.play_command.specs.play_options.declared.editing.EditView.{EditView}
 use Rattle.play_command.specs.play_options.declared.editing.EditView.TheVariants.{Transcript, Play}
 use Rattle.play_command.specs.play_options.declared.editing.EditView.TheVariants.{Log, Reports}
+use Rattle.play_command.specs.play_options.declared.editing.EditView.TheVariants.{Steps, Score}
 use Rattle.play_command.specs.play_options.declared.editing.EditView.TheVariants.{FinalState}
 use Rattle.cave_replay.specs.replay_edits.Edit.{Game, game_of}
 use Rattle.replay_scripts.proofs.Grammar.{script_of-only}
@@ -48,6 +49,8 @@ one_view Transcript cave game items near far one other free is same = is ∙ sym
 one_view Play cave game items near far one other free is same = is ∙ sym same
 one_view Log cave game items near far one other free is same = is.written ∙ sym same.written
 one_view Reports cave game items near far one other free is same = absurd free
+one_view Steps cave game items near far one other free is same = is ∙ sym same
+one_view Score cave game items near far one other free is same = is ∙ sym same
 one_view FinalState cave game items near far one other free is same = is ∙ sym same
 
 pub one_edited_output : OneEditedOutput

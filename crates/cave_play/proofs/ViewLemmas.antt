@@ -6,6 +6,7 @@ use Rattle.data_bindings.specs.cave_data.CaveView.{CaveView}
 use Rattle.play_command.specs.play_options.declared.editing.EditView.{EditView}
 use Rattle.play_command.specs.play_options.declared.editing.EditView.TheVariants.{Transcript, Play}
 use Rattle.play_command.specs.play_options.declared.editing.EditView.TheVariants.{Log, Reports}
+use Rattle.play_command.specs.play_options.declared.editing.EditView.TheVariants.{Steps, Score}
 use Rattle.play_command.specs.play_options.declared.editing.EditView.TheVariants.{FinalState}
 use Rattle.world_packed.specs.replay_marks.Spacing.{IsSpaced}
 use Rattle.cave_replay.specs.LogText.{log_text}
@@ -15,6 +16,8 @@ use Rattle.cave_play.specs.Edits.{ReadsBack, text_at_end, text_of_item}
 use Rattle.cave_play.specs.Output.{final_state_text, game_after_item, game_after_items, play_text}
 use Rattle.cave_play.specs.Output.{group_refusal, report, report_by, reports}
 use Rattle.cave_play.specs.Outcome.{AreOutcomes, IsOutcome, lines_in, played_in, refusal_in}
+use Rattle.cave_play.specs.Score.{score_text}
+use Rattle.cave_play.specs.Steps.{steps_text}
 use Rattle.cave_play.specs.Views.{IsViewOf, text_of_items, totals_line}
 use Rattle.cave_play.specs.declared.outcome.ItemOutcome.{ItemOutcome}
 use Rattle.cave_play.specs.declared.outcome.ItemOutcome.TheVariants.{Refused, Replayed}
@@ -70,6 +73,14 @@ told-whole Play cave every items game opened outcomes played counted text whole 
     plays counts ends back =
     ends ∙ ap (λ t. t ++ play_text cave (game_after_items items game))
     (told ∙ told-nothing (text_of_item Play) (λ item outcome. refl) items outcomes)
+told-whole Steps cave every items game opened outcomes played counted text whole spaced came
+    told plays counts ends back =
+    ends ∙ ap (λ t. t ++ steps_text cave (game_after_items items game))
+    (told ∙ told-nothing (text_of_item Steps) (λ item outcome. refl) items outcomes)
+told-whole Score cave every items game opened outcomes played counted text whole spaced came
+    told plays counts ends back =
+    ends ∙ ap (λ t. t ++ score_text cave (game_after_items items game))
+    (told ∙ told-nothing (text_of_item Score) (λ item outcome. refl) items outcomes)
 told-whole FinalState cave every items game opened outcomes played counted text whole spaced came
     told plays counts ends back =
     ends ∙ ap (λ t. t ++ final_state_text cave (game_after_items items game))

@@ -14,6 +14,8 @@ use Rattle.world_packed.specs.cave_world.declared.state.State.{State}
 use Rattle.cave_play.specs.Output.{final_state_text, game_after_item, play_text, report_by}
 use Rattle.cave_play.specs.Outcome.{IsOutcome, AreLeft, AreOutcomes, lines_in, played_in}
 use Rattle.cave_play.specs.Outcome.{refusal_in}
+use Rattle.cave_play.specs.Score.{score_text}
+use Rattle.cave_play.specs.Steps.{steps_text}
 use Rattle.cave_play.specs.Views.{account, text_of_items, totals_line}
 use Rattle.cave_play.specs.declared.machine.CaveMachine.{CaveMachine}
 use Rattle.cave_play.specs.declared.outcome.ItemOutcome.{ItemOutcome}
@@ -38,6 +40,8 @@ text_of_item asked.Transcript item outcome = report_by item (refusal_in outcome)
 text_of_item asked.Play item outcome = []
 text_of_item asked.Log item outcome = []
 text_of_item asked.Reports item outcome = account item outcome
+text_of_item asked.Steps item outcome = []
+text_of_item asked.Score item outcome = []
 text_of_item asked.FinalState item outcome = []
 
 -- items were applied to what a session held: the text grew by what is written of each, and the
@@ -58,6 +62,8 @@ text_at_end asked.Transcript cave game played lines = play_text cave game
 text_at_end asked.Play cave game played lines = play_text cave game
 text_at_end asked.Log cave game played lines = log_text game.log
 text_at_end asked.Reports cave game played lines = totals_line played lines
+text_at_end asked.Steps cave game played lines = steps_text cave game
+text_at_end asked.Score cave game played lines = score_text cave game
 text_at_end asked.FinalState cave game played lines = final_state_text cave game
 
 -- the written log reads back
@@ -66,4 +72,6 @@ ReadsBack asked.Transcript log = ⊤
 ReadsBack asked.Play log = ⊤
 ReadsBack asked.Log log = lines (log_text log) ≡ log
 ReadsBack asked.Reports log = ⊤
+ReadsBack asked.Steps log = ⊤
+ReadsBack asked.Score log = ⊤
 ReadsBack asked.FinalState log = ⊤

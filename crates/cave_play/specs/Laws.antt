@@ -37,11 +37,13 @@ KnowsNoCheckpoints asked.Transcript = ⊤
 KnowsNoCheckpoints asked.Play = ⊤
 KnowsNoCheckpoints asked.Log = ⊤
 KnowsNoCheckpoints asked.Reports = ⊥
+KnowsNoCheckpoints asked.Steps = ⊤
+KnowsNoCheckpoints asked.Score = ⊤
 KnowsNoCheckpoints asked.FinalState = ⊤
 
 -- with a log, a script and a seed, one output of an edit, of the transcript, with reports or
--- without, of the edited log and of the final state, whatever the distances of checkpoints, and
--- whether the runs are strict
+-- without, of the edited log, of its lines, its score and the final state, whatever the distances of
+-- checkpoints, and whether the runs are strict
 abbrev pub OneEditedOutput : Type 0
 OneEditedOutput =
     (database bindings log script : List ℕ) (seed near far : ℕ) (view : EditView)

@@ -9,6 +9,8 @@ pub mod Transcript
 pub mod Piece
 pub mod PieceParts
 pub mod Machine
+pub mod Steps
+pub mod Score
 pub mod Output
 pub mod Outcome
 pub mod Views
@@ -20,5 +22,7 @@ pub use Rattle.world_packed.specs.cave_words as cave_words
 pub use Rattle.world_packed.specs.cave_world as cave_world
 pub use Rattle.data_bindings.specs as data_bindings
 pub use Rattle.data_bindings.specs.data_rows as data_rows
+pub use Rattle.play_command.specs as play_command
 pub use Rattle.play_command.specs.play_options as play_options
 pub use Rattle.cave_replay.specs.replay_edits as replay_edits
+pub use Rattle.cave_turn.specs.turn_score as turn_score

@@ -19,6 +19,8 @@ use Rattle.cave_replay.specs.replay_edits.declared.fault.GroupFault.{GroupFault}
 use Rattle.cave_turn.specs.turn_score.Score.{score_of, max_score_of}
 use Rattle.replay_scripts.specs.Script.{Applied, line_of_refusal}
 use Rattle.cave_play.specs.Machine.{cave_rules, rendering_of}
+use Rattle.cave_play.specs.Score.{score_text}
+use Rattle.cave_play.specs.Steps.{steps_text}
 use Rattle.cave_play.specs.Transcript.{transcript, ticks}
 use Rattle.cave_turn.specs.turn_begin.Begin.{starting_objects}
 use Rattle.play_state_text.specs.StateText.{state_text}
@@ -62,6 +64,8 @@ play_text cave game =
 -- what is asked for of a play
 abbrev pub play_view_text : PlayView → CaveView → Game → List ℕ
 play_view_text play.Transcript cave game = play_text cave game
+play_view_text play.Steps cave game = steps_text cave game
+play_view_text play.Score cave game = score_text cave game
 play_view_text play.FinalState cave game = final_state_text cave game
 
 -- the output is what was asked for of playing the log in the cave of the database and its bindings
@@ -91,7 +95,7 @@ abbrev pub report_by : Applied → Option GroupFault → List ℕ
 report_by item None = codes "line " ++ (decimal item.line ++ codes ": ok\n")
 report_by item (Some fault) =
     codes "line "
-    ++ (decimal (line_of_refusal item fault.number)
+    ++ (decimal (line_of_refusal item fault.at)
     ++ (codes ": refused " ++ (decimal (refusal_number fault.cause) ++ codes "\n")))
 
 abbrev pub game_by : Applied → Option GroupFault → Game → Game

@@ -13,7 +13,7 @@ use Rattle.cave_play.specs.declared.fault.PlayFault.TheVariants as fault
 
 abbrev pub refusal_fault : Applied → GroupFault → PlayFault
 refusal_fault item found = fault.Script
-    (script.Refused (line_of_refusal item found.number) (record { cause = found.cause }))
+    (script.Refused (line_of_refusal item found.at) (record { cause = found.cause }))
 
 -- where the run is strict, the fault of an item that is refused
 abbrev pub strict_fault_by : Bool → Applied → Option GroupFault → Option PlayFault

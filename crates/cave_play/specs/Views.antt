@@ -17,6 +17,8 @@ use Rattle.replay_scripts.specs.Script.{Applied, line_of_refusal, IsScript}
 use Rattle.cave_play.specs.Output.{final_state_text, game_after_items, play_text, reports}
 use Rattle.cave_play.specs.Output.{refusal_number}
 use Rattle.cave_play.specs.Outcome.{AreOutcomes, lines_in, played_in}
+use Rattle.cave_play.specs.Score.{score_text}
+use Rattle.cave_play.specs.Steps.{steps_text}
 use Rattle.cave_play.specs.declared.outcome.Standing.{Standing}
 use Rattle.world_packed.specs.cave_world.declared.ending.Ending.{Ending}
 use Rattle.world_packed.specs.cave_world.declared.ending.Ending.TheVariants as ending_is
@@ -71,7 +73,7 @@ standing_text standing =
 -- played, and where the game is then; or why it was refused
 abbrev pub account : Applied → ItemOutcome → List ℕ
 account item (Refused fault) =
-    codes "line " ++ (decimal (line_of_refusal item fault.number) ++ (codes ": refused "
+    codes "line " ++ (decimal (line_of_refusal item fault.at) ++ (codes ": refused "
     ++ (decimal (refusal_number fault.cause)
     ++ (codes ", " ++ (refusal_words fault.cause ++ codes "\n")))))
 account item (Replayed replay) =
@@ -117,6 +119,10 @@ IsViewOf asked.Transcript cave every game items text =
 IsViewOf asked.Play cave every game items text = text ≡ play_text cave (game_after_items items game)
 IsViewOf asked.Log cave every game items text = IsLogOf (game_after_items items game) text
 IsViewOf asked.Reports cave every game items text = IsAccount cave every game items text
+IsViewOf asked.Steps cave every game items text =
+    text ≡ steps_text cave (game_after_items items game)
+IsViewOf asked.Score cave every game items text =
+    text ≡ score_text cave (game_after_items items game)
 IsViewOf asked.FinalState cave every game items text =
     text ≡ final_state_text cave (game_after_items items game)
 

@@ -20,6 +20,8 @@ use crate::judge::read_script;
 use crate::machine::CaveMachine;
 use crate::outcome::{ItemOutcome, ItemReplay, Standing};
 use crate::reports::{push_outcome, push_totals};
+use crate::score::push_score;
+use crate::steps::push_steps;
 use crate::transcript::push_play;
 use cave_replay::{EditFault, GroupReport, Session};
 use play_command::{EditView, Editing, Meter};
@@ -107,9 +109,10 @@ fn is_memory(fault: EditFault) -> bool
     matches!(fault, EditFault::Memory)
 }
 
-/// Where the held game is after its last line.
+/// Where the held game is after its last line, with a score that is at most the greatest.
 fn standing_of(session: &Session<CaveMachine<'_>>) -> Standing
-    ensures { result ≡ standing_of session.now.machine.rules.cave.now session.now.game }
+    ensures value { result ≡ standing_of session.now.machine.rules.cave.now session.now.game }
+    ensures most { result.score ≤ result.most }
 {
     let machine = session.machine();
     let state = session.state();
@@ -168,7 +171,7 @@ fn check_strict(strict: bool, item: &Item, outcome: ItemOutcome) -> Result<(), P
 {
     match outcome {
         ItemOutcome::Refused(fault) if strict => {
-            let line = item.line_of(fault.number as usize);
+            let line = item.line_of(fault.at);
             let refusal = Refusal { cause: fault.cause };
             Err(PlayFault::Script(ScriptFault::Refused(line, refusal)))
         }
@@ -215,6 +218,8 @@ fn push_end(
         EditView::Transcript | EditView::Play => push_play(alloc, session, text),
         EditView::Log => session.push_log(text),
         EditView::Reports => push_totals(alloc, text, totals),
+        EditView::Steps => push_steps(alloc, session, text),
+        EditView::Score => push_score(alloc, session, text),
         EditView::FinalState => push_final_state(alloc, session, text),
     }
 }

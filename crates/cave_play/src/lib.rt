@@ -16,6 +16,8 @@ mod read;
 mod refusal;
 mod reports;
 pub mod run;
+mod score;
+mod steps;
 mod transcript;
 mod views;
 

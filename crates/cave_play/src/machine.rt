@@ -1,6 +1,6 @@
 //! The machine of a cave.
 
-ghost use Rattle.std.specs.Prelude.{◌≡◌, IfOk};
+ghost use Rattle.std.specs.Prelude.{◌≡◌, ◌≤◌, IfOk};
 ghost use Rattle.world_packed.specs.cave_words.Lexicon.{IsLexiconOf};
 ghost use Rattle.cave_world.proofs.Equality.{state_equality};
 ghost use Rattle.cave_turn.specs.turn_scene.Scene.{cave_of};
@@ -18,7 +18,7 @@ use world_packed::{Lexicon, Out, PackedState, Part, State};
 /// What plays a log in a cave, with the words of that cave.
 #[derive(Clone, Copy)]
 pub struct CaveMachine<'a> {
-    rules: Rules<'a>,
+    pub(crate) rules: Rules<'a>,
 }
 
 impl<'a> CaveMachine<'a> {
@@ -39,9 +39,10 @@ impl<'a> CaveMachine<'a> {
         self.rules.cave
     }
 
-    /// The score of a state.
+    /// The score of a state, which is at most the greatest one of the cave.
     pub fn score(self, state: &State) -> u32
-        ensures { result ≡ score_of (cave_of self.entry.rules) state.now }
+        ensures value { result ≡ score_of (cave_of self.entry.rules) state.now }
+        ensures most { result ≤ max_score_of (cave_of self.entry.rules) }
     {
         score(&self.rules, state)
     }

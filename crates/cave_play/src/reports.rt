@@ -30,7 +30,8 @@ pub(crate) fn push_outcome(
 {
     match view {
         EditView::Transcript => push_report(alloc, text, item, outcome.refusal()),
-        EditView::Play | EditView::Log | EditView::FinalState => Ok(()),
+        EditView::Play | EditView::Log | EditView::Steps | EditView::Score | EditView::FinalState =>
+            Ok(()),
         EditView::Reports => push_account(alloc, text, item, outcome),
     }
 }
@@ -67,7 +68,7 @@ fn push_report(
             format!(in alloc; "line {line}: ok\n")?
         }
         Some(fault) => {
-            let line = item.line_of(fault.number);
+            let line = item.line_of(fault.at);
             let number = refusal_number(fault.cause);
             format!(in alloc; "line {line}: refused {number}\n")?
         }
@@ -151,7 +152,7 @@ fn push_account(
 {
     let told = match outcome {
         ItemOutcome::Refused(fault) => {
-            let line = item.line_of(fault.number);
+            let line = item.line_of(fault.at);
             let number = refusal_number(fault.cause);
             let words = refusal_words(fault.cause);
             format!(in alloc; "line {line}: refused {number}, {words}\n")?

@@ -50,8 +50,8 @@ pub fn run_check<C: Read, B: Read, L: Read, S: Read, W: Write>(
     write_output(output, &text)
 }
 
-/// Plays a log and writes what is asked for, once it is whole: the transcript, or the state that
-/// the log leads to.
+/// Plays a log and writes what is asked for, once it is whole: the transcript, the table of its
+/// lines, that of its score, or the state that the log leads to.
 pub fn run_play<C: Read, B: Read, L: Read, S: Read, W: Write>(
     alloc: Global,
     inputs: &mut Inputs<C, B, L, S>,
@@ -74,8 +74,8 @@ pub fn run_play<C: Read, B: Read, L: Read, S: Read, W: Write>(
 }
 
 /// Edits a log by a script, and writes what is asked for, once it is whole: a report on each item
-/// of the script and then the transcript of the edited log, that log, what each item replayed, or
-/// the state that the edited log leads to.
+/// of the script and then the transcript of the edited log, that log, what each item replayed, the
+/// table of the edited log's lines, that of its score, or the state that it leads to.
 pub fn run_edit<C: Read, B: Read, L: Read, S: Read, W: Write>(
     alloc: Global,
     inputs: &mut Inputs<C, B, L, S>,

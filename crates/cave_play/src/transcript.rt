@@ -1,6 +1,6 @@
 //! The transcript of a play.
 
-ghost use Rattle.std.specs.Prelude.{◌≡◌, ◌++◌, OnOk};
+ghost use Rattle.std.specs.Prelude.{◌≡◌, ◌≤◌, ◌++◌, OnOk};
 ghost use Rattle.play_command.specs.base_lines.LogLine.{log_line};
 ghost use Rattle.cave_play.specs.Machine.{rendering_of};
 ghost use Rattle.cave_play.specs.Transcript.{echo, is_shown, last_line, shown_line};
@@ -74,7 +74,8 @@ pub(crate) fn push_cave_line(alloc: Global, text: &mut Vec<u8>, most: u32) -> Re
     text.extend_from_slice(line.as_bytes())
 }
 
-/// Appends the line of the score, the greatest score, and how many turns were taken.
+/// Appends the line of the score, the greatest score, and how many turns were taken. It is asked
+/// for no score above the greatest.
 fn push_last_line(
     alloc: Global,
     text: &mut Vec<u8>,
@@ -82,6 +83,7 @@ fn push_last_line(
     most: u32,
     turns: u32,
 ) -> Result<(), AllocError>
+    requires { score ≤ most }
     ensures { OnOk result (text.new.items ≡ text.old.items ++ last_line score most turns) }
 {
     let line = format!(in alloc; "-- score {score} of {most}, turns {turns}\n")?;

@@ -7,6 +7,8 @@ ghost use Rattle.cave_turn.specs.turn_score.Score.{max_score_of};
 use crate::fault::PlayFault;
 use crate::final_state::push_final_state;
 use crate::machine::CaveMachine;
+use crate::score::push_score;
+use crate::steps::push_steps;
 use crate::transcript::{push_cave_line, push_play};
 use cave_replay::Session;
 use cave_turn::{Rules, max_score};
@@ -50,6 +52,8 @@ pub(crate) fn play_view_text(
     let mut text = Vec::new(alloc);
     match view {
         PlayView::Transcript => push_play(alloc, session, &mut text)?,
+        PlayView::Steps => push_steps(alloc, session, &mut text)?,
+        PlayView::Score => push_score(alloc, session, &mut text)?,
         PlayView::FinalState => push_final_state(alloc, session, &mut text)?,
     }
     Ok(text)

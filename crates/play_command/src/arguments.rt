@@ -115,7 +115,9 @@ pub(crate) fn edit_print_argument<'a>(alloc: Global) -> Arg<'a>
         .help(
             "What is printed: `transcript`, the reports and what the game says, `play`, what it \
              says alone, `log`, the edited log without its seed, `reports`, what each edit \
-             replayed and what came of it, or `state`, the final state [default: transcript]",
+             replayed and what came of it, `steps`, what each line of the edited log did, \
+             `score`, where the score comes from, or `state`, the final state \
+             [default: transcript]",
         )
 }
 
@@ -127,7 +129,8 @@ pub(crate) fn play_print_argument<'a>(alloc: Global) -> Arg<'a>
         .long("print")
         .value_name("WHAT")
         .help(
-            "What is printed: `transcript`, what the game says, or `state`, the final state \
+            "What is printed: `transcript`, what the game says, `steps`, what each line did, \
+             `score`, where the score comes from, or `state`, the final state \
              [default: transcript]",
         )
 }

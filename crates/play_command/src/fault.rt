@@ -24,10 +24,11 @@ pub enum CommandFault<'a> {
         For more information, try '--help'.\n")]
     BadEvery(&'a str),
     #[error("error: invalid value '{0}' for '--print <WHAT>': wanted is transcript, \
-        play, log, reports or state\n\n\
+        play, log, reports, steps, score or state\n\n\
         For more information, try '--help'.\n")]
     BadView(&'a str),
-    #[error("error: invalid value '{0}' for '--print <WHAT>': wanted is transcript or state\n\n\
+    #[error("error: invalid value '{0}' for '--print <WHAT>': wanted is transcript, \
+        steps, score or state\n\n\
         For more information, try '--help'.\n")]
     BadPlayView(&'a str),
     #[error("error: invalid value '{0}' for '--print <WHAT>': wanted is maximum or bindings\n\n\

@@ -2,9 +2,10 @@
 use Rattle.std.specs.Prelude.{ℕ, ◌+◌, ◌*◌, ◌/◌, ◌%◌, ℤ, pos, negsuc, Bool, false, ◌==◌, nat_lt}
 use Rattle.std.specs.Prelude.{◌&&◌, is_some, if◌then◌else◌, List, [], ◌∷◌, length, Option, Some}
 use Rattle.std.specs.Prelude.{None, ◌≡◌, ◌<◌, ◌||◌, slice_index_or}
-use Rattle.std.specs.List.{list_any, flat_map}
+use Rattle.std.specs.List.{list_any, flat_map, range_with_len}
 use Rattle.std.specs.FinMap as map
 use Rattle.play_logs.specs.cave_data.CaveView.{CaveView, Rated, class_of, look_of, name_of}
+use Rattle.play_logs.specs.turn_score.Score.{max_score_of}
 use Rattle.play_logs.specs.data_rows.Role.{ROLE_NAMES, role_number}
 use Rattle.play_logs.specs.cave_world.declared.part.Part.{Part}
 use Rattle.play_logs.specs.cave_world.declared.part.Part.TheVariants as part
@@ -49,7 +50,13 @@ abbrev pub has_bound : Option Rated → ℕ → Bool
 has_bound None bound = false
 has_bound (Some rated) bound = rated.bound == bound
 
--- whether the cave has the text; a class that no score belongs to is none of its texts
+-- some score of the cave, from 0 to the greatest, belongs to the class with that bound
+unfoldable pub is_reached : CaveView → ℕ → Bool
+is_reached cave bound =
+    list_any (λ score. has_bound (class_of cave score) bound)
+    (range_with_len 0 (max_score_of cave + 1))
+
+-- whether the cave has the text; a class that no score of the cave belongs to is none of its texts
 abbrev pub has_text : CaveView → Kind → ℕ → Bool
 has_text cave kind.Long number = is_some (map.get cave.long number)
 has_text cave kind.Short number = is_some (map.get cave.short number)
@@ -58,7 +65,7 @@ has_text cave kind.Look number =
 has_text cave kind.Name number = is_some (name_of cave number)
 has_text cave kind.Message number = is_some (map.get cave.messages number)
 has_text cave kind.Role number = nat_lt number (length ROLE_NAMES)
-has_text cave kind.Class number = has_bound (class_of cave number) number
+has_text cave kind.Class number = is_reached cave number
 
 -- ---- which texts a part says
 

@@ -1,6 +1,7 @@
 //! What a suite of logs shows of a cave's texts.
 #![tactic(auto)]
 
+pub mod cave_texts;
 pub mod laws;
 pub mod marks;
 pub mod missing;

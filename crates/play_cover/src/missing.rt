@@ -6,6 +6,7 @@ ghost use Rattle.play_cover.specs.Texts.{is_marked};
 ghost use Rattle.play_cover.specs.Missing.{first_line_shown, missing_line, missing_lines};
 ghost use Rattle.play_cover.specs.Missing.{missing_report, report_by, text_at, word_of_kind};
 
+use crate::cave_texts::CaveTexts;
 use crate::marks::SaidTexts;
 use crate::report::{missing, push_name, push_report, push_sums};
 use crate::text::{KINDS, Kind, PROPS_PER_OBJECT};
@@ -62,7 +63,7 @@ fn push_first_line(found: Option<&[u8]>, text: &mut Vec<u8>) -> Result<(), Alloc
 /// Appends the line of a text.
 fn push_missing_line(
     alloc: Global,
-    cave: &Cave,
+    cave: &CaveTexts<'_>,
     kind: Kind,
     number: u16,
     text: &mut Vec<u8>,
@@ -72,12 +73,12 @@ fn push_missing_line(
 {
     text.extend_from_slice(word(kind).as_bytes())?;
     push_name(alloc, kind, number, text)?;
-    push_first_line(text_at(cave, kind, number), text)
+    push_first_line(text_at(cave.cave(), kind, number), text)
 }
 
 fn push_numbers(
     alloc: Global,
-    cave: &Cave,
+    cave: &CaveTexts<'_>,
     kind: Kind,
     numbers: &[u16],
     text: &mut Vec<u8>,
@@ -94,7 +95,7 @@ fn push_numbers(
 /// Appends the lines of the texts of a kind that were never said.
 fn push_missing(
     alloc: Global,
-    cave: &Cave,
+    cave: &CaveTexts<'_>,
     said: &SaidTexts,
     kind: Kind,
     text: &mut Vec<u8>,
@@ -108,7 +109,7 @@ fn push_missing(
 
 fn push_kinds(
     alloc: Global,
-    cave: &Cave,
+    cave: &CaveTexts<'_>,
     said: &SaidTexts,
     kinds: &[Kind],
     text: &mut Vec<u8>,
@@ -126,7 +127,7 @@ fn push_kinds(
 #[tactic(auto, unfolding(crate::specs::Missing::missing_report))]
 fn push_missing_report(
     alloc: Global,
-    cave: &Cave,
+    cave: &CaveTexts<'_>,
     said: &SaidTexts,
     logs: usize,
     text: &mut Vec<u8>,
@@ -141,7 +142,7 @@ fn push_missing_report(
 /// Appends what is asked for of a cave of whose texts some were said in so many logs.
 pub fn push_view(
     alloc: Global,
-    cave: &Cave,
+    cave: &CaveTexts<'_>,
     said: &SaidTexts,
     view: CoverView,
     logs: usize,

@@ -8,56 +8,38 @@ ghost use Rattle.play_cover.specs.Report.{sums_line, heading_of_kind, kinds, lin
 ghost use Rattle.play_cover.specs.Report.{names_of_texts, never, numbers_missing, present, report};
 ghost use Rattle.play_cover.specs.Report.{numbers_said};
 
+use crate::cave_texts::CaveTexts;
 use crate::marks::SaidTexts;
 use crate::text::{KINDS, Kind, NUMBERS, PROPS_PER_OBJECT, Text};
-use play_logs::{Cave, ROLE_NAMES};
+use play_logs::ROLE_NAMES;
 use std::alloc::{AllocError, Global};
 
-fn has(cave: &Cave, kind: Kind, number: u16) -> bool
-    ensures { result ≡ has_text cave.now kind number }
-{
-    match kind {
-        Kind::Long => cave.long(number).is_some(),
-        Kind::Short => cave.short(number).is_some(),
-        Kind::Look => cave
-            .look(number / PROPS_PER_OBJECT, number % PROPS_PER_OBJECT)
-            .is_some(),
-        Kind::Name => cave.name(number).is_some(),
-        Kind::Message => cave.message(number).is_some(),
-        Kind::Role => (number as usize) < ROLE_NAMES.len(),
-        Kind::Class => match cave.class_of(u32::from(number)) {
-            Some(rating) => rating.bound == number,
-            None => false,
-        },
-    }
-}
-
-fn is_said(cave: &Cave, said: &SaidTexts, kind: Kind, number: u16) -> bool
+fn is_said(cave: &CaveTexts<'_>, said: &SaidTexts, kind: Kind, number: u16) -> bool
     ensures { result ≡ (has_text cave.now kind number && is_marked said.now (text kind number)) }
 {
-    has(cave, kind, number) && said.is_marked(Text { kind, number })
+    cave.has(kind, number) && said.is_marked(Text { kind, number })
 }
 
 /// Whether a text that the cave has was never said.
-fn is_missing(cave: &Cave, said: &SaidTexts, kind: Kind, number: u16) -> bool
+fn is_missing(cave: &CaveTexts<'_>, said: &SaidTexts, kind: Kind, number: u16) -> bool
     ensures { result
         ≡ (has_text cave.now kind number && not (is_marked said.now (text kind number))) }
 {
-    has(cave, kind, number) && !said.is_marked(Text { kind, number })
+    cave.has(kind, number) && !said.is_marked(Text { kind, number })
 }
 
 #[tactic(auto, unfolding(crate::specs::Report::present, crate::specs::Report::numbers))]
-fn count_present(cave: &Cave, kind: Kind) -> usize
+fn count_present(cave: &CaveTexts<'_>, kind: Kind) -> usize
     ensures value { result ≡ length (present cave.now kind) }
     ensures within { result ≤ end_of_numbers }
 {
     (0..NUMBERS as u16)
-        .filter(|number| has(cave, kind, *number))
+        .filter(|number| cave.has(kind, *number))
         .count()
 }
 
 #[tactic(auto, unfolding(crate::specs::Report::numbers_said, crate::specs::Report::numbers))]
-fn count_said(cave: &Cave, said: &SaidTexts, kind: Kind) -> usize
+fn count_said(cave: &CaveTexts<'_>, said: &SaidTexts, kind: Kind) -> usize
     ensures value { result ≡ length (numbers_said cave.now (is_marked said.now) kind) }
     ensures within { result ≤ end_of_numbers }
 {
@@ -70,7 +52,7 @@ fn count_said(cave: &Cave, said: &SaidTexts, kind: Kind) -> usize
 #[tactic(auto, unfolding(crate::specs::Report::numbers_missing, crate::specs::Report::numbers))]
 pub(crate) fn missing(
     alloc: Global,
-    cave: &Cave,
+    cave: &CaveTexts<'_>,
     said: &SaidTexts,
     kind: Kind,
 ) -> Result<Vec<u16>, AllocError>
@@ -162,7 +144,7 @@ fn push_names(
 
 fn push_line(
     alloc: Global,
-    cave: &Cave,
+    cave: &CaveTexts<'_>,
     said: &SaidTexts,
     kind: Kind,
     text: &mut Vec<u8>,
@@ -181,7 +163,7 @@ fn push_line(
 }
 
 /// The sums of what the lines of kinds count: the texts that were said, and all that the cave has.
-fn totals(cave: &Cave, said: &SaidTexts, kinds: &[Kind]) -> (usize, usize)
+fn totals(cave: &CaveTexts<'_>, said: &SaidTexts, kinds: &[Kind]) -> (usize, usize)
     requires { length kinds.now ≤ KIND_COUNT }
     ensures shown { result.0
         ≡ sum_by (λ kind. length (numbers_said cave.now (is_marked said.now) kind)) kinds.now }
@@ -197,7 +179,7 @@ fn totals(cave: &Cave, said: &SaidTexts, kinds: &[Kind]) -> (usize, usize)
 
 fn push_lines(
     alloc: Global,
-    cave: &Cave,
+    cave: &CaveTexts<'_>,
     said: &SaidTexts,
     kinds: &[Kind],
     text: &mut Vec<u8>,
@@ -214,7 +196,7 @@ fn push_lines(
 /// Appends the line that sums up.
 pub(crate) fn push_sums(
     alloc: Global,
-    cave: &Cave,
+    cave: &CaveTexts<'_>,
     said: &SaidTexts,
     logs: usize,
     text: &mut Vec<u8>,
@@ -231,7 +213,7 @@ pub(crate) fn push_sums(
 #[tactic(auto, unfolding(crate::specs::Report::report))]
 pub fn push_report(
     alloc: Global,
-    cave: &Cave,
+    cave: &CaveTexts<'_>,
     said: &SaidTexts,
     logs: usize,
     text: &mut Vec<u8>,

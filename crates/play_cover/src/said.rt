@@ -4,6 +4,7 @@ ghost use Rattle.std.specs.List.{flat_map};
 ghost use Rattle.play_cover.specs.Texts.{Notes, said_by_all};
 ghost use Rattle.play_cover.specs.Plays.{texts_said_in};
 
+use crate::cave_texts::CaveTexts;
 use crate::marks::SaidTexts;
 use crate::missing::push_view;
 use crate::parts::note_parts;
@@ -63,6 +64,7 @@ impl PlayNotes for SaidTexts {
         logs: usize,
         text: &mut Vec<u8>,
     ) -> Result<(), AllocError> {
-        push_view(alloc, cave, self, view, logs, text)
+        let texts = CaveTexts::of(alloc, cave)?;
+        push_view(alloc, &texts, self, view, logs, text)
     }
 }

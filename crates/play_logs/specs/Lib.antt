@@ -9,3 +9,4 @@ pub use Rattle.cave_play.specs.data_bindings as data_bindings
 pub use Rattle.cave_play.specs.data_rows as data_rows
 pub use Rattle.cave_play.specs.play_options as play_options
 pub use Rattle.cave_play.specs.replay_edits as replay_edits
+pub use Rattle.cave_play.specs.turn_score as turn_score

@@ -5,7 +5,7 @@ use Rattle.play_options.specs.declared.views.CheckView.TheVariants.{Maximum, Bin
 use Rattle.play_options.specs.declared.views.CoverView.{CoverView}
 use Rattle.play_options.specs.declared.views.CoverView.TheVariants.{Counts, Texts}
 use Rattle.play_options.specs.declared.views.PlayView.{PlayView}
-use Rattle.play_options.specs.declared.views.PlayView.TheVariants.{Transcript, FinalState}
+use Rattle.play_options.specs.declared.views.PlayView.TheVariants as played
 use Rattle.play_options.specs.declared.editing.EditView.{EditView}
 use Rattle.play_options.specs.declared.editing.EditView.TheVariants as asked
 
@@ -15,7 +15,9 @@ edit_view_named name =
     else (if bytes_eq name (codes "play") then Some asked.Play
     else (if bytes_eq name (codes "log") then Some asked.Log
     else (if bytes_eq name (codes "reports") then Some asked.Reports
-    else (if bytes_eq name (codes "state") then Some asked.FinalState else None))))
+    else (if bytes_eq name (codes "steps") then Some asked.Steps
+    else (if bytes_eq name (codes "score") then Some asked.Score
+    else (if bytes_eq name (codes "state") then Some asked.FinalState else None))))))
 
 abbrev pub check_view_named : List ℕ → Option CheckView
 check_view_named name =
@@ -29,5 +31,7 @@ cover_view_named name =
 
 abbrev pub play_view_named : List ℕ → Option PlayView
 play_view_named name =
-    if bytes_eq name (codes "transcript") then Some Transcript
-    else (if bytes_eq name (codes "state") then Some FinalState else None)
+    if bytes_eq name (codes "transcript") then Some played.Transcript
+    else (if bytes_eq name (codes "steps") then Some played.Steps
+    else (if bytes_eq name (codes "score") then Some played.Score
+    else (if bytes_eq name (codes "state") then Some played.FinalState else None)))

@@ -12,6 +12,10 @@ pub enum EditView {
     Log,
     /// What each edit replayed.
     Reports,
+    /// What each line of the edited log did.
+    Steps,
+    /// Where the score of the edited log comes from.
+    Score,
     /// The state that the edited log leads to.
     FinalState,
 }
@@ -26,6 +30,8 @@ impl EditView {
             "play" => Some(EditView::Play),
             "log" => Some(EditView::Log),
             "reports" => Some(EditView::Reports),
+            "steps" => Some(EditView::Steps),
+            "score" => Some(EditView::Score),
             "state" => Some(EditView::FinalState),
             _ => None,
         }

@@ -30,6 +30,10 @@ impl CheckView {
 pub enum PlayView {
     /// What the game says.
     Transcript,
+    /// What each line of the log did.
+    Steps,
+    /// Where the score comes from.
+    Score,
     /// The state that the log leads to.
     FinalState,
 }
@@ -41,6 +45,8 @@ impl PlayView {
     {
         match name {
             "transcript" => Some(PlayView::Transcript),
+            "steps" => Some(PlayView::Steps),
+            "score" => Some(PlayView::Score),
             "state" => Some(PlayView::FinalState),
             _ => None,
         }

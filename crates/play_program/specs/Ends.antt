@@ -5,7 +5,7 @@ use Rattle.std.specs.List.{AllZip}
 use Rattle.cave_play.specs.Input.{InputTexts, Says}
 use Rattle.cave_play.specs.declared.fault.PlayFault.{PlayFault}
 use Rattle.cave_play.specs.declared.fault.PlayFault.TheVariants as fault
-use Rattle.play_command.specs.declared.line.Line.{Line}
+use Rattle.cave_play.specs.play_command.declared.line.Line.{Line}
 use Rattle.play_logs.specs.Faults.{at_none}
 use Rattle.play_logs.specs.declared.fault.LogsFault.{LogsFault}
 use Rattle.play_program.specs.Calls.{Call, and_then}

@@ -5,10 +5,10 @@ use Rattle.clap.specs.Words.{fault_of, subcommand_of}
 use Rattle.cave_play.specs.Fault.{status_of}
 use Rattle.cave_play.specs.declared.fault.PlayFault.{PlayFault}
 use Rattle.cave_play.specs.declared.fault.PlayFault.TheVariants as fault
-use Rattle.play_command.specs.App.{cave_app}
-use Rattle.play_command.specs.Line.{IsAsked, IsRefused, IsRun, status_of_command}
-use Rattle.play_command.specs.declared.fault.CommandFault.{CommandFault}
-use Rattle.play_command.specs.declared.line.Line.{Line}
+use Rattle.cave_play.specs.play_command.App.{cave_app}
+use Rattle.cave_play.specs.play_command.Line.{IsAsked, IsRefused, IsRun, status_of_command}
+use Rattle.cave_play.specs.play_command.declared.fault.CommandFault.{CommandFault}
+use Rattle.cave_play.specs.play_command.declared.line.Line.{Line}
 use Rattle.play_program.specs.Calls.{Call, and_then}
 use Rattle.play_program.specs.Calls.Call.{Tells}
 use Rattle.play_program.specs.Ends.{EndsRun}

@@ -8,8 +8,8 @@ use Rattle.cave_play.specs.Views.{IsEdited}
 use Rattle.cave_play.specs.declared.fault.PlayFault.{PlayFault}
 use Rattle.map_run.specs.Plays.{IsMapped}
 use Rattle.play_cover.specs.Plays.{IsCovered}
-use Rattle.play_command.specs.declared.line.Line.{Line}
-use Rattle.play_command.specs.declared.line.Line.TheVariants.{Check, Play, Edit, Cover, Map, Text}
+use Rattle.cave_play.specs.play_command.declared.line.Line.{Line}
+use Rattle.cave_play.specs.play_command.declared.line.Line.TheVariants.{Check, Play, Edit, Cover, Map, Text}
 use Rattle.play_logs.specs.Faults.{RunsLogs, at_none, first_stages}
 use Rattle.play_logs.specs.declared.fault.LogsFault.{LogsFault}
 

@@ -17,7 +17,7 @@ dwarf_read : (a b : Dwarf) (s t : List ℕ) → IsDwarfWithin a → IsDwarfWithi
     → dwarf_text a ++ s ≡ dwarf_text b ++ t → (a ≡ b) × (s ≡ t)
 unfolding dwarf_text numbered_text answer_line
 dwarf_read a b s t ha hb e =
-    let place = number_step (codes " at ") a.place b.place _ _ s t ha.0 hb.0 refl refl e in
+    let place = number_step (codes ": at ") a.place b.place _ _ s t ha.0 hb.0 refl refl e in
     let last = number_step (codes ", was at ") a.last b.last _ _ s t ha.1 hb.1 refl refl place.1 in
     let seen =
     answer_line_read (codes ", has seen the player ") a.has_seen b.has_seen s t last.1 in
@@ -27,12 +27,12 @@ pub dwarves_read : (a b : State) (s t : List ℕ) → AreDwarvesWithin a → Are
     → IsPast (codes "dwarf ") 6 s → IsPast (codes "dwarf ") 6 t
     → text_up_to (dwarf_line a) 6 ++ s ≡ text_up_to (dwarf_line b) 6 ++ t
     → (a.dwarves.each ≡ b.dwarves.each) × (s ≡ t)
-unfolding dwarf_line
+unfolding dwarf_line dwarf_text numbered_text
 dwarves_read a b s t ha hb past other e =
     let read =
     entries_read (codes "dwarf ") (λ n. false) (λ n. false) (λ n. dwarf_text (dwarf_numbered a n))
     (λ n. dwarf_text (dwarf_numbered b n)) (λ n. dwarf_numbered a n ≡ dwarf_numbered b n) 6 s t
-    (omega arith)
+    (omega arith) (λ n u. refl) (λ n u. refl)
     (λ n up. (
       λ here there. absurd (false≢true here),
       λ u v. dwarf_read (dwarf_numbered a n) (dwarf_numbered b n) u v (ha.each n up) (hb.each n up),

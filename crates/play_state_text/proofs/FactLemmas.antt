@@ -3,6 +3,7 @@ use Rattle.std.proofs.Common.{◌≡◌, ℕ, ℤ, Bool, List, ◌++◌, Option,
 use Rattle.std.specs.Prelude.{codes}
 use Rattle.std.proofs.lemmas.Bool.{false≢true}
 use Rattle.std.proofs.lemmas.List.{append_cancel_left}
+use Rattle.cave_world.specs.cave_data.CaveView.{CaveView}
 use Rattle.cave_world.specs.declared.dwarves.Dwarves.{Dwarves}
 use Rattle.cave_world.specs.declared.dwarves.Knife.{Knife}
 use Rattle.cave_world.specs.declared.dwarves.Knife.TheVariants.{Unthrown, At, Vanished}
@@ -19,6 +20,8 @@ use Rattle.play_state_text.specs.Facts.{counts_text, trail_text, question_text, 
 use Rattle.play_state_text.specs.Facts.{closing_text, tallies_text, verb_text, talk_text}
 use Rattle.play_state_text.specs.Facts.{anger_text, knife_text, numbered_line, signed_line}
 use Rattle.play_state_text.specs.Facts.{answer_line}
+use Rattle.play_state_text.specs.Words.{half_verb_line, object_line}
+use Rattle.play_state_text.proofs.WordLemmas.{half_verb_line_read, object_line_read}
 use Rattle.play_state_text.specs.Within.{IsWide, IsSigned, IsTrailWithin, IsQuestionWithin}
 use Rattle.play_state_text.specs.Within.{IsClosingWithin, AreTalliesWithin, IsVerbWithin}
 use Rattle.play_state_text.specs.Within.{IsTalkWithin, IsKnifeWithin}
@@ -169,24 +172,33 @@ tallies_read a b s t ha hb e =
     let deaths = line_read (codes "deaths ") a.deaths b.deaths s t ha.1.1 hb.1.1 lost.1 in
     (λ i. record { unseen = unseen.0 i; lost = lost.0 i; deaths = deaths.0 i }, deaths.1)
 
-verb_read : (p q : Option ℕ) (s t : List ℕ) → IsVerbWithin p → IsVerbWithin q
-    → verb_text p ++ s ≡ verb_text q ++ t → (p ≡ q) × (s ≡ t)
-unfolding numbered_line
-verb_read None None s t hp hq e = (refl, append_cancel_left (codes "half command none\n") s t e)
-verb_read (Some m) (Some n) s t hp hq e =
-    let number = line_read (codes "half verb ") m n s t hp hq e in
-    (λ i. Some (number.0 i), number.1)
-verb_read _ _ s t hp hq e = absurd (false≢true (differ 5 _ _ e))
+verb_read : (cave : CaveView) (p q : Option ℕ) (s t : List ℕ) → IsVerbWithin p → IsVerbWithin q
+    → verb_text cave p ++ s ≡ verb_text cave q ++ t → (p ≡ q) × (s ≡ t)
+unfolding half_verb_line
+verb_read cave None None s t hp hq e =
+    (refl, append_cancel_left (codes "half command none\n") s t e)
+verb_read cave (Some m) (Some n) s t hp hq e =
+    let number = half_verb_line_read cave m n s t hp hq e in (λ i. Some (number.0 i), number.1)
+verb_read cave _ _ s t hp hq e = absurd (false≢true (differ 5 _ _ e))
 
-pub talk_read : (a b : Talk) (s t : List ℕ) → IsTalkWithin a → IsTalkWithin b
-    → talk_text a ++ s ≡ talk_text b ++ t → (a ≡ b) × (s ≡ t)
+object_line_step : (cave : CaveView) (name : List ℕ) (m n : ℕ) (x y s t : List ℕ) → IsWide m
+    → IsWide n → (object_line cave name m ++ x) ++ s ≡ (object_line cave name n ++ y) ++ t
+    → (m ≡ n) × (x ++ s ≡ y ++ t)
+object_line_step cave name m n x y s t hm hn e =
+    object_line_read cave name m n (x ++ s) (y ++ t) hm hn
+    (peel (object_line cave name m) (object_line cave name n) x y s t e)
+
+pub talk_read : (cave : CaveView) (a b : Talk) (s t : List ℕ) → IsTalkWithin a → IsTalkWithin b
+    → talk_text cave a ++ s ≡ talk_text cave b ++ t → (a ≡ b) × (s ≡ t)
 unfolding talk_text
-talk_read a b s t ha hb e =
+talk_read cave a b s t ha hb e =
     let verb =
-    verb_read a.verb b.verb _ _ ha.0 hb.0 (peel (verb_text a.verb) (verb_text b.verb) _ _ s t e) in
+    verb_read cave a.verb b.verb _ _ ha.0 hb.0
+    (peel (verb_text cave a.verb) (verb_text cave b.verb) _ _ s t e) in
     let object =
-    line_step (codes "half object ") a.object b.object _ _ s t ha.1.0 hb.1.0 verb.1 in
-    let last = line_step (codes "last object ") a.last b.last _ _ s t ha.1.1.0 hb.1.1.0 object.1 in
+    object_line_step cave (codes "half object ") a.object b.object _ _ s t ha.1.0 hb.1.0 verb.1 in
+    let last =
+    object_line_step cave (codes "last object ") a.last b.last _ _ s t ha.1.1.0 hb.1.1.0 object.1 in
     let brief = answer_line_step (codes "brief ") a.is_brief b.is_brief _ _ s t last.1 in
     let details =
     line_step (codes "details ") a.details b.details _ _ s t ha.1.1.1.0 hb.1.1.1.0 brief.1 in

@@ -21,7 +21,7 @@ hint_read : (m n : ℕ) (a b : Bool) (s t : List ℕ) → IsWide m → IsWide n
     → hint_text m a ++ s ≡ hint_text n b ++ t → ((m ≡ n) × (a ≡ b)) × (s ≡ t)
 unfolding hint_text numbered_text answer_line
 hint_read m n a b s t hm hn e =
-    let turns = number_step (codes " waited ") m n _ _ s t hm hn refl refl e in
+    let turns = number_step (codes ": waited ") m n _ _ s t hm hn refl refl e in
     let taken = answer_line_read (codes ", taken ") a b s t turns.1 in
     ((turns.0, taken.0), taken.1)
 
@@ -35,13 +35,14 @@ pub hints_read : (a b : State) (s t : List ℕ) → AreHintsWithin a → AreHint
     → IsPast (codes "hint ") 20 s → IsPast (codes "hint ") 20 t
     → text_up_to (hint_line a) 20 ++ s ≡ text_up_to (hint_line b) 20 ++ t
     → (a.hints ≡ b.hints) × (s ≡ t)
-unfolding hint_line
+unfolding hint_line hint_text numbered_text
 hints_read a b s t ha hb past other e =
     let skips : State → ℕ → Bool = λ z n. turns_in_area z n == 0 && not (is_hint_taken z n) in
     let read =
     entries_read (codes "hint ") (skips a) (skips b)
     (λ n. hint_text (turns_in_area a n) (is_hint_taken a n))
     (λ n. hint_text (turns_in_area b n) (is_hint_taken b n)) (AreSameHints a b) 20 s t (omega arith)
+    (λ n u. refl) (λ n u. refl)
     (λ n up. (
       λ here there.
           let one = unused (turns_in_area a n) (is_hint_taken a n) here in

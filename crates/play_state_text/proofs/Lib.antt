@@ -10,3 +10,4 @@ pub mod Reading
 pub mod StateLemmas
 pub mod VisitLemmas
 pub mod WithinLemmas
+mod WordLemmas

@@ -1,6 +1,6 @@
 -- Objects are read back from their lines.
-use Rattle.std.proofs.Common.{◌≡◌, ℕ, ℤ, ◌+◌, ◌-◌, true, false, List, [], ◌++◌, refl, sym, ap, ◌∙◌}
-use Rattle.std.proofs.Common.{arith, append_assoc, pos}
+use Rattle.std.proofs.Common.{◌≡◌, ℕ, ℤ, ◌+◌, ◌-◌, true, false, List, [], ◌++◌, refl, sym, ap}
+use Rattle.std.proofs.Common.{◌∙◌, arith, append_assoc, pos, subst}
 use Rattle.std.specs.Prelude.{◌==◌, ◌&&◌, codes, slice_index_or}
 use Rattle.std.specs.Bool.{Decides}
 use Rattle.std.specs.Cmp.{unsigned_Decides, signed_Decides}
@@ -16,13 +16,15 @@ use Rattle.cave_world.specs.world_objects.declared.spot.Anchor.{Anchor}
 use Rattle.cave_world.specs.world_objects.declared.spot.Anchor.TheVariants as anchor
 use Rattle.cave_world.specs.world_objects.contracts.spot.SpotPartialEq.TheImpl as spot_eq
 use Rattle.cave_world.specs.world_objects.contracts.spot.AnchorPartialEq.TheImpl as anchor_eq
-use Rattle.play_state_text.specs.Things.{text_up_to, word_of_object, spot_text, anchor_text}
+use Rattle.play_state_text.specs.Things.{text_up_to, spot_text, anchor_text}
 use Rattle.play_state_text.specs.Things.{is_as_in, thing_line, thing_text}
 use Rattle.play_state_text.specs.Within.{IsUpTo, AreObjectsWithin, IsSpotWithin, IsAnchorWithin}
 use Rattle.play_state_text.specs.Within.{IsThingWithin}
 use Rattle.play_state_text.proofs.EntryLemmas.{IsPast, entries_read}
 use Rattle.play_state_text.proofs.Reading.{GoesOn, number_read, signed_step, after_name, both_true}
 use Rattle.play_state_text.proofs.Reading.{differ, peel}
+use Rattle.play_state_text.specs.Words.{word_of_object}
+use Rattle.play_state_text.proofs.WordLemmas.{object_beside}
 use Rattle.play_state_text.proofs.ListedLemmas.{listed, not_zero}
 use Rattle.play_state_text.specs.Facts.{numbered_text, signed_line}
 
@@ -72,8 +74,8 @@ thing_read : (cave : CaveView) (o p : Layout) (x : ℕ) → IsThingWithin o x �
     → AreSameThings o p x × (s ≡ t)
 unfolding thing_text signed_line
 thing_read cave o p x ho hp s t e =
-    let word = after_name (codes " ") _ _ s t e in
-    let rest = after_name (word_of_object cave x) _ _ s t word in
+    let word = after_name (word_of_object cave x) _ _ s t e in
+    let rest = after_name (codes ":") _ _ s t word in
     let spots = peel (spot_text (spot_of o x)) (spot_text (spot_of p x)) _ _ s t rest in
     let more = codes "\n" in
     let tail : ℤ → List ℕ → List ℕ = λ z u. prop_text ((signed_decimal z ++ codes "\n") ++ u) in
@@ -91,6 +93,16 @@ thing_read cave o p x ho hp s t e =
     let third =
     signed_step [] (prop_of o x) (prop_of p x) more more s t ho.1.1 hp.1.1 refl refl second.1 in
     ((first.0, (second.0, third.0)), append_cancel_left more s t third.1)
+
+thing_goes_on : (cave : CaveView) (o : Layout) (x : ℕ) (u : List ℕ)
+    → GoesOn (thing_text cave o x ++ u)
+unfolding thing_text
+thing_goes_on cave o x u =
+    let rest =
+    codes ":" ++ (spot_text (spot_of o x)
+    ++ (anchor_text (anchor_of o x) ++ signed_line (codes ", prop ") (prop_of o x))) in
+    let whole = append_assoc (word_of_object cave x) rest u in
+    subst GoesOn (sym whole) (object_beside cave x (rest ++ u) refl)
 
 spot_decides : (a b : Spot) → Decides (spot_eq.eq-value.it a b) (a ≡ b)
 spot_decides spot.Away spot.Away = (λ _. refl, λ _. refl)
@@ -129,6 +141,7 @@ unfolding thing_line
 objects_read cave begun o p s t ho hp past other e =
     entries_read (codes "object ") (is_as_in begun o) (is_as_in begun p) (thing_text cave o)
     (thing_text cave p) (AreSameThings o p) 100 s t (omega arith)
+    (thing_goes_on cave o) (thing_goes_on cave p)
     (λ x up. (
       λ here there.
           let one = as_begun begun o x here in

@@ -20,6 +20,7 @@ use Rattle.play_state_text.specs.Facts.{numbered_line}
 use Rattle.play_state_text.specs.StateText.{AreToldApart, state_text, game_text, objects_text}
 use Rattle.play_state_text.specs.StateText.{rest_text}
 use Rattle.play_state_text.specs.Within.{IsStateWithin}
+use Rattle.play_state_text.specs.Words.{half_verb_line}
 use Rattle.play_state_text.proofs.EntryLemmas.{IsPast}
 use Rattle.play_state_text.proofs.FactLemmas.{counts_read, trail_read, question_read, ending_read}
 use Rattle.play_state_text.proofs.FactLemmas.{lamp_read, closing_read, tallies_read, talk_read}
@@ -71,37 +72,38 @@ game_read a b s t ha hb e =
       tallies.1,
     )
 
-verb_past : (verb : Option ℕ) (s : List ℕ) → IsPast (codes "object ") 100 (verb_text verb ++ s)
-unfolding numbered_line
-verb_past None s number more within clash = false≢true (differ 0 _ _ clash)
-verb_past (Some verb) s number more within clash = false≢true (differ 0 _ _ clash)
+verb_past : (cave : CaveView) (verb : Option ℕ) (s : List ℕ)
+    → IsPast (codes "object ") 100 (verb_text cave verb ++ s)
+unfolding half_verb_line
+verb_past cave None s number more within goes clash = false≢true (differ 0 _ _ clash)
+verb_past cave (Some verb) s number more within goes clash = false≢true (differ 0 _ _ clash)
 
-talk_past : (talk : Talk) (lists s : List ℕ)
-    → IsPast (codes "object ") 100 ((talk_text talk ++ lists) ++ s)
+talk_past : (cave : CaveView) (talk : Talk) (lists s : List ℕ)
+    → IsPast (codes "object ") 100 ((talk_text cave talk ++ lists) ++ s)
 unfolding talk_text
-talk_past talk lists s number more within clash =
-    verb_past talk.verb _ number more within
-    (sym (append_assoc (verb_text talk.verb) _ s)
-    ∙ (ap (λ t. t ++ s) (sym (append_assoc (verb_text talk.verb) _ lists)) ∙ clash))
+talk_past cave talk lists s number more within goes clash =
+    verb_past cave talk.verb _ number more within goes
+    (sym (append_assoc (verb_text cave talk.verb) _ s)
+    ∙ (ap (λ t. t ++ s) (sym (append_assoc (verb_text cave talk.verb) _ lists)) ∙ clash))
 
 knife_past : (knife : Knife) (s : List ℕ) → IsPast (codes "dwarf ") 6 (knife_text knife ++ s)
 unfolding numbered_line
-knife_past Unthrown s number more within clash = false≢true (differ 0 _ _ clash)
-knife_past (At place) s number more within clash = false≢true (differ 0 _ _ clash)
-knife_past Vanished s number more within clash = false≢true (differ 0 _ _ clash)
+knife_past Unthrown s number more within goes clash = false≢true (differ 0 _ _ clash)
+knife_past (At place) s number more within goes clash = false≢true (differ 0 _ _ clash)
+knife_past Vanished s number more within goes clash = false≢true (differ 0 _ _ clash)
 
 anger_past : (dwarves : Dwarves) (s : List ℕ)
     → IsPast (codes "place ") 300 (anger_text dwarves ++ s)
 unfolding anger_text numbered_line
-anger_past dwarves s number more within clash = false≢true (differ 0 _ _ clash)
+anger_past dwarves s number more within goes clash = false≢true (differ 0 _ _ clash)
 
 stream_past : (stream : ℕ) (s : List ℕ)
     → IsPast (codes "hint ") 20 (numbered_line (codes "stream ") stream ++ s)
 unfolding numbered_line
-stream_past stream s number more within clash = false≢true (differ 0 _ _ clash)
+stream_past stream s number more within goes clash = false≢true (differ 0 _ _ clash)
 
 nothing_past : IsPast (codes "visits ") 300 []
-nothing_past number more within clash = false≢true (differ 0 _ _ clash)
+nothing_past number more within goes clash = false≢true (differ 0 _ _ clash)
 
 record AreSameObjects (a b : State) : Type 0 where
   spots : a.objects.first ≡ b.objects.first
@@ -118,19 +120,19 @@ things_read : (cave : CaveView) (begun : Layout) (a b : State) (s t : List ℕ) 
 things_read cave begun a b s t ha hb e =
     let rest = anger_text a.dwarves ++ s in
     let other = anger_text b.dwarves ++ t in
-    let lists = text_up_to (place_line begun a.objects) 300 in
-    let others = text_up_to (place_line begun b.objects) 300 in
+    let lists = text_up_to (place_line cave begun a.objects) 300 in
+    let others = text_up_to (place_line cave begun b.objects) 300 in
     let objects =
     objects_read cave begun a.objects b.objects _ _ ha.objects hb.objects
-    (talk_past a.talk lists rest) (talk_past b.talk others other)
+    (talk_past cave a.talk lists rest) (talk_past cave b.talk others other)
     (peel (text_up_to (thing_line cave begun a.objects) 100)
-    (text_up_to (thing_line cave begun b.objects) 100) (talk_text a.talk ++ lists)
-    (talk_text b.talk ++ others) rest other e) in
+    (text_up_to (thing_line cave begun b.objects) 100) (talk_text cave a.talk ++ lists)
+    (talk_text cave b.talk ++ others) rest other e) in
     let talk =
-    talk_read a.talk b.talk _ _ ha.facts.talk hb.facts.talk
-    (peel (talk_text a.talk) (talk_text b.talk) lists others rest other objects.1) in
+    talk_read cave a.talk b.talk _ _ ha.facts.talk hb.facts.talk
+    (peel (talk_text cave a.talk) (talk_text cave b.talk) lists others rest other objects.1) in
     let places =
-    places_read begun a.objects b.objects rest other ha.objects hb.objects
+    places_read cave begun a.objects b.objects rest other ha.objects hb.objects
     (anger_past a.dwarves s) (anger_past b.dwarves t) talk.1 in
     let same = things_same a.objects b.objects ha.objects hb.objects objects.0 in (
       record {

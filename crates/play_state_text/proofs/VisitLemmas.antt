@@ -1,5 +1,5 @@
 -- How often places were described is read back from the lines of places.
-use Rattle.std.proofs.Common.{◌≡◌, ℕ, ◌+◌, ◌-◌, false, List, ◌++◌, sym, ◌∙◌, arith}
+use Rattle.std.proofs.Common.{◌≡◌, ℕ, ◌+◌, ◌-◌, false, List, ◌++◌, refl, sym, ◌∙◌, arith}
 use Rattle.std.specs.Prelude.{◌==◌, codes, slice_index_or}
 use Rattle.std.specs.Cmp.{unsigned_Decides}
 use Rattle.play_state_text.specs.Facts.{numbered_line}
@@ -20,18 +20,19 @@ pub visits_read : (a b : State) (s t : List ℕ) → AreVisitsWithin a → AreVi
     → IsPast (codes "visits ") 300 s → IsPast (codes "visits ") 300 t
     → text_up_to (visits_line a) 300 ++ s ≡ text_up_to (visits_line b) 300 ++ t
     → (a.visits ≡ b.visits) × (s ≡ t)
-unfolding visits_line
+unfolding visits_line numbered_line
 visits_read a b s t ha hb past other e =
     let read =
     entries_read (codes "visits ") (λ n. visits_of a n == 0) (λ n. visits_of b n == 0)
-    (λ n. numbered_line (codes " ") (visits_of a n))
-    (λ n. numbered_line (codes " ") (visits_of b n))
+    (λ n. numbered_line (codes ": ") (visits_of a n))
+    (λ n. numbered_line (codes ": ") (visits_of b n))
     (λ n. visits_of a n ≡ visits_of b n) 300 s t (omega arith)
+    (λ n u. refl) (λ n u. refl)
     (λ n up. (
       λ here there.
           (unsigned_Decides (visits_of a n) 0).0 here
           ∙ sym ((unsigned_Decides (visits_of b n) 0).0 there),
-      λ u v. line_read (codes " ") (visits_of a n) (visits_of b n) u v (ha.each n up)
+      λ u v. line_read (codes ": ") (visits_of a n) (visits_of b n) u v (ha.each n up)
           (hb.each n up),
     ))
     past other e in (

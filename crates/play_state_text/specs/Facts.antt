@@ -2,6 +2,7 @@
 use Rattle.std.specs.Prelude.{ℕ, ℤ, Bool, true, false, List, ◌++◌, codes, decimal, Option, None}
 use Rattle.std.specs.Prelude.{Some}
 use Rattle.std.specs.Fmt.{signed_decimal}
+use Rattle.cave_world.specs.cave_data.CaveView.{CaveView}
 use Rattle.cave_world.specs.declared.dwarves.Knife.{Knife}
 use Rattle.cave_world.specs.declared.dwarves.Knife.TheVariants.{Unthrown, At, Vanished}
 use Rattle.cave_world.specs.declared.ending.Question.{Question}
@@ -14,6 +15,7 @@ use Rattle.cave_world.specs.declared.lamp.Lamp.{Lamp}
 use Rattle.cave_world.specs.declared.closing.Closing.{Closing}
 use Rattle.cave_world.specs.declared.talk.Talk.{Talk}
 use Rattle.cave_world.specs.declared.dwarves.Dwarves.{Dwarves}
+use Rattle.play_state_text.specs.Words.{half_verb_line, object_line}
 
 abbrev pub yes_or_no : Bool → List ℕ
 yes_or_no true = codes "yes"
@@ -83,16 +85,16 @@ tallies_text tallies =
     ++ (numbered_line (codes "lost treasures ") tallies.lost
     ++ numbered_line (codes "deaths ") tallies.deaths)
 
-abbrev pub verb_text : Option ℕ → List ℕ
-verb_text None = codes "half command none\n"
-verb_text (Some verb) = numbered_line (codes "half verb ") verb
+abbrev pub verb_text : CaveView → Option ℕ → List ℕ
+verb_text cave None = codes "half command none\n"
+verb_text cave (Some verb) = half_verb_line cave verb
 
 -- what is remembered of what was said
-unfoldable pub talk_text : Talk → List ℕ
-talk_text talk =
-    verb_text talk.verb
-    ++ (numbered_line (codes "half object ") talk.object
-    ++ (numbered_line (codes "last object ") talk.last
+unfoldable pub talk_text : CaveView → Talk → List ℕ
+talk_text cave talk =
+    verb_text cave talk.verb
+    ++ (object_line cave (codes "half object ") talk.object
+    ++ (object_line cave (codes "last object ") talk.last
     ++ (answer_line (codes "brief ") talk.is_brief
     ++ (numbered_line (codes "details ") talk.details
     ++ signed_line (codes "magic ") talk.magic))))

@@ -19,7 +19,7 @@ game_text s =
 abbrev pub objects_text : CaveView → Layout → State → List ℕ
 objects_text cave begun s =
     text_up_to (thing_line cave begun s.objects) LAST_OBJECT
-    ++ (talk_text s.talk ++ text_up_to (place_line begun s.objects) LAST_PLACE)
+    ++ (talk_text cave s.talk ++ text_up_to (place_line cave begun s.objects) LAST_PLACE)
 
 -- the dwarves, the hints, the random stream, and how often places were described
 abbrev pub rest_text : State → List ℕ

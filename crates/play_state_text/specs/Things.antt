@@ -1,10 +1,9 @@
 -- Lines for what there is more than once in a state: objects, places, dwarves, hints.
 use Rattle.std.specs.Prelude.{ℕ, ◌+◌, ◌-◌, Bool, false, ◌==◌, ◌&&◌, not, List, [], ◌∷◌, ◌++◌, codes}
-use Rattle.std.specs.Prelude.{unwrap_or, slice_index_or, zero, suc, if◌then◌else◌, decimal}
+use Rattle.std.specs.Prelude.{slice_index_or, zero, suc, if◌then◌else◌, decimal}
 use Rattle.std.specs.Ordering.{int_eq}
 use Rattle.std.specs.Cmp.Lexicographic.{pointwise}
-use Rattle.cave_world.specs.data_rows.Rows.{WORDS_PER_CLASS}
-use Rattle.cave_world.specs.cave_data.CaveView.{CaveView, first_word}
+use Rattle.cave_world.specs.cave_data.CaveView.{CaveView}
 use Rattle.cave_world.specs.world_objects.Objects.{Layout, spot_of, anchor_of, prop_of}
 use Rattle.cave_world.specs.world_objects.Lists.{halves_at}
 use Rattle.cave_world.specs.world_objects.declared.object.Half.{Half}
@@ -20,11 +19,12 @@ use Rattle.cave_world.specs.State.{no_dwarf, visits_of, turns_in_area, is_hint_t
 use Rattle.cave_world.specs.declared.dwarves.Dwarf.{Dwarf}
 use Rattle.cave_world.specs.declared.state.State.{State}
 use Rattle.play_state_text.specs.Facts.{numbered_text, numbered_line, signed_line, answer_line}
+use Rattle.play_state_text.specs.Words.{named_object, word_of_object}
 
 -- the line of a number, or nothing where it is left out
 abbrev pub entry : List ℕ → Bool → ℕ → List ℕ → List ℕ
 entry name is_left_out number rest =
-    if is_left_out then [] else name ++ (decimal number ++ (codes ":" ++ rest))
+    if is_left_out then [] else name ++ (decimal number ++ rest)
 
 -- what is written for each number from 1 to the last
 unfoldable pub text_up_to : (ℕ → List ℕ) → ℕ → List ℕ
@@ -32,10 +32,6 @@ text_up_to text zero = []
 text_up_to text (suc last) = text_up_to text last ++ text (suc last)
 
 -- ---- objects
-
--- the first word of an object in the cave, or a dash where it has none
-unfoldable pub word_of_object : CaveView → ℕ → List ℕ
-word_of_object cave x = unwrap_or (first_word cave.words (WORDS_PER_CLASS + x)) (codes "-")
 
 abbrev pub spot_text : Spot → List ℕ
 spot_text spot.Away = codes " away"
@@ -56,7 +52,7 @@ is_as_in begun o x =
 
 unfoldable pub thing_text : CaveView → Layout → ℕ → List ℕ
 thing_text cave o x =
-    codes " " ++ (word_of_object cave x ++ (spot_text (spot_of o x)
+    word_of_object cave x ++ (codes ":" ++ (spot_text (spot_of o x)
     ++ (anchor_text (anchor_of o x) ++ signed_line (codes ", prop ") (prop_of o x))))
 
 -- an object, where it isn't as it was when the game began
@@ -66,30 +62,33 @@ thing_line cave begun o x =
 
 -- ---- what is at places
 
-abbrev pub half_text : Half → List ℕ
-half_text (First x) = numbered_text (codes " ") x
-half_text (Second x) = numbered_text (codes " also ") x
+abbrev pub half_text : CaveView → Half → List ℕ
+half_text cave (First x) = codes " " ++ named_object cave x
+half_text cave (Second x) = codes " also " ++ named_object cave x
 
-abbrev pub each_half : List Half → List ℕ
-each_half [] = []
-each_half (half ∷ halves) = half_text half ++ each_half halves
+-- each after a comma
+abbrev pub more_halves_text : CaveView → List Half → List ℕ
+more_halves_text cave [] = []
+more_halves_text cave (half ∷ halves) =
+    (codes "," ++ half_text cave half) ++ more_halves_text cave halves
 
-abbrev pub halves_text : List Half → List ℕ
-halves_text [] = codes " nothing\n"
-halves_text (half ∷ halves) = each_half (half ∷ halves) ++ codes "\n"
+abbrev pub halves_text : CaveView → List Half → List ℕ
+halves_text cave [] = codes ": nothing\n"
+halves_text cave (half ∷ halves) =
+    codes ":" ++ (half_text cave half ++ (more_halves_text cave halves ++ codes "\n"))
 
 -- the list of a place, latest first, where it isn't as it was when the game began
-unfoldable pub place_line : Layout → Layout → ℕ → List ℕ
-place_line begun o place =
+unfoldable pub place_line : CaveView → Layout → Layout → ℕ → List ℕ
+place_line cave begun o place =
     entry (codes "place ")
     (pointwise half_eq.eq-value.it (halves_at place o.lists) (halves_at place begun.lists)) place
-    (halves_text (halves_at place o.lists))
+    (halves_text cave (halves_at place o.lists))
 
 -- how often a place was described, where it was
 unfoldable pub visits_line : State → ℕ → List ℕ
 visits_line s place =
     entry (codes "visits ") (visits_of s place == 0) place
-    (numbered_line (codes " ") (visits_of s place))
+    (numbered_line (codes ": ") (visits_of s place))
 
 -- ---- dwarves and hints
 
@@ -98,7 +97,7 @@ dwarf_numbered s number = slice_index_or s.dwarves.each (number - 1) no_dwarf
 
 unfoldable pub dwarf_text : Dwarf → List ℕ
 dwarf_text dwarf =
-    numbered_text (codes " at ") dwarf.place
+    numbered_text (codes ": at ") dwarf.place
     ++ (numbered_text (codes ", was at ") dwarf.last
     ++ answer_line (codes ", has seen the player ") dwarf.has_seen)
 
@@ -107,7 +106,7 @@ dwarf_line s number = entry (codes "dwarf ") false number (dwarf_text (dwarf_num
 
 unfoldable pub hint_text : ℕ → Bool → List ℕ
 hint_text turns is_taken =
-    numbered_text (codes " waited ") turns ++ answer_line (codes ", taken ") is_taken
+    numbered_text (codes ": waited ") turns ++ answer_line (codes ", taken ") is_taken
 
 -- a hint that was waited for or taken
 unfoldable pub hint_line : State → ℕ → List ℕ

@@ -4,7 +4,7 @@ ghost use Rattle.std.specs.Prelude.{◌≡◌, ◌++◌, ◌≤◌, OnOk};
 ghost use Rattle.cave_world.specs.Limits.{dwarf_count};
 ghost use Rattle.play_state_text.specs.Things.{text_up_to, dwarf_text, dwarf_line};
 
-use crate::facts::{push_answer, push_numbered, push_start};
+use crate::facts::{push_answer, push_numbered};
 use cave_world::dwarves::DWARVES;
 use cave_world::{Dwarf, State};
 use std::alloc::{AllocError, Global};
@@ -13,13 +13,13 @@ use std::alloc::{AllocError, Global};
 fn push_dwarf_text(alloc: Global, text: &mut Vec<u8>, dwarf: Dwarf) -> Result<(), AllocError>
     ensures { OnOk result (text.new.items ≡ text.old.items ++ dwarf_text dwarf) }
 {
-    push_numbered(alloc, text, " at ", u32::from(dwarf.place.number()))?;
+    push_numbered(alloc, text, ": at ", u32::from(dwarf.place.number()))?;
     push_numbered(alloc, text, ", was at ", u32::from(dwarf.last.number()))?;
     push_answer(alloc, text, ", has seen the player ", dwarf.has_seen)
 }
 
 /// Appends the line of the dwarf of a number.
-#[tactic(auto, unfolding(crate::specs::Things::dwarf_line))]
+#[tactic(auto, unfolding(crate::specs::Things::dwarf_line, crate::specs::Facts::numbered_text))]
 fn push_dwarf(
     alloc: Global,
     text: &mut Vec<u8>,
@@ -30,7 +30,7 @@ fn push_dwarf(
     requires within { number ≤ dwarf_count }
     ensures { OnOk result (text.new.items ≡ text.old.items ++ dwarf_line state.now number) }
 {
-    push_start(alloc, text, "dwarf ", u32::from(number))?;
+    push_numbered(alloc, text, "dwarf ", u32::from(number))?;
     push_dwarf_text(alloc, text, state.dwarves.each[usize::from(number) - 1])
 }
 

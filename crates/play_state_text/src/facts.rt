@@ -1,13 +1,14 @@
 //! Lines for what there is once in a state.
 
-ghost use Rattle.std.specs.Prelude.{◌≡◌, ◌++◌, OnOk, codes, decimal};
+ghost use Rattle.std.specs.Prelude.{◌≡◌, ◌++◌, OnOk, codes};
 ghost use Rattle.play_state_text.specs.Facts.{yes_or_no, numbered_text, numbered_line, signed_line};
 ghost use Rattle.play_state_text.specs.Facts.{answer_line, counts_text, trail_text, question_text};
 ghost use Rattle.play_state_text.specs.Facts.{end_line, lamp_text, closing_text, tallies_text};
 ghost use Rattle.play_state_text.specs.Facts.{verb_text, talk_text, anger_text, knife_text};
 
+use crate::words::{push_half_verb_line, push_object_line};
 use cave_world::{
-    Closing, Count, Dwarves, Ending, Knife, Lamp, Magic, Object, Question, Talk, Tallies, Trail,
+    Cave, Closing, Count, Dwarves, Ending, Knife, Lamp, Magic, Question, Talk, Tallies, Trail,
 };
 use std::alloc::{AllocError, Global};
 
@@ -29,20 +30,6 @@ pub(crate) fn push_numbered(
 {
     let words = format!(in alloc; "{before}{number}")?;
     text.extend_from_slice(words.as_bytes())
-}
-
-/// Appends the start of a line for what a number names.
-pub(crate) fn push_start(
-    alloc: Global,
-    text: &mut Vec<u8>,
-    name: &str,
-    number: u32,
-) -> Result<(), AllocError>
-    ensures { OnOk result (text.new.items ≡ text.old.items
-        ++ (name.now ++ (decimal number ++ codes ":"))) }
-{
-    let start = format!(in alloc; "{name}{number}:")?;
-    text.extend_from_slice(start.as_bytes())
 }
 
 #[tactic(auto, unfolding(crate::specs::Facts::numbered_line))]
@@ -96,17 +83,6 @@ fn push_count<const MOST: u16>(
         ≡ text.old.items ++ numbered_line before.now count.entry) }
 {
     push_numbered_line(alloc, text, before, u32::from(count.number()))
-}
-
-fn push_object_number(
-    alloc: Global,
-    text: &mut Vec<u8>,
-    before: &str,
-    object: Object,
-) -> Result<(), AllocError>
-    ensures { OnOk result (text.new.items ≡ text.old.items ++ numbered_line before.now object) }
-{
-    push_numbered_line(alloc, text, before, u32::from(object.number()))
 }
 
 /// Appends how many turns were taken, and the score.
@@ -219,12 +195,17 @@ pub(crate) fn push_tallies(
     push_count(alloc, text, "deaths ", tallies.deaths)
 }
 
-fn push_verb(alloc: Global, text: &mut Vec<u8>, verb: Option<u16>) -> Result<(), AllocError>
-    ensures { OnOk result (text.new.items ≡ text.old.items ++ verb_text verb) }
+fn push_verb(
+    alloc: Global,
+    text: &mut Vec<u8>,
+    cave: &Cave,
+    verb: Option<u16>,
+) -> Result<(), AllocError>
+    ensures { OnOk result (text.new.items ≡ text.old.items ++ verb_text cave.now verb) }
 {
     match verb {
         None => text.extend_from_slice(b"half command none\n"),
-        Some(verb) => push_numbered_line(alloc, text, "half verb ", u32::from(verb)),
+        Some(verb) => push_half_verb_line(alloc, text, cave, verb),
     }
 }
 
@@ -236,12 +217,17 @@ fn push_magic(alloc: Global, text: &mut Vec<u8>, magic: Magic) -> Result<(), All
 
 /// Appends what is remembered of what was said.
 #[tactic(auto, unfolding(crate::specs::Facts::talk_text))]
-pub(crate) fn push_talk(alloc: Global, text: &mut Vec<u8>, talk: Talk) -> Result<(), AllocError>
-    ensures { OnOk result (text.new.items ≡ text.old.items ++ talk_text talk) }
+pub(crate) fn push_talk(
+    alloc: Global,
+    text: &mut Vec<u8>,
+    cave: &Cave,
+    talk: Talk,
+) -> Result<(), AllocError>
+    ensures { OnOk result (text.new.items ≡ text.old.items ++ talk_text cave.now talk) }
 {
-    push_verb(alloc, text, talk.verb)?;
-    push_object_number(alloc, text, "half object ", talk.object)?;
-    push_object_number(alloc, text, "last object ", talk.last)?;
+    push_verb(alloc, text, cave, talk.verb)?;
+    push_object_line(alloc, text, cave, "half object ", talk.object)?;
+    push_object_line(alloc, text, cave, "last object ", talk.last)?;
     push_answer(alloc, text, "brief ", talk.is_brief)?;
     push_count(alloc, text, "details ", talk.details)?;
     push_magic(alloc, text, talk.magic)

@@ -4,7 +4,7 @@ ghost use Rattle.std.specs.Prelude.{◌≡◌, ◌++◌, OnOk};
 ghost use Rattle.cave_world.specs.data_numbers.Numbers.{LAST_HINT};
 ghost use Rattle.play_state_text.specs.Things.{text_up_to, hint_text, hint_line};
 
-use crate::facts::{push_answer, push_numbered, push_start};
+use crate::facts::{push_answer, push_numbered};
 use cave_world::hints::HINTS;
 use cave_world::{HintNumber, State};
 use std::alloc::{AllocError, Global};
@@ -18,12 +18,12 @@ fn push_hint_text(
 ) -> Result<(), AllocError>
     ensures { OnOk result (text.new.items ≡ text.old.items ++ hint_text turns is_taken) }
 {
-    push_numbered(alloc, text, " waited ", u32::from(turns))?;
+    push_numbered(alloc, text, ": waited ", u32::from(turns))?;
     push_answer(alloc, text, ", taken ", is_taken)
 }
 
 /// Appends the line of a hint that was waited for or taken.
-#[tactic(auto, unfolding(crate::specs::Things::hint_line))]
+#[tactic(auto, unfolding(crate::specs::Things::hint_line, crate::specs::Facts::numbered_text))]
 fn push_hint(
     alloc: Global,
     text: &mut Vec<u8>,
@@ -37,7 +37,7 @@ fn push_hint(
     if turns == 0 && !is_taken {
         return Ok(());
     }
-    push_start(alloc, text, "hint ", u32::from(hint.number()))?;
+    push_numbered(alloc, text, "hint ", u32::from(hint.number()))?;
     push_hint_text(alloc, text, turns, is_taken)
 }
 

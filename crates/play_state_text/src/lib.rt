@@ -9,6 +9,7 @@ pub mod objects;
 pub mod places;
 pub mod state_text;
 pub mod within;
+mod words;
 
 pub use laws::are_told_apart;
 pub use state_text::{Counts, push_state};

@@ -2,21 +2,13 @@
 
 ghost use Rattle.std.specs.Prelude.{◌≡◌, ◌++◌, OnOk};
 ghost use Rattle.cave_world.specs.data_numbers.Numbers.{LAST_OBJECT};
-ghost use Rattle.play_state_text.specs.Things.{text_up_to, word_of_object, spot_text, anchor_text};
+ghost use Rattle.play_state_text.specs.Things.{text_up_to, spot_text, anchor_text};
 ghost use Rattle.play_state_text.specs.Things.{is_as_in, thing_text, thing_line};
 
-use crate::facts::{push_numbered, push_signed, push_start};
-use cave_world::{Anchor, Cave, OBJECTS, Object, Objects, Spot, WORDS_PER_CLASS};
+use crate::facts::{push_numbered, push_signed};
+use crate::words::push_word_of_object;
+use cave_world::{Anchor, Cave, OBJECTS, Object, Objects, Spot};
 use std::alloc::{AllocError, Global};
-
-/// The first word of an object, or a dash where it has none.
-#[tactic(auto, unfolding(crate::specs::Things::word_of_object))]
-fn word_of_object(cave: &Cave, object: Object) -> &[u8]
-    ensures { result.now ≡ word_of_object cave.now object }
-{
-    let number = WORDS_PER_CLASS + u16::from(object.number());
-    cave.words().first_word(number).unwrap_or(b"-")
-}
 
 fn push_spot(alloc: Global, text: &mut Vec<u8>, spot: Spot) -> Result<(), AllocError>
     ensures { OnOk result (text.new.items ≡ text.old.items ++ spot_text spot) }
@@ -61,8 +53,8 @@ fn push_thing(
     ensures { OnOk result (text.new.items ≡ text.old.items
         ++ thing_text cave.now objects.now object) }
 {
-    text.extend_from_slice(b" ")?;
-    text.extend_from_slice(word_of_object(cave, object))?;
+    push_word_of_object(text, cave, object)?;
+    text.extend_from_slice(b":")?;
     push_spot(alloc, text, objects.spot(object))?;
     push_anchor(alloc, text, objects.anchor(object))?;
     push_signed(
@@ -74,7 +66,7 @@ fn push_thing(
 }
 
 /// Appends the line of an object, if it isn't as it was when the game began.
-#[tactic(auto, unfolding(crate::specs::Things::thing_line))]
+#[tactic(auto, unfolding(crate::specs::Things::thing_line, crate::specs::Facts::numbered_text))]
 fn push_thing_line(
     alloc: Global,
     text: &mut Vec<u8>,
@@ -89,7 +81,7 @@ fn push_thing_line(
     if is_as_in(begun, objects, object) {
         return Ok(());
     }
-    push_start(alloc, text, "object ", u32::from(object.number()))?;
+    push_numbered(alloc, text, "object ", u32::from(object.number()))?;
     push_thing(alloc, text, cave, objects, object)
 }
 

@@ -65,8 +65,8 @@ fn push_things(
         ++ objects_text cave.now begun.now state.now) }
 {
     push_objects(alloc, text, cave, begun, &state.objects)?;
-    push_talk(alloc, text, state.talk)?;
-    push_places(alloc, text, begun, &state.objects)
+    push_talk(alloc, text, cave, state.talk)?;
+    push_places(alloc, text, cave, begun, &state.objects)
 }
 
 /// Appends the dwarves, the hints, the random stream, and how often places were described.

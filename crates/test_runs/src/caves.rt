@@ -10,6 +10,24 @@ pub const LONG_TEXT: &str = "[welcome]\n\n> no\nYou stand on a road.\n\n\
 > in\nYou are in a hut.\nA lamp is here.\n\n> take lamp\n[ok]\n\n\
 > on\n[lamp-on]\n\n> down\nYou are in a cellar.\n-- score 32 of 132, turns 4\n";
 
+/// The names of the columns of what the lines of a log do.
+pub const STEPS_HEAD: &str =
+    "place\tline\tfrom\tto\tturns\tscore\tlamp\tcarried\tdraws\tstream\tquestion\tended\t\
+    happened\n";
+
+/// What the lines of the long log do.
+pub const STEPS: &str = "0\tno\t1\t1\t0\t32\t330\t0\t0\t0\t-\t-\t-\n\
+1\tin\t1\t3\t1\t32\t330\t0\t0\t0\t-\t-\t-\n\
+2\ttake lamp\t3\t3\t2\t32\t330\t1\t0\t0\t-\t-\t-\n\
+3\ton\t3\t3\t3\t32\t330\t1\t0\t0\t-\t-\t-\n\
+4\tdown\t3\t9\t4\t32\t329\t1\t0\t0\t-\t-\t-\n";
+
+/// Where the score of the log comes from, and of the log as the script edits it.
+pub const SCORE: &str = "what\tfound\thome\tpoints\tof\nlives\t-\t-\t30\t30\n\
+ending\t-\t-\t0\t4\ndwarves\t-\t-\t0\t25\nclosing\t-\t-\t0\t25\nclosed\t-\t-\t0\t45\n\
+magazine\t-\t-\t0\t1\nplaying\t-\t-\t2\t2\nscore\t-\t-\t32\t132\n\
+no class\t-\t-\t-\t-\nnext class\t-\t-\t-\t-\n";
+
 /// Another log, of one line.
 pub const SHORT_LOG: &[u8] = b"no\n";
 
@@ -23,6 +41,13 @@ pub const EDITED_LOG: &str = "no\nIN\n# note\non\ndown\n";
 pub const EDITED_PLAY: &str = "[welcome]\n\n> no\nYou stand on a road.\n\n\
 > IN\nYou are in a hut.\nA lamp is here.\n\n> on\n[lamp-on]\n\n> down\n[dark]\n\
 -- score 32 of 132, turns 3\n";
+
+/// What the lines of that log do.
+pub const EDITED_STEPS: &str = "0\tno\t1\t1\t0\t32\t330\t0\t0\t0\t-\t-\t-\n\
+1\tIN\t1\t3\t1\t32\t330\t0\t0\t0\t-\t-\t-\n\
+2\t# note\t3\t3\t1\t32\t330\t0\t0\t0\t-\t-\t-\n\
+3\ton\t3\t3\t2\t32\t330\t0\t0\t0\t-\t-\t-\n\
+4\tdown\t3\t9\t3\t32\t329\t0\t0\t0\t-\t-\t-\n";
 
 /// What the edit prints.
 pub const EDITED_TEXT: &str = "line 1: ok\nline 2: refused 1\nline 3: ok\n[welcome]\n\n\

@@ -108,7 +108,7 @@ impl<M: Machine> TestSession<M> {
                 })
             }
             Err(fault) => {
-                let (cause, number) = (fault.cause, fault.number);
+                let (cause, number) = (fault.cause, fault.at);
                 Err(RefusedEdit { cause, number })
             }
         }

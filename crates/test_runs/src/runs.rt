@@ -1,8 +1,9 @@
 //! Runs of the program over inputs from sources that can be made to misbehave.
 
 use crate::caves::{
-    CAVE, COVERED_HEAD, COVERED_TAIL, EDITED_LOG, EDITED_PLAY, EDITED_TEXT, KEYS_TAIL, LONG_LOG,
-    LONG_TEXT, MAP_HEAD, MAP_TAIL, REPORTS, SCRIPT, SHORT_LOG,
+    CAVE, COVERED_HEAD, COVERED_TAIL, EDITED_LOG, EDITED_PLAY, EDITED_STEPS, EDITED_TEXT,
+    KEYS_TAIL, LONG_LOG, LONG_TEXT, MAP_HEAD, MAP_TAIL, REPORTS, SCORE, SCRIPT, SHORT_LOG, STEPS,
+    STEPS_HEAD,
 };
 use crate::streams::{Sink, Source};
 use map_run::run::run_map;
@@ -41,7 +42,7 @@ pub const EDIT: Run = Run::Edit(EditView::Transcript);
 pub const COVER: Run = Run::Cover(CoverView::Counts);
 
 /// Each run that the program can be asked for, and what it prints of the usual inputs.
-pub const RUNS: [(Run, Printed); 12] = [
+pub const RUNS: [(Run, Printed); 16] = [
     (
         Run::Check(CheckView::Maximum),
         Printed::Whole("cave ok, maximum 132\n"),
@@ -52,6 +53,11 @@ pub const RUNS: [(Run, Printed); 12] = [
     ),
     (PLAY, Printed::Whole(LONG_TEXT)),
     (
+        Run::Play(PlayView::Steps),
+        Printed::Between(STEPS_HEAD, STEPS),
+    ),
+    (Run::Play(PlayView::Score), Printed::Whole(SCORE)),
+    (
         Run::Play(PlayView::FinalState),
         Printed::Between("turns 4\nscore 32\nhere 9\n", "\n"),
     ),
@@ -59,6 +65,11 @@ pub const RUNS: [(Run, Printed); 12] = [
     (Run::Edit(EditView::Play), Printed::Whole(EDITED_PLAY)),
     (Run::Edit(EditView::Log), Printed::Whole(EDITED_LOG)),
     (Run::Edit(EditView::Reports), Printed::Whole(REPORTS)),
+    (
+        Run::Edit(EditView::Steps),
+        Printed::Between(STEPS_HEAD, EDITED_STEPS),
+    ),
+    (Run::Edit(EditView::Score), Printed::Whole(SCORE)),
     (
         Run::Edit(EditView::FinalState),
         Printed::Between("turns 3\nscore 32\nhere 9\n", "\n"),

@@ -21,7 +21,7 @@ fn shown(alloc: Global, words: &[&str]) -> Result<String, AllocError> {
 }
 
 /// Words, and what the answer to them says.
-const ANSWERS: [(&[&str], &str); 28] = [
+const ANSWERS: [(&[&str], &str); 30] = [
     (
         &["cave", "check", "a"],
         "Check { files: Files { cave: \"a\", bind: None, output: None }, view: Maximum }",
@@ -45,6 +45,11 @@ const ANSWERS: [(&[&str], &str); 28] = [
         &["cave", "play", "a", "b", "--print", "state"],
         "Play { files: Files { cave: \"a\", bind: None, output: None }, \
         log: \"b\", seed: 0, view: FinalState }",
+    ),
+    (
+        &["cave", "play", "a", "b", "--print", "score"],
+        "Play { files: Files { cave: \"a\", bind: None, output: None }, \
+        log: \"b\", seed: 0, view: Score }",
     ),
     (
         &["cave", "edit", "a", "b", "c"],
@@ -87,6 +92,12 @@ const ANSWERS: [(&[&str], &str); 28] = [
         "Edit { files: Files { cave: \"a\", bind: None, output: None }, \
         log: \"b\", script: \"c\", \
         editing: Editing { seed: 0, every: 50, view: Reports, strict: false } }",
+    ),
+    (
+        &["cave", "edit", "a", "b", "c", "--print=steps"],
+        "Edit { files: Files { cave: \"a\", bind: None, output: None }, \
+        log: \"b\", script: \"c\", \
+        editing: Editing { seed: 0, every: 50, view: Steps, strict: false } }",
     ),
     (&["cave", "help", "edit"], "text DisplayHelp"),
     (&["cave", "-V"], "text DisplayVersion"),
@@ -239,7 +250,7 @@ const TEXTS: [(&[&str], &str); 22] = [
     (
         &["cave", "edit", "a", "b", "c", "--print", "text"],
         "error: invalid value 'text' for '--print <WHAT>': wanted is transcript, play, log, \
-        reports or state",
+        reports, steps, score or state",
     ),
 ];
 

@@ -4,13 +4,13 @@ use Rattle.cave_play.specs.Transcript.{ticks}
 use Rattle.cave_play.proofs.StandingLemmas.{standing-played, standing-same}
 use Rattle.cave_play.proofs.edits.standing_of.Goals as goal
 
-pub returns : goal.returns
-returns c =
+pub returns-clause-value : goal.returns-clause-value
+returns-clause-value c =
     let held = c.args.session.now in
     let cave = held.machine.rules.cave.now in
     let made = ap (λ m. m.rules.cave.now) c.machine-machine.ensures in
     let state = c.state-state.ensures.state in
-    let score = c.score.ensures ∙ ap (λ k. score_of k c.state-state.result.now) made
+    let score = c.score.ensures.value ∙ ap (λ k. score_of k c.state-state.result.now) made
     ∙ ap (score_of cave) state in
     let most = c.max_score.ensures ∙ ap max_score_of made in
     let turns = c.ticks.ensures ∙ ap (ticks held.ticks) c.lines.ensures.lines in

@@ -14,7 +14,7 @@ returns c =
     let cave_is = c.cave-cave.ensures ∙ ap (λ m. m.rules.cave.now) c.machine-machine.ensures in
     let begun = ap (λ s. s.objects) c.begun_state-begun.ensures.state ∙ begun_objects cave _ in
     let turns = c.ticks-turns.ensures ∙ ap (ticks held.ticks) c.lines-lines.ensures.lines in
-    let score = c.score-score.ensures ∙ ap (λ k. score_of k c.state-state.result.now) same in
+    let score = c.score-score.ensures.value ∙ ap (λ k. score_of k c.state-state.result.now) same in
     let shown =
     final_state-shown cave _ held.game _ _ held.ticks held.state c.state-state.result.now
     c.begun_state-begun.result.objects c.ticks-turns.result c.score-score.result

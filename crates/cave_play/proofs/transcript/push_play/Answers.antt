@@ -76,7 +76,7 @@ returns c =
     ∙ ap (λ t. old ++ t) (played ∙ ap (λ k. play_text k held.game) cave_is) in
     let turns : c.ticks.result ≡ ticks held.ticks (length held.game.log) = c.ticks.ensures
     ∙ ap (ticks held.ticks) c.lines-lines.ensures.lines in
-    let score = c.score-score.ensures ∙ ap (λ k. score_of k c.state.result.now) same
+    let score = c.score-score.ensures.value ∙ ap (λ k. score_of k c.state.result.now) same
     ∙ ap (score_of cave) c.state.ensures.state in
     let most = c.max_score.ensures ∙ ap max_score_of same in
     let told_end : last_line c.score-score.result c.max_score.result c.ticks.result ≡ end =

@@ -13,14 +13,14 @@ returns c =
     c.push_magic.new.text.items _ _
     c.in_ok-push_verb.ensures
     (appended c.push_verb.new.text.items
-    c.push_object_number.new.text.items
+    c.push_object_line.new.text.items
     c.push_magic.new.text.items _ _
-    c.in_ok-push_object_number.ensures
-    (appended c.push_object_number.new.text.items
-    c.push_object_number-2.new.text.items
+    c.in_ok-push_object_line.ensures
+    (appended c.push_object_line.new.text.items
+    c.push_object_line-2.new.text.items
     c.push_magic.new.text.items _ _
-    c.in_ok-push_object_number-2.ensures
-    (appended c.push_object_number-2.new.text.items
+    c.in_ok-push_object_line-2.ensures
+    (appended c.push_object_line-2.new.text.items
     c.push_answer.new.text.items
     c.push_magic.new.text.items _ _
     c.in_ok-push_answer.ensures

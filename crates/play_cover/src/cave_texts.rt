@@ -1,0 +1,79 @@
+//! Which texts a cave has.
+
+ghost use Rattle.std.specs.Prelude.{◌≡◌, IfOk};
+ghost use Rattle.play_cover.specs.Texts.{has_text, is_reached};
+
+use crate::text::{Kind, PROPS_PER_OBJECT};
+use play_logs::{Cave, CaveMachine, Lexicon, ROLE_NAMES};
+use std::alloc::{AllocError, Global};
+use std::marker::Model;
+
+/// A cave, with its greatest score by which it has its classes.
+#[derive(Drop)]
+pub struct CaveTexts<'a> {
+    cave: &'a Cave,
+    max_score: u32,
+}
+
+impl<'a> Model for CaveTexts<'a> {
+    ghost use Rattle.std.specs.Prelude.{◌≡◌};
+    ghost use Rattle.play_logs.specs.cave_data.CaveView.{CaveView, cave_code};
+    ghost use Rattle.play_logs.specs.turn_score.Score.{max_score_of};
+
+    ghost Value = { CaveView };
+
+    ghost coded = { cave_code };
+
+    ghost view = { λ texts. texts.cave.now };
+
+    ghost invariant = { λ texts. texts.max_score ≡ max_score_of texts.cave.now };
+}
+
+impl<'a> CaveTexts<'a> {
+    /// The texts of a cave.
+    pub fn of(alloc: Global, cave: &'a Cave) -> Result<CaveTexts<'a>, AllocError>
+        ensures { IfOk result (λ texts. texts ≡ cave.now) }
+    {
+        let lexicon = Lexicon::build(alloc, cave)?;
+        let max_score = CaveMachine::new(cave, &lexicon).max_score();
+        Ok(CaveTexts { cave, max_score })
+    }
+
+    /// The cave.
+    pub fn cave(&self) -> &'a Cave
+        ensures { result.now ≡ self.now }
+    {
+        self.cave
+    }
+
+    /// Whether some score of the cave belongs to the class with that bound.
+    #[tactic(auto, using(crate::proofs::Reaching::reaching))]
+    fn is_reached(&self, bound: u16) -> bool
+        ensures { result ≡ is_reached self.now bound }
+    {
+        // If any score belongs to a class, the greatest one up to its bound does.
+        let score = u32::from(bound).min(self.max_score);
+        match self.cave.class_of(score) {
+            Some(rating) => rating.bound == bound,
+            None => false,
+        }
+    }
+
+    /// Whether the cave has the text of a kind and a number.
+    pub fn has(&self, kind: Kind, number: u16) -> bool
+        ensures { result ≡ has_text self.now kind number }
+    {
+        let cave = self.cave;
+        match kind {
+            Kind::Long => cave.long(number).is_some(),
+            Kind::Short => cave.short(number).is_some(),
+            Kind::Look => cave
+                .look(number / PROPS_PER_OBJECT, number % PROPS_PER_OBJECT)
+                .is_some(),
+            Kind::Name => cave.name(number).is_some(),
+            Kind::Message => cave.message(number).is_some(),
+            Kind::Role => (number as usize) < ROLE_NAMES.len(),
+            Kind::Class => self.is_reached(number),
+        }
+    }
+}

@@ -1,0 +1,9 @@
+-- What is written and the halves that are left are what was there and all halves.
+use Rattle.std.proofs.Common.{◌≡◌, ◌++◌, drop}
+use Rattle.play_state_text.specs.Things.{more_halves_text}
+use Rattle.play_state_text.proofs.places.push_more_halves.Given as goal
+
+abbrev pub invariant-loop-half : goal.invariant-loop-half
+invariant-loop-half l =
+    l.text.items ++ more_halves_text l.cave (drop l.half-index l.halves) ≡ l.initial.text.items
+    ++ more_halves_text l.cave l.halves

@@ -1,0 +1,44 @@
+"""Which texts of a cave the plays of logs never say (docs/PROGRAM.md, Coverage)."""
+
+from database import ROLES
+
+HEADINGS = {"long text": "long texts", "short text": "short texts", "object text": "object texts",
+            "inventory text": "inventory texts", "message": "messages", "role": "roles",
+            "class": "classes"}
+
+def class_of(cave, score):
+    """The class of a score: its greatest score and its text, or None."""
+    return next((it for it in cave.classes if it[0] >= score), None)
+
+def texts_of(cave):
+    """The texts of a cave: of each kind, by name, a number to sort by and the first line."""
+    looks = {it: text for it, text in cave.object_texts.items() if it[1] is not None}
+    names = {x: text for (x, prop), text in cave.object_texts.items() if prop is None}
+    reached = {class_of(cave, it) for it in range(cave.greatest_score() + 1)} - {None}
+    yield "long text", cave.long
+    yield "short text", cave.short
+    yield "object text", looks
+    yield "inventory text", names
+    yield "message", cave.messages
+    yield "role", {it: None for it in ROLES}
+    yield "class", {bound: [text] for bound, text in reached}
+
+def name_of(it):
+    return ":".join(map(str, it)) if isinstance(it, tuple) else str(it)
+
+def first_line(text):
+    """What follows the name of a text: its first line, of which a role has none."""
+    return "" if text is None else ": " + ("" if text == [">$<"] else text[0])
+
+def report(cave, said, count, view):
+    """The report on the logs of which these texts were said."""
+    shown = all_texts = 0
+    for kind, texts in texts_of(cave):
+        never = [it for it in sorted(texts) if (kind, it) not in said]
+        shown, all_texts = shown + len(texts) - len(never), all_texts + len(texts)
+        if view == "texts":
+            yield from (f"{kind} {name_of(it)}{first_line(texts[it])}" for it in never)
+            continue
+        listed = f", never {' '.join(map(name_of, never))}" if never else ""
+        yield f"{HEADINGS[kind]}: {len(texts) - len(never)} of {len(texts)}{listed}"
+    yield f"-- {shown} of {all_texts} texts in {count} logs"

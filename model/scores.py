@@ -1,0 +1,54 @@
+"""The score: what counts, what costs, and what it comes to.
+
+docs/TURN.md, The score; docs/PROGRAM.md, The score.
+"""
+
+CLOSED = {"success": 45, "wrong way": 30, "klutz": 25}  # by the ending; 10 without one of these
+COLUMNS = ("what", "found", "home", "points", "of")
+
+def rows_of(game):
+    """What counts or costs: its name, the points of the two parts of a treasure, its points, and
+    the most that it can have."""
+    cave, magazine = game.cave, game.thing("MAGAZINE")
+    for x in cave.treasures:
+        worth = cave.worth(x)
+        found = 2 if game.prop[x] >= 0 else 0
+        is_home = game.prop[x] == 0 and game.where[x] == cave.place("building")
+        home = worth - 2 if is_home else 0
+        name = named("treasure", x, cave.object_texts[x, None])
+        yield name, found, home, found + home, worth
+    at_witt = magazine and game.where[magazine] == cave.place("witt")
+    others = {"lives": (10 * (3 - game.deaths), 30),
+              "ending": (4 * (game.ended not in (None, "quit")), 4),
+              "dwarves": (25 * (game.anger > 0), 25),
+              "closing": (25 * game.closing, 25),
+              "closed": (CLOSED.get(game.ended, 10) if game.closed else 0, 45),
+              "magazine": (1 if at_witt else 0, 1),
+              "playing": (2, 2)}
+    for name, (points, most) in others.items():
+        yield name, "-", "-", points, most
+    for hint, row in sorted(cave.hints.items()):
+        yield f"hint {hint}", "-", "-", -row[1] if hint in game.taken else 0, -row[1]
+
+def score(game):
+    """The score of the state as it is."""
+    return max(sum(points for *_, points, _ in rows_of(game)), 0)
+
+def named(kind, number, text):
+    """A thing by its number and the first line of its text, where a tab is shown as a blank."""
+    first = "" if text == [">$<"] else text[0].replace("\t", " ")
+    return f"{kind} {number}: {first}"
+
+def table(game):
+    """The score as a table."""
+    points, classes = score(game), game.cave.classes
+    at = next((it for it, (bound, _) in enumerate(classes) if bound >= points), None)
+    name, wanted = "no class", "-"
+    if at is not None:
+        bound, text = classes[at]
+        name = named("class", bound, [text])
+        wanted = bound + 1 - points if at < len(classes) - 1 else "-"
+    for row in [COLUMNS, *rows_of(game),
+                ("score", "-", "-", points, game.cave.greatest_score()),
+                (name, "-", "-", "-", "-"), ("next class", "-", "-", wanted, "-")]:
+        yield "\t".join(map(str, row))
