@@ -1,5 +1,6 @@
 -- How motions, objects and conditions are named.
-use Rattle.std.specs.Prelude.{ℕ, ◌+◌, ◌%◌, List, [], ◌++◌, codes, unwrap_or}
+use Rattle.std.specs.Prelude.{ℕ, ◌+◌, ◌%◌, Bool, ◌==◌, if◌then◌else◌, List, [], ◌++◌, codes}
+use Rattle.std.specs.Prelude.{length, unwrap_or}
 use Rattle.std.specs.Fmt.{decimal}
 use Rattle.data_bindings.specs.cave_data.CaveView.{CaveView, first_word}
 use Rattle.data_bindings.specs.data_rows.Rows.{WORDS_PER_CLASS}
@@ -18,20 +19,24 @@ abbrev pub object_mark : CaveView → List ℕ → ℕ → List ℕ
 object_mark cave asked object = asked ++ word_or_number cave (number_of_object object)
 
 abbrev pub other_prop_text : ℕ → List ℕ
-other_prop_text prop = codes " isn't " ++ (decimal prop ++ codes ")")
+other_prop_text prop = codes " isn't " ++ decimal prop
 
--- a prop that an object must not have, as a mark
-abbrev pub prop_mark : CaveView → ℕ → ℕ → List ℕ
-prop_mark cave object prop = object_mark cave (codes " (if prop of") object ++ other_prop_text prop
+-- what a condition asks: a chance, an object that is carried or is here, or a prop that the object
+-- must not have
+abbrev pub condition_text : CaveView → Condition → List ℕ
+condition_text cave condition.Always = []
+condition_text cave condition.NotForDwarves = []
+condition_text cave (condition.Chance percent) = decimal percent ++ codes " %"
+condition_text cave (condition.Carried object) = object_mark cave (codes "with") object
+condition_text cave (condition.AtHand object) = object_mark cave (codes "near") object
+condition_text cave (condition.OtherProp object prop) =
+    object_mark cave (codes "if prop of") object ++ other_prop_text prop
 
--- the condition of a way as a mark: a chance, an object that is carried or is here, or a prop that
--- the object must not have
-abbrev pub condition_mark : CaveView → Condition → List ℕ
-condition_mark cave condition.Always = []
-condition_mark cave condition.NotForDwarves = []
-condition_mark cave (condition.Chance percent) = codes " (" ++ (decimal percent ++ codes " %)")
-condition_mark cave (condition.Carried object) =
-    object_mark cave (codes " (with") object ++ codes ")"
-condition_mark cave (condition.AtHand object) =
-    object_mark cave (codes " (near") object ++ codes ")"
-condition_mark cave (condition.OtherProp object prop) = prop_mark cave object prop
+-- a way that always holds is marked where others have to fail, and any other has its condition
+unfoldable pub mark_of_text : Bool → List ℕ → List ℕ
+mark_of_text later text =
+    if length text == 0 then (if later then codes " (else)" else [])
+    else (if later then codes " (else " else codes " (") ++ (text ++ codes ")")
+
+abbrev pub condition_mark : CaveView → Bool → Condition → List ℕ
+condition_mark cave later condition = mark_of_text later (condition_text cave condition)

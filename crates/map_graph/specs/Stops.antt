@@ -6,9 +6,10 @@ use Rattle.map_ways.specs.cave_world.Sight.{forced}
 use Rattle.map_ways.specs.cave_world.declared.state.Trail.{Trail}
 use Rattle.map_graph.specs.declared.stops.Stop.{Stop}
 
--- a stop of a play: the trail of a state, and the place of the state before
-abbrev pub stop : ℕ → Trail → Stop
-stop before trail = record { before = before; trail = trail }
+-- a stop of a play: the trail of a state, the place of the state before, and whether the line
+-- between killed the dragon
+abbrev pub stop : ℕ → Trail → Bool → Stop
+stop before trail is_fight = record { before = before; trail = trail; is_fight = is_fight }
 
 -- the player is at the place, or a forced motion moved the player on from it on the way there
 abbrev pub is_at : CaveView → ℕ → Stop → Bool
@@ -22,15 +23,20 @@ is_at cave place stop =
 abbrev pub goes_from : CaveView → ℕ → Stop → Bool
 goes_from cave place stop = stop.before == place || forced cave place
 
--- the player went from the one place to the other in this turn: last of all, or on the way there,
+-- the trail goes from the one place to the other in this turn: last of all, or on the way there,
 -- which goes on from places of forced motion
-abbrev pub comes_by : CaveView → ℕ → ℕ → Stop → Bool
-comes_by cave from to stop =
+abbrev pub leads_by : CaveView → ℕ → ℕ → Stop → Bool
+leads_by cave from to stop =
     let trail = stop.trail in
     (trail.last == from && trail.here == to && goes_from cave from stop)
     || (forced cave trail.last
     && ((trail.older == from && trail.last == to && goes_from cave from stop)
     || (forced cave trail.older && stop.before == from && trail.older == to)))
+
+-- the player went from the one place to the other in this turn; one who killed the dragon stands
+-- between its places, and took no way there
+abbrev pub comes_by : CaveView → ℕ → ℕ → Stop → Bool
+comes_by cave from to stop = not stop.is_fight && leads_by cave from to stop
 
 -- the player is at the place, and wasn't there as the line began
 abbrev pub arrives_at : ℕ → Stop → Bool

@@ -1,8 +1,7 @@
 -- The title of a place: the first words of its text.
 use Rattle.std.specs.Prelude.{ℕ, zero, suc, ◌+◌, ◌%◌, ◌==◌, ◌&&◌, not, if◌then◌else◌, List, [], ◌∷◌}
-use Rattle.std.specs.Prelude.{◌++◌, Option, None, Some, unwrap_or}
+use Rattle.std.specs.Prelude.{◌++◌, Option, None, Some, unwrap_or, length}
 use Rattle.std.specs.FinMap as map
-use Rattle.std.specs.Option.{option_or}
 use Rattle.data_bindings.specs.Listing.{first_line}
 use Rattle.data_bindings.specs.cave_data.CaveView.{CaveView}
 use Rattle.map_ways.specs.cave_words.Words.{after_first_run, first_word_of}
@@ -40,9 +39,13 @@ words_as_shown shown (word ∷ words) =
 unfoldable pub first_words_shown : List ℕ → List ℕ
 first_words_shown line = words_as_shown 0 (first_words WORDS_SHOWN line)
 
+abbrev pub or_other : List ℕ → List ℕ → List ℕ
+or_other text other = if length text == 0 then other else text
+
+-- the short text of a place, or its long one where it has no short one or one that prints nothing
 abbrev pub text_for_title : CaveView → ℕ → List ℕ
 text_for_title cave place =
-    unwrap_or (option_or (map.get cave.short place) (map.get cave.long place)) []
+    or_other (unwrap_or (map.get cave.short place) []) (unwrap_or (map.get cave.long place) [])
 
 -- the title of a place: the first words of the first line of that text
 abbrev pub title : CaveView → ℕ → List ℕ

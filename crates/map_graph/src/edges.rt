@@ -1,12 +1,14 @@
 //! The edges of ways.
 
-ghost use Rattle.std.specs.Prelude.{◌≡◌, ◌++◌, OnOk};
-ghost use Rattle.std.specs.List.{flat_map};
+ghost use Rattle.std.specs.Prelude.{◌≡◌, ◌≤◌, ◌++◌, IfOk, OnOk, [], map};
+ghost use Rattle.data_bindings.specs.data_numbers.Numbers.{LAST_PLACE};
 ghost use Rattle.data_bindings.specs.data_rows.RowViews.{going};
 ghost use Rattle.map_graph.specs.Edges.{edge, edge_opening, edge_parts, edge_strength, edge_text};
 ghost use Rattle.map_graph.specs.Edges.{edges, head_back, head_there, is_edge_taken, label_look};
-ghost use Rattle.map_graph.specs.Edges.{line_of_text, more_mark, motion_name, part_from_label};
-ghost use Rattle.map_graph.specs.Edges.{part_to_label, row_line, row_text, way_text};
+ghost use Rattle.map_graph.specs.Edges.{line_of_text, motion_name, motion_start, motions_after};
+ghost use Rattle.map_graph.specs.Edges.{motions_of_row, motions_text, part_from_label};
+ghost use Rattle.map_graph.specs.Edges.{part_to_label, row_lines, row_text, text_to};
+ghost use Rattle.map_graph.specs.Edges.{taking_text, two_texts, way_text};
 ghost use Rattle.map_labels.specs.Labels.{label_of};
 ghost use Rattle.map_graph.specs.Stops.{is_way_taken};
 ghost use Rattle.map_ways.specs.Ways.{is_both_ways};
@@ -14,15 +16,15 @@ ghost use Rattle.map_ways.specs.Ways.{is_both_ways};
 use crate::names::{push_condition_mark, push_word_or_number};
 use crate::nodes::strength;
 use crate::stops::{Stop, is_way_taken};
-use data_bindings::{Cave, Row};
+use data_bindings::{Cave, Condition, Row};
 use map_labels::push_label;
-use map_ways::{Motion, ends_at, ends_of_edges, is_both_ways};
+use map_ways::{Motion, Place, ends_at, ends_of_edges, forced, is_both_ways, motions_taking};
 use std::alloc::{AllocError, Global};
 
-/// How many motions of a row are named, so that a map of many places can be read on a page.
-const MOTIONS_SHOWN: usize = 2;
+/// How many motions are on a line at most, so that a map of many places can be read on a page.
+const MOTIONS_PER_LINE: usize = 3;
 
-/// Appends the name of a motion, if it isn't the one that any motion is.
+/// Appends the name of a motion.
 fn push_motion(
     alloc: Global,
     cave: &Cave,
@@ -32,9 +34,20 @@ fn push_motion(
     ensures { OnOk result (text.new.items ≡ text.old.items ++ motion_name cave.now motion) }
 {
     if motion == Motion::Any.number() {
-        return Ok(());
+        return text.extend_from_slice(b" any motion");
     }
     push_word_or_number(alloc, cave, motion, text)
+}
+
+/// What comes before the name of a motion after so many others.
+fn motion_start(shown: usize) -> &'static str
+    ensures { result.now ≡ motion_start shown }
+{
+    if shown != 0 && shown % MOTIONS_PER_LINE == 0 {
+        " ..\n"
+    } else {
+        ""
+    }
 }
 
 /// Appends the names of motions.
@@ -45,39 +58,119 @@ fn push_motions(
     text: &mut Vec<u8>,
 ) -> Result<(), AllocError>
     ensures { OnOk result
-        (text.new.items ≡ text.old.items ++ flat_map (motion_name cave.now) motions.now) }
+        (text.new.items ≡ text.old.items ++ motions_after cave.now 0 motions.now) }
 {
-    for motion in motions {
+    for (shown, motion) in motions.iter().enumerate() {
+        text.extend_from_slice(motion_start(shown).as_bytes())?;
         push_motion(alloc, cave, *motion, text)?;
     }
     Ok(())
 }
 
-/// The mark of a row that has more motions than are named.
-fn more_mark(row: &Row) -> &'static str
-    ensures { result.now ≡ more_mark (going row.now) }
-{
-    if MOTIONS_SHOWN < row.motions.len() {
-        " .."
-    } else {
-        ""
-    }
-}
-
-/// Appends the first motions of a row, and its condition.
-#[tactic(auto, unfolding(crate::specs::Edges::row_text))]
-fn push_row_text(
+/// Appends the motions that are named: none where a forced motion leads on.
+fn push_motions_text(
     alloc: Global,
     cave: &Cave,
-    row: &Row,
+    from: u16,
+    motions: &[u16],
     text: &mut Vec<u8>,
 ) -> Result<(), AllocError>
-    ensures { OnOk result (text.new.items ≡ text.old.items ++ row_text cave.now (going row.now)) }
+    requires { from ≤ LAST_PLACE }
+    ensures { OnOk result
+        (text.new.items ≡ text.old.items ++ motions_text cave.now from motions.now) }
 {
-    let shown = row.motions.len().min(MOTIONS_SHOWN);
-    push_motions(alloc, cave, &row.motions[..shown], text)?;
-    text.extend_from_slice(more_mark(row).as_bytes())?;
-    push_condition_mark(alloc, cave, row.condition(), text)
+    if forced(cave, Place::new(from)) {
+        return Ok(());
+    }
+    push_motions(alloc, cave, motions, text)
+}
+
+/// Motions that take a row, with its condition.
+#[tactic(auto, unfolding(crate::specs::Edges::taking_text))]
+fn taking_text(
+    alloc: Global,
+    cave: &Cave,
+    from: u16,
+    later: bool,
+    motions: &[u16],
+    condition: Condition,
+) -> Result<Vec<u8>, AllocError>
+    requires { from ≤ LAST_PLACE }
+    ensures { IfOk result
+        (λ text. text.items ≡ taking_text cave.now from later motions.now condition) }
+{
+    let mut text = Vec::new(alloc);
+    if !motions.is_empty() {
+        push_motions_text(alloc, cave, from, motions, &mut text)?;
+        push_condition_mark(alloc, cave, later, condition, &mut text)?;
+    }
+    Ok(text)
+}
+
+/// The motions that can take a row after others, with its condition.
+fn motions_of_row(
+    alloc: Global,
+    cave: &Cave,
+    from: u16,
+    later: bool,
+    before: &[Row],
+    row: &Row,
+) -> Result<Vec<u8>, AllocError>
+    requires { from ≤ LAST_PLACE }
+    ensures { IfOk result (λ text. text.items
+        ≡ motions_of_row cave.now from later (map going before.now) (going row.now)) }
+{
+    let motions = motions_taking(alloc, later, before, row)?;
+    taking_text(alloc, cave, from, later, &motions, row.condition())
+}
+
+/// Appends a second text to the first, with a comma where there are both.
+fn push_second_text(second: &[u8], text: &mut Vec<u8>) -> Result<(), AllocError>
+    ensures { OnOk result (text.new.items ≡ two_texts text.old.items second.now) }
+{
+    let is_alone = text.is_empty() || second.is_empty();
+    let comma = if is_alone { "" } else { "," };
+    text.extend_from_slice(comma.as_bytes())?;
+    text.extend_from_slice(second)
+}
+
+/// The motions that can take a row after others: those that come there first, and then those for
+/// which others have to fail.
+#[tactic(auto, unfolding(crate::specs::Edges::row_text))]
+fn row_text(
+    alloc: Global,
+    cave: &Cave,
+    from: u16,
+    before: &[Row],
+    row: &Row,
+) -> Result<Vec<u8>, AllocError>
+    requires { from ≤ LAST_PLACE }
+    ensures { IfOk result
+        (λ text. text.items ≡ row_text cave.now from (map going before.now) (going row.now)) }
+{
+    let mut text = motions_of_row(alloc, cave, from, false, before, row)?;
+    let second = motions_of_row(alloc, cave, from, true, before, row)?;
+    push_second_text(&second, &mut text)?;
+    Ok(text)
+}
+
+/// What is said of a row after others, if it leads to a place.
+fn text_to(
+    alloc: Global,
+    cave: &Cave,
+    ends: (u16, u16),
+    before: &[Row],
+    row: &Row,
+) -> Result<Vec<u8>, AllocError>
+    requires { ends.0 ≤ LAST_PLACE }
+    ensures { IfOk result (λ text. text.items
+        ≡ text_to cave.now ends.0 ends.1 (map going before.now) (going row.now)) }
+{
+    let (from, place) = ends;
+    if !ends_at(row, place) {
+        return Ok(Vec::new(alloc));
+    }
+    row_text(alloc, cave, from, before, row)
 }
 
 /// Appends a text that isn't empty on a line of its own.
@@ -92,39 +185,22 @@ fn push_line_of_text(prefix: &str, line: &[u8], text: &mut Vec<u8>) -> Result<()
     text.extend_from_slice(b"\n")
 }
 
-/// Appends the line of a row, if it leads to a place.
-fn push_row(
-    alloc: Global,
-    cave: &Cave,
-    prefix: &str,
-    place: u16,
-    row: &Row,
-    text: &mut Vec<u8>,
-) -> Result<(), AllocError>
-    ensures { OnOk result (text.new.items
-        ≡ text.old.items ++ row_line cave.now prefix.now place (going row.now)) }
-{
-    if !ends_at(row, place) {
-        return Ok(());
-    }
-    let mut line = Vec::new(alloc);
-    push_row_text(alloc, cave, row, &mut line)?;
-    push_line_of_text(prefix, &line, text)
-}
-
+/// Appends the lines of rows.
 fn push_rows(
     alloc: Global,
     cave: &Cave,
     prefix: &str,
-    place: u16,
+    ends: (u16, u16),
     rows: &[Row],
     text: &mut Vec<u8>,
 ) -> Result<(), AllocError>
+    requires { ends.0 ≤ LAST_PLACE }
     ensures { OnOk result (text.new.items ≡ text.old.items
-        ++ flat_map (λ row. row_line cave.now prefix.now place (going row)) rows.now) }
+        ++ row_lines cave.now prefix.now ends.0 ends.1 [] (map going rows.now)) }
 {
-    for row in rows {
-        push_row(alloc, cave, prefix, place, row, text)?;
+    for (count, row) in rows.iter().enumerate() {
+        let line = text_to(alloc, cave, ends, &rows[..count], row)?;
+        push_line_of_text(prefix, &line, text)?;
     }
     Ok(())
 }
@@ -138,10 +214,11 @@ fn push_way(
     to: u16,
     text: &mut Vec<u8>,
 ) -> Result<(), AllocError>
+    requires { from ≤ LAST_PLACE }
     ensures { OnOk result
         (text.new.items ≡ text.old.items ++ way_text cave.now prefix.now from to) }
 {
-    push_rows(alloc, cave, prefix, to, cave.travel(from), text)
+    push_rows(alloc, cave, prefix, (from, to), cave.travel(from), text)
 }
 
 /// Appends what is written at an edge.
@@ -153,6 +230,8 @@ fn push_edge_text(
     to: u16,
     text: &mut Vec<u8>,
 ) -> Result<(), AllocError>
+    requires from { from ≤ LAST_PLACE }
+    requires to { to ≤ LAST_PLACE }
     ensures { OnOk result (text.new.items ≡ text.old.items ++ edge_text cave.now from to) }
 {
     push_way(alloc, cave, "", from, to, text)?;
@@ -301,6 +380,8 @@ fn push_edge_label(
     to: u16,
     text: &mut Vec<u8>,
 ) -> Result<(), AllocError>
+    requires from { from ≤ LAST_PLACE }
+    requires to { to ≤ LAST_PLACE }
     ensures { OnOk result (text.new.items ≡ text.old.items
         ++ (label_of (edge_text cave.now from to) ++ label_look (edge_text cave.now from to))) }
 {
@@ -320,6 +401,8 @@ fn push_edge(
     ends: (u16, u16),
     text: &mut Vec<u8>,
 ) -> Result<(), AllocError>
+    requires from { ends.0 ≤ LAST_PLACE }
+    requires to { ends.1 ≤ LAST_PLACE }
     ensures { OnOk result (text.new.items
         ≡ text.old.items ++ edge cave.now stops.now logs ends.0 ends.1) }
 {
@@ -339,6 +422,7 @@ pub fn push_edges(
     from: u16,
     text: &mut Vec<u8>,
 ) -> Result<(), AllocError>
+    requires { from ≤ LAST_PLACE }
     ensures { OnOk result (text.new.items ≡ text.old.items ++ edges cave.now stops.now logs from) }
 {
     let ends = ends_of_edges(alloc, cave, from)?;

@@ -10,4 +10,4 @@ pub mod stops;
 pub mod titles;
 
 pub use data_bindings::Cave;
-pub use map_ways::{Out, Place, State};
+pub use map_ways::{Out, Place, Question, State};

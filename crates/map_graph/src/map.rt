@@ -65,6 +65,7 @@ fn push_all_edges(
     places: &[u16],
     text: &mut Vec<u8>,
 ) -> Result<(), AllocError>
+    requires { All (λ place. place ≤ defined.LAST_PLACE) places.now }
     ensures { OnOk result (text.new.items
         ≡ text.old.items ++ flat_map (edges cave.now stops.now logs) places.now) }
 {

@@ -1,8 +1,9 @@
 //! How motions, objects and conditions are named.
 
 ghost use Rattle.std.specs.Prelude.{◌≡◌, ◌++◌, OnOk};
-ghost use Rattle.map_graph.specs.Names.{condition_mark, number_of_object, object_mark};
-ghost use Rattle.map_graph.specs.Names.{other_prop_text, prop_mark, word_or_number};
+ghost use Rattle.data_bindings.specs.data_rows.declared.targets.Condition.TheVariants as condition;
+ghost use Rattle.map_graph.specs.Names.{condition_mark, condition_text, mark_of_text};
+ghost use Rattle.map_graph.specs.Names.{number_of_object, object_mark, word_or_number};
 
 use data_bindings::{Cave, Condition, WORDS_PER_CLASS};
 use std::alloc::{AllocError, Global};
@@ -52,50 +53,70 @@ fn push_object_mark(
     push_word_or_number(alloc, cave, number_of_object(object), text)
 }
 
-fn push_other_prop(alloc: Global, prop: u16, text: &mut Vec<u8>) -> Result<(), AllocError>
-    ensures { OnOk result (text.new.items ≡ text.old.items ++ other_prop_text prop) }
-{
-    let rest = format!(in alloc; " isn't {prop})")?;
-    text.extend_from_slice(rest.as_bytes())
-}
-
 /// Appends a prop that an object must not have.
-fn push_prop_mark(
+fn push_other_prop(
     alloc: Global,
     cave: &Cave,
     object: u8,
     prop: u16,
     text: &mut Vec<u8>,
 ) -> Result<(), AllocError>
-    ensures { OnOk result (text.new.items ≡ text.old.items ++ prop_mark cave.now object prop) }
+    ensures { OnOk result (text.new.items
+        ≡ text.old.items ++ condition_text cave.now (condition.OtherProp object prop)) }
 {
-    push_object_mark(alloc, cave, " (if prop of", object, text)?;
-    push_other_prop(alloc, prop, text)
+    push_object_mark(alloc, cave, "if prop of", object, text)?;
+    let rest = format!(in alloc; " isn't {prop}")?;
+    text.extend_from_slice(rest.as_bytes())
 }
 
-/// Appends the condition of a way as a mark.
-pub fn push_condition_mark(
+/// Appends what a condition asks.
+fn push_condition_text(
     alloc: Global,
     cave: &Cave,
     condition: Condition,
     text: &mut Vec<u8>,
 ) -> Result<(), AllocError>
-    ensures { OnOk result (text.new.items ≡ text.old.items ++ condition_mark cave.now condition) }
+    ensures { OnOk result (text.new.items ≡ text.old.items ++ condition_text cave.now condition) }
 {
     match condition {
         Condition::Always | Condition::NotForDwarves => Ok(()),
         Condition::Chance(percent) => {
-            let chance = format!(in alloc; " ({percent} %)")?;
+            let chance = format!(in alloc; "{percent} %")?;
             text.extend_from_slice(chance.as_bytes())
         }
-        Condition::Carried(object) => {
-            push_object_mark(alloc, cave, " (with", object, text)?;
-            text.extend_from_slice(b")")
-        }
-        Condition::AtHand(object) => {
-            push_object_mark(alloc, cave, " (near", object, text)?;
-            text.extend_from_slice(b")")
-        }
-        Condition::OtherProp(object, prop) => push_prop_mark(alloc, cave, object, prop, text),
+        Condition::Carried(object) => push_object_mark(alloc, cave, "with", object, text),
+        Condition::AtHand(object) => push_object_mark(alloc, cave, "near", object, text),
+        Condition::OtherProp(object, prop) => push_other_prop(alloc, cave, object, prop, text),
     }
+}
+
+/// Appends the mark of a way with a condition, or of one before which others have to fail.
+#[tactic(auto, unfolding(crate::specs::Names::mark_of_text))]
+fn push_mark_of_text(later: bool, asked: &[u8], text: &mut Vec<u8>) -> Result<(), AllocError>
+    ensures { OnOk result (text.new.items ≡ text.old.items ++ mark_of_text later asked.now) }
+{
+    if asked.is_empty() {
+        let mark = if later { " (else)" } else { "" };
+        return text.extend_from_slice(mark.as_bytes());
+    }
+    let opening = if later { " (else " } else { " (" };
+    text.extend_from_slice(opening.as_bytes())?;
+    text.extend_from_slice(asked)?;
+    text.extend_from_slice(b")")
+}
+
+/// Appends the condition of a way as a mark, with that others have to fail before.
+pub fn push_condition_mark(
+    alloc: Global,
+    cave: &Cave,
+    later: bool,
+    condition: Condition,
+    text: &mut Vec<u8>,
+) -> Result<(), AllocError>
+    ensures { OnOk result
+        (text.new.items ≡ text.old.items ++ condition_mark cave.now later condition) }
+{
+    let mut asked = Vec::new(alloc);
+    push_condition_text(alloc, cave, condition, &mut asked)?;
+    push_mark_of_text(later, &asked, text)
 }

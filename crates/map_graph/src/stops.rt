@@ -2,7 +2,7 @@
 
 ghost use Rattle.std.specs.Prelude.{◌≡◌};
 ghost use Rattle.map_graph.specs.Stops.{arrives_at, comes_by, is_at, is_way_taken, is_visited};
-ghost use Rattle.map_graph.specs.Stops.{goes_from, visits};
+ghost use Rattle.map_graph.specs.Stops.{goes_from, leads_by, visits};
 
 use data_bindings::Cave;
 use map_ways::{Place, Trail, forced};
@@ -14,6 +14,8 @@ pub struct Stop {
     pub before: Place,
     /// Where the player is, and was before, as the state has it.
     pub trail: Trail,
+    /// Whether the line between killed the dragon.
+    pub is_fight: bool,
 }
 
 impl Stop {
@@ -36,10 +38,10 @@ impl Stop {
         self.before == place || forced(cave, place)
     }
 
-    /// Whether the player went from the one place to the other in this turn: last of all, or on the
+    /// Whether the trail goes from the one place to the other in this turn: last of all, or on the
     /// way there, which goes on from places of forced motion.
-    fn comes_by(&self, cave: &Cave, from: u16, to: u16) -> bool
-        ensures { result ≡ comes_by cave.now from to self.now }
+    fn leads_by(&self, cave: &Cave, from: u16, to: u16) -> bool
+        ensures { result ≡ leads_by cave.now from to self.now }
     {
         let Trail { here, last, older } = self.trail;
         (last.number() == from && here.number() == to && self.goes_from(cave, last))
@@ -48,6 +50,14 @@ impl Stop {
                     || (forced(cave, older)
                         && self.before.number() == from
                         && older.number() == to)))
+    }
+
+    /// Whether the player went from the one place to the other in this turn. One who killed the
+    /// dragon took no way.
+    fn comes_by(&self, cave: &Cave, from: u16, to: u16) -> bool
+        ensures { result ≡ comes_by cave.now from to self.now }
+    {
+        !self.is_fight && self.leads_by(cave, from, to)
     }
 
     /// Whether the player is at a place, and wasn't there as the line began.

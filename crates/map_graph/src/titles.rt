@@ -1,7 +1,8 @@
 //! The title of a place: the first words of its text.
 
 ghost use Rattle.std.specs.Prelude.{◌≡◌, ◌++◌, OnOk};
-ghost use Rattle.map_graph.specs.Titles.{first_words_shown, text_for_title, title, word_start};
+ghost use Rattle.map_graph.specs.Titles.{first_words_shown, or_other, text_for_title, title};
+ghost use Rattle.map_graph.specs.Titles.{word_start};
 
 use data_bindings::{Cave, first_line, skip_blanks, split_word};
 use std::alloc::AllocError;
@@ -12,11 +13,18 @@ const WORDS_SHOWN: usize = 8;
 /// How many words of a title are on a line at most.
 const WORDS_PER_LINE: usize = 3;
 
-/// The short text of a place, or its long one.
+fn or_other<'a>(text: &'a [u8], other: &'a [u8]) -> &'a [u8]
+    ensures { result.now ≡ or_other text.now other.now }
+{
+    if text.is_empty() { other } else { text }
+}
+
+/// The short text of a place, or its long one where it has no short one or one that prints nothing.
 fn text_for_title(cave: &Cave, place: u16) -> &[u8]
     ensures { result.now ≡ text_for_title cave.now place }
 {
-    cave.short(place).or(cave.long(place)).unwrap_or(&[])
+    let short = cave.short(place).unwrap_or(&[]);
+    or_other(short, cave.long(place).unwrap_or(&[]))
 }
 
 /// What comes before a word after so many others.

@@ -1,10 +1,13 @@
 -- The stops of the plays of logs, and the map with what they saw.
-use Rattle.std.specs.Prelude.{◌≡◌, ℕ, List, [], ◌∷◌, length}
+use Rattle.std.specs.Prelude.{◌≡◌, ℕ, Bool, true, false, ◌&&◌, not, Option, Some, List, [], ◌∷◌}
+use Rattle.std.specs.Prelude.{length}
 use Rattle.std.specs.List.{flat_map}
 use Rattle.std.specs.Str.Lines.{lines}
 use Rattle.map_graph.specs.cave_data.CaveView.{CaveView}
 use Rattle.map_graph.specs.cave_data.Reads.{Reads}
 use Rattle.play_logs.specs.cave_play.Machine.{cave_rules}
+use Rattle.map_graph.specs.cave_world.declared.ending.Question.{Question}
+use Rattle.map_graph.specs.cave_world.declared.ending.Question.TheVariants as question
 use Rattle.map_graph.specs.cave_world.declared.part.Part.{Part}
 use Rattle.map_graph.specs.cave_world.declared.state.State.{State}
 use Rattle.play_logs.specs.cave_replay.Play.{MachineRules}
@@ -15,11 +18,19 @@ use Rattle.map_graph.specs.declared.stops.Stop.{Stop}
 use Rattle.std.specs.List.Sorted.{IsPermutation}
 use Rattle.play_logs.specs.cave_play.Run.{AtMostOne}
 
+abbrev pub asks_of_dragon : Option Question → Bool
+asks_of_dragon (Some question.Dragon) = true
+asks_of_dragon _ = false
+
+-- the line kills the dragon: it answers the question whether to fight it, and is no command
+abbrev pub is_fight : MachineRules State (List Part) → State → List ℕ → Bool
+is_fight rules state line = asks_of_dragon state.question && not (rules.ticked state line)
+
 -- the stops at the states that follow a state, one at each line
 abbrev pub stops_after : MachineRules State (List Part) → State → List (List ℕ) → List Stop
 stops_after rules state [] = []
 stops_after rules state (line ∷ lines) =
-    stop state.trail.here (rules.after state line).trail
+    stop state.trail.here (rules.after state line).trail (is_fight rules state line)
     ∷ stops_after rules (rules.after state line) lines
 
 -- the stops of playing a game; none is before the first state
@@ -27,7 +38,7 @@ unfoldable pub stops_in : CaveView → Game → List Stop
 stops_in cave game =
     let rules = cave_rules cave in
     let begun = rules.begun game.seed in
-    stop 0 begun.trail ∷ stops_after rules begun game.log
+    stop 0 begun.trail false ∷ stops_after rules begun game.log
 
 -- the map of a cave with what the plays of games saw of it
 abbrev pub map_of_games : CaveView → List Game → List ℕ

@@ -1,15 +1,22 @@
 //! The stops of a play.
 
-ghost use Rattle.std.specs.Prelude.{◌≡◌, ◌+◌, ◌<◌, ◌^◌, ◌++◌, IfOk, OnOk, IsTrue};
-ghost use Rattle.map_run.specs.Plays.{stops_after, stops_in};
+ghost use Rattle.std.specs.Prelude.{◌≡◌, ◌+◌, ◌<◌, ◌^◌, ◌++◌, false, IfOk, OnOk, IsTrue};
+ghost use Rattle.map_run.specs.Plays.{asks_of_dragon, is_fight, stops_after, stops_in};
 ghost use Rattle.map_graph.specs.Stops.{stop};
 ghost use Rattle.play_logs.specs.cave_play.Machine.{cave_rules};
 ghost use Rattle.play_logs.specs.base_lines.Line.{is_line};
 
 use map_graph::stops::Stop;
-use map_graph::{Out, Place, State};
+use map_graph::{Out, Place, Question, State};
 use play_logs::{CaveMachine, Machine, Meter, Session};
 use std::alloc::{AllocError, Global};
+
+/// Whether a question asks if the player fights the dragon.
+fn asks_of_dragon(question: Option<Question>) -> bool
+    ensures { result ≡ asks_of_dragon question }
+{
+    matches!(question, Some(Question::Dragon))
+}
 
 /// Plays one line, and returns the stop at its end.
 fn next_stop(
@@ -25,13 +32,16 @@ fn next_stop(
     ensures counted { OnOk result (meter.new ≡ meter.old + 1) }
     ensures state { OnOk result
         (state.new ≡ (cave_rules machine.entry.rules.cave.now).after state.old line.now) }
-    ensures stop { IfOk result (λ made. made ≡ stop state.old.trail.here state.new.trail) }
+    ensures stop { IfOk result (λ made. made ≡ stop state.old.trail.here state.new.trail
+        (is_fight (cave_rules machine.entry.rules.cave.now) state.old line.now)) }
 {
     let before = state.trail.here;
-    machine.step(alloc, scratch, state, line, meter)?;
+    let is_asked = asks_of_dragon(state.question);
+    let stepped = machine.step(alloc, scratch, state, line, meter)?;
     Ok(Stop {
         before,
         trail: state.trail,
+        is_fight: is_asked && !stepped.ticked,
     })
 }
 
@@ -58,11 +68,12 @@ fn push_later_stops(
 }
 
 fn first_stop(state: &State) -> Stop
-    ensures { result ≡ stop 0 state.now.trail }
+    ensures { result ≡ stop 0 state.now.trail false }
 {
     Stop {
         before: Place::new(0),
         trail: state.trail,
+        is_fight: false,
     }
 }
 

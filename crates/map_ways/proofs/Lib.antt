@@ -2,3 +2,8 @@ pub mod Rows
 pub mod Pairs
 pub mod Counts
 pub mod WayLemmas
+pub mod States
+pub mod Walks
+pub mod Named
+pub mod Tried
+pub mod Begun

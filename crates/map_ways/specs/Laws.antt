@@ -1,9 +1,17 @@
 -- Laws of ways.
-use Rattle.std.specs.Prelude.{◌≡◌, ℕ, ◌+◌, ◌<◌, ◌≤◌, Bool, true, ◌==◌, if◌then◌else◌, List, length}
-use Rattle.std.specs.List.{filter}
-use Rattle.cave_world.specs.cave_data.CaveView.{CaveView}
+use Rattle.std.specs.Prelude.{◌≡◌, ℕ, ◌+◌, ◌<◌, ◌≤◌, Bool, true, false, ◌==◌, ◌&&◌, ◌||◌}
+use Rattle.std.specs.Prelude.{if◌then◌else◌, List, [], ◌∷◌, ◌++◌, length}
+use Rattle.std.specs.List.{filter, list_all, list_any}
+use Rattle.cave_world.specs.cave_data.CaveView.{CaveView, ways_from}
 use Rattle.cave_world.specs.data_numbers.Numbers.{LAST_PLACE}
-use Rattle.map_ways.specs.Ways.{ends_of_edges, is_both_ways, is_mapped, is_way, mapped_places}
+use Rattle.cave_world.specs.data_rows.Rows.{Going}
+use Rattle.cave_world.specs.declared.state.State.{State}
+use Rattle.cave_world.specs.declared.travel_rows.Outcome.TheVariants.{Go}
+use Rattle.cave_world.specs.Motions.{any_motion}
+use Rattle.cave_world.specs.Travel.{travel}
+use Rattle.map_ways.specs.Falls.{has_to_fail, motions_taking}
+use Rattle.map_ways.specs.Ways.{ends_at, ends_of_edges, is_both_ways, is_mapped, is_way}
+use Rattle.map_ways.specs.Ways.{mapped_places}
 
 abbrev pub IsPlaceNumber : ℕ → Type 0
 IsPlaceNumber place = (0 < place) × (place ≤ LAST_PLACE)
@@ -44,3 +52,30 @@ EndsAreNodes =
     → IsPlaceNumber to
     → is_way cave from to ≡ true
     → (is_mapped cave from ≡ true) × (is_mapped cave to ≡ true)
+
+-- the motion is among some, by its number or as any motion
+abbrev pub is_among : ℕ → List ℕ → Bool
+is_among motion motions = list_any (λ m. m == motion || m == any_motion) motions
+
+-- a label names the motion at the row after others: where it comes there first, or where rows have
+-- to fail
+abbrev pub is_named_at : ℕ → List Going → Going → Bool
+is_named_at motion before row =
+    is_among motion (motions_taking false [] before row)
+    || is_among motion (motions_taking true [] before row)
+
+-- the label of the edge to the place names the motion at one of the rows after others
+abbrev pub is_named_on_way : ℕ → ℕ → List Going → List Going → Bool
+is_named_on_way place motion before [] = false
+is_named_on_way place motion before (row ∷ rows) =
+    (ends_at place row && is_named_at motion before row)
+    || is_named_on_way place motion (before ++ row ∷ []) rows
+
+-- where a motion leads to a place in some state, whatever is drawn, the label of the edge there
+-- names it; at the place no row puts the emerald down
+abbrev pub WhatLeadsIsNamed : Type 0
+WhatLeadsIsNamed =
+    (cave : CaveView) (emerald motion : ℕ) (s : State) (place : ℕ)
+    → list_all has_to_fail (ways_from cave s.trail.here) ≡ true
+    → (travel cave emerald motion s).outcome ≡ Go place
+    → is_named_on_way place motion [] (ways_from cave s.trail.here) ≡ true

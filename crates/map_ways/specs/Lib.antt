@@ -1,3 +1,5 @@
+pub mod Conditions
+pub mod Falls
 pub mod Ways
 pub mod Laws
 pub use Rattle.cave_world.specs.cave_words as cave_words

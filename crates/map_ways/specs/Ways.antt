@@ -1,5 +1,6 @@
 -- Places of a cave, and the ways between them.
-use Rattle.std.specs.Prelude.{ℕ, Bool, true, ◌==◌, ◌&&◌, ◌||◌, not, nat_le, is_some, List, length}
+use Rattle.std.specs.Prelude.{ℕ, Bool, true, false, ◌==◌, ◌&&◌, ◌||◌, not, nat_le, is_some}
+use Rattle.std.specs.Prelude.{List, [], ◌∷◌, ◌++◌, length}
 use Rattle.std.specs.List.{filter, list_all, list_any, range_with_len}
 use Rattle.std.specs.FinMap as map
 use Rattle.cave_world.specs.data_rows.Rows.{Going}
@@ -12,6 +13,7 @@ use Rattle.cave_world.specs.data_rows.contracts.targets.ConditionPartialEq.TheIm
 use Rattle.cave_world.specs.cave_data.CaveView.{CaveView, ways_from}
 use Rattle.cave_world.specs.data_numbers.Numbers.{LAST_PLACE}
 use Rattle.cave_world.specs.Travel.{row_condition, row_destination}
+use Rattle.map_ways.specs.Falls.{is_reached}
 
 -- the numbers that a place may have, in ascending order
 unfoldable pub place_numbers : List ℕ
@@ -20,9 +22,15 @@ place_numbers = range_with_len 1 LAST_PLACE
 abbrev pub ends_at : ℕ → Going → Bool
 ends_at place row = leads_to_place place (row_destination row)
 
--- a way leads from the one place to the other
+-- some motion takes one of the rows after others to the place
+abbrev pub lead_to : ℕ → List Going → List Going → Bool
+lead_to place before [] = false
+lead_to place before (row ∷ rows) =
+    (ends_at place row && is_reached [] before row) || lead_to place (before ++ row ∷ []) rows
+
+-- a way leads from the one place to the other: in some state, with some draws, some motion does
 abbrev pub is_way : CaveView → ℕ → ℕ → Bool
-is_way cave from to = list_any (ends_at to) (ways_from cave from)
+is_way cave from to = lead_to to [] (ways_from cave from)
 
 -- a way begins or ends at the place
 abbrev pub has_way : CaveView → ℕ → Bool

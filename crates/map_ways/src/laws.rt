@@ -1,6 +1,7 @@
 //! Laws of ways. Each is the contract of a function that does nothing.
 
 ghost use Rattle.map_ways.specs.Laws.{EachPlaceHasOneNode, EachWayHasOneEdge, EndsAreNodes};
+ghost use Rattle.map_ways.specs.Laws.{WhatLeadsIsNamed};
 
 /// Each place that has a text, or a way, is once among the places of the map, and no other is.
 pub fn each_place_has_one_node()
@@ -15,4 +16,9 @@ pub fn each_way_has_one_edge()
 /// Each place that a way leads from or to is on the map.
 pub fn ends_are_nodes()
     ensures { EndsAreNodes }
+{}
+
+/// Where a motion leads to a place, the label of the edge there names it.
+pub fn what_leads_is_named()
+    ensures { WhatLeadsIsNamed }
 {}

@@ -1,14 +1,15 @@
 //! Places of a cave, and the ways between them.
 
-ghost use Rattle.std.specs.Prelude.{◌≡◌, ◌≤◌, IfOk, length, map};
-ghost use Rattle.std.specs.List.{filter, list_any};
+ghost use Rattle.std.specs.Prelude.{◌≡◌, ◌≤◌, All, IfOk, [], length, map};
+ghost use Rattle.std.specs.List.{filter};
 ghost use Rattle.cave_world.specs.data_numbers.Numbers as defined;
 ghost use Rattle.cave_world.specs.data_rows.RowViews.{going};
 ghost use Rattle.map_ways.specs.Ways.{begins_edge, condition_for_player, count_nowhere};
 ghost use Rattle.map_ways.specs.Ways.{ends_of_edges, ends_of_ways, has_way, have_condition};
-ghost use Rattle.map_ways.specs.Ways.{have_one_condition, is_both_ways, is_mapped, is_way, ends_at};
-ghost use Rattle.map_ways.specs.Ways.{leads_nowhere, mapped_places, rows_agree};
+ghost use Rattle.map_ways.specs.Ways.{have_one_condition, is_both_ways, is_mapped, is_way, lead_to};
+ghost use Rattle.map_ways.specs.Ways.{ends_at, leads_nowhere, mapped_places, rows_agree};
 
+use crate::falls::is_reached;
 use cave_world::{Cave, Condition, Destination, LAST_PLACE, Row};
 use std::alloc::{AllocError, Global};
 
@@ -23,14 +24,19 @@ pub fn ends_at(row: &Row, place: u16) -> bool
 pub fn is_way(cave: &Cave, from: u16, to: u16) -> bool
     ensures { result ≡ is_way cave.now from to }
 {
-    any_ends_at(cave.travel(from), to)
+    lead_to(cave.travel(from), to)
 }
 
-/// Whether one of some rows leads to a place.
-fn any_ends_at(rows: &[Row], place: u16) -> bool
-    ensures { result ≡ list_any (ends_at place) (map going rows.now) }
+/// Whether some motion takes one of some rows to a place.
+fn lead_to(rows: &[Row], place: u16) -> bool
+    ensures { result ≡ lead_to place [] (map going rows.now) }
 {
-    rows.iter().any(|row| ends_at(row, place))
+    for (count, row) in rows.iter().enumerate() {
+        if ends_at(row, place) && is_reached(&rows[..count], row) {
+            return true;
+        }
+    }
+    false
 }
 
 /// Whether a way begins or ends at a place.
@@ -140,9 +146,10 @@ fn begins_edge(cave: &Cave, from: u16, to: u16) -> bool
 }
 
 /// The other ends of the edges of a place.
-#[tactic(auto, unfolding(crate::specs::Ways::ends_of_edges, crate::specs::Ways::place_numbers))]
+#[tactic(auto, using(crate::proofs::Rows::in_range), unfolding(crate::specs::Ways::ends_of_edges, crate::specs::Ways::place_numbers))]
 pub fn ends_of_edges(alloc: Global, cave: &Cave, from: u16) -> Result<Vec<u16>, AllocError>
-    ensures { IfOk result (λ ends. ends.items ≡ ends_of_edges cave.now from) }
+    ensures value { IfOk result (λ ends. ends.items ≡ ends_of_edges cave.now from) }
+    ensures within { IfOk result (λ ends. All (λ to. to ≤ defined.LAST_PLACE) ends.items) }
 {
     (1..LAST_PLACE + 1)
         .filter(|to| begins_edge(cave, from, *to))

@@ -1,9 +1,9 @@
-use Rattle.std.proofs.Common.{◌≡◌, ◌++◌, take}
-use Rattle.std.specs.List.{flat_map}
-use Rattle.map_graph.specs.Edges.{motion_name}
+use Rattle.std.proofs.Common.{◌≡◌, ◌++◌, drop}
+use Rattle.map_graph.specs.Edges.{motions_after}
 use Rattle.map_graph.proofs.edges.push_motions.Given as goal
 
-abbrev pub invariant-loop-motion : goal.invariant-loop-motion
-invariant-loop-motion l =
-    l.text.items ≡ l.initial.text.items
-    ++ flat_map (motion_name l.cave) (take l.motion-index l.motions)
+-- what was written, with the motions that are left, is the whole
+abbrev pub invariant-loop-shown : goal.invariant-loop-shown
+invariant-loop-shown l =
+    l.text.items ++ motions_after l.cave l.shown (drop l.shown l.motions)
+    ≡ l.initial.text.items ++ motions_after l.cave 0 l.motions

@@ -1,10 +1,13 @@
-use Rattle.std.proofs.Common.{◌≡◌, ◌++◌, take}
-use Rattle.std.specs.List.{flat_map}
+use Rattle.std.proofs.Common.{◌≡◌, ◌++◌, [], drop, map, take}
 use Rattle.data_bindings.specs.data_rows.RowViews.{going}
-use Rattle.map_graph.specs.Edges.{row_line}
+use Rattle.map_graph.specs.Edges.{row_lines}
 use Rattle.map_graph.proofs.edges.push_rows.Given as goal
 
-abbrev pub invariant-loop-row : goal.invariant-loop-row
-invariant-loop-row l =
-    l.text.items ≡ l.initial.text.items
-    ++ flat_map (λ row. row_line l.cave l.prefix l.place (going row)) (take l.row-index l.rows)
+-- what was written, with the lines of the rows that are left, is the whole
+abbrev pub invariant-loop-count : goal.invariant-loop-count
+invariant-loop-count l =
+    l.text.items
+    ++ row_lines l.cave l.prefix l.ends.0 l.ends.1 (map going (take l.count l.rows))
+    (map going (drop l.count l.rows))
+    ≡ l.initial.text.items
+    ++ row_lines l.cave l.prefix l.ends.0 l.ends.1 [] (map going l.rows)

@@ -2,15 +2,13 @@ use Rattle.std.proofs.Common.{rules, tests}
 use Rattle.std.proofs.lemmas.Iterator.{YieldsList-from_slice}
 use Rattle.std.proofs.lemmas.Iterator.Search.{any_from_yields_List}
 use Rattle.cave_world.specs.data_rows.RowViews.{going}
-use Rattle.cave_world.specs.data_rows.Rows.{Going}
 use Rattle.cave_world.specs.data_rows.declared.rows.Row.{Row}
-use Rattle.map_ways.specs.Ways.{ends_at}
+use Rattle.map_ways.specs.Falls.{has_to_fail}
 use Rattle.map_ways.proofs.Rows.{any_mapped}
-use Rattle.map_ways.proofs.ways.any_ends_at.Goals as goal
+use Rattle.map_ways.proofs.falls.is_else.Goals as goal
 
 pub returns : goal.returns
 returns c =
-    let test = λ (row : Going). ends_at c.args.place row in
-    any_mapped test going c.args.rows.now _
-    (any_from_yields_List (λ (row : Row). test (going row)) _ _ _ c.any.ensures.ran
+    any_mapped has_to_fail going c.args.rows.now _
+    (any_from_yields_List (λ (row : Row). has_to_fail (going row)) _ _ _ c.any.ensures.ran
     (YieldsList-from_slice c.args.rows.now cc) (λ x b q k. search (rules, tests)))

@@ -1,0 +1,59 @@
+//! Which conditions can hold, and which can fail, where others do.
+
+ghost use Rattle.std.specs.Prelude.{◌≡◌};
+ghost use Rattle.map_ways.specs.Conditions.{ask_for_two_props, can_fail, can_hold, implies};
+
+use cave_world::Condition;
+
+/// Whether a condition holds in some state with some draw.
+#[tactic(auto, unfolding(crate::specs::Conditions::can_hold))]
+pub(crate) fn can_hold(condition: Condition) -> bool
+    ensures { result ≡ can_hold condition }
+{
+    match condition {
+        Condition::Carried(object) | Condition::AtHand(object) => object != 0,
+        Condition::OtherProp(object, prop) => !(object == 0 && prop == 0),
+        _ => true,
+    }
+}
+
+/// Whether a condition fails in some state with some draw.
+#[tactic(auto, unfolding(crate::specs::Conditions::can_fail))]
+pub(crate) fn can_fail(condition: Condition) -> bool
+    ensures { result ≡ can_fail condition }
+{
+    match condition {
+        Condition::Always | Condition::NotForDwarves => false,
+        Condition::OtherProp(object, prop) => object != 0 || prop == 0,
+        _ => true,
+    }
+}
+
+/// Whether a condition holds wherever the first one does.
+#[tactic(auto, unfolding(crate::specs::Conditions::implies))]
+pub(crate) fn implies(condition: Condition, implied: Condition) -> bool
+    ensures { result ≡ implies condition implied }
+{
+    match (condition, implied) {
+        (Condition::Carried(object), Condition::Carried(other)) => object == other,
+        (Condition::Carried(object), Condition::AtHand(other)) => object == other,
+        (Condition::AtHand(object), Condition::AtHand(other)) => object == other,
+        (Condition::OtherProp(object, prop), Condition::OtherProp(other, also)) => {
+            object == other && prop == also
+        }
+        _ => false,
+    }
+}
+
+/// Whether two conditions never fail at once, as an object has one prop.
+#[tactic(auto, unfolding(crate::specs::Conditions::ask_for_two_props))]
+pub(crate) fn ask_for_two_props(condition: Condition, other: Condition) -> bool
+    ensures { result ≡ ask_for_two_props condition other }
+{
+    match (condition, other) {
+        (Condition::OtherProp(object, prop), Condition::OtherProp(other, also)) => {
+            object == other && prop != also
+        }
+        _ => false,
+    }
+}
