@@ -1,4 +1,4 @@
-.PHONY: try play checks test soak suite duel graphviz map install
+.PHONY: try play checks test soak suite duel graphviz map chart page picture install
 
 PREFIX ?= $(HOME)/.local
 PROGRAM = crates/cave/out/cave
@@ -61,6 +61,7 @@ test: checks
 	logs/tools/check-coverage $(PROGRAM)
 	logs/tools/check-maps $(PROGRAM)
 	tools/prefixes --lines $(PROGRAM)
+	tools/prefixes $(PROGRAM)
 	tools/check-memory
 	model/suite
 	model/duel $(PROGRAM) --count 300 --databases 1000 --seed 1 --quiet
@@ -99,6 +100,27 @@ map: graphviz $(PROGRAM)
 	@$(PROGRAM) $(MAP) > out/shoal.dot
 	@dot -Tsvg out/shoal.dot -o docs/shoal.svg
 	@echo "docs/shoal.svg is drawn."
+
+# Draws the score and the lamp of the tour over its lines, by gnuplot, into docs/tour.svg.
+chart: $(PROGRAM)
+	@mkdir -p out
+	@$(PROGRAM) $(FIRST_GAME) --print steps > out/tour.steps
+	@tools/chart out/tour.steps --output docs/tour.svg
+	@echo "docs/tour.svg is drawn."
+
+# Makes a page for a browser, docs/tour.html: the tour as it goes without the pillow, and the tour.
+TOUR = caves/shoal.txt logs/tour.log
+HOW = --bind caves/shoal.bind --seed 3
+page: graphviz $(PROGRAM)
+	@mkdir -p out
+	@$(PROGRAM) edit $(TOUR) logs/edit-tour.script $(HOW) --print log > out/tour-without-pillow.log
+	@tools/page caves/shoal.txt out/tour-without-pillow.log --against logs/tour.log $(HOW) \
+		--program $(PROGRAM) --output docs/tour.html
+	@echo "docs/tour.html is made: open it in a browser."
+
+# Takes the picture of that page that README shows, by a headless chromium: docs/tour.png.
+picture: page
+	@tools/picture docs/tour.html docs/tour.png
 
 install: $(PROGRAM)
 	install -D -m 755 $(PROGRAM) $(PREFIX)/bin/cave
