@@ -65,10 +65,14 @@ def edited(crate, name, path):
 
 
 def function_at(text, line, column):
-    """The function that begins at a place in a text, or else of which the place is part."""
-    *before, last = text.splitlines()[:line] or [""]
+    """The function that begins at a place in a text, or whose attributes do, or else of which the
+    place is part."""
+    lines = text.splitlines()
+    *before, last = lines[:line] or [""]
     if begun := BEGINS.match(last, column - 1):
         return begun[1]
+    if last.startswith("#[", column - 1):
+        return FUNCTION.search("\n".join(lines[line - 1 :]))[1]
     found = FUNCTION.findall("\n".join([*before, last[:column]]))
     return found[-1] if found else ""
 
