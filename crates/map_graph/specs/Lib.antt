@@ -2,6 +2,7 @@ pub mod Stops
 pub mod Names
 pub mod Titles
 pub mod Places
+pub mod WayTexts
 pub mod Edges
 pub mod Map
 pub use Rattle.data_bindings.specs.cave_data as cave_data

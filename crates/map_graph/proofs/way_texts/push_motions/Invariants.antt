@@ -1,6 +1,6 @@
 use Rattle.std.proofs.Common.{◌≡◌, ◌++◌, drop}
-use Rattle.map_graph.specs.Edges.{motions_after}
-use Rattle.map_graph.proofs.edges.push_motions.Given as goal
+use Rattle.map_graph.specs.WayTexts.{motions_after}
+use Rattle.map_graph.proofs.way_texts.push_motions.Given as goal
 
 -- what was written, with the motions that are left, is the whole
 abbrev pub invariant-loop-shown : goal.invariant-loop-shown

@@ -1,7 +1,7 @@
 use Rattle.std.proofs.Common.{◌≡◌, ◌++◌, [], drop, map, take}
 use Rattle.data_bindings.specs.data_rows.RowViews.{going}
-use Rattle.map_graph.specs.Edges.{row_lines}
-use Rattle.map_graph.proofs.edges.push_rows.Given as goal
+use Rattle.map_graph.specs.WayTexts.{row_lines}
+use Rattle.map_graph.proofs.way_texts.push_rows.Given as goal
 
 -- what was written, with the lines of the rows that are left, is the whole
 abbrev pub invariant-loop-count : goal.invariant-loop-count
