@@ -28,7 +28,8 @@ lead_to place before [] = false
 lead_to place before (row ∷ rows) =
     (ends_at place row && is_reached [] before row) || lead_to place (before ++ row ∷ []) rows
 
--- a way leads from the one place to the other: in some state, with some draws, some motion does
+-- a way leads from the one place to the other: some motion can come to a row that leads there, and
+-- take it
 abbrev pub is_way : CaveView → ℕ → ℕ → Bool
 is_way cave from to = lead_to to [] (ways_from cave from)
 

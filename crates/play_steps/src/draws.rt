@@ -3,10 +3,8 @@
 ghost use Rattle.std.specs.Prelude.{◌≡◌};
 ghost use Rattle.play_steps.specs.Draws.{draws_between, draws_at};
 
+use cave_words::stream::STREAM_SIZE;
 use cave_world::{LogLine, Stream};
-
-/// How many numbers the stream goes through.
-const STREAM_SIZE: u32 = 1_048_576;
 
 /// How many draws lead from one number of the stream to another. They are few, since a turn draws
 /// few.

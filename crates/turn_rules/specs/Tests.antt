@@ -186,7 +186,7 @@ module _ {C : Type 0} where
   abbrev pub in_the_depths : Test C
   in_the_depths d = nat_le (deep_place d.cave) d.scene.state.trail.here
 
-  -- a place is one of those outside the cave, or above the last of them
+  -- a place is one of those outside the cave, or none
   abbrev pub outside : (Deed C → ℕ) → Test C
   outside place d = nat_le (place d) (outside_place d.cave)
 
