@@ -17,7 +17,7 @@ use Rattle.replay_edits.specs.declared.fault.GroupFault.{GroupFault}
 use Rattle.cave_replay.specs.Replay.{IsShift, Revision, HasMet, IsWithinBound}
 use Rattle.cave_replay.specs.Report.{AreStepsBounded}
 use Rattle.replay_edits.proofs.LogAfterLemmas.{stays_after_all}
-use Rattle.replay_edits.proofs.Inverses.{IsFree-from_none, IsGame-apply_all}
+use Rattle.replay_edits.proofs.Inverses.{IsFree-from_none, IsGame-apply_all, log-apply_all}
 use Rattle.replay_edits.proofs.Lines.{length-log_of}
 use Rattle.replay_edits.proofs.MarginLemmas.{leave_alone, seed_stays}
 use Rattle.cave_replay.proofs.Revisions.{HasCheckpoints, HasEndAt}
@@ -68,7 +68,9 @@ shift_of {changes} {seed} {log} {ready} edits =
     let stays = stays_after_all changes (log_of log) margins alone (omega arith) in
     let e : length log - ready.rest ≡ margins.tail = omega arith in
     let within = stays.within in
-    rw (e, head, edits.edits) (record {
+    let new = ap (λ (x : Game). x.log) edits.game
+    ∙ log-apply_all changes (game_of seed (log_of log)) in
+    rw (new, e, head) (record {
       within_old = omega arith;
       within_new = within;
       prefix = stays.prefix;

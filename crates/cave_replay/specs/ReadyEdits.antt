@@ -1,5 +1,6 @@
 -- Edits that are accepted, and what is known of them before anything is replayed.
-use Rattle.std.specs.Prelude.{◌≡◌, ℕ, ◌+◌, ◌-◌, ◌≤◌, List, length, None}
+use Rattle.std.specs.Prelude.{◌≡◌, ℕ, ◌+◌, ◌-◌, ◌≤◌, List, [], length, None}
+use Rattle.std.specs.Prelude.{vec_len, vec_capacity}
 use Rattle.replay_edits.specs.LineText.{LineText}
 use Rattle.cave_replay.specs.declared.ready_edits.ReadyEdits.{ReadyEdits}
 use Rattle.cave_replay.specs.declared.segment.OldPlay.{OldPlay}
@@ -9,14 +10,16 @@ use Rattle.cave_replay.specs.declared.replay.Rerun.{Rerun}
 use Rattle.replay_marks.specs.Marks.{MarksView}
 use Rattle.cave_replay.specs.Play.{MachineRules}
 use Rattle.replay_edits.specs.Edit.{Game, game_of, log_of, IsGame, margins_of, Change, changes_of}
-use Rattle.replay_edits.specs.Edit.{apply_all}
+use Rattle.replay_edits.specs.Edit.{apply_all, inverses_of}
 use Rattle.cave_replay.specs.Playthrough.{kept_game}
 use Rattle.cave_replay.specs.Replay.{Revision, IsShift, MayBegin, IsPlayedOn, IsRerun}
 use Rattle.cave_replay.specs.Replay.{revision_to, segment_view, rerun_view}
-use Rattle.replay_edits.specs.Faults.{fault_of_all, log_after_all}
+use Rattle.replay_edits.specs.Faults.{fault_of_all}
+use Rattle.replay_edits.specs.Outcome.{log_with, AreRising}
 
+-- the log with the lines of the edits in the place of those between `head` and `rest`
 abbrev pub log_after_edits : ReadyEdits → List (List ℕ) → List (List ℕ)
-log_after_edits ready log = log_after_all (changes_of ready.edits.items) log
+log_after_edits ready log = log_with log ready.head ready.rest ready.middle.items
 
 abbrev pub new_game : ReadyEdits → List (List ℕ) → Game
 new_game ready log = game_of ready.seed (log_after_edits ready log)
@@ -53,11 +56,18 @@ IsRerunOf meaning is_state text rules changes kept rerun =
     let revision = revision_to rules changes old (new_game rerun.ready old.log) in
     IsRerun meaning is_state revision kept.checkpoints (rerun_view text rerun)
 
--- The edits may be made in a game: they meet no fault, and leave a game that may be held, of so
--- many lines. Its lines before `head` are those of the log, and its last lines are those of the log
--- from `rest` on; with another seed `head` is 0.
+-- The lines between those that stay can be put there: the old ones among them rise, and are between
+-- `head` and `rest`, and there is room for all.
+pub record MayMove (ready : ReadyEdits) : Type 0 where
+  pub rising : AreRising ready.head ready.rest ready.middle.items
+  pub empty : ready.room.items ≡ []
+  pub room : vec_len ready.middle ≤ vec_capacity ready.room
+
+-- The edits may be made in a game: they leave one that may be held, of so many lines. Its lines
+-- before `head` are those of the log, and its last lines are those of the log from `rest` on; with
+-- another seed `head` is 0.
 pub record IsReady (seed : ℕ) (log : List LineText) (ready : ReadyEdits) : Type 0 where
-  pub free : fault_of_all (changes_of ready.edits.items) (log_of log) 0 ≡ None
+  pub moves : MayMove ready
   pub lines : ready.lines ≡ length (log_after_edits ready (log_of log))
   pub ordered : ready.head ≤ ready.rest
   pub within : ready.rest ≤ length log
@@ -65,13 +75,14 @@ pub record IsReady (seed : ℕ) (log : List LineText) (ready : ReadyEdits) : Typ
       (length log - ready.rest)
   pub good : IsGame (new_game ready (log_of log))
 
--- They are these changes of a game, which meet no fault and leave its new game; and `head` and
--- `rest` bound the lines that the changes don't leave alone.
+-- They are these changes of a game, which meet no fault and leave its new game, and they have what
+-- takes these back; `head` and `rest` bound the lines that the changes don't leave alone.
 pub record AreEditsOf (changes : List Change) (seed : ℕ) (log : List LineText)
     (ready : ReadyEdits) : Type 0 where
   pub accepted : fault_of_all changes (log_of log) 0 ≡ None
-  pub edits : changes_of ready.edits.items ≡ changes
+  pub moves : MayMove ready
   pub game : new_game ready (log_of log) ≡ apply_all changes (game_of seed (log_of log))
+  pub inverse : changes_of ready.inverse.items ≡ inverses_of changes (game_of seed (log_of log))
   pub ordered : ready.head ≤ ready.rest
   pub head : ready.head ≡ (margins_of changes (log_of log)).head
   pub tail : ready.rest + (margins_of changes (log_of log)).tail ≡ length log

@@ -5,7 +5,7 @@ use Rattle.std.specs.List.{splice}
 use Rattle.replay_marks.specs.Marks.{MarksView, CheckpointsView, IsBegunAt, places_met, states_met}
 use Rattle.cave_replay.specs.declared.playthrough.Playthrough.{Playthrough}
 use Rattle.cave_replay.specs.declared.replay.Rerun.{Rerun}
-use Rattle.replay_edits.specs.Edit.{changes_of, lines_inserted_by_all, apply_all}
+use Rattle.cave_replay.specs.ReadyEdits.{new_game}
 use Rattle.cave_replay.specs.Playthrough.{kept_game}
 
 -- the old place up to which what was played comes in: the checkpoint that was met, or the end
@@ -53,14 +53,14 @@ pub record IsWhole {Machine State Kept Piece Meter Scratch : Type 0}
   pub ticked : vec_len kept.ticked ≡ vec_len kept.log
   pub lines : kept.checkpoints.lines ≡ vec_len kept.log
 
--- There is room for the lines that the edits of a rerun insert, and for what it played, where the
--- lines and the checkpoints go that it passed.
+-- There is room for the lines of the edits of a rerun, and for what it played, where the lines and
+-- the checkpoints go that it passed.
 pub record HasRoomFor {Machine State Kept Piece Meter Scratch : Type 0}
     (kept : Playthrough Machine State Kept Piece Meter Scratch)
     (rerun : Rerun Machine State Kept Piece Meter Scratch) :
     Type 0 where
-  pub log : vec_len kept.log + lines_inserted_by_all (changes_of rerun.ready.edits.items)
-      ≤ vec_capacity kept.log
+  pub log : vec_len kept.log + vec_len rerun.ready.middle
+      ≤ vec_capacity kept.log + (rerun.ready.rest - rerun.ready.head)
   pub pieces : vec_len kept.pieces + vec_len rerun.played.pieces
       ≤ vec_capacity kept.pieces + lines_gone kept.checkpoints rerun.at rerun.played.met
   pub ticked : vec_len kept.ticked + vec_len rerun.played.ticked
@@ -82,13 +82,13 @@ abbrev pub new_state : {S : Type 0} → S → MarksView S → Option ℕ → S
 new_state state marks None = marks.state
 new_state state marks (Some index) = state
 
--- What is kept once a rerun is taken over: the game that its edits make of the old one, and what it
+-- What is kept once a rerun is taken over: the new game of its edits, and what it
 -- played in the place of what was there.
 pub record IsTakenOver {Machine State Kept Piece Meter Scratch : Type 0}
     (old new : Playthrough Machine State Kept Piece Meter Scratch)
     (rerun : Rerun Machine State Kept Piece Meter Scratch) :
     Type 0 where
-  pub game : kept_game new ≡ apply_all (changes_of rerun.ready.edits.items) (kept_game old)
+  pub game : kept_game new ≡ new_game rerun.ready (kept_game old).log
   pub opening_is : MatchOption rerun.opening (new.opening ≡ old.opening)
       (λ piece. new.opening ≡ piece)
   pub pieces : new.pieces.items

@@ -5,7 +5,7 @@ ghost use Rattle.std.specs.Str.Lines.{lines};
 ghost use Rattle.replay_marks.specs.Spacing.{IsSpaced, most_spaced};
 ghost use Rattle.replay_edits.specs.base_lines.Line.{is_line};
 ghost use Rattle.replay_edits.specs.Edit.{game_of, IsGame, change_of, changes_of, apply, apply_all};
-ghost use Rattle.replay_edits.specs.Edit.{inverse_of, inverses_of, line_at};
+ghost use Rattle.replay_edits.specs.Edit.{inverse_of, inverses_of, line_at, log_of};
 ghost use Rattle.replay_edits.specs.Faults.{fault_of, fault_of_all, edit_fault, group_fault};
 ghost use Rattle.replay_edits.specs.Faults.{steps_left, IsAnswerTo, IsFaultOr};
 ghost use Rattle.cave_replay.specs.Opening.{open_fault, IsAnswerToOpen, AreOpenSteps};
@@ -25,7 +25,7 @@ use crate::replay::edit_kept;
 use crate::report::{GroupReport, Report};
 use crate::tick_counts::{TickCounts, count_ticks};
 use crate::workspace::Workspace;
-use replay_edits::{Edit, EditFault, GroupFault, Steps};
+use replay_edits::{Edit, EditFault, GroupFault, LineText, Steps};
 use std::alloc::{AllocError, Global};
 use std::marker::Model;
 use std::slice;
@@ -228,6 +228,13 @@ impl<M: Machine> Session<M> {
         ensures valid { IsTrue (is_line result.now) }
     {
         &self.kept.log[place as usize]
+    }
+
+    /// The held log.
+    pub fn log(&self) -> &[LineText]
+        ensures { log_of result.now ≡ self.now.game.log }
+    {
+        &self.kept.log
     }
 
     /// Appends the held log, each line with a line feed after it. It reads back as the log that it

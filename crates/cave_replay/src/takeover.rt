@@ -1,9 +1,9 @@
-ghost use Rattle.std.specs.Prelude.{◌≡◌, ◌<◌, ◌≤◌, length, MatchOption, OnOk, None};
+ghost use Rattle.std.specs.Prelude.{◌≡◌, ◌<◌, ◌≤◌, length, MatchOption, OnOk, vec_len};
 ghost use Rattle.std.specs.Option.{ForSome};
 ghost use Rattle.replay_marks.specs.Marks.{IsBegunAt};
-ghost use Rattle.cave_replay.specs.Playthrough.{kept_game, KeepsAll};
-ghost use Rattle.replay_edits.specs.Edit.{changes_of, inverses_of};
-ghost use Rattle.replay_edits.specs.Faults.{fault_of_all};
+ghost use Rattle.cave_replay.specs.Playthrough.{KeepsAll};
+ghost use Rattle.replay_edits.specs.Edit.{changes_of};
+ghost use Rattle.cave_replay.specs.ReadyEdits.{MayMove};
 ghost use Rattle.cave_replay.specs.Takeover.{end_of_stretch, lines_gone, checkpoints_passed};
 ghost use Rattle.cave_replay.specs.Takeover.{FitsMarks, HasRoomFor, IsStretch, IsTakenOver};
 ghost use Rattle.cave_replay.specs.Takeover.{IsWhole, MarksEnd, new_places, new_states, new_state};
@@ -13,7 +13,6 @@ use crate::playthrough::Playthrough;
 use crate::replay::Rerun;
 use crate::segment::Segment;
 use replay_edits::Edit;
-use replay_edits::edit::{lines_inserted, make_edits};
 use replay_marks::{Checkpoints, KeptState, Marks, splice};
 use std::alloc::AllocError;
 
@@ -31,7 +30,10 @@ pub(crate) fn make_room<M: Machine>(
     ensures room { OnOk result (HasRoomFor kept.new rerun.now) }
 {
     let met = rerun.played.met;
-    kept.log.reserve(lines_inserted(&rerun.ready.edits))?;
+    let ready = &rerun.ready;
+    let moving = ready.rest.saturating_sub(ready.head);
+    let more = ready.middle.len().saturating_sub(moving);
+    kept.log.reserve(more)?;
     let gone = lines_gone(&kept.checkpoints, rerun.at, met);
     let pieces = rerun.played.pieces.len().saturating_sub(gone);
     kept.pieces.reserve(pieces)?;
@@ -51,17 +53,16 @@ pub(crate) fn take_over<M: Machine>(
     state: M::Kept,
 ) -> Vec<Edit>
     requires state { M.Kept.state_of state ≡ rerun.played.marks.state }
-    requires free { let log = (kept_game kept.old).log in
-        fault_of_all (changes_of rerun.ready.edits.items) log 0 ≡ None }
+    requires moves { MayMove rerun.ready }
+    requires ordered { rerun.ready.head ≤ rerun.ready.rest }
+    requires within { rerun.ready.rest ≤ vec_len kept.old.log }
     requires whole { IsWhole kept.old }
     requires stretch { let met = rerun.played.met in
         IsStretch kept.old.checkpoints rerun.played.marks rerun.at met }
     requires room { HasRoomFor kept.old rerun }
     ensures taken { IsTakenOver kept.old kept.new rerun }
-    ensures inverse { changes_of result.items
-        ≡ inverses_of (changes_of rerun.ready.edits.items) (kept_game kept.old) }
+    ensures inverse { changes_of result.items ≡ changes_of rerun.ready.inverse.items }
 {
-    let mut edits = rerun.ready.edits;
     let Segment {
         mut pieces,
         mut ticked,
@@ -70,13 +71,13 @@ pub(crate) fn take_over<M: Machine>(
     } = rerun.played;
     let from = kept.checkpoints.places()[rerun.at] as usize;
     let to = end_of_stretch(&kept.checkpoints, met);
-    make_edits(&mut edits, &mut kept.log, &mut kept.seed);
+    let inverse = rerun.ready.make(&mut kept.log, &mut kept.seed);
     splice(&mut kept.pieces, from, to, &mut pieces);
     splice(&mut kept.ticked, from, to, &mut ticked);
     replace_piece(&mut kept.opening, rerun.opening);
     let last = &mut kept.state;
     take_marks(&mut kept.checkpoints, last, marks, state, rerun.at, met);
-    edits
+    inverse
 }
 
 /// Puts a new piece in the place of one, if there is a new one.

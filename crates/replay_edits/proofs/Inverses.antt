@@ -16,7 +16,7 @@ use Rattle.replay_edits.specs.declared.fault.EditFault.TheVariants.{BadSeed, Met
 use Rattle.replay_edits.specs.declared.fault.GroupFault.{GroupFault}
 use Rattle.base_lines.specs.base_limits.Limits.{MAX_LOG_LINES, MAX_SEED}
 use Rattle.replay_edits.specs.Edit.{Game, game_of, IsGame, Change, inserts, deletes, replaces}
-use Rattle.replay_edits.specs.Edit.{reseeds, line_at, log_after, seed_after, seed_after_all, apply}
+use Rattle.replay_edits.specs.Edit.{reseeds, line_at, log_after, apply}
 use Rattle.replay_edits.specs.Edit.{apply_all, inverse_of, inverse_of_each, inverses_of}
 use Rattle.replay_edits.specs.Faults.{fault_of, added_fault, replaced_fault, fault_of_all}
 use Rattle.replay_edits.specs.Faults.{or_group_meter_full, group_fault, log_after_all}
@@ -79,14 +79,6 @@ pub log-apply_all : (changes : List Change) (game : Game)
     → (apply_all changes game).log ≡ log_after_all changes game.log
 log-apply_all [] game = refl
 log-apply_all (change ∷ changes) game = log-apply_all changes (apply change game)
-
--- a game after changes, by its seed and its log
-pub game-apply_all : (changes : List Change) (seed : ℕ) (log : List (List ℕ))
-    → game_of (seed_after_all changes seed) (log_after_all changes log)
-    ≡ apply_all changes (game_of seed log)
-game-apply_all [] seed log = refl
-game-apply_all (change ∷ changes) seed log =
-    game-apply_all changes (seed_after change seed) (log_after change log)
 
 remove-insert : (log : List (List ℕ)) (place : ℕ) (line : List ℕ) → place ≤ length log
     → remove (insert log place line) place ≡ log

@@ -8,23 +8,10 @@ use Rattle.replay_edits.specs.Edit.{log_of, Game, Change, change_of, changes_of,
 use Rattle.replay_edits.specs.Edit.{replaces, reseeds, log_after, apply, apply_all, margins_after}
 use Rattle.replay_edits.specs.Edit.{margins_after_all, margins_of}
 use Rattle.replay_edits.specs.Faults.{fault_of, fault_of_all}
+use Rattle.replay_edits.specs.Leaves.{Leaves, LeaveAlone}
 use Rattle.replay_edits.proofs.Lines.{length-log_of}
 use Rattle.replay_edits.proofs.Inverses.{IsFree, IsFree-from_none, insert_within, delete_within}
 use Rattle.replay_edits.proofs.Inverses.{replace_within}
-
--- a change of a log of so many lines leaves the margins alone
-abbrev pub Leaves : Change → ℕ → Margins → Type 0
-Leaves (inserts place line) lines margins = (margins.head ≤ place) × (place + margins.tail ≤ lines)
-Leaves (deletes place) lines margins = (margins.head ≤ place) × (place + 1 + margins.tail ≤ lines)
-Leaves (replaces place line) lines margins =
-    (margins.head ≤ place) × (place + 1 + margins.tail ≤ lines)
-Leaves (reseeds seed) lines margins = margins.head ≤ 0
-
--- so do several changes, each of the log as those before it left it
-abbrev pub LeaveAlone : List Change → List (List ℕ) → Margins → Type 0
-LeaveAlone [] log margins = Unit {0}
-LeaveAlone (change ∷ changes) log margins = Leaves change (length log) margins
-    × LeaveAlone changes (log_after change log) margins
 
 pub record IsNarrower (margins wide : Margins) : Type 0 where
   pub head : margins.head ≤ wide.head
@@ -58,7 +45,7 @@ after_all_narrower (change ∷ changes) log margins =
 -- a change that meets no fault leaves alone what is narrower than its margins
 leaves_after : (change : Change) (log : List (List ℕ)) (margins narrow : Margins)
     → fault_of change log ≡ None → IsNarrower narrow (margins_after change (length log) margins)
-    → Leaves change (length log) narrow
+    → Leaves change (length log) narrow.head narrow.tail
 leaves_after (inserts place line) log margins narrow free inner =
     let within = (insert_within place line log free).0 in
     let h = inner.head in let t = inner.tail in

@@ -1,5 +1,5 @@
 -- A game, what edits change of it and leave alone, and what takes them back.
-use Rattle.std.specs.Prelude.{ℕ, ◌+◌, List, [], ◌∷◌, map, reverse, insert, remove, slice_set, ◌≤◌}
+use Rattle.std.specs.Prelude.{ℕ, List, [], ◌∷◌, map, reverse, insert, remove, slice_set, ◌≤◌}
 use Rattle.std.specs.Prelude.{IsTrue, length, All, ◌-◌, min, ◌≡◌, ◌<◌, Option, MatchOption}
 use Rattle.std.specs.List.{slice_index_or}
 use Rattle.replay_edits.specs.declared.edit.Edit.{Edit}
@@ -63,23 +63,9 @@ own_line (deletes place) = []
 own_line (replaces place line) = line
 own_line (reseeds seed) = []
 
-abbrev pub lines_inserted : Change → ℕ
-lines_inserted (inserts place line) = 1
-lines_inserted (deletes place) = 0
-lines_inserted (replaces place line) = 0
-lines_inserted (reseeds seed) = 0
-
-abbrev pub lines_inserted_by_all : List Change → ℕ
-lines_inserted_by_all [] = 0
-lines_inserted_by_all (change ∷ changes) = lines_inserted change + lines_inserted_by_all changes
-
 abbrev pub seed_after : Change → ℕ → ℕ
 seed_after (reseeds new) seed = new
 seed_after _ seed = seed
-
-abbrev pub seed_after_all : List Change → ℕ → ℕ
-seed_after_all [] seed = seed
-seed_after_all (change ∷ changes) seed = seed_after_all changes (seed_after change seed)
 
 -- what a change makes of a game
 abbrev pub apply : Change → Game → Game

@@ -1,4 +1,4 @@
-ghost use Rattle.std.specs.Prelude.{◌≡◌, ◌≤◌, length, IsOk, IfOk};
+ghost use Rattle.std.specs.Prelude.{◌≡◌, ◌≤◌, [], length, IsOk, IfOk};
 
 use std::alloc::{AllocError, Global};
 use std::fmt;
@@ -58,6 +58,15 @@ impl LineText {
                     bytes: [LineBytes::Long(long)],
                 })
             }
+        }
+    }
+
+    /// An empty line.
+    pub fn empty() -> LineText
+        ensures { result.items ≡ [] }
+    {
+        LineText {
+            bytes: [LineBytes::Short(0, [0; MAX_SHORT_LINE])],
         }
     }
 

@@ -39,7 +39,7 @@ pub fn plan_group(edits: &[Edit], lines: usize, left: u64) -> Result<Plan, Group
 }
 
 /// What the edits make of a log of `lines` lines, or the first fault that one of them meets.
-fn plan_edits(edits: &[Edit], lines: usize) -> Result<Plan, GroupFault>
+pub fn plan_edits(edits: &[Edit], lines: usize) -> Result<Plan, GroupFault>
     ensures { let changes = changes_of edits.now in
         (log : List (List ℕ)) → length log ≡ lines
         → IsPlanOrFault changes log (fault_of_all changes log 0) result }

@@ -1,13 +1,18 @@
-use Rattle.std.proofs.Common.{◌≡◌, ℕ, ◌+◌, ◌-◌, ◌≤◌, List, length, ap, ◌∙◌, refl, arith, Option}
+use Rattle.std.proofs.Common.{◌≡◌, ℕ, ◌+◌, ◌-◌, ◌<◌, ◌≤◌, List, length, ap, ◌∙◌, refl, sym, arith}
+use Rattle.std.proofs.Common.{Option}
+use Rattle.std.specs.Prelude.{vec_len, vec_capacity}
+use Rattle.std.proofs.lemmas.List.{length-map}
 use Rattle.replay_edits.specs.LineText.{LineText}
+use Rattle.replay_edits.specs.declared.edit.Edit.{Edit}
 use Rattle.replay_edits.specs.declared.fault.GroupFault.{GroupFault}
 use Rattle.replay_edits.specs.declared.margins.Margins.{Margins}
 use Rattle.replay_edits.specs.declared.plan.Plan.{Plan}
 use Rattle.cave_replay.specs.declared.ready_edits.ReadyEdits.{ReadyEdits}
-use Rattle.replay_edits.specs.Edit.{log_of, game_of, IsGame, Change, changes_of, seed_after_all}
+use Rattle.replay_edits.specs.Edit.{Game, log_of, game_of, IsGame, Change, change_of, changes_of}
+use Rattle.replay_edits.specs.Edit.{apply_all, inverses_of}
 use Rattle.replay_edits.specs.Faults.{group_fault, log_after_all, IsPlan}
-use Rattle.cave_replay.specs.ReadyEdits.{AreEditsOf, IsReady}
-use Rattle.replay_edits.proofs.Inverses.{IsFree-from_none, game-apply_all, group_free, group_some}
+use Rattle.cave_replay.specs.ReadyEdits.{new_game, log_after_edits, MayMove, AreEditsOf, IsReady}
+use Rattle.replay_edits.proofs.Inverses.{IsFree-from_none, log-apply_all, group_free, group_some}
 use Rattle.replay_edits.proofs.Lines.{length-log_of}
 use Rattle.cave_replay.proofs.ReadyLemmas.{shift_of, good_of}
 use Rattle.replay_edits.proofs.MarginLemmas.{after_all_narrower, margins_fits}
@@ -24,14 +29,16 @@ tail_within {changes} log planned =
     (after_all_narrower changes (log_of log) (record { head = all; tail = all })).tail in
     rw planned.margins (omega arith)
 
--- edits that were planned and made ready
+-- edits that were planned and whose outcome was found
 edits_of : {changes : List Change} (log : List LineText) (seed left : ℕ) {plan : Plan}
     (ready : ReadyEdits)
     → IsPlan changes (log_of log) (group_fault changes (log_of log) left) plan
-    → changes_of ready.edits.items ≡ changes → ready.seed ≡ seed_after_all changes seed
+    → MayMove ready
+    → new_game ready (log_of log) ≡ apply_all changes (game_of seed (log_of log))
+    → changes_of ready.inverse.items ≡ inverses_of changes (game_of seed (log_of log))
     → ready.head ≡ plan.margins.head → ready.rest ≡ length log - plan.margins.tail
     → AreEditsOf changes seed log ready
-edits_of {changes} log seed left {plan} ready planned same seed_is head rest =
+edits_of {changes} log seed left {plan} ready planned moves game inverse head rest =
     let n = length-log_of log in
     let accepted = (group_free changes (log_of log) left planned.free).0 in
     let fits =
@@ -43,12 +50,20 @@ edits_of {changes} log seed left {plan} ready planned same seed_is head rest =
     let behind = rw planned.margins at whole in
     record {
       accepted = accepted;
-      edits = same;
-      game = rw (same, seed_is) (game-apply_all changes seed (log_of log));
+      moves = moves;
+      game = game;
+      inverse = inverse;
       ordered = omega arith;
       head = head_is;
       tail = behind;
     }
+
+-- the log that they leave
+log_is : {changes : List Change} (log : List LineText) (seed : ℕ) (ready : ReadyEdits)
+    → AreEditsOf changes seed log ready
+    → log_after_edits ready (log_of log) ≡ log_after_all changes (log_of log)
+log_is {changes} log seed ready edits =
+    ap (λ (x : Game). x.log) edits.game ∙ log-apply_all changes (game_of seed (log_of log))
 
 -- such edits are ready
 ready_of : {changes : List Change} (log : List LineText) (seed : ℕ) {fault : Option GroupFault}
@@ -56,8 +71,8 @@ ready_of : {changes : List Change} (log : List LineText) (seed : ℕ) {fault : O
     → AreEditsOf changes seed log ready → ready.lines ≡ plan.lines
     → IsGame (game_of seed (log_of log)) → IsReady seed log ready
 ready_of log seed ready planned edits lines good = record {
-  free = rw edits.edits edits.accepted;
-  lines = rw edits.edits (lines ∙ planned.lines);
+  moves = edits.moves;
+  lines = lines ∙ planned.lines ∙ ap length (sym (log_is log seed ready edits));
   ordered = edits.ordered;
   within = let tail = edits.tail in omega arith;
   shift = shift_of edits;
@@ -65,16 +80,32 @@ ready_of log seed ready planned edits lines good = record {
 }
 
 -- and the meter has room for what they leave
-fits_of : {changes : List Change} (log : List LineText) (left : ℕ) {plan : Plan}
+fits_of : {changes : List Change} (log : List LineText) (seed left : ℕ) {plan : Plan}
+    (ready : ReadyEdits)
     → IsPlan changes (log_of log) (group_fault changes (log_of log) left) plan
-    → (made : List Change) → made ≡ changes → length (log_after_all made (log_of log)) ≤ left
-fits_of {changes} log left planned made same =
-    rw same (group_free changes (log_of log) left planned.free).1
+    → AreEditsOf changes seed log ready
+    → length (log_after_edits ready (log_of log)) ≤ left
+fits_of {changes} log seed left ready planned edits =
+    rw (log_is log seed ready edits) (group_free changes (log_of log) left planned.free).1
 
-pub overflow_sub-rest : goal.overflow_sub-rest
-overflow_sub-rest c =
+some_edits : (edits : List Edit) → 0 < length (changes_of edits) → 0 < length edits
+some_edits edits some = let n = length-map edits change_of in omega arith
+
+pub overflow_sub-result : goal.overflow_sub-result
+overflow_sub-result c =
     let planned = c.in_ok-plan.ensures (log_of c.args.log.now) (length-log_of c.args.log.now) in
     tail_within c.args.log.now planned
+
+pub find_outcome-requires : goal.find_outcome-requires
+find_outcome-requires c =
+    let log = log_of c.args.log.now in
+    let changes = changes_of c.args.edits.now in
+    let planned = c.in_ok-plan.ensures log (length-log_of c.args.log.now) in
+    record {
+      some = some_edits c.args.edits.now (group_some changes log c.args.left planned.free);
+      free = (group_free changes log c.args.left planned.free).0;
+      margins = planned.margins;
+    }
 
 pub returns-clause-none : goal.returns-clause-none
 returns-clause-none c =
@@ -83,18 +114,41 @@ returns-clause-none c =
 pub returns-clause-edits : goal.returns-clause-edits
 returns-clause-edits c =
     let planned = c.in_ok-plan.ensures (log_of c.args.log.now) (length-log_of c.args.log.now) in
-    edits_of c.args.log.now c.args.seed c.args.left _ planned c.in_ok-copy_edits.ensures
-    c.seed_after.ensures refl refl
+    let outcome = c.in_ok-outcome.ensures in
+    let room : vec_len c.in_ok-outcome.outcome.lines ≤ vec_capacity c.in_ok-room.room =
+    omega (arith, c.in_ok-room.ensures.exact, c.in_ok-room.ensures.capacity) in
+    edits_of c.args.log.now c.args.seed c.args.left _ planned
+    (record { rising = outcome.rising; empty = c.in_ok-room.ensures.items; room = room })
+    outcome.game outcome.inverse refl refl
 
 pub returns-clause-ready : goal.returns-clause-ready
 returns-clause-ready c =
     let planned = c.in_ok-plan.ensures (log_of c.args.log.now) (length-log_of c.args.log.now) in
+    let outcome = c.in_ok-outcome.ensures in
+    let room : vec_len c.in_ok-outcome.outcome.lines ≤ vec_capacity c.in_ok-room.room =
+    omega (arith, c.in_ok-room.ensures.exact, c.in_ok-room.ensures.capacity) in
     ready_of c.args.log.now c.args.seed _ planned
-    (edits_of c.args.log.now c.args.seed c.args.left _ planned c.in_ok-copy_edits.ensures
-    c.seed_after.ensures refl refl)
+    (edits_of c.args.log.now c.args.seed c.args.left _ planned
+    (record { rising = outcome.rising; empty = c.in_ok-room.ensures.items; room = room })
+    outcome.game outcome.inverse refl refl)
     refl c.requires.game
 
 pub returns-clause-room : goal.returns-clause-room
 returns-clause-room c =
     let planned = c.in_ok-plan.ensures (log_of c.args.log.now) (length-log_of c.args.log.now) in
-    fits_of c.args.log.now c.args.left planned _ c.in_ok-copy_edits.ensures
+    let outcome = c.in_ok-outcome.ensures in
+    let room : vec_len c.in_ok-outcome.outcome.lines ≤ vec_capacity c.in_ok-room.room =
+    omega (arith, c.in_ok-room.ensures.exact, c.in_ok-room.ensures.capacity) in
+    let ready : ReadyEdits = record {
+      seed = c.in_ok-outcome.outcome.seed;
+      lines = c.in_ok-plan.plan.lines;
+      head = c.in_ok-plan.plan.margins.head;
+      rest = length c.args.log.now - c.in_ok-plan.plan.margins.tail;
+      middle = c.in_ok-outcome.outcome.lines;
+      room = c.in_ok-room.room;
+      inverse = c.in_ok-outcome.outcome.inverse;
+    } in
+    fits_of c.args.log.now c.args.seed c.args.left ready planned
+    (edits_of c.args.log.now c.args.seed c.args.left ready planned
+    (record { rising = outcome.rising; empty = c.in_ok-room.ensures.items; room = room })
+    outcome.game outcome.inverse refl refl)

@@ -4,10 +4,10 @@ use Rattle.std.proofs.lemmas.List.{length-map}
 use Rattle.replay_edits.specs.LineText.{LineText}
 use Rattle.cave_replay.specs.declared.playthrough.Playthrough.{Playthrough}
 use Rattle.cave_replay.specs.declared.ready_edits.ReadyEdits.{ReadyEdits}
-use Rattle.replay_edits.specs.Edit.{Game, Change, changes_of, apply_all, inverses_of}
+use Rattle.replay_edits.specs.Edit.{Game, Change, changes_of, apply_all, inverses_of, log_of}
 use Rattle.replay_edits.specs.Faults.{log_after_all}
 use Rattle.cave_replay.specs.Playthrough.{kept_game, KeepsAll}
-use Rattle.cave_replay.specs.ReadyEdits.{AreEditsOf}
+use Rattle.cave_replay.specs.ReadyEdits.{AreEditsOf, new_game}
 use Rattle.replay_edits.proofs.Inverses.{IsFree-from_none, none_from_IsFree, log-apply_all}
 use Rattle.replay_edits.proofs.Inverses.{apply_all-inverses_of, IsFree-inverses_of}
 use Rattle.cave_replay.proofs.Joins.{map-splice}
@@ -18,14 +18,16 @@ use Rattle.cave_replay.proofs.TakeoverLemmas.{stretch_ready, stretch_same, place
 use Rattle.cave_replay.proofs.TakeoverLemmas.{opened_text}
 use Rattle.cave_replay.proofs.replay.edit_kept.Goals as goal
 
--- what the edits make of the game, once there is room, is what the changes make of the old one
-make_same : {Machine State Kept Piece Meter Scratch X : Type 0} (make : List Change → Game → X)
+-- the new game of the edits, once there is room, is what the changes make of the old one
+made_same : {Machine State Kept Piece Meter Scratch : Type 0}
     {changes : List Change} {seed : ℕ} {log : List LineText} {ready : ReadyEdits}
     {old roomy : Playthrough Machine State Kept Piece Meter Scratch}
-    → AreEditsOf changes seed log ready
+    → AreEditsOf changes seed log ready → log ≡ old.log.items → seed ≡ old.seed
     → KeepsAll old roomy
-    → make (changes_of ready.edits.items) (kept_game roomy) ≡ make changes (kept_game old)
-make_same make edits same = rw (edits.edits, same.seed, same.log) refl
+    → new_game ready (kept_game roomy).log ≡ apply_all changes (kept_game old)
+made_same {ready} edits log_is seed_is same =
+    ap (λ l. new_game ready (log_of l)) (same.log ∙ sym log_is) ∙ edits.game
+    ∙ rw (log_is, seed_is) refl
 
 pub take_over-inverse-requires-clause-whole : goal.take_over-inverse-requires-clause-whole
 take_over-inverse-requires-clause-whole g c =
@@ -72,7 +74,7 @@ returns-clause-kept g c =
     let done = c.take_over-inverse.ensures.taken in
     let stretch = stretch_same roomy.checkpoints C same.lines same.places played.met in
     let from = ap (λ x. slice_index x at) same.places in
-    rw (done.game ∙ make_same apply_all edits same ∙ sym edits.game)
+    rw (done.game ∙ ap (λ l. new_game c.in_ok-rerun.rerun.ready (log_of l)) same.log)
     (kept_after replay (text after.opening) (map text after.pieces.items) after.ticked.items
     after.state after.checkpoints
     (opened_text text c.in_ok-rerun.rerun.opening after.opening roomy.opening kept.opening
@@ -108,7 +110,7 @@ make_room-requires g c =
 pub returns-clause-game : goal.returns-clause-game
 returns-clause-game g c =
     c.take_over-inverse.ensures.taken.game
-    ∙ make_same apply_all c.in_ok-rerun.ensures.edits c.make_room.ensures.same
+    ∙ made_same c.in_ok-rerun.ensures.edits refl refl c.make_room.ensures.same
 
 pub returns-clause-inverse : goal.returns-clause-inverse
 returns-clause-inverse g c =
@@ -118,8 +120,8 @@ returns-clause-inverse g c =
     let changes = changes_of c.args.edits.now in
     let old = kept_game c.args.kept.now in
     let free = IsFree-from_none changes old.log 0 edits.accepted in
-    let game = done.taken.game ∙ make_same apply_all edits same in
-    let inverse = done.inverse ∙ make_same inverses_of edits same in
+    let game = done.taken.game ∙ made_same edits refl refl same in
+    let inverse = done.inverse ∙ edits.inverse in
     let log_is = ap (λ (x : Game). x.log) game ∙ log-apply_all changes old in
     record {
       inverses = inverse;
@@ -128,3 +130,9 @@ returns-clause-inverse g c =
           (IsFree-inverses_of changes old c.requires.kept.game_is free));
       back = rw (inverse, game) (apply_all-inverses_of changes old free);
     }
+
+pub take_over-inverse-requires-clause-within : goal.take_over-inverse-requires-clause-within
+take_over-inverse-requires-clause-within g c =
+    let tail = c.in_ok-rerun.ensures.edits.tail in
+    let lines = ap length c.make_room.ensures.same.log in
+    omega (arith, c.make_room.new.kept.log.ok)

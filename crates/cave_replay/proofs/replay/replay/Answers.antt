@@ -105,3 +105,6 @@ returns-clause-rerun g c =
       met_is = met_at_end _ _ _ _ _ _ end (rw log_is at made.met_is);
       none_before = rw log_is at made.none_before;
     })
+
+pub returns-clause-edits : goal.returns-clause-edits
+returns-clause-edits g c = rw c.deref.ensures.value at c.in_ok-ready.ensures.edits

@@ -1,41 +1,93 @@
-use Rattle.std.proofs.Common.{◌≡◌, ◌+◌, ◌-◌, ◌<◌, length, drop, ap, ◌∙◌, sym, arith}
+use Rattle.std.proofs.Common.{◌≡◌, ◌+◌, ◌-◌, ◌<◌, ◌≤◌, length, ◌∙◌, sym, arith}
 use Rattle.replay_edits.specs.Edit.{log_of}
-use Rattle.cave_replay.specs.ReadyEdits.{log_after_edits}
 use Rattle.replay_edits.proofs.Lines.{length-log_of, line_at-log_of}
-use Rattle.replay_edits.proofs.LogAfterLemmas.{line_in_prefix, line_in_rest}
+use Rattle.replay_edits.proofs.NewLineLemmas.{length-log_with, line_before, line_after}
+use Rattle.replay_edits.proofs.NewLineLemmas.{line_between, old_within}
 use Rattle.cave_replay.proofs.ready_edits.ReadyEdits.line.Goals as goal
+
+pub rest_after-rest-requires-clause-fits : goal.rest_after-rest-requires-clause-fits
+rest_after-rest-requires-clause-fits c =
+    let ready = c.args.self.now in
+    let n = length-log_of c.args.log.now in
+    let ordered = c.requires.ordered in
+    let lines =
+    length-log_with (log_of c.args.log.now) ready.head ready.rest ready.middle.items
+    (omega (arith, c.requires.within)) in
+    omega (arith, c.requires.lines, c.requires.within)
 
 pub returns-then-place-self : goal.returns-then-place-self
 returns-then-place-self c =
+    let ready = c.args.self.now in
     let log = log_of c.args.log.now in
     let n = length-log_of c.args.log.now in
-    let fits = c.requires.shift.within_old in
+    let ordered = c.requires.ordered in
     let before = c.if-place-self.true in
+    let within : ready.head ≤ length log = omega (arith, c.requires.within) in
     let below : c.args.place < length c.args.log.now = omega arith in
     c.deref.ensures
     ∙ sym (line_at-log_of c.args.log.now c.args.place c.index-log-place.result below
     c.index-log-place.is)
-    ∙ sym (line_in_prefix log (log_after_edits c.args.self.now log) c.args.self.now.head
-    c.args.place
-    c.requires.shift.prefix before)
+    ∙ sym (line_before log ready.head ready.rest c.args.place ready.middle.items within before)
 
 pub returns-then-place-rest : goal.returns-then-place-rest
 returns-then-place-rest c =
+    let ready = c.args.self.now in
     let log = log_of c.args.log.now in
-    let new = log_after_edits c.args.self.now log in
     let n = length-log_of c.args.log.now in
+    let ordered = c.requires.ordered in
+    let within : ready.head ≤ length log = omega (arith, c.requires.within) in
+    let lines = length-log_with log ready.head ready.rest ready.middle.items within in
     let start = c.rest_after-rest.result in
-    let was = c.args.self.now.rest in
-    let tail = length c.args.log.now - was in
     let behind = c.if-place-rest.true in
-    let start_is : length new - tail ≡ start =
-    omega (arith, c.rest_after-rest.ensures, c.requires.lines) in
-    let was_is : length log - tail ≡ was = omega (arith, c.requires.within) in
-    let same : drop start new ≡ drop was log = ap (λ k. drop k new) (sym start_is)
-    ∙ c.requires.shift.rest ∙ ap (λ k. drop k log) was_is in
+    let start_is : start ≡ ready.head + length ready.middle.items =
+    omega (arith, c.rest_after-rest.ensures, c.requires.lines, c.requires.within) in
     let item = c.index-log-place-then-place-rest in
-    let below : c.args.place - start + was < length c.args.log.now =
+    let below : c.args.place - start + ready.rest < length c.args.log.now =
     omega (arith, c.rest_after-rest.ensures, c.requires.place, c.requires.within) in
     c.deref-then-place-rest.ensures
-    ∙ sym (line_at-log_of c.args.log.now (c.args.place - start + was) item.result below item.is)
-    ∙ sym (line_in_rest log new start was c.args.place same behind)
+    ∙ sym (line_at-log_of c.args.log.now (c.args.place - start + ready.rest) item.result below
+    item.is)
+    ∙ sym (line_after log ready.head ready.rest start c.args.place ready.middle.items within
+    start_is behind)
+
+pub text-requires : goal.text-requires
+text-requires c =
+    let ready = c.args.self.now in
+    let log = log_of c.args.log.now in
+    let n = length-log_of c.args.log.now in
+    let ordered = c.requires.ordered in
+    let within : ready.head ≤ length log = omega (arith, c.requires.within) in
+    let lines = length-log_with log ready.head ready.rest ready.middle.items within in
+    let before : c.args.place - ready.head < length ready.middle.items =
+    omega (
+      arith,
+      c.if-place-self.false,
+      c.if-place-rest.false,
+      c.rest_after-rest.ensures,
+      c.requires.lines,
+      c.requires.within,
+    ) in
+    old_within ready.head ready.rest (length c.args.log.now) (c.args.place - ready.head)
+    ready.middle.items c.index.result.now c.requires.moves.rising c.requires.within before
+    c.index.ensures
+
+pub returns : goal.returns
+returns c =
+    let ready = c.args.self.now in
+    let log = log_of c.args.log.now in
+    let n = length-log_of c.args.log.now in
+    let ordered = c.requires.ordered in
+    let within : ready.head ≤ length log = omega (arith, c.requires.within) in
+    let lines = length-log_with log ready.head ready.rest ready.middle.items within in
+    let before : c.args.place - ready.head < length ready.middle.items =
+    omega (
+      arith,
+      c.if-place-self.false,
+      c.if-place-rest.false,
+      c.rest_after-rest.ensures,
+      c.requires.lines,
+      c.requires.within,
+    ) in
+    c.text.ensures
+    ∙ sym (line_between log ready.head ready.rest c.args.place ready.middle.items
+    c.index.result.now within c.if-place-self.false before c.index.ensures)

@@ -1,0 +1,38 @@
+use Rattle.std.proofs.Common.{◌≡◌, ◌+◌, length, refl, sym, ap, ◌∙◌}
+use Rattle.replay_edits.specs.Edit.{Game, change_of, log_after, log_of, own_line}
+use Rattle.replay_edits.specs.Outcome.{log_by}
+use Rattle.replay_edits.proofs.DraftLemmas.{alone_more, free_more, made_more}
+use Rattle.replay_edits.proofs.OutcomeLemmas.{line_of-own}
+use Rattle.replay_edits.proofs.draft.Draft.make_next.Goals as goal
+
+pub make-requires-clause-line : goal.make-requires-clause-line
+make-requires-clause-line c =
+    let draft = c.args.self.now in
+    line_of-own draft.stock (length draft.stock.log.now + draft.made) draft.made
+    c.index-self-self.result refl c.requires.left c.index-self-self.is
+    ∙ ap (λ e. own_line (change_of e)) c.index-self-self.is
+
+pub returns : goal.returns
+returns c =
+    let old = c.args.self.now in
+    let edits = old.stock.edits.now in
+    let edit = c.index-self-self.result in
+    let read = c.index-self-self.is in
+    let draft = c.requires.draft in
+    let before = log_by old.stock old.game.numbers in
+    let after = log_by old.stock c.make.new.game.numbers in
+    let next : after ≡ log_after (change_of edit) before =
+    ap (λ (g : Game). g.log) c.in_ok-make.ensures.game
+    ∙ ap (λ e. log_after (change_of e) before) (sym read) in
+    record {
+      edits_are = refl;
+      log_is = refl;
+      made_is = refl;
+      now = next ∙ ap (log_after (change_of edit)) draft.now
+          ∙ made_more edits old.made edit (log_of old.stock.log.now) c.requires.left read;
+      ordered = draft.ordered;
+      within = draft.within;
+      free = rw next (free_more edits old.made edit before c.requires.left read draft.free).1;
+      alone = rw next (alone_more edits old.made edit before _ c.requires.left read draft.alone).1;
+      numbers = c.in_ok-make.ensures.numbers;
+    }
