@@ -9,7 +9,8 @@ use Rattle.replay_scripts.specs.declared.fault.ScriptRefusal.TheVariants.{Malfor
 use Rattle.replay_scripts.specs.declared.script.Script.{Script}
 use Rattle.replay_scripts.specs.Line.{LineKind, nothing, begin, end, edit, nonsense, IsKind}
 use Rattle.replay_scripts.specs.Line.{kind_of_script_line, IsWord}
-use Rattle.replay_scripts.specs.Script.{Applied, single, group_at_line, group_with_change, IsBody}
+use Rattle.replay_scripts.specs.Script.{Applied, single, group_of, group_at_line, group_with_change}
+use Rattle.replay_scripts.specs.Script.{guarded_by, IsBody}
 use Rattle.replay_scripts.specs.Script.{body_done, body_skips, body_spells, IsScript, done, skips}
 use Rattle.replay_scripts.specs.Script.{spells, groups, reading_in_group, onward}
 use Rattle.replay_scripts.specs.Script.{reading_outside_group, read_from, script_of}
@@ -21,21 +22,19 @@ use Rattle.replay_scripts.proofs.Lines.{IsKind-kind_of_script_line, kind_of_scri
 -- the group with more changes, on the lines of these numbers
 abbrev extended : Applied → List Change → List ℕ → Applied
 extended group changes numbers =
-    record { line = group.line; changes = group.changes ++ changes; lines = group.lines ++ numbers }
+    group_of group.line (group.changes ++ changes) (group.lines ++ numbers)
 
-extended_none : (group : Applied) → extended group [] [] ≡ group
+extended_none : (group : Applied) → extended group [] [] ≡ guarded_by [] group
 extended_none group =
-    ap₂ (λ (changes : List Change) (numbers : List ℕ).
-    record { line = group.line; changes = changes; lines = numbers }) (append-nil group.changes)
-    (append-nil group.lines)
+    ap₂ (λ (changes : List Change) (numbers : List ℕ). group_of group.line changes numbers)
+    (append-nil group.changes) (append-nil group.lines)
 
 extended_joined : (group : Applied) (number : ℕ) (change : Change) (changes : List Change)
     (numbers : List ℕ)
     → extended (group_with_change group number change) changes numbers
     ≡ extended group (change ∷ changes) (number ∷ numbers)
 extended_joined group number change changes numbers =
-    ap₂ (λ (all : List Change) (lines : List ℕ).
-    record { line = group.line; changes = all; lines = lines })
+    ap₂ (λ (all : List Change) (lines : List ℕ). group_of group.line all lines)
     (append_assoc group.changes (change ∷ []) changes)
     (append_assoc group.lines (number ∷ []) numbers)
 
@@ -43,25 +42,25 @@ extended_joined group number change changes numbers =
 body_read : {number : ℕ} {inner : List (List ℕ)} {changes : List Change} {numbers : List ℕ}
     → IsBody number inner changes numbers
     → (rest : List (List ℕ)) (items : List Applied) (group : Applied)
-    → read_from number (inner ++ rest) items (Some group)
-    ≡ read_from (number + length inner) rest items (Some (extended group changes numbers))
+    → read_from number (inner ++ rest) items (Some (guarded_by [] group)) []
+    ≡ read_from (number + length inner) rest items (Some (extended group changes numbers)) []
 body_read {number = number} body_done rest items group =
     let here : number ≡ number + 0 = omega arith in
-    ap₂ (λ n g. read_from n rest items (Some g)) here (sym (extended_none group))
+    ap₂ (λ n g. read_from n rest items (Some g) []) here (sym (extended_none group))
 body_read
     (body_skips {number = number} {line = line} {rest = inner} {changes = changes}
     {numbers = numbers} skipped more) rest items group =
     let kind = kind_of_script_line-only line nothing skipped in
     let here : number + 1 + length inner ≡ number + length (line ∷ inner) = omega arith in
     rw kind (body_read more rest items group
-    ∙ ap (λ n. read_from n rest items (Some (extended group changes numbers))) here)
+    ∙ ap (λ n. read_from n rest items (Some (extended group changes numbers)) []) here)
 body_read
     (body_spells {number = number} {line = line} {change = change} {rest = inner}
     {changes = changes} {numbers = numbers} spelled more) rest items group =
     let kind = kind_of_script_line-only line (edit change) spelled in
     let here : number + 1 + length inner ≡ number + length (line ∷ inner) = omega arith in
     rw kind (body_read more rest items (group_with_change group number change)
-    ∙ ap₂ (λ n g. read_from n rest items (Some g)) here
+    ∙ ap₂ (λ n g. read_from n rest items (Some g) []) here
     (extended_joined group number change changes numbers))
 
 -- items that follow items
@@ -71,7 +70,7 @@ followed before item items = append_assoc before (item ∷ []) items
 
 script_read : {number : ℕ} {whole : List (List ℕ)} {items : List Applied}
     → IsScript number whole items → (before : List Applied)
-    → read_from number whole before None ≡ Ok (before ++ items)
+    → read_from number whole before None [] ≡ Ok (before ++ items)
 script_read done before = ap Ok (sym (append-nil before))
 script_read (skips {number = number} {line = line} skipped more) before =
     let kind = kind_of_script_line-only line nothing skipped in
@@ -85,10 +84,10 @@ script_read
     (groups {number = number} {first = first} {last = last} {body = inner} {rest = rest}
     {changes = changes} {numbers = numbers} {items = items} begins is_body ends more) before =
     let kind = kind_of_script_line-only first begin begins in
-    let group : Applied = record { line = number; changes = changes; lines = numbers } in
+    let group = group_of number changes numbers in
     let last_kind = kind_of_script_line-only last end ends in
     let here : number + 1 + length inner + 1 ≡ number + 2 + length inner = omega arith in
-    let closed : read_from (number + 1 + length inner) (last ∷ rest) before (Some group)
+    let closed : read_from (number + 1 + length inner) (last ∷ rest) before (Some group) []
     ≡ Ok (before ++ group ∷ items) =
     rw (last_kind, here) (script_read more (before ++ group ∷ [])
     ∙ ap Ok (followed before group items)) in
@@ -127,17 +126,17 @@ Spelled number whole before (Some group) out = SpellsOnIn number whole before gr
 
 module _ (number : ℕ) (line : List ℕ) (rest : List (List ℕ)) (out : List Applied)
     (next : (before : List Applied) (group : Option Applied)
-    → read_from (number + 1) rest before group ≡ Ok out
+    → read_from (number + 1) rest before group [] ≡ Ok out
     → Spelled (number + 1) rest before group out) where
   spelled_outside : (before : List Applied) (kind : LineKind) → IsKind line kind
-      → onward (reading_outside_group number kind before) (read_from (number + 1) rest) ≡ Ok out
+      → onward (reading_outside_group number kind before []) (read_from (number + 1) rest) ≡ Ok out
       → SpellsOn number (line ∷ rest) before out
   spelled_outside before nothing is h =
       let more = next before None h in
       record { items = more.items; same = more.same; is_script = skips is more.is_script }
   spelled_outside before begin is h =
       let more = next before (Some (group_at_line number)) h in
-      let item : Applied = record { line = number; changes = more.changes; lines = more.numbers } in
+      let item = group_of number more.changes more.numbers in
       let here : number + 1 + 1 + length more.inner ≡ number + 2 + length more.inner =
       omega arith in
       let grouped : IsScript number (line ∷ (more.inner ++ more.last ∷ more.rest))
@@ -159,7 +158,8 @@ module _ (number : ℕ) (line : List ℕ) (rest : List (List ℕ)) (out : List A
   spelled_outside before nonsense is h = cc
 
   spelled_inside : (before : List Applied) (group : Applied) (kind : LineKind) → IsKind line kind
-      → onward (reading_in_group number kind before group) (read_from (number + 1) rest) ≡ Ok out
+      → onward (reading_in_group number kind before group []) (read_from (number + 1) rest)
+      ≡ Ok out
       → SpellsOnIn number (line ∷ rest) before group out
   spelled_inside before group nothing is h =
       let more = next before (Some group) h in
@@ -180,7 +180,7 @@ module _ (number : ℕ) (line : List ℕ) (rest : List (List ℕ)) (out : List A
       }
   spelled_inside before group begin is h = cc
   spelled_inside before group end is h =
-      let more = next (before ++ group ∷ []) None h in
+      let more = next (before ++ guarded_by [] group ∷ []) None h in
       let here : number + 1 ≡ number + 1 + 0 = omega arith in
       record {
         inner = [];
@@ -194,7 +194,7 @@ module _ (number : ℕ) (line : List ℕ) (rest : List (List ℕ)) (out : List A
         ends = is;
         is_script = rw here at more.is_script;
         same = ap (λ g. before ++ g ∷ more.items) (extended_none group)
-            ∙ sym (followed before group more.items) ∙ more.same;
+            ∙ sym (followed before (guarded_by [] group) more.items) ∙ more.same;
       }
   spelled_inside before group (edit change) is h =
       let more = next before (Some (group_with_change group number change)) h in
@@ -217,7 +217,7 @@ module _ (number : ℕ) (line : List ℕ) (rest : List (List ℕ)) (out : List A
   spelled_inside before group nonsense is h = cc
 
 read_spelled : (whole : List (List ℕ)) (number : ℕ) (before : List Applied) (group : Option Applied)
-    (out : List Applied) → read_from number whole before group ≡ Ok out
+    (out : List Applied) → read_from number whole before group [] ≡ Ok out
     → Spelled number whole before group out
 read_spelled [] number before None out h =
     let same : before ≡ out = cc in
@@ -230,11 +230,15 @@ read_spelled (line ∷ rest) number before (Some group) out h =
     spelled_inside number line rest out (λ b g. read_spelled rest (number + 1) b g out) before group
     (kind_of_script_line line) (IsKind-kind_of_script_line line) h
 
+pub IsScript-read_from : (whole : List (List ℕ)) (items : List Applied)
+    → read_from 1 whole [] None [] ≡ Ok items → IsScript 1 whole items
+IsScript-read_from whole items is =
+    let spelled = read_spelled whole 1 [] None items is in
+    rw spelled.same at spelled.is_script
+
 pub IsScript-script_of : (text : List ℕ) (items : List Applied) → script_of text ≡ Ok items
     → IsScript 1 (lines text) items
-IsScript-script_of text items is =
-    let spelled = read_spelled (lines text) 1 [] None items is in
-    rw spelled.same at spelled.is_script
+IsScript-script_of text items is = IsScript-read_from (lines text) items is
 
 -- what is promised of an answer that is what the lines come to
 abbrev IsAnswer : List ℕ → Result Script ScriptRefusal → Type 0

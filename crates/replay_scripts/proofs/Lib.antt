@@ -4,3 +4,5 @@ pub mod WordLines
 pub mod Lines
 pub mod Grammar
 pub mod Malformed
+pub mod GuardedGrammar
+pub mod ExpectedLines

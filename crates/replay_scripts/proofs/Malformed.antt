@@ -7,12 +7,14 @@ use Rattle.replay_edits.specs.Edit.{Change}
 use Rattle.replay_scripts.specs.declared.fault.Flaw.{Flaw}
 use Rattle.replay_scripts.specs.declared.fault.Flaw.TheVariants.{NoEdit, BeginInGroup}
 use Rattle.replay_scripts.specs.declared.fault.Flaw.TheVariants.{EndOutsideGroup, NoEnd}
+use Rattle.replay_scripts.specs.declared.fault.Flaw.TheVariants.{NoEditOrGuard, NoneGuarded}
 use Rattle.replay_scripts.specs.declared.fault.ScriptRefusal.{ScriptRefusal}
 use Rattle.replay_scripts.specs.declared.fault.ScriptRefusal.TheVariants.{Malformed, Memory}
 use Rattle.replay_scripts.specs.declared.script.Script.{Script}
 use Rattle.replay_scripts.specs.Line.{LineKind, nothing, begin, end, edit, nonsense, IsKind, IsWord}
 use Rattle.replay_scripts.specs.Line.{kind_of_script_line}
-use Rattle.replay_scripts.specs.Script.{Applied, group_at_line, group_with_change, single, IsBody}
+use Rattle.replay_scripts.specs.Script.{Applied, group_of, group_at_line, group_with_change, single}
+use Rattle.replay_scripts.specs.Script.{guarded_by, IsBody}
 use Rattle.replay_scripts.specs.Script.{body_done, body_skips, body_spells, IsScript, done, skips}
 use Rattle.replay_scripts.specs.Script.{spells, groups, reading_in_group, onward}
 use Rattle.replay_scripts.specs.Script.{reading_outside_group, read_from, script_of}
@@ -78,6 +80,8 @@ module _ (number : ℕ) (piece : List (List ℕ)) (grow : (whole : List (List �
   behind whole at EndOutsideGroup (before, line, stands, kind, is) =
       (piece ++ before, line, at_behind whole at before line stands, kind, grow before is)
   behind whole at NoEnd is = open_after whole at is
+  behind whole at NoEditOrGuard is = is
+  behind whole at NoneGuarded is = is
 
 -- after one line that is skipped or spells a change
 module _ (number : ℕ) (line : List ℕ) (grow : (whole : List (List ℕ)) → AreWholeItems (number + 1) whole
@@ -128,6 +132,8 @@ FailsIn since number whole at BeginInGroup = (inner : List (List ℕ)) × (line 
     × IsLineAt number whole at inner line × IsWord (codes "begin") line × IsInner number inner
 FailsIn since number whole at EndOutsideGroup = ⊥
 FailsIn since number whole at NoEnd = IsInner number whole × (at ≡ since)
+FailsIn since number whole at NoEditOrGuard = ⊥
+FailsIn since number whole at NoneGuarded = ⊥
 
 -- the group is closed, and the flaw comes later
 record FailsLater (number : ℕ) (whole : List (List ℕ)) (at : ℕ) (flaw : Flaw) : Type 0 where
@@ -160,6 +166,8 @@ module _ (since number : ℕ) (line : List ℕ) (grow : (inner : List (List ℕ)
       (line ∷ inner, bad, at_next whole at inner bad stands, kind, grow inner is)
   fails_in_next whole at EndOutsideGroup is = is
   fails_in_next whole at NoEnd (is, same) = (grow whole is, same)
+  fails_in_next whole at NoEditOrGuard is = is
+  fails_in_next whole at NoneGuarded is = is
 
   fails_next : (whole : List (List ℕ)) (at : ℕ) (flaw : Flaw)
       → Fails since (number + 1) whole at flaw → Fails since number (line ∷ whole) at flaw
@@ -212,6 +220,8 @@ module _ (number : ℕ) (first : List ℕ) (begins : IsWord (codes "begin") firs
       (first ∷ inner, bad, at_first whole at inner bad stands, kind, (number, opened inner is))
   malformed_in whole at EndOutsideGroup is = absurd is
   malformed_in whole at NoEnd (is, same) = rw same (opened whole is)
+  malformed_in whole at NoEditOrGuard is = absurd is
+  malformed_in whole at NoneGuarded is = absurd is
 
   group_grows : (inner : List (List ℕ)) (last : List ℕ) → IsInner (number + 1) inner
       → IsWord (codes "end") last
@@ -221,12 +231,12 @@ module _ (number : ℕ) (first : List ℕ) (begins : IsWord (codes "begin") firs
       let here : number + length (first ∷ (inner ++ last ∷ [])) ≡ number + 2 + length inner =
       omega (arith, length-append inner (last ∷ [])) in
       let grouped : IsScript number (first ∷ (inner ++ last ∷ whole))
-      (record { line = number; changes = is.changes; lines = is.numbers } ∷ more.items) =
+      (group_of number is.changes is.numbers ∷ more.items) =
       groups begins is.is_body ends (rw here at more.is_script) in
       let joins : inner ++ last ∷ whole ≡ (inner ++ last ∷ []) ++ whole =
       sym (append_assoc inner (last ∷ []) whole) in
       record {
-        items = record { line = number; changes = is.changes; lines = is.numbers }
+        items = group_of number is.changes is.numbers
             ∷ more.items;
         is_script = rw joins at grouped;
       }
@@ -271,10 +281,10 @@ whole_none number = record { items = []; is_script = done }
 
 module _ (number : ℕ) (line : List ℕ) (rest : List (List ℕ)) (at : ℕ) (flaw : Flaw)
     (next : (before : List Applied) (group : Option Applied)
-    → read_from (number + 1) rest before group ≡ malformed at flaw
+    → read_from (number + 1) rest before group [] ≡ malformed at flaw
     → Failed (number + 1) rest group at flaw) where
   failed_outside : (before : List Applied) (kind : LineKind) → IsKind line kind
-      → onward (reading_outside_group number kind before) (read_from (number + 1) rest)
+      → onward (reading_outside_group number kind before []) (read_from (number + 1) rest)
       ≡ malformed at flaw
       → IsMalformedAt number (line ∷ rest) at flaw
   failed_outside before nothing is h =
@@ -294,7 +304,7 @@ module _ (number : ℕ) (line : List ℕ) (rest : List (List ℕ)) (at : ℕ) (f
       ([], line, stands_first number line rest at same.0, is, inl (whole_none number))
 
   failed_inside : (before : List Applied) (group : Applied) (kind : LineKind) → IsKind line kind
-      → onward (reading_in_group number kind before group) (read_from (number + 1) rest)
+      → onward (reading_in_group number kind before group []) (read_from (number + 1) rest)
       ≡ malformed at flaw → Fails group.line number (line ∷ rest) at flaw
   failed_inside before group nothing is h =
       fails_next group.line number line (λ inner. inner_skips number line inner is) rest at flaw
@@ -313,7 +323,8 @@ module _ (number : ℕ) (line : List ℕ) (rest : List (List ℕ)) (at : ℕ) (f
         is_inner = no_inner number;
         ends = is;
         malformed =
-            subst (λ n. IsMalformedAt n rest at flaw) here (next (before ++ group ∷ []) None h);
+            subst (λ n. IsMalformedAt n rest at flaw) here
+            (next (before ++ guarded_by [] group ∷ []) None h);
       })
   failed_inside before group (edit change) is h =
       fails_next group.line number line (λ inner. inner_spells number line inner change is) rest at
@@ -324,7 +335,7 @@ module _ (number : ℕ) (line : List ℕ) (rest : List (List ℕ)) (at : ℕ) (f
       ([], line, stands_first number line rest at same.0, is, no_inner number))
 
 read_failed : (whole : List (List ℕ)) (number : ℕ) (before : List Applied) (group : Option Applied)
-    (at : ℕ) (flaw : Flaw) → read_from number whole before group ≡ malformed at flaw
+    (at : ℕ) (flaw : Flaw) → read_from number whole before group [] ≡ malformed at flaw
     → Failed number whole group at flaw
 read_failed [] number before None at flaw h = cc
 read_failed [] number before (Some group) at flaw h =
@@ -336,6 +347,10 @@ read_failed (line ∷ rest) number before None at flaw h =
 read_failed (line ∷ rest) number before (Some group) at flaw h =
     failed_inside number line rest at flaw (λ b g. read_failed rest (number + 1) b g at flaw) before
     group (kind_of_script_line line) (IsKind-kind_of_script_line line) h
+
+pub IsMalformedAt-read_from : (whole : List (List ℕ)) (at : ℕ) (flaw : Flaw)
+    → read_from 1 whole [] None [] ≡ malformed at flaw → IsMalformedAt 1 whole at flaw
+IsMalformedAt-read_from whole at flaw is = read_failed whole 1 [] None at flaw is
 
 pub answer_first : (text : List ℕ) (answer : Result Script ScriptRefusal)
     → MatchResult answer (λ script. script_of text ≡ Ok (items_of script.items))

@@ -1,4 +1,5 @@
 pub mod Line
 pub mod Script
+pub mod Guards
 pub mod Views
 pub mod Malformed

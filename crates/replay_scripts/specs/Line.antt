@@ -47,6 +47,11 @@ Spells line (replaces at text) = (rest : List ℕ) × IsNumbered (codes "replace
 Spells line (reseeds seed) = (rest : List ℕ) × IsNumbered (codes "seed") line seed rest
     × IsTrue (list_all is_blank rest)
 
+-- the line says which text is expected at a place of a log
+abbrev pub IsExpected : List ℕ → ℕ → List ℕ → Type 0
+IsExpected line place text =
+    (rest : List ℕ) × IsNumbered (codes "expect") line place rest × IsText rest text
+
 -- what a line can be
 pub data LineKind : Type 0 where
   nothing : LineKind
@@ -88,6 +93,11 @@ abbrev pub text_of_edit : List ℕ → Option (List ℕ)
 text_of_edit [] = Some []
 text_of_edit (byte ∷ bytes) = if is_blank byte then Some bytes else None
 
+-- the number that was found, and the text after it
+abbrev pub expected_after : Option (ℕ × List ℕ) → Option (ℕ × List ℕ)
+expected_after (Some found) = option_map (λ text. (found.0, text)) (text_of_edit found.1)
+expected_after None = None
+
 -- the change with a number and the text after it, where the number was found, and else what comes
 -- later
 abbrev pub with_text : (ℕ → List ℕ → Change) → Option (ℕ × List ℕ) → Option Change → Option Change
@@ -107,6 +117,10 @@ edit_of line =
     (change_without_text deletes (number_after_word (codes "delete") line)
     (with_text replaces (number_after_word (codes "replace") line)
     (change_without_text reseeds (number_after_word (codes "seed") line) None)))
+
+-- the place after the word `expect`, and the text after it
+unfoldable pub expected_in : List ℕ → Option (ℕ × List ℕ)
+expected_in line = expected_after (number_after_word (codes "expect") line)
 
 abbrev pub edit_or_nonsense : Option Change → LineKind
 edit_or_nonsense (Some change) = edit change

@@ -48,6 +48,8 @@ IsMalformedAt number whole at flaw_is.EndOutsideGroup =
     (before : List (List ℕ)) × (line : List ℕ) × IsLineAt number whole at before line
     × IsWord (codes "end") line × AreWholeItems number before
 IsMalformedAt number whole at flaw_is.NoEnd = IsOpen number whole at
+IsMalformedAt number whole at flaw_is.NoEditOrGuard = ⊥
+IsMalformedAt number whole at flaw_is.NoneGuarded = ⊥
 
 -- the fault is that of the first malformed line, unless memory ran out
 abbrev pub IsFirstFault : List (List ℕ) → ScriptRefusal → Type 0

@@ -10,18 +10,32 @@ use Rattle.replay_scripts.specs.declared.fault.Flaw.TheVariants as flaw_is
 use Rattle.replay_scripts.specs.declared.fault.ScriptRefusal.{ScriptRefusal}
 use Rattle.replay_scripts.specs.declared.fault.ScriptRefusal.TheVariants.{Malformed}
 
+-- a guard: a line of a script that says which text a log is to have at a place, after so many
+-- changes of the item that it guards
+pub record Expectation : Type 0 where
+  pub line : ℕ
+  pub place : ℕ
+  pub text : List ℕ
+  pub after : ℕ
+
 -- what a script applies as a whole: one change, or a group of them. It has a line by which it is
--- reported, and each of its changes has its own line
+-- reported, each of its changes has its own line, and it has guards
 pub record Applied : Type 0 where
   pub line : ℕ
   pub changes : List Change
   pub lines : List ℕ
+  pub guards : List Expectation
 
 abbrev pub single : ℕ → Change → Applied
-single number change = record { line = number; changes = change ∷ []; lines = number ∷ [] }
+single number change =
+    record { line = number; changes = change ∷ []; lines = number ∷ []; guards = [] }
+
+abbrev pub group_of : ℕ → List Change → List ℕ → Applied
+group_of number changes numbers =
+    record { line = number; changes = changes; lines = numbers; guards = [] }
 
 abbrev pub group_at_line : ℕ → Applied
-group_at_line number = record { line = number; changes = []; lines = [] }
+group_at_line number = group_of number [] []
 
 abbrev pub group_with_change : Applied → ℕ → Change → Applied
 group_with_change group number change =
@@ -29,7 +43,12 @@ group_with_change group number change =
       line = group.line;
       changes = group.changes ++ change ∷ [];
       lines = group.lines ++ number ∷ [];
+      guards = group.guards;
     }
+
+abbrev pub guarded_by : List Expectation → Applied → Applied
+guarded_by guards item =
+    record { line = item.line; changes = item.changes; lines = item.lines; guards = guards }
 
 -- the line by which a refusal of the change of this number, from 0, is reported
 abbrev pub line_of_refusal : Applied → ℕ → ℕ
@@ -67,59 +86,73 @@ pub data IsScript : ℕ → List (List ℕ) → List Applied → Type 0 where
       → IsWord (codes "end") last
       → IsScript (number + 2 + length body) rest items
       → IsScript number (first ∷ (body ++ last ∷ rest))
-      (record { line = number; changes = changes; lines = numbers } ∷ items)
+      (group_of number changes numbers ∷ items)
 
 -- ---- what a script is, line by line
 
+-- what was read so far: the items, the group that is open, and the guards that no item has yet
 pub record ScriptReading : Type 0 where
   pub items : List Applied
   pub open_group : Option Applied
+  pub guards : List Expectation
 
-abbrev pub reading_with : List Applied → Option Applied → ScriptReading
-reading_with items open_group = record { items = items; open_group = open_group }
+abbrev pub reading_with : List Applied → Option Applied → List Expectation → ScriptReading
+reading_with items open_group guards =
+    record { items = items; open_group = open_group; guards = guards }
 
-abbrev pub reading_outside_group : ℕ → LineKind → List Applied → Result ScriptReading ScriptRefusal
-reading_outside_group number nothing items = Ok (reading_with items None)
-reading_outside_group number begin items = Ok (reading_with items (Some (group_at_line number)))
-reading_outside_group number end items = Err (Malformed number flaw_is.EndOutsideGroup)
-reading_outside_group number (edit change) items =
-    Ok (reading_with (items ++ single number change ∷ []) None)
-reading_outside_group number nonsense items = Err (Malformed number flaw_is.NoEdit)
+-- the item is whole, and has the guards that were read since the item before it
+abbrev pub reading_with_item : List Applied → Applied → List Expectation → ScriptReading
+reading_with_item items item guards =
+    reading_with (items ++ guarded_by guards item ∷ []) None []
 
-abbrev pub reading_in_group : ℕ → LineKind → List Applied → Applied
+abbrev pub reading_outside_group : ℕ → LineKind → List Applied → List Expectation
     → Result ScriptReading ScriptRefusal
-reading_in_group number nothing items group = Ok (reading_with items (Some group))
-reading_in_group number begin items group = Err (Malformed number flaw_is.BeginInGroup)
-reading_in_group number end items group = Ok (reading_with (items ++ group ∷ []) None)
-reading_in_group number (edit change) items group =
-    Ok (reading_with items (Some (group_with_change group number change)))
-reading_in_group number nonsense items group = Err (Malformed number flaw_is.NoEdit)
+reading_outside_group number nothing items guards = Ok (reading_with items None guards)
+reading_outside_group number begin items guards =
+    Ok (reading_with items (Some (group_at_line number)) guards)
+reading_outside_group number end items guards = Err (Malformed number flaw_is.EndOutsideGroup)
+reading_outside_group number (edit change) items guards =
+    Ok (reading_with_item items (single number change) guards)
+reading_outside_group number nonsense items guards = Err (Malformed number flaw_is.NoEdit)
+
+abbrev pub reading_in_group : ℕ → LineKind → List Applied → Applied → List Expectation
+    → Result ScriptReading ScriptRefusal
+reading_in_group number nothing items group guards = Ok (reading_with items (Some group) guards)
+reading_in_group number begin items group guards = Err (Malformed number flaw_is.BeginInGroup)
+reading_in_group number end items group guards = Ok (reading_with_item items group guards)
+reading_in_group number (edit change) items group guards =
+    Ok (reading_with items (Some (group_with_change group number change)) guards)
+reading_in_group number nonsense items group guards = Err (Malformed number flaw_is.NoEdit)
 
 -- what a line of this kind and this number makes of what was read
-abbrev pub reading_after_line : ℕ → LineKind → List Applied → Option Applied
+abbrev pub reading_after_line : ℕ → LineKind → List Applied → Option Applied → List Expectation
     → Result ScriptReading ScriptRefusal
-reading_after_line number kind items None = reading_outside_group number kind items
-reading_after_line number kind items (Some group) = reading_in_group number kind items group
+reading_after_line number kind items None guards = reading_outside_group number kind items guards
+reading_after_line number kind items (Some group) guards =
+    reading_in_group number kind items group guards
 
-abbrev pub items_at_end : List Applied → Option Applied → Result (List Applied) ScriptRefusal
-items_at_end items None = Ok items
-items_at_end items (Some group) = Err (Malformed group.line flaw_is.NoEnd)
+-- at the end no group is open, and each guard is of an item
+abbrev pub items_at_end : List Applied → Option Applied → List Expectation
+    → Result (List Applied) ScriptRefusal
+items_at_end items (Some group) guards = Err (Malformed group.line flaw_is.NoEnd)
+items_at_end items None [] = Ok items
+items_at_end items None (guard ∷ guards) = Err (Malformed guard.line flaw_is.NoneGuarded)
 
 -- what comes of reading on from a line's answer
 abbrev pub onward : Result ScriptReading ScriptRefusal
-    → (List Applied → Option Applied → Result (List Applied) ScriptRefusal)
+    → (List Applied → Option Applied → List Expectation → Result (List Applied) ScriptRefusal)
     → Result (List Applied) ScriptRefusal
-onward (Ok now) next = next now.items now.open_group
+onward (Ok now) next = next now.items now.open_group now.guards
 onward (Err fault) next = Err fault
 
 -- what the lines, numbered from `number` on, give after what was read
-abbrev pub read_from : ℕ → List (List ℕ) → List Applied → Option Applied
+abbrev pub read_from : ℕ → List (List ℕ) → List Applied → Option Applied → List Expectation
     → Result (List Applied) ScriptRefusal
-read_from number [] items open_group = items_at_end items open_group
-read_from number (line ∷ rest) items open_group =
-    onward (reading_after_line number (kind_of_script_line line) items open_group)
+read_from number [] items open_group guards = items_at_end items open_group guards
+read_from number (line ∷ rest) items open_group guards =
+    onward (reading_after_line number (kind_of_script_line line) items open_group guards)
     (read_from (number + 1) rest)
 
--- the items of a script, or its first malformed line
+-- the items of a script, in which no line is a guard
 abbrev pub script_of : List ℕ → Result (List Applied) ScriptRefusal
-script_of text = read_from 1 (lines text) [] None
+script_of text = read_from 1 (lines text) [] None []

@@ -9,17 +9,27 @@ use thiserror::Error;
 const NO_EDIT: &str =
     "expected `insert N TEXT`, `delete N`, `replace N TEXT`, `seed N`, `begin` or `end`";
 
+/// The same, where lines may be guards.
+const NO_EDIT_OR_GUARD: &str =
+    "expected `insert N TEXT`, `delete N`, `replace N TEXT`, `seed N`, `begin`, `end` or \
+    `expect N TEXT`";
+
 /// What is wrong with a line of a script.
 #[derive(Clone, Copy, Debug, PartialEq, Eq, Error)]
 pub enum Flaw {
     #[error("{}, with one blank between the words and N of 1 to 10 digits", NO_EDIT)]
     NoEdit,
+    /// The same, where lines may be guards.
+    #[error("{}, with one blank between the words and N of 1 to 10 digits", NO_EDIT_OR_GUARD)]
+    NoEditOrGuard,
     #[error("`begin` inside a group: a group can't hold another")]
     BeginInGroup,
     #[error("`end` without a `begin` before it")]
     EndOutsideGroup,
     #[error("`begin` without an `end` after it")]
     NoEnd,
+    #[error("`expect` without an edit or a group after it")]
+    NoneGuarded,
 }
 
 /// Why a script was refused as a whole.
@@ -36,6 +46,12 @@ impl fmt::Display for ScriptRefusal {
         match *self {
             ScriptRefusal::Malformed(line, Flaw::NoEdit) => {
                 write!(f, "line {line} of the script: {}", NO_EDIT)
+            }
+            ScriptRefusal::Malformed(line, Flaw::NoEditOrGuard) => {
+                write!(
+                    f,
+                    "line {line} of the script: expected an edit, `begin`, `end` or `expect N TEXT`"
+                )
             }
             ScriptRefusal::Malformed(line, flaw) => {
                 write!(f, "line {line} of the script: {flaw}")

@@ -3,8 +3,11 @@
 #![tactic(auto)]
 
 pub mod fault;
+pub mod guard;
+pub mod laws;
 mod line;
 pub mod script;
 
 pub use fault::{Flaw, ScriptRefusal};
+pub use guard::Guard;
 pub use script::{Item, Script};

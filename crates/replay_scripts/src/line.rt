@@ -5,6 +5,7 @@ ghost use Rattle.replay_edits.specs.base_limits.Limits.{max_script_number};
 ghost use Rattle.replay_edits.specs.base_lines.Bytes.{is_blank, number_of};
 ghost use Rattle.replay_edits.specs.Edit.{change_of};
 ghost use Rattle.replay_scripts.specs.Line.{is_word_line, number_after_word, text_of_edit, edit_of};
+ghost use Rattle.replay_scripts.specs.Line.{expected_in};
 ghost use Rattle.replay_scripts.specs.Line.{kind_of_script_line, kind_said};
 
 use replay_edits::{
@@ -88,6 +89,16 @@ fn text_in(rest: &[u8]) -> Option<&[u8]>
         [blank, text @ ..] if is_blank(*blank) => Some(text),
         _ => None,
     }
+}
+
+/// The place and the text after the word `expect`, where a line is a guard.
+#[tactic(auto, unfolding(crate::specs::Line::expected_in))]
+pub(crate) fn expected_in(line: &[u8]) -> Option<(u32, &[u8])>
+    ensures { MatchOption result (expected_in line.now ≡ None)
+        (λ expected. expected_in line.now ≡ Some (expected.0, expected.1.now)) }
+{
+    let (place, rest) = number_after_word(b"expect", line)?;
+    Some((place, text_in(rest)?))
 }
 
 /// The edit that a line spells, if it spells one.

@@ -1,17 +1,23 @@
-ghost use Rattle.std.specs.Prelude.{◌≡◌, ◌⊎◌, List, IfErr, IfOk, MatchResult, Ok, Err};
+ghost use Rattle.std.specs.Prelude.{◌≡◌, ◌⊎◌, List, [], true, IfErr, IfOk, MatchResult, None, Ok};
+ghost use Rattle.std.specs.Prelude.{Err, OnOk};
 ghost use Rattle.std.specs.Str.Lines.{lines};
 ghost use Rattle.replay_edits.specs.Edit.{change_of};
+ghost use Rattle.replay_scripts.specs.Guards.{guarded_script_of, IsRefusedByGuards, IsScriptBy};
+ghost use Rattle.replay_scripts.specs.Guards.{naming_guards, reading_with_guard, unguarded_line};
 ghost use Rattle.replay_scripts.specs.Script.{Applied, group_at_line, group_with_change};
 ghost use Rattle.replay_scripts.specs.Script.{line_of_refusal, IsScript, items_at_end, script_of};
-ghost use Rattle.replay_scripts.specs.Line.{begin, end, edit, kind_of_script_line};
+ghost use Rattle.replay_scripts.specs.Script.{reading_with, reading_with_item};
+ghost use Rattle.replay_scripts.specs.Line.{begin, end, edit, expected_in, kind_of_script_line};
 ghost use Rattle.replay_scripts.specs.Malformed.{IsFirstFault};
-ghost use Rattle.replay_scripts.specs.Views.{IsFaultOf, IsStep, applied_item, items_of, open_of};
-ghost use Rattle.replay_scripts.specs.Views.{reading_of, step_of};
+ghost use Rattle.replay_scripts.specs.Views.{IsFaultOf, IsStep, applied_item, expectations_of};
+ghost use Rattle.replay_scripts.specs.Views.{items_of, open_of, reading_of, step_of};
 
 use crate::fault::{Flaw, ScriptRefusal};
-use crate::line::{ScriptLine, read_line};
-use replay_edits::{Edit, split_line};
+use crate::guard::Guard;
+use crate::line::{ScriptLine, expected_in, read_line};
+use replay_edits::{Edit, LineText, split_line};
 use std::alloc::Global;
+use std::mem;
 
 /// What a script applies as a whole: one edit, or a group of them.
 #[derive(Debug, Drop)]
@@ -22,6 +28,8 @@ pub struct Item {
     pub edits: Vec<Edit>,
     /// The number of each edit's line.
     pub lines: Vec<usize>,
+    /// The guards of the item, in the order of their lines.
+    pub guards: Vec<Guard>,
 }
 
 impl Item {
@@ -41,6 +49,7 @@ impl Item {
             line,
             edits: Vec::new(alloc),
             lines: Vec::new(alloc),
+            guards: Vec::new(alloc),
         }
     }
 
@@ -83,16 +92,27 @@ impl Script {
     {
         read_lines(alloc, text)
     }
+
+    /// Reads a script in which lines may be guards, `expect N TEXT`. To the grammar such a line is
+    /// blank.
+    #[tactic(auto, using(crate::proofs::GuardedGrammar::answers))]
+    pub fn read_guarded(alloc: Global, text: &[u8]) -> Result<Script, ScriptRefusal>
+        ensures script { MatchResult result
+            (λ script. guarded_script_of text.now ≡ Ok (items_of script.items))
+            (λ fault. IsFaultOf fault (guarded_script_of text.now)) }
+        ensures grammar { IfOk result
+            (λ script. IsScriptBy true text.now (items_of script.items)) }
+        ensures none { IfErr result (IsRefusedByGuards (lines text.now)) }
+    {
+        read_guarded_lines(alloc, text)
+    }
 }
 
 fn read_lines(alloc: Global, text: &[u8]) -> Result<Script, ScriptRefusal>
     ensures { MatchResult result (λ script. script_of text.now ≡ Ok (items_of script.items))
         (λ fault. IsFaultOf fault (script_of text.now)) }
 {
-    let mut reader = ScriptReader {
-        items: Vec::new(alloc),
-        group: None,
-    };
+    let mut reader = ScriptReader::new(alloc);
     let mut rest = text;
     let mut number = 0;
     while let Some((line, more)) = split_line(rest) {
@@ -103,15 +123,101 @@ fn read_lines(alloc: Global, text: &[u8]) -> Result<Script, ScriptRefusal>
     reader.finish()
 }
 
+fn read_guarded_lines(alloc: Global, text: &[u8]) -> Result<Script, ScriptRefusal>
+    ensures { MatchResult result (λ script. guarded_script_of text.now ≡ Ok (items_of script.items))
+        (λ fault. IsFaultOf fault (guarded_script_of text.now)) }
+{
+    let mut reader = ScriptReader::new(alloc);
+    let mut rest = text;
+    let mut number = 0;
+    while let Some((line, more)) = split_line(rest) {
+        number += 1;
+        let unguarded = reader.set_guard(alloc, number, line)?;
+        if let Err(fault) = reader.read(alloc, number, unguarded) {
+            return Err(naming_guards(fault));
+        }
+        rest = more;
+    }
+    reader.finish()
+}
+
+/// The refusal of a script whose lines may be guards.
+fn naming_guards(fault: ScriptRefusal) -> ScriptRefusal
+    ensures { result ≡ naming_guards fault }
+{
+    match fault {
+        ScriptRefusal::Malformed(number, Flaw::NoEdit) => {
+            ScriptRefusal::Malformed(number, Flaw::NoEditOrGuard)
+        }
+        other => other,
+    }
+}
+
 /// What was read so far.
 #[derive(Drop)]
 struct ScriptReader {
     items: Vec<Item>,
     /// The group that is open.
     group: Option<Item>,
+    /// The guards that no item has yet.
+    guards: Vec<Guard>,
 }
 
 impl ScriptReader {
+    fn new(alloc: Global) -> ScriptReader
+        ensures { reading_of result ≡ reading_with [] None [] }
+    {
+        ScriptReader {
+            items: Vec::new(alloc),
+            group: None,
+            guards: Vec::new(alloc),
+        }
+    }
+
+    /// Keeps the guard that a line is, if it is one, and returns what the line is to the grammar.
+    fn set_guard<'a>(
+        &mut self,
+        alloc: Global,
+        number: usize,
+        line: &'a [u8],
+    ) -> Result<&'a [u8], ScriptRefusal>
+        ensures line { IfOk result
+            (λ kept. kept.now ≡ unguarded_line (expected_in line.now) line.now) }
+        ensures guards { OnOk result
+            (reading_of self.new ≡ reading_with_guard number (expected_in line.now)
+            (reading_of self.old)) }
+        ensures memory { IfErr result (λ fault. fault ≡ ScriptRefusal.Memory) }
+    {
+        let Some((place, text)) = expected_in(line) else {
+            return Ok(line);
+        };
+        let after = match &self.group {
+            Some(group) => group.edits.len(),
+            None => 0,
+        };
+        let text = LineText::from_slice(alloc, text)?;
+        self.guards.push(Guard {
+            line: number,
+            place,
+            text,
+            after,
+        })?;
+        Ok(&[])
+    }
+
+    /// Adds an item, which has the guards that no item has yet.
+    fn close(&mut self, alloc: Global, item: Item) -> Result<(), ScriptRefusal>
+        ensures { MatchResult result
+            (λ _. reading_of self.new ≡ reading_with_item (items_of self.old.items)
+            (applied_item item) (expectations_of self.old.guards))
+            (λ fault. fault ≡ ScriptRefusal.Memory) }
+    {
+        let guards = mem::replace(&mut self.guards, Vec::new(alloc));
+        self.group = None;
+        self.items.push(Item { guards, ..item })?;
+        Ok(())
+    }
+
     fn read(&mut self, alloc: Global, number: usize, line: &[u8]) -> Result<(), ScriptRefusal>
         ensures { IsStep (step_of number (kind_of_script_line line.now) (reading_of self.old))
             (reading_of self.new) result }
@@ -119,7 +225,7 @@ impl ScriptReader {
         match read_line(alloc, line)? {
             ScriptLine::Nothing => Ok(()),
             ScriptLine::Begin => self.begin(alloc, number),
-            ScriptLine::End => self.end(number),
+            ScriptLine::End => self.end(alloc, number),
             ScriptLine::Edit(edit) => self.edit(alloc, number, edit),
             ScriptLine::Nonsense => Err(ScriptRefusal::Malformed(number, Flaw::NoEdit)),
         }
@@ -135,14 +241,11 @@ impl ScriptReader {
         Ok(())
     }
 
-    fn end(&mut self, number: usize) -> Result<(), ScriptRefusal>
+    fn end(&mut self, alloc: Global, number: usize) -> Result<(), ScriptRefusal>
         ensures { IsStep (step_of number end (reading_of self.old)) (reading_of self.new) result }
     {
         match self.group.take() {
-            Some(group) => {
-                self.items.push(group)?;
-                Ok(())
-            }
+            Some(group) => self.close(alloc, group),
             None => Err(ScriptRefusal::Malformed(number, Flaw::EndOutsideGroup)),
         }
     }
@@ -156,22 +259,28 @@ impl ScriptReader {
             None => {
                 let mut item = Item::begun(alloc, number);
                 item.join(number, change)?;
-                self.items.push(item)?;
-                Ok(())
+                self.close(alloc, item)
             }
         }
     }
 
     /// The items, at the end of the script.
     fn finish(self) -> Result<Script, ScriptRefusal>
-        ensures { MatchResult result
-            (λ script. items_at_end (items_of self.items) (open_of self.group)
-            ≡ Ok (items_of script.items))
-            (λ fault. items_at_end (items_of self.items) (open_of self.group) ≡ Err fault) }
+        ensures { let at_end = items_at_end (items_of self.items) (open_of self.group)
+            (expectations_of self.guards) in
+            MatchResult result (λ script. at_end ≡ Ok (items_of script.items))
+            (λ fault. at_end ≡ Err fault) }
     {
-        let ScriptReader { items, group } = self;
-        match group {
-            Some(group) => Err(ScriptRefusal::Malformed(group.line, Flaw::NoEnd)),
+        let ScriptReader {
+            items,
+            group,
+            guards,
+        } = self;
+        if let Some(group) = group {
+            return Err(ScriptRefusal::Malformed(group.line, Flaw::NoEnd));
+        }
+        match guards.first() {
+            Some(guard) => Err(ScriptRefusal::Malformed(guard.line, Flaw::NoneGuarded)),
             None => Ok(Script { items }),
         }
     }

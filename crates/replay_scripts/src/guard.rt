@@ -1,0 +1,13 @@
+use replay_edits::LineText;
+
+/// A line of a script that says which line the log is to have at a place.
+#[derive(Debug, Drop)]
+pub struct Guard {
+    /// The number of the line.
+    pub line: usize,
+    /// The place in the log, from 0.
+    pub place: u32,
+    pub text: LineText,
+    /// How many edits of the item that it guards come before it.
+    pub after: usize,
+}
