@@ -13,7 +13,7 @@ fn without_tab(byte: u8) -> u8
 }
 
 /// Appends a line, with a blank in the place of each tab.
-pub(crate) fn push_without_tabs(text: &mut Vec<u8>, line: &[u8]) -> Result<(), AllocError>
+pub fn push_without_tabs(text: &mut Vec<u8>, line: &[u8]) -> Result<(), AllocError>
     ensures { OnOk result (text.new.items ≡ text.old.items ++ without_tabs line.now) }
 {
     for byte in line {
@@ -53,7 +53,7 @@ pub(crate) fn push_question_column(
 }
 
 /// How the game has ended.
-pub(crate) fn ending_column(ending: Option<Ending>) -> &'static str
+pub fn ending_column(ending: Option<Ending>) -> &'static str
     ensures { result.now ≡ ending_column ending }
 {
     match ending {
