@@ -192,7 +192,7 @@ const EACH_PLACE_ROLE: [PlaceRole; 19] = [
 
 /// All roles of messages.
 #[tactic(auto, unfolding(crate::specs::Listing::message_keys))]
-pub(crate) fn message_keys() -> &'static [Role]
+pub fn message_keys() -> &'static [Role]
     ensures { map role_number result.now ≡ message_keys }
 {
     &EACH_ROLE

@@ -1,0 +1,3 @@
+pub mod Clues
+pub mod Near
+pub mod NearKey

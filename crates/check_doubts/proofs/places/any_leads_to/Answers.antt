@@ -1,0 +1,16 @@
+use Rattle.std.proofs.Common.{rules, tests}
+use Rattle.std.proofs.lemmas.Iterator.{YieldsList-from_slice}
+use Rattle.std.proofs.lemmas.Iterator.Search.{any_from_yields_List}
+use Rattle.check_tables.specs.data_rows.RowViews.{going}
+use Rattle.check_tables.specs.data_rows.Rows.{Going}
+use Rattle.check_tables.specs.data_rows.declared.rows.Row.{Row}
+use Rattle.check_tables.proofs.Rows.{any_mapped}
+use Rattle.check_doubts.specs.Places.{leads_to}
+use Rattle.check_doubts.proofs.places.any_leads_to.Goals as goal
+
+pub returns : goal.returns
+returns c =
+    let test = λ (row : Going). leads_to c.args.place row in
+    any_mapped test going c.args.rows.now _
+    (any_from_yields_List (λ (row : Row). test (going row)) _ _ _ c.any.ensures.ran
+    (YieldsList-from_slice c.args.rows.now cc) (λ x b q k. search (rules, tests)))

@@ -1,0 +1,62 @@
+-- The list of what is doubtful of a cave.
+use Rattle.std.specs.Prelude.{ℕ, List, [], ◌++◌, codes, length, slice_index_or}
+use Rattle.std.specs.Fmt.{decimal}
+use Rattle.std.specs.List.{flat_map}
+use Rattle.check_tables.specs.data_rows.PlaceRole.{PLACE_NAMES}
+use Rattle.check_tables.specs.data_rows.Role.{ROLE_NAMES}
+use Rattle.check_doubts.specs.declared.flaw.Doubt.{Doubt}
+use Rattle.check_doubts.specs.declared.flaw.Flaw.{Flaw}
+use Rattle.check_doubts.specs.declared.flaw.Flaw.TheVariants as flaw
+use Rattle.check_doubts.specs.declared.flaw.Source.{Source}
+use Rattle.check_doubts.specs.declared.flaw.Source.TheVariants.{Database, Bindings}
+use Rattle.check_doubts.specs.declared.listing.DoubtFiles.{DoubtFiles}
+
+abbrev pub role_name : ℕ → List ℕ
+role_name role = slice_index_or ROLE_NAMES role []
+
+abbrev pub place_role_name : ℕ → List ℕ
+place_role_name role = slice_index_or PLACE_NAMES role []
+
+abbrev pub textless : ℕ → List ℕ
+textless number = decimal number ++ codes ", which has no text"
+
+-- what is said of each kind of doubt
+abbrev pub words : Flaw → List ℕ
+words (flaw.NoWayTo place) = codes "no way leads to place " ++ decimal place
+words (flaw.LeadsToTextless place) = codes "the way leads to place " ++ textless place
+words flaw.NeverTaken = codes "no player takes this way: an earlier one is always taken"
+words flaw.Hidden = codes "an earlier row of this word hides it"
+words (flaw.Nowhere object) = codes "no place holds treasure " ++ decimal object
+words (flaw.Nameless object) =
+    codes "treasure " ++ (decimal object ++ codes " has no inventory text")
+words (flaw.SaysTextless action message) =
+    codes "action " ++ (decimal action ++ (codes " says message " ++ textless message))
+words flaw.TakenClass = codes "an earlier class takes its scores"
+words flaw.UnscoredClass = codes "no score reaches this class"
+words (flaw.AsksTextless hint message) =
+    codes "hint " ++ (decimal hint ++ (codes " asks by message " ++ textless message))
+words (flaw.GivesTextless hint message) =
+    codes "hint " ++ (decimal hint ++ (codes " gives message " ++ textless message))
+words (flaw.RoleTextless role message) =
+    codes "msg." ++ (role_name role ++ (codes " is message " ++ textless message))
+words (flaw.RoleSilent role message) =
+    codes "msg." ++ (role_name role
+    ++ (codes " is message " ++ (decimal message ++ codes ", whose text prints nothing")))
+words (flaw.PlaceTextless role place) =
+    codes "place." ++ (place_role_name role ++ (codes " is place " ++ textless place))
+
+abbrev pub file_of : DoubtFiles → Source → List ℕ
+file_of files Database = files.database.now
+file_of files Bindings = files.bindings.now
+
+-- the line of a doubt: where it is, and what
+abbrev pub doubt_line : DoubtFiles → Doubt → List ℕ
+doubt_line files doubt =
+    file_of files doubt.source
+    ++ (codes ":" ++ (decimal doubt.line ++ (codes ": " ++ (words doubt.flaw ++ codes "\n"))))
+
+-- a line for each doubt, and how many there are
+unfoldable pub doubts_text : DoubtFiles → List Doubt → List ℕ
+doubts_text files doubts =
+    flat_map (doubt_line files) doubts
+    ++ (codes "-- " ++ (decimal (length doubts) ++ codes " doubts\n"))

@@ -1,0 +1,93 @@
+-- Ways that no player can take, since an earlier one is always taken, and ways to places without a
+-- text.
+use Rattle.std.specs.Prelude.{ℕ, Bool, true, false, ◌==◌, ◌&&◌, ◌||◌, not, nat_lt, List, [], ◌∷◌}
+use Rattle.std.specs.Prelude.{◌++◌, length, take, Option, Some, None, if◌then◌else◌}
+use Rattle.std.specs.List.{filter, list_any, slice_get}
+use Rattle.check_tables.specs.cave_data.CaveView.{CaveView, ways_from}
+use Rattle.check_tables.specs.data_rows.Rows.{Going}
+use Rattle.check_tables.specs.data_rows.declared.targets.Condition.{Condition}
+use Rattle.check_tables.specs.data_rows.declared.targets.Condition.TheVariants as condition
+use Rattle.check_tables.specs.data_rows.declared.targets.Destination.{Destination}
+use Rattle.check_tables.specs.data_rows.declared.targets.Destination.TheVariants as destination
+use Rattle.turn_score.specs.cave_world.Travel.{lists_motion, row_condition, row_destination}
+use Rattle.check_doubts.specs.Marks.{is_way_from}
+use Rattle.check_doubts.specs.Messages.{place_has_text}
+use Rattle.check_doubts.specs.declared.mark.MarkedRow.{MarkedRow}
+
+-- ---- which ways are come to
+
+-- a motion begins with the way: it lists one that no way before it lists
+abbrev pub begins_journey : List Going → Going → Bool
+begins_journey before way =
+    list_any (λ motion. not (list_any (lists_motion motion) before)) way.motions
+
+abbrev pub is_certain : Condition → Bool
+is_certain condition.Always = true
+is_certain condition.NotForDwarves = true
+is_certain _ = false
+
+abbrev pub ends_there : Destination → Bool
+ends_there destination.PutsEmeraldDown = false
+ends_there _ = true
+
+-- a journey that comes to the way ends with it, in each state and with each draw
+abbrev pub ends_journey : Going → Bool
+ends_journey way = is_certain (row_condition way) && ends_there (row_destination way)
+
+abbrev pub is_other : ℕ → Option ℕ → Bool
+is_other target None = false
+is_other target (Some failed) = not (failed == target)
+
+-- A journey comes to a way where a motion begins with it, or where one fails before it, at a way
+-- with another target.
+abbrev pub comes_to : List Going → Option ℕ → Going → Bool
+comes_to before failed way = begins_journey before way || is_other way.target failed
+
+-- the target at which a journey may have failed that goes on after the way; a way with that target
+-- is passed over
+abbrev pub failed_after : List Going → Option ℕ → Going → Option ℕ
+failed_after before failed way =
+    if comes_to before failed way
+    then (if ends_journey way then None else Some way.target) else failed
+
+abbrev pub failed_from : List Going → Option ℕ → List Going → Option ℕ
+failed_from before failed [] = failed
+failed_from before failed (way ∷ ways) =
+    failed_from (before ++ way ∷ []) (failed_after before failed way) ways
+
+-- some motion leads a player to the way that comes after these ways of its place
+abbrev pub may_be_taken : List Going → Going → Bool
+may_be_taken before way = comes_to before (failed_from [] None before) way
+
+abbrev pub is_never_taken_after : List Going → Option Going → Bool
+is_never_taken_after before None = false
+is_never_taken_after before (Some way) = not (may_be_taken before way)
+
+-- of a place's ways the one at an index is never taken
+abbrev pub is_never_taken_at : ℕ → List Going → Bool
+is_never_taken_at index ways = is_never_taken_after (take index ways) (slice_get ways index)
+
+-- ---- the way of a row
+
+-- which of a place's ways a row is, by the rows before it, from 0
+abbrev pub way_index : ℕ → List MarkedRow → ℕ
+way_index place before = length (filter (is_way_from place) before)
+
+-- the place that a way leads to, or 0
+abbrev pub place_led_to : Destination → ℕ
+place_led_to (destination.Place number) = number
+place_led_to _ = 0
+
+abbrev pub end_of_way : Option Going → ℕ
+end_of_way None = 0
+end_of_way (Some way) = place_led_to (row_destination way)
+
+abbrev pub is_textless_end : CaveView → ℕ → Bool
+is_textless_end cave place = nat_lt 0 place && not (place_has_text cave place)
+
+module _ (cave : CaveView) (place : ℕ) (before : List MarkedRow) where
+  abbrev pub way_of_row : Option Going
+  way_of_row = slice_get (ways_from cave place) (way_index place before)
+
+  abbrev pub is_never_taken : Bool
+  is_never_taken = is_never_taken_at (way_index place before) (ways_from cave place)

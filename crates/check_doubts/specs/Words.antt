@@ -1,0 +1,40 @@
+-- Words that an earlier row of the same word hides.
+use Rattle.std.specs.Prelude.{ℕ, Bool, true, false, ◌==◌, ◌&&◌, ◌||◌, not, List, length, Option}
+use Rattle.std.specs.Prelude.{Some, None}
+use Rattle.std.specs.List.{filter, slice_get}
+use Rattle.check_tables.specs.cave_data.CaveView.{CaveView}
+use Rattle.check_tables.specs.cave_words.Meanings.{meaning, meaning_in, meaning_of, same_class}
+use Rattle.check_tables.specs.cave_words.Words.{word_of}
+use Rattle.check_tables.specs.cave_words.declared.meaning.Class.{Class}
+use Rattle.check_tables.specs.cave_words.declared.meaning.Class.TheVariants as class
+use Rattle.check_tables.specs.cave_words.declared.meaning.Meaning.{Meaning}
+use Rattle.check_tables.specs.data_rows.Rows.{WordEntry}
+use Rattle.check_doubts.specs.Marks.{is_word}
+use Rattle.check_doubts.specs.declared.mark.MarkedRow.{MarkedRow}
+
+abbrev pub is_meant : Option Meaning → Meaning → Bool
+is_meant None meaning = false
+is_meant (Some found) meaning =
+    same_class found.class meaning.class && found.number == meaning.number
+
+-- rules look up objects and special words by their class too
+abbrev pub is_looked_up : Class → Bool
+is_looked_up class.Object = true
+is_looked_up class.Special = true
+is_looked_up _ = false
+
+module _ (cave : CaveView) where
+  -- what a row means is found by its word
+  abbrev pub is_found : List ℕ → Meaning → Bool
+  is_found word means =
+      is_meant (meaning cave word) means
+      || (is_looked_up means.class && is_meant (meaning_in cave word means.class) means)
+
+  -- the word means something else
+  abbrev pub is_hidden : Option WordEntry → Bool
+  is_hidden None = false
+  is_hidden (Some row) = not (is_found (word_of cave.letters row.word) (meaning_of row.number))
+
+  -- the word of a row, by the rows before it
+  abbrev pub word_of_row : List MarkedRow → Option WordEntry
+  word_of_row before = slice_get cave.words (length (filter is_word before))

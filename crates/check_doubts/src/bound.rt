@@ -1,0 +1,81 @@
+//! The bindings of a text that is accepted, with their lines, and what is doubtful of one.
+
+ghost use Rattle.std.specs.Prelude.{◌≡◌, IfOk, option_map};
+ghost use Rattle.std.specs.Str.Lines.{lines};
+ghost use Rattle.check_doubts.specs.BoundRows.{binding_in, bound_flaw, bound_rows, message_flaw};
+
+use crate::flaw::Flaw;
+use crate::messages::place_has_text;
+use check_tables::{Cave, split_line};
+use data_rows::binding::{Binding, Key, binding_row};
+use data_rows::is_skipped;
+use std::alloc::{AllocError, Global};
+
+/// A binding, with the number of its line, from 1.
+#[derive(Clone, Copy, Debug)]
+pub struct BoundRow {
+    pub line: usize,
+    pub binding: Binding,
+}
+
+/// The binding that a line is, if it is one.
+fn binding_in(line: &[u8]) -> Option<Binding>
+    ensures { result ≡ binding_in line.now }
+{
+    if is_skipped(line) {
+        return None;
+    }
+    match binding_row(line) {
+        Ok(binding) => Some(binding),
+        Err(_) => None,
+    }
+}
+
+/// The bindings of a text.
+pub(crate) fn bound_rows(alloc: Global, bindings: &[u8]) -> Result<Vec<BoundRow>, AllocError>
+    ensures { IfOk result (λ rows. rows.items ≡ bound_rows 1 (lines bindings.now)) }
+{
+    let mut rows = Vec::new(alloc);
+    let mut rest = bindings;
+    let mut number = 0usize;
+    while let Some((line, after)) = split_line(rest) {
+        number += 1;
+        if let Some(binding) = binding_in(line) {
+            rows.push(BoundRow {
+                line: number,
+                binding,
+            })?;
+        }
+        rest = after;
+    }
+    Ok(rows)
+}
+
+/// What is doubtful of the message that a role is bound to.
+fn message_flaw(role: u16, message: u16, text: Option<&[u8]>) -> Option<Flaw>
+    ensures { result ≡ message_flaw role message (option_map (λ text. text.now) text.entry) }
+{
+    match text {
+        Some(text) if text.is_empty() => Some(Flaw::RoleSilent(role, message)),
+        Some(_) => None,
+        None => Some(Flaw::RoleTextless(role, message)),
+    }
+}
+
+/// What is doubtful of a binding.
+pub(crate) fn bound_flaw(cave: &Cave, row: &BoundRow) -> Option<Flaw>
+    ensures { result ≡ bound_flaw cave.now row.now }
+{
+    let value = row.binding.value;
+    match row.binding.key {
+        Key::RoleKey(role) => message_flaw(role, value, cave.message(value)),
+        Key::PlaceKey(role) => {
+            if place_has_text(cave, value) {
+                None
+            } else {
+                Some(Flaw::PlaceTextless(role, value))
+            }
+        }
+        Key::LettersKey => None,
+    }
+}

@@ -1,0 +1,121 @@
+//! What is doubtful of a row of a database or of bindings.
+
+ghost use Rattle.std.specs.Prelude.{◌≡◌, [], map, slice_index_or};
+
+use check_tables::{PLACE_NAMES, ROLE_NAMES};
+use std::fmt;
+
+/// What is doubtful of a row. Places, objects, actions, hints and messages have their numbers.
+#[derive(Clone, Copy, Debug, PartialEq, Eq)]
+pub enum Flaw {
+    /// No way leads to the place.
+    NoWayTo(u16),
+    /// The way leads to a place that has no text.
+    LeadsToTextless(u16),
+    /// A player never comes to the way.
+    NeverTaken,
+    /// The word means something else, by an earlier row.
+    Hidden,
+    /// No place holds the treasure.
+    Nowhere(u16),
+    /// The treasure has no inventory text.
+    Nameless(u16),
+    /// The action says a message that has no text.
+    SaysTextless(u16, u16),
+    /// An earlier class has all its scores.
+    TakenClass,
+    /// All its scores are above the greatest of the cave.
+    UnscoredClass,
+    /// The hint asks by a message that has no text.
+    AsksTextless(u16, u16),
+    /// The hint gives a message that has no text.
+    GivesTextless(u16, u16),
+    /// The role of a message is bound to one that has no text.
+    RoleTextless(u16, u16),
+    /// The role of a message is bound to one whose text prints nothing.
+    RoleSilent(u16, u16),
+    /// The role of a place is bound to one that has no text.
+    PlaceTextless(u16, u16),
+}
+
+/// The name at a place of a table.
+fn name_at<'a>(names: &[&'a str], number: u16) -> &'a str
+    ensures { result.now ≡ slice_index_or (map (λ name. name.now) names.now) number [] }
+{
+    match names.get(number as usize) {
+        Some(name) => *name,
+        None => "",
+    }
+}
+
+impl fmt::Display for Flaw {
+    ghost use Rattle.std.specs.Prelude.{Some};
+    ghost use Rattle.check_doubts.specs.Listing.{words};
+
+    ghost output = { λ flaw. Some (words flaw) };
+
+    fn fmt<W: fmt::Write>(&self, f: &mut fmt::Formatter<W>) -> fmt::Result {
+        match *self {
+            Flaw::NoWayTo(place) => write!(f, "no way leads to place {place}"),
+            Flaw::LeadsToTextless(place) => {
+                write!(f, "the way leads to place {place}, which has no text")
+            }
+            Flaw::NeverTaken => {
+                write!(
+                    f,
+                    "no player takes this way: an earlier one is always taken"
+                )
+            }
+            Flaw::Hidden => write!(f, "an earlier row of this word hides it"),
+            Flaw::Nowhere(object) => write!(f, "no place holds treasure {object}"),
+            Flaw::Nameless(object) => write!(f, "treasure {object} has no inventory text"),
+            Flaw::SaysTextless(action, message) => {
+                write!(
+                    f,
+                    "action {action} says message {message}, which has no text"
+                )
+            }
+            Flaw::TakenClass => write!(f, "an earlier class takes its scores"),
+            Flaw::UnscoredClass => write!(f, "no score reaches this class"),
+            Flaw::AsksTextless(hint, message) => {
+                write!(
+                    f,
+                    "hint {hint} asks by message {message}, which has no text"
+                )
+            }
+            Flaw::GivesTextless(hint, message) => {
+                write!(f, "hint {hint} gives message {message}, which has no text")
+            }
+            Flaw::RoleTextless(role, message) => {
+                let name = name_at(&ROLE_NAMES, role);
+                write!(f, "msg.{name} is message {message}, which has no text")
+            }
+            Flaw::RoleSilent(role, message) => {
+                let name = name_at(&ROLE_NAMES, role);
+                write!(
+                    f,
+                    "msg.{name} is message {message}, whose text prints nothing"
+                )
+            }
+            Flaw::PlaceTextless(role, place) => {
+                let name = name_at(&PLACE_NAMES, role);
+                write!(f, "place.{name} is place {place}, which has no text")
+            }
+        }
+    }
+}
+
+/// The input that a doubt is of.
+#[derive(Clone, Copy, Debug, PartialEq, Eq)]
+pub enum Source {
+    Database,
+    Bindings,
+}
+
+/// What is doubtful of a row, with the number of its line, from 1.
+#[derive(Clone, Copy, Debug, PartialEq, Eq)]
+pub struct Doubt {
+    pub source: Source,
+    pub line: usize,
+    pub flaw: Flaw,
+}

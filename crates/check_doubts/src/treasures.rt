@@ -1,0 +1,52 @@
+//! Treasures that no place holds, and treasures without an inventory text.
+
+ghost use Rattle.std.specs.Prelude.{◌≡◌};
+ghost use Rattle.check_tables.specs.cave_words.Lexicon.{IsLexiconOf};
+ghost use Rattle.turn_score.specs.turn_things.Treasures.{is_treasure};
+ghost use Rattle.check_doubts.specs.Treasures.{is_nameless, is_nowhere, is_placed};
+ghost use Rattle.check_doubts.specs.Treasures.{is_put_by_rules};
+
+use crate::mark::{MarkedRow, any_name};
+use check_tables::{Cave, Lexicon, Named, is_number};
+use turn_things::treasures::{FIRST_TREASURE, LAST_TREASURE};
+
+fn is_treasure(object: u16) -> bool
+    ensures { result ≡ is_treasure object }
+{
+    u16::from(FIRST_TREASURE) <= object && object <= u16::from(LAST_TREASURE)
+}
+
+/// Whether a place has a half of an object as a game begins.
+fn is_placed(cave: &Cave, object: u16) -> bool
+    ensures { result ≡ is_placed cave.now object }
+{
+    let (first, second) = cave.placement(object);
+    0 < first || 0 < second
+}
+
+/// Whether rules put an object somewhere.
+fn is_put_by_rules(cave: &Cave, lexicon: &Lexicon, object: u16) -> bool
+    requires { IsLexiconOf cave.now lexicon.now }
+    ensures { result ≡ is_put_by_rules cave.now object }
+{
+    is_number(object, lexicon.named(cave, Named::Chest))
+        || is_number(object, lexicon.named(cave, Named::Pearl))
+}
+
+/// Whether a row begins the inventory text of a treasure that is nowhere.
+pub(crate) fn is_nowhere(cave: &Cave, lexicon: &Lexicon, object: u16, before: &[MarkedRow]) -> bool
+    requires { IsLexiconOf cave.now lexicon.now }
+    ensures { result ≡ is_nowhere cave.now object before.now }
+{
+    is_treasure(object)
+        && !any_name(before, object)
+        && !is_placed(cave, object)
+        && !is_put_by_rules(cave, lexicon, object)
+}
+
+/// Whether an object is a treasure without an inventory text.
+pub(crate) fn is_nameless(cave: &Cave, object: u16) -> bool
+    ensures { result ≡ is_nameless cave.now object }
+{
+    is_treasure(object) && !cave.name(object).is_some()
+}

@@ -1,0 +1,21 @@
+-- Tests of rows and of roles, as the code has them, are those of what they say.
+use Rattle.std.proofs.Common.{◌≡◌, ℕ, Bool, List, [], ◌∷◌, map, refl, sym, ap, ◌∙◌}
+use Rattle.std.specs.Prelude.{◌||◌}
+use Rattle.std.specs.List.{list_any}
+
+list_any-map : {A B : Type 0} (p : B → Bool) (f : A → B) (xs : List A)
+    → list_any p (map f xs) ≡ list_any (λ x. p (f x)) xs
+list_any-map p f [] = refl
+list_any-map p f (x ∷ xs) = ap (λ b. p (f x) || b) (list_any-map p f xs)
+
+-- an answer about rows, for what they say
+pub any_mapped : {A B : Type 0} (p : B → Bool) (f : A → B) (xs : List A) (answer : Bool)
+    → answer ≡ list_any (λ x. p (f x)) xs → answer ≡ list_any p (map f xs)
+any_mapped p f xs answer is = is ∙ sym (list_any-map p f xs)
+
+-- an answer about roles, for their numbers
+pub any_of_keys : {A : Type 0} (p : ℕ → Bool) (number : A → ℕ) (roles : List A) (keys : List ℕ)
+    (answer : Bool) → map number roles ≡ keys → answer ≡ list_any (λ role. p (number role)) roles
+    → answer ≡ list_any p keys
+any_of_keys p number roles keys answer same is =
+    any_mapped p number roles answer is ∙ ap (list_any p) same
