@@ -9,6 +9,7 @@ use Rattle.map_ways.specs.cave_world.Sight.{forced}
 use Rattle.map_ways.specs.cave_world.Travel.{row_condition}
 use Rattle.map_graph.specs.Names.{condition_mark, word_or_number}
 use Rattle.map_ways.specs.Falls.{motions_taking}
+use Rattle.map_ways.specs.Leads.{emerald_of}
 use Rattle.map_ways.specs.Ways.{ends_at}
 
 -- the name of a motion
@@ -50,7 +51,8 @@ two_texts first second =
 
 abbrev pub motions_of_row : CaveView → ℕ → Bool → List Going → Going → List ℕ
 motions_of_row cave from later before row =
-    taking_text cave from later (motions_taking later [] before row) (row_condition row)
+    taking_text cave from later (motions_taking (emerald_of cave) later [] before row)
+    (row_condition row)
 
 -- the motions that can take a row after others: those that come there first, and then those for
 -- which others have to fail

@@ -111,7 +111,7 @@ fn motions_of_row(
     ensures { IfOk result (λ text. text.items
         ≡ motions_of_row cave.now from later (map going before.now) (going row.now)) }
 {
-    let motions = motions_taking(alloc, later, before, row)?;
+    let motions = motions_taking(alloc, cave, later, before, row)?;
     taking_text(alloc, cave, from, later, &motions, row.condition())
 }
 

@@ -1,8 +1,9 @@
 -- What holds and fails in one state, whatever is drawn, goes together as conditions say.
-use Rattle.std.proofs.Common.{◌≡◌, ℕ, ℤ, pos, Bool, true, false, refl, sym, ap, ◌∙◌}
+use Rattle.std.proofs.Common.{◌≡◌, ℕ, ℤ, pos, Bool, true, false, List, [], ◌∷◌, refl, sym, ap, ◌∙◌}
 use Rattle.std.proofs.Common.{inl, inr}
 use Rattle.std.specs.Prelude.{◌==◌, ◌&&◌, ◌||◌, not}
 use Rattle.std.specs.Ordering.{int_eq}
+use Rattle.std.specs.List.{list_all}
 use Rattle.std.proofs.lemmas.Bool.{cases_eq, eq-eqb, false≢true, ne_eqb}
 use Rattle.std.proofs.lemmas.Bool.Decides.{Decides-int_eq}
 use Rattle.cave_world.specs.data_rows.declared.targets.Condition.{Condition}
@@ -11,19 +12,18 @@ use Rattle.cave_world.specs.declared.state.State.{State}
 use Rattle.cave_world.specs.Travel.{holds}
 use Rattle.cave_world.specs.world_objects.Objects.{Layout, is_carried, is_first_at, is_object_at}
 use Rattle.cave_world.specs.world_objects.Objects.{prop_of, spot_of, anchor_of}
-use Rattle.map_ways.specs.Conditions.{ask_for_two_props, can_fail, can_hold, implies}
+use Rattle.map_ways.specs.Leads.{with_draw}
+use Rattle.map_ways.specs.Conditions.{ask_for_two_props, can_fail, can_hold, fails_among}
+use Rattle.map_ways.specs.Conditions.{go_together, holds_where, implies, never}
 
--- the state before another draw
-abbrev pub with_draw : ℕ → State → State
-with_draw draw s = record s { stream = draw }
+-- the condition holds in the state with some draw, of those that there are
+abbrev pub Holds : (ℕ → Type 0) → State → Condition → Type 0
+Holds Drawn s c = (draw : ℕ) × (Drawn draw × (holds c (with_draw draw s) ≡ true))
 
-abbrev pub Holds : State → Condition → Type 0
-Holds s c = (draw : ℕ) × (holds c (with_draw draw s) ≡ true)
+abbrev pub Fails : (ℕ → Type 0) → State → Condition → Type 0
+Fails Drawn s c = (draw : ℕ) × (Drawn draw × (holds c (with_draw draw s) ≡ false))
 
-abbrev pub Fails : State → Condition → Type 0
-Fails s c = (draw : ℕ) × (holds c (with_draw draw s) ≡ false)
-
-both_ways : {P : Type 0} (b : Bool) → b ≡ true → b ≡ false → P
+pub both_ways : {P : Type 0} (b : Bool) → b ≡ true → b ≡ false → P
 both_ways b holds fails = absurd (false≢true (sym fails ∙ holds))
 
 no_object_carried : (o : Layout) → is_carried o 0 ≡ false
@@ -60,17 +60,17 @@ some_prop test object prop none some =
       | inr other ↦ ap (λ b. not (b && prop == 0)) (ne_eqb object 0 other)
     ]
 
-pub can_hold_here : (s : State) (c : Condition) → Holds s c → can_hold c ≡ true
+pub can_hold_here : (D : ℕ → Type 0) (s : State) (c : Condition) → Holds D s c → can_hold c ≡ true
 unfolding can_hold
-can_hold_here s condition.Always held = refl
-can_hold_here s condition.NotForDwarves held = refl
-can_hold_here s (condition.Chance percent) held = refl
-can_hold_here s (condition.Carried object) (draw, held) =
+can_hold_here D s condition.Always held = refl
+can_hold_here D s condition.NotForDwarves held = refl
+can_hold_here D s (condition.Chance percent) held = refl
+can_hold_here D s (condition.Carried object) (draw, (_, held)) =
     other_than_none (is_carried s.objects) object (no_object_carried s.objects) held
-can_hold_here s (condition.AtHand object) (draw, held) =
+can_hold_here D s (condition.AtHand object) (draw, (_, held)) =
     other_than_none (λ x. is_carried s.objects x || is_object_at s.objects s.trail.here x) object
     (rw (no_object_carried s.objects) (no_object_at s.objects s.trail.here)) held
-can_hold_here s (condition.OtherProp object prop) (draw, held) =
+can_hold_here D s (condition.OtherProp object prop) (draw, (_, held)) =
     some_prop (λ x p. not (int_eq (prop_of s.objects x) (pos p))) object prop
     (rw (no_object_prop s.objects) refl) held
 
@@ -93,14 +93,15 @@ pub or_right : (a b : Bool) → b ≡ true → (a || b) ≡ true
 or_right true b is = refl
 or_right false b is = is
 
-pub can_fail_here : (s : State) (c : Condition) → Fails s c → can_fail c ≡ true
+pub can_fail_here : (D : ℕ → Type 0) (s : State) (c : Condition) → Fails D s c
+    → can_fail c ≡ true
 unfolding can_fail
-can_fail_here s condition.Always (draw, failed) = sym failed
-can_fail_here s condition.NotForDwarves (draw, failed) = sym failed
-can_fail_here s (condition.Chance percent) failed = refl
-can_fail_here s (condition.Carried object) failed = refl
-can_fail_here s (condition.AtHand object) failed = refl
-can_fail_here s (condition.OtherProp object prop) (draw, failed) =
+can_fail_here D s condition.Always (draw, (_, failed)) = sym failed
+can_fail_here D s condition.NotForDwarves (draw, (_, failed)) = sym failed
+can_fail_here D s (condition.Chance percent) failed = refl
+can_fail_here D s (condition.Carried object) failed = refl
+can_fail_here D s (condition.AtHand object) failed = refl
+can_fail_here D s (condition.OtherProp object prop) (draw, (_, failed)) =
     elim (cases_eq object 0) [
       | inl same ↦ or_right (not (object == 0)) (prop == 0)
           (eq-eqb prop 0 (sym (pos_injective 0 prop
@@ -121,17 +122,20 @@ not_same m n differ =
       | inr other ↦ ne_eqb m n other
     ]
 
-pub implied_here : (s : State) (c d : Condition) → Holds s c → Fails s d → implies c d ≡ false
+pub implied_here : (D : ℕ → Type 0) (s : State) (c d : Condition) → Holds D s c → Fails D s d
+    → implies c d ≡ false
 unfolding implies
-implied_here s (condition.Carried x) (condition.Carried y) (draw, held) (other, failed) =
+implied_here D s (condition.Carried x) (condition.Carried y)
+    (draw, (_, held)) (other, (_, failed)) =
     not_same x y (λ same. sym held ∙ ap (is_carried s.objects) same ∙ failed)
-implied_here s (condition.Carried x) (condition.AtHand y) (draw, held) (other, failed) =
+implied_here D s (condition.Carried x) (condition.AtHand y) (draw, (_, held)) (other, (_, failed)) =
     not_same x y (λ same. sym held ∙ ap (is_carried s.objects) same
     ∙ or_false_left (is_carried s.objects y) _ failed)
-implied_here s (condition.AtHand x) (condition.AtHand y) (draw, held) (other, failed) =
+implied_here D s (condition.AtHand x) (condition.AtHand y) (draw, (_, held)) (other, (_, failed)) =
     not_same x y (λ same. sym held
     ∙ ap (λ z. is_carried s.objects z || is_object_at s.objects s.trail.here z) same ∙ failed)
-implied_here s (condition.OtherProp x p) (condition.OtherProp y q) (draw, held) (other, failed) =
+implied_here D s (condition.OtherProp x p) (condition.OtherProp y q) (draw, (_, held))
+    (other, (_, failed)) =
     elim (cases_eq x y) [
       | inl same ↦ elim (cases_eq p q) [
         | inl equal ↦ both_ways (not (int_eq (prop_of s.objects x) (pos p))) held
@@ -141,12 +145,13 @@ implied_here s (condition.OtherProp x p) (condition.OtherProp y q) (draw, held) 
       ]
       | inr differ ↦ ap (λ b. b && p == q) (ne_eqb x y differ)
     ]
-implied_here s _ _ held failed = refl
+implied_here D s _ _ held failed = refl
 
-pub props_here : (s : State) (c d : Condition) → Fails s c → Fails s d
+pub props_here : (D : ℕ → Type 0) (s : State) (c d : Condition) → Fails D s c → Fails D s d
     → ask_for_two_props c d ≡ false
 unfolding ask_for_two_props
-props_here s (condition.OtherProp x p) (condition.OtherProp y q) (draw, first) (other, second) =
+props_here D s (condition.OtherProp x p) (condition.OtherProp y q)
+    (draw, (_, first)) (other, (_, second)) =
     elim (cases_eq x y) [
       | inl same ↦ ap (λ b. (x == y) && not b)
           (eq-eqb p q (pos_injective p q (sym (prop_is s.objects x p first)
@@ -158,4 +163,51 @@ props_here s (condition.OtherProp x p) (condition.OtherProp y q) (draw, first) (
     and_false : (b : Bool) → (b && false) ≡ false
     and_false true = refl
     and_false false = refl
-props_here s _ _ first second = refl
+props_here D s _ _ first second = refl
+
+-- a fact of each of some conditions
+abbrev pub Each : (Condition → Type 0) → List Condition → Type 0
+Each P [] = Unit {0}
+Each P (c ∷ cs) = P c × Each P cs
+
+pub and_both : (a b : Bool) → a ≡ true → b ≡ true → (a && b) ≡ true
+and_both true b first second = second
+and_both false b first second = first
+
+module _ (D : ℕ → Type 0) (s : State) where
+  lets_fail : (held : Condition) (failed : List Condition) → Holds D s held
+      → Each (Fails D s) failed → list_all (λ other. not (implies held other)) failed ≡ true
+  lets_fail held [] holding all = refl
+  lets_fail held (c ∷ cs) holding (one, all) =
+      and_both _ _ (ap not (implied_here D s held c holding one)) (lets_fail held cs holding all)
+
+  one_prop : (failed : Condition) (others : List Condition) → Fails D s failed
+      → Each (Fails D s) others
+      → list_all (λ other. not (ask_for_two_props failed other)) others ≡ true
+  one_prop failed [] fails all = refl
+  one_prop failed (c ∷ cs) fails (one, all) =
+      and_both _ _ (ap not (props_here D s failed c fails one)) (one_prop failed cs fails all)
+
+  each_fails : (some failed : List Condition) → Each (Fails D s) some → Each (Fails D s) failed
+      → list_all (fails_among failed) some ≡ true
+  each_fails [] failed some all = refl
+  each_fails (c ∷ cs) failed (one, some) all =
+      and_both _ _ (and_both _ _ (can_fail_here D s c one) (one_prop c failed one all))
+      (each_fails cs failed some all)
+
+  each_holds : (held failed : List Condition) → Each (Holds D s) held → Each (Fails D s) failed
+      → list_all (holds_where failed) held ≡ true
+  each_holds [] failed holding all = refl
+  each_holds (c ∷ cs) failed (one, holding) all =
+      and_both _ _ (and_both _ _ (can_hold_here D s c one) (lets_fail c failed one all))
+      (each_holds cs failed holding all)
+
+  -- what holds and what fails in one state goes together
+  pub together_here : (held failed : List Condition) → Each (Holds D s) held
+      → Each (Fails D s) failed → go_together held failed ≡ true
+  together_here held failed holding all =
+      and_both _ _ (each_holds held failed holding all) (each_fails failed failed all all)
+
+pub never_holds : (s : State) (draw : ℕ) → holds never (with_draw draw s) ≡ false
+unfolding prop_of
+never_holds s draw = refl

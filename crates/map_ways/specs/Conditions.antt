@@ -1,5 +1,6 @@
 -- Which conditions can hold, and which can fail, where others do.
-use Rattle.std.specs.Prelude.{Bool, true, false, ◌==◌, ◌&&◌, ◌||◌, not}
+use Rattle.std.specs.Prelude.{ℕ, Bool, true, false, ◌==◌, ◌&&◌, ◌||◌, not, if◌then◌else◌, List}
+use Rattle.std.specs.List.{list_all}
 use Rattle.cave_world.specs.data_rows.declared.targets.Condition.{Condition}
 use Rattle.cave_world.specs.data_rows.declared.targets.Condition.TheVariants as condition
 
@@ -33,3 +34,33 @@ unfoldable pub ask_for_two_props : Condition → Condition → Bool
 ask_for_two_props (condition.OtherProp object prop) (condition.OtherProp other also) =
     object == other && not (prop == also)
 ask_for_two_props _ _ = false
+
+-- the condition can fail where others fail
+abbrev pub fails_among : List Condition → Condition → Bool
+fails_among others failed =
+    can_fail failed && list_all (λ other. not (ask_for_two_props failed other)) others
+
+-- all fail in some state, each with some draw
+abbrev pub fail_together : List Condition → Bool
+fail_together failed = list_all (fails_among failed) failed
+
+-- the condition can hold where others fail
+abbrev pub holds_where : List Condition → Condition → Bool
+holds_where failed held =
+    can_hold held && list_all (λ other. not (implies held other)) failed
+
+-- some conditions hold, and others fail, in one state, each with some draw
+abbrev pub go_together : List Condition → List Condition → Bool
+go_together held failed = list_all (holds_where failed) held && fail_together failed
+
+-- a condition that never holds
+abbrev pub never : Condition
+never = condition.OtherProp 0 0
+
+-- what a condition asks once the emerald lies where the player is: it is at hand, and isn't carried
+unfoldable pub with_emerald_here : ℕ → Condition → Condition
+with_emerald_here emerald (condition.Carried object) =
+    if object == emerald then never else condition.Carried object
+with_emerald_here emerald (condition.AtHand object) =
+    if object == emerald then condition.Always else condition.AtHand object
+with_emerald_here emerald other = other

@@ -1,13 +1,13 @@
 -- Which motions come to a row, past rows before it that fail.
 use Rattle.std.specs.Prelude.{ℕ, Bool, true, false, ◌==◌, ◌&&◌, ◌||◌, not, if◌then◌else◌}
-use Rattle.std.specs.Prelude.{List, [], ◌∷◌, ◌++◌}
-use Rattle.std.specs.List.{filter, list_all, list_any}
+use Rattle.std.specs.Prelude.{List, [], ◌∷◌, ◌++◌, map}
+use Rattle.std.specs.List.{filter, list_any}
 use Rattle.cave_world.specs.data_rows.Rows.{Going}
 use Rattle.cave_world.specs.data_rows.declared.targets.Condition.{Condition}
 use Rattle.cave_world.specs.data_rows.declared.targets.Destination.{Destination}
 use Rattle.cave_world.specs.data_rows.declared.targets.Destination.TheVariants.{PutsEmeraldDown}
 use Rattle.cave_world.specs.Travel.{lists_motion, row_condition, row_destination}
-use Rattle.map_ways.specs.Conditions.{ask_for_two_props, can_fail, can_hold, implies}
+use Rattle.map_ways.specs.Conditions.{go_together, never, with_emerald_here}
 
 abbrev pub puts_emerald_down : Destination → Bool
 puts_emerald_down PutsEmeraldDown = true
@@ -18,25 +18,17 @@ puts_emerald_down _ = false
 abbrev pub has_to_fail : Going → Bool
 has_to_fail row = not (puts_emerald_down (row_destination row))
 
--- no row that has to fail needs another prop for that than the condition does
-abbrev pub need_one_prop : List Going → Condition → Bool
-need_one_prop rows failed =
-    list_all (λ row. not (has_to_fail row)
-    || not (ask_for_two_props failed (row_condition row))) rows
+-- what a row asks of the state that the motion began in, before the emerald was put down and after
+-- it; then a row that puts it down is passed in any case, as one that fails
+abbrev pub asked_of : ℕ → Bool → Going → Condition
+asked_of emerald false row = row_condition row
+asked_of emerald true row =
+    if has_to_fail row then with_emerald_here emerald (row_condition row) else never
 
--- the condition can fail where the rows that have to fail do
-abbrev pub fails_among : List Going → Condition → Bool
-fails_among rows failed = can_fail failed && need_one_prop rows failed
-
--- each row that has to fail can, with all others, where the condition holds
-abbrev pub all_fail_where : Condition → List Going → Bool
-all_fail_where held rows =
-    list_all (λ row. not (has_to_fail row)
-    || (not (implies held (row_condition row)) && fails_among rows (row_condition row))) rows
-
--- the condition can hold where the rows that have to fail do
-abbrev pub holds_after : List Going → Condition → Bool
-holds_after rows held = can_hold held && all_fail_where held rows
+-- what has to fail for a motion to come past rows, between some of which the emerald is put down
+abbrev pub failed_of : ℕ → List Going → List Going → List Condition
+failed_of emerald early late =
+    map (asked_of emerald false) early ++ map (asked_of emerald true) late
 
 -- of neighbours with the same target only the first is tried
 abbrev pub is_tried_after : List Going → Going → Bool
@@ -44,10 +36,31 @@ is_tried_after [] row = true
 is_tried_after (first ∷ []) row = not (first.target == row.target)
 is_tried_after (first ∷ second ∷ rows) row = is_tried_after (second ∷ rows) row
 
+-- the row can be taken where all rows before it fail
+abbrev pub holds_after : ℕ → List Going → Going → Bool
+holds_after emerald rows row = go_together (row_condition row ∷ []) (failed_of emerald rows [])
+
+-- the row can be taken where one before it is the first that puts the emerald down
+abbrev pub holds_past : ℕ → List Going → Going → List Going → Going → Bool
+holds_past emerald early putting late row =
+    not (has_to_fail putting) && is_tried_after early putting
+    && go_together
+    (row_condition putting ∷ with_emerald_here emerald (row_condition row) ∷ [])
+    (failed_of emerald early late)
+
+-- it can where one of some rows after others is
+abbrev pub holds_past_some : ℕ → List Going → List Going → Going → Bool
+holds_past_some emerald early [] row = false
+holds_past_some emerald early (first ∷ rows) row =
+    holds_past emerald early first rows row
+    || holds_past_some emerald (early ++ first ∷ []) rows row
+
 -- a motion that begins at the first of some rows, or at the row itself where there are none, can
 -- come to the row and take it
-unfoldable pub is_taken_after : List Going → Going → Bool
-is_taken_after rows row = is_tried_after rows row && holds_after rows (row_condition row)
+unfoldable pub is_taken_after : ℕ → List Going → Going → Bool
+is_taken_after emerald rows row =
+    is_tried_after rows row
+    && (holds_after emerald rows row || holds_past_some emerald [] rows row)
 
 -- some row before has to fail
 abbrev pub is_else : List Going → Bool
@@ -65,32 +78,32 @@ has_begun before row = list_any (λ motion. not (is_listed motion before)) row.m
 
 -- some motion comes to the row and can take it, which begins at one of the rows after others, or
 -- at the row itself
-abbrev pub is_reached : List Going → List Going → Going → Bool
-is_reached before [] row = has_begun before row && is_taken_after [] row
-is_reached before (first ∷ rows) row =
-    (has_begun before first && is_taken_after (first ∷ rows) row)
-    || is_reached (before ++ first ∷ []) rows row
+abbrev pub is_reached : ℕ → List Going → List Going → Going → Bool
+is_reached emerald before [] row = has_begun before row && is_taken_after emerald [] row
+is_reached emerald before (first ∷ rows) row =
+    (has_begun before first && is_taken_after emerald (first ∷ rows) row)
+    || is_reached emerald (before ++ first ∷ []) rows row
 
 -- a motion that comes to a row past these is named apart, where rows have to fail first
 abbrev pub is_named : Bool → List Going → Bool
 is_named later rows = if is_else rows then later else not later
 
 -- those that begin at the first of some rows after others and can take the row after them all
-unfoldable pub motions_from : Bool → List Going → List Going → Going → List ℕ
-motions_from later before [] row = []
-motions_from later before (first ∷ rows) row =
-    if is_named later (first ∷ rows) && is_taken_after (first ∷ rows) row
+unfoldable pub motions_from : ℕ → Bool → List Going → List Going → Going → List ℕ
+motions_from emerald later before [] row = []
+motions_from emerald later before (first ∷ rows) row =
+    if is_named later (first ∷ rows) && is_taken_after emerald (first ∷ rows) row
     then motions_begun before first else []
 
 -- those that begin at the row itself and can take it
-unfoldable pub motions_at : Bool → List Going → Going → List ℕ
-motions_at later before row =
-    if not later && is_taken_after [] row then motions_begun before row else []
+unfoldable pub motions_at : ℕ → Bool → List Going → Going → List ℕ
+motions_at emerald later before row =
+    if not later && is_taken_after emerald [] row then motions_begun before row else []
 
 -- all motions that can take a row, which begin at one of the rows after others or at the row
 -- itself: those that come there past rows that have to fail, or the others
-abbrev pub motions_taking : Bool → List Going → List Going → Going → List ℕ
-motions_taking later before [] row = motions_at later before row
-motions_taking later before (first ∷ rows) row =
-    motions_from later before (first ∷ rows) row
-    ++ motions_taking later (before ++ first ∷ []) rows row
+abbrev pub motions_taking : ℕ → Bool → List Going → List Going → Going → List ℕ
+motions_taking emerald later before [] row = motions_at emerald later before row
+motions_taking emerald later before (first ∷ rows) row =
+    motions_from emerald later before (first ∷ rows) row
+    ++ motions_taking emerald later (before ++ first ∷ []) rows row

@@ -1,15 +1,16 @@
 -- Laws of ways.
-use Rattle.std.specs.Prelude.{◌≡◌, ℕ, ◌+◌, ◌<◌, ◌≤◌, Bool, true, false, ◌==◌, ◌&&◌, ◌||◌}
+use Rattle.std.specs.Prelude.{◌≡◌, ℕ, ◌+◌, ◌<◌, ◌≤◌, Bool, true, false, ◌==◌, ◌&&◌, ◌||◌, not}
 use Rattle.std.specs.Prelude.{if◌then◌else◌, List, [], ◌∷◌, ◌++◌, length}
-use Rattle.std.specs.List.{filter, list_all, list_any}
+use Rattle.std.specs.List.{filter, list_any}
 use Rattle.cave_world.specs.cave_data.CaveView.{CaveView, ways_from}
 use Rattle.cave_world.specs.data_numbers.Numbers.{LAST_PLACE}
 use Rattle.cave_world.specs.data_rows.Rows.{Going}
 use Rattle.cave_world.specs.declared.state.State.{State}
 use Rattle.cave_world.specs.declared.travel_rows.Outcome.TheVariants.{Go}
 use Rattle.cave_world.specs.Motions.{any_motion}
-use Rattle.cave_world.specs.Travel.{travel}
-use Rattle.map_ways.specs.Falls.{has_to_fail, motions_taking}
+use Rattle.cave_world.specs.Travel.{lists_motion, travel}
+use Rattle.map_ways.specs.Falls.{motions_taking}
+use Rattle.map_ways.specs.Leads.{CanLead, IsStateAt, emerald_of}
 use Rattle.map_ways.specs.Ways.{ends_at, ends_of_edges, is_both_ways, is_mapped, is_way}
 use Rattle.map_ways.specs.Ways.{mapped_places}
 
@@ -53,29 +54,52 @@ EndsAreNodes =
     → is_way cave from to ≡ true
     → (is_mapped cave from ≡ true) × (is_mapped cave to ≡ true)
 
--- the motion is among some, by its number or as any motion
-abbrev pub is_among : ℕ → List ℕ → Bool
-is_among motion motions = list_any (λ m. m == motion || m == any_motion) motions
+-- no row before the first that lists any motion lists the motion
+abbrev pub begins_as_any : ℕ → List Going → Bool
+begins_as_any motion [] = true
+begins_as_any motion (row ∷ rows) =
+    lists_motion any_motion row || (not (lists_motion motion row) && begins_as_any motion rows)
+
+-- a number in a label stands for the motion: its own, and that of any motion where it begins as any
+abbrev pub stands_for : Bool → ℕ → ℕ → Bool
+stands_for as_any motion number = number == motion || (number == any_motion && as_any)
+
+abbrev pub is_among : Bool → ℕ → List ℕ → Bool
+is_among as_any motion numbers = list_any (stands_for as_any motion) numbers
 
 -- a label names the motion at the row after others: where it comes there first, or where rows have
 -- to fail
-abbrev pub is_named_at : ℕ → List Going → Going → Bool
-is_named_at motion before row =
-    is_among motion (motions_taking false [] before row)
-    || is_among motion (motions_taking true [] before row)
+abbrev pub is_named_at : ℕ → Bool → ℕ → List Going → Going → Bool
+is_named_at emerald as_any motion before row =
+    is_among as_any motion (motions_taking emerald false [] before row)
+    || is_among as_any motion (motions_taking emerald true [] before row)
 
--- the label of the edge to the place names the motion at one of the rows after others
-abbrev pub is_named_on_way : ℕ → ℕ → List Going → List Going → Bool
-is_named_on_way place motion before [] = false
-is_named_on_way place motion before (row ∷ rows) =
-    (ends_at place row && is_named_at motion before row)
-    || is_named_on_way place motion (before ++ row ∷ []) rows
+-- it names the motion at one of the rows after others that lead to the place
+abbrev pub is_named_on_way : ℕ → Bool → ℕ → ℕ → List Going → List Going → Bool
+is_named_on_way emerald as_any place motion before [] = false
+is_named_on_way emerald as_any place motion before (row ∷ rows) =
+    (ends_at place row && is_named_at emerald as_any motion before row)
+    || is_named_on_way emerald as_any place motion (before ++ row ∷ []) rows
 
--- where a motion leads to a place in some state, whatever is drawn, the label of the edge there
--- names it; at the place no row puts the emerald down
+-- the label of the edge from the one place to the other names the motion
+abbrev pub label_names : CaveView → ℕ → ℕ → ℕ → Bool
+label_names cave motion from to =
+    let ways = ways_from cave from in
+    is_named_on_way (emerald_of cave) (begins_as_any motion ways) to motion [] ways
+
+-- a label names a motion exactly where it leads there in some state, with some draws
+abbrev pub LabelsNameWhatLeads : Type 0
+LabelsNameWhatLeads =
+    (cave : CaveView) (motion from to : ℕ)
+    → IsPlaceNumber from
+    → (label_names cave motion from to ≡ true → CanLead cave motion from to)
+    × (CanLead cave motion from to → label_names cave motion from to ≡ true)
+
+-- where a motion leads to a place by the stream, the label of the edge there names it
 abbrev pub WhatLeadsIsNamed : Type 0
 WhatLeadsIsNamed =
-    (cave : CaveView) (emerald motion : ℕ) (s : State) (place : ℕ)
-    → list_all has_to_fail (ways_from cave s.trail.here) ≡ true
-    → (travel cave emerald motion s).outcome ≡ Go place
-    → is_named_on_way place motion [] (ways_from cave s.trail.here) ≡ true
+    (cave : CaveView) (motion from to : ℕ) (s : State)
+    → IsPlaceNumber from
+    → IsStateAt from s
+    → (travel cave (emerald_of cave) motion s).outcome ≡ Go to
+    → label_names cave motion from to ≡ true

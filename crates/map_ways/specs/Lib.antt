@@ -1,4 +1,5 @@
 pub mod Conditions
+pub mod Leads
 pub mod Falls
 pub mod Ways
 pub mod Laws

@@ -14,6 +14,7 @@ use Rattle.cave_world.specs.cave_data.CaveView.{CaveView, ways_from}
 use Rattle.cave_world.specs.data_numbers.Numbers.{LAST_PLACE}
 use Rattle.cave_world.specs.Travel.{row_condition, row_destination}
 use Rattle.map_ways.specs.Falls.{is_reached}
+use Rattle.map_ways.specs.Leads.{emerald_of}
 
 -- the numbers that a place may have, in ascending order
 unfoldable pub place_numbers : List ℕ
@@ -23,15 +24,16 @@ abbrev pub ends_at : ℕ → Going → Bool
 ends_at place row = leads_to_place place (row_destination row)
 
 -- some motion takes one of the rows after others to the place
-abbrev pub lead_to : ℕ → List Going → List Going → Bool
-lead_to place before [] = false
-lead_to place before (row ∷ rows) =
-    (ends_at place row && is_reached [] before row) || lead_to place (before ++ row ∷ []) rows
+abbrev pub lead_to : ℕ → ℕ → List Going → List Going → Bool
+lead_to emerald place before [] = false
+lead_to emerald place before (row ∷ rows) =
+    (ends_at place row && is_reached emerald [] before row)
+    || lead_to emerald place (before ++ row ∷ []) rows
 
 -- a way leads from the one place to the other: some motion can come to a row that leads there, and
 -- take it
 abbrev pub is_way : CaveView → ℕ → ℕ → Bool
-is_way cave from to = lead_to to [] (ways_from cave from)
+is_way cave from to = lead_to (emerald_of cave) to [] (ways_from cave from)
 
 -- a way begins or ends at the place
 abbrev pub has_way : CaveView → ℕ → Bool

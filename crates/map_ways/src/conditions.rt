@@ -2,8 +2,12 @@
 
 ghost use Rattle.std.specs.Prelude.{◌≡◌};
 ghost use Rattle.map_ways.specs.Conditions.{ask_for_two_props, can_fail, can_hold, implies};
+ghost use Rattle.map_ways.specs.Conditions.{with_emerald_here};
 
 use cave_world::Condition;
+
+/// A condition that never holds: object 0 has prop 0.
+pub(crate) const NEVER: Condition = Condition::OtherProp(0, 0);
 
 /// Whether a condition holds in some state with some draw.
 #[tactic(auto, unfolding(crate::specs::Conditions::can_hold))]
@@ -55,5 +59,18 @@ pub(crate) fn ask_for_two_props(condition: Condition, other: Condition) -> bool
             object == other && prop != also
         }
         _ => false,
+    }
+}
+
+/// What a condition asks once the emerald lies where the player is: it is at hand, and isn't
+/// carried.
+#[tactic(auto, unfolding(crate::specs::Conditions::with_emerald_here))]
+pub(crate) fn with_emerald_here(emerald: u16, condition: Condition) -> Condition
+    ensures { result ≡ with_emerald_here emerald condition }
+{
+    match condition {
+        Condition::Carried(object) if u16::from(object) == emerald => NEVER,
+        Condition::AtHand(object) if u16::from(object) == emerald => Condition::Always,
+        other => other,
     }
 }

@@ -1,16 +1,20 @@
 //! Which motions come to a row, past rows before it that fail.
 
-ghost use Rattle.std.specs.Prelude.{◌≡◌, ◌&&◌, ◌++◌, [], IfOk, OnOk, map, not};
+ghost use Rattle.std.specs.Prelude.{◌≡◌, ◌∷◌, [], ℕ, IfOk, map, not};
+ghost use Rattle.std.specs.List.{list_all};
 ghost use Rattle.cave_world.specs.data_rows.RowViews.{going};
-ghost use Rattle.cave_world.specs.Travel.{lists_motion, row_condition};
-ghost use Rattle.map_ways.specs.Conditions.{implies};
-ghost use Rattle.map_ways.specs.Falls.{all_fail_where, fails_among, has_begun, has_to_fail};
-ghost use Rattle.map_ways.specs.Falls.{holds_after, is_else, is_listed, is_named, is_reached};
-ghost use Rattle.map_ways.specs.Falls.{is_taken_after, is_tried_after, motions_at, motions_begun};
-ghost use Rattle.map_ways.specs.Falls.{motions_from, motions_taking, need_one_prop};
+ghost use Rattle.cave_world.specs.Travel.{lists_motion};
+ghost use Rattle.map_ways.specs.Conditions.{ask_for_two_props, fail_together, fails_among};
+ghost use Rattle.map_ways.specs.Conditions.{go_together, holds_where, implies, with_emerald_here};
+ghost use Rattle.map_ways.specs.Falls.{asked_of, failed_of, has_begun, has_to_fail, holds_after};
+ghost use Rattle.map_ways.specs.Falls.{holds_past, holds_past_some, is_else, is_listed, is_named};
+ghost use Rattle.map_ways.specs.Falls.{is_reached, is_taken_after, is_tried_after, motions_at};
+ghost use Rattle.map_ways.specs.Falls.{motions_begun, motions_from, motions_taking};
+ghost use Rattle.map_ways.specs.Leads.{emerald_of};
 
-use crate::conditions::{ask_for_two_props, can_fail, can_hold, implies};
-use cave_world::{Condition, Destination, Motion, Row};
+use crate::conditions::{NEVER, ask_for_two_props, can_fail, can_hold, implies, with_emerald_here};
+use crate::leads::emerald_of;
+use cave_world::{Cave, Condition, Destination, Motion, Row};
 use std::alloc::{AllocError, Global};
 
 /// Whether no motion goes on past a row but where it fails.
@@ -20,42 +24,134 @@ fn has_to_fail(row: &Row) -> bool
     !matches!(row.destination(), Destination::PutsEmeraldDown)
 }
 
-/// Whether no row that has to fail needs another prop for that than a condition does.
-fn need_one_prop(rows: &[Row], failed: Condition) -> bool
-    ensures { result ≡ need_one_prop (map going rows.now) failed }
+/// What a row asks of the state that a motion began in, before the emerald was put down and after
+/// it.
+fn asked_of(emerald: u16, is_down: bool, row: &Row) -> Condition
+    ensures { result ≡ asked_of emerald is_down (going row.now) }
 {
-    rows.iter().all(|row| !has_to_fail(row) || !ask_for_two_props(failed, row.condition()))
+    if !is_down {
+        return row.condition();
+    }
+    if has_to_fail(row) {
+        with_emerald_here(emerald, row.condition())
+    } else {
+        NEVER
+    }
 }
 
-/// Whether a condition can fail where the rows that have to fail do.
-fn fails_among(rows: &[Row], failed: Condition) -> bool
-    ensures { result ≡ fails_among (map going rows.now) failed }
+/// Whether no row needs another prop for its failure than a condition does.
+fn need_one_prop(emerald: u16, is_down: bool, rows: &[Row], failed: Condition) -> bool
+    ensures { result ≡ list_all (λ row. not (ask_for_two_props failed
+        (asked_of emerald is_down row))) (map going rows.now) }
 {
-    can_fail(failed) && need_one_prop(rows, failed)
+    rows.iter().all(|row| !ask_for_two_props(failed, asked_of(emerald, is_down, row)))
 }
 
-/// Whether a row can fail, with others that have to fail, where a condition holds.
-fn fails_where(held: Condition, row: &Row, rows: &[Row]) -> bool
-    ensures { result ≡ (not (implies held (row_condition (going row.now)))
-        && fails_among (map going rows.now) (row_condition (going row.now))) }
+/// Whether none of the rows does, between which the emerald is put down.
+fn all_need_one_prop(emerald: u16, early: &[Row], late: &[Row], failed: Condition) -> bool
+    ensures { result ≡ list_all (λ other. not (ask_for_two_props failed other))
+        (failed_of emerald (map going early.now) (map going late.now)) }
 {
-    let failed = row.condition();
-    !implies(held, failed) && fails_among(rows, failed)
+    need_one_prop(emerald, false, early, failed) && need_one_prop(emerald, true, late, failed)
 }
 
-/// Whether each row that has to fail can, with all others, where a condition holds.
-fn all_fail_where(held: Condition, rows: &[Row]) -> bool
-    ensures { result ≡ all_fail_where held (map going rows.now) }
+/// Whether a condition can fail where rows fail, between which the emerald is put down.
+fn fails_among(emerald: u16, early: &[Row], late: &[Row], failed: Condition) -> bool
+    ensures { result
+        ≡ fails_among (failed_of emerald (map going early.now) (map going late.now)) failed }
+{
+    can_fail(failed) && all_need_one_prop(emerald, early, late, failed)
+}
+
+/// Whether each of some rows can fail with all.
+fn all_fail_among(emerald: u16, is_down: bool, rows: &[Row], early: &[Row], late: &[Row]) -> bool
+    ensures { result
+        ≡ list_all (λ row. fails_among (failed_of emerald (map going early.now)
+        (map going late.now)) (asked_of emerald is_down row)) (map going rows.now) }
+{
+    rows.iter().all(|row| fails_among(emerald, early, late, asked_of(emerald, is_down, row)))
+}
+
+/// Whether rows fail together, between which the emerald is put down.
+fn fail_together(emerald: u16, early: &[Row], late: &[Row]) -> bool
+    ensures { result
+        ≡ fail_together (failed_of emerald (map going early.now) (map going late.now)) }
+{
+    all_fail_among(emerald, false, early, early, late)
+        && all_fail_among(emerald, true, late, early, late)
+}
+
+/// Whether a condition that holds lets each of some rows fail.
+fn lets_fail(emerald: u16, is_down: bool, rows: &[Row], held: Condition) -> bool
+    ensures { result ≡ list_all (λ row. not (implies held (asked_of emerald is_down row)))
+        (map going rows.now) }
 {
     rows.iter()
-        .all(|row| !has_to_fail(row) || fails_where(held, row, rows))
+        .all(|row| !implies(held, asked_of(emerald, is_down, row)))
 }
 
-/// Whether a condition can hold where the rows that have to fail do.
-fn holds_after(rows: &[Row], held: Condition) -> bool
-    ensures { result ≡ holds_after (map going rows.now) held }
+/// Whether it lets all of the rows fail, between which the emerald is put down.
+fn lets_all_fail(emerald: u16, early: &[Row], late: &[Row], held: Condition) -> bool
+    ensures { result ≡ list_all (λ other. not (implies held other))
+        (failed_of emerald (map going early.now) (map going late.now)) }
 {
-    can_hold(held) && all_fail_where(held, rows)
+    lets_fail(emerald, false, early, held) && lets_fail(emerald, true, late, held)
+}
+
+/// Whether a condition can hold where rows fail, between which the emerald is put down.
+fn holds_where(emerald: u16, early: &[Row], late: &[Row], held: Condition) -> bool
+    ensures { result
+        ≡ holds_where (failed_of emerald (map going early.now) (map going late.now)) held }
+{
+    can_hold(held) && lets_all_fail(emerald, early, late, held)
+}
+
+/// Whether a row can be taken where all rows before it fail. No emerald is put down there.
+fn holds_after(rows: &[Row], row: &Row) -> bool
+    ensures { (emerald : ℕ)
+        → result ≡ holds_after emerald (map going rows.now) (going row.now) }
+{
+    holds_where(0, rows, &[], row.condition()) && fail_together(0, rows, &[])
+}
+
+/// Whether two conditions hold, the one before and the other after the emerald is put down, where
+/// rows fail.
+fn hold_past(emerald: u16, early: &[Row], late: &[Row], first: Condition, last: Condition) -> bool
+    ensures { result ≡ go_together (first ∷ with_emerald_here emerald last ∷ [])
+        (failed_of emerald (map going early.now) (map going late.now)) }
+{
+    holds_where(emerald, early, late, first)
+        && holds_where(emerald, early, late, with_emerald_here(emerald, last))
+        && fail_together(emerald, early, late)
+}
+
+/// Whether a row can be taken where one before it is the first that puts the emerald down.
+fn holds_past(cave: &Cave, early: &[Row], putting: &Row, late: &[Row], row: &Row) -> bool
+    ensures { result ≡ holds_past (emerald_of cave.now) (map going early.now) (going putting.now)
+        (map going late.now) (going row.now) }
+{
+    !has_to_fail(putting)
+        && is_tried_after(early, putting)
+        && hold_past(
+            emerald_of(cave),
+            early,
+            late,
+            putting.condition(),
+            row.condition(),
+        )
+}
+
+/// Whether a row can be taken where some row before it puts the emerald down.
+fn holds_past_some(cave: &Cave, rows: &[Row], row: &Row) -> bool
+    ensures { result
+        ≡ holds_past_some (emerald_of cave.now) [] (map going rows.now) (going row.now) }
+{
+    for (count, putting) in rows.iter().enumerate() {
+        if holds_past(cave, &rows[..count], putting, &rows[count + 1..], row) {
+            return true;
+        }
+    }
+    false
 }
 
 /// Whether a row is tried after others: of neighbours with the same target only the first is.
@@ -71,10 +167,11 @@ fn is_tried_after(rows: &[Row], row: &Row) -> bool
 /// Whether a motion that begins at the first of some rows can come to a row after them, and take
 /// it.
 #[tactic(auto, unfolding(crate::specs::Falls::is_taken_after))]
-fn is_taken_after(rows: &[Row], row: &Row) -> bool
-    ensures { result ≡ is_taken_after (map going rows.now) (going row.now) }
+fn is_taken_after(cave: &Cave, rows: &[Row], row: &Row) -> bool
+    ensures { result
+        ≡ is_taken_after (emerald_of cave.now) (map going rows.now) (going row.now) }
 {
-    is_tried_after(rows, row) && holds_after(rows, row.condition())
+    is_tried_after(rows, row) && (holds_after(rows, row) || holds_past_some(cave, rows, row))
 }
 
 /// Whether some row has to fail before a motion comes past them all.
@@ -119,15 +216,18 @@ fn has_begun(before: &[Row], row: &Row) -> bool
 }
 
 /// Whether some motion comes to a row after others and can take it.
-pub(crate) fn is_reached(before: &[Row], row: &Row) -> bool
-    ensures { result ≡ is_reached [] (map going before.now) (going row.now) }
+pub(crate) fn is_reached(cave: &Cave, before: &[Row], row: &Row) -> bool
+    ensures { result
+        ≡ is_reached (emerald_of cave.now) [] (map going before.now) (going row.now) }
 {
     for first in 0..before.len() {
-        if has_begun(&before[..first], &before[first]) && is_taken_after(&before[first..], row) {
+        if has_begun(&before[..first], &before[first])
+            && is_taken_after(cave, &before[first..], row)
+        {
             return true;
         }
     }
-    has_begun(before, row) && is_taken_after(&[], row)
+    has_begun(before, row) && is_taken_after(cave, &[], row)
 }
 
 /// Whether a motion that comes past rows is named among those that come there later, or first.
@@ -137,61 +237,62 @@ fn is_named(later: bool, rows: &[Row]) -> bool
     is_else(rows) == later
 }
 
-/// Appends the motions that begin at one of some rows and can take the row after them all.
+/// The motions that begin at one of some rows and can take the row after them all.
 #[tactic(auto, unfolding(crate::specs::Falls::motions_from))]
-fn push_motions_from(
+fn motions_from(
     alloc: Global,
+    cave: &Cave,
     later: bool,
     before: &[Row],
     rows: &[Row],
     row: &Row,
-    motions: &mut Vec<u16>,
-) -> Result<(), AllocError>
-    ensures { OnOk result (motions.new.items ≡ motions.old.items
-        ++ motions_from later (map going before.now) (map going rows.now) (going row.now)) }
+) -> Result<Vec<u16>, AllocError>
+    ensures { IfOk result (λ motions. motions.items ≡ motions_from (emerald_of cave.now) later
+        (map going before.now) (map going rows.now) (going row.now)) }
 {
     match rows.first() {
-        Some(first) if is_named(later, rows) && is_taken_after(rows, row) => {
-            motions.extend_from_slice(&motions_begun(alloc, before, first)?)
+        Some(first) if is_named(later, rows) && is_taken_after(cave, rows, row) => {
+            motions_begun(alloc, before, first)
         }
-        _ => Ok(()),
+        _ => Ok(Vec::new(alloc)),
     }
 }
 
-/// Appends the motions that begin at a row and can take it.
+/// The motions that begin at a row and can take it.
 #[tactic(auto, unfolding(crate::specs::Falls::motions_at))]
-fn push_motions_at(
+fn motions_at(
     alloc: Global,
+    cave: &Cave,
     later: bool,
     before: &[Row],
     row: &Row,
-    motions: &mut Vec<u16>,
-) -> Result<(), AllocError>
-    ensures { OnOk result (motions.new.items
-        ≡ motions.old.items ++ motions_at later (map going before.now) (going row.now)) }
+) -> Result<Vec<u16>, AllocError>
+    ensures { IfOk result (λ motions. motions.items
+        ≡ motions_at (emerald_of cave.now) later (map going before.now) (going row.now)) }
 {
-    if later || !is_taken_after(&[], row) {
-        return Ok(());
+    if later || !is_taken_after(cave, &[], row) {
+        return Ok(Vec::new(alloc));
     }
-    motions.extend_from_slice(&motions_begun(alloc, before, row)?)
+    motions_begun(alloc, before, row)
 }
 
 /// The motions that can take a row after others: those that come there past rows that have to
 /// fail, or the others.
 pub fn motions_taking(
     alloc: Global,
+    cave: &Cave,
     later: bool,
     before: &[Row],
     row: &Row,
 ) -> Result<Vec<u16>, AllocError>
-    ensures { IfOk result (λ motions.
-        motions.items ≡ motions_taking later [] (map going before.now) (going row.now)) }
+    ensures { IfOk result (λ motions. motions.items ≡ motions_taking (emerald_of cave.now) later []
+        (map going before.now) (going row.now)) }
 {
     let mut motions = Vec::new(alloc);
     for first in 0..before.len() {
         let (earlier, rows) = before.split_at(first);
-        push_motions_from(alloc, later, earlier, rows, row, &mut motions)?;
+        motions.extend_from_slice(&motions_from(alloc, cave, later, earlier, rows, row)?)?;
     }
-    push_motions_at(alloc, later, before, row, &mut motions)?;
+    motions.extend_from_slice(&motions_at(alloc, cave, later, before, row)?)?;
     Ok(motions)
 }

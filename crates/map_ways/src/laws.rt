@@ -1,7 +1,7 @@
 //! Laws of ways. Each is the contract of a function that does nothing.
 
 ghost use Rattle.map_ways.specs.Laws.{EachPlaceHasOneNode, EachWayHasOneEdge, EndsAreNodes};
-ghost use Rattle.map_ways.specs.Laws.{WhatLeadsIsNamed};
+ghost use Rattle.map_ways.specs.Laws.{LabelsNameWhatLeads, WhatLeadsIsNamed};
 
 /// Each place that has a text, or a way, is once among the places of the map, and no other is.
 pub fn each_place_has_one_node()
@@ -18,7 +18,12 @@ pub fn ends_are_nodes()
     ensures { EndsAreNodes }
 {}
 
-/// Where a motion leads to a place, the label of the edge there names it.
+/// A label names a motion exactly where it leads there in some state, with some draws.
+pub fn labels_name_what_leads()
+    ensures { LabelsNameWhatLeads }
+{}
+
+/// Where a motion leads to a place by the stream, the label of the edge there names it.
 pub fn what_leads_is_named()
     ensures { WhatLeadsIsNamed }
 {}

@@ -4,6 +4,7 @@
 mod conditions;
 pub mod falls;
 pub mod laws;
+mod leads;
 pub mod ways;
 
 pub use cave_world::sight::LIGHT_BIT;

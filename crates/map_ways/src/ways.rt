@@ -4,6 +4,7 @@ ghost use Rattle.std.specs.Prelude.{◌≡◌, ◌≤◌, All, IfOk, [], length,
 ghost use Rattle.std.specs.List.{filter};
 ghost use Rattle.cave_world.specs.data_numbers.Numbers as defined;
 ghost use Rattle.cave_world.specs.data_rows.RowViews.{going};
+ghost use Rattle.map_ways.specs.Leads.{emerald_of};
 ghost use Rattle.map_ways.specs.Ways.{begins_edge, condition_for_player, count_nowhere};
 ghost use Rattle.map_ways.specs.Ways.{ends_of_edges, ends_of_ways, has_way, have_condition};
 ghost use Rattle.map_ways.specs.Ways.{have_one_condition, is_both_ways, is_mapped, is_way, lead_to};
@@ -24,15 +25,15 @@ pub fn ends_at(row: &Row, place: u16) -> bool
 pub fn is_way(cave: &Cave, from: u16, to: u16) -> bool
     ensures { result ≡ is_way cave.now from to }
 {
-    lead_to(cave.travel(from), to)
+    lead_to(cave, cave.travel(from), to)
 }
 
 /// Whether some motion takes one of some rows to a place.
-fn lead_to(rows: &[Row], place: u16) -> bool
-    ensures { result ≡ lead_to place [] (map going rows.now) }
+fn lead_to(cave: &Cave, rows: &[Row], place: u16) -> bool
+    ensures { result ≡ lead_to (emerald_of cave.now) place [] (map going rows.now) }
 {
     for (count, row) in rows.iter().enumerate() {
-        if ends_at(row, place) && is_reached(&rows[..count], row) {
+        if ends_at(row, place) && is_reached(cave, &rows[..count], row) {
             return true;
         }
     }

@@ -1,10 +1,12 @@
 use Rattle.std.proofs.Common.{◌≡◌, [], drop, map, take}
 use Rattle.cave_world.specs.data_rows.RowViews.{going}
 use Rattle.map_ways.specs.Falls.{is_reached}
+use Rattle.map_ways.specs.Leads.{emerald_of}
 use Rattle.map_ways.proofs.falls.is_reached.Given as goal
 
 -- no motion that begins before comes to the row
 abbrev pub invariant-loop-first : goal.invariant-loop-first
 invariant-loop-first l =
-    is_reached (map going (take l.first l.before)) (map going (drop l.first l.before)) (going l.row)
-    ≡ is_reached [] (map going l.before) (going l.row)
+    is_reached (emerald_of l.cave) (map going (take l.first l.before))
+    (map going (drop l.first l.before)) (going l.row)
+    ≡ is_reached (emerald_of l.cave) [] (map going l.before) (going l.row)

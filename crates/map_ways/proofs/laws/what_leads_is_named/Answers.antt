@@ -1,4 +1,4 @@
-use Rattle.map_ways.proofs.Named.{what_leads_is_named}
+use Rattle.map_ways.proofs.LabelLaws.{what_leads_is_named}
 use Rattle.map_ways.proofs.laws.what_leads_is_named.Goals as goal
 
 pub returns : goal.returns

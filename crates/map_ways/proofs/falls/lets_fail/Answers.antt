@@ -1,21 +1,19 @@
 use Rattle.std.proofs.Common.{rules, tests}
-use Rattle.std.specs.Prelude.{◌&&◌, ◌||◌, map, not}
+use Rattle.std.specs.Prelude.{not}
 use Rattle.std.proofs.lemmas.Iterator.{YieldsList-from_slice}
 use Rattle.std.proofs.lemmas.Iterator.Search.{all_from_yields_List}
 use Rattle.cave_world.specs.data_rows.RowViews.{going}
 use Rattle.cave_world.specs.data_rows.Rows.{Going}
 use Rattle.cave_world.specs.data_rows.declared.rows.Row.{Row}
-use Rattle.cave_world.specs.Travel.{row_condition}
 use Rattle.map_ways.specs.Conditions.{implies}
-use Rattle.map_ways.specs.Falls.{fails_among, has_to_fail}
+use Rattle.map_ways.specs.Falls.{asked_of}
 use Rattle.map_ways.proofs.Rows.{all_mapped}
-use Rattle.map_ways.proofs.falls.all_fail_where.Goals as goal
+use Rattle.map_ways.proofs.falls.lets_fail.Goals as goal
 
 pub returns : goal.returns
 returns c =
-    let test = λ (row : Going). not (has_to_fail row)
-    || (not (implies c.args.held (row_condition row))
-    && fails_among (map going c.args.rows.now) (row_condition row)) in
+    let test = λ (row : Going). not (implies c.args.held
+    (asked_of c.args.emerald c.args.is_down row)) in
     all_mapped test going c.args.rows.now _
     (all_from_yields_List (λ (row : Row). test (going row)) _ _ _ c.all.ensures.ran
     (YieldsList-from_slice c.args.rows.now cc) (λ x b q k. search (rules, tests)))

@@ -1,0 +1,20 @@
+use Rattle.std.proofs.Common.{rules, tests}
+use Rattle.std.specs.Prelude.{map}
+use Rattle.std.proofs.lemmas.Iterator.{YieldsList-from_slice}
+use Rattle.std.proofs.lemmas.Iterator.Search.{all_from_yields_List}
+use Rattle.cave_world.specs.data_rows.RowViews.{going}
+use Rattle.cave_world.specs.data_rows.Rows.{Going}
+use Rattle.cave_world.specs.data_rows.declared.rows.Row.{Row}
+use Rattle.map_ways.specs.Conditions.{fails_among}
+use Rattle.map_ways.specs.Falls.{asked_of, failed_of}
+use Rattle.map_ways.proofs.Rows.{all_mapped}
+use Rattle.map_ways.proofs.falls.all_fail_among.Goals as goal
+
+pub returns : goal.returns
+returns c =
+    let test = λ (row : Going). fails_among
+    (failed_of c.args.emerald (map going c.args.early.now) (map going c.args.late.now))
+    (asked_of c.args.emerald c.args.is_down row) in
+    all_mapped test going c.args.rows.now _
+    (all_from_yields_List (λ (row : Row). test (going row)) _ _ _ c.all.ensures.ran
+    (YieldsList-from_slice c.args.rows.now cc) (λ x b q k. search (rules, tests)))
