@@ -1,26 +1,25 @@
 -- What an answer to an open question does.
 use Rattle.std.specs.Prelude.{ℕ, pos, Bool, true, false, ◌||◌, not, if◌then◌else◌, List, [], ◌∷◌}
 use Rattle.std.specs.Prelude.{None, option_map, unwrap_or, codes}
-use Rattle.turn_text.specs.cave_data.CaveView.{CaveView}
 use Rattle.turn_text.specs.data_rows.declared.role.Role.TheVariants as role
-use Rattle.turn_begin.specs.turn_scene.Scene.{Scene, scene_at_start, after_saying, with_state}
-use Rattle.cave_verbs.specs.verb_commands.turn_rules.Rows.{Effect, Row, deed, plain_row, by_table}
-use Rattle.cave_verbs.specs.verb_commands.turn_rules.Rows.{by_table_about}
-use Rattle.cave_verbs.specs.verb_commands.turn_rules.Tests.{either, start}
-use Rattle.cave_verbs.specs.verb_commands.turn_rules.Effects.{say, take_hint, set_charge}
+use Rattle.turn_text.specs.cave_data.CaveView.{CaveView}
 use Rattle.turn_text.specs.cave_words.Words.{is_written, words_of}
 use Rattle.turn_text.specs.cave_world.State.{CLUE_HINT, INSTRUCTIONS_HINT}
 use Rattle.turn_text.specs.cave_world.declared.ending.Ending.TheVariants as ending_is
 use Rattle.turn_text.specs.cave_world.declared.ending.Question.{Question}
+use Rattle.turn_text.specs.cave_world.declared.ending.Question.TheVariants as question
 use Rattle.turn_text.specs.cave_world.declared.state.State.{State}
+use Rattle.turn_begin.specs.turn_scene.Scene.{Scene, scene_at_start, after_saying, with_state}
+use Rattle.cave_verbs.specs.verb_commands.turn_rules.Rows.{Effect, deed, by_table_about, given}
+use Rattle.cave_verbs.specs.verb_commands.turn_rules.Rows.{after_all}
+use Rattle.cave_verbs.specs.verb_commands.turn_rules.Tests.{start}
+use Rattle.cave_verbs.specs.verb_commands.turn_rules.Effects.{say, take_hint, set_charge}
+use Rattle.turn_moves.specs.turn_ends.Endings.{end_as}
+use Rattle.turn_moves.specs.turn_ends.Questions.{is_dragon, after_question}
+use Rattle.turn_hints.specs.Hints.{price_rows, give_rows}
 use Rattle.cave_turn.specs.Dragon.{fight}
 use Rattle.cave_turn.specs.Effects.{arrive}
-use Rattle.turn_moves.specs.turn_ends.Endings.{end_as}
-use Rattle.turn_moves.specs.turn_ends.Questions.{is_welcome, is_quit, is_score_quit, is_die}
-use Rattle.turn_moves.specs.turn_ends.Questions.{is_hint, is_take, is_oyster, is_dragon, asks}
-use Rattle.turn_moves.specs.turn_ends.Questions.{hint_number, after_question}
 use Rattle.cave_turn.specs.Finish.{end_of_turn}
-use Rattle.turn_hints.specs.Hints.{price_rows, give_rows}
 use Rattle.cave_turn.specs.Revival.{come_back, bury}
 use Rattle.cave_turn.specs.declared.answers.Answer.{Answer}
 use Rattle.cave_turn.specs.declared.answers.Answer.TheVariants.{Yes, No, Neither}
@@ -40,46 +39,35 @@ answer_in cave line =
 abbrev pub without_question : State → State
 without_question s = record s { question = None }
 
--- what is done about the hint of the question
-abbrev pub by_hint : List (Row ℕ (Unit {0})) → Effect Question
-by_hint = by_table_about (λ d. hint_number d.about)
+-- how many turns the lamp of a player burns who wants the instructions
+abbrev pub INSTRUCTED_CHARGE : ℕ
+INSTRUCTED_CHARGE = 1000
 
 unfoldable pub give_instructions : List (Effect Question)
 give_instructions =
-    say role.Instructions ∷ take_hint INSTRUCTIONS_HINT ∷ set_charge (pos 1000) ∷ arrive start
-    ∷ []
+    say role.Instructions ∷ take_hint (given INSTRUCTIONS_HINT) ∷ set_charge (pos INSTRUCTED_CHARGE)
+    ∷ arrive start ∷ []
 
 unfoldable pub quit : List (Effect Question)
 quit = say role.Ok ∷ end_as ending_is.Quit ∷ []
 
-unfoldable pub yes_rows : List (Row Question (Unit {0}))
-yes_rows =
-    plain_row (asks is_welcome ∷ []) give_instructions
-    ∷ plain_row (either (asks is_quit) (asks is_score_quit) ∷ []) quit
-    ∷ plain_row (asks is_die ∷ []) come_back
-    ∷ plain_row (asks is_hint ∷ []) (by_hint price_rows ∷ [])
-    ∷ plain_row (asks is_take ∷ []) (by_hint give_rows ∷ [])
-    ∷ plain_row (asks is_oyster ∷ []) (say role.OysterHint ∷ take_hint CLUE_HINT ∷ [])
-    ∷ plain_row (asks is_dragon ∷ []) fight
-    ∷ []
-
--- a player who doesn't fight the dragon commands something else
-unfoldable pub no_rows : List (Row Question (Unit {0}))
-no_rows =
-    plain_row (asks is_welcome ∷ []) (arrive start ∷ [])
-    ∷ plain_row (either (asks is_quit) (asks is_score_quit) ∷ []) (say role.Ok ∷ [])
-    ∷ plain_row (asks is_die ∷ []) bury
-    ∷ plain_row (asks is_hint ∷ []) (say role.Ok ∷ [])
-    ∷ plain_row (asks is_take ∷ []) (say role.Ok ∷ [])
-    ∷ plain_row (asks is_oyster ∷ []) (say role.Ok ∷ [])
-    ∷ plain_row (asks is_dragon ∷ []) []
-    ∷ []
+-- what yes does, and what no does; a player who doesn't fight the dragon commands something else
+abbrev pub answers_to : Question → List (Effect Question) × List (Effect Question)
+answers_to question.Welcome = (give_instructions, arrive start ∷ [])
+answers_to question.Quit = (quit, say role.Ok ∷ [])
+answers_to question.ScoreQuit = (quit, say role.Ok ∷ [])
+answers_to question.Die = (come_back, bury)
+answers_to (question.Hint h) = (by_table_about (given h) price_rows ∷ [], say role.Ok ∷ [])
+answers_to (question.Take h) = (by_table_about (given h) give_rows ∷ [], say role.Ok ∷ [])
+answers_to question.Oyster =
+    (say role.OysterHint ∷ take_hint (given CLUE_HINT) ∷ [], say role.Ok ∷ [])
+answers_to question.Dragon = (fight, [])
 
 abbrev pub after_yes : CaveView → Question → Scene → Scene
-after_yes cave q p = (by_table yes_rows (deed cave q p)).scene
+after_yes cave q p = (after_all (answers_to q).0 (deed cave q p)).scene
 
 abbrev pub after_no : CaveView → Question → Scene → Scene
-after_no cave q p = (by_table no_rows (deed cave q p)).scene
+after_no cave q p = (after_all (answers_to q).1 (deed cave q p)).scene
 
 -- what is neither leaves the question open, and its message is said again
 abbrev pub reply_scene : CaveView → Question → Answer → Scene → Scene
@@ -89,7 +77,9 @@ reply_scene cave q Neither p = after_question cave q (after_saying role.Answer p
 
 -- a hint that is offered, or its price
 abbrev pub is_of_hint : Question → Bool
-is_of_hint q = is_hint q || is_take q
+is_of_hint (question.Hint h) = true
+is_of_hint (question.Take h) = true
+is_of_hint _ = false
 
 -- an answer about a hint doesn't end the turn as other answers do
 abbrev pub end_of_answer : CaveView → Question → Scene → Scene
@@ -101,10 +91,9 @@ after_answer cave q line s =
 
 abbrev pub is_yes : Answer → Bool
 is_yes Yes = true
-is_yes No = false
-is_yes Neither = false
+is_yes _ = false
 
--- any line but yes is a command where the player is asked whether to fight the dragon with bare
--- hands
+-- a line answers a question; to the one whether to fight the dragon with bare hands only yes is an
+-- answer, and any other line is a command
 abbrev pub answers : CaveView → List ℕ → Question → Bool
-answers cave line question = not (is_dragon question) || is_yes (answer_in cave line)
+answers cave line asked = not (is_dragon asked) || is_yes (answer_in cave line)

@@ -2,24 +2,8 @@
 use Rattle.std.specs.Prelude.{ℕ, pos, ◌-ℤ◌, Bool, ◌==◌, if◌then◌else◌, List, [], ◌∷◌, Option, Some}
 use Rattle.std.specs.Prelude.{None}
 use Rattle.std.specs.Int.{int_min}
-use Rattle.turn_text.specs.cave_data.CaveView.{CaveView}
 use Rattle.turn_text.specs.data_rows.declared.role.Role.TheVariants as role
-use Rattle.turn_moves.specs.Arrival.{after_arrival, description_anew}
-use Rattle.turn_moves.specs.Journeys.{journey_by_request}
-use Rattle.turn_begin.specs.turn_scene.Scene.{Scene, scene_at_start, after_telling, after_saying}
-use Rattle.turn_begin.specs.turn_scene.Scene.{with_state, after_draw, happens, thing}
-use Rattle.cave_verbs.specs.Acting.{act, next_of_step}
-use Rattle.cave_verbs.specs.verb_commands.Rows.{command_of}
-use Rattle.cave_verbs.specs.verb_commands.turn_rules.Rows.{Act, Test, Row, act_of, deed, plain_row}
-use Rattle.cave_verbs.specs.verb_commands.turn_rules.Rows.{chance_row, by_table}
-use Rattle.cave_verbs.specs.verb_commands.turn_rules.Tests.{percent}
-use Rattle.cave_verbs.specs.verb_commands.turn_rules.Effects.{say}
-use Rattle.cave_verbs.specs.verb_commands.Effects.{after_default}
-use Rattle.cave_verbs.specs.verb_commands.Verbs.{verb_number, verb_of}
-use Rattle.cave_verbs.specs.verb_commands.declared.next.Next.{Next}
-use Rattle.cave_verbs.specs.verb_commands.declared.next.Next.TheVariants as next_is
-use Rattle.cave_verbs.specs.verb_commands.declared.command.Command.{Command}
-use Rattle.cave_verbs.specs.verb_commands.declared.verb.Verb.{Verb}
+use Rattle.turn_text.specs.cave_data.CaveView.{CaveView}
 use Rattle.turn_text.specs.cave_words.Words.{words_of}
 use Rattle.turn_text.specs.cave_words.declared.named.Named.TheVariants as name
 use Rattle.turn_text.specs.cave_words.declared.words.Words.{Words}
@@ -27,35 +11,50 @@ use Rattle.turn_text.specs.cave_world.Sight.{dark}
 use Rattle.turn_text.specs.cave_world.declared.dwarves.Knife.{Knife}
 use Rattle.turn_text.specs.cave_world.declared.dwarves.Knife.TheVariants as knife
 use Rattle.turn_text.specs.cave_world.declared.state.State.{State}
+use Rattle.turn_text.specs.cave_world.declared.ending.Ending.TheVariants.{Quit}
+use Rattle.turn_text.specs.cave_world.declared.part.Part.TheVariants as part
+use Rattle.turn_text.specs.cave_world.declared.part.WordLine.TheVariants as line
+use Rattle.turn_moves.specs.turn_ends.Endings.{after_end}
+use Rattle.turn_moves.specs.turn_ends.Questions.{after_ask}
+use Rattle.turn_moves.specs.Arrival.{after_arrival, description_anew}
+use Rattle.turn_moves.specs.Journeys.{journey_by_request}
+use Rattle.turn_begin.specs.turn_scene.Scene.{Scene, scene_at_start, after_telling, after_saying}
+use Rattle.turn_begin.specs.turn_scene.Scene.{with_state, after_draw, happens, thing}
+use Rattle.turn_begin.specs.turn_things.Effects.{with_talk, with_dwarves}
+use Rattle.cave_verbs.specs.verb_commands.turn_rules.Rows.{Act, Row, act_of, deed, plain_row}
+use Rattle.cave_verbs.specs.verb_commands.turn_rules.Rows.{chance_row, by_table, otherwise}
+use Rattle.cave_verbs.specs.verb_commands.turn_rules.Tests.{percent}
+use Rattle.cave_verbs.specs.verb_commands.turn_rules.Effects.{say}
+use Rattle.cave_verbs.specs.verb_commands.Rows.{command_of}
+use Rattle.cave_verbs.specs.verb_commands.Effects.{after_default}
+use Rattle.cave_verbs.specs.verb_commands.Verbs.{verb_of}
+use Rattle.cave_verbs.specs.verb_commands.declared.next.Next.{Next}
+use Rattle.cave_verbs.specs.verb_commands.declared.next.Next.TheVariants as next_is
+use Rattle.cave_verbs.specs.verb_commands.declared.command.Command.{Command}
+use Rattle.cave_verbs.specs.verb_commands.declared.verb.Verb.{Verb}
+use Rattle.cave_verbs.specs.Acting.{act, next_of_step}
 use Rattle.turn_clocks.specs.Clocks.{run_clocks}
 use Rattle.turn_clocks.specs.declared.clocks.Clocks.{Clocks}
 use Rattle.turn_clocks.specs.declared.clocks.Clocks.TheVariants as clocks
-use Rattle.turn_moves.specs.turn_ends.Endings.{after_end}
-use Rattle.turn_moves.specs.turn_ends.Questions.{after_ask}
 use Rattle.cave_turn.specs.Finish.{end_of_turn}
-use Rattle.turn_text.specs.cave_world.declared.ending.Ending.TheVariants.{Quit}
 use Rattle.cave_turn.specs.Request.{read_words}
-use Rattle.turn_text.specs.cave_world.declared.part.Part.TheVariants as part
-use Rattle.turn_text.specs.cave_world.declared.part.WordLine.TheVariants as line
 use Rattle.cave_turn.specs.declared.request.HalfCommand.{HalfCommand}
 use Rattle.cave_turn.specs.declared.request.Request.{Request}
 use Rattle.cave_turn.specs.declared.request.Request.TheVariants as request
 use Rattle.cave_turn.specs.declared.request.Understood.{Understood}
 
--- the magic words go on from where the last command left them, and stop where it left them twice
+-- a magic word waits for the command after it, and where that says none, the words begin anew
 abbrev pub with_magic_waiting : State → State
 with_magic_waiting s =
-    let talk = s.talk in
-    record s { talk = record talk { magic = int_min (pos 0) (pos 0 -ℤ talk.magic) } }
+    with_talk (record (s.talk) { magic = int_min (pos 0) (pos 0 -ℤ s.talk.magic) }) s
 
 -- a knife that was thrown elsewhere is forgotten
 abbrev pub knife_here : ℕ → Knife → Knife
-knife_here here knife.Unthrown = knife.Unthrown
-knife_here here knife.Vanished = knife.Vanished
 knife_here here (knife.At place) = if place == here then knife.At place else knife.Unthrown
+knife_here here other = other
 
 abbrev pub with_knife : Knife → State → State
-with_knife k s = let dwarves = s.dwarves in record s { dwarves = record dwarves { knife = k } }
+with_knife k s = with_dwarves (record (s.dwarves) { knife = k }) s
 
 unfoldable pub begin_command : State → State
 begin_command s =
@@ -65,17 +64,12 @@ unfoldable pub after_travel : CaveView → ℕ → Scene → Scene
 after_travel cave motion p =
     let j = journey_by_request cave motion p in after_arrival cave j.step j.scene
 
--- what came of the draw before
-abbrev pub first_happens : Test Bool
-first_happens d = d.about
-
--- what is said of a word that the cave doesn't have
+-- what is said of a word that the cave doesn't have, by two draws, of which the first was made
 unfoldable pub puzzle_rows : List (Row Bool (Unit {0}))
 puzzle_rows =
     chance_row [] (percent 20) (say role.NoWord3 ∷ [])
-    ∷ plain_row (first_happens ∷ []) (say role.NoWord2 ∷ [])
-    ∷ plain_row [] (say role.NoWord ∷ [])
-    ∷ []
+    ∷ plain_row ((λ d. d.about) ∷ []) (say role.NoWord2 ∷ [])
+    ∷ otherwise (say role.NoWord ∷ [])
 
 -- a draw is made before, whatever comes of it
 unfoldable pub after_puzzle : CaveView → Scene → Scene
@@ -86,78 +80,70 @@ after_vanished_knives p = after_saying role.Knife (with_state (with_knife knife.
 
 -- what follows what a verb did
 abbrev pub next_scene : CaveView → Next → Scene → Scene
-next_scene cave next_is.Stay p = p
-next_scene cave next_is.Keep p = p
 next_scene cave next_is.Describe p = description_anew cave p
 next_scene cave (next_is.Arrive place) p = after_arrival cave place p
 next_scene cave (next_is.Ask question) p = after_ask cave question p
 next_scene cave (next_is.End how) p = after_end cave how p
-
--- what a line has done; what follows is the half command that it leaves for the next one
-abbrev pub WordsDone : Type 0
-WordsDone = Act (Option HalfCommand)
-
--- a verb that asks what it is to be done to is kept alone
-abbrev pub half_command_kept : Next → ℕ → Option HalfCommand
-half_command_kept next_is.Keep v = Some (record { verb = Some v; object = 0 })
-half_command_kept _ v = None
+next_scene cave _ p = p
 
 -- a verb is done by the first of its rows that fits, and then what follows
-unfoldable pub words_done_by_verb : CaveView → Command → Scene → WordsDone
-words_done_by_verb cave command p =
-    let a = act cave command p in
-    let next = next_of_step a.step in
-    act_of (next_scene cave next a.scene) (half_command_kept next (verb_number command.verb))
+unfoldable pub done_by_verb : CaveView → Command → Scene → Act Next
+done_by_verb cave command p =
+    let a = act cave command p in let next = next_of_step a.step in
+    act_of (next_scene cave next a.scene) next
 
 -- an action that has rules is done by them; of another it is said what the cave says of it
-abbrev pub words_done_by_action : CaveView → Option Verb → ℕ → ℕ → List ℕ → Scene → WordsDone
-words_done_by_action cave (Some v) number x word p =
-    words_done_by_verb cave (command_of v x word) p
-words_done_by_action cave None number x word p = act_of (after_default cave number p) None
+abbrev pub done_by_action : CaveView → Option Verb → ℕ → ℕ → List ℕ → Scene → Act Next
+done_by_action cave (Some v) number x word p = done_by_verb cave (command_of v x word) p
+done_by_action cave None number x word p = act_of (after_default cave number p) next_is.Stay
 
--- what was read is done. After an unknown word, or where a verb is missing, the half command stays
--- as it then is
-abbrev pub words_done_by_request : CaveView → HalfCommand → Request → Scene → WordsDone
-words_done_by_request cave half request.Unknown p = act_of (after_puzzle cave p) (Some half)
-words_done_by_request cave half (request.Motion motion) p =
-    act_of (after_travel cave motion p) None
-words_done_by_request cave half (request.Tell told) p = act_of (after_telling told p) None
-words_done_by_request cave half request.Knives p = act_of (after_vanished_knives p) None
-words_done_by_request cave half (request.Act number x word) p =
-    words_done_by_action cave (verb_of number) number x word p
-words_done_by_request cave half (request.WhatToDo word) p =
-    act_of (after_telling (part.Word line.WhatToDo word) p) (Some half)
+-- what was read is done
+abbrev pub done_by_request : CaveView → Request → Scene → Act Next
+done_by_request cave request.Unknown p = act_of (after_puzzle cave p) next_is.Stay
+done_by_request cave (request.Motion motion) p = act_of (after_travel cave motion p) next_is.Stay
+done_by_request cave (request.Tell told) p = act_of (after_telling told p) next_is.Stay
+done_by_request cave request.Knives p = act_of (after_vanished_knives p) next_is.Stay
+done_by_request cave (request.Act number x word) p =
+    done_by_action cave (verb_of number) number x word p
+done_by_request cave (request.WhatToDo word) p =
+    act_of (after_telling (part.Word line.WhatToDo word) p) next_is.Stay
+
+-- what is kept for the next command: the verb that asks what it is to be done to, or what was said
+-- so far where the verb is missing or a word isn't known
+abbrev pub half_command_kept : Request → Next → HalfCommand → Option HalfCommand
+half_command_kept (request.Act number x word) next_is.Keep half =
+    Some (record { verb = Some number; object = 0 })
+half_command_kept (request.WhatToDo word) next half = Some half
+half_command_kept request.Unknown next half = Some half
+half_command_kept _ next half = None
 
 -- what is kept is remembered; where nothing is, the object that was read is the last one
 abbrev pub after_remembering : Option HalfCommand → ℕ → State → State
-after_remembering None x s =
-    let talk = s.talk in record s { talk = record talk { verb = None; object = 0; last = x } }
+after_remembering None x s = with_talk (record (s.talk) { verb = None; object = 0; last = x }) s
 after_remembering (Some half) x s =
-    let talk = s.talk in record s { talk = record talk { verb = half.verb; object = half.object } }
+    with_talk (record (s.talk) { verb = half.verb; object = half.object }) s
 
-unfoldable pub kept_scene : ℕ → WordsDone → Scene
-kept_scene x d = with_state (after_remembering d.step x d.scene.state) d.scene
+unfoldable pub kept_scene : Option HalfCommand → ℕ → Scene → Scene
+kept_scene kept x p = with_state (after_remembering kept x p.state) p
 
 unfoldable pub scene_of_understood : CaveView → Understood → Scene → Scene
 scene_of_understood cave u p =
-    kept_scene u.half.object (words_done_by_request cave u.half u.request p)
+    let done = done_by_request cave u.request p in
+    kept_scene (half_command_kept u.request done.step u.half) u.half.object done.scene
 
 -- an input line has a first word
-abbrev pub scene_of_words : CaveView → Words → Scene → Scene
-scene_of_words cave words p =
-    elim words.first as (λ _. Scene) [
-      | None ↦ p
-      | Some word ↦ scene_of_understood cave (read_words cave word words.second p) p
-    ]
+abbrev pub scene_of_words : CaveView → Option (List ℕ) → Option (List ℕ) → Scene → Scene
+scene_of_words cave None next p = p
+scene_of_words cave (Some word) next p = scene_of_understood cave (read_words cave word next p) p
 
 -- a command that isn't read leaves nothing for the next line
 abbrev pub unread_scene : Scene → Scene
-unread_scene p = kept_scene 0 (act_of p None)
+unread_scene p = kept_scene None 0 p
 
 -- what the clocks leave of a command: it is read, or the player gave up, or is where the cave
 -- closed
 abbrev pub after_clocks : CaveView → Words → Clocks → Scene → Scene
-after_clocks cave words clocks.GoOn p = scene_of_words cave words p
+after_clocks cave words clocks.GoOn p = scene_of_words cave words.first words.second p
 after_clocks cave words clocks.GaveUp p = unread_scene (after_end cave Quit p)
 after_clocks cave words (clocks.Closed place) p = unread_scene (after_arrival cave place p)
 

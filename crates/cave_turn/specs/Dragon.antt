@@ -3,17 +3,16 @@ use Rattle.std.specs.Prelude.{ℕ, zero, suc, ◌+◌, ◌/◌, Bool, ◌==◌, 
 use Rattle.std.specs.Prelude.{List, [], ◌∷◌}
 use Rattle.turn_text.specs.data_numbers.Numbers.{LAST_OBJECT}
 use Rattle.turn_text.specs.cave_data.CaveView.{CaveView}
+use Rattle.turn_text.specs.cave_words.declared.named.Named.TheVariants as name
+use Rattle.turn_text.specs.world_objects.Objects.{Layout, after_move_to, is_first_at}
+use Rattle.turn_text.specs.cave_world.declared.ending.Question.{Question}
 use Rattle.turn_begin.specs.turn_scene.Scene.{thing}
-use Rattle.turn_begin.specs.turn_things.Effects.{with_objects}
 use Rattle.turn_begin.specs.turn_things.Homes.{home, second_home}
 use Rattle.turn_begin.specs.turn_things.Props.{DRAGON_DEAD, DRAGON_DYING, RUG_FREE}
 use Rattle.cave_verbs.specs.verb_commands.turn_rules.Rows.{Deed, Effect}
 use Rattle.cave_verbs.specs.verb_commands.turn_rules.Tests.{the, here}
-use Rattle.cave_verbs.specs.verb_commands.turn_rules.Effects.{in_state, look, set_prop, fix, loosen}
-use Rattle.cave_verbs.specs.verb_commands.turn_rules.Effects.{move}
-use Rattle.turn_text.specs.cave_words.declared.named.Named.TheVariants as name
-use Rattle.turn_text.specs.world_objects.Objects.{Layout, after_move_to, is_first_at}
-use Rattle.turn_text.specs.cave_world.declared.ending.Question.{Question}
+use Rattle.cave_verbs.specs.verb_commands.turn_rules.Effects.{look, set_prop, fix, loosen, move}
+use Rattle.cave_verbs.specs.verb_commands.turn_rules.Effects.{in_objects}
 use Rattle.cave_turn.specs.Effects.{arrive, stand}
 
 -- between two places; where one is none, the other; where both are none, here
@@ -47,8 +46,7 @@ after_gathering cave place (suc n) o =
 -- all that is by the dragon is moved to one place
 abbrev pub gather : (Deed Question → ℕ) → Effect Question
 gather place d =
-    in_state (with_objects (after_gathering d.cave (place d) LAST_OBJECT d.scene.state.objects)
-    d.scene.state) d
+    in_objects (after_gathering d.cave (place d) LAST_OBJECT d.scene.state.objects) d
 
 -- the dragon is dead, its rug is loose beside it, and all that was there is where the player is
 unfoldable pub fight : List (Effect Question)

@@ -3,24 +3,24 @@ use Rattle.std.specs.Prelude.{ℕ, pos, ◌-ℤ◌, Bool, ◌&&◌, if◌then◌
 use Rattle.std.specs.Prelude.{◌∷◌}
 use Rattle.turn_text.specs.data_numbers.Numbers.{LAST_OBJECT}
 use Rattle.turn_text.specs.cave_data.CaveView.{CaveView}
-use Rattle.turn_begin.specs.turn_things.Effects.{with_objects}
-use Rattle.turn_begin.specs.turn_things.Props.{OYSTER_WRITTEN_ON, UNSEEN}
-use Rattle.turn_begin.specs.turn_scene.Scene.{Scene}
-use Rattle.turn_hints.specs.Hints.{after_hints}
-use Rattle.cave_verbs.specs.verb_commands.turn_rules.Rows.{Test, Effect, Thing, Row, deed}
-use Rattle.cave_verbs.specs.verb_commands.turn_rules.Rows.{plain_row, by_table}
-use Rattle.cave_verbs.specs.verb_commands.turn_rules.Tests.{the, no, cave_closed, over}
-use Rattle.cave_verbs.specs.verb_commands.turn_rules.Effects.{look, change, follow}
 use Rattle.turn_text.specs.cave_words.declared.named.Named.TheVariants as name
 use Rattle.turn_text.specs.world_objects.Objects.{Layout, is_carried, prop_of, with_prop}
 use Rattle.turn_text.specs.cave_world.declared.state.State.{State}
+use Rattle.turn_begin.specs.turn_scene.Scene.{Scene}
+use Rattle.turn_begin.specs.turn_things.Effects.{with_objects}
+use Rattle.turn_begin.specs.turn_things.Props.{OYSTER_WRITTEN_ON, UNSEEN}
+use Rattle.turn_hints.specs.Hints.{after_hints}
+use Rattle.cave_verbs.specs.verb_commands.turn_rules.Rows.{Test, Thing, Row, deed, plain_row}
+use Rattle.cave_verbs.specs.verb_commands.turn_rules.Rows.{by_table}
+use Rattle.cave_verbs.specs.verb_commands.turn_rules.Tests.{the, no, cave_closed, over}
+use Rattle.cave_verbs.specs.verb_commands.turn_rules.Effects.{look, change, follow}
 
 -- an object that is carried and shows nothing yet
 abbrev pub is_hidden_in_hand : Layout → ℕ → Bool
 is_hidden_in_hand o x = is_carried o x && int_lt (prop_of o x) (pos 0)
 
-abbrev pub hidden_in_hand : Thing (Unit {0}) → Test (Unit {0})
-hidden_in_hand t d = is_hidden_in_hand d.scene.state.objects (t d)
+abbrev pub hides : Thing (Unit {0}) → Test (Unit {0})
+hides t d = is_hidden_in_hand d.scene.state.objects (t d)
 
 -- an object in the hand shows what it is: prop v below 0 becomes -1 - v
 unfoldable pub layout_with_object_shown : ℕ → Layout → Layout
@@ -36,15 +36,12 @@ layout_with_shown_up_to (suc n) o = layout_with_object_shown (suc n) (layout_wit
 abbrev pub with_objects_shown : State → State
 with_objects_shown s = with_objects (layout_with_shown_up_to LAST_OBJECT s.objects) s
 
-abbrev pub show_objects : Effect (Unit {0})
-show_objects d = change with_objects_shown d
-
 -- in a closed cave all that is carried shows itself, the oyster first what is written under it
 unfoldable pub hands_rows : List (Row (Unit {0}) (Unit {0}))
 hands_rows =
-    plain_row (cave_closed ∷ hidden_in_hand (the name.Oyster) ∷ [])
-    (look (the name.Oyster) OYSTER_WRITTEN_ON ∷ show_objects ∷ [])
-    ∷ plain_row (cave_closed ∷ []) (show_objects ∷ [])
+    plain_row (cave_closed ∷ hides (the name.Oyster) ∷ [])
+    (look (the name.Oyster) OYSTER_WRITTEN_ON ∷ change with_objects_shown ∷ [])
+    ∷ plain_row (cave_closed ∷ []) (change with_objects_shown ∷ [])
     ∷ []
 
 -- after a question or the end of the game nothing more is done

@@ -1,15 +1,15 @@
 -- What a word says that names an object.
-use Rattle.std.specs.Prelude.{ℕ, Bool, false, ◌==◌, List, [], ◌∷◌, Option, Some, None}
+use Rattle.std.specs.Prelude.{ℕ, Bool, false, ◌==◌, [], ◌∷◌, Option, Some, None}
 use Rattle.turn_begin.specs.turn_scene.Scene.{is_called}
 use Rattle.turn_begin.specs.turn_things.Props.{PLANT_SMALL}
-use Rattle.cave_verbs.specs.verb_commands.Verbs.{verb_number}
-use Rattle.cave_verbs.specs.verb_commands.declared.verb.Verb.{Verb}
-use Rattle.cave_verbs.specs.verb_commands.declared.verb.Verb.TheVariants as verb
-use Rattle.cave_verbs.specs.verb_commands.turn_rules.Rows.{Deed, Test, Thing, Row, answer_row}
-use Rattle.cave_verbs.specs.verb_commands.turn_rules.Rows.{answer_by_rows}
+use Rattle.cave_verbs.specs.verb_commands.turn_rules.Rows.{Deed, Test, Thing, answer_row}
+use Rattle.cave_verbs.specs.verb_commands.turn_rules.Rows.{answer_by_rows, always, otherwise_row}
 use Rattle.cave_verbs.specs.verb_commands.turn_rules.Tests.{the, either, both, in_hand, near}
 use Rattle.cave_verbs.specs.verb_commands.turn_rules.Tests.{is_here, other_prop, dwarf, in_bottle}
 use Rattle.cave_verbs.specs.verb_commands.turn_rules.Tests.{in_lake, at_one_of, at_from_to}
+use Rattle.cave_verbs.specs.verb_commands.Verbs.{verb_number}
+use Rattle.cave_verbs.specs.verb_commands.declared.verb.Verb.{Verb}
+use Rattle.cave_verbs.specs.verb_commands.declared.verb.Verb.TheVariants as verb
 use Rattle.turn_text.specs.cave_words.declared.named.Named.{Named}
 use Rattle.turn_text.specs.cave_words.declared.named.Named.TheVariants as name
 use Rattle.turn_text.specs.cave_world.Motions.{motion_number}
@@ -21,24 +21,20 @@ use Rattle.cave_turn.specs.declared.object_words.NamedObject.{NamedObject}
 use Rattle.cave_turn.specs.declared.object_words.ObjectWord.{ObjectWord}
 use Rattle.cave_turn.specs.declared.object_words.ObjectWord.TheVariants.{Is, Leads, Knives, Unseen}
 
-abbrev pub named_object : ℕ → Option ℕ → Bool → NamedObject
-named_object x v is_alone = record { object = x; verb = v; is_alone = is_alone }
-
 -- the object
-abbrev pub it : Thing NamedObject
-it d = d.about.object
+abbrev pub object : Thing NamedObject
+object d = d.about.object
 
-abbrev pub is_it : Named → Test NamedObject
-is_it n d = is_called d.cave d.about.object n
+abbrev pub word_names : Named → Test NamedObject
+word_names n d = is_called d.cave d.about.object n
 
 abbrev pub is_knife_at : ℕ → Knife → Bool
-is_knife_at here knife.Unthrown = false
-is_knife_at here knife.Vanished = false
 is_knife_at here (knife.At place) = place == here
+is_knife_at here _ = false
 
 -- a knife was thrown here
-abbrev pub thrown_here : Test NamedObject
-thrown_here d = is_knife_at d.scene.state.trail.here d.scene.state.dwarves.knife
+abbrev pub is_knife_here : Test NamedObject
+is_knife_here d = is_knife_at d.scene.state.trail.here d.scene.state.dwarves.knife
 
 -- the verb is one with rules of its own
 abbrev pub is_verb_of : Verb → Option ℕ → Bool
@@ -60,29 +56,20 @@ stands_for t d = Is (t d)
 abbrev pub leads : Motion → Deed NamedObject → ObjectWord
 leads m d = Leads (motion_number m)
 
-abbrev pub stands_for_knives : Deed NamedObject → ObjectWord
-stands_for_knives d = Knives
-
-abbrev pub stands_for_nothing : Deed NamedObject → ObjectWord
-stands_for_nothing d = Unseen
-
 -- what the word of an object says
-unfoldable pub object_word_rows : List (Row NamedObject ObjectWord)
-object_word_rows =
-    answer_row (either (is_here it) (in_hand it) ∷ []) (stands_for it)
-    ∷ answer_row (is_it name.Grate ∷ at_one_of (1 ∷ 4 ∷ 7 ∷ []) ∷ []) (leads motion.Depression)
-    ∷ answer_row (is_it name.Grate ∷ at_from_to 10 14 ∷ []) (leads motion.Entrance)
-    ∷ answer_row (is_it name.Dwarf ∷ dwarf ∷ []) (stands_for it)
-    ∷ answer_row (either (both (in_bottle it) (near (the name.Bottle))) (in_lake it) ∷ [])
-    (stands_for it)
-    ∷ answer_row (is_it name.Plant ∷ is_here (the name.SecondPlant)
+unfoldable pub object_word : Deed NamedObject → ObjectWord
+object_word d = answer_by_rows
+    (answer_row (either (is_here object) (in_hand object) ∷ []) (stands_for object)
+    ∷ answer_row (word_names name.Grate ∷ at_one_of (1 ∷ 4 ∷ 7 ∷ []) ∷ []) (leads motion.Depression)
+    ∷ answer_row (word_names name.Grate ∷ at_from_to 10 14 ∷ []) (leads motion.Entrance)
+    ∷ answer_row (word_names name.Dwarf ∷ dwarf ∷ []) (stands_for object)
+    ∷ answer_row (either (both (in_bottle object) (near (the name.Bottle))) (in_lake object) ∷ [])
+    (stands_for object)
+    ∷ answer_row (word_names name.Plant ∷ is_here (the name.SecondPlant)
     ∷ other_prop (the name.SecondPlant) PLANT_SMALL ∷ []) (stands_for (the name.SecondPlant))
-    ∷ answer_row (is_it name.Knife ∷ thrown_here ∷ []) stands_for_knives
-    ∷ answer_row (is_it name.Rod ∷ near (the name.SecondRod) ∷ []) (stands_for (the name.SecondRod))
+    ∷ answer_row (word_names name.Knife ∷ is_knife_here ∷ []) (always Knives)
+    ∷ answer_row (word_names name.Rod ∷ near (the name.SecondRod) ∷ [])
+    (stands_for (the name.SecondRod))
     ∷ answer_row (either (by_verb verb.Find) (by_verb verb.Inventory) ∷ alone ∷ [])
-    (stands_for it)
-    ∷ answer_row [] stands_for_nothing
-    ∷ []
-
-abbrev pub object_word : Deed NamedObject → ObjectWord
-object_word d = answer_by_rows object_word_rows stands_for_nothing d
+    (stands_for object) ∷ [])
+    (otherwise_row [] (always Unseen)) d

@@ -1,31 +1,32 @@
 -- What the words of a line say, with what was said before.
-use Rattle.std.specs.Prelude.{ℕ, Bool, true, false, ◌==◌, codes, List, [], ◌∷◌, Option, Some}
-use Rattle.std.specs.Prelude.{None, is_some, option_map, unwrap_or}
-use Rattle.turn_text.specs.cave_data.CaveView.{CaveView}
+use Rattle.std.specs.Prelude.{ℕ, Bool, true, false, ◌==◌, codes, List, [], ◌∷◌, Option, Some, None}
+use Rattle.std.specs.Prelude.{is_some, option_map, unwrap_or}
 use Rattle.turn_text.specs.data_rows.declared.role.Role.{Role}
 use Rattle.turn_text.specs.data_rows.declared.role.Role.TheVariants as role
-use Rattle.turn_begin.specs.turn_scene.Scene.{Scene, or_no_object}
-use Rattle.cave_verbs.specs.verb_commands.Verbs.{verb_number}
-use Rattle.cave_verbs.specs.verb_commands.declared.verb.Verb.{Verb}
-use Rattle.cave_verbs.specs.verb_commands.declared.verb.Verb.TheVariants as verb
-use Rattle.cave_verbs.specs.verb_commands.turn_rules.Rows.{Deed, Test, Effect, Row, deed, row_then}
-use Rattle.cave_verbs.specs.verb_commands.turn_rules.Rows.{answer_row, answer_by_rows}
-use Rattle.cave_verbs.specs.verb_commands.turn_rules.Tests.{the, no, either, both, is_here, in_lake}
+use Rattle.turn_text.specs.cave_data.CaveView.{CaveView}
 use Rattle.turn_text.specs.cave_words.Meanings.{meaning, same_class}
 use Rattle.turn_text.specs.cave_words.Words.{is_written, word_of}
 use Rattle.turn_text.specs.cave_words.declared.meaning.Class.{Class}
 use Rattle.turn_text.specs.cave_words.declared.meaning.Class.TheVariants as class
 use Rattle.turn_text.specs.cave_words.declared.meaning.Meaning.{Meaning}
 use Rattle.turn_text.specs.cave_words.declared.named.Named.TheVariants as name
-use Rattle.turn_text.specs.cave_world.Motions.{motion_number}
 use Rattle.turn_text.specs.cave_world.declared.motion.Motion.{Motion as NamedMotion}
+use Rattle.turn_text.specs.cave_world.Motions.{motion_number}
 use Rattle.turn_text.specs.cave_world.declared.motion.Motion.TheVariants as motion
 use Rattle.turn_text.specs.cave_world.declared.part.Part.TheVariants as part
 use Rattle.turn_text.specs.cave_world.declared.part.WordLine.TheVariants as line
 use Rattle.turn_text.specs.cave_world.declared.talk.Talk.{Talk}
-use Rattle.cave_turn.specs.ObjectWords.{named_object, is_verb_of, object_word}
+use Rattle.turn_begin.specs.turn_scene.Scene.{Scene, or_no_object}
+use Rattle.cave_verbs.specs.verb_commands.turn_rules.Rows.{Deed, Test, Effect, deed, row_then}
+use Rattle.cave_verbs.specs.verb_commands.turn_rules.Rows.{answer_row, answer_by_rows}
+use Rattle.cave_verbs.specs.verb_commands.turn_rules.Rows.{otherwise_row}
+use Rattle.cave_verbs.specs.verb_commands.turn_rules.Tests.{the, no, either, both, is_here, in_lake}
+use Rattle.cave_verbs.specs.verb_commands.Verbs.{verb_number}
+use Rattle.cave_verbs.specs.verb_commands.declared.verb.Verb.{Verb}
+use Rattle.cave_verbs.specs.verb_commands.declared.verb.Verb.TheVariants as verb
+use Rattle.cave_turn.specs.ObjectWords.{is_verb_of, object_word}
 use Rattle.cave_turn.specs.declared.object_words.ObjectWord.{ObjectWord}
-use Rattle.cave_turn.specs.declared.object_words.ObjectWord.TheVariants as object
+use Rattle.cave_turn.specs.declared.object_words.ObjectWord.TheVariants as object_is
 use Rattle.cave_turn.specs.declared.request.HalfCommand.{HalfCommand}
 use Rattle.cave_turn.specs.declared.request.Request.TheVariants as request
 use Rattle.cave_turn.specs.declared.request.SaidWord.{SaidWord}
@@ -119,9 +120,6 @@ put_pour d = record d { about = record (d.about) { next = Some (pour_in d.cave) 
 abbrev pub asks_for : Request → Deed Phrase → Understood
 asks_for asked d = record { half = d.about.half; request = asked }
 
-abbrev pub puzzles : Deed Phrase → Understood
-puzzles d = asks_for request.Unknown d
-
 abbrev pub travels : Deed Phrase → Understood
 travels d = asks_for (request.Motion (number d)) d
 
@@ -154,69 +152,64 @@ acts_by_verb d = acts_by d.about.half.verb d
 -- what the word of an object comes to
 abbrev pub object_comes_to : Bool → Deed Phrase → ObjectWord
 object_comes_to is_alone d =
-    object_word (deed d.cave (named_object (or_no_object (Some (number d))) d.about.half.verb
-    is_alone) d.scene)
+    let x = or_no_object (Some (number d)) in let v = d.about.half.verb in
+    object_word (deed d.cave (record { object = x; verb = v; is_alone = is_alone }) d.scene)
 
 abbrev pub by_object_alone : ObjectWord → Deed Phrase → Understood
-by_object_alone (object.Is x) d = acts_by_verb (take_object x d)
-by_object_alone (object.Leads motion) d = asks_for (request.Motion motion) d
-by_object_alone object.Knives d = asks_for request.Knives d
-by_object_alone object.Unseen d =
+by_object_alone (object_is.Is x) d = acts_by_verb (take_object x d)
+by_object_alone (object_is.Leads motion) d = asks_for (request.Motion motion) d
+by_object_alone object_is.Knives d = asks_for request.Knives d
+by_object_alone object_is.Unseen d =
     asks_for (request.Tell (part.Word line.NotSeen d.about.word.word)) d
 
 abbrev pub object_alone : Deed Phrase → Understood
 object_alone d = by_object_alone (object_comes_to true d) d
 
 -- a word that no other follows
-unfoldable pub alone_rows : List (Row Phrase Understood)
-alone_rows =
-    answer_row (no has_meaning ∷ []) puzzles
+unfoldable pub word_alone : Deed Phrase → Understood
+word_alone d = answer_by_rows
+    (answer_row (no has_meaning ∷ []) (asks_for request.Unknown)
     ∷ answer_row (means class.Motion ∷ []) travels
     ∷ answer_row (means class.Special ∷ []) tells_message
     ∷ answer_row (means class.Object ∷ []) object_alone
-    ∷ answer_row (means class.Action ∷ of_action verb.Say ∷ []) acts_alone
-    ∷ row_then (means class.Action ∷ []) (take_verb ∷ []) acts_by_verb
-    ∷ []
+    ∷ answer_row (means class.Action ∷ of_action verb.Say ∷ []) acts_alone ∷ [])
+    (otherwise_row (take_verb ∷ []) acts_by_verb) d
 
-abbrev pub word_alone : Deed Phrase → Understood
-word_alone d = answer_by_rows alone_rows puzzles d
+-- into water
+abbrev pub into_water : Test Phrase
+into_water = either (next_word_is (codes "STREA")) (next_word_is (codes "WATER"))
+
+-- the word after ENTER
+unfoldable pub word_entered : Deed Phrase → Understood
+word_entered d = answer_by_rows
+    (answer_row (into_water ∷ in_lake (the name.Water) ∷ []) (says role.FeetWet)
+    ∷ answer_row (into_water ∷ []) (says role.Where) ∷ [])
+    (otherwise_row (read_next ∷ []) word_alone) d
 
 -- a word that is said aloud
-unfoldable pub aloud_rows : List (Row Phrase Understood)
-aloud_rows =
-    answer_row (means class.Motion ∷ either (of_motion motion.Xyzzy)
+unfoldable pub word_aloud : Deed Phrase → Understood
+word_aloud d = answer_by_rows
+    (answer_row (means class.Motion ∷ either (of_motion motion.Xyzzy)
     (either (of_motion motion.Plugh) (of_motion motion.Plover)) ∷ []) word_alone
-    ∷ answer_row (means class.Action ∷ of_action verb.Foo ∷ []) word_alone
-    ∷ answer_row [] echoes
-    ∷ []
-
-abbrev pub word_aloud : Deed Phrase → Understood
-word_aloud d = answer_by_rows aloud_rows echoes d
+    ∷ answer_row (means class.Action ∷ of_action verb.Foo ∷ []) word_alone ∷ [])
+    (otherwise_row [] echoes) d
 
 abbrev pub by_object_before : ObjectWord → Deed Phrase → Understood
-by_object_before (object.Is x) d = word_alone (read_next (take_object x d))
+by_object_before (object_is.Is x) d = word_alone (read_next (take_object x d))
 by_object_before word d = by_object_alone word d
 
 abbrev pub object_before : Deed Phrase → Understood
 object_before d = by_object_before (object_comes_to false d) d
 
 -- a word that another follows
-unfoldable pub before_rows : List (Row Phrase Understood)
-before_rows =
-    answer_row (no has_meaning ∷ []) puzzles
+unfoldable pub word_before : Deed Phrase → Understood
+word_before d = answer_by_rows
+    (answer_row (no has_meaning ∷ []) (asks_for request.Unknown)
     ∷ answer_row (means class.Motion ∷ []) travels
     ∷ answer_row (means class.Special ∷ []) tells_message
     ∷ answer_row (means class.Object ∷ []) object_before
-    ∷ row_then (means class.Action ∷ of_action verb.Say ∷ []) (read_next ∷ []) word_aloud
-    ∷ row_then (means class.Action ∷ []) (take_verb ∷ read_next ∷ []) word_alone
-    ∷ []
-
-abbrev pub word_before : Deed Phrase → Understood
-word_before d = answer_by_rows before_rows puzzles d
-
--- into water
-abbrev pub into_water : Test Phrase
-into_water = either (next_word_is (codes "STREA")) (next_word_is (codes "WATER"))
+    ∷ row_then (means class.Action ∷ of_action verb.Say ∷ []) (read_next ∷ []) word_aloud ∷ [])
+    (otherwise_row (take_verb ∷ read_next ∷ []) word_alone) d
 
 -- water or oil is poured over a plant or a door that is here
 unfoldable pub pours_over : Test Phrase
@@ -225,42 +218,23 @@ pours_over d =
     (either (both (next_word_is (codes "PLANT")) (is_here (the name.Plant)))
     (both (next_word_is (codes "DOOR")) (is_here (the name.Door)))) d
 
--- the word after ENTER
-unfoldable pub enter_rows : List (Row Phrase Understood)
-enter_rows =
-    answer_row (into_water ∷ in_lake (the name.Water) ∷ []) (says role.FeetWet)
-    ∷ answer_row (into_water ∷ []) (says role.Where)
-    ∷ row_then [] (read_next ∷ []) word_alone
-    ∷ []
-
-abbrev pub word_entered : Deed Phrase → Understood
-word_entered d = answer_by_rows enter_rows puzzles d
-
 -- two words that are put together
-unfoldable pub two_word_rows : List (Row Phrase Understood)
-two_word_rows =
-    answer_row (word_is (codes "ENTER") ∷ []) word_entered
-    ∷ row_then (pours_over ∷ []) (put_pour ∷ []) word_before
-    ∷ answer_row [] word_before
-    ∷ []
-
-abbrev pub two_words : Deed Phrase → Understood
-two_words d = answer_by_rows two_word_rows word_before d
+unfoldable pub two_words : Deed Phrase → Understood
+two_words d = answer_by_rows
+    (answer_row (word_is (codes "ENTER") ∷ []) word_entered
+    ∷ row_then (pours_over ∷ []) (put_pour ∷ []) word_before ∷ [])
+    (otherwise_row [] word_before) d
 
 -- after SAY alone a word is said, and of two words SAY is forgotten
-unfoldable pub line_rows : List (Row Phrase Understood)
-line_rows =
-    row_then (after_say ∷ has_next ∷ []) (forget_verb ∷ []) two_words
+unfoldable pub words_of_line : Deed Phrase → Understood
+words_of_line d = answer_by_rows
+    (row_then (after_say ∷ has_next ∷ []) (forget_verb ∷ []) two_words
     ∷ answer_row (after_say ∷ []) word_aloud
-    ∷ answer_row (has_next ∷ []) two_words
-    ∷ answer_row [] word_alone
-    ∷ []
-
-abbrev pub words_read : Deed Phrase → Understood
-words_read d = answer_by_rows line_rows word_alone d
+    ∷ answer_row (has_next ∷ []) two_words ∷ [])
+    (otherwise_row [] word_alone) d
 
 -- the words of a line, with the half command that the game remembers
 abbrev pub read_words : CaveView → List ℕ → Option (List ℕ) → Scene → Understood
 read_words cave word next p =
-    words_read (deed cave (phrase (half_command_of p.state.talk) (said_word cave word)
+    words_of_line (deed cave (phrase (half_command_of p.state.talk) (said_word cave word)
     (option_map (said_word cave) next)) p)

@@ -1,36 +1,32 @@
 -- How a player comes back from death.
 use Rattle.std.specs.Prelude.{ℕ, nat_le, if◌then◌else◌, suc, zero, List, [], ◌∷◌}
 use Rattle.turn_text.specs.data_numbers.Numbers.{LAST_OBJECT}
-use Rattle.turn_text.specs.cave_data.CaveView.{CaveView}
 use Rattle.turn_text.specs.data_rows.declared.role.Role.TheVariants as role
-use Rattle.turn_moves.specs.turn_ends.Endings.{count_death, end_as}
-use Rattle.cave_verbs.specs.verb_commands.turn_rules.Rows.{Test, Effect, Row, plain_row, by_table}
-use Rattle.cave_verbs.specs.verb_commands.turn_rules.Tests.{the, in_hand, deaths, building}
-use Rattle.cave_verbs.specs.verb_commands.turn_rules.Effects.{in_state, put_player, say, set_prop}
-use Rattle.cave_verbs.specs.verb_commands.turn_rules.Effects.{when}
-use Rattle.cave_turn.specs.Effects.{describe}
-use Rattle.turn_begin.specs.turn_things.Effects.{with_objects}
-use Rattle.turn_begin.specs.turn_things.Places.{start_place}
-use Rattle.turn_begin.specs.turn_scene.Scene.{is_called}
-use Rattle.turn_begin.specs.turn_things.Props.{LAMP_OFF}
+use Rattle.turn_text.specs.cave_data.CaveView.{CaveView}
 use Rattle.turn_text.specs.cave_words.declared.named.Named.TheVariants as name
 use Rattle.turn_text.specs.world_objects.Objects.{Layout, is_carried, after_move_to}
 use Rattle.turn_text.specs.cave_world.declared.ending.Ending.TheVariants.{Killed}
 use Rattle.turn_text.specs.cave_world.declared.ending.Question.{Question}
 use Rattle.turn_text.specs.cave_world.declared.state.State.{State}
 use Rattle.turn_text.specs.cave_world.State.{LIVES}
+use Rattle.turn_moves.specs.turn_ends.Endings.{count_death, end_as}
+use Rattle.cave_verbs.specs.verb_commands.turn_rules.Rows.{Test, Effect, Row, plain_row, by_table}
+use Rattle.cave_verbs.specs.verb_commands.turn_rules.Rows.{otherwise}
+use Rattle.cave_verbs.specs.verb_commands.turn_rules.Tests.{the, in_hand, deaths, building}
+use Rattle.cave_verbs.specs.verb_commands.turn_rules.Effects.{in_state, put_player, say, set_prop}
+use Rattle.cave_verbs.specs.verb_commands.turn_rules.Effects.{when}
+use Rattle.turn_begin.specs.turn_scene.Scene.{is_called}
+use Rattle.turn_begin.specs.turn_things.Effects.{with_objects}
+use Rattle.turn_begin.specs.turn_things.Places.{start_place}
+use Rattle.turn_begin.specs.turn_things.Props.{LAMP_OFF}
+use Rattle.cave_turn.specs.Effects.{describe}
 
 -- what is said of a first, a second, a third revival
 unfoldable pub reborn_rows : List (Row Question (Unit {0}))
 reborn_rows =
     plain_row (deaths 0 ∷ []) (say role.Reborn1 ∷ [])
     ∷ plain_row (deaths 1 ∷ []) (say role.Reborn2 ∷ [])
-    ∷ plain_row [] (say role.Reborn3 ∷ [])
-    ∷ []
-
--- a lamp that the player carries is put out
-abbrev pub put_lamp_out : Effect Question
-put_lamp_out = when (in_hand (the name.Lamp)) (set_prop (the name.Lamp) LAMP_OFF)
+    ∷ otherwise (say role.Reborn3 ∷ [])
 
 -- where an object falls that a dead player carried: the lamp falls where the game begins
 abbrev pub fallen_place : CaveView → ℕ → ℕ → ℕ
@@ -55,8 +51,11 @@ without_belongings cave s =
 abbrev pub leave_belongings : Effect Question
 leave_belongings d = in_state (without_belongings d.cave d.scene.state) d
 
+-- a lamp that the player carries is put out
 unfoldable pub revive : List (Effect Question)
-revive = put_lamp_out ∷ leave_belongings ∷ put_player building ∷ describe ∷ []
+revive =
+    when (in_hand (the name.Lamp)) (set_prop (the name.Lamp) LAMP_OFF)
+    ∷ leave_belongings ∷ put_player building ∷ describe ∷ []
 
 abbrev pub dead_for_good : Test Question
 dead_for_good d = nat_le LIVES d.scene.state.tallies.deaths
@@ -65,8 +64,7 @@ dead_for_good d = nat_le LIVES d.scene.state.tallies.deaths
 unfoldable pub revival_rows : List (Row Question (Unit {0}))
 revival_rows =
     plain_row (dead_for_good ∷ []) (end_as Killed ∷ [])
-    ∷ plain_row [] revive
-    ∷ []
+    ∷ otherwise revive
 
 -- the player wants to come back
 unfoldable pub come_back : List (Effect Question)

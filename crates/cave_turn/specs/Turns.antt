@@ -1,21 +1,21 @@
 -- What a line of a log makes of a game.
 use Rattle.std.specs.Prelude.{ℕ, Bool, true, false, if◌then◌else◌, List, [], ◌∷◌, Option, Some}
 use Rattle.std.specs.Prelude.{None}
-use Rattle.turn_text.specs.cave_data.CaveView.{CaveView}
-use Rattle.turn_text.specs.data_rows.declared.role.Role.TheVariants as role
 use Rattle.turn_text.specs.base_lines.LogLine.{log_line}
-use Rattle.turn_text.specs.cave_words.Stream.{stream_of_seed}
 use Rattle.turn_text.specs.base_lines.declared.log_line.LogLine.{LogLine}
 use Rattle.turn_text.specs.base_lines.declared.log_line.LogLine.TheVariants as kind
+use Rattle.turn_text.specs.data_rows.declared.role.Role.TheVariants as role
+use Rattle.turn_text.specs.cave_data.CaveView.{CaveView}
+use Rattle.turn_text.specs.cave_words.Stream.{stream_of_seed}
 use Rattle.turn_text.specs.cave_world.declared.ending.Ending.{Ending}
 use Rattle.turn_text.specs.cave_world.declared.ending.Question.{Question}
 use Rattle.turn_text.specs.cave_world.declared.part.Part.{Part}
 use Rattle.turn_text.specs.cave_world.declared.part.Part.TheVariants as part
 use Rattle.turn_text.specs.cave_world.declared.state.State.{State}
-use Rattle.cave_turn.specs.Answers.{after_answer, answers, without_question}
-use Rattle.turn_begin.specs.Begin.{begun_state}
-use Rattle.cave_turn.specs.Commands.{command_scene}
 use Rattle.turn_begin.specs.turn_scene.Scene.{Scene}
+use Rattle.turn_begin.specs.Begin.{begun_state}
+use Rattle.cave_turn.specs.Answers.{after_answer, answers, without_question}
+use Rattle.cave_turn.specs.Commands.{command_scene}
 
 -- the state after a line, what the line says, and whether it is a turn of the game
 pub record Turn : Type 0 where
@@ -44,10 +44,9 @@ with_seed s seed = record s { stream = stream_of_seed seed }
 
 -- a seed line changes the random stream alone, whatever else is going on
 abbrev pub turn_on_log_line : CaveView → List ℕ → LogLine → State → Turn
-turn_on_log_line cave line kind.Comment s = silent_turn s
-turn_on_log_line cave line kind.Blank s = silent_turn s
 turn_on_log_line cave line (kind.Seed seed) s = silent_turn (with_seed s seed)
 turn_on_log_line cave line kind.Input s = turn_of_input cave line s.ending s.question s
+turn_on_log_line cave line _ s = silent_turn s
 
 unfoldable pub turn_on_line : CaveView → State → List ℕ → Turn
 turn_on_line cave s line = turn_on_log_line cave line (log_line line) s

@@ -9,6 +9,7 @@ ghost use Rattle.turn_text.specs.cave_world.State as defined_state;
 ghost use Rattle.turn_moves.specs.turn_ends.Questions.{is_dragon};
 ghost use Rattle.cave_verbs.specs.verb_commands.turn_rules.Rows.{Does};
 ghost use Rattle.cave_verbs.specs.verb_commands.turn_rules.Effects.{with_charge};
+ghost use Rattle.cave_turn.specs.Answers as defined;
 ghost use Rattle.cave_turn.specs.Answers.{answer_of, answer_in, quit};
 ghost use Rattle.cave_turn.specs.Answers.{after_yes, after_no, reply_scene, is_of_hint};
 ghost use Rattle.cave_turn.specs.Answers.{end_of_answer, after_answer, answers, without_question};
@@ -82,7 +83,7 @@ pub fn answer_in(rules: &Rules<'_>, line: &[u8]) -> Answer
 
 /// The instructions count as a hint, which costs points, and the lamp burns 1,000 turns.
 fn instruct(state: &mut State)
-    ensures { state.new ≡ with_charge (pos 1000)
+    ensures { state.new ≡ with_charge (pos defined.INSTRUCTED_CHARGE)
         (defined_state.with_hint_taken defined_state.INSTRUCTIONS_HINT state.old) }
 {
     state.take_hint(HintNumber::new(INSTRUCTIONS_HINT));
@@ -105,7 +106,7 @@ fn quit(rules: &Rules<'_>, question: &Question, scene: &mut Scene<'_>)
     end(rules, Ending::Quit, scene);
 }
 
-#[tactic(auto, unfolding(crate::specs::Answers::yes_rows, crate::specs::Answers::give_instructions))]
+#[tactic(auto, unfolding(crate::specs::Answers::give_instructions))]
 fn say_yes(rules: &Rules<'_>, question: &Question, scene: &mut Scene<'_>)
     requires { HasRoom (parts_of_arrival scene.old.left + 1) scene.old }
     ensures scene { scene_of scene.new
@@ -130,7 +131,6 @@ fn say_yes(rules: &Rules<'_>, question: &Question, scene: &mut Scene<'_>)
     }
 }
 
-#[tactic(auto, unfolding(crate::specs::Answers::no_rows))]
 fn say_no(rules: &Rules<'_>, question: &Question, scene: &mut Scene<'_>)
     requires { HasRoom (parts_of_arrival scene.old.left + 1) scene.old }
     ensures scene { scene_of scene.new

@@ -9,10 +9,10 @@ ghost use Rattle.turn_begin.specs.turn_scene.Scene.{scene_of, cave_of};
 ghost use Rattle.cave_turn.specs.Commands.{with_magic_waiting, knife_here, begin_command};
 ghost use Rattle.cave_turn.specs.Commands.{after_travel, after_puzzle};
 ghost use Rattle.cave_turn.specs.Commands.{after_vanished_knives, next_scene, half_command_kept};
-ghost use Rattle.cave_turn.specs.Commands.{words_done_by_verb, words_done_by_request};
+ghost use Rattle.cave_turn.specs.Commands.{done_by_verb, done_by_request};
 ghost use Rattle.cave_turn.specs.Commands.{after_remembering, kept_scene, scene_of_understood};
 ghost use Rattle.cave_turn.specs.Commands.{scene_of_words, unread_scene, after_clocks};
-ghost use Rattle.cave_turn.specs.Commands.{clocks_scene, command_scene, words_done_by_action};
+ghost use Rattle.cave_turn.specs.Commands.{clocks_scene, command_scene, done_by_action};
 ghost use Rattle.cave_verbs.specs.verb_commands.Verbs.{verb_of};
 ghost use Rattle.cave_verbs.specs.verb_commands.turn_rules.Rows.{act_of};
 
@@ -132,31 +132,17 @@ fn do_next(rules: &Rules<'_>, next: &Next, scene: &mut Scene<'_>)
     }
 }
 
-fn half_command_kept(next: &Next, verb: u16) -> Option<HalfCommand>
-    ensures { result ≡ half_command_kept next.now verb }
-{
-    match next {
-        Next::Keep => Some(HalfCommand {
-            verb: Some(verb),
-            object: Object::none(),
-        }),
-        _ => None,
-    }
-}
-
-/// A verb is done by the first of its rows that fits, and then what follows. Returns what is kept
-/// for the next line.
-#[tactic(auto, unfolding(crate::specs::Commands::words_done_by_verb))]
-fn do_verb(rules: &Rules<'_>, command: Command, scene: &mut Scene<'_>) -> Option<HalfCommand>
+/// A verb is done by the first of its rows that fits, and then what follows, which is returned.
+#[tactic(auto, unfolding(crate::specs::Commands::done_by_verb))]
+fn do_verb(rules: &Rules<'_>, command: Command, scene: &mut Scene<'_>) -> Next
     requires { HasRoom (room_of_request scene.old.left) scene.old }
     ensures scene { act_of (scene_of scene.new) result
-        ≡ words_done_by_verb (cave_of rules.now) command (scene_of scene.old) }
+        ≡ done_by_verb (cave_of rules.now) command (scene_of scene.old) }
     ensures says { MovesOnSaying (parts_of_request scene.old.left) scene.old scene.new }
 {
-    let verb = command.verb.number();
     let next = act(rules, command, scene);
     do_next(rules, &next, scene);
-    half_command_kept(&next, verb)
+    next
 }
 
 /// An action that has rules is done by them; of another it is said what the cave says of it.
@@ -166,10 +152,10 @@ fn do_action(
     object: Object,
     word: Word,
     scene: &mut Scene<'_>,
-) -> Option<HalfCommand>
+) -> Next
     requires { HasRoom (room_of_request scene.old.left) scene.old }
     ensures scene { act_of (scene_of scene.new) result
-        ≡ words_done_by_action (cave_of rules.now) (verb_of number) number object word
+        ≡ done_by_action (cave_of rules.now) (verb_of number) number object word
         (scene_of scene.old) }
     ensures says { MovesOnSaying (parts_of_request scene.old.left) scene.old scene.new }
 {
@@ -177,46 +163,58 @@ fn do_action(
         Ok(verb) => do_verb(rules, Command::of(verb, object, word), scene),
         Err(_) => {
             tell_default(rules, number, scene);
-            None
+            Next::Stay
         }
     }
 }
 
-/// What was read is done. Returns what is kept for the next line.
-fn do_request(
-    rules: &Rules<'_>,
-    understood: &Understood,
-    scene: &mut Scene<'_>,
-) -> Option<HalfCommand>
+/// What was read is done. Returns what a verb leaves to the turn.
+fn do_request(rules: &Rules<'_>, request: &Request, scene: &mut Scene<'_>) -> Next
     requires { HasRoom (room_of_request scene.old.left) scene.old }
     ensures scene { act_of (scene_of scene.new) result
-        ≡ words_done_by_request (cave_of rules.now) understood.now.half understood.now.request
-        (scene_of scene.old) }
+        ≡ done_by_request (cave_of rules.now) request.now (scene_of scene.old) }
     ensures says { MovesOnSaying (parts_of_request scene.old.left) scene.old scene.new }
 {
-    let half = understood.half;
-    match &understood.request {
+    match request {
         Request::Unknown => {
             puzzle(rules, scene);
-            Some(half)
+            Next::Stay
         }
         Request::Motion(motion) => {
             travel_by(rules, *motion, scene);
-            None
+            Next::Stay
         }
         Request::Tell(part) => {
             scene.tell(*part);
-            None
+            Next::Stay
         }
         Request::Knives => {
             tell_of_knives(scene);
-            None
+            Next::Stay
         }
         Request::Act(number, object, word) => do_action(rules, *number, *object, *word, scene),
         Request::WhatToDo(word) => {
             scene.tell(Part::Word(WordLine::WhatToDo, *word));
-            Some(half)
+            Next::Stay
         }
+    }
+}
+
+/// What is kept for the next command: the verb that asks back, or what was said so far.
+fn half_command_kept(understood: &Understood, next: &Next) -> Option<HalfCommand>
+    ensures { result
+        ≡ half_command_kept understood.now.request next.now understood.now.half }
+{
+    match &understood.request {
+        Request::Act(number, _, _) => match next {
+            Next::Keep => Some(HalfCommand {
+                verb: Some(*number),
+                object: Object::none(),
+            }),
+            _ => None,
+        },
+        Request::WhatToDo(_) | Request::Unknown => Some(understood.half),
+        Request::Motion(_) | Request::Tell(_) | Request::Knives => None,
     }
 }
 
@@ -245,7 +243,8 @@ fn do_understood(rules: &Rules<'_>, understood: &Understood, scene: &mut Scene<'
         ≡ scene_of_understood (cave_of rules.now) understood.now (scene_of scene.old) }
     ensures says { MovesOnSaying (parts_of_request scene.old.left) scene.old scene.new }
 {
-    let kept = do_request(rules, understood, scene);
+    let next = do_request(rules, &understood.request, scene);
+    let kept = half_command_kept(understood, &next);
     remember_command(kept, understood.half.object, scene.state);
 }
 
@@ -253,7 +252,7 @@ fn do_understood(rules: &Rules<'_>, understood: &Understood, scene: &mut Scene<'
 fn do_words(rules: &Rules<'_>, words: Words, scene: &mut Scene<'_>)
     requires { HasRoom (room_of_request scene.old.left) scene.old }
     ensures scene { scene_of scene.new
-        ≡ scene_of_words (cave_of rules.now) words (scene_of scene.old) }
+        ≡ scene_of_words (cave_of rules.now) words.first words.second (scene_of scene.old) }
     ensures says { MovesOnSaying (parts_of_request scene.old.left) scene.old scene.new }
 {
     match words.first {

@@ -7,8 +7,8 @@ ghost use Rattle.cave_verbs.specs.verb_commands.turn_rules.Tests.{the, either, b
 ghost use Rattle.cave_verbs.specs.verb_commands.turn_rules.Tests.{is_here, other_prop, dwarf};
 ghost use Rattle.cave_verbs.specs.verb_commands.turn_rules.Tests.{in_bottle, in_lake, at_one_of};
 ghost use Rattle.cave_verbs.specs.verb_commands.turn_rules.Tests.{at_from_to};
-ghost use Rattle.cave_turn.specs.ObjectWords.{it, is_it, is_knife_at, thrown_here, is_verb_of};
-ghost use Rattle.cave_turn.specs.ObjectWords.{by_verb, alone, object_word};
+ghost use Rattle.cave_turn.specs.ObjectWords.{object, word_names, is_knife_at, is_knife_here};
+ghost use Rattle.cave_turn.specs.ObjectWords.{is_verb_of, by_verb, alone, object_word};
 
 use cave_verbs::Verb;
 use turn_begin::{
@@ -41,7 +41,7 @@ pub struct NamedObject {
 }
 
 /// What the word of an object says.
-#[tactic(auto, unfolding(crate::specs::ObjectWords::object_word_rows))]
+#[tactic(auto, unfolding(crate::specs::ObjectWords::object_word))]
 pub fn object_word(rules: &Rules<'_>, about: &NamedObject, scene: &Scene<'_>) -> ObjectWord
     ensures { result ≡ object_word (deed (cave_of rules.now) about.now (scene_of scene.now)) }
 {
@@ -76,7 +76,7 @@ pub fn object_word(rules: &Rules<'_>, about: &NamedObject, scene: &Scene<'_>) ->
 }
 
 fn is_there(rules: &Rules<'_>, about: &NamedObject, scene: &Scene<'_>) -> bool
-    ensures { result ≡ either (is_here it) (in_hand it)
+    ensures { result ≡ either (is_here object) (in_hand object)
         (deed (cave_of rules.now) about.now (scene_of scene.now)) }
 {
     scene.state.at(about.object) || is_in_hand(rules, scene.state, about.object)
@@ -85,7 +85,7 @@ fn is_there(rules: &Rules<'_>, about: &NamedObject, scene: &Scene<'_>) -> bool
 /// On the way to the cave the grate's word leads to it. The places are those before the building,
 /// in the valley and at the slit. No role names them, since nothing else is asked of them.
 fn is_above_grate(rules: &Rules<'_>, about: &NamedObject, scene: &Scene<'_>) -> bool
-    ensures { result ≡ all_hold (is_it name.Grate ∷ at_one_of (1 ∷ 4 ∷ 7 ∷ []) ∷ [])
+    ensures { result ≡ all_hold (word_names name.Grate ∷ at_one_of (1 ∷ 4 ∷ 7 ∷ []) ∷ [])
         (deed (cave_of rules.now) about.now (scene_of scene.now)) }
 {
     rules.is(about.object, Named::Grate) && matches!(scene.state.trail.here.number(), 1 | 4 | 7)
@@ -93,7 +93,7 @@ fn is_above_grate(rules: &Rules<'_>, about: &NamedObject, scene: &Scene<'_>) -> 
 
 /// And in the first halls of the cave back to it.
 fn is_below_grate(rules: &Rules<'_>, about: &NamedObject, scene: &Scene<'_>) -> bool
-    ensures { result ≡ all_hold (is_it name.Grate ∷ at_from_to 10 14 ∷ [])
+    ensures { result ≡ all_hold (word_names name.Grate ∷ at_from_to 10 14 ∷ [])
         (deed (cave_of rules.now) about.now (scene_of scene.now)) }
 {
     rules.is(about.object, Named::Grate)
@@ -101,7 +101,7 @@ fn is_below_grate(rules: &Rules<'_>, about: &NamedObject, scene: &Scene<'_>) -> 
 }
 
 fn is_dwarf(rules: &Rules<'_>, about: &NamedObject, scene: &Scene<'_>) -> bool
-    ensures { result ≡ all_hold (is_it name.Dwarf ∷ dwarf ∷ [])
+    ensures { result ≡ all_hold (word_names name.Dwarf ∷ dwarf ∷ [])
         (deed (cave_of rules.now) about.now (scene_of scene.now)) }
 {
     rules.is(about.object, Named::Dwarf) && is_dwarf_here(scene.state)
@@ -109,7 +109,7 @@ fn is_dwarf(rules: &Rules<'_>, about: &NamedObject, scene: &Scene<'_>) -> bool
 
 /// Whether an object is what a bottle at hand has in it, or what the lake is of.
 fn is_liquid_here(rules: &Rules<'_>, about: &NamedObject, scene: &Scene<'_>) -> bool
-    ensures { result ≡ either (both (in_bottle it) (near (the name.Bottle))) (in_lake it)
+    ensures { result ≡ either (both (in_bottle object) (near (the name.Bottle))) (in_lake object)
         (deed (cave_of rules.now) about.now (scene_of scene.now)) }
 {
     (is_liquid(about.object, liquid(rules, scene.state))
@@ -119,7 +119,7 @@ fn is_liquid_here(rules: &Rules<'_>, about: &NamedObject, scene: &Scene<'_>) -> 
 
 /// Whether the plant that grew is taken for an object.
 fn is_grown_plant(rules: &Rules<'_>, about: &NamedObject, scene: &Scene<'_>) -> bool
-    ensures { result ≡ all_hold (is_it name.Plant ∷ is_here (the name.SecondPlant)
+    ensures { result ≡ all_hold (word_names name.Plant ∷ is_here (the name.SecondPlant)
         ∷ other_prop (the name.SecondPlant) (pos 0) ∷ [])
         (deed (cave_of rules.now) about.now (scene_of scene.now)) }
 {
@@ -138,7 +138,7 @@ fn is_knife_at(here: Place, knife: Knife) -> bool
 }
 
 fn is_knife_here(rules: &Rules<'_>, about: &NamedObject, scene: &Scene<'_>) -> bool
-    ensures { result ≡ all_hold (is_it name.Knife ∷ thrown_here ∷ [])
+    ensures { result ≡ all_hold (word_names name.Knife ∷ is_knife_here ∷ [])
         (deed (cave_of rules.now) about.now (scene_of scene.now)) }
 {
     rules.is(about.object, Named::Knife)
@@ -146,7 +146,7 @@ fn is_knife_here(rules: &Rules<'_>, about: &NamedObject, scene: &Scene<'_>) -> b
 }
 
 fn is_second_rod(rules: &Rules<'_>, about: &NamedObject, scene: &Scene<'_>) -> bool
-    ensures { result ≡ all_hold (is_it name.Rod ∷ near (the name.SecondRod) ∷ [])
+    ensures { result ≡ all_hold (word_names name.Rod ∷ near (the name.SecondRod) ∷ [])
         (deed (cave_of rules.now) about.now (scene_of scene.now)) }
 {
     rules.is(about.object, Named::Rod) && is_near(rules, scene.state, rules.thing(Named::SecondRod))

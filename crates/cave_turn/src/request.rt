@@ -92,7 +92,7 @@ impl HalfCommand {
 }
 
 /// What the words of a line say, with what was said before.
-#[tactic(auto, unfolding(crate::specs::Request::line_rows))]
+#[tactic(auto, unfolding(crate::specs::Request::words_of_line))]
 pub fn read_words(
     rules: &Rules<'_>,
     word: Word,
@@ -154,7 +154,7 @@ fn object_alone(
 }
 
 /// What a word says that no other follows.
-#[tactic(auto, unfolding(crate::specs::Request::alone_rows))]
+#[tactic(auto, unfolding(crate::specs::Request::word_alone))]
 fn word_alone(rules: &Rules<'_>, half: HalfCommand, word: SaidWord, scene: &Scene<'_>) -> Understood
     ensures { result ≡ word_alone
         (deed (cave_of rules.now) (phrase half word None) (scene_of scene.now)) }
@@ -194,7 +194,7 @@ fn is_magic_motion(number: u16) -> bool
 }
 
 /// What is done where a word is said aloud.
-#[tactic(auto, unfolding(crate::specs::Request::aloud_rows))]
+#[tactic(auto, unfolding(crate::specs::Request::word_aloud))]
 fn word_aloud(rules: &Rules<'_>, half: HalfCommand, word: SaidWord, scene: &Scene<'_>) -> Understood
     ensures { result ≡ word_aloud
         (deed (cave_of rules.now) (phrase half word None) (scene_of scene.now)) }
@@ -241,7 +241,7 @@ fn object_before(
 }
 
 /// What a word says that another follows.
-#[tactic(auto, unfolding(crate::specs::Request::before_rows))]
+#[tactic(auto, unfolding(crate::specs::Request::word_before))]
 fn word_before(
     rules: &Rules<'_>,
     half: HalfCommand,
@@ -307,7 +307,7 @@ fn pour_in(rules: &Rules<'_>) -> SaidWord
 }
 
 /// What a word says that follows ENTER.
-#[tactic(auto, unfolding(crate::specs::Request::enter_rows))]
+#[tactic(auto, unfolding(crate::specs::Request::word_entered))]
 fn word_entered(rules: &Rules<'_>, half: HalfCommand, next: Word, scene: &Scene<'_>) -> Understood
     ensures { (word : SaidWord) → result ≡ word_entered (deed (cave_of rules.now)
         (phrase half word (Some (said_word (cave_of rules.now) next))) (scene_of scene.now)) }
@@ -322,7 +322,7 @@ fn word_entered(rules: &Rules<'_>, half: HalfCommand, next: Word, scene: &Scene<
 }
 
 /// What two words say. They are looked up as far as they are read.
-#[tactic(auto, unfolding(crate::specs::Request::two_word_rows))]
+#[tactic(auto, unfolding(crate::specs::Request::two_words))]
 fn two_words(
     rules: &Rules<'_>,
     half: HalfCommand,

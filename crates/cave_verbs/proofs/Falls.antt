@@ -12,7 +12,7 @@ use Rattle.verb_commands.specs.turn_scene.Scene.{or_no_object, thing, object_cal
 use Rattle.verb_commands.specs.turn_things.Reach.{is_in_hand, is_near}
 use Rattle.verb_commands.specs.turn_things.Liquids.{liquid_of, is_liquid}
 use Rattle.verb_commands.specs.world_objects.Objects.{is_carried, is_first_at, spot_of}
-use Rattle.cave_verbs.specs.Opening.{opens_or_locks}
+use Rattle.verb_commands.specs.Verbs.{is_verb}
 use Rattle.verb_commands.specs.declared.verb.Verb.{Verb}
 use Rattle.verb_commands.specs.declared.verb.Verb.TheVariants as verb
 use Rattle.cave_verbs.specs.Ranks.{take_rank, drop_rank, bare_rank, rank}
@@ -73,14 +73,28 @@ pub near-there : (cave : CaveView) (s : State) (x : ℕ) → is_near cave s x �
 near-there cave s zero h = absurd (true≢false (sym h ∙ nothing-near cave s))
 near-there cave s (suc x) h = grind arith
 
+-- nor is it in the hand
+nothing-in_hand : (cave : CaveView) (s : State) → is_in_hand cave s 0 ≡ false
+unfolding is_in_hand is_called is_carried spot_of
+nothing-in_hand cave s = refl
+
+held-there : (cave : CaveView) (s : State) (x : ℕ) → is_in_hand cave s x ≡ true → (x == 0) ≡ false
+held-there cave s zero h = absurd (true≢false (sym h ∙ nothing-in_hand cave s))
+held-there cave s (suc x) h = grind arith
+
+-- from no object to one in the hand the rank of READ falls
+pub read_falls : (cave : CaveView) (s : State) (x : ℕ) → is_in_hand cave s x ≡ true
+    → suc (bare_rank x) ≤ 1
+read_falls cave s x held = let there = held-there cave s x held in grind (arith, there)
+
 -- from no object to one at hand the rank of FILL falls
 pub fill_falls : (cave : CaveView) (s : State) (x : ℕ) → is_near cave s x ≡ true
     → suc (bare_rank x) ≤ 1
 fill_falls cave s x near = let there = near-there cave s x near in grind (arith, there)
 
 -- from no object to one the rank of OPEN and LOCK falls
-pub lock_falls : (cave : CaveView) (v : Verb) (x : ℕ) → opens_or_locks v ≡ true → 0 < x
-    → suc (rank cave v x) ≤ 1
+pub lock_falls : (cave : CaveView) (v : Verb) (x : ℕ)
+    → (is_verb v verb.Open || is_verb v verb.Lock) ≡ true → 0 < x → suc (rank cave v x) ≤ 1
 lock_falls cave verb.Open x is some = grind (arith, some)
 lock_falls cave verb.Lock x is some = grind (arith, some)
 lock_falls cave _ x is some = absurd (false≢true is)
@@ -90,10 +104,5 @@ pub few_ranks : (cave : CaveView) (v : Verb) (x : ℕ) → rank cave v x ≤ 3
 few_ranks cave verb.Take x = grind arith
 few_ranks cave verb.Drop x = grind arith
 few_ranks cave verb.Throw x = grind arith
-few_ranks cave verb.Open x = grind arith
-few_ranks cave verb.Lock x = grind arith
-few_ranks cave verb.Kill x = grind arith
-few_ranks cave verb.Eat x = grind arith
-few_ranks cave verb.Fill x = grind arith
-few_ranks cave verb.Read x = grind arith
-few_ranks cave _ x = omega arith
+few_ranks cave verb.Feed x = omega arith
+few_ranks cave _ x = grind arith

@@ -6,15 +6,15 @@ use Rattle.verb_commands.specs.cave_world.declared.ending.Ending.TheVariants as 
 use Rattle.verb_commands.specs.turn_things.Props.{BATTERIES_FRESH, BIRD_FREE, DRAGON_ALIVE}
 use Rattle.verb_commands.specs.turn_things.Props.{SNAKE_GONE, TROLL_FLED, VASE_BREAKING}
 use Rattle.verb_commands.specs.turn_things.Props.{VASE_BROKEN, VASE_ON_PILLOW, VASE_WHOLE}
-use Rattle.verb_commands.specs.Effects.{default}
 use Rattle.verb_commands.specs.turn_rules.Effects.{say, look, bring, destroy, fix, set_prop, put}
 use Rattle.verb_commands.specs.turn_rules.Effects.{troll_goes, lose_to_snake}
-use Rattle.verb_commands.specs.Rows.{VerbRow, row, ends, does}
 use Rattle.verb_commands.specs.turn_rules.Rows.{row_then}
-use Rattle.verb_commands.specs.declared.verb.Verb.TheVariants as verb
-use Rattle.verb_commands.specs.Tests.{x, is}
 use Rattle.verb_commands.specs.turn_rules.Tests.{the, no, in_hand, near, is_here, prop, cave_closed}
 use Rattle.verb_commands.specs.turn_rules.Tests.{away_from_home}
+use Rattle.verb_commands.specs.Effects.{default}
+use Rattle.verb_commands.specs.Rows.{VerbRow, row, ends, does}
+use Rattle.verb_commands.specs.declared.verb.Verb.TheVariants as verb
+use Rattle.verb_commands.specs.Tests.{x, is}
 
 -- a vase that is put down elsewhere than where the pillow is at home
 abbrev pub drop_vase_rows : List VerbRow

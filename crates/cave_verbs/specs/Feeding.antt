@@ -6,27 +6,38 @@ use Rattle.verb_commands.specs.cave_words.declared.named.Named.TheVariants as na
 use Rattle.verb_commands.specs.cave_world.Limits.{MAX_ANGER}
 use Rattle.verb_commands.specs.cave_world.declared.state.State.{State}
 use Rattle.verb_commands.specs.turn_scene.Scene.{is_one_of}
-use Rattle.verb_commands.specs.Effects.{default, ask_what}
-use Rattle.verb_commands.specs.turn_rules.Effects.{change, say, destroy, loosen, set_prop}
-use Rattle.verb_commands.specs.turn_rules.Effects.{lose_one}
-use Rattle.verb_commands.specs.Rows.{VerbRow, row, keeps, does}
-use Rattle.verb_commands.specs.turn_rules.Rows.{Test, row_then}
-use Rattle.verb_commands.specs.declared.verb.Verb.TheVariants as verb
-use Rattle.verb_commands.specs.Tests.{x, is}
-use Rattle.verb_commands.specs.turn_rules.Tests.{the, no, either, near, prop, other_prop}
-use Rattle.verb_commands.specs.turn_rules.Tests.{cave_closed}
 use Rattle.verb_commands.specs.turn_things.Props.{AXE_FREE, BEAR_DEAD, BEAR_FED, BEAR_WILD}
 use Rattle.verb_commands.specs.turn_things.Props.{BIRD_FREE, DRAGON_ALIVE}
+use Rattle.verb_commands.specs.turn_things.Effects.{with_dwarves}
+use Rattle.verb_commands.specs.turn_rules.Effects.{change, say, destroy, loosen, set_prop, lose_one}
+use Rattle.verb_commands.specs.turn_rules.Rows.{Test, row_then, otherwise_then}
+use Rattle.verb_commands.specs.turn_rules.Tests.{the, no, either, near, prop, other_prop}
+use Rattle.verb_commands.specs.turn_rules.Tests.{cave_closed}
+use Rattle.verb_commands.specs.Effects.{default, ask_what}
+use Rattle.verb_commands.specs.Rows.{VerbRow, row, keeps, does, stays}
+use Rattle.verb_commands.specs.declared.verb.Verb.TheVariants as verb
+use Rattle.verb_commands.specs.Tests.{x, is}
 use Rattle.verb_commands.specs.declared.command.Command.{Command}
 
 abbrev pub is_any : List Named → Test Command
 is_any names d = is_one_of d.cave d.about.object names
 
+unfoldable pub bare_eat_rows : List VerbRow
+bare_eat_rows =
+    row_then (near (the name.Food) ∷ []) [] (does verb.Eat (the name.Food))
+    ∷ otherwise_then (ask_what ∷ []) keeps
+
+unfoldable pub eat_rows : List VerbRow
+eat_rows =
+    row (is name.Food ∷ []) (destroy x ∷ say role.Eaten ∷ [])
+    ∷ row (is_any (name.Bird ∷ name.Snake ∷ name.Clam ∷ name.Oyster ∷ name.Dwarf ∷ name.Dragon
+    ∷ name.Troll ∷ name.Bear ∷ []) ∷ []) (say role.NoAppetite ∷ [])
+    ∷ otherwise_then (default ∷ []) stays
+
 -- the dwarves are angrier by one, up to the most
 abbrev pub with_more_anger : State → State
 with_more_anger s =
-    let dwarves = s.dwarves in
-    record s { dwarves = record dwarves { anger = min (dwarves.anger + 1) MAX_ANGER } }
+    with_dwarves (record (s.dwarves) { anger = min (s.dwarves.anger + 1) MAX_ANGER }) s
 
 -- food for the bear
 abbrev pub feed_bear_rows : List VerbRow
@@ -52,22 +63,3 @@ feed_rows =
     ∷ say role.DwarfFeed ∷ [])
     ∷ row (is name.Dwarf ∷ []) (default ∷ [])
     ∷ (feed_bear_rows ++ row [] (say role.FeedWhat ∷ []) ∷ [])
-
-unfoldable pub bare_eat_rows : List VerbRow
-bare_eat_rows =
-    row_then (near (the name.Food) ∷ []) [] (does verb.Eat (the name.Food))
-    ∷ row_then [] (ask_what ∷ []) keeps
-    ∷ []
-
--- living beings that are no food
-abbrev pub living_things : List Named
-living_things =
-    name.Bird ∷ name.Snake ∷ name.Clam ∷ name.Oyster ∷ name.Dwarf ∷ name.Dragon ∷ name.Troll
-    ∷ name.Bear ∷ []
-
-unfoldable pub eat_rows : List VerbRow
-eat_rows =
-    row (is name.Food ∷ []) (destroy x ∷ say role.Eaten ∷ [])
-    ∷ row (is_any living_things ∷ []) (say role.NoAppetite ∷ [])
-    ∷ row [] (default ∷ [])
-    ∷ []

@@ -2,20 +2,20 @@
 use Rattle.std.specs.Prelude.{ℕ, Bool, ◌==◌, ◌&&◌, not, List, [], ◌∷◌, ◌++◌, length, map, filter}
 use Rattle.std.specs.List.{range_with_len}
 use Rattle.verb_commands.specs.data_numbers.Numbers.{LAST_OBJECT}
-use Rattle.verb_commands.specs.cave_data.CaveView.{CaveView}
 use Rattle.verb_commands.specs.data_rows.declared.role.Role.TheVariants as role
+use Rattle.verb_commands.specs.cave_data.CaveView.{CaveView}
 use Rattle.verb_commands.specs.cave_words.declared.named.Named.TheVariants as name
 use Rattle.verb_commands.specs.cave_world.declared.part.Part.TheVariants as part
 use Rattle.verb_commands.specs.cave_world.declared.state.State.{State}
 use Rattle.verb_commands.specs.turn_scene.Scene.{is_called, Scene}
 use Rattle.verb_commands.specs.turn_things.Reach.{is_in_hand}
-use Rattle.verb_commands.specs.Rows.{VerbRow, row}
-use Rattle.verb_commands.specs.turn_rules.Rows.{Deed, Test, Effect}
-use Rattle.verb_commands.specs.Effects.{default}
+use Rattle.verb_commands.specs.turn_rules.Rows.{Deed, Test, Effect, otherwise_then}
 use Rattle.verb_commands.specs.turn_rules.Effects.{in_scene, say, when}
-use Rattle.verb_commands.specs.Tests.{x, is}
 use Rattle.verb_commands.specs.turn_rules.Tests.{the, in_hand, is_here, dwarf, cave_closed}
 use Rattle.verb_commands.specs.turn_rules.Tests.{in_bottle, in_lake}
+use Rattle.verb_commands.specs.Rows.{VerbRow, row, stays}
+use Rattle.verb_commands.specs.Effects.{default}
+use Rattle.verb_commands.specs.Tests.{x, is}
 use Rattle.verb_commands.specs.declared.command.Command.{Command}
 
 -- FIND an object, and INVENTORY of one
@@ -27,8 +27,7 @@ find_rows =
     ∷ row (in_bottle x ∷ is_here (the name.Bottle) ∷ []) (say role.HereIt ∷ [])
     ∷ row (in_lake x ∷ []) (say role.HereIt ∷ [])
     ∷ row (is name.Dwarf ∷ dwarf ∷ []) (say role.HereIt ∷ [])
-    ∷ row [] (default ∷ [])
-    ∷ []
+    ∷ otherwise_then (default ∷ []) stays
 
 -- what the inventory lists is carried, and isn't the bear
 abbrev pub is_in_inventory : CaveView → State → ℕ → Bool
@@ -42,8 +41,8 @@ listed_up_to cave s n = filter (is_in_inventory cave s) (range_with_len 1 n)
 abbrev pub objects_listed : Deed Command → List ℕ
 objects_listed d = listed_up_to d.cave d.scene.state LAST_OBJECT
 
-abbrev pub nothing_listed : Test Command
-nothing_listed d = length (objects_listed d) == 0
+abbrev pub is_inventory_empty : Test Command
+is_inventory_empty d = length (objects_listed d) == 0
 
 abbrev pub after_naming : List ℕ → Scene → Scene
 after_naming objects p = record p { parts = p.parts ++ map part.Name objects }
@@ -57,6 +56,5 @@ tell_bear = when (in_hand (the name.Bear)) (say role.BearFollows)
 
 unfoldable pub bare_inventory_rows : List VerbRow
 bare_inventory_rows =
-    row (nothing_listed ∷ []) (say role.Empty ∷ tell_bear ∷ [])
-    ∷ row [] (say role.Holding ∷ name_them ∷ tell_bear ∷ [])
-    ∷ []
+    row (is_inventory_empty ∷ []) (say role.Empty ∷ tell_bear ∷ [])
+    ∷ otherwise_then (say role.Holding ∷ name_them ∷ tell_bear ∷ []) stays

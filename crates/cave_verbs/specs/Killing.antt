@@ -4,19 +4,18 @@ use Rattle.verb_commands.specs.data_rows.declared.role.Role.TheVariants as role
 use Rattle.verb_commands.specs.cave_words.declared.named.Named.TheVariants as name
 use Rattle.verb_commands.specs.cave_world.declared.ending.Ending.TheVariants as ending
 use Rattle.verb_commands.specs.cave_world.declared.ending.Question.TheVariants as question
-use Rattle.verb_commands.specs.Choice.{candidate, objects_meant, several, first}
-use Rattle.verb_commands.specs.Rows.{VerbRow, row, keeps, poses, ends, does}
-use Rattle.verb_commands.specs.turn_rules.Rows.{Deed, Test, row_then}
-use Rattle.verb_commands.specs.Effects.{default, ask_what}
+use Rattle.verb_commands.specs.turn_things.Props.{BEAR_DEAD, BEAR_WILD, BIRD_FREE, DRAGON_ALIVE}
+use Rattle.verb_commands.specs.turn_rules.Rows.{Deed, Test, row_then, otherwise_then}
 use Rattle.verb_commands.specs.turn_rules.Effects.{say, destroy, set_prop, lose_to_snake}
+use Rattle.verb_commands.specs.turn_rules.Tests.{the, no, either, both, there_is, near, is_here}
+use Rattle.verb_commands.specs.turn_rules.Tests.{prop, dwarf, cave_closed}
+use Rattle.verb_commands.specs.Choice.{candidate, objects_meant, several, first}
+use Rattle.verb_commands.specs.Rows.{VerbRow, row, keeps, poses, ends, does, stays}
+use Rattle.verb_commands.specs.Effects.{default, ask_what}
 use Rattle.verb_commands.specs.Verbs.{is_verb}
 use Rattle.verb_commands.specs.declared.verb.Verb.{Verb}
 use Rattle.verb_commands.specs.declared.verb.Verb.TheVariants as verb
 use Rattle.verb_commands.specs.Tests.{x, is}
-use Rattle.verb_commands.specs.turn_rules.Tests.{the, no, either, both, there_is, near, is_here}
-use Rattle.verb_commands.specs.turn_rules.Tests.{prop}
-use Rattle.verb_commands.specs.turn_rules.Tests.{dwarf, cave_closed}
-use Rattle.verb_commands.specs.turn_things.Props.{BEAR_DEAD, BEAR_WILD, BIRD_FREE, DRAGON_ALIVE}
 use Rattle.verb_commands.specs.declared.command.Command.{Command}
 
 -- the player's own verb, which may have gone on to this one
@@ -45,8 +44,7 @@ bare_kill_rows =
     ∷ row_then (there_is (first foes) ∷ []) [] (does verb.Kill (first foes))
     ∷ row_then (several prey ∷ []) (ask_what ∷ []) keeps
     ∷ row_then (there_is (first prey) ∷ []) [] (does verb.Kill (first prey))
-    ∷ row [] (say role.NoneToKill ∷ [])
-    ∷ []
+    ∷ otherwise_then (say role.NoneToKill ∷ []) stays
 
 unfoldable pub kill_rows : List VerbRow
 kill_rows =
@@ -63,5 +61,4 @@ kill_rows =
     ∷ row (is name.Bear ∷ prop x BEAR_WILD ∷ []) (say role.BearFight ∷ [])
     ∷ row (is name.Bear ∷ prop x BEAR_DEAD ∷ []) (say role.DeadAlready ∷ [])
     ∷ row (is name.Bear ∷ []) (say role.BearFriend ∷ [])
-    ∷ row [] (default ∷ [])
-    ∷ []
+    ∷ otherwise_then (default ∷ []) stays

@@ -1,31 +1,25 @@
 -- OPEN and LOCK.
-use Rattle.std.specs.Prelude.{ℕ, Bool, true, false, List, [], ◌∷◌}
+use Rattle.std.specs.Prelude.{ℕ, List, [], ◌∷◌}
 use Rattle.verb_commands.specs.data_rows.declared.place_role.PlaceRole.TheVariants as place
 use Rattle.verb_commands.specs.data_rows.declared.role.Role.TheVariants as role
 use Rattle.verb_commands.specs.cave_words.declared.named.Named.TheVariants as name
 use Rattle.verb_commands.specs.turn_things.Props.{BEAR_DEAD, BEAR_FREE, BEAR_WILD, CHAIN_LOCKED}
 use Rattle.verb_commands.specs.turn_things.Props.{CHAIN_UNLOCKED, DOOR_OILED, GRATE_LOCKED}
 use Rattle.verb_commands.specs.turn_things.Props.{GRATE_UNLOCKED}
-use Rattle.verb_commands.specs.Choice.{candidate, objects_meant, first}
-use Rattle.verb_commands.specs.Rows.{VerbRow, row, keeps}
-use Rattle.verb_commands.specs.turn_rules.Rows.{Deed, Test, Thing, row_then}
-use Rattle.verb_commands.specs.Effects.{default, ask_what}
+use Rattle.verb_commands.specs.turn_rules.Rows.{Deed, Test, Thing, row_then, otherwise_then}
 use Rattle.verb_commands.specs.turn_rules.Effects.{say, bring, destroy, fix, loosen, set_prop}
 use Rattle.verb_commands.specs.turn_rules.Effects.{lay_down, send, panic}
-use Rattle.verb_commands.specs.declared.verb.Verb.{Verb}
-use Rattle.verb_commands.specs.declared.verb.Verb.TheVariants as verb
-use Rattle.verb_commands.specs.Tests.{x, is}
 use Rattle.verb_commands.specs.turn_rules.Tests.{the, no, either, there_is, in_hand, near, is_here}
 use Rattle.verb_commands.specs.turn_rules.Tests.{prop, other_prop, cave_closing, away_from_home}
+use Rattle.verb_commands.specs.Choice.{candidate, objects_meant, first}
+use Rattle.verb_commands.specs.Rows.{VerbRow, row, keeps, stays}
+use Rattle.verb_commands.specs.Effects.{default, ask_what}
+use Rattle.verb_commands.specs.declared.verb.Verb.TheVariants as verb
+use Rattle.verb_commands.specs.Tests.{x, is}
 use Rattle.verb_commands.specs.Verbs.{is_verb}
 use Rattle.verb_commands.specs.declared.next.Step.{Step}
 use Rattle.verb_commands.specs.declared.next.Step.TheVariants.{GoOn}
 use Rattle.verb_commands.specs.declared.command.Command.{Command}
-
-abbrev pub opens_or_locks : Verb → Bool
-opens_or_locks verb.Open = true
-opens_or_locks verb.Lock = true
-opens_or_locks _ = false
 
 abbrev pub is_opening : Test Command
 is_opening d = is_verb d.about.verb verb.Open
@@ -52,8 +46,7 @@ bare_open_rows =
     row_then (there_is (first locks) ∷ near (the name.Chain) ∷ []) (ask_what ∷ []) keeps
     ∷ row_then (there_is (first locks) ∷ []) [] (does_it_to (first locks))
     ∷ row_then (near (the name.Chain) ∷ []) [] (does_it_to (the name.Chain))
-    ∷ row [] (say role.NoLock ∷ [])
-    ∷ []
+    ∷ otherwise_then (say role.NoLock ∷ []) stays
 
 -- with the keys: what is done to the chain, and of what is neither grate nor chain the default
 unfoldable pub chain_rows : List VerbRow
@@ -65,14 +58,12 @@ chain_rows =
     (set_prop x CHAIN_UNLOCKED ∷ loosen x ∷ fix (the name.Bear) ∷ say role.ChainFree ∷ [])
     ∷ row (is name.Chain ∷ is_opening ∷ [])
     (set_prop x CHAIN_UNLOCKED ∷ loosen x ∷ set_prop (the name.Bear) BEAR_FREE
-    ∷ loosen (the name.Bear)
-    ∷ say role.ChainFree ∷ [])
+    ∷ loosen (the name.Bear) ∷ say role.ChainFree ∷ [])
     ∷ row (is name.Chain ∷ away_from_home x ∷ []) (say role.NoLockHere ∷ [])
     ∷ row (is name.Chain ∷ other_prop x CHAIN_UNLOCKED ∷ []) (say role.WasLocked ∷ [])
     ∷ row (is name.Chain ∷ [])
     (lay_down x ∷ set_prop x CHAIN_LOCKED ∷ fix x ∷ say role.ChainLock ∷ [])
-    ∷ row [] (default ∷ [])
-    ∷ []
+    ∷ otherwise_then (default ∷ []) stays
 
 -- with the keys: what is done to the grate, and then to the chain
 unfoldable pub lock_rows : List VerbRow

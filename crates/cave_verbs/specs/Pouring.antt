@@ -2,24 +2,24 @@
 use Rattle.std.specs.Prelude.{ℕ, pos, ◌+ℤ◌, int_div, ◌==◌, ◌||◌, if◌then◌else◌, List, [], ◌∷◌}
 use Rattle.std.specs.Prelude.{unwrap_or}
 use Rattle.std.specs.Int.{int_rem_euclid}
-use Rattle.verb_commands.specs.cave_data.CaveView.{CaveView}
 use Rattle.verb_commands.specs.data_rows.declared.role.Role.TheVariants as role
+use Rattle.verb_commands.specs.cave_data.CaveView.{CaveView}
 use Rattle.verb_commands.specs.cave_words.declared.named.Named.{Named}
 use Rattle.verb_commands.specs.cave_words.declared.named.Named.TheVariants as name
 use Rattle.verb_commands.specs.world_objects.Objects.{prop_of}
 use Rattle.verb_commands.specs.cave_world.declared.state.State.{State}
+use Rattle.verb_commands.specs.turn_scene.Scene.{is_called}
 use Rattle.verb_commands.specs.turn_things.Liquids.{liquid_of}
 use Rattle.verb_commands.specs.turn_things.Props.{BOTTLE_EMPTY, BOTTLE_OF_OIL, BOTTLE_OF_WATER}
 use Rattle.verb_commands.specs.turn_things.Props.{DOOR_OILED, DOOR_RUSTY, VASE_BROKEN}
-use Rattle.verb_commands.specs.turn_scene.Scene.{is_called}
-use Rattle.verb_commands.specs.Effects.{default, ask_what}
 use Rattle.verb_commands.specs.turn_rules.Effects.{say, look, bring, fix, set_prop}
-use Rattle.verb_commands.specs.Rows.{VerbRow, row, keeps, again, does}
-use Rattle.verb_commands.specs.turn_rules.Rows.{Test, Effect, Thing, row_then}
+use Rattle.verb_commands.specs.turn_rules.Rows.{Test, Effect, Thing, row_then, otherwise_then}
+use Rattle.verb_commands.specs.turn_rules.Tests.{the, no, either, both, there_is, in_hand, near}
+use Rattle.verb_commands.specs.turn_rules.Tests.{is_here, in_bottle, bottle_full, in_lake, lake}
+use Rattle.verb_commands.specs.Effects.{default, ask_what}
+use Rattle.verb_commands.specs.Rows.{VerbRow, row, keeps, again, does, stays}
 use Rattle.verb_commands.specs.declared.verb.Verb.TheVariants as verb
 use Rattle.verb_commands.specs.Tests.{x, no_object, is}
-use Rattle.verb_commands.specs.turn_rules.Tests.{the, no, either, both, in_hand, near, is_here}
-use Rattle.verb_commands.specs.turn_rules.Tests.{in_bottle, bottle_full, in_lake, lake}
 use Rattle.verb_commands.specs.declared.command.Command.{Command}
 
 -- what is poured: what is in the bottle, where that or nothing is named; 0 for a liquid without a
@@ -70,23 +70,20 @@ pour_rows =
     ∷ row_then (is_here (the name.Plant) ∷ pours name.Water ∷ [])
     (empty_bottle ∷ plant_watered) again
     ∷ row (is_here (the name.Plant) ∷ []) (empty_bottle ∷ say role.PlantOil ∷ [])
-    ∷ row [] (empty_bottle ∷ say role.PourGround ∷ [])
-    ∷ []
+    ∷ otherwise_then (empty_bottle ∷ say role.PourGround ∷ []) stays
 
 unfoldable pub drink_rows : List VerbRow
 drink_rows =
     row_then (no_object ∷ no (in_lake (the name.Water)) ∷ no water_at_hand ∷ [])
     (ask_what ∷ []) keeps
-    ∷ row (no no_object ∷ no (is name.Water) ∷ []) (say role.Ridiculous ∷ [])
+    ∷ row (there_is x ∷ no (is name.Water) ∷ []) (say role.Ridiculous ∷ [])
     ∷ row (water_at_hand ∷ []) (empty_bottle ∷ say role.Drunk ∷ [])
-    ∷ row [] (default ∷ [])
-    ∷ []
+    ∷ otherwise_then (default ∷ []) stays
 
 unfoldable pub bare_fill_rows : List VerbRow
 bare_fill_rows =
     row_then (near (the name.Bottle) ∷ []) [] (does verb.Fill (the name.Bottle))
-    ∷ row_then [] (ask_what ∷ []) keeps
-    ∷ []
+    ∷ otherwise_then (ask_what ∷ []) keeps
 
 unfoldable pub fill_rows : List VerbRow
 fill_rows =
@@ -97,5 +94,4 @@ fill_rows =
     ∷ row (bottle_full ∷ []) (say role.BottleFull ∷ [])
     ∷ row (no lake ∷ []) (say role.NoLake ∷ [])
     ∷ row (in_lake (the name.Oil) ∷ []) (set_prop x BOTTLE_OF_OIL ∷ say role.FilledOil ∷ [])
-    ∷ row [] (set_prop x BOTTLE_OF_WATER ∷ say role.FilledWater ∷ [])
-    ∷ []
+    ∷ otherwise_then (set_prop x BOTTLE_OF_WATER ∷ say role.FilledWater ∷ []) stays

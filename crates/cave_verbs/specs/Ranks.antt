@@ -23,7 +23,7 @@ drop_rank cave x = if is_called cave x name.Rod then 1 else 0
 abbrev pub throw_rank : CaveView → ℕ → ℕ
 throw_rank cave x = if is_called cave x name.Rod then 3 else 2
 
--- other verbs that go on do so from no object to one
+-- FEED goes on to nothing, and other verbs only from no object to one
 abbrev pub bare_rank : ℕ → ℕ
 bare_rank x = if x == 0 then 1 else 0
 
@@ -31,13 +31,8 @@ abbrev pub rank : CaveView → Verb → ℕ → ℕ
 rank cave verb.Take x = take_rank cave x
 rank cave verb.Drop x = drop_rank cave x
 rank cave verb.Throw x = throw_rank cave x
-rank cave verb.Open x = bare_rank x
-rank cave verb.Lock x = bare_rank x
-rank cave verb.Kill x = bare_rank x
-rank cave verb.Eat x = bare_rank x
-rank cave verb.Fill x = bare_rank x
-rank cave verb.Read x = bare_rank x
-rank cave _ x = 0
+rank cave verb.Feed x = 0
+rank cave _ x = bare_rank x
 
 -- a verb that goes on is above what it goes on with
 abbrev pub rank_of : CaveView → Step → ℕ

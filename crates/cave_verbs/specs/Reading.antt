@@ -1,25 +1,21 @@
 -- READ.
-use Rattle.std.specs.Prelude.{ℕ, ◌&&◌, if◌then◌else◌, List, [], ◌∷◌}
+use Rattle.std.specs.Prelude.{ℕ, List, [], ◌∷◌}
 use Rattle.verb_commands.specs.data_rows.declared.role.Role.TheVariants as role
 use Rattle.verb_commands.specs.cave_words.declared.named.Named.TheVariants as name
-use Rattle.verb_commands.specs.cave_world.State.{CLUE_HINT, is_hint_taken}
+use Rattle.verb_commands.specs.cave_world.State.{CLUE_HINT}
 use Rattle.verb_commands.specs.cave_world.declared.ending.Question.TheVariants as question
 use Rattle.verb_commands.specs.cave_world.declared.part.Part.TheVariants as part
 use Rattle.verb_commands.specs.cave_world.declared.part.WordLine.TheVariants as line
-use Rattle.verb_commands.specs.turn_scene.Scene.{thing}
-use Rattle.verb_commands.specs.Choice.{candidate, objects_meant, only}
-use Rattle.verb_commands.specs.Rows.{VerbRow, row, keeps, poses, does}
-use Rattle.verb_commands.specs.turn_rules.Rows.{Deed, Test, Effect, Thing, row_then}
-use Rattle.verb_commands.specs.Effects.{default, ask_what}
+use Rattle.verb_commands.specs.turn_rules.Rows.{Deed, Effect, row_then, given, otherwise_then}
 use Rattle.verb_commands.specs.turn_rules.Effects.{tell, say}
+use Rattle.verb_commands.specs.turn_rules.Tests.{the, there_is, in_hand, near, cave_closed}
+use Rattle.verb_commands.specs.turn_rules.Tests.{in_the_dark, has_hint}
+use Rattle.verb_commands.specs.Choice.{candidate, objects_meant, only}
+use Rattle.verb_commands.specs.Rows.{VerbRow, row, keeps, poses, does, stays}
+use Rattle.verb_commands.specs.Effects.{default, ask_what}
 use Rattle.verb_commands.specs.declared.verb.Verb.TheVariants as verb
 use Rattle.verb_commands.specs.Tests.{x, is}
-use Rattle.verb_commands.specs.turn_rules.Tests.{the, no, there_is, in_hand, near, cave_closed}
-use Rattle.verb_commands.specs.turn_rules.Tests.{in_the_dark}
 use Rattle.verb_commands.specs.declared.command.Command.{Command}
-
-abbrev pub hint_taken : ℕ → Test Command
-hint_taken number d = is_hint_taken d.scene.state number
 
 -- it is said that the word that was just read isn't seen here
 abbrev pub not_seen : Effect Command
@@ -32,17 +28,12 @@ papers = objects_meant
     ∷ candidate name.Message (near (the name.Message))
     ∷ [])
 
--- what is read where no object is named:
--- in the closed cave the oyster that is carried, else the only paper here
-abbrev pub what_to_read : Thing Command
-what_to_read d =
-    if cave_closed d && in_hand (the name.Oyster) d then thing d.cave name.Oyster else only papers d
-
 unfoldable pub bare_read_rows : List VerbRow
 bare_read_rows =
-    row_then (there_is what_to_read ∷ no in_the_dark ∷ []) [] (does verb.Read what_to_read)
-    ∷ row_then [] (ask_what ∷ []) keeps
-    ∷ []
+    row_then (in_the_dark ∷ []) (ask_what ∷ []) keeps
+    ∷ row_then (cave_closed ∷ in_hand (the name.Oyster) ∷ []) [] (does verb.Read (the name.Oyster))
+    ∷ row_then (there_is (only papers) ∷ []) [] (does verb.Read (only papers))
+    ∷ otherwise_then (ask_what ∷ []) keeps
 
 unfoldable pub read_rows : List VerbRow
 read_rows =
@@ -50,7 +41,6 @@ read_rows =
     ∷ row (is name.Magazine ∷ []) (say role.ReadMagazine ∷ [])
     ∷ row (is name.Tablet ∷ []) (say role.ReadTablet ∷ [])
     ∷ row (is name.Message ∷ []) (say role.ReadMessage ∷ [])
-    ∷ row (is name.Oyster ∷ in_hand x ∷ hint_taken CLUE_HINT ∷ []) (say role.ReadOyster ∷ [])
+    ∷ row (is name.Oyster ∷ in_hand x ∷ has_hint (given CLUE_HINT) ∷ []) (say role.ReadOyster ∷ [])
     ∷ row_then (is name.Oyster ∷ in_hand x ∷ cave_closed ∷ []) [] (poses question.Oyster)
-    ∷ row [] (default ∷ [])
-    ∷ []
+    ∷ otherwise_then (default ∷ []) stays

@@ -3,10 +3,11 @@ use Rattle.std.specs.Prelude.{true, List, [], ◌∷◌}
 use Rattle.verb_commands.specs.data_rows.declared.role.Role.TheVariants as role
 use Rattle.verb_commands.specs.cave_world.declared.ending.Question.TheVariants as question
 use Rattle.verb_commands.specs.cave_world.declared.state.State.{State}
-use Rattle.verb_commands.specs.Effects.{default, ask_what}
+use Rattle.verb_commands.specs.turn_things.Effects.{with_talk}
 use Rattle.verb_commands.specs.turn_rules.Effects.{change, say}
-use Rattle.verb_commands.specs.Rows.{VerbRow, row, keeps, poses}
 use Rattle.verb_commands.specs.turn_rules.Rows.{row_then}
+use Rattle.verb_commands.specs.Effects.{default, ask_what}
+use Rattle.verb_commands.specs.Rows.{VerbRow, row, keeps, poses}
 
 -- a verb that needs an object and has none
 unfoldable pub bare_rows : List VerbRow
@@ -28,8 +29,7 @@ bare_score_rows = row_then [] [] (poses question.ScoreQuit) ∷ []
 -- places are described briefly from now on, and it was said often enough that there are no more
 -- details
 abbrev pub with_brevity : State → State
-with_brevity s =
-    let talk = s.talk in record s { talk = record talk { is_brief = true; details = 3 } }
+with_brevity s = with_talk (record (s.talk) { is_brief = true; details = 3 }) s
 
 unfoldable pub bare_brief_rows : List VerbRow
 bare_brief_rows = row [] (change with_brevity ∷ say role.Brief ∷ []) ∷ []

@@ -4,18 +4,17 @@ use Rattle.verb_commands.specs.data_rows.declared.role.Role.TheVariants as role
 use Rattle.verb_commands.specs.cave_words.declared.named.Named.TheVariants as name
 use Rattle.verb_commands.specs.world_objects.Lists.{object_of, halves_at}
 use Rattle.verb_commands.specs.world_objects.declared.object.Half.{Half}
-use Rattle.verb_commands.specs.Effects.{default, ask_what}
-use Rattle.verb_commands.specs.turn_rules.Effects.{say, carry, set_prop}
-use Rattle.verb_commands.specs.Rows.{VerbRow, row, keeps, does}
-use Rattle.verb_commands.specs.turn_rules.Rows.{Thing, row_then}
-use Rattle.verb_commands.specs.declared.verb.Verb.TheVariants as verb
-use Rattle.verb_commands.specs.Tests.{x, is}
-use Rattle.verb_commands.specs.turn_rules.Tests.{the, no, either, there_is, in_hand, near, fixed}
-use Rattle.verb_commands.specs.turn_rules.Tests.{prop}
-use Rattle.verb_commands.specs.turn_rules.Tests.{other_prop, prop_up_to, dwarf, in_bottle}
-use Rattle.verb_commands.specs.turn_rules.Tests.{full_hands}
 use Rattle.verb_commands.specs.turn_things.Props.{BEAR_FED, BEAR_WILD, BIRD_CAGED, BIRD_FREE}
 use Rattle.verb_commands.specs.turn_things.Props.{BOTTLE_EMPTY, PLANT_SMALL}
+use Rattle.verb_commands.specs.turn_rules.Effects.{say, carry, set_prop}
+use Rattle.verb_commands.specs.turn_rules.Rows.{Thing, row_then, otherwise_then}
+use Rattle.verb_commands.specs.turn_rules.Tests.{the, no, either, there_is, in_hand, near, prop}
+use Rattle.verb_commands.specs.turn_rules.Tests.{immovable, other_prop, prop_up_to, dwarf}
+use Rattle.verb_commands.specs.turn_rules.Tests.{in_bottle, full_hands}
+use Rattle.verb_commands.specs.Effects.{default, ask_what}
+use Rattle.verb_commands.specs.Rows.{VerbRow, row, keeps, does, stays}
+use Rattle.verb_commands.specs.declared.verb.Verb.TheVariants as verb
+use Rattle.verb_commands.specs.Tests.{x, is}
 use Rattle.verb_commands.specs.declared.command.Command.{Command}
 
 -- the object of which a half is here alone; 0 where there are more halves, or none
@@ -29,8 +28,7 @@ lone d = lone_object (halves_at d.scene.state.trail.here d.scene.state.objects.l
 unfoldable pub bare_take_rows : List VerbRow
 bare_take_rows =
     row_then (there_is lone ∷ no dwarf ∷ []) [] (does verb.Take lone)
-    ∷ row_then [] (ask_what ∷ []) keeps
-    ∷ []
+    ∷ otherwise_then (ask_what ∷ []) keeps
 
 -- the object isn't fixed, and the hands aren't full
 unfoldable pub take_freely_rows : List VerbRow
@@ -43,17 +41,16 @@ take_freely_rows =
     ∷ row (is name.Bird ∷ []) (carry (the name.Cage) ∷ carry x ∷ say role.Ok ∷ [])
     ∷ row (is name.Cage ∷ other_prop (the name.Bird) BIRD_FREE ∷ [])
     (carry (the name.Bird) ∷ carry x ∷ say role.Ok ∷ [])
-    ∷ row [] (carry x ∷ say role.Ok ∷ [])
-    ∷ []
+    ∷ otherwise_then (carry x ∷ say role.Ok ∷ []) stays
 
 unfoldable pub take_rows : List VerbRow
 take_rows =
     row (in_hand x ∷ []) (default ∷ [])
-    ∷ row (fixed x ∷ is name.Plant ∷ prop_up_to x PLANT_SMALL ∷ []) (say role.PlantRoots ∷ [])
-    ∷ row (fixed x ∷ is name.Bear ∷ prop x BEAR_FED ∷ []) (say role.BearChained ∷ [])
-    ∷ row (fixed x ∷ is name.Chain ∷ other_prop (the name.Bear) BEAR_WILD ∷ [])
+    ∷ row (immovable x ∷ is name.Plant ∷ prop_up_to x PLANT_SMALL ∷ []) (say role.PlantRoots ∷ [])
+    ∷ row (immovable x ∷ is name.Bear ∷ prop x BEAR_FED ∷ []) (say role.BearChained ∷ [])
+    ∷ row (immovable x ∷ is name.Chain ∷ other_prop (the name.Bear) BEAR_WILD ∷ [])
     (say role.ChainLocked ∷ [])
-    ∷ row (fixed x ∷ []) (say role.Immovable ∷ [])
+    ∷ row (immovable x ∷ []) (say role.Immovable ∷ [])
     ∷ row_then (in_bottle x ∷ near (the name.Bottle) ∷ []) [] (does verb.Take (the name.Bottle))
     ∷ row_then (either (is name.Water) (is name.Oil) ∷ in_hand (the name.Bottle)
     ∷ prop (the name.Bottle) BOTTLE_EMPTY ∷ []) [] (does verb.Fill (the name.Bottle))

@@ -1,6 +1,6 @@
 -- THROW.
-use Rattle.std.specs.Prelude.{ℕ, ◌+◌, false, ◌==◌, min, List, [], ◌∷◌, take, Option}
-use Rattle.std.specs.Prelude.{Some, None, slice_index_or, slice_set}
+use Rattle.std.specs.Prelude.{ℕ, ◌+◌, false, ◌==◌, min, List, [], ◌∷◌, take, Option, Some, None}
+use Rattle.std.specs.Prelude.{slice_index_or, slice_set}
 use Rattle.std.specs.List.{position}
 use Rattle.verb_commands.specs.data_rows.declared.role.Role.TheVariants as role
 use Rattle.verb_commands.specs.cave_words.declared.named.Named.TheVariants as name
@@ -10,20 +10,18 @@ use Rattle.verb_commands.specs.cave_world.declared.dwarves.Dwarf.{Dwarf}
 use Rattle.verb_commands.specs.cave_world.declared.state.State.{State}
 use Rattle.verb_commands.specs.turn_things.Reach.{is_dwarf_at}
 use Rattle.verb_commands.specs.turn_things.Props.{AXE_BY_BEAR, BEAR_WILD, DRAGON_ALIVE}
-use Rattle.verb_commands.specs.Rows.{VerbRow, row, again, does}
-use Rattle.verb_commands.specs.turn_rules.Rows.{Test, Effect, Thing, row_then, row_by_draw}
-use Rattle.verb_commands.specs.Effects.{default}
+use Rattle.verb_commands.specs.turn_things.Effects.{with_dwarves}
+use Rattle.verb_commands.specs.turn_rules.Rows.{Test, Effect, row_then, row_by_draw, given}
+use Rattle.verb_commands.specs.turn_rules.Rows.{otherwise_then}
 use Rattle.verb_commands.specs.turn_rules.Effects.{in_state, say, bring, destroy, fix, juggle}
 use Rattle.verb_commands.specs.turn_rules.Effects.{set_prop, troll_goes}
-use Rattle.verb_commands.specs.declared.verb.Verb.TheVariants as verb
-use Rattle.verb_commands.specs.Tests.{x, is}
 use Rattle.verb_commands.specs.turn_rules.Tests.{the, no, in_hand, near, is_here, prop, dwarf}
 use Rattle.verb_commands.specs.turn_rules.Tests.{treasure, one_in}
+use Rattle.verb_commands.specs.Rows.{VerbRow, row, again, does}
+use Rattle.verb_commands.specs.Effects.{default}
+use Rattle.verb_commands.specs.declared.verb.Verb.TheVariants as verb
+use Rattle.verb_commands.specs.Tests.{x, is}
 use Rattle.verb_commands.specs.declared.command.Command.{Command}
-
--- no object
-abbrev pub no_thing : Thing Command
-no_thing d = 0
 
 abbrev pub killed_dwarf : Dwarf → Dwarf
 killed_dwarf one = record one { place = 0; has_seen = false }
@@ -39,34 +37,29 @@ without_first_at place each = without_one each (position (is_dwarf_at place) (ta
 
 abbrev pub with_one_killed : State → State
 with_one_killed s = let dwarves = s.dwarves in
-    record s {
-      dwarves = record dwarves {
-        kills = min (dwarves.kills + 1) MAX_KILLS;
-        each = without_first_at s.trail.here dwarves.each;
-      };
-    }
+    let each = without_first_at s.trail.here dwarves.each in
+    with_dwarves (record dwarves { kills = min (dwarves.kills + 1) MAX_KILLS; each = each }) s
 
 -- the first dwarf that is here is killed
 abbrev pub strike : Effect Command
 strike d = in_state (with_one_killed d.scene.state) d
 
 -- no dwarf was killed yet
-abbrev pub none_killed : Test Command
-none_killed d = d.scene.state.dwarves.kills == 0
+abbrev pub is_first_kill : Test Command
+is_first_kill d = d.scene.state.dwarves.kills == 0
 
 -- the axe: at a dwarf it misses in one of three cases
 unfoldable pub axe_rows : List VerbRow
 axe_rows =
     row_by_draw (dwarf ∷ []) (one_in 3) (say role.AxeMiss ∷ bring x ∷ []) again
-    ∷ row_then (dwarf ∷ none_killed ∷ []) (strike ∷ say role.AxeFirst ∷ bring x ∷ []) again
+    ∷ row_then (dwarf ∷ is_first_kill ∷ []) (strike ∷ say role.AxeFirst ∷ bring x ∷ []) again
     ∷ row_then (dwarf ∷ []) (strike ∷ say role.AxeKill ∷ bring x ∷ []) again
     ∷ row_then (is_here (the name.Dragon) ∷ prop (the name.Dragon) DRAGON_ALIVE ∷ [])
     (say role.AxeDragon ∷ bring x ∷ []) again
     ∷ row_then (is_here (the name.Troll) ∷ []) (say role.AxeTroll ∷ bring x ∷ []) again
     ∷ row (near (the name.Bear) ∷ prop (the name.Bear) BEAR_WILD ∷ [])
     (bring x ∷ fix x ∷ set_prop x AXE_BY_BEAR ∷ juggle (the name.Bear) ∷ say role.AxeBear ∷ [])
-    ∷ row_then [] [] (does verb.Kill no_thing)
-    ∷ []
+    ∷ otherwise_then [] (does verb.Kill (given 0))
 
 unfoldable pub throw_rows : List VerbRow
 throw_rows =

@@ -3,12 +3,12 @@ use Rattle.std.specs.Prelude.{pos, ◌-ℤ◌, List, [], ◌∷◌}
 use Rattle.verb_commands.specs.data_rows.declared.role.Role.TheVariants as role
 use Rattle.verb_commands.specs.cave_words.declared.named.Named.TheVariants as name
 use Rattle.verb_commands.specs.world_objects.Objects.{prop_of}
-use Rattle.verb_commands.specs.Effects.{default}
 use Rattle.verb_commands.specs.turn_rules.Effects.{say, look, set_prop}
-use Rattle.verb_commands.specs.Rows.{VerbRow, row}
-use Rattle.verb_commands.specs.turn_rules.Rows.{Effect, Thing}
-use Rattle.verb_commands.specs.Tests.{x, is}
+use Rattle.verb_commands.specs.turn_rules.Rows.{Effect, Thing, otherwise_then}
 use Rattle.verb_commands.specs.turn_rules.Tests.{the, no, both, in_hand, is_here, cave_closing}
+use Rattle.verb_commands.specs.Effects.{default}
+use Rattle.verb_commands.specs.Rows.{VerbRow, row, stays}
+use Rattle.verb_commands.specs.Tests.{x, is}
 use Rattle.verb_commands.specs.declared.command.Command.{Command}
 
 -- a prop becomes 1 less what it was
@@ -25,11 +25,9 @@ wave_rows =
     (say role.NotHeld ∷ [])
     ∷ row (is name.Rod ∷ is_here (the name.Fissure) ∷ in_hand (the name.Rod) ∷ no cave_closing ∷ [])
     (flip (the name.Fissure) ∷ look_at_flip (the name.Fissure) ∷ [])
-    ∷ row [] (default ∷ [])
-    ∷ []
+    ∷ otherwise_then (default ∷ []) stays
 
 unfoldable pub rub_rows : List VerbRow
 rub_rows =
     row (is name.Lamp ∷ []) (default ∷ [])
-    ∷ row [] (say role.RubOdd ∷ [])
-    ∷ []
+    ∷ otherwise_then (say role.RubOdd ∷ []) stays

@@ -7,7 +7,7 @@ ghost use Rattle.cave_verbs.specs.Acting.{act, act_bare, act_on, act_once, act_w
 ghost use Rattle.verb_commands.specs.Rows.{ActsBy};
 ghost use Rattle.verb_commands.specs.turn_rules.Rows.{act_of, deed};
 ghost use Rattle.cave_verbs.specs.Ranks.{rank, rank_of};
-ghost use Rattle.verb_commands.specs.Room.{parts_before};
+ghost use Rattle.verb_commands.specs.Room.{parts_by};
 
 use crate::blasting::blast;
 use crate::breaking::{break_object, wake};
@@ -32,7 +32,8 @@ pub fn act(rules: &Rules<'_>, command: Command, scene: &mut Scene<'_>) -> Next
     requires { HasRoom parts_of_verb scene.old }
     ensures rules { act_of (scene_of scene.new) (Done result)
         ≡ act (cave_of rules.now) command (scene_of scene.old) }
-    ensures says { GoesOnSaying (parts_of_goings_on 3 + parts_before result) scene.old scene.new }
+    ensures says { GoesOnSaying (parts_of_goings_on 3 + parts_by (Done result)) scene.old
+        scene.new }
 {
     act_within(rules, 3, command, scene)
 }
@@ -134,7 +135,7 @@ fn act_within(rules: &Rules<'_>, left: u8, command: Command, scene: &mut Scene<'
     requires room { HasRoom (parts_of_goings_on left + parts_of_inventory) scene.old }
     ensures rules { act_of (scene_of scene.new) (Done result)
         ≡ act_within left (deed (cave_of rules.now) command (scene_of scene.old)) }
-    ensures says { GoesOnSaying (parts_of_goings_on left + parts_before result) scene.old
+    ensures says { GoesOnSaying (parts_of_goings_on left + parts_by (Done result)) scene.old
         scene.new }
 {
     let Command {

@@ -1,18 +1,19 @@
-ghost use Rattle.std.specs.Prelude.{◌≡◌, ◌<◌, ◌-ℤ◌, not, pos};
+ghost use Rattle.std.specs.Prelude.{◌≡◌, ◌<◌, ◌-ℤ◌, not, pos, [], ◌∷◌};
 ghost use Rattle.std.specs.Ordering.{int_eq};
-ghost use Rattle.verb_commands.specs.turn_scene.Bounds.{GoesOnSaying, HasRoom};
+ghost use Rattle.verb_commands.specs.turn_scene.Bounds.{HasRoom};
 ghost use Rattle.verb_commands.specs.turn_scene.Scene.{scene_of, cave_of};
 ghost use Rattle.verb_commands.specs.declared.next.Next.TheVariants.{Stay};
-ghost use Rattle.cave_verbs.specs.Magic.{after_sending_home, bare_foo_rows, homing_sight};
+ghost use Rattle.cave_verbs.specs.Magic.{bare_foo_rows, eggs_sight, send_eggs_home};
 ghost use Rattle.cave_verbs.specs.Magic.{with_magic};
 ghost use Rattle.verb_commands.specs.Rows.{DoneByRows};
+ghost use Rattle.verb_commands.specs.turn_rules.Rows.{Does, deed};
 ghost use Rattle.verb_commands.specs.data_rows.Rows.{WORDS_PER_CLASS};
 ghost use Rattle.verb_commands.specs.cave_world.Limits.{IsMagic};
 
 use verb_commands::{
-    Command, EGGS_APPEARING, EGGS_ELSEWHERE, EGGS_VANISHING, Magic, Named, Next, Object, Prop,
-    Role, Rules, Scene, State, TROLL_CALM, TROLL_RETURNING, has_prop, home, is_at_home,
-    is_home_here, is_in_hand, is_near, special,
+    Command, EGGS_APPEARING, EGGS_ELSEWHERE, EGGS_VANISHING, Magic, Named, Next, Prop, Role, Rules,
+    Scene, State, TROLL_CALM, TROLL_RETURNING, has_prop, home, is_at_home, is_home_here,
+    is_in_hand, is_near, special,
 };
 
 /// How far the player has come with the magic words.
@@ -45,31 +46,32 @@ fn remember(state: &mut State, k: u16)
     set_magic(state, k as i16);
 }
 
-/// Which text is printed of an object that goes home: where it appears, where it vanishes, or
-/// elsewhere.
-fn homing_sight(rules: &Rules<'_>, state: &State, object: Object) -> Prop
-    ensures { result ≡ homing_sight (cave_of rules.now) state.now object }
+/// Which text is printed of the eggs as they go home.
+#[tactic(auto, unfolding(crate::specs::Magic::eggs_sight))]
+fn eggs_sight(rules: &Rules<'_>, command: &Command, scene: &Scene<'_>) -> Prop
+    ensures { result ≡ eggs_sight (deed (cave_of rules.now) command.now (scene_of scene.now)) }
 {
-    if is_home_here(rules, state, object) {
+    let eggs = rules.thing(Named::Eggs);
+    if is_home_here(rules, scene.state, eggs) {
         Prop::new(EGGS_APPEARING)
-    } else if is_near(rules, state, object) {
+    } else if is_near(rules, scene.state, eggs) {
         Prop::new(EGGS_VANISHING)
     } else {
         Prop::new(EGGS_ELSEWHERE)
     }
 }
 
-/// The text of an object that goes home is printed, and the object goes there.
-fn send_home(rules: &Rules<'_>, object: Object, scene: &mut Scene<'_>) -> Next
+/// The text of the eggs is printed, and they go home.
+#[tactic(auto, unfolding(crate::specs::Magic::send_eggs_home))]
+fn send_eggs_home(rules: &Rules<'_>, command: &Command, scene: &mut Scene<'_>) -> Next
     requires { HasRoom 1 scene.old }
-    ensures scene { scene_of scene.new
-        ≡ after_sending_home (cave_of rules.now) object (scene_of scene.old) }
-    ensures says { GoesOnSaying 1 scene.old scene.new }
+    ensures scene { Does (send_eggs_home ∷ []) 1 rules.now command.now scene.old scene.new }
     ensures next { result ≡ Stay }
 {
-    let sight = homing_sight(rules, scene.state, object);
-    scene.look(object, sight.value());
-    scene.state.move_to(object, home(rules, object));
+    let eggs = rules.thing(Named::Eggs);
+    let sight = eggs_sight(rules, command, scene);
+    scene.look(eggs, sight.value());
+    scene.state.move_to(eggs, home(rules, eggs));
     Next::Stay
 }
 
@@ -107,8 +109,8 @@ pub fn foo(rules: &Rules<'_>, command: Command, scene: &mut Scene<'_>) -> Next
             .state
             .objects
             .set_prop(troll, Prop::new(TROLL_RETURNING));
-        return send_home(rules, eggs, scene);
+        return send_eggs_home(rules, &command, scene);
     }
     set_magic(scene.state, 0);
-    send_home(rules, eggs, scene)
+    send_eggs_home(rules, &command, scene)
 }

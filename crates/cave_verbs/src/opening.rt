@@ -7,7 +7,9 @@ ghost use Rattle.cave_verbs.specs.Ranks.{rank_of};
 ghost use Rattle.verb_commands.specs.turn_rules.Effects.{after_sending};
 ghost use Rattle.verb_commands.specs.turn_rules.Rows.{deed};
 ghost use Rattle.cave_verbs.specs.Opening.{bare_open_rows, chain_rows, lock_rows, locks};
-ghost use Rattle.cave_verbs.specs.Opening.{open_rows, opens_or_locks};
+ghost use Rattle.cave_verbs.specs.Opening.{open_rows};
+ghost use Rattle.verb_commands.specs.Verbs.{is_verb};
+ghost use Rattle.verb_commands.specs.declared.verb.Verb.TheVariants as verb_is;
 
 use arrayvec::ArrayVec;
 use verb_commands::choice::{Meant, add_meant, first};
@@ -39,7 +41,8 @@ fn locks(rules: &Rules<'_>, command: &Command, scene: &Scene<'_>) -> Meant
 #[tactic(auto, using(crate::proofs::Near::is_something, crate::proofs::Falls::lock_falls), unfolding(crate::specs::Opening::bare_open_rows))]
 pub fn open_what_is_here(rules: &Rules<'_>, command: Command, scene: &mut Scene<'_>) -> Step
     requires room { HasRoom parts_of_row scene.old }
-    requires verb { IsTrue (opens_or_locks command.verb) }
+    requires verb { IsTrue (is_verb command.verb verb_is.Open
+        || is_verb command.verb verb_is.Lock) }
     ensures row { ByRows bare_open_rows rules.now command scene.old scene.new result }
     ensures ranks { rank_of (cave_of rules.now) result ≤ 1 }
 {

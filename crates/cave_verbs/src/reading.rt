@@ -4,13 +4,13 @@ ghost use Rattle.verb_commands.specs.turn_scene.Scene.{scene_of, cave_of};
 ghost use Rattle.verb_commands.specs.Rows.{ByRows, DoneByRows};
 ghost use Rattle.verb_commands.specs.turn_rules.Rows.{deed};
 ghost use Rattle.cave_verbs.specs.Ranks.{rank_of};
-ghost use Rattle.cave_verbs.specs.Reading.{papers, what_to_read, bare_read_rows, read_rows};
+ghost use Rattle.cave_verbs.specs.Reading.{papers, bare_read_rows, read_rows};
 
 use arrayvec::ArrayVec;
 use verb_commands::choice::{Meant, add_meant, only};
 use verb_commands::{
-    CLUE_HINT, Command, HintNumber, Named, Next, Object, Part, Question, Role, Rules, Scene, Step,
-    Verb, WordLine, is_in_hand, is_near,
+    CLUE_HINT, Command, HintNumber, Named, Next, Part, Question, Role, Rules, Scene, Step, Verb,
+    WordLine, is_in_hand, is_near,
 };
 
 /// The papers that the player could mean.
@@ -27,26 +27,22 @@ fn papers(rules: &Rules<'_>, command: &Command, scene: &Scene<'_>) -> Meant
     papers
 }
 
-/// What is read where no object is named, if it is clear.
-fn what_to_read(rules: &Rules<'_>, command: &Command, scene: &Scene<'_>) -> Object
-    ensures { result ≡ what_to_read (deed (cave_of rules.now) command.now (scene_of scene.now)) }
-{
-    let oyster = rules.thing(Named::Oyster);
-    if scene.state.closing.is_closed && is_in_hand(rules, scene.state, oyster) {
-        return oyster;
-    }
-    only(papers(rules, command, scene).as_slice())
-}
-
 /// READ without an object.
-#[tactic(auto, unfolding(crate::specs::Reading::bare_read_rows))]
+#[tactic(auto, using(crate::proofs::Falls::read_falls), unfolding(crate::specs::Reading::bare_read_rows))]
 pub fn read_what_is_here(rules: &Rules<'_>, command: Command, scene: &mut Scene<'_>) -> Step
     requires { HasRoom parts_of_row scene.old }
     ensures row { ByRows bare_read_rows rules.now command scene.old scene.new result }
     ensures ranks { rank_of (cave_of rules.now) result ≤ 1 }
 {
-    let paper = what_to_read(rules, &command, scene);
-    if !paper.is_none() && !scene.state.dark(rules.cave, rules.thing(Named::Lamp)) {
+    if scene.state.dark(rules.cave, rules.thing(Named::Lamp)) {
+        return Step::Done(command.ask_what(rules, scene));
+    }
+    let oyster = rules.thing(Named::Oyster);
+    if scene.state.closing.is_closed && is_in_hand(rules, scene.state, oyster) {
+        return Step::GoOn(Verb::Read, oyster);
+    }
+    let paper = only(papers(rules, &command, scene).as_slice());
+    if !paper.is_none() {
         return Step::GoOn(Verb::Read, paper);
     }
     Step::Done(command.ask_what(rules, scene))

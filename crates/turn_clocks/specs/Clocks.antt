@@ -1,11 +1,11 @@
 -- The clocks and the lamp, which go on before a command is read.
-use Rattle.std.specs.Prelude.{Bool, true, false, List, [], ◌∷◌}
-use Rattle.turn_rules.specs.cave_data.CaveView.{CaveView}
+use Rattle.std.specs.Prelude.{Bool, true, false, List, [], ◌∷◌, if◌then◌else◌}
 use Rattle.turn_rules.specs.data_rows.declared.place_role.PlaceRole.TheVariants as place
-use Rattle.turn_rules.specs.turn_scene.Scene.{Scene}
-use Rattle.turn_rules.specs.Rows.{Deed, Act, Test, Row, deed, row_then, first_fitting_or}
-use Rattle.turn_rules.specs.Rows.{nothing_but}
-use Rattle.turn_rules.specs.Tests.{no, cave_closed, is_bound, here}
+use Rattle.turn_rules.specs.cave_data.CaveView.{CaveView}
+use Rattle.turn_rules.specs.turn_scene.Scene.{Scene, here_of}
+use Rattle.turn_rules.specs.Rows.{Deed, Act, Row, deed, row_then, first_fitting_or, nothing_but}
+use Rattle.turn_rules.specs.Rows.{always, act_of}
+use Rattle.turn_rules.specs.Tests.{no, cave_closed, is_bound}
 use Rattle.turn_rules.specs.Effects.{change}
 use Rattle.turn_clocks.specs.declared.clocks.Clocks.{Clocks}
 use Rattle.turn_clocks.specs.declared.clocks.Clocks.TheVariants.{Closed}
@@ -15,38 +15,24 @@ use Rattle.turn_clocks.specs.Lamp.{lamp}
 use Rattle.turn_clocks.specs.Repository.{second_clock_goes, second_clock_runs_out}
 use Rattle.turn_clocks.specs.Repository.{with_second_clock_down, close_cave}
 
--- whether the cave is closed in this turn
-abbrev pub closes : Deed (Unit {0}) → Bool
-closes d = true
-
-abbrev pub stays_open : Deed (Unit {0}) → Bool
-stays_open d = false
-
+-- what follows is whether the cave is closed in this turn
 unfoldable pub clock_rows : List (Row (Unit {0}) Bool)
 clock_rows =
-    row_then (first_clock_goes ∷ first_clock_runs_out ∷ []) begin_closing stays_open
-    ∷ row_then (first_clock_goes ∷ []) (change with_first_clock_down ∷ []) stays_open
+    row_then (first_clock_goes ∷ first_clock_runs_out ∷ []) begin_closing (always false)
+    ∷ row_then (first_clock_goes ∷ []) (change with_first_clock_down ∷ [])
+    (always false)
     ∷ row_then (second_clock_goes ∷ second_clock_runs_out ∷ no cave_closed ∷ is_bound place.Ne
-    ∷ is_bound place.Sw ∷ []) (change with_second_clock_down ∷ close_cave) closes
-    ∷ row_then (second_clock_goes ∷ []) (change with_second_clock_down ∷ []) stays_open
+    ∷ is_bound place.Sw ∷ []) (change with_second_clock_down ∷ close_cave) (always true)
+    ∷ row_then (second_clock_goes ∷ []) (change with_second_clock_down ∷ [])
+    (always false)
     ∷ []
 
 -- one of the clocks goes on by a turn, if one goes
-unfoldable pub both_clocks : Deed (Unit {0}) → Act Bool
-both_clocks d = first_fitting_or clock_rows (nothing_but stays_open) d
+unfoldable pub tick_clocks : Deed (Unit {0}) → Act Bool
+tick_clocks d = first_fitting_or clock_rows (nothing_but (always false)) d
 
-abbrev pub closed_just_now : Test Bool
-closed_just_now d = d.about
-
-abbrev pub arrives_here : Deed Bool → Clocks
-arrives_here d = Closed (here d)
-
--- where the cave was closed just now the lamp is passed over
-unfoldable pub passing_rows : List (Row Bool Clocks)
-passing_rows = row_then (closed_just_now ∷ []) [] arrives_here ∷ []
-
--- the clocks go on, and then the lamp
+-- the clocks go on, and then the lamp, which is passed over where the cave was closed just now
 unfoldable pub run_clocks : CaveView → Scene → Act Clocks
 run_clocks cave p =
-    let a = both_clocks (deed cave tt p) in
-    first_fitting_or passing_rows (λ d. lamp (deed cave tt d.scene)) (deed cave a.step a.scene)
+    let a = tick_clocks (deed cave tt p) in
+    if a.step then act_of a.scene (Closed (here_of a.scene)) else lamp (deed cave tt a.scene)

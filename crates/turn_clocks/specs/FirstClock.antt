@@ -8,6 +8,7 @@ use Rattle.turn_rules.specs.cave_world.declared.dwarves.Dwarf.{Dwarf}
 use Rattle.turn_rules.specs.cave_world.declared.state.State.{State}
 use Rattle.turn_rules.specs.turn_things.Props.{AXE_FREE, BEAR_DEAD, CHAIN_UNLOCKED, FISSURE_OPEN}
 use Rattle.turn_rules.specs.turn_things.Props.{GRATE_LOCKED}
+use Rattle.turn_rules.specs.turn_things.Effects.{with_dwarves}
 use Rattle.turn_rules.specs.Rows.{Test, Effect, all_hold}
 use Rattle.turn_rules.specs.Tests.{the, no, prop, player_at, in_the_depths}
 use Rattle.turn_rules.specs.Effects.{change, unless, say, destroy, loosen, set_prop, troll_goes}
@@ -39,8 +40,8 @@ dismissed_dwarf dwarf = record dwarf { place = 0; has_seen = false }
 
 -- all six dwarves are nowhere, the pirate too
 abbrev pub without_dwarves : State → State
-without_dwarves s = let dwarves = s.dwarves in
-    record s { dwarves = record dwarves { each = map dismissed_dwarf dwarves.each } }
+without_dwarves s =
+    with_dwarves (record (s.dwarves) { each = map dismissed_dwarf s.dwarves.each }) s
 
 -- the first clock stops for good, and the cave is closing
 abbrev pub with_closing_begun : State → State

@@ -1,16 +1,17 @@
 -- The lamp: it burns down, gets new batteries, goes out, and its player is warned or gives up.
-use Rattle.std.specs.Prelude.{ℤ, pos, negsuc, ◌+ℤ◌, ◌-ℤ◌, int_le, true, false, List, [], ◌∷◌}
+use Rattle.std.specs.Prelude.{ℕ, ℤ, pos, negsuc, ◌+ℤ◌, ◌-ℤ◌, int_le, true, false, List, [], ◌∷◌}
 use Rattle.std.specs.Int.{int_min, int_max}
 use Rattle.std.specs.Ordering.{int_eq}
 use Rattle.turn_rules.specs.data_rows.declared.role.Role.TheVariants as role
 use Rattle.turn_rules.specs.cave_words.declared.named.Named.TheVariants as name
 use Rattle.turn_rules.specs.cave_world.declared.state.State.{State}
-use Rattle.turn_rules.specs.turn_things.Props.{BATTERIES_FRESH, BATTERIES_USED, LAMP_OFF}
 use Rattle.turn_rules.specs.cave_world.Sight.{LAMP_ON}
 use Rattle.turn_rules.specs.cave_world.Limits.{LOW_CHARGE, MAX_LAMP_TURNS}
+use Rattle.turn_rules.specs.turn_things.Props.{BATTERIES_FRESH, BATTERIES_USED, LAMP_OFF}
+use Rattle.turn_rules.specs.turn_things.Effects.{with_lamp}
 use Rattle.turn_rules.specs.Rows.{Deed, Act, Test, Effect, Row, row_then, plain_row, by_table}
-use Rattle.turn_rules.specs.Rows.{first_fitting_or, nothing_but}
-use Rattle.turn_rules.specs.Tests.{the, no, near, prop, nowhere, burnt_out, here, outside}
+use Rattle.turn_rules.specs.Rows.{first_fitting_or, nothing_but, always, otherwise}
+use Rattle.turn_rules.specs.Tests.{the, no, near, prop, nowhere, here, outside, lamp_dead}
 use Rattle.turn_rules.specs.Effects.{with_charge, change, when, say, lay_down, set_prop, set_charge}
 use Rattle.turn_clocks.specs.declared.clocks.Clocks.{Clocks}
 use Rattle.turn_clocks.specs.declared.clocks.Clocks.TheVariants.{GoOn, GaveUp}
@@ -20,11 +21,8 @@ abbrev pub with_turn_burnt : State → State
 with_turn_burnt s = with_charge (int_max (s.lamp.charge -ℤ pos 1) (negsuc 0)) s
 
 -- a lamp that is lit burns
-unfoldable pub burning_rows : List (Row (Unit {0}) (Unit {0}))
-burning_rows = plain_row (prop (the name.Lamp) LAMP_ON ∷ []) (change with_turn_burnt ∷ []) ∷ []
-
 abbrev pub burn : Effect (Unit {0})
-burn d = by_table burning_rows d
+burn = when (prop (the name.Lamp) LAMP_ON) (change with_turn_burnt)
 
 -- the lamp has so many turns left
 abbrev pub turns_left : ℤ → Test (Unit {0})
@@ -35,8 +33,8 @@ abbrev pub turns_left_up_to : ℤ → Test (Unit {0})
 turns_left_up_to turns d = int_le d.scene.state.lamp.charge turns
 
 -- the player was told that the lamp is low
-abbrev pub warning_given : Test (Unit {0})
-warning_given d = d.scene.state.lamp.is_warned
+abbrev pub is_warned : Test (Unit {0})
+is_warned d = d.scene.state.lamp.is_warned
 
 -- the lamp is low, and both it and new batteries are at hand
 abbrev pub can_change_batteries : List (Test (Unit {0}))
@@ -44,14 +42,17 @@ can_change_batteries =
     turns_left_up_to (pos LOW_CHARGE) ∷ near (the name.Batteries)
     ∷ prop (the name.Batteries) BATTERIES_FRESH ∷ near (the name.Lamp) ∷ []
 
--- the lamp burns 2,500 turns more, up to the most, and the player isn't warned yet
+abbrev pub BATTERY_TURNS : ℕ
+BATTERY_TURNS = 2500
+
+-- the lamp burns longer, up to the most, and the player isn't warned yet
 abbrev pub with_new_charge : State → State
-with_new_charge s = let lamp = s.lamp in
-    let charge = int_min (lamp.charge +ℤ pos 2500) (pos MAX_LAMP_TURNS) in
-    record s { lamp = record lamp { charge = charge; is_warned = false } }
+with_new_charge s =
+    let charge = int_min (s.lamp.charge +ℤ pos BATTERY_TURNS) (pos MAX_LAMP_TURNS) in
+    with_lamp (record (s.lamp) { charge = charge; is_warned = false }) s
 
 abbrev pub with_warning : State → State
-with_warning s = let lamp = s.lamp in record s { lamp = record lamp { is_warned = true } }
+with_warning s = with_lamp (record (s.lamp) { is_warned = true }) s
 
 -- new batteries
 unfoldable pub change_batteries : List (Effect (Unit {0}))
@@ -75,31 +76,24 @@ unfoldable pub warning_rows : List (Row (Unit {0}) (Unit {0}))
 warning_rows =
     plain_row (prop (the name.Batteries) BATTERIES_USED ∷ []) (say role.LampLowUsed ∷ [])
     ∷ plain_row (nowhere (the name.Batteries) ∷ []) (say role.LampLowFind ∷ [])
-    ∷ plain_row [] (say role.LampLow ∷ [])
-    ∷ []
+    ∷ otherwise (say role.LampLow ∷ [])
 
 unfoldable pub warn : List (Effect (Unit {0}))
 warn = change with_warning ∷ by_table warning_rows ∷ []
 
--- the command is read
-abbrev pub goes_on : Deed (Unit {0}) → Clocks
-goes_on d = GoOn
-
-abbrev pub gives_up : Deed (Unit {0}) → Clocks
-gives_up d = GaveUp
-
+-- what follows is that the command is read, or that the player gives up
 unfoldable pub lamp_rows : List (Row (Unit {0}) Clocks)
 lamp_rows =
-    row_then can_change_batteries change_batteries goes_on
-    ∷ row_then (turns_left (pos 0) ∷ []) go_out goes_on
-    ∷ row_then (burnt_out ∷ outside here ∷ []) (say role.GiveUp ∷ []) gives_up
-    ∷ row_then (turns_left_up_to (pos LOW_CHARGE) ∷ no warning_given ∷ near (the name.Lamp) ∷ [])
-    warn goes_on
+    row_then can_change_batteries change_batteries (always GoOn)
+    ∷ row_then (turns_left (pos 0) ∷ []) go_out (always GoOn)
+    ∷ row_then (lamp_dead ∷ outside here ∷ []) (say role.GiveUp ∷ []) (always GaveUp)
+    ∷ row_then (turns_left_up_to (pos LOW_CHARGE) ∷ no is_warned ∷ near (the name.Lamp) ∷ [])
+    warn (always GoOn)
     ∷ []
 
 -- what comes of the lamp once it has burnt
 unfoldable pub care_for_lamp : Deed (Unit {0}) → Act Clocks
-care_for_lamp d = first_fitting_or lamp_rows (nothing_but goes_on) d
+care_for_lamp d = first_fitting_or lamp_rows (nothing_but (always GoOn)) d
 
 -- the lamp burns a turn, if it is lit, and what comes of it
 abbrev pub lamp : Deed (Unit {0}) → Act Clocks

@@ -1,21 +1,20 @@
 -- The second clock, and the repository into which the cave is closed where it runs out.
-use Rattle.std.specs.Prelude.{ℕ, ℤ, pos, negsuc, ◌-ℤ◌, int_le, true, ◌&&◌, List, [], ◌∷◌}
+use Rattle.std.specs.Prelude.{ℕ, ℤ, pos, negsuc, ◌-ℤ◌, int_le, true, ◌&&◌, List, [], ◌∷◌, fold}
 use Rattle.std.specs.Ordering.{int_eq}
 use Rattle.turn_rules.specs.data_rows.declared.place_role.PlaceRole.{PlaceRole}
 use Rattle.turn_rules.specs.data_rows.declared.place_role.PlaceRole.TheVariants as place
 use Rattle.turn_rules.specs.data_rows.declared.role.Role.TheVariants as role
 use Rattle.turn_rules.specs.cave_words.declared.named.Named.{Named}
 use Rattle.turn_rules.specs.cave_words.declared.named.Named.TheVariants as name
-use Rattle.turn_rules.specs.world_objects.Objects.{Layout, after_move_to, with_anchor}
-use Rattle.turn_rules.specs.world_objects.Objects.{carried_objects, anchor_at}
+use Rattle.turn_rules.specs.world_objects.Objects.{Layout, after_move_to, carried_objects}
+use Rattle.turn_rules.specs.world_objects.Objects.{anchor_at}
 use Rattle.turn_rules.specs.cave_world.declared.state.State.{State}
-use Rattle.turn_rules.specs.turn_things.Effects.{with_objects}
+use Rattle.turn_rules.specs.turn_things.Effects.{with_objects, with_closing}
 use Rattle.turn_rules.specs.turn_things.Props.{BIRD_CAGED, BOTTLE_EMPTY, GRATE_LOCKED, LAMP_OFF}
 use Rattle.turn_rules.specs.turn_things.Props.{PLANT_SMALL, SEEN, SNAKE_GONE, UNSEEN}
-use Rattle.turn_rules.specs.turn_scene.Scene.{thing}
 use Rattle.turn_rules.specs.Rows.{Test, Effect, after_all}
-use Rattle.turn_rules.specs.Tests.{the, bound}
-use Rattle.turn_rules.specs.Effects.{in_scene, in_state, change, move, put_player, say, set_prop}
+use Rattle.turn_rules.specs.Tests.{the, place_of}
+use Rattle.turn_rules.specs.Effects.{in_scene, change, move, put_player, say, set_prop, attach}
 
 -- the clock goes once the first has run out, down to -1
 abbrev pub second_clock_goes : Test (Unit {0})
@@ -35,7 +34,7 @@ with_second_clock_down s = let closing = s.closing in
 -- the object of a name is put at the place of a role, with a prop for when it was carried; until
 -- then it is unseen, and its prop is -1 less that one
 abbrev pub store : PlaceRole → Named → ℤ → Effect (Unit {0})
-store role n v d = set_prop (the n) (UNSEEN -ℤ v) (move (the n) (bound role) d)
+store role n v d = set_prop (the n) (UNSEEN -ℤ v) (move (the n) (place_of role) d)
 
 unfoldable pub northeast_things : List (Effect (Unit {0}))
 northeast_things =
@@ -47,6 +46,11 @@ northeast_things =
     ∷ store place.Ne name.Dwarf SEEN
     ∷ []
 
+-- the mirror is at the one end, and its second half at the other
+abbrev pub hang_mirror : Effect (Unit {0})
+hang_mirror d =
+    attach (the name.Mirror) (λ e. anchor_at (place_of place.Sw e)) (store place.Ne name.Mirror SEEN d)
+
 unfoldable pub southwest_things : List (Effect (Unit {0}))
 southwest_things =
     store place.Sw name.Grate GRATE_LOCKED
@@ -55,13 +59,8 @@ southwest_things =
     ∷ store place.Sw name.Cage SEEN
     ∷ store place.Sw name.SecondRod SEEN
     ∷ store place.Sw name.Pillow SEEN
+    ∷ hang_mirror
     ∷ []
-
--- the mirror's second half is at the other end
-abbrev pub hang_mirror : Effect (Unit {0})
-hang_mirror d =
-    in_state (with_objects (with_anchor d.scene.state.objects (thing d.cave name.Mirror)
-    (anchor_at (bound place.Sw d))) d.scene.state) d
 
 -- things as one effect
 abbrev pub all_of : List (Effect (Unit {0})) → Effect (Unit {0})
@@ -69,8 +68,7 @@ all_of things d = in_scene (after_all things d).scene d
 
 -- objects are nowhere from now on
 abbrev pub without_all : List ℕ → Layout → Layout
-without_all [] o = o
-without_all (x ∷ xs) o = without_all xs (after_move_to o x 0)
+without_all xs o = fold (λ p x. after_move_to p x 0) o xs
 
 -- the player carries nothing any more
 unfoldable pub with_empty_hands : State → State
@@ -78,17 +76,14 @@ with_empty_hands s = with_objects (without_all (carried_objects s.objects) s.obj
 
 -- the cave is closed from now on
 abbrev pub with_cave_closed : State → State
-with_cave_closed s = let closing = s.closing in
-    record s { closing = record closing { is_closed = true } }
+with_cave_closed s = with_closing (record (s.closing) { is_closed = true }) s
 
 -- the cave is closed: the player is at the northeast end of the repository
 unfoldable pub close_cave : List (Effect (Unit {0}))
 close_cave =
     all_of northeast_things
+    ∷ put_player (place_of place.Ne)
     ∷ all_of southwest_things
-    ∷ store place.Ne name.Mirror SEEN
-    ∷ hang_mirror
-    ∷ put_player (bound place.Ne)
     ∷ change with_empty_hands
     ∷ say role.Repository
     ∷ change with_cave_closed

@@ -2,7 +2,7 @@ ghost use Rattle.std.specs.Prelude.{◌≡◌};
 ghost use Rattle.turn_rules.specs.turn_scene.Scene.{cave_of, scene_of};
 ghost use Rattle.turn_rules.specs.turn_scene.Bounds.{GoesOnSaying, HasRoom, parts_of_clocks};
 ghost use Rattle.turn_rules.specs.Rows.{act_of, PlaysBy};
-ghost use Rattle.turn_clocks.specs.Clocks.{both_clocks, run_clocks};
+ghost use Rattle.turn_clocks.specs.Clocks.{tick_clocks, run_clocks};
 
 use crate::first_clock::{begin_closing, first_clock_goes};
 use crate::lamp::run_lamp;
@@ -21,24 +21,24 @@ pub enum Clocks {
 }
 
 /// The clocks and the lamp go on by a turn. Returns what follows.
-#[tactic(auto, unfolding(crate::specs::Clocks::run_clocks, crate::specs::Clocks::passing_rows))]
+#[tactic(auto, unfolding(crate::specs::Clocks::run_clocks))]
 pub fn run_clocks(rules: &Rules<'_>, scene: &mut Scene<'_>) -> Clocks
     requires { HasRoom parts_of_clocks scene.old }
     ensures clocks { act_of (scene_of scene.new) result
         ≡ run_clocks (cave_of rules.now) (scene_of scene.old) }
     ensures says { GoesOnSaying parts_of_clocks scene.old scene.new }
 {
-    if run_both_clocks(rules, scene) {
+    if tick_clocks(rules, scene) {
         return Clocks::Closed(scene.state.trail.here);
     }
     run_lamp(rules, scene)
 }
 
 /// One of the clocks goes on by a turn, if one goes. Returns whether that closed the cave.
-#[tactic(auto, unfolding(crate::specs::Clocks::both_clocks, crate::specs::Clocks::clock_rows))]
-fn run_both_clocks(rules: &Rules<'_>, scene: &mut Scene<'_>) -> bool
+#[tactic(auto, unfolding(crate::specs::Clocks::tick_clocks, crate::specs::Clocks::clock_rows))]
+fn tick_clocks(rules: &Rules<'_>, scene: &mut Scene<'_>) -> bool
     requires { HasRoom 1 scene.old }
-    ensures clock { PlaysBy both_clocks 1 rules.now tt scene.old scene.new result }
+    ensures clock { PlaysBy tick_clocks 1 rules.now tt scene.old scene.new result }
 {
     if first_clock_goes(rules, scene) {
         if scene.state.closing.first_clock - 1 == 0 {

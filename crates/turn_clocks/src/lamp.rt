@@ -3,9 +3,9 @@ ghost use Rattle.turn_rules.specs.cave_words.declared.named.Named.TheVariants as
 ghost use Rattle.turn_rules.specs.turn_scene.Scene.{cave_of, scene_of};
 ghost use Rattle.turn_rules.specs.turn_scene.Bounds.{HasRoom};
 ghost use Rattle.turn_rules.specs.Rows.{all_hold, deed, Does, PlaysBy};
-ghost use Rattle.turn_rules.specs.Tests.{burnt_out, here, near, no, outside, the};
+ghost use Rattle.turn_rules.specs.Tests.{lamp_dead, here, near, no, outside, the};
 ghost use Rattle.turn_rules.specs.cave_world.Limits as defined;
-ghost use Rattle.turn_clocks.specs.Lamp.{burn, turns_left_up_to, warning_given, with_new_charge};
+ghost use Rattle.turn_clocks.specs.Lamp.{burn, turns_left_up_to, is_warned, with_new_charge};
 ghost use Rattle.turn_clocks.specs.Lamp.{can_change_batteries, change_batteries, go_out, warn};
 ghost use Rattle.turn_clocks.specs.Lamp.{care_for_lamp, lamp};
 
@@ -18,7 +18,6 @@ use turn_rules::{
 const BATTERY_TURNS: i32 = 2500;
 
 /// A lamp that is lit burns a turn.
-#[tactic(auto, unfolding(crate::specs::Lamp::burning_rows))]
 fn burn(rules: &Rules<'_>, scene: &mut Scene<'_>)
     ensures rows { Does (burn ∷ []) 0 rules.now tt scene.old scene.new }
 {
@@ -78,7 +77,7 @@ fn go_out(rules: &Rules<'_>, scene: &mut Scene<'_>)
 
 /// Whether the lamp has gone out, and the player is outside the cave.
 fn is_stranded(rules: &Rules<'_>, scene: &Scene<'_>) -> bool
-    ensures { result ≡ all_hold (burnt_out ∷ outside here ∷ [])
+    ensures { result ≡ all_hold (lamp_dead ∷ outside here ∷ [])
         (deed (cave_of rules.now) (tt {0}) (scene_of scene.now)) }
 {
     scene.state.lamp.charge.turns() < 0
@@ -88,7 +87,7 @@ fn is_stranded(rules: &Rules<'_>, scene: &Scene<'_>) -> bool
 /// Whether the lamp is low and at hand, and the player wasn't warned.
 fn is_warning_due(rules: &Rules<'_>, scene: &Scene<'_>) -> bool
     ensures { result ≡ all_hold
-        (turns_left_up_to (pos defined.LOW_CHARGE) ∷ no warning_given ∷ near (the name.Lamp) ∷ [])
+        (turns_left_up_to (pos defined.LOW_CHARGE) ∷ no is_warned ∷ near (the name.Lamp) ∷ [])
         (deed (cave_of rules.now) tt (scene_of scene.now)) }
 {
     scene.state.lamp.charge.turns() <= LOW_CHARGE

@@ -1,12 +1,12 @@
-ghost use Rattle.std.specs.Prelude.{◌≡◌, Some};
+ghost use Rattle.std.specs.Prelude.{◌≡◌, [], ◌∷◌, Some};
 ghost use Rattle.turn_rules.specs.data_rows.declared.place_role.PlaceRole.TheVariants as role;
 ghost use Rattle.turn_rules.specs.world_objects.Objects.{after_move_to, with_prop};
 ghost use Rattle.turn_rules.specs.turn_scene.Scene.{cave_of, thing};
 ghost use Rattle.turn_rules.specs.turn_scene.Bounds.{HasRoom};
 ghost use Rattle.turn_rules.specs.turn_things.Places.{place_named};
 ghost use Rattle.turn_rules.specs.Rows.{Does};
-ghost use Rattle.turn_clocks.specs.Repository.{northeast_things, southwest_things, without_all};
-ghost use Rattle.turn_clocks.specs.Repository.{with_empty_hands, close_cave};
+ghost use Rattle.turn_clocks.specs.Repository.{hang_mirror, northeast_things, southwest_things};
+ghost use Rattle.turn_clocks.specs.Repository.{without_all, with_empty_hands, close_cave};
 
 use turn_rules::{
     Anchor, BIRD_CAGED, BOTTLE_EMPTY, Named, Object, Objects, Place, Prop, Role, Rules, SNAKE_GONE,
@@ -40,22 +40,40 @@ fn put_northeast_things(rules: &Rules<'_>, place: Place, scene: &mut Scene<'_>)
     put_in(rules, Named::Dwarf, unseen, place, objects);
 }
 
-/// What belongs at the southwest end is put there.
+/// The mirror is hung at the northeast end, and its second half is at the southwest end.
+fn hang_mirror(rules: &Rules<'_>, northeast: Place, southwest: Place, scene: &mut Scene<'_>)
+    requires northeast { place_named (cave_of rules.now) role.Ne ≡ Some northeast }
+    requires southwest { place_named (cave_of rules.now) role.Sw ≡ Some southwest }
+    ensures mirror { Does (hang_mirror ∷ []) 0 rules.now tt scene.old scene.new }
+{
+    let objects = &mut scene.state.objects;
+    put_in(rules, Named::Mirror, Prop::new(UNSEEN), northeast, objects);
+    objects.anchor_to(rules.thing(Named::Mirror), Anchor::at(southwest));
+}
+
+/// What belongs at the southwest end is put there, and the mirror is hung.
 #[tactic(auto, unfolding(crate::specs::Repository::southwest_things))]
-fn put_southwest_things(rules: &Rules<'_>, place: Place, scene: &mut Scene<'_>)
-    requires { place_named (cave_of rules.now) role.Sw ≡ Some place }
+fn put_southwest_things(
+    rules: &Rules<'_>,
+    northeast: Place,
+    southwest: Place,
+    scene: &mut Scene<'_>,
+)
+    requires northeast { place_named (cave_of rules.now) role.Ne ≡ Some northeast }
+    requires southwest { place_named (cave_of rules.now) role.Sw ≡ Some southwest }
     ensures things { Does southwest_things 0 rules.now tt scene.old scene.new }
 {
     let gone = Prop::new(UNSEEN - SNAKE_GONE);
     let caged = Prop::new(UNSEEN - BIRD_CAGED);
     let unseen = Prop::new(UNSEEN);
     let objects = &mut scene.state.objects;
-    put_in(rules, Named::Grate, unseen, place, objects);
-    put_in(rules, Named::Snake, gone, place, objects);
-    put_in(rules, Named::Bird, caged, place, objects);
-    put_in(rules, Named::Cage, unseen, place, objects);
-    put_in(rules, Named::SecondRod, unseen, place, objects);
-    put_in(rules, Named::Pillow, unseen, place, objects);
+    put_in(rules, Named::Grate, unseen, southwest, objects);
+    put_in(rules, Named::Snake, gone, southwest, objects);
+    put_in(rules, Named::Bird, caged, southwest, objects);
+    put_in(rules, Named::Cage, unseen, southwest, objects);
+    put_in(rules, Named::SecondRod, unseen, southwest, objects);
+    put_in(rules, Named::Pillow, unseen, southwest, objects);
+    hang_mirror(rules, northeast, southwest, scene);
 }
 
 fn destroy_all(doomed: &[Object], objects: &mut Objects)
@@ -83,13 +101,9 @@ pub fn close_cave(rules: &Rules<'_>, northeast: Place, southwest: Place, scene: 
     requires southwest { place_named (cave_of rules.now) role.Sw ≡ Some southwest }
     ensures scene { Does close_cave 1 rules.now tt scene.old scene.new }
 {
-    let mirror = rules.thing(Named::Mirror);
     put_northeast_things(rules, northeast, scene);
-    put_southwest_things(rules, southwest, scene);
-    scene.state.objects.move_to(mirror, northeast);
-    scene.state.objects.set_prop(mirror, Prop::new(UNSEEN));
-    scene.state.objects.anchor_to(mirror, Anchor::at(southwest));
     scene.state.put_player_from(northeast);
+    put_southwest_things(rules, northeast, southwest, scene);
     empty_hands(scene.state);
     scene.say(Role::Repository);
     scene.state.closing.is_closed = true;

@@ -6,7 +6,7 @@ use Rattle.std.specs.List.{filter_map}
 use Rattle.turn_rules.specs.data_rows.Rows.{Going}
 use Rattle.turn_rules.specs.data_rows.RowViews.{going}
 use Rattle.turn_rules.specs.data_rows.declared.rows.Row.{Row}
-use Rattle.turn_dwarves.specs.Candidates.{without_repeats}
+use Rattle.turn_dwarves.specs.Ahead.{without_repeats}
 
 -- where 19 were found, they are the first
 pub full : (xs ys all : List ℕ) → length xs ≡ 19 → take 19 (xs ++ ys) ≡ take 19 all

@@ -1,9 +1,9 @@
 -- What the pirate does to the treasures.
-use Rattle.std.specs.Prelude.{ℕ, Bool, List, [], ◌∷◌, Option, unwrap_or, false}
+use Rattle.std.specs.Prelude.{ℕ, Bool, List, [], ◌∷◌, Option, unwrap_or, false, fold}
 use Rattle.std.specs.List.{list_any}
-use Rattle.turn_rules.specs.cave_data.CaveView.{CaveView}
 use Rattle.turn_rules.specs.data_rows.declared.place_role.PlaceRole.TheVariants as place
 use Rattle.turn_rules.specs.data_rows.declared.role.Role.TheVariants as role
+use Rattle.turn_rules.specs.cave_data.CaveView.{CaveView}
 use Rattle.turn_rules.specs.cave_words.declared.named.Named.TheVariants as name
 use Rattle.turn_rules.specs.cave_world.Limits.{PIRATE}
 use Rattle.turn_rules.specs.cave_world.declared.dwarves.Dwarf.{Dwarf}
@@ -13,16 +13,16 @@ use Rattle.turn_rules.specs.turn_things.Places.{place_named}
 use Rattle.turn_rules.specs.turn_things.Reach.{is_near}
 use Rattle.turn_rules.specs.turn_things.Treasures.{treasures}
 use Rattle.turn_rules.specs.Rows.{Test, Effect, Row, deed, plain_row, by_table, all_hold}
-use Rattle.turn_rules.specs.Tests.{the, no, either, both, it, is_it, in_hand, is_here, fixed}
-use Rattle.turn_rules.specs.Tests.{nowhere, home_here}
+use Rattle.turn_rules.specs.Tests.{the, no, either, both, it, is_it, in_hand, is_here, immovable}
+use Rattle.turn_rules.specs.Tests.{nowhere, player_at_home}
 use Rattle.turn_rules.specs.Effects.{in_state, follow, say, send, when}
 use Rattle.turn_dwarves.specs.Band.{dwarf_of, with_dwarf}
 
 -- all treasures are fair to the pirate, but not the pyramid where it or the emerald is at home
 unfoldable pub fair : Test ℕ
 fair d =
-    no (both (is_it name.Pyramid) (either (home_here (the name.Pyramid))
-    (home_here (the name.Emerald)))) d
+    no (both (is_it name.Pyramid) (either (player_at_home (the name.Pyramid))
+    (player_at_home (the name.Emerald)))) d
 
 -- the player carries a fair treasure
 unfoldable pub is_carried_booty : CaveView → Scene → ℕ → Bool
@@ -38,7 +38,7 @@ treasure_near d = list_any (is_near d.cave d.scene.state) treasures
 -- a fair treasure that is carried, or is here and loose, is brought to the pirate's chest
 unfoldable pub steal_rows : List (Row ℕ (Unit {0}))
 steal_rows =
-    plain_row (fair ∷ either (in_hand it) (both (is_here it) (no (fixed it))) ∷ [])
+    plain_row (fair ∷ either (in_hand it) (both (is_here it) (no (immovable it))) ∷ [])
     (send it place.Chest ∷ [])
     ∷ []
 
@@ -47,8 +47,7 @@ steal cave x p = (by_table steal_rows (deed cave x p)).scene
 
 -- the treasures of a list are stolen one after another
 abbrev pub after_thefts : CaveView → List ℕ → Scene → Scene
-after_thefts cave [] p = p
-after_thefts cave (x ∷ xs) p = after_thefts cave xs (steal cave x p)
+after_thefts cave xs p = fold (λ q x. steal cave x q) p xs
 
 -- all treasures are
 abbrev pub steal_all : Effect (Unit {0})

@@ -3,7 +3,7 @@ use Rattle.std.specs.Prelude.{Bool, false, not, ◌==◌, List, [], ◌∷◌}
 use Rattle.turn_rules.specs.cave_data.CaveView.{CaveView}
 use Rattle.turn_rules.specs.turn_scene.Scene.{Scene}
 use Rattle.turn_rules.specs.Rows.{Deed, Act, Effect, Row, deed, row_then, by_table}
-use Rattle.turn_rules.specs.Rows.{first_fitting_or, nothing_but}
+use Rattle.turn_rules.specs.Rows.{first_fitting_or, nothing_but, always, otherwise_then}
 use Rattle.turn_rules.specs.Tests.{in_the_depths, anger}
 use Rattle.turn_rules.specs.Effects.{change, follow, when}
 use Rattle.turn_dwarves.specs.Band.{with_anger}
@@ -12,10 +12,6 @@ use Rattle.turn_dwarves.specs.Lines.{tell_attack}
 use Rattle.turn_dwarves.specs.Pirate.{after_pirate}
 use Rattle.turn_dwarves.specs.Waking.{waking_rows}
 use Rattle.turn_dwarves.specs.declared.knives.Attack.{Attack}
-
--- the player is left alone
-abbrev pub is_missed : Deed Attack → Bool
-is_missed d = false
 
 -- a knife hit the player, or more of them did
 abbrev pub is_struck : Deed Attack → Bool
@@ -28,12 +24,11 @@ awake = raid ∷ follow after_pirate ∷ tell_attack
 -- by their anger the dwarves sleep, stir, or are awake
 unfoldable pub anger_rows : List (Row Attack Bool)
 anger_rows =
-    row_then (anger 0 ∷ []) (when in_the_depths (change (with_anger 1)) ∷ []) is_missed
-    ∷ row_then (anger 1 ∷ []) (by_table waking_rows ∷ []) is_missed
-    ∷ row_then [] awake is_struck
-    ∷ []
+    row_then (anger 0 ∷ []) (when in_the_depths (change (with_anger 1)) ∷ []) (always false)
+    ∷ row_then (anger 1 ∷ []) (by_table waking_rows ∷ []) (always false)
+    ∷ otherwise_then awake is_struck
 
 -- what follows is whether a knife hit the player
 unfoldable pub encounter_dwarves : CaveView → Scene → Act Bool
 encounter_dwarves cave p =
-    first_fitting_or anger_rows (nothing_but is_missed) (deed cave no_attack p)
+    first_fitting_or anger_rows (nothing_but (always false)) (deed cave no_attack p)

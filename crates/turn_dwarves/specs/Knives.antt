@@ -7,11 +7,13 @@ use Rattle.turn_rules.specs.cave_world.declared.dwarves.Knife.{Knife}
 use Rattle.turn_rules.specs.cave_world.declared.dwarves.Knife.TheVariants as knife
 use Rattle.turn_rules.specs.cave_world.declared.state.State.{State}
 use Rattle.turn_rules.specs.turn_scene.Scene.{Scene}
-use Rattle.turn_rules.specs.Rows.{Deed, Act, Test, Effect, Row, deed, act_of, row_then, answer_row}
-use Rattle.turn_rules.specs.Rows.{row_by_draw, first_fitting_or, nothing_but}
+use Rattle.turn_rules.specs.turn_things.Effects.{with_dwarves}
+use Rattle.turn_rules.specs.Rows.{Deed, Act, Test, Effect, Row, deed, act_of, answer_row}
+use Rattle.turn_rules.specs.Rows.{row_by_draw, first_fitting_or, nothing_but, always}
+use Rattle.turn_rules.specs.Rows.{otherwise_then}
 use Rattle.turn_rules.specs.Tests.{no}
 use Rattle.turn_rules.specs.Effects.{change}
-use Rattle.turn_dwarves.specs.Band.{dwarf_of, with_dwarves}
+use Rattle.turn_dwarves.specs.Band.{dwarf_of}
 use Rattle.turn_dwarves.specs.Moving.{dwarf_moved, sees_player, was_with_player}
 use Rattle.turn_dwarves.specs.declared.knives.Threat.{Threat}
 use Rattle.turn_dwarves.specs.declared.knives.Threat.TheVariants as threat
@@ -19,36 +21,29 @@ use Rattle.turn_dwarves.specs.declared.knives.Attack.{Attack}
 
 -- the knife once one was thrown here; one that vanished stays so
 abbrev pub fallen_knife : ℕ → Knife → Knife
-fallen_knife here knife.Unthrown = knife.At here
-fallen_knife here (knife.At place) = knife.At here
 fallen_knife here knife.Vanished = knife.Vanished
+fallen_knife here _ = knife.At here
 
 -- a knife was thrown here
 unfoldable pub with_knife_here : State → State
 with_knife_here s =
-    let dwarves = s.dwarves in
-    with_dwarves (record dwarves { knife = fallen_knife s.trail.here dwarves.knife }) s
+    with_dwarves (record (s.dwarves) { knife = fallen_knife s.trail.here s.dwarves.knife }) s
 
 -- a draw: one of 1000 numbers is below 95 for each degree of anger over 2
 abbrev pub knife_hits : Test Dwarf
 knife_hits d = let s = d.scene.state in
     nat_lt (number_drawn 1000 s.stream) (95 * (s.dwarves.anger - 2))
 
--- what a dwarf does to the player
-abbrev pub threat_as : {C : Type 0} → Threat → Deed C → Threat
-threat_as t d = t
-
 -- what a dwarf does once it moved: one that was with the player before throws a knife
 unfoldable pub threat_rows : List (Row Dwarf Threat)
 threat_rows =
-    answer_row (no sees_player ∷ []) (threat_as threat.Nothing)
-    ∷ answer_row (no was_with_player ∷ []) (threat_as threat.Waits)
-    ∷ row_by_draw [] knife_hits (change with_knife_here ∷ []) (threat_as threat.Hits)
-    ∷ row_then [] (change with_knife_here ∷ []) (threat_as threat.Misses)
-    ∷ []
+    answer_row (no sees_player ∷ []) (always threat.Nothing)
+    ∷ answer_row (no was_with_player ∷ []) (always threat.Waits)
+    ∷ row_by_draw [] knife_hits (change with_knife_here ∷ []) (always threat.Hits)
+    ∷ otherwise_then (change with_knife_here ∷ []) (always threat.Misses)
 
 unfoldable pub threaten : Deed Dwarf → Act Threat
-threaten d = first_fitting_or threat_rows (nothing_but (threat_as threat.Nothing)) d
+threaten d = first_fitting_or threat_rows (nothing_but (always threat.Nothing)) d
 
 -- the dwarf of the number is nowhere
 abbrev pub dwarf_gone : Test ℕ
@@ -56,7 +51,7 @@ dwarf_gone d = (dwarf_of d.scene.state d.about).place == 0
 
 -- a dwarf that is gone does nothing
 unfoldable pub gone_rows : List (Row ℕ Threat)
-gone_rows = answer_row (dwarf_gone ∷ []) (threat_as threat.Nothing) ∷ []
+gone_rows = answer_row (dwarf_gone ∷ []) (always threat.Nothing) ∷ []
 
 -- any other moves, and may threaten the player then
 abbrev pub move_and_threaten : Deed ℕ → Act Threat

@@ -6,7 +6,7 @@ pub mod Moving
 pub mod Pirate
 pub mod Booty
 pub mod Waking
-pub mod Candidates
+pub mod Ahead
 pub use Rattle.turn_rules.specs.cave_data as cave_data
 pub use Rattle.turn_rules.specs.cave_words as cave_words
 pub use Rattle.turn_rules.specs.cave_world as cave_world

@@ -3,7 +3,7 @@ use Rattle.std.specs.Prelude.{ℕ, ◌==◌, List, [], ◌∷◌}
 use Rattle.turn_rules.specs.data_rows.declared.role.Role.TheVariants as role
 use Rattle.turn_rules.specs.cave_world.declared.part.NumberLine.TheVariants as line
 use Rattle.turn_rules.specs.cave_world.declared.part.Part.TheVariants as part
-use Rattle.turn_rules.specs.Rows.{Test, Effect, Row, plain_row, by_table}
+use Rattle.turn_rules.specs.Rows.{Test, Effect, Row, plain_row, by_table, otherwise}
 use Rattle.turn_rules.specs.Tests.{no, both, anger}
 use Rattle.turn_rules.specs.Effects.{change, say, tell, when}
 use Rattle.turn_dwarves.specs.Band.{with_anger}
@@ -36,8 +36,7 @@ unfoldable pub dwarf_rows : List (Row Attack (Unit {0}))
 dwarf_rows =
     plain_row (dwarves 0 ∷ []) []
     ∷ plain_row (dwarves 1 ∷ []) (say role.DwarfOne ∷ [])
-    ∷ plain_row [] (count_dwarves ∷ [])
-    ∷ []
+    ∷ otherwise (count_dwarves ∷ [])
 
 -- what is said of the knives, and how many hit
 unfoldable pub knife_rows : List (Row Attack (Unit {0}))
@@ -47,8 +46,7 @@ knife_rows =
     ∷ plain_row (knives 1 ∷ []) (say role.KnifeOne ∷ say role.MissOne ∷ [])
     ∷ plain_row (hits 0 ∷ []) (count_knives ∷ say role.MissAll ∷ [])
     ∷ plain_row (hits 1 ∷ []) (count_knives ∷ say role.HitMany ∷ [])
-    ∷ plain_row [] (count_knives ∷ count_hits ∷ [])
-    ∷ []
+    ∷ otherwise (count_knives ∷ count_hits ∷ [])
 
 -- the dwarves, and then their knives; dwarves that threw some for the first time are angrier from
 -- then on

@@ -1,14 +1,14 @@
 -- How a dwarf moves, and whether it sees the player then.
-use Rattle.std.specs.Prelude.{ℕ, Bool, true, false, ◌==◌, List, [], ◌∷◌, length, slice_index_or}
+use Rattle.std.specs.Prelude.{ℕ, Bool, true, false, ◌==◌, [], ◌∷◌, length, slice_index_or}
 use Rattle.turn_rules.specs.cave_data.CaveView.{CaveView}
 use Rattle.turn_rules.specs.cave_words.Stream.{number_drawn}
 use Rattle.turn_rules.specs.cave_world.Limits.{PIRATE}
 use Rattle.turn_rules.specs.cave_world.declared.dwarves.Dwarf.{Dwarf}
 use Rattle.turn_rules.specs.turn_scene.Scene.{Scene, with_state, after_draw}
-use Rattle.turn_rules.specs.Rows.{Deed, Test, Row, deed, answer_row, answer_by_rows}
+use Rattle.turn_rules.specs.Rows.{Deed, Test, deed, answer_row, answer_by_rows, otherwise_row}
 use Rattle.turn_rules.specs.Tests.{here, in_the_depths}
 use Rattle.turn_dwarves.specs.Band.{dwarf_of, with_dwarf}
-use Rattle.turn_dwarves.specs.Candidates.{ways_of_dwarf}
+use Rattle.turn_dwarves.specs.Ahead.{ways_of_dwarf}
 
 -- one of the ways is drawn, also where there is but one
 unfoldable pub chosen_way : CaveView → Bool → Dwarf → ℕ → ℕ
@@ -36,16 +36,12 @@ abbrev pub loses_sight : Deed Dwarf → Dwarf
 loses_sight d = record d.about { has_seen = false }
 
 -- what becomes of a dwarf once it has gone to another place
-unfoldable pub sight_rows : List (Row Dwarf Dwarf)
-sight_rows =
-    answer_row (sees_player ∷ in_the_depths ∷ []) comes
-    ∷ answer_row (is_with_player ∷ []) comes
-    ∷ answer_row (was_with_player ∷ []) comes
-    ∷ answer_row [] loses_sight
-    ∷ []
-
 unfoldable pub dwarf_in_sight : Deed Dwarf → Dwarf
-dwarf_in_sight d = answer_by_rows sight_rows loses_sight d
+dwarf_in_sight d = answer_by_rows
+    (answer_row (sees_player ∷ in_the_depths ∷ []) comes
+    ∷ answer_row (is_with_player ∷ []) comes
+    ∷ answer_row (was_with_player ∷ []) comes ∷ [])
+    (otherwise_row [] loses_sight) d
 
 -- a dwarf goes a way
 abbrev pub dwarf_on_way : ℕ → Dwarf → Dwarf

@@ -1,8 +1,8 @@
 -- What the pirate does.
 use Rattle.std.specs.Prelude.{pos, ◌+◌, ◌==◌, not, List, [], ◌∷◌}
-use Rattle.turn_rules.specs.cave_data.CaveView.{CaveView}
 use Rattle.turn_rules.specs.data_rows.declared.place_role.PlaceRole.TheVariants as place
 use Rattle.turn_rules.specs.data_rows.declared.role.Role.TheVariants as role
+use Rattle.turn_rules.specs.cave_data.CaveView.{CaveView}
 use Rattle.turn_rules.specs.cave_words.declared.named.Named.TheVariants as name
 use Rattle.turn_rules.specs.cave_world.Limits.{PIRATE}
 use Rattle.turn_rules.specs.cave_world.Sight.{LAMP_ON}

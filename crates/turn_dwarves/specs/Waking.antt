@@ -1,14 +1,15 @@
 -- How the dwarves wake.
 use Rattle.std.specs.Prelude.{ℕ, zero, suc, ◌==◌, if◌then◌else◌, unwrap_or, List, [], ◌∷◌}
-use Rattle.turn_rules.specs.cave_data.CaveView.{CaveView}
 use Rattle.turn_rules.specs.data_rows.declared.place_role.PlaceRole.TheVariants as landmark
 use Rattle.turn_rules.specs.data_rows.declared.role.Role.TheVariants as role
+use Rattle.turn_rules.specs.cave_data.CaveView.{CaveView}
 use Rattle.turn_rules.specs.cave_words.Stream.{number_drawn}
 use Rattle.turn_rules.specs.cave_words.declared.named.Named.TheVariants as name
 use Rattle.turn_rules.specs.cave_world.declared.dwarves.Dwarf.{Dwarf}
 use Rattle.turn_rules.specs.cave_world.declared.state.State.{State}
 use Rattle.turn_rules.specs.turn_things.Places.{place_named}
 use Rattle.turn_rules.specs.Rows.{Effect, Row, plain_row, chance_row, by_table_about, after_drawing}
+use Rattle.turn_rules.specs.Rows.{otherwise}
 use Rattle.turn_rules.specs.Tests.{the, no, in_the_depths, percent}
 use Rattle.turn_rules.specs.Effects.{in_state, change, say, bring}
 use Rattle.turn_dwarves.specs.Band.{dwarf_of, with_dwarf, with_anger}
@@ -68,5 +69,4 @@ unfoldable pub waking_rows : List (Row Attack (Unit {0}))
 waking_rows =
     plain_row (no in_the_depths ∷ []) []
     ∷ chance_row [] (percent 95) []
-    ∷ plain_row [] wake
-    ∷ []
+    ∷ otherwise wake

@@ -1,9 +1,9 @@
 //! The dwarves and the pirate: how they wake, where they go, and what they do to the player.
 #![tactic(auto)]
 
+mod ahead;
 mod band;
 mod booty;
-mod candidates;
 pub mod dwarves;
 mod haunt;
 mod knives;

@@ -6,28 +6,28 @@ ghost use Rattle.turn_rules.specs.cave_world.Limits.{dwarf_count};
 ghost use Rattle.turn_rules.specs.Rows.{deed};
 ghost use Rattle.turn_dwarves.specs.Moving.{chosen_way, dwarf_in_sight, dwarf_moved};
 
+use crate::ahead::places_ahead;
 use crate::band::{dwarf_of, set_dwarf};
-use crate::candidates::candidates;
 use crate::waking::is_in_depths;
 use turn_things::{Dwarf, PIRATE, Place, Rules, Scene, Stream};
 
 /// Draws one of the ways of a dwarf, also where there is but one.
-#[tactic(auto, unfolding(crate::specs::Moving::chosen_way, crate::specs::Candidates::ways_of_dwarf))]
+#[tactic(auto, unfolding(crate::specs::Moving::chosen_way, crate::specs::Ahead::ways_of_dwarf))]
 fn choose_way(rules: &Rules<'_>, is_pirate: bool, dwarf: &Dwarf, stream: &mut Stream) -> Place
     ensures place { result ≡ chosen_way (cave_of rules.now) is_pirate dwarf.now stream.old }
     ensures moves_on { stream.new ≡ next stream.old }
 {
-    let candidates = candidates(rules, is_pirate, dwarf);
-    if candidates.is_empty() {
+    let ahead = places_ahead(rules, is_pirate, dwarf);
+    if ahead.is_empty() {
         stream.draw(1);
         return dwarf.last;
     }
-    let drawn = stream.draw(candidates.len() as u32);
-    candidates[drawn as usize].place()
+    let drawn = stream.draw(ahead.len() as u32);
+    ahead[drawn as usize].place()
 }
 
 /// A dwarf that has moved comes to the player whom it sees, or forgets the player.
-#[tactic(auto, unfolding(crate::specs::Moving::dwarf_in_sight, crate::specs::Moving::sight_rows))]
+#[tactic(auto, unfolding(crate::specs::Moving::dwarf_in_sight))]
 fn dwarf_in_sight(rules: &Rules<'_>, dwarf: Dwarf, scene: &Scene<'_>) -> Dwarf
     ensures { result ≡ dwarf_in_sight (deed (cave_of rules.now) dwarf (scene_of scene.now)) }
 {

@@ -1,8 +1,8 @@
 -- How a game ends, and what a death does.
-use Rattle.std.specs.Prelude.{ℕ, ◌+◌, ◌-◌, Bool, false, List, [], ◌∷◌, Option, Some, None, min}
-use Rattle.std.specs.Prelude.{is_some}
-use Rattle.turn_score.specs.cave_data.CaveView.{CaveView, Rated, class_of}
+use Rattle.std.specs.Prelude.{ℕ, ◌+◌, ◌-◌, false, List, [], ◌∷◌, Option, Some, None, min, is_some}
+use Rattle.std.specs.Prelude.{option_map, unwrap_or}
 use Rattle.turn_score.specs.data_rows.declared.role.Role.TheVariants as role
+use Rattle.turn_score.specs.cave_data.CaveView.{CaveView, Rated, class_of}
 use Rattle.turn_score.specs.cave_world.declared.ending.Ending.{Ending}
 use Rattle.turn_score.specs.cave_world.declared.ending.Ending.TheVariants as ending
 use Rattle.turn_score.specs.cave_world.declared.ending.Question.TheVariants as question
@@ -10,8 +10,10 @@ use Rattle.turn_score.specs.cave_world.declared.part.NumberLine.TheVariants as l
 use Rattle.turn_score.specs.cave_world.declared.part.Part.TheVariants as part
 use Rattle.turn_score.specs.cave_world.declared.state.State.{State}
 use Rattle.turn_score.specs.turn_scene.Scene.{Scene, with_state}
+use Rattle.turn_score.specs.turn_things.Effects.{with_tallies}
 use Rattle.turn_score.specs.Score.{score_of, max_score_of}
 use Rattle.turn_rules.specs.Rows.{Deed, Test, Effect, Row, deed, plain_row, by_table, after_all}
+use Rattle.turn_rules.specs.Rows.{otherwise}
 use Rattle.turn_rules.specs.Tests.{cave_closing}
 use Rattle.turn_rules.specs.Effects.{in_scene, change, say, tell}
 use Rattle.turn_ends.specs.Questions.{ask}
@@ -23,10 +25,6 @@ score_now d = score_of d.cave d.scene.state
 abbrev pub class_now : Deed (Unit {0}) → Option Rated
 class_now d = class_of d.cave (score_now d)
 
-abbrev pub is_class_followed : Option Rated → Bool
-is_class_followed None = false
-is_class_followed (Some rated) = rated.is_followed
-
 -- the points that are missing to pass the bound of a class
 abbrev pub points_wanted : ℕ → Option Rated → ℕ
 points_wanted score None = 0
@@ -37,7 +35,7 @@ has_class d = is_some (class_now d)
 
 -- another class comes after that of the score
 abbrev pub has_next_class : Test (Unit {0})
-has_next_class d = is_class_followed (class_now d)
+has_next_class d = unwrap_or (option_map (λ (class : Rated). class.is_followed) (class_now d)) false
 
 -- the line of the score, of the greatest one, and of the turns
 abbrev pub tell_turns : Effect (Unit {0})
@@ -54,8 +52,7 @@ unfoldable pub class_rows : List (Row (Unit {0}) (Unit {0}))
 class_rows =
     plain_row (has_next_class ∷ []) (tell_class ∷ tell_points_wanted ∷ [])
     ∷ plain_row (has_class ∷ []) (tell_class ∷ say role.TopClass ∷ [])
-    ∷ plain_row [] (say role.OffScale ∷ [])
-    ∷ []
+    ∷ otherwise (say role.OffScale ∷ [])
 
 unfoldable pub tell_score : List (Effect (Unit {0}))
 tell_score = tell_turns ∷ by_table class_rows ∷ []
@@ -70,9 +67,7 @@ after_end cave how p =
 
 -- one death more, up to 3
 abbrev pub with_one_death : State → State
-with_one_death s =
-    let tallies = s.tallies in
-    record s { tallies = record tallies { deaths = min (tallies.deaths + 1) 3 } }
+with_one_death s = with_tallies (record (s.tallies) { deaths = min (s.tallies.deaths + 1) 3 }) s
 
 module _ {C : Type 0} where
   abbrev pub end_as : Ending → Effect C
@@ -86,8 +81,7 @@ unfoldable pub death_rows : List (Row (Unit {0}) (Unit {0}))
 death_rows =
     plain_row (cave_closing ∷ [])
     (say role.KilledClosing ∷ count_death ∷ end_as ending.Killed ∷ [])
-    ∷ plain_row [] (ask question.Die ∷ [])
-    ∷ []
+    ∷ otherwise (ask question.Die ∷ [])
 
 -- the player dies
 unfoldable pub after_die : CaveView → Scene → Scene

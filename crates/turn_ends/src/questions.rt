@@ -6,7 +6,7 @@ ghost use Rattle.turn_score.specs.turn_scene.Bounds.{GoesOnSaying, HasRoom, part
 ghost use Rattle.turn_score.specs.turn_scene.Scene.{scene_of, cave_of};
 ghost use Rattle.turn_rules.specs.Rows.{Does, by_table};
 ghost use Rattle.turn_rules.specs.Effects.{when};
-ghost use Rattle.turn_ends.specs.Questions.{is_score_quit, asks, die_rows, after_offer};
+ghost use Rattle.turn_ends.specs.Questions.{is_score_quit, die_rows, after_offer};
 ghost use Rattle.turn_ends.specs.Questions.{after_question, tell_score_now, with_question};
 ghost use Rattle.turn_ends.specs.Questions.{after_ask};
 
@@ -52,7 +52,6 @@ fn offer_hint(cave: &Cave, hint: HintNumber, scene: &mut Scene<'_>)
 }
 
 /// The message of a question is printed.
-#[tactic(auto, unfolding(crate::specs::Questions::question_rows))]
 pub fn tell_question(rules: &Rules<'_>, question: &Question, scene: &mut Scene<'_>)
     requires { HasRoom 1 scene.old }
     ensures scene { scene_of scene.new
@@ -74,8 +73,8 @@ pub fn tell_question(rules: &Rules<'_>, question: &Question, scene: &mut Scene<'
 /// Before the question that is about the score, the score is printed.
 fn tell_preface(rules: &Rules<'_>, question: &Question, scene: &mut Scene<'_>)
     requires { HasRoom 1 scene.old }
-    ensures score { Does (when (asks is_score_quit) tell_score_now ∷ []) 1 rules.now question.now
-        scene.old scene.new }
+    ensures score { Does (when (λ d. is_score_quit d.about) tell_score_now ∷ []) 1
+        rules.now question.now scene.old scene.new }
 {
     if let Question::ScoreQuit = question {
         let score = score(rules, scene.state);

@@ -4,11 +4,11 @@ use Rattle.std.proofs.Common.{[], ◌∷◌, if◌then◌else◌, refl, sym, ap,
 use Rattle.std.proofs.Math.Nat.{div-eq_of_lt, pow-le-pow_right}
 use Rattle.std.proofs.lemmas.Bool.{true≢false}
 use Rattle.std.proofs.lemmas.List.{set-get_or}
-use Rattle.std.specs.Prelude.{◌&&◌}
+use Rattle.std.specs.Prelude.{◌&&◌, not}
 use Rattle.turn_ends.specs.cave_data.CaveView.{CaveView, cond_of}
 use Rattle.turn_ends.specs.turn_rules.Rows.{Act, deed, act_of, after_all, by_table}
-use Rattle.turn_ends.specs.turn_rules.Tests.{no}
-use Rattle.turn_hints.specs.Hints.{FIRST_HINT, in_cave, was_taken, in_area}
+use Rattle.turn_ends.specs.turn_rules.Tests.{has_hint, it, no}
+use Rattle.turn_hints.specs.Hints.{FIRST_HINT, in_cave, in_area}
 use Rattle.turn_hints.specs.Hints.{with_turns_in_area, restart, count_turn, offer_rows, hint_rows}
 use Rattle.turn_hints.specs.Hints.{after_consider, after_hints_up_to}
 use Rattle.turn_ends.specs.turn_scene.Scene.{Scene, with_state}
@@ -23,10 +23,10 @@ turns_as_they_are h s none =
     ap (λ turns. record s { hints = record hints { turns = turns } })
     (ap (λ n. slice_set hints.turns (h - 1) n) (sym none) ∙ set-get_or hints.turns (h - 1) 0)
 
--- where the player is outside, nothing is done but in the second of two rows
-quiet_outside : (a b c : Bool) (x y z : Act (Unit {0})) (p : Scene) → c ≡ false → y.scene ≡ p
+-- where the player is outside, nothing is done but in the first of two rows
+quiet_outside : (a b c : Bool) (x y z : Act (Unit {0})) (p : Scene) → c ≡ false → x.scene ≡ p
     → z.scene ≡ p
-    → (if a && (b && (c && true)) then x else (if a && (b && true) then y else z)).scene ≡ p
+    → (if a && (b && (not c && true)) then x else (if a && (b && true) then y else z)).scene ≡ p
 quiet_outside true true true x y z p far one none = absurd (true≢false far)
 quiet_outside true true false x y z p far one none = one
 quiet_outside true false c x y z p far one none = none
@@ -41,7 +41,7 @@ far_is_nothing cave h p far none =
     let d = deed cave h p in
     let waits : Act (Unit {0}) =
     act_of (after_all (count_turn ∷ by_table offer_rows ∷ []) d).scene tt in
-    quiet_outside (in_cave d) (no was_taken d) (in_area d) waits (act_of (restart d).scene tt)
+    quiet_outside (in_cave d) (no (has_hint it) d) (in_area d) (act_of (restart d).scene tt) waits
     (act_of p tt) p far (ap (λ s. with_state s p) (turns_as_they_are h p.state none)) refl
 
 -- conditions below 16 have no bit of a hint

@@ -2,13 +2,13 @@
 use Rattle.std.proofs.Common.{◌≡◌, ℕ, zero, suc, ◌+◌, ◌-◌, ◌≤◌, ◌⊎◌, inl, inr, Bool, true, false}
 use Rattle.std.proofs.Common.{[], ◌∷◌, None, min, if◌then◌else◌, refl, sym, ap, ◌∙◌, arith}
 use Rattle.std.proofs.lemmas.Bool.{cases_eq, true≢false}
-use Rattle.std.specs.Prelude.{◌&&◌, is_some}
+use Rattle.std.specs.Prelude.{◌&&◌, is_some, not}
 use Rattle.std.specs.FinMap as map
 use Rattle.turn_ends.specs.cave_data.CaveView.{CaveView}
 use Rattle.turn_ends.specs.cave_data.Tables.{IsAbove}
 use Rattle.turn_ends.specs.turn_rules.Rows.{Act, deed, act_of, after_all, by_table}
-use Rattle.turn_ends.specs.turn_rules.Tests.{no}
-use Rattle.turn_hints.specs.Hints.{in_cave, was_taken, in_area, restart, count_turn, offer_rows}
+use Rattle.turn_ends.specs.turn_rules.Tests.{has_hint, it, no}
+use Rattle.turn_hints.specs.Hints.{in_cave, in_area, restart, count_turn, offer_rows}
 use Rattle.turn_hints.specs.Hints.{hint_rows, after_consider}
 use Rattle.turn_hints.specs.Hints.{after_hints_up_to, FIRST_HINT, OFFERED_HINTS}
 use Rattle.turn_ends.specs.turn_scene.Scene.{Scene}
@@ -22,7 +22,7 @@ after_consider-more cave n p = let next : n + 1 ≡ suc n = omega arith in rw ne
 
 -- no row fits whose first test fails
 no_row : (a b c : Bool) (x y z : Act (Unit {0})) → a ≡ false
-    → (if a && (b && (c && true)) then x else (if a && (b && true) then y else z)) ≡ z
+    → (if a && (b && (not c && true)) then x else (if a && (b && true) then y else z)) ≡ z
 no_row true b c x y z fails = absurd (true≢false fails)
 no_row false b c x y z fails = refl
 
@@ -35,7 +35,7 @@ after_consider-none cave h p none =
     let waits : Act (Unit {0}) =
     act_of (after_all (count_turn ∷ by_table offer_rows ∷ []) d).scene tt in
     ap (λ (act : Act (Unit {0})). act.scene)
-    (no_row (in_cave d) (no was_taken d) (in_area d) waits (act_of (restart d).scene tt)
+    (no_row (in_cave d) (no (has_hint it) d) (in_area d) (act_of (restart d).scene tt) waits
     (act_of p tt) (ap (λ hint. is_some hint) none))
 
 after_hints-later : (cave : CaveView) (count more : ℕ) (p : Scene)

@@ -2,7 +2,7 @@
 use Rattle.std.proofs.Common.{◌≡◌, ℕ, Option, Some, None, refl, ap}
 use Rattle.std.specs.FinMap as map
 use Rattle.turn_ends.specs.cave_data.CaveView.{CaveView}
-use Rattle.turn_ends.specs.Questions.{after_offer, question_rows, ask_question, after_ask}
+use Rattle.turn_ends.specs.Questions.{after_offer, ask_question, after_ask}
 use Rattle.turn_ends.specs.data_rows.declared.rows.Hint.{Hint}
 use Rattle.turn_ends.specs.turn_scene.Scene.{Scene}
 use Rattle.turn_ends.specs.cave_world.declared.ending.Question.TheVariants as question
@@ -13,5 +13,5 @@ state_offered (Some hint) p = refl
 
 pub trail_asked : (cave : CaveView) (hint : ℕ) (p : Scene)
     → (after_ask cave (question.Hint hint) p).state.trail ≡ p.state.trail
-unfolding after_ask ask_question question_rows
+unfolding after_ask ask_question
 trail_asked cave hint p = ap (λ s. s.trail) (state_offered (map.get cave.hints hint) p)

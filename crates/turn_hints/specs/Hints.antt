@@ -1,17 +1,17 @@
 -- Hints: one is offered to a player who stays for long where it helps, and who needs it.
 use Rattle.std.specs.Prelude.{ℕ, ℤ, pos, ◌+◌, ◌-◌, ◌*◌, ◌+ℤ◌, Bool, true, ◌==◌, nat_le, nat_lt}
-use Rattle.std.specs.Prelude.{int_lt, min, length, List, [], ◌∷◌, is_some}
-use Rattle.std.specs.Prelude.{unwrap_or, slice_set, suc, zero}
+use Rattle.std.specs.Prelude.{int_lt, min, length, List, [], ◌∷◌, is_some, unwrap_or, slice_set}
+use Rattle.std.specs.Prelude.{suc, zero}
 use Rattle.std.specs.FinMap as map
 use Rattle.std.specs.Int.{int_min}
-use Rattle.turn_ends.specs.cave_data.CaveView.{CaveView}
 use Rattle.turn_ends.specs.data_rows.declared.rows.Hint.{Hint}
+use Rattle.turn_ends.specs.cave_data.CaveView.{CaveView}
 use Rattle.turn_ends.specs.cave_words.declared.named.Named.TheVariants as name
 use Rattle.turn_ends.specs.world_objects.Lists.{halves_at}
 use Rattle.turn_ends.specs.world_objects.Objects.{carried_objects}
 use Rattle.turn_ends.specs.cave_world.Limits.{LOW_CHARGE, MAX_LAMP_TURNS}
 use Rattle.turn_ends.specs.cave_world.Sight.{has_condition}
-use Rattle.turn_ends.specs.cave_world.State.{turns_in_area, is_hint_taken, MAX_TURNS_IN_AREA}
+use Rattle.turn_ends.specs.cave_world.State.{turns_in_area, MAX_TURNS_IN_AREA}
 use Rattle.turn_ends.specs.cave_world.declared.ending.Question.TheVariants as question
 use Rattle.turn_ends.specs.cave_world.declared.part.NumberLine.TheVariants.{HintCosts}
 use Rattle.turn_ends.specs.cave_world.declared.part.Part.TheVariants as part
@@ -19,9 +19,10 @@ use Rattle.turn_ends.specs.cave_world.declared.state.State.{State}
 use Rattle.turn_ends.specs.turn_scene.Scene.{Scene}
 use Rattle.turn_ends.specs.turn_things.Props.{GRATE_LOCKED, UNSEEN}
 use Rattle.turn_ends.specs.turn_rules.Rows.{Deed, Test, Effect, Row, deed, plain_row, answer_row}
-use Rattle.turn_ends.specs.turn_rules.Rows.{all_hold, by_table, answer_by_rows}
+use Rattle.turn_ends.specs.turn_rules.Rows.{all_hold, by_table, answer_by_rows, always}
+use Rattle.turn_ends.specs.turn_rules.Rows.{otherwise_row}
 use Rattle.turn_ends.specs.turn_rules.Tests.{the, no, in_hand, near, prop, other_prop, over}
-use Rattle.turn_ends.specs.turn_rules.Tests.{last_object, here, last, older}
+use Rattle.turn_ends.specs.turn_rules.Tests.{last_object, here, old, older, has_hint, it}
 use Rattle.turn_ends.specs.turn_rules.Effects.{in_state, when, tell, tell_message, take_hint}
 use Rattle.turn_ends.specs.turn_rules.Effects.{set_charge}
 use Rattle.turn_ends.specs.Questions.{ask}
@@ -64,9 +65,6 @@ row_of d = unwrap_or (map.get d.cave.hints d.about) no_hint
 abbrev pub in_cave : Test ℕ
 in_cave d = is_some (map.get d.cave.hints d.about)
 
-abbrev pub was_taken : Test ℕ
-was_taken d = is_hint_taken d.scene.state d.about
-
 -- a place is in the area of a hint by the bit of the hint's number
 abbrev pub in_area : Test ℕ
 in_area d = has_condition d.cave (here d) d.about
@@ -76,34 +74,26 @@ abbrev pub has_stayed : Test ℕ
 has_stayed d = nat_le (row_of d).turns (turns_in_area d.scene.state d.about)
 
 -- nothing is at a place
-abbrev pub bare : (Deed ℕ → ℕ) → Test ℕ
-bare place d = length (halves_at (place d) d.scene.state.objects.lists) == 0
+abbrev pub nothing_at : (Deed ℕ → ℕ) → Test ℕ
+nothing_at place d = length (halves_at (place d) d.scene.state.objects.lists) == 0
 
 abbrev pub two_in_hand : Test ℕ
 two_in_hand d = nat_lt 1 (length (carried_objects d.scene.state.objects))
-
-abbrev pub always : Test ℕ
-always d = true
 
 -- what the guard of a hint asks
 abbrev pub guard_row : ℕ → List (Test ℕ) → Row ℕ Bool
 guard_row h tests = answer_row (hint_is h ∷ []) (all_hold tests)
 
-unfoldable pub guard_rows : List (Row ℕ Bool)
-guard_rows =
-    guard_row GRATE_HINT (prop (the name.Grate) GRATE_LOCKED ∷ no (near (the name.Keys)) ∷ [])
+unfoldable pub helpful : Test ℕ
+helpful d = answer_by_rows
+    (guard_row GRATE_HINT (prop (the name.Grate) GRATE_LOCKED ∷ no (near (the name.Keys)) ∷ [])
     ∷ guard_row BIRD_HINT
     (near (the name.Bird) ∷ in_hand (the name.Rod) ∷ last_object name.Bird ∷ [])
     ∷ guard_row SNAKE_HINT (near (the name.Snake) ∷ no (near (the name.Bird)) ∷ [])
-    ∷ guard_row MAZE_HINT (bare here ∷ bare last ∷ bare older ∷ two_in_hand ∷ [])
+    ∷ guard_row MAZE_HINT (nothing_at here ∷ nothing_at old ∷ nothing_at older ∷ two_in_hand ∷ [])
     ∷ guard_row PYRAMID_HINT
-    (other_prop (the name.Emerald) UNSEEN ∷ prop (the name.Pyramid) UNSEEN ∷ [])
-    ∷ answer_row [] always
-    ∷ []
-
--- the guard of the hint holds
-unfoldable pub helpful : Test ℕ
-helpful d = answer_by_rows guard_rows always d
+    (other_prop (the name.Emerald) UNSEEN ∷ prop (the name.Pyramid) UNSEEN ∷ []) ∷ [])
+    (otherwise_row [] (always true)) d
 
 abbrev pub with_turns_in_area : ℕ → ℕ → State → State
 with_turns_in_area h n s =
@@ -131,11 +121,12 @@ offer_rows =
     ∷ plain_row (has_stayed ∷ no over ∷ no (hint_is BIRD_HINT) ∷ []) (restart ∷ [])
     ∷ []
 
--- a hint that the cave has and that wasn't taken counts its turns, and is offered
+-- a hint that the cave has and that wasn't taken counts its turns, from 0 again outside its area, and
+-- is offered
 unfoldable pub hint_rows : List (Row ℕ (Unit {0}))
 hint_rows =
-    plain_row (in_cave ∷ no was_taken ∷ in_area ∷ []) (count_turn ∷ by_table offer_rows ∷ [])
-    ∷ plain_row (in_cave ∷ no was_taken ∷ []) (restart ∷ [])
+    plain_row (in_cave ∷ no (has_hint it) ∷ no in_area ∷ []) (restart ∷ [])
+    ∷ plain_row (in_cave ∷ no (has_hint it) ∷ []) (count_turn ∷ by_table offer_rows ∷ [])
     ∷ []
 
 -- what a turn makes of a hint
@@ -166,16 +157,16 @@ price_rows = plain_row (in_cave ∷ []) (tell_price ∷ ask_take ∷ []) ∷ []
 abbrev pub hint_text : Deed ℕ → ℕ
 hint_text d = (row_of d).text
 
-abbrev pub take : Effect ℕ
-take d = take_hint d.about d
-
 -- the lamp isn't low
 abbrev pub bright : Test ℕ
 bright d = int_lt (pos LOW_CHARGE) d.scene.state.lamp.charge
 
--- a charge with 30 turns more for each point, up to the most
+-- for each point that it costs the lamp burns so many turns more, up to the most
+abbrev pub TURNS_A_POINT : ℕ
+TURNS_A_POINT = 30
+
 abbrev pub longer_charge : ℕ → ℤ → ℤ
-longer_charge points charge = int_min (charge +ℤ pos (30 * points)) (pos MAX_LAMP_TURNS)
+longer_charge points charge = int_min (charge +ℤ pos (TURNS_A_POINT * points)) (pos MAX_LAMP_TURNS)
 
 -- the lamp burns longer by what the hint costs
 abbrev pub prolong : Effect ℕ
@@ -183,4 +174,5 @@ prolong d = set_charge (longer_charge (row_of d).points d.scene.state.lamp.charg
 
 -- what a player gets who takes a hint
 unfoldable pub give_rows : List (Row ℕ (Unit {0}))
-give_rows = plain_row (in_cave ∷ []) (tell_message hint_text ∷ take ∷ when bright prolong ∷ []) ∷ []
+give_rows =
+    plain_row (in_cave ∷ []) (tell_message hint_text ∷ take_hint it ∷ when bright prolong ∷ []) ∷ []

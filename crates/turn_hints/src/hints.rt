@@ -15,11 +15,12 @@ ghost use Rattle.turn_ends.specs.turn_scene.Scene.{scene_of, cave_of};
 ghost use Rattle.turn_ends.specs.turn_things.Props as defined_props;
 ghost use Rattle.turn_ends.specs.turn_rules.Rows.{Does, all_hold, by_table, deed};
 ghost use Rattle.turn_ends.specs.turn_rules.Tests.{the, no, in_hand, near, prop, other_prop};
-ghost use Rattle.turn_ends.specs.turn_rules.Tests.{over, last_object, here, last, older};
+ghost use Rattle.turn_ends.specs.turn_rules.Tests.{over, last_object, here, old, older};
 ghost use Rattle.turn_ends.specs.turn_rules.Effects.{with_charge};
 ghost use Rattle.turn_hints.specs.Hints as defined;
-ghost use Rattle.turn_hints.specs.Hints.{has_stayed, bare, two_in_hand, helpful, longer_charge};
-ghost use Rattle.turn_hints.specs.Hints.{with_turns_in_area, offer_rows, after_consider};
+ghost use Rattle.turn_hints.specs.Hints.{has_stayed, nothing_at, two_in_hand, helpful};
+ghost use Rattle.turn_hints.specs.Hints.{longer_charge, with_turns_in_area, offer_rows};
+ghost use Rattle.turn_hints.specs.Hints.{after_consider};
 ghost use Rattle.turn_hints.specs.Hints.{after_hints, price_rows, give_rows};
 
 use turn_ends::{
@@ -231,7 +232,8 @@ fn is_held_by_snake(rules: &Rules<'_>, number: HintNumber, scene: &Scene<'_>) ->
 
 /// Nothing marks the last three places, and the player has what could mark them.
 fn is_lost_in_maze(rules: &Rules<'_>, number: HintNumber, scene: &Scene<'_>) -> bool
-    ensures { result ≡ all_hold (bare here ∷ bare last ∷ bare older ∷ two_in_hand ∷ [])
+    ensures { result ≡ all_hold
+        (nothing_at here ∷ nothing_at old ∷ nothing_at older ∷ two_in_hand ∷ [])
         (deed (cave_of rules.now) number (scene_of scene.now)) }
 {
     let state = &*scene.state;
@@ -253,7 +255,7 @@ fn is_short_of_pyramid(rules: &Rules<'_>, number: HintNumber, scene: &Scene<'_>)
 }
 
 /// Whether the guard of a hint holds. Five hints have one.
-#[tactic(auto, unfolding(crate::specs::Hints::helpful, crate::specs::Hints::guard_rows))]
+#[tactic(auto, unfolding(crate::specs::Hints::helpful))]
 fn is_helpful(rules: &Rules<'_>, hint: HintNumber, scene: &Scene<'_>) -> bool
     ensures { result ≡ helpful (deed (cave_of rules.now) hint (scene_of scene.now)) }
 {

@@ -1,33 +1,28 @@
 -- What happens where a player arrives.
-use Rattle.std.specs.Prelude.{ℕ, zero, suc, Bool, ◌==◌, ◌&&◌, nat_le, if◌then◌else◌, List, [], ◌∷◌}
-use Rattle.std.specs.Prelude.{take}
+use Rattle.std.specs.Prelude.{ℕ, zero, suc, Bool, ◌==◌, ◌&&◌, if◌then◌else◌, List, [], ◌∷◌, take}
+use Rattle.std.specs.Prelude.{true, false}
 use Rattle.std.specs.List.{list_any}
-use Rattle.turn_dwarves.specs.cave_data.CaveView.{CaveView}
 use Rattle.turn_dwarves.specs.data_rows.declared.role.Role.TheVariants as role
+use Rattle.turn_dwarves.specs.cave_data.CaveView.{CaveView}
 use Rattle.turn_dwarves.specs.cave_world.Limits.{PIRATE}
 use Rattle.turn_dwarves.specs.cave_world.Motions.{any_motion}
 use Rattle.turn_dwarves.specs.cave_world.declared.dwarves.Dwarf.{Dwarf}
 use Rattle.turn_dwarves.specs.turn_scene.Scene.{Scene, after_saying, with_left, scene_at_place}
 use Rattle.turn_dwarves.specs.turn_things.declared.conditions.PlaceCondition.TheVariants.{NoPirate}
 use Rattle.turn_dwarves.specs.Dwarves.{encounter_dwarves}
-use Rattle.turn_ends.specs.Endings.{after_die}
 use Rattle.turn_ends.specs.turn_rules.Rows.{Deed, Act, Test, Row, deed, row_then, answer_row}
-use Rattle.turn_ends.specs.turn_rules.Rows.{first_fitting_or, nothing_but}
+use Rattle.turn_ends.specs.turn_rules.Rows.{first_fitting_or, nothing_but, always, otherwise_then}
 use Rattle.turn_ends.specs.turn_rules.Tests.{no, same, here, outside, cave_closing, forced_at}
-use Rattle.turn_ends.specs.turn_rules.Tests.{place_has, over}
+use Rattle.turn_ends.specs.turn_rules.Tests.{place_has, over, there_is}
 use Rattle.turn_ends.specs.turn_rules.Effects.{say, follow, panic}
-use Rattle.turn_moves.specs.Description.{moved_on, left_there, tell_place, after_describe}
-use Rattle.turn_moves.specs.Description.{stop_here}
+use Rattle.turn_ends.specs.Endings.{after_die}
+use Rattle.turn_moves.specs.Description.{tell_place, after_describe, stop_here}
 use Rattle.turn_moves.specs.Journeys.{set_forth}
 use Rattle.turn_moves.specs.Ways.{fall}
 
 -- the place where the player is about to arrive
 abbrev pub new : Deed ℕ → ℕ
 new d = d.about
-
--- a place is a place, and not 0
-abbrev pub a_place : (Deed ℕ → ℕ) → Test ℕ
-a_place place d = nat_le 1 (place d)
 
 -- a dwarf that has seen the player comes from the place
 abbrev pub comes_from : ℕ → Dwarf → Bool
@@ -40,7 +35,7 @@ dwarf_from place d = list_any (comes_from (place d)) (take PIRATE d.scene.state.
 -- a closing cave has no way out, and a dwarf bars the way to the place that it came from
 unfoldable pub blocking_rows : List (Row ℕ ℕ)
 blocking_rows =
-    row_then (cave_closing ∷ a_place new ∷ outside new ∷ [])
+    row_then (cave_closing ∷ there_is new ∷ outside new ∷ [])
     (say role.ClosingExit ∷ panic ∷ []) here
     ∷ row_then (no (same new here) ∷ no (forced_at here) ∷ no (place_has NoPirate here)
     ∷ dwarf_from new ∷ []) (say role.Blocked ∷ []) here
@@ -50,19 +45,6 @@ blocking_rows =
 unfoldable pub block : Deed ℕ → Act ℕ
 block d = first_fitting_or blocking_rows (nothing_but new) d
 
--- what dwarves leave: a knife kills, and else the place is described
-unfoldable pub hit_rows : List (Row Bool Bool)
-hit_rows =
-    row_then ((λ d. d.about) ∷ []) (fall here ∷ []) left_there
-    ∷ row_then [] (follow after_describe ∷ []) left_there
-    ∷ []
-
--- the dwarves move, and the place is described
-unfoldable pub meet : Deed (Unit {0}) → Act Bool
-meet d =
-    let met = encounter_dwarves d.cave d.scene in
-    first_fitting_or hit_rows (nothing_but left_there) (deed d.cave met.step met.scene)
-
 -- the player is nowhere
 abbrev pub at_no_place : Test (Unit {0})
 at_no_place d = here d == 0
@@ -71,10 +53,22 @@ at_no_place d = here d == 0
 -- the pirate doesn't come
 unfoldable pub place_rows : List (Row (Unit {0}) Bool)
 place_rows =
-    row_then (at_no_place ∷ []) (follow after_die ∷ []) left_there
-    ∷ row_then (forced_at here ∷ []) tell_place moved_on
-    ∷ row_then (place_has NoPirate here ∷ []) (follow after_describe ∷ []) left_there
+    row_then (at_no_place ∷ []) (follow after_die ∷ []) (always false)
+    ∷ row_then (forced_at here ∷ []) tell_place (always true)
+    ∷ row_then (place_has NoPirate here ∷ []) (follow after_describe ∷ []) (always false)
     ∷ []
+
+-- what dwarves leave: a knife kills, and else the place is described
+unfoldable pub hit_rows : List (Row Bool Bool)
+hit_rows =
+    row_then ((λ d. d.about) ∷ []) (fall here ∷ []) (always false)
+    ∷ otherwise_then (follow after_describe ∷ []) (always false)
+
+-- the dwarves move, and the place is described
+unfoldable pub meet : Deed (Unit {0}) → Act Bool
+meet d =
+    let met = encounter_dwarves d.cave d.scene in
+    first_fitting_or hit_rows (nothing_but (always false)) (deed d.cave met.step met.scene)
 
 -- the player comes to a place
 unfoldable pub come_to : CaveView → ℕ → Scene → Act Bool
@@ -82,7 +76,7 @@ come_to cave place p = first_fitting_or place_rows meet (deed cave tt (scene_at_
 
 -- after a death on the way no one arrives
 unfoldable pub over_rows : List (Row ℕ Bool)
-over_rows = answer_row (over ∷ []) left_there ∷ []
+over_rows = answer_row (over ∷ []) (always false) ∷ []
 
 -- else the player arrives at the place, if nothing is in the way
 abbrev pub come_on : Deed ℕ → Act Bool

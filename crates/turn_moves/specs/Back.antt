@@ -1,7 +1,7 @@
 -- The way back.
+use Rattle.std.specs.Prelude.{ℕ, Bool, false, ◌&&◌, if◌then◌else◌, List, [], ◌∷◌, Option, Some}
+use Rattle.std.specs.Prelude.{None, option_map, slice_index}
 use Rattle.std.specs.Option.{option_or}
-use Rattle.std.specs.Prelude.{ℕ, Bool, false, ◌&&◌, if◌then◌else◌, List, [], ◌∷◌}
-use Rattle.std.specs.Prelude.{Option, Some, None, option_map, slice_index}
 use Rattle.turn_dwarves.specs.data_rows.Rows.{Going}
 use Rattle.turn_dwarves.specs.data_rows.Targets.{leads_to_place}
 use Rattle.turn_dwarves.specs.data_rows.declared.targets.Destination.{Destination}
@@ -47,10 +47,8 @@ indirect_row cave sought (row ∷ rows) =
 unfoldable pub row_back : CaveView → ℕ → List Going → Option Going
 row_back cave sought rows = option_or (direct_row sought rows) (indirect_row cave sought rows)
 
-abbrev pub first_motion : Going → ℕ
-first_motion row = slice_index row.motions 0
-
 -- the first motion of the row that leads back from one place to another, if there is one
 unfoldable pub motion_between : CaveView → ℕ → ℕ → Option ℕ
 motion_between cave here sought =
-    option_map first_motion (row_back cave sought (ways_from cave here))
+    option_map (λ (row : Going). slice_index row.motions 0)
+    (row_back cave sought (ways_from cave here))

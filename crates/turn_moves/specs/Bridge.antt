@@ -1,18 +1,17 @@
 -- The bridge that a troll guards.
 use Rattle.std.specs.Prelude.{ℕ, ◌==◌, if◌then◌else◌, List, [], ◌∷◌, Option, Some, None}
-use Rattle.turn_dwarves.specs.cave_words.declared.named.Named.TheVariants as name
 use Rattle.turn_dwarves.specs.data_rows.declared.role.Role.TheVariants as role
-use Rattle.turn_dwarves.specs.turn_things.Effects.{with_objects}
+use Rattle.turn_dwarves.specs.cave_words.declared.named.Named.TheVariants as name
+use Rattle.turn_dwarves.specs.turn_scene.Scene.{thing}
 use Rattle.turn_dwarves.specs.turn_things.Homes.{hold_of}
 use Rattle.turn_dwarves.specs.turn_things.Props.{BEAR_DEAD, CHASM_UNBRIDGED, TROLL_CALM, TROLL_FLED}
 use Rattle.turn_dwarves.specs.turn_things.Props.{TROLL_RETURNING, UNSEEN}
-use Rattle.turn_dwarves.specs.world_objects.Objects.{with_anchor}
-use Rattle.turn_ends.specs.turn_rules.Rows.{Deed, Act, Effect, Row, Thing, deed, row_then}
-use Rattle.turn_ends.specs.turn_rules.Rows.{first_fitting_or, nothing_but}
+use Rattle.turn_ends.specs.turn_rules.Rows.{Deed, Act, Effect, Row, deed, row_then}
+use Rattle.turn_ends.specs.turn_rules.Rows.{first_fitting_or, nothing_but, otherwise_then}
 use Rattle.turn_ends.specs.turn_rules.Tests.{the, no, in_hand, prop, prop_up_to, here, home_of}
 use Rattle.turn_ends.specs.turn_rules.Tests.{second_home_of, there_is}
-use Rattle.turn_ends.specs.turn_rules.Effects.{in_state, say, look, move, destroy, fix, loosen}
-use Rattle.turn_ends.specs.turn_rules.Effects.{juggle, set_prop, lose_one, when}
+use Rattle.turn_ends.specs.turn_rules.Effects.{say, look, move, destroy, fix, loosen, juggle}
+use Rattle.turn_ends.specs.turn_rules.Effects.{set_prop, lose_one, when, attach}
 use Rattle.turn_moves.specs.Ways.{Passage, other_end, passable, end_of, fall}
 
 -- an end of a bridge is a place of the cave, and 0 is none
@@ -31,12 +30,6 @@ bridge d =
 abbrev pub far_end : Deed ℕ → ℕ
 far_end d = d.about
 
--- an object is held where it is at home as a game begins
-abbrev pub hold_at_home : Thing (Unit {0}) → Effect (Unit {0})
-hold_at_home t d =
-    in_state (with_objects (with_anchor d.scene.state.objects (t d) (hold_of d.cave (t d)))
-    d.scene.state) d
-
 -- the troll asks for a treasure once more, at both ends of the bridge
 unfoldable pub demand_toll : List (Effect (Unit {0}))
 demand_toll =
@@ -45,7 +38,7 @@ demand_toll =
     ∷ destroy (the name.SecondTroll)
     ∷ loosen (the name.SecondTroll)
     ∷ move (the name.Troll) (home_of (the name.Troll))
-    ∷ hold_at_home (the name.Troll)
+    ∷ attach (the name.Troll) (λ d. hold_of d.cave (thing d.cave name.Troll))
     ∷ juggle (the name.Chasm)
     ∷ []
 
@@ -77,8 +70,7 @@ bridge_rows =
 unfoldable pub cross_rows : List (Row ℕ ℕ)
 cross_rows =
     row_then (no (in_hand (the name.Bear)) ∷ []) [] far_end
-    ∷ row_then [] break_bridge here
-    ∷ []
+    ∷ otherwise_then break_bridge here
 
 -- a player whom the troll lets pass crosses
 unfoldable pub cross : Deed ℕ → Act ℕ

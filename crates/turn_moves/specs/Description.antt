@@ -1,9 +1,9 @@
 -- How the player's place is described.
 use Rattle.std.specs.Prelude.{◌%◌, Bool, true, false, ◌==◌, List, [], ◌∷◌, is_some}
 use Rattle.std.specs.FinMap as map
-use Rattle.turn_dwarves.specs.cave_data.CaveView.{CaveView}
 use Rattle.turn_dwarves.specs.data_rows.declared.place_role.PlaceRole.TheVariants as place
 use Rattle.turn_dwarves.specs.data_rows.declared.role.Role.TheVariants as role
+use Rattle.turn_dwarves.specs.cave_data.CaveView.{CaveView}
 use Rattle.turn_dwarves.specs.cave_words.declared.named.Named.TheVariants as name
 use Rattle.turn_dwarves.specs.world_objects.Lists.{halves_at}
 use Rattle.turn_dwarves.specs.cave_world.State.{visits_of, with_visit}
@@ -12,7 +12,8 @@ use Rattle.turn_dwarves.specs.cave_world.declared.state.State.{State}
 use Rattle.turn_dwarves.specs.turn_scene.Scene.{Scene}
 use Rattle.turn_ends.specs.turn_rules.Rows.{Deed, Act, Test, Effect, Row, deed, row_then, plain_row}
 use Rattle.turn_ends.specs.turn_rules.Rows.{chance_row, by_table, first_fitting_or, nothing_but}
-use Rattle.turn_ends.specs.turn_rules.Tests.{the, no, carried, percent, player_at, cave_closing}
+use Rattle.turn_ends.specs.turn_rules.Rows.{always, otherwise, otherwise_then}
+use Rattle.turn_ends.specs.turn_rules.Tests.{the, no, carries, percent, player_at, cave_closing}
 use Rattle.turn_ends.specs.turn_rules.Tests.{here, forced_at, in_the_dark, was_dark}
 use Rattle.turn_ends.specs.turn_rules.Effects.{say, tell, change, follow}
 use Rattle.turn_moves.specs.Objects.{after_objects}
@@ -20,7 +21,7 @@ use Rattle.turn_moves.specs.Ways.{fall}
 
 -- a bear that is carried is mentioned before the text
 unfoldable pub bear_rows : List (Row (Unit {0}) (Unit {0}))
-bear_rows = plain_row (carried (the name.Bear) ∷ []) (say role.BearFollows ∷ []) ∷ []
+bear_rows = plain_row (carries (the name.Bear) ∷ []) (say role.BearFollows ∷ []) ∷ []
 
 abbrev pub brief : Test (Unit {0})
 brief d = d.scene.state.talk.is_brief
@@ -47,8 +48,7 @@ text_rows =
     plain_row (brief ∷ first_visit ∷ []) (tell_long ∷ [])
     ∷ plain_row (no brief ∷ fifth_visit ∷ []) (tell_long ∷ [])
     ∷ plain_row (no short_text ∷ []) (tell_long ∷ [])
-    ∷ plain_row [] (tell_short ∷ [])
-    ∷ []
+    ∷ otherwise (tell_short ∷ [])
 
 -- at one place something hollow is heard, by chance, until the cave is closing
 unfoldable pub hollow_rows : List (Row (Unit {0}) (Unit {0}))
@@ -85,27 +85,17 @@ unfoldable pub description_rows : List (Row (Unit {0}) (Unit {0}))
 description_rows =
     plain_row (no in_the_dark ∷ []) see_place
     ∷ chance_row (was_dark ∷ []) (percent 35) (say role.Pit ∷ fall here ∷ [])
-    ∷ plain_row [] feel_place
-    ∷ []
+    ∷ otherwise feel_place
 
 -- a place without forced motion is described
 unfoldable pub after_describe : CaveView → Scene → Scene
 after_describe cave p = (by_table description_rows (deed cave tt p)).scene
 
--- a forced motion moves the player on, or none does
-module _ {C : Type 0} where
-  abbrev pub moved_on : Deed C → Bool
-  moved_on d = true
-
-  abbrev pub left_there : Deed C → Bool
-  left_there d = false
-
--- what is seen where the player is
+-- what is seen where the player is; what follows is whether a forced motion moves the player on
 unfoldable pub stop_rows : List (Row (Unit {0}) Bool)
 stop_rows =
-    row_then (forced_at here ∷ []) tell_place moved_on
-    ∷ row_then [] (follow after_describe ∷ []) left_there
-    ∷ []
+    row_then (forced_at here ∷ []) tell_place (always true)
+    ∷ otherwise_then (follow after_describe ∷ []) (always false)
 
 unfoldable pub stop_here : Deed (Unit {0}) → Act Bool
-stop_here d = first_fitting_or stop_rows (nothing_but left_there) d
+stop_here d = first_fitting_or stop_rows (nothing_but (always false)) d

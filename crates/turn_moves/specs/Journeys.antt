@@ -1,9 +1,10 @@
 -- Where a motion leads a player.
-use Rattle.std.specs.List.{list_any}
-use Rattle.std.specs.Prelude.{ℕ, ◌+◌, Bool, false, ◌==◌, nat_lt, List, [], ◌∷◌, Option, Some, None}
+use Rattle.std.specs.Prelude.{ℕ, ◌+◌, false, ◌==◌, nat_lt, List, [], ◌∷◌, Option, Some, None}
 use Rattle.std.specs.Prelude.{is_some}
-use Rattle.turn_dwarves.specs.cave_data.CaveView.{CaveView}
+use Rattle.std.specs.List.{list_any}
 use Rattle.turn_dwarves.specs.data_rows.declared.role.Role.TheVariants as role
+use Rattle.turn_dwarves.specs.data_rows.declared.targets.Special.TheVariants.{Squeeze, Bridge}
+use Rattle.turn_dwarves.specs.cave_data.CaveView.{CaveView}
 use Rattle.turn_dwarves.specs.cave_words.declared.named.Named.TheVariants as name
 use Rattle.turn_dwarves.specs.cave_world.Motions.{motion_number}
 use Rattle.turn_dwarves.specs.cave_world.declared.motion.Motion.{Motion}
@@ -14,13 +15,13 @@ use Rattle.turn_dwarves.specs.cave_world.declared.part.Part.TheVariants as part
 use Rattle.turn_dwarves.specs.cave_world.declared.state.State.{State}
 use Rattle.turn_dwarves.specs.cave_world.declared.travel_rows.Outcome.{Outcome}
 use Rattle.turn_dwarves.specs.cave_world.declared.travel_rows.Outcome.TheVariants as outcome
-use Rattle.turn_dwarves.specs.data_rows.declared.targets.Special.{Special}
-use Rattle.turn_dwarves.specs.data_rows.declared.targets.Special.TheVariants.{Squeeze, Bridge}
 use Rattle.turn_dwarves.specs.turn_scene.Scene.{Scene, thing, with_state, after_telling}
 use Rattle.turn_dwarves.specs.turn_scene.Scene.{after_saying, after_setting_out}
 use Rattle.turn_dwarves.specs.turn_things.Places.{outside_place}
+use Rattle.turn_dwarves.specs.turn_things.Effects.{with_talk}
 use Rattle.turn_ends.specs.turn_rules.Rows.{Deed, Act, Test, Effect, Row, deed, act_of, row_then}
 use Rattle.turn_ends.specs.turn_rules.Rows.{plain_row, by_table, first_fitting_or, nothing_but}
+use Rattle.turn_ends.specs.turn_rules.Rows.{always, otherwise, otherwise_then}
 use Rattle.turn_ends.specs.turn_rules.Tests.{here, same}
 use Rattle.turn_ends.specs.turn_rules.Effects.{in_scene, say, change, set_out}
 use Rattle.turn_moves.specs.Back.{back_place, motion_between}
@@ -32,65 +33,16 @@ use Rattle.turn_moves.specs.Ways.{staying}
 abbrev pub is_motion : Motion → Test ℕ
 is_motion m d = d.about == motion_number m
 
-abbrev pub is_among : List Motion → ℕ → Bool
-is_among motions number = list_any (λ m. motion_number m == number) motions
-
 -- the motion is one of those
 abbrev pub is_motion_of : List Motion → Test ℕ
-is_motion_of motions d = is_among motions d.about
-
-abbrev pub directions : List Motion
-directions =
-    motion.Up ∷ motion.Down ∷ motion.East ∷ motion.West ∷ motion.North ∷ motion.South
-    ∷ motion.Northeast ∷ motion.Southeast ∷ motion.Southwest ∷ motion.Northwest ∷ []
-
--- what is said of a motion that no row lists
-unfoldable pub refusal_rows : List (Row ℕ (Unit {0}))
-refusal_rows =
-    plain_row (is_motion_of directions ∷ []) (say role.NoDir ∷ [])
-    ∷ plain_row (is_motion_of (motion.Forward ∷ motion.Left ∷ motion.Right ∷ []) ∷ [])
-    (say role.Facing ∷ [])
-    ∷ plain_row (is_motion_of (motion.Out ∷ motion.Inside ∷ []) ∷ []) (say role.Inout ∷ [])
-    ∷ plain_row (is_motion_of (motion.Xyzzy ∷ motion.Plugh ∷ []) ∷ []) (say role.Magic ∷ [])
-    ∷ plain_row (is_motion motion.Crawl ∷ []) (say role.Crawl ∷ [])
-    ∷ plain_row [] (say role.NoMotion ∷ [])
-    ∷ []
-
-abbrev pub after_refusal : CaveView → ℕ → Scene → Scene
-after_refusal cave number p = (by_table refusal_rows (deed cave number p)).scene
-
--- a way with rules of its own
-abbrev pub journey_by_special : Special → Deed (Unit {0}) → Act ℕ
-journey_by_special Squeeze d = squeeze_through d
-journey_by_special Bridge d = cross_bridge d
-
--- where the outcome of a motion leads
-abbrev pub journey_of_outcome : CaveView → ℕ → Outcome → Scene → Act ℕ
-journey_of_outcome cave motion (outcome.Go place) p = act_of p place
-journey_of_outcome cave motion (outcome.Say message) p =
-    staying (after_telling (part.Message message) p)
-journey_of_outcome cave motion (outcome.Special special) p =
-    journey_by_special special (deed cave tt p)
-journey_of_outcome cave motion outcome.NoWay p = staying (after_saying role.NoWay p)
-journey_of_outcome cave motion outcome.NoMotion p = staying (after_refusal cave motion p)
-
--- where the rows of the place lead by a motion
-unfoldable pub journey_by_rows : CaveView → ℕ → Scene → Act ℕ
-journey_by_rows cave motion p =
-    let j = travel cave (thing cave name.Emerald) motion p.state in
-    journey_of_outcome cave motion j.outcome (with_state j.state p)
-
--- the player sets out, and travels by a motion
-unfoldable pub set_forth : CaveView → ℕ → Scene → Act ℕ
-set_forth cave motion p = journey_by_rows cave motion (after_setting_out p)
+is_motion_of motions d = list_any (λ m. motion_number m == d.about) motions
 
 -- it was said less than three times that there are no more details
 abbrev pub details_left : Test ℕ
 details_left d = nat_lt d.scene.state.talk.details 3
 
 abbrev pub with_one_detail : State → State
-with_one_detail s = let talk = s.talk in
-    record s { talk = record talk { details = talk.details + 1 } }
+with_one_detail s = with_talk (record (s.talk) { details = s.talk.details + 1 }) s
 
 unfoldable pub enough_rows : List (Row ℕ (Unit {0}))
 enough_rows = plain_row (details_left ∷ []) (say role.Enough ∷ change with_one_detail ∷ []) ∷ []
@@ -115,37 +67,33 @@ before_cave d = nat_lt (here d) (outside_place d.cave)
 abbrev pub place_back : Deed ℕ → ℕ
 place_back d = back_place d.cave d.scene.state
 
--- by which motion the player travels then, if by any
-abbrev pub no_motion : Deed ℕ → Option ℕ
-no_motion d = None
-
+-- by which motion the player travels, if by any
 abbrev pub that_motion : Deed ℕ → Option ℕ
 that_motion d = Some d.about
 
 abbrev pub motion_back : Deed ℕ → Option ℕ
 motion_back d = motion_between d.cave (here d) (place_back d)
 
-abbrev pub leads_back : Test ℕ
-leads_back d = is_some (motion_back d)
+abbrev pub is_way_back : Test ℕ
+is_way_back d = is_some (motion_back d)
 
 -- the motions with rules of their own
 unfoldable pub own_motion_rows : List (Row ℕ (Option ℕ))
 own_motion_rows =
-    row_then (is_motion motion.Nowhere ∷ []) [] no_motion
-    ∷ row_then (is_motion motion.Look ∷ []) look_round no_motion
-    ∷ row_then (is_motion motion.Cave ∷ before_cave ∷ []) (say role.CaveOut ∷ []) no_motion
-    ∷ row_then (is_motion motion.Cave ∷ []) (say role.CaveIn ∷ []) no_motion
+    row_then (is_motion motion.Nowhere ∷ []) [] (always None)
+    ∷ row_then (is_motion motion.Look ∷ []) look_round (always None)
+    ∷ row_then (is_motion motion.Cave ∷ before_cave ∷ []) (say role.CaveOut ∷ []) (always None)
+    ∷ row_then (is_motion motion.Cave ∷ []) (say role.CaveIn ∷ []) (always None)
     ∷ []
 
 -- the motion back, and any other
 unfoldable pub back_rows : List (Row ℕ (Option ℕ))
 back_rows =
     row_then (is_motion motion.Back ∷ same place_back here ∷ []) (set_out ∷ say role.BackNone ∷ [])
-    no_motion
-    ∷ row_then (is_motion motion.Back ∷ leads_back ∷ []) [] motion_back
-    ∷ row_then (is_motion motion.Back ∷ []) (set_out ∷ say role.BackNo ∷ []) no_motion
-    ∷ row_then [] [] that_motion
-    ∷ []
+    (always None)
+    ∷ row_then (is_motion motion.Back ∷ is_way_back ∷ []) [] motion_back
+    ∷ row_then (is_motion motion.Back ∷ []) (set_out ∷ say role.BackNo ∷ []) (always None)
+    ∷ otherwise_then [] that_motion
 
 unfoldable pub go_back : Deed ℕ → Act (Option ℕ)
 go_back d = first_fitting_or back_rows (nothing_but that_motion) d
@@ -158,6 +106,45 @@ own_motion d = first_fitting_or own_motion_rows go_back d
 abbrev pub parts_of_own_motion : Option ℕ → ℕ
 parts_of_own_motion None = 1
 parts_of_own_motion (Some motion) = 0
+
+abbrev pub directions : List Motion
+directions =
+    motion.Up ∷ motion.Down ∷ motion.East ∷ motion.West ∷ motion.North ∷ motion.South
+    ∷ motion.Northeast ∷ motion.Southeast ∷ motion.Southwest ∷ motion.Northwest ∷ []
+
+-- what is said of a motion that no row lists
+unfoldable pub refusal_rows : List (Row ℕ (Unit {0}))
+refusal_rows =
+    plain_row (is_motion_of directions ∷ []) (say role.NoDir ∷ [])
+    ∷ plain_row (is_motion_of (motion.Forward ∷ motion.Left ∷ motion.Right ∷ []) ∷ [])
+    (say role.Facing ∷ [])
+    ∷ plain_row (is_motion_of (motion.Out ∷ motion.Inside ∷ []) ∷ []) (say role.Inout ∷ [])
+    ∷ plain_row (is_motion_of (motion.Xyzzy ∷ motion.Plugh ∷ []) ∷ []) (say role.Magic ∷ [])
+    ∷ plain_row (is_motion motion.Crawl ∷ []) (say role.Crawl ∷ [])
+    ∷ otherwise (say role.NoMotion ∷ [])
+
+abbrev pub after_refusal : CaveView → ℕ → Scene → Scene
+after_refusal cave number p = (by_table refusal_rows (deed cave number p)).scene
+
+-- where the outcome of a motion leads
+abbrev pub journey_of_outcome : CaveView → ℕ → Outcome → Scene → Act ℕ
+journey_of_outcome cave motion (outcome.Go place) p = act_of p place
+journey_of_outcome cave motion (outcome.Say message) p =
+    staying (after_telling (part.Message message) p)
+journey_of_outcome cave motion (outcome.Special Squeeze) p = squeeze_through (deed cave tt p)
+journey_of_outcome cave motion (outcome.Special Bridge) p = cross_bridge (deed cave tt p)
+journey_of_outcome cave motion outcome.NoWay p = staying (after_saying role.NoWay p)
+journey_of_outcome cave motion outcome.NoMotion p = staying (after_refusal cave motion p)
+
+-- where the rows of the place lead by a motion
+unfoldable pub journey_by_rows : CaveView → ℕ → Scene → Act ℕ
+journey_by_rows cave motion p =
+    let j = travel cave (thing cave name.Emerald) motion p.state in
+    journey_of_outcome cave motion j.outcome (with_state j.state p)
+
+-- the player sets out, and travels by a motion
+unfoldable pub set_forth : CaveView → ℕ → Scene → Act ℕ
+set_forth cave motion p = journey_by_rows cave motion (after_setting_out p)
 
 -- the player travels by a motion, or arrives where the player is
 abbrev pub journey_by : CaveView → Option ℕ → Scene → Act ℕ

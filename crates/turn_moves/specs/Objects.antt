@@ -1,5 +1,5 @@
 -- How the objects at a place are described.
-use Rattle.std.specs.Prelude.{ℕ, ℤ, pos, ◌-◌, ◌==◌, ◌&&◌, not, int_lt, List, [], ◌∷◌}
+use Rattle.std.specs.Prelude.{ℕ, ℤ, pos, ◌-◌, ◌==◌, ◌&&◌, not, int_lt, List, [], ◌∷◌, fold}
 use Rattle.std.specs.Int.{int_min}
 use Rattle.turn_dwarves.specs.cave_data.CaveView.{CaveView}
 use Rattle.turn_dwarves.specs.cave_words.declared.named.Named.TheVariants as name
@@ -10,33 +10,35 @@ use Rattle.turn_dwarves.specs.cave_world.declared.part.Part.TheVariants as part
 use Rattle.turn_dwarves.specs.cave_world.declared.state.State.{State}
 use Rattle.turn_dwarves.specs.turn_scene.Scene.{Scene}
 use Rattle.turn_dwarves.specs.turn_things.Props.{SEEN, SEEN_FASTENED, STEPS_FROM_ABOVE}
-use Rattle.turn_ends.specs.turn_rules.Rows.{Test, Effect, Row, deed, plain_row, by_table}
-use Rattle.turn_ends.specs.turn_rules.Tests.{the, either, it, same, carried, cave_closed, here}
-use Rattle.turn_ends.specs.turn_rules.Effects.{tell, set_prop, change, when}
+use Rattle.turn_dwarves.specs.turn_things.Effects.{with_tallies}
+use Rattle.turn_ends.specs.turn_rules.Rows.{Test, Effect, Row, deed, plain_row, by_table, otherwise}
+use Rattle.turn_ends.specs.turn_rules.Tests.{the, either, it, same, carries, cave_closed, here}
+use Rattle.turn_ends.specs.turn_rules.Effects.{tell, set_prop, change, when, with_charge}
 
 -- an object with a prop below 0 counts as unseen
 abbrev pub unseen : Test ℕ
 unseen d = int_lt (prop_of d.scene.state.objects (it d)) (pos 0)
 
 -- the second half of the object is here
-abbrev pub second_half_here : Test ℕ
-second_half_here d = is_place (here d) (place_of_anchor (anchor_of d.scene.state.objects (it d)))
+abbrev pub is_second_here : Test ℕ
+is_second_here d = is_place (here d) (place_of_anchor (anchor_of d.scene.state.objects (it d)))
 
 -- one treasure less counts as unseen
 abbrev pub with_one_less_unseen : State → State
-with_one_less_unseen s =
-    let tallies = s.tallies in record s { tallies = record tallies { unseen = tallies.unseen - 1 } }
+with_one_less_unseen s = with_tallies (record (s.tallies) { unseen = s.tallies.unseen - 1 }) s
 
 -- as many count as lost as count as unseen, and some do
-abbrev pub rest_lost : Test ℕ
-rest_lost d =
+abbrev pub is_rest_lost : Test ℕ
+is_rest_lost d =
     let tallies = d.scene.state.tallies in
     tallies.unseen == tallies.lost && not (tallies.unseen == 0)
 
--- the lamp burns 35 turns more at most
+abbrev pub SHORT_LAMP : ℕ
+SHORT_LAMP = 35
+
+-- the lamp doesn't burn for longer than that any more
 abbrev pub with_short_lamp : State → State
-with_short_lamp s =
-    let lamp = s.lamp in record s { lamp = record lamp { charge = int_min lamp.charge (pos 35) } }
+with_short_lamp s = with_charge (int_min s.lamp.charge (pos SHORT_LAMP)) s
 
 -- the text of the object for a prop, or for the one that it has
 abbrev pub tell_its_text_for : ℤ → Effect ℕ
@@ -48,17 +50,16 @@ tell_its_text d = tell_its_text_for (prop_of d.scene.state.objects (it d)) d
 -- the steps are seen from above at their second place
 unfoldable pub object_text_rows : List (Row ℕ (Unit {0}))
 object_text_rows =
-    plain_row (same it (the name.Steps) ∷ second_half_here ∷ [])
+    plain_row (same it (the name.Steps) ∷ is_second_here ∷ [])
     (tell_its_text_for STEPS_FROM_ABOVE ∷ [])
-    ∷ plain_row [] (tell_its_text ∷ [])
-    ∷ []
+    ∷ otherwise (tell_its_text ∷ [])
 
 -- a treasure is seen for the first time
 unfoldable pub find_treasure : ℤ → List (Effect ℕ)
 find_treasure v =
     set_prop it v
     ∷ change with_one_less_unseen
-    ∷ when rest_lost (change with_short_lamp)
+    ∷ when is_rest_lost (change with_short_lamp)
     ∷ by_table object_text_rows
     ∷ []
 
@@ -66,13 +67,12 @@ find_treasure v =
 -- hides; the rug and the chain are held fast once they are seen
 unfoldable pub object_rows : List (Row ℕ (Unit {0}))
 object_rows =
-    plain_row (same it (the name.Steps) ∷ carried (the name.Gold) ∷ []) []
+    plain_row (same it (the name.Steps) ∷ carries (the name.Gold) ∷ []) []
     ∷ plain_row (unseen ∷ cave_closed ∷ []) []
     ∷ plain_row (unseen ∷ either (same it (the name.Rug)) (same it (the name.Chain)) ∷ [])
     (find_treasure SEEN_FASTENED)
     ∷ plain_row (unseen ∷ []) (find_treasure SEEN)
-    ∷ plain_row [] (by_table object_text_rows ∷ [])
-    ∷ []
+    ∷ otherwise (by_table object_text_rows ∷ [])
 
 -- an object is described
 unfoldable pub after_object : CaveView → ℕ → Scene → Scene
@@ -80,6 +80,4 @@ after_object cave x p = (by_table object_rows (deed cave x p)).scene
 
 -- the objects of a list are described one after another
 abbrev pub after_objects : CaveView → List Half → Scene → Scene
-after_objects cave [] p = p
-after_objects cave (half ∷ halves) p =
-    after_objects cave halves (after_object cave (object_of half) p)
+after_objects cave halves p = fold (λ q half. after_object cave (object_of half) q) p halves

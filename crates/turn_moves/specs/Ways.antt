@@ -11,10 +11,9 @@ Passage C = Deed C → Option ℕ
 
 -- the other end of a passage between two places
 abbrev pub other_end : ℕ → Option ℕ → Option ℕ → Option ℕ
-other_end here None b = None
-other_end here (Some a) None = None
 other_end here (Some a) (Some b) =
     if here == a then Some b else (if here == b then Some a else None)
+other_end here _ _ = None
 
 -- the player arrives where the player is
 abbrev pub staying : Scene → Act ℕ

@@ -4,9 +4,9 @@ ghost use Rattle.turn_dwarves.specs.turn_scene.Scene.{cave_of, scene_of};
 ghost use Rattle.turn_dwarves.specs.cave_world.State.{takes_no_command};
 ghost use Rattle.turn_dwarves.specs.turn_things.declared.conditions.PlaceCondition.TheVariants.{NoPirate};
 ghost use Rattle.turn_ends.specs.turn_rules.Rows.{PlaysBy, act_of, all_hold, deed};
-ghost use Rattle.turn_ends.specs.turn_rules.Tests.{no, same, here, outside, cave_closing};
+ghost use Rattle.turn_ends.specs.turn_rules.Tests.{no, same, here, outside, there_is, cave_closing};
 ghost use Rattle.turn_ends.specs.turn_rules.Tests.{forced_at, place_has};
-ghost use Rattle.turn_moves.specs.Arrival.{a_place, new, comes_from, dwarf_from, block, meet};
+ghost use Rattle.turn_moves.specs.Arrival.{new, comes_from, dwarf_from, block, meet};
 ghost use Rattle.turn_moves.specs.Arrival.{come_to, stop_at, after_forced_motions, after_arrival};
 ghost use Rattle.turn_moves.specs.Arrival.{description_anew};
 ghost use Rattle.turn_dwarves.specs.turn_scene.Bounds.{GoesOnSaying, HasRoom, MovesOnSaying};
@@ -40,11 +40,11 @@ pub fn arrive(rules: &Rules<'_>, place: Place, scene: &mut Scene<'_>)
 
 /// Whether a cave that is closing keeps the player from a place.
 fn is_shut(rules: &Rules<'_>, place: Place, scene: &Scene<'_>) -> bool
-    ensures { result ≡ all_hold (cave_closing ∷ a_place new ∷ outside new ∷ [])
+    ensures { result ≡ all_hold (cave_closing ∷ there_is new ∷ outside new ∷ [])
         (deed (cave_of rules.now) place (scene_of scene.now)) }
 {
     scene.state.closing.is_closing
-        && 1 <= place.number()
+        && place.number() != 0
         && place.number() <= outside_place(rules.cave).number()
 }
 

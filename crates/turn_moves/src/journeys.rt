@@ -1,10 +1,12 @@
-ghost use Rattle.std.specs.Prelude.{◌≡◌, [], ◌∷◌, false};
+ghost use Rattle.std.specs.List.{list_any};
+ghost use Rattle.std.specs.Prelude.{◌≡◌, ◌==◌, [], ◌∷◌, false};
 ghost use Rattle.turn_dwarves.specs.turn_scene.Scene.{cave_of, scene_of};
+ghost use Rattle.turn_dwarves.specs.cave_world.Motions.{motion_number};
 ghost use Rattle.turn_dwarves.specs.cave_world.State.{takes_no_command};
 ghost use Rattle.turn_dwarves.specs.turn_scene.Bounds.{GoesOnSaying, HasRoom, SaysUpTo};
 ghost use Rattle.turn_dwarves.specs.turn_scene.Bounds.{parts_of_journey};
 ghost use Rattle.turn_ends.specs.turn_rules.Rows.{Does, PlaysBy, act_of, by_table};
-ghost use Rattle.turn_moves.specs.Journeys.{is_among, after_refusal, journey_by_special};
+ghost use Rattle.turn_moves.specs.Journeys.{after_refusal};
 ghost use Rattle.turn_moves.specs.Journeys.{journey_of_outcome, journey_by_rows, set_forth};
 ghost use Rattle.turn_moves.specs.Journeys.{enough_rows, look_round, own_motion};
 ghost use Rattle.turn_moves.specs.Journeys.{parts_of_own_motion, journey_by_request};
@@ -85,7 +87,7 @@ fn look_round(rules: &Rules<'_>, motion: u16, scene: &mut Scene<'_>)
 
 /// Whether a motion is one of those.
 fn is_among(motions: &[Motion], number: u16) -> bool
-    ensures { result ≡ is_among motions.now number }
+    ensures { result ≡ list_any (λ m. motion_number m == number) motions.now }
 {
     motions.iter().any(|motion| motion.number() == number)
 }
@@ -133,18 +135,6 @@ fn refuse(rules: &Rules<'_>, motion: u16, scene: &mut Scene<'_>)
     scene.say(Role::NoMotion);
 }
 
-fn journey_by_special(rules: &Rules<'_>, special: Special, scene: &mut Scene<'_>) -> Place
-    requires { HasRoom parts_of_journey scene.old }
-    ensures journey { PlaysBy (journey_by_special special) parts_of_journey rules.now tt scene.old
-        scene.new result }
-    ensures few_on { takes_no_command scene.new.state.now ≡ false → SaysUpTo 1 scene.old scene.new }
-{
-    match special {
-        Special::Squeeze => squeeze_through(rules, scene),
-        Special::Bridge => cross_bridge(rules, scene),
-    }
-}
-
 /// Where the outcome of a motion leads.
 fn journey_of_outcome(
     rules: &Rules<'_>,
@@ -160,7 +150,10 @@ fn journey_of_outcome(
 {
     match outcome {
         Outcome::Go(place) => place,
-        Outcome::Special(special) => journey_by_special(rules, special, scene),
+        Outcome::Special(special) => match special {
+            Special::Squeeze => squeeze_through(rules, scene),
+            Special::Bridge => cross_bridge(rules, scene),
+        },
         Outcome::Say(message) => {
             scene.tell(Part::Message(message));
             scene.state.trail.here

@@ -3,8 +3,8 @@ ghost use Rattle.turn_dwarves.specs.world_objects.Lists.{halves_at, last_half};
 ghost use Rattle.turn_dwarves.specs.turn_scene.Scene.{cave_of, scene_of};
 ghost use Rattle.turn_dwarves.specs.turn_scene.Bounds.{GoesOnSaying, HasRoom};
 ghost use Rattle.turn_ends.specs.turn_rules.Rows.{Does, by_table, deed};
-ghost use Rattle.turn_moves.specs.Objects.{unseen, second_half_here, with_one_less_unseen};
-ghost use Rattle.turn_moves.specs.Objects.{rest_lost, with_short_lamp, object_text_rows};
+ghost use Rattle.turn_moves.specs.Objects.{unseen, is_second_here, with_one_less_unseen};
+ghost use Rattle.turn_moves.specs.Objects.{is_rest_lost, with_short_lamp, object_text_rows};
 ghost use Rattle.turn_moves.specs.Objects.{find_treasure, after_object, after_objects};
 
 use turn_dwarves::{
@@ -37,14 +37,14 @@ fn shorten_lamp(state: &mut State)
 
 /// Whether as many treasures count as lost as count as unseen, and some do.
 fn is_rest_lost(rules: &Rules<'_>, object: Object, scene: &Scene<'_>) -> bool
-    ensures { result ≡ rest_lost (deed (cave_of rules.now) object (scene_of scene.now)) }
+    ensures { result ≡ is_rest_lost (deed (cave_of rules.now) object (scene_of scene.now)) }
 {
     let tallies = &scene.state.tallies;
     tallies.unseen.number() == tallies.lost.number() && tallies.unseen.number() != 0
 }
 
 fn is_second_here(rules: &Rules<'_>, object: Object, scene: &Scene<'_>) -> bool
-    ensures { result ≡ second_half_here (deed (cave_of rules.now) object (scene_of scene.now)) }
+    ensures { result ≡ is_second_here (deed (cave_of rules.now) object (scene_of scene.now)) }
 {
     match scene.state.objects.anchor(object).place() {
         Some(place) => place == scene.state.trail.here,

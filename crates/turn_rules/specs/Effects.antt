@@ -2,23 +2,24 @@
 use Rattle.std.specs.Prelude.{ℕ, ℤ, if◌then◌else◌, Option, Some, None}
 use Rattle.turn_things.specs.data_rows.declared.place_role.PlaceRole.{PlaceRole}
 use Rattle.turn_things.specs.data_rows.declared.role.Role.{Role}
-use Rattle.turn_things.specs.world_objects.Objects.{after_move_to, after_carry, with_anchor}
-use Rattle.turn_things.specs.world_objects.Objects.{after_juggle, with_prop}
 use Rattle.turn_things.specs.cave_data.CaveView.{CaveView}
+use Rattle.turn_things.specs.world_objects.Objects.{after_move_to, after_carry, with_anchor, Layout}
+use Rattle.turn_things.specs.world_objects.Objects.{after_juggle, with_prop}
+use Rattle.turn_things.specs.world_objects.declared.spot.Anchor.{Anchor}
+use Rattle.turn_things.specs.world_objects.declared.spot.Anchor.TheVariants as anchor
 use Rattle.turn_things.specs.cave_world.State.{with_player_from, with_hint_taken}
 use Rattle.turn_things.specs.cave_world.declared.part.Part.{Part}
 use Rattle.turn_things.specs.cave_world.declared.part.Part.TheVariants as part
-use Rattle.turn_things.specs.world_objects.declared.spot.Anchor.TheVariants as anchor
 use Rattle.turn_things.specs.cave_world.declared.state.State.{State}
-use Rattle.turn_things.specs.Effects.{put_down, let_go, without_troll, after_loss_to_snake}
-use Rattle.turn_things.specs.Effects.{with_one_more_lost, with_objects, after_panic}
-use Rattle.turn_things.specs.Places.{place_named}
 use Rattle.turn_things.specs.turn_scene.Scene.{Scene, with_state, after_telling, after_saying}
 use Rattle.turn_things.specs.turn_scene.Scene.{after_look_at, after_setting_out}
-use Rattle.turn_rules.specs.Rows.{Deed, Test, Effect, Thing}
+use Rattle.turn_things.specs.Effects.{put_down, let_go, without_troll, after_loss_to_snake}
+use Rattle.turn_things.specs.Effects.{with_one_more_lost, with_objects, after_panic, with_lamp}
+use Rattle.turn_things.specs.Places.{place_named}
+use Rattle.turn_rules.specs.Rows.{Deed, Test, Effect, Thing, given}
 
 abbrev pub with_charge : ℤ → State → State
-with_charge turns s = let lamp = s.lamp in record s { lamp = record lamp { charge = turns } }
+with_charge turns s = with_lamp (record (s.lamp) { charge = turns }) s
 
 -- an object is moved to a place, if there is the place
 abbrev pub after_sending : ℕ → Option ℕ → State → State
@@ -32,6 +33,9 @@ module _ {C : Type 0} where
 
   abbrev pub in_state : State → Deed C → Deed C
   in_state s d = in_scene (with_state s d.scene) d
+
+  abbrev pub in_objects : Layout → Deed C → Deed C
+  in_objects o d = in_state (with_objects o d.scene.state) d
 
   abbrev pub when : Test C → Effect C → Effect C
   when test effect d = if test d then effect d else d
@@ -51,32 +55,31 @@ module _ {C : Type 0} where
   look t v d = in_scene (after_look_at (t d) v d.scene) d
 
   abbrev pub carry : Thing C → Effect C
-  carry t d = in_state (with_objects (after_carry d.scene.state.objects (t d)) d.scene.state) d
+  carry t d = in_objects (after_carry d.scene.state.objects (t d)) d
 
   abbrev pub bring : Thing C → Effect C
-  bring t d =
-      in_state (with_objects (after_move_to d.scene.state.objects (t d) d.scene.state.trail.here)
-      d.scene.state) d
+  bring t d = in_objects (after_move_to d.scene.state.objects (t d) d.scene.state.trail.here) d
 
   -- an object is nowhere from now on
   abbrev pub destroy : Thing C → Effect C
-  destroy t d =
-      in_state (with_objects (after_move_to d.scene.state.objects (t d) 0) d.scene.state) d
+  destroy t d = in_objects (after_move_to d.scene.state.objects (t d) 0) d
+
+  -- what holds an object from now on
+  abbrev pub attach : Thing C → (Deed C → Anchor) → Effect C
+  attach t by d = in_objects (with_anchor d.scene.state.objects (t d) (by d)) d
 
   -- an object can't be moved any more, or can be moved again
   abbrev pub fix : Thing C → Effect C
-  fix t d =
-      in_state (with_objects (with_anchor d.scene.state.objects (t d) anchor.Fixed) d.scene.state) d
+  fix t = attach t (given anchor.Fixed)
 
   abbrev pub loosen : Thing C → Effect C
-  loosen t d =
-      in_state (with_objects (with_anchor d.scene.state.objects (t d) anchor.Loose) d.scene.state) d
+  loosen t = attach t (given anchor.Loose)
 
   abbrev pub juggle : Thing C → Effect C
-  juggle t d = in_state (with_objects (after_juggle d.scene.state.objects (t d)) d.scene.state) d
+  juggle t d = in_objects (after_juggle d.scene.state.objects (t d)) d
 
   abbrev pub set_prop : Thing C → ℤ → Effect C
-  set_prop t v d = in_state (with_objects (with_prop d.scene.state.objects (t d) v) d.scene.state) d
+  set_prop t v d = in_objects (with_prop d.scene.state.objects (t d) v) d
 
   -- an object is put down where the player is
   abbrev pub put : Thing C → Effect C
@@ -107,8 +110,7 @@ module _ {C : Type 0} where
 
   -- an object is put at a place
   abbrev pub move : Thing C → (Deed C → ℕ) → Effect C
-  move t place d =
-      in_state (with_objects (after_move_to d.scene.state.objects (t d) (place d)) d.scene.state) d
+  move t place d = in_objects (after_move_to d.scene.state.objects (t d) (place d)) d
 
   -- an object is moved to the place of a role, if there is the place
   abbrev pub send : Thing C → PlaceRole → Effect C
@@ -130,8 +132,8 @@ module _ {C : Type 0} where
   abbrev pub panic : Effect C
   panic d = in_state (after_panic d.scene.state) d
 
-  abbrev pub take_hint : ℕ → Effect C
-  take_hint h d = in_state (with_hint_taken h d.scene.state) d
+  abbrev pub take_hint : (Deed C → ℕ) → Effect C
+  take_hint h d = in_state (with_hint_taken (h d) d.scene.state) d
 
   -- the lamp burns so many turns from now on
   abbrev pub set_charge : ℤ → Effect C

@@ -1,10 +1,10 @@
 -- Rules as rows: the first row that fits applies, and its effects follow one another.
-use Rattle.std.specs.Prelude.{◌≡◌, ℕ, Bool, true, ◌&&◌, if◌then◌else◌, List, [], ◌∷◌}
-use Rattle.std.specs.Prelude.{Option, Some, None}
+use Rattle.std.specs.Prelude.{◌≡◌, ℕ, Bool, true, ◌&&◌, if◌then◌else◌, List, [], ◌∷◌, Option, Some}
+use Rattle.std.specs.Prelude.{None}
 use Rattle.turn_things.specs.cave_data.CaveView.{CaveView}
+use Rattle.turn_things.specs.turn_scene.declared.scene.Scene.{Scene as OpenScene}
 use Rattle.turn_things.specs.turn_scene.Bounds.{GoesOnSaying}
 use Rattle.turn_things.specs.turn_scene.Scene.{Scene, scene_of, cave_of, after_draw}
-use Rattle.turn_things.specs.turn_scene.declared.scene.Scene.{Scene as OpenScene}
 use Rattle.turn_things.specs.turn_scene.declared.rules.Rules.{Rules}
 
 -- what a rule is about, as a command, in the scene that it is played in
@@ -52,6 +52,21 @@ abbrev pub row_by_draw : {C F : Type 0} → List (Test C) → Test C → List (E
 row_by_draw tests draw effects end =
     record { tests = tests; draw = Some draw; effects = effects; end = end }
 
+-- the last row of a table, which applies where none before it does
+abbrev pub otherwise_row : {C F : Type 0} → List (Effect C) → (Deed C → F) → Row C F
+otherwise_row effects end = row_then [] effects end
+
+abbrev pub otherwise_then : {C F : Type 0} → List (Effect C) → (Deed C → F) → List (Row C F)
+otherwise_then effects end = otherwise_row effects end ∷ []
+
+-- what follows is always the same
+abbrev pub always : {C F : Type 0} → F → Deed C → F
+always step d = step
+
+-- an object, a hint or what else is given, whatever the deed
+abbrev pub given : {C F : Type 0} → F → Deed C → F
+given value d = value
+
 -- tests are made from the left, and none after one that fails
 abbrev pub all_hold : {C : Type 0} → List (Test C) → Test C
 all_hold [] d = true
@@ -86,10 +101,10 @@ act_of_row r d = let e = after_all r.effects d in act_of e.scene (r.end e)
 
 -- what the first row that fits does, or what is done if none does
 abbrev pub first_fitting_or : {C F : Type 0} → List (Row C F) → (Deed C → Act F) → Deed C → Act F
-first_fitting_or [] otherwise d = otherwise d
-first_fitting_or (r ∷ rows) otherwise d =
+first_fitting_or [] or_else d = or_else d
+first_fitting_or (r ∷ rows) or_else d =
     if fits r d then act_of_row r (after_trying r d)
-    else first_fitting_or rows otherwise (after_trying r d)
+    else first_fitting_or rows or_else (after_trying r d)
 
 -- nothing is done, whatever follows
 abbrev pub nothing_but : {C F : Type 0} → (Deed C → F) → Deed C → Act F
@@ -99,22 +114,26 @@ nothing_but end d = act_of d.scene (end d)
 abbrev pub answer_row : {C F : Type 0} → List (Test C) → (Deed C → F) → Row C F
 answer_row tests end = row_then tests [] end
 
--- what follows by the first such row that fits, or else
-abbrev pub answer_by_rows : {C F : Type 0} → List (Row C F) → (Deed C → F) → Deed C → F
-answer_by_rows rows otherwise d = (first_fitting_or rows (nothing_but otherwise) d).step
+-- what follows by the first row that fits, or by the last one
+abbrev pub answer_by_rows : {C F : Type 0} → List (Row C F) → Row C F → Deed C → F
+answer_by_rows rows last d = (first_fitting_or rows (act_of_row last) d).step
 
 -- a row of effects alone
 abbrev pub plain_row : {C : Type 0} → List (Test C) → List (Effect C) → Row C (Unit {0})
-plain_row tests effects = row_then tests effects (λ d. tt)
+plain_row tests effects = row_then tests effects (always tt)
 
 -- a row of effects alone, with a draw
 abbrev pub chance_row : {C : Type 0} → List (Test C) → Test C → List (Effect C)
     → Row C (Unit {0})
-chance_row tests draw effects = row_by_draw tests draw effects (λ d. tt)
+chance_row tests draw effects = row_by_draw tests draw effects (always tt)
+
+-- the last row of a table of effects alone
+abbrev pub otherwise : {C : Type 0} → List (Effect C) → List (Row C (Unit {0}))
+otherwise effects = otherwise_then effects (always tt)
 
 -- a table of effects as one effect
 abbrev pub by_table : {C : Type 0} → List (Row C (Unit {0})) → Effect C
-by_table rows d = record d { scene = (first_fitting_or rows (nothing_but (λ e. tt)) d).scene }
+by_table rows d = record d { scene = (first_fitting_or rows (nothing_but (always tt)) d).scene }
 
 -- a table about something else as one effect
 abbrev pub by_table_about : {C D : Type 0} → (Deed C → D) → List (Row D (Unit {0})) → Effect C

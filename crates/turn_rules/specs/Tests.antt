@@ -2,14 +2,14 @@
 use Rattle.std.specs.Prelude.{ℕ, ℤ, pos, ◌==◌, ◌&&◌, ◌||◌, not, nat_le, int_le, int_lt, List}
 use Rattle.std.specs.Prelude.{length, is_some, unwrap_or}
 use Rattle.std.specs.List.{list_any}
+use Rattle.turn_things.specs.data_rows.declared.place_role.PlaceRole.{PlaceRole}
 use Rattle.turn_things.specs.cave_words.Stream.{number_drawn}
 use Rattle.turn_things.specs.cave_words.declared.named.Named.{Named}
 use Rattle.turn_things.specs.cave_words.declared.named.Named.TheVariants as name
-use Rattle.turn_things.specs.data_rows.declared.place_role.PlaceRole.{PlaceRole}
 use Rattle.turn_things.specs.world_objects.Objects.{is_object_at, is_gone, is_place, is_carried}
 use Rattle.turn_things.specs.world_objects.Objects.{carried_objects, prop_of}
 use Rattle.turn_things.specs.cave_world.Sight.{dark, forced}
-use Rattle.turn_things.specs.cave_world.State.{takes_no_command}
+use Rattle.turn_things.specs.cave_world.State.{is_hint_taken, takes_no_command}
 use Rattle.turn_things.specs.turn_scene.Scene.{thing, happens, is_called}
 use Rattle.turn_things.specs.Reach.{is_in_hand, is_near, has_prop, has_other_prop, has_prop_up_to}
 use Rattle.turn_things.specs.Reach.{is_dwarf_here, is_fixed}
@@ -44,8 +44,8 @@ module _ {C : Type 0} where
   in_hand t d = is_in_hand d.cave d.scene.state (t d)
 
   -- the first half of an object is carried
-  abbrev pub carried : Thing C → Test C
-  carried t d = is_carried d.scene.state.objects (t d)
+  abbrev pub carries : Thing C → Test C
+  carries t d = is_carried d.scene.state.objects (t d)
 
   -- an object is carried, or its first half is here
   abbrev pub near : Thing C → Test C
@@ -56,8 +56,8 @@ module _ {C : Type 0} where
   is_here t d = is_object_at d.scene.state.objects d.scene.state.trail.here (t d)
 
   -- an object can't be moved
-  abbrev pub fixed : Thing C → Test C
-  fixed t d = is_fixed d.scene.state (t d)
+  abbrev pub immovable : Thing C → Test C
+  immovable t d = is_fixed d.scene.state (t d)
 
   abbrev pub prop : Thing C → ℤ → Test C
   prop t v d = has_prop d.scene.state (t d) v
@@ -120,8 +120,8 @@ module _ {C : Type 0} where
   nowhere t d = is_gone d.scene.state.objects (t d)
 
   -- the player is where an object is at home, or elsewhere
-  abbrev pub home_here : Thing C → Test C
-  home_here t d = is_home_here d.cave d.scene.state (t d)
+  abbrev pub player_at_home : Thing C → Test C
+  player_at_home t d = is_home_here d.cave d.scene.state (t d)
 
   abbrev pub away_from_home : Thing C → Test C
   away_from_home t d = is_home_elsewhere d.cave d.scene.state (t d)
@@ -138,15 +138,15 @@ module _ {C : Type 0} where
   is_bound role d = is_some (place_named d.cave role)
 
   -- the place of a role, where it has one
-  abbrev pub bound : PlaceRole → Deed C → ℕ
-  bound role d = unwrap_or (place_named d.cave role) 0
+  abbrev pub place_of : PlaceRole → Deed C → ℕ
+  place_of role d = unwrap_or (place_named d.cave role) 0
 
   abbrev pub player_at : PlaceRole → Test C
   player_at role d = is_place d.scene.state.trail.here (place_named d.cave role)
 
   -- the lamp went out
-  abbrev pub burnt_out : Test C
-  burnt_out d = int_lt d.scene.state.lamp.charge (pos 0)
+  abbrev pub lamp_dead : Test C
+  lamp_dead d = int_lt d.scene.state.lamp.charge (pos 0)
 
   -- the player sees nothing
   abbrev pub in_the_dark : Test C
@@ -169,8 +169,8 @@ module _ {C : Type 0} where
   at_from_to first end d = nat_le first (here d) && nat_le (here d) end
 
   -- where the player came from, and where the player was before that
-  abbrev pub last : Deed C → ℕ
-  last d = d.scene.state.trail.last
+  abbrev pub old : Deed C → ℕ
+  old d = d.scene.state.trail.last
 
   abbrev pub older : Deed C → ℕ
   older d = d.scene.state.trail.older
@@ -202,6 +202,10 @@ module _ {C : Type 0} where
   abbrev pub same : (Deed C → ℕ) → (Deed C → ℕ) → Test C
   same one other d = one d == other d
 
+  -- the hint of a number was taken
+  abbrev pub has_hint : (Deed C → ℕ) → Test C
+  has_hint h d = is_hint_taken d.scene.state (h d)
+
   -- so many deaths are counted
   abbrev pub deaths : ℕ → Test C
   deaths n d = d.scene.state.tallies.deaths == n
@@ -214,7 +218,7 @@ module _ {C : Type 0} where
   abbrev pub last_object : Named → Test C
   last_object n d = is_called d.cave d.scene.state.talk.last n
 
--- what rows ask that are about an object
+-- what rows ask that are about an object, or a hint, by its number
 abbrev pub it : Thing ℕ
 it d = d.about
 

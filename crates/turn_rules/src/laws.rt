@@ -7,7 +7,7 @@ pub fn first_fitting_applies<C, F>()
     ensures { FirstFittingApplies C F }
 {}
 
-/// Where no row fits, nothing is done.
+/// Where no row fits, what is done is what is to be done then, and nothing else.
 pub fn none_fitting_does_nothing<C, F>()
     ensures { NoneFittingDoesNothing C F }
 {}

@@ -52,10 +52,6 @@ parts_of_text = 2
 abbrev pub parts_of_darkness : ℕ
 parts_of_darkness = 3
 
--- a fall into a pit: a line and a death
-abbrev pub parts_of_fall : ℕ
-parts_of_fall = 1 + parts_of_death
-
 -- the clocks: the cave begins to close, and the lamp
 abbrev pub parts_of_clocks : ℕ
 parts_of_clocks = 2

@@ -10,7 +10,7 @@ use Rattle.turn_things.specs.Treasures.{known_treasures}
 use Rattle.turn_score.specs.Counting.{ScoreRow, points_by, most_by}
 use Rattle.turn_score.specs.Treasures.{worth, is_seen, is_safe, treasure_rows, treasures_row}
 use Rattle.turn_score.specs.Score.{life_points, escape_points, has_other_end, has_dwarves_up}
-use Rattle.turn_score.specs.Score.{is_closing, closed_points, has_magazine_there, always}
+use Rattle.turn_score.specs.Score.{is_closing, closed_points, has_magazine_there}
 use Rattle.turn_score.specs.Score.{score_rows, score_of, max_score_of}
 
 -- each row counts its most at most
@@ -72,7 +72,7 @@ points_within cave s =
             so_within (has_dwarves_up s) 25,
             (
               so_within (is_closing s) 25,
-              (closed, (so_within (has_magazine_there cave s) 1, (so_within (always s) 2, tt))),
+              (closed, (so_within (has_magazine_there cave s) 1, (so_within true 2, tt))),
             ),
           ),
         ),

@@ -3,20 +3,20 @@ use Rattle.std.specs.Prelude.{ℕ, ◌-◌, ◌*◌, Bool, true, false, ◌==◌
 use Rattle.std.specs.Prelude.{◌∷◌, filter, Option, Some, None}
 use Rattle.std.specs.FinMap as map
 use Rattle.std.specs.List.{sum_by, range_with_len}
-use Rattle.turn_things.specs.cave_data.CaveView.{CaveView}
+use Rattle.turn_things.specs.data_numbers.Numbers.{LAST_HINT}
 use Rattle.turn_things.specs.data_rows.declared.place_role.PlaceRole.TheVariants as place
 use Rattle.turn_things.specs.data_rows.declared.rows.Hint.{Hint}
+use Rattle.turn_things.specs.cave_data.CaveView.{CaveView}
 use Rattle.turn_things.specs.cave_words.declared.named.Named.TheVariants as name
 use Rattle.turn_things.specs.world_objects.Objects.{is_first_at}
 use Rattle.turn_things.specs.cave_world.declared.ending.Ending.{Ending}
 use Rattle.turn_things.specs.cave_world.declared.ending.Ending.TheVariants as ending
 use Rattle.turn_things.specs.cave_world.declared.state.State.{State}
 use Rattle.turn_things.specs.cave_world.State.{LIVES, is_hint_taken}
-use Rattle.turn_things.specs.Places.{place_named}
 use Rattle.turn_things.specs.turn_scene.Scene.{thing}
+use Rattle.turn_things.specs.Places.{place_named}
 use Rattle.turn_score.specs.Counting.{ScoreRow, points_by, most_by, score_row, score_row_up_to}
 use Rattle.turn_score.specs.Treasures.{treasures_row}
-use Rattle.turn_things.specs.data_numbers.Numbers.{LAST_HINT}
 
 -- all scores are below it
 abbrev pub END_OF_SCORES : ℕ
@@ -61,9 +61,6 @@ lies_at s x (Some place) = is_first_at s.objects place x
 abbrev pub has_magazine_there : CaveView → State → Bool
 has_magazine_there cave s = lies_at s (thing cave name.Magazine) (place_named cave place.Witt)
 
-abbrev pub always : State → Bool
-always s = true
-
 -- what counts, before hints are paid for
 unfoldable pub score_rows : CaveView → List ScoreRow
 score_rows cave =
@@ -74,7 +71,7 @@ score_rows cave =
     ∷ score_row 25 is_closing
     ∷ score_row_up_to 45 closed_points
     ∷ score_row 1 (has_magazine_there cave)
-    ∷ score_row 2 always
+    ∷ score_row 2 (λ s. true)
     ∷ []
 
 unfoldable pub hints_taken : State → List ℕ

@@ -5,10 +5,10 @@ use Rattle.turn_things.specs.cave_data.CaveView.{CaveView}
 use Rattle.turn_things.specs.cave_words.declared.named.Named.TheVariants as name
 use Rattle.turn_things.specs.world_objects.Objects.{is_first_at, prop_of}
 use Rattle.turn_things.specs.cave_world.declared.state.State.{State}
+use Rattle.turn_things.specs.turn_scene.Scene.{thing}
 use Rattle.turn_things.specs.Places.{building_place}
 use Rattle.turn_things.specs.Reach.{has_prop}
 use Rattle.turn_things.specs.Treasures.{known_treasures}
-use Rattle.turn_things.specs.turn_scene.Scene.{thing}
 use Rattle.turn_things.specs.Props.{SEEN}
 use Rattle.turn_score.specs.Counting.{ScoreRow, score_row, score_row_each}
 

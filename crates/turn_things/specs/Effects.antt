@@ -1,4 +1,9 @@
 -- What rules do to objects. What is done to an object that isn't there does nothing.
+use Rattle.turn_scene.specs.cave_world.declared.state.Tallies.{Tallies}
+use Rattle.turn_scene.specs.cave_world.declared.talk.Talk.{Talk}
+use Rattle.turn_scene.specs.cave_world.declared.lamp.Lamp.{Lamp}
+use Rattle.turn_scene.specs.cave_world.declared.dwarves.Dwarves.{Dwarves}
+use Rattle.turn_scene.specs.cave_world.declared.closing.Closing.{Closing}
 use Rattle.std.specs.Prelude.{ℕ, ◌+◌, ◌&&◌, if◌then◌else◌, min, pos, true, ◌||◌}
 use Rattle.turn_scene.specs.cave_data.CaveView.{CaveView}
 use Rattle.turn_scene.specs.cave_words.declared.named.Named.TheVariants as name
@@ -13,13 +18,32 @@ use Rattle.turn_things.specs.Liquids.{liquid_of, is_liquid}
 use Rattle.turn_things.specs.Homes.{home, hold_of, is_at_home}
 use Rattle.turn_things.specs.Props.{BIRD_FREE}
 
--- a player who tries to get out has 15 turns left, unless that was tried before
+-- one part of a state becomes another
+abbrev pub with_closing : Closing → State → State
+with_closing closing s = record s { closing = closing }
+
+abbrev pub with_dwarves : Dwarves → State → State
+with_dwarves dwarves s = record s { dwarves = dwarves }
+
+abbrev pub with_lamp : Lamp → State → State
+with_lamp lamp s = record s { lamp = lamp }
+
+abbrev pub with_talk : Talk → State → State
+with_talk talk s = record s { talk = talk }
+
+abbrev pub with_tallies : Tallies → State → State
+with_tallies tallies s = record s { tallies = tallies }
+
+-- a player who tries to get out has so many turns left, unless that was tried before
+abbrev pub TURNS_IN_PANIC : ℕ
+TURNS_IN_PANIC = 15
+
 abbrev pub after_panic : State → State
 after_panic s =
     let closing = s.closing in
     if closing.is_panicking || closing.is_closed
-    then record s { closing = record closing { is_panicking = true } }
-    else record s { closing = record closing { second_clock = pos 15; is_panicking = true } }
+    then with_closing (record closing { is_panicking = true }) s
+    else with_closing (record closing { second_clock = pos TURNS_IN_PANIC; is_panicking = true }) s
 
 abbrev pub with_objects : Layout → State → State
 with_objects o s = record s { objects = o }
@@ -62,8 +86,7 @@ without_troll cave s =
 -- one treasure more is lost
 abbrev pub with_one_more_lost : State → State
 with_one_more_lost s =
-    let tallies = s.tallies in
-    record s { tallies = record tallies { lost = min (tallies.lost + 1) MAX_LOST } }
+    with_tallies (record (s.tallies) { lost = min (s.tallies.lost + 1) MAX_LOST }) s
 
 unfoldable pub after_loss_to_snake : CaveView → State → State
 after_loss_to_snake cave s = if is_at_home cave s (thing cave name.Snake) then with_one_more_lost s

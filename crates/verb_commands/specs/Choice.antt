@@ -1,6 +1,6 @@
 -- What a verb without an object could be meant for.
 use Rattle.std.specs.Prelude.{ℕ, Bool, ◌==◌, ◌&&◌, not, nat_le, if◌then◌else◌, List, [], ◌∷◌, ◌++◌}
-use Rattle.std.specs.Prelude.{length}
+use Rattle.std.specs.Prelude.{length, fold}
 use Rattle.turn_rules.specs.cave_words.declared.named.Named.{Named}
 use Rattle.turn_rules.specs.Rows.{Deed, Test, Thing}
 use Rattle.turn_rules.specs.Tests.{the}
@@ -22,13 +22,10 @@ candidate n test = record { object = the n; test = test }
 unfoldable pub with_meant : Bool → ℕ → List ℕ → List ℕ
 with_meant could_be x xs = if could_be && not (x == 0) then xs ++ x ∷ [] else xs
 
-abbrev pub meant_after : List ℕ → List Candidate → Deed Command → List ℕ
-meant_after xs [] d = xs
-meant_after xs (c ∷ cs) d = meant_after (with_meant (c.test d) (c.object d) xs) cs d
-
 -- of candidates, the objects that the verb could be meant for
 abbrev pub objects_meant : List Candidate → Deed Command → List ℕ
-objects_meant candidates d = meant_after [] candidates d
+objects_meant candidates d =
+    fold (λ xs (c : Candidate). with_meant (c.test d) (c.object d) xs) [] candidates
 
 abbrev pub first_or_none : List ℕ → ℕ
 first_or_none [] = 0

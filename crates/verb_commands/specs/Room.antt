@@ -1,16 +1,11 @@
 -- How many parts a verb says at most.
 use Rattle.std.specs.Prelude.{ℕ}
 use Rattle.turn_rules.specs.turn_scene.Bounds.{parts_of_row, parts_of_inventory}
-use Rattle.verb_commands.specs.declared.next.Next.{Next}
 use Rattle.verb_commands.specs.declared.next.Next.TheVariants.{Stay}
 use Rattle.verb_commands.specs.declared.next.Step.{Step}
-use Rattle.verb_commands.specs.declared.next.Step.TheVariants.{Done, GoOn}
+use Rattle.verb_commands.specs.declared.next.Step.TheVariants.{Done}
 
--- a verb's last row, by what follows: nothing follows INVENTORY
-abbrev pub parts_before : Next → ℕ
-parts_before Stay = parts_of_inventory
-parts_before _ = parts_of_row
-
+-- a row of a verb, by what follows: nothing follows INVENTORY
 abbrev pub parts_by : Step → ℕ
-parts_by (Done next) = parts_before next
-parts_by (GoOn v x) = parts_of_row
+parts_by (Done Stay) = parts_of_inventory
+parts_by _ = parts_of_row

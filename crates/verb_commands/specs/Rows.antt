@@ -67,13 +67,9 @@ ActsBy f rules command old new step = PlaysBy f (parts_by step) rules command ol
 abbrev pub ByRows : List VerbRow → Rules → Command → OpenScene → OpenScene → Step → Type 0
 ByRows rows rules command old new step = ActsBy (first_fitting rows) rules command old new step
 
--- a rule of a command after which nothing is gone on with
-abbrev pub DoneBy : (Deed Command → Act Step) → Rules → Command → OpenScene → OpenScene → Next
-    → Type 0
-DoneBy f rules command old new next = ActsBy f rules command old new (Done next)
-
+-- nothing is gone on with
 abbrev pub DoneByRow : VerbRow → Rules → Command → OpenScene → OpenScene → Next → Type 0
-DoneByRow r rules command old new next = DoneBy (act_of_row r) rules command old new next
+DoneByRow r rules command old new next = ActsBy (act_of_row r) rules command old new (Done next)
 
 abbrev pub DoneByRows : List VerbRow → Rules → Command → OpenScene → OpenScene → Next → Type 0
-DoneByRows rows rules command old new next = DoneBy (first_fitting rows) rules command old new next
+DoneByRows rows rules command old new next = ByRows rows rules command old new (Done next)

@@ -2,12 +2,12 @@ use Rattle.std.proofs.Common.{rules, ap, ◌∙◌, arith, take, None}
 use Rattle.std.specs.List.{filter_map}
 use Rattle.turn_rules.specs.cave_data.CaveView.{ways_from}
 use Rattle.turn_rules.specs.turn_scene.Scene.{cave_of}
-use Rattle.turn_dwarves.specs.Candidates.{place_ahead, without_repeats, candidates}
+use Rattle.turn_dwarves.specs.Ahead.{place_ahead, without_repeats, places_ahead}
 use Rattle.turn_dwarves.proofs.Firsts.{full, short}
-use Rattle.turn_dwarves.proofs.candidates.candidates.Goals as goal
+use Rattle.turn_dwarves.proofs.ahead.places_ahead.Goals as goal
 
 pub returns-then-len-eq-MAX_CANDIDATES : goal.returns-then-len-eq-MAX_CANDIDATES
-unfolding candidates
+unfolding places_ahead
 returns-then-len-eq-MAX_CANDIDATES c =
     let cave = cave_of c.args.rules.now in
     let ways =
@@ -17,7 +17,7 @@ returns-then-len-eq-MAX_CANDIDATES c =
     ∙ ap (λ ws. take 19 (without_repeats None (filter_map lead ws))) ways
 
 pub returns : goal.returns
-unfolding candidates
+unfolding places_ahead
 returns c =
     let cave = cave_of c.args.rules.now in
     let ways =

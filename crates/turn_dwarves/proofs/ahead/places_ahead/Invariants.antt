@@ -2,8 +2,8 @@ use Rattle.std.proofs.Common.{◌≡◌, ◌++◌, ◌≤◌, None, map, drop, t
 use Rattle.std.specs.List.{filter_map}
 use Rattle.turn_rules.specs.data_rows.RowViews.{going}
 use Rattle.turn_rules.specs.turn_scene.Scene.{cave_of}
-use Rattle.turn_dwarves.specs.Candidates.{place_ahead, without_repeats}
-use Rattle.turn_dwarves.proofs.candidates.candidates.Given as goal
+use Rattle.turn_dwarves.specs.Ahead.{place_ahead, without_repeats}
+use Rattle.turn_dwarves.proofs.ahead.places_ahead.Given as goal
 
 -- the places so far, and those to which the rows from here lead, begin like those of all rows
 abbrev pub invariant-loop-row : goal.invariant-loop-row

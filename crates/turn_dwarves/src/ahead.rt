@@ -2,7 +2,7 @@ ghost use Rattle.std.specs.Prelude.{◌≡◌};
 ghost use Rattle.turn_rules.specs.data_rows.RowViews.{going};
 ghost use Rattle.turn_rules.specs.turn_scene.Scene.{cave_of};
 ghost use Rattle.turn_rules.specs.data_rows.Targets.{EndsWithin};
-ghost use Rattle.turn_dwarves.specs.Candidates.{is_haunt, haunt_ahead, place_ahead, candidates};
+ghost use Rattle.turn_dwarves.specs.Ahead.{is_haunt, haunt_ahead, place_ahead, places_ahead};
 
 use crate::haunt::Haunt;
 use arrayvec::ArrayVec;
@@ -17,7 +17,7 @@ pub const MAX_CANDIDATES: usize = 19;
 const FIRST_HAUNT: u16 = 15;
 
 /// Whether a dwarf goes to a place; the pirate keeps away from more of them.
-#[tactic(auto, unfolding(crate::specs::Candidates::is_haunt))]
+#[tactic(auto, unfolding(crate::specs::Ahead::is_haunt))]
 fn is_haunt(rules: &Rules<'_>, is_pirate: bool, place: Place) -> bool
     ensures { result ≡ is_haunt (cave_of rules.now) is_pirate place }
 {
@@ -26,7 +26,7 @@ fn is_haunt(rules: &Rules<'_>, is_pirate: bool, place: Place) -> bool
         && !(is_pirate && has_condition_of(rules, place, PlaceCondition::NoPirate))
 }
 
-#[tactic(auto, unfolding(crate::specs::Candidates::is_haunt))]
+#[tactic(auto, unfolding(crate::specs::Ahead::is_haunt))]
 fn haunt_ahead(
     rules: &Rules<'_>,
     is_pirate: bool,
@@ -46,7 +46,7 @@ fn haunt_ahead(
     Some(place)
 }
 
-#[tactic(auto, unfolding(crate::specs::Candidates::place_ahead))]
+#[tactic(auto, unfolding(crate::specs::Ahead::place_ahead))]
 fn place_ahead(rules: &Rules<'_>, is_pirate: bool, dwarf: &Dwarf, row: &Row) -> Option<Place>
     ensures { result ≡ place_ahead (cave_of rules.now) is_pirate dwarf.now (going row.now) }
 {
@@ -57,13 +57,13 @@ fn place_ahead(rules: &Rules<'_>, is_pirate: bool, dwarf: &Dwarf, row: &Row) -> 
 }
 
 /// The places to which the rows of a dwarf's place lead it, in the order of the rows.
-#[tactic(auto, unfolding(crate::specs::Candidates::candidates))]
-pub fn candidates(
+#[tactic(auto, unfolding(crate::specs::Ahead::places_ahead))]
+pub fn places_ahead(
     rules: &Rules<'_>,
     is_pirate: bool,
     dwarf: &Dwarf,
 ) -> ArrayVec<Haunt, MAX_CANDIDATES>
-    ensures { result.items ≡ candidates (cave_of rules.now) is_pirate dwarf.now }
+    ensures { result.items ≡ places_ahead (cave_of rules.now) is_pirate dwarf.now }
 {
     let mut found = ArrayVec::new();
     let mut last = None;

@@ -1,20 +1,20 @@
 -- The ways that a dwarf may go.
-use Rattle.turn_rules.specs.world_objects.Objects.{is_place}
 use Rattle.std.specs.Prelude.{ℕ, Bool, ◌==◌, ◌&&◌, not, nat_le, if◌then◌else◌, List, [], ◌∷◌, take}
 use Rattle.std.specs.Prelude.{Option, None, Some}
 use Rattle.std.specs.List.{filter_map}
+use Rattle.turn_rules.specs.data_numbers.Numbers.{LAST_PLACE}
 use Rattle.turn_rules.specs.data_rows.Rows.{Going}
 use Rattle.turn_rules.specs.data_rows.declared.targets.Condition.{Condition}
 use Rattle.turn_rules.specs.data_rows.declared.targets.Condition.TheVariants.{NotForDwarves}
 use Rattle.turn_rules.specs.data_rows.declared.targets.Destination.{Destination}
 use Rattle.turn_rules.specs.data_rows.declared.targets.Destination.TheVariants.{Place}
 use Rattle.turn_rules.specs.cave_data.CaveView.{CaveView, ways_from}
+use Rattle.turn_rules.specs.world_objects.Objects.{is_place}
 use Rattle.turn_rules.specs.cave_world.Sight.{forced}
 use Rattle.turn_rules.specs.cave_world.Travel.{row_condition, row_destination}
 use Rattle.turn_rules.specs.cave_world.declared.dwarves.Dwarf.{Dwarf}
 use Rattle.turn_rules.specs.turn_things.Places.{has_condition_of}
 use Rattle.turn_rules.specs.turn_things.declared.conditions.PlaceCondition.TheVariants as condition
-use Rattle.turn_rules.specs.data_numbers.Numbers.{LAST_PLACE}
 
 -- the first of the places where dwarves go
 abbrev pub FIRST_HAUNT : ℕ
@@ -50,11 +50,15 @@ without_repeats last (place ∷ places) =
     if is_place place last then without_repeats last places
     else place ∷ without_repeats (Some place) places
 
--- the places to which the rows of a dwarf's place lead it, in the order of the rows: 19 at most
-unfoldable pub candidates : CaveView → Bool → Dwarf → List ℕ
-candidates cave is_pirate dwarf =
+-- among how many places a dwarf chooses at most
+abbrev pub MAX_CANDIDATES : ℕ
+MAX_CANDIDATES = 19
+
+-- the places to which the rows of a dwarf's place lead it, in the order of the rows
+unfoldable pub places_ahead : CaveView → Bool → Dwarf → List ℕ
+places_ahead cave is_pirate dwarf =
     let ahead = filter_map (place_ahead cave is_pirate dwarf) (ways_from cave dwarf.place) in
-    take 19 (without_repeats None ahead)
+    take MAX_CANDIDATES (without_repeats None ahead)
 
 -- the places, or where there are none, another alone
 abbrev pub or_alone : ℕ → List ℕ → List ℕ
@@ -63,4 +67,4 @@ or_alone other (place ∷ places) = place ∷ places
 
 -- the ways of a dwarf: where there is no other, back to where it was before
 unfoldable pub ways_of_dwarf : CaveView → Bool → Dwarf → List ℕ
-ways_of_dwarf cave is_pirate dwarf = or_alone dwarf.last (candidates cave is_pirate dwarf)
+ways_of_dwarf cave is_pirate dwarf = or_alone dwarf.last (places_ahead cave is_pirate dwarf)
